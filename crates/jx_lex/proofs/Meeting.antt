@@ -1,0 +1,88 @@
+-- Segments that stand in one state go on in one segment: no track changes.
+use Rattle.std.proofs.Common.{◌≡◌, ◌≢◌, ℕ, ◌+◌, ◌<◌, List, [], ◌∷◌, ◌++◌, length, get_or, refl, ap, sym, subst, ◌∙◌, arith, append-nil, length-append, map, Bool, true, false, ◌==◌, nat_lt, if◌then◌else◌}
+use Rattle.std.proofs.lemmas.List.{get_or-map, get_or-set_same, get_or-set_other}
+use Rattle.jx_lex.specs.declared.state.LexState.{LexState}
+use Rattle.jx_lex.specs.declared.state.LexState.TheVariants as state
+use Rattle.jx_lex.specs.declared.mark.Mark.{Mark}
+use Rattle.jx_lex.specs.Lex.{Track, Exit, lex}
+use Rattle.jx_lex.proofs.LexJoin.{joined, right_of}
+use Rattle.jx_lex.specs.declared.link.Link.{Link}
+use Rattle.jx_lex.specs.declared.link.Link.TheVariants.{Ahead, State, Fault}
+use Rattle.jx_lex.specs.Ordinal.{ordinal, all_states}
+use Rattle.jx_lex.specs.Follow.{Part, done, follow, IsIn, AreIn, head, linked_parts}
+use Rattle.jx_lex.specs.Step.{opening, meeting_heads, met}
+use Rattle.jx_lex.proofs.Joined.{ordinal-low, follow-linked, joined-same, AreIn-linked, length-linked}
+
+pub state-at : (s : LexState) → get_or all_states (ordinal s) state.Gap ≡ s
+state-at state.Gap = refl
+state-at state.Str = refl
+state-at state.Esc = refl
+state-at state.Hex4 = refl
+state-at state.Hex3 = refl
+state-at state.Hex2 = refl
+state-at state.Hex1 = refl
+state-at state.Tail1 = refl
+state-at state.Tail2 = refl
+state-at state.Tail3 = refl
+state-at state.AfterE0 = refl
+state-at state.AfterEd = refl
+state-at state.AfterF0 = refl
+state-at state.AfterF4 = refl
+state-at state.Minus = refl
+state-at state.Zero = refl
+state-at state.Int = refl
+state-at state.Dot = refl
+state-at state.Frac = refl
+state-at state.E = refl
+state-at state.ESign = refl
+state-at state.Exp = refl
+state-at state.T = refl
+state-at state.Tr = refl
+state-at state.Tru = refl
+state-at state.F = refl
+state-at state.Fa = refl
+state-at state.Fal = refl
+state-at state.Fals = refl
+state-at state.N = refl
+state-at state.Nu = refl
+state-at state.Nul = refl
+
+pub same_ordinal : (s t : LexState) → ordinal s ≡ ordinal t → s ≡ t
+same_ordinal s t e = sym (state-at s) ∙ ap (λ n. get_or all_states n state.Gap) e ∙ state-at t
+
+head-same : (s : LexState) → head (map State all_states) s ≡ State s
+head-same s = get_or-map State all_states (ordinal s) state.Gap (Fault 0) (ordinal-low s) ∙ ap State (state-at s)
+
+pub head-meeting : (P : Link → Type 0) (s u : LexState) → (u ≡ s → P (Ahead 0)) → ((ordinal u == ordinal s) ≡ false → P (State u)) → P (head (meeting_heads s) u)
+head-meeting P s u here there = go (ordinal u == ordinal s) refl
+  where
+    go : (b : Bool) → (ordinal u == ordinal s) ≡ b → P (head (meeting_heads s) u)
+    go true e =
+        let n : ordinal u ≡ ordinal s = grind (arith, e) in
+        rw n (subst P (sym (get_or-set_same (map State all_states) (ordinal s) (Ahead 0) (Fault 0) (ordinal-low s))) (here (same_ordinal u s n)))
+    go false e =
+        let n : ordinal u ≢ ordinal s = grind (arith, e) in
+        subst P (sym (get_or-set_other (map State all_states) (ordinal s) (ordinal u) (Ahead 0) (Fault 0) n ∙ head-same u)) (there e)
+
+pub IsIn-meeting : (s u : LexState) → IsIn 1 (head (meeting_heads s) u)
+IsIn-meeting s u = head-meeting (IsIn 1) s u (λ e. omega arith) (λ e. tt)
+
+follow-opening : (s u : LexState) → follow (opening s ∷ []) (head (meeting_heads s) u) ≡ done (Exit.state u)
+unfolding follow
+follow-opening s u = head-meeting (λ g. follow (opening s ∷ []) g ≡ done (Exit.state u)) s u (λ e. ap (λ t. done (Exit.state t)) (sym e)) (λ e. refl)
+
+right-done : (e : Exit) → right_of e (λ u. done (Exit.state u)) ≡ done e
+right-done (Exit.state s) = refl
+right-done (Exit.fault at) = refl
+
+joined-done : (t : Track) → joined t (λ u. done (Exit.state u)) ≡ t
+joined-done t =
+    ap (λ (r : Track). record { marks = t.marks ++ r.marks; ends = t.ends ++ r.ends; exit = r.exit }) (right-done t.exit)
+    ∙ ap (λ (m : List Mark). record { marks = m; ends = t.ends ++ []; exit = t.exit }) (append-nil t.marks)
+    ∙ ap (λ (e : List ℕ). record { marks = t.marks; ends = e; exit = t.exit }) (append-nil t.ends)
+
+pub follow-met : (s : LexState) (ps : List Part) (k : ℕ) → k < length ps → AreIn ps → follow (met s ps) (Ahead k) ≡ follow ps (Ahead k)
+follow-met s ps k low w =
+    follow-linked (meeting_heads s) (opening s ∷ []) ps (Ahead k) low w
+    ∙ joined-same (follow ps (Ahead k)) (λ u. follow (opening s ∷ []) (head (meeting_heads s) u)) (λ u. done (Exit.state u)) (follow-opening s)
+    ∙ joined-done (follow ps (Ahead k))

@@ -1,0 +1,85 @@
+use Rattle.std.proofs.Common.{◌≡◌, ◌≤◌, ◌+◌, ◌++◌, ◌∷◌, [], List, length, get_or, arith, replicate, true, subst, sym, ap, ◌∙◌}
+use Rattle.std.specs.Prelude.{slice_range}
+use Rattle.jx_lex.specs.Bundle.{Bundle, Reads, Stands}
+use Rattle.jx_lex.specs.Closed.{AreClosed}
+use Rattle.jx_lex.specs.Map.{ArePlaced}
+use Rattle.jx_lex.specs.Ordinal.{all_states}
+use Rattle.jx_lex.proofs.Building.{IsOf-reads, IsWhole-reads, shared-all}
+use Rattle.jx_lex.proofs.Bundles.{Reads-joined, Stands-joined}
+use Rattle.jx_lex.proofs.ReadingOn.{Reads-rest, span-read}
+use Rattle.jx_lex.proofs.Slices.{slice-none, slice-more, slice-split, slice-length}
+use Rattle.jx_lex.proofs.chunk_map.ChunkMap.of.Goals as goal
+use Rattle.jx_lex.proofs.chunk_map.ChunkMap.of.Goals.{After-heads-1}
+
+pub loop-at-init : goal.loop-at-init
+loop-at-init c =
+    let low = c.requires.0 in
+    record {
+      low = omega arith;
+      high = low;
+      reads = rw (slice-none c.args.text.now c.args.start) (c.unread-bundle.ensures.reads c.args.start);
+      stands = rw (slice-none c.args.text.now c.args.start) c.unread-bundle.ensures.stands;
+    }
+
+pub loop-at-preserved : goal.loop-at-preserved
+loop-at-preserved c =
+    let v = c.loop-at.invariant in
+    let xs = c.args.text.now in
+    let start = c.args.start in
+    let at = c.loop-at.at in
+    let byte = get_or xs at 0 ∷ [] in
+    let fits = c.requires.1 in
+    let test = c.loop-at-test.true in
+    let low = v.low in
+    let here = slice-length xs start at v.low (omega (arith, test, fits)) in
+    let more = slice-more xs start at 0 v.low (omega (arith, test, fits)) in
+    let reads = subst (λ (b : Bundle). Reads at byte b.live c.in_ok-byte.byte) c.bundle.view_is c.in_ok-byte.ensures.reads in
+    let stands = subst (λ (b : Bundle). Stands byte b.live c.in_ok-byte.byte) c.bundle.view_is c.in_ok-byte.ensures.stands in
+    record {
+      low = omega (arith, low);
+      high = omega (arith, test);
+      reads = rw (c.in_ok-join.ensures, more) (Reads-joined start at (slice_range xs start at) byte (replicate 32 true) c.loop-at.bundle c.in_ok-byte.byte here v.reads v.stands reads);
+      stands = rw (c.in_ok-join.ensures, more) (Stands-joined (slice_range xs start at) byte (replicate 32 true) c.loop-at.bundle c.in_ok-byte.byte v.reads.all v.stands stands);
+    }
+
+pub join-requires-2 : goal.join-requires-2
+join-requires-2 c =
+    let at = c.loop-at.at in
+    let r = Reads-rest at (slice_range c.args.text.now at c.args.end) c.bundle.inside.live c.in_ok-open.field-0 c.in_ok-rest.rest (c.in_ok-open.ensures.reads at) c.in_ok-open.ensures.stands
+    c.in_ok-open.ensures.closed c.in_ok-rest.ensures.heads c.in_ok-rest.ensures.live c.in_ok-rest.ensures.read in
+    record { inside = r.heads }
+
+-- the whole span was read
+whole : (c : After-heads-1)
+    → Reads c.args.start (slice_range c.args.text.now c.args.start c.args.end) (replicate 32 true)
+    (record { heads = c.bundle-2.inside.heads; parts = c.bundle-2.inside.segments.items; live = c.bundle-2.inside.live })
+    × AreClosed 0 c.bundle-2.inside.heads c.bundle-2.inside.segments.items
+whole c =
+    let v = c.loop-at.invariant in
+    let xs = c.args.text.now in
+    let start = c.args.start in
+    let at = c.loop-at.at in
+    let fits = c.requires.1 in
+    let high = v.high in
+    let o = c.in_ok-open.field-0 in
+    let b : Bundle = record { heads = c.bundle-2.inside.heads; parts = c.bundle-2.inside.segments.items; live = c.bundle-2.inside.live } in
+    subst (λ bytes. Reads start bytes (replicate 32 true) b × AreClosed 0 b.heads b.parts) (sym (slice-split xs start at c.args.end v.low v.high))
+    (span-read start at (slice_range xs start at) (slice_range xs at c.args.end) (replicate 32 true) c.loop-at.bundle o c.in_ok-rest.rest b
+    (slice-length xs start at v.low (omega (arith, high, fits))) v.reads v.stands
+    (subst (λ (l : Bundle). Reads at [] l.live o) c.bundle.view_is (c.in_ok-open.ensures.reads at))
+    (subst (λ (l : Bundle). Stands [] l.live o) c.bundle.view_is c.in_ok-open.ensures.stands)
+    c.in_ok-open.ensures.closed c.in_ok-rest.ensures.heads c.in_ok-rest.ensures.live c.in_ok-rest.ensures.read
+    (c.bundle-2.view_is ∙ c.in_ok-join-2.ensures))
+
+pub invariant_of-result : goal.invariant_of-result
+invariant_of-result c = (IsWhole-reads c.args.start c.args.end _ _ _ (whole c).0, (whole c).1)
+
+pub returns-clause-of : goal.returns-clause-of
+returns-clause-of c = IsOf-reads c.args.start c.args.end _ _ (slice-length c.args.text.now c.args.start c.args.end c.requires.0 c.requires.1) (whole c).0
+
+pub returns-clause-stored : goal.returns-clause-stored
+returns-clause-stored c = (whole c).0.counted all_states (shared-all [])
+
+pub returns-clause-placed : goal.returns-clause-placed
+returns-clause-placed c =
+    subst (λ n. ArePlaced c.args.start n c.bundle-2.inside.segments.items) (sym (slice-length c.args.text.now c.args.start c.args.end c.requires.0 c.requires.1)) (whole c).0.placed

@@ -1,0 +1,107 @@
+-- Tracks of some bytes from some states, where more bytes may follow.
+use Rattle.std.specs.Prelude.{◌≡◌, not, ◌==◌, ℕ, ◌+◌, ◌≤◌, ◌<◌, true, false, Bool, List, [], ◌∷◌, ◌++◌, length, map, get_or, count_by, slice_set as set, Option, Some, None, is_none, ◌&&◌, if◌then◌else◌}
+use Rattle.jx_lex.specs.declared.state.LexState.{LexState}
+use Rattle.jx_lex.specs.declared.mark.Mark.{Mark}
+use Rattle.jx_lex.specs.declared.link.Link.{Link}
+use Rattle.jx_lex.specs.declared.link.Link.TheVariants.{Ahead, State, Fault}
+use Rattle.jx_lex.specs.declared.state.Step.{Step}
+use Rattle.jx_lex.specs.Moves.{move}
+use Rattle.jx_lex.specs.Lex.{lex}
+use Rattle.jx_lex.specs.Ordinal.{ordinal, all_states}
+use Rattle.jx_lex.specs.Follow.{Part, follow, head, IsIn, AreIn, linked, linked_parts}
+use Rattle.jx_lex.specs.Step.{link_of, read_part, opening}
+use Rattle.jx_lex.specs.Map.{stored, ArePlaced}
+use Rattle.jx_lex.specs.Shared.{has, after, shared_from, AllHeld}
+
+-- what a contract sees of a bundle; live says of each state whether a track may stand in it
+pub record Bundle : Type 0 where
+  pub heads : List Link
+  pub parts : List Part
+  pub live : List Bool
+
+abbrev pub is_live : List Bool → LexState → Bool
+is_live live s = get_or live (ordinal s) false
+
+abbrev pub live_count : List Bool → ℕ
+live_count live = count_by (is_live live) all_states
+
+-- what stands in a state stands in a live one
+abbrev pub LiveAt : List Bool → Link → Type 0
+LiveAt live (State s) = is_live live s ≡ true
+LiveAt live (Ahead k) = Unit {0}
+LiveAt live (Fault at) = Unit {0}
+
+abbrev pub AllLive : List Bool → List Part → Type 0
+AllLive live [] = Unit {0}
+AllLive live (p ∷ ps) = LiveAt live p.next × AllLive live ps
+
+-- each live state is one of these
+abbrev pub Within : List Bool → List LexState → Type 0
+Within live held = (s : LexState) → is_live live s ≡ true → has s held ≡ true
+
+-- the tracks of the bytes, which stand from an offset on, from each of the states in live
+pub record Reads (at : ℕ) (bytes : List ℕ) (live : List Bool) (b : Bundle) : Type 0 where
+  pub all : length b.heads ≡ 32
+  pub heads : (s : LexState) → IsIn (length b.parts) (head b.heads s)
+  pub parts : AreIn b.parts
+  pub tracks : (s : LexState) → is_live live s ≡ true → follow b.parts (head b.heads s) ≡ lex s at bytes
+  pub counted : (held : List LexState) → Within live held → stored b.parts ≤ shared_from held bytes
+  pub placed : ArePlaced at (at + length bytes) b.parts
+
+-- where the tracks stand behind the bytes
+pub record Stands (bytes : List ℕ) (live : List Bool) (b : Bundle) : Type 0 where
+  pub all : length b.live ≡ 32
+  pub heads : (s : LexState) → LiveAt b.live (head b.heads s)
+  pub parts : AllLive b.live b.parts
+  pub held : (held : List LexState) → Within live held → Within b.live (after held bytes)
+
+-- both bundles, one behind the other
+abbrev pub joined_bundle : Bundle → Bundle → Bundle
+joined_bundle l r =
+    record {
+      heads = map (linked r.heads (length l.parts)) l.heads;
+      parts = linked_parts r.heads l.parts ++ r.parts;
+      live = r.live;
+    }
+
+-- segments after more bytes: each track that goes through one of the old ones goes on by these bytes
+pub record ReadsOn (at : ℕ) (bytes : List ℕ) (old new : List Part) : Type 0 where
+  pub all : AreIn old → (k start : ℕ) (s : LexState) (u : List ℕ) → k < length old → at ≡ start + length u
+      → follow old (Ahead k) ≡ lex s start u → follow new (Ahead k) ≡ lex s start (u ++ bytes)
+  pub parts : AreIn old → AreIn new
+  pub many : length old ≤ length new
+  pub counted : (held : List LexState) → AllHeld held old → stored new ≤ stored old + shared_from held bytes
+  pub held : (held : List LexState) → AllHeld held old → AllHeld (after held bytes) new
+  pub placed : (from : ℕ) → from ≤ at → ArePlaced from at old → ArePlaced from (at + length bytes) new
+
+-- a bundle to which a segment was added, where the track from this state begins
+abbrev pub with_segment : LexState → Part → List Bool → Bundle → Bundle
+with_segment s p live b = record { heads = set b.heads (ordinal s) (Ahead (length b.parts)); parts = b.parts ++ p ∷ []; live = live }
+
+-- a bundle in which the track from this state has no segment
+abbrev pub with_exit : LexState → Link → List Bool → Bundle → Bundle
+with_exit s g live b = record { heads = set b.heads (ordinal s) g; parts = b.parts; live = live }
+
+-- the states that are live, and one more
+abbrev pub more_live : Option LexState → List Bool → List Bool
+more_live None live = live
+more_live (Some s) live = set live (ordinal s) true
+
+-- whether a byte has no event
+abbrev pub is_quiet : Step → Bool
+is_quiet m = is_none m.end && is_none m.begin
+
+-- a bundle to which the track of one byte from this state was added
+abbrev pub with_byte : ℕ → ℕ → LexState → Bundle → Bundle
+with_byte at byte s b =
+    if is_quiet (move s byte)
+    then with_exit s (link_of at ((move s byte).next)) (more_live ((move s byte).next) b.live) b
+    else with_segment s (read_part at byte (opening s)) (more_live ((move s byte).next) b.live) b
+
+-- whether two tracks stand in different states
+abbrev pub is_apart : Link → Link → Bool
+is_apart (State s) (State t) = not (ordinal s == ordinal t)
+is_apart (State s) (Ahead k) = false
+is_apart (State s) (Fault at) = false
+is_apart (Ahead k) h = false
+is_apart (Fault at) h = false

@@ -1,0 +1,16 @@
+pub mod Bundle
+pub mod Cells
+pub mod Character
+pub mod Classes
+pub mod Closed
+pub mod Follow
+pub mod Lex
+pub mod Map
+pub mod Moves
+pub mod Ordinal
+pub mod Passing
+pub mod Shared
+pub mod Step
+pub mod Runs
+pub mod Token
+pub mod View

@@ -1,0 +1,18 @@
+-- A segment reads on, and bytes that change nothing for it.
+use Rattle.std.specs.Prelude.{ℕ, suc, List, [], ◌∷◌}
+use Rattle.jx_lex.specs.declared.link.Link.{Link}
+use Rattle.jx_lex.specs.declared.link.Link.TheVariants.{Ahead, State, Fault}
+use Rattle.jx_lex.specs.Follow.{Part}
+use Rattle.jx_lex.specs.Step.{read_part}
+use Rattle.jx_lex.specs.Runs.{AllKeep}
+
+-- a segment after these bytes
+abbrev pub read_bytes : ℕ → List ℕ → Part → Part
+read_bytes at [] p = p
+read_bytes at (b ∷ bs) p = read_bytes (suc at) bs (read_part at b p)
+
+-- these bytes change nothing
+abbrev pub KeptBy : Link → List ℕ → Type 0
+KeptBy (State s) bytes = AllKeep s bytes
+KeptBy (Ahead k) bytes = Unit {0}
+KeptBy (Fault at) bytes = Unit {0}

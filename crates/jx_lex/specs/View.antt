@@ -1,0 +1,40 @@
+-- What a contract sees of a view of a track.
+use Rattle.std.specs.Prelude.{ℕ, zero, suc, List, [], ◌∷◌, get_or}
+use Rattle.jx_lex.specs.Lex as lex
+use Rattle.jx_lex.specs.declared.mark.Mark.{Mark}
+use Rattle.jx_lex.specs.declared.link.Link.{Link}
+use Rattle.jx_lex.specs.declared.link.Link.TheVariants as link
+use Rattle.jx_lex.specs.declared.exit.Exit.{Exit}
+use Rattle.jx_lex.specs.declared.exit.Exit.TheVariants as exit
+use Rattle.jx_lex.specs.Follow.{Part, follow}
+
+-- the segments of a map, and where in them the track begins
+pub record View : Type 0 where
+  pub parts : List Part
+  pub first : Link
+
+abbrev pub view_track : View → lex.Track
+view_track v = follow v.parts v.first
+
+abbrev pub exit_of : Exit → lex.Exit
+exit_of (exit.State s) = lex.Exit.state s
+exit_of (exit.Fault at) = lex.Exit.fault at
+
+-- the numbers of the segments that a track goes through, where the first of these segments has the number n
+unfoldable pub path_from : ℕ → List Part → Link → List ℕ
+path_from n ps (link.State s) = []
+path_from n ps (link.Fault at) = []
+path_from n [] (link.Ahead k) = []
+path_from n (p ∷ ps) (link.Ahead zero) = n ∷ path_from (suc n) ps p.next
+path_from n (p ∷ ps) (link.Ahead (suc k)) = path_from (suc n) ps (link.Ahead k)
+
+abbrev pub view_path : View → List ℕ
+view_path v = path_from 0 v.parts v.first
+
+-- the marks of the segment of this number
+abbrev pub marks_at : List Part → ℕ → List Mark
+marks_at ps n = (get_or ps n (record { marks = []; ends = []; next = link.Fault 0 })).marks
+
+-- the ends of the segment of this number
+abbrev pub ends_at : List Part → ℕ → List ℕ
+ends_at ps n = (get_or ps n (record { marks = []; ends = []; next = link.Fault 0 })).ends

@@ -1,0 +1,141 @@
+// What reading a span gives from each state.
+ghost use Rattle.std.specs.Prelude.{◌≡◌, ◌≤◌, ◌<◌, ◌+◌, ◌++◌, ◌^◌, length, OnOk, IfOk, IfErr, map, slice_range, ℕ, List};
+ghost use Rattle.jx_lex.specs.Follow.{linked};
+ghost use Rattle.jx_lex.specs.View.{view_track};
+ghost use Rattle.jx_lex.specs.Shared.{shared_count};
+ghost use Rattle.jx_lex.specs.Map.{ArePlaced, joined_map, IsOf, stored, track};
+
+use crate::bundle::{Bundle, count_live};
+use crate::join_fault::JoinFault;
+use crate::link::{Link, link_heads};
+use crate::ordinal::ordinal;
+use crate::segment::{Segment, append_linked};
+use crate::span::Span;
+use crate::state::LexState;
+use crate::track_view::TrackView;
+use std::alloc::{AllocError, Global};
+use std::marker::Model;
+
+#[derive(Drop)]
+pub struct ChunkMap {
+    start: usize,
+    end: usize,
+    heads: [Link; 32],
+    segments: Vec<Segment>,
+    // the first so many segments don't lead out in a state
+    closed: usize,
+}
+
+impl Model for ChunkMap {
+    ghost use Rattle.jx_lex.specs.Map.{Map, IsWhole};
+    ghost use Rattle.jx_lex.specs.Closed.{AreClosed};
+
+    ghost Value = { Map };
+
+    ghost view = { λ m. record { start = m.start; end = m.end; heads = m.heads; parts = m.segments.items } };
+
+    ghost invariant = { λ m. IsWhole (record { start = m.start; end = m.end; heads = m.heads; parts = m.segments.items }) × AreClosed m.closed m.heads m.segments.items };
+}
+
+impl ChunkMap {
+    /// The part of the text that was read.
+    pub fn span(&self) -> Span
+        ensures value { result ≡ record { start = self.now.start; end = self.now.end } }
+    {
+        Span {
+            start: self.start,
+            end: self.end,
+        }
+    }
+
+    /// The segments of which the tracks are made.
+    pub fn segments(&self) -> &[Segment]
+        ensures value { result.now ≡ self.now.parts }
+    {
+        &self.segments
+    }
+
+    /// How many marks the map holds, those of all segments together.
+    pub fn stored(&self) -> u128
+        ensures value { result ≡ stored self.now.parts }
+    {
+        let mut stored = 0;
+        for segment in &self.segments {
+            stored += segment.marks().len() as u128;
+        }
+        stored
+    }
+
+    /// What reading the span gives from this state.
+    pub fn entry(&self, state: LexState) -> TrackView<'_>
+        ensures track { view_track result ≡ track self.now state }
+        ensures parts { result.parts ≡ self.now.parts }
+    {
+        TrackView {
+            segments: &self.segments,
+            first: self.heads[ordinal(state)],
+        }
+    }
+
+    /// What reading this part of the text gives from each state.
+    pub fn of(alloc: Global, text: &[u8], start: usize, end: usize) -> Result<ChunkMap, AllocError>
+        requires { (start ≤ end) × (end ≤ length text.now) }
+        ensures start { IfOk result (λ m. m.start ≡ start) }
+        ensures end { IfOk result (λ m. m.end ≡ end) }
+        ensures of { IfOk result (λ m. IsOf (slice_range text.now start end) m) }
+        ensures stored { IfOk result (λ m. stored m.parts ≤ shared_count (slice_range text.now start end)) }
+        ensures placed { IfOk result (λ m. ArePlaced start end m.parts) }
+    {
+        let mut bundle = Bundle::unread(alloc);
+        let mut at = start;
+        while at < end && count_live(&bundle.live) > 2 {
+            let byte = Bundle::of_byte(alloc, &bundle.live, at, text[at])?;
+            bundle.join(byte)?;
+            at += 1;
+        }
+        let rest = Bundle::open(alloc, &bundle.live)?.read_on(text, at, end)?;
+        bundle.join(rest)?;
+        let Bundle {
+            heads,
+            segments,
+            ..
+        } = bundle;
+        Ok(ChunkMap {
+            start,
+            end,
+            heads,
+            segments,
+            closed: 0,
+        })
+    }
+
+    /// The map of both spans.
+    pub fn join(self, right: ChunkMap) -> Result<ChunkMap, JoinFault<ChunkMap>>
+        requires { self.end ≡ right.start }
+        ensures start { IfOk result (λ j. j.start ≡ self.start) }
+        ensures end { IfOk result (λ j. j.end ≡ right.end) }
+        ensures joined { IfOk result (λ j. j ≡ joined_map self right) }
+        ensures of { IfOk result (λ j. (xs ys : List ℕ) → IsOf xs self → IsOf ys right → IsOf (xs ++ ys) j) }
+        ensures stored { IfOk result (λ j. stored j.parts ≤ stored self.parts + stored right.parts) }
+        ensures err { IfErr result (λ e. (e.left ≡ self) × (e.right ≡ right)) }
+    {
+        let mut left = self;
+        let mut right = right;
+        let len = left.segments.len();
+        let count = right.segments.len();
+        match append_linked(
+            &mut left.segments,
+            &mut right.segments,
+            &right.heads,
+            left.closed,
+        ) {
+            Ok(()) => {
+                link_heads(&mut left.heads, &right.heads, len, count);
+                left.closed = len + right.closed;
+                left.end = right.end;
+                Ok(left)
+            }
+            Err(AllocError) => Err(JoinFault { left, right }),
+        }
+    }
+}

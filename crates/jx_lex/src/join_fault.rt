@@ -1,0 +1,6 @@
+/// No memory could be had for a join. Both sides are handed back, equal to what came in.
+#[derive(Debug, Drop)]
+pub struct JoinFault<T> {
+    pub left: T,
+    pub right: T,
+}

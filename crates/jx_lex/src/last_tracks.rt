@@ -1,0 +1,164 @@
+// Reading on where only one or two tracks are left.
+ghost use Rattle.std.specs.Prelude.{◌≡◌, ◌≤◌, ◌<◌, ◌+◌, ◌^◌, ◌∷◌, [], ◌⊎◌, false, length, OnOk, IfOk, IfSome, IsNone, slice_range};
+ghost use Rattle.jx_lex.specs.declared.link.Link.TheVariants.{State};
+ghost use Rattle.jx_lex.specs.Bundle.{ReadsOn, is_apart};
+
+use crate::link::Link;
+use crate::ordinal::ordinal;
+use crate::passes::plain_end;
+use crate::segment::Segment;
+use crate::state::LexState;
+use std::alloc::{AllocError, Global};
+
+/// Whether both stand in a state, and not in the same one.
+fn are_apart(first: Link, second: Link) -> bool
+    ensures { result ≡ is_apart first second }
+{
+    match (first, second) {
+        (Link::State(one), Link::State(other)) => ordinal(one) != ordinal(other),
+        _ => false,
+    }
+}
+
+/// Where one of two segments stands inside a string, the other one alone is read up to the next byte that is not a plain
+/// one of a string. Gives the end of what was read.
+fn read_plain(
+    first: &mut Segment,
+    second: &mut Segment,
+    text: &[u8],
+    from: usize,
+    to: usize,
+) -> Result<usize, AllocError>
+    requires { (from ≤ to) × (to ≤ length text.now) }
+    ensures bounds { IfOk result (λ end. (from ≤ end) × (end ≤ to)) }
+    ensures read { IfOk result (λ end. ReadsOn from (slice_range text.now from end) (first.old ∷ second.old ∷ []) (first.new ∷ second.new ∷ [])) }
+{
+    if let Link::State(LexState::Str) = first.next() {
+        let end = plain_end(text, from, to);
+        second.read_span(text, from, end)?;
+        return Ok(end);
+    }
+    if let Link::State(LexState::Str) = second.next() {
+        let end = plain_end(text, from, to);
+        first.read_span(text, from, end)?;
+        return Ok(end);
+    }
+    Ok(from)
+}
+
+/// Reads two segments side by side while they stand in two states. Gives the end of what was read.
+fn read_pair(
+    first: &mut Segment,
+    second: &mut Segment,
+    text: &[u8],
+    from: usize,
+    to: usize,
+) -> Result<usize, AllocError>
+    requires { (from ≤ to) × (to ≤ length text.now) }
+    ensures bounds { IfOk result (λ end. (from ≤ end) × (end ≤ to)) }
+    ensures read { IfOk result (λ end. ReadsOn from (slice_range text.now from end) (first.old ∷ second.old ∷ []) (first.new ∷ second.new ∷ [])) }
+    ensures done { IfOk result (λ end. end < to → is_apart first.new.next second.new.next ≡ false) }
+{
+    let mut i = from;
+    while i < to && are_apart(first.next(), second.next()) {
+        first.read(i, text[i])?;
+        second.read(i, text[i])?;
+        i = read_plain(first, second, text, i + 1, to)?;
+    }
+    Ok(i)
+}
+
+/// Reads to the end where two segments have come to stand in one state: they go on in a third.
+fn read_met(
+    lanes: Vec<Segment>,
+    mut first: Segment,
+    mut second: Segment,
+    state: LexState,
+    text: &[u8],
+    from: usize,
+    to: usize,
+) -> Result<Vec<Segment>, AllocError>
+    requires bounds { (from ≤ to) × (to ≤ length text.now) }
+    requires none { lanes.items ≡ [] }
+    requires stand { (first.next ≡ State state) × (second.next ≡ State state) }
+    ensures { IfOk result (λ lanes. ReadsOn from (slice_range text.now from to) (first ∷ second ∷ []) lanes.items) }
+{
+    let mut lanes = lanes;
+    let mut third = Segment::new(*lanes.allocator(), Link::State(state));
+    third.read_span(text, from, to)?;
+    first.set_next(Link::Ahead(1));
+    second.set_next(Link::Ahead(0));
+    lanes.push(first)?;
+    lanes.push(second)?;
+    lanes.push(third)?;
+    Ok(lanes)
+}
+
+/// The state in which both stand, if they do.
+fn common_state(first: Link, second: Link) -> Option<LexState>
+    ensures both { IfSome result (λ state. (first ≡ State state) × (second ≡ State state)) }
+    ensures none { IsNone result → (s : LexState) → first ≡ State s → second ≡ State s → ⊥ }
+{
+    match (first, second) {
+        (Link::State(one), Link::State(other)) if one == other => Some(one),
+        _ => None,
+    }
+}
+
+/// Reads two segments to the end. The vector that comes in is empty.
+fn read_two(
+    lanes: Vec<Segment>,
+    first: Segment,
+    second: Segment,
+    text: &[u8],
+    from: usize,
+    to: usize,
+) -> Result<Vec<Segment>, AllocError>
+    requires bounds { (from ≤ to) × (to ≤ length text.now) }
+    requires none { lanes.items ≡ [] }
+    ensures { IfOk result (λ lanes. ReadsOn from (slice_range text.now from to) (first ∷ second ∷ []) lanes.items) }
+{
+    let mut lanes = lanes;
+    let mut first = first;
+    let mut second = second;
+    let i = read_pair(&mut first, &mut second, text, from, to)?;
+    if let Some(state) = common_state(first.next(), second.next()) {
+        let lanes = read_met(lanes, first, second, state, text, i, to)?;
+        return Ok(lanes);
+    }
+    first.read_span(text, i, to)?;
+    second.read_span(text, i, to)?;
+    lanes.push(first)?;
+    lanes.push(second)?;
+    Ok(lanes)
+}
+
+/// Reads to the end where at most two segments are left, or where nothing is left to read.
+pub(crate) fn read_lanes(
+    lanes: Vec<Segment>,
+    text: &[u8],
+    from: usize,
+    to: usize,
+) -> Result<Vec<Segment>, AllocError>
+    requires bounds { (from ≤ to) × (to ≤ length text.now) }
+    requires few { (length lanes.items ≤ 2) ⊎ (from ≡ to) }
+    ensures { IfOk result (λ new. ReadsOn from (slice_range text.now from to) lanes.items new.items) }
+{
+    let mut lanes = lanes;
+    let Some(second) = lanes.pop() else {
+        return Ok(lanes);
+    };
+    let Some(first) = lanes.pop() else {
+        let mut only = second;
+        only.read_span(text, from, to)?;
+        lanes.push(only)?;
+        return Ok(lanes);
+    };
+    if lanes.is_empty() {
+        let lanes = read_two(lanes, first, second, text, from, to)?;
+        return Ok(lanes);
+    }
+    lanes.push(first)?;
+    lanes.push(second)?;
+    Ok(lanes)
+}

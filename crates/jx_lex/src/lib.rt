@@ -1,0 +1,49 @@
+//! The lexical layer of JSON texts: byte classes, the lexical machine and its marks, and chunk maps: what reading a
+//! part of a text gives from each state, whatever stands to its left.
+#![tactic(auto)]
+
+mod bundle;
+mod cell;
+mod cells;
+mod chunk_map;
+mod class;
+mod depth;
+mod ends;
+mod exit;
+mod fast;
+mod join_fault;
+mod kind;
+mod last_tracks;
+mod laws;
+mod link;
+mod machine;
+mod mark;
+mod marks;
+mod ordinal;
+mod parts;
+mod passes;
+mod path;
+mod segment;
+mod span;
+mod state;
+#[cfg(test)]
+mod tests;
+mod track_view;
+
+pub use chunk_map::ChunkMap;
+pub use class::{Class, class_of};
+pub use depth::Depth;
+pub use ends::Ends;
+pub use exit::Exit;
+pub use join_fault::JoinFault;
+pub use kind::Kind;
+pub use laws::runs_may_be_passed_over;
+pub use link::Link;
+pub use machine::step;
+pub use mark::{Mark, MarkKind};
+pub use marks::Marks;
+pub use path::Path;
+pub use segment::Segment;
+pub use span::Span;
+pub use state::{LexState, Step, TokenEnd};
+pub use track_view::TrackView;

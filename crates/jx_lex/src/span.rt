@@ -1,0 +1,6 @@
+/// The bytes from the offset `start` up to the offset `end`, which is not included.
+#[derive(Clone, Copy, Debug, PartialEq, Eq)]
+pub struct Span {
+    pub start: usize,
+    pub end: usize,
+}
