@@ -1,0 +1,13 @@
+pub mod Along
+pub mod Absorbed
+pub mod Reached
+pub mod Joined
+pub mod OneMark
+pub mod Bounds
+pub mod Readings
+pub mod Sound
+pub mod Acting
+pub mod Runs
+pub mod Extended
+pub mod Spans
+pub mod Cuts

@@ -1,0 +1,19 @@
+-- What a depth allows.
+use Rattle.std.specs.Prelude.{◌≡◌, ℕ, ◌+◌, ◌<◌, ◌≤◌, None, length, false}
+use Rattle.jx_reduce.specs.Form.{Form, levels_of}
+use Rattle.jx_reduce.specs.Join.{all_faulted}
+
+-- what shows of this: at most d + 1 levels with the last one, d opens and d + 1 heights
+pub record IsOfSize (d : ℕ) (r : Form) : Type 0 where
+  pub levels : length (levels_of r) ≤ d + 1
+  pub opens : length r.opens ≤ d
+  pub heights : length r.heights ≤ d + 1
+
+-- what a depth allows, and what joins rely on
+pub record Fits (d : ℕ) (r : Form) : Type 0 where
+  pub levels : length r.ended ≤ d
+  pub opens : length r.opens ≤ d
+  pub heights : length r.heights ≤ d + 1
+  pub risen : length r.opens ≤ length r.ended + length r.heights
+  -- where nothing goes on, all have faulted, or the heights decide
+  pub decided : r.exit ≡ None → all_faulted r.last ≡ false → d < length r.ended + length r.heights

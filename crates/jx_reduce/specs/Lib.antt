@@ -1,0 +1,15 @@
+pub mod Table
+pub mod Read
+pub mod Entries
+pub mod Form
+pub mod Join
+pub mod Marks
+pub mod Fits
+pub mod Offsets
+pub mod Levels
+pub mod Reduced
+pub mod Reductions
+pub mod Follow
+pub mod View
+pub mod Outcome
+pub mod Whole

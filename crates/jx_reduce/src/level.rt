@@ -1,0 +1,83 @@
+ghost use Rattle.std.specs.Prelude.{◌≡◌};
+ghost use Rattle.jx_reduce.specs.Form.{fault_of};
+ghost use Rattle.jx_reduce.specs.Join.{all_faulted, merged, filled, closed, first_of};
+
+use crate::ended_level::EndedLevel;
+use crate::holder::Holder;
+
+/// The marks that stand directly in one container which was open at entry, or in none: the offset of the first fault,
+/// if there is one, for each holder that the container may be.
+#[derive(Clone, Copy, Debug, PartialEq, Eq)]
+pub struct Level {
+    pub array: Option<usize>,
+    pub object: Option<usize>,
+    pub bottom: Option<usize>,
+}
+
+impl Level {
+    pub(crate) const NONE: Level = Level {
+        array: None,
+        object: None,
+        bottom: None,
+    };
+
+    /// The offset of the first fault for this holder.
+    pub fn fault(self, holder: Holder) -> Option<usize>
+        ensures { result ≡ fault_of self holder }
+    {
+        match holder {
+            Holder::Array => self.array,
+            Holder::Object => self.object,
+            Holder::Bottom => self.bottom,
+        }
+    }
+
+    /// Whether each holder has faulted.
+    pub(crate) fn is_all(self) -> bool
+        ensures { result ≡ all_faulted self }
+    {
+        self.array.is_some() && self.object.is_some() && self.bottom.is_some()
+    }
+
+    /// These faults, and where there are none those.
+    pub(crate) fn merged(self, later: Level) -> Level
+        ensures { result ≡ merged self later }
+    {
+        Level {
+            array: first(self.array, later.array),
+            object: first(self.object, later.object),
+            bottom: first(self.bottom, later.bottom),
+        }
+    }
+
+    /// These faults, and where there are none this one.
+    pub(crate) fn filled(self, at: usize) -> Level
+        ensures { result ≡ filled self at }
+    {
+        Level {
+            array: Some(self.array.unwrap_or(at)),
+            object: Some(self.object.unwrap_or(at)),
+            bottom: Some(self.bottom.unwrap_or(at)),
+        }
+    }
+
+    /// The level with an end behind these faults.
+    pub(crate) fn closed(self, end: EndedLevel) -> EndedLevel
+        ensures { result ≡ closed self end }
+    {
+        EndedLevel {
+            array: first(self.array, end.array),
+            object: first(self.object, end.object),
+            bottom: self.bottom.unwrap_or(end.bottom),
+        }
+    }
+}
+
+fn first(a: Option<usize>, b: Option<usize>) -> Option<usize>
+    ensures { result ≡ first_of a b }
+{
+    match a {
+        Some(at) => Some(at),
+        None => b,
+    }
+}

@@ -1,0 +1,237 @@
+// Levels that are not known to begin in any container.
+
+ghost use Rattle.std.specs.Prelude.{◌≡◌, ◌≤◌, ◌<◌, ◌+◌, ◌^◌, OnOk, IfOk, IsOk, length, reverse, vec_len, vec_capacity};
+ghost use Rattle.jx_reduce.specs.Join.{halted, joined, joined_heights};
+ghost use Rattle.jx_reduce.specs.Marks.{pushed, of_marks, of_nothing};
+ghost use Rattle.jx_reduce.specs.Fits.{Fits};
+ghost use Rattle.jx_reduce.specs.Levels.{form_of, part_form, head_of, taken_in, ended_in, IsSameBut, HasRoom};
+
+use crate::ended_level::EndedLevel;
+use crate::entry::Entry;
+use crate::holder::Holder;
+use crate::level::Level;
+use crate::part::Part;
+use jx_lex::{Mark, MarkKind};
+use std::alloc::{AllocError, Global};
+
+#[derive(Drop)]
+pub(crate) struct Levels {
+    pub ended: Vec<EndedLevel>,
+    pub last: Level,
+    pub opens: Vec<Holder>,
+    pub exit: Option<Entry>,
+    pub heights: Vec<usize>,
+}
+
+fn innermost(opens: &[Holder]) -> Option<Holder>
+    ensures { result ≡ head_of (reverse opens.now) }
+{
+    opens.last().copied()
+}
+
+impl Levels {
+    /// No holder of the last level goes on.
+    fn halt(&mut self, faults: Level)
+        ensures { form_of self.new ≡ halted (form_of self.old) faults }
+    {
+        self.last = faults;
+        self.opens.clear();
+        self.exit = None;
+    }
+
+    /// Appends those offsets of the right that are greater heights than any before.
+    fn raise(&mut self, depth: usize, heights: &[usize]) -> Result<(), AllocError>
+        requires depth { depth < 2 ^ 32 }
+        requires few { length self.old.heights.items ≤ depth + 1 }
+        requires levels { length self.old.ended.items ≤ depth }
+        requires risen { length self.old.opens.items ≤ length self.old.ended.items + length self.old.heights.items }
+        ensures ok { OnOk result (self.new.heights.items ≡ joined_heights depth (form_of self.old) heights.now) }
+        ensures rest { IsSameBut self.old self.new }
+        ensures succeeds { vec_len self.old.heights + length heights.now ≤ vec_capacity self.old.heights → IsOk result }
+    {
+        let known = self.heights.len() + self.ended.len() - self.opens.len();
+        let room = depth + 1 - self.heights.len();
+        if known < heights.len() {
+            let new = &heights[known..];
+            let count = room.min(new.len());
+            self.heights.extend_from_slice(&new[..count])?;
+        }
+        Ok(())
+    }
+
+    /// Takes in the levels of the right that end, and then its last level.
+    fn take_in(&mut self, depth: usize, part: Part<'_>) -> Result<(), AllocError>
+        requires depth { depth < 2 ^ 32 }
+        requires levels { length self.old.ended.items ≤ depth }
+        ensures ok { OnOk result (form_of self.new ≡ taken_in depth (form_of self.old) (part_form part.entry)) }
+        ensures succeeds { vec_len self.old.ended + length part.entry.ended.now ≤ vec_capacity self.old.ended
+            → vec_len self.old.opens + length part.entry.opens.now ≤ vec_capacity self.old.opens
+            → IsOk result }
+    {
+        for level in part.ended {
+            match innermost(&self.opens) {
+                Some(top) => match level.fault(top) {
+                    Some(at) => {
+                        let faults = self.last.filled(at);
+                        self.halt(faults);
+                        return Ok(());
+                    }
+                    None => {
+                        let _ = self.opens.pop();
+                    }
+                },
+                None => {
+                    let closed = self.last.closed(*level);
+                    if self.ended.len() < depth && !closed.is_all() {
+                        self.ended.push(closed)?;
+                        self.last = Level::NONE;
+                    } else {
+                        self.halt(closed.filled());
+                        return Ok(());
+                    }
+                }
+            }
+        }
+        self.finish(depth, part)
+    }
+
+    /// Takes in the last level of the right, where all levels before it have ended.
+    fn finish(&mut self, depth: usize, part: Part<'_>) -> Result<(), AllocError>
+        requires depth { depth < 2 ^ 32 }
+        ensures ok { OnOk result (form_of self.new ≡ ended_in depth (form_of self.old) (part_form part.entry)) }
+        ensures succeeds { vec_len self.old.opens + length part.entry.opens.now ≤ vec_capacity self.old.opens → IsOk result }
+    {
+        match innermost(&self.opens) {
+            Some(top) => {
+                if let Some(at) = part.last.fault(top) {
+                    let faults = self.last.filled(at);
+                    self.halt(faults);
+                    return Ok(());
+                }
+            }
+            None => {
+                self.last = self.last.merged(part.last);
+            }
+        }
+        if self.last.is_all() || depth < self.opens.len() + part.opens.len() {
+            self.opens.clear();
+            self.exit = None;
+        } else {
+            self.opens.extend_from_slice(part.opens)?;
+            self.exit = part.exit;
+        }
+        Ok(())
+    }
+
+    /// Goes on with the right.
+    pub fn absorb(&mut self, depth: usize, part: Part<'_>) -> Result<(), AllocError>
+        requires depth { depth < 2 ^ 32 }
+        requires fits { Fits depth (form_of self.old) }
+        ensures ok { OnOk result (form_of self.new ≡ joined depth (form_of self.old) (part_form part.entry)) }
+        ensures succeeds { HasRoom self.old part.entry → IsOk result }
+    {
+        self.raise(depth, part.heights)?;
+        self.take_in(depth, part)
+    }
+
+    pub fn part(&self) -> Part<'_>
+        ensures { part_form result ≡ form_of self.now }
+    {
+        Part {
+            ended: &self.ended,
+            last: self.last,
+            opens: &self.opens,
+            exit: self.exit,
+            heights: &self.heights,
+        }
+    }
+
+    /// One more mark.
+    pub fn push(&mut self, depth: usize, mark: Mark) -> Result<(), AllocError>
+        requires depth { depth < 2 ^ 32 }
+        requires fits { Fits depth (form_of self.old) }
+        ensures ok { OnOk result (form_of self.new ≡ pushed depth (form_of self.old) mark) }
+    {
+        let Some(entry) = self.exit else {
+            return Ok(());
+        };
+        let exit = Some(entry.leads_to(mark.kind));
+        let last = entry.faults_at(mark);
+        match mark.kind {
+            MarkKind::OpenArray => self.absorb(
+                depth,
+                Part {
+                    ended: &[],
+                    last,
+                    opens: &[Holder::Array],
+                    exit,
+                    heights: &[mark.at],
+                },
+            ),
+            MarkKind::OpenObject => self.absorb(
+                depth,
+                Part {
+                    ended: &[],
+                    last,
+                    opens: &[Holder::Object],
+                    exit,
+                    heights: &[mark.at],
+                },
+            ),
+            MarkKind::CloseArray | MarkKind::CloseObject => self.absorb(
+                depth,
+                Part {
+                    ended: &[entry.end_at(mark)],
+                    last: Level::NONE,
+                    opens: &[],
+                    exit,
+                    heights: &[],
+                },
+            ),
+            _ => self.absorb(
+                depth,
+                Part {
+                    ended: &[],
+                    last,
+                    opens: &[],
+                    exit,
+                    heights: &[],
+                },
+            ),
+        }
+    }
+
+    /// The form of no marks.
+    pub fn new(alloc: Global, entry: Entry) -> Levels
+        ensures { form_of result ≡ of_nothing entry }
+    {
+        Levels {
+            ended: Vec::new(alloc),
+            last: Level::NONE,
+            opens: Vec::new(alloc),
+            exit: Some(entry),
+            heights: Vec::new(alloc),
+        }
+    }
+
+    /// The form of these marks, read from this entry.
+    pub fn of(
+        alloc: Global,
+        entry: Entry,
+        marks: &[Mark],
+        depth: usize,
+    ) -> Result<Levels, AllocError>
+        requires { depth < 2 ^ 32 }
+        ensures form { IfOk result (λ r. form_of r ≡ of_marks depth (of_nothing entry) marks.now) }
+        ensures fits { IfOk result (λ r. Fits depth (form_of r)) }
+    {
+        let mut levels = Levels::new(alloc, entry);
+        for mark in marks {
+            if levels.exit.is_none() {
+                break;
+            }
+            levels.push(depth, *mark)?;
+        }
+        Ok(levels)
+    }
+}

@@ -1,0 +1,27 @@
+//! The structure of marks: what may stand next, and what each mark makes of it, for every list of open containers.
+#![tactic(auto)]
+
+mod act;
+mod ended_level;
+mod entry;
+mod expect;
+mod holder;
+mod level;
+mod levels;
+mod moves;
+mod outcome;
+mod part;
+mod reduced;
+mod reductions;
+#[cfg(test)]
+mod tests;
+mod whole;
+
+pub use expect::Expect;
+pub use holder::Holder;
+pub use level::Level;
+pub use moves::next;
+pub use outcome::Outcome;
+pub use reduced::Reduced;
+pub use reductions::Reductions;
+pub use whole::Whole;

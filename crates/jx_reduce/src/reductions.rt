@@ -1,0 +1,215 @@
+// The structure of a list of marks, from each expectation.
+
+ghost use Rattle.std.specs.Prelude.{◌≡◌, ◌≤◌, ◌<◌, ◌++◌, ℕ, List, [], OnOk, OnErr, IfOk, IfErr};
+ghost use Rattle.jx_reduce.specs.Offsets.{RisingFrom, EachIn};
+ghost use Rattle.jx_reduce.specs.Fits.{IsOfSize};
+ghost use Rattle.jx_reduce.specs.Reduced.{depth_of, form_in};
+ghost use Rattle.jx_reduce.specs.Reductions.{form_at, entry_of, IsJoin, IsBefore, IsOf, SpansIn};
+ghost use Rattle.jx_reduce.specs.Follow.{followed, IsReady};
+ghost use Rattle.jx_lex.specs.declared.mark.Mark.{Mark};
+
+use crate::entry::Entry;
+use crate::expect::Expect;
+use crate::reduced::Reduced;
+use jx_lex::{Depth, JoinFault, Mark};
+use std::alloc::{AllocError, Global};
+use std::marker::Model;
+
+/// What a list of marks comes to, from each of the six expectations and for every list of open containers at entry that
+/// is no longer than the depth. It keeps two further entries, for what stands behind a comma whose container is not known.
+#[derive(Drop)]
+pub struct Reductions {
+    depth: Depth,
+    value: Reduced,
+    array_first: Reduced,
+    object_first: Reduced,
+    name: Reduced,
+    colon: Reduced,
+    after: Reduced,
+    value_or_name: Reduced,
+    after_or_colon: Reduced,
+}
+
+impl Model for Reductions {
+    ghost use Rattle.jx_reduce.specs.Reductions.{Forms, IsSound};
+
+    ghost Value = { Forms };
+
+    ghost use Rattle.jx_reduce.specs.View.{forms_of, AreOfDepth};
+
+    ghost view = { forms_of };
+
+    ghost invariant = { λ a. IsSound (forms_of a) × AreOfDepth a };
+}
+
+impl Reductions {
+    /// The structure of no marks. It takes no memory.
+    pub fn new(alloc: Global, depth: Depth) -> Reductions
+        ensures depth { result.depth ≡ depth }
+        ensures reads { IsOf [] result }
+        ensures offsets { (low high : ℕ) → SpansIn low high result }
+    {
+        Reductions {
+            depth,
+            value: Reduced::new(alloc, Entry::Value, depth),
+            array_first: Reduced::new(alloc, Entry::ArrayFirst, depth),
+            object_first: Reduced::new(alloc, Entry::ObjectFirst, depth),
+            name: Reduced::new(alloc, Entry::Name, depth),
+            colon: Reduced::new(alloc, Entry::Colon, depth),
+            after: Reduced::new(alloc, Entry::After, depth),
+            value_or_name: Reduced::new(alloc, Entry::ValueOrName, depth),
+            after_or_colon: Reduced::new(alloc, Entry::AfterOrColon, depth),
+        }
+    }
+
+    /// The structure of these marks, in one pass for each entry that meets no fault. Only want of memory is refused.
+    pub fn of(alloc: Global, marks: &[Mark], depth: Depth) -> Result<Reductions, AllocError>
+        requires rising { RisingFrom 0 marks.now }
+        ensures depth { IfOk result (λ f. f.depth ≡ depth) }
+        ensures reads { IfOk result (λ f. IsOf marks.now f) }
+        ensures offsets { IfOk result (λ f. (low high : ℕ) → EachIn (λ m. (low ≤ m.at) × (m.at < high)) marks.now → SpansIn low high f) }
+    {
+        Ok(Reductions {
+            depth,
+            value: Reduced::of(alloc, Entry::Value, marks, depth)?,
+            array_first: Reduced::of(alloc, Entry::ArrayFirst, marks, depth)?,
+            object_first: Reduced::of(alloc, Entry::ObjectFirst, marks, depth)?,
+            name: Reduced::of(alloc, Entry::Name, marks, depth)?,
+            colon: Reduced::of(alloc, Entry::Colon, marks, depth)?,
+            after: Reduced::of(alloc, Entry::After, marks, depth)?,
+            value_or_name: Reduced::of(alloc, Entry::ValueOrName, marks, depth)?,
+            after_or_colon: Reduced::of(alloc, Entry::AfterOrColon, marks, depth)?,
+        })
+    }
+
+    /// How many containers may stand open at once.
+    pub fn depth(&self) -> Depth
+        ensures { result ≡ self.now.depth }
+    {
+        self.depth
+    }
+
+    /// What the marks come to from this expectation.
+    pub fn entry(&self, expect: Expect) -> &Reduced
+        ensures depth { depth_of result.now ≡ self.now.depth }
+        ensures form { form_in result.now ≡ form_at self.now (entry_of expect) }
+        ensures size { IsOfSize self.now.depth (form_in result.now) }
+    {
+        match expect {
+            Expect::Value => &self.value,
+            Expect::ArrayFirst => &self.array_first,
+            Expect::ObjectFirst => &self.object_first,
+            Expect::Name => &self.name,
+            Expect::Colon => &self.colon,
+            Expect::After => &self.after,
+        }
+    }
+
+    fn at(&self, entry: Entry) -> &Reduced
+        ensures depth { depth_of result.now ≡ self.now.depth }
+        ensures form { form_in result.now ≡ form_at self.now entry }
+    {
+        match entry {
+            Entry::Value => &self.value,
+            Entry::ArrayFirst => &self.array_first,
+            Entry::ObjectFirst => &self.object_first,
+            Entry::Name => &self.name,
+            Entry::Colon => &self.colon,
+            Entry::After => &self.after,
+            Entry::ValueOrName => &self.value_or_name,
+            Entry::AfterOrColon => &self.after_or_colon,
+        }
+    }
+
+    /// Makes room on the left for what follows it here.
+    fn make_room(&self, left: &mut Reduced) -> Result<(), AllocError>
+        ensures depth { depth_of left.new ≡ depth_of left.old }
+        ensures same { form_in left.new ≡ form_in left.old }
+        ensures ok { OnOk result (IsReady left.new self.now) }
+    {
+        if let Some(entry) = left.exit() {
+            left.make_room(self.at(entry))?;
+        }
+        Ok(())
+    }
+
+    /// Goes on from the left.
+    fn follow(&self, left: &mut Reduced)
+        requires depth { depth_of left.old ≡ self.now.depth }
+        requires ready { IsReady left.old self.now }
+        ensures depth { depth_of left.new ≡ depth_of left.old }
+        ensures form { form_in left.new ≡ followed (depth_of left.old) (form_in left.old) self.now }
+    {
+        if let Some(entry) = left.exit() {
+            left.follow(self.at(entry));
+        }
+    }
+
+    /// A value equal to this one. Only want of memory is refused.
+    pub fn copy(&self) -> Result<Reductions, AllocError>
+        ensures { IfOk result (λ r. r ≡ self.now) }
+    {
+        Ok(Reductions {
+            depth: self.depth,
+            value: self.value.copy()?,
+            array_first: self.array_first.copy()?,
+            object_first: self.object_first.copy()?,
+            name: self.name.copy()?,
+            colon: self.colon.copy()?,
+            after: self.after.copy()?,
+            value_or_name: self.value_or_name.copy()?,
+            after_or_colon: self.after_or_colon.copy()?,
+        })
+    }
+
+    /// Goes on with the marks of the right, whose offsets lie behind those of the left. No mark is looked at again, and
+    /// what the left holds is not copied. Where memory is refused the left stays as it was.
+    pub fn extend(&mut self, right: &Reductions) -> Result<(), AllocError>
+        requires depth { self.old.depth ≡ right.now.depth }
+        requires before { IsBefore self.old right.now }
+        ensures depth { self.new.depth ≡ self.old.depth }
+        ensures joined { OnOk result (IsJoin self.old right.now self.new) }
+        ensures marks { OnOk result ((ms ns : List Mark) → IsOf ms self.old → IsOf ns right.now → IsOf (ms ++ ns) self.new) }
+        ensures offsets { OnOk result ((low high : ℕ) → SpansIn low high self.old → SpansIn low high right.now → SpansIn low high self.new) }
+        ensures err { OnErr result (self.new ≡ self.old) }
+    {
+        // Shows the proof what holds of each right.
+        let _ = &right.depth;
+        // All that can fail comes first.
+        right.make_room(&mut self.value)?;
+        right.make_room(&mut self.array_first)?;
+        right.make_room(&mut self.object_first)?;
+        right.make_room(&mut self.name)?;
+        right.make_room(&mut self.colon)?;
+        right.make_room(&mut self.after)?;
+        right.make_room(&mut self.value_or_name)?;
+        right.make_room(&mut self.after_or_colon)?;
+        right.follow(&mut self.value);
+        right.follow(&mut self.array_first);
+        right.follow(&mut self.object_first);
+        right.follow(&mut self.name);
+        right.follow(&mut self.colon);
+        right.follow(&mut self.after);
+        right.follow(&mut self.value_or_name);
+        right.follow(&mut self.after_or_colon);
+        Ok(())
+    }
+
+    /// The structure of the marks of both sides, the right's behind the left's. Only want of memory is refused, and then
+    /// both sides are handed back as they were.
+    pub fn join(self, right: Reductions) -> Result<Reductions, JoinFault<Reductions>>
+        requires depth { self.depth ≡ right.depth }
+        requires before { IsBefore self right }
+        ensures depth { IfOk result (λ j. j.depth ≡ self.depth) }
+        ensures joined { IfOk result (λ j. IsJoin self right j) }
+        ensures marks { IfOk result (λ j. (ms ns : List Mark) → IsOf ms self → IsOf ns right → IsOf (ms ++ ns) j) }
+        ensures offsets { IfOk result (λ j. (low high : ℕ) → SpansIn low high self → SpansIn low high right → SpansIn low high j) }
+        ensures err { IfErr result (λ e. (e.left ≡ self) × (e.right ≡ right)) }
+    {
+        let mut left = self;
+        match left.extend(&right) {
+            Ok(()) => Ok(left),
+            Err(AllocError) => Err(JoinFault { left, right }),
+        }
+    }
+}
