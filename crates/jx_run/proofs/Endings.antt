@@ -1,0 +1,141 @@
+-- What one byte does, and where a reading first stops: for every depth, and wherever the bytes stand.
+use Rattle.std.proofs.Common.{◌≡◌, ℕ, suc, ◌+◌, ◌≤◌, ◌<◌, List, [], ◌∷◌, length, take, Option, Some, None, Bool, true, false, cond, drop, refl, ap, ◌∙◌, arith}
+use Rattle.std.specs.Prelude.{nat_lt}
+use Rattle.std.proofs.lemmas.Bool.Decides.{nat_tests}
+use Rattle.jx_lex.specs.declared.state.LexState.{LexState}
+use Rattle.jx_lex.specs.declared.state.LexState.TheVariants as state
+use Rattle.jx_lex.specs.declared.mark.MarkKind.{MarkKind}
+use Rattle.jx_lex.specs.declared.state.Step.{Step}
+use Rattle.jx_lex.specs.Moves.{move, as_gap}
+use Rattle.jx_lex.proofs.Cases
+use Rattle.jx_reduce.specs.declared.expect.Expect.{Expect}
+use Rattle.jx_reduce.specs.declared.holder.Holder.{Holder}
+use Rattle.jx_reduce.specs.Read.{top}
+use Rattle.jx_run.specs.Turns.{Turn, wrong, on, enter, leave, turn}
+use Rattle.jx_run.specs.Reading.{Outcome, went, stopped, too_deep}
+use Rattle.jx_run.proofs.Fused.{after_turn, run, on_step}
+
+-- a byte that begins a token, or that is a mark, is no fault of the lexical machine
+abbrev begin_ok : Option MarkKind → Option LexState → Type 0
+begin_ok (Some k) None = ⊥
+begin_ok (Some k) (Some s) = Unit {0}
+begin_ok None n = Unit {0}
+
+abbrev BeginOk : Step → Type 0
+BeginOk st = begin_ok st.begin st.next
+
+gap_ok : (b : ℕ) → BeginOk (move state.Gap b)
+gap_ok b = Cases.cases_Gap b BeginOk (λ h. tt) (λ h. tt) (λ h. tt) (λ h. tt) (λ h. tt) (λ h. tt) (λ h. tt) (λ h. tt) (λ h. tt) (λ h. tt) (λ h. tt) (λ h. tt) (λ h. tt) (λ h. tt) tt
+
+moves_ok : (s : LexState) (b : ℕ) → BeginOk (move s b)
+unfolding as_gap
+moves_ok state.Gap b = gap_ok b
+moves_ok state.Str b = Cases.cases_Str b BeginOk (λ h. tt) (λ h. tt) (λ h. tt) (λ h. tt) (λ h. tt) (λ h. tt) (λ h. tt) (λ h. tt) (λ h. tt) (λ h. tt) tt
+moves_ok state.Esc b = Cases.cases_Esc b BeginOk (λ h. tt) (λ h. tt) tt
+moves_ok state.Hex4 b = Cases.cases_Hex4 b BeginOk (λ h. tt) tt
+moves_ok state.Hex3 b = Cases.cases_Hex3 b BeginOk (λ h. tt) tt
+moves_ok state.Hex2 b = Cases.cases_Hex2 b BeginOk (λ h. tt) tt
+moves_ok state.Hex1 b = Cases.cases_Hex1 b BeginOk (λ h. tt) tt
+moves_ok state.Tail1 b = Cases.cases_Tail1 b BeginOk (λ h. tt) tt
+moves_ok state.Tail2 b = Cases.cases_Tail2 b BeginOk (λ h. tt) tt
+moves_ok state.Tail3 b = Cases.cases_Tail3 b BeginOk (λ h. tt) tt
+moves_ok state.AfterE0 b = Cases.cases_AfterE0 b BeginOk (λ h. tt) tt
+moves_ok state.AfterEd b = Cases.cases_AfterEd b BeginOk (λ h. tt) tt
+moves_ok state.AfterF0 b = Cases.cases_AfterF0 b BeginOk (λ h. tt) tt
+moves_ok state.AfterF4 b = Cases.cases_AfterF4 b BeginOk (λ h. tt) tt
+moves_ok state.Minus b = Cases.cases_Minus b BeginOk (λ h. tt) (λ h. tt) tt
+moves_ok state.Zero b = Cases.cases_Zero b BeginOk (λ h. tt) (λ h. tt) (gap_ok b)
+moves_ok state.Int b = Cases.cases_Int b BeginOk (λ h. tt) (λ h. tt) (λ h. tt) (gap_ok b)
+moves_ok state.Dot b = Cases.cases_Dot b BeginOk (λ h. tt) tt
+moves_ok state.Frac b = Cases.cases_Frac b BeginOk (λ h. tt) (λ h. tt) (gap_ok b)
+moves_ok state.E b = Cases.cases_E b BeginOk (λ h. tt) (λ h. tt) tt
+moves_ok state.ESign b = Cases.cases_ESign b BeginOk (λ h. tt) tt
+moves_ok state.Exp b = Cases.cases_Exp b BeginOk (λ h. tt) (gap_ok b)
+moves_ok state.T b = Cases.cases_T b BeginOk (λ h. tt) tt
+moves_ok state.Tr b = Cases.cases_Tr b BeginOk (λ h. tt) tt
+moves_ok state.Tru b = Cases.cases_Tru b BeginOk (λ h. tt) tt
+moves_ok state.F b = Cases.cases_F b BeginOk (λ h. tt) tt
+moves_ok state.Fa b = Cases.cases_Fa b BeginOk (λ h. tt) tt
+moves_ok state.Fal b = Cases.cases_Fal b BeginOk (λ h. tt) tt
+moves_ok state.Fals b = Cases.cases_Fals b BeginOk (λ h. tt) tt
+moves_ok state.N b = Cases.cases_N b BeginOk (λ h. tt) tt
+moves_ok state.Nu b = Cases.cases_Nu b BeginOk (λ h. tt) tt
+moves_ok state.Nul b = Cases.cases_Nul b BeginOk (λ h. tt) tt
+
+abbrev More : Type 0
+More = LexState → Expect → List Holder → Outcome
+
+-- at this depth the byte goes on, and so it does at any greater one; or it is a fault at each depth; or it opens one container too many
+data StepKind (limit : ℕ) (e : Expect) (o : List Holder) (st : Step) : Type 0 where
+  continues : (s' : LexState) (e' : Expect) (o' : List Holder) → ((d at : ℕ) (more : More) → limit ≤ d → on_step d at e o st more ≡ more s' e' o') → StepKind limit e o st
+  stops : ((d at : ℕ) (more : More) → on_step d at e o st more ≡ stopped at) → StepKind limit e o st
+  deepens : (s' : LexState) (e' : Expect) (o' : List Holder) → limit ≤ length o → ((at : ℕ) (more : More) → on_step limit at e o st more ≡ too_deep at)
+      → ((d at : ℕ) (more : More) → length o < d → on_step d at e o st more ≡ more s' e' o') → StepKind limit e o st
+
+entered : (d m : ℕ) (x y : Outcome) → m < d → cond (nat_lt m d) x y ≡ x
+entered d m x y lt = grind (arith, nat_tests)
+
+refused : (d m : ℕ) (x y : Outcome) → d ≤ m → cond (nat_lt m d) x y ≡ y
+refused d m x y le = grind (arith, nat_tests)
+
+turn_kind : (limit : ℕ) (e : Expect) (o : List Holder) (end : _) (k : MarkKind) (s' : LexState) (t : Turn) → turn k e (top o) ≡ t
+    → StepKind limit e o (record { end = end; begin = Some k; next = Some s' })
+turn_kind limit e o end k s' wrong h = stops (λ d at more. ap (λ t. after_turn d at o t (λ e o. more s' e o)) h)
+turn_kind limit e o end k s' (on e') h = continues s' e' o (λ d at more le. ap (λ t. after_turn d at o t (λ e o. more s' e o)) h)
+turn_kind limit e o end k s' (leave e') h = continues s' e' (drop 1 o) (λ d at more le. ap (λ t. after_turn d at o t (λ e o. more s' e o)) h)
+turn_kind limit e o end k s' (enter c e') h = pick (nat_lt (length o) limit) refl
+  where
+    pick : (b : Bool) → nat_lt (length o) limit ≡ b → StepKind limit e o (record { end = end; begin = Some k; next = Some s' })
+    pick true q = continues s' e' (c ∷ o) (λ d at more le. ap (λ t. after_turn d at o t (λ e o. more s' e o)) h ∙ entered d (length o) _ _ (let x : length o < limit = grind (arith, nat_tests) in omega arith))
+    pick false q =
+        deepens s' e' (c ∷ o) (grind (arith, nat_tests))
+        (λ at more. ap (λ t. after_turn limit at o t (λ e o. more s' e o)) h ∙ refused limit (length o) _ _ (grind (arith, nat_tests)))
+        (λ d at more lt. ap (λ t. after_turn d at o t (λ e o. more s' e o)) h ∙ entered d (length o) _ _ lt)
+
+step_kind : (limit : ℕ) (e : Expect) (o : List Holder) (st : Step) → BeginOk st → StepKind limit e o st
+step_kind limit e o st ok = by_parts st.end st.begin st.next ok
+  where
+    by_parts : (end : _) (m : Option MarkKind) (n : Option LexState) → begin_ok m n → StepKind limit e o (record { end = end; begin = m; next = n })
+    by_parts end None None ok = stops (λ d at more. refl)
+    by_parts end None (Some s') ok = continues s' e o (λ d at more le. refl)
+    by_parts end (Some k) None ok = absurd ok
+    by_parts end (Some k) (Some s') ok = turn_kind limit e o end k s' (turn k e (top o)) refl
+
+-- how a reading ends
+pub data Ending (limit : ℕ) (s : LexState) (e : Expect) (o : List Holder) (t : List ℕ) : Type 0 where
+  goes_on : (s' : LexState) (e' : Expect) (o' : List Holder) → ((d at : ℕ) → limit ≤ d → run d s e o at t ≡ went s' e' o') → Ending limit s e o t
+  is_stopped : (k : ℕ) → k < length t → (s' : LexState) (e' : Expect) (o' : List Holder)
+      → ((at : ℕ) → run limit s e o at t ≡ stopped (at + k)) → ((d at : ℕ) → limit ≤ d → run d s e o at (take k t) ≡ went s' e' o')
+      → ((d at : ℕ) → limit ≤ d → run d s e o at (take (suc k) t) ≡ stopped (at + k)) → Ending limit s e o t
+  is_deep : (k : ℕ) → k < length t → (s' : LexState) (e' : Expect) (o' : List Holder)
+      → ((at : ℕ) → run limit s e o at t ≡ too_deep (at + k)) → ((d at : ℕ) → limit ≤ d → run d s e o at (take k t) ≡ went s' e' o')
+      → ((at : ℕ) → run limit s e o at (take (suc k) t) ≡ too_deep (at + k))
+      → (d : ℕ) (s'' : LexState) (e'' : Expect) (o'' : List Holder) → limit ≤ d → ((at : ℕ) → run d s e o at (take (suc k) t) ≡ went s'' e'' o'') → Ending limit s e o t
+
+later : (f : ℕ → Outcome) (at k : ℕ) → f (suc at + k) ≡ f (at + suc k)
+later f at k = ap f (omega arith)
+
+pub ending : (limit : ℕ) (t : List ℕ) (s : LexState) (e : Expect) (o : List Holder) → Ending limit s e o t
+unfolding run
+ending limit [] s e o = goes_on s e o (λ d at le. refl)
+ending limit (b ∷ t) s e o = by_kind (step_kind limit e o (move s b) (moves_ok s b)) (λ s' e' o'. ending limit t s' e' o')
+  where
+    onwards : (s' : LexState) (e' : Expect) (o' : List Holder) → ((d at : ℕ) (more : More) → limit ≤ d → on_step d at e o (move s b) more ≡ more s' e' o')
+        → Ending limit s' e' o' t → Ending limit s e o (b ∷ t)
+    onwards s' e' o' h (goes_on s1 e1 o1 f) = goes_on s1 e1 o1 (λ d at le. h d at _ le ∙ f d (suc at) le)
+    onwards s' e' o' h (is_stopped k lt s1 e1 o1 f g p) =
+        is_stopped (suc k) (omega arith) s1 e1 o1 (λ at. h limit at _ (omega arith) ∙ f (suc at) ∙ later stopped at k) (λ d at le. h d at _ le ∙ g d (suc at) le) (λ d at le. h d at _ le ∙ p d (suc at) le ∙ later stopped at k)
+    onwards s' e' o' h (is_deep k lt s1 e1 o1 f g p d s2 e2 o2 le q) =
+        is_deep (suc k) (omega arith) s1 e1 o1 (λ at. h limit at _ (omega arith) ∙ f (suc at) ∙ later too_deep at k) (λ d at le. h d at _ le ∙ g d (suc at) le) (λ at. h limit at _ (omega arith) ∙ p (suc at) ∙ later too_deep at k)
+        d s2 e2 o2 le (λ at. h d at _ le ∙ q (suc at))
+
+    here : (f : ℕ → Outcome) (at : ℕ) → f at ≡ f (at + 0)
+    here f at = ap f (omega arith)
+
+    by_kind : StepKind limit e o (move s b) → ((s' : LexState) (e' : Expect) (o' : List Holder) → Ending limit s' e' o' t) → Ending limit s e o (b ∷ t)
+    by_kind (continues s' e' o' h) rec = onwards s' e' o' h (rec s' e' o')
+    by_kind (stops h) rec =
+        is_stopped 0 (omega arith) s e o (λ at. h limit at _ ∙ here stopped at) (λ d at le. refl) (λ d at le. h d at _ ∙ here stopped at)
+    by_kind (deepens s' e' o' le h g) rec =
+        is_deep 0 (omega arith) s e o (λ at. h at _ ∙ here too_deep at) (λ d at le. refl) (λ at. h at _ ∙ here too_deep at)
+        (suc (length o)) s' e' o' (omega arith) (λ at. g (suc (length o)) at _ (omega arith))

@@ -1,0 +1,20 @@
+use Rattle.jx_run.proofs.LawProofs.{begins_law, sound_law, complete_law, first_fault_law, too_deep_law, verdict_law}
+use Rattle.jx_run.proofs.laws.reader_is_grammar.Goals as goal
+
+pub returns-clause-begins : goal.returns-clause-begins
+returns-clause-begins c = begins_law
+
+pub returns-clause-sound : goal.returns-clause-sound
+returns-clause-sound c = sound_law
+
+pub returns-clause-complete : goal.returns-clause-complete
+returns-clause-complete c = complete_law
+
+pub returns-clause-first_fault : goal.returns-clause-first_fault
+returns-clause-first_fault c = first_fault_law
+
+pub returns-clause-too_deep : goal.returns-clause-too_deep
+returns-clause-too_deep c = too_deep_law
+
+pub returns-clause-verdict : goal.returns-clause-verdict
+returns-clause-verdict c = verdict_law

@@ -1,0 +1,24 @@
+use Rattle.std.proofs.Common.{subst}
+use Rattle.std.specs.Prelude.{IsSomeAnd}
+use Rattle.jx_run.specs.Reduced.{IsReduced}
+use Rattle.jx_run.proofs.Reducing.{both_ok, reduced_before, reduced_more, segment_rises}
+use Rattle.jx_run.proofs.reduce.take_in.Goals as goal
+
+pub fill-requires-clause-rising : goal.fill-requires-clause-rising
+fill-requires-clause-rising c = segment_rises c.requires.rising.0 c.args.segment.now.marks c.requires.rising.2
+
+pub extend-requires-clause-before : goal.extend-requires-clause-before
+extend-requires-clause-before c =
+    let part : IsReduced c.args.reduced.now.depth c.args.segment.now.marks c.in-Some.part =
+    subst (λ o. IsSomeAnd o (IsReduced c.args.reduced.now.depth c.args.segment.now.marks)) c.in-Some.is
+    (subst (λ d. IsSomeAnd c.fill.new.part (IsReduced d c.args.segment.now.marks)) c.depth.ensures c.in_ok-fill.ensures.part) in
+    reduced_before c.args.reduced.now.depth c.requires.rising.0 c.args.segment.now.marks c.args.reduced.now c.in-Some.part c.requires.rising.1 part c.requires.rising.2
+
+pub returns-clause-reduced : goal.returns-clause-reduced
+returns-clause-reduced c =
+    let part : IsReduced c.args.reduced.now.depth c.args.segment.now.marks c.in-Some.part =
+    subst (λ o. IsSomeAnd o (IsReduced c.args.reduced.now.depth c.args.segment.now.marks)) c.in-Some.is
+    (subst (λ d. IsSomeAnd c.fill.new.part (IsReduced d c.args.segment.now.marks)) c.depth.ensures c.in_ok-fill.ensures.part) in
+    both_ok c.extend.result
+    (λ reads spans marks h. reduced_more c.args.reduced.now.depth marks c.args.segment.now.marks c.args.reduced.now c.in-Some.part c.extend.new.self h part c.extend.ensures.depth reads spans)
+    c.extend.ensures.marks c.extend.ensures.offsets

@@ -1,0 +1,14 @@
+pub mod Elements
+pub mod Grammar
+pub mod Laws
+pub mod Reading
+pub mod Reduced
+pub mod SeqRun
+pub mod Shape
+pub mod Started
+pub mod Text
+pub mod TextRun
+pub mod Tree
+pub mod Turns
+pub mod Verdict
+pub mod Whole

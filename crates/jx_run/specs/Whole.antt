@@ -1,0 +1,22 @@
+-- The verdict on a whole text, from what its marks come to with no container open at the start.
+use Rattle.std.specs.Prelude.{ℕ, [], Bool, false, ◌==◌, if◌then◌else◌}
+use Rattle.jx_lex.specs.declared.exit.Exit.{Exit}
+use Rattle.jx_lex.specs.declared.exit.Exit.TheVariants as exit
+use Rattle.jx_lex.specs.declared.state.LexState.{LexState}
+use Rattle.jx_reduce.specs.declared.expect.Expect.{Expect}
+use Rattle.jx_reduce.specs.declared.whole.Whole.{Whole}
+use Rattle.jx_reduce.specs.declared.whole.Whole.TheVariants as whole
+use Rattle.jx_run.specs.declared.verdict.Verdict.{Verdict}
+use Rattle.jx_run.specs.declared.verdict.Verdict.TheVariants.{Accepted, Refused}
+use Rattle.jx_run.specs.declared.verdict.Refusal.TheVariants.{Stopped, Truncated, TooDeep}
+use Rattle.jx_run.specs.Laws.{is_end}
+
+-- a whole text may end here, with so many containers open
+abbrev pub ends_text : LexState → Expect → ℕ → Bool
+ends_text s expect open_count = if open_count == 0 then is_end s expect [] else false
+
+abbrev pub verdict_from : Exit → Whole → Verdict
+verdict_from (exit.State s) (whole.Went expect n) = if ends_text s expect n then Accepted else Refused Truncated
+verdict_from (exit.Fault at) (whole.Went expect n) = Refused (Stopped at)
+verdict_from x (whole.Stopped at) = Refused (Stopped at)
+verdict_from x (whole.TooDeep at) = Refused (TooDeep at)

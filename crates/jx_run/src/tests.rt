@@ -1,0 +1,236 @@
+// The verdicts of worked examples, read as one run and as joins of runs of single bytes.
+ghost use Rattle.std.specs.Prelude.{◌≡◌, ◌≤◌, IfOk, length};
+ghost use Rattle.jx_run.specs.TextRun.{place_of};
+ghost use Rattle.jx_run.specs.Tree.{span};
+
+use crate::summary::Summary;
+use crate::text_run::TextRun;
+use crate::verdict::{Refusal, Verdict};
+use jx_lex::{Depth, LexState};
+use jx_reduce::Expect;
+use std::alloc::{AllocError, Global};
+use std::process::Abort;
+
+/// Runs of single bytes, joined from the left.
+fn from_left(alloc: Global, text: &[u8], depth: Depth) -> Result<TextRun, AllocError>
+    ensures place { IfOk result (λ r. place_of r ≡ span 0 (length text.now)) }
+    ensures depth { IfOk result (λ r. r.limit ≡ depth) }
+{
+    let mut run = TextRun::of(alloc, text, 0, 0, depth)?;
+    for i in 0..text.len() {
+        let right = TextRun::of(alloc, text, i, i + 1, depth)?;
+        run = match run.join(right) {
+            Ok(joined) => joined,
+            Err(_) => return Err(AllocError),
+        };
+    }
+    Ok(run)
+}
+
+/// Runs of single bytes, joined from the right.
+fn from_right(alloc: Global, text: &[u8], depth: Depth) -> Result<TextRun, AllocError>
+    ensures place { IfOk result (λ r. place_of r ≡ span 0 (length text.now)) }
+    ensures depth { IfOk result (λ r. r.limit ≡ depth) }
+{
+    let len = text.len();
+    let mut run = TextRun::of(alloc, text, len, len, depth)?;
+    for i in (0..len).rev() {
+        let left = TextRun::of(alloc, text, i, i + 1, depth)?;
+        run = match left.join(run) {
+            Ok(joined) => joined,
+            Err(_) => return Err(AllocError),
+        };
+    }
+    Ok(run)
+}
+
+/// Runs of single bytes, joined by halves.
+fn by_halves(
+    alloc: Global,
+    text: &[u8],
+    start: usize,
+    end: usize,
+    depth: Depth,
+) -> Result<TextRun, AllocError>
+    requires ordered { start ≤ end }
+    requires within { end ≤ length text.now }
+    ensures place { IfOk result (λ r. place_of r ≡ span start end) }
+    ensures depth { IfOk result (λ r. r.limit ≡ depth) }
+{
+    if end - start < 2 {
+        return TextRun::of(alloc, text, start, end, depth);
+    }
+    let middle = start + (end - start) / 2;
+    let left = by_halves(alloc, text, start, middle, depth)?;
+    let right = by_halves(alloc, text, middle, end, depth)?;
+    match left.join(right) {
+        Ok(joined) => Ok(joined),
+        Err(_) => Err(AllocError),
+    }
+}
+
+fn check(
+    rt: &impl Abort,
+    alloc: Global,
+    text: &[u8],
+    containers: u32,
+    want: Verdict,
+) -> Result<(), AllocError> {
+    let depth = Depth::new(containers).expect(rt, "a depth");
+    let whole = TextRun::of(alloc, text, 0, text.len(), depth)?;
+    assert_eq!(rt; whole.verdict(), want, "{text:?} as one run");
+    let left = from_left(alloc, text, depth)?;
+    assert_eq!(rt; left.verdict(), want, "{text:?} from the left");
+    let right = from_right(alloc, text, depth)?;
+    assert_eq!(rt; right.verdict(), want, "{text:?} from the right");
+    let halves = by_halves(alloc, text, 0, text.len(), depth)?;
+    assert_eq!(rt; halves.verdict(), want, "{text:?} by halves");
+    Ok(())
+}
+
+const TRUNCATED: Verdict = Verdict::Refused(Refusal::Truncated);
+
+fn stopped(at: usize) -> Verdict {
+    Verdict::Refused(Refusal::Stopped { at })
+}
+
+fn too_deep(at: usize) -> Verdict {
+    Verdict::Refused(Refusal::TooDeep { at })
+}
+
+#[test]
+fn tokens(rt: HostRuntime) -> Result<(), AllocError> {
+    let alloc = rt.alloc();
+    check(&rt, alloc, b"", 512, TRUNCATED)?;
+    check(&rt, alloc, b"null", 0, Verdict::Accepted)?;
+    check(&rt, alloc, b"12", 512, Verdict::Accepted)?;
+    check(&rt, alloc, b"-", 512, TRUNCATED)?;
+    check(&rt, alloc, b"-x", 512, stopped(1))?;
+    check(&rt, alloc, b"01", 512, stopped(1))?;
+    check(&rt, alloc, b"1e+", 512, TRUNCATED)?;
+    check(&rt, alloc, b"1.x", 512, stopped(2))?;
+    check(&rt, alloc, b"tru", 512, TRUNCATED)?;
+    check(&rt, alloc, b"nul1", 512, stopped(3))?;
+    check(&rt, alloc, b"\x22\xC3\xA9\x22", 512, Verdict::Accepted)?;
+    check(&rt, alloc, b"\x22\xED\xA0\x80\x22", 512, stopped(2))?;
+    check(&rt, alloc, b"\xEF\xBB\xBF1", 512, stopped(0))?;
+    check(&rt, alloc, b"\x22\n\x22", 512, stopped(1))?;
+    check(&rt, alloc, b"[\"\\uD800\"]", 512, Verdict::Accepted)?;
+    check(&rt, alloc, b"\"\\u0041\"", 512, Verdict::Accepted)
+}
+
+#[test]
+fn containers(rt: HostRuntime) -> Result<(), AllocError> {
+    let alloc = rt.alloc();
+    check(&rt, alloc, b"{trx", 512, stopped(1))?;
+    check(&rt, alloc, b"{tr", 512, stopped(1))?;
+    check(&rt, alloc, b"[1,]", 512, stopped(3))?;
+    check(&rt, alloc, b"1]", 512, stopped(1))?;
+    check(&rt, alloc, b"]", 512, stopped(0))?;
+    check(&rt, alloc, b"[1 2]", 512, stopped(3))?;
+    check(&rt, alloc, b"{\"a\":1]", 512, stopped(6))?;
+    check(&rt, alloc, b"{} {}", 512, stopped(3))?;
+    check(&rt, alloc, b"{\"a\":1,2]", 512, stopped(7))?;
+    check(&rt, alloc, b"[[[]]]", 2, too_deep(2))?;
+    check(&rt, alloc, b"[[[]]]", 3, Verdict::Accepted)?;
+    check(&rt, alloc, b"[1]", 0, too_deep(0))?;
+    check(&rt, alloc, b"1[", 0, stopped(1))?;
+    check(&rt, alloc, b"{\"a\":[1,{\"b\":2}]}", 512, Verdict::Accepted)
+}
+
+/// So many bytes, and then as many others.
+fn repeated(
+    alloc: Global,
+    first: u8,
+    count: usize,
+    then: u8,
+    more: usize,
+) -> Result<Vec<u8>, AllocError> {
+    let mut text = Vec::new(alloc);
+    for _ in 0..count {
+        text.push(first)?;
+    }
+    for _ in 0..more {
+        text.push(then)?;
+    }
+    Ok(text)
+}
+
+#[test]
+fn deep_texts(rt: HostRuntime) -> Result<(), AllocError> {
+    let alloc = rt.alloc();
+    check(
+        &rt,
+        alloc,
+        &repeated(alloc, b'[', 512, b']', 0)?,
+        512,
+        TRUNCATED,
+    )?;
+    check(
+        &rt,
+        alloc,
+        &repeated(alloc, b'[', 513, b']', 0)?,
+        512,
+        too_deep(512),
+    )?;
+    check(
+        &rt,
+        alloc,
+        &repeated(alloc, b'[', 2000, b']', 0)?,
+        512,
+        too_deep(512),
+    )?;
+    check(
+        &rt,
+        alloc,
+        &repeated(alloc, b'[', 2000, b']', 0)?,
+        65535,
+        TRUNCATED,
+    )?;
+    check(
+        &rt,
+        alloc,
+        &repeated(alloc, b'[', 600, b']', 600)?,
+        512,
+        too_deep(512),
+    )?;
+    check(
+        &rt,
+        alloc,
+        &repeated(alloc, b'[', 600, b']', 600)?,
+        600,
+        Verdict::Accepted,
+    )?;
+    check(
+        &rt,
+        alloc,
+        &repeated(alloc, b']', 1000, b']', 0)?,
+        512,
+        stopped(0),
+    )?;
+    check(
+        &rt,
+        alloc,
+        &repeated(alloc, b'"', 1, b'\\', 1000)?,
+        512,
+        TRUNCATED,
+    )?;
+    let mut text = repeated(alloc, b'"', 1, b'\\', 1001)?;
+    text.push(b'x')?;
+    check(&rt, alloc, &text, 512, stopped(1002))
+}
+
+#[test]
+fn reading_from_the_start(rt: HostRuntime) -> Result<(), AllocError> {
+    let run = from_left(rt.alloc(), b" [12]", Depth::default())?;
+    let started = run.started()?;
+    assert_eq!(rt; started.verdict(), Verdict::Accepted);
+    assert_eq!(rt; started.span().end, 5);
+    assert_eq!(rt; started.depth().containers(), 512);
+    assert_eq!(rt; started.marks().len(), 3);
+    assert_eq!(rt; started.ends(), [4].as_slice());
+    let entry = run.entry(LexState::Gap, Expect::Value);
+    assert_eq!(rt; entry.level_count(), 1);
+    assert_eq!(rt; run.entry(LexState::Gap, Expect::After).level_count(), 1);
+    Ok(())
+}
