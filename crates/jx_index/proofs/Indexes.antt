@@ -1,0 +1,68 @@
+-- What the fields of an index say of its rows.
+use Rattle.std.proofs.Common.{◌≡◌, ℕ, suc, ◌+◌, ◌-◌, ◌<◌, ◌≤◌, List, length, take, drop, refl, sym, ap, subst, ◌∙◌, arith, None}
+use Rattle.std.specs.Prelude.{slice_index}
+use Rattle.jx_lex.specs.declared.span.Span.{Span}
+use Rattle.jx_run.specs.Text.{IsText}
+use Rattle.jx_run.specs.Tree.{Tree}
+use Rattle.jx_run.proofs.Unique.{one_tree}
+use Rattle.jx_index.specs.declared.row.Row.{Row}
+use Rattle.jx_index.specs.Afters.{afters}
+use Rattle.jx_index.specs.Indexed.{IndexedValue, IsIndexed}
+use Rattle.jx_index.specs.Leads.{leads}
+use Rattle.jx_index.specs.Names.{IsInNameOrder}
+use Rattle.jx_index.specs.NameParts.{names_of}
+use Rattle.jx_index.specs.Nodes.{IsObjectAt, child_numbers}
+use Rattle.jx_index.specs.Rows.{rows}
+use Rattle.jx_index.specs.RowsLead.{rows_lead}
+use Rattle.jx_index.specs.Standing.{root_standing, itself}
+use Rattle.jx_index.specs.Walk.{IsForward, IsBounded, walk_children}
+use Rattle.jx_index.proofs.Bridge.{leads_are, object_row}
+use Rattle.jx_index.proofs.Builds.{size-length}
+use Rattle.jx_index.proofs.NamedTrees.{text_named}
+use Rattle.jx_index.proofs.Parents.{size-positive}
+use Rattle.jx_index.proofs.Shapes.{forward_of, bounded_of, walk_children_are}
+
+module _ (text : List ℕ) (place : Span) (table : List Row) (after starts members : List ℕ) (x : IsIndexed text place table after starts members) where
+  pub tree_rows : (limit : ℕ) (tree : Tree) → IsText text place.start place.end limit tree → table ≡ rows tree
+  tree_rows limit tree t = x.rows_are ∙ ap rows (one_tree x.is_text.reads t.reads)
+
+  pub has_root : 0 < length table
+  has_root =
+      let s = size-positive x.tree in
+      omega (arith, ap length x.rows_are, size-length x.tree 0 None 0 None)
+
+  pub goes_forward : IsForward after
+  goes_forward = subst IsForward (sym x.after_are) (forward_of x.tree)
+
+  pub stays_bounded : IsBounded after
+  stays_bounded = subst IsBounded (sym x.after_are) (bounded_of x.tree)
+
+  pub walk_is : (node : ℕ) → walk_children after node ≡ child_numbers table node
+  walk_is node = ap (λ a. walk_children a node) x.after_are ∙ walk_children_are x.tree node ∙ sym (ap (λ t. child_numbers t node) x.rows_are)
+
+  pub start_there : (node : ℕ) → IsObjectAt table node → node + 1 < length starts
+  start_there node h = omega (arith, object_row table node h, x.starts_are)
+
+  pub part_ordered : (node : ℕ) → IsObjectAt table node → slice_index starts node ≤ slice_index starts (node + 1)
+  part_ordered node h = (x.parts node (object_row table node h) h).ordered
+
+  pub part_within : (node : ℕ) → IsObjectAt table node → slice_index starts (node + 1) ≤ length members
+  part_within node h = (x.parts node (object_row table node h) h).within
+
+  pub names_are : (node : ℕ) → IsObjectAt table node → IsInNameOrder text table (child_numbers table node) (names_of starts members node)
+  names_are node h = subst (λ c. IsInNameOrder text table c (names_of starts members node)) (walk_is node) (x.parts node (object_row table node h) h).in_order
+
+  -- the same where the value of an index is at hand, and its lists come from elsewhere
+  pub names_shown : (v : IndexedValue) → record { text = text; place = place; rows = table } ≡ v → (node : ℕ) → IsObjectAt v.rows node
+      → (s m names : List ℕ) → s ≡ starts → m ≡ members → names ≡ names_of s m node → IsInNameOrder v.text v.rows (child_numbers v.rows node) names
+  names_shown v e node h s m names es em en =
+      subst (IsInNameOrder v.text v.rows (child_numbers v.rows node))
+      (ap (λ y. names_of y members node) (sym es) ∙ ap (λ y. names_of s y node) (sym em) ∙ sym en)
+      (subst (λ (w : IndexedValue). IsInNameOrder w.text w.rows (child_numbers w.rows node) (names_of starts members node)) e
+      (names_are node (subst (λ (w : IndexedValue). IsObjectAt w.rows node) (sym e) h)))
+
+-- the look-up over the rows is that over the tree
+pub tree_leads : (text : List ℕ) (table : List Row) (a b limit : ℕ) (tree : Tree) → IsText text a b limit tree → table ≡ rows tree → (tokens : List (List ℕ))
+    → rows_lead text table tokens 0 0 ≡ leads text tree tokens
+tree_leads text table a b limit tree t e tokens =
+    ap (λ r. rows_lead text r tokens 0 0) e ∙ sym (leads_are text tree (text_named t.reads) tokens tree root_standing itself 0)

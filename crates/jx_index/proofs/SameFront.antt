@@ -1,0 +1,38 @@
+-- Equal bytes that stand for one unit each may be passed over in both strings.
+use Rattle.std.proofs.Common.{◌≡◌, ◌≢◌, ℕ, suc, ◌+◌, ◌<◌, ◌≤◌, List, [], ◌∷◌, ◌++◌, length, drop, true, false, cond, refl, sym, ap, ap₂, ◌∙◌, arith, get_or, drop-cons}
+use Rattle.std.specs.Prelude.{nat_lt, ◌==◌}
+use Rattle.std.proofs.lemmas.Bool.Decides.{nat_tests}
+use Rattle.std.specs.declared.cmp.Ordering.{Ordering}
+use Rattle.std.specs.declared.cmp.Ordering.TheVariants.{Less, Equal, Greater}
+use Rattle.std.specs.Ordering.{nat_cmp}
+use Rattle.std.specs.Char.Escape.{encode_utf16}
+use Rattle.std.specs.Cmp.Lexicographic.{slice_cmp}
+use Rattle.jx_index.specs.declared.units.Spelling.TheVariants.{InText}
+use Rattle.jx_index.specs.Units.{part_units, part_more, parts_units}
+
+-- an ASCII byte that begins no escape
+plain_unit : (b : ℕ) (bytes : List ℕ) → b < 0x80 → b ≢ 0x5c → parts_units InText 0 (b ∷ bytes) ≡ b ∷ parts_units InText 0 bytes
+unfolding parts_units
+plain_unit b bytes h n =
+    let e : (b == 0x5c) ≡ false = grind (arith, nat_tests) in
+    let l : nat_lt b 0x80 ≡ true = grind (arith, nat_tests) in
+    let m : nat_lt b 0x10000 ≡ true = grind (arith, nat_tests) in
+    rw (e, l, m) refl
+
+same_head : (b : ℕ) (us vs : List ℕ) → slice_cmp nat_cmp (b ∷ us) (b ∷ vs) ≡ slice_cmp nat_cmp us vs
+same_head b us vs =
+    let l : nat_lt b b ≡ false = grind (arith, nat_tests) in
+    let e : (b == b) ≡ true = grind (arith, nat_tests) in
+    rw (l, e) refl
+
+pub front_more : (xs ys : List ℕ) (at : ℕ) → at < length xs → at < length ys → get_or xs at 0 ≡ get_or ys at 0 → get_or xs at 0 < 0x80 → get_or xs at 0 ≢ 0x5c
+    → slice_cmp nat_cmp (parts_units InText 0 (drop at xs)) (parts_units InText 0 (drop at ys)) ≡ slice_cmp nat_cmp (parts_units InText 0 (drop (at + 1) xs)) (parts_units InText 0 (drop (at + 1) ys))
+front_more xs ys at h k e p n =
+    let s : suc at ≡ at + 1 = omega arith in
+    let b = get_or xs at 0 in
+    let u : parts_units InText 0 (drop at xs) ≡ b ∷ parts_units InText 0 (drop (suc at) xs) = ap (parts_units InText 0) (drop-cons xs at 0 h) ∙ plain_unit b (drop (suc at) xs) p n in
+    let v : parts_units InText 0 (drop at ys) ≡ b ∷ parts_units InText 0 (drop (suc at) ys) =
+    ap (parts_units InText 0) (drop-cons ys at 0 k ∙ ap (λ x. x ∷ drop (suc at) ys) (sym e)) ∙ plain_unit b (drop (suc at) ys) p n in
+    ap₂ (slice_cmp nat_cmp) u v
+    ∙ same_head b (parts_units InText 0 (drop (suc at) xs)) (parts_units InText 0 (drop (suc at) ys))
+    ∙ ap (λ m. slice_cmp nat_cmp (parts_units InText 0 (drop m xs)) (parts_units InText 0 (drop m ys))) s

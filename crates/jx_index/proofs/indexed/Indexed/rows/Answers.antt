@@ -1,0 +1,12 @@
+use Rattle.std.proofs.Common.{sym, subst, ◌∙◌}
+use Rattle.jx_run.specs.Text.{IsText}
+use Rattle.jx_index.specs.Indexed.{IndexedValue}
+use Rattle.jx_index.proofs.Indexes.{tree_rows}
+use Rattle.jx_index.proofs.indexed.Indexed.rows.Goals as goal
+
+pub returns-clause-tree : goal.returns-clause-tree
+returns-clause-tree c = λ limit tree t.
+    let i = c.self.inside in
+    c.as_slice.ensures.value
+    ∙ tree_rows i.text.now i.span i.nodes.rows.items i.nodes.after.items i.names.starts.items i.names.members.items c.self.invariant limit tree
+    (subst (λ (v : IndexedValue). IsText v.text v.place.start v.place.end limit tree) (sym c.self.view_is) t)

@@ -1,0 +1,24 @@
+-- An index: a text, where it stands, and its rows.
+use Rattle.std.specs.Prelude.{◌≡◌, ℕ, ◌+◌, List, length}
+use Rattle.jx_lex.specs.declared.span.Span.{Span}
+use Rattle.jx_run.specs.Tree.{Tree}
+use Rattle.jx_run.specs.Text.{IsText}
+use Rattle.jx_index.specs.declared.row.Row.{Row}
+use Rattle.jx_index.specs.Rows.{rows}
+use Rattle.jx_index.specs.Afters.{afters}
+use Rattle.jx_index.specs.NameParts.{HaveParts}
+
+pub record IndexedValue : Type 0 where
+  pub text : List ℕ
+  pub place : Span
+  pub rows : List Row
+
+-- the rows, the numbers behind them and the ordered names are those of the text's tree
+pub record IsIndexed (text : List ℕ) (place : Span) (table : List Row) (after starts members : List ℕ) : Type 0 where
+  pub limit : ℕ
+  pub tree : Tree
+  pub is_text : IsText text place.start place.end limit tree
+  pub rows_are : table ≡ rows tree
+  pub after_are : after ≡ afters tree
+  pub starts_are : length starts ≡ length table + 1
+  pub parts : HaveParts text table after starts members (length table)

@@ -1,0 +1,230 @@
+ghost use Rattle.std.specs.Prelude.{◌≡◌, ◌<◌, ◌-◌, ◌^◌, ℕ, reverse, slice_set, IfOk, All};
+ghost use Rattle.jx_lex.specs.declared.mark.Mark.{Mark};
+ghost use Rattle.jx_index.specs.Building.{place_in, parent_in, counted, set_end, nothing_built, add_leaf, begin_container, ended, is_name_next, on_mark, is_token, next_end, ends_after, built_of};
+ghost use Rattle.jx_index.specs.Built.{built, Fits};
+
+use crate::row::{NodeId, Row};
+use jx_lex::{Kind, Mark, MarkKind, Span};
+use std::alloc::{AllocError, Global};
+
+/// An open container: its row, what it is and how many children it has so far.
+#[derive(Clone, Copy, Debug)]
+pub struct Opened {
+    pub row: usize,
+    pub is_object: bool,
+    pub count: usize,
+}
+
+/// The rows so far, the open containers, outermost first, and a name whose value is still to come.
+#[derive(Drop)]
+pub struct Builder {
+    rows: Vec<Row>,
+    after: Vec<usize>,
+    opened: Vec<Opened>,
+    name: Option<Span>,
+}
+
+fn count_child(opened: &mut Vec<Opened>)
+    requires { place_in (reverse opened.old.items) < 2 ^ 64 - 1 }
+    ensures { reverse opened.new.items ≡ counted (reverse opened.old.items) }
+{
+    let depth = opened.len();
+    if depth > 0 {
+        let top = &mut opened[depth - 1];
+        top.count += 1;
+    }
+}
+
+fn place_of(opened: &[Opened]) -> usize
+    ensures { result ≡ place_in (reverse opened.now) }
+{
+    match opened.last() {
+        Some(top) => top.count,
+        None => 0,
+    }
+}
+
+fn parent_of(opened: &[Opened]) -> Option<NodeId>
+    ensures { result ≡ parent_in (reverse opened.now) }
+{
+    match opened.last() {
+        Some(top) => Some(NodeId::new(top.row)),
+        None => None,
+    }
+}
+
+fn close_row(rows: &mut Vec<Row>, number: usize, end: usize)
+    ensures { rows.new.items ≡ set_end number end rows.old.items }
+{
+    if number < rows.len() {
+        let row = &mut rows[number];
+        row.span.end = end;
+    }
+}
+
+fn set_after(after: &mut Vec<usize>, number: usize, next: usize)
+    ensures { after.new.items ≡ slice_set after.old.items number next }
+{
+    if number < after.len() {
+        after[number] = next;
+    }
+}
+
+impl Builder {
+    fn new(alloc: Global) -> Builder
+        ensures { built result ≡ nothing_built }
+    {
+        Builder {
+            rows: Vec::new(alloc),
+            after: Vec::new(alloc),
+            opened: Vec::new(alloc),
+            name: None,
+        }
+    }
+
+    // A value begins: it gets its row.
+    fn add_row(&mut self, kind: Kind, span: Span) -> Result<(), AllocError>
+        requires { Fits (built self.old) }
+        ensures { IfOk result (λ _. built self.new ≡ add_leaf kind span (built self.old)) }
+    {
+        let row = Row {
+            kind,
+            span,
+            parent: parent_of(self.opened.as_slice()),
+            place: place_of(self.opened.as_slice()),
+            name: self.name,
+        };
+        self.rows.push(row)?;
+        self.after.push(self.rows.len())?;
+        self.name = None;
+        count_child(&mut self.opened);
+        Ok(())
+    }
+
+    fn begin(&mut self, kind: Kind, is_object: bool, at: usize) -> Result<(), AllocError>
+        requires fits { Fits (built self.old) }
+        requires at { at < 2 ^ 64 - 1 }
+        ensures { IfOk result (λ _. built self.new ≡ begin_container kind is_object at (built self.old)) }
+    {
+        let row = self.rows.len();
+        self.add_row(
+            kind,
+            Span {
+                start: at,
+                end: at + 1,
+            },
+        )?;
+        self.opened.push(Opened {
+            row,
+            is_object,
+            count: 0,
+        })?;
+        Ok(())
+    }
+
+    fn end(&mut self, end: usize)
+        ensures { built self.new ≡ ended (built self.old) end }
+    {
+        if let Some(top) = self.opened.pop() {
+            set_after(&mut self.after, top.row, self.rows.len());
+            close_row(&mut self.rows, top.row, end);
+        }
+    }
+
+    fn is_name_next(&self) -> bool
+        ensures { result ≡ is_name_next (reverse self.now.opened.items) self.now.name }
+    {
+        match (self.opened.last(), self.name) {
+            (Some(top), None) => top.is_object,
+            _ => false,
+        }
+    }
+
+    fn mark(&mut self, kind: MarkKind, at: usize, end: usize) -> Result<(), AllocError>
+        requires fits { Fits (built self.old) }
+        requires at { at < 2 ^ 64 - 1 }
+        ensures { IfOk result (λ _. built self.new ≡ on_mark kind at end (built self.old)) }
+    {
+        let span = Span { start: at, end };
+        match kind {
+            MarkKind::OpenArray => self.begin(Kind::Array, false, at),
+            MarkKind::OpenObject => self.begin(Kind::Object, true, at),
+            MarkKind::CloseArray | MarkKind::CloseObject => {
+                self.end(at + 1);
+                Ok(())
+            }
+            MarkKind::Colon | MarkKind::Comma => Ok(()),
+            MarkKind::String => {
+                if self.is_name_next() {
+                    self.name = Some(span);
+                    Ok(())
+                } else {
+                    self.add_row(Kind::String, span)
+                }
+            }
+            MarkKind::Number => self.add_row(Kind::Number, span),
+            MarkKind::True => self.add_row(Kind::True, span),
+            MarkKind::False => self.add_row(Kind::False, span),
+            MarkKind::Null => self.add_row(Kind::Null, span),
+        }
+    }
+}
+
+fn has_end(kind: MarkKind) -> bool
+    ensures { result ≡ is_token kind }
+{
+    matches!(
+        kind,
+        MarkKind::String | MarkKind::Number | MarkKind::True | MarkKind::False | MarkKind::Null
+    )
+}
+
+fn first_end(ends: &[usize], last: usize) -> usize
+    ensures { result ≡ next_end last ends.now }
+{
+    match ends.first() {
+        Some(end) => *end,
+        None => last,
+    }
+}
+
+fn later_ends<'a>(kind: MarkKind, ends: &'a [usize]) -> &'a [usize]
+    ensures { result.now ≡ ends_after kind ends.now }
+{
+    if has_end(kind) && !ends.is_empty() {
+        &ends[1..]
+    } else {
+        ends
+    }
+}
+
+/// The rows of a text, and for each the number of the row behind all that stands in it.
+#[derive(Debug, Drop)]
+pub struct Nodes {
+    pub rows: Vec<Row>,
+    pub after: Vec<usize>,
+}
+
+/// The nodes of a text that ends at `last`, from the marks and the ends of tokens of its reading.
+pub fn nodes_from_marks(
+    alloc: Global,
+    marks: &[Mark],
+    ends: &[usize],
+    last: usize,
+) -> Result<Nodes, AllocError>
+    requires { All (λ (m : Mark). m.at < 2 ^ 64 - 1) marks.now }
+    ensures rows { IfOk result (λ nodes. nodes.rows.items ≡ (built_of last marks.now ends.now).rows) }
+    ensures after { IfOk result (λ nodes. nodes.after.items ≡ (built_of last marks.now ends.now).after) }
+{
+    let mut builder = Builder::new(alloc);
+    let mut left = ends;
+    for mark in marks {
+        let end = first_end(left, last);
+        left = later_ends(mark.kind, left);
+        builder.mark(mark.kind, mark.at, end)?;
+    }
+    Ok(Nodes {
+        rows: builder.rows,
+        after: builder.after,
+    })
+}

@@ -1,0 +1,108 @@
+// The look-up of pointers (RFC 6901, section 4).
+ghost use Rattle.std.specs.Prelude.{◌≡◌, ◌<◌, ◌≤◌, ℕ, List, length, take, drop, slice_get, filter};
+ghost use Rattle.jx_run.specs.Text.{IsText};
+ghost use Rattle.jx_run.specs.Tree.{Tree};
+ghost use Rattle.jx_index.specs.ArrayTokens.{place_in};
+ghost use Rattle.jx_index.specs.Leads.{only, at_place, leads};
+ghost use Rattle.jx_index.specs.Nodes.{IsObjectAt, kind_at, child_numbers};
+ghost use Rattle.jx_index.specs.Pointers.{HasSlash, tokens, NoSlash};
+ghost use Rattle.jx_index.specs.RowsLead.{is_equal, row_token};
+ghost use Rattle.jx_index.specs.UnitsLeft.{units_left};
+
+use crate::array_token::{Place, place_of_token};
+use crate::children::Children;
+use crate::find_fault::FindFault;
+use crate::indexed::Indexed;
+use crate::look_up::find_name;
+use crate::names::keep;
+use crate::pointer::Pointer;
+use crate::row::NodeId;
+use crate::units::{Spelling, Units, skip};
+use jx_lex::Kind;
+
+// How many bytes stand before the next slash, or before the end.
+fn token_len(bytes: &[u8]) -> usize
+    ensures within { result ≤ length bytes.now }
+    ensures slashless { NoSlash (take result bytes.now) }
+    ensures next { HasSlash (drop result bytes.now) }
+{
+    for at in 0..bytes.len() {
+        if bytes[at] == b'/' {
+            return at;
+        }
+    }
+    bytes.len()
+}
+
+fn child_at(mut children: Children, at: usize) -> Option<NodeId>
+    ensures { result ≡ slice_get children.entry at }
+{
+    let mut left = at;
+    while let Some(child) = children.next() {
+        if left == 0 {
+            return Some(child);
+        }
+        left -= 1;
+    }
+    None
+}
+
+impl<'a> Indexed<'a> {
+    fn member(&self, object: NodeId, units: Units, token: usize) -> Result<NodeId, FindFault>
+        requires { IsObjectAt self.now.rows object }
+        ensures { result ≡ only (filter (is_equal self.now.text self.now.rows (units_left units.entry)) (child_numbers self.now.rows object)) token }
+    {
+        find_name(self.text(), self.rows(), self.names(object), units, token)
+    }
+
+    fn element(&self, array: NodeId, units: Units, token: usize) -> Result<NodeId, FindFault>
+        ensures { result ≡ at_place (place_in (units_left units.entry) (length (child_numbers self.now.rows array))) (child_numbers self.now.rows array) token }
+    {
+        match place_of_token(units, self.rows().len()) {
+            Place::Element(at) => {
+                child_at(self.children(array), at).ok_or(FindFault::PastEnd { token })
+            }
+            Place::PastEnd => Err(FindFault::PastEnd { token }),
+            Place::AfterLast => Err(FindFault::AfterLast { token }),
+            Place::NotAnIndex => Err(FindFault::NotAnIndex { token }),
+        }
+    }
+
+    fn step(
+        &self,
+        kind: Kind,
+        node: NodeId,
+        units: Units,
+        token: usize,
+    ) -> Result<NodeId, FindFault>
+        requires { kind ≡ kind_at self.now.rows node }
+        ensures { result ≡ row_token self.now.text self.now.rows (units_left units.entry) node token }
+    {
+        match kind {
+            Kind::Object => self.member(node, units, token),
+            Kind::Array => self.element(node, units, token),
+            _ => Err(FindFault::NotAContainer { token }),
+        }
+    }
+
+    /// The node that a pointer leads to, or the first token that leads nowhere. It takes no memory, and in an object it
+    /// looks at no more names than a halving needs.
+    pub fn find(&self, pointer: &Pointer) -> Result<NodeId, FindFault>
+        ensures { (limit : ℕ) (tree : Tree)
+            → IsText self.now.text self.now.place.start self.now.place.end limit tree → result ≡ leads self.now.text tree (tokens pointer.now) }
+    {
+        let rows = self.rows();
+        let mut node = self.root();
+        let mut rest = pointer.bytes();
+        let mut token = 0;
+        while !rest.is_empty() {
+            let bytes = skip(rest, 1);
+            let len = token_len(bytes);
+            let units = Units::new(keep(bytes, len), Spelling::InToken);
+            node = self.step(rows[node.number()].kind, node, units, token)?;
+            rest = skip(bytes, len);
+            token += 1;
+        }
+        Ok(node)
+    }
+}

@@ -1,0 +1,125 @@
+ghost use Rattle.std.specs.Prelude.{◌≡◌, ◌<◌, ◌≤◌, ℕ, List, length, slice_get, slice_range, Some, IfOk};
+ghost use Rattle.std.specs.List.Sorted.{IsPermutation, IsSortedBy, IsStableBy};
+ghost use Rattle.jx_run.specs.declared.verdict.Verdict.TheVariants.{Accepted};
+ghost use Rattle.jx_run.specs.Started.{IsStarted};
+ghost use Rattle.jx_run.specs.Text.{IsText};
+ghost use Rattle.jx_run.specs.Tree.{Tree};
+ghost use Rattle.jx_index.specs.Names.{is_below};
+ghost use Rattle.jx_index.specs.Nodes.{IsObjectAt, child_numbers};
+ghost use Rattle.jx_index.specs.Rows.{rows as rows_of};
+
+use crate::builder::{Nodes, nodes_from_marks};
+use crate::children::{Children, children_in};
+use crate::names::{Names, part_of};
+use crate::row::{NodeId, Row};
+use jx_lex::Span;
+use jx_run::Started;
+use std::alloc::{AllocError, Global};
+use std::marker::Model;
+
+/// A JSON text with its rows: all its values in the order of their starts, so that each stands before its children.
+#[derive(Debug, Drop)]
+pub struct Indexed<'a> {
+    text: &'a [u8],
+    span: Span,
+    nodes: Nodes,
+    names: Names,
+}
+
+impl<'a> Model for Indexed<'a> {
+    ghost use Rattle.jx_index.specs.Indexed.{IndexedValue, IsIndexed};
+
+    ghost Value = { IndexedValue };
+
+    ghost view = { λ i. record { text = i.text.now; place = i.span; rows = i.nodes.rows.items } };
+
+    ghost invariant = { λ i. IsIndexed i.text.now i.span i.nodes.rows.items i.nodes.after.items i.names.starts.items i.names.members.items };
+}
+
+impl<'a> Indexed<'a> {
+    /// The index of a text by its reading: one pass over the marks and ends, with a stack of the depth. `Err` where
+    /// memory is refused.
+    pub fn build(
+        alloc: Global,
+        text: &'a [u8],
+        started: &Started,
+    ) -> Result<Indexed<'a>, AllocError>
+        requires ordered { started.now.place.start ≤ started.now.place.end }
+        requires within { started.now.place.end ≤ length text.now }
+        requires reading { IsStarted (slice_range text.now started.now.place.start started.now.place.end) started.now }
+        requires accepted { started.now.verdict ≡ Accepted }
+        ensures text { IfOk result (λ index. index.text ≡ text.now) }
+        ensures place { IfOk result (λ index. index.place ≡ started.now.place) }
+        ensures rows { IfOk result (λ index. (limit : ℕ) (tree : Tree)
+            → IsText text.now started.now.place.start started.now.place.end limit tree → index.rows ≡ rows_of tree) }
+    {
+        let span = started.span();
+        let nodes = nodes_from_marks(alloc, started.marks(), started.ends(), span.end)?;
+        let names = Names::of(alloc, text, &nodes.rows, &nodes.after)?;
+        Ok(Indexed {
+            text,
+            span,
+            nodes,
+            names,
+        })
+    }
+
+    /// The whole input, in which the text stands.
+    pub fn text(&self) -> &'a [u8]
+        ensures { result.now ≡ self.now.text }
+    {
+        self.text
+    }
+
+    /// Where the text stands in the whole input, with the blanks before and after its value.
+    pub fn span(&self) -> Span
+        ensures { result ≡ self.now.place }
+    {
+        self.span
+    }
+
+    /// All rows, in rising order of their starts.
+    pub fn rows(&self) -> &[Row]
+        ensures same { result.now ≡ self.now.rows }
+        ensures tree { (limit : ℕ) (tree : Tree)
+            → IsText self.now.text self.now.place.start self.now.place.end limit tree → result.now ≡ rows_of tree }
+    {
+        self.nodes.rows.as_slice()
+    }
+
+    /// The row of a node.
+    pub fn row(&self, node: NodeId) -> &Row
+        requires { node < length self.now.rows }
+        ensures { slice_get self.now.rows node ≡ Some result.now }
+    {
+        &self.nodes.rows[node.number()]
+    }
+
+    /// The value of the text itself, whose row is the first.
+    pub fn root(&self) -> NodeId
+        ensures first { result ≡ 0 }
+        ensures is_row { 0 < length self.now.rows }
+    {
+        let _ = &self.nodes;
+        NodeId::new(0)
+    }
+
+    /// The children of a node in order: all rows whose parent it is. Each step takes the same time, whatever stands in
+    /// the child; a scalar, or a number that no row has, has none.
+    pub fn children<'i>(&'i self, node: NodeId) -> Children<'i>
+        ensures { result ≡ child_numbers self.now.rows node }
+    {
+        children_in(&self.nodes.after, node)
+    }
+
+    /// The members of an object by rising values of their names, as lists of UTF-16 code units: the first different unit
+    /// decides, and a beginning comes before what it begins. Equal names stand by place.
+    pub fn names(&self, object: NodeId) -> &[NodeId]
+        requires { IsObjectAt self.now.rows object }
+        ensures each_once { IsPermutation (child_numbers self.now.rows object) result.now }
+        ensures rising { IsSortedBy (is_below self.now.text self.now.rows) result.now }
+        ensures equal_by_place { IsStableBy (is_below self.now.text self.now.rows) (child_numbers self.now.rows object) result.now }
+    {
+        part_of(&self.names.starts, &self.names.members, object.number())
+    }
+}

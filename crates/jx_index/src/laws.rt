@@ -1,0 +1,28 @@
+ghost use Rattle.std.specs.Prelude.{◌≡◌, ℕ, suc, List, map};
+ghost use Rattle.std.specs.List.Sorted.{IsStrictlyIncreasing};
+ghost use Rattle.std.specs.Str.{IsUtf8};
+ghost use Rattle.jx_lex.specs.Token.{IsString};
+ghost use Rattle.jx_run.specs.Text.{IsDocument};
+ghost use Rattle.jx_run.specs.Tree.{Tree};
+ghost use Rattle.jx_index.specs.declared.units.Spelling.TheVariants.{InText};
+ghost use Rattle.jx_index.specs.declared.row.Row.{Row};
+ghost use Rattle.jx_index.specs.Leads.{Numbered, children_of, numbered};
+ghost use Rattle.jx_index.specs.Nodes.{child_numbers};
+ghost use Rattle.jx_index.specs.PointerForm.{IsPointerOf};
+ghost use Rattle.jx_index.specs.Pointers.{IsPointer, tokens};
+ghost use Rattle.jx_index.specs.Rows.{rows};
+ghost use Rattle.jx_index.specs.Standing.{Standing, Stands, root_standing};
+ghost use Rattle.jx_index.specs.Units.{parts_units, between_marks};
+
+/// What is read off a string is its value; each text that is read as a pointer has the form of one, and what is read off
+/// it are that form's tokens; the rows of a text stand in rising order of their starts, and those whose parent is a node
+/// are the node's children, in order.
+pub fn readings_are_forms()
+    ensures strings { (w us : List ℕ) → IsString w us → parts_units InText 0 (between_marks w) ≡ us }
+    ensures pointers { (p : List ℕ) (ts : List (List ℕ)) → IsPointerOf p ts → tokens p ≡ ts }
+    ensures forms { (p : List ℕ) → IsUtf8 p → IsPointer p → (ts : List (List ℕ)) × IsPointerOf p ts }
+    ensures starts { (start limit : ℕ) (bytes : List ℕ) (tree : Tree) → IsDocument start bytes limit tree
+        → IsStrictlyIncreasing (map (λ (row : Row). row.span.start) (rows tree)) }
+    ensures children { (tree inner : Tree) (t : Standing) → Stands tree root_standing inner t
+        → child_numbers (rows tree) t.number ≡ map (λ (c : Numbered). c.number) (numbered (children_of inner) (suc t.number)) }
+{}

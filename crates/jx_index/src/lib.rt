@@ -1,0 +1,27 @@
+//! The index of a JSON text: its rows, its members by name, and what a pointer leads to.
+#![tactic(auto)]
+
+mod array_token;
+mod builder;
+mod children;
+mod find;
+mod find_fault;
+mod indexed;
+mod laws;
+mod look_up;
+mod names;
+mod pointer;
+mod row;
+mod units;
+
+pub use children::Children;
+pub use find_fault::FindFault;
+pub use indexed::Indexed;
+pub use laws::readings_are_forms;
+pub use pointer::{Pointer, PointerFault};
+pub use row::{NodeId, Row};
+
+#[cfg(test)]
+mod tests;
+#[cfg(test)]
+mod worked;
