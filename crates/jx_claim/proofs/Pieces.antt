@@ -1,0 +1,136 @@
+-- What the pieces of a cutting are, and what they cover.
+use Rattle.std.proofs.Common.{◌≡◌, ℕ, zero, suc, ◌+◌, ◌-◌, ◌*◌, ◌<◌, ◌≤◌, min, List, [], ◌∷◌, ◌++◌, length, get_or, refl, sym, ap, ◌∙◌, subst, arith}
+use Rattle.std.proofs.Math.Nat.{suc-mul, mul-le-mul_right}
+use Rattle.std.specs.Prelude.{map, slice_index}
+use Rattle.jx_lex.specs.declared.span.Span.{Span}
+use Rattle.jx_claim.specs.Cut.{Covers, OfSize, span, span_len, no_span, meetings}
+use Rattle.jx_claim.specs.CutFaults.{AreSound}
+use Rattle.jx_claim.specs.Listed.{regular, between}
+
+-- pieces do not go back
+covers_le : (a : ℕ) (ps : List Span) (b : ℕ) → Covers a ps b → a ≤ b
+covers_le a [] b e = omega (arith, e)
+covers_le a (p ∷ ps) b c = omega (arith, c.1, covers_le p.end ps b c.2)
+
+-- each piece is not empty and lies within what the pieces cover
+pub covers_at : (a : ℕ) (ps : List Span) (b : ℕ) → Covers a ps b → (k : ℕ) (d : Span) → k < length ps → ((get_or ps k d).start < (get_or ps k d).end) × ((get_or ps k d).end ≤ b)
+covers_at a [] b c k d low = absurd (omega arith)
+covers_at a (p ∷ ps) b c zero d low = (omega (arith, c.0, c.1), covers_le p.end ps b c.2)
+covers_at a (p ∷ ps) b c (suc k) d low = covers_at p.end ps b c.2 k d (omega arith)
+
+-- so is the one that was read
+pub piece_covered : (ps : List Span) (len k : ℕ) (r : Span) → Covers 0 ps len → k < length ps → get_or ps k r ≡ r → (r.start < r.end) × (r.end ≤ len)
+piece_covered ps len k r c low e = subst (λ (p : Span). (p.start < p.end) × (p.end ≤ len)) e (covers_at 0 ps len c k r low)
+
+-- an empty text has no piece
+pub covers_none : (ps : List Span) (b : ℕ) → Covers 0 ps b → b ≡ 0 → length ps ≡ 0
+covers_none [] b c e = refl
+covers_none (p ∷ ps) b c e = absurd (omega (arith, c.1, covers_le p.end ps b c.2, e))
+
+-- n regular pieces from a on, of which the last ends at len, cover the bytes from a to len
+pub regular_covers : (len size n a : ℕ) → 0 < size → a ≤ len → len ≤ a + n * size → a + n * size < len + size → Covers a (regular len size n a) len
+regular_covers len size zero a some low enough few = omega arith
+regular_covers len size (suc zero) a some low enough few =
+    let e : min (a + size) len ≡ len = omega arith in
+    (refl, omega arith, e)
+regular_covers len size (suc (suc n)) a some low enough few =
+    let one = suc-mul n size in
+    let two = suc-mul (suc n) size in
+    let e : min (a + size) len ≡ a + size = omega (arith, one, two) in
+    let rest = regular_covers len size (suc n) (a + size) some (omega (arith, one, two)) (omega (arith, two)) (omega (arith, two)) in
+    (refl, omega (arith, e), subst (λ m. Covers m (regular len size (suc n) m) len) (sym e) rest)
+
+pub length-regular : (len size n a : ℕ) → length (regular len size n a) ≡ n
+length-regular len size zero a = refl
+length-regular len size (suc n) a = ap suc (length-regular len size n (min (a + size) len))
+
+-- where the regular piece of number i lies
+pub regular_at : (len size n a i : ℕ) (d : Span) → 0 < size → i < n → a + n * size < len + size → get_or (regular len size n a) i d ≡ span (a + i * size) (min (a + i * size + size) len)
+regular_at len size zero a i d some low few = absurd (omega arith)
+regular_at len size (suc n) a zero d some low few = let e : a + 0 * size ≡ a = omega arith in rw e refl
+regular_at len size (suc zero) a (suc i) d some low few = absurd (omega arith)
+regular_at len size (suc (suc n)) a (suc i) d some low few =
+    let one = suc-mul n size in
+    let two = suc-mul (suc n) size in
+    let e : min (a + size) len ≡ a + size = omega (arith, one, two) in
+    let start : a + size + i * size ≡ a + suc i * size = omega (arith, suc-mul i size) in
+    let rest = regular_at len size (suc n) (a + size) i d some (omega arith) (omega (arith, two)) in
+    subst (λ m. get_or (regular len size (suc n) m) i d ≡ span (a + suc i * size) (min (a + suc i * size + size) len)) (sym e)
+    (rest ∙ ap (λ m. span m (min (m + size) len)) start)
+
+pub regular_is : (len size n i : ℕ) (d : Span) → 0 < size → i < n → n * size < len + size → get_or (regular len size n 0) i d ≡ span (i * size) (min (i * size + size) len)
+regular_is len size n i d some low few =
+    let e : 0 + i * size ≡ i * size = omega arith in
+    regular_at len size n 0 i d some low (omega arith) ∙ ap (λ m. span m (min (m + size) len)) e
+
+-- a regular piece begins before the end
+pub regular_begins : (len size n i : ℕ) → i < n → n * size < len + size → i * size < len
+regular_begins len size n i low few =
+    let below : suc i ≤ n = omega arith in
+    omega (arith, mul-le-mul_right size below, suc-mul i size)
+
+-- regular pieces have `size` bytes, but the last may have fewer
+pub regular_of_size : (len size n : ℕ) → 0 < size → n * size < len + size → OfSize size (regular len size n 0)
+regular_of_size len size n some few = record {
+  full = λ k low.
+      let below : suc (suc k) ≤ n = omega (arith, length-regular len size n 0) in
+      let at = regular_at len size n 0 k no_span some (omega arith) (omega arith) in
+      let enough = mul-le-mul_right size below in
+      ap span_len at ∙ omega (arith, enough, suc-mul (suc k) size, suc-mul k size);
+  last = λ k low.
+      let at = regular_at len size n 0 k no_span some (omega (arith, length-regular len size n 0)) (omega arith) in
+      omega (arith, ap span_len at);
+}
+
+-- there are too many regular pieces exactly where they could not cover the text otherwise
+pub few_enough : (len size n : ℕ) → len ≤ n * size → n ≤ 4294967295 → len ≤ 4294967295 * size
+few_enough len size n enough low = omega (arith, mul-le-mul_right size low)
+
+pub too_many : (len size n : ℕ) → n * size < len + size → 4294967295 < n → 4294967295 * size < len
+too_many len size n few high =
+    let more : 4294967296 ≤ n = omega arith in
+    omega (arith, mul-le-mul_right size more)
+
+pub length-between : (a : ℕ) (es : List ℕ) → length (between a es) ≡ length es
+length-between a [] = refl
+length-between a (e ∷ es) = ap suc (length-between e es)
+
+-- where the piece of number i lies among those that end at these offsets
+pub between_at : (a : ℕ) (es : List ℕ) (i : ℕ) (d : Span) → i < length es → get_or (between a es) i d ≡ span (slice_index (a ∷ es) i) (slice_index es i)
+between_at a [] i d low = absurd (omega arith)
+between_at a (e ∷ es) zero d low = refl
+between_at a (e ∷ es) (suc i) d low = between_at e es i d (omega arith)
+
+-- numbers above a, each above the one before it, and all below len
+abbrev Rises : ℕ → List ℕ → ℕ → Type 0
+Rises a [] len = a < len
+Rises a (c ∷ cs) len = (a < c) × Rises c cs len
+
+rises : (a : ℕ) (cs : List ℕ) (len : ℕ) → a < len → (0 < length cs → a < slice_index cs 0)
+    → ((i : ℕ) → i < length cs → slice_index cs i < len) → ((i : ℕ) → suc i < length cs → slice_index cs i < slice_index cs (suc i)) → Rises a cs len
+rises a [] len low first below next = low
+rises a (c ∷ cs) len low first below next = (
+  first (omega arith),
+  rises c cs len (below 0 (omega arith)) (λ some. next 0 (omega arith)) (λ i l. below (suc i) (omega arith)) (λ i l. next (suc i) (omega arith)),
+)
+
+sound_rises : (len : ℕ) (cs : List ℕ) → 0 < len → AreSound len cs (length cs) → Rises 0 cs len
+sound_rises len cs some sound = rises 0 cs len some (λ l. (sound 0 l).0.0) (λ i l. (sound i l).0.1)
+    (λ i l. let e : suc i - 1 ≡ i = omega arith in subst (λ k. slice_index cs k < slice_index cs (suc i)) e ((sound (suc i) l).1 (omega arith)))
+
+rises_cover : (a : ℕ) (cs : List ℕ) (len : ℕ) → Rises a cs len → Covers a (between a (cs ++ len ∷ [])) len
+rises_cover a [] len h = (refl, h, refl)
+rises_cover a (c ∷ cs) len h = (refl, h.0, rises_cover c cs len h.1)
+
+-- pieces that meet at sound cuts cover the text
+pub cuts_cover : (len : ℕ) (cs : List ℕ) → 0 < len → AreSound len cs (length cs) → Covers 0 (between 0 (cs ++ len ∷ [])) len
+cuts_cover len cs some sound = rises_cover 0 cs len (sound_rises len cs some sound)
+
+starts : (a : ℕ) (cs : List ℕ) (len : ℕ) → map (λ (q : Span). q.start) (between a (cs ++ len ∷ [])) ≡ a ∷ cs
+starts a [] len = refl
+starts a (c ∷ cs) len = ap (λ l. a ∷ l) (starts c cs len)
+
+-- the pieces meet at the cuts
+pub cuts_meet : (cs : List ℕ) (len : ℕ) → meetings (between 0 (cs ++ len ∷ [])) ≡ cs
+cuts_meet [] len = refl
+cuts_meet (c ∷ cs) len = starts c cs len

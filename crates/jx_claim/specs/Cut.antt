@@ -1,0 +1,41 @@
+-- A text cut into pieces.
+use Rattle.std.specs.Prelude.{◌≡◌, ℕ, suc, ◌-◌, ◌<◌, ◌≤◌, List, [], ◌∷◌, map, length, sum_by, slice_index_or}
+use Rattle.jx_lex.specs.declared.span.Span.{Span}
+
+-- the length of the text in bytes, and the spans of its pieces in order
+pub record CuttingValue : Type 0 where
+  pub len : ℕ
+  pub pieces : List Span
+
+abbrev pub span : ℕ → ℕ → Span
+span start end = record { start = start; end = end }
+
+-- how many bytes a span has
+abbrev pub span_len : Span → ℕ
+span_len a = a.end - a.start
+
+-- pieces that are not empty, one right after another, from a to b
+abbrev pub Covers : ℕ → List Span → ℕ → Type 0
+Covers a [] b = a ≡ b
+Covers a (p ∷ ps) b = (p.start ≡ a) × (a < p.end) × Covers p.end ps b
+
+abbrev pub no_span : Span
+no_span = record { start = 0; end = 0 }
+
+-- how many bytes the piece of this number has
+abbrev pub piece_len : List Span → ℕ → ℕ
+piece_len ps n = span_len (slice_index_or ps n no_span)
+
+-- how many bytes the pieces of these numbers have together
+abbrev pub drawn_len : List Span → List ℕ → ℕ
+drawn_len ps got = sum_by (λ n. piece_len ps n) got
+
+-- the pieces have this many bytes each, but the last may have fewer
+pub record OfSize (size : ℕ) (ps : List Span) : Type 0 where
+  pub full : (n : ℕ) → suc n < length ps → piece_len ps n ≡ size
+  pub last : (n : ℕ) → n < length ps → piece_len ps n ≤ size
+
+-- the offsets at which two neighbouring pieces meet, in order
+abbrev pub meetings : List Span → List ℕ
+meetings [] = []
+meetings (p ∷ ps) = map (λ q. q.start) ps

@@ -1,0 +1,5 @@
+pub mod Claimed
+pub mod Cut
+pub mod CutFaults
+pub mod Dealt
+pub mod Listed

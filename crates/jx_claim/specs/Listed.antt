@@ -1,0 +1,25 @@
+-- The pieces that a cutting stands for.
+use Rattle.std.specs.Prelude.{ℕ, zero, suc, ◌+◌, ◌*◌, ◌<◌, ◌≤◌, ⊤, min, List, [], ◌∷◌}
+use Rattle.jx_lex.specs.declared.span.Span.{Span}
+use Rattle.jx_claim.specs.declared.parts.Parts.{Parts}
+use Rattle.jx_claim.specs.declared.parts.Parts.TheVariants.{Every, At}
+use Rattle.jx_claim.specs.Cut.{span}
+
+-- so many pieces of `size` bytes from `start` on, none beyond `len`
+abbrev pub regular : ℕ → ℕ → ℕ → ℕ → List Span
+regular len size zero start = []
+regular len size (suc n) start = span start (min (start + size) len) ∷ regular len size n (min (start + size) len)
+
+-- pieces from `start` on that end at these offsets
+abbrev pub between : ℕ → List ℕ → List Span
+between start [] = []
+between start (e ∷ es) = span start e ∷ between e es
+
+abbrev pub listed : ℕ → Parts → List Span
+listed len (Every size count) = regular len size count 0
+listed len (At ends) = between 0 ends.items
+
+-- a count of regular pieces is the number of those that begin before `len`
+abbrev pub IsRegular : ℕ → Parts → Type 0
+IsRegular len (Every size count) = (0 < size) × (len ≤ count * size) × (count * size < len + size)
+IsRegular len (At ends) = ⊤

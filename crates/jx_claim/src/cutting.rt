@@ -1,0 +1,147 @@
+ghost use Rattle.std.specs.Prelude.{◌≡◌, ◌*◌, ◌<◌, ◌≤◌, ◌↔◌, [], ◌∷◌, ◌++◌, length, Some, slice_get, IsOk, IfOk, IfErr};
+ghost use Rattle.std.specs.Int.{div_ceil};
+ghost use Rattle.jx_claim.specs.Cut.{CuttingValue, Covers, OfSize, meetings};
+ghost use Rattle.jx_claim.specs.CutFaults.{AreSound, Refuses};
+
+use crate::cut_fault::CutFault;
+use crate::parts::{Parts, piece_between, regular_piece};
+use crate::piece_no::PieceNo;
+use jx_lex::Span;
+use std::alloc::{AllocError, Global};
+use std::marker::Model;
+
+/// A text of a known length, cut into pieces: they are not empty, stand in order and cover the whole text. There are at
+/// most 4,294,967,295 of them, and none where the length is 0.
+#[derive(Debug, Drop)]
+pub struct Cutting {
+    len: usize,
+    parts: Parts,
+}
+
+impl Model for Cutting {
+    ghost use Rattle.std.specs.Prelude.{◌<◌, length};
+    ghost use Rattle.jx_claim.specs.Cut.{CuttingValue, Covers};
+    ghost use Rattle.jx_claim.specs.Listed.{listed, IsRegular};
+
+    ghost Value = { CuttingValue };
+
+    ghost view = { λ c. record { len = c.len; pieces = listed c.len c.parts } };
+
+    ghost invariant = { λ c. Covers 0 (listed c.len c.parts) c.len × (length (listed c.len c.parts) < 4294967296) × IsRegular c.len c.parts };
+}
+
+impl Cutting {
+    /// Pieces of `size` bytes each, but the last may have fewer. It takes no memory, and is refused with
+    /// `TooManyPieces` exactly where there would be more than 4,294,967,295 pieces.
+    pub fn every(len: usize, size: usize) -> Result<Cutting, CutFault>
+        requires { 1 ≤ size }
+        ensures len { IfOk result (λ c. c.len ≡ len) }
+        ensures covers { IfOk result (λ c. Covers 0 c.pieces len) }
+        ensures sizes { IfOk result (λ c. OfSize size c.pieces) }
+        ensures count { IfOk result (λ c. length c.pieces ≡ div_ceil len size) }
+        ensures few { IsOk result ↔ (len ≤ 4294967295 * size) }
+        ensures fault { IfErr result (λ f. f ≡ CutFault.TooManyPieces) }
+    {
+        let count = len.div_ceil(size);
+        if count > u32::MAX as usize {
+            return Err(CutFault::TooManyPieces);
+        }
+        let count = count as u32;
+        Ok(Cutting {
+            len,
+            parts: Parts::Every { size, count },
+        })
+    }
+
+    /// Pieces that meet exactly at these cuts, which are byte offsets. Each must be above 0, below the length
+    /// (`Outside`) and above the one before it (`NotRising`); where they are, more than 4,294,967,295 pieces are
+    /// `TooManyPieces`, and `Memory` comes last.
+    pub fn at(alloc: Global, len: usize, cuts: &[usize]) -> Result<Cutting, CutFault>
+        ensures len { IfOk result (λ c. c.len ≡ len) }
+        ensures covers { IfOk result (λ c. Covers 0 c.pieces len) }
+        ensures meet { IfOk result (λ c. meetings c.pieces ≡ cuts.now) }
+        ensures fault { IfErr result (λ f. Refuses len cuts.now f) }
+    {
+        check(len, cuts)?;
+        if cuts.len() >= u32::MAX as usize {
+            return Err(CutFault::TooManyPieces);
+        }
+        if len == 0 {
+            return Ok(Cutting {
+                len,
+                parts: Parts::At {
+                    ends: Vec::new(alloc),
+                },
+            });
+        }
+        let Ok(ends) = ends_at(alloc, len, cuts) else {
+            return Err(CutFault::Memory);
+        };
+        Ok(Cutting {
+            len,
+            parts: Parts::At { ends },
+        })
+    }
+
+    /// The length of the text, in bytes.
+    pub fn len(&self) -> usize
+        ensures len { result ≡ self.now.len }
+        ensures covers { Covers 0 self.now.pieces self.now.len }
+    {
+        self.len
+    }
+
+    /// How many pieces there are.
+    pub fn count(&self) -> u32
+        ensures count { result ≡ length self.now.pieces }
+        ensures none { self.now.len ≡ 0 → result ≡ 0 }
+    {
+        match &self.parts {
+            Parts::Every { size: _, count } => *count,
+            Parts::At { ends } => ends.len() as u32,
+        }
+    }
+
+    /// The piece of this number, which is below the count.
+    pub fn piece(&self, piece: PieceNo) -> Span
+        requires { piece.0 < length self.now.pieces }
+        ensures piece { slice_get self.now.pieces piece.0 ≡ Some result }
+        ensures filled { result.start < result.end }
+        ensures within { result.end ≤ self.now.len }
+    {
+        let number = piece.0 as usize;
+        match &self.parts {
+            Parts::Every { size, count: _ } => regular_piece(self.len, *size, number),
+            Parts::At { ends } => piece_between(ends, number),
+        }
+    }
+}
+
+// The first fault of the cuts, if they have one.
+fn check(len: usize, cuts: &[usize]) -> Result<(), CutFault>
+    ensures ok { IfOk result (λ _. AreSound len cuts.now (length cuts.now)) }
+    ensures err { IfErr result (λ f. Refuses len cuts.now f) }
+{
+    let mut before = 0;
+    for index in 0..cuts.len() {
+        let cut = cuts[index];
+        if cut == 0 || len <= cut {
+            return Err(CutFault::Outside { index });
+        }
+        if cut <= before {
+            return Err(CutFault::NotRising { index });
+        }
+        before = cut;
+    }
+    Ok(())
+}
+
+// Where the pieces end that meet at these cuts.
+fn ends_at(alloc: Global, len: usize, cuts: &[usize]) -> Result<Vec<usize>, AllocError>
+    ensures { IfOk result (λ v. v.items ≡ cuts.now ++ len ∷ []) }
+{
+    let mut ends = Vec::with_capacity(alloc, cuts.len() + 1)?;
+    ends.extend_from_slice(cuts)?;
+    ends.push(len)?;
+    Ok(ends)
+}

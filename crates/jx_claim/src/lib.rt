@@ -1,0 +1,23 @@
+//! Who reads which piece: cuttings of a text into pieces, and claims, from which workers draw each piece once.
+#![tactic(auto)]
+
+mod claims;
+mod cut_fault;
+mod cutting;
+mod drawn;
+mod parts;
+mod piece_no;
+mod rule;
+mod seat;
+mod workers;
+
+pub use claims::Claims;
+pub use cut_fault::CutFault;
+pub use cutting::Cutting;
+pub use drawn::Drawn;
+pub use piece_no::PieceNo;
+pub use seat::ClaimSeat;
+pub use workers::Workers;
+
+#[cfg(test)]
+mod tests;

@@ -1,0 +1,78 @@
+// What the claim word and the seats keep, and the three kinds of atomic step that may be taken on them.
+use atomic_table::{Join, Play, Split, TableRule};
+use std::collections::LinkedList;
+use std::marker::{Brand, PhantomData};
+
+// What claims are told when they are opened.
+#[derive(Drop)]
+pub struct Terms {
+    pub pieces: u32,
+    pub workers: u8,
+}
+
+// What a seat knows: for how many seats it stands, the numbers that it got, and how often it got `None`. No value of
+// it is ever made: it stands in proofs alone.
+pub struct View {
+    pub seats: u64,
+    pub got: LinkedList<u64>,
+    pub nones: u64,
+}
+
+pub struct ClaimRule;
+
+impl TableRule<(), View, Terms> for ClaimRule {
+    ghost use Rattle.jx_claim.specs.Dealt.{Dealt, view};
+    ghost use Rattle.std.specs.Prelude.{[]};
+
+    ghost holds = { Dealt };
+
+    ghost first = { λ k. view k.workers [] 0 };
+}
+
+// How many pieces there are, for a step, which cannot read the table's terms. A call picks it.
+pub trait Count {
+    ghost use Rattle.std.specs.Prelude.{ℕ};
+
+    ghost pieces: { ℕ };
+}
+
+impl Count for Brand {
+    ghost use Rattle.std.specs.Prelude.{ℕ};
+
+    ghost pieces = { 0 };
+}
+
+// The step of a draw.
+pub struct Draws<C> {
+    of: PhantomData<C>,
+}
+
+impl<C: Count> Play<(), View> for Draws<C> {
+    ghost use Rattle.jx_claim.specs.Dealt.{DrawsFrom};
+
+    ghost then = { DrawsFrom C.pieces };
+}
+
+// The step that cuts one seat off those for which a seat stands.
+pub struct CutSeat;
+
+impl Split<View> for CutSeat {
+    ghost use Rattle.std.specs.Prelude.{◌-◌, []};
+    ghost use Rattle.jx_claim.specs.Dealt.{view};
+
+    ghost left = { λ v. view (v.seats - 1) v.got v.nones };
+
+    ghost right = { λ v. view 1 [] 0 };
+}
+
+// The step that joins a seat to another; the one joined away stands for no seat and holds nothing.
+pub struct JoinSeats;
+
+impl Join<View> for JoinSeats {
+    ghost use Rattle.std.specs.Prelude.{◌+◌, ◌++◌, []};
+    ghost use Rattle.jx_claim.specs.Dealt.{view, both};
+
+    ghost both = { both };
+
+    ghost spent = { view 0 [] 0 };
+}

@@ -1,0 +1,2 @@
+mod cuttings;
+mod draws;
