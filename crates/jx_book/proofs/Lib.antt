@@ -1,0 +1,9 @@
+pub mod Ranges
+pub mod Sound
+pub mod Aparts
+pub mod SpanEdits
+pub mod GapLaws
+pub mod Works
+pub mod Totals
+pub mod Single
+pub mod Alls

@@ -1,0 +1,23 @@
+-- A run over a whole text.
+use Rattle.std.specs.Prelude.{◌≡◌, ℕ, List, length, All}
+use Rattle.jx_book.specs.declared.outcome.Outcome.{Outcome}
+use Rattle.jx_book.specs.declared.outcome.Outcome.TheVariants.{Gathered, Empty, Stopped, Other}
+use Rattle.jx_book.specs.Runs.{HeldValue}
+use Rattle.jx_book.specs.Shares.{IsOf}
+
+-- it covers the text from an offset on
+pub record IsRest {S : Type 0} (text : List ℕ) (depth start : ℕ) (h : HeldValue S) : Type 0 where
+  pub text_is : h.text ≡ text
+  pub depth_is : h.depth ≡ depth
+  pub span_is : h.span ≡ record { start = start; end = length text }
+
+-- it covers all of the text
+abbrev pub IsWhole : {S : Type 0} → List ℕ → ℕ → HeldValue S → Type 0
+IsWhole text depth h = IsRest text depth 0 h
+
+-- what workers left of this text and depth
+abbrev pub IsOutcome : {S : Type 0} → List ℕ → ℕ → Outcome S → Type 0
+IsOutcome text depth (Gathered h) = IsWhole text depth h
+IsOutcome text depth Empty = Unit {0}
+IsOutcome text depth (Stopped c) = All (λ r. IsOf text depth r) c
+IsOutcome text depth Other = Unit {0}

@@ -1,0 +1,10 @@
+pub mod Spans
+pub mod Runs
+pub mod Joined
+pub mod HandOver
+pub mod Puts
+pub mod Gaps
+pub mod Shares
+pub mod Worked
+pub mod Gathered
+pub mod Balance

@@ -1,0 +1,16 @@
+use crate::closed::Closed;
+use crate::held::Held;
+use jx_run::Summary;
+
+// What workers left when all of them had come back.
+#[derive(Drop)]
+pub enum Outcome<'a, S: Summary> {
+    // Every worker ended: the one run over all pieces.
+    Gathered(Held<'a, S>),
+    // Every worker ended, and there were no pieces.
+    Empty,
+    // A worker stopped: what stood in the book.
+    Stopped(Closed<'a, S>),
+    // A stored run is not of the text and the depth.
+    Other,
+}

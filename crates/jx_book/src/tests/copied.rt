@@ -1,0 +1,86 @@
+// A summary that keeps a copy of its bytes.
+use jx_lex::{Depth, JoinFault, Span};
+use jx_run::Summary;
+use std::alloc::{AllocError, Global};
+use std::marker::Model;
+
+#[derive(Drop)]
+pub struct Copied {
+    bytes: Vec<u8>,
+    place: Span,
+    depth: Depth,
+}
+
+impl Copied {
+    pub fn bytes(&self) -> &[u8] {
+        self.bytes.as_slice()
+    }
+}
+
+impl Model for Copied {
+    ghost use Rattle.std.specs.Prelude.{ℕ, List};
+    ghost use Rattle.jx_lex.specs.declared.span.Span.{Span};
+
+    ghost Value = { List ℕ × (Span × ℕ) };
+
+    ghost view = { λ s. (s.bytes.items, (s.place, s.depth)) };
+}
+
+impl Summary for Copied {
+    ghost use Rattle.std.specs.Prelude.{◌≡◌};
+
+    ghost place = { λ s. s.1.0 };
+
+    ghost limit = { λ s. s.1.1 };
+
+    ghost is_of = { λ s xs. s.0 ≡ xs };
+
+    fn of(
+        alloc: Global,
+        text: &[u8],
+        start: usize,
+        end: usize,
+        depth: Depth,
+    ) -> Result<Copied, AllocError> {
+        let bytes = Vec::from_slice(alloc, &text[start..end])?;
+        Ok(Copied {
+            bytes,
+            place: Span { start, end },
+            depth,
+        })
+    }
+
+    fn join(self, right: Copied) -> Result<Copied, JoinFault<Copied>> {
+        let Copied {
+            mut bytes,
+            place,
+            depth,
+        } = self;
+        match bytes.extend_from_slice(right.bytes.as_slice()) {
+            Ok(()) => Ok(Copied {
+                bytes,
+                place: Span {
+                    start: place.start,
+                    end: right.place.end,
+                },
+                depth,
+            }),
+            Err(_) => Err(JoinFault {
+                left: Copied {
+                    bytes,
+                    place,
+                    depth,
+                },
+                right,
+            }),
+        }
+    }
+
+    fn span(&self) -> Span {
+        self.place
+    }
+
+    fn depth(&self) -> Depth {
+        self.depth
+    }
+}

@@ -1,0 +1,158 @@
+ghost use Rattle.std.specs.Prelude.{◌≡◌, ◌+◌, ◌<◌, List, length, true, false, IfOk, IfErr};
+ghost use Rattle.jx_lex.specs.declared.span.Span.{Span};
+ghost use Rattle.jx_book.specs.Spans.{Touch};
+ghost use Rattle.jx_book.specs.Runs.{run_len};
+ghost use Rattle.jx_book.specs.Worked.{hand_len, HandedOver, Worked};
+
+use crate::book::Book;
+use crate::cause::Cause;
+use crate::event::Event;
+use crate::gate::{Gate, Go};
+use crate::hand::Hand;
+use crate::held::Held;
+use crate::held_fault::HeldFault;
+use crate::put::Put;
+use crate::share::Share;
+use crate::worker_end::WorkerEnd;
+use crate::worker_stop::WorkerStop;
+use jx_claim::{ClaimSeat, Claims, Cutting};
+use jx_lex::Depth;
+use jx_run::Summary;
+use std::alloc::Global;
+use std::sync::Wait;
+use std::sync::ledger::Ledger;
+
+// A run that was not handed over.
+#[derive(Drop)]
+struct Unfinished<'a, S: Summary> {
+    hand: Hand<'a, S>,
+    cause: Cause,
+}
+
+impl<'a, S: Summary> Unfinished<'a, S> {
+    fn new(hand: Hand<'a, S>, cause: Cause) -> Unfinished<'a, S>
+        ensures { result.hand ≡ hand.entry }
+    {
+        Unfinished { hand, cause }
+    }
+}
+
+/// Draws pieces until none is left; reads each and puts it into the book, joined with each neighbour that it is handed.
+/// The gate is asked after each step.
+///
+/// It waits for the book's lock. A stopped worker hands back its seat, its share and what is in its hand.
+pub fn work<'a, S: Summary, P: Ledger, T: Ledger, G: Gate, R: Wait>(
+    rt: &R,
+    alloc: Global,
+    book: &Book<'a, S, P, T>,
+    text: &'a [u8],
+    cutting: &Cutting,
+    claims: &Claims,
+    seat: ClaimSeat,
+    share: Share<P, T>,
+    depth: Depth,
+    gate: &G,
+) -> Result<WorkerEnd<P, T>, WorkerStop<'a, S, P, T>>
+    requires cutting { cutting.now.len ≡ length text.now }
+    requires claims { claims.now.pieces ≡ length cutting.now.pieces }
+    requires seat { seat.id ≡ claims.now.id }
+    requires unspent { seat.spent ≡ false }
+    ensures end { IfOk result (λ e. Worked cutting.now.pieces seat share e.seat e.share 0) }
+    ensures spent { IfOk result (λ e. e.seat.spent ≡ true) }
+    ensures stop { IfErr result (λ s. Worked cutting.now.pieces seat share s.seat s.share (hand_len cutting.now.pieces s.hand)) }
+{
+    let mut seat = seat;
+    let mut share = share;
+    let worker = seat.number();
+    for _ in rt.forever() {
+        let Some(piece) = claims.draw(&mut seat) else {
+            return Ok(WorkerEnd { seat, share });
+        };
+        if gate.pass(Event::Drew { worker, piece }) == Go::Stop {
+            return Err(WorkerStop::new(seat, share, Hand::Piece(piece), Cause::Gate));
+        }
+        let place = cutting.piece(piece);
+        let Ok(run) = Held::read(alloc, text, place.start, place.end, depth) else {
+            return Err(WorkerStop::new(seat, share, Hand::Piece(piece), Cause::Memory));
+        };
+        if let Err(Unfinished { hand, cause }) = hand_over(
+            rt, book, &mut share, run, worker, gate,
+        ) {
+            return Err(WorkerStop::new(seat, share, hand, cause));
+        }
+    }
+    unreachable!()
+}
+
+// Puts a run, joined with each neighbour that is handed over.
+fn hand_over<'a, S: Summary, P: Ledger, T: Ledger, G: Gate, R: Wait>(
+    rt: &R,
+    book: &Book<'a, S, P, T>,
+    share: &mut Share<P, T>,
+    run: Held<'a, S>,
+    worker: usize,
+    gate: &G,
+) -> Result<(), Unfinished<'a, S>>
+    requires { run.span.start < run.span.end }
+    ensures ok { IfOk result (λ _. HandedOver (run_len run.entry) share.old share.new 0) }
+    ensures err { IfErr result (λ s. (ps : List Span) → HandedOver (run_len run.entry) share.old share.new (hand_len ps s.hand)) }
+{
+    let mut run = run;
+    loop {
+        match book.put(rt, share, run) {
+            Put::Stored => {
+                if gate.pass(Event::Stored { worker }) == Go::Stop {
+                    return Err(Unfinished::new(Hand::Nothing, Cause::Gate));
+                }
+                return Ok(());
+            }
+            Put::Touches(mine, neighbour) => {
+                let (left, right) = in_order(mine, neighbour);
+                if gate.pass(Event::Took { worker }) == Go::Stop {
+                    return Err(Unfinished::new(Hand::Two(left, right), Cause::Gate));
+                }
+                run = join_both(left, right)?;
+            }
+            Put::Overlaps(mine) => return Err(Unfinished::new(Hand::One(mine), Cause::Overlap)),
+            Put::Full(mine) => return Err(Unfinished::new(Hand::One(mine), Cause::Full)),
+            Put::Memory(mine) => return Err(Unfinished::new(Hand::One(mine), Cause::Memory)),
+        }
+    }
+}
+
+// Two neighbours, the left one first.
+fn in_order<'a, S: Summary>(run: Held<'a, S>, other: Held<'a, S>) -> (Held<'a, S>, Held<'a, S>)
+    requires touch { Touch other.span run.span }
+    requires filled { (run.span.start < run.span.end) × (other.span.start < other.span.end) }
+    ensures neighbours { result.0.span.end ≡ result.1.span.start }
+    ensures filled { (result.0.span.start < result.0.span.end) × (result.1.span.start < result.1.span.end) }
+    ensures len { run_len result.0 + run_len result.1 ≡ run_len run.entry + run_len other.entry }
+{
+    if run.span().start < other.span().start {
+        (run, other)
+    } else {
+        (other, run)
+    }
+}
+
+// Two neighbours as one, or both in the hand.
+fn join_both<'a, S: Summary>(
+    left: Held<'a, S>,
+    right: Held<'a, S>,
+) -> Result<Held<'a, S>, Unfinished<'a, S>>
+    requires neighbours { left.span.end ≡ right.span.start }
+    requires filled { (left.span.start < left.span.end) × (right.span.start < right.span.end) }
+    ensures filled { IfOk result (λ h. h.span.start < h.span.end) }
+    ensures len { IfOk result (λ h. run_len h ≡ run_len left.entry + run_len right.entry) }
+    ensures hand { IfErr result (λ s. (ps : List Span) → hand_len ps s.hand ≡ run_len left.entry + run_len right.entry) }
+{
+    match left.join(right) {
+        Ok(joined) => Ok(joined),
+        Err(HeldFault::Memory(left, right)) => {
+            Err(Unfinished::new(Hand::Two(left, right), Cause::Memory))
+        }
+        Err(HeldFault::Other(left, right)) => {
+            Err(Unfinished::new(Hand::Two(left, right), Cause::Other))
+        }
+    }
+}

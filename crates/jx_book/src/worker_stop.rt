@@ -1,0 +1,37 @@
+ghost use Rattle.std.specs.Prelude.{◌≡◌};
+
+use crate::cause::Cause;
+use crate::hand::Hand;
+use crate::share::Share;
+use jx_claim::ClaimSeat;
+use jx_run::Summary;
+use std::sync::ledger::Ledger;
+
+/// A worker that stopped before its end.
+#[derive(Drop)]
+pub struct WorkerStop<'a, S: Summary, P: Ledger, T: Ledger> {
+    pub seat: ClaimSeat,
+    pub share: Share<P, T>,
+    pub hand: Hand<'a, S>,
+    pub cause: Cause,
+}
+
+impl<'a, S: Summary, P: Ledger, T: Ledger> WorkerStop<'a, S, P, T> {
+    pub(crate) fn new(
+        seat: ClaimSeat,
+        share: Share<P, T>,
+        hand: Hand<'a, S>,
+        cause: Cause,
+    ) -> WorkerStop<'a, S, P, T>
+        ensures seat { result.seat ≡ seat }
+        ensures share { result.share ≡ share }
+        ensures hand { result.hand ≡ hand.entry }
+    {
+        WorkerStop {
+            seat,
+            share,
+            hand,
+            cause,
+        }
+    }
+}
