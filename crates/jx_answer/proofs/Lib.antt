@@ -1,0 +1,5 @@
+mod Pushing
+mod Readable
+mod Roots
+mod Shown
+mod Whole

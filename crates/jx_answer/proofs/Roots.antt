@@ -1,0 +1,59 @@
+-- What the first row of a text says of its root, and what a reading that accepts is answered by.
+use Rattle.std.proofs.Common.{◌≡◌, ℕ, List, Some, None, true, sym, subst, ap, ◌∙◌}
+use Rattle.std.specs.Prelude.{slice_get, slice_range}
+use Rattle.jx_lex.specs.declared.span.Span.{Span}
+use Rattle.jx_run.specs.declared.verdict.Verdict.TheVariants.{Accepted}
+use Rattle.jx_run.specs.Elements.{span_of}
+use Rattle.jx_run.specs.Started.{StartedValue}
+use Rattle.jx_run.specs.Text.{IsDocument, IsText}
+use Rattle.jx_run.specs.Tree.{Tree, node, span}
+use Rattle.jx_run.specs.Verdict.{Judged, a_text}
+use Rattle.jx_index.specs.declared.row.Row.{Row}
+use Rattle.jx_index.specs.Indexed.{IndexedValue}
+use Rattle.jx_index.specs.Rows.{rows}
+use Rattle.jx_answer.specs.Pushed.{part_of, IsReadable}
+use Rattle.jx_answer.specs.Sequence.{EndsUnclosed, is_unclosed, end_of, IsAccepted}
+
+-- the root's own row
+abbrev pub IsRoot : Row → Tree → Type 0
+IsRoot row (node kind place _) = (row.kind ≡ kind) × (row.span ≡ place)
+
+some_same : {A : Type 0} (x y : A) → Some x ≡ Some y → x ≡ y
+some_same x y h = cc
+
+pub root_row : (tree : Tree) (table : List Row) (row : Row) → table ≡ rows tree → slice_get table 0 ≡ Some row → IsRoot row tree
+root_row (node kind place _) table row h g =
+    let same : row ≡ record { kind = kind; span = place; parent = None; place = 0; name = None } = some_same _ _ (sym g ∙ ap (λ t. slice_get t 0) h) in
+    (ap (λ (r : Row). r.kind) same, ap (λ (r : Row). r.span) same)
+
+-- whether the root's row shows that its end is not shown is whether it is so
+pub unclosed_root : (tree : Tree) (row : Row) (end : ℕ) → IsRoot row tree
+    → ((is_unclosed row.kind ≡ true) × (row.span.end ≡ end) → EndsUnclosed tree end) × (EndsUnclosed tree end → (is_unclosed row.kind ≡ true) × (row.span.end ≡ end))
+unclosed_root (node kind place _) row end r = (
+  (λ h. (ap is_unclosed (sym r.0) ∙ h.0, ap (λ p. p.end) (sym r.1) ∙ h.1)),
+  (λ h. (ap is_unclosed r.0 ∙ h.0, ap (λ p. p.end) r.1 ∙ h.1)),
+)
+
+pub tree_of : (start limit : ℕ) (bytes : List ℕ) → Judged start bytes limit Accepted → (tree : Tree) × IsDocument start bytes limit tree
+tree_of start limit bytes (a_text {tree = tree} document) = (tree, document)
+
+-- ---- an element that is a text
+
+pub accepted_as : (input : List ℕ) (s : StartedValue) → s.verdict ≡ Accepted → IsReadable input s
+    → (tree : Tree) × IsAccepted (part_of input s.place) s.limit tree
+accepted_as input s v r =
+    let judged = subst (λ x. Judged s.place.start (slice_range input s.place.start s.place.end) s.limit x) v r.reading.judged in
+    let t = tree_of s.place.start s.limit (slice_range input s.place.start s.place.end) judged in
+    (t.0, record { judged = judged; is_text = t.1 })
+
+pub text_in : (input : List ℕ) (s : StartedValue) (index : IndexedValue) (tree : Tree) → index.text ≡ input → index.place ≡ s.place
+    → IsAccepted (part_of input s.place) s.limit tree → IsText index.text index.place.start index.place.end s.limit tree
+text_in input s index tree t p a =
+    subst (λ (b : List ℕ). IsText b index.place.start index.place.end s.limit tree) (sym t)
+    (subst (λ (x : Span). IsText input x.start x.end s.limit tree) (sym p) a.is_text)
+
+pub ends_at : (input : List ℕ) (s : StartedValue) → IsReadable input s → end_of (part_of input s.place) ≡ s.place.end
+ends_at input s r = sym r.reading.long
+
+pub spans_at : (input : List ℕ) (s : StartedValue) → IsReadable input s → span_of (part_of input s.place) ≡ s.place
+spans_at input s r = ap (span s.place.start) (sym r.reading.long)

@@ -1,0 +1,48 @@
+-- What the steps of answering on a sequence do to the list of elements.
+use Rattle.std.specs.Prelude.{◌≡◌, ℕ, ◌<◌, ◌≤◌, List, [], ◌∷◌, ◌++◌, length, nat_lt, if◌then◌else◌, slice_range, Some}
+use Rattle.std.specs.List.{AllZip}
+use Rattle.jx_lex.specs.declared.span.Span.{Span}
+use Rattle.jx_run.specs.Elements.{Part, part, filled}
+use Rattle.jx_run.specs.SeqRun.{IsSummary}
+use Rattle.jx_run.specs.Started.{StartedValue, IsStarted}
+use Rattle.jx_run.specs.TextRun.{TextRunValue}
+use Rattle.jx_answer.specs.declared.element.Element.{Element}
+use Rattle.jx_answer.specs.declared.element.ElementAnswer.TheVariants as answer
+use Rattle.jx_answer.specs.Sequence.{IsElement}
+
+-- the bytes of the input at a span
+abbrev pub part_of : List ℕ → Span → Part
+part_of input s = part s.start (slice_range input s.start s.end)
+
+-- the reading of bytes of the input behind a record separator
+pub record IsReadable (input : List ℕ) (s : StartedValue) : Type 0 where
+  pub marked : 0 < s.place.start
+  pub ordered : s.place.start ≤ s.place.end
+  pub within : s.place.end ≤ length input
+  pub reading : IsStarted (slice_range input s.place.start s.place.end) s
+
+-- the bytes before the first record separator, unless there are none
+abbrev pub unmarked : Span → List Element
+unmarked s = if nat_lt s.start s.end then record { span = s; answer = answer.Unmarked } ∷ [] else []
+
+-- the element that a reading is of
+abbrev pub IsOfReading : List ℕ → StartedValue → Element → Type 0
+IsOfReading input s e = IsElement input s.limit (part_of input s.place) e
+
+-- one element more for each reading
+pub record PushesEach (input : List ℕ) (done : List StartedValue) (old new : List Element) : Type 0 where
+  pub more : List Element
+  pub new_is : new ≡ old ++ more
+  pub each : AllZip (IsOfReading input) done more
+
+-- one element more, unless its bytes are none
+pub record PushesFilled (input : List ℕ) (limit : ℕ) (p : Part) (old new : List Element) : Type 0 where
+  pub more : List Element
+  pub new_is : new ≡ old ++ more
+  pub each : AllZip (IsElement input limit) (filled (p ∷ [])) more
+
+-- what a run over the whole input shows where that has record separators
+pub record IsShown (input : List ℕ) (before : TextRunValue) (done : List StartedValue) (after : TextRunValue) : Type 0 where
+  pub start : before.map.start ≡ 0
+  pub end : after.map.end ≡ length input
+  pub summary : IsSummary input before (Some (record { done = done; after = after }))

@@ -1,0 +1,197 @@
+ghost use Rattle.std.specs.Prelude.{◌≡◌, ◌<◌, ◌≤◌, ◌↔◌, ◌++◌, ℕ, IsTrue, All, length, slice_range, IfOk, OnOk};
+ghost use Rattle.jx_run.specs.Elements.{Part, filled};
+ghost use Rattle.jx_run.specs.SeqRun.{IsSeqRun, place_of_seq};
+ghost use Rattle.jx_run.specs.Started.{IsStarted};
+ghost use Rattle.jx_run.specs.Text.{IsText};
+ghost use Rattle.jx_run.specs.TextRun.{IsTextRun, place_of};
+ghost use Rattle.jx_run.specs.Tree.{Tree, span};
+ghost use Rattle.jx_answer.specs.Sequence.{AreElements, EndsUnclosed, IsElement, IsElementAnswer, is_unclosed};
+ghost use Rattle.jx_answer.specs.Pushed.{IsReadable, IsShown, PushesEach, PushesFilled, part_of, unmarked};
+
+use crate::element::{Element, ElementAnswer};
+use crate::fault::Fault;
+use crate::texts::read_text;
+use jx_book::Gate;
+use jx_claim::{Cutting, Workers};
+use jx_index::Indexed;
+use jx_lex::{Depth, Kind, Span};
+use jx_run::{SeqRun, Shape, Started, Summary, TextRun, Verdict};
+use std::alloc::{AllocError, Global};
+use std::sync::Wait;
+use std::thread::Threads;
+
+/// Reads a JSON text sequence (RFC 7464) by that many workers, who draw the pieces of the cutting, and answers on each
+/// of its elements in order; a refused one does not stop the rest. It may wait for the workers. The gate is asked after
+/// each step of a worker; what workers that it stopped left is read by the calling thread. Only want of memory is a
+/// fault.
+pub fn index_sequence<'a, R: Threads + Wait + Sync, G: Gate + Sync>(
+    rt: &R,
+    alloc: Global,
+    text: &'a [u8],
+    cutting: &Cutting,
+    workers: Workers,
+    depth: Depth,
+    gate: &G,
+) -> Result<Vec<Element<'a>>, Fault>
+    requires cutting { cutting.now.len ≡ length text.now }
+    // For every cutting, number of workers and gate, these are the answers on the elements of the bytes.
+    ensures elements { IfOk result (λ elements. AreElements text.entry.now depth elements.items) }
+{
+    let run = read_text::<SeqRun, R, G>(rt, alloc, text, cutting, workers, depth, gate)?;
+    match elements_of(alloc, text, run.run()) {
+        Ok(elements) => Ok(elements),
+        Err(AllocError) => Err(Fault::Memory),
+    }
+}
+
+// The answers that a run over the whole input gives.
+fn elements_of<'a>(
+    alloc: Global,
+    text: &'a [u8],
+    run: &SeqRun,
+) -> Result<Vec<Element<'a>>, AllocError>
+    requires place { place_of_seq run.now ≡ span 0 (length text.now) }
+    requires of { IsSeqRun text.now run.now }
+    ensures elements { IfOk result (λ elements. AreElements text.entry.now run.now.before.limit elements.items) }
+{
+    match run.shape() {
+        Shape::Plain(before) => plain_elements(alloc, before),
+        Shape::Marked {
+            before,
+            done,
+            after,
+        } => marked_elements(alloc, text, before, done, after),
+    }
+}
+
+// The answers on an input without a record separator.
+fn plain_elements<'a>(alloc: Global, before: &TextRun) -> Result<Vec<Element<'a>>, AllocError>
+    ensures elements { IfOk result (λ elements. elements.items ≡ unmarked (place_of before.now)) }
+{
+    let mut elements = Vec::new(alloc);
+    push_unmarked(before.span(), &mut elements)?;
+    Ok(elements)
+}
+
+// The answers on an input with record separators.
+fn marked_elements<'a>(
+    alloc: Global,
+    text: &'a [u8],
+    before: &TextRun,
+    done: &[Started],
+    after: &TextRun,
+) -> Result<Vec<Element<'a>>, AllocError>
+    requires shown { IsShown text.now before.now done.now after.now }
+    ensures elements { IfOk result (λ elements. AreElements text.entry.now before.now.limit elements.items) }
+{
+    let mut elements = Vec::new(alloc);
+    push_unmarked(before.span(), &mut elements)?;
+    push_done(alloc, text, done, &mut elements)?;
+    push_last(alloc, text, after, &mut elements)?;
+    Ok(elements)
+}
+
+// The bytes before the first record separator, unless there are none.
+fn push_unmarked<'a>(span: Span, elements: &mut Vec<Element<'a>>) -> Result<(), AllocError>
+    ensures pushed { OnOk result (elements.new.items ≡ elements.old.items ++ unmarked span) }
+{
+    if span.start < span.end {
+        elements.push(Element {
+            span,
+            answer: ElementAnswer::Unmarked,
+        })?;
+    }
+    Ok(())
+}
+
+// The elements between record separators.
+fn push_done<'a>(
+    alloc: Global,
+    text: &'a [u8],
+    done: &[Started],
+    elements: &mut Vec<Element<'a>>,
+) -> Result<(), AllocError>
+    requires readable { All (IsReadable text.now) done.now }
+    ensures pushed { OnOk result (PushesEach text.entry.now done.now elements.old.items elements.new.items) }
+{
+    for number in 0..done.len() {
+        elements.push(element_of(alloc, text, &done[number])?)?;
+    }
+    Ok(())
+}
+
+// The bytes behind the last record separator, unless there are none.
+fn push_last<'a>(
+    alloc: Global,
+    text: &'a [u8],
+    after: &TextRun,
+    elements: &mut Vec<Element<'a>>,
+) -> Result<(), AllocError>
+    requires marked { 0 < after.now.map.start }
+    requires ordered { after.now.map.start ≤ after.now.map.end }
+    requires within { after.now.map.end ≤ length text.now }
+    requires of { IsTextRun (slice_range text.now after.now.map.start after.now.map.end) after.now }
+    ensures pushed { OnOk result (PushesFilled text.entry.now after.now.limit (part_of text.entry.now (place_of after.now)) elements.old.items elements.new.items) }
+{
+    let span = after.span();
+    if span.start < span.end {
+        let started = after.started()?;
+        elements.push(element_of(alloc, text, &started)?)?;
+    }
+    Ok(())
+}
+
+// An element that stands behind a record separator, with its answer.
+fn element_of<'a>(
+    alloc: Global,
+    text: &'a [u8],
+    started: &Started,
+) -> Result<Element<'a>, AllocError>
+    requires readable { IsReadable text.now started.now }
+    ensures element { IfOk result (IsElement text.entry.now started.now.limit (part_of text.entry.now started.now.place)) }
+{
+    let answer = answer_of(alloc, text, started)?;
+    Ok(Element {
+        span: started.span(),
+        answer,
+    })
+}
+
+// What is answered on an element that stands behind a record separator.
+fn answer_of<'a>(
+    alloc: Global,
+    text: &'a [u8],
+    started: &Started,
+) -> Result<ElementAnswer<'a>, AllocError>
+    requires readable { IsReadable text.now started.now }
+    ensures answer { IfOk result (IsElementAnswer text.entry.now (part_of text.entry.now started.now.place) started.now.limit) }
+{
+    if let Verdict::Refused(refusal) = started.verdict() {
+        return Ok(ElementAnswer::Refused(refusal));
+    }
+    let index = Indexed::build(alloc, text, started)?;
+    if ends_unclosed(&index) {
+        return Ok(ElementAnswer::MayBeCut);
+    }
+    Ok(ElementAnswer::Accepted(index))
+}
+
+// Whether its end shows only in what follows a value.
+fn is_unclosed(kind: Kind) -> bool
+    ensures { result ≡ is_unclosed kind }
+{
+    match kind {
+        Kind::Object | Kind::Array | Kind::String => false,
+        Kind::Number | Kind::True | Kind::False | Kind::Null => true,
+    }
+}
+
+// Whether nothing follows the root, whose end shows only in what follows it.
+fn ends_unclosed(index: &Indexed<'_>) -> bool
+    ensures { (limit : ℕ) (tree : Tree) → IsText index.now.text index.now.place.start index.now.place.end limit tree → IsTrue result ↔ EndsUnclosed tree index.now.place.end }
+{
+    // The proof needs that the rows are those of the tree.
+    let _rows = index.rows();
+    let root = index.row(index.root());
+    is_unclosed(root.kind) && root.span.end == index.span().end
+}
