@@ -1,0 +1,4 @@
+mod Answers
+mod LeadsToRows
+mod PointerSteps
+mod RowSteps

@@ -1,0 +1,7 @@
+pub mod Ends
+pub mod Output
+pub mod Pointers
+pub mod Reports
+pub mod RowWords
+pub mod Trees
+pub mod Words

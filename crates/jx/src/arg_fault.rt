@@ -1,0 +1,12 @@
+use thiserror::Error;
+
+/// Why the words are no command.
+#[derive(Debug, Drop, Error)]
+pub enum ArgFault {
+    /// The words are wrong, or ask for help.
+    #[error("{0}")]
+    Clap(clap::Error),
+    /// A growth of memory was refused.
+    #[error("jx: out of memory")]
+    Memory,
+}

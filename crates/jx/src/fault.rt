@@ -1,0 +1,48 @@
+use crate::arg_fault::ArgFault;
+use crate::report_fault::ReportFault;
+use std::alloc::AllocError;
+use std::io;
+use thiserror::Error;
+
+/// Why the program gave no answer. Each shows as one line, or as clap's text.
+#[derive(Debug, Drop, Error)]
+pub enum Fault {
+    /// The words are wrong, or ask for help.
+    #[error("{0}")]
+    Words(clap::Error),
+    /// A word is no text, as clap puts it.
+    #[error("error: invalid UTF-8 was detected in one or more arguments\n")]
+    NotText,
+    #[error("jx: cannot open\n")]
+    Open,
+    #[error("jx: out of memory\n")]
+    Memory(#[from(alloc)] AllocError),
+    #[error("{0}\n")]
+    Report(ReportFault),
+}
+
+impl Fault {
+    /// Where the system did not give the words.
+    pub fn of_words(error: io::Error) -> Fault {
+        match error.kind() {
+            io::ErrorKind::InvalidData => Fault::NotText,
+            _ => Fault::Memory(AllocError),
+        }
+    }
+
+    /// Where the words are no command.
+    pub fn of_arguments(fault: ArgFault) -> Fault {
+        match fault {
+            ArgFault::Clap(error) => Fault::Words(error),
+            ArgFault::Memory => Fault::Memory(AllocError),
+        }
+    }
+
+    /// Where the file did not open.
+    pub fn of_opening(error: io::Error) -> Fault {
+        match error.kind() {
+            io::ErrorKind::OutOfMemory => Fault::Memory(AllocError),
+            _ => Fault::Open,
+        }
+    }
+}

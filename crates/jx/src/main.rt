@@ -1,0 +1,82 @@
+// The program `jx`: reads a JSON text from standard input or a file, and tells whether it is one, what its values are, or
+// what pointers lead to in it.
+#![tactic(auto)]
+
+mod answer;
+mod arg_fault;
+mod arguments;
+mod command;
+mod end;
+mod exit;
+mod fault;
+mod pointer_answer;
+mod pointer_words;
+mod read_all;
+mod report;
+mod report_fault;
+mod row_words;
+mod sink;
+mod source;
+#[cfg(test)]
+mod tests;
+mod words;
+mod write_all;
+
+use arguments::command_of;
+use end::End;
+use exit::Exit;
+use fault::Fault;
+use jx_book::OpenGate;
+use report::report;
+use std::env;
+use std::fs::File;
+use std::process::ExitCode;
+use std::sync::Wait;
+use std::thread::Threads;
+
+/// The status of a run that ends by a fault.
+const FAULT: u8 = 2;
+
+fn run<R: Threads + Wait + Sync>(rt: &HostRuntime, threads: &R) -> Result<Exit, Fault> {
+    let alloc = rt.alloc();
+    let owned: Vec<String> = env::args(rt).map_err(Fault::of_words)?.collect(alloc)?;
+    let words: Vec<&str> = owned.iter().map(|word| word.as_str()).collect(alloc)?;
+    let (command, file) = command_of(alloc, &words).map_err(Fault::of_arguments)?;
+    let mut writer = End::new(rt.stdout());
+    let answer = match file {
+        None => {
+            let mut reader = End::new(rt.stdin());
+            report(
+                threads,
+                alloc,
+                &mut reader,
+                &mut writer,
+                &command,
+                &OpenGate,
+            )
+        }
+        Some(path) => {
+            let mut reader = End::new(File::open(rt, path).map_err(Fault::of_opening)?);
+            report(
+                threads,
+                alloc,
+                &mut reader,
+                &mut writer,
+                &command,
+                &OpenGate,
+            )
+        }
+    };
+    answer.map_err(Fault::Report)
+}
+
+fn main(rt: HostRuntime) -> ExitCode {
+    match run(&rt, &rt) {
+        Ok(Exit::Good) => ExitCode::SUCCESS,
+        Ok(Exit::Bad) => ExitCode::FAILURE,
+        Err(fault) => {
+            let _ = rt.eprint(&fault);
+            ExitCode::from(FAULT)
+        }
+    }
+}

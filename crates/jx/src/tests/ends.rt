@@ -1,0 +1,74 @@
+// Ends that give and take little at a time, and fail at a call of their own choice.
+use std::alloc::Global;
+use std::io;
+use std::io::{Read, Write};
+
+/// Gives one byte a call, and fails at the call of the number named, from 1 on.
+#[derive(Drop)]
+pub struct FailingReader<'a> {
+    pub text: &'a [u8],
+    pub call: u32,
+    pub fails_at: u32,
+    pub kind: io::ErrorKind,
+}
+
+impl Read for FailingReader<'_> {
+    fn read(&mut self, buf: &mut [u8]) -> io::Result<usize> {
+        self.call = self.call.saturating_add(1);
+        if self.call == self.fails_at {
+            return Err(io::Error::from(self.kind));
+        }
+        let count = self.text.len().min(buf.len()).min(1);
+        buf[..count].copy_from_slice(&self.text[..count]);
+        self.text = &self.text[count..];
+        Ok(count)
+    }
+}
+
+/// What a writer does at the call at which it fails.
+#[derive(Clone, Copy)]
+pub enum Refusal {
+    Error,
+    TakesNone,
+}
+
+/// Takes up to `most` bytes a call, and fails at the call of the number named, from 1 on.
+#[derive(Drop)]
+pub struct FailingWriter {
+    pub taken: Vec<u8>,
+    pub most: usize,
+    pub call: u32,
+    pub fails_at: u32,
+    pub refusal: Refusal,
+}
+
+impl FailingWriter {
+    pub fn new(alloc: Global, most: usize, fails_at: u32, refusal: Refusal) -> FailingWriter {
+        FailingWriter {
+            taken: Vec::new(alloc),
+            most,
+            call: 0,
+            fails_at,
+            refusal,
+        }
+    }
+}
+
+impl Write for FailingWriter {
+    fn write(&mut self, buf: &[u8]) -> io::Result<usize> {
+        self.call = self.call.saturating_add(1);
+        if self.call == self.fails_at {
+            return match self.refusal {
+                Refusal::Error => Err(io::Error::from(io::ErrorKind::BrokenPipe)),
+                Refusal::TakesNone => Ok(0),
+            };
+        }
+        let count = buf.len().min(self.most);
+        self.taken.extend_from_slice(&buf[..count])?;
+        Ok(count)
+    }
+
+    fn flush(&mut self) -> io::Result<()> {
+        Ok(())
+    }
+}

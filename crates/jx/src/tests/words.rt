@@ -1,0 +1,116 @@
+// Which words are a command.
+use crate::arg_fault::ArgFault;
+use crate::arguments::command_of;
+use crate::command::Task;
+use std::alloc::Global;
+use std::test::Fail;
+
+#[test]
+fn check_of_standard_input(rt: HostRuntime) -> Result<(), Fail> {
+    let words = ["jx", "check"];
+    let (command, file) = command_of(rt.alloc(), &words)?;
+    assert!(rt; matches!(command.task, Task::Check));
+    assert_eq!(rt; command.depth.containers(), 512);
+    assert_eq!(rt; command.workers.count(), 4);
+    assert_eq!(rt; command.piece, 65536);
+    assert!(rt; file.is_none());
+    Ok(())
+}
+
+#[test]
+fn check_of_a_file(rt: HostRuntime) -> Result<(), Fail> {
+    let words = ["jx", "check", "--file", "some folder/text"];
+    let (_, file) = command_of(rt.alloc(), &words)?;
+    assert_eq!(rt; file, Some("some folder/text"));
+    Ok(())
+}
+
+#[test]
+fn depths(rt: HostRuntime) -> Result<(), Fail> {
+    for (word, depth) in [("0", 0), ("3", 3), ("512", 512), ("65535", 65535)] {
+        let words = ["jx", "check", "--depth", word];
+        let (command, _) = command_of(rt.alloc(), &words)?;
+        assert_eq!(rt; command.depth.containers(), depth);
+    }
+    for word in ["65536", "-1", "", "x", "1.5"] {
+        let words = ["jx", "check", "--depth", word];
+        assert!(rt; is_refused_by_clap(&words, rt.alloc()), "at {word}");
+    }
+    Ok(())
+}
+
+#[test]
+fn workers(rt: HostRuntime) -> Result<(), Fail> {
+    for (word, workers) in [("1", 1), ("5", 5), ("64", 64)] {
+        let words = ["jx", "check", "--workers", word];
+        let (command, _) = command_of(rt.alloc(), &words)?;
+        assert_eq!(rt; command.workers.count(), workers);
+    }
+    for word in ["0", "65", "-1", "256", "", "x"] {
+        let words = ["jx", "check", "--workers", word];
+        assert!(rt; is_refused_by_clap(&words, rt.alloc()), "at {word}");
+    }
+    Ok(())
+}
+
+#[test]
+fn pieces(rt: HostRuntime) -> Result<(), Fail> {
+    for (word, piece) in [("1", 1), ("65536", 65536), ("1073741824", 1073741824)] {
+        let words = ["jx", "index", "--piece", word];
+        let (command, _) = command_of(rt.alloc(), &words)?;
+        assert_eq!(rt; command.piece, piece);
+    }
+    for word in ["0", "1073741825", "-1", "", "x"] {
+        let words = ["jx", "index", "--piece", word];
+        assert!(rt; is_refused_by_clap(&words, rt.alloc()), "at {word}");
+    }
+    Ok(())
+}
+
+#[test]
+fn rows(rt: HostRuntime) -> Result<(), Fail> {
+    let words = ["jx", "index", "--file", "text", "--workers", "2"];
+    let (command, file) = command_of(rt.alloc(), &words)?;
+    assert!(rt; matches!(command.task, Task::Index));
+    assert_eq!(rt; command.workers.count(), 2);
+    assert_eq!(rt; file, Some("text"));
+    Ok(())
+}
+
+#[test]
+fn pointers_as_they_stand(rt: HostRuntime) -> Result<(), Fail> {
+    let words = [
+        "jx", "at", "/a~1b", "", "--depth", "3", "x, y", "--", "-1", "--depth",
+    ];
+    let (command, _) = command_of(rt.alloc(), &words)?;
+    assert_eq!(rt; command.depth.containers(), 3);
+    let Task::At(pointers) = command.task else {
+        return Err("pointers".into());
+    };
+    let expected = ["/a~1b", "", "x, y", "-1", "--depth"];
+    assert_eq!(rt; pointers.len(), expected.len());
+    for (pointer, word) in pointers.iter().zip(expected) {
+        assert_eq!(rt; pointer.as_str(), word);
+    }
+    Ok(())
+}
+
+fn is_refused_by_clap(words: &[&str], alloc: Global) -> bool {
+    matches!(command_of(alloc, words), Err(ArgFault::Clap(_)))
+}
+
+#[test]
+fn words_that_are_no_command(rt: HostRuntime) -> Result<(), Fail> {
+    assert!(rt; is_refused_by_clap(&["jx"], rt.alloc()));
+    assert!(rt; is_refused_by_clap(&["jx", "--help"], rt.alloc()));
+    assert!(rt; is_refused_by_clap(&["jx", "check", "--help"], rt.alloc()));
+    assert!(rt; is_refused_by_clap(&["jx", "verify"], rt.alloc()));
+    assert!(rt; is_refused_by_clap(&["jx", "check", "more"], rt.alloc()));
+    assert!(rt; is_refused_by_clap(&["jx", "check", "--wrong"], rt.alloc()));
+    assert!(rt; is_refused_by_clap(&["jx", "check", "--file"], rt.alloc()));
+    assert!(rt; is_refused_by_clap(&["jx", "index", "/a"], rt.alloc()));
+    assert!(rt; is_refused_by_clap(&["jx", "at"], rt.alloc()));
+    assert!(rt; is_refused_by_clap(&["jx", "at", "--depth", "3"], rt.alloc()));
+    assert!(rt; is_refused_by_clap(&["jx", "at", "/a", "--wrong"], rt.alloc()));
+    Ok(())
+}
