@@ -5,7 +5,7 @@ use Rattle.std.specs.declared.alloc.Global.{Global}
 use Rattle.std.proofs.lemmas.List.{take_all}
 use Rattle.jx_run.specs.declared.verdict.Verdict.TheVariants.{Accepted}
 use Rattle.jx_run.specs.Text.{IsDocument, IsText}
-use Rattle.jx_run.specs.Tree.{Tree, span}
+use Rattle.jx_run.specs.Tree.{Tree}
 use Rattle.jx_run.specs.Verdict.{Judged}
 use Rattle.jx_index.specs.declared.row.Row.{Row}
 use Rattle.jx_index.specs.Indexed.{IndexedValue}

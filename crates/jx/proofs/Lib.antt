@@ -1,4 +1,5 @@
 mod Answers
+mod ElementSteps
 mod LeadsToRows
 mod PointerSteps
 mod RowSteps

@@ -8,10 +8,13 @@ use Rattle.jx_run.specs.Tree.{Tree}
 use Rattle.jx_run.specs.Verdict.{Judged}
 use Rattle.jx_index.specs.declared.row.Row.{Row}
 use Rattle.jx_index.specs.Rows.{rows}
+use Rattle.jx_answer.specs.declared.element.Element.{Element}
+use Rattle.jx_answer.specs.Sequence.{AreElements}
 use Rattle.jx.specs.declared.command.Task.{Task}
-use Rattle.jx.specs.declared.command.Task.TheVariants.{Check, Index, At}
+use Rattle.jx.specs.declared.command.Task.TheVariants.{Check, Index, At, Seq}
 use Rattle.jx.specs.declared.exit.Exit.{Exit}
 use Rattle.jx.specs.declared.exit.Exit.TheVariants.{Good, Bad}
+use Rattle.jx.specs.Elements.{element_lines, exit_past_all}
 use Rattle.jx.specs.Pointers.{PointerLines}
 use Rattle.jx.specs.RowWords.{row_lines}
 use Rattle.jx.specs.Words.{line, refusal_words}
@@ -26,6 +29,9 @@ SaysRefused refusal output exit = (output ≡ line (refusal_words refusal)) × (
 
 abbrev pub SaysRows : List Row → List ℕ → Exit → Type 0
 SaysRows table output exit = (output ≡ line (codes "accepted") ++ row_lines 0 table) × (exit ≡ Good)
+
+abbrev pub SaysElements : List Element → List ℕ → Exit → Type 0
+SaysElements elements output exit = (output ≡ element_lines elements) × (exit ≡ exit_past_all Good elements)
 
 -- ---- for a text within a depth
 
@@ -52,3 +58,4 @@ abbrev pub Output : Task → ℕ → List ℕ → List ℕ → Exit → Type 0
 Output Check limit input output exit = TextOutput SaysAccepted limit input output exit
 Output Index limit input output exit = TextOutput (ListsRows limit input) limit input output exit
 Output (At pointers) limit input output exit = TextOutput (AnswersPointers (map string_bytes pointers.items) limit input) limit input output exit
+Output Seq limit input output exit = (elements : List Element) × AreElements input limit elements × SaysElements elements output exit

@@ -1,16 +1,17 @@
 ghost use Rattle.std.specs.Prelude.{◌≡◌, ℕ, length, map, string_bytes, IfOk};
 ghost use Rattle.jx_run.specs.Text.{IsText};
 ghost use Rattle.jx_run.specs.Tree.{Tree};
-ghost use Rattle.jx.specs.Output.{Output, SaysAccepted, SaysRefused, SaysRows};
+ghost use Rattle.jx.specs.Output.{Output, SaysAccepted, SaysElements, SaysRefused, SaysRows};
 ghost use Rattle.jx.specs.Pointers.{PointerLines};
 ghost use Rattle.jx.specs.Trees.{HasTree};
 
 use crate::command::{Command, Task};
+use crate::element_words::push_elements;
 use crate::exit::Exit;
 use crate::pointer_words::push_answers;
 use crate::row_words::push_rows;
 use crate::words::push_refusal;
-use jx_answer::{TextAnswer, index_text, verdict_of_text};
+use jx_answer::{Element, TextAnswer, index_sequence, index_text, verdict_of_text};
 use jx_book::Gate;
 use jx_claim::Cutting;
 use jx_index::Indexed;
@@ -74,7 +75,16 @@ fn pointers_answer(
     Ok(Answer { output, exit })
 }
 
-/// The answer to a command on a text; `Err` where memory is refused.
+/// What is answered on the elements of a text sequence.
+fn elements_answer(alloc: Global, elements: &[Element<'_>]) -> Result<Answer, AllocError>
+    ensures { IfOk result (λ answer. SaysElements elements.now answer.output.items answer.exit) }
+{
+    let mut output = Vec::new(alloc);
+    let exit = push_elements(&mut output, elements)?;
+    Ok(Answer { output, exit })
+}
+
+/// The answer to a command on an input; `Err` where memory is refused.
 pub fn answer_of<R: Threads + Wait + Sync, G: Gate + Sync>(
     rt: &R,
     alloc: Global,
@@ -103,6 +113,10 @@ pub fn answer_of<R: Threads + Wait + Sync, G: Gate + Sync>(
         Task::At(pointers) => match index_text(rt, alloc, text, cutting, workers, depth, gate) {
             Ok(TextAnswer::Accepted(index)) => pointers_answer(alloc, &index, pointers),
             Ok(TextAnswer::Refused(refusal)) => refused_answer(alloc, refusal),
+            Err(_) => Err(AllocError),
+        },
+        Task::Seq => match index_sequence(rt, alloc, text, cutting, workers, depth, gate) {
+            Ok(elements) => elements_answer(alloc, &elements),
             Err(_) => Err(AllocError),
         },
     }

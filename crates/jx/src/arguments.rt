@@ -66,12 +66,18 @@ fn grammar<'a>(alloc: Global) -> Result<clap::Command<'a>, AllocError> {
         .required(true)
         .help("A JSON Pointer (RFC 6901) as it is spelt");
     let at = subcommand(alloc, "at", "Print what pointers lead to in a JSON text")?.arg(pointers)?;
+    let seq = subcommand(
+        alloc,
+        "seq",
+        "Tell which elements of a JSON text sequence are JSON texts",
+    )?;
     clap::Command::new(alloc, "jx")
-        .about("Validates and indexes JSON texts (RFC 8259)")
+        .about("Validates and indexes JSON texts (RFC 8259) and text sequences (RFC 7464)")
         .subcommand_required(true)
         .subcommand(check)?
         .subcommand(index)?
-        .subcommand(at)
+        .subcommand(at)?
+        .subcommand(seq)
 }
 
 fn file_of<'a>(options: &ArgMatches<'a>) -> Option<&'a str> {
@@ -109,6 +115,7 @@ fn task_of(alloc: Global, name: &str, options: &ArgMatches<'_>) -> Result<Task, 
     match name {
         "index" => Ok(Task::Index),
         "at" => Ok(Task::At(pointers_of(alloc, options)?)),
+        "seq" => Ok(Task::Seq),
         _ => Ok(Task::Check),
     }
 }

@@ -10,6 +10,8 @@ pub enum Task {
     Index,
     /// What each of these pointers leads to.
     At(Vec<String>),
+    /// Whether the elements of a JSON text sequence are JSON texts.
+    Seq,
 }
 
 /// What a report is to do.

@@ -1,14 +1,16 @@
 // The program `jx`: reads a JSON text from standard input or a file, and tells whether it is one, what its values are, or
-// what pointers lead to in it.
+// what pointers lead to in it; or reads a sequence of them, and tells which of its elements are texts.
 #![tactic(auto)]
 
 mod answer;
 mod arg_fault;
 mod arguments;
 mod command;
+mod element_words;
 mod end;
 mod exit;
 mod fault;
+mod input;
 mod pointer_answer;
 mod pointer_words;
 mod read_all;
@@ -26,10 +28,8 @@ use arguments::command_of;
 use end::End;
 use exit::Exit;
 use fault::Fault;
-use jx_book::OpenGate;
-use report::report;
+use input::report_on;
 use std::env;
-use std::fs::File;
 use std::process::ExitCode;
 use std::sync::Wait;
 use std::thread::Threads;
@@ -43,31 +43,7 @@ fn run<R: Threads + Wait + Sync>(rt: &HostRuntime, threads: &R) -> Result<Exit, 
     let words: Vec<&str> = owned.iter().map(|word| word.as_str()).collect(alloc)?;
     let (command, file) = command_of(alloc, &words).map_err(Fault::of_arguments)?;
     let mut writer = End::new(rt.stdout());
-    let answer = match file {
-        None => {
-            let mut reader = End::new(rt.stdin());
-            report(
-                threads,
-                alloc,
-                &mut reader,
-                &mut writer,
-                &command,
-                &OpenGate,
-            )
-        }
-        Some(path) => {
-            let mut reader = End::new(File::open(rt, path).map_err(Fault::of_opening)?);
-            report(
-                threads,
-                alloc,
-                &mut reader,
-                &mut writer,
-                &command,
-                &OpenGate,
-            )
-        }
-    };
-    answer.map_err(Fault::Report)
+    report_on(rt, threads, file, &mut writer, &command)
 }
 
 fn main(rt: HostRuntime) -> ExitCode {

@@ -1,7 +1,9 @@
 // The program from bytes to bytes, over memory and over ends that fail.
 mod commands;
 mod ends;
+mod files;
 mod gates;
 mod indexes;
 mod reports;
+mod sequences;
 mod words;

@@ -78,6 +78,15 @@ fn rows(rt: HostRuntime) -> Result<(), Fail> {
 }
 
 #[test]
+fn elements(rt: HostRuntime) -> Result<(), Fail> {
+    let words = ["jx", "seq", "--piece", "7"];
+    let (command, _) = command_of(rt.alloc(), &words)?;
+    assert!(rt; matches!(command.task, Task::Seq));
+    assert_eq!(rt; command.piece, 7);
+    Ok(())
+}
+
+#[test]
 fn pointers_as_they_stand(rt: HostRuntime) -> Result<(), Fail> {
     let words = [
         "jx", "at", "/a~1b", "", "--depth", "3", "x, y", "--", "-1", "--depth",
