@@ -9,5 +9,6 @@ pub mod Sound
 pub mod Acting
 pub mod Runs
 pub mod Extended
+mod Inside
 pub mod Spans
 pub mod Cuts

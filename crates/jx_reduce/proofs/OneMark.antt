@@ -128,12 +128,12 @@ no_close_below True e h = cc
 no_close_below False e h = cc
 no_close_below Null e h = cc
 
-fault_of-faults_at : (x : Entry) (m : Mark) (h : Holder) → fault_of (faults_at x m) h ≡ fault_at x m h
+pub fault_of-faults_at : (x : Entry) (m : Mark) (h : Holder) → fault_of (faults_at x m) h ≡ fault_at x m h
 fault_of-faults_at x m Array = refl
 fault_of-faults_at x m Object = refl
 fault_of-faults_at x m Bottom = refl
 
-end_fault_of-end_at : (x : Entry) (m : Mark) (h : Holder) → change_of m.kind ≡ removed → end_fault_of (end_at x m) h ≡ fault_at x m h
+pub end_fault_of-end_at : (x : Entry) (m : Mark) (h : Holder) → change_of m.kind ≡ removed → end_fault_of (end_at x m) h ≡ fault_at x m h
 end_fault_of-end_at x m Array e = refl
 end_fault_of-end_at x m Object e = refl
 end_fault_of-end_at x m Bottom e = sym (ap (λ o. fault_unless o m.at) (no_close_below m.kind (expect_at x Bottom) e))

@@ -1,15 +1,16 @@
 // Levels that are not known to begin in any container.
 
-ghost use Rattle.std.specs.Prelude.{◌≡◌, ◌≤◌, ◌<◌, ◌+◌, ◌^◌, OnOk, IfOk, IsOk, length, reverse, vec_len, vec_capacity};
+ghost use Rattle.std.specs.Prelude.{◌≡◌, ◌≤◌, ◌<◌, ◌+◌, ◌^◌, OnOk, IfOk, IsOk, length, reverse, true, Some, vec_len, vec_capacity};
 ghost use Rattle.jx_reduce.specs.Join.{halted, joined, joined_heights};
 ghost use Rattle.jx_reduce.specs.Marks.{pushed, of_marks, of_nothing};
 ghost use Rattle.jx_reduce.specs.Fits.{Fits};
-ghost use Rattle.jx_reduce.specs.Levels.{form_of, part_form, head_of, taken_in, ended_in, IsSameBut, HasRoom};
+ghost use Rattle.jx_reduce.specs.Levels.{form_of, part_form, head_of, taken_in, ended_in, IsSameBut, HasRoom, IsInside};
 
 use crate::ended_level::EndedLevel;
 use crate::entry::Entry;
 use crate::holder::Holder;
 use crate::level::Level;
+use crate::moves::next;
 use crate::part::Part;
 use jx_lex::{Mark, MarkKind};
 use std::alloc::{AllocError, Global};
@@ -155,50 +156,79 @@ impl Levels {
         let Some(entry) = self.exit else {
             return Ok(());
         };
-        let exit = Some(entry.leads_to(mark.kind));
-        let last = entry.faults_at(mark);
-        match mark.kind {
-            MarkKind::OpenArray => self.absorb(
-                depth,
-                Part {
-                    ended: &[],
-                    last,
-                    opens: &[Holder::Array],
-                    exit,
-                    heights: &[mark.at],
-                },
-            ),
-            MarkKind::OpenObject => self.absorb(
-                depth,
-                Part {
-                    ended: &[],
-                    last,
-                    opens: &[Holder::Object],
-                    exit,
-                    heights: &[mark.at],
-                },
-            ),
-            MarkKind::CloseArray | MarkKind::CloseObject => self.absorb(
-                depth,
-                Part {
-                    ended: &[entry.end_at(mark)],
-                    last: Level::NONE,
-                    opens: &[],
-                    exit,
-                    heights: &[],
-                },
-            ),
-            _ => self.absorb(
-                depth,
-                Part {
-                    ended: &[],
-                    last,
-                    opens: &[],
-                    exit,
-                    heights: &[],
-                },
-            ),
+        if self.is_inside(entry, mark.kind) {
+            self.step_inside(depth, entry, mark);
+            return Ok(());
         }
+        self.absorb_mark(depth, entry, mark)
+    }
+
+    /// Whether a mark stands in a container that was opened here, is no fault there, and opens none. Most marks do.
+    #[inline(always)]
+    fn is_inside(&self, entry: Entry, kind: MarkKind) -> bool
+        ensures inside { result ≡ true → IsInside (form_of self.now) entry kind }
+    {
+        if matches!(kind, MarkKind::OpenArray | MarkKind::OpenObject) || self.last.is_all() {
+            return false;
+        }
+        match innermost(&self.opens) {
+            Some(top) => next(kind, entry.at(top), top).is_some(),
+            None => false,
+        }
+    }
+
+    /// Such a mark changes no level.
+    #[inline(always)]
+    fn step_inside(&mut self, depth: usize, entry: Entry, mark: Mark)
+        requires exit { self.old.exit ≡ Some entry }
+        requires inside { IsInside (form_of self.old) entry mark.kind }
+        requires fits { Fits depth (form_of self.old) }
+        ensures { form_of self.new ≡ pushed depth (form_of self.old) mark }
+    {
+        match mark.kind {
+            MarkKind::CloseArray | MarkKind::CloseObject => {
+                let _ = self.opens.pop();
+                self.exit = Some(Entry::After);
+            }
+            _ => self.exit = Some(entry.leads_to(mark.kind)),
+        }
+    }
+
+    /// Goes on with the form of one mark.
+    fn absorb_mark(&mut self, depth: usize, entry: Entry, mark: Mark) -> Result<(), AllocError>
+        requires depth { depth < 2 ^ 32 }
+        requires exit { self.old.exit ≡ Some entry }
+        requires fits { Fits depth (form_of self.old) }
+        ensures ok { OnOk result (form_of self.new ≡ pushed depth (form_of self.old) mark) }
+    {
+        let ended = [entry.end_at(mark)];
+        let heights = [mark.at];
+        let same = Part {
+            ended: &[],
+            last: entry.faults_at(mark),
+            opens: &[],
+            exit: Some(entry.leads_to(mark.kind)),
+            heights: &[],
+        };
+        let part = match mark.kind {
+            MarkKind::OpenArray => Part {
+                opens: &[Holder::Array],
+                heights: &heights,
+                ..same
+            },
+            MarkKind::OpenObject => Part {
+                opens: &[Holder::Object],
+                heights: &heights,
+                ..same
+            },
+            MarkKind::CloseArray | MarkKind::CloseObject => Part {
+                ended: &ended,
+                last: Level::NONE,
+                ..same
+            },
+            _ => same,
+        };
+        self.absorb(depth, part)
     }
 
     /// The form of no marks.
