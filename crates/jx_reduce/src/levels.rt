@@ -2,7 +2,8 @@
 
 ghost use Rattle.std.specs.Prelude.{◌≡◌, ◌≤◌, ◌<◌, ◌+◌, ◌^◌, OnOk, IfOk, IsOk, length, reverse, true, Some, vec_len, vec_capacity};
 ghost use Rattle.jx_reduce.specs.Join.{halted, joined, joined_heights};
-ghost use Rattle.jx_reduce.specs.Marks.{pushed, of_marks, of_nothing};
+ghost use Rattle.jx_reduce.specs.Marks.{pushed, of_change, of_marks, of_nothing};
+ghost use Rattle.jx_reduce.specs.Table.{same, added, removed};
 ghost use Rattle.jx_reduce.specs.Fits.{Fits};
 ghost use Rattle.jx_reduce.specs.Levels.{form_of, part_form, head_of, taken_in, ended_in, IsSameBut, HasRoom, IsInside};
 
@@ -147,6 +148,60 @@ impl Levels {
         }
     }
 
+    /// Goes on with a mark that opens a container.
+    fn open(
+        &mut self,
+        depth: usize,
+        entry: Entry,
+        mark: Mark,
+        holder: Holder,
+    ) -> Result<(), AllocError>
+        requires depth { depth < 2 ^ 32 }
+        requires fits { Fits depth (form_of self.old) }
+        ensures ok { OnOk result (form_of self.new ≡ joined depth (form_of self.old) (of_change (added holder) entry mark)) }
+    {
+        let part = Part {
+            ended: &[],
+            last: entry.faults_at(mark),
+            opens: &[holder],
+            exit: Some(entry.leads_to(mark.kind)),
+            heights: &[mark.at],
+        };
+        self.absorb(depth, part)
+    }
+
+    /// Goes on with a mark that closes a container.
+    fn close(&mut self, depth: usize, entry: Entry, mark: Mark) -> Result<(), AllocError>
+        requires depth { depth < 2 ^ 32 }
+        requires fits { Fits depth (form_of self.old) }
+        ensures ok { OnOk result (form_of self.new ≡ joined depth (form_of self.old) (of_change removed entry mark)) }
+    {
+        let part = Part {
+            ended: &[entry.end_at(mark)],
+            last: Level::NONE,
+            opens: &[],
+            exit: Some(entry.leads_to(mark.kind)),
+            heights: &[],
+        };
+        self.absorb(depth, part)
+    }
+
+    /// Goes on with a mark that leaves the open containers as they are.
+    fn pass(&mut self, depth: usize, entry: Entry, mark: Mark) -> Result<(), AllocError>
+        requires depth { depth < 2 ^ 32 }
+        requires fits { Fits depth (form_of self.old) }
+        ensures ok { OnOk result (form_of self.new ≡ joined depth (form_of self.old) (of_change same entry mark)) }
+    {
+        let part = Part {
+            ended: &[],
+            last: entry.faults_at(mark),
+            opens: &[],
+            exit: Some(entry.leads_to(mark.kind)),
+            heights: &[],
+        };
+        self.absorb(depth, part)
+    }
+
     /// One more mark.
     pub fn push(&mut self, depth: usize, mark: Mark) -> Result<(), AllocError>
         requires depth { depth < 2 ^ 32 }
@@ -160,7 +215,12 @@ impl Levels {
             self.step_inside(depth, entry, mark);
             return Ok(());
         }
-        self.absorb_mark(depth, entry, mark)
+        match mark.kind {
+            MarkKind::OpenArray => self.open(depth, entry, mark, Holder::Array),
+            MarkKind::OpenObject => self.open(depth, entry, mark, Holder::Object),
+            MarkKind::CloseArray | MarkKind::CloseObject => self.close(depth, entry, mark),
+            _ => self.pass(depth, entry, mark),
+        }
     }
 
     /// Whether a mark stands in a container that was opened here, is no fault there, and opens none. Most marks do.
@@ -177,7 +237,7 @@ impl Levels {
         }
     }
 
-    /// Such a mark changes no level.
+    /// Goes on with such a mark, which changes no level.
     #[inline(always)]
     fn step_inside(&mut self, depth: usize, entry: Entry, mark: Mark)
         requires exit { self.old.exit ≡ Some entry }
@@ -192,43 +252,6 @@ impl Levels {
             }
             _ => self.exit = Some(entry.leads_to(mark.kind)),
         }
-    }
-
-    /// Goes on with the form of one mark.
-    fn absorb_mark(&mut self, depth: usize, entry: Entry, mark: Mark) -> Result<(), AllocError>
-        requires depth { depth < 2 ^ 32 }
-        requires exit { self.old.exit ≡ Some entry }
-        requires fits { Fits depth (form_of self.old) }
-        ensures ok { OnOk result (form_of self.new ≡ pushed depth (form_of self.old) mark) }
-    {
-        let ended = [entry.end_at(mark)];
-        let heights = [mark.at];
-        let same = Part {
-            ended: &[],
-            last: entry.faults_at(mark),
-            opens: &[],
-            exit: Some(entry.leads_to(mark.kind)),
-            heights: &[],
-        };
-        let part = match mark.kind {
-            MarkKind::OpenArray => Part {
-                opens: &[Holder::Array],
-                heights: &heights,
-                ..same
-            },
-            MarkKind::OpenObject => Part {
-                opens: &[Holder::Object],
-                heights: &heights,
-                ..same
-            },
-            MarkKind::CloseArray | MarkKind::CloseObject => Part {
-                ended: &ended,
-                last: Level::NONE,
-                ..same
-            },
-            _ => same,
-        };
-        self.absorb(depth, part)
     }
 
     /// The form of no marks.

@@ -104,11 +104,8 @@ fn a_member_that_is_still_open(rt: HostRuntime) -> Result<(), Fail> {
         mark(MarkKind::String, 1),
         mark(MarkKind::Colon, 4),
         mark(MarkKind::Number, 5),
-        mark(MarkKind::Comma, 6),
-        mark(MarkKind::Number, 7),
-        mark(MarkKind::CloseArray, 8),
     ];
-    let left = Reductions::of(rt.alloc(), &marks[..4], depth_of(1))?;
+    let left = Reductions::of(rt.alloc(), &marks, depth_of(1))?;
     let value = left.entry(Expect::Value);
     assert_eq!(rt; value.level_count(), 1);
     let level = value.level(0).is_some_and(|level| {
@@ -125,7 +122,20 @@ fn a_member_that_is_still_open(rt: HostRuntime) -> Result<(), Fail> {
         open: 1,
     };
     assert_eq!(rt; value.whole(), open);
+    Ok(())
+}
 
+#[test]
+fn a_member_that_goes_on_to_a_fault(rt: HostRuntime) -> Result<(), Fail> {
+    let marks = [
+        mark(MarkKind::OpenObject, 0),
+        mark(MarkKind::String, 1),
+        mark(MarkKind::Colon, 4),
+        mark(MarkKind::Number, 5),
+        mark(MarkKind::Comma, 6),
+        mark(MarkKind::Number, 7),
+        mark(MarkKind::CloseArray, 8),
+    ];
     let one = joined_at(rt.alloc(), &marks, 4, depth_of(1))?;
     assert_eq!(rt; one.depth(), depth_of(1));
     assert_eq!(rt; one.entry(Expect::Value).act(&[])?, Outcome::Stopped(7));
