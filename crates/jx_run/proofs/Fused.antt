@@ -1,5 +1,5 @@
 -- The reading a byte at a time: the lexical machine and the expectations move together.
-use Rattle.std.proofs.Common.{◌≡◌, ℕ, suc, List, [], ◌∷◌, ◌++◌, length, drop, Option, Some, None, Bool, true, false, cond, refl, ap, sym, ◌∙◌}
+use Rattle.std.proofs.Common.{◌≡◌, ℕ, suc, List, [], ◌∷◌, length, drop, Option, Some, None, Bool, true, false, cond, refl, ap, ◌∙◌}
 use Rattle.std.specs.Prelude.{nat_lt, if◌then◌else◌}
 use Rattle.jx_lex.specs.declared.state.LexState.{LexState}
 use Rattle.jx_lex.specs.declared.mark.MarkKind.{MarkKind}
@@ -10,7 +10,7 @@ use Rattle.jx_lex.specs.Lex.{lex, Exit, with_mark, on_next}
 use Rattle.jx_reduce.specs.declared.expect.Expect.{Expect}
 use Rattle.jx_reduce.specs.declared.holder.Holder.{Holder}
 use Rattle.jx_reduce.specs.Table.{next_of, Change, same, added, removed, change_of}
-use Rattle.jx_reduce.specs.Read.{Reading, top, without_top, then_by, read as read_marks, step, moved}
+use Rattle.jx_reduce.specs.Read.{Reading, top, without_top, read as read_marks, step, moved}
 use Rattle.jx_run.specs.Turns.{Turn, wrong, on, enter, leave, turn, turned}
 use Rattle.jx_run.specs.Reading.{Outcome, went, stopped, too_deep, at_exit, read}
 

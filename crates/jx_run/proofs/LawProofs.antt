@@ -1,17 +1,13 @@
 -- The laws of the reader, at the plain reading.
-use Rattle.std.proofs.Common.{◌≡◌, ◌≢◌, ℕ, suc, ◌+◌, ◌<◌, max, List, [], ◌++◌, length, take, drop, refl, sym, ap, subst, ◌∙◌, arith}
-use Rattle.std.specs.Prelude.{All}
-use Rattle.jx_lex.specs.declared.state.LexState.{LexState}
+use Rattle.std.proofs.Common.{◌≡◌, ℕ, suc, ◌+◌, max, List, [], ◌++◌, take, drop, refl, sym, subst, arith}
 use Rattle.jx_lex.specs.declared.state.LexState.TheVariants as state
-use Rattle.jx_reduce.specs.declared.expect.Expect.{Expect}
 use Rattle.jx_reduce.specs.declared.expect.Expect.TheVariants as expect
-use Rattle.jx_reduce.specs.declared.holder.Holder.{Holder}
-use Rattle.jx_run.specs.Reading.{Outcome, went, stopped, too_deep, read, read_text}
+use Rattle.jx_run.specs.Reading.{Outcome, went, stopped, too_deep, read_text}
 use Rattle.jx_run.specs.Tree.{Tree, span}
 use Rattle.jx_run.specs.Grammar.{Value, leaf, empty_array, array, empty_object, object}
 use Rattle.jx_run.specs.Text.{Begins, IsDocument}
 use Rattle.jx_run.specs.Verdict.{IsLongestBeginning, Judged}
-use Rattle.jx_run.specs.Laws.{IsNoFault, IsAccepting, IsFaultAt, IsTooDeep, MeetsNoFault, Accepts, FaultsAt, FaultsTooDeep, BeginsAtSomeDepth, span_of, verdict_of}
+use Rattle.jx_run.specs.Laws.{IsNoFault, IsAccepting, IsFaultAt, IsTooDeep, MeetsNoFault, Accepts, FaultsAt, BeginsAtSomeDepth, span_of, verdict_of}
 use Rattle.jx_run.proofs.Bytes.{AreBytes, completion-bytes}
 use Rattle.jx_run.proofs.Completion.{completion, went-accepted}
 use Rattle.jx_run.proofs.Endings.{Ending, goes_on, is_stopped, is_deep, ending}

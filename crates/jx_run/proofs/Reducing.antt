@@ -23,7 +23,7 @@ use Rattle.jx_reduce.specs.declared.holder.Holder.{Holder}
 use Rattle.jx_reduce.specs.Offsets.{EachIn, RisingFrom}
 use Rattle.jx_reduce.specs.Read.{read as read_marks, Reading}
 use Rattle.jx_reduce.specs.Reductions.{Forms, IsBefore, IsOf, SpansIn, answer}
-use Rattle.jx_reduce.proofs.Spans.{before_of_spans, SpansIn_wider}
+use Rattle.jx_reduce.proofs.Spans.{before_of_spans}
 use Rattle.jx_run.specs.declared.entries.Entries.{Entries}
 use Rattle.jx_run.specs.Reading.{at_exit, read}
 use Rattle.jx_run.specs.Reduced.{AreReduced, IsReduced, AreOf, AreOfEach, AreRising}

@@ -22,7 +22,7 @@ use Rattle.jx_reduce.proofs.Spans.{SpansIn_wider}
 use Rattle.jx_run.specs.declared.entries.Entries.{Entries}
 use Rattle.jx_run.specs.Turns.{Turn, wrong, on, enter, leave, turn}
 use Rattle.jx_run.specs.Reading.{Outcome, went, stopped, too_deep, at_exit, and_then, read}
-use Rattle.jx_run.specs.TextRun.{TextRunValue, entries_at, outcome_of, outcome_in, outcome, IsTextRun, IsWhole, IsWithin, GoesOn, AllGoOn}
+use Rattle.jx_run.specs.TextRun.{TextRunValue, entries_at, outcome_in, outcome, IsTextRun, IsWhole, IsWithin, GoesOn, AllGoOn}
 use Rattle.jx_run.proofs.Completion.{run-append}
 use Rattle.jx_run.proofs.StateOrder.{ordinal-low}
 use Rattle.jx_run.proofs.Fused.{after_turn, after_mark, in_next, run, read-run}

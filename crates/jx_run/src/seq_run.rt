@@ -1,5 +1,5 @@
 // Runs over parts of a JSON text sequence.
-ghost use Rattle.std.specs.Prelude.{◌≡◌, ◌≤◌, ◌++◌, ℕ, List, None, length, map, slice_range, IfOk, IfErr, OnOk, OnErr};
+ghost use Rattle.std.specs.Prelude.{◌≡◌, ℕ, List, None, map, IfOk, IfErr, OnOk, OnErr};
 ghost use Rattle.jx_run.specs.Elements.{elements, span_of};
 ghost use Rattle.jx_run.specs.SeqRun.{IsClosed, IsSeqJoin, IsSeqRun, element_places, last_run, place_of_seq};
 ghost use Rattle.jx_run.specs.Shape.{shown};

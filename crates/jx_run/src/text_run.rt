@@ -1,5 +1,5 @@
 // Runs over parts of a JSON text.
-ghost use Rattle.std.specs.Prelude.{◌≡◌, ◌<◌, ◌≤◌, ℕ, List, ◌++◌, length, Some, slice_get, slice_range, IfOk, IfErr};
+ghost use Rattle.std.specs.Prelude.{◌≡◌, ◌<◌, ◌≤◌, ℕ, List, length, Some, slice_get, IfOk};
 ghost use Rattle.jx_lex.specs.Map.{track};
 ghost use Rattle.jx_reduce.specs.Fits.{IsOfSize};
 ghost use Rattle.jx_reduce.specs.Reduced.{depth_of, form_in};

@@ -1,6 +1,6 @@
 use Rattle.std.proofs.Common.{◌≡◌, length, take, ◌+◌, ap, sym, subst, ◌∙◌, None, All, arith}
 use Rattle.jx_lex.specs.Ordinal.{all_states}
-use Rattle.jx_run.specs.Reduced.{AreReduced, AreOfEach}
+use Rattle.jx_run.specs.Reduced.{AreOfEach}
 use Rattle.jx_run.proofs.Reducing.{each_next, none_reduced}
 use Rattle.jx_run.proofs.reduce.all_entries.Goals as goal
 

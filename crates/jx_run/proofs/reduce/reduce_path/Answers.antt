@@ -1,5 +1,5 @@
-use Rattle.std.proofs.Common.{◌≡◌, ◌<◌, ◌++◌, length, flat_map, sym, subst, refl, [], arith}
-use Rattle.std.specs.Prelude.{IsSomeAnd, IfSome}
+use Rattle.std.proofs.Common.{◌++◌, length, flat_map, sym, subst, refl, [], arith}
+use Rattle.std.specs.Prelude.{IsSomeAnd}
 use Rattle.jx_lex.specs.View.{marks_at}
 use Rattle.jx_reduce.specs.Offsets.{RisingFrom}
 use Rattle.jx_run.specs.Reduced.{IsReduced}

@@ -1,4 +1,4 @@
-use Rattle.std.proofs.Common.{◌≡◌, ◌≤◌}
+use Rattle.std.proofs.Common.{◌≡◌}
 use Rattle.jx_run.specs.SeqRun.{place_of_seq}
 use Rattle.jx_run.specs.Tree.{span}
 use Rattle.jx_run.proofs.sequence_tests.by_bytes.Given as goal
