@@ -1,6 +1,6 @@
 -- The look-up over a tree's rows is that over the tree.
-use Rattle.std.proofs.Common.{◌≡◌, ℕ, zero, suc, ◌+◌, ◌<◌, ◌≤◌, List, [], ◌∷◌, ◌++◌, length, map, Option, None, Some, Bool, true, false, cond, refl, sym, ap, ◌∙◌, arith, Result, Ok, Err, get_or}
-use Rattle.std.specs.Prelude.{slice_get, ◌==◌}
+use Rattle.std.proofs.Common.{◌≡◌, ℕ, zero, suc, ◌+◌, ◌<◌, ◌≤◌, List, [], ◌∷◌, ◌++◌, length, Option, None, Some, Bool, true, false, cond, refl, sym, ap, ◌∙◌, arith, Result, get_or}
+use Rattle.std.specs.Prelude.{slice_get}
 use Rattle.std.proofs.lemmas.Option.{slice_get-get_or}
 use Rattle.std.specs.Ordering.{nat_cmp, is_eq}
 use Rattle.std.specs.Cmp.Lexicographic.{slice_cmp}
@@ -13,13 +13,13 @@ use Rattle.jx_index.specs.declared.row.Row.{Row}
 use Rattle.jx_index.specs.Leads.{Numbered, numbered, kind_of, children_of, one_token, and_then, leads_from}
 use Rattle.jx_index.specs.Names.{is_name, units_of_name}
 use Rattle.jx_index.specs.Nodes.{kind_in, kind_at, name_in, name_at, is_parent, with_parent, child_numbers}
-use Rattle.jx_index.specs.Rows.{size, sizes, rows}
+use Rattle.jx_index.specs.Rows.{size, rows}
 use Rattle.jx_index.specs.RowsLead.{is_equal, row_token, rows_lead}
-use Rattle.jx_index.specs.Standing.{Standing, standing, root_standing, row_of, Stands, itself, inside, StandsBelow, in_first, in_later}
-use Rattle.jx_index.proofs.Each.{Each, AtOk, OfObject, each_more, each_both, token_each, map_ok, token_map, then_map}
+use Rattle.jx_index.specs.Standing.{Standing, standing, root_standing, row_of, Stands, itself, StandsBelow, in_first, in_later}
+use Rattle.jx_index.proofs.Each.{Each, OfObject, each_more, each_both, token_each, map_ok, token_map, then_map}
 use Rattle.jx_index.proofs.NamedTrees.{HasName, AllNamed, NamedFor, Named, named_inner}
 use Rattle.jx_index.proofs.Parents.{children_are, numbers-numbered}
-use Rattle.jx_index.proofs.Walks.{Has, has_row, goes_on}
+use Rattle.jx_index.proofs.Walks.{has_row, goes_on}
 
 -- ---- rows
 

@@ -1,5 +1,5 @@
 -- One token of the look-up over rows.
-use Rattle.std.proofs.Common.{◌≡◌, ℕ, suc, ◌+◌, ◌<◌, ◌≤◌, List, [], ◌∷◌, length, take, drop, refl, sym, ap, subst, ◌∙◌, arith, Result, Ok, Err}
+use Rattle.std.proofs.Common.{◌≡◌, ℕ, suc, ◌+◌, ◌<◌, ◌≤◌, List, ◌∷◌, length, take, drop, refl, sym, ap, ◌∙◌, arith, Result, Ok, Err}
 use Rattle.jx_index.specs.declared.find_fault.FindFault.{FindFault}
 use Rattle.jx_index.specs.declared.row.Row.{Row}
 use Rattle.jx_index.specs.declared.units.Spelling.TheVariants.{InToken}
@@ -9,7 +9,7 @@ use Rattle.jx_index.specs.Pointers.{HasSlash, NoSlash, tokens}
 use Rattle.jx_index.specs.RowsLead.{is_equal, row_token, rows_lead}
 use Rattle.jx_index.specs.Units.{parts_units}
 use Rattle.jx_index.proofs.Bridge.{children_within}
-use Rattle.jx_index.proofs.Each.{Each, AtOk, each_more, token_each}
+use Rattle.jx_index.proofs.Each.{AtOk, each_more, token_each}
 use Rattle.jx_index.proofs.TokenSteps.{tokens_next, tokens_end}
 
 module _ (text : List ℕ) (rows : List Row) where

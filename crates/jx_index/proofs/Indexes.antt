@@ -1,12 +1,11 @@
 -- What the fields of an index say of its rows.
-use Rattle.std.proofs.Common.{◌≡◌, ℕ, suc, ◌+◌, ◌-◌, ◌<◌, ◌≤◌, List, length, take, drop, refl, sym, ap, subst, ◌∙◌, arith, None}
+use Rattle.std.proofs.Common.{◌≡◌, ℕ, ◌+◌, ◌<◌, ◌≤◌, List, length, sym, ap, subst, ◌∙◌, arith, None}
 use Rattle.std.specs.Prelude.{slice_index}
 use Rattle.jx_lex.specs.declared.span.Span.{Span}
 use Rattle.jx_run.specs.Text.{IsText}
 use Rattle.jx_run.specs.Tree.{Tree}
 use Rattle.jx_run.proofs.Unique.{one_tree}
 use Rattle.jx_index.specs.declared.row.Row.{Row}
-use Rattle.jx_index.specs.Afters.{afters}
 use Rattle.jx_index.specs.Indexed.{IndexedValue, IsIndexed}
 use Rattle.jx_index.specs.Leads.{leads}
 use Rattle.jx_index.specs.Names.{IsInNameOrder}

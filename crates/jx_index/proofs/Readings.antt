@@ -1,5 +1,5 @@
 -- What is built of an accepted reading is the tree's.
-use Rattle.std.proofs.Common.{◌≡◌, ℕ, ◌+◌, ◌-◌, ◌^◌, ◌<◌, ◌≤◌, List, length, refl, sym, ap, subst, ◌∙◌, arith}
+use Rattle.std.proofs.Common.{◌≡◌, ℕ, ◌<◌, ◌≤◌, List, sym, ap, subst, ◌∙◌, arith}
 use Rattle.std.specs.Prelude.{All, slice_range}
 use Rattle.jx_lex.specs.declared.mark.Mark.{Mark}
 use Rattle.jx_lex.specs.declared.state.LexState.TheVariants as state
@@ -12,7 +12,7 @@ use Rattle.jx_run.specs.Tree.{Tree}
 use Rattle.jx_run.specs.Verdict.{Judged, a_text, cut_short, too_deep, stopped}
 use Rattle.jx_index.specs.Building.{built_of}
 use Rattle.jx_index.proofs.Builds.{IsBuilt, built_is}
-use Rattle.jx_index.proofs.Within.{marks_within, part_end}
+use Rattle.jx_index.proofs.Within.{marks_within}
 
 pub record HasTree (start : ℕ) (bytes : List ℕ) (limit : ℕ) : Type 0 where
   pub tree : Tree

@@ -1,11 +1,11 @@
 -- The rows of a text stand in rising order of their starts.
-use Rattle.std.proofs.Common.{◌≡◌, ℕ, zero, suc, ◌+◌, ◌<◌, ◌≤◌, List, [], ◌∷◌, ◌++◌, length, map, Option, None, Some, refl, ap, subst, arith, get_or}
+use Rattle.std.proofs.Common.{◌≡◌, ℕ, zero, suc, ◌+◌, ◌<◌, ◌≤◌, List, [], ◌∷◌, ◌++◌, length, map, Option, None, Some, ap, subst, arith, get_or}
 use Rattle.std.specs.List.Sorted.{IsStrictlyIncreasing}
 use Rattle.jx_lex.specs.declared.span.Span.{Span}
 use Rattle.jx_lex.proofs.Inside.{token_reads}
 use Rattle.jx_run.specs.Grammar.{Blanks, no_blanks, blank, Scalar, Value, leaf, empty_array, array, empty_object, object, Items, last_item, item, Members, last_member, member}
 use Rattle.jx_run.specs.Text.{Document, document}
-use Rattle.jx_run.specs.Tree.{Tree, node, Children, no_children, child}
+use Rattle.jx_run.specs.Tree.{Tree, Children}
 use Rattle.jx_index.specs.declared.row.Row.{Row}
 use Rattle.jx_index.specs.Rows.{size, rows_from, rows_below, rows}
 

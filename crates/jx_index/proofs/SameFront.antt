@@ -1,14 +1,11 @@
 -- Equal bytes that stand for one unit each may be passed over in both strings.
-use Rattle.std.proofs.Common.{◌≡◌, ◌≢◌, ℕ, suc, ◌+◌, ◌<◌, ◌≤◌, List, [], ◌∷◌, ◌++◌, length, drop, true, false, cond, refl, sym, ap, ap₂, ◌∙◌, arith, get_or, drop-cons}
+use Rattle.std.proofs.Common.{◌≡◌, ◌≢◌, ℕ, suc, ◌+◌, ◌<◌, List, ◌∷◌, length, drop, true, false, refl, sym, ap, ap₂, ◌∙◌, arith, get_or, drop-cons}
 use Rattle.std.specs.Prelude.{nat_lt, ◌==◌}
 use Rattle.std.proofs.lemmas.Bool.Decides.{nat_tests}
-use Rattle.std.specs.declared.cmp.Ordering.{Ordering}
-use Rattle.std.specs.declared.cmp.Ordering.TheVariants.{Less, Equal, Greater}
 use Rattle.std.specs.Ordering.{nat_cmp}
-use Rattle.std.specs.Char.Escape.{encode_utf16}
 use Rattle.std.specs.Cmp.Lexicographic.{slice_cmp}
 use Rattle.jx_index.specs.declared.units.Spelling.TheVariants.{InText}
-use Rattle.jx_index.specs.Units.{part_units, part_more, parts_units}
+use Rattle.jx_index.specs.Units.{parts_units}
 
 -- an ASCII byte that begins no escape
 plain_unit : (b : ℕ) (bytes : List ℕ) → b < 0x80 → b ≢ 0x5c → parts_units InText 0 (b ∷ bytes) ≡ b ∷ parts_units InText 0 bytes

@@ -1,11 +1,11 @@
 -- The tokens that are read off a pointer are those of its form.
-use Rattle.std.proofs.Common.{◌≡◌, ◌≢◌, ℕ, zero, suc, ◌+◌, ◌-◌, ◌*◌, ◌<◌, ◌≤◌, List, [], ◌∷◌, ◌++◌, length, drop, map, Bool, true, false, cond, append_assoc, refl, sym, ap, ◌∙◌, arith, inl, inr, ◌⊎◌}
-use Rattle.std.specs.Prelude.{nat_lt, ◌==◌, slice_index}
+use Rattle.std.proofs.Common.{◌≡◌, ◌≢◌, ℕ, ◌+◌, ◌-◌, ◌*◌, ◌≤◌, List, [], ◌∷◌, ◌++◌, length, drop, map, true, false, cond, refl, sym, ap, ◌∙◌, arith}
+use Rattle.std.specs.Prelude.{nat_lt, ◌==◌}
 use Rattle.std.proofs.lemmas.Bool.Decides.{nat_tests}
 use Rattle.std.specs.Char.Escape.{encode_utf16}
-use Rattle.jx_lex.specs.Character.{IsWithin, IsTail, Utf8, one, two, three_e0, three_low, three_ed, three_high, four_f0, four_mid, four_f4, tail_bits, two_tails, three_tails}
+use Rattle.jx_lex.specs.Character.{IsTail, Utf8, one, two, three_e0, three_low, three_ed, three_high, four_f0, four_mid, four_f4, tail_bits, two_tails, three_tails}
 use Rattle.jx_index.specs.declared.units.Spelling.TheVariants.{InToken}
-use Rattle.jx_index.specs.Units.{char_at, tails_of, escaped_byte, part_units, part_more, parts_units}
+use Rattle.jx_index.specs.Units.{part_units, part_more, parts_units}
 use Rattle.jx_index.specs.Pointers.{NoSlash, onto_first, parted, tokens}
 use Rattle.jx_index.specs.PointerForm.{IsTokenPart, plain, tilde, slash, IsToken, no_part, one_part, IsPointerOf, root, below}
 use Rattle.jx_index.proofs.UnitLaws.{passed}

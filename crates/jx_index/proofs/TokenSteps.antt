@@ -1,5 +1,5 @@
 -- One token of a pointer, and then the others.
-use Rattle.std.proofs.Common.{◌≡◌, ◌≢◌, ℕ, zero, suc, ◌+◌, ◌<◌, ◌≤◌, List, [], ◌∷◌, ◌++◌, length, take, drop, map, refl, sym, ap, subst, ◌∙◌, arith, get_or}
+use Rattle.std.proofs.Common.{◌≡◌, ◌≢◌, ℕ, zero, suc, ◌+◌, ◌<◌, ◌≤◌, List, [], ◌∷◌, length, take, drop, map, refl, sym, ap, subst, ◌∙◌, arith, get_or}
 use Rattle.std.proofs.lemmas.List.{take-append-drop}
 use Rattle.jx_index.specs.declared.units.Spelling.TheVariants.{InToken}
 use Rattle.jx_index.specs.Pointers.{HasSlash, NoSlash, parted, tokens}

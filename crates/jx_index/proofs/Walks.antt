@@ -1,11 +1,11 @@
 -- A node's row stands at its number, and its children stand below it.
-use Rattle.std.proofs.Common.{◌≡◌, ℕ, suc, ◌+◌, List, [], ◌∷◌, ◌++◌, length, None, Some, append_assoc, refl, sym, ap, ◌∙◌, arith, get_or}
+use Rattle.std.proofs.Common.{◌≡◌, ℕ, suc, ◌+◌, List, [], ◌∷◌, ◌++◌, length, Some, append_assoc, refl, sym, ap, ◌∙◌, arith, get_or}
 use Rattle.std.proofs.Math.Seq.{get_or-append_seam}
 use Rattle.std.proofs.lemmas.List.{length-append}
 use Rattle.jx_run.specs.Tree.{Tree, node, Children}
 use Rattle.jx_index.specs.declared.row.Row.{Row}
 use Rattle.jx_index.specs.Rows.{size, rows_from, rows_below, rows}
-use Rattle.jx_index.specs.Standing.{Standing, standing, row_of, Stands, itself, inside, StandsBelow, in_first, in_later, root_standing}
+use Rattle.jx_index.specs.Standing.{Standing, row_of, Stands, itself, inside, StandsBelow, in_first, in_later, root_standing}
 use Rattle.jx_index.specs.Leads.{children_of}
 use Rattle.jx_index.specs.Afters.{afters_from, afters_below, afters}
 use Rattle.jx_index.proofs.Builds.{size-length, afters-length}

@@ -1,5 +1,5 @@
 -- The members of an object in the order of their names.
-use Rattle.std.specs.Prelude.{ℕ, ◌+◌, ◌≤◌, List, [], length, slice_index, slice_range, Option, None, Some, Bool, false}
+use Rattle.std.specs.Prelude.{ℕ, List, [], Option, None, Some, Bool, false}
 use Rattle.std.specs.List.Sorted.{IsPermutation, IsSortedBy, IsStableBy}
 use Rattle.std.specs.Ordering.{nat_cmp, is_lt, is_eq}
 use Rattle.std.specs.Cmp.Lexicographic.{slice_cmp}

@@ -1,4 +1,4 @@
-ghost use Rattle.std.specs.Prelude.{◌≡◌, ◌<◌, ◌-◌, ◌^◌, ℕ, reverse, slice_set, IfOk, All};
+ghost use Rattle.std.specs.Prelude.{◌≡◌, ◌<◌, ◌-◌, ◌^◌, reverse, slice_set, IfOk, All};
 ghost use Rattle.jx_lex.specs.declared.mark.Mark.{Mark};
 ghost use Rattle.jx_index.specs.Building.{place_in, parent_in, counted, set_end, nothing_built, add_leaf, begin_container, ended, is_name_next, on_mark, is_token, next_end, ends_after, built_of};
 ghost use Rattle.jx_index.specs.Built.{built, Fits};

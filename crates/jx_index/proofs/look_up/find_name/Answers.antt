@@ -1,5 +1,4 @@
-use Rattle.std.proofs.Common.{◌≡◌, ℕ, suc, ◌+◌, List, ◌∷◌, drop, true, false, sym, ap, subst, ◌∙◌, rules, arith, get_or, Result, Ok}
-use Rattle.std.specs.Prelude.{filter}
+use Rattle.std.proofs.Common.{◌≡◌, ℕ, suc, ◌+◌, List, true, false, sym, ap, subst, ◌∙◌, rules, arith, Result, Ok}
 use Rattle.std.proofs.Math.Dec.{ltb}
 use Rattle.std.proofs.lemmas.List.{get_or_default}
 use Rattle.std.proofs.lemmas.List.Sorted.{searchable_from_sorted, IsPartitionPoint-from_clause, IsPartitionedBy-ltb}

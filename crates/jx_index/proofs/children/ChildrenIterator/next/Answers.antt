@@ -1,7 +1,7 @@
-use Rattle.std.proofs.Common.{◌≡◌, ℕ, ◌<◌, ◌∷◌, length, sym, ap, ◌∙◌, rules, arith}
+use Rattle.std.proofs.Common.{◌≡◌, ◌<◌, ◌∷◌, length, sym, ap, ◌∙◌, rules, arith}
 use Rattle.std.specs.Prelude.{slice_index}
 use Rattle.jx_index.specs.Walk.{walk_to}
-use Rattle.jx_index.proofs.WalkLaws.{walk_none, walk_step}
+use Rattle.jx_index.proofs.WalkLaws.{walk_step}
 use Rattle.jx_index.proofs.children.ChildrenIterator.next.Goals as goal
 
 pub returns-clause-steps : goal.returns-clause-steps

@@ -1,4 +1,4 @@
-use Rattle.std.proofs.Common.{◌≡◌, ◌+◌, ◌-◌, ◌^◌, ◌≤◌, List, length, sym, ap, subst, ◌∙◌, arith}
+use Rattle.std.proofs.Common.{◌+◌, ◌-◌, ◌^◌, List, length, sym, ap, subst, ◌∙◌, arith}
 use Rattle.jx_lex.specs.declared.span.Span.{Span}
 use Rattle.jx_run.specs.Text.{IsText}
 use Rattle.jx_index.specs.NameParts.{HaveParts}

@@ -1,10 +1,8 @@
-use Rattle.std.proofs.Common.{◌≡◌, ◌≤◌, List, length, sym, ap, ◌∙◌, arith, Option}
+use Rattle.std.proofs.Common.{◌≡◌, List, length, sym, ap, ◌∙◌, arith, Option}
 use Rattle.std.specs.Prelude.{slice_get, ok_or}
 use Prim.Native.Nat.{ℕ}
 use Rattle.jx_index.specs.declared.array_token.Place.{Place}
-use Rattle.jx_index.specs.declared.array_token.Place.TheVariants as place
 use Rattle.jx_index.specs.declared.find_fault.FindFault.TheVariants.{PastEnd}
-use Rattle.jx_index.specs.ArrayTokens.{place_in}
 use Rattle.jx_index.specs.Leads.{at_place}
 use Rattle.jx_index.specs.Nodes.{child_numbers}
 use Rattle.jx_index.specs.UnitsLeft.{units_left}

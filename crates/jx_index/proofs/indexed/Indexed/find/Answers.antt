@@ -1,12 +1,10 @@
 use Rattle.std.proofs.Common.{◌≡◌, ◌<◌, ◌≤◌, length, drop, refl, sym, ap, subst, ◌∙◌, arith}
-use Rattle.std.specs.Prelude.{slice_index}
 use Rattle.std.proofs.lemmas.Bool.Decides.{nat_tests}
 use Rattle.std.proofs.lemmas.List.{length-drop}
 use Rattle.std.proofs.lemmas.Result.{err_from_is_err_and}
 use Rattle.jx_index.specs.Pointers.{HasSlash, tokens}
 use Rattle.jx_index.specs.RowsLead.{rows_lead}
 use Rattle.jx_index.specs.UnitsLeft.{units_left}
-use Rattle.jx_index.proofs.Bridge.{kind_is}
 use Rattle.jx_index.proofs.FindSteps.{step_on, step_off, no_token, leads_to_row}
 use Rattle.jx_index.proofs.Indexes.{tree_leads}
 use Rattle.jx_index.proofs.indexed.Indexed.find.Goals as goal

@@ -1,6 +1,5 @@
-use Rattle.std.proofs.Common.{◌≡◌, ◌+◌, List, [], ◌∷◌, ◌++◌, length, sym, ap, subst, ◌∙◌, arith}
-use Rattle.std.proofs.lemmas.List.{length-append}
-use Rattle.jx_index.proofs.PartSteps.{parts_more, start_more, HasStarts, has_more}
+use Rattle.std.proofs.Common.{◌≡◌, length, arith}
+use Rattle.jx_index.proofs.PartSteps.{has_more}
 use Rattle.jx_index.proofs.names.Names.of.Goals as goal
 
 pub loop-node-preserved : goal.loop-node-preserved
