@@ -1,6 +1,7 @@
 pub mod Building
 pub mod Bundles
 pub mod ByteFacts
+pub mod ByteTable
 pub mod Cases
 pub mod CellTable
 pub mod ClassTable

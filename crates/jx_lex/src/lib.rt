@@ -7,6 +7,7 @@ mod cell;
 mod cells;
 mod chunk_map;
 mod class;
+mod classes;
 mod depth;
 mod ends;
 mod exit;
