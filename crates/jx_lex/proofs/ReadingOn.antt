@@ -23,7 +23,7 @@ use Rattle.jx_lex.proofs.LexJoin.{joined, lex-append}
 use Rattle.jx_lex.proofs.Joined.{length-linked, AreIn-linked}
 use Rattle.jx_lex.proofs.Meeting.{same_ordinal, follow-met, head-meeting, IsIn-meeting}
 use Rattle.jx_lex.proofs.Reading.{one, follow-read, AreIn-read}
-use Rattle.jx_lex.proofs.Passing.{keep-part, pass-over}
+use Rattle.jx_lex.proofs.Passing.{keep-part, pass-over, kept-leads}
 use Rattle.jx_lex.proofs.Slices.{slice-none, slice-length, slice-split, slice-more}
 use Rattle.jx_lex.proofs.Bundles.{shared-join, after-join, Reads-joined}
 use Rattle.jx_lex.proofs.Building.{AreClosed-bundle}
@@ -229,7 +229,7 @@ reads-middle at (b ∷ w) xs ys p hx hy =
 
 -- what a stretch does not change it may be passed over for
 pub kept-bytes : (at : ℕ) (w : List ℕ) (p : Part) → KeptBy p.next w → read_bytes at w p ≡ p
-kept-bytes at w p h = ap (λ v. read_bytes at v p) (sym (append-nil w)) ∙ pass-over at w [] p p.next refl h
+kept-bytes at w p h = ap (λ v. read_bytes at v p) (sym (append-nil w)) ∙ pass-over at w [] p p.next refl (kept-leads p.next w h)
 
 pub kept-closed : (w : List ℕ) (g : Link) → IsClosed g → KeptBy g w
 kept-closed w (Ahead k) h = tt

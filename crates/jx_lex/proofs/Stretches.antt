@@ -10,13 +10,13 @@ use Rattle.jx_lex.specs.Moves.{move}
 use Rattle.jx_lex.specs.Lex.{with_mark, with_end}
 use Rattle.jx_lex.specs.Follow.{Part}
 use Rattle.jx_lex.specs.Step.{read_part, read_from, link_of, opening}
-use Rattle.jx_lex.specs.Passing.{KeptBy, read_bytes}
+use Rattle.jx_lex.specs.Passing.{LedBy, read_bytes}
 use Rattle.jx_lex.proofs.Passing.{pass-over}
 use Rattle.jx_lex.proofs.Slices.{slice-none, slice-first, slice-split, slice-length}
 
 -- a byte, and then a stretch that changes nothing
 pub stretch : (xs : List ℕ) (i j to : ℕ) (p q : Part) → i < to → to ≤ length xs → i + 1 ≤ j → j ≤ to
-    → q ≡ read_part i (get_or xs i 0) p → KeptBy q.next (slice_range xs (i + 1) j)
+    → q ≡ read_part i (get_or xs i 0) p → LedBy q.next (slice_range xs (i + 1) j)
     → read_bytes j (slice_range xs j to) q ≡ read_bytes i (slice_range xs i to) p
 stretch xs i j to p q low high from below e k =
     let n : suc i ≡ i + 1 = omega arith in
@@ -38,7 +38,7 @@ taken i b s m ms more es ends next e f g h =
     ∙ ap (λ (n : Step). record { marks = ms ++ with_mark n.begin i []; ends = es ++ with_end n.end i []; next = link_of i n.next }) e
 
 -- a byte after which nothing changes any more
-pub stretch-ends : (xs : List ℕ) (i to : ℕ) (p q : Part) → i < to → to ≤ length xs → q ≡ read_part i (get_or xs i 0) p → KeptBy q.next (slice_range xs (i + 1) to)
+pub stretch-ends : (xs : List ℕ) (i to : ℕ) (p q : Part) → i < to → to ≤ length xs → q ≡ read_part i (get_or xs i 0) p → LedBy q.next (slice_range xs (i + 1) to)
     → q ≡ read_bytes i (slice_range xs i to) p
 stretch-ends xs i to p q low high e k =
     ap (λ ys. read_bytes to ys q) (sym (slice-none xs to)) ∙ stretch xs i to to p q low high (omega arith) (omega arith) e k
@@ -76,7 +76,7 @@ read-after at w p ms es g s stands e =
 pub closed-span : (at : ℕ) (w : List ℕ) (p : Part) → ((s : LexState) → p.next ≡ State s → ⊥) → p ≡ read_bytes at w p
 closed-span at w p h = sym (ap (λ v. read_bytes at v p) (sym (append-nil w)) ∙ pass-over at w [] p p.next refl (go p.next h))
   where
-    go : (g : Link) → ((s : LexState) → g ≡ State s → ⊥) → KeptBy g w
+    go : (g : Link) → ((s : LexState) → g ≡ State s → ⊥) → LedBy g w
     go (State s) h = absurd (h s refl)
     go (Ahead k) h = tt
     go (Fault at) h = tt

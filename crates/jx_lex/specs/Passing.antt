@@ -4,7 +4,7 @@ use Rattle.jx_lex.specs.declared.link.Link.{Link}
 use Rattle.jx_lex.specs.declared.link.Link.TheVariants.{Ahead, State, Fault}
 use Rattle.jx_lex.specs.Follow.{Part}
 use Rattle.jx_lex.specs.Step.{read_part}
-use Rattle.jx_lex.specs.Runs.{AllKeep}
+use Rattle.jx_lex.specs.Runs.{AllKeep, Leads}
 
 -- a segment after these bytes
 abbrev pub read_bytes : ℕ → List ℕ → Part → Part
@@ -16,3 +16,9 @@ abbrev pub KeptBy : Link → List ℕ → Type 0
 KeptBy (State s) bytes = AllKeep s bytes
 KeptBy (Ahead k) bytes = Unit {0}
 KeptBy (Fault at) bytes = Unit {0}
+
+-- these bytes lead back to where it stands, with no event
+abbrev pub LedBy : Link → List ℕ → Type 0
+LedBy (State s) bytes = Leads s bytes s
+LedBy (Ahead k) bytes = Unit {0}
+LedBy (Fault at) bytes = Unit {0}

@@ -1,34 +1,50 @@
 // Reading a stretch of text for one segment, with bytes that change nothing passed over.
 ghost use Rattle.std.specs.Prelude.{◌≡◌, ◌≤◌, ◌<◌, ◌+◌, ◌++◌, ◌^◌, [], length, OnOk, IfOk, slice_range};
 ghost use Rattle.jx_lex.specs.declared.link.Link.{Link};
+ghost use Rattle.jx_lex.specs.declared.state.LexState.TheVariants as state;
+ghost use Rattle.jx_lex.specs.Runs.{AllKeep, Leads};
 ghost use Rattle.jx_lex.specs.declared.link.Link.TheVariants.{State};
 ghost use Rattle.jx_lex.specs.Cells.{step_of};
 ghost use Rattle.jx_lex.specs.Lex.{with_mark, with_end};
-ghost use Rattle.jx_lex.specs.Passing.{KeptBy, read_bytes};
+ghost use Rattle.jx_lex.specs.Passing.{read_bytes};
 
 use crate::cell::Cell;
 use crate::link::Link;
 use crate::machine::cell_at;
 use crate::mark::Mark;
-use crate::passes::{blank_end, digit_end, plain_end};
+use crate::parts::string_end;
+use crate::passes::{blank_end, digit_end};
 use crate::segment::Segment;
 use crate::state::LexState;
 use std::alloc::{AllocError, Global};
 
-// The end of the bytes that change nothing for a track that goes on so after this byte. Between tokens blanks mostly
-// stand alone, but for those after a line feed.
+// The end of the blanks that follow. They mostly stand alone, but for those after a line feed.
 #[inline(always)]
-fn run_end(text: &[u8], next: Link, byte: u8, from: usize, to: usize) -> usize
+fn gap_end(text: &[u8], byte: u8, from: usize, to: usize) -> usize
     requires { (from ≤ to) × (to ≤ length text.now) }
     ensures bounds { (from ≤ result) × (result ≤ to) }
-    ensures kept { KeptBy next (slice_range text.now from result) }
+    ensures kept { AllKeep state.Gap (slice_range text.now from result) }
 {
-    match next {
-        Link::State(LexState::Str) => plain_end(text, from, to),
-        Link::State(LexState::Int | LexState::Frac) => digit_end(text, from, to),
-        Link::State(LexState::Gap) if byte == b'\n' => blank_end(text, from, to),
-        Link::State(_) => from,
-        _ => to,
+    if byte == b'\n' || (from < to && text[from] == b' ') {
+        blank_end(text, from, to)
+    } else {
+        from
+    }
+}
+
+// The end of the bytes that lead from this state, to which this byte led, back to it with no event.
+#[inline(always)]
+fn run_end(text: &[u8], state: LexState, byte: u8, from: usize, to: usize) -> usize
+    requires { (from ≤ to) × (to ≤ length text.now) }
+    ensures bounds { (from ≤ result) × (result ≤ to) }
+    ensures led { Leads state (slice_range text.now from result) state }
+{
+    match state {
+        LexState::Str => string_end(text, from, to),
+        LexState::Int => digit_end(text, from, to),
+        LexState::Frac => digit_end(text, from, to),
+        LexState::Gap => gap_end(text, byte, from, to),
+        _ => from,
     }
 }
 
@@ -93,7 +109,7 @@ fn read_stretch(
             return Ok(Link::Fault(i));
         };
         state = next;
-        i = run_end(text, Link::State(state), byte, i + 1, to);
+        i = run_end(text, state, byte, i + 1, to);
     }
     Ok(Link::State(state))
 }

@@ -19,7 +19,7 @@ loop-i-preserved c =
     record {
       low = omega (arith, b, low);
       high = b.1;
-      same = stretch xs i c.run_end-i.result c.args.to p q c.loop-i-test.true c.requires.1 b.0 b.1 read c.run_end-i.ensures.kept ∙ v.same;
+      same = stretch xs i c.run_end-i.result c.args.to p q c.loop-i-test.true c.requires.1 b.0 b.1 read c.run_end-i.ensures.led ∙ v.same;
     }
 
 pub returns-in_default : goal.returns-in_default
