@@ -80,3 +80,6 @@ closed-span at w p h = sym (ap (λ v. read_bytes at v p) (sym (append-nil w)) �
     go (State s) h = absurd (h s refl)
     go (Ahead k) h = tt
     go (Fault at) h = tt
+
+pub closed-byte : (at b : ℕ) (p : Part) → ((s : LexState) → p.next ≡ State s → ⊥) → p ≡ read_part at b p
+closed-byte at b p h = closed-span at (b ∷ []) p h

@@ -7,6 +7,7 @@ ghost use Rattle.jx_lex.specs.declared.link.Link.TheVariants.{State};
 ghost use Rattle.jx_lex.specs.Cells.{step_of};
 ghost use Rattle.jx_lex.specs.Lex.{with_mark, with_end};
 ghost use Rattle.jx_lex.specs.Passing.{read_bytes};
+ghost use Rattle.jx_lex.specs.Step.{read_part};
 
 use crate::cell::Cell;
 use crate::link::Link;
@@ -17,6 +18,9 @@ use crate::passes::{blank_end, digit_end};
 use crate::segment::Segment;
 use crate::state::LexState;
 use std::alloc::{AllocError, Global};
+
+// A stretch that is shorter has no room reserved.
+const BLOCK: usize = 64;
 
 // The end of the blanks that follow. They mostly stand alone, but for those after a line feed.
 #[inline(always)]
@@ -115,6 +119,19 @@ fn read_stretch(
 }
 
 impl Segment {
+    /// Takes in one more byte, where this is the end of a track.
+    pub(crate) fn read(&mut self, at: usize, byte: u8) -> Result<(), AllocError>
+        requires { at + 1 < 2 ^ 64 }
+        ensures { OnOk result (self.new ≡ read_part at byte self.old) }
+    {
+        let Link::State(state) = self.next else {
+            return Ok(());
+        };
+        let next = take_in(&mut self.marks, &mut self.ends, cell_at(state, byte), at)?;
+        self.next = Link::after(next, at);
+        Ok(())
+    }
+
     /// Takes in a stretch of text, where this is the end of a track.
     pub(crate) fn read_span(
         &mut self,
@@ -125,14 +142,21 @@ impl Segment {
         requires { (from ≤ to) × (to ≤ length text.now) }
         ensures { OnOk result (self.new ≡ read_bytes from (slice_range text.now from to) self.old) }
     {
-        let Link::State(state) = self.next() else {
+        let Link::State(state) = self.next else {
             return Ok(());
         };
-        let alloc = self.allocator();
-        let mut marks = Vec::new(alloc);
-        let mut ends = Vec::new(alloc);
-        let exit = read_stretch(&mut marks, &mut ends, state, text, from, to)?;
-        self.extend(marks, ends, exit)?;
+        let blocks = (to - from) / BLOCK;
+        self.marks.reserve(blocks * BLOCK / 4)?;
+        self.ends.reserve(blocks * BLOCK / 8)?;
+        self.next = read_stretch(&mut self.marks, &mut self.ends, state, text, from, to)?;
         Ok(())
+    }
+
+    /// Gives back the memory that was reserved and not used.
+    pub(crate) fn shrink(&mut self)
+        ensures { self.new ≡ self.old }
+    {
+        self.marks.shrink_to(0);
+        self.ends.shrink_to(0);
     }
 }

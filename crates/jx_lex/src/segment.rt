@@ -3,22 +3,19 @@ ghost use Rattle.std.specs.Prelude.{◌≡◌, ◌≤◌, ◌<◌, ◌+◌, ◌+
 ghost use Rattle.jx_lex.specs.Closed.{ClosedTo};
 ghost use Rattle.jx_lex.specs.declared.state.LexState.{LexState};
 ghost use Rattle.jx_lex.specs.Follow.{IsIn, head, linked, linked_parts};
-ghost use Rattle.jx_lex.specs.Step.{read_part};
 
 use crate::link::Link;
-use crate::machine::step;
 use crate::mark::Mark;
-use crate::state::{LexState, TokenEnd};
-use smallvec::SmallVec;
+use crate::state::LexState;
 use std::alloc::{AllocError, Global};
 use std::marker::Model;
 
 /// Marks and ends that stand one after another in each track that comes here.
 #[derive(Drop)]
 pub struct Segment {
-    marks: SmallVec<Mark, 4>,
-    ends: SmallVec<usize, 4>,
-    next: Link,
+    pub(crate) marks: Vec<Mark>,
+    pub(crate) ends: Vec<usize>,
+    pub(crate) next: Link,
 }
 
 impl Model for Segment {
@@ -34,8 +31,8 @@ impl Segment {
         ensures { result ≡ record { marks = []; ends = []; next = next } }
     {
         Segment {
-            marks: SmallVec::new(alloc),
-            ends: SmallVec::new(alloc),
+            marks: Vec::new(alloc),
+            ends: Vec::new(alloc),
             next,
         }
     }
@@ -56,54 +53,6 @@ impl Segment {
         ensures { result ≡ self.now.next }
     {
         self.next
-    }
-
-    /// Takes in one more byte, where this is the end of a track.
-    pub(crate) fn read(&mut self, at: usize, byte: u8) -> Result<(), AllocError>
-        requires { at + 1 < 2 ^ 64 }
-        ensures { OnOk result (self.new ≡ read_part at byte self.old) }
-    {
-        let Link::State(state) = self.next else {
-            return Ok(());
-        };
-        let step = step(state, byte);
-        match step.end {
-            Some(TokenEnd::Before) => self.ends.push(at)?,
-            Some(TokenEnd::After) => self.ends.push(at + 1)?,
-            None => {}
-        }
-        if let Some(kind) = step.begin {
-            self.marks.push(Mark { kind, at })?;
-        }
-        self.next = Link::after(step.next, at);
-        Ok(())
-    }
-
-    pub(crate) fn allocator(&self) -> Global {
-        *self.marks.allocator()
-    }
-
-    /// Puts marks and ends behind its own, and lets it lead elsewhere.
-    pub(crate) fn extend(
-        &mut self,
-        marks: Vec<Mark>,
-        ends: Vec<usize>,
-        next: Link,
-    ) -> Result<(), AllocError>
-        ensures { OnOk result (self.new ≡ record { marks = self.old.marks ++ marks.items; ends = self.old.ends ++ ends.items; next = next }) }
-    {
-        if self.marks.is_empty() {
-            self.marks = SmallVec::from_vec(marks);
-        } else {
-            self.marks.extend_from_slice(&marks)?;
-        }
-        if self.ends.is_empty() {
-            self.ends = SmallVec::from_vec(ends);
-        } else {
-            self.ends.extend_from_slice(&ends)?;
-        }
-        self.next = next;
-        Ok(())
     }
 
     pub(crate) fn set_next(&mut self, next: Link)
