@@ -5,7 +5,7 @@ mod reading;
 mod task;
 
 use anyhow::{Context, Result};
-use reading::{PIECE, marks_by_map, marks_by_step};
+use reading::{PIECE, marks_by_map, marks_by_step, reading_of, rows_of, runs_of_pieces};
 use std::alloc::Global;
 use std::time::{Duration, Instant};
 use std::{env, fs};
@@ -14,27 +14,54 @@ use task::Task;
 /// How often the text is read: the least time counts.
 const ROUNDS: usize = 5;
 
-const USAGE: &str = "usage: jx_bench steps|maps FILE";
+const USAGE: &str = "usage: jx_bench steps|maps|runs|rows FILE";
 
-fn marks(alloc: Global, task: Task, text: &[u8]) -> Result<u64> {
-    match task {
-        Task::Steps => Ok(marks_by_step(text)),
-        Task::Maps => Ok(marks_by_map(alloc, text)?),
-    }
+/// What one round took, and how many marks, runs or rows it found.
+#[derive(Clone, Copy)]
+struct Round {
+    time: Duration,
+    found: u64,
+}
+
+fn timed(rt: &HostRuntime, task: Task, text: &[u8]) -> Result<Round> {
+    let alloc: Global = rt.alloc();
+    let start = Instant::now(rt)?;
+    let found = match task {
+        Task::Steps => marks_by_step(text),
+        Task::Maps => marks_by_map(alloc, text)?,
+        Task::Runs => runs_of_pieces(alloc, text)?,
+        Task::Rows => return timed_rows(rt, text),
+    };
+    Ok(Round {
+        time: start.elapsed(rt)?,
+        found,
+    })
+}
+
+// The rows alone: the marks are read before the clock starts.
+fn timed_rows(rt: &HostRuntime, text: &[u8]) -> Result<Round> {
+    let started = reading_of(rt.alloc(), text)?;
+    let start = Instant::now(rt)?;
+    let found = rows_of(rt.alloc(), text, &started)?;
+    Ok(Round {
+        time: start.elapsed(rt)?,
+        found,
+    })
 }
 
 fn measure(rt: &HostRuntime, task: Task, path: &str) -> Result<()> {
     let text = fs::read(rt, path).context("cannot read the file")?;
-    let mut least = Duration::MAX;
-    let mut found = 0;
-    for _ in 0..ROUNDS {
-        let start = Instant::now(rt)?;
-        found = marks(rt.alloc(), task, &text)?;
-        least = least.min(start.elapsed(rt)?);
+    let mut least = timed(rt, task, &text)?;
+    for _ in 1..ROUNDS {
+        let round = timed(rt, task, &text)?;
+        if round.time < least.time {
+            least = round;
+        }
     }
-    let speed = text.len() as u128 * 1000 / least.as_nanos().max(1);
+    let speed = text.len() as u128 * 1000 / least.time.as_nanos().max(1);
+    let found = least.found;
     println!(rt;
-        "{task:?}: {speed} MB/s, {found} marks, pieces of {PIECE} bytes, least time of {ROUNDS}"
+        "{task:?}: {speed} MB/s, found {found}, pieces of {PIECE} bytes, least time of {ROUNDS}"
     )?;
     Ok(())
 }

@@ -1,5 +1,11 @@
-// The readings that are measured.
-use jx_lex::{ChunkMap, LexState, step};
+// What is measured, for one text.
+ghost use Rattle.std.specs.Prelude.{◌≡◌, IfOk, slice_range, length};
+ghost use Rattle.jx_run.specs.Started.{IsStarted};
+ghost use Rattle.jx_run.specs.Tree.{span};
+
+use jx_index::Indexed;
+use jx_lex::{ChunkMap, Depth, LexState, step};
+use jx_run::{Started, Summary, TextRun, Verdict};
 use std::alloc::{AllocError, Global};
 
 /// The bytes of a piece, as `jx` cuts a text where it is told nothing else.
@@ -32,4 +38,39 @@ pub fn marks_by_map(alloc: Global, text: &[u8]) -> Result<u64, AllocError> {
         }
     }
     Ok(marks)
+}
+
+/// Makes the run of each piece of the text, and counts those that aren't refused as the beginning of a text.
+pub fn runs_of_pieces(alloc: Global, text: &[u8]) -> Result<u64, AllocError> {
+    let mut runs = 0u64;
+    for piece in text.chunks(PIECE) {
+        let run = TextRun::of(alloc, piece, 0, piece.len(), Depth::default())?;
+        if run.verdict() == Verdict::Accepted {
+            runs = runs.wrapping_add(1);
+        }
+    }
+    Ok(runs)
+}
+
+/// The reading of the whole text as one run.
+pub fn reading_of(alloc: Global, text: &[u8]) -> Result<Started, AllocError>
+    ensures place { IfOk result (λ s. s.place ≡ span 0 (length text.now)) }
+    ensures reading { IfOk result (λ s. IsStarted (slice_range text.now 0 (length text.now)) s) }
+{
+    let run = TextRun::of(alloc, text, 0, text.len(), Depth::default())?;
+    run.started()
+}
+
+/// How many rows the text has; none where it is refused.
+pub fn rows_of(alloc: Global, text: &[u8], started: &Started) -> Result<u64, AllocError>
+    requires place { started.now.place ≡ span 0 (length text.now) }
+    requires reading { IsStarted (slice_range text.now 0 (length text.now)) started.now }
+{
+    match started.verdict() {
+        Verdict::Refused(_) => Ok(0),
+        Verdict::Accepted => {
+            let index = Indexed::build(alloc, text, started)?;
+            Ok(index.rows().len() as u64)
+        }
+    }
 }

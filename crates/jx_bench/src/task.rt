@@ -1,5 +1,5 @@
 ghost use Rattle.std.specs.Prelude.{◌≡◌, ◌↔◌, Some, codes};
-ghost use Rattle.jx_bench.specs.declared.task.Task.TheVariants.{Steps, Maps};
+ghost use Rattle.jx_bench.specs.declared.task.Task.TheVariants.{Steps, Maps, Runs, Rows};
 
 /// What is measured.
 #[derive(Clone, Copy, Debug)]
@@ -8,6 +8,10 @@ pub enum Task {
     Steps,
     /// Chunk maps of pieces one after another, with their marks and ends.
     Maps,
+    /// Text runs of pieces one after another: their maps, and what the marks come to.
+    Runs,
+    /// The rows of a text, from the marks of its reading.
+    Rows,
 }
 
 impl Task {
@@ -15,10 +19,14 @@ impl Task {
     pub fn of(name: &str) -> Option<Task>
         ensures steps { (result ≡ Some Steps) ↔ (name.now ≡ codes "steps") }
         ensures maps { (result ≡ Some Maps) ↔ (name.now ≡ codes "maps") }
+        ensures runs { (result ≡ Some Runs) ↔ (name.now ≡ codes "runs") }
+        ensures rows { (result ≡ Some Rows) ↔ (name.now ≡ codes "rows") }
     {
         match name {
             "steps" => Some(Task::Steps),
             "maps" => Some(Task::Maps),
+            "runs" => Some(Task::Runs),
+            "rows" => Some(Task::Rows),
             _ => None,
         }
     }
