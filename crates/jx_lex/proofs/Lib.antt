@@ -9,6 +9,7 @@ pub mod Closing
 pub mod Completes
 pub mod Counting
 pub mod Forward
+pub mod Going
 pub mod Inside
 pub mod Joined
 pub mod Lanes

@@ -27,6 +27,27 @@ stretch xs i j to p q low high from below e k =
     ∙ pass-over (suc i) (slice_range xs (i + 1) j) (slice_range xs j to) q q.next refl k
     ∙ ap (λ n. read_bytes n (slice_range xs j to) q) m)
 
+pub read-append : (at : ℕ) (u v : List ℕ) (p : Part) → read_bytes at (u ++ v) p ≡ read_bytes (at + length u) v (read_bytes at u p)
+read-append at [] v p = let z : at ≡ at + 0 = omega arith in ap (λ n. read_bytes n v p) z
+read-append at (b ∷ u) v p =
+    read-append (suc at) u v (read_part at b p)
+    ∙ (let z : suc at + length u ≡ at + suc (length u) = omega arith in ap (λ n. read_bytes n v (read_bytes (suc at) u (read_part at b p))) z)
+
+-- a byte, and then a stretch that is taken in at once
+pub stretch-on : (xs : List ℕ) (i j to : ℕ) (p q r : Part) → i < to → to ≤ length xs → i + 1 ≤ j → j ≤ to
+    → q ≡ read_part i (get_or xs i 0) p → r ≡ read_bytes (i + 1) (slice_range xs (i + 1) j) q
+    → read_bytes j (slice_range xs j to) r ≡ read_bytes i (slice_range xs i to) p
+stretch-on xs i j to p q r low high from below e k =
+    let n : suc i ≡ i + 1 = omega arith in
+    let m : suc i + length (slice_range xs (i + 1) j) ≡ j = let l = slice-length xs (i + 1) j from (omega arith) in omega (arith, l) in
+    sym (
+    ap (λ ys. read_bytes i ys p) (slice-first xs i to 0 low high ∙ ap (λ ys. get_or xs i 0 ∷ ys) (slice-split xs (i + 1) j to from below))
+    ∙ ap (read_bytes (suc i) (slice_range xs (i + 1) j ++ slice_range xs j to)) (sym e)
+    ∙ read-append (suc i) (slice_range xs (i + 1) j) (slice_range xs j to) q
+    ∙ ap (λ n. read_bytes n (slice_range xs j to) (read_bytes (suc i) (slice_range xs (i + 1) j) q)) m
+    ∙ ap (λ n. read_bytes j (slice_range xs j to) (read_bytes n (slice_range xs (i + 1) j) q)) n
+    ∙ ap (read_bytes j (slice_range xs j to)) (sym k))
+
 -- what one byte adds
 pub taken : (i b : ℕ) (s : LexState) (m : Step) (ms more : List Mark) (es ends : List ℕ) (next : Option LexState) → m ≡ move s b
     → more ≡ ms ++ with_mark m.begin i [] → ends ≡ es ++ with_end m.end i [] → next ≡ m.next

@@ -1,8 +1,6 @@
 // Reading a stretch of text for one segment, with bytes that change nothing passed over.
 ghost use Rattle.std.specs.Prelude.{◌≡◌, ◌≤◌, ◌<◌, ◌+◌, ◌++◌, ◌^◌, [], length, OnOk, IfOk, slice_range};
 ghost use Rattle.jx_lex.specs.declared.link.Link.{Link};
-ghost use Rattle.jx_lex.specs.declared.state.LexState.TheVariants as state;
-ghost use Rattle.jx_lex.specs.Runs.{AllKeep, Leads};
 ghost use Rattle.jx_lex.specs.declared.link.Link.TheVariants.{State};
 ghost use Rattle.jx_lex.specs.Cells.{step_of};
 ghost use Rattle.jx_lex.specs.Lex.{with_mark, with_end};
@@ -13,44 +11,13 @@ use crate::cell::Cell;
 use crate::link::Link;
 use crate::machine::cell_at;
 use crate::mark::Mark;
-use crate::parts::string_end;
-use crate::passes::{blank_end, digit_end};
+use crate::runs::run_on;
 use crate::segment::Segment;
 use crate::state::LexState;
 use std::alloc::{AllocError, Global};
 
 // A stretch that is shorter has no room reserved.
 const BLOCK: usize = 64;
-
-// The end of the blanks that follow. They mostly stand alone, but for those after a line feed.
-#[inline(always)]
-fn gap_end(text: &[u8], byte: u8, from: usize, to: usize) -> usize
-    requires { (from ≤ to) × (to ≤ length text.now) }
-    ensures bounds { (from ≤ result) × (result ≤ to) }
-    ensures kept { AllKeep state.Gap (slice_range text.now from result) }
-{
-    if byte == b'\n' || (from < to && text[from] == b' ') {
-        blank_end(text, from, to)
-    } else {
-        from
-    }
-}
-
-// The end of the bytes that lead from this state, to which this byte led, back to it with no event.
-#[inline(always)]
-fn run_end(text: &[u8], state: LexState, byte: u8, from: usize, to: usize) -> usize
-    requires { (from ≤ to) × (to ≤ length text.now) }
-    ensures bounds { (from ≤ result) × (result ≤ to) }
-    ensures led { Leads state (slice_range text.now from result) state }
-{
-    match state {
-        LexState::Str => string_end(text, from, to),
-        LexState::Int => digit_end(text, from, to),
-        LexState::Frac => digit_end(text, from, to),
-        LexState::Gap => gap_end(text, byte, from, to),
-        _ => from,
-    }
-}
 
 /// Takes in what one byte does: adds its mark and its end, and gives the next state, or none at a fault.
 #[inline(always)]
@@ -112,8 +79,9 @@ fn read_stretch(
         let Some(next) = take_in(marks, ends, cell_at(state, byte), i)? else {
             return Ok(Link::Fault(i));
         };
-        state = next;
-        i = run_end(text, state, byte, i + 1, to);
+        let (after, end) = run_on(ends, next, text, byte, i + 1, to)?;
+        state = after;
+        i = end;
     }
     Ok(Link::State(state))
 }
@@ -150,13 +118,5 @@ impl Segment {
         self.ends.reserve(blocks * BLOCK / 8)?;
         self.next = read_stretch(&mut self.marks, &mut self.ends, state, text, from, to)?;
         Ok(())
-    }
-
-    /// Gives back the memory that was reserved and not used.
-    pub(crate) fn shrink(&mut self)
-        ensures { self.new ≡ self.old }
-    {
-        self.marks.shrink_to(0);
-        self.ends.shrink_to(0);
     }
 }

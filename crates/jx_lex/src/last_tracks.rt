@@ -86,7 +86,6 @@ fn read_met(
     let mut lanes = lanes;
     let mut third = Segment::new(*lanes.allocator(), Link::State(state));
     third.read_span(text, from, to)?;
-    third.shrink();
     first.set_next(Link::Ahead(1));
     second.set_next(Link::Ahead(0));
     lanes.push(first)?;
@@ -129,8 +128,6 @@ fn read_two(
     }
     first.read_span(text, i, to)?;
     second.read_span(text, i, to)?;
-    first.shrink();
-    second.shrink();
     lanes.push(first)?;
     lanes.push(second)?;
     Ok(lanes)
@@ -154,7 +151,6 @@ pub(crate) fn read_lanes(
     let Some(first) = lanes.pop() else {
         let mut only = second;
         only.read_span(text, from, to)?;
-        only.shrink();
         lanes.push(only)?;
         return Ok(lanes);
     };

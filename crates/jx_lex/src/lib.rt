@@ -24,6 +24,7 @@ mod ordinal;
 mod parts;
 mod passes;
 mod path;
+mod runs;
 mod segment;
 mod span;
 mod state;

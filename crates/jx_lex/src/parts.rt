@@ -116,14 +116,14 @@ pub(crate) fn string_end(text: &[u8], from: usize, to: usize) -> usize
     i
 }
 
-// `plain_end`, but for the place itself where the byte there is above 7F, as it is in most scripts.
+// `plain_end`, but for the place itself where the byte there begins no run: one above 7F, as in most scripts, or a backslash.
 #[inline(always)]
 fn plain_end_or_part(text: &[u8], from: usize, to: usize) -> usize
     requires { (from ≤ to) × (to ≤ length text.now) }
     ensures bounds { (from ≤ result) × (result ≤ to) }
     ensures led { Leads state.Str (slice_range text.now from result) state.Str }
 {
-    if from < to && text[from] > 0x7f {
+    if from < to && (text[from] > 0x7f || text[from] == b'\\') {
         return from;
     }
     plain_end(text, from, to)

@@ -2,7 +2,7 @@ use Rattle.std.proofs.Common.{◌≡◌, ◌+◌, get_or, arith, Some, None, sym
 use Rattle.jx_lex.specs.declared.link.Link.TheVariants.{State, Fault}
 use Rattle.jx_lex.specs.Cells.{step_of}
 use Rattle.jx_lex.specs.Follow.{Part}
-use Rattle.jx_lex.proofs.Stretches.{stretch, stretch-ends, taken}
+use Rattle.jx_lex.proofs.Stretches.{stretch-on, stretch-ends, taken}
 use Rattle.jx_lex.proofs.fast.read_stretch.Goals as goal
 
 pub loop-i-preserved : goal.loop-i-preserved
@@ -10,16 +10,18 @@ loop-i-preserved c =
     let v = c.loop-i.invariant in
     let xs = c.args.text.now in
     let i = c.loop-i.i in
-    let b = c.run_end-i.ensures.bounds in
+    let on = c.in_ok-after in
     let low = v.low in
     let p : Part = record { marks = c.loop-i.marks.items; ends = c.loop-i.ends.items; next = State c.loop-i.state } in
     let q : Part = record { marks = c.take_in.new.marks.items; ends = c.take_in.new.ends.items; next = State c.in-Some.next } in
+    let r : Part = record { marks = c.take_in.new.marks.items; ends = c.run_on.new.ends.items; next = State on.after } in
     let read = taken i (get_or xs i 0) c.loop-i.state (step_of c.cell_at.result) c.loop-i.marks.items c.take_in.new.marks.items c.loop-i.ends.items c.take_in.new.ends.items
     (Some c.in-Some.next) c.cell_at.ensures.moves c.in_ok-next.ensures.marks c.in_ok-next.ensures.ends (sym c.in-Some.is ∙ c.in_ok-next.ensures.next) in
+    let b = on.ensures.bounds in
     record {
       low = omega (arith, b, low);
       high = b.1;
-      same = stretch xs i c.run_end-i.result c.args.to p q c.loop-i-test.true c.requires.1 b.0 b.1 read c.run_end-i.ensures.led ∙ v.same;
+      same = stretch-on xs i on.end c.args.to p q r c.loop-i-test.true c.requires.1 b.0 b.1 read (on.ensures.read c.take_in.new.marks.items) ∙ v.same;
     }
 
 pub returns-in_default : goal.returns-in_default

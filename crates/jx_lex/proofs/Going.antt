@@ -1,0 +1,108 @@
+-- Going on over the rest of a token: bytes with no event, and the quotation mark that ends a string.
+use Rattle.std.proofs.Common.{◌≡◌, ℕ, suc, ◌+◌, ◌≤◌, ◌<◌, List, [], ◌∷◌, ◌++◌, length, get_or, refl, ap, sym, subst, ◌∙◌, arith, append-nil}
+use Rattle.std.specs.Prelude.{slice_range}
+use Rattle.jx_lex.specs.declared.class.Class.TheVariants as class
+use Rattle.jx_lex.specs.declared.state.LexState.{LexState}
+use Rattle.jx_lex.specs.declared.state.LexState.TheVariants as state
+use Rattle.jx_lex.specs.declared.state.Step.{Step}
+use Rattle.jx_lex.specs.declared.mark.Mark.{Mark}
+use Rattle.jx_lex.specs.declared.link.Link.{Link}
+use Rattle.jx_lex.specs.declared.link.Link.TheVariants.{State}
+use Rattle.jx_lex.specs.Character.{IsWithin}
+use Rattle.jx_lex.specs.Classes.{class_at}
+use Rattle.jx_lex.specs.Follow.{Part}
+use Rattle.jx_lex.specs.Lex.{with_mark, with_end}
+use Rattle.jx_lex.specs.Moves.{move, go, close}
+use Rattle.jx_lex.specs.Passing.{read_bytes}
+use Rattle.jx_lex.specs.Runs.{AllKeep, Leads}
+use Rattle.jx_lex.specs.Step.{read_part, link_of}
+use Rattle.jx_lex.proofs.Forward.{move-range, move-digit}
+use Rattle.jx_lex.proofs.Passing.{led-over}
+use Rattle.jx_lex.proofs.Running.{AllKeep-leads, Leads-append}
+use Rattle.jx_lex.proofs.Slices.{slice-none, slice-more, slice-split, slice-length}
+
+-- ---- one byte after another
+
+pub leads-none : (xs : List ℕ) (a : ℕ) (s : LexState) → Leads s (slice_range xs a a) s
+leads-none xs a s = let P : List ℕ → Type 0 = λ w. Leads s w s in subst P (sym (slice-none xs a)) refl
+
+pub leads-one : (xs : List ℕ) (a : ℕ) (s t : LexState) → a < length xs → move s (get_or xs a 0) ≡ go t → Leads s (slice_range xs a (a + 1)) t
+leads-one xs a s t low h =
+    let P : List ℕ → Type 0 = λ w. Leads s w t in
+    let e : slice_range xs a (a + 1) ≡ get_or xs a 0 ∷ [] = slice-more xs a a 0 (omega arith) low ∙ ap (λ ys. ys ++ get_or xs a 0 ∷ []) (slice-none xs a) in
+    subst P (sym e) (t, h, refl)
+
+pub leads-then : (xs : List ℕ) (a b c : ℕ) (s t r : LexState) → a ≤ b → b ≤ c → Leads s (slice_range xs a b) t → Leads t (slice_range xs b c) r
+    → Leads s (slice_range xs a c) r
+leads-then xs a b c s t r low high h k =
+    let P : List ℕ → Type 0 = λ w. Leads s w r in
+    subst P (sym (slice-split xs a b c low high)) (Leads-append s t r (slice_range xs a b) (slice_range xs b c) h k)
+
+pub leads-from : (s t r : LexState) (w : List ℕ) → s ≡ t → Leads t w r → Leads s w r
+leads-from s t r w e h = let P : LexState → Type 0 = λ x. Leads x w r in subst P (sym e) h
+
+pub kept_at : (s t : LexState) (w : List ℕ) → s ≡ t → AllKeep t w → Leads s w s
+kept_at s t w e h = let P : LexState → Type 0 = λ x. Leads x w x in subst P (sym e) (AllKeep-leads t w h)
+
+-- ---- numbers
+
+pub minus_zero : (xs : List ℕ) (a : ℕ) (s : LexState) → a < length xs → s ≡ state.Minus → get_or xs a 0 ≡ 0x30 → Leads s (slice_range xs a (a + 1)) state.Zero
+unfolding class_at
+minus_zero xs a s low e h = leads-from s state.Minus state.Zero _ e (leads-one xs a state.Minus state.Zero low (ap (move state.Minus) h))
+
+pub minus_digit : (xs : List ℕ) (a : ℕ) (s : LexState) → a < length xs → s ≡ state.Minus → 0x31 ≤ get_or xs a 0 → get_or xs a 0 ≤ 0x39
+    → Leads s (slice_range xs a (a + 1)) state.Int
+minus_digit xs a s low e from to =
+    leads-from s state.Minus state.Int _ e
+    (leads-one xs a state.Minus state.Int low
+    (move-range 0x31 0x39 (class.Digit ∷ []) refl (omega arith) state.Minus (go state.Int) (refl, tt) (record { from = from; to = to })))
+
+-- a decimal point and a digit
+pointed : (xs : List ℕ) (a : ℕ) (s : LexState) → a + 2 ≤ length xs → move s 0x2e ≡ go state.Dot → get_or xs a 0 ≡ 0x2e → 0x30 ≤ get_or xs (a + 1) 0 → get_or xs (a + 1) 0 ≤ 0x39
+    → Leads s (slice_range xs a (a + 2)) state.Frac
+pointed xs a s low dots dot from to =
+    let n : a + 1 + 1 ≡ a + 2 = omega arith in
+    let digit : IsWithin 0x30 0x39 (get_or xs (a + 1) 0) = record { from = from; to = to } in
+    leads-then xs a (a + 1) (a + 2) s state.Dot state.Frac (omega arith) (omega arith)
+    (leads-one xs a s state.Dot (omega arith) (ap (move s) dot ∙ dots))
+    (subst (λ c. Leads state.Dot (slice_range xs (a + 1) c) state.Frac) n
+    (leads-one xs (a + 1) state.Dot state.Frac (omega arith) (move-digit state.Dot state.Frac refl refl digit)))
+
+pub zero_point : (xs : List ℕ) (a : ℕ) (s : LexState) → a + 2 ≤ length xs → s ≡ state.Zero → get_or xs a 0 ≡ 0x2e → 0x30 ≤ get_or xs (a + 1) 0 → get_or xs (a + 1) 0 ≤ 0x39
+    → Leads s (slice_range xs a (a + 2)) state.Frac
+unfolding class_at
+zero_point xs a s low e dot from to = leads-from s state.Zero state.Frac _ e (pointed xs a state.Zero low refl dot from to)
+
+pub int_point : (xs : List ℕ) (a : ℕ) (s : LexState) → a + 2 ≤ length xs → s ≡ state.Int → get_or xs a 0 ≡ 0x2e → 0x30 ≤ get_or xs (a + 1) 0 → get_or xs (a + 1) 0 ≤ 0x39
+    → Leads s (slice_range xs a (a + 2)) state.Frac
+unfolding class_at
+int_point xs a s low e dot from to = leads-from s state.Int state.Frac _ e (pointed xs a state.Int low refl dot from to)
+
+-- ---- what a segment takes in
+
+-- bytes with no event
+pub led-part : (at : ℕ) (w : List ℕ) (s t : LexState) (ms : List Mark) (es : List ℕ) → Leads s w t
+    → record { marks = ms; ends = es; next = State t } ≡ read_bytes at w (record { marks = ms; ends = es; next = State s })
+led-part at w s t ms es h =
+    let p : Part = record { marks = ms; ends = es; next = State s } in
+    sym (ap (λ v. read_bytes at v p) (sym (append-nil w)) ∙ led-over at w [] s t p refl h)
+
+closes : (at : ℕ) (ms : List Mark) (es : List ℕ)
+    → record { marks = ms; ends = es ++ suc at ∷ []; next = State state.Gap } ≡ read_part at 0x22 (record { marks = ms; ends = es; next = State state.Str })
+unfolding class_at
+closes at ms es = ap (λ (xs : List Mark). record { marks = xs; ends = es ++ suc at ∷ []; next = State state.Gap }) (sym (append-nil ms))
+
+-- the rest of a string and the quotation mark that ends it
+pub closed-string : (xs : List ℕ) (a e : ℕ) (ms : List Mark) (es : List ℕ) → a ≤ e → e < length xs → get_or xs e 0 ≡ 0x22 → Leads state.Str (slice_range xs a e) state.Str
+    → record { marks = ms; ends = es ++ (e + 1) ∷ []; next = State state.Gap } ≡ read_bytes a (slice_range xs a (e + 1)) (record { marks = ms; ends = es; next = State state.Str })
+closed-string xs a e ms es low high quote led =
+    let p : Part = record { marks = ms; ends = es; next = State state.Str } in
+    let n : a + length (slice_range xs a e) ≡ e = let l = slice-length xs a e low (omega arith) in omega (arith, l) in
+    let m : e + 1 ≡ suc e = omega arith in
+    sym (
+    ap (λ w. read_bytes a w p) (slice-more xs a e 0 low high)
+    ∙ led-over a (slice_range xs a e) (get_or xs e 0 ∷ []) state.Str state.Str p refl led
+    ∙ ap (λ i. read_bytes i (get_or xs e 0 ∷ []) p) n
+    ∙ ap (λ b. read_part e b p) quote
+    ∙ sym (closes e ms es)
+    ∙ ap (λ i. record { marks = ms; ends = es ++ i ∷ []; next = State state.Gap }) (sym m))

@@ -1,0 +1,138 @@
+// Going on after a byte over what follows of its token, or over blanks.
+ghost use Rattle.std.specs.Prelude.{◌≡◌, ◌≤◌, ◌<◌, ◌+◌, List, IfOk, slice_range, length};
+ghost use Rattle.jx_lex.specs.declared.link.Link.TheVariants.{State};
+ghost use Rattle.jx_lex.specs.declared.mark.Mark.{Mark};
+ghost use Rattle.jx_lex.specs.declared.state.LexState.TheVariants as state;
+ghost use Rattle.jx_lex.specs.Passing.{read_bytes};
+ghost use Rattle.jx_lex.specs.Runs.{AllKeep, Leads};
+
+use crate::parts::string_end;
+use crate::passes::{blank_end, digit_end};
+use crate::state::LexState;
+use std::alloc::AllocError;
+
+// The end of the blanks that follow. They mostly stand alone, but for those after a line feed.
+#[inline(always)]
+fn gap_end(text: &[u8], byte: u8, from: usize, to: usize) -> usize
+    requires { (from ≤ to) × (to ≤ length text.now) }
+    ensures bounds { (from ≤ result) × (result ≤ to) }
+    ensures kept { AllKeep state.Gap (slice_range text.now from result) }
+{
+    if byte == b'\n' || (from < to && text[from] == b' ') {
+        blank_end(text, from, to)
+    } else {
+        from
+    }
+}
+
+// After a minus sign, its first digit.
+#[inline(always)]
+fn first_digit(text: &[u8], state: LexState, from: usize, to: usize) -> (LexState, usize)
+    requires { (from ≤ to) × (to ≤ length text.now) }
+    ensures bounds { (from ≤ result.1) × (result.1 ≤ to) }
+    ensures led { Leads state (slice_range text.now from result.1) result.0 }
+{
+    if from >= to {
+        return (state, from);
+    }
+    let digit = text[from];
+    match state {
+        LexState::Minus if digit == b'0' => (LexState::Zero, from + 1),
+        LexState::Minus if digit >= b'1' && digit <= b'9' => (LexState::Int, from + 1),
+        _ => (state, from),
+    }
+}
+
+// The digits that follow.
+#[inline(always)]
+fn more_digits(text: &[u8], state: LexState, from: usize, to: usize) -> usize
+    requires { (from ≤ to) × (to ≤ length text.now) }
+    ensures bounds { (from ≤ result) × (result ≤ to) }
+    ensures led { Leads state (slice_range text.now from result) state }
+{
+    match state {
+        LexState::Int => digit_end(text, from, to),
+        LexState::Frac => digit_end(text, from, to),
+        LexState::Exp => digit_end(text, from, to),
+        _ => from,
+    }
+}
+
+// A decimal point and a digit behind an integer part.
+#[inline(always)]
+fn point(text: &[u8], state: LexState, from: usize, to: usize) -> (LexState, usize)
+    requires { (from ≤ to) × (to ≤ length text.now) }
+    ensures bounds { (from ≤ result.1) × (result.1 ≤ to) }
+    ensures led { Leads state (slice_range text.now from result.1) result.0 }
+{
+    if to - from < 2 || text[from] != b'.' || text[from + 1] < b'0' || text[from + 1] > b'9' {
+        return (state, from);
+    }
+    match state {
+        LexState::Zero => (LexState::Frac, from + 2),
+        LexState::Int => (LexState::Frac, from + 2),
+        _ => (state, from),
+    }
+}
+
+// What follows of a number, as far as its exponent.
+#[inline(always)]
+fn number_rest(text: &[u8], state: LexState, from: usize, to: usize) -> (LexState, usize)
+    requires { (from ≤ to) × (to ≤ length text.now) }
+    ensures bounds { (from ≤ result.1) × (result.1 ≤ to) }
+    ensures led { Leads state (slice_range text.now from result.1) result.0 }
+{
+    let (first, begun) = first_digit(text, state, from, to);
+    let integer = more_digits(text, first, begun, to);
+    let (last, pointed) = point(text, first, integer, to);
+    if pointed == integer {
+        return (first, integer);
+    }
+    let end = more_digits(text, last, pointed, to);
+    (last, end)
+}
+
+// What follows of a string, with the quotation mark that ends it.
+#[inline(always)]
+fn string_rest(
+    ends: &mut Vec<usize>,
+    text: &[u8],
+    from: usize,
+    to: usize,
+) -> Result<(LexState, usize), AllocError>
+    requires { (from ≤ to) × (to ≤ length text.now) }
+    ensures bounds { IfOk result (λ r. (from ≤ r.1) × (r.1 ≤ to)) }
+    ensures read { IfOk result (λ r. (marks : List Mark) → record { marks = marks; ends = ends.new.items; next = State r.0 }
+        ≡ read_bytes from (slice_range text.now from r.1) (record { marks = marks; ends = ends.old.items; next = State state.Str })) }
+{
+    let end = string_end(text, from, to);
+    if end < to && text[end] == b'"' {
+        ends.push(end + 1)?;
+        return Ok((LexState::Gap, end + 1));
+    }
+    Ok((LexState::Str, end))
+}
+
+/// Goes on from a state, to which this byte led, over what follows of a token or over blanks: gives the state behind it
+/// and its end.
+#[inline(always)]
+pub(crate) fn run_on(
+    ends: &mut Vec<usize>,
+    state: LexState,
+    text: &[u8],
+    byte: u8,
+    from: usize,
+    to: usize,
+) -> Result<(LexState, usize), AllocError>
+    requires { (from ≤ to) × (to ≤ length text.now) }
+    ensures bounds { IfOk result (λ r. (from ≤ r.1) × (r.1 ≤ to)) }
+    ensures read { IfOk result (λ r. (marks : List Mark) → record { marks = marks; ends = ends.new.items; next = State r.0 }
+        ≡ read_bytes from (slice_range text.now from r.1) (record { marks = marks; ends = ends.old.items; next = State state })) }
+{
+    match state {
+        LexState::Str => string_rest(ends, text, from, to),
+        LexState::Gap => Ok((LexState::Gap, gap_end(text, byte, from, to))),
+        LexState::Minus | LexState::Zero | LexState::Int => Ok(number_rest(text, state, from, to)),
+        _ => Ok((state, more_digits(text, state, from, to))),
+    }
+}
