@@ -292,7 +292,7 @@ Built-where at byte live i s b e h = subst (λ n. Built at (byte ∷ []) live (n
 
 -- ---- the live states
 
-live-set : (P : Bool → Type 0) (live : List Bool) (n u : LexState) → length live ≡ 32 → (u ≡ n → P true) → (ordinal u ≢ ordinal n → P (is_live live u))
+pub live-set : (P : Bool → Type 0) (live : List Bool) (n u : LexState) → length live ≡ 32 → (u ≡ n → P true) → (ordinal u ≢ ordinal n → P (is_live live u))
     → P (is_live (set live (ordinal n) true) u)
 live-set P live n u all here there = go (ordinal u == ordinal n) refl
   where
@@ -308,7 +308,7 @@ live-more : (m : Option LexState) (live : List Bool) (u : LexState) → length l
 live-more None live u all l = l
 live-more (Some n) live u all l = live-set (λ b. b ≡ true) live n u all (λ e. refl) (λ e. l)
 
-live-new : (n : LexState) (live : List Bool) → length live ≡ 32 → is_live (more_live (Some n) live) n ≡ true
+pub live-new : (n : LexState) (live : List Bool) → length live ≡ 32 → is_live (more_live (Some n) live) n ≡ true
 live-new n live all = get_or-set_same live (ordinal n) true false (rw all (ordinal-low n))
 
 LiveAt-more : (m : Option LexState) (live : List Bool) (g : Link) → length live ≡ 32 → LiveAt live g → LiveAt (more_live m live) g
@@ -316,11 +316,11 @@ LiveAt-more m live (State s) all l = live-more m live s all l
 LiveAt-more m live (Ahead k) all l = tt
 LiveAt-more m live (Fault at) all l = tt
 
-AllLive-more : (m : Option LexState) (live : List Bool) (ps : List Part) → length live ≡ 32 → AllLive live ps → AllLive (more_live m live) ps
+pub AllLive-more : (m : Option LexState) (live : List Bool) (ps : List Part) → length live ≡ 32 → AllLive live ps → AllLive (more_live m live) ps
 AllLive-more m live [] all l = tt
 AllLive-more m live (p ∷ ps) all l = (LiveAt-more m live p.next all l.0, AllLive-more m live ps all l.1)
 
-AllLive-append : (live : List Bool) (ps qs : List Part) → AllLive live ps → AllLive live qs → AllLive live (ps ++ qs)
+pub AllLive-append : (live : List Bool) (ps qs : List Part) → AllLive live ps → AllLive live qs → AllLive live (ps ++ qs)
 AllLive-append live [] qs l k = k
 AllLive-append live (p ∷ ps) qs l k = (l.0, AllLive-append live ps qs l.1 k)
 

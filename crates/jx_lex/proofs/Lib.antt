@@ -14,6 +14,7 @@ pub mod Inside
 pub mod Joined
 pub mod Lanes
 pub mod LexJoin
+pub mod Many
 pub mod Meeting
 pub mod Passing
 pub mod Placing

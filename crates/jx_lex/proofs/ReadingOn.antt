@@ -15,7 +15,7 @@ use Rattle.jx_lex.specs.Ordinal.{ordinal, all_states}
 use Rattle.jx_lex.specs.Follow.{Part, follow, IsIn, AreIn, head, shifted, linked, linked_parts}
 use Rattle.jx_lex.specs.Closed.{IsClosed, AreClosed}
 use Rattle.jx_lex.specs.Step.{read_part, read_from, opening, state_is, held_by, met, meeting_heads}
-use Rattle.jx_lex.specs.Passing.{KeptBy, read_bytes}
+use Rattle.jx_lex.specs.Passing.{KeptBy, AllKept, read_bytes}
 use Rattle.jx_lex.specs.Map.{stored, MarksIn, ArePlaced}
 use Rattle.jx_lex.specs.Shared.{has, held_after, begins, beginning, shared_from, after, HeldAt, AllHeld}
 use Rattle.jx_lex.specs.Bundle.{Bundle, is_live, LiveAt, AllLive, Within, Reads, Stands, ReadsOn, is_apart, joined_bundle}
@@ -99,7 +99,7 @@ reads-byte at b ps few =
     }
 
 -- no two stand in one state
-few-single : (b : ℕ) (ps : List Part) → ((s : LexState) → held_by s ps ≤ 1) → (held : List LexState) → AllHeld held ps → pushes b ps ≤ beginning b held
+pub few-single : (b : ℕ) (ps : List Part) → ((s : LexState) → held_by s ps ≤ 1) → (held : List LexState) → AllHeld held ps → pushes b ps ≤ beginning b held
 few-single b ps single held h =
     let a = pushes-spread b ps in
     let c : sum_by (spread b ps) all_states ≤ beginning b held = sum_by-le-sum_by (spread b ps) _ all_states (spread-le b held ps h single) in
@@ -146,11 +146,6 @@ reads-apart at b p q a = reads-byte at b (p ∷ q ∷ []) (few-single b (p ∷ q
 
 -- ---- bytes that change only one of them
 
--- these bytes change none of the segments
-abbrev pub Still : List ℕ → List Part → Type 0
-Still w [] = Unit {0}
-Still w (p ∷ ps) = KeptBy p.next w × Still w ps
-
 kept-first : (b : ℕ) (w : List ℕ) (g : Link) → KeptBy g (b ∷ w) → KeptBy g (b ∷ [])
 kept-first b w (State s) h = (h.0, tt)
 kept-first b w (Ahead k) h = tt
@@ -161,7 +156,7 @@ kept-rest b w (State s) h = h.1
 kept-rest b w (Ahead k) h = tt
 kept-rest b w (Fault at) h = tt
 
-still-rest : (b : ℕ) (w : List ℕ) (ps : List Part) → Still (b ∷ w) ps → Still w ps
+still-rest : (b : ℕ) (w : List ℕ) (ps : List Part) → AllKept (b ∷ w) ps → AllKept w ps
 still-rest b w [] h = tt
 still-rest b w (p ∷ ps) h = (kept-rest b w p.next h.0, still-rest b w ps h.1)
 
@@ -170,7 +165,7 @@ kept-part at b w p (State s) e h = keep-part at b s p e h.0
 kept-part at b w p (Ahead k) e h = ap (read_from at b p) e
 kept-part at b w p (Fault f) e h = ap (read_from at b p) e
 
-still-map : (at b : ℕ) (w : List ℕ) (ps : List Part) → Still (b ∷ w) ps → map (read_part at b) ps ≡ ps
+still-map : (at b : ℕ) (w : List ℕ) (ps : List Part) → AllKept (b ∷ w) ps → map (read_part at b) ps ≡ ps
 still-map at b w [] h = refl
 still-map at b w (p ∷ ps) h =
     ap (λ (q : Part). q ∷ map (read_part at b) ps) (kept-part at b w p p.next refl h.0)
@@ -181,7 +176,7 @@ kept-push b w (State s) h = ap (λ m. cond (is_some m.begin) 1 0) h.0
 kept-push b w (Ahead k) h = refl
 kept-push b w (Fault at) h = refl
 
-still-pushes : (b : ℕ) (w : List ℕ) (ps : List Part) → Still (b ∷ w) ps → pushes b ps ≡ 0
+still-pushes : (b : ℕ) (w : List ℕ) (ps : List Part) → AllKept (b ∷ w) ps → pushes b ps ≡ 0
 still-pushes b w [] h = refl
 still-pushes b w (p ∷ ps) h = let a = kept-push b w p.next h.0 in let c = still-pushes b w ps h.1 in omega (arith, a, c)
 
@@ -197,7 +192,7 @@ map-parts : (f : Part → Part) (xs ys : List Part) → map f (xs ++ ys) ≡ map
 map-parts f [] ys = refl
 map-parts f (x ∷ xs) ys = ap (λ (zs : List Part). f x ∷ zs) (map-parts f xs ys)
 
-byte-middle : (at b : ℕ) (w : List ℕ) (xs ys : List Part) (p : Part) → Still (b ∷ w) xs → Still (b ∷ w) ys
+byte-middle : (at b : ℕ) (w : List ℕ) (xs ys : List Part) (p : Part) → AllKept (b ∷ w) xs → AllKept (b ∷ w) ys
     → ReadsOn at (b ∷ []) (xs ++ p ∷ ys) (xs ++ read_part at b p ∷ ys)
 byte-middle at b w xs ys p hx hy =
     subst (ReadsOn at (b ∷ []) (xs ++ p ∷ ys)) same (reads-byte at b (xs ++ p ∷ ys) few)
@@ -217,7 +212,7 @@ byte-middle at b w xs ys p hx hy =
         omega (arith, a, c, d, e)
 
 -- a stretch that changes only the one in the middle
-pub reads-middle : (at : ℕ) (w : List ℕ) (xs ys : List Part) (p : Part) → Still w xs → Still w ys
+pub reads-middle : (at : ℕ) (w : List ℕ) (xs ys : List Part) (p : Part) → AllKept w xs → AllKept w ys
     → ReadsOn at w (xs ++ p ∷ ys) (xs ++ read_bytes at w p ∷ ys)
 reads-middle at [] xs ys p hx hy = reads-none at (xs ++ p ∷ ys)
 reads-middle at (b ∷ w) xs ys p hx hy =
@@ -288,7 +283,7 @@ reads-met at s p ps stands =
 
 -- ---- the tracks of a bundle read on
 
-AllHeld-live : (live : List Bool) (held : List LexState) (ps : List Part) → Within live held → AllLive live ps → AllHeld held ps
+pub AllHeld-live : (live : List Bool) (held : List LexState) (ps : List Part) → Within live held → AllLive live ps → AllHeld held ps
 AllHeld-live live held [] w h = tt
 AllHeld-live live held (p ∷ ps) w h = (go p.next h.0, AllHeld-live live held ps w h.1)
   where
@@ -365,6 +360,24 @@ reads-rest xs i to p q low fits done differ = go (nat_lt i to) refl
         subst (λ n. ReadsOn i (slice_range xs i n) (p ∷ q ∷ []) (read_bytes i (slice_range xs i n) p ∷ read_bytes i (slice_range xs i n) q ∷ [])) same
         (rw (slice-none xs i) (reads-none i (p ∷ q ∷ [])))
 
+-- no segment at all
+pub reads-empty : (at : ℕ) (w : List ℕ) → ReadsOn at w [] []
+reads-empty at w =
+    record {
+      all = λ v k start s u low. absurd (omega (arith, low));
+      parts = λ v. v;
+      many = omega arith;
+      counted = λ held h. omega arith;
+      held = λ held h. tt;
+      placed = λ from le h. tt;
+    }
+
+-- bytes that change none of them
+pub reads-kept : (at : ℕ) (w : List ℕ) (ps : List Part) → AllKept w ps → ReadsOn at w ps ps
+reads-kept at w [] h = reads-empty at w
+reads-kept at w (p ∷ ps) h =
+    subst (λ (q : Part). ReadsOn at w (p ∷ ps) (q ∷ ps)) (kept-bytes at w p h.0) (reads-middle at w [] ps p tt h.1)
+
 -- two that stand in one state go on in a third
 met-two : (s : LexState) (p q : Part) → p.next ≡ State s → q.next ≡ State s
     → met s (p ∷ q ∷ []) ≡ record p { next = Ahead 1 } ∷ record q { next = Ahead 0 } ∷ opening s ∷ []
@@ -386,18 +399,6 @@ reads-third at w s p q e f =
     (subst (ReadsOn at [] (p ∷ q ∷ [])) (met-two s p q e f) (reads-met at s p (q ∷ []) e))
     (subst (λ i. ReadsOn i w (p1 ∷ q1 ∷ opening s ∷ []) (p1 ∷ q1 ∷ read_bytes at w (opening s) ∷ [])) z
     (reads-middle at w (p1 ∷ q1 ∷ []) [] (opening s) (tt, (tt, tt)) tt))
-
--- no segment at all
-pub reads-empty : (at : ℕ) (w : List ℕ) → ReadsOn at w [] []
-reads-empty at w =
-    record {
-      all = λ v k start s u low. absurd (omega (arith, low));
-      parts = λ v. v;
-      many = omega arith;
-      counted = λ held h. omega arith;
-      held = λ held h. tt;
-      placed = λ from le h. tt;
-    }
 
 -- nothing left to read
 pub reads-end : (xs : List ℕ) (i to : ℕ) (ps : List Part) → i ≡ to → ReadsOn i (slice_range xs i to) ps ps

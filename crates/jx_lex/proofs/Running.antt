@@ -92,11 +92,12 @@ pub plain_run : (xs : List ℕ) (from to r : ℕ) → IsFirstPlace (λ k. not (i
 plain_run = AllKeep-run is_plain state.Str plain_keeps
 
 pub digit_run : (xs : List ℕ) (from to r : ℕ) → IsFirstPlace (λ k. not (is_digit (get_or xs k 0))) from to r
-    → AllKeep state.Int (slice_range xs from r) × AllKeep state.Frac (slice_range xs from r) × AllKeep state.Exp (slice_range xs from r)
+    → AllKeep state.Int (slice_range xs from r) × AllKeep state.Frac (slice_range xs from r) × AllKeep state.Exp (slice_range xs from r) × AllKeep state.Str (slice_range xs from r)
 digit_run xs from to r first = (
   AllKeep-run is_digit state.Int (digit_keeps state.Int (refl, (refl, tt))) xs from to r first,
   AllKeep-run is_digit state.Frac (digit_keeps state.Frac (refl, (refl, tt))) xs from to r first,
   AllKeep-run is_digit state.Exp (digit_keeps state.Exp (refl, (refl, tt))) xs from to r first,
+  AllKeep-run is_digit state.Str (digit_keeps state.Str (refl, (refl, tt))) xs from to r first,
 )
 
 pub blank_run : (xs : List ℕ) (from to r : ℕ) → IsFirstPlace (λ k. not (is_blank (get_or xs k 0))) from to r → AllKeep state.Gap (slice_range xs from r)

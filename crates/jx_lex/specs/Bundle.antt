@@ -105,3 +105,9 @@ is_apart (State s) (Ahead k) = false
 is_apart (State s) (Fault at) = false
 is_apart (Ahead k) h = false
 is_apart (Fault at) h = false
+
+-- the states in which the segments stand
+pub record StandIn (live : List Bool) (ps : List Part) : Type 0 where
+  pub all : length live ≡ 32
+  pub stand : AllLive live ps
+  pub held : (held : List LexState) → AllHeld held ps → Within live held

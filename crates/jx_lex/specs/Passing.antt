@@ -22,3 +22,8 @@ abbrev pub LedBy : Link → List ℕ → Type 0
 LedBy (State s) bytes = Leads s bytes s
 LedBy (Ahead k) bytes = Unit {0}
 LedBy (Fault at) bytes = Unit {0}
+
+-- these bytes change none of the segments
+abbrev pub AllKept : List ℕ → List Part → Type 0
+AllKept bytes [] = Unit {0}
+AllKept bytes (p ∷ ps) = KeptBy p.next bytes × AllKept bytes ps

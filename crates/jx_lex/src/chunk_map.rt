@@ -8,6 +8,7 @@ ghost use Rattle.jx_lex.specs.Map.{ArePlaced, joined_map, IsOf, stored, track};
 use crate::bundle::{Bundle, count_live};
 use crate::join_fault::JoinFault;
 use crate::link::{Link, link_heads};
+use crate::many_tracks::read_some;
 use crate::ordinal::ordinal;
 use crate::segment::{Segment, append_linked};
 use crate::span::Span;
@@ -15,6 +16,9 @@ use crate::state::LexState;
 use crate::track_view::TrackView;
 use std::alloc::{AllocError, Global};
 use std::marker::Model;
+
+/// So many bytes are read one by one from all states. Mostly two tracks are left by then.
+const MANY_BYTES: usize = 16;
 
 #[derive(Drop)]
 pub struct ChunkMap {
@@ -89,9 +93,10 @@ impl ChunkMap {
         let mut bundle = Bundle::unread(alloc);
         let mut at = start;
         while at < end && count_live(&bundle.live) > 2 {
-            let byte = Bundle::of_byte(alloc, &bundle.live, at, text[at])?;
-            bundle.join(byte)?;
-            at += 1;
+            let long = at - start >= MANY_BYTES;
+            let (next, after) = read_some(alloc, &bundle.live, text, at, end, long)?;
+            bundle.join(next)?;
+            at = after;
         }
         let rest = Bundle::open(alloc, &bundle.live)?.read_on(text, at, end)?;
         bundle.join(rest)?;

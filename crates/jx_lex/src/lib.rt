@@ -18,6 +18,7 @@ mod last_tracks;
 mod laws;
 mod link;
 mod machine;
+mod many_tracks;
 mod mark;
 mod marks;
 mod ordinal;

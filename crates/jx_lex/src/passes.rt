@@ -132,6 +132,7 @@ pub(crate) fn digit_end(text: &[u8], from: usize, to: usize) -> usize
     ensures int { AllKeep state.Int (slice_range text.now from result) }
     ensures frac { AllKeep state.Frac (slice_range text.now from result) }
     ensures exp { AllKeep state.Exp (slice_range text.now from result) }
+    ensures string { AllKeep state.Str (slice_range text.now from result) }
     ensures first { IsFirstPlace (λ k. not (is_digit (slice_index text.now k))) from to result }
 {
     run_end::<Digits>(text, from, to)

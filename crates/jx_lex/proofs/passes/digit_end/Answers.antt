@@ -9,3 +9,6 @@ returns-clause-frac c = (digit_run c.args.text.now c.args.from c.args.to c.run_e
 
 pub returns-clause-exp : goal.returns-clause-exp
 returns-clause-exp c = (digit_run c.args.text.now c.args.from c.args.to c.run_end.result c.run_end.ensures).2
+
+pub returns-clause-string : goal.returns-clause-string
+returns-clause-string c = (digit_run c.args.text.now c.args.from c.args.to c.run_end.result c.run_end.ensures).3

@@ -9,8 +9,8 @@ pub returns-then-text-end-eq34-clause-read : goal.returns-then-text-end-eq34-cla
 returns-then-text-end-eq34-clause-read c =
     let b = c.string_end-end.ensures.bounds in
     λ marks.
-        ap (λ (es : List ℕ). record { marks = marks; ends = es; next = State state.Gap }) c.in_ok-push.ensures.items
-        ∙ closed-string c.args.text.now c.args.from c.string_end-end.result marks c.args.ends.now.items b.0 (omega arith) c.if-text-end-eq34.true c.string_end-end.ensures.led
+    ap (λ (es : List ℕ). record { marks = marks; ends = es; next = State state.Gap }) c.in_ok-push.ensures.items
+    ∙ closed-string c.args.text.now c.args.from c.string_end-end.result marks c.args.ends.now.items b.0 (omega arith) c.if-text-end-eq34.true c.string_end-end.ensures.led
 
 pub returns-clause-read : goal.returns-clause-read
 returns-clause-read c = λ marks. led-part c.args.from (slice_range c.args.text.now c.args.from c.string_end-end.result) state.Str state.Str marks c.args.ends.now.items c.string_end-end.ensures.led

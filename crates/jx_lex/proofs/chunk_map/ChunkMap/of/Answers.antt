@@ -27,19 +27,23 @@ loop-at-preserved c =
     let xs = c.args.text.now in
     let start = c.args.start in
     let at = c.loop-at.at in
-    let byte = get_or xs at 0 ∷ [] in
+    let some = c.in_ok-next in
+    let after = some.after in
+    let next = some.next in
+    let w = slice_range xs at after in
     let fits = c.requires.1 in
     let test = c.loop-at-test.true in
     let low = v.low in
+    let b = some.ensures.bounds in
     let here = slice-length xs start at v.low (omega (arith, test, fits)) in
-    let more = slice-more xs start at 0 v.low (omega (arith, test, fits)) in
-    let reads = subst (λ (b : Bundle). Reads at byte b.live c.in_ok-byte.byte) c.bundle.view_is c.in_ok-byte.ensures.reads in
-    let stands = subst (λ (b : Bundle). Stands byte b.live c.in_ok-byte.byte) c.bundle.view_is c.in_ok-byte.ensures.stands in
+    let more = slice-split xs start at after v.low (omega (arith, b)) in
+    let reads = subst (λ (b : Bundle). Reads at w b.live next) c.bundle.view_is some.ensures.reads in
+    let stands = subst (λ (b : Bundle). Stands w b.live next) c.bundle.view_is some.ensures.stands in
     record {
-      low = omega (arith, low);
-      high = omega (arith, test);
-      reads = rw (c.in_ok-join.ensures, more) (Reads-joined start at (slice_range xs start at) byte (replicate 32 true) c.loop-at.bundle c.in_ok-byte.byte here v.reads v.stands reads);
-      stands = rw (c.in_ok-join.ensures, more) (Stands-joined (slice_range xs start at) byte (replicate 32 true) c.loop-at.bundle c.in_ok-byte.byte v.reads.all v.stands stands);
+      low = omega (arith, low, b);
+      high = b.1;
+      reads = rw (c.in_ok-join.ensures, more) (Reads-joined start at (slice_range xs start at) w (replicate 32 true) c.loop-at.bundle next here v.reads v.stands reads);
+      stands = rw (c.in_ok-join.ensures, more) (Stands-joined (slice_range xs start at) w (replicate 32 true) c.loop-at.bundle next v.reads.all v.stands stands);
     }
 
 pub join-requires-2 : goal.join-requires-2
