@@ -2,6 +2,8 @@
 mod answers;
 mod books;
 mod copied;
+mod gathered;
 mod joins;
 mod readings;
 mod states;
+mod verdicts;
