@@ -1,5 +1,5 @@
 -- Equal bytes that stand for one unit each may be passed over in both strings.
-use Rattle.std.proofs.Common.{◌≡◌, ◌≢◌, ℕ, suc, ◌+◌, ◌<◌, List, ◌∷◌, length, drop, true, false, refl, sym, ap, ap₂, ◌∙◌, arith, get_or, drop-cons}
+use Rattle.std.proofs.Common.{◌≡◌, ◌≢◌, ℕ, suc, ◌+◌, ◌<◌, List, [], ◌∷◌, length, drop, true, false, refl, sym, ap, ap₂, ◌∙◌, arith, get_or, drop-cons}
 use Rattle.std.specs.Prelude.{nat_lt, ◌==◌}
 use Rattle.std.proofs.lemmas.Bool.Decides.{nat_tests}
 use Rattle.std.specs.Ordering.{nat_cmp}
@@ -33,3 +33,8 @@ front_more xs ys at h k e p n =
     ap₂ (slice_cmp nat_cmp) u v
     ∙ same_head b (parts_units InText 0 (drop (suc at) xs)) (parts_units InText 0 (drop (suc at) ys))
     ∙ ap (λ m. slice_cmp nat_cmp (parts_units InText 0 (drop m xs)) (parts_units InText 0 (drop m ys))) s
+
+pub first_unit : (bytes : List ℕ) → 0 < length bytes → get_or bytes 0 0 < 0x80 → get_or bytes 0 0 ≢ 0x5c
+    → parts_units InText 0 bytes ≡ get_or bytes 0 0 ∷ parts_units InText 0 (drop 1 bytes)
+first_unit [] h p n = absurd (omega (arith, h))
+first_unit (b ∷ bytes) h p n = plain_unit b bytes p n

@@ -1,5 +1,5 @@
 // The members of all objects, ordered by the values of their names.
-ghost use Rattle.std.specs.Prelude.{◌≡◌, ◌<◌, ◌++◌, ◌+◌, ◌≤◌, ◌↔◌, [], take, drop, length, slice_index, IsTrue, IfOk};
+ghost use Rattle.std.specs.Prelude.{◌≡◌, ◌<◌, ◌++◌, ◌+◌, ◌≤◌, ◌↔◌, ◌∷◌, [], take, drop, length, slice_index, IsTrue, IfOk, IfSome};
 ghost use Rattle.std.specs.Ordering.{nat_cmp};
 ghost use Rattle.std.specs.Cmp.Lexicographic.{slice_cmp};
 ghost use Rattle.jx_index.specs.declared.units.Spelling.TheVariants.{InText};
@@ -101,16 +101,40 @@ fn same_front(left: &[u8], right: &[u8]) -> usize
     at
 }
 
+// The first byte, where it stands for one unit of its own.
+fn first_plain(bytes: &[u8]) -> Option<u8>
+    ensures { IfSome result (λ unit. parts_units InText 0 bytes.now ≡ unit ∷ parts_units InText 0 (drop 1 bytes.now)) }
+{
+    match bytes {
+        [byte, ..] if *byte < 0x80 && *byte != b'\\' => Some(*byte),
+        _ => None,
+    }
+}
+
+// What is left of two names behind the bytes with which both begin. The next bytes mostly decide.
+#[tactic(auto, unfolding(crate::specs::Units::parts_units))]
+fn compare_rests(left: &[u8], right: &[u8]) -> Ordering
+    ensures { result ≡ slice_cmp nat_cmp (parts_units InText 0 left.now) (parts_units InText 0 right.now) }
+{
+    match (first_plain(left), first_plain(right)) {
+        (Some(one), Some(other)) if one < other => Ordering::Less,
+        (Some(one), Some(other)) if other < one => Ordering::Greater,
+        (None, Some(_)) if left.is_empty() => Ordering::Less,
+        (Some(_), None) if right.is_empty() => Ordering::Greater,
+        _ => compare(
+            Units::new(left, Spelling::InText),
+            Units::new(right, Spelling::InText),
+        ),
+    }
+}
+
 fn compare_members(text: &[u8], rows: &[Row], first: NodeId, second: NodeId) -> Ordering
     ensures { result ≡ slice_cmp nat_cmp (name_units text.now rows.now first) (name_units text.now rows.now second) }
 {
     let left = name_bytes(text, rows, first);
     let right = name_bytes(text, rows, second);
     let same = same_front(left, right);
-    compare(
-        Units::new(skip(left, same), Spelling::InText),
-        Units::new(skip(right, same), Spelling::InText),
-    )
+    compare_rests(skip(left, same), skip(right, same))
 }
 
 /// Sorts members by the units of their names; equal names keep their order.
