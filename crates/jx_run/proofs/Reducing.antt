@@ -27,7 +27,7 @@ use Rattle.jx_reduce.proofs.Spans.{before_of_spans}
 use Rattle.jx_run.specs.declared.entries.Entries.{Entries}
 use Rattle.jx_run.specs.Reading.{at_exit, read}
 use Rattle.jx_run.specs.Reduced.{AreReduced, IsReduced, AreOf, AreOfEach, AreRising}
-use Rattle.jx_run.specs.TextRun.{TextRunValue, IsTextRun, IsWithin, outcome_in}
+use Rattle.jx_run.specs.OutcomeRun.{OutcomeRunValue, IsOutcomeRun, IsWithin, outcome_in}
 use Rattle.jx_run.proofs.StateOrder.{state-at}
 
 -- ---- the marks of the lexical machine rise, and lie where the bytes do
@@ -261,12 +261,14 @@ outcome_is limit s start bytes t e same a x o h =
     ∙ ap (λ d. at_exit t.exit (read_marks d t.marks (Reading.went x o))) a.marks.depth
     ∙ ap (λ (t : Track). at_exit t.exit (read_marks limit t.marks (Reading.went x o))) same
 
-pub run_is_of : (run : TextRunValue) (bytes : List ℕ) → Map.IsOf bytes run.map → AreOfEach run.limit run.map all_states run.entries → IsTextRun bytes run
-run_is_of run bytes h a =
+pub outcomes_are_of : (run : OutcomeRunValue) (map : Map) (bytes : List ℕ) → run.start ≡ map.start → run.end ≡ map.end → Map.IsOf bytes map
+    → AreOfEach run.limit map all_states run.entries → IsOutcomeRun bytes run
+outcomes_are_of run map bytes start end h a =
     record {
-      long = h.long;
-      tracks = h.tracks;
+      long = end ∙ h.long ∙ ap (λ n. n + length bytes) (sym start);
       outcomes = λ s x o short.
-          let e = each-at run.limit run.map all_states run.entries a (ordinal s) s (state-at s) in
-          ap (λ z. outcome_in z x o) e.1 ∙ outcome_is run.limit s run.map.start bytes (track run.map s) e.0 (h.tracks s) e.2 x o short;
+          let e = each-at run.limit map all_states run.entries a (ordinal s) s (state-at s) in
+          ap (λ z. outcome_in z x o) e.1
+          ∙ outcome_is run.limit s map.start bytes (track map s) e.0 (h.tracks s) e.2 x o short
+          ∙ ap (λ n. read run.limit s x o n bytes) (sym start);
     }

@@ -2,14 +2,13 @@
 use Rattle.std.proofs.Common.{◌≡◌, ℕ, zero, suc, ◌+◌, ◌-◌, ◌<◌, ◌≤◌, List, [], ◌∷◌, ◌++◌, length, get_or, drop, Option, Some, None, Bool, true, false, cond, refl, sym, ap, subst, ◌∙◌, inl, inr, ◌⊎◌, arith}
 use Rattle.std.specs.Prelude.{nat_lt, slice_get, All}
 use Rattle.std.proofs.lemmas.Bool.Decides.{nat_tests}
+use Rattle.std.proofs.lemmas.List.{length-append}
 use Rattle.std.proofs.lemmas.List.Elements.{All-append, All-cons, All-nil}
 use Rattle.std.proofs.lemmas.Option.{slice_get_cases, slice_get_past}
 use Rattle.jx_lex.specs.declared.state.LexState.{LexState}
 use Rattle.jx_lex.specs.declared.mark.MarkKind.{MarkKind}
 use Rattle.jx_lex.specs.declared.exit.Exit.TheVariants as exit
 use Rattle.jx_lex.specs.Lex.{Exit}
-use Rattle.jx_lex.specs.Map.{Map}
-use Rattle.jx_lex.specs.Map
 use Rattle.jx_lex.specs.Moves.{move}
 use Rattle.jx_lex.specs.Ordinal.{ordinal}
 use Rattle.jx_lex.specs.View.{exit_of}
@@ -22,7 +21,7 @@ use Rattle.jx_reduce.proofs.Spans.{SpansIn_wider}
 use Rattle.jx_run.specs.declared.entries.Entries.{Entries}
 use Rattle.jx_run.specs.Turns.{Turn, wrong, on, enter, leave, turn}
 use Rattle.jx_run.specs.Reading.{Outcome, went, stopped, too_deep, at_exit, and_then, read}
-use Rattle.jx_run.specs.TextRun.{TextRunValue, entries_at, outcome_in, outcome, IsTextRun, IsWhole, IsWithin, GoesOn, AllGoOn}
+use Rattle.jx_run.specs.OutcomeRun.{OutcomeRunValue, entries_at, outcome_in, outcome, IsOutcomeRun, IsWhole, IsWithin, GoesOn, AllGoOn}
 use Rattle.jx_run.proofs.Completion.{run-append}
 use Rattle.jx_run.proofs.StateOrder.{ordinal-low}
 use Rattle.jx_run.proofs.Fused.{after_turn, after_mark, in_next, run, read-run}
@@ -96,7 +95,7 @@ state_goes t (Exit.fault i) f (Reading.stopped at) more h = refl
 state_goes t (Exit.state s) f (Reading.too_deep at) more h = refl
 state_goes t (Exit.fault i) f (Reading.too_deep at) more h = refl
 
-pub goes_on_state : (limit : ℕ) (l r j : Entries) (right : TextRunValue) (t : LexState) → l.exit ≡ exit.State t → entries_at right t ≡ Some r
+pub goes_on_state : (limit : ℕ) (l r j : Entries) (right : OutcomeRunValue) (t : LexState) → l.exit ≡ exit.State t → entries_at right t ≡ Some r
     → l.marks.depth ≡ limit → j.exit ≡ r.exit → IsJoin l.marks r.marks j.marks → GoesOn limit l right j
 goes_on_state limit l r j right t ends is deep same joined e o w =
     ap (λ x. at_exit (exit_of x) (answer j.marks e o)) same
@@ -109,7 +108,7 @@ fault_stays i (Reading.went e o) more = refl
 fault_stays i (Reading.stopped at) more = refl
 fault_stays i (Reading.too_deep at) more = refl
 
-pub goes_on_fault : (limit : ℕ) (l j : Entries) (right : TextRunValue) (i : ℕ) → l.exit ≡ exit.Fault i → j.exit ≡ l.exit → j.marks ≡ l.marks → GoesOn limit l right j
+pub goes_on_fault : (limit : ℕ) (l j : Entries) (right : OutcomeRunValue) (i : ℕ) → l.exit ≡ exit.Fault i → j.exit ≡ l.exit → j.marks ≡ l.marks → GoesOn limit l right j
 goes_on_fault limit l j right i ends same marks e o w =
     ap (λ x. at_exit (exit_of x) (answer j.marks e o)) (same ∙ ends)
     ∙ ap (λ f. at_exit (Exit.fault i) (answer f e o)) marks
@@ -143,7 +142,7 @@ one_entry xs n x y h k = cc
 
 -- ---- the joined entries, one after another
 
-pub each_push : (limit : ℕ) (right : TextRunValue) (xs js : List Entries) (j : Entries)
+pub each_push : (limit : ℕ) (right : OutcomeRunValue) (xs js : List Entries) (j : Entries)
     → ((n : ℕ) (x y : Entries) → slice_get xs n ≡ Some x → slice_get js n ≡ Some y → GoesOn limit x right y)
     → ((x : Entries) → slice_get xs (length js) ≡ Some x → GoesOn limit x right j)
     → (n : ℕ) (x y : Entries) → slice_get xs n ≡ Some x → slice_get (js ++ j ∷ []) n ≡ Some y → GoesOn limit x right y
@@ -178,7 +177,7 @@ some_of xs n h = pick (slice_get_cases xs n).1
     pick (inl p) = (p.0, p.2)
     pick (inr p) = absurd (omega (arith, h, p.0))
 
-outcome_goes : (l r j : TextRunValue) → IsWhole l → AllGoOn l r j.entries → (s : LexState) (e : Expect) (o : List Holder)
+outcome_goes : (l r j : OutcomeRunValue) → IsWhole l → AllGoOn l r j.entries → (s : LexState) (e : Expect) (o : List Holder)
     → length o ≤ l.limit → outcome j s e o ≡ and_then (outcome l s e o) (outcome r)
 outcome_goes l r j w a s e o h =
     let low : ordinal s < length l.entries = let n = w.all in let m = ordinal-low s in omega (arith, n, m) in
@@ -188,24 +187,21 @@ outcome_goes l r j w a s e o h =
     ∙ a.each (ordinal s) x.0 y.0 x.1 y.1 e o h
     ∙ ap (λ z. and_then (outcome_in z e o) (outcome r)) (sym x.1)
 
-pub joined_is_of : (l r j : TextRunValue) → IsWhole l → AllGoOn l r j.entries → j.limit ≡ l.limit → l.limit ≡ r.limit
-    → l.map.end ≡ r.map.start → j.map.start ≡ l.map.start
-    → ((xs ys : List ℕ) → Map.IsOf xs l.map → Map.IsOf ys r.map → Map.IsOf (xs ++ ys) j.map)
-    → (xs ys : List ℕ) → IsTextRun xs l → IsTextRun ys r → IsTextRun (xs ++ ys) j
-joined_is_of l r j w a jl lr mid start map xs ys x y =
-    let m = map xs ys (record { long = x.long; tracks = x.tracks }) (record { long = y.long; tracks = y.tracks }) in
+pub joined_is_of : (l r j : OutcomeRunValue) → IsWhole l → AllGoOn l r j.entries → j.limit ≡ l.limit → l.limit ≡ r.limit
+    → l.end ≡ r.start → j.start ≡ l.start → j.end ≡ r.end
+    → (xs ys : List ℕ) → IsOutcomeRun xs l → IsOutcomeRun ys r → IsOutcomeRun (xs ++ ys) j
+joined_is_of l r j w a jl lr mid start end xs ys x y =
     record {
-      long = m.long;
-      tracks = m.tracks;
+      long = (let n = length-append xs ys in let p = x.long in let q = y.long in omega (arith, n, p, q, mid, start, end));
       outcomes = λ s e o h.
           let low : length o ≤ l.limit = subst (λ d. length o ≤ d) jl h in
           outcome_goes l r j w a s e o low
           ∙ ap (λ z. and_then z (outcome r)) (x.outcomes s e o low)
-          ∙ and_then-same l.limit (read l.limit s e o l.map.start xs) (outcome r) _ (read-within l.limit xs s e o l.map.start low)
+          ∙ and_then-same l.limit (read l.limit s e o l.start xs) (outcome r) _ (read-within l.limit xs s e o l.start low)
           (λ s' e' o' w'. y.outcomes s' e' o' (subst (λ d. length o' ≤ d) lr w')
-          ∙ ap (λ d. read d s' e' o' r.map.start ys) (sym lr)
+          ∙ ap (λ d. read d s' e' o' r.start ys) (sym lr)
           ∙ ap (λ i. read l.limit s' e' o' i ys) (sym mid ∙ x.long))
-          ∙ sym (read-append l.limit xs ys s e o l.map.start low)
-          ∙ ap (λ d. read d s e o l.map.start (xs ++ ys)) (sym jl)
+          ∙ sym (read-append l.limit xs ys s e o l.start low)
+          ∙ ap (λ d. read d s e o l.start (xs ++ ys)) (sym jl)
           ∙ ap (λ i. read j.limit s e o i (xs ++ ys)) (sym start);
     }

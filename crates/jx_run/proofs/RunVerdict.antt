@@ -1,5 +1,5 @@
 -- The verdict of a run is the verdict on its bytes.
-use Rattle.std.proofs.Common.{◌≡◌, ℕ, suc, List, [], ◌∷◌, length, Some, false, cond, refl, sym, ap, subst, ◌∙◌, arith}
+use Rattle.std.proofs.Common.{◌≡◌, ℕ, suc, List, [], ◌∷◌, ◌++◌, ◌+◌, ◌≤◌, length, Some, false, cond, refl, sym, ap, subst, ◌∙◌, arith}
 use Rattle.std.specs.Prelude.{◌==◌}
 use Rattle.std.proofs.lemmas.Bool.Decides.{nat_tests}
 use Rattle.jx_lex.specs.declared.exit.Exit.{Exit}
@@ -21,11 +21,12 @@ use Rattle.jx_run.specs.declared.entries.Entries.{Entries}
 use Rattle.jx_run.specs.declared.verdict.Verdict.TheVariants as verdict
 use Rattle.jx_run.specs.declared.verdict.Refusal.TheVariants as refusal
 use Rattle.jx_run.specs.Laws.{is_end, verdict_of}
-use Rattle.jx_run.specs.Reading.{at_exit}
-use Rattle.jx_run.specs.TextRun.{TextRunValue, entries_at, outcome_in, IsTextRun}
+use Rattle.jx_run.specs.Reading.{at_exit, and_then, read}
+use Rattle.jx_run.specs.OutcomeRun.{OutcomeRunValue, entries_at, outcome, outcome_in, outcome_of, GoesOn, IsOutcomeRun}
 use Rattle.jx_run.specs.Verdict.{Judged}
 use Rattle.jx_run.specs.Whole.{ends_text, verdict_from}
 use Rattle.jx_run.proofs.LawProofs.{verdict_law}
+use Rattle.jx_run.proofs.RunJoin.{and_then-same, read-append, read-within}
 
 open_none : (s : LexState) (e : Expect) (h : Holder) (o : List Holder) → is_end s e (h ∷ o) ≡ false
 open_none s expect.After h o = refl
@@ -51,11 +52,30 @@ pub whole_is : (r : Reduced) (f : Forms) (w : Whole) → w ≡ whole_of (answer_
     → w ≡ whole_of (answer f expect.Value [])
 whole_is r f w h d e = h ∙ ap (λ n. whole_of (acts n (form_in r) [])) d ∙ ap (λ x. whole_of (acts f.depth x [])) e
 
-pub run_judged : (run : TextRunValue) (e : Entries) (w : Whole) → entries_at run state.Gap ≡ Some e → w ≡ whole_of (answer e.marks expect.Value [])
-    → (bytes : List ℕ) → IsTextRun bytes run → Judged run.map.start bytes run.limit (verdict_from e.exit w)
+pub run_judged : (run : OutcomeRunValue) (e : Entries) (w : Whole) → entries_at run state.Gap ≡ Some e → w ≡ whole_of (answer e.marks expect.Value [])
+    → (bytes : List ℕ) → IsOutcomeRun bytes run → Judged run.start bytes run.limit (verdict_from e.exit w)
 run_judged run e w is whole bytes h =
-    subst (Judged run.map.start bytes run.limit)
+    subst (Judged run.start bytes run.limit)
     (ap verdict_of (sym (h.outcomes state.Gap expect.Value [] (omega arith)) ∙ ap (λ z. outcome_in z expect.Value []) is)
     ∙ same_verdict e.exit (answer e.marks expect.Value [])
     ∙ ap (verdict_from e.exit) (sym whole))
-    (verdict_law run.limit run.map.start bytes)
+    (verdict_law run.limit run.start bytes)
+
+-- the verdict on the bytes of two neighbours
+pub judged_through : (l r : OutcomeRunValue) (e j : Entries) (w : Whole) → entries_at l state.Gap ≡ Some e → GoesOn l.limit e r j → l.limit ≡ r.limit → l.end ≡ r.start
+    → w ≡ whole_of (answer j.marks expect.Value []) → (xs ys : List ℕ) → IsOutcomeRun xs l → IsOutcomeRun ys r
+    → Judged l.start (xs ++ ys) l.limit (verdict_from j.exit w)
+judged_through l r e j w is goes deep mid whole xs ys h k =
+    let none : 0 ≤ l.limit = omega arith in
+    let here : r.start ≡ l.start + length xs = sym mid ∙ h.long in
+    let same : outcome_of j expect.Value [] ≡ read l.limit state.Gap expect.Value [] l.start (xs ++ ys) =
+    goes expect.Value [] none
+    ∙ ap (λ z. and_then z (outcome r)) (sym (ap (λ z. outcome_in z expect.Value []) is) ∙ h.outcomes state.Gap expect.Value [] none)
+    ∙ and_then-same l.limit (read l.limit state.Gap expect.Value [] l.start xs) (outcome r) _ (read-within l.limit xs state.Gap expect.Value [] l.start none)
+    (λ s' e' o' w'. k.outcomes s' e' o' (subst (λ d. length o' ≤ d) deep w')
+    ∙ ap (λ d. read d s' e' o' r.start ys) (sym deep)
+    ∙ ap (λ i. read l.limit s' e' o' i ys) here)
+    ∙ sym (read-append l.limit xs ys state.Gap expect.Value [] l.start none) in
+    subst (Judged l.start (xs ++ ys) l.limit)
+    (ap verdict_of (sym same) ∙ same_verdict j.exit (answer j.marks expect.Value []) ∙ ap (verdict_from j.exit) (sym whole))
+    (verdict_law l.limit l.start (xs ++ ys))

@@ -1,6 +1,7 @@
 pub mod Elements
 pub mod Grammar
 pub mod Laws
+pub mod OutcomeRun
 pub mod Reading
 pub mod Reduced
 pub mod SeqRun

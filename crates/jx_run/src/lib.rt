@@ -5,6 +5,7 @@ mod entries;
 mod laws;
 mod marked;
 mod marks;
+mod outcome_run;
 mod reduce;
 mod seq_run;
 #[cfg(test)]
@@ -22,6 +23,7 @@ pub use laws::{
     beginnings_are_completed_by_bytes, reader_is_grammar, text_has_one_tree,
     values_fill_their_spans, verdict_is_one,
 };
+pub use outcome_run::OutcomeRun;
 pub use seq_run::SeqRun;
 pub use shape::Shape;
 pub use started::Started;

@@ -7,10 +7,9 @@ ghost use Rattle.jx_run.specs.TextRun.{IsTextRun};
 ghost use Rattle.jx_run.specs.Tree.{span};
 
 use crate::started::Started;
-use crate::states::place_of;
-use crate::text_run::{TextRun, verdict_from};
+use crate::summary::Summary;
+use crate::text_run::TextRun;
 use jx_lex::{Exit, LexState, Mark, Span};
-use jx_reduce::Expect;
 use std::alloc::AllocError;
 
 impl TextRun {
@@ -27,9 +26,8 @@ impl TextRun {
             end: right.map.span().end,
         };
         let (marks, ends) = self.copy_track_with(right)?;
-        let entries = self.go_on(place_of(LexState::Gap), right)?;
-        let verdict = verdict_from(entries.exit, entries.marks.entry(Expect::Value).whole());
-        Ok(Started::new(place, self.depth, marks, ends, verdict))
+        let verdict = self.outcomes.verdict_with(&right.outcomes)?;
+        Ok(Started::new(place, self.depth(), marks, ends, verdict))
     }
 
     /// The marks and the ends of the track from the start of a text, on through the run to the right.

@@ -1,16 +1,16 @@
 use Rattle.std.proofs.Common.{◌≡◌, ℕ, sym, subst, refl, arith}
 use Rattle.jx_reduce.specs.Reductions.{Forms, IsBefore, IsJoin, SpansIn}
 use Rattle.jx_reduce.proofs.Spans.{before_of_spans}
-use Rattle.jx_run.specs.TextRun.{GoesOn}
+use Rattle.jx_run.specs.OutcomeRun.{GoesOn}
 use Rattle.jx_run.proofs.RunJoin.{goes_on_state, goes_on_fault, same_within, joined_within, right_within, one_entry}
-use Rattle.jx_run.proofs.text_run.TextRun.go_on.Goals as goal
+use Rattle.jx_run.proofs.outcome_run.OutcomeRun.go_on.Goals as goal
 
 pub extend-requires-clause-before : goal.extend-requires-clause-before
 extend-requires-clause-before c =
     subst (λ f. IsBefore f c.from-next.result.now.marks) (sym (c.in_ok-marks.ensures))
-    (before_of_spans c.args.self.now.map.start c.args.self.now.map.end c.args.right.now.map.end c.at-left.result.now.marks c.from-next.result.now.marks
+    (before_of_spans c.args.self.now.start c.args.self.now.end c.args.right.now.end c.at-left.result.now.marks c.from-next.result.now.marks
     c.at-left.ensures.within.offsets
-    (subst (λ m. SpansIn m c.args.right.now.map.end c.from-next.result.now.marks) (sym c.requires.neighbours) c.from-next.ensures.within.offsets))
+    (subst (λ m. SpansIn m c.args.right.now.end c.from-next.result.now.marks) (sym c.requires.neighbours) c.from-next.ensures.within.offsets))
 
 pub returns-in-Fault-clause-goes_on : goal.returns-in-Fault-clause-goes_on
 returns-in-Fault-clause-goes_on c x h =
@@ -20,7 +20,7 @@ returns-in-Fault-clause-goes_on c x h =
 
 pub returns-in-Fault-clause-within : goal.returns-in-Fault-clause-within
 returns-in-Fault-clause-within c =
-    same_within c.args.self.now.limit c.args.self.now.map.start c.args.self.now.map.end c.args.right.now.map.end c.at-left.result.now
+    same_within c.args.self.now.limit c.args.self.now.start c.args.self.now.end c.args.right.now.end c.at-left.result.now
     (record { exit = c.at-left.result.now.exit; marks = c.in_ok-marks.marks }) c.at-left.ensures.within
     (let n = c.requires.neighbours in let o = c.requires.order in omega (arith, n, o)) (c.in_ok-marks.ensures)
 
@@ -35,9 +35,9 @@ returns-in_ok-extend-in-State-clause-goes_on c x h =
 
 pub returns-in_ok-extend-in-State-clause-within : goal.returns-in_ok-extend-in-State-clause-within
 returns-in_ok-extend-in-State-clause-within c =
-    joined_within c.args.self.now.limit c.args.self.now.map.start c.args.self.now.map.end c.args.right.now.map.end c.at-left.result.now c.from-next.result.now
+    joined_within c.args.self.now.limit c.args.self.now.start c.args.self.now.end c.args.right.now.end c.at-left.result.now c.from-next.result.now
     (record { exit = c.from-next.result.now.exit; marks = c.extend.new.self }) c.at-left.ensures.within
-    (right_within c.args.self.now.limit c.args.right.now.limit c.args.self.now.map.end c.args.right.now.map.start c.args.right.now.map.end c.from-next.result.now c.requires.depth c.requires.neighbours c.from-next.ensures.within)
+    (right_within c.args.self.now.limit c.args.right.now.limit c.args.self.now.end c.args.right.now.start c.args.right.now.end c.from-next.result.now c.requires.depth c.requires.neighbours c.from-next.ensures.within)
     c.at-left.ensures.order (let n = c.requires.neighbours in let o = c.requires.order in omega (arith, n, o))
     (subst (λ (f : Forms). c.extend.new.self.depth ≡ f.depth) (c.in_ok-marks.ensures) (c.in_ok-extend-in-State.ensures).depth)
     (subst (λ f. (low high : ℕ) → SpansIn low high f → SpansIn low high c.from-next.result.now.marks → SpansIn low high c.extend.new.self) (c.in_ok-marks.ensures) (c.in_ok-extend-in-State.ensures).offsets)
