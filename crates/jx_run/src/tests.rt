@@ -1,8 +1,8 @@
 // The verdicts of worked examples, read as one run and as joins of runs of single bytes.
 ghost use Rattle.std.specs.Prelude.{◌≡◌, ◌≤◌, IfOk, length};
-ghost use Rattle.jx_run.specs.TextRun.{place_of};
 ghost use Rattle.jx_run.specs.Tree.{span};
 
+use crate::outcome_run::OutcomeRun;
 use crate::summary::Summary;
 use crate::text_run::TextRun;
 use crate::verdict::{Refusal, Verdict};
@@ -11,14 +11,31 @@ use jx_reduce::Expect;
 use std::alloc::{AllocError, Global};
 use std::process::Abort;
 
+/// A summary that gives the verdict on its bytes.
+trait Judge: Summary {
+    fn judge(&self) -> Verdict;
+}
+
+impl Judge for TextRun {
+    fn judge(&self) -> Verdict {
+        self.verdict()
+    }
+}
+
+impl Judge for OutcomeRun {
+    fn judge(&self) -> Verdict {
+        self.verdict()
+    }
+}
+
 /// Runs of single bytes, joined from the left.
-fn from_left(alloc: Global, text: &[u8], depth: Depth) -> Result<TextRun, AllocError>
-    ensures place { IfOk result (λ r. place_of r ≡ span 0 (length text.now)) }
-    ensures depth { IfOk result (λ r. r.limit ≡ depth) }
+fn from_left<J: Judge>(alloc: Global, text: &[u8], depth: Depth) -> Result<J, AllocError>
+    ensures place { IfOk result (λ r. J.place r ≡ span 0 (length text.now)) }
+    ensures depth { IfOk result (λ r. J.limit r ≡ depth) }
 {
-    let mut run = TextRun::of(alloc, text, 0, 0, depth)?;
+    let mut run = J::of(alloc, text, 0, 0, depth)?;
     for i in 0..text.len() {
-        let right = TextRun::of(alloc, text, i, i + 1, depth)?;
+        let right = J::of(alloc, text, i, i + 1, depth)?;
         run = match run.join(right) {
             Ok(joined) => joined,
             Err(_) => return Err(AllocError),
@@ -28,14 +45,14 @@ fn from_left(alloc: Global, text: &[u8], depth: Depth) -> Result<TextRun, AllocE
 }
 
 /// Runs of single bytes, joined from the right.
-fn from_right(alloc: Global, text: &[u8], depth: Depth) -> Result<TextRun, AllocError>
-    ensures place { IfOk result (λ r. place_of r ≡ span 0 (length text.now)) }
-    ensures depth { IfOk result (λ r. r.limit ≡ depth) }
+fn from_right<J: Judge>(alloc: Global, text: &[u8], depth: Depth) -> Result<J, AllocError>
+    ensures place { IfOk result (λ r. J.place r ≡ span 0 (length text.now)) }
+    ensures depth { IfOk result (λ r. J.limit r ≡ depth) }
 {
     let len = text.len();
-    let mut run = TextRun::of(alloc, text, len, len, depth)?;
+    let mut run = J::of(alloc, text, len, len, depth)?;
     for i in (0..len).rev() {
-        let left = TextRun::of(alloc, text, i, i + 1, depth)?;
+        let left = J::of(alloc, text, i, i + 1, depth)?;
         run = match left.join(run) {
             Ok(joined) => joined,
             Err(_) => return Err(AllocError),
@@ -45,28 +62,48 @@ fn from_right(alloc: Global, text: &[u8], depth: Depth) -> Result<TextRun, Alloc
 }
 
 /// Runs of single bytes, joined by halves.
-fn by_halves(
+fn by_halves<J: Judge>(
     alloc: Global,
     text: &[u8],
     start: usize,
     end: usize,
     depth: Depth,
-) -> Result<TextRun, AllocError>
+) -> Result<J, AllocError>
     requires ordered { start ≤ end }
     requires within { end ≤ length text.now }
-    ensures place { IfOk result (λ r. place_of r ≡ span start end) }
-    ensures depth { IfOk result (λ r. r.limit ≡ depth) }
+    ensures place { IfOk result (λ r. J.place r ≡ span start end) }
+    ensures depth { IfOk result (λ r. J.limit r ≡ depth) }
 {
     if end - start < 2 {
-        return TextRun::of(alloc, text, start, end, depth);
+        return J::of(alloc, text, start, end, depth);
     }
     let middle = start + (end - start) / 2;
-    let left = by_halves(alloc, text, start, middle, depth)?;
-    let right = by_halves(alloc, text, middle, end, depth)?;
+    let left = by_halves::<J>(alloc, text, start, middle, depth)?;
+    let right = by_halves::<J>(alloc, text, middle, end, depth)?;
     match left.join(right) {
         Ok(joined) => Ok(joined),
         Err(_) => Err(AllocError),
     }
+}
+
+/// The verdict of the text as one run, and of runs of its single bytes that are joined from the left, from the right and
+/// by halves.
+fn check_runs<J: Judge>(
+    rt: &impl Abort,
+    alloc: Global,
+    text: &[u8],
+    depth: Depth,
+    want: Verdict,
+) -> Result<(), AllocError> {
+    let whole = J::of(alloc, text, 0, text.len(), depth)?;
+    assert_eq!(rt; whole.judge(), want, "{text:?} as one run");
+    let left = from_left::<J>(alloc, text, depth)?;
+    assert_eq!(rt; left.judge(), want, "{text:?} from the left");
+    let right = from_right::<J>(alloc, text, depth)?;
+    assert_eq!(rt; right.judge(), want, "{text:?} from the right");
+    let halves = by_halves::<J>(alloc, text, 0, text.len(), depth)?;
+    assert_eq!(rt; halves.judge(), want, "{text:?} by halves");
+    Ok(())
 }
 
 fn check(
@@ -77,15 +114,8 @@ fn check(
     want: Verdict,
 ) -> Result<(), AllocError> {
     let depth = Depth::new(containers).expect(rt, "a depth");
-    let whole = TextRun::of(alloc, text, 0, text.len(), depth)?;
-    assert_eq!(rt; whole.verdict(), want, "{text:?} as one run");
-    let left = from_left(alloc, text, depth)?;
-    assert_eq!(rt; left.verdict(), want, "{text:?} from the left");
-    let right = from_right(alloc, text, depth)?;
-    assert_eq!(rt; right.verdict(), want, "{text:?} from the right");
-    let halves = by_halves(alloc, text, 0, text.len(), depth)?;
-    assert_eq!(rt; halves.verdict(), want, "{text:?} by halves");
-    Ok(())
+    check_runs::<TextRun>(rt, alloc, text, depth, want)?;
+    check_runs::<OutcomeRun>(rt, alloc, text, depth, want)
 }
 
 const TRUNCATED: Verdict = Verdict::Refused(Refusal::Truncated);
@@ -222,7 +252,7 @@ fn deep_texts(rt: HostRuntime) -> Result<(), AllocError> {
 
 #[test]
 fn reading_from_the_start(rt: HostRuntime) -> Result<(), AllocError> {
-    let run = from_left(rt.alloc(), b" [12]", Depth::default())?;
+    let run = from_left::<TextRun>(rt.alloc(), b" [12]", Depth::default())?;
     let started = run.started()?;
     assert_eq!(rt; started.verdict(), Verdict::Accepted);
     assert_eq!(rt; started.span().end, 5);
