@@ -11,7 +11,7 @@ use jx_book::{Gate, Held, read_whole};
 use jx_claim::{Cutting, Workers};
 use jx_index::Indexed;
 use jx_lex::Depth;
-use jx_run::{Summary, TextRun, Verdict};
+use jx_run::{OutcomeRun, Summary, TextRun, Verdict};
 use std::alloc::{AllocError, Global};
 use std::sync::Wait;
 use std::thread::Threads;
@@ -52,7 +52,7 @@ pub fn verdict_of_text<R: Threads + Wait + Sync, G: Gate + Sync>(
     requires cutting { cutting.now.len ≡ length text.now }
     ensures verdict { IfOk result (λ verdict. Judged 0 text.now depth verdict) }
 {
-    let run = read_text::<TextRun, R, G>(rt, alloc, text, cutting, workers, depth, gate)?;
+    let run = read_text::<OutcomeRun, R, G>(rt, alloc, text, cutting, workers, depth, gate)?;
     Ok(run.run().verdict())
 }
 
