@@ -1,6 +1,6 @@
 -- The reduced form that a value of the program is.
 use Rattle.std.specs.Prelude.{ℕ, List, [], ◌∷◌, Option, Some, None, reverse}
-use Rattle.std.specs.Prelude.{◌≡◌, ◌≤◌, ◌+◌, length, vec_len, vec_capacity, false}
+use Rattle.std.specs.Prelude.{◌≡◌, ◌≤◌, ◌<◌, ◌+◌, length, vec_len, vec_capacity, false}
 use Rattle.jx_reduce.specs.Entries.{expect_at}
 use Rattle.jx_reduce.specs.Form.{Form}
 use Rattle.jx_reduce.specs.Table.{next_of, change_of, Change, added}
@@ -46,17 +46,21 @@ pub record HasRoomOf (l : Levels) (r : Form) : Type 0 where
   pub opens : vec_len l.opens + length r.opens ≤ vec_capacity l.opens
   pub heights : vec_len l.heights + length r.heights ≤ vec_capacity l.heights
 
--- what opens no container
-abbrev pub OpensNone : Change → Type 0
-OpensNone (added h) = ⊥
-OpensNone _ = Unit {0}
+-- a container that is opened is neither too deep nor deeper than any before it
+abbrev pub ReachesNoHeight : ℕ → Form → Change → Type 0
+ReachesNoHeight depth r (added h) = (length r.opens < depth) × (length r.opens < length r.ended + length r.heights)
+ReachesNoHeight depth r _ = Unit {0}
 
--- a mark of this kind stands in a container that was opened here, is no fault there, and opens none
-pub record IsInside (r : Form) (x : Entry) (kind : MarkKind) : Type 0 where
+-- a mark of this kind stands in a container that was opened here, is no fault there, and reaches no new height
+pub record IsInside (depth : ℕ) (r : Form) (x : Entry) (kind : MarkKind) : Type 0 where
   pub holder : Holder
   pub around : List Holder
   pub next : Expect
   pub opens : r.opens ≡ holder ∷ around
   pub allowed : next_of kind (expect_at x holder) holder ≡ Some next
-  pub opens_none : OpensNone (change_of kind)
+  pub low : ReachesNoHeight depth r (change_of kind)
   pub goes_on : all_faulted r.last ≡ false
+
+-- a form with these open containers and this exit
+abbrev pub with_opens : Form → List Holder → Entry → Form
+with_opens r os x = record { ended = r.ended; last = r.last; opens = os; exit = Some x; heights = r.heights }

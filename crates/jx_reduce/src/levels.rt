@@ -1,11 +1,11 @@
 // Levels that are not known to begin in any container.
 
-ghost use Rattle.std.specs.Prelude.{◌≡◌, ◌≤◌, ◌<◌, ◌+◌, ◌^◌, OnOk, IfOk, IsOk, length, reverse, true, Some, vec_len, vec_capacity};
+ghost use Rattle.std.specs.Prelude.{◌≡◌, ◌≤◌, ◌<◌, ◌+◌, ◌^◌, OnOk, IfOk, IsOk, length, reverse, ◌∷◌, true, Some, vec_len, vec_capacity};
 ghost use Rattle.jx_reduce.specs.Join.{halted, joined, joined_heights};
 ghost use Rattle.jx_reduce.specs.Marks.{pushed, of_change, of_marks, of_nothing};
-ghost use Rattle.jx_reduce.specs.Table.{same, added, removed};
+ghost use Rattle.jx_reduce.specs.Table.{change_of, same, added, removed};
 ghost use Rattle.jx_reduce.specs.Fits.{Fits};
-ghost use Rattle.jx_reduce.specs.Levels.{form_of, part_form, head_of, taken_in, ended_in, IsSameBut, HasRoom, IsInside};
+ghost use Rattle.jx_reduce.specs.Levels.{form_of, part_form, head_of, taken_in, ended_in, IsSameBut, HasRoom, IsInside, ReachesNoHeight, with_opens};
 
 use crate::ended_level::EndedLevel;
 use crate::entry::Entry;
@@ -211,9 +211,8 @@ impl Levels {
         let Some(entry) = self.exit else {
             return Ok(());
         };
-        if self.is_inside(entry, mark.kind) {
-            self.step_inside(depth, entry, mark);
-            return Ok(());
+        if self.is_inside(depth, entry, mark.kind) {
+            return self.step_inside(depth, entry, mark);
         }
         match mark.kind {
             MarkKind::OpenArray => self.open(depth, entry, mark, Holder::Array),
@@ -223,12 +222,31 @@ impl Levels {
         }
     }
 
-    /// Whether a mark stands in a container that was opened here, is no fault there, and opens none. Most marks do.
+    /// Whether a mark of this kind opens no container, or one that is neither too deep nor deeper than any before it.
     #[inline(always)]
-    fn is_inside(&self, entry: Entry, kind: MarkKind) -> bool
-        ensures inside { result ≡ true → IsInside (form_of self.now) entry kind }
+    fn is_low(&self, depth: usize, kind: MarkKind) -> bool
+        requires depth { depth < 2 ^ 32 }
+        requires fits { Fits depth (form_of self.now) }
+        ensures low { result ≡ true → ReachesNoHeight depth (form_of self.now) (change_of kind) }
     {
-        if matches!(kind, MarkKind::OpenArray | MarkKind::OpenObject) || self.last.is_all() {
+        match kind {
+            MarkKind::OpenArray | MarkKind::OpenObject => {
+                let count = self.opens.len();
+                count < depth && count < self.ended.len() + self.heights.len()
+            }
+            _ => true,
+        }
+    }
+
+    /// Whether a mark stands in a container that was opened here, is no fault there, and reaches no new height. Most
+    /// marks do.
+    #[inline(always)]
+    fn is_inside(&self, depth: usize, entry: Entry, kind: MarkKind) -> bool
+        requires depth { depth < 2 ^ 32 }
+        requires fits { Fits depth (form_of self.now) }
+        ensures inside { result ≡ true → IsInside depth (form_of self.now) entry kind }
+    {
+        if self.last.is_all() || !self.is_low(depth, kind) {
             return false;
         }
         match innermost(&self.opens) {
@@ -237,20 +255,37 @@ impl Levels {
         }
     }
 
-    /// Goes on with such a mark, which changes no level.
+    /// A container more is open.
     #[inline(always)]
-    fn step_inside(&mut self, depth: usize, entry: Entry, mark: Mark)
-        requires exit { self.old.exit ≡ Some entry }
-        requires inside { IsInside (form_of self.old) entry mark.kind }
-        requires fits { Fits depth (form_of self.old) }
-        ensures { form_of self.new ≡ pushed depth (form_of self.old) mark }
+    fn enter(&mut self, holder: Holder, exit: Entry) -> Result<(), AllocError>
+        ensures ok { OnOk result (form_of self.new ≡ with_opens (form_of self.old) (holder ∷ (form_of self.old).opens) exit) }
     {
+        self.opens.push(holder)?;
+        self.exit = Some(exit);
+        Ok(())
+    }
+
+    /// Goes on with such a mark, which changes no level and no height.
+    #[inline(always)]
+    fn step_inside(&mut self, depth: usize, entry: Entry, mark: Mark) -> Result<(), AllocError>
+        requires exit { self.old.exit ≡ Some entry }
+        requires inside { IsInside depth (form_of self.old) entry mark.kind }
+        requires fits { Fits depth (form_of self.old) }
+        ensures ok { OnOk result (form_of self.new ≡ pushed depth (form_of self.old) mark) }
+    {
+        let exit = entry.leads_to(mark.kind);
         match mark.kind {
+            MarkKind::OpenArray => self.enter(Holder::Array, exit),
+            MarkKind::OpenObject => self.enter(Holder::Object, exit),
             MarkKind::CloseArray | MarkKind::CloseObject => {
                 let _ = self.opens.pop();
-                self.exit = Some(Entry::After);
+                self.exit = Some(exit);
+                Ok(())
             }
-            _ => self.exit = Some(entry.leads_to(mark.kind)),
+            _ => {
+                self.exit = Some(exit);
+                Ok(())
+            }
         }
     }
 
