@@ -222,3 +222,73 @@ fn long_texts_are_read_as_byte_by_byte(rt: HostRuntime) -> Result<(), Fail> {
     }
     Ok(())
 }
+
+/// Copies of a part, so many that they have at least so many bytes.
+fn repeated(alloc: Global, part: &[u8], least: usize) -> Result<Vec<u8>, AllocError> {
+    let mut text = Vec::new(alloc);
+    for _ in 0..least {
+        if text.len() >= least {
+            break;
+        }
+        text.extend_from_slice(part)?;
+    }
+    Ok(text)
+}
+
+#[test]
+fn pieces_of_one_kind_are_read_as_byte_by_byte(rt: HostRuntime) -> Result<(), Fail> {
+    let parts: [&[u8]; 20] = [
+        b"ordinary characters of a string with no quotation mark ",
+        b"\"a string\",\"and another\",",
+        b"\\u00e9\\uD83D\\uDE00",
+        b"\\n\\t\\\\\\/\\\"",
+        b"\xc3\xa9\xd0\x96",
+        b"\xe6\x97\xa5\xe6\x9c\xac\xe8\xaa\x9e",
+        b"\xf0\x9f\x98\x80",
+        b"1234567890",
+        b"0",
+        b"-12.5,-0.25,1e9,",
+        b"0.125E-7 ",
+        b" ",
+        b"\n    \r\n\t",
+        b"[[[]]]",
+        b"{\"a\":{},\"b\":[]},",
+        b"true,false,null,",
+        b"1,",
+        b"\"\",",
+        b"\"1\",\"2\",",
+        b"plain characters up to here, and then \x1f",
+    ];
+    let alloc = rt.alloc();
+    for part in parts {
+        let text = repeated(alloc, part, 65536)?;
+        for start in 0..2 {
+            if start <= text.len() {
+                let map = ChunkMap::of(alloc, &text, start, text.len())?;
+                assert!(rt; is_plain(alloc, &map, &text[start..])?, "from {start}");
+            }
+        }
+    }
+    Ok(())
+}
+
+#[test]
+fn a_long_run_ends_where_its_kind_ends(rt: HostRuntime) -> Result<(), Fail> {
+    let runs: [&[u8]; 6] = [b"x", b"7", b" ", b"\\n", b"\xc3\xa9", b"0"];
+    let others: [&[u8]; 8] = [
+        b"\x00", b"\x7f", b"\x80", b"\xff", b"\"", b"\\", b".", b"\xc3",
+    ];
+    let alloc = rt.alloc();
+    for run in runs {
+        for other in others {
+            for length in 30..50 {
+                let mut text = repeated(alloc, run, length)?;
+                text.extend_from_slice(other)?;
+                text.extend_from_slice(b"1]")?;
+                let map = ChunkMap::of(alloc, &text, 0, text.len())?;
+                assert!(rt; is_plain(alloc, &map, &text)?, "a run of {length} bytes");
+            }
+        }
+    }
+    Ok(())
+}
