@@ -52,20 +52,17 @@ pub whole_is : (r : Reduced) (f : Forms) (w : Whole) → w ≡ whole_of (answer_
     → w ≡ whole_of (answer f expect.Value [])
 whole_is r f w h d e = h ∙ ap (λ n. whole_of (acts n (form_in r) [])) d ∙ ap (λ x. whole_of (acts f.depth x [])) e
 
-pub run_judged : (run : OutcomeRunValue) (e : Entries) (w : Whole) → entries_at run state.Gap ≡ Some e → w ≡ whole_of (answer e.marks expect.Value [])
-    → (bytes : List ℕ) → IsOutcomeRun bytes run → Judged run.start bytes run.limit (verdict_from e.exit w)
-run_judged run e w is whole bytes h =
+pub run_judged : (run : OutcomeRunValue) (e : Entries) → entries_at run state.Gap ≡ Some e → (bytes : List ℕ) → IsOutcomeRun bytes run
+    → Judged run.start bytes run.limit (verdict_from e.exit (whole_of (answer e.marks expect.Value [])))
+run_judged run e is bytes h =
     subst (Judged run.start bytes run.limit)
-    (ap verdict_of (sym (h.outcomes state.Gap expect.Value [] (omega arith)) ∙ ap (λ z. outcome_in z expect.Value []) is)
-    ∙ same_verdict e.exit (answer e.marks expect.Value [])
-    ∙ ap (verdict_from e.exit) (sym whole))
+    (ap verdict_of (sym (h.outcomes state.Gap expect.Value [] (omega arith)) ∙ ap (λ z. outcome_in z expect.Value []) is) ∙ same_verdict e.exit (answer e.marks expect.Value []))
     (verdict_law run.limit run.start bytes)
 
 -- the verdict on the bytes of two neighbours
-pub judged_through : (l r : OutcomeRunValue) (e j : Entries) (w : Whole) → entries_at l state.Gap ≡ Some e → GoesOn l.limit e r j → l.limit ≡ r.limit → l.end ≡ r.start
-    → w ≡ whole_of (answer j.marks expect.Value []) → (xs ys : List ℕ) → IsOutcomeRun xs l → IsOutcomeRun ys r
-    → Judged l.start (xs ++ ys) l.limit (verdict_from j.exit w)
-judged_through l r e j w is goes deep mid whole xs ys h k =
+pub judged_through : (l r : OutcomeRunValue) (e j : Entries) → entries_at l state.Gap ≡ Some e → GoesOn l.limit e r j → l.limit ≡ r.limit → l.end ≡ r.start
+    → (xs ys : List ℕ) → IsOutcomeRun xs l → IsOutcomeRun ys r → Judged l.start (xs ++ ys) l.limit (verdict_from j.exit (whole_of (answer j.marks expect.Value [])))
+judged_through l r e j is goes deep mid xs ys h k =
     let none : 0 ≤ l.limit = omega arith in
     let here : r.start ≡ l.start + length xs = sym mid ∙ h.long in
     let same : outcome_of j expect.Value [] ≡ read l.limit state.Gap expect.Value [] l.start (xs ++ ys) =
@@ -76,6 +73,4 @@ judged_through l r e j w is goes deep mid whole xs ys h k =
     ∙ ap (λ d. read d s' e' o' r.start ys) (sym deep)
     ∙ ap (λ i. read l.limit s' e' o' i ys) here)
     ∙ sym (read-append l.limit xs ys state.Gap expect.Value [] l.start none) in
-    subst (Judged l.start (xs ++ ys) l.limit)
-    (ap verdict_of (sym same) ∙ same_verdict j.exit (answer j.marks expect.Value []) ∙ ap (verdict_from j.exit) (sym whole))
-    (verdict_law l.limit l.start (xs ++ ys))
+    subst (Judged l.start (xs ++ ys) l.limit) (ap verdict_of (sym same) ∙ same_verdict j.exit (answer j.marks expect.Value [])) (verdict_law l.limit l.start (xs ++ ys))

@@ -58,8 +58,17 @@ abbrev pub GoesOn : ℕ → Entries → OutcomeRunValue → Entries → Type 0
 GoesOn limit left right joined = (expect : Expect) (holders : List Holder) → length holders ≤ limit
     → outcome_of joined expect holders ≡ and_then (outcome_of left expect holders) (outcome right)
 
--- so it is with each of the entries
-pub record AllGoOn (left right : OutcomeRunValue) (joined : List Entries) : Type 0 where
+-- what stays on the left, unless there are others in its place
+abbrev pub in_place : Option Entries → Entries → Entries
+in_place None left = left
+in_place (Some joined) left = joined
+
+-- the entries of the joined bytes
+pub record IsJoined (left right : OutcomeRunValue) (x y : Entries) : Type 0 where
+  pub goes_on : GoesOn left.limit x right y
+  pub within : IsWithin left.limit left.start right.end y
+
+-- so it is with each of the entries that are put in their places
+pub record AllGoOn (left right : OutcomeRunValue) (joined : List (Option Entries)) : Type 0 where
   pub all : length joined ≡ length left.entries
-  pub each : (n : ℕ) (x y : Entries) → slice_get left.entries n ≡ Some x → slice_get joined n ≡ Some y → GoesOn left.limit x right y
-  pub within : All (IsWithin left.limit left.start right.end) joined
+  pub each : (n : ℕ) (x : Entries) (j : Option Entries) → slice_get left.entries n ≡ Some x → slice_get joined n ≡ Some j → IsJoined left right x (in_place j x)

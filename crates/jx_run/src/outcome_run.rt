@@ -1,7 +1,10 @@
 // Runs over parts of a JSON text that keep no marks.
-ghost use Rattle.std.specs.Prelude.{◌≡◌, ◌<◌, ◌≤◌, ℕ, List, ◌++◌, length, Some, slice_get, slice_range, IfOk, IfErr};
+ghost use Rattle.std.specs.Prelude.{◌≡◌, ◌<◌, ◌≤◌, ℕ, List, [], ◌++◌, length, Option, Some, slice_get, slice_range, IfOk, IfErr};
 ghost use Rattle.jx_lex.specs.Map.{IsOf};
-ghost use Rattle.jx_run.specs.OutcomeRun.{entries_at, place_of, AllGoOn, GoesOn, IsOutcomeRun, IsWithin};
+ghost use Rattle.jx_reduce.specs.Reductions.{answer};
+ghost use Rattle.jx_reduce.specs.Whole.{whole_of};
+ghost use Rattle.jx_reduce.specs.declared.expect.Expect.TheVariants.{Value};
+ghost use Rattle.jx_run.specs.OutcomeRun.{entries_at, in_place, place_of, AllGoOn, IsJoined, IsOutcomeRun, IsWithin};
 ghost use Rattle.jx_run.specs.Verdict.{Judged};
 ghost use Rattle.jx_run.specs.Whole.{ends_text, verdict_from};
 ghost use Rattle.jx_run.specs.declared.entries.Entries.{Entries};
@@ -70,6 +73,27 @@ fn verdict_from(exit: Exit, whole: Whole) -> Verdict
     }
 }
 
+/// The verdict on a whole text, from the entries of its start.
+fn verdict_of(entries: &Entries) -> Verdict
+    ensures { result ≡ verdict_from entries.now.exit (whole_of (answer entries.now.marks Value [])) }
+{
+    verdict_from(entries.exit, entries.marks.entry(Expect::Value).whole())
+}
+
+/// Puts the joined entries in their places; where there are none, the entries stay what they are.
+fn put(entries: &mut [Entries], joined: Vec<Option<Entries>>)
+    requires many { length joined.items ≡ length entries.old }
+    ensures many { length entries.new ≡ length entries.old }
+    ensures each { (n : ℕ) (x : Entries) (j : Option Entries) → slice_get entries.old n ≡ Some x → slice_get joined.items n ≡ Some j → slice_get entries.new n ≡ Some (in_place j x) }
+{
+    let mut joined = joined;
+    while let Some(last) = joined.pop() {
+        if let Some(other) = last {
+            entries[joined.len()] = other;
+        }
+    }
+}
+
 impl OutcomeRun {
     /// What reading the bytes of a chunk map comes to. Only want of memory is refused.
     pub(crate) fn of_map(
@@ -96,8 +120,7 @@ impl OutcomeRun {
     pub fn verdict(&self) -> Verdict
         ensures verdict { (bytes : List ℕ) → IsOutcomeRun bytes self.now → Judged self.now.start bytes self.now.limit result }
     {
-        let entries = self.from(LexState::Gap);
-        verdict_from(entries.exit, entries.marks.entry(Expect::Value).whole())
+        verdict_of(self.from(LexState::Gap))
     }
 
     /// The verdict on the joined bytes as a whole text; neither run changes, and no entries but those of its start are joined.
@@ -109,11 +132,13 @@ impl OutcomeRun {
         // Shows the proof what both runs keep.
         let _ = &self.depth;
         let _ = &right.depth;
-        let entries = self.go_on(place_of(LexState::Gap), right)?;
-        let whole = entries.marks.entry(Expect::Value).whole();
-        Ok(verdict_from(entries.exit, whole))
+        match self.go_on(place_of(LexState::Gap), right)? {
+            None => Ok(verdict_of(self.from(LexState::Gap))),
+            Some(joined) => Ok(verdict_of(&joined)),
+        }
     }
 
+    /// Where its memory comes from.
     pub(crate) fn allocator(&self) -> Global {
         *self.entries.allocator()
     }
@@ -135,35 +160,32 @@ impl OutcomeRun {
         &self.entries[number]
     }
 
-    /// The entries of this number, joined with those of the right from where they end.
-    fn go_on(&self, number: usize, right: &OutcomeRun) -> Result<Entries, AllocError>
+    /// The entries of this number, joined with those of the right from where they end; none where they end at a fault,
+    /// and stay what they are.
+    fn go_on(&self, number: usize, right: &OutcomeRun) -> Result<Option<Entries>, AllocError>
         requires number { number < length self.now.entries }
         requires neighbours { self.now.end ≡ right.now.start }
         requires depth { self.now.limit ≡ right.now.limit }
         requires order { right.now.start ≤ right.now.end }
-        ensures goes_on { IfOk result (λ j. (x : Entries) → slice_get self.now.entries number ≡ Some x → GoesOn self.now.limit x right.now j) }
-        ensures within { IfOk result (λ j. IsWithin self.now.limit self.now.start right.now.end j) }
+        ensures { IfOk result (λ j. (x : Entries) → slice_get self.now.entries number ≡ Some x → IsJoined self.now right.now x (in_place j x)) }
     {
         let left = self.at(number);
-        let mut marks = left.marks.copy()?;
         match left.exit {
-            Exit::Fault(_) => Ok(Entries {
-                exit: left.exit,
-                marks,
-            }),
+            Exit::Fault(_) => Ok(None),
             Exit::State(state) => {
                 let next = right.from(state);
+                let mut marks = left.marks.copy()?;
                 marks.extend(&next.marks)?;
-                Ok(Entries {
+                Ok(Some(Entries {
                     exit: next.exit,
                     marks,
-                })
+                }))
             }
         }
     }
 
-    /// All entries, joined with those of the right.
-    pub(crate) fn all_go_on(&self, right: &OutcomeRun) -> Result<Vec<Entries>, AllocError>
+    /// All entries that go on, joined with those of the right.
+    pub(crate) fn all_go_on(&self, right: &OutcomeRun) -> Result<Vec<Option<Entries>>, AllocError>
         requires neighbours { self.now.end ≡ right.now.start }
         requires depth { self.now.limit ≡ right.now.limit }
         requires order { right.now.start ≤ right.now.end }
@@ -177,8 +199,8 @@ impl OutcomeRun {
         Ok(joined)
     }
 
-    /// The run over the joined bytes, of the entries that go on.
-    pub(crate) fn with(self, right: &OutcomeRun, joined: Vec<Entries>) -> OutcomeRun
+    /// The run over the joined bytes, by the entries that go on. It takes no memory.
+    pub(crate) fn with(self, right: &OutcomeRun, joined: Vec<Option<Entries>>) -> OutcomeRun
         requires neighbours { self.end ≡ right.now.start }
         requires depth { self.limit ≡ right.now.limit }
         requires all { AllGoOn self right.now joined.items }
@@ -187,14 +209,20 @@ impl OutcomeRun {
         ensures limit { result.limit ≡ self.limit }
         ensures of { (xs ys : List ℕ) → IsOutcomeRun xs self → IsOutcomeRun ys right.now → IsOutcomeRun (xs ++ ys) result }
     {
+        let OutcomeRun {
+            depth,
+            span,
+            mut entries,
+        } = self;
+        put(&mut entries, joined);
         let span = Span {
-            start: self.span.start,
+            start: span.start,
             end: right.span.end,
         };
         OutcomeRun {
-            depth: self.depth,
+            depth,
             span,
-            entries: joined,
+            entries,
         }
     }
 }

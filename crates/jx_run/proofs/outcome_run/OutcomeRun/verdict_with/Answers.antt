@@ -1,11 +1,11 @@
-use Rattle.std.proofs.Common.{◌≡◌, ◌++◌, ◌<◌, length, ap, sym, subst, ◌∙◌, arith}
+use Rattle.std.proofs.Common.{◌≡◌, ◌++◌, ◌<◌, length, ap, sym, subst, ◌∙◌, arith, Some}
 use Rattle.std.specs.Prelude.{slice_get}
 use Rattle.jx_lex.specs.declared.state.LexState.TheVariants.{Gap}
 use Rattle.jx_lex.specs.Ordinal.{ordinal}
-use Rattle.jx_run.specs.OutcomeRun.{OutcomeRunValue}
+use Rattle.jx_run.specs.OutcomeRun.{OutcomeRunValue, in_place, IsJoined}
 use Rattle.jx_run.specs.Verdict.{Judged}
 use Rattle.jx_run.proofs.RunJoin.{some_of}
-use Rattle.jx_run.proofs.RunVerdict.{judged_through, whole_is}
+use Rattle.jx_run.proofs.RunVerdict.{judged_through}
 use Rattle.jx_run.proofs.outcome_run.OutcomeRun.verdict_with.Goals as goal
 
 pub go_on-requires-clause-number : goal.go_on-requires-clause-number
@@ -22,8 +22,21 @@ go_on-requires-clause-order c =
     let end = ap (λ (v : OutcomeRunValue). v.end) c.right.view_is in
     omega (arith, order, start, end)
 
-pub returns : goal.returns
-returns c =
+pub returns-in-None : goal.returns-in-None
+returns-in-None c =
+    let l = c.args.self.now in
+    let r = c.args.right.now in
+    let x = c.from.result.now in
+    let at : slice_get l.entries c.place_of.result ≡ Some x = ap (slice_get l.entries) c.place_of.ensures.place ∙ c.from.ensures.entries in
+    let joined : IsJoined l r x x = subst (λ j. IsJoined l r x (in_place j x)) c.in-None.is (c.in_ok-go_on.ensures x at) in
+    record {
+      verdict = λ xs ys h k.
+          subst (Judged l.start (xs ++ ys) l.limit) (sym c.verdict_of.ensures)
+          (judged_through l r x x c.from.ensures.entries joined.goes_on c.requires.depth c.requires.neighbours xs ys h k);
+    }
+
+pub returns-in-Some : goal.returns-in-Some
+returns-in-Some c =
     let l = c.args.self.now in
     let r = c.args.right.now in
     let place : c.place_of.result ≡ ordinal Gap = c.place_of.ensures.place in
@@ -31,9 +44,10 @@ returns c =
     let long = c.self.invariant.all in
     let same = ap (λ (v : OutcomeRunValue). length v.entries) c.self.view_is in omega (arith, few, place, long, same)) in
     let e = some_of l.entries (ordinal Gap) low in
+    let joined : IsJoined l r e.0 c.in-Some.joined =
+    subst (λ j. IsJoined l r e.0 (in_place j e.0)) c.in-Some.is (c.in_ok-go_on.ensures e.0 (ap (slice_get l.entries) place ∙ e.1)) in
     record {
       verdict = λ xs ys h k.
-          subst (Judged l.start (xs ++ ys) l.limit) (sym c.verdict_from.ensures)
-          (judged_through l r e.0 c.in_ok-entries.entries c.whole-whole.result e.1 (c.in_ok-entries.ensures.goes_on e.0 (ap (slice_get l.entries) place ∙ e.1)) c.requires.depth c.requires.neighbours
-          (whole_is c.entry.result.now c.in_ok-entries.entries.marks c.whole-whole.result c.whole-whole.ensures c.entry.ensures.depth c.entry.ensures.form) xs ys h k);
+          subst (Judged l.start (xs ++ ys) l.limit) (sym c.verdict_of-in-Some.ensures)
+          (judged_through l r e.0 c.in-Some.joined e.1 joined.goes_on c.requires.depth c.requires.neighbours xs ys h k);
     }
