@@ -14,7 +14,7 @@ use task::Task;
 /// How often the text is read: the least time counts.
 const ROUNDS: usize = 5;
 
-const USAGE: &str = "usage: jx_bench steps|maps|runs|rows FILE";
+const USAGE: &str = "usage: jx_bench steps|maps|runs|reading|rows FILE";
 
 /// What one round took, and how many marks, runs or rows it found.
 #[derive(Clone, Copy)]
@@ -30,6 +30,7 @@ fn timed(rt: &HostRuntime, task: Task, text: &[u8]) -> Result<Round> {
         Task::Steps => marks_by_step(text),
         Task::Maps => marks_by_map(alloc, text)?,
         Task::Runs => runs_of_pieces(alloc, text)?,
+        Task::Reading => reading_of(alloc, text)?.marks().len() as u64,
         Task::Rows => return timed_rows(rt, text),
     };
     Ok(Round {

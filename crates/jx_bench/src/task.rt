@@ -1,5 +1,5 @@
 ghost use Rattle.std.specs.Prelude.{◌≡◌, ◌↔◌, Some, codes};
-ghost use Rattle.jx_bench.specs.declared.task.Task.TheVariants.{Steps, Maps, Runs, Rows};
+ghost use Rattle.jx_bench.specs.declared.task.Task.TheVariants.{Steps, Maps, Runs, Reading, Rows};
 
 /// What is measured.
 #[derive(Clone, Copy, Debug)]
@@ -10,7 +10,9 @@ pub enum Task {
     Maps,
     /// Text runs of pieces one after another: their maps, and what the marks come to.
     Runs,
-    /// The rows of a text, from the marks of its reading.
+    /// The reading of a text from its start, as one run, with its marks and ends.
+    Reading,
+    /// The rows of a text, from the marks and ends of its reading.
     Rows,
 }
 
@@ -20,12 +22,14 @@ impl Task {
         ensures steps { (result ≡ Some Steps) ↔ (name.now ≡ codes "steps") }
         ensures maps { (result ≡ Some Maps) ↔ (name.now ≡ codes "maps") }
         ensures runs { (result ≡ Some Runs) ↔ (name.now ≡ codes "runs") }
+        ensures reading { (result ≡ Some Reading) ↔ (name.now ≡ codes "reading") }
         ensures rows { (result ≡ Some Rows) ↔ (name.now ≡ codes "rows") }
     {
         match name {
             "steps" => Some(Task::Steps),
             "maps" => Some(Task::Maps),
             "runs" => Some(Task::Runs),
+            "reading" => Some(Task::Reading),
             "rows" => Some(Task::Rows),
             _ => None,
         }
