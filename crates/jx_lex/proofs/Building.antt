@@ -311,7 +311,7 @@ live-more (Some n) live u all l = live-set (λ b. b ≡ true) live n u all (λ e
 pub live-new : (n : LexState) (live : List Bool) → length live ≡ 32 → is_live (more_live (Some n) live) n ≡ true
 live-new n live all = get_or-set_same live (ordinal n) true false (rw all (ordinal-low n))
 
-LiveAt-more : (m : Option LexState) (live : List Bool) (g : Link) → length live ≡ 32 → LiveAt live g → LiveAt (more_live m live) g
+pub LiveAt-more : (m : Option LexState) (live : List Bool) (g : Link) → length live ≡ 32 → LiveAt live g → LiveAt (more_live m live) g
 LiveAt-more m live (State s) all l = live-more m live s all l
 LiveAt-more m live (Ahead k) all l = tt
 LiveAt-more m live (Fault at) all l = tt

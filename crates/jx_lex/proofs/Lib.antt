@@ -18,6 +18,7 @@ pub mod Many
 pub mod Meeting
 pub mod Passing
 pub mod Placing
+pub mod Pruning
 pub mod Reading
 pub mod ReadingOn
 pub mod Running

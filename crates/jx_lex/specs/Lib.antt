@@ -9,6 +9,7 @@ pub mod Map
 pub mod Moves
 pub mod Ordinal
 pub mod Passing
+pub mod Pruned
 pub mod Shared
 pub mod Step
 pub mod Runs

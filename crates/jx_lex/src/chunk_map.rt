@@ -1,6 +1,7 @@
 // What reading a span gives from each state.
 ghost use Rattle.std.specs.Prelude.{◌≡◌, ◌≤◌, ◌<◌, ◌+◌, ◌++◌, ◌^◌, length, OnOk, IfOk, IfErr, map, slice_range, ℕ, List};
 ghost use Rattle.jx_lex.specs.Follow.{linked};
+ghost use Rattle.jx_lex.specs.declared.state.LexState.{LexState};
 ghost use Rattle.jx_lex.specs.View.{view_track};
 ghost use Rattle.jx_lex.specs.Shared.{shared_count};
 ghost use Rattle.jx_lex.specs.Map.{ArePlaced, joined_map, IsOf, stored, track};
@@ -10,7 +11,8 @@ use crate::join_fault::JoinFault;
 use crate::link::{Link, link_heads};
 use crate::many_tracks::read_some;
 use crate::ordinal::ordinal;
-use crate::segment::{Segment, append_linked};
+use crate::reach::{append_reached, exits, reached_from};
+use crate::segment::Segment;
 use crate::span::Span;
 use crate::state::LexState;
 use crate::track_view::TrackView;
@@ -114,12 +116,13 @@ impl ChunkMap {
         })
     }
 
-    /// The map of both spans.
+    /// The map of both spans. Of the right it keeps what the tracks of the left reach: the marks and ends of its other
+    /// segments are let go. Where it is refused both maps come back as they were.
     pub fn join(self, right: ChunkMap) -> Result<ChunkMap, JoinFault<ChunkMap>>
         requires { self.end ≡ right.start }
         ensures start { IfOk result (λ j. j.start ≡ self.start) }
         ensures end { IfOk result (λ j. j.end ≡ right.end) }
-        ensures joined { IfOk result (λ j. j ≡ joined_map self right) }
+        ensures tracks { IfOk result (λ j. (s : LexState) → track j s ≡ track (joined_map self right) s) }
         ensures of { IfOk result (λ j. (xs ys : List ℕ) → IsOf xs self → IsOf ys right → IsOf (xs ++ ys) j) }
         ensures stored { IfOk result (λ j. stored j.parts ≤ stored self.parts + stored right.parts) }
         ensures err { IfErr result (λ e. (e.left ≡ self) × (e.right ≡ right)) }
@@ -128,11 +131,17 @@ impl ChunkMap {
         let mut right = right;
         let len = left.segments.len();
         let count = right.segments.len();
-        match append_linked(
+        let live = exits(&left.heads, &left.segments, left.closed);
+        let alloc = *left.segments.allocator();
+        let Ok(reached) = reached_from(alloc, &right.heads, &live, count) else {
+            return Err(JoinFault { left, right });
+        };
+        match append_reached(
             &mut left.segments,
             &mut right.segments,
             &right.heads,
             left.closed,
+            reached,
         ) {
             Ok(()) => {
                 link_heads(&mut left.heads, &right.heads, len, count);

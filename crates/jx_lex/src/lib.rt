@@ -25,6 +25,7 @@ mod ordinal;
 mod parts;
 mod passes;
 mod path;
+mod reach;
 mod runs;
 mod segment;
 mod span;

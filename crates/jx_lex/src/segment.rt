@@ -55,6 +55,15 @@ impl Segment {
         self.next
     }
 
+    /// Lets go of its marks and ends.
+    pub(crate) fn empty(&mut self)
+        ensures { self.new ≡ record self.old { marks = []; ends = [] } }
+    {
+        let alloc = *self.marks.allocator();
+        self.marks = Vec::new(alloc);
+        self.ends = Vec::new(alloc);
+    }
+
     pub(crate) fn set_next(&mut self, next: Link)
         ensures { self.new ≡ record self.old { next = next } }
     {

@@ -292,3 +292,24 @@ fn a_long_run_ends_where_its_kind_ends(rt: HostRuntime) -> Result<(), Fail> {
     }
     Ok(())
 }
+
+#[test]
+fn a_join_lets_go_of_what_the_left_does_not_reach(rt: HostRuntime) -> Result<(), Fail> {
+    // A line feed stands in no string, so the left ends between tokens alone.
+    let text = b"[\n\"1\",\"2\",\"3\"]";
+    let left = ChunkMap::of(rt.alloc(), text, 0, 2)?;
+    let right = ChunkMap::of(rt.alloc(), text, 2, text.len())?;
+
+    // From between tokens the right has three strings, two commas and a bracket. Inside a string it has three numbers.
+    let (kept, let_go) = (6, 3);
+    assert!(rt; right.stored() >= kept + let_go);
+    let most = left.stored().saturating_add(kept);
+    match left.join(right) {
+        Ok(map) => {
+            assert_eq!(rt; map.stored(), most);
+            assert!(rt; is_plain(rt.alloc(), &map, text)?);
+        }
+        Err(_) => assert!(rt; false, "no memory"),
+    }
+    Ok(())
+}
