@@ -1,25 +1,22 @@
 -- A bundle is built state by state.
-use Rattle.std.proofs.Common.{◌≡◌, ◌≢◌, ◌⊎◌, inl, inr, ℕ, zero, suc, ◌+◌, ◌<◌, ◌≤◌, List, [], ◌∷◌, ◌++◌, length, get_or, set, take, refl, ap, sym, subst, ◌∙◌, arith, append-nil, length-append, length-set, map, Bool, true, false, cond, ◌==◌, ◌&&◌, nat_lt, sum_by, count_by, replicate, Option, Some, None, is_some, is_none, if◌then◌else◌}
+use Rattle.std.proofs.Common.{◌≡◌, ◌≢◌, ℕ, zero, suc, ◌+◌, ◌<◌, ◌≤◌, List, [], ◌∷◌, ◌++◌, length, get_or, set, take, refl, ap, sym, subst, ◌∙◌, arith, length-append, length-set, map, Bool, true, false, cond, ◌==◌, ◌&&◌, sum_by, count_by, replicate, Option, Some, None, is_some, is_none, if◌then◌else◌}
 use Rattle.std.proofs.lemmas.List.{get_or-set_same, get_or-set_other, get_or-replicate, get_or-map}
 use Rattle.std.proofs.lemmas.List.Sums.{sum_by_more, sum_by-le-sum_by, count_by_more_yes, count_by_more_no}
-use Rattle.std.proofs.lemmas.Bool.Decides.{nat_tests}
 use Rattle.jx_lex.specs.declared.state.LexState.{LexState}
 use Rattle.jx_lex.specs.declared.state.LexState.TheVariants as state
-use Rattle.jx_lex.specs.declared.state.Step.{Step}
-use Rattle.jx_lex.specs.declared.mark.Mark.{Mark}
 use Rattle.jx_lex.specs.declared.mark.MarkKind.{MarkKind}
 use Rattle.jx_lex.specs.declared.state.TokenEnd.{TokenEnd}
 use Rattle.jx_lex.specs.declared.link.Link.{Link}
 use Rattle.jx_lex.specs.declared.link.Link.TheVariants.{Ahead, State, Fault}
 use Rattle.jx_lex.specs.Moves.{move}
-use Rattle.jx_lex.specs.Lex.{Track, Exit, lex, with_mark, with_end, after_step, on_next}
+use Rattle.jx_lex.specs.Lex.{Track, lex, with_mark, with_end, on_next}
 use Rattle.jx_lex.specs.Ordinal.{ordinal, all_states}
-use Rattle.jx_lex.specs.Follow.{Part, behind, done, follow, IsIn, AreIn, head, shifted, linked, linked_parts}
+use Rattle.jx_lex.specs.Follow.{Part, behind, follow, IsIn, AreIn, head, shifted, linked, linked_parts}
 use Rattle.jx_lex.specs.Closed.{IsClosed, AreClosed}
 use Rattle.jx_lex.specs.Step.{link_of, read_part, opening}
 use Rattle.jx_lex.specs.Map.{stored, MarksIn, ArePlaced, IsOf, IsWhole}
 use Rattle.jx_lex.specs.Shared.{has, held_after, begins, beginning, shared_from, after}
-use Rattle.jx_lex.specs.Bundle.{Bundle, is_live, live_count, LiveAt, AllLive, Within, Reads, Stands, with_segment, with_exit, with_byte, more_live, is_quiet}
+use Rattle.jx_lex.specs.Bundle.{Bundle, is_live, LiveAt, AllLive, Within, Reads, Stands, with_segment, with_exit, with_byte, more_live, is_quiet}
 use Rattle.jx_lex.proofs.ClassTable.{all_below, all_below-at}
 use Rattle.jx_lex.proofs.Joined.{ordinal-low, follow-shifted, head-map}
 use Rattle.jx_lex.proofs.Meeting.{same_ordinal, state-at}

@@ -1,15 +1,13 @@
 -- One bundle of tracks behind another.
-use Rattle.std.proofs.Common.{◌≡◌, ℕ, zero, suc, ◌+◌, ◌<◌, ◌≤◌, List, [], ◌∷◌, ◌++◌, length, get_or, refl, ap, sym, subst, ◌∙◌, arith, append_assoc, length-append, map, Bool, true, false}
+use Rattle.std.proofs.Common.{◌≡◌, ℕ, zero, suc, ◌+◌, List, [], ◌∷◌, ◌++◌, length, refl, ap, sym, subst, ◌∙◌, arith, length-append, Bool, true}
 use Rattle.std.proofs.lemmas.List.{length-map}
 use Rattle.jx_lex.specs.declared.state.LexState.{LexState}
 use Rattle.jx_lex.specs.declared.link.Link.{Link}
 use Rattle.jx_lex.specs.declared.link.Link.TheVariants.{Ahead, State, Fault}
 use Rattle.jx_lex.specs.Lex.{Track, Exit, lex}
-use Rattle.jx_lex.specs.Ordinal.{ordinal, all_states}
 use Rattle.jx_lex.specs.Follow.{Part, follow, IsIn, AreIn, head, shifted, linked, linked_parts}
-use Rattle.jx_lex.specs.Map.{stored, ArePlaced}
-use Rattle.jx_lex.specs.Shared.{has, held_after, beginning, shared_from, after}
-use Rattle.jx_lex.specs.Bundle.{Bundle, is_live, LiveAt, AllLive, Within, Reads, Stands, joined_bundle}
+use Rattle.jx_lex.specs.Shared.{has, held_after, shared_from, after}
+use Rattle.jx_lex.specs.Bundle.{Bundle, is_live, LiveAt, AllLive, Reads, Stands, joined_bundle}
 use Rattle.jx_lex.proofs.LexJoin.{joined, right_of, lex-append}
 use Rattle.jx_lex.proofs.Joined.{head-map, follow-linked, IsIn-linked, AreIn-linked, length-linked}
 use Rattle.jx_lex.proofs.Counting.{stored-append, stored-linked}

@@ -1,13 +1,13 @@
 -- The table of bytes has the class of each.
-use Rattle.std.proofs.Common.{◌≡◌, ℕ, ◌+◌, ◌<◌, ◌/◌, ◌%◌, Bool, true, eqb, List, [], ◌∷◌, length, get_or, refl, ap, sym, subst, ◌∙◌, arith}
-use Rattle.std.specs.Prelude.{◌==◌, ◌&&◌}
+use Rattle.std.proofs.Common.{◌≡◌, ℕ, ◌<◌, ◌/◌, ◌%◌, true, eqb, List, [], length, get_or, refl, ap, ◌∙◌, arith}
+use Rattle.std.specs.Prelude.{◌==◌}
 use Rattle.std.proofs.lemmas.Bool.Decides.{nat_tests}
 use Rattle.std.proofs.lemmas.List.{get_or_default}
 use Rattle.jx_lex.specs.declared.class.Class.{Class}
 use Rattle.jx_lex.specs.declared.class.Class.TheVariants.{Bad}
 use Rattle.jx_lex.specs.declared.classes.TheConstants.{CLASSES}
 use Rattle.jx_lex.specs.Classes.{all_classes, first_with, class_at, is_in}
-use Rattle.jx_lex.proofs.ClassTable.{all_below, all_below-at, and_left, and_right, code, same_code}
+use Rattle.jx_lex.proofs.ClassTable.{all_below, all_below-at, code, same_code}
 
 abbrev cell : ℕ → Class
 cell b = get_or (get_or CLASSES (b / 16) []) (b % 16) Bad

@@ -1,6 +1,6 @@
 -- No mark is stored twice: the marks of all segments are at most the shared count.
-use Rattle.std.proofs.Common.{◌≡◌, ℕ, zero, suc, ◌+◌, ◌<◌, ◌≤◌, List, [], ◌∷◌, ◌++◌, length, refl, ap, sym, subst, ◌∙◌, arith, length-append, map, Bool, true, false, ◌&&◌, ◌||◌, ◌==◌, nat_lt, sum_by, cond, Option, Some, None, is_some, if◌then◌else◌, inl, inr, ◌⊎◌}
-use Rattle.std.proofs.lemmas.List.Sums.{get_or-le-sum_by, sum_by-le-sum_by, sum_by-cons, sum_by-append}
+use Rattle.std.proofs.Common.{◌≡◌, ℕ, zero, suc, ◌+◌, ◌<◌, ◌≤◌, List, [], ◌∷◌, ◌++◌, length, refl, ap, subst, ◌∙◌, arith, length-append, map, Bool, true, false, ◌&&◌, ◌||◌, ◌==◌, sum_by, cond, Option, Some, None, is_some}
+use Rattle.std.proofs.lemmas.List.Sums.{get_or-le-sum_by, sum_by-le-sum_by, sum_by-cons}
 use Rattle.std.proofs.lemmas.Bool.Decides.{nat_tests}
 use Rattle.jx_lex.specs.declared.state.LexState.{LexState}
 use Rattle.jx_lex.specs.declared.state.LexState.TheVariants as state
@@ -13,7 +13,7 @@ use Rattle.jx_lex.specs.Ordinal.{ordinal, all_states}
 use Rattle.jx_lex.specs.Follow.{Part, shifted, linked, linked_parts}
 use Rattle.jx_lex.specs.Map.{Map, stored, joined_map}
 use Rattle.jx_lex.specs.Step.{link_of, read_from, read_part, opening, meeting_heads, met, held_by, state_is, stands_in}
-use Rattle.jx_lex.specs.Shared.{held_after, add_next, has, begins, beginning, shared_from, after, HeldAt, AllHeld}
+use Rattle.jx_lex.specs.Shared.{held_after, add_next, has, begins, HeldAt, AllHeld}
 use Rattle.jx_lex.proofs.Joined.{ordinal-low}
 use Rattle.jx_lex.proofs.Meeting.{same_ordinal, head-meeting, state-at}
 

@@ -4,18 +4,15 @@ use Rattle.std.specs.Prelude.{slice_range}
 use Rattle.jx_lex.specs.declared.class.Class.TheVariants as class
 use Rattle.jx_lex.specs.declared.state.LexState.{LexState}
 use Rattle.jx_lex.specs.declared.state.LexState.TheVariants as state
-use Rattle.jx_lex.specs.declared.state.Step.{Step}
 use Rattle.jx_lex.specs.declared.mark.Mark.{Mark}
-use Rattle.jx_lex.specs.declared.link.Link.{Link}
 use Rattle.jx_lex.specs.declared.link.Link.TheVariants.{State}
 use Rattle.jx_lex.specs.Character.{IsWithin}
 use Rattle.jx_lex.specs.Classes.{class_at}
 use Rattle.jx_lex.specs.Follow.{Part}
-use Rattle.jx_lex.specs.Lex.{with_mark, with_end}
-use Rattle.jx_lex.specs.Moves.{move, go, close}
+use Rattle.jx_lex.specs.Moves.{move, go}
 use Rattle.jx_lex.specs.Passing.{read_bytes}
 use Rattle.jx_lex.specs.Runs.{AllKeep, Leads}
-use Rattle.jx_lex.specs.Step.{read_part, link_of}
+use Rattle.jx_lex.specs.Step.{read_part}
 use Rattle.jx_lex.proofs.Forward.{move-range, move-digit}
 use Rattle.jx_lex.proofs.Passing.{led-over}
 use Rattle.jx_lex.proofs.Running.{AllKeep-leads, Leads-append}

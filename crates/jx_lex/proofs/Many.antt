@@ -1,7 +1,6 @@
 -- Many segments side by side: the states in which they stand.
 use Rattle.std.proofs.Common.{◌≡◌, ◌≢◌, ℕ, ◌+◌, ◌<◌, ◌≤◌, List, [], ◌∷◌, ◌++◌, length, map, get_or, set, take, drop, refl, ap, sym, subst, ◌∙◌, arith, append-nil, Bool, true, false, cond, ◌==◌, replicate}
 use Rattle.std.proofs.lemmas.List.{get_or-replicate, take_more, length-replicate, take_all, drop_all}
-use Rattle.std.proofs.lemmas.Bool.Decides.{nat_tests}
 use Rattle.std.specs.Prelude.{slice_range}
 use Rattle.std.proofs.Common.{length-set}
 use Rattle.jx_lex.specs.declared.state.LexState.{LexState}
@@ -10,7 +9,7 @@ use Rattle.jx_lex.specs.declared.link.Link.TheVariants.{Ahead, State, Fault}
 use Rattle.jx_lex.specs.Ordinal.{ordinal}
 use Rattle.jx_lex.specs.Follow.{Part, head}
 use Rattle.jx_lex.specs.Closed.{IsClosed}
-use Rattle.jx_lex.specs.Bundle.{Bundle, is_live, LiveAt, AllLive, Within, Reads, Stands, ReadsOn, StandIn, joined_bundle}
+use Rattle.jx_lex.specs.Bundle.{Bundle, is_live, LiveAt, Reads, Stands, ReadsOn, StandIn, joined_bundle}
 use Rattle.jx_lex.specs.Passing.{KeptBy, AllKept}
 use Rattle.jx_lex.specs.Shared.{has, after, HeldAt, AllHeld}
 use Rattle.jx_lex.specs.Step.{read_part, held_by, state_is}

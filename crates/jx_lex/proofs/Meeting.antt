@@ -1,17 +1,17 @@
 -- Segments that stand in one state go on in one segment: no track changes.
-use Rattle.std.proofs.Common.{◌≡◌, ◌≢◌, ℕ, ◌+◌, ◌<◌, List, [], ◌∷◌, ◌++◌, length, get_or, refl, ap, sym, subst, ◌∙◌, arith, append-nil, length-append, map, Bool, true, false, ◌==◌, nat_lt, if◌then◌else◌}
+use Rattle.std.proofs.Common.{◌≡◌, ◌≢◌, ℕ, ◌<◌, List, [], ◌∷◌, ◌++◌, length, get_or, refl, ap, sym, subst, ◌∙◌, arith, append-nil, map, Bool, true, false, ◌==◌}
 use Rattle.std.proofs.lemmas.List.{get_or-map, get_or-set_same, get_or-set_other}
 use Rattle.jx_lex.specs.declared.state.LexState.{LexState}
 use Rattle.jx_lex.specs.declared.state.LexState.TheVariants as state
 use Rattle.jx_lex.specs.declared.mark.Mark.{Mark}
-use Rattle.jx_lex.specs.Lex.{Track, Exit, lex}
+use Rattle.jx_lex.specs.Lex.{Track, Exit}
 use Rattle.jx_lex.proofs.LexJoin.{joined, right_of}
 use Rattle.jx_lex.specs.declared.link.Link.{Link}
 use Rattle.jx_lex.specs.declared.link.Link.TheVariants.{Ahead, State, Fault}
 use Rattle.jx_lex.specs.Ordinal.{ordinal, all_states}
-use Rattle.jx_lex.specs.Follow.{Part, done, follow, IsIn, AreIn, head, linked_parts}
+use Rattle.jx_lex.specs.Follow.{Part, done, follow, IsIn, AreIn, head}
 use Rattle.jx_lex.specs.Step.{opening, meeting_heads, met}
-use Rattle.jx_lex.proofs.Joined.{ordinal-low, follow-linked, joined-same, AreIn-linked, length-linked}
+use Rattle.jx_lex.proofs.Joined.{ordinal-low, follow-linked, joined-same}
 
 pub state-at : (s : LexState) → get_or all_states (ordinal s) state.Gap ≡ s
 state-at state.Gap = refl

@@ -1,5 +1,5 @@
 -- What the tracks from the left reach stays as it is where the rest is emptied.
-use Rattle.std.proofs.Common.{◌≡◌, ℕ, zero, suc, ◌+◌, ◌-◌, ◌<◌, ◌≤◌, List, [], ◌∷◌, ◌++◌, length, get_or, set, take, drop, refl, ap, sym, subst, ◌∙◌, arith, append-nil, append_assoc, ◌==◌, ◌≢◌, Bool, true, false, replicate, length-set, Some}
+use Rattle.std.proofs.Common.{◌≡◌, ℕ, zero, suc, ◌+◌, ◌-◌, ◌<◌, ◌≤◌, List, [], ◌∷◌, ◌++◌, length, get_or, set, take, drop, refl, ap, sym, subst, ◌∙◌, arith, append-nil, append_assoc, ◌==◌, ◌≢◌, Bool, true, false, length-set, Some}
 use Rattle.std.proofs.lemmas.List.{get_or-set_same, get_or_default, take_all, drop_all}
 use Rattle.jx_lex.specs.declared.state.LexState.{LexState}
 use Rattle.jx_lex.specs.declared.link.Link.{Link}
@@ -13,7 +13,7 @@ use Rattle.jx_lex.specs.Bundle.{LiveAt, AllLive, is_live}
 use Rattle.jx_lex.specs.Map.{Map, IsWhole, joined_map, stored, track}
 use Rattle.jx_lex.specs.Pruned.{IsReached, with_reached, emptied, pruned, with_exit_of}
 use Rattle.jx_lex.proofs.Building.{AllLive-append, AllLive-more, LiveAt-more, live-new, ordinal-at}
-use Rattle.jx_lex.proofs.Joined.{ordinal-low, track-joined}
+use Rattle.jx_lex.proofs.Joined.{track-joined}
 use Rattle.jx_lex.proofs.LexJoin.{joined, right_of}
 use Rattle.jx_lex.proofs.Many.{take-next}
 

@@ -1,17 +1,16 @@
 -- One more byte takes each track one step on.
-use Rattle.std.proofs.Common.{◌≡◌, ℕ, zero, suc, ◌+◌, ◌<◌, List, [], ◌∷◌, ◌++◌, length, refl, ap, sym, subst, ◌∙◌, arith, append-nil, map, Option, Some, None}
+use Rattle.std.proofs.Common.{◌≡◌, ℕ, zero, suc, ◌<◌, List, [], ◌∷◌, ◌++◌, length, refl, ap, sym, subst, ◌∙◌, arith, append-nil, map, Option, Some, None}
 use Rattle.std.proofs.lemmas.List.{length-map}
 use Rattle.jx_lex.specs.declared.state.LexState.{LexState}
 use Rattle.jx_lex.specs.declared.mark.Mark.{Mark}
 use Rattle.jx_lex.specs.Moves.{move}
 use Rattle.jx_lex.specs.Lex.{Track, Exit, state, fault, lex, with_mark, with_end, after_step, on_next}
-use Rattle.jx_lex.proofs.LexJoin.{joined, lex-append}
+use Rattle.jx_lex.proofs.LexJoin.{joined}
 use Rattle.jx_lex.specs.declared.link.Link.{Link}
 use Rattle.jx_lex.specs.declared.link.Link.TheVariants.{Ahead, State, Fault}
-use Rattle.jx_lex.specs.Ordinal.{ordinal}
 use Rattle.jx_lex.specs.Follow.{Part, done, behind, follow, IsIn, AreIn}
 use Rattle.jx_lex.specs.Step.{link_of, read_from, read_part}
-use Rattle.jx_lex.proofs.Joined.{ordinal-low, behind-joined}
+use Rattle.jx_lex.proofs.Joined.{behind-joined}
 
 -- what a track does at one byte
 abbrev pub one : ℕ → ℕ → LexState → Track

@@ -1,5 +1,5 @@
 -- Segments read on: each track that goes through them goes on by the same bytes.
-use Rattle.std.proofs.Common.{◌≡◌, ◌≢◌, not, is_some, nat_lt, get_or, ◌⊎◌, inl, inr, ℕ, zero, suc, ◌+◌, ◌<◌, ◌≤◌, List, [], ◌∷◌, ◌++◌, length, refl, ap, sym, subst, ◌∙◌, arith, append-nil, append_assoc, length-append, map, Bool, true, false, cond, ◌==◌, sum_by, Option, Some, None}
+use Rattle.std.proofs.Common.{◌≡◌, not, is_some, nat_lt, get_or, ◌⊎◌, inl, inr, ℕ, suc, ◌+◌, ◌<◌, ◌≤◌, List, [], ◌∷◌, ◌++◌, length, refl, ap, sym, subst, ◌∙◌, arith, append-nil, append_assoc, length-append, map, Bool, true, false, cond, ◌==◌, sum_by, Option, Some, None}
 use Rattle.std.proofs.lemmas.List.{length-map}
 use Rattle.std.proofs.lemmas.List.Sums.{sum_by-le-sum_by}
 use Rattle.std.proofs.lemmas.Bool.Decides.{nat_tests}
@@ -9,16 +9,16 @@ use Rattle.jx_lex.specs.declared.mark.Mark.{Mark}
 use Rattle.jx_lex.specs.declared.mark.MarkKind.{MarkKind}
 use Rattle.jx_lex.specs.declared.link.Link.{Link}
 use Rattle.jx_lex.specs.declared.link.Link.TheVariants.{Ahead, State, Fault}
-use Rattle.jx_lex.specs.Moves.{move, go}
+use Rattle.jx_lex.specs.Moves.{move}
 use Rattle.jx_lex.specs.Lex.{Track, Exit, lex, with_mark}
 use Rattle.jx_lex.specs.Ordinal.{ordinal, all_states}
-use Rattle.jx_lex.specs.Follow.{Part, follow, IsIn, AreIn, head, shifted, linked, linked_parts}
+use Rattle.jx_lex.specs.Follow.{Part, follow, IsIn, head, shifted, linked, linked_parts}
 use Rattle.jx_lex.specs.Closed.{IsClosed, AreClosed}
 use Rattle.jx_lex.specs.Step.{read_part, read_from, opening, state_is, held_by, met, meeting_heads}
 use Rattle.jx_lex.specs.Passing.{KeptBy, AllKept, read_bytes}
-use Rattle.jx_lex.specs.Map.{stored, MarksIn, ArePlaced}
-use Rattle.jx_lex.specs.Shared.{has, held_after, begins, beginning, shared_from, after, HeldAt, AllHeld}
-use Rattle.jx_lex.specs.Bundle.{Bundle, is_live, LiveAt, AllLive, Within, Reads, Stands, ReadsOn, is_apart, joined_bundle}
+use Rattle.jx_lex.specs.Map.{MarksIn, ArePlaced}
+use Rattle.jx_lex.specs.Shared.{has, beginning, shared_from, after, HeldAt, AllHeld}
+use Rattle.jx_lex.specs.Bundle.{Bundle, LiveAt, AllLive, Within, Reads, Stands, ReadsOn, is_apart, joined_bundle}
 use Rattle.jx_lex.proofs.LexJoin.{joined, lex-append}
 use Rattle.jx_lex.proofs.Joined.{length-linked, AreIn-linked}
 use Rattle.jx_lex.proofs.Meeting.{same_ordinal, follow-met, head-meeting, IsIn-meeting}
@@ -27,7 +27,7 @@ use Rattle.jx_lex.proofs.Passing.{keep-part, pass-over, kept-leads}
 use Rattle.jx_lex.proofs.Slices.{slice-none, slice-length, slice-split, slice-more}
 use Rattle.jx_lex.proofs.Bundles.{shared-join, after-join, Reads-joined}
 use Rattle.jx_lex.proofs.Building.{AreClosed-bundle}
-use Rattle.jx_lex.proofs.Counting.{is_itself, pushes, push_at, stored-read, stored-met, pushes-spread, spread, spread-le, held_by-cons, held_by-has, AllHeld-read, AllHeld-append, AllHeld-linked}
+use Rattle.jx_lex.proofs.Counting.{is_itself, pushes, push_at, stored-read, stored-met, pushes-spread, spread, spread-le, held_by-cons, AllHeld-read, AllHeld-append, AllHeld-linked}
 use Rattle.jx_lex.proofs.Placing.{MarksIn-wider, MarksIn-append, ArePlaced-wider, ArePlaced-append, ArePlaced-linked}
 
 -- ---- no byte, and bytes behind one another

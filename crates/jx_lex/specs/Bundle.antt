@@ -1,7 +1,6 @@
 -- Tracks of some bytes from some states, where more bytes may follow.
 use Rattle.std.specs.Prelude.{◌≡◌, not, ◌==◌, ℕ, ◌+◌, ◌≤◌, ◌<◌, true, false, Bool, List, [], ◌∷◌, ◌++◌, length, map, get_or, count_by, slice_set as set, Option, Some, None, is_none, ◌&&◌, if◌then◌else◌}
 use Rattle.jx_lex.specs.declared.state.LexState.{LexState}
-use Rattle.jx_lex.specs.declared.mark.Mark.{Mark}
 use Rattle.jx_lex.specs.declared.link.Link.{Link}
 use Rattle.jx_lex.specs.declared.link.Link.TheVariants.{Ahead, State, Fault}
 use Rattle.jx_lex.specs.declared.state.Step.{Step}

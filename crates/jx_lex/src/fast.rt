@@ -153,19 +153,6 @@ fn read_stretch(
 }
 
 impl Segment {
-    /// Takes in one more byte, where this is the end of a track.
-    pub(crate) fn read(&mut self, at: usize, byte: u8) -> Result<(), AllocError>
-        requires { at + 1 < 2 ^ 64 }
-        ensures { OnOk result (self.new ≡ read_part at byte self.old) }
-    {
-        let Link::State(state) = self.next else {
-            return Ok(());
-        };
-        let next = take_in(&mut self.marks, &mut self.ends, cell_at(state, byte), at)?;
-        self.next = Link::after(next, at);
-        Ok(())
-    }
-
     /// Takes in a stretch of text, where this is the end of a track.
     pub(crate) fn read_span(
         &mut self,
@@ -176,13 +163,13 @@ impl Segment {
         requires { (from ≤ to) × (to ≤ length text.now) }
         ensures { OnOk result (self.new ≡ read_bytes from (slice_range text.now from to) self.old) }
     {
-        let Link::State(state) = self.next else {
+        let Link::State(state) = self.next() else {
             return Ok(());
         };
         let blocks = (to - from) / BLOCK;
-        self.marks.reserve(blocks * BLOCK / 4)?;
-        self.ends.reserve(blocks * BLOCK / 8)?;
-        self.next = read_stretch(&mut self.marks, &mut self.ends, state, text, from, to)?;
+        let (mut marks, mut ends) = self.take_out(blocks * BLOCK / 4, blocks * BLOCK / 8)?;
+        let next = read_stretch(&mut marks, &mut ends, state, text, from, to)?;
+        self.put_in(marks, ends, next);
         Ok(())
     }
 }

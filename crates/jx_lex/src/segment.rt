@@ -3,19 +3,23 @@ ghost use Rattle.std.specs.Prelude.{◌≡◌, ◌≤◌, ◌<◌, ◌+◌, ◌+
 ghost use Rattle.jx_lex.specs.Closed.{ClosedTo};
 ghost use Rattle.jx_lex.specs.declared.state.LexState.{LexState};
 ghost use Rattle.jx_lex.specs.Follow.{IsIn, head, linked, linked_parts};
+ghost use Rattle.jx_lex.specs.Step.{read_part};
 
 use crate::link::Link;
+use crate::machine::step;
 use crate::mark::Mark;
-use crate::state::LexState;
+use crate::state::{LexState, TokenEnd};
+use smallvec::SmallVec;
 use std::alloc::{AllocError, Global};
 use std::marker::Model;
+use std::mem;
 
 /// Marks and ends that stand one after another in each track that comes here.
 #[derive(Drop)]
 pub struct Segment {
-    pub(crate) marks: Vec<Mark>,
-    pub(crate) ends: Vec<usize>,
-    pub(crate) next: Link,
+    marks: SmallVec<Mark, 4>,
+    ends: SmallVec<usize, 4>,
+    next: Link,
 }
 
 impl Model for Segment {
@@ -31,8 +35,8 @@ impl Segment {
         ensures { result ≡ record { marks = []; ends = []; next = next } }
     {
         Segment {
-            marks: Vec::new(alloc),
-            ends: Vec::new(alloc),
+            marks: SmallVec::new(alloc),
+            ends: SmallVec::new(alloc),
             next,
         }
     }
@@ -60,8 +64,55 @@ impl Segment {
         ensures { self.new ≡ record self.old { marks = []; ends = [] } }
     {
         let alloc = *self.marks.allocator();
-        self.marks = Vec::new(alloc);
-        self.ends = Vec::new(alloc);
+        self.marks = SmallVec::new(alloc);
+        self.ends = SmallVec::new(alloc);
+    }
+
+    /// Takes in one more byte, where this is the end of a track.
+    pub(crate) fn read(&mut self, at: usize, byte: u8) -> Result<(), AllocError>
+        requires { at + 1 < 2 ^ 64 }
+        ensures { OnOk result (self.new ≡ read_part at byte self.old) }
+    {
+        let Link::State(state) = self.next else {
+            return Ok(());
+        };
+        let step = step(state, byte);
+        match step.end {
+            Some(TokenEnd::Before) => self.ends.push(at)?,
+            Some(TokenEnd::After) => self.ends.push(at + 1)?,
+            None => {}
+        }
+        if let Some(kind) = step.begin {
+            self.marks.push(Mark { kind, at })?;
+        }
+        self.next = Link::after(step.next, at);
+        Ok(())
+    }
+
+    /// Its marks and ends as vectors with room for so many more, which it lets go of.
+    pub(crate) fn take_out(
+        &mut self,
+        marks: usize,
+        ends: usize,
+    ) -> Result<(Vec<Mark>, Vec<usize>), AllocError>
+        ensures marks { IfOk result (λ r. r.0.items ≡ self.old.marks) }
+        ensures ends { IfOk result (λ r. r.1.items ≡ self.old.ends) }
+    {
+        let alloc = *self.marks.allocator();
+        let mut old_marks = mem::replace(&mut self.marks, SmallVec::new(alloc)).into_vec()?;
+        let mut old_ends = mem::replace(&mut self.ends, SmallVec::new(alloc)).into_vec()?;
+        old_marks.reserve(marks)?;
+        old_ends.reserve(ends)?;
+        Ok((old_marks, old_ends))
+    }
+
+    /// Has these marks and ends, and leads there.
+    pub(crate) fn put_in(&mut self, marks: Vec<Mark>, ends: Vec<usize>, next: Link)
+        ensures { self.new ≡ record { marks = marks.items; ends = ends.items; next = next } }
+    {
+        self.marks = SmallVec::from_vec(marks);
+        self.ends = SmallVec::from_vec(ends);
+        self.next = next;
     }
 
     pub(crate) fn set_next(&mut self, next: Link)

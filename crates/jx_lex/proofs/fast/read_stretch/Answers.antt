@@ -1,4 +1,4 @@
-use Rattle.std.proofs.Common.{◌≡◌, ◌+◌, get_or, arith, Some, None, refl, sym, ◌∙◌}
+use Rattle.std.proofs.Common.{get_or, arith, Some, None, refl, sym, ◌∙◌}
 use Rattle.jx_lex.specs.declared.link.Link.TheVariants.{State, Fault}
 use Rattle.jx_lex.specs.Moves.{move}
 use Rattle.jx_lex.specs.Follow.{Part}

@@ -1,7 +1,6 @@
 use Rattle.std.proofs.Common.{◌≡◌, ◌≤◌, ◌-◌}
 use Rattle.std.specs.Prelude.{slice_range}
 use Rattle.jx_lex.specs.declared.link.Link.TheVariants.{State}
-use Rattle.jx_lex.specs.Follow.{Part}
 use Rattle.jx_lex.specs.Passing.{read_bytes}
 use Rattle.jx_lex.proofs.fast.read_stretch.Given as goal
 

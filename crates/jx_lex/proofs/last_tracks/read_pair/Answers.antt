@@ -1,4 +1,4 @@
-use Rattle.std.proofs.Common.{◌≡◌, ◌+◌, ◌∷◌, [], arith, true, subst, sym, ◌∙◌}
+use Rattle.std.proofs.Common.{◌≡◌, ◌∷◌, [], arith, true, sym, ◌∙◌}
 use Rattle.jx_lex.specs.Bundle.{is_apart}
 use Rattle.jx_lex.proofs.ReadingOn.{reads-none, reads-step}
 use Rattle.jx_lex.proofs.Slices.{slice-none}

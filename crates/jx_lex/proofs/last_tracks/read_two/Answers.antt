@@ -1,6 +1,4 @@
 use Rattle.std.proofs.Common.{◌∷◌, [], refl, ◌∙◌}
-use Rattle.std.specs.Prelude.{slice_range}
-use Rattle.jx_lex.specs.declared.link.Link.TheVariants.{State}
 use Rattle.jx_lex.proofs.ReadingOn.{reads-slices, reads-rest}
 use Rattle.jx_lex.proofs.last_tracks.read_two.Goals as goal
 

@@ -1,4 +1,4 @@
-use Rattle.std.proofs.Common.{◌≡◌, List, length, ap, sym, subst, ◌∙◌}
+use Rattle.std.proofs.Common.{List, length, ap, sym, subst, ◌∙◌}
 use Rattle.std.specs.Prelude.{slice_range}
 use Rattle.jx_lex.specs.Bundle.{Bundle, ReadsOn, StandIn}
 use Rattle.jx_lex.specs.Follow.{Part}

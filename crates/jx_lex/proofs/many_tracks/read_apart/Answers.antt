@@ -1,4 +1,4 @@
-use Rattle.std.proofs.Common.{◌+◌, arith, refl, true}
+use Rattle.std.proofs.Common.{arith, refl}
 use Rattle.jx_lex.proofs.Many.{apart-step}
 use Rattle.jx_lex.proofs.ReadingOn.{reads-none}
 use Rattle.jx_lex.proofs.Slices.{slice-none}

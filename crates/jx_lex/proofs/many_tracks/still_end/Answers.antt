@@ -1,5 +1,3 @@
-use Rattle.std.proofs.Common.{ℕ, List, [], ◌∷◌, subst, sym}
-use Rattle.jx_lex.specs.Passing.{AllKept}
 use Rattle.jx_lex.proofs.Many.{AllKept-none}
 use Rattle.jx_lex.proofs.Slices.{slice-none}
 use Rattle.jx_lex.proofs.many_tracks.still_end.Goals as goal

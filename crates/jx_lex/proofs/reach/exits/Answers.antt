@@ -1,9 +1,7 @@
-use Rattle.std.proofs.Common.{◌≡◌, ◌<◌, false, replicate, List, refl, sym, subst, ap, ◌∙◌, arith, length}
+use Rattle.std.proofs.Common.{◌<◌, false, replicate, List, refl, subst, arith, length}
 use Rattle.std.proofs.lemmas.List.{take_all, get_or_default}
-use Rattle.jx_lex.specs.declared.state.LexState.{LexState}
-use Rattle.jx_lex.specs.declared.link.Link.TheVariants.{Fault}
-use Rattle.jx_lex.specs.Bundle.{AllLive, LiveAt}
-use Rattle.jx_lex.specs.Follow.{Part, head}
+use Rattle.jx_lex.specs.Bundle.{AllLive}
+use Rattle.jx_lex.specs.Follow.{Part}
 use Rattle.jx_lex.proofs.Joined.{ordinal-low}
 use Rattle.jx_lex.proofs.Pruning.{closed-live, noted-next, noted-heads, noted-parts}
 use Rattle.jx_lex.proofs.reach.exits.Goals as goal

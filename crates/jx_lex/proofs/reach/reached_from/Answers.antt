@@ -1,7 +1,6 @@
-use Rattle.std.proofs.Common.{◌≡◌, List, length, get_or, set, true, false, refl, sym, subst, ap, ◌∙◌, arith, length-set}
+use Rattle.std.proofs.Common.{◌≡◌, length, set, true, sym, subst, ap, ◌∙◌, arith, length-set}
 use Rattle.std.proofs.lemmas.List.{get_or_default}
-use Rattle.std.specs.Vec.{with_item}
-use Rattle.jx_lex.specs.declared.link.Link.TheVariants.{Ahead, Fault}
+use Rattle.jx_lex.specs.declared.link.Link.TheVariants.{Fault}
 use Rattle.jx_lex.specs.Pruned.{IsReached}
 use Rattle.jx_lex.proofs.Joined.{ordinal-low}
 use Rattle.jx_lex.proofs.Pruning.{reached-heads, reached-none, reached-set, IsReached-set, head-in}

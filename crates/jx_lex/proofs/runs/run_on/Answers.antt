@@ -1,4 +1,3 @@
-use Rattle.std.proofs.Common.{sym, subst}
 use Rattle.std.specs.Prelude.{slice_range}
 use Rattle.jx_lex.specs.declared.state.LexState.TheVariants as state
 use Rattle.jx_lex.proofs.Going.{led-part, leads-from}

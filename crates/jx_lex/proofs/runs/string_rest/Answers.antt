@@ -1,4 +1,4 @@
-use Rattle.std.proofs.Common.{◌+◌, List, [], ◌∷◌, ◌++◌, ℕ, ap, ◌∙◌, arith}
+use Rattle.std.proofs.Common.{List, ℕ, ap, ◌∙◌, arith}
 use Rattle.std.specs.Prelude.{slice_range}
 use Rattle.jx_lex.specs.declared.link.Link.TheVariants.{State}
 use Rattle.jx_lex.specs.declared.state.LexState.TheVariants as state

@@ -1,8 +1,7 @@
-use Rattle.std.proofs.Common.{◌≡◌, ℕ, List, ◌++◌, length, sym, subst, ap, ◌∙◌, arith}
-use Rattle.jx_lex.specs.declared.state.LexState.{LexState}
+use Rattle.std.proofs.Common.{◌≡◌, List, length, sym, subst, ap, ◌∙◌, arith}
 use Rattle.jx_lex.specs.Bundle.{AllLive}
 use Rattle.jx_lex.specs.Follow.{Part}
-use Rattle.jx_lex.specs.Map.{Map, IsOf, joined_map, track}
+use Rattle.jx_lex.specs.Map.{Map}
 use Rattle.jx_lex.proofs.Joined.{IsWhole-joined, IsOf-joined}
 use Rattle.jx_lex.proofs.Closing.{AreClosed-joined}
 use Rattle.jx_lex.proofs.Counting.{stored-joined}

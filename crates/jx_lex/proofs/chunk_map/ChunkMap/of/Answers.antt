@@ -1,4 +1,4 @@
-use Rattle.std.proofs.Common.{◌≡◌, ◌≤◌, ◌+◌, ◌++◌, ◌∷◌, [], List, length, get_or, arith, replicate, true, subst, sym, ap, ◌∙◌}
+use Rattle.std.proofs.Common.{[], arith, replicate, true, subst, sym, ◌∙◌}
 use Rattle.std.specs.Prelude.{slice_range}
 use Rattle.jx_lex.specs.Bundle.{Bundle, Reads, Stands}
 use Rattle.jx_lex.specs.Closed.{AreClosed}
@@ -7,7 +7,7 @@ use Rattle.jx_lex.specs.Ordinal.{all_states}
 use Rattle.jx_lex.proofs.Building.{IsOf-reads, IsWhole-reads, shared-all}
 use Rattle.jx_lex.proofs.Bundles.{Reads-joined, Stands-joined}
 use Rattle.jx_lex.proofs.ReadingOn.{Reads-rest, span-read}
-use Rattle.jx_lex.proofs.Slices.{slice-none, slice-more, slice-split, slice-length}
+use Rattle.jx_lex.proofs.Slices.{slice-none, slice-split, slice-length}
 use Rattle.jx_lex.proofs.chunk_map.ChunkMap.of.Goals as goal
 use Rattle.jx_lex.proofs.chunk_map.ChunkMap.of.Goals.{After-heads-1}
 

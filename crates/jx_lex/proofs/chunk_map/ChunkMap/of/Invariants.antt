@@ -1,4 +1,4 @@
-use Rattle.std.proofs.Common.{◌≤◌, ◌-◌, [], replicate, true}
+use Rattle.std.proofs.Common.{◌≤◌, ◌-◌, replicate, true}
 use Rattle.std.specs.Prelude.{slice_range}
 use Rattle.jx_lex.specs.Bundle.{Reads, Stands}
 use Rattle.jx_lex.proofs.chunk_map.ChunkMap.of.Given as goal
