@@ -9,11 +9,12 @@ use Rattle.jx_lex.specs.declared.link.Link.TheVariants.{State}
 use Rattle.jx_lex.specs.Character.{IsWithin}
 use Rattle.jx_lex.specs.Classes.{class_at}
 use Rattle.jx_lex.specs.Follow.{Part}
-use Rattle.jx_lex.specs.Moves.{move, go}
+use Rattle.jx_lex.specs.Moves.{move, row, go}
 use Rattle.jx_lex.specs.Passing.{read_bytes}
 use Rattle.jx_lex.specs.Runs.{AllKeep, Leads}
 use Rattle.jx_lex.specs.Step.{read_part}
-use Rattle.jx_lex.proofs.Forward.{move-range, move-digit}
+use Rattle.jx_lex.specs.Token.{IsE}
+use Rattle.jx_lex.proofs.Forward.{move-range, move-digit, move-e}
 use Rattle.jx_lex.proofs.Passing.{led-over}
 use Rattle.jx_lex.proofs.Running.{AllKeep-leads, Leads-append}
 use Rattle.jx_lex.proofs.Slices.{slice-none, slice-more, slice-split, slice-length}
@@ -74,6 +75,26 @@ pub int_point : (xs : List ℕ) (a : ℕ) (s : LexState) → a + 2 ≤ length xs
     → Leads s (slice_range xs a (a + 2)) state.Frac
 unfolding class_at
 int_point xs a s low e dot from to = leads-from s state.Int state.Frac _ e (pointed xs a state.Int low refl dot from to)
+
+-- ---- exponents
+
+pub letter-led : (xs : List ℕ) (a : ℕ) (s t : LexState) → a < length xs → s ≡ t → row t class.LowE ≡ go state.E → row t class.UpE ≡ go state.E → IsE (get_or xs a 0)
+    → Leads s (slice_range xs a (a + 1)) state.E
+letter-led xs a s t low e l u h = leads-from s t state.E _ e (leads-one xs a t state.E low (move-e t state.E l u (get_or xs a 0) h))
+
+pub minus_sign : (xs : List ℕ) (a : ℕ) (s : LexState) → a < length xs → s ≡ state.E → get_or xs a 0 ≡ 0x2d → Leads s (slice_range xs a (a + 1)) state.ESign
+unfolding class_at
+minus_sign xs a s low e h = leads-from s state.E state.ESign _ e (leads-one xs a state.E state.ESign low (ap (move state.E) h))
+
+pub plus_sign : (xs : List ℕ) (a : ℕ) (s : LexState) → a < length xs → s ≡ state.E → get_or xs a 0 ≡ 0x2b → Leads s (slice_range xs a (a + 1)) state.ESign
+unfolding class_at
+plus_sign xs a s low e h = leads-from s state.E state.ESign _ e (leads-one xs a state.E state.ESign low (ap (move state.E) h))
+
+pub exponent_begun : (xs : List ℕ) (a : ℕ) (s t : LexState) → a < length xs → s ≡ t → row t class.Zero ≡ go state.Exp → row t class.Digit ≡ go state.Exp
+    → 0x30 ≤ get_or xs a 0 → get_or xs a 0 ≤ 0x39 → Leads s (slice_range xs a (a + 1)) state.Exp
+exponent_begun xs a s t low e z d from to =
+    let digit : IsWithin 0x30 0x39 (get_or xs a 0) = record { from = from; to = to } in
+    leads-from s t state.Exp _ e (leads-one xs a t state.Exp low (move-digit t state.Exp z d digit))
 
 -- ---- what a segment takes in
 

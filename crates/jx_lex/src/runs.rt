@@ -1,10 +1,11 @@
 // Going on after a byte over what follows of its token, or over blanks.
-ghost use Rattle.std.specs.Prelude.{◌≡◌, ◌≤◌, ◌<◌, ◌+◌, List, IfOk, slice_range, length};
+ghost use Rattle.std.specs.Prelude.{◌≡◌, ◌≤◌, ◌<◌, ◌+◌, ◌↔◌, List, IfOk, IsTrue, slice_range, length};
 ghost use Rattle.jx_lex.specs.declared.link.Link.TheVariants.{State};
 ghost use Rattle.jx_lex.specs.declared.mark.Mark.{Mark};
 ghost use Rattle.jx_lex.specs.declared.state.LexState.TheVariants as state;
 ghost use Rattle.jx_lex.specs.Passing.{read_bytes};
 ghost use Rattle.jx_lex.specs.Runs.{AllKeep, Leads};
+ghost use Rattle.jx_lex.specs.Token.{IsE};
 
 use crate::parts::string_end;
 use crate::passes::{blank_end, digit_end};
@@ -75,7 +76,84 @@ fn point(text: &[u8], state: LexState, from: usize, to: usize) -> (LexState, usi
     }
 }
 
-// What follows of a number, as far as its exponent.
+// The letter that begins an exponent, behind a digit.
+#[inline(always)]
+fn letter(text: &[u8], state: LexState, from: usize, to: usize) -> (LexState, usize)
+    requires { (from ≤ to) × (to ≤ length text.now) }
+    ensures bounds { (from ≤ result.1) × (result.1 ≤ to) }
+    ensures led { Leads state (slice_range text.now from result.1) result.0 }
+{
+    if from >= to || !is_letter(text[from]) {
+        return (state, from);
+    }
+    match state {
+        LexState::Zero => (LexState::E, from + 1),
+        LexState::Int => (LexState::E, from + 1),
+        LexState::Frac => (LexState::E, from + 1),
+        _ => (state, from),
+    }
+}
+
+#[inline(always)]
+fn is_letter(byte: u8) -> bool
+    ensures { IsTrue result ↔ IsE byte }
+{
+    byte == b'e' || byte == b'E'
+}
+
+// The sign of an exponent, if it has one.
+#[inline(always)]
+fn sign(text: &[u8], state: LexState, from: usize, to: usize) -> (LexState, usize)
+    requires { (from ≤ to) × (to ≤ length text.now) }
+    ensures bounds { (from ≤ result.1) × (result.1 ≤ to) }
+    ensures led { Leads state (slice_range text.now from result.1) result.0 }
+{
+    if from >= to {
+        return (state, from);
+    }
+    let sign = text[from];
+    match state {
+        LexState::E if sign == b'-' => (LexState::ESign, from + 1),
+        LexState::E if sign == b'+' => (LexState::ESign, from + 1),
+        _ => (state, from),
+    }
+}
+
+// The first digit of an exponent.
+#[inline(always)]
+fn exponent_digit(text: &[u8], state: LexState, from: usize, to: usize) -> (LexState, usize)
+    requires { (from ≤ to) × (to ≤ length text.now) }
+    ensures bounds { (from ≤ result.1) × (result.1 ≤ to) }
+    ensures led { Leads state (slice_range text.now from result.1) result.0 }
+{
+    if from >= to || text[from] < b'0' || text[from] > b'9' {
+        return (state, from);
+    }
+    match state {
+        LexState::E => (LexState::Exp, from + 1),
+        LexState::ESign => (LexState::Exp, from + 1),
+        _ => (state, from),
+    }
+}
+
+// An exponent, if the number has one, as far as it stands there.
+#[inline(always)]
+fn exponent(text: &[u8], state: LexState, from: usize, to: usize) -> (LexState, usize)
+    requires { (from ≤ to) × (to ≤ length text.now) }
+    ensures bounds { (from ≤ result.1) × (result.1 ≤ to) }
+    ensures led { Leads state (slice_range text.now from result.1) result.0 }
+{
+    let (begun, behind_letter) = letter(text, state, from, to);
+    if behind_letter == from {
+        return (begun, from);
+    }
+    let (signed, behind_sign) = sign(text, begun, behind_letter, to);
+    let (last, behind_digit) = exponent_digit(text, signed, behind_sign, to);
+    let end = more_digits(text, last, behind_digit, to);
+    (last, end)
+}
+
+// What follows of a number.
 #[inline(always)]
 fn number_rest(text: &[u8], state: LexState, from: usize, to: usize) -> (LexState, usize)
     requires { (from ≤ to) × (to ≤ length text.now) }
@@ -86,10 +164,10 @@ fn number_rest(text: &[u8], state: LexState, from: usize, to: usize) -> (LexStat
     let integer = more_digits(text, first, begun, to);
     let (last, pointed) = point(text, first, integer, to);
     if pointed == integer {
-        return (first, integer);
+        return exponent(text, first, integer, to);
     }
-    let end = more_digits(text, last, pointed, to);
-    (last, end)
+    let fraction = more_digits(text, last, pointed, to);
+    exponent(text, last, fraction, to)
 }
 
 // What follows of a string, with the quotation mark that ends it.
