@@ -1,5 +1,5 @@
 // The tracks of some bytes from several states at once.
-ghost use Rattle.std.specs.Prelude.{◌≡◌, ◌<◌, ◌≤◌, ◌+◌, ◌^◌, ◌∷◌, [], length, replicate, true, false, OnOk, IfOk, if◌then◌else◌, ◌⊎◌, slice_range, ℕ, List};
+ghost use Rattle.std.specs.Prelude.{◌≡◌, ◌<◌, ◌≤◌, ◌+◌, ◌^◌, ◌∷◌, [], length, replicate, true, false, OnOk, IfOk, if◌then◌else◌, ◌⊎◌, slice_range, ℕ};
 ghost use Rattle.jx_lex.specs.declared.state.LexState.{LexState};
 ghost use Rattle.jx_lex.specs.Closed.{IsClosed};
 ghost use Rattle.jx_lex.specs.Follow.{IsIn, head};

@@ -1,6 +1,5 @@
 // What reading a span gives from each state.
-ghost use Rattle.std.specs.Prelude.{◌≡◌, ◌≤◌, ◌<◌, ◌+◌, ◌++◌, ◌^◌, length, OnOk, IfOk, IfErr, map, slice_range, ℕ, List};
-ghost use Rattle.jx_lex.specs.Follow.{linked};
+ghost use Rattle.std.specs.Prelude.{◌≡◌, ◌≤◌, ◌<◌, ◌+◌, ◌++◌, length, IfOk, IfErr, map, slice_range, ℕ, List};
 ghost use Rattle.jx_lex.specs.declared.state.LexState.{LexState};
 ghost use Rattle.jx_lex.specs.View.{view_track};
 ghost use Rattle.jx_lex.specs.Shared.{shared_count};

@@ -16,7 +16,7 @@ use crate::mark::{Mark, MarkKind};
 use crate::runs::run_on;
 use crate::segment::Segment;
 use crate::state::LexState;
-use std::alloc::{AllocError, Global};
+use std::alloc::AllocError;
 
 // A stretch that is shorter has no room reserved.
 const BLOCK: usize = 64;

@@ -1,5 +1,5 @@
 // Reading on where only one or two tracks are left.
-ghost use Rattle.std.specs.Prelude.{◌≡◌, ◌≤◌, ◌<◌, ◌+◌, ◌^◌, ◌∷◌, [], ◌⊎◌, false, length, OnOk, IfOk, IfSome, IsNone, slice_range};
+ghost use Rattle.std.specs.Prelude.{◌≡◌, ◌≤◌, ◌<◌, ◌+◌, ◌∷◌, [], ◌⊎◌, false, length, IfOk, IfSome, IsNone, slice_range};
 ghost use Rattle.jx_lex.specs.declared.link.Link.TheVariants.{State};
 ghost use Rattle.jx_lex.specs.Bundle.{ReadsOn, is_apart};
 
@@ -8,7 +8,7 @@ use crate::ordinal::ordinal;
 use crate::passes::plain_end;
 use crate::segment::Segment;
 use crate::state::LexState;
-use std::alloc::{AllocError, Global};
+use std::alloc::AllocError;
 
 /// Whether both stand in a state, and not in the same one.
 fn are_apart(first: Link, second: Link) -> bool

@@ -1,5 +1,5 @@
 // Where a track goes on.
-ghost use Rattle.std.specs.Prelude.{◌≡◌, ◌<◌, ◌+◌, ◌^◌, length, map};
+ghost use Rattle.std.specs.Prelude.{◌≡◌, ◌<◌, ◌+◌, ◌^◌, map};
 ghost use Rattle.jx_lex.specs.Follow.{IsIn, shifted, head, linked};
 ghost use Rattle.jx_lex.specs.Step.{link_of};
 ghost use Rattle.jx_lex.specs.Ordinal.{all_states};

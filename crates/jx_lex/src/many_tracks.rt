@@ -1,5 +1,5 @@
 // Reading on where more than two tracks are left, side by side.
-ghost use Rattle.std.specs.Prelude.{◌≡◌, ◌≤◌, ◌<◌, ◌+◌, ◌^◌, ◌∷◌, [], ℕ, List, IsTrue, length, map, OnOk, IfOk, slice_range};
+ghost use Rattle.std.specs.Prelude.{◌≡◌, ◌≤◌, ◌<◌, ◌+◌, ◌^◌, ℕ, List, IsTrue, length, map, OnOk, IfOk, slice_range};
 ghost use Rattle.jx_lex.specs.declared.state.LexState.{LexState};
 ghost use Rattle.jx_lex.specs.declared.state.LexState.TheVariants as state;
 ghost use Rattle.jx_lex.specs.Bundle.{Reads, Stands, ReadsOn, StandIn};
@@ -28,20 +28,22 @@ fn live_of(segments: &[Segment]) -> [bool; 32]
     live
 }
 
-/// Whether no two of the segments stand in the same state.
-fn are_apart(segments: &[Segment]) -> bool
+/// Whether more than two of the segments stand in a state, and no two in the same one.
+fn are_many_apart(segments: &[Segment]) -> bool
     ensures { IsTrue result → (s : LexState) → held_by s segments.now ≤ 1 }
 {
     let mut seen = [false; 32];
+    let mut standing = 0usize;
     for i in 0..segments.len() {
         if let Link::State(state) = segments[i].next() {
             if seen[ordinal(state)] {
                 return false;
             }
             seen[ordinal(state)] = true;
+            standing += 1;
         }
     }
-    true
+    standing > 2
 }
 
 /// Takes one more byte in at the end of each.
@@ -95,7 +97,7 @@ fn still_end(segments: &[Segment], text: &[u8], from: usize, to: usize) -> usize
     }
 }
 
-/// Reads segments side by side while no two stand in the same state. Gives the end of what was read.
+/// Reads segments side by side while more than two stand, and no two in the same state. Gives the end of what was read.
 fn read_apart(
     segments: &mut [Segment],
     text: &[u8],
@@ -107,14 +109,15 @@ fn read_apart(
     ensures read { IfOk result (λ end. ReadsOn from (slice_range text.now from end) segments.old segments.new) }
 {
     let mut i = from;
-    while i < to && are_apart(segments) {
+    while i < to && are_many_apart(segments) {
         read_each(segments, i, text[i])?;
         i = still_end(segments, text, i + 1, to);
     }
     Ok(i)
 }
 
-/// Reads the tracks of a bundle side by side until two of them meet. Gives the end of what was read, too.
+/// Reads the tracks of a bundle side by side until two of them meet or no more than two are left. Gives the end of what
+/// was read, too.
 fn go_on(bundle: Bundle, text: &[u8], from: usize, to: usize) -> Result<(Bundle, usize), AllocError>
     requires { (from ≤ to) × (to ≤ length text.now) }
     ensures bounds { IfOk result (λ r. (from ≤ r.1) × (r.1 ≤ to)) }
@@ -139,7 +142,7 @@ fn go_on(bundle: Bundle, text: &[u8], from: usize, to: usize) -> Result<(Bundle,
 }
 
 /// The tracks of one byte or more from the live states. Where many tracks have been left for long, they are read side by
-/// side until two of them meet.
+/// side until two of them meet or no more than two are left.
 pub(crate) fn read_some(
     alloc: Global,
     live: &[bool; 32],

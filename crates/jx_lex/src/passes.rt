@@ -1,5 +1,5 @@
 // Ends of runs of bytes over which the lexical machine keeps its state with no event, found 16 bytes at a time.
-ghost use Rattle.std.specs.Prelude.{◌≡◌, ◌≤◌, ◌<◌, ◌+◌, ◌^◌, ℕ, Bool, not, length, slice_index, slice_range, map};
+ghost use Rattle.std.specs.Prelude.{◌≡◌, ◌≤◌, ◌<◌, ◌+◌, ℕ, Bool, not, length, slice_index, slice_range, map};
 ghost use Rattle.std.specs.Simd.Lanes.{mask_l};
 ghost use Rattle.std.specs.Slice.Scan.{HoldsNowhere, IsFirstPlace, Marks};
 ghost use Rattle.jx_lex.specs.declared.state.LexState.TheVariants as state;

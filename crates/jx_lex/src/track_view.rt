@@ -1,4 +1,4 @@
-ghost use Rattle.std.specs.Prelude.{◌≡◌, ◌<◌, ◌≤◌, ◌+◌, ◌^◌, length, slice_index_or, drop, All, flat_map, zero};
+ghost use Rattle.std.specs.Prelude.{◌≡◌, ◌<◌, ◌+◌, length, slice_index_or, drop, All, flat_map};
 ghost use Rattle.jx_lex.specs.View.{exit_of, view_track, view_path, marks_at, ends_at};
 
 use crate::ends::Ends;

@@ -19,5 +19,5 @@ loop-i-preserved c =
       low = omega (arith, b, from);
       high = b.1;
       read = apart-step c.args.text.now c.args.from c.loop-i.i c.still_end-i.result c.args.segments.now c.loop-i.segments c.read_each.new.segments
-          v.low (omega (arith, fits, c.loop-i-test.true)) b.0 (omega (arith, b, fits)) v.read (c.if-are_apart.ensures refl) c.in_ok-read_each.ensures c.still_end-i.ensures.kept;
+          v.low (omega (arith, fits, c.loop-i-test.true)) b.0 (omega (arith, b, fits)) v.read (c.if-are_many_apart.ensures refl) c.in_ok-read_each.ensures c.still_end-i.ensures.kept;
     }

@@ -1,7 +1,0 @@
-use Rattle.std.proofs.Common.{take}
-use Rattle.jx_lex.proofs.Many.{Apart}
-use Rattle.jx_lex.proofs.many_tracks.are_apart.Given as goal
-
--- the states of the first segments, each once
-abbrev pub invariant-loop-i : goal.invariant-loop-i
-invariant-loop-i l = Apart l.seen (take l.i l.segments)
