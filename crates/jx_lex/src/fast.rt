@@ -18,7 +18,8 @@ use crate::segment::Segment;
 use crate::state::LexState;
 use std::alloc::AllocError;
 
-// A stretch that is shorter has no room reserved.
+// A stretch of at least so many bytes has room reserved for a mark to each four bytes and an end to each eight, so that
+// its vectors need not grow. Memory that is never written to costs next to nothing.
 const BLOCK: usize = 64;
 
 /// Takes in what one byte does: adds its mark and its end, and gives the next state, or none at a fault.
