@@ -1,5 +1,5 @@
 // A part of one or more tracks.
-ghost use Rattle.std.specs.Prelude.{◌≡◌, ◌≤◌, ◌<◌, ◌+◌, ◌++◌, [], ◌^◌, length, OnOk, OnErr};
+ghost use Rattle.std.specs.Prelude.{◌≡◌, ◌≤◌, ◌<◌, ◌+◌, ◌++◌, [], ◌^◌, length, OnOk, OnErr, IfOk};
 ghost use Rattle.jx_lex.specs.Closed.{ClosedTo};
 ghost use Rattle.jx_lex.specs.declared.state.LexState.{LexState};
 ghost use Rattle.jx_lex.specs.Follow.{IsIn, head, linked, linked_parts};
