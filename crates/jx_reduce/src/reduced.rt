@@ -1,13 +1,14 @@
 // What the marks from one expectation come to, for every list of open containers at entry.
 
-ghost use Rattle.std.specs.Prelude.{◌≡◌, ◌≤◌, ◌+◌, [], OnOk, IfOk, length, reverse, slice_get};
+ghost use Rattle.std.specs.Prelude.{◌≡◌, ◌≤◌, ◌+◌, [], OnOk, IfOk, false, length, reverse, slice_get};
 ghost use Rattle.jx_reduce.specs.Form.{levels_of, exit_at};
 ghost use Rattle.jx_reduce.specs.Join.{joined};
-ghost use Rattle.jx_reduce.specs.Marks.{of_marks, of_nothing};
+ghost use Rattle.jx_reduce.specs.Marks.{BeginsOtherwise, of_marks, of_nothing};
 ghost use Rattle.jx_reduce.specs.Fits.{Fits};
 ghost use Rattle.jx_reduce.specs.Levels.{form_of, HasRoomOf};
 ghost use Rattle.jx_reduce.specs.Outcome.{reading_of};
 ghost use Rattle.jx_reduce.specs.Whole.{whole_of};
+ghost use Rattle.jx_reduce.specs.declared.entry.Entry.TheVariants as entry;
 
 use crate::act::top_of;
 use crate::entry::Entry;
@@ -17,7 +18,7 @@ use crate::level::Level;
 use crate::levels::Levels;
 use crate::outcome::Outcome;
 use crate::whole::Whole;
-use jx_lex::{Depth, Mark};
+use jx_lex::{Depth, Mark, MarkKind};
 use std::alloc::{AllocError, Global};
 
 /// What a list of marks comes to from one expectation, for every list of open containers at entry that is no longer than
@@ -28,6 +29,16 @@ pub struct Reduced {
     depth: Depth,
     levels: Levels,
     ghost fits: { Fits depth (form_of levels) },
+}
+
+/// Whether there are no marks, or the first is of this kind.
+fn begins_with(marks: &[Mark], kind: MarkKind) -> bool
+    ensures { result ≡ false → BeginsOtherwise kind marks.now }
+{
+    match marks.first() {
+        Some(mark) => mark.kind == kind,
+        None => true,
+    }
 }
 
 impl Reduced {
@@ -56,6 +67,38 @@ impl Reduced {
     {
         let levels = Levels::of(alloc, entry, marks, depth.containers() as usize)?;
         Ok(Reduced { depth, levels })
+    }
+
+    /// The form of these marks from the start of an array, by their form where a value is expected: only the array's
+    /// close as the first mark tells them apart.
+    pub(crate) fn array_first(&self, marks: &[Mark]) -> Result<Reduced, AllocError>
+        requires value { form_in self.now ≡ of_marks (depth_of self.now) (of_nothing entry.Value) marks.now }
+        ensures depth { IfOk result (λ r. depth_of r ≡ depth_of self.now) }
+        ensures form { IfOk result (λ r. form_in r ≡ of_marks (depth_of self.now) (of_nothing entry.ArrayFirst) marks.now) }
+    {
+        if begins_with(marks, MarkKind::CloseArray) {
+            return Reduced::of(self.allocator(), Entry::ArrayFirst, marks, self.depth);
+        }
+        let copied = self.copy()?;
+        Ok(copied)
+    }
+
+    /// The form of these marks from the start of an object, by their form where a name is expected: only the object's
+    /// close as the first mark tells them apart.
+    pub(crate) fn object_first(&self, marks: &[Mark]) -> Result<Reduced, AllocError>
+        requires name { form_in self.now ≡ of_marks (depth_of self.now) (of_nothing entry.Name) marks.now }
+        ensures depth { IfOk result (λ r. depth_of r ≡ depth_of self.now) }
+        ensures form { IfOk result (λ r. form_in r ≡ of_marks (depth_of self.now) (of_nothing entry.ObjectFirst) marks.now) }
+    {
+        if begins_with(marks, MarkKind::CloseObject) {
+            return Reduced::of(self.allocator(), Entry::ObjectFirst, marks, self.depth);
+        }
+        let copied = self.copy()?;
+        Ok(copied)
+    }
+
+    fn allocator(&self) -> Global {
+        *self.levels.opens.allocator()
     }
 
     /// How many containers may stand open at once.
@@ -190,7 +233,7 @@ impl Reduced {
         ensures depth { IfOk result (λ r. depth_of r ≡ depth_of self.now) }
         ensures same { IfOk result (λ r. form_in r ≡ form_in self.now) }
     {
-        let alloc = *self.levels.opens.allocator();
+        let alloc = self.allocator();
         let ended = Vec::from_slice(alloc, &self.levels.ended)?;
         let opens = Vec::from_slice(alloc, &self.levels.opens)?;
         let heights = Vec::from_slice(alloc, &self.levels.heights)?;

@@ -69,12 +69,16 @@ impl Reductions {
         ensures reads { IfOk result (λ f. IsOf marks.now f) }
         ensures offsets { IfOk result (λ f. (low high : ℕ) → EachIn (λ m. (low ≤ m.at) × (m.at < high)) marks.now → SpansIn low high f) }
     {
+        let value = Reduced::of(alloc, Entry::Value, marks, depth)?;
+        let array_first = value.array_first(marks)?;
+        let name = Reduced::of(alloc, Entry::Name, marks, depth)?;
+        let object_first = name.object_first(marks)?;
         Ok(Reductions {
             depth,
-            value: Reduced::of(alloc, Entry::Value, marks, depth)?,
-            array_first: Reduced::of(alloc, Entry::ArrayFirst, marks, depth)?,
-            object_first: Reduced::of(alloc, Entry::ObjectFirst, marks, depth)?,
-            name: Reduced::of(alloc, Entry::Name, marks, depth)?,
+            value,
+            array_first,
+            object_first,
+            name,
             colon: Reduced::of(alloc, Entry::Colon, marks, depth)?,
             after: Reduced::of(alloc, Entry::After, marks, depth)?,
             value_or_name: Reduced::of(alloc, Entry::ValueOrName, marks, depth)?,
