@@ -21,13 +21,15 @@ use std::marker::Model;
 /// So many bytes are read one by one from all states. Mostly two tracks are left by then.
 const MANY_BYTES: usize = 16;
 
+/// What reading a part of a text gives from each of the 32 lexical states, with no knowledge of what stands to its left:
+/// marks, ends and an exit for each. Tracks that come to stand in one state before one byte go on as one.
 #[derive(Drop)]
 pub struct ChunkMap {
     start: usize,
     end: usize,
     heads: [Link; 32],
     segments: Vec<Segment>,
-    // the first so many segments don't lead out in a state
+    // The first so many segments don't lead out in a state.
     closed: usize,
 }
 

@@ -41,18 +41,21 @@ impl Segment {
         }
     }
 
+    /// Its marks, in order.
     pub fn marks(&self) -> &[Mark]
         ensures { result.now ≡ self.now.marks }
     {
         self.marks.as_slice()
     }
 
+    /// Its ends of strings, numbers and literals, in order, each just past the token's last byte.
     pub fn ends(&self) -> &[usize]
         ensures { result.now ≡ self.now.ends }
     {
         self.ends.as_slice()
     }
 
+    /// What follows it.
     pub fn next(&self) -> Link
         ensures { result ≡ self.now.next }
     {
