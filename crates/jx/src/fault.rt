@@ -1,5 +1,5 @@
-use crate::arg_fault::ArgFault;
-use crate::report_fault::ReportFault;
+use jx_command::ArgFault;
+use jx_report::ReportFault;
 use std::alloc::AllocError;
 use std::io;
 use thiserror::Error;

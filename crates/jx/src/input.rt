@@ -1,13 +1,10 @@
 // Where a report's input comes from.
 ghost use Rattle.std.specs.Prelude.{◌≡◌, ◌≤◌, false};
 
-use crate::command::Command;
-use crate::end::End;
-use crate::exit::Exit;
 use crate::fault::Fault;
-use crate::report::report;
-use crate::sink::Sink;
 use jx_book::OpenGate;
+use jx_command::Command;
+use jx_report::{End, Exit, Sink, report};
 use std::fs::File;
 use std::sync::Wait;
 use std::thread::Threads;

@@ -2,33 +2,15 @@
 // what pointers lead to in it; or reads a sequence of them, and tells which of its elements are texts.
 #![tactic(auto)]
 
-mod answer;
-mod arg_fault;
-mod arguments;
-mod command;
-mod element_words;
-mod end;
-mod exit;
 mod fault;
 mod input;
-mod pointer_answer;
-mod pointer_words;
-mod read_all;
-mod report;
-mod report_fault;
-mod row_words;
-mod sink;
-mod source;
 #[cfg(test)]
 mod tests;
-mod words;
-mod write_all;
 
-use arguments::command_of;
-use end::End;
-use exit::Exit;
 use fault::Fault;
 use input::report_on;
+use jx_command::command_of;
+use jx_report::{End, Exit};
 use std::env;
 use std::process::ExitCode;
 use std::sync::Wait;

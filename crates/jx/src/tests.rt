@@ -1,9 +1,3 @@
-// The program from bytes to bytes, over memory and over ends that fail.
-mod commands;
-mod ends;
+// Input from a file, and the words of faults.
+mod faults;
 mod files;
-mod gates;
-mod indexes;
-mod reports;
-mod sequences;
-mod words;

@@ -1,15 +1,27 @@
 // Input from a file.
-use crate::command::Task;
-use crate::end::End;
-use crate::exit::Exit;
+ghost use Rattle.std.specs.Prelude.{◌≡◌};
+
 use crate::fault::Fault;
 use crate::input::report_on;
-use crate::report_fault::ReportFault;
-use crate::tests::commands::command;
+use jx_claim::Workers;
+use jx_command::{Command, Task};
+use jx_lex::Depth;
+use jx_report::{End, Exit, ReportFault};
 use std::sync::Wait;
 use std::test::Fail;
 use std::thread::Threads;
 use std::{env, fs, process};
+
+fn check() -> Command
+    ensures { result.piece ≡ 65536 }
+{
+    Command {
+        task: Task::Check,
+        depth: Depth::default(),
+        workers: Workers::new(2).unwrap(),
+        piece: 65536,
+    }
+}
 
 // What a check of a file comes to, and what it prints.
 fn checked<R: Threads + Wait + Sync>(
@@ -18,8 +30,7 @@ fn checked<R: Threads + Wait + Sync>(
     path: &str,
 ) -> (Result<Exit, Fault>, Vec<u8>) {
     let mut writer = End::new(Vec::new(rt.alloc()));
-    let check = command(Task::Check, 512);
-    let answer = report_on(rt, threads, Some(path), &mut writer, &check);
+    let answer = report_on(rt, threads, Some(path), &mut writer, &check());
     (answer, writer.inner)
 }
 

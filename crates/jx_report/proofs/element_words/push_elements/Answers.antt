@@ -1,0 +1,25 @@
+use Rattle.std.proofs.Common.{◌∙◌, sym}
+use Rattle.jx_report.proofs.ElementSteps.{elements_step, elements_done, exit_step, exit_done}
+use Rattle.jx_report.proofs.element_words.push_elements.Goals as goal
+
+pub loop-number-preserved : goal.loop-number-preserved
+loop-number-preserved c =
+    let i = c.loop-number.number in
+    let elements = c.args.elements.now in
+    let element = c.index-elements-number.result in
+    record {
+      output =
+          elements_step i elements element element c.loop-number.out.items c.push_element.new.out.items c.loop-number-test.true c.index-elements-number.is c.in_ok-push_element.ensures
+          ∙ c.loop-number.invariant.output;
+      exit =
+          exit_step i elements element element c.loop-number.exit c.exit_past-exit.result c.loop-number-test.true c.index-elements-number.is c.exit_past-exit.ensures
+          ∙ c.loop-number.invariant.exit;
+    }
+
+pub returns-clause-output : goal.returns-clause-output
+returns-clause-output c =
+    sym (elements_done c.loop-number.number c.args.elements.now c.loop-number.out.items c.loop-number-test.false) ∙ c.loop-number.invariant.output
+
+pub returns-clause-exit : goal.returns-clause-exit
+returns-clause-exit c =
+    sym (exit_done c.loop-number.number c.args.elements.now c.loop-number.exit c.loop-number-test.false) ∙ c.loop-number.invariant.exit

@@ -1,0 +1,26 @@
+//! What is written for an input: reads it to its end, has it answered by several workers, and writes the output.
+#![tactic(auto)]
+
+mod answer;
+mod element_words;
+mod end;
+mod exit;
+mod pointer_answer;
+mod pointer_words;
+mod read_all;
+mod report_fault;
+mod reporting;
+mod row_words;
+mod sink;
+mod source;
+#[cfg(test)]
+mod tests;
+mod words;
+mod write_all;
+
+pub use end::End;
+pub use exit::Exit;
+pub use report_fault::ReportFault;
+pub use reporting::report;
+pub use sink::Sink;
+pub use source::Source;

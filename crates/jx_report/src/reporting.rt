@@ -1,0 +1,53 @@
+ghost use Rattle.std.specs.Prelude.{◌≡◌, ◌≢◌, ◌≤◌, ◌↔◌, true, false, IfOk, IfErr, IsErrOf};
+ghost use Rattle.jx_report.specs.Reports.{Reports, ReportsInPart, HasTooManyPieces};
+
+use crate::answer::answer_of;
+use crate::exit::Exit;
+use crate::read_all::read_all;
+use crate::report_fault::ReportFault;
+use crate::sink::Sink;
+use crate::source::Source;
+use crate::write_all::write_all;
+use jx_book::Gate;
+use jx_claim::Cutting;
+use jx_command::Command;
+use std::alloc::Global;
+use std::sync::Wait;
+use std::thread::Threads;
+
+/// Reads to the end of input, builds the whole output by the command's workers, and then writes it. It may wait for the
+/// workers. The gate is asked after each step of a worker, and changes no output.
+pub fn report<R: Threads + Wait + Sync, S: Source, W: Sink, G: Gate + Sync>(
+    rt: &R,
+    alloc: Global,
+    reader: &mut S,
+    writer: &mut W,
+    command: &Command,
+    gate: &G,
+) -> Result<Exit, ReportFault>
+    requires reader { S.has_failed reader.old ≡ false }
+    requires writer { W.has_failed writer.old ≡ false }
+    requires piece { 1 ≤ command.now.piece }
+    // All that the reader had was read, and its whole output was written.
+    ensures ok { IfOk result (λ exit. Reports command.now (S.remaining reader.old) (S.remaining reader.new)
+        (W.contents writer.old) (W.contents writer.new) exit) }
+    ensures read { IsErrOf result ReportFault.Read ↔ (S.has_failed reader.new ≡ true) }
+    ensures write { IsErrOf result ReportFault.Write ↔ (W.has_failed writer.new ≡ true) }
+    // After any other fault the writer is as it was.
+    ensures unwritten { IfErr result (λ fault. fault ≢ ReportFault.Write → writer.new ≡ writer.old) }
+    // After a write fault all was read, and a beginning of its output was written.
+    ensures beginning { IsErrOf result ReportFault.Write → ReportsInPart command.now (S.remaining reader.old)
+        (S.remaining reader.new) (W.contents writer.old) (W.contents writer.new) }
+    // Pieces are too many only where all was read, and it has more of them than there may be.
+    ensures pieces { IsErrOf result ReportFault.Pieces → HasTooManyPieces command.now (S.remaining reader.old)
+        (S.remaining reader.new) }
+{
+    let text = read_all(alloc, reader)?;
+    let Ok(cutting) = Cutting::every(text.len(), command.piece) else {
+        return Err(ReportFault::Pieces);
+    };
+    let answer = answer_of(rt, alloc, command, &text, &cutting, gate);
+    let answer = answer.map_err(|_| ReportFault::Memory)?;
+    write_all(writer, &answer.output)?;
+    Ok(answer.exit)
+}

@@ -1,0 +1,7 @@
+// Reports from bytes to bytes, over memory and over ends that fail.
+mod commands;
+mod ends;
+mod gates;
+mod indexes;
+mod reports;
+mod sequences;

@@ -1,0 +1,58 @@
+// What is printed for text sequences.
+use crate::exit::Exit;
+use crate::tests::commands::{command, reported};
+use jx_claim::Workers;
+use jx_command::Task;
+use std::test::Fail;
+
+#[test]
+fn elements(rt: HostRuntime) -> Result<(), Fail> {
+    let inputs: [(&[u8], &[u8], Exit); 9] = [
+        (
+            b"\x1Etrue\n\x1Etrue\x1E\x1E[1\n",
+            b"1..6 accepted\n7..11 may be cut\n13..16 truncated\n",
+            Exit::Bad,
+        ),
+        (b"1\n\x1E2\n", b"0..2 unmarked\n3..5 accepted\n", Exit::Bad),
+        (b"\x1E\"a\"", b"1..4 accepted\n", Exit::Good),
+        (
+            b"\x1E1 \x1E]\n",
+            b"1..3 accepted\n4..6 stopped at 4\n",
+            Exit::Bad,
+        ),
+        (
+            b"\x1E\"a\x1Eb\"",
+            b"1..3 truncated\n4..6 stopped at 4\n",
+            Exit::Bad,
+        ),
+        (b"\x1E\n\x1E", b"1..2 truncated\n", Exit::Bad),
+        (b"1\n", b"0..2 unmarked\n", Exit::Bad),
+        (b"", b"", Exit::Good),
+        (b"\x1E\x1E", b"", Exit::Good),
+    ];
+    for (input, output, exit) in inputs {
+        for piece in 1..18 {
+            let mut seq = command(Task::Seq, 512);
+            seq.piece = piece;
+            seq.workers = Workers::new(2).ok_or("workers")?;
+            let ran = reported(&rt, rt.alloc(), input, &seq);
+            assert_eq!(rt; ran.answer, Ok(exit), "at {input:?} in pieces of {piece}");
+            assert_eq!(rt;
+                ran.output.as_slice(),
+                output,
+                "at {input:?} in pieces of {piece}"
+            );
+        }
+    }
+    Ok(())
+}
+
+#[test]
+fn elements_within_a_depth(rt: HostRuntime) -> Result<(), Fail> {
+    let seq = command(Task::Seq, 1);
+    let ran = reported(&rt, rt.alloc(), b"\x1E[]\x1E[[]]\x1E{}", &seq);
+    let output = b"1..3 accepted\n4..8 too deep at 5\n9..11 accepted\n";
+    assert_eq!(rt; ran.answer, Ok(Exit::Bad));
+    assert_eq!(rt; ran.output.as_slice(), output.as_slice());
+    Ok(())
+}
