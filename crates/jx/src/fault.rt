@@ -1,3 +1,4 @@
+use clap::error::ErrorKind;
 use jx_command::ArgFault;
 use jx_report::ReportFault;
 use std::alloc::AllocError;
@@ -7,7 +8,7 @@ use thiserror::Error;
 /// Why the program gave no answer. Each shows as one line, or as clap's text.
 #[derive(Debug, Drop, Error)]
 pub enum Fault {
-    /// The words are wrong, or ask for help.
+    /// The words are wrong, or ask for help or the version.
     #[error("{0}")]
     Words(clap::Error),
     /// A word is no text, as clap puts it.
@@ -22,6 +23,14 @@ pub enum Fault {
 }
 
 impl Fault {
+    /// Whether it is no fault, but what the words ask for: the version, which goes to standard output.
+    pub fn is_version(&self) -> bool {
+        match self {
+            Fault::Words(error) => error.kind() == ErrorKind::DisplayVersion,
+            _ => false,
+        }
+    }
+
     /// Where the system did not give the words.
     pub fn of_words(error: io::Error) -> Fault {
         match error.kind() {

@@ -10,7 +10,7 @@ mod tests;
 use fault::Fault;
 use input::report_on;
 use jx_command::command_of;
-use jx_report::{End, Exit};
+use jx_report::{End, Exit, ReportFault};
 use std::env;
 use std::process::ExitCode;
 use std::sync::Wait;
@@ -28,13 +28,19 @@ fn run<R: Threads + Wait + Sync>(rt: &HostRuntime, threads: &R) -> Result<Exit, 
     report_on(rt, threads, file, &mut writer, &command)
 }
 
+fn end_by(rt: &HostRuntime, fault: &Fault) -> ExitCode {
+    let _ = rt.eprint(fault);
+    ExitCode::from(FAULT)
+}
+
 fn main(rt: HostRuntime) -> ExitCode {
     match run(&rt, &rt) {
         Ok(Exit::Good) => ExitCode::SUCCESS,
         Ok(Exit::Bad) => ExitCode::FAILURE,
-        Err(fault) => {
-            let _ = rt.eprint(&fault);
-            ExitCode::from(FAULT)
-        }
+        Err(version) if version.is_version() => match rt.print(&version) {
+            Ok(()) => ExitCode::SUCCESS,
+            Err(_) => end_by(&rt, &Fault::Report(ReportFault::Write)),
+        },
+        Err(fault) => end_by(&rt, &fault),
     }
 }

@@ -3,9 +3,9 @@ ghost use Rattle.std.specs.Prelude.{◌≤◌, IfOk, IfSome};
 
 use crate::arg_fault::ArgFault;
 use crate::command::{Command, Task};
-use clap::builder::ValueParser;
+use crate::grammar::grammar;
+use clap::ArgMatches;
 use clap::error::ErrorKind;
-use clap::{Arg, ArgMatches, value_parser};
 use jx_claim::Workers;
 use jx_lex::Depth;
 use std::alloc::{AllocError, Global};
@@ -19,65 +19,6 @@ fn refused(error: clap::Error) -> ArgFault {
         ErrorKind::OutOfMemory => ArgFault::Memory,
         _ => ArgFault::Clap(error),
     }
-}
-
-/// A subcommand with the options that each of them takes.
-fn subcommand<'a>(
-    alloc: Global,
-    name: &'a str,
-    about: &'a str,
-) -> Result<clap::Command<'a>, AllocError> {
-    let file = Arg::new(alloc, "file")
-        .long("file")
-        .value_name("FILE")
-        .help("Read FILE in place of standard input");
-    let depth = Arg::new(alloc, "depth")
-        .long("depth")
-        .value_name("N")
-        .value_parser(value_parser!(u16))
-        .default_value("512")
-        .help("Refuse a text in which more than N containers are open at once");
-    let workers = Arg::new(alloc, "workers")
-        .long("workers")
-        .value_name("N")
-        .value_parser(ValueParser::unsigned(1, 64))
-        .default_value("4")
-        .help("Read by N threads, 1 to 64");
-    let piece = Arg::new(alloc, "piece")
-        .long("piece")
-        .value_name("N")
-        .value_parser(ValueParser::unsigned(1, 1_073_741_824))
-        .default_value("65536")
-        .help("Let a thread read N bytes at a time, 1 to 1073741824");
-    clap::Command::new(alloc, name)
-        .about(about)
-        .arg(file)?
-        .arg(depth)?
-        .arg(workers)?
-        .arg(piece)
-}
-
-fn grammar<'a>(alloc: Global) -> Result<clap::Command<'a>, AllocError> {
-    let check = subcommand(alloc, "check", "Tell whether the input is a JSON text")?;
-    let index = subcommand(alloc, "index", "Print a line for each value of a JSON text")?;
-    let pointers = Arg::new(alloc, "pointers")
-        .value_name("POINTER")
-        .num_args(1..)
-        .required(true)
-        .help("A JSON Pointer (RFC 6901) as it is spelt");
-    let at = subcommand(alloc, "at", "Print what pointers lead to in a JSON text")?.arg(pointers)?;
-    let seq = subcommand(
-        alloc,
-        "seq",
-        "Tell which elements of a JSON text sequence are JSON texts",
-    )?;
-    clap::Command::new(alloc, "jx")
-        .about("Validates and indexes JSON texts (RFC 8259) and text sequences (RFC 7464)")
-        .subcommand_required(true)
-        .subcommand(check)?
-        .subcommand(index)?
-        .subcommand(at)?
-        .subcommand(seq)
 }
 
 fn file_of<'a>(options: &ArgMatches<'a>) -> Option<&'a str> {
@@ -130,10 +71,13 @@ fn command_from(alloc: Global, name: &str, options: &ArgMatches<'_>) -> Result<C
         depth: depth_of(options).unwrap_or_default(),
         workers: workers_of(options).unwrap_or(default_workers),
         piece: piece_of(options).unwrap_or(DEFAULT_PIECE),
+        quiet: options.get_flag("quiet"),
     })
 }
 
-/// The command that the words name, the first of which is the program's name, and FILE as it stands where it is given.
+/// The command that the words name, the first of which is the program's name, and FILE where it is given. FILE and each
+/// POINTER are taken as they stand: they are not cut, trimmed or read. Where the words are no command, or ask for help or
+/// the version, `Err` has what is to be told.
 pub fn command_of<'a>(
     alloc: Global,
     words: &'a [&'a str],

@@ -25,4 +25,6 @@ pub struct Command {
     pub workers: Workers,
     /// How many bytes each piece has that a worker reads, at least 1; the last piece may have fewer.
     pub piece: usize,
+    /// Whether nothing is to be written, so that the exit alone is the answer.
+    pub quiet: bool,
 }

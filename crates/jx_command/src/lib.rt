@@ -4,6 +4,8 @@
 mod arg_fault;
 mod arguments;
 mod command;
+mod grammar;
+mod help;
 #[cfg(test)]
 mod tests;
 

@@ -1,5 +1,5 @@
 -- What a report does to the bytes of its ends.
-use Rattle.std.specs.Prelude.{ℕ, ◌*◌, ◌<◌, ◌≤◌, List, length, Option}
+use Rattle.std.specs.Prelude.{ℕ, ◌*◌, ◌<◌, ◌≤◌, List, [], length, Option, Bool, true, false}
 use Rattle.std.specs.Io.KnownBytes.{Appends}
 use Rattle.jx_command.specs.declared.command.Command.{Command}
 use Rattle.jx_report.specs.declared.exit.Exit.{Exit}
@@ -10,14 +10,19 @@ use Rattle.jx_report.specs.Output.{Output}
 abbrev pub greatest_length : ℕ → ℕ
 greatest_length piece = 4294967295 * piece
 
--- the reader gave all that it had, and the writer got the whole output for it
+-- what is written of an output: nothing where a command is quiet
+abbrev pub shown_output : Bool → List ℕ → List ℕ
+shown_output true output = []
+shown_output false output = output
+
+-- the reader gave all that it had, and the writer got the whole output for it, or nothing where the command is quiet
 pub record Reports (command : Command) (unread left written grown : Option (List ℕ)) (exit : Exit) : Type 0 where
   pub text : List ℕ
   pub output : List ℕ
   pub read : ReadsToEnd unread left text
   pub few : length text ≤ greatest_length command.piece
   pub answer : Output command.task command.depth text output exit
-  pub wrote : Appends written grown output
+  pub wrote : Appends written grown (shown_output command.quiet output)
 
 -- the reader gave all that it had, and the writer got a beginning of the output for it, and not all
 pub record ReportsInPart (command : Command) (unread left written grown : Option (List ℕ)) : Type 0 where
@@ -27,7 +32,7 @@ pub record ReportsInPart (command : Command) (unread left written grown : Option
   pub read : ReadsToEnd unread left text
   pub few : length text ≤ greatest_length command.piece
   pub answer : Output command.task command.depth text output exit
-  pub wrote : AppendsBeginning written grown output
+  pub wrote : AppendsBeginning written grown (shown_output command.quiet output)
 
 -- the reader gave all that it had, and that makes more pieces than there may be
 pub record HasTooManyPieces (command : Command) (unread left : Option (List ℕ)) : Type 0 where

@@ -8,7 +8,9 @@ use std::io::{Read, Write};
 /// A reader or a writer of std as a `Source` or a `Sink`.
 #[derive(Debug, Drop)]
 pub struct End<T> {
+    /// The reader or the writer itself.
     pub inner: T,
+    /// Whether a call through this end has failed.
     pub failed: bool,
 }
 

@@ -1,8 +1,8 @@
 /// What a report comes to.
 #[derive(Clone, Copy, Debug, PartialEq, Eq)]
 pub enum Exit {
-    /// All that was asked about is as it should be.
+    /// The text is accepted, and each pointer is found; or each element of the sequence is accepted.
     Good,
-    /// Something was refused.
+    /// The text is refused, or a pointer leads nowhere or is none; or an element is not accepted.
     Bad,
 }

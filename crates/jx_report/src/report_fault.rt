@@ -3,7 +3,7 @@ use thiserror::Error;
 /// Why a report gave no answer.
 #[derive(Clone, Copy, Debug, PartialEq, Eq, Error)]
 pub enum ReportFault {
-    /// The reader failed. Nothing was written.
+    /// The reader failed: a call of `read` answered an error, of whatever kind. Nothing was written.
     #[error("jx: read failed")]
     Read,
     /// The writer failed, or took no byte. A beginning of the output was written.

@@ -1,5 +1,5 @@
 ghost use Rattle.std.specs.Prelude.{◌≡◌, ◌≢◌, ◌≤◌, ◌↔◌, true, false, IfOk, IfErr, IsErrOf};
-ghost use Rattle.jx_report.specs.Reports.{Reports, ReportsInPart, HasTooManyPieces};
+ghost use Rattle.jx_report.specs.Reports.{Reports, ReportsInPart, HasTooManyPieces, shown_output};
 
 use crate::answer::answer_of;
 use crate::exit::Exit;
@@ -15,8 +15,16 @@ use std::alloc::Global;
 use std::sync::Wait;
 use std::thread::Threads;
 
-/// Reads to the end of input, builds the whole output by the command's workers, and then writes it. It may wait for the
-/// workers. The gate is asked after each step of a worker, and changes no output.
+/// What is written of an output: nothing where a command is quiet.
+fn shown(quiet: bool, output: &[u8]) -> &[u8]
+    ensures { result.now ≡ shown_output quiet output.now }
+{
+    if quiet { &[] } else { output }
+}
+
+/// Reads to the end of input, builds the whole output by the command's workers, and then writes it, unless the command is
+/// quiet; the exit is the same then. It may wait for the workers. The gate is asked after each step of a worker, and
+/// changes no output.
 pub fn report<R: Threads + Wait + Sync, S: Source, W: Sink, G: Gate + Sync>(
     rt: &R,
     alloc: Global,
@@ -48,6 +56,6 @@ pub fn report<R: Threads + Wait + Sync, S: Source, W: Sink, G: Gate + Sync>(
     };
     let answer = answer_of(rt, alloc, command, &text, &cutting, gate);
     let answer = answer.map_err(|_| ReportFault::Memory)?;
-    write_all(writer, &answer.output)?;
+    write_all(writer, shown(command.quiet, &answer.output))?;
     Ok(answer.exit)
 }

@@ -49,3 +49,17 @@ fn words_that_are_no_command(rt: HostRuntime) -> Result<(), Fail> {
     assert!(rt; shown.as_str().starts_with(line), "{shown}");
     Ok(())
 }
+
+#[test]
+fn the_version_is_no_fault(rt: HostRuntime) -> Result<(), Fail> {
+    for word in ["--version", "-V", "--help", "chek"] {
+        let words = ["jx", word];
+        let Err(fault) = command_of(rt.alloc(), &words) else {
+            return Err("it is a command".into());
+        };
+        let asks = word == "--version" || word == "-V";
+        assert_eq!(rt; Fault::of_arguments(fault).is_version(), asks, "at {word}");
+    }
+    assert!(rt; !Fault::Open.is_version());
+    Ok(())
+}

@@ -20,6 +20,7 @@ fn check() -> Command
         depth: Depth::default(),
         workers: Workers::new(2).unwrap(),
         piece: 65536,
+        quiet: false,
     }
 }
 

@@ -26,6 +26,37 @@ fn check_of_a_file(rt: HostRuntime) -> Result<(), Fail> {
 }
 
 #[test]
+fn files_as_they_stand(rt: HostRuntime) -> Result<(), Fail> {
+    for word in ["", "-", "-x", "--depth", "a, b", " a "] {
+        let words = ["jx", "seq", "--file", word];
+        let (_, file) = command_of(rt.alloc(), &words)?;
+        assert_eq!(rt; file, Some(word), "at {word:?}");
+    }
+    let words = ["jx", "seq", "--file=--depth", "--depth", "1"];
+    let (command, file) = command_of(rt.alloc(), &words)?;
+    assert_eq!(rt; file, Some("--depth"));
+    assert_eq!(rt; command.depth.containers(), 1);
+    Ok(())
+}
+
+#[test]
+fn quiet(rt: HostRuntime) -> Result<(), Fail> {
+    for name in ["check", "seq"] {
+        for word in ["-q", "--quiet"] {
+            let words = ["jx", name, word];
+            let (command, _) = command_of(rt.alloc(), &words)?;
+            assert!(rt; command.quiet, "at {name} {word}");
+        }
+        let words = ["jx", name];
+        let (command, _) = command_of(rt.alloc(), &words)?;
+        assert!(rt; !command.quiet, "at {name}");
+    }
+    assert!(rt; is_refused_by_clap(&["jx", "index", "-q"], rt.alloc()));
+    assert!(rt; is_refused_by_clap(&["jx", "at", "--quiet", "/a"], rt.alloc()));
+    Ok(())
+}
+
+#[test]
 fn depths(rt: HostRuntime) -> Result<(), Fail> {
     for (word, depth) in [("0", 0), ("3", 3), ("512", 512), ("65535", 65535)] {
         let words = ["jx", "check", "--depth", word];
@@ -121,5 +152,63 @@ fn words_that_are_no_command(rt: HostRuntime) -> Result<(), Fail> {
     assert!(rt; is_refused_by_clap(&["jx", "at"], rt.alloc()));
     assert!(rt; is_refused_by_clap(&["jx", "at", "--depth", "3"], rt.alloc()));
     assert!(rt; is_refused_by_clap(&["jx", "at", "/a", "--wrong"], rt.alloc()));
+    Ok(())
+}
+
+fn told(alloc: Global, words: &[&str]) -> Result<String, Fail> {
+    match command_of(alloc, words) {
+        Ok(_) => Err("it is a command".into()),
+        Err(fault) => Ok(fault.to_string(alloc)?),
+    }
+}
+
+#[test]
+fn the_nearest_right_word(rt: HostRuntime) -> Result<(), Fail> {
+    let text = told(rt.alloc(), &["jx", "chek"])?;
+    assert!(rt;
+        text.as_str()
+            .contains("a similar subcommand exists: 'check'"),
+        "{text}"
+    );
+    let text = told(rt.alloc(), &["jx", "check", "--dpth", "3"])?;
+    assert!(rt;
+        text.as_str()
+            .contains("a similar argument exists: '--depth'"),
+        "{text}"
+    );
+    let text = told(rt.alloc(), &["jx", "at", "-1"])?;
+    assert!(rt;
+        text.as_str()
+            .contains("to pass '-1' as a value, use '-- -1'"),
+        "{text}"
+    );
+    Ok(())
+}
+
+#[test]
+fn the_version(rt: HostRuntime) -> Result<(), Fail> {
+    let text = told(rt.alloc(), &["jx", "--version"])?;
+    assert_eq!(rt; text.as_str(), "jx 0.1.0\n");
+    Ok(())
+}
+
+#[test]
+fn help_in_80_columns(rt: HostRuntime) -> Result<(), Fail> {
+    for name in ["check", "index", "at", "seq"] {
+        for flag in ["-h", "--help"] {
+            let text = told(rt.alloc(), &["jx", name, flag])?;
+            assert!(rt; text.as_str().contains("Usage: jx"), "{text}");
+            for line in text.as_str().split('\n') {
+                assert!(rt; line.chars().count() < 80, "{line}");
+            }
+        }
+    }
+    Ok(())
+}
+
+#[test]
+fn words_of_want_of_memory(rt: HostRuntime) -> Result<(), Fail> {
+    let shown = ArgFault::Memory.to_string(rt.alloc())?;
+    assert_eq!(rt; shown.as_str(), "jx: out of memory");
     Ok(())
 }

@@ -22,6 +22,7 @@ pub fn command(task: Task, containers: u32) -> Command
         depth: Depth::new(containers).unwrap_or_default(),
         workers: Workers::new(5).unwrap(),
         piece: 1,
+        quiet: false,
     }
 }
 

@@ -201,6 +201,29 @@ fn a_writer_that_takes_one_byte_a_call(rt: HostRuntime) -> Result<(), Fail> {
     Ok(())
 }
 
+// Nothing is written, and the exit is the same; a writer that would fail is not asked.
+#[test]
+fn quiet(rt: HostRuntime) -> Result<(), Fail> {
+    let texts: [(&[u8], Exit); 4] = [
+        (b"null", Exit::Good),
+        (b"nulx", Exit::Bad),
+        (b"", Exit::Bad),
+        (b"1[", Exit::Bad),
+    ];
+    for (text, exit) in texts {
+        let mut check = check_within(0);
+        check.quiet = true;
+        let mut reader = End::new(text);
+        let mut writer = End::new(FailingWriter::new(rt.alloc(), 1, 1, Refusal::Error));
+        let answer = report(&rt, rt.alloc(), &mut reader, &mut writer, &check, &OpenGate);
+        assert_eq!(rt; answer, Ok(exit), "at {text:?}");
+        assert!(rt; writer.inner.taken.is_empty());
+        assert_eq!(rt; writer.inner.call, 0);
+        assert!(rt; !writer.failed());
+    }
+    Ok(())
+}
+
 #[test]
 fn the_words_of_faults(rt: HostRuntime) -> Result<(), Fail> {
     let words = [

@@ -48,6 +48,23 @@ fn elements(rt: HostRuntime) -> Result<(), Fail> {
 }
 
 #[test]
+fn quiet(rt: HostRuntime) -> Result<(), Fail> {
+    let inputs: [(&[u8], Exit); 3] = [
+        (b"\x1E[]\n", Exit::Good),
+        (b"", Exit::Good),
+        (b"\x1E[]\n\x1E1", Exit::Bad),
+    ];
+    for (input, exit) in inputs {
+        let mut seq = command(Task::Seq, 512);
+        seq.quiet = true;
+        let ran = reported(&rt, rt.alloc(), input, &seq);
+        assert_eq!(rt; ran.answer, Ok(exit), "at {input:?}");
+        assert!(rt; ran.output.is_empty());
+    }
+    Ok(())
+}
+
+#[test]
 fn elements_within_a_depth(rt: HostRuntime) -> Result<(), Fail> {
     let seq = command(Task::Seq, 1);
     let ran = reported(&rt, rt.alloc(), b"\x1E[]\x1E[[]]\x1E{}", &seq);

@@ -1,0 +1,28 @@
+# Completions of jx for bash.
+_jx() {
+    local word=${COMP_WORDS[COMP_CWORD]} before=${COMP_WORDS[COMP_CWORD - 1]} command='' at
+    COMPREPLY=()
+    for ((at = 1; at < COMP_CWORD; at++)); do
+        case ${COMP_WORDS[at]} in
+        check | index | at | seq | help)
+            command=${COMP_WORDS[at]}
+            break
+            ;;
+        esac
+    done
+    case $before in
+    --file)
+        compopt -o filenames 2>/dev/null
+        mapfile -t COMPREPLY < <(compgen -f -- "$word")
+        return
+        ;;
+    --depth | --workers | --piece) return ;;
+    esac
+    case $command in
+    '') mapfile -t COMPREPLY < <(compgen -W 'check index at seq help -h --help -V --version' -- "$word") ;;
+    help) mapfile -t COMPREPLY < <(compgen -W 'check index at seq' -- "$word") ;;
+    check | seq) mapfile -t COMPREPLY < <(compgen -W '--file --depth --workers --piece -q --quiet -h --help' -- "$word") ;;
+    *) mapfile -t COMPREPLY < <(compgen -W '--file --depth --workers --piece -h --help' -- "$word") ;;
+    esac
+}
+complete -F _jx jx

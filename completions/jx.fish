@@ -1,0 +1,15 @@
+# Completions of jx for fish.
+complete -c jx -f
+complete -c jx -n __fish_use_subcommand -a check -d 'Tell whether the input is a JSON text'
+complete -c jx -n __fish_use_subcommand -a index -d 'Print a line for each value of a JSON text'
+complete -c jx -n __fish_use_subcommand -a at -d 'Print where pointers lead in a JSON text'
+complete -c jx -n __fish_use_subcommand -a seq -d 'Tell which elements of a JSON text sequence are JSON texts'
+complete -c jx -n __fish_use_subcommand -a help -d 'Print help'
+complete -c jx -n __fish_use_subcommand -s V -l version -d 'Print version'
+complete -c jx -s h -l help -d 'Print help'
+complete -c jx -n '__fish_seen_subcommand_from check index at seq' -l file -r -F -d 'Read FILE in place of standard input'
+complete -c jx -n '__fish_seen_subcommand_from check index at seq' -l depth -x -d 'Let N containers be open, 0 to 65535'
+complete -c jx -n '__fish_seen_subcommand_from check index at seq' -l workers -x -d 'Read by N workers, 1 to 64'
+complete -c jx -n '__fish_seen_subcommand_from check index at seq' -l piece -x -d 'Let a worker read N bytes at a time'
+complete -c jx -n '__fish_seen_subcommand_from check seq' -s q -l quiet -d 'Write no output: the exit status is the answer'
+complete -c jx -n '__fish_seen_subcommand_from help' -a 'check index at seq'

@@ -1,0 +1,97 @@
+// The commands and options that the words of the command line are read by.
+use crate::help;
+use clap::builder::ValueParser;
+use clap::{Arg, ArgAction, Command, value_parser};
+use std::alloc::{AllocError, Global};
+
+fn file<'a>(alloc: Global) -> Arg<'a> {
+    Arg::new(alloc, "file")
+        .long("file")
+        .value_name("FILE")
+        .allow_hyphen_values(true)
+        .help(help::FILE)
+        .long_help(help::LONG_FILE)
+}
+
+fn depth<'a>(alloc: Global) -> Arg<'a> {
+    Arg::new(alloc, "depth")
+        .long("depth")
+        .value_name("N")
+        .value_parser(value_parser!(u16))
+        .default_value("512")
+        .help(help::DEPTH)
+        .long_help(help::LONG_DEPTH)
+}
+
+fn workers<'a>(alloc: Global) -> Arg<'a> {
+    Arg::new(alloc, "workers")
+        .long("workers")
+        .value_name("N")
+        .value_parser(ValueParser::unsigned(1, 64))
+        .default_value("4")
+        .help(help::WORKERS)
+        .long_help(help::LONG_WORKERS)
+}
+
+fn piece<'a>(alloc: Global) -> Arg<'a> {
+    Arg::new(alloc, "piece")
+        .long("piece")
+        .value_name("N")
+        .value_parser(ValueParser::unsigned(1, 1_073_741_824))
+        .default_value("65536")
+        .help(help::PIECE)
+        .long_help(help::LONG_PIECE)
+}
+
+fn quiet<'a>(alloc: Global) -> Arg<'a> {
+    Arg::new(alloc, "quiet")
+        .short('q')
+        .long("quiet")
+        .action(ArgAction::SetTrue)
+        .help(help::QUIET)
+        .long_help(help::LONG_QUIET)
+}
+
+fn pointers<'a>(alloc: Global) -> Arg<'a> {
+    Arg::new(alloc, "pointers")
+        .value_name("POINTER")
+        .num_args(1..)
+        .required(true)
+        .help(help::POINTER)
+        .long_help(help::LONG_POINTER)
+}
+
+/// A subcommand with the options that each of them takes.
+fn subcommand<'a>(
+    alloc: Global,
+    name: &'a str,
+    about: &'a str,
+    after: &'a str,
+) -> Result<Command<'a>, AllocError> {
+    Command::new(alloc, name)
+        .about(about)
+        .after_long_help(after)
+        .arg(file(alloc))?
+        .arg(depth(alloc))?
+        .arg(workers(alloc))?
+        .arg(piece(alloc))
+}
+
+/// The program with its four commands.
+pub fn grammar<'a>(alloc: Global) -> Result<Command<'a>, AllocError> {
+    let check = subcommand(alloc, "check", help::CHECK, help::AFTER_CHECK)?.arg(quiet(alloc))?;
+    let index = subcommand(alloc, "index", help::INDEX, help::AFTER_INDEX)?;
+    let at = subcommand(alloc, "at", help::AT, help::AFTER_AT)?.arg(pointers(alloc))?;
+    let seq = subcommand(alloc, "seq", help::SEQ, help::AFTER_SEQ)?.arg(quiet(alloc))?;
+    Command::new(alloc, "jx")
+        .version(help::VERSION)
+        .about(help::ABOUT)
+        .long_about(help::LONG_ABOUT)
+        .after_help(help::AFTER)
+        .after_long_help(help::LONG_AFTER)
+        .subcommand_required(true)
+        .subcommand(check)?
+        .subcommand(index)?
+        .subcommand(at)?
+        .subcommand(seq)
+}

@@ -1,0 +1,129 @@
+// What the program says of itself. No line is longer than 79 characters, and the manual page has the same words.
+
+pub const VERSION: &str = "0.1.0";
+
+pub const ABOUT: &str = "Validates and indexes JSON texts (RFC 8259) and text sequences (RFC 7464)";
+
+pub const LONG_ABOUT: &str =
+    "Validates and indexes JSON texts (RFC 8259) and text sequences (RFC 7464).
+
+Tells whether the input is a JSON text and at which byte it stops being one,
+where each value stands, and where JSON Pointers (RFC 6901) lead. Offsets
+count the bytes of the whole input from 0; a span S..E leaves E out.";
+
+pub const AFTER: &str =
+    "Exit status: 0 accepted, 1 refused, 2 no answer. More by 'jx help COMMAND'.";
+
+pub const LONG_AFTER: &str = "Examples:
+  jx check --file dump.json           is this file a JSON text?
+  jx check -q < dump.json || echo no  the same, by the exit status alone
+  jx index --file dump.json           a line for each value, with its span
+  jx at /users/0/name < dump.json     where this value stands
+  jx seq --file log.json-seq          which elements of a sequence are texts?
+
+Exit status:
+  0  the text is accepted, every pointer is found, every element is accepted
+  1  otherwise: standard output tells what was refused, and where
+  2  no answer: standard error tells why; a call for help ends so too";
+
+pub const CHECK: &str = "Tell whether the input is a JSON text";
+
+pub const INDEX: &str = "Print a line for each value of a JSON text";
+
+pub const AT: &str = "Print where pointers lead in a JSON text";
+
+pub const SEQ: &str = "Tell which elements of a JSON text sequence are JSON texts";
+
+pub const FILE: &str = "Read FILE in place of standard input";
+
+pub const LONG_FILE: &str = "Read FILE in place of standard input. The word behind --file is taken
+as it stands, also where it begins with a hyphen.";
+
+pub const DEPTH: &str = "Let N containers be open, 0 to 65535";
+
+pub const LONG_DEPTH: &str = "Let N containers (objects and arrays) be open at once, 0 to 65535.
+A text that needs more is too deep.";
+
+pub const WORKERS: &str = "Read by N workers, 1 to 64";
+
+pub const LONG_WORKERS: &str =
+    "Read by N workers, 1 to 64. The answer is the same for every number.";
+
+pub const PIECE: &str = "Let a worker read N bytes at a time";
+
+pub const LONG_PIECE: &str = "Let a worker read N bytes at a time, 1 to 1073741824. The answer is
+the same for every number.";
+
+pub const QUIET: &str = "Write no output: the exit status is the answer";
+
+pub const LONG_QUIET: &str = "Write no output: the exit status is the answer. What goes wrong is
+still told on standard error.";
+
+pub const POINTER: &str = "A JSON Pointer (RFC 6901), as it is spelt";
+
+pub const LONG_POINTER: &str = "A JSON Pointer (RFC 6901, section 3), taken as it stands: empty for
+the whole text, or tokens that each follow a slash, as /users/0/name.
+In a token ~1 stands for a slash and ~0 for a tilde. Behind the word
+-- also what begins with a hyphen is taken for a pointer.";
+
+pub const AFTER_CHECK: &str = "Output, one line:
+  accepted       the input is a JSON text
+  stopped at K   no JSON text goes on with the byte at K
+  truncated      the input ends before a JSON text does
+  too deep at K  with the byte at K more than N containers would be open
+
+Exit status: 0 accepted, 1 refused, 2 no answer.
+
+Examples:
+  jx check --file dump.json
+  zstd -dc dump.json.zst | jx check";
+
+pub const AFTER_INDEX: &str =
+    "Output, 'accepted' and a line for each value, in the order of their starts:
+  N KIND S..E PARENT PLACE NAME
+  N       its number, counted from 0
+  KIND    object, array, string, number, true, false or null
+  S..E    its span
+  PARENT  the number of the object or array that holds it, or -
+  PLACE   its place there, counted from 0
+  NAME    the span of its name in an object, or -
+Of a text that is refused, one line as by 'jx check'.
+
+Exit status: 0 accepted, 1 refused, 2 no answer.
+
+Examples:
+  jx index --file dump.json
+  printf '{\"a\":[1,2]}' | jx index";
+
+pub const AFTER_AT: &str = "Output, a line for each pointer, whose tokens count from 0:
+  found KIND S..E             the value's kind and span
+  no slash                    it is not empty and begins with no slash
+  bad escape at K             its byte K is a tilde with no 0 or 1 behind it
+  no such member at token K   the object has no member of this name
+  name repeated at token K    the object has several members of this name
+  not an index at token K     the token is no number of an element
+  past end at token K         the array has no element of this number
+  after last at token K       the token is -
+  not a container at token K  what the token is to lead into holds no values
+Of a text that is refused, one line as by 'jx check'.
+
+Exit status: 0 all found, 1 refused or not all found, 2 no answer.
+
+Examples:
+  jx at '' /users/0/name --file dump.json
+  jx at --file dump.json -- \"$pointer\"";
+
+pub const AFTER_SEQ: &str = "Output, a line for each element, its span and then:
+  accepted       it is a JSON text
+  may be cut     its root is a number or a literal with nothing behind it
+                 (RFC 7464, section 2.4)
+  unmarked       it stands before the first record separator (byte 1E)
+  stopped at K   as by 'jx check'; K counts from the start of the input
+  truncated      as by 'jx check'
+  too deep at K  as by 'jx check'; K counts from the start of the input
+
+Exit status: 0 all accepted, 1 not all accepted, 2 no answer.
+
+Examples:
+  jx seq --file log.json-seq
+  jx seq --quiet < log.json-seq && echo whole";

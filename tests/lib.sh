@@ -1,0 +1,47 @@
+# Read by the tests of the program as a whole. Each runs in a folder of its own, and ends by `finish`.
+root=$(cd "$(dirname "${BASH_SOURCE[0]}")/.." && pwd)
+program=${JX_PROGRAM:-$root/crates/jx/out/jx}
+room=$(mktemp -d)
+trap 'rm -rf "$room"' EXIT
+cd "$room" || exit 1
+passed=0
+failed=0
+
+# same NAME WANTED GOT
+same() {
+    if [ "$2" = "$3" ]; then
+        passed=$((passed + 1))
+    else
+        failed=$((failed + 1))
+        printf '%s: FAILED: %s\n--- wanted\n%s\n--- got\n%s\n' "${0##*/}" "$1" "$2" "$3"
+    fi
+}
+
+# has NAME PART WHOLE
+has() {
+    case $3 in
+    *"$2"*) passed=$((passed + 1)) ;;
+    *)
+        failed=$((failed + 1))
+        printf '%s: FAILED: %s\n--- wanted a part\n%s\n--- got\n%s\n' "${0##*/}" "$1" "$2" "${3:0:2000}"
+        ;;
+    esac
+}
+
+# Words in a line, with one space between two.
+flat() { tr -s ' \n' ' ' | sed 's/^ //; s/ $//'; }
+
+# said INPUT WORD..: runs the program on the input, and prints its status, its output and what it told on standard error.
+said() {
+    local input=$1 status=0
+    shift
+    printf %b "$input" | "$program" "$@" >out 2>err || status=$?
+    printf 'status %s\n' "$status"
+    sed 's/^/out: /' out
+    sed 's/^/err: /' err
+}
+
+finish() {
+    echo "${0##*/}: $passed passed, $failed failed"
+    [ "$failed" = 0 ]
+}

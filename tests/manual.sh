@@ -1,0 +1,46 @@
+#!/usr/bin/env bash
+# The manual page: it is laid out with no warning, and has each paragraph of the help texts word for word.
+. "$(dirname "$0")/lib.sh"
+page=$root/jx.1
+
+if command -v man >/dev/null; then
+    LC_ALL=C.UTF-8 MANWIDTH=79 MAN_KEEP_FORMATTING= man --warnings -l "$page" >shown 2>warnings
+    same 'man -l ends with status' 0 $?
+    same 'man -l warns of nothing' '' "$(cat warnings)"
+else
+    echo 'manual.sh: there is no man here: the page is read as it stands'
+    sed -e '/^\.\\"/d; s/^\.\(SH\|SS\|B\|TH\) *//; /^\.[A-Za-z]/d; s/\\-/-/g; s/\\(aq/'"'"'/g' "$page" >shown
+fi
+text=$(col -bx <shown | sed "s/’/'/g; s/‘/'/g; s/−/-/g" | flat)
+for section in NAME SYNOPSIS DESCRIPTION COMMANDS OPTIONS 'EXIT STATUS' DIAGNOSTICS EXAMPLES STANDARDS; do
+    has "section $section" " $section " "$text"
+done
+has 'the version' "$("$program" --version)" "$text"
+
+# Each paragraph of a help text, on a line of its own.
+paragraphs() {
+    "$program" $1 --help 2>&1 | sed 's/<\([A-Z]*\)>/\1/g' | awk '
+        BEGIN { RS = "" }
+        {
+            gsub(/[ \n]+/, " "); sub(/^ /, ""); sub(/ $/, "")
+            sub(/^(Usage|Options|Arguments|Examples): /, "")
+            if ($0 ~ /^(Commands:|-h, --help|-V, --version|jx COMMAND$)/) next
+            sub(/^Exit status: 0 the/, "0 the")
+            print
+        }'
+}
+
+for command in '' check index at seq; do
+    count=0
+    while read -r paragraph; do
+        has "jx $command --help: a paragraph" "$paragraph" "$text"
+        count=$((count + 1))
+    done < <(paragraphs "$command")
+    same "jx $command --help has paragraphs" yes "$([ "$count" -gt 3 ] && echo yes)"
+done
+
+for line in cannot\ open read\ failed write\ failed out\ of\ memory too\ many\ pieces; do
+    has "the fault $line" "jx: $line" "$text"
+done
+
+finish
