@@ -1,15 +1,26 @@
 -- Each deed of the hand-over machine keeps every piece in one place.
-use Rattle.std.proofs.Common.{◌≡◌, ◌⊎◌, ℕ, zero, suc, ◌+◌, ◌-◌, ◌<◌, ◌≤◌, true, false, List, [], ◌∷◌, ◌++◌, refl, sym, ap, ◌∙◌, subst, ⊎_elim, inl, inr, arith}
-use Rattle.std.specs.Prelude.{sum_by, nat_lt}
+use Rattle.std.proofs.Common.{◌≡◌, ◌⊎◌, ℕ, zero, suc, ◌+◌, ◌-◌, ◌<◌, ◌≤◌, cond, true, false, List, [], ◌∷◌, ◌++◌, refl, sym, ap, ◌∙◌, subst, ⊎_elim, inl, inr, arith}
+use Rattle.std.specs.Prelude.{sum_by, nat_lt, nat_eq}
+use Rattle.std.specs.List.{range_with_len}
 use mathlib.Core.Option.{some, some-injective, some-ne-none}
 use mathlib.Core.Logic.{dite}
 use native.Mathlib.Decide.{dec_lt, ℕ_discrete}
 use lib.ListN.{get_elem?, set}
 use Rattle.std.proofs.lemmas.Bool.Decides.{nat_tests}
-use Rattle.std.proofs.lemmas.List.Sums.{sum_by-cons, sum_by-append, sum_by_push}
+use Rattle.std.proofs.lemmas.List.Sums.{sum_by-cons, sum_by-append}
 use Rattle.jx_lex.specs.declared.span.Span.{Span}
 use Rattle.jx_book.specs.Spans.{span, Touch}
-use Rattle.jx_book.specs.HandOver.{Deed, draw, store, take_neighbour, stop, Worker, worker, Machine, NoneTouch, With, joined, Steps, Leads, below, idle, start, in_block, in_hands, is_at, places, once, whole_of, NoTwoTouch, Core}
+use Rattle.jx_claim.specs.Claimed.{times, once_below}
+use Rattle.jx_claim.specs.Undrawn.{With, undrawn}
+use Rattle.jx_book.specs.HandOver.{Deed, draw, store, take_neighbour, stop, Worker, worker, Machine, NoneTouch, joined, Steps, Leads, idle, start, in_block, in_hands, places, whole_of, NoTwoTouch, Core}
+
+-- 1 for a piece, and else 0
+abbrev once : ℕ → ℕ → ℕ
+once p n = once_below p n
+
+-- 1 where q is p, and else 0
+abbrev is_at : ℕ → ℕ → ℕ
+is_at p q = cond (nat_eq q p) 1 0
 
 in_yes : (p : ℕ) (b : Span) → b.start ≤ p → p < b.end → in_block p b ≡ 1
 in_yes p b h l = grind (arith, nat_tests)
@@ -65,9 +76,16 @@ one_more p n = grind (arith, nat_tests)
 none_below : (p : ℕ) → once p 0 ≡ 0
 none_below p = grind (arith, nat_tests)
 
-drawn_all : (p n : ℕ) → sum_by (is_at p) (below n) ≡ once p n
-drawn_all p zero = sym (none_below p)
-drawn_all p (suc n) = sum_by_push (is_at p) (below n) n ∙ ap (λ k. k + is_at p n) (drawn_all p n) ∙ one_more p n
+-- numbers from a on
+counted_from : (p a n : ℕ) → times p (range_with_len a n) + once p a ≡ once p (a + n)
+counted_from p a zero = let e : a + 0 ≡ a = omega arith in omega (arith, ap (once p) e)
+counted_from p a (suc n) =
+    let e : a + 1 ≡ suc a = omega arith in
+    let m : a + 1 + n ≡ a + suc n = omega arith in
+    omega (arith, sum_by-cons (is_at p) a (range_with_len (a + 1) n), counted_from p (a + 1) n, one_more p a, ap (once p) e, ap (once p) m)
+
+drawn_all : (p n : ℕ) → times p (undrawn 0 n) ≡ once p n
+drawn_all p n = let e : 0 + (n - 0) ≡ n = omega arith in omega (arith, counted_from p 0 (n - 0), none_below p, ap (once p) e)
 
 no_hands : (p m : ℕ) → in_hands p (idle m) ≡ 0
 no_hands p zero = refl
@@ -272,5 +290,5 @@ core n workers events t runs =
     record {
       in_one_place = k.one_place;
       apart = k.apart;
-      whole = λ drawn hands. one_block n t.stored (λ p. omega (arith, k.one_place p, hands p, ap (sum_by (is_at p)) drawn)) k.apart k.filled;
+      whole = λ drawn hands. one_block n t.stored (λ p. omega (arith, k.one_place p, hands p, ap (times p) drawn)) k.apart k.filled;
     }

@@ -1,5 +1,6 @@
 -- A run over a whole text.
-use Rattle.std.specs.Prelude.{◌≡◌, ℕ, List, length, All}
+use Rattle.std.specs.Prelude.{◌≡◌, ℕ, ◌<◌, List, length, All, Option, None, Some}
+use Rattle.jx_lex.specs.declared.span.Span.{Span}
 use Rattle.jx_book.specs.declared.outcome.Outcome.{Outcome}
 use Rattle.jx_book.specs.declared.outcome.Outcome.TheVariants.{Gathered, Empty, Stopped, Other}
 use Rattle.jx_book.specs.Runs.{HeldValue}
@@ -14,6 +15,11 @@ pub record IsRest {S : Type 0} (text : List ℕ) (depth start : ℕ) (h : HeldVa
 -- it covers all of the text
 abbrev pub IsWhole : {S : Type 0} → List ℕ → ℕ → HeldValue S → Type 0
 IsWhole text depth h = IsRest text depth 0 h
+
+-- none exactly where there is no piece, and otherwise the run over the whole text
+abbrev pub IsGathered : {S : Type 0} → List Span → List ℕ → ℕ → Option (HeldValue S) → Type 0
+IsGathered ps text depth None = length ps ≡ 0
+IsGathered ps text depth (Some h) = (0 < length ps) × IsWhole text depth h
 
 -- what workers left of this text and depth
 abbrev pub IsOutcome : {S : Type 0} → List ℕ → ℕ → Outcome S → Type 0

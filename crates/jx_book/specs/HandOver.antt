@@ -1,8 +1,10 @@
 -- The hand-over machine: each piece is undrawn, in one hand, or in one stored block.
-use Rattle.std.specs.Prelude.{◌≡◌, ℕ, zero, suc, ◌+◌, ◌++◌, Bool, true, false, List, [], ◌∷◌, sum_by, nat_lt, nat_le, ◌&&◌, if◌then◌else◌}
+use Rattle.std.specs.Prelude.{◌≡◌, ℕ, zero, suc, ◌+◌, Bool, true, false, List, [], ◌∷◌, sum_by, nat_lt, nat_le, ◌&&◌, if◌then◌else◌}
 use mathlib.Core.Option.{some}
 use lib.ListN.{get_elem?, set}
 use Rattle.jx_lex.specs.declared.span.Span.{Span}
+use Rattle.jx_claim.specs.Claimed.{times, once_below}
+use Rattle.jx_claim.specs.Undrawn.{With, undrawn, Draws}
 use Rattle.jx_book.specs.Spans.{span, Touch}
 
 -- what a worker with this number does
@@ -32,10 +34,6 @@ abbrev pub NoneTouch : Span → List Span → Type 0
 NoneTouch a [] = Unit {0}
 NoneTouch a (b ∷ bs) = (¬ (Touch a b)) × NoneTouch a bs
 
--- the list `more` is `less` with x put in at some place
-abbrev pub With : {X : Type 0} → X → List X → List X → Type 0
-With x less more = (front back : List _) × (less ≡ front ++ back) × (more ≡ front ++ x ∷ back)
-
 -- two neighbours as one
 abbrev pub joined : Span → Span → Span
 joined a b = if nat_lt a.start b.start then span a.start b.end else span b.start a.end
@@ -48,9 +46,10 @@ Stores old b new = NoneTouch b old × With b old new
 abbrev pub Takes : List Span → Span → Span → List Span → Type 0
 Takes old b n new = With n new old × Touch n b
 
+-- a draw takes any undrawn piece; a `draw` of claims does this to the pieces that its word leaves undrawn
 abbrev pub Steps : Machine → Deed → Machine → Type 0
 Steps s (draw w) t =
-    (p : ℕ) × (less : List ℕ) × With p less s.undrawn × (get_elem? s.workers w ≡ some (worker [] false))
+    (p : ℕ) × (less : List ℕ) × Draws s.undrawn p less × (get_elem? s.workers w ≡ some (worker [] false))
     × (t ≡ machine less (set s.workers w (worker (span p (suc p) ∷ []) false)) s.stored)
 Steps s (store w) t =
     (b : Span) × (more : List Span) × (get_elem? s.workers w ≡ some (worker (b ∷ []) false)) × Stores s.stored b more
@@ -66,20 +65,13 @@ abbrev pub Leads : Machine → List Deed → Machine → Type 0
 Leads s [] t = t ≡ s
 Leads s (e ∷ es) t = (u : Machine) × Steps s e u × Leads u es t
 
-abbrev pub below : ℕ → List ℕ
-below zero = []
-below (suc n) = below n ++ n ∷ []
-
 abbrev pub idle : ℕ → List Worker
 idle zero = []
 idle (suc n) = worker [] false ∷ idle n
 
+-- all pieces are undrawn
 abbrev pub start : ℕ → ℕ → Machine
-start n workers = machine (below n) (idle workers) []
-
--- 1 for a piece, and else 0
-abbrev pub once : ℕ → ℕ → ℕ
-once p n = if nat_lt p n then 1 else 0
+start n workers = machine (undrawn 0 n) (idle workers) []
 
 -- in how many places a piece is
 abbrev pub in_block : ℕ → Span → ℕ
@@ -88,11 +80,8 @@ in_block p b = if nat_le b.start p && nat_lt p b.end then 1 else 0
 abbrev pub in_hands : ℕ → List Worker → ℕ
 in_hands p ws = sum_by (λ w. sum_by (in_block p) w.hand) ws
 
-abbrev pub is_at : ℕ → ℕ → ℕ
-is_at p q = if nat_le p q && nat_le q p then 1 else 0
-
 abbrev pub places : Machine → ℕ → ℕ
-places s p = sum_by (is_at p) s.undrawn + in_hands p s.workers + sum_by (in_block p) s.stored
+places s p = times p s.undrawn + in_hands p s.workers + sum_by (in_block p) s.stored
 
 abbrev pub NoTwoTouch : List Span → Type 0
 NoTwoTouch [] = Unit {0}
@@ -105,7 +94,7 @@ whole_of (suc n) = span 0 (suc n) ∷ []
 
 pub record IsSound (n : ℕ) (t : Machine) : Type 0 where
   -- each piece is in exactly one place
-  pub in_one_place : (p : ℕ) → places t p ≡ once p n
+  pub in_one_place : (p : ℕ) → places t p ≡ once_below p n
   pub apart : NoTwoTouch t.stored
   -- where all are drawn and all hands are empty, one block holds all pieces
   pub whole : t.undrawn ≡ [] → ((p : ℕ) → in_hands p t.workers ≡ 0) → t.stored ≡ whole_of n

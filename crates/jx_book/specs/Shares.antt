@@ -27,6 +27,10 @@ IsShared s run (Memory r) t = (r ≡ run) × (t ≡ s)
 abbrev pub IsOther : {S : Type 0} → List ℕ → ℕ → FinishFault S → Type 0
 IsOther text depth (Other r) = IsOtherRun text depth r
 
+-- the run is not empty, and no longer than the bytes put and not taken
+abbrev pub WasStored : {S : Type 0} → ℕ → ℕ → FinishFault S → Type 0
+WasStored put taken (Other r) = (r.span.start < r.span.end) × (run_len r + taken ≤ put)
+
 -- a run of this text and depth
 pub record IsOf {S : Type 0} (text : List ℕ) (depth : ℕ) (r : HeldValue S) : Type 0 where
   pub text_is : r.text ≡ text

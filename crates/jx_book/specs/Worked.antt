@@ -1,8 +1,10 @@
 -- What a worker has done.
-use Rattle.std.specs.Prelude.{◌≡◌, ℕ, ◌+◌, List}
+use Rattle.std.specs.Prelude.{◌≡◌, ℕ, ◌+◌, ◌<◌, ◌≤◌, List, [], ◌∷◌, ◌++◌, slice_index_or}
 use Rattle.jx_lex.specs.declared.span.Span.{Span}
 use Rattle.jx_claim.specs.Claimed.{SeatValue}
-use Rattle.jx_claim.specs.Cut.{drawn_len, piece_len}
+use Rattle.jx_claim.specs.Cut.{drawn_len, piece_len, span, no_span}
+use Rattle.jx_book.specs.declared.cause.Cause.{Cause}
+use Rattle.jx_book.specs.declared.cause.Cause.TheVariants.{Gate, Memory, Overlap, Other, Full}
 use Rattle.jx_book.specs.declared.hand.Hand.{Hand}
 use Rattle.jx_book.specs.declared.hand.Hand.TheVariants.{Nothing, Piece, One, Two}
 use Rattle.jx_book.specs.Runs.{run_len}
@@ -19,9 +21,42 @@ hand_len ps (Two l r) = run_len l + run_len r
 abbrev pub HandedOver : ℕ → ShareValue → ShareValue → ℕ → Type 0
 HandedOver len s t left = s.put + len + t.taken ≡ t.put + s.taken + left
 
--- the seat is the same one, and the bytes of the pieces that it drew meanwhile are what the share put meanwhile, minus
+-- the span has all of the other
+abbrev pub Within : Span → Span → Type 0
+Within a b = (b.start ≤ a.start) × (a.end ≤ b.end)
+
+-- this number is the last of the list
+abbrev pub EndsWith : List ℕ → ℕ → Type 0
+EndsWith got p = (before : List ℕ) × (got ≡ before ++ p ∷ [])
+
+-- where a run is in the hand, it has all of this span; two runs are neighbours, not empty, the left one first, and have it
+-- together
+abbrev pub HasSpan : {S : Type 0} → Span → Hand S → Type 0
+HasSpan a Nothing = Unit {0}
+HasSpan a (Piece p) = ⊥
+HasSpan a (One r) = Within a r.span
+HasSpan a (Two l r) = (l.span.end ≡ r.span.start) × (l.span.start < l.span.end) × (r.span.start < r.span.end) × Within a (span l.span.start r.span.end)
+
+-- a piece in the hand is the one that the seat got last, and runs in the hand have all of that piece
+abbrev pub IsLeft : {S : Type 0} → List Span → List ℕ → Hand S → Type 0
+IsLeft ps got (Piece p) = EndsWith got p.0
+IsLeft ps got hand = (p : ℕ) × EndsWith got p × HasSpan (slice_index_or ps p no_span) hand
+
+-- what may be in the hand where a worker stopped for this cause
+abbrev pub MayLeave : {S : Type 0} → Cause → Hand S → Type 0
+MayLeave Gate (One r) = ⊥
+MayLeave Gate hand = Unit {0}
+MayLeave Memory Nothing = ⊥
+MayLeave Memory hand = Unit {0}
+MayLeave Overlap (One r) = Unit {0}
+MayLeave Other (Two l r) = Unit {0}
+MayLeave Full (One r) = Unit {0}
+MayLeave cause hand = ⊥
+
+-- the seat is the same one and has got more numbers, or none, and the bytes of the pieces that it drew meanwhile are what the share put meanwhile, minus
 -- what it took, plus what is left in the hand
 pub record Worked (ps : List Span) (seat : SeatValue) (s : ShareValue) (now : SeatValue) (t : ShareValue) (left : ℕ) : Type 0 where
   pub id : now.id ≡ seat.id
   pub number : now.number ≡ seat.number
+  pub grown : (more : List ℕ) × (now.got ≡ seat.got ++ more)
   pub bytes : drawn_len ps now.got + s.put + t.taken ≡ drawn_len ps seat.got + t.put + s.taken + left

@@ -1,8 +1,8 @@
 ghost use Rattle.std.specs.Prelude.{◌≡◌, ◌+◌, ◌<◌, List, length, true, false, IfOk, IfErr};
 ghost use Rattle.jx_lex.specs.declared.span.Span.{Span};
-ghost use Rattle.jx_book.specs.Spans.{Touch};
+ghost use Rattle.jx_book.specs.Spans.{Touch, span};
 ghost use Rattle.jx_book.specs.Runs.{run_len};
-ghost use Rattle.jx_book.specs.Worked.{hand_len, HandedOver, Worked};
+ghost use Rattle.jx_book.specs.Worked.{hand_len, HandedOver, HasSpan, IsLeft, MayLeave, Within, Worked};
 
 use crate::book::Book;
 use crate::cause::Cause;
@@ -31,7 +31,8 @@ struct Unfinished<'a, S: Summary> {
 
 impl<'a, S: Summary> Unfinished<'a, S> {
     fn new(hand: Hand<'a, S>, cause: Cause) -> Unfinished<'a, S>
-        ensures { result.hand ≡ hand.entry }
+        ensures hand { result.hand ≡ hand.entry }
+        ensures cause { result.cause ≡ cause }
     {
         Unfinished { hand, cause }
     }
@@ -40,7 +41,8 @@ impl<'a, S: Summary> Unfinished<'a, S> {
 /// Draws pieces until none is left; reads each and puts it into the book, joined with each neighbour that it is handed.
 /// The gate is asked after each step.
 ///
-/// It waits for the book's lock. A stopped worker hands back its seat, its share and what is in its hand.
+/// It waits for the book's lock. A stopped worker hands back its seat, its share and what is in its hand: the piece that
+/// it drew last, unread, or runs that have all of that piece, or nothing. The numbers that its seat got before stay.
 pub fn work<'a, S: Summary, P: Ledger, T: Ledger, G: Gate, R: Wait>(
     rt: &R,
     alloc: Global,
@@ -60,6 +62,9 @@ pub fn work<'a, S: Summary, P: Ledger, T: Ledger, G: Gate, R: Wait>(
     ensures end { IfOk result (λ e. Worked cutting.now.pieces seat share e.seat e.share 0) }
     ensures spent { IfOk result (λ e. e.seat.spent ≡ true) }
     ensures stop { IfErr result (λ s. Worked cutting.now.pieces seat share s.seat s.share (hand_len cutting.now.pieces s.hand)) }
+    ensures left { IfErr result (λ s. IsLeft cutting.now.pieces s.seat.got s.hand) }
+    ensures drew { IfErr result (λ s. length seat.got < length s.seat.got) }
+    ensures cause { IfErr result (λ s. MayLeave s.cause s.hand) }
 {
     let mut seat = seat;
     let mut share = share;
@@ -96,6 +101,8 @@ fn hand_over<'a, S: Summary, P: Ledger, T: Ledger, G: Gate, R: Wait>(
     requires { run.span.start < run.span.end }
     ensures ok { IfOk result (λ _. HandedOver (run_len run.entry) share.old share.new 0) }
     ensures err { IfErr result (λ s. (ps : List Span) → HandedOver (run_len run.entry) share.old share.new (hand_len ps s.hand)) }
+    ensures hand { IfErr result (λ s. HasSpan run.entry.span s.hand) }
+    ensures cause { IfErr result (λ s. MayLeave s.cause s.hand) }
 {
     let mut run = run;
     loop {
@@ -127,6 +134,7 @@ fn in_order<'a, S: Summary>(run: Held<'a, S>, other: Held<'a, S>) -> (Held<'a, S
     ensures neighbours { result.0.span.end ≡ result.1.span.start }
     ensures filled { (result.0.span.start < result.0.span.end) × (result.1.span.start < result.1.span.end) }
     ensures len { run_len result.0 + run_len result.1 ≡ run_len run.entry + run_len other.entry }
+    ensures within { Within run.entry.span (span result.0.span.start result.1.span.end) }
 {
     if run.span().start < other.span().start {
         (run, other)
@@ -144,7 +152,9 @@ fn join_both<'a, S: Summary>(
     requires filled { (left.span.start < left.span.end) × (right.span.start < right.span.end) }
     ensures filled { IfOk result (λ h. h.span.start < h.span.end) }
     ensures len { IfOk result (λ h. run_len h ≡ run_len left.entry + run_len right.entry) }
-    ensures hand { IfErr result (λ s. (ps : List Span) → hand_len ps s.hand ≡ run_len left.entry + run_len right.entry) }
+    ensures span { IfOk result (λ h. h.span ≡ span left.entry.span.start right.entry.span.end) }
+    ensures hand { IfErr result (λ s. s.hand ≡ Hand.Two left.entry right.entry) }
+    ensures cause { IfErr result (λ s. MayLeave s.cause s.hand) }
 {
     match left.join(right) {
         Ok(joined) => Ok(joined),

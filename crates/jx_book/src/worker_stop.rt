@@ -7,7 +7,7 @@ use jx_claim::ClaimSeat;
 use jx_run::Summary;
 use std::sync::ledger::Ledger;
 
-/// A worker that stopped before its end.
+/// A worker that stopped before its end, with what it held.
 #[derive(Drop)]
 pub struct WorkerStop<'a, S: Summary, P: Ledger, T: Ledger> {
     pub seat: ClaimSeat,
@@ -26,6 +26,7 @@ impl<'a, S: Summary, P: Ledger, T: Ledger> WorkerStop<'a, S, P, T> {
         ensures seat { result.seat ≡ seat }
         ensures share { result.share ≡ share }
         ensures hand { result.hand ≡ hand.entry }
+        ensures cause { result.cause ≡ cause }
     {
         WorkerStop {
             seat,

@@ -1,11 +1,12 @@
 -- The rule of the claim word, which holds the number that the next draw finds.
-use Rattle.std.specs.Prelude.{◌≡◌, ℕ, ◌+◌, ◌-◌, ◌<◌, ◌≤◌, min, List, [], ◌∷◌, ◌++◌, length, slice_index, sum_by, nat_lt, if◌then◌else◌}
+use Rattle.std.specs.Prelude.{◌≡◌, ◌⊎◌, ℕ, ◌+◌, ◌-◌, ◌<◌, ◌≤◌, List, [], ◌∷◌, ◌++◌, length, slice_index, sum_by}
 use mathlib.Core.Option.{some}
 use lib.ListN.{get_elem?}
 use Rattle.atomic_table.specs.Table.{State, Me, Step}
 use Rattle.jx_claim.specs.declared.rule.View.{View}
 use Rattle.jx_claim.specs.declared.rule.Terms.{Terms}
 use Rattle.jx_claim.specs.Claimed.{times, once_below}
+use Rattle.jx_claim.specs.Undrawn.{undrawn, Draws}
 
 -- a view from its parts: for how many seats it stands, the numbers got, and how often `None` was got
 abbrev pub view : ℕ → List ℕ → ℕ → View
@@ -29,16 +30,19 @@ pub record Dealt (k : Terms) (s : State (Unit {0}) View) : Type 0 where
   pub within : slice_index s.words 0 ≤ k.pieces + 64
   -- the views stand for all seats
   pub seats : sum_by (λ v. v.seats) s.views ≡ k.workers
-  -- each number below the word that is a piece was got once, and no other number
-  pub got : (x : ℕ) → sum_by (λ v. times x v.got) s.views ≡ once_below x (min (slice_index s.words 0) k.pieces)
+  -- each piece was got once or is undrawn, not both, and nothing else was got
+  pub got : (x : ℕ) → sum_by (λ v. times x v.got) s.views + times x (undrawn (slice_index s.words 0) k.pieces) ≡ once_below x k.pieces
   -- each draw past the last piece got `None`
   pub nones : sum_by (λ v. v.nones) s.views ≡ slice_index s.words 0 - k.pieces
   pub fits : (id : ℕ) (v : View) → get_elem? s.views id ≡ some v → Fits v
 
--- the view after a draw that found this number: a number below the count is a piece, any other is `None`
-abbrev pub drawn : ℕ → ℕ → View → View
-drawn pieces n v = if nat_lt n pieces then view v.seats (v.got ++ n ∷ []) v.nones else view v.seats v.got (v.nones + 1)
+-- what a draw that finds this word makes of the view of its seat: the word is an undrawn number, which the seat gets and
+-- which is undrawn no more; or nothing is undrawn, and it gets `None`
+abbrev pub IsDraw : ℕ → ℕ → View → View → Type 0
+IsDraw pieces word v w =
+    (Draws (undrawn word pieces) word (undrawn (word + 1) pieces) × (w ≡ view v.seats (v.got ++ word ∷ []) v.nones))
+    ⊎ ((undrawn word pieces ≡ []) × (w ≡ view v.seats v.got (v.nones + 1)))
 
 -- a draw changes the view of the seat that draws, and no other
 abbrev pub DrawsFrom : ℕ → Step (Unit {0}) → Me (Unit {0}) View → ℕ → Me (Unit {0}) View → Type 0
-DrawsFrom pieces st m n m' = m' ≡ (drawn pieces n m.0, m.1)
+DrawsFrom pieces st m word m' = IsDraw pieces word m.0 m'.0 × (m'.1 ≡ m.1)

@@ -3,3 +3,4 @@ pub mod Cut
 pub mod CutFaults
 pub mod Dealt
 pub mod Listed
+pub mod Undrawn

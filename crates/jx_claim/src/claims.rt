@@ -1,10 +1,11 @@
-ghost use Rattle.std.specs.Prelude.{◌≡◌, ◌<◌, [], ◌∷◌, ◌++◌, true, false, IfOk, IfSome, MatchOption, vec_len, count_by};
+ghost use Rattle.std.specs.Prelude.{◌≡◌, ℕ, ◌+◌, ◌<◌, [], ◌∷◌, ◌++◌, true, false, IfOk, IfSome, MatchOption, length, vec_len, count_by};
 ghost use Rattle.jx_claim.specs.Claimed.{ClaimsValue, SeatValue, AreFresh, AllSeats, EachGotOnce};
-ghost use Rattle.jx_claim.specs.Dealt.{drawn, view};
+ghost use Rattle.jx_claim.specs.Dealt.{IsDraw, view};
+ghost use Rattle.jx_claim.specs.Undrawn.{undrawn, Draws};
 
 use crate::drawn::Drawn;
 use crate::piece_no::PieceNo;
-use crate::rule::{ClaimRule, Count, CutSeat, Draws, JoinSeats, Terms, View};
+use crate::rule::{ClaimRule, Count, CutSeat, DrawStep, JoinSeats, Terms, View};
 use crate::seat::ClaimSeat;
 use crate::workers::Workers;
 use atomic_table::{Seat, Table};
@@ -78,19 +79,22 @@ impl Claims {
     fn take<C: Count>(&self, seat: &mut Seat<(), View>) -> u64
         requires pieces { C.pieces ≡ self.now.pieces }
         requires seat { (seat.old.table_id ≡ self.now.id) × (seat.old.me.0.seats ≡ 1) × (seat.old.me.0.nones ≡ 0) }
-        ensures { (seat.new.table_id ≡ seat.old.table_id) × (seat.new.me ≡ (drawn C.pieces result seat.old.me.0, seat.old.me.1)) }
+        ensures draw { IsDraw C.pieces result seat.old.me.0 seat.new.me.0 }
+        ensures seat { (seat.new.table_id ≡ seat.old.table_id) × (seat.new.me.1 ≡ seat.old.me.1) }
     {
-        self.table.shared.fetch_add::<Draws<C>>(seat, 0, 1)
+        self.table.shared.fetch_add::<DrawStep<C>>(seat, 0, 1)
     }
 
     /// Draws the next piece, or `None` where all pieces had been drawn. It takes no memory and waits for nobody.
-    /// That no other seat gets the same number is told by `close`.
+    /// It is one atomic step on the word that it finds: where that is a piece, it is the first undrawn one, and the
+    /// draw leaves the others undrawn; else none is undrawn. That no other seat gets the same number is told by `close`.
     pub fn draw(&self, seat: &mut ClaimSeat) -> Option<PieceNo>
         requires seat { seat.old.id ≡ self.now.id }
         requires unspent { seat.old.spent ≡ false }
         ensures seat { (seat.new.id ≡ seat.old.id) × (seat.new.number ≡ seat.old.number) }
         ensures drew { MatchOption result ((seat.new.got ≡ seat.old.got) × (seat.new.spent ≡ true)) (λ p. (seat.new.got ≡ seat.old.got ++ p.0 ∷ []) × (seat.new.spent ≡ false)) }
         ensures piece { IfSome result (λ p. p.0 < self.now.pieces) }
+        ensures undrawn { (word : ℕ) × MatchOption result (undrawn word self.now.pieces ≡ []) (λ p. (p.0 ≡ word) × Draws (undrawn word self.now.pieces) p.0 (undrawn (word + 1) self.now.pieces)) }
     {
         let found = self.take::<Brand>(&mut seat.seat);
         if found < u64::from(self.pieces) {
@@ -105,6 +109,7 @@ impl Claims {
     /// where a seat got `None`, that count is the number of pieces. It takes no memory and waits for nobody.
     pub fn close(self, mut seats: Vec<ClaimSeat>) -> Drawn
         requires all { AllSeats self seats.items }
+        ensures some { 0 < length seats.items }
         ensures got { EachGotOnce seats.items result.pieces }
         ensures spent { 0 < count_by (λ s. s.spent) seats.items → result.pieces ≡ self.pieces }
     {

@@ -43,11 +43,11 @@ impl Count for Brand {
 }
 
 // The step of a draw.
-pub struct Draws<C> {
+pub struct DrawStep<C> {
     of: PhantomData<C>,
 }
 
-impl<C: Count> Play<(), View> for Draws<C> {
+impl<C: Count> Play<(), View> for DrawStep<C> {
     ghost use Rattle.jx_claim.specs.Dealt.{DrawsFrom};
 
     ghost then = { DrawsFrom C.pieces };

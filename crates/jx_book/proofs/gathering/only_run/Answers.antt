@@ -18,4 +18,5 @@ returns-in-Some g c =
     let sum : sum_by run_len (front ++ r ∷ []) ≡ b = sym (ap (sum_by run_len) items) ∙ c.requires.total in
     let s = single front r b apart (λ k d l. (ends k d l).within) sum in
     let mine : IsOf c.args.text.now c.args.depth r = subst (IsOf c.args.text.now c.args.depth) (get_or-append_seam front r [] r) (ends (length front) r (omega (arith, length-append front (r ∷ [])))) in
-    record { text_is = mine.text_is; depth_is = mine.depth_is; span_is = λ i. record { start = s.0 i; end = s.1 i } }
+    let filled : r.span.start < r.span.end = subst (λ (h : HeldValue g.row.S.Denot). h.span.start < h.span.end) (get_or-append_seam front r [] r) (apart.filled (length front) r (omega (arith, length-append front (r ∷ [])))) in
+    (omega (arith, filled, mine.within), record { text_is = mine.text_is; depth_is = mine.depth_is; span_is = λ i. record { start = s.0 i; end = s.1 i } })
