@@ -2,8 +2,11 @@
 mod answers;
 mod books;
 mod copied;
+mod faults;
 mod gathered;
 mod joins;
 mod readings;
+mod scarce;
 mod states;
+mod stops;
 mod verdicts;

@@ -4,7 +4,7 @@ use jx_run::Summary;
 use std::alloc::{AllocError, Global};
 use std::marker::Model;
 
-#[derive(Drop)]
+#[derive(Debug, Drop)]
 pub struct Copied {
     bytes: Vec<u8>,
     place: Span,
