@@ -1,5 +1,5 @@
 -- The look-up over a tree's rows is that over the tree.
-use Rattle.std.proofs.Common.{◌≡◌, ℕ, zero, suc, ◌+◌, ◌<◌, ◌≤◌, List, [], ◌∷◌, ◌++◌, length, Option, None, Some, Bool, true, false, cond, refl, sym, ap, ◌∙◌, arith, Result, get_or}
+use Rattle.std.proofs.Common.{◌≡◌, ℕ, zero, suc, ◌+◌, ◌<◌, ◌≤◌, List, [], ◌∷◌, ◌++◌, length, Option, None, Some, Bool, true, false, cond, refl, sym, ap, ◌∙◌, arith, Result, Ok, Err, get_or, subst}
 use Rattle.std.specs.Prelude.{slice_get}
 use Rattle.std.proofs.lemmas.Option.{slice_get-get_or}
 use Rattle.std.specs.Ordering.{nat_cmp, is_eq}
@@ -10,13 +10,13 @@ use Rattle.jx_lex.specs.declared.span.Span.{Span}
 use Rattle.jx_run.specs.Tree.{Tree, node, Children, no_children, child}
 use Rattle.jx_index.specs.declared.find_fault.FindFault.{FindFault}
 use Rattle.jx_index.specs.declared.row.Row.{Row}
-use Rattle.jx_index.specs.Leads.{Numbered, numbered, kind_of, children_of, one_token, and_then, leads_from}
+use Rattle.jx_index.specs.Leads.{Numbered, numbered, kind_of, children_of, one_token, and_then, root_of, led_from, led, number_of, HasRow}
 use Rattle.jx_index.specs.Names.{is_name, units_of_name}
 use Rattle.jx_index.specs.Nodes.{kind_in, kind_at, name_in, name_at, is_parent, with_parent, child_numbers}
 use Rattle.jx_index.specs.Rows.{size, rows}
 use Rattle.jx_index.specs.RowsLead.{is_equal, row_token, rows_lead}
 use Rattle.jx_index.specs.Standing.{Standing, standing, root_standing, row_of, Stands, itself, StandsBelow, in_first, in_later}
-use Rattle.jx_index.proofs.Each.{Each, OfObject, each_more, each_both, token_each, map_ok, token_map, then_map}
+use Rattle.jx_index.proofs.Each.{Each, AtOk, OfObject, each_more, each_both, token_each, map_ok, token_map}
 use Rattle.jx_index.proofs.NamedTrees.{HasName, AllNamed, NamedFor, Named, named_inner}
 use Rattle.jx_index.proofs.Parents.{children_are, numbers-numbered}
 use Rattle.jx_index.proofs.Walks.{has_row, goes_on}
@@ -36,10 +36,10 @@ row_there {tree = tree} {inner = inner} {t = t} w =
     ∙ slice_get_seam h.before (row_of inner t) h.behind
 
 kind_there : (inner : Tree) (t : Standing) → kind_in (Some (row_of inner t)) ≡ kind_of inner
-kind_there (node k place children) t = refl
+kind_there (node k place below) t = refl
 
 name_there : (inner : Tree) (t : Standing) → name_in (Some (row_of inner t)) ≡ t.name
-name_there (node k place children) t = refl
+name_there (node k place below) t = refl
 
 -- ---- children
 
@@ -99,24 +99,61 @@ step_is text tree named token inner t w k =
     (of_object (kind_of inner) text token tree (children_of inner) (suc t.number) (named_for inner (named_inner w named))
     (each_child tree (children_of inner) (suc t.number) t.number 0 (λ x u b. goes_on w b)))
 
-pub leads_are : (text : List ℕ) (tree : Tree) → Named tree → (tokens : List (List ℕ)) (inner : Tree) (t : Standing) → Stands tree root_standing inner t → (k : ℕ)
-    → leads_from text tokens inner t.number k ≡ rows_lead text (rows tree) tokens t.number k
-unfolding leads_from rows_lead
-leads_are text tree named [] inner t w k = refl
-leads_are text tree named (token ∷ tokens) inner t w k =
-    let on : Numbered → Result ℕ FindFault = λ c. leads_from text tokens c.tree c.number (suc k) in
+number_then : (r : Result Numbered FindFault) (on : Numbered → Result Numbered FindFault) (to : ℕ → Result ℕ FindFault)
+    → AtOk (λ (c : Numbered). number_of (on c) ≡ to c.number) r → number_of (and_then r on) ≡ and_then (map_ok (λ (c : Numbered). c.number) r) to
+number_then (Ok c) on to h = h
+number_then (Err fault) on to h = refl
+
+pub leads_are : (text : List ℕ) (tree : Tree) → Named tree → (tokens : List (List ℕ)) (name : Option Span) (inner : Tree) (t : Standing) → Stands tree root_standing inner t → (k : ℕ)
+    → number_of (led_from text tokens (record { name = name; tree = inner; number = t.number }) k) ≡ rows_lead text (rows tree) tokens t.number k
+unfolding led_from rows_lead
+leads_are text tree named [] name inner t w k = refl
+leads_are text tree named (token ∷ tokens) name inner t w k =
+    let on : Numbered → Result Numbered FindFault = λ c. led_from text tokens c (suc k) in
     let to : ℕ → Result ℕ FindFault = λ n. rows_lead text (rows tree) tokens n (suc k) in
     let r = one_token (λ (c : Numbered). is_name text token c.name) token (kind_of inner) (numbered (children_of inner) (suc t.number)) k in
-    then_map (λ (c : Numbered). c.number) r on to
-    (token_each (λ (c : Numbered). on c ≡ to c.number) (λ (c : Numbered). is_name text token c.name) token (kind_of inner) (numbered (children_of inner) (suc t.number)) k
+    number_then r on to
+    (token_each (λ (c : Numbered). number_of (on c) ≡ to c.number) (λ (c : Numbered). is_name text token c.name) token (kind_of inner) (numbered (children_of inner) (suc t.number)) k
     (each_more
     (λ (c : Numbered) (h : IsChild tree c).
-    ap (λ n. leads_from text tokens c.tree n (suc k)) (sym h.number_is)
-    ∙ leads_are text tree named tokens c.tree h.t h.stands (suc k)
+    ap (λ n. number_of (led_from text tokens (record { name = c.name; tree = c.tree; number = n }) (suc k))) (sym h.number_is)
+    ∙ leads_are text tree named tokens c.name c.tree h.t h.stands (suc k)
     ∙ ap (λ n. rows_lead text (rows tree) tokens n (suc k)) h.number_is)
     (numbered (children_of inner) (suc t.number))
     (each_child tree (children_of inner) (suc t.number) t.number 0 (λ x u b. goes_on w b))))
     ∙ sym (ap (λ x. and_then x to) (step_is text tree named token inner t w k))
+
+-- ---- what tokens lead to is a node, whose row stands at its number
+
+then_each : (P : Numbered → Type 0) (r : Result Numbered FindFault) (on : Numbered → Result Numbered FindFault) → AtOk (λ (c : Numbered). AtOk P (on c)) r → AtOk P (and_then r on)
+then_each P (Ok c) on h = h
+then_each P (Err fault) on h = tt
+
+led_each : (text : List ℕ) (tree : Tree) (tokens : List (List ℕ)) (c : Numbered) → IsChild tree c → (k : ℕ) → AtOk (IsChild tree) (led_from text tokens c k)
+unfolding led_from
+led_each text tree [] c h k = h
+led_each text tree (token ∷ tokens) c h k =
+    let on : Numbered → Result Numbered FindFault = λ d. led_from text tokens d (suc k) in
+    let below : Each (IsChild tree) (numbered (children_of c.tree) (suc c.number)) =
+    subst (λ n. Each (IsChild tree) (numbered (children_of c.tree) (suc n))) h.number_is
+    (each_child tree (children_of c.tree) (suc h.t.number) h.t.number 0 (λ x u b. goes_on h.stands b)) in
+    then_each (IsChild tree) (one_token (λ (d : Numbered). is_name text token d.name) token (kind_of c.tree) (numbered (children_of c.tree) (suc c.number)) k) on
+    (token_each (λ (d : Numbered). AtOk (IsChild tree) (on d)) (λ (d : Numbered). is_name text token d.name) token (kind_of c.tree) (numbered (children_of c.tree) (suc c.number)) k
+    (each_more (λ (d : Numbered) (i : IsChild tree d). led_each text tree tokens d i (suc k)) (numbered (children_of c.tree) (suc c.number)) below))
+
+at_ok : (P : Numbered → Type 0) (r : Result Numbered FindFault) → AtOk P r → (c : Numbered) → r ≡ Ok c → P c
+at_ok P (Ok d) h c e = let same : d ≡ c = cc in subst P same h
+at_ok P (Err fault) h c e = absurd (cc)
+
+row_parts : (table : List Row) (inner : Tree) (t : Standing) (name : Option Span) (number : ℕ) → slice_get table number ≡ Some (row_of inner t) → t.name ≡ name
+    → HasRow table (record { name = name; tree = inner; number = number })
+row_parts table (node k place below) t name number e n = record { row = row_of (node k place below) t; is_row = e; kind = refl; span = refl; name = n }
+
+pub led_row : (text : List ℕ) (tree : Tree) (tokens : List (List ℕ)) (c : Numbered) → led text tree tokens ≡ Ok c → HasRow (rows tree) c
+led_row text tree tokens c e =
+    let root : IsChild tree (root_of tree) = record { t = root_standing; stands = itself; number_is = refl; name_is = refl } in
+    let h = at_ok (IsChild tree) (led text tree tokens) (led_each text tree tokens (root_of tree) root 0) c e in
+    row_parts (rows tree) c.tree h.t c.name c.number (ap (slice_get (rows tree)) (sym h.number_is) ∙ row_there h.stands) h.name_is
 
 -- ---- numbers of rows
 

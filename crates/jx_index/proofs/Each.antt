@@ -150,7 +150,3 @@ module _ {A B : Type 0} (f : A → B) where
   token_map p q token kind.True xs n h = refl
   token_map p q token kind.False xs n h = refl
   token_map p q token kind.Null xs n h = refl
-
-  pub then_map : {C : Type 0} (r : Result A FindFault) (on : A → Result C FindFault) (to : B → Result C FindFault) → AtOk (λ x. on x ≡ to (f x)) r → and_then r on ≡ and_then (map_ok r) to
-  then_map (Ok x) on to h = h
-  then_map (Err fault) on to h = refl

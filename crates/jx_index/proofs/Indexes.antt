@@ -64,4 +64,4 @@ module _ (text : List ℕ) (place : Span) (table : List Row) (after starts membe
 pub tree_leads : (text : List ℕ) (table : List Row) (a b limit : ℕ) (tree : Tree) → IsText text a b limit tree → table ≡ rows tree → (tokens : List (List ℕ))
     → rows_lead text table tokens 0 0 ≡ leads text tree tokens
 tree_leads text table a b limit tree t e tokens =
-    ap (λ r. rows_lead text r tokens 0 0) e ∙ sym (leads_are text tree (text_named t.reads) tokens tree root_standing itself 0)
+    ap (λ r. rows_lead text r tokens 0 0) e ∙ sym (leads_are text tree (text_named t.reads) tokens None tree root_standing itself 0)

@@ -25,3 +25,4 @@ pub mod FindSteps
 pub mod Readings
 pub mod Indexes
 pub mod PartSteps
+pub mod Spelt

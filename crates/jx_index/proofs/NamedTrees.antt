@@ -18,7 +18,7 @@ AllNamed (child name tree more) = HasName name × AllNamed more
 
 abbrev pub NamedFor : Kind → Children → Type 0
 NamedFor kind.Object children = AllNamed children
-NamedFor _ children = Unit {0}
+NamedFor _ _ = Unit {0}
 
 abbrev mutual
   pub Named : Tree → Type 0

@@ -1,13 +1,15 @@
 -- Every number below the size of a tree is a node's, and what the numbers behind the nodes say of them.
 use Rattle.std.proofs.Common.{◌≡◌, ℕ, suc, ◌+◌, ◌<◌, ◌≤◌, ◌∷◌, length, None, Some, refl, sym, ap, subst, ◌∙◌, arith, get_or, inl, inr, ◌⊎◌}
+use Rattle.std.specs.Prelude.{slice_get}
 use Rattle.jx_run.specs.Tree.{Tree, node, Children, no_children, child}
 use Rattle.jx_index.specs.Afters.{afters}
 use Rattle.jx_index.specs.Leads.{children_of}
 use Rattle.jx_index.specs.Nodes.{child_numbers}
 use Rattle.jx_index.specs.Rows.{size, sizes, rows}
-use Rattle.jx_index.specs.Standing.{Standing, standing, root_standing, Stands, itself, inside, StandsBelow, in_first, in_later}
+use Rattle.jx_index.specs.Standing.{Standing, standing, root_standing, Stands, itself, inside, StandsBelow, in_first, in_later, HasNode}
 use Rattle.jx_index.specs.Walk.{IsForward, IsBounded, walk_to, walk_children}
-use Rattle.jx_index.proofs.Builds.{afters-length}
+use Rattle.jx_index.proofs.Bridge.{row_there}
+use Rattle.jx_index.proofs.Builds.{afters-length, size-length}
 use Rattle.jx_index.proofs.Parents.{numbers, children_are, none_from, size-positive}
 use Rattle.jx_index.proofs.WalkLaws.{le_or, walk_none, walk_step, walk_past}
 use Rattle.jx_index.proofs.Walks.{after_at, goes_on}
@@ -54,6 +56,18 @@ mutual
   ends_below : {children : Children} {inner : Tree} {m q p : ℕ} {t : Standing} → StandsBelow children m q p inner t → t.number + size inner ≤ m + sizes children
   ends_below (in_first w) = omega (arith, ends_within w)
   ends_below (in_later w) = omega (arith, ends_below w)
+
+-- each row is a node's
+pub node_at : (tree : Tree) (n : ℕ) → n < length (rows tree) → HasNode tree n
+node_at tree n h =
+    let f = found tree root_standing n (omega arith) (omega (arith, size-length tree 0 None 0 None)) in
+    record {
+      inner = f.inner;
+      standing = f.t;
+      stands = f.here;
+      number_is = f.number_is;
+      is_row = ap (slice_get (rows tree)) (sym f.number_is) ∙ row_there f.here;
+    }
 
 -- ---- the numbers behind the nodes
 

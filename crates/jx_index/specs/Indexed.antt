@@ -13,6 +13,12 @@ pub record IndexedValue : Type 0 where
   pub place : Span
   pub rows : List Row
 
+-- what stands at the index's place is a text
+pub record HasTree (index : IndexedValue) : Type 0 where
+  pub limit : ℕ
+  pub tree : Tree
+  pub is_text : IsText index.text index.place.start index.place.end limit tree
+
 -- the rows, the numbers behind them and the ordered names are those of the text's tree
 pub record IsIndexed (text : List ℕ) (place : Span) (table : List Row) (after starts members : List ℕ) : Type 0 where
   pub limit : ℕ

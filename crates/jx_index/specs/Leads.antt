@@ -1,13 +1,15 @@
 -- Where the tokens of a pointer lead (RFC 6901, section 4).
-use Rattle.std.specs.Prelude.{ℕ, suc, zero, ◌+◌, List, [], ◌∷◌, Option, Bool, filter, length, Result, Ok, Err}
+use Rattle.std.specs.Prelude.{◌≡◌, ℕ, suc, zero, ◌+◌, List, [], ◌∷◌, Option, None, Some, Bool, filter, length, slice_get, Result, Ok, Err}
 use Rattle.jx_lex.specs.declared.kind.Kind.{Kind}
 use Rattle.jx_lex.specs.declared.kind.Kind.TheVariants as kind
 use Rattle.jx_lex.specs.declared.span.Span.{Span}
+use Rattle.jx_run.specs.Laws.{span_of}
 use Rattle.jx_run.specs.Tree.{Tree, node, Children, no_children, child}
 use Rattle.jx_index.specs.declared.array_token.Place.{Place}
 use Rattle.jx_index.specs.declared.array_token.Place.TheVariants as place
 use Rattle.jx_index.specs.declared.find_fault.FindFault.{FindFault}
 use Rattle.jx_index.specs.declared.find_fault.FindFault.TheVariants.{NoSuchMember, NameRepeated, NotAnIndex, PastEnd, AfterLast, NotAContainer}
+use Rattle.jx_index.specs.declared.row.Row.{Row}
 use Rattle.jx_index.specs.Rows.{size}
 use Rattle.jx_index.specs.Names.{is_name}
 use Rattle.jx_index.specs.ArrayTokens.{place_in}
@@ -55,12 +57,33 @@ kind_of (node kind span _) = kind
 abbrev pub children_of : Tree → Children
 children_of (node kind span children) = children
 
--- from the node with this number by the tokens from the k-th on
-unfoldable pub leads_from : List ℕ → List (List ℕ) → Tree → ℕ → ℕ → Result ℕ FindFault
-leads_from text [] tree number k = Ok number
-leads_from text (token ∷ tokens) tree number k =
-    and_then (one_token (λ (c : Numbered). is_name text token c.name) token (kind_of tree) (numbered (children_of tree) (suc number)) k)
-    (λ c. leads_from text tokens c.tree c.number (suc k))
+-- the root has the number 0 and no name
+abbrev pub root_of : Tree → Numbered
+root_of tree = record { name = None; tree = tree; number = 0 }
 
+-- from a node by the tokens from the k-th on
+unfoldable pub led_from : List ℕ → List (List ℕ) → Numbered → ℕ → Result Numbered FindFault
+led_from text [] c k = Ok c
+led_from text (token ∷ tokens) c k =
+    and_then (one_token (λ (d : Numbered). is_name text token d.name) token (kind_of c.tree) (numbered (children_of c.tree) (suc c.number)) k)
+    (λ d. led_from text tokens d (suc k))
+
+-- the node that the tokens lead to, or the refusal of the first that leads nowhere
+abbrev pub led : List ℕ → Tree → List (List ℕ) → Result Numbered FindFault
+led text tree tokens = led_from text tokens (root_of tree) 0
+
+abbrev pub number_of : Result Numbered FindFault → Result ℕ FindFault
+number_of (Ok c) = Ok c.number
+number_of (Err fault) = Err fault
+
+-- the same by its number
 abbrev pub leads : List ℕ → Tree → List (List ℕ) → Result ℕ FindFault
-leads text tree tokens = leads_from text tokens tree 0 0
+leads text tree tokens = number_of (led text tree tokens)
+
+-- the row at the node's number has the node's kind, span and name
+pub record HasRow (table : List Row) (c : Numbered) : Type 0 where
+  pub row : Row
+  pub is_row : slice_get table c.number ≡ Some row
+  pub kind : row.kind ≡ kind_of c.tree
+  pub span : row.span ≡ span_of c.tree
+  pub name : row.name ≡ c.name

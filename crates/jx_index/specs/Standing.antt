@@ -1,10 +1,10 @@
 -- Where a node stands in a tree: its number, its parent, its place among its siblings and its name.
-use Rattle.std.specs.Prelude.{ℕ, suc, ◌+◌, Option, Some, None}
+use Rattle.std.specs.Prelude.{◌≡◌, ℕ, suc, ◌+◌, Option, Some, None, slice_get}
 use Rattle.jx_lex.specs.declared.kind.Kind.{Kind}
 use Rattle.jx_lex.specs.declared.span.Span.{Span}
 use Rattle.jx_run.specs.Tree.{Tree, node, Children, child}
 use Rattle.jx_index.specs.declared.row.Row.{Row}
-use Rattle.jx_index.specs.Rows.{size}
+use Rattle.jx_index.specs.Rows.{size, rows}
 
 pub record Standing : Type 0 where
   pub number : ℕ
@@ -34,3 +34,11 @@ mutual
 
 abbrev pub root_standing : Standing
 root_standing = standing 0 None 0 None
+
+-- a node of the tree has this number, and the row there is its row
+pub record HasNode (tree : Tree) (number : ℕ) : Type 0 where
+  pub inner : Tree
+  pub standing : Standing
+  pub stands : Stands tree root_standing inner standing
+  pub number_is : standing.number ≡ number
+  pub is_row : slice_get (rows tree) number ≡ Some (row_of inner standing)

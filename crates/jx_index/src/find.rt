@@ -1,5 +1,5 @@
 // The look-up of pointers (RFC 6901, section 4).
-ghost use Rattle.std.specs.Prelude.{◌≡◌, ◌<◌, ◌≤◌, ℕ, length, take, drop, slice_get, filter};
+ghost use Rattle.std.specs.Prelude.{◌≡◌, ◌<◌, ◌≤◌, ℕ, length, take, drop, slice_get, filter, IfOk};
 ghost use Rattle.jx_run.specs.Text.{IsText};
 ghost use Rattle.jx_run.specs.Tree.{Tree};
 ghost use Rattle.jx_index.specs.ArrayTokens.{place_in};
@@ -88,7 +88,8 @@ impl<'a> Indexed<'a> {
     /// The node that a pointer leads to, or the first token that leads nowhere. It takes no memory, and in an object it
     /// looks at no more names than a halving needs.
     pub fn find(&self, pointer: &Pointer) -> Result<NodeId, FindFault>
-        ensures { (limit : ℕ) (tree : Tree)
+        ensures row { IfOk result (λ node. node < length self.now.rows) }
+        ensures leads { (limit : ℕ) (tree : Tree)
             → IsText self.now.text self.now.place.start self.now.place.end limit tree → result ≡ leads self.now.text tree (tokens pointer.now) }
     {
         let rows = self.rows();

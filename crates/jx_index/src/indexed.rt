@@ -4,6 +4,7 @@ ghost use Rattle.jx_run.specs.declared.verdict.Verdict.TheVariants.{Accepted};
 ghost use Rattle.jx_run.specs.Started.{IsStarted};
 ghost use Rattle.jx_run.specs.Text.{IsText};
 ghost use Rattle.jx_run.specs.Tree.{Tree};
+ghost use Rattle.jx_index.specs.Indexed.{HasTree};
 ghost use Rattle.jx_index.specs.Names.{is_below};
 ghost use Rattle.jx_index.specs.Nodes.{IsObjectAt, child_numbers};
 ghost use Rattle.jx_index.specs.Rows.{rows as rows_of};
@@ -81,6 +82,7 @@ impl<'a> Indexed<'a> {
     /// All rows, in rising order of their starts.
     pub fn rows(&self) -> &[Row]
         ensures same { result.now ≡ self.now.rows }
+        ensures has_tree { HasTree self.now }
         ensures tree { (limit : ℕ) (tree : Tree)
             → IsText self.now.text self.now.place.start self.now.place.end limit tree → result.now ≡ rows_of tree }
     {
@@ -90,7 +92,9 @@ impl<'a> Indexed<'a> {
     /// The row of a node.
     pub fn row(&self, node: NodeId) -> &Row
         requires { node < length self.now.rows }
-        ensures { slice_get self.now.rows node ≡ Some result.now }
+        ensures same { slice_get self.now.rows node ≡ Some result.now }
+        ensures tree { (limit : ℕ) (tree : Tree)
+            → IsText self.now.text self.now.place.start self.now.place.end limit tree → slice_get (rows_of tree) node ≡ Some result.now }
     {
         &self.nodes.rows[node.number()]
     }

@@ -1,4 +1,4 @@
-ghost use Rattle.std.specs.Prelude.{◌≡◌, ℕ, suc, List, map};
+ghost use Rattle.std.specs.Prelude.{◌≡◌, ◌<◌, ℕ, suc, List, Ok, length, map};
 ghost use Rattle.std.specs.List.Sorted.{IsStrictlyIncreasing};
 ghost use Rattle.std.specs.Str.{IsUtf8};
 ghost use Rattle.jx_lex.specs.Token.{IsString};
@@ -6,23 +6,31 @@ ghost use Rattle.jx_run.specs.Text.{IsDocument};
 ghost use Rattle.jx_run.specs.Tree.{Tree};
 ghost use Rattle.jx_index.specs.declared.units.Spelling.TheVariants.{InText};
 ghost use Rattle.jx_index.specs.declared.row.Row.{Row};
-ghost use Rattle.jx_index.specs.Leads.{Numbered, children_of, numbered};
+ghost use Rattle.jx_index.specs.Leads.{HasRow, Numbered, children_of, led, numbered};
 ghost use Rattle.jx_index.specs.Nodes.{child_numbers};
 ghost use Rattle.jx_index.specs.PointerForm.{IsPointerOf};
 ghost use Rattle.jx_index.specs.Pointers.{IsPointer, tokens};
 ghost use Rattle.jx_index.specs.Rows.{rows};
-ghost use Rattle.jx_index.specs.Standing.{Standing, Stands, root_standing};
+ghost use Rattle.jx_index.specs.Standing.{HasNode, Standing, Stands, root_standing};
 ghost use Rattle.jx_index.specs.Units.{parts_units, between_marks};
 
-/// What is read off a string is its value; each text that is read as a pointer has the form of one, and what is read off
-/// it are that form's tokens; the rows of a text stand in rising order of their starts, and those whose parent is a node
+/// What is read off a string is its value; the texts that are read as pointers are exactly those that have the form of one,
+/// and what is read off them are that form's tokens; the rows of a text stand in rising order of their starts, and those whose parent is a node
 /// are the node's children, in order.
 pub fn readings_are_forms()
     ensures strings { (w us : List ℕ) → IsString w us → parts_units InText 0 (between_marks w) ≡ us }
     ensures pointers { (p : List ℕ) (ts : List (List ℕ)) → IsPointerOf p ts → tokens p ≡ ts }
+    ensures spelt { (p : List ℕ) (ts : List (List ℕ)) → IsPointerOf p ts → IsUtf8 p × IsPointer p }
     ensures forms { (p : List ℕ) → IsUtf8 p → IsPointer p → (ts : List (List ℕ)) × IsPointerOf p ts }
     ensures starts { (start limit : ℕ) (bytes : List ℕ) (tree : Tree) → IsDocument start bytes limit tree
         → IsStrictlyIncreasing (map (λ (row : Row). row.span.start) (rows tree)) }
     ensures children { (tree inner : Tree) (t : Standing) → Stands tree root_standing inner t
         → child_numbers (rows tree) t.number ≡ map (λ (c : Numbered). c.number) (numbered (children_of inner) (suc t.number)) }
+{}
+
+/// The row of the node to which tokens lead has that node's kind, span and name; and each row of a text is the row of a node
+/// of its tree.
+pub fn look_ups_end_at_rows()
+    ensures led { (text : List ℕ) (tree : Tree) (tokens : List (List ℕ)) (node : Numbered) → led text tree tokens ≡ Ok node → HasRow (rows tree) node }
+    ensures nodes { (tree : Tree) (number : ℕ) → number < length (rows tree) → HasNode tree number }
 {}

@@ -17,7 +17,7 @@ mod units;
 pub use children::Children;
 pub use find_fault::FindFault;
 pub use indexed::Indexed;
-pub use laws::readings_are_forms;
+pub use laws::{look_ups_end_at_rows, readings_are_forms};
 pub use pointer::{Pointer, PointerFault};
 pub use row::{NodeId, Row};
 

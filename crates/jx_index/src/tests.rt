@@ -1,5 +1,6 @@
 use crate::array_token::{Place, place_of_token};
 use crate::builder::{Nodes, nodes_from_marks};
+use crate::find_fault::FindFault;
 use crate::names::{compare, sort_members, units_of_member};
 use crate::pointer::{Pointer, PointerFault};
 use crate::row::{NodeId, Row};
@@ -134,5 +135,41 @@ fn members_in_order(rt: HostRuntime) -> Result<(), AllocError> {
     sort_members(wide, &nodes.rows, &mut members)?;
     assert!(rt; members.len() == 2);
     assert!(rt; members[0].number() == 2 && members[1].number() == 1);
+    Ok(())
+}
+
+#[test]
+fn words_of_faults(rt: HostRuntime) -> Result<(), AllocError> {
+    let alloc = rt.alloc();
+    for (fault, words) in [
+        (
+            FindFault::NoSuchMember { token: 0 },
+            "no such member at token 0",
+        ),
+        (
+            FindFault::NameRepeated { token: 1 },
+            "name repeated at token 1",
+        ),
+        (
+            FindFault::NotAnIndex { token: 2 },
+            "not an index at token 2",
+        ),
+        (FindFault::PastEnd { token: 3 }, "past end at token 3"),
+        (FindFault::AfterLast { token: 4 }, "after last at token 4"),
+        (
+            FindFault::NotAContainer { token: 10 },
+            "not a container at token 10",
+        ),
+    ] {
+        let text = format!(in alloc; "{fault}")?;
+        assert_eq!(rt; text.as_str(), words);
+    }
+    for (fault, words) in [
+        (PointerFault::NoSlash, "no slash"),
+        (PointerFault::BadEscape { at: 12 }, "bad escape at 12"),
+    ] {
+        let text = format!(in alloc; "{fault}")?;
+        assert_eq!(rt; text.as_str(), words);
+    }
     Ok(())
 }

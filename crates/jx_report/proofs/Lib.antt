@@ -1,5 +1,4 @@
 mod Answers
 mod ElementSteps
-mod LeadsToRows
 mod PointerSteps
 mod RowSteps

@@ -4,6 +4,7 @@ use Rattle.std.proofs.Common.{suc, ◌∙◌}
 use Rattle.jx_index.specs.Leads.{children_of}
 use Rattle.jx_index.proofs.Forms.{has_form}
 use Rattle.jx_index.proofs.Rising.{starts_rise}
+use Rattle.jx_index.proofs.Spelt.{utf8_of_form, pointer_of_form}
 use Rattle.jx_index.proofs.Parents.{children_are, numbers-numbered}
 use Rattle.jx_index.proofs.laws.readings_are_forms.Goals as goal
 
@@ -21,3 +22,6 @@ returns-clause-forms c = λ p u i. has_form p u i
 
 pub returns-clause-starts : goal.returns-clause-starts
 returns-clause-starts c = λ start limit bytes tree d. starts_rise d.reads
+
+pub returns-clause-spelt : goal.returns-clause-spelt
+returns-clause-spelt c = λ p ts h. (utf8_of_form h, pointer_of_form h)

@@ -26,8 +26,8 @@ loop-rows-preserved c =
       count = omega (arith, i.count, later, bytes, length-drop c.token_len-len.result c.skip-bytes.result.now, length-drop 1 c.loop-rows.rest.now);
     }
 
-pub returns-in_err-node : goal.returns-in_err-node
-returns-in_err-node c = λ limit tree t.
+pub returns-in_err-node-clause-leads : goal.returns-in_err-node-clause-leads
+returns-in_err-node-clause-leads c = λ limit tree t.
     let here : 0 < length c.loop-rows.rest.now = grind (arith, nat_tests, c.is_empty.ensures, c.loop-rows-test.true) in
     let i = c.loop-rows.invariant in
     let p = err_from_is_err_and c.from_residual.result c.from_residual.ensures.1 in
@@ -41,8 +41,8 @@ returns-in_err-node c = λ limit tree t.
     ∙ tree_leads c.args.self.now.text c.args.self.now.rows c.args.self.now.place.start c.args.self.now.place.end limit tree t (sym c.rows-rows.ensures.same ∙ c.rows-rows.ensures.tree limit tree t) (tokens c.args.pointer.now) in
     rw (p.1, p.2) off
 
-pub returns : goal.returns
-returns c = λ limit tree t.
+pub returns-clause-leads : goal.returns-clause-leads
+returns-clause-leads c = λ limit tree t.
     let none : length c.loop-rows.rest.now ≤ 0 = grind (arith, nat_tests, c.is_empty.ensures, c.loop-rows-test.false) in
     sym (no_token c.args.self.now.text c.args.self.now.rows c.loop-rows.rest.now c.loop-rows.node c.loop-rows.token none)
     ∙ c.loop-rows.invariant.same

@@ -1,6 +1,6 @@
 use Rattle.std.proofs.Common.{sym, subst, ◌∙◌}
 use Rattle.jx_run.specs.Text.{IsText}
-use Rattle.jx_index.specs.Indexed.{IndexedValue}
+use Rattle.jx_index.specs.Indexed.{IndexedValue, HasTree}
 use Rattle.jx_index.proofs.Indexes.{tree_rows}
 use Rattle.jx_index.proofs.indexed.Indexed.rows.Goals as goal
 
@@ -10,3 +10,8 @@ returns-clause-tree c = λ limit tree t.
     c.as_slice.ensures.value
     ∙ tree_rows i.text.now i.span i.nodes.rows.items i.nodes.after.items i.names.starts.items i.names.members.items c.self.invariant limit tree
     (subst (λ (v : IndexedValue). IsText v.text v.place.start v.place.end limit tree) (sym c.self.view_is) t)
+
+pub returns-clause-has_tree : goal.returns-clause-has_tree
+returns-clause-has_tree c =
+    let i = c.self.invariant in
+    subst HasTree c.self.view_is (record { limit = i.limit; tree = i.tree; is_text = i.is_text })
