@@ -1,3 +1,5 @@
+mod Ones
+mod Placed
 mod Pushing
 mod Readable
 mod Roots

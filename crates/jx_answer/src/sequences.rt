@@ -190,8 +190,6 @@ fn is_unclosed(kind: Kind) -> bool
 fn ends_unclosed(index: &Indexed<'_>) -> bool
     ensures { (limit : ℕ) (tree : Tree) → IsText index.now.text index.now.place.start index.now.place.end limit tree → IsTrue result ↔ EndsUnclosed tree index.now.place.end }
 {
-    // The proof needs that the rows are those of the tree.
-    let _rows = index.rows();
     let root = index.row(index.root());
     is_unclosed(root.kind) && root.span.end == index.span().end
 }

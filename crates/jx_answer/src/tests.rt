@@ -1,5 +1,7 @@
-// Worked texts and sequences, cut in many places and read by several workers.
+// Worked texts, sequences and pointers, cut in many places and answered by several workers.
 mod cuts;
+mod meeting;
+mod pointers;
 mod sequences;
 mod texts;
 mod turns;

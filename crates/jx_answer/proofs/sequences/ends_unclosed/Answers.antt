@@ -1,6 +1,7 @@
-use Rattle.std.proofs.Common.{◌≡◌, ℕ, nat_eq, IsTrue, sym, ap, ◌∙◌, arith}
+use Rattle.std.proofs.Common.{◌≡◌, ℕ, nat_eq, IsTrue, refl, sym, ap, ◌∙◌, arith}
 use Rattle.std.specs.Prelude.{slice_get}
 use Rattle.std.proofs.lemmas.Bool.Decides.{nat_tests}
+use Rattle.jx_index.specs.Rows.{rows}
 use Rattle.jx_answer.proofs.Roots.{root_row, unclosed_root}
 use Rattle.jx_answer.proofs.sequences.ends_unclosed.Goals as goal
 
@@ -14,7 +15,7 @@ pub returns-then-is_unclosed : goal.returns-then-is_unclosed
 returns-then-is_unclosed c limit tree is_text =
     let index = c.args.index.now in
     let row = c.row-root.result.now in
-    let r = root_row tree index.rows row (sym c.rows-rows.ensures.same ∙ c.rows-rows.ensures.tree limit tree is_text) (ap (slice_get index.rows) (sym c.root.ensures.first) ∙ c.row-root.ensures) in
+    let r = root_row tree (rows tree) row refl (ap (slice_get (rows tree)) (sym c.root.ensures.first) ∙ c.row-root.ensures.tree limit tree is_text) in
     let u = unclosed_root tree row index.place.end r in
     let end = ap (λ p. p.end) c.span.ensures in (
       (λ h. u.0 (sym c.is_unclosed.ensures ∙ c.if-is_unclosed.true, same_of row.span.end c.span.result.end h ∙ end)),
@@ -25,6 +26,6 @@ pub returns-else-is_unclosed : goal.returns-else-is_unclosed
 returns-else-is_unclosed c limit tree is_text =
     let index = c.args.index.now in
     let row = c.row-root.result.now in
-    let r = root_row tree index.rows row (sym c.rows-rows.ensures.same ∙ c.rows-rows.ensures.tree limit tree is_text) (ap (slice_get index.rows) (sym c.root.ensures.first) ∙ c.row-root.ensures) in
+    let r = root_row tree (rows tree) row refl (ap (slice_get (rows tree)) (sym c.root.ensures.first) ∙ c.row-root.ensures.tree limit tree is_text) in
     let u = unclosed_root tree row index.place.end r in
     ((λ h. absurd (cc (h, c.if-is_unclosed.false))), (λ h. c.is_unclosed.ensures ∙ (u.1 h).0))
