@@ -22,7 +22,7 @@ use Rattle.jx_run.specs.declared.verdict.Verdict.TheVariants as verdict
 use Rattle.jx_run.specs.declared.verdict.Refusal.TheVariants as refusal
 use Rattle.jx_run.specs.Laws.{is_end, verdict_of}
 use Rattle.jx_run.specs.Reading.{at_exit, and_then, read}
-use Rattle.jx_run.specs.OutcomeRun.{OutcomeRunValue, entries_at, outcome, outcome_in, outcome_of, GoesOn, IsOutcomeRun}
+use Rattle.jx_run.specs.OutcomeRun.{OutcomeRunValue, entries_at, exit_at, exit_in, outcome, outcome_in, outcome_of, GoesOn, IsOutcomeRun}
 use Rattle.jx_run.specs.Verdict.{Judged}
 use Rattle.jx_run.specs.Whole.{ends_text, verdict_from}
 use Rattle.jx_run.proofs.LawProofs.{verdict_law}
@@ -51,6 +51,17 @@ same_verdict (exit.Fault i) (Reading.too_deep at) = refl
 pub whole_is : (r : Reduced) (f : Forms) (w : Whole) → w ≡ whole_of (answer_of r []) → depth_of r ≡ f.depth → form_in r ≡ form_at f (entry_of expect.Value)
     → w ≡ whole_of (answer f expect.Value [])
 whole_is r f w h d e = h ∙ ap (λ n. whole_of (acts n (form_in r) [])) d ∙ ap (λ x. whole_of (acts f.depth x [])) e
+
+-- an entry, with where reading ends, comes to what reading comes to
+pub entry_reads : (run : OutcomeRunValue) (s : LexState) (x : Expect) (e : Entries) → entries_at run s ≡ Some e → (r : Reduced) → depth_of r ≡ e.marks.depth
+    → form_in r ≡ form_at e.marks (entry_of x) → (bytes : List ℕ) → IsOutcomeRun bytes run → (o : List Holder) → length o ≤ run.limit
+    → at_exit (exit_at run s) (answer_of r o) ≡ read run.limit s x o run.start bytes
+entry_reads run s x e is r deep form bytes h o short =
+    ap (λ z. at_exit (exit_in z) (answer_of r o)) is
+    ∙ ap (λ n. at_exit (exit_of e.exit) (acts n (form_in r) o)) deep
+    ∙ ap (λ f. at_exit (exit_of e.exit) (acts e.marks.depth f o)) form
+    ∙ sym (ap (λ z. outcome_in z x o) is)
+    ∙ h.outcomes s x o short
 
 pub run_judged : (run : OutcomeRunValue) (e : Entries) → entries_at run state.Gap ≡ Some e → (bytes : List ℕ) → IsOutcomeRun bytes run
     → Judged run.start bytes run.limit (verdict_from e.exit (whole_of (answer e.marks expect.Value [])))

@@ -2,6 +2,7 @@
 use Rattle.std.specs.Prelude.{◌≡◌, ℕ, ◌+◌, ◌≤◌, List, length, Option, None, Some, All, slice_get}
 use Rattle.jx_lex.specs.declared.state.LexState.{LexState}
 use Rattle.jx_lex.specs.declared.span.Span.{Span}
+use Rattle.jx_lex.specs.Lex.{Exit, fault}
 use Rattle.jx_lex.specs.Ordinal.{ordinal}
 use Rattle.jx_lex.specs.View.{exit_of}
 use Rattle.jx_reduce.specs.declared.expect.Expect.{Expect}
@@ -31,6 +32,14 @@ outcome_of e expect holders = at_exit (exit_of e.exit) (answer e.marks expect ho
 abbrev pub outcome_in : Option Entries → Expect → List Holder → Outcome
 outcome_in None expect holders = stopped 0
 outcome_in (Some e) expect holders = outcome_of e expect holders
+
+-- where reading from a state ends
+abbrev pub exit_in : Option Entries → Exit
+exit_in None = fault 0
+exit_in (Some e) = exit_of e.exit
+
+abbrev pub exit_at : OutcomeRunValue → LexState → Exit
+exit_at run s = exit_in (entries_at run s)
 
 abbrev pub outcome : OutcomeRunValue → LexState → Expect → List Holder → Outcome
 outcome run s = outcome_in (entries_at run s)

@@ -1,10 +1,15 @@
 // Runs over parts of a JSON text that keep no marks.
 ghost use Rattle.std.specs.Prelude.{◌≡◌, ◌<◌, ◌≤◌, ℕ, List, [], ◌++◌, length, Option, Some, slice_get, slice_range, IfOk, IfErr};
 ghost use Rattle.jx_lex.specs.Map.{IsOf};
-ghost use Rattle.jx_reduce.specs.Reductions.{answer};
+ghost use Rattle.jx_lex.specs.View.{exit_of};
+ghost use Rattle.jx_reduce.specs.Fits.{IsOfSize};
+ghost use Rattle.jx_reduce.specs.Reduced.{answer_of, depth_of, form_in};
+ghost use Rattle.jx_reduce.specs.Reductions.{answer, entry_of, form_at};
 ghost use Rattle.jx_reduce.specs.Whole.{whole_of};
 ghost use Rattle.jx_reduce.specs.declared.expect.Expect.TheVariants.{Value};
-ghost use Rattle.jx_run.specs.OutcomeRun.{entries_at, in_place, place_of, AllGoOn, IsJoined, IsOutcomeRun, IsWithin};
+ghost use Rattle.jx_reduce.specs.declared.holder.Holder.{Holder};
+ghost use Rattle.jx_run.specs.OutcomeRun.{entries_at, exit_at, in_place, outcome, place_of, AllGoOn, IsJoined, IsOutcomeRun, IsWithin};
+ghost use Rattle.jx_run.specs.Reading.{at_exit, read};
 ghost use Rattle.jx_run.specs.Verdict.{Judged};
 ghost use Rattle.jx_run.specs.Whole.{ends_text, verdict_from};
 ghost use Rattle.jx_run.specs.declared.entries.Entries.{Entries};
@@ -15,7 +20,7 @@ use crate::states::place_of;
 use crate::summary::Summary;
 use crate::verdict::{Refusal, Verdict};
 use jx_lex::{ChunkMap, Depth, Exit, JoinFault, LexState, Span};
-use jx_reduce::{Expect, Whole};
+use jx_reduce::{Expect, Reduced, Whole};
 use std::alloc::{AllocError, Global};
 use std::marker::Model;
 
@@ -123,6 +128,25 @@ impl OutcomeRun {
         verdict_of(self.from(LexState::Gap))
     }
 
+    /// Where reading from a state ends, or the offset at which the lexical machine faults.
+    pub fn exit(&self, state: LexState) -> Exit
+        ensures exit { exit_of result ≡ exit_at self.now state }
+    {
+        self.from(state).exit
+    }
+
+    /// What the marks come to from a state and an expectation. With where reading from that state ends, it tells what the
+    /// bytes come to over open containers, as many as the depth at most.
+    pub fn entry(&self, state: LexState, expect: Expect) -> &Reduced
+        ensures depth { depth_of result.now ≡ self.now.limit }
+        ensures all { length self.now.entries ≡ 32 }
+        ensures form { (e : Entries) → entries_at self.now state ≡ Some e → form_in result.now ≡ form_at e.marks (entry_of expect) }
+        ensures size { IsOfSize self.now.limit (form_in result.now) }
+        ensures reads { (bytes : List ℕ) → IsOutcomeRun bytes self.now → (holders : List Holder) → length holders ≤ self.now.limit → at_exit (exit_at self.now state) (answer_of result.now holders) ≡ read self.now.limit state expect holders self.now.start bytes }
+    {
+        self.from(state).marks.entry(expect)
+    }
+
     /// The verdict on the joined bytes as a whole text; neither run changes, and no entries but those of its start are joined.
     pub(crate) fn verdict_with(&self, right: &OutcomeRun) -> Result<Verdict, AllocError>
         requires neighbours { self.now.end ≡ right.now.start }
@@ -145,6 +169,7 @@ impl OutcomeRun {
 
     /// The entries of a state.
     pub(crate) fn from(&self, state: LexState) -> &Entries
+        ensures all { length self.now.entries ≡ 32 }
         ensures entries { entries_at self.now state ≡ Some result.now }
         ensures within { IsWithin self.now.limit self.now.start self.now.end result.now }
     {

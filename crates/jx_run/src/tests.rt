@@ -6,8 +6,8 @@ use crate::outcome_run::OutcomeRun;
 use crate::summary::Summary;
 use crate::text_run::TextRun;
 use crate::verdict::{Refusal, Verdict};
-use jx_lex::{Depth, LexState};
-use jx_reduce::Expect;
+use jx_lex::{Depth, Exit, LexState};
+use jx_reduce::{Expect, Holder, Outcome};
 use std::alloc::{AllocError, Global};
 use std::process::Abort;
 
@@ -262,5 +262,27 @@ fn reading_from_the_start(rt: HostRuntime) -> Result<(), AllocError> {
     let entry = run.entry(LexState::Gap, Expect::Value);
     assert_eq!(rt; entry.level_count(), 1);
     assert_eq!(rt; run.entry(LexState::Gap, Expect::After).level_count(), 1);
+    Ok(())
+}
+
+#[test]
+fn entries_and_exits(rt: HostRuntime) -> Result<(), AllocError> {
+    let alloc = rt.alloc();
+    let run = from_left::<TextRun>(alloc, b"1]", Depth::default())?;
+    let outcomes = from_left::<OutcomeRun>(alloc, b"1]", Depth::default())?;
+    assert_eq!(rt; run.exit(LexState::Gap), Exit::State(LexState::Gap));
+    assert_eq!(rt; outcomes.exit(LexState::Gap), Exit::State(LexState::Gap));
+    assert_eq!(rt; run.exit(LexState::Esc), Exit::Fault(0));
+    assert_eq!(rt; outcomes.exit(LexState::Esc), Exit::Fault(0));
+    let went = Outcome::Went {
+        expect: Expect::After,
+        holders: Vec::new(alloc),
+    };
+    let entry = run.entry(LexState::Gap, Expect::Value);
+    assert_eq!(rt; entry.act(&[Holder::Array])?, went);
+    assert_eq!(rt; entry.act(&[Holder::Object])?, Outcome::Stopped(1));
+    let entry = outcomes.entry(LexState::Gap, Expect::Value);
+    assert_eq!(rt; entry.act(&[Holder::Array])?, went);
+    assert_eq!(rt; entry.act(&[Holder::Object])?, Outcome::Stopped(1));
     Ok(())
 }

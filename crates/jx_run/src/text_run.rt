@@ -1,10 +1,13 @@
 // Runs over parts of a JSON text.
 ghost use Rattle.std.specs.Prelude.{◌≡◌, ◌≤◌, ℕ, List, ◌++◌, length, Some, slice_range, IfOk, IfErr};
 ghost use Rattle.jx_lex.specs.Map.{track};
+ghost use Rattle.jx_lex.specs.View.{exit_of};
 ghost use Rattle.jx_reduce.specs.Fits.{IsOfSize};
-ghost use Rattle.jx_reduce.specs.Reduced.{depth_of, form_in};
+ghost use Rattle.jx_reduce.specs.Reduced.{answer_of, depth_of, form_in};
 ghost use Rattle.jx_reduce.specs.Reductions.{form_at, entry_of};
-ghost use Rattle.jx_run.specs.OutcomeRun.{entries_at};
+ghost use Rattle.jx_reduce.specs.declared.holder.Holder.{Holder};
+ghost use Rattle.jx_run.specs.OutcomeRun.{entries_at, exit_at, IsOutcomeRun};
+ghost use Rattle.jx_run.specs.Reading.{at_exit, read};
 ghost use Rattle.jx_run.specs.Started.{IsStarted};
 ghost use Rattle.jx_run.specs.TextRun.{outcomes_of, place_of, IsTextRun};
 ghost use Rattle.jx_run.specs.Verdict.{Judged};
@@ -14,7 +17,7 @@ use crate::outcome_run::OutcomeRun;
 use crate::started::Started;
 use crate::summary::Summary;
 use crate::verdict::Verdict;
-use jx_lex::{ChunkMap, Depth, JoinFault, LexState, Mark, Span};
+use jx_lex::{ChunkMap, Depth, Exit, JoinFault, LexState, Mark, Span};
 use jx_reduce::{Expect, Reduced};
 use std::alloc::{AllocError, Global};
 use std::marker::Model;
@@ -59,13 +62,23 @@ impl TextRun {
         Ok(Started::new(self.map.span(), self.depth(), marks, ends, self.verdict()))
     }
 
-    /// What the marks come to from a state and an expectation.
+    /// Where reading from a state ends, or the offset at which the lexical machine faults.
+    pub fn exit(&self, state: LexState) -> Exit
+        ensures exit { exit_of result ≡ exit_at (outcomes_of self.now) state }
+    {
+        self.outcomes.exit(state)
+    }
+
+    /// What the marks come to from a state and an expectation. With where reading from that state ends, it tells what the
+    /// bytes come to over open containers, as many as the depth at most.
     pub fn entry(&self, state: LexState, expect: Expect) -> &Reduced
         ensures depth { depth_of result.now ≡ self.now.limit }
+        ensures all { length self.now.entries ≡ 32 }
         ensures form { (e : Entries) → entries_at (outcomes_of self.now) state ≡ Some e → form_in result.now ≡ form_at e.marks (entry_of expect) }
         ensures size { IsOfSize self.now.limit (form_in result.now) }
+        ensures reads { (bytes : List ℕ) → IsTextRun bytes self.now → (holders : List Holder) → length holders ≤ self.now.limit → at_exit (exit_at (outcomes_of self.now) state) (answer_of result.now holders) ≡ read self.now.limit state expect holders self.now.map.start bytes }
     {
-        self.outcomes.from(state).marks.entry(expect)
+        self.outcomes.entry(state, expect)
     }
 
     /// The marks and the ends of the track from a state.
