@@ -1,4 +1,5 @@
--- Byte classes (RFC 8259, sections 2, 3, 6 and 7; RFC 3629, section 4): every byte has exactly one.
+-- Byte classes (RFC 8259, sections 2, 3, 6 and 7; RFC 3629, section 4). The table of ranges says which bytes a class has. Every byte is
+-- in exactly one class, as `class_of` ensures: so what is found by going through the classes below is that one, whatever their order.
 use Rattle.std.specs.Prelude.{ℕ, Bool, ◌&&◌, List, [], ◌∷◌, if◌then◌else◌, nat_le}
 use Rattle.std.specs.List.{list_any}
 use Rattle.jx_lex.specs.declared.class.Class.{Class}
@@ -100,11 +101,11 @@ all_classes =
     Plain ∷
     []
 
--- the first of the classes that has the byte
+-- the first of these classes that has the byte
 abbrev pub first_with : List Class → ℕ → Class
 first_with [] byte = Bad
 first_with (class ∷ more) byte = if is_in class byte then class else first_with more byte
 
--- the class of a byte; a number above 255 is Bad
+-- the class of a byte, the one that has it; a number above 255 is Bad
 unfoldable pub class_at : ℕ → Class
 class_at byte = first_with all_classes byte

@@ -1,5 +1,6 @@
 // The classes into which the lexical machine sorts bytes.
 ghost use Rattle.std.specs.Prelude.{◌≡◌, IsTrue};
+ghost use Rattle.jx_lex.specs.declared.class.Class.{Class};
 ghost use Rattle.jx_lex.specs.Classes.{class_at, is_in};
 
 use crate::classes::CLASSES;
@@ -94,11 +95,12 @@ pub enum Class {
     Plain,
 }
 
-/// The class of a byte: the one class whose row in the table of classes has it.
+/// The class of a byte: the table of classes has the byte in the row of this class, and in no other row.
 #[inline(always)]
 pub fn class_of(byte: u8) -> Class
     ensures row { IsTrue (is_in result byte) }
-    ensures only { result ≡ class_at byte }
+    ensures only { (class : Class) → IsTrue (is_in class byte) → class ≡ result }
+    ensures found { result ≡ class_at byte }
 {
     CLASSES[(byte / 16) as usize][(byte % 16) as usize]
 }

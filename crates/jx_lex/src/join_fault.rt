@@ -1,5 +1,8 @@
+use thiserror::Error;
+
 /// No memory could be had for a join. Both sides are handed back, equal to what came in.
-#[derive(Debug, Drop)]
+#[derive(Debug, Drop, Error)]
+#[error("out of memory")]
 pub struct JoinFault<T> {
     pub left: T,
     pub right: T,

@@ -1,3 +1,6 @@
+mod cuts;
+mod words;
+
 use crate::ordinal::all;
 use crate::{ChunkMap, Exit, LexState, Mark, MarkKind, TokenEnd, TrackView, step};
 use std::alloc::{AllocError, Global};
@@ -153,7 +156,9 @@ fn a_number_that_a_fault_ends(rt: HostRuntime) -> Result<(), Fail> {
 
 #[test]
 fn every_cut_gives_the_tracks_of_the_whole(rt: HostRuntime) -> Result<(), Fail> {
-    let texts: [&[u8]; 18] = [
+    let texts: [&[u8]; 20] = [
+        b"]",
+        b"1]",
         b"12",
         b"-",
         b"-x",
