@@ -26,4 +26,5 @@ pub mod Slices
 pub mod Stays
 pub mod Stretches
 pub mod StringParts
+pub mod Unescaped
 pub mod Walking

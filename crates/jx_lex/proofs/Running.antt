@@ -115,7 +115,7 @@ pub Leads-join : (xs : List ℕ) (a b c : ℕ) → a ≤ b → b ≤ c → Leads
     → Leads state.Str (slice_range xs a c) state.Str
 Leads-join xs a b c low high h k = subst (λ l. Leads state.Str l state.Str) (sym (slice-split xs a b c low high)) (Leads-append state.Str state.Str state.Str (slice_range xs a b) (slice_range xs b c) h k)
 
-take-again : (n m : ℕ) (xs : List ℕ) → n ≤ m → take n (take m xs) ≡ take n xs
+pub take-again : (n m : ℕ) (xs : List ℕ) → n ≤ m → take n (take m xs) ≡ take n xs
 take-again zero m xs le = refl
 take-again (suc n) zero xs le = absurd (omega arith)
 take-again (suc n) (suc m) [] le = refl
@@ -126,15 +126,13 @@ take-short zero xs = omega arith
 take-short (suc m) [] = omega arith
 take-short (suc m) (x ∷ xs) = let rest = take-short m xs in omega (arith, rest)
 
--- a run, then a part of n bytes, then a run
-pub Leads-part : (xs : List ℕ) (from i to n r : ℕ) → from ≤ i → i ≤ to → n ≤ length (slice_range xs i to) → i + n ≤ r → Leads state.Str (slice_range xs from i) state.Str
-    → Leads state.Str (take n (slice_range xs i to)) state.Str → Leads state.Str (slice_range xs (i + n) r) state.Str → Leads state.Str (slice_range xs from r) state.Str
-Leads-part xs from i to n r low order within high before part after =
+-- a part of n bytes
+pub part_leads : (xs : List ℕ) (i to n : ℕ) → n ≤ length (slice_range xs i to) → Leads state.Str (take n (slice_range xs i to)) state.Str → Leads state.Str (slice_range xs i (i + n)) state.Str
+part_leads xs i to n within part =
     let short = take-short (to - i) (drop i xs) in
     let e : i + n - i ≡ n = omega arith in
     let same : take n (slice_range xs i to) ≡ slice_range xs i (i + n) = take-again n (to - i) (drop i xs) (omega (arith, within, short)) ∙ ap (λ m. take m (drop i xs)) (sym e) in
-    let here : Leads state.Str (slice_range xs i (i + n)) state.Str = subst (λ l. Leads state.Str l state.Str) same part in
-    Leads-join xs from i r low (omega arith) before (Leads-join xs i (i + n) r (omega arith) high here after)
+    subst (λ l. Leads state.Str l state.Str) same part
 
 pub plain_leads : (xs : List ℕ) (from r : ℕ) → AllKeep state.Str (slice_range xs from r) → Leads state.Str (slice_range xs from r) state.Str
 plain_leads xs from r = AllKeep-leads state.Str (slice_range xs from r)

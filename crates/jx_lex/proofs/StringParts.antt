@@ -49,12 +49,13 @@ hex_classes = class.Zero ∷ class.Digit ∷ class.UpHex ∷ class.UpE ∷ class
 
 -- ---- characters
 
-two_leads : (a b : ℕ) → is_two a b ≡ true → Leads state.Str (a ∷ b ∷ []) state.Str
+pub two_bytes_lead : (a b : ℕ) → IsWithin 0xc2 0xdf a → IsTail b → Leads state.Str (a ∷ b ∷ []) state.Str
 unfolding class_at
+two_bytes_lead a b first second = (state.Tail1, move-range 0xc2 0xdf (class.Lead2 ∷ []) refl (omega arith) state.Str (go state.Tail1) (refl, tt) first, (state.Str, tail1 second, refl))
+
+two_leads : (a b : ℕ) → is_two a b ≡ true → Leads state.Str (a ∷ b ∷ []) state.Str
 two_leads a b h =
-    let first : IsWithin 0xc2 0xdf a = record { from = grind (arith, nat_tests); to = grind (arith, nat_tests) } in
-    let second : IsTail b = record { from = grind (arith, nat_tests); to = grind (arith, nat_tests) } in
-    (state.Tail1, move-range 0xc2 0xdf (class.Lead2 ∷ []) refl (omega arith) state.Str (go state.Tail1) (refl, tt) first, (state.Str, tail1 second, refl))
+    two_bytes_lead a b (record { from = grind (arith, nat_tests); to = grind (arith, nat_tests) }) (record { from = grind (arith, nat_tests); to = grind (arith, nat_tests) })
 
 -- after the second of three bytes
 second_of_three : (a b : ℕ) → 0xe0 ≤ a → a ≤ 0xef → IsTail b → (a ≡ 0xe0 → 0xa0 ≤ b) → (a ≡ 0xed → b ≤ 0x9f)
@@ -77,14 +78,18 @@ second_of_three a b from to second low high =
         let first : IsWithin 0xee 0xef a = record { from = omega (arith, not_ed); to = to } in
         (state.Tail2, move-range 0xee 0xef (class.Lead3 ∷ []) refl (omega arith) state.Str (go state.Tail2) (refl, tt) first, tail2 second)
 
+pub three_bytes_lead : (a b c : ℕ) → 0xe0 ≤ a → a ≤ 0xef → IsTail b → IsTail c → (a ≡ 0xe0 → 0xa0 ≤ b) → (a ≡ 0xed → b ≤ 0x9f) → Leads state.Str (a ∷ b ∷ c ∷ []) state.Str
+three_bytes_lead a b c from to second third low high =
+    let s = second_of_three a b from to second low high in
+    (s.0, s.1, (state.Tail1, s.2, (state.Str, tail1 third, refl)))
+
 three_leads : (a b c : ℕ) → is_three a b c ≡ true → Leads state.Str (a ∷ b ∷ c ∷ []) state.Str
 three_leads a b c h =
     let low : a ≡ 0xe0 → 0xa0 ≤ b = λ e. grind (arith, nat_tests) in
     let high : a ≡ 0xed → b ≤ 0x9f = λ e. grind (arith, nat_tests) in
     let second : IsTail b = record { from = grind (arith, nat_tests); to = grind (arith, nat_tests) } in
     let third : IsTail c = record { from = grind (arith, nat_tests); to = grind (arith, nat_tests) } in
-    let s = second_of_three a b (grind (arith, nat_tests)) (grind (arith, nat_tests)) second low high in
-    (s.0, s.1, (state.Tail1, s.2, (state.Str, tail1 third, refl)))
+    three_bytes_lead a b c (grind (arith, nat_tests)) (grind (arith, nat_tests)) second third low high
 
 -- after the second of four bytes
 second_of_four : (a b : ℕ) → 0xf0 ≤ a → a ≤ 0xf4 → IsTail b → (a ≡ 0xf0 → 0x90 ≤ b) → (a ≡ 0xf4 → b ≤ 0x8f)
@@ -103,6 +108,12 @@ second_of_four a b from to second low high =
         let first : IsWithin 0xf1 0xf3 a = record { from = omega (arith, not_f0); to = omega (arith, not_f4) } in
         (state.Tail3, move-range 0xf1 0xf3 (class.Lead4 ∷ []) refl (omega arith) state.Str (go state.Tail3) (refl, tt) first, tail3 second)
 
+pub four_bytes_lead : (a b c d : ℕ) → 0xf0 ≤ a → a ≤ 0xf4 → IsTail b → IsTail c → IsTail d → (a ≡ 0xf0 → 0x90 ≤ b) → (a ≡ 0xf4 → b ≤ 0x8f)
+    → Leads state.Str (a ∷ b ∷ c ∷ d ∷ []) state.Str
+four_bytes_lead a b c d from to second third fourth low high =
+    let s = second_of_four a b from to second low high in
+    (s.0, s.1, (state.Tail2, s.2, (state.Tail1, tail2 third, (state.Str, tail1 fourth, refl))))
+
 four_leads : (a b c d : ℕ) → is_four a b c d ≡ true → Leads state.Str (a ∷ b ∷ c ∷ d ∷ []) state.Str
 four_leads a b c d h =
     let low : a ≡ 0xf0 → 0x90 ≤ b = λ e. grind (arith, nat_tests) in
@@ -110,8 +121,7 @@ four_leads a b c d h =
     let second : IsTail b = record { from = grind (arith, nat_tests); to = grind (arith, nat_tests) } in
     let third : IsTail c = record { from = grind (arith, nat_tests); to = grind (arith, nat_tests) } in
     let fourth : IsTail d = record { from = grind (arith, nat_tests); to = grind (arith, nat_tests) } in
-    let s = second_of_four a b (grind (arith, nat_tests)) (grind (arith, nat_tests)) second low high in
-    (s.0, s.1, (state.Tail2, s.2, (state.Tail1, tail2 third, (state.Str, tail1 fourth, refl))))
+    four_bytes_lead a b c d (grind (arith, nat_tests)) (grind (arith, nat_tests)) second third fourth low high
 
 -- ---- escapes
 

@@ -1,3 +1,4 @@
+pub mod Ahead
 pub mod Bundle
 pub mod Cells
 pub mod Character

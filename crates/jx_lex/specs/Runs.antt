@@ -17,6 +17,10 @@ Leads s (b ∷ bs) t = (next : LexState) × (move s b ≡ go next) × Leads next
 abbrev pub is_plain : ℕ → Bool
 is_plain byte = nat_le 0x20 byte && nat_le byte 0x7f && not (byte == 0x22) && not (byte == 0x5c)
 
+-- a byte of unescaped characters in a string: no quotation mark, no backslash, no control character (RFC 8259, section 7)
+abbrev pub is_unescaped : ℕ → Bool
+is_unescaped byte = nat_le 0x20 byte && not (byte == 0x22) && not (byte == 0x5c)
+
 abbrev pub is_digit : ℕ → Bool
 is_digit byte = nat_le 0x30 byte && nat_le byte 0x39
 

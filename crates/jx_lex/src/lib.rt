@@ -2,6 +2,7 @@
 //! part of a text gives from each state, whatever stands to its left.
 #![tactic(auto)]
 
+mod ahead;
 mod bundle;
 mod cell;
 mod cells;

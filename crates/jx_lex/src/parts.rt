@@ -1,9 +1,11 @@
 // Ends of runs of whole characters and escapes inside a string.
-ghost use Rattle.std.specs.Prelude.{◌≡◌, ◌≤◌, ◌<◌, ◌+◌, length, take, slice_range};
+ghost use Rattle.std.specs.Prelude.{◌≡◌, ◌≤◌, ◌<◌, ◌+◌, IsTrue, length, take, slice_range};
 ghost use Rattle.jx_lex.specs.declared.state.LexState.TheVariants as state;
+ghost use Rattle.jx_lex.specs.Ahead.{IsSound};
 ghost use Rattle.jx_lex.specs.Runs.{Leads, is_tail, is_two, is_three, is_four, is_escaped, is_escape, is_hex, is_unit};
 
-use crate::passes::plain_end;
+use crate::ahead::Ahead;
+use crate::passes::{plain_end, unescaped_end};
 
 #[inline(always)]
 fn is_tail(byte: u8) -> bool
@@ -81,50 +83,143 @@ fn is_unit(a: u8, b: u8, c: u8, d: u8, e: u8, f: u8) -> bool
     a == b'\\' && b == b'u' && is_hex(c) && is_hex(d) && is_hex(e) && is_hex(f)
 }
 
-// How many bytes the character above 7F, or the escape, has with which the bytes begin; 0 where none stands whole.
+// How many bytes the escape has with which the bytes begin; 0 where none stands whole.
 #[inline(always)]
-fn part_len(bytes: &[u8]) -> usize
+fn escape_len(bytes: &[u8]) -> usize
     ensures within { result ≤ length bytes.now }
     ensures led { Leads state.Str (take result bytes.now) state.Str }
 {
     match bytes {
-        [a, b, ..] if is_two(*a, *b) => 2,
         [a, b, ..] if is_escape(*a, *b) => 2,
-        [a, b, c, ..] if is_three(*a, *b, *c) => 3,
-        [a, b, c, d, ..] if is_four(*a, *b, *c, *d) => 4,
         [a, b, c, d, e, f, ..] if is_unit(*a, *b, *c, *d, *e, *f) => 6,
         _ => 0,
     }
 }
 
+// How many bytes the character above 7F has with which the bytes begin; 0 where none stands whole.
+#[inline(always)]
+fn character_len(bytes: &[u8]) -> usize
+    ensures within { result ≤ length bytes.now }
+    ensures led { Leads state.Str (take result bytes.now) state.Str }
+{
+    match bytes {
+        [a, b, ..] if is_two(*a, *b) => 2,
+        [a, b, c, ..] if is_three(*a, *b, *c) => 3,
+        [a, b, c, d, ..] if is_four(*a, *b, *c, *d) => 4,
+        _ => 0,
+    }
+}
+
+// The end of the escapes that follow one another, those of two bytes and those of six.
+#[inline(always)]
+fn escapes_end(text: &[u8], from: usize, to: usize) -> usize
+    requires { (from ≤ to) × (to ≤ length text.now) }
+    ensures bounds { (from ≤ result) × (result ≤ to) }
+    ensures led { Leads state.Str (slice_range text.now from result) state.Str }
+{
+    let mut i = from;
+    while to - i >= 2 && text[i] == b'\\' {
+        let len = escape_len(&text[i..to]);
+        if len == 0 {
+            break;
+        }
+        i += len;
+    }
+    i
+}
+
+// Whether a character may begin with this byte, of those above 7F.
+#[inline(always)]
+fn is_lead(byte: u8) -> bool
+    ensures { IsTrue result → 0xc0 ≤ byte }
+{
+    byte >= 0xc0
+}
+
+// The end of what begins with a byte above 7F: in a stretch that is known to be UTF-8, that of all characters that need no
+// escape, and else that of one character, or `from` where none stands whole.
+#[inline(always)]
+fn characters_end(text: &[u8], from: usize, to: usize, ahead: Ahead) -> (usize, Ahead)
+    requires bounds { (from < to) × (to ≤ length text.now) }
+    requires sound { IsSound text.now ahead }
+    ensures bounds { (from ≤ result.0) × (result.0 ≤ to) }
+    ensures led { Leads state.Str (slice_range text.now from result.0) state.Str }
+    ensures sound { IsSound text.now result.1 }
+{
+    let mut ahead = ahead;
+    if !ahead.covers(from, to) {
+        ahead = ahead.after(text, from, to);
+    }
+    if ahead.is_utf8 && ahead.covers(from, to) && is_lead(text[from]) {
+        return (unescaped_end(text, from, ahead.to), ahead);
+    }
+    (from + character_len(&text[from..to]), ahead)
+}
+
+// The end of a run of escapes, of characters above 7F or of ordinary ASCII, or `from` where none stands there whole.
+#[inline(always)]
+fn part_end(text: &[u8], from: usize, to: usize, ahead: Ahead) -> (usize, Ahead)
+    requires bounds { (from < to) × (to ≤ length text.now) }
+    requires sound { IsSound text.now ahead }
+    ensures bounds { (from ≤ result.0) × (result.0 ≤ to) }
+    ensures led { Leads state.Str (slice_range text.now from result.0) state.Str }
+    ensures sound { IsSound text.now result.1 }
+{
+    let byte = text[from];
+    if byte == b'\\' {
+        (escapes_end(text, from, to), ahead)
+    } else if byte > 0x7f {
+        characters_end(text, from, to, ahead)
+    } else {
+        (plain_end(text, from, to), ahead)
+    }
+}
+
+// `string_end_ahead`, from a byte on that is no ordinary ASCII.
+#[inline(never)]
+fn parts_end(text: &[u8], from: usize, to: usize, ahead: Ahead) -> (usize, Ahead)
+    requires bounds { (from ≤ to) × (to ≤ length text.now) }
+    requires sound { IsSound text.now ahead }
+    ensures bounds { (from ≤ result.0) × (result.0 ≤ to) }
+    ensures led { Leads state.Str (slice_range text.now from result.0) state.Str }
+    ensures sound { IsSound text.now result.1 }
+{
+    let mut i = from;
+    let mut ahead = ahead;
+    while i < to && text[i] != b'"' {
+        let (end, known) = part_end(text, i, to, ahead);
+        ahead = known;
+        if end == i {
+            break;
+        }
+        i = end;
+    }
+    (i, ahead)
+}
+
 /// The end of a run of whole characters and escapes of a string from `from` on, or `to`: a quotation mark, a fault, or
-/// the first byte of a part that isn't whole before `to`.
+/// the first byte of a part that isn't whole before `to`. What was learnt of the UTF-8 ahead serves the strings that follow.
+#[inline(always)]
+pub(crate) fn string_end_ahead(text: &[u8], from: usize, to: usize, ahead: Ahead) -> (usize, Ahead)
+    requires bounds { (from ≤ to) × (to ≤ length text.now) }
+    requires sound { IsSound text.now ahead }
+    ensures bounds { (from ≤ result.0) × (result.0 ≤ to) }
+    ensures led { Leads state.Str (slice_range text.now from result.0) state.Str }
+    ensures sound { IsSound text.now result.1 }
+{
+    let end = plain_end(text, from, to);
+    if end < to && (text[end] == b'\\' || text[end] > 0x7f) {
+        return parts_end(text, end, to, ahead);
+    }
+    (end, ahead)
+}
+
+/// `string_end_ahead`, where nothing is known of the UTF-8 ahead.
 #[inline(always)]
 pub(crate) fn string_end(text: &[u8], from: usize, to: usize) -> usize
     requires { (from ≤ to) × (to ≤ length text.now) }
     ensures bounds { (from ≤ result) × (result ≤ to) }
     ensures led { Leads state.Str (slice_range text.now from result) state.Str }
 {
-    let mut i = plain_end(text, from, to);
-    while i < to {
-        let len = part_len(&text[i..to]);
-        if len == 0 {
-            break;
-        }
-        i = plain_end_or_part(text, i + len, to);
-    }
-    i
-}
-
-// `plain_end`, but for the place itself where the byte there begins no run: one above 7F, as in most scripts, or a backslash.
-#[inline(always)]
-fn plain_end_or_part(text: &[u8], from: usize, to: usize) -> usize
-    requires { (from ≤ to) × (to ≤ length text.now) }
-    ensures bounds { (from ≤ result) × (result ≤ to) }
-    ensures led { Leads state.Str (slice_range text.now from result) state.Str }
-{
-    if from < to && (text[from] > 0x7f || text[from] == b'\\') {
-        return from;
-    }
-    plain_end(text, from, to)
+    string_end_ahead(text, from, to, Ahead::nothing()).0
 }

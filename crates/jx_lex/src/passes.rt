@@ -3,7 +3,7 @@ ghost use Rattle.std.specs.Prelude.{◌≡◌, ◌≤◌, ◌<◌, ◌+◌, ℕ,
 ghost use Rattle.std.specs.Simd.Lanes.{mask_l};
 ghost use Rattle.std.specs.Slice.Scan.{HoldsNowhere, IsFirstPlace, Marks};
 ghost use Rattle.jx_lex.specs.declared.state.LexState.TheVariants as state;
-ghost use Rattle.jx_lex.specs.Runs.{AllKeep, is_plain, is_digit, is_blank};
+ghost use Rattle.jx_lex.specs.Runs.{AllKeep, is_plain, is_unescaped, is_digit, is_blank};
 
 use std::simd::prelude::*;
 
@@ -20,6 +20,8 @@ trait Run {
 }
 
 struct Plain;
+
+struct Unescaped;
 
 struct Digits;
 
@@ -38,6 +40,22 @@ impl Run for Plain {
         (block.simd_eq(u8x16::splat(b'"'))
             | block.simd_eq(u8x16::splat(b'\\'))
             | (block - u8x16::splat(0x20)).simd_ge(u8x16::splat(0x60))).to_bitmask()
+    }
+}
+
+impl Run for Unescaped {
+    ghost goes_on = { is_unescaped };
+
+    #[inline(always)]
+    fn has(byte: u8) -> bool {
+        byte >= 0x20 && byte != b'"' && byte != b'\\'
+    }
+
+    #[inline(always)]
+    fn others(block: u8x16) -> u64 {
+        (block.simd_eq(u8x16::splat(b'\\'))
+            | block.simd_eq(u8x16::splat(b'"'))
+            | block.simd_lt(u8x16::splat(0x20))).to_bitmask()
     }
 }
 
@@ -122,6 +140,16 @@ pub(crate) fn plain_end(text: &[u8], from: usize, to: usize) -> usize
     ensures first { IsFirstPlace (λ k. not (is_plain (slice_index text.now k))) from to result }
 {
     run_end::<Plain>(text, from, to)
+}
+
+/// The first place from `from` on whose byte is a quotation mark, a backslash or a control character, or `to`. What it
+/// passes over is only known to be whole characters where the text is known to be UTF-8.
+#[inline(always)]
+pub(crate) fn unescaped_end(text: &[u8], from: usize, to: usize) -> usize
+    requires { (from ≤ to) × (to ≤ length text.now) }
+    ensures first { IsFirstPlace (λ k. not (is_unescaped (slice_index text.now k))) from to result }
+{
+    run_end::<Unescaped>(text, from, to)
 }
 
 /// The first place from `from` on whose byte is no digit, or `to`.

@@ -1,0 +1,77 @@
+// Stretches of a text that were tested for well-formed UTF-8 before they are read.
+ghost use Rattle.std.specs.Prelude.{◌≡◌, ◌≤◌, ◌&&◌, length, nat_le, nat_lt, ℕ, List};
+ghost use Rattle.jx_lex.specs.Ahead.{IsSound};
+
+// A stretch is at most so long, and at first only so long.
+const MOST: usize = 4096;
+
+const FIRST: usize = 128;
+
+/// A stretch of a text, and whether it is well-formed UTF-8 (RFC 3629, section 4). Where it is, a reader of strings need
+/// not look at its characters one by one.
+#[derive(Clone, Copy)]
+pub(crate) struct Ahead {
+    pub(crate) from: usize,
+    pub(crate) to: usize,
+    pub(crate) is_utf8: bool,
+    // How many bytes are tested next: each time twice as many, so that a short string doesn't cost a long stretch.
+    pub(crate) next: usize,
+}
+
+impl Ahead {
+    /// No stretch yet.
+    #[inline(always)]
+    pub(crate) fn nothing() -> Ahead
+        ensures sound { (text : List ℕ) → IsSound text result }
+    {
+        Ahead {
+            from: 0,
+            to: 0,
+            is_utf8: false,
+            next: FIRST,
+        }
+    }
+
+    /// The stretch that begins with this byte.
+    #[inline(never)]
+    pub(crate) fn after(self, text: &[u8], from: usize, to: usize) -> Ahead
+        requires { (from ≤ to) × (to ≤ length text.now) }
+        ensures sound { IsSound text.now result }
+    {
+        let long = if self.next < MOST { self.next } else { MOST };
+        let most = if to - from < long { to } else { from + long };
+        let end = characters_end(text, from, most);
+        Ahead {
+            from,
+            to: end,
+            is_utf8: simdutf8::is_utf8(&text[from..end]),
+            next: long * 2,
+        }
+    }
+
+    /// Whether the stretch has the byte at this place, and ends no later than there.
+    #[inline(always)]
+    pub(crate) fn covers(self, at: usize, to: usize) -> bool
+        ensures { result ≡ (nat_le self.from at && nat_lt at self.to && nat_le self.to to) }
+    {
+        self.from <= at && at < self.to && self.to <= to
+    }
+}
+
+// The end of the characters that are whole before `to`, if these bytes are UTF-8.
+#[inline(always)]
+fn characters_end(text: &[u8], from: usize, to: usize) -> usize
+    requires { (from ≤ to) × (to ≤ length text.now) }
+    ensures { (from ≤ result) × (result ≤ to) }
+{
+    let length = to - from;
+    if length >= 1 && text[to - 1] >= 0xc0 {
+        to - 1
+    } else if length >= 2 && text[to - 2] >= 0xe0 {
+        to - 2
+    } else if length >= 3 && text[to - 3] >= 0xf0 {
+        to - 3
+    } else {
+        to
+    }
+}
