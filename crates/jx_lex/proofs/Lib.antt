@@ -12,6 +12,7 @@ pub mod Forward
 pub mod Going
 pub mod Inside
 pub mod Joined
+pub mod Keeping
 pub mod Lanes
 pub mod LexJoin
 pub mod Many

@@ -14,5 +14,6 @@ pub mod Pruned
 pub mod Shared
 pub mod Step
 pub mod Runs
+pub mod Seen
 pub mod Token
 pub mod View

@@ -14,7 +14,7 @@ use std::alloc::AllocError;
 
 // The end of the blanks that follow. They mostly stand alone, but for those after a line feed.
 #[inline(always)]
-fn gap_end(text: &[u8], byte: u8, from: usize, to: usize) -> usize
+pub(crate) fn gap_end(text: &[u8], byte: u8, from: usize, to: usize) -> usize
     requires { (from ≤ to) × (to ≤ length text.now) }
     ensures bounds { (from ≤ result) × (result ≤ to) }
     ensures kept { AllKeep state.Gap (slice_range text.now from result) }
@@ -46,7 +46,7 @@ fn first_digit(text: &[u8], state: LexState, from: usize, to: usize) -> (LexStat
 
 // The digits that follow.
 #[inline(always)]
-fn more_digits(text: &[u8], state: LexState, from: usize, to: usize) -> usize
+pub(crate) fn more_digits(text: &[u8], state: LexState, from: usize, to: usize) -> usize
     requires { (from ≤ to) × (to ≤ length text.now) }
     ensures bounds { (from ≤ result) × (result ≤ to) }
     ensures led { Leads state (slice_range text.now from result) state }
@@ -155,7 +155,7 @@ fn exponent(text: &[u8], state: LexState, from: usize, to: usize) -> (LexState, 
 
 // What follows of a number.
 #[inline(always)]
-fn number_rest(text: &[u8], state: LexState, from: usize, to: usize) -> (LexState, usize)
+pub(crate) fn number_rest(text: &[u8], state: LexState, from: usize, to: usize) -> (LexState, usize)
     requires { (from ≤ to) × (to ≤ length text.now) }
     ensures bounds { (from ≤ result.1) × (result.1 ≤ to) }
     ensures led { Leads state (slice_range text.now from result.1) result.0 }

@@ -1,0 +1,62 @@
+use Rattle.std.proofs.Common.{arith, refl, sym, ap, ◌∙◌, ◌+◌}
+use Rattle.std.specs.Prelude.{slice_range}
+use Rattle.jx_lex.specs.Lex.{lex, Track}
+use Rattle.jx_lex.specs.Seen.{GoesTo}
+use Rattle.jx_lex.proofs.Keeping.{goes-none, goes-byte, goes-then, sees-then, exit-then, fault-at, sees-same}
+use Rattle.jx_lex.proofs.scanner.scan.Goals as goal
+
+pub loop-i-init : goal.loop-i-init
+loop-i-init g c =
+    let b = c.requires in
+    record { low = omega arith; high = b.0; read = goes-none c.args.text.now c.args.from c.args.state (g.K.Keeper.has_seen c.args.keeper.now) }
+
+pub returns-then-is_done-clause-seen : goal.returns-then-is_done-clause-seen
+returns-then-is_done-clause-seen g c =
+    let v = c.loop-i.invariant in
+    let seen = g.K.Keeper.has_seen c.loop-i.keeper in
+    let rest = lex c.loop-i.state c.loop-i.i (slice_range c.args.text.now c.loop-i.i c.args.to) in
+    sees-then c.args.text.now c.args.from c.loop-i.i c.args.to c.args.state c.loop-i.state (g.K.Keeper.has_seen c.args.keeper.now) seen seen v.low v.high (let fits = c.requires.1 in omega (arith, fits, v.high)) v.read
+    (λ marks ends h. c.if-is_done.ensures refl marks rest.marks ends rest.ends h)
+
+pub returns-in_default-clause-seen : goal.returns-in_default-clause-seen
+returns-in_default-clause-seen g c =
+    let v = c.loop-i.invariant in
+    let xs = c.args.text.now in
+    let i = c.loop-i.i in
+    let fits = c.requires.1 in
+    let mid = g.K.Keeper.has_seen c.loop-i.keeper in
+    let new = g.K.Keeper.has_seen c.take_byte.new.keeper in
+    sees-then xs c.args.from i c.args.to c.args.state c.loop-i.state (g.K.Keeper.has_seen c.args.keeper.now) mid new v.low v.high (omega (arith, fits, v.high)) v.read
+    (sees-same mid new _ _ (fault-at xs i c.args.to c.loop-i.state c.loop-i-test.true fits (sym c.in_ok-next.ensures.next ∙ c.in_default.is)) c.in_ok-next.ensures.seen)
+
+pub returns-in_default-clause-exit : goal.returns-in_default-clause-exit
+returns-in_default-clause-exit g c =
+    let v = c.loop-i.invariant in
+    let xs = c.args.text.now in
+    let i = c.loop-i.i in
+    let fits = c.requires.1 in
+    sym (
+    exit-then xs c.args.from i c.args.to c.args.state c.loop-i.state v.low v.high (omega (arith, fits, v.high)) v.read.exit
+    ∙ ap (λ (t : Track). t.exit) (fault-at xs i c.args.to c.loop-i.state c.loop-i-test.true fits (sym c.in_ok-next.ensures.next ∙ c.in_default.is)))
+
+pub loop-i-preserved : goal.loop-i-preserved
+loop-i-preserved g c =
+    let v = c.loop-i.invariant in
+    let xs = c.args.text.now in
+    let i = c.loop-i.i in
+    let fits = c.requires.1 in
+    let on = c.in_ok-after in
+    let b = on.ensures.bounds in
+    let low = v.low in
+    let first = g.K.Keeper.has_seen c.args.keeper.now in
+    let old = g.K.Keeper.has_seen c.loop-i.keeper in
+    let mid = g.K.Keeper.has_seen c.take_byte.new.keeper in
+    let new = g.K.Keeper.has_seen c.run_on.new.keeper in
+    let byte : GoesTo old mid (lex c.loop-i.state i (slice_range xs i (i + 1))) c.in-Some.next =
+    goes-byte xs i c.loop-i.state c.in-Some.next old mid (omega (arith, fits, c.loop-i-test.true)) c.in_ok-next.ensures.seen (sym c.in_ok-next.ensures.next ∙ c.in-Some.is) in
+    record {
+      low = omega (arith, b, low);
+      high = b.1;
+      read = goes-then xs c.args.from i on.end c.args.state c.loop-i.state on.after first old new low (omega (arith, b)) (omega (arith, fits, v.high)) v.read
+          (goes-then xs i (i + 1) on.end c.loop-i.state c.in-Some.next on.after old mid new (omega arith) b.0 (omega (arith, fits, c.loop-i-test.true)) byte on.ensures.read);
+    }

@@ -1,0 +1,16 @@
+use Rattle.std.proofs.Common.{◌≤◌, ◌-◌}
+use Rattle.std.specs.Prelude.{slice_range}
+use Rattle.jx_lex.specs.Lex.{lex}
+use Rattle.jx_lex.specs.Seen.{GoesTo}
+use Rattle.jx_lex.proofs.scanner.scan.Given as goal
+
+-- the bytes up to here were seen
+abbrev pub invariant-loop-i : goal.invariant-loop-i
+invariant-loop-i g l = record {
+  low : l.from ≤ l.i;
+  high : l.i ≤ l.to;
+  read : GoesTo (g.K.Keeper.has_seen l.initial.keeper) (g.K.Keeper.has_seen l.keeper) (lex l.initial.state l.from (slice_range l.text l.from l.i)) l.state;
+}
+
+abbrev pub decreases-loop-i : goal.decreases-loop-i
+decreases-loop-i g l = l.to - l.i

@@ -1,0 +1,31 @@
+-- What a keeper of tokens has seen, and how it grows.
+use Rattle.std.specs.Prelude.{◌≡◌, ℕ, List, ◌++◌}
+use Rattle.jx_lex.specs.declared.state.LexState.{LexState}
+use Rattle.jx_lex.specs.declared.mark.Mark.{Mark}
+use Rattle.jx_lex.specs.Lex.{Track, state}
+
+-- which marks and ends a keeper may have seen
+abbrev pub Seen : Type 1
+Seen = List Mark → List ℕ → Type 0
+
+-- whatever was seen before, these marks and ends were seen behind it
+abbrev pub Grows : Seen → Seen → List Mark → List ℕ → Type 0
+Grows old new more others = (marks : List Mark) (ends : List ℕ) → old marks ends → new (marks ++ more) (ends ++ others)
+
+-- the marks and ends of a reading
+abbrev pub SeesTrack : Seen → Seen → Track → Type 0
+SeesTrack old new track = Grows old new track.marks track.ends
+
+-- whatever was seen, it is also what that and anything more comes to
+abbrev pub WantsNoMore : Seen → Type 0
+WantsNoMore seen = (marks more : List Mark) (ends others : List ℕ) → seen marks ends → seen (marks ++ more) (ends ++ others)
+
+-- the marks and ends of a reading that led to a state
+pub record GoesTo (old new : Seen) (track : Track) (to : LexState) : Type 0 where
+  pub seen : SeesTrack old new track
+  pub exit : track.exit ≡ state to
+
+-- what a contract sees of the marks and ends of tokens
+pub record TokenLists : Type 0 where
+  pub marks : List Mark
+  pub ends : List ℕ

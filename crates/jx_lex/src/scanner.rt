@@ -1,0 +1,183 @@
+// Reading bytes from a known lexical state, whatever is kept of the tokens.
+ghost use Rattle.std.specs.Prelude.{◌≡◌, ◌≤◌, ◌<◌, ◌+◌, ◌++◌, ◌∷◌, [], ◌^◌, length, OnOk, IfOk, IfSome, IsNone, slice_range, get_or};
+ghost use Rattle.jx_lex.specs.declared.state.LexState.TheVariants as state;
+ghost use Rattle.jx_lex.specs.Cells.{step_of};
+ghost use Rattle.jx_lex.specs.Lex.{lex, with_mark, with_end};
+ghost use Rattle.jx_lex.specs.Moves.{move};
+ghost use Rattle.jx_lex.specs.Seen.{Grows, SeesTrack, WantsNoMore, GoesTo};
+ghost use Rattle.jx_lex.specs.View.{exit_of};
+
+use crate::cell::Cell;
+use crate::class::{Class, class_of};
+use crate::exit::Exit;
+use crate::keeper::Keeper;
+use crate::machine::cell_at;
+use crate::mark::{Mark, MarkKind};
+use crate::parts::string_end;
+use crate::runs::{gap_end, more_digits, number_rest};
+use crate::state::LexState;
+use std::alloc::AllocError;
+
+/// Takes in what one byte does: its mark and its end are seen. Gives the next state, or none at a fault.
+#[inline(always)]
+fn take_in<K: Keeper>(keeper: &mut K, cell: Cell, at: usize) -> Result<Option<LexState>, AllocError>
+    requires { at + 1 < 2 ^ 64 }
+    ensures seen { OnOk result (Grows (K.has_seen keeper.old) (K.has_seen keeper.new) (with_mark ((step_of cell).begin) at []) (with_end ((step_of cell).end) at [])) }
+    ensures next { IfOk result (λ next. next ≡ (step_of cell).next) }
+{
+    match cell {
+        Cell::Go(next) => Ok(Some(next)),
+        Cell::Begin(next, kind) => {
+            keeper.begin(Mark { kind, at })?;
+            Ok(Some(next))
+        }
+        Cell::Close => {
+            keeper.end(at + 1)?;
+            Ok(Some(LexState::Gap))
+        }
+        Cell::End(next) => {
+            keeper.end(at)?;
+            Ok(Some(next))
+        }
+        Cell::EndThenBegin(next, kind) => {
+            keeper.end(at)?;
+            keeper.begin(Mark { kind, at })?;
+            Ok(Some(next))
+        }
+        Cell::Fault => Ok(None),
+        Cell::EndThenFault => {
+            keeper.end(at)?;
+            Ok(None)
+        }
+    }
+}
+
+/// Takes in a token's first byte, and gives the next state.
+#[inline(always)]
+fn begin<K: Keeper>(
+    keeper: &mut K,
+    kind: MarkKind,
+    next: LexState,
+    at: usize,
+) -> Result<LexState, AllocError>
+    ensures seen { OnOk result (Grows (K.has_seen keeper.old) (K.has_seen keeper.new) (record { kind = kind; at = at } ∷ []) []) }
+    ensures next { IfOk result (λ n. n ≡ next) }
+{
+    keeper.begin(Mark { kind, at })?;
+    Ok(next)
+}
+
+/// Takes in what a byte does in a state. Between tokens, where most bytes begin one, a branch for each class of bytes is
+/// faster than the table.
+#[inline(always)]
+fn take_byte<K: Keeper>(
+    keeper: &mut K,
+    state: LexState,
+    byte: u8,
+    at: usize,
+) -> Result<Option<LexState>, AllocError>
+    requires { at + 1 < 2 ^ 64 }
+    ensures seen { OnOk result (Grows (K.has_seen keeper.old) (K.has_seen keeper.new) (with_mark ((move state byte).begin) at []) (with_end ((move state byte).end) at [])) }
+    ensures next { IfOk result (λ next. next ≡ (move state byte).next) }
+{
+    let begun = match (state, class_of(byte)) {
+        (LexState::Gap, Class::Quote) => begin(keeper, MarkKind::String, LexState::Str, at)?,
+        (LexState::Gap, Class::Minus) => begin(keeper, MarkKind::Number, LexState::Minus, at)?,
+        (LexState::Gap, Class::Zero) => begin(keeper, MarkKind::Number, LexState::Zero, at)?,
+        (LexState::Gap, Class::Digit) => begin(keeper, MarkKind::Number, LexState::Int, at)?,
+        (LexState::Gap, Class::LowT) => begin(keeper, MarkKind::True, LexState::T, at)?,
+        (LexState::Gap, Class::LowF) => begin(keeper, MarkKind::False, LexState::F, at)?,
+        (LexState::Gap, Class::LowN) => begin(keeper, MarkKind::Null, LexState::N, at)?,
+        (LexState::Gap, Class::OpenArray) => begin(keeper, MarkKind::OpenArray, LexState::Gap, at)?,
+        (LexState::Gap, Class::CloseArray) => {
+            begin(keeper, MarkKind::CloseArray, LexState::Gap, at)?
+        }
+        (LexState::Gap, Class::OpenObject) => {
+            begin(keeper, MarkKind::OpenObject, LexState::Gap, at)?
+        }
+        (LexState::Gap, Class::CloseObject) => {
+            begin(keeper, MarkKind::CloseObject, LexState::Gap, at)?
+        }
+        (LexState::Gap, Class::Colon) => begin(keeper, MarkKind::Colon, LexState::Gap, at)?,
+        (LexState::Gap, Class::Comma) => begin(keeper, MarkKind::Comma, LexState::Gap, at)?,
+        _ => return take_in(keeper, cell_at(state, byte), at),
+    };
+    Ok(Some(begun))
+}
+
+/// What follows of a string, with the quotation mark that ends it.
+#[inline(always)]
+fn string_rest<K: Keeper>(
+    keeper: &mut K,
+    text: &[u8],
+    from: usize,
+    to: usize,
+) -> Result<(LexState, usize), AllocError>
+    requires { (from ≤ to) × (to ≤ length text.now) }
+    ensures bounds { IfOk result (λ r. (from ≤ r.1) × (r.1 ≤ to)) }
+    ensures read { IfOk result (λ r. GoesTo (K.has_seen keeper.old) (K.has_seen keeper.new) (lex state.Str from (slice_range text.now from r.1)) r.0) }
+{
+    let end = string_end(text, from, to);
+    if end < to && text[end] == b'"' {
+        keeper.end(end + 1)?;
+        return Ok((LexState::Gap, end + 1));
+    }
+    Ok((LexState::Str, end))
+}
+
+/// Goes on from a state, to which this byte led, over what follows of a token or over blanks: gives the state behind it
+/// and its end.
+#[inline(always)]
+fn run_on<K: Keeper>(
+    keeper: &mut K,
+    state: LexState,
+    text: &[u8],
+    byte: u8,
+    from: usize,
+    to: usize,
+) -> Result<(LexState, usize), AllocError>
+    requires { (from ≤ to) × (to ≤ length text.now) }
+    ensures bounds { IfOk result (λ r. (from ≤ r.1) × (r.1 ≤ to)) }
+    ensures read { IfOk result (λ r. GoesTo (K.has_seen keeper.old) (K.has_seen keeper.new) (lex state from (slice_range text.now from r.1)) r.0) }
+{
+    match state {
+        LexState::Str => string_rest(keeper, text, from, to),
+        LexState::Gap => Ok((LexState::Gap, gap_end(text, byte, from, to))),
+        LexState::Minus | LexState::Zero | LexState::Int => Ok(number_rest(text, state, from, to)),
+        _ => Ok((state, more_digits(text, state, from, to))),
+    }
+}
+
+/// Reads the bytes of a text from one offset to another, from a known lexical state, into a keeper. What the keeper has
+/// seen grows by the marks and ends of that reading, with their offsets in the text.
+///
+/// Gives where the reading ends, or none where the keeper wanted no more before: the rest was not looked at then, and
+/// what the keeper has seen stands for it too. Where memory is refused, the keeper is of no more use.
+pub fn scan<K: Keeper>(
+    keeper: &mut K,
+    state: LexState,
+    text: &[u8],
+    from: usize,
+    to: usize,
+) -> Result<Option<Exit>, AllocError>
+    requires { (from ≤ to) × (to ≤ length text.now) }
+    ensures seen { OnOk result (SeesTrack (K.has_seen keeper.old) (K.has_seen keeper.new) (lex state from (slice_range text.now from to))) }
+    ensures exit { IfOk result (λ exit. IfSome exit (λ e. exit_of e ≡ (lex state from (slice_range text.now from to)).exit)) }
+    ensures done { IfOk result (λ exit. IsNone exit → WantsNoMore (K.has_seen keeper.new)) }
+{
+    let mut state = state;
+    let mut i = from;
+    while i < to {
+        if keeper.is_done() {
+            return Ok(None);
+        }
+        let byte = text[i];
+        let Some(next) = take_byte(keeper, state, byte, i)? else {
+            return Ok(Some(Exit::Fault(i)));
+        };
+        let (after, end) = run_on(keeper, next, text, byte, i + 1, to)?;
+        state = after;
+        i = end;
+    }
+    Ok(Some(Exit::State(state)))
+}
