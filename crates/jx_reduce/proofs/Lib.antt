@@ -12,3 +12,5 @@ pub mod Extended
 mod Inside
 pub mod Spans
 pub mod Cuts
+mod KnownWords
+mod KnownMoves

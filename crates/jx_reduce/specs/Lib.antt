@@ -13,3 +13,7 @@ pub mod Follow
 pub mod View
 pub mod Outcome
 pub mod Whole
+pub mod Bits
+pub mod OpenContainers
+pub mod KnownStack
+pub mod KnownInside

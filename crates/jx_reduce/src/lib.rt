@@ -6,9 +6,13 @@ mod ended_level;
 mod entry;
 mod expect;
 mod holder;
+mod known_stack;
+#[cfg(test)]
+mod known_tests;
 mod level;
 mod levels;
 mod moves;
+mod open_containers;
 mod outcome;
 mod part;
 mod reduced;
@@ -19,6 +23,7 @@ mod whole;
 
 pub use expect::Expect;
 pub use holder::Holder;
+pub use known_stack::KnownStack;
 pub use level::Level;
 pub use moves::next;
 pub use outcome::Outcome;

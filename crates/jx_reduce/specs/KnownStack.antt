@@ -1,0 +1,28 @@
+-- What a known stack shows: the depth, and the plain reading of the marks that it was given.
+use Rattle.std.specs.Prelude.{◌≡◌, ℕ, ◌≤◌, List, [], length, take}
+use Rattle.jx_reduce.specs.Read.{Reading, went, stopped, too_deep, read}
+use Rattle.jx_reduce.specs.declared.expect.Expect.TheVariants.{Value}
+use Rattle.jx_lex.specs.declared.mark.Mark.{Mark}
+
+pub record Known : Type 0 where
+  pub depth : ℕ
+  pub reading : Reading
+
+-- where a text starts, a value is expected and nothing is open
+abbrev pub start : Reading
+start = went Value []
+
+-- these are the marks that it was given since the start
+abbrev pub HasRead : List Mark → Known → Type 0
+HasRead marks k = k.reading ≡ read k.depth marks start
+
+abbrev pub IsFault : Reading → Type 0
+IsFault (went e s) = ⊥
+IsFault (stopped at) = Unit {0}
+IsFault (too_deep at) = Unit {0}
+
+-- the reading went on over a beginning of these marks
+pub record IsPartRead (old new : Known) (marks : List Mark) : Type 0 where
+  pub count : ℕ
+  pub within : count ≤ length marks
+  pub reading : new.reading ≡ read old.depth (take count marks) old.reading

@@ -1,0 +1,194 @@
+// The moves over marks from the start of a text.
+
+ghost use Rattle.std.specs.Prelude.{◌≡◌, ◌↔◌, ◌++◌, List, [], ◌∷◌, IsTrue, OnOk, OnErr};
+ghost use Rattle.jx_reduce.specs.Table.{added};
+ghost use Rattle.jx_reduce.specs.Read.{changed, then_by, step, read};
+ghost use Rattle.jx_reduce.specs.Whole.{whole_of};
+ghost use Rattle.jx_reduce.specs.KnownStack.{start, HasRead, IsFault, IsPartRead};
+ghost use Rattle.jx_lex.specs.declared.mark.Mark.{Mark};
+
+use crate::expect::Expect;
+use crate::holder::Holder;
+use crate::moves::next;
+use crate::open_containers::OpenContainers;
+use crate::whole::Whole;
+use jx_lex::{Depth, Mark, MarkKind};
+use std::alloc::{AllocError, Global};
+use std::marker::Model;
+
+#[derive(Clone, Copy)]
+enum Fault {
+    Stopped(usize),
+    TooDeep(usize),
+}
+
+/// What marks come to from the start of a text, where a value is expected and nothing is open: the moves at each of them
+/// over the containers that are open (RFC 8259, sections 2 to 5). Up to 64 open containers take no memory.
+#[derive(Drop)]
+pub struct KnownStack {
+    depth: Depth,
+    expect: Expect,
+    open: OpenContainers,
+    fault: Option<Fault>,
+}
+
+impl Model for KnownStack {
+    ghost use Rattle.jx_reduce.specs.KnownStack.{Known};
+
+    ghost Value = { Known };
+
+    ghost use Rattle.jx_reduce.specs.KnownInside.{known_of, IsLawful};
+
+    ghost view = { known_of };
+
+    ghost invariant = { IsLawful };
+}
+
+impl KnownStack {
+    ghost use Rattle.jx_reduce.specs.KnownInside.{fault_reading};
+
+    /// At the start of a text. It takes no memory.
+    pub fn new(alloc: Global, depth: Depth) -> KnownStack
+        ensures depth { result.depth ≡ depth }
+        ensures reads { HasRead [] result }
+    {
+        KnownStack {
+            depth,
+            expect: Expect::Value,
+            open: OpenContainers::new(alloc),
+            fault: None,
+        }
+    }
+
+    /// How many containers may stand open at once.
+    pub fn depth(&self) -> Depth
+        ensures { result ≡ self.now.depth }
+    {
+        self.depth
+    }
+
+    /// Whether a fault was met. Behind it no mark changes anything.
+    #[inline(always)]
+    pub fn is_done(&self) -> bool
+        ensures { IsTrue result ↔ IsFault self.now.reading }
+    {
+        self.fault.is_some()
+    }
+
+    /// What the marks have come to.
+    pub fn whole(&self) -> Whole
+        ensures { result ≡ whole_of self.now.reading }
+    {
+        match self.fault {
+            Some(Fault::Stopped(at)) => Whole::Stopped(at),
+            Some(Fault::TooDeep(at)) => Whole::TooDeep(at),
+            None => {
+                // Shows the proof that the number of open containers is within the depth.
+                let _ = self.depth.containers();
+                Whole::Went {
+                    expect: self.expect,
+                    open: self.open.len(),
+                }
+            }
+        }
+    }
+
+    /// At the start of a text again. The memory stays, and a fault that was met is forgotten.
+    pub fn reset(&mut self)
+        ensures depth { self.new.depth ≡ self.old.depth }
+        ensures reads { HasRead [] self.new }
+    {
+        self.expect = Expect::Value;
+        self.open.clear();
+        self.fault = None;
+    }
+
+    /// The first fault is kept.
+    #[cold]
+    fn halt(&mut self, fault: Fault)
+        ensures depth { self.new.depth ≡ self.old.depth }
+        ensures reads { self.new.reading ≡ then_by (λ _ _. fault_reading fault) self.old.reading }
+    {
+        if self.fault.is_none() {
+            self.expect = Expect::After;
+            self.open.clear();
+            self.fault = Some(fault);
+        }
+    }
+
+    /// A container more is open, within the depth.
+    #[inline(always)]
+    fn enter(&mut self, holder: Holder, expect: Expect, at: usize) -> Result<(), AllocError>
+        requires holder { holder ≡ Holder.Bottom → ⊥ }
+        requires going { IsFault self.old.reading → ⊥ }
+        ensures depth { self.new.depth ≡ self.old.depth }
+        ensures ok { OnOk result (self.new.reading ≡ then_by (λ _ s. changed self.old.depth at (added holder) expect s) self.old.reading) }
+        ensures err { OnErr result (self.new ≡ self.old) }
+    {
+        if self.open.len() < self.depth.containers() as usize {
+            self.open.push(holder)?;
+            self.expect = expect;
+        } else {
+            self.halt(Fault::TooDeep(at));
+        }
+        Ok(())
+    }
+
+    /// The move at one mark.
+    #[inline(always)]
+    fn step(&mut self, mark: Mark) -> Result<(), AllocError>
+        ensures depth { self.new.depth ≡ self.old.depth }
+        ensures reads { OnOk result (self.new.reading ≡ step self.old.depth mark self.old.reading) }
+        ensures err { OnErr result (self.new ≡ self.old) }
+    {
+        let Some(expect) = next(mark.kind, self.expect, self.open.top()) else {
+            self.halt(Fault::Stopped(mark.at));
+            return Ok(());
+        };
+        match mark.kind {
+            MarkKind::OpenArray => return self.enter(Holder::Array, expect, mark.at),
+            MarkKind::OpenObject => return self.enter(Holder::Object, expect, mark.at),
+            MarkKind::CloseArray | MarkKind::CloseObject => self.open.pop(),
+            _ => {}
+        }
+        self.expect = expect;
+        Ok(())
+    }
+
+    /// One more mark. Only want of memory is refused, where one container more takes a word more, and then nothing changes.
+    #[inline(always)]
+    pub fn push(&mut self, mark: Mark) -> Result<(), AllocError>
+        ensures depth { self.new.depth ≡ self.old.depth }
+        ensures reads { OnOk result (self.new.reading ≡ step self.old.depth mark self.old.reading) }
+        ensures marks { OnOk result ((before : List Mark) → HasRead before self.old → HasRead (before ++ mark ∷ []) self.new) }
+        ensures err { OnErr result (self.new ≡ self.old) }
+    {
+        self.step(mark)?;
+        Ok(())
+    }
+
+    fn run(&mut self, marks: &[Mark]) -> Result<(), AllocError>
+        ensures depth { self.new.depth ≡ self.old.depth }
+        ensures reads { OnOk result (self.new.reading ≡ read self.old.depth marks.now self.old.reading) }
+        ensures err { OnErr result (IsPartRead self.old self.new marks.now) }
+    {
+        for mark in marks {
+            if self.is_done() {
+                break;
+            }
+            self.step(*mark)?;
+        }
+        Ok(())
+    }
+
+    /// One mark after another. Only want of memory is refused, as for one mark: the marks before that one were taken.
+    pub fn push_all(&mut self, marks: &[Mark]) -> Result<(), AllocError>
+        ensures depth { self.new.depth ≡ self.old.depth }
+        ensures reads { OnOk result (self.new.reading ≡ read self.old.depth marks.now self.old.reading) }
+        ensures marks { OnOk result ((before : List Mark) → HasRead before self.old → HasRead (before ++ marks.now) self.new) }
+        ensures err { OnErr result (IsPartRead self.old self.new marks.now) }
+    {
+        self.run(marks)?;
+        Ok(())
+    }
+}

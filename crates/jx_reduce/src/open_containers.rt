@@ -1,0 +1,147 @@
+// Open containers, one bit each.
+
+ghost use Rattle.std.specs.Prelude.{◌≡◌, ◌<◌, ◌^◌, ◌++◌, List, [], ◌∷◌, OnOk, OnErr, length};
+ghost use Rattle.jx_reduce.specs.Read.{top, without_top};
+ghost use Rattle.jx_reduce.specs.Bits.{holder_of};
+
+use crate::holder::Holder;
+use std::alloc::{AllocError, Global};
+use std::marker::Model;
+
+/// How many containers one word holds.
+const WORD: usize = 64;
+
+/// The open containers, innermost first: an array is a bit 0, an object a bit 1. The first 64 take no memory.
+#[derive(Drop)]
+pub(crate) struct OpenContainers {
+    /// The innermost containers, the innermost lowest.
+    bits: u64,
+    /// How many containers `bits` holds.
+    count: usize,
+    /// The full words around it, the outermost first.
+    words: Vec<u64>,
+}
+
+impl Model for OpenContainers {
+    ghost use Rattle.std.specs.Prelude.{List};
+    ghost use Rattle.jx_reduce.specs.declared.holder.Holder.{Holder};
+
+    ghost Value = { List Holder };
+
+    ghost use Rattle.jx_reduce.specs.OpenContainers.{holders_in, IsPacked};
+
+    ghost view = { holders_in };
+
+    ghost invariant = { IsPacked };
+}
+
+/// The bit of a container.
+#[inline(always)]
+fn bit_of(holder: Holder) -> u64
+    requires { holder ≡ Holder.Bottom → ⊥ }
+    ensures within { result < 2 }
+    ensures holder { holder_of result ≡ holder }
+{
+    match holder {
+        Holder::Array => 0,
+        Holder::Object => 1,
+        Holder::Bottom => unreachable!(),
+    }
+}
+
+/// A full word more.
+#[cold]
+fn spill(words: &mut Vec<u64>, word: u64) -> Result<(), AllocError>
+    ensures ok { OnOk result (words.new.items ≡ words.old.items ++ word ∷ []) }
+    ensures err { OnErr result (words.new.items ≡ words.old.items) }
+{
+    words.push(word)?;
+    Ok(())
+}
+
+impl OpenContainers {
+    /// Nothing is open. It takes no memory.
+    pub fn new(alloc: Global) -> OpenContainers
+        ensures { result ≡ [] }
+    {
+        OpenContainers {
+            bits: 0,
+            count: 0,
+            words: Vec::new(alloc),
+        }
+    }
+
+    /// The innermost container.
+    #[inline(always)]
+    pub fn top(&self) -> Holder
+        ensures { result ≡ top self.now }
+    {
+        if self.count == 0 {
+            Holder::Bottom
+        } else if self.bits % 2 == 0 {
+            Holder::Array
+        } else {
+            Holder::Object
+        }
+    }
+
+    /// How many containers are open.
+    #[inline(always)]
+    pub fn len(&self) -> usize
+        requires { length self.now < 2 ^ 32 }
+        ensures { result ≡ length self.now }
+    {
+        self.words.len() * WORD + self.count
+    }
+
+    /// A container more is open. Where memory is refused nothing changes.
+    #[inline(always)]
+    pub fn push(&mut self, holder: Holder) -> Result<(), AllocError>
+        requires { holder ≡ Holder.Bottom → ⊥ }
+        ensures ok { OnOk result (self.new ≡ holder ∷ self.old) }
+        ensures err { OnErr result (self.new ≡ self.old) }
+    {
+        let bit = bit_of(holder);
+        if self.count < WORD {
+            self.bits = self.bits * 2 + bit;
+            self.count += 1;
+            Ok(())
+        } else {
+            spill(&mut self.words, self.bits)?;
+            self.bits = bit;
+            self.count = 1;
+            Ok(())
+        }
+    }
+
+    /// The innermost container is closed.
+    #[inline(always)]
+    pub fn pop(&mut self)
+        ensures { self.new ≡ without_top self.old }
+    {
+        if self.count > 1 {
+            self.bits /= 2;
+            self.count -= 1;
+        } else {
+            match self.words.pop() {
+                Some(word) => {
+                    self.bits = word;
+                    self.count = WORD;
+                }
+                None => {
+                    self.bits = 0;
+                    self.count = 0;
+                }
+            }
+        }
+    }
+
+    /// Nothing is open any more. The memory stays.
+    pub fn clear(&mut self)
+        ensures { self.new ≡ [] }
+    {
+        self.bits = 0;
+        self.count = 0;
+        self.words.clear();
+    }
+}
