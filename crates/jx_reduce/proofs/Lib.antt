@@ -9,7 +9,9 @@ pub mod Sound
 pub mod Acting
 pub mod Runs
 pub mod Extended
-mod Inside
+mod HolderSets
+mod QuietMarks
+mod Exits
 pub mod Spans
 pub mod Cuts
 mod KnownWords

@@ -1,5 +1,7 @@
 -- The reduced form of a list of marks answers what reading them answers.
-use Rattle.std.proofs.Common.{◌≡◌, ℕ, ◌+◌, ◌-◌, ◌<◌, ◌≤◌, List, [], ◌∷◌, ◌++◌, length, refl, sym, ◌∙◌, ap, subst, arith, Option, Some, None, false}
+use Rattle.std.proofs.Common.{◌≡◌, ℕ, ◌+◌, ◌-◌, ◌<◌, ◌≤◌, List, [], ◌∷◌, ◌++◌, length, take, drop, get_or, refl, sym, ◌∙◌, ap, subst, arith, Option, Some, None, false}
+use Rattle.std.proofs.Math.Seq.{take-add}
+use Rattle.std.proofs.lemmas.List.{take_more, take_rest, take-append-drop}
 use Rattle.std.specs.Prelude.{slice_get, is_some}
 use Rattle.jx_reduce.specs.Entries.{expect_at}
 use Rattle.jx_reduce.specs.Table.{next_of, change_of, Change, same, added, removed}
@@ -157,6 +159,11 @@ read_then d ms (went e s) = refl
 read_then d ms (stopped at) = read_halted d ms at
 read_then d ms (too_deep at) = read_deep d ms at
 
+-- the form of two lists of marks
+pub of_marks-append : (d : ℕ) (r : Form) (ms ns : List Mark) → of_marks d r (ms ++ ns) ≡ of_marks d (of_marks d r ms) ns
+of_marks-append d r [] ns = refl
+of_marks-append d r (m ∷ ms) ns = of_marks-append d (pushed d r m) ms ns
+
 -- nothing follows a form with no exit
 of_marks_with : (d : ℕ) (r : Form) (ms : List Mark) (x : Option Entry) → r.exit ≡ x → x ≡ None → of_marks d r ms ≡ r
 of_marks_with d r [] x e n = refl
@@ -168,3 +175,22 @@ of_marks_over d r ms e = of_marks_with d r ms r.exit refl e
 pub none_of : {X : Type 0} (x : Option X) → is_some x ≡ false → x ≡ None
 none_of None e = refl
 none_of (Some y) e = cc
+
+-- the forms of the marks so far, at a loop that reads some more or one more
+pub of_more : (d : ℕ) (r : Form) (ms : List Mark) (i n : ℕ) (f g : Form) → f ≡ of_marks d r (take i ms)
+    → g ≡ of_marks d f (take n (take (length ms - i) (drop i ms))) → g ≡ of_marks d r (take (i + n) ms)
+of_more d r ms i n f g a b =
+    b ∙ ap (λ xs. of_marks d f (take n xs)) (take_rest ms i) ∙ ap (λ f. of_marks d f (take n (drop i ms))) a
+    ∙ sym (of_marks-append d r (take i ms) (take n (drop i ms))) ∙ ap (of_marks d r) (sym (take-add i n ms))
+
+pub of_one_more : (d : ℕ) (r : Form) (ms : List Mark) (i : ℕ) (none : Mark) → i < length ms → (f g : Form) → f ≡ of_marks d r (take i ms)
+    → g ≡ pushed d f (get_or ms i none) → g ≡ of_marks d r (take (i + 1) ms)
+of_one_more d r ms i none within f g a b =
+    b ∙ ap (λ f. pushed d f (get_or ms i none)) a
+    ∙ sym (of_marks-append d r (take i ms) (get_or ms i none ∷ [])) ∙ ap (of_marks d r) (sym (take_more ms i none within))
+
+-- and at one that stops where nothing goes on
+pub of_no_more : (d : ℕ) (r : Form) (ms : List Mark) (i : ℕ) (f : Form) → f ≡ of_marks d r (take i ms) → f.exit ≡ None → f ≡ of_marks d r ms
+of_no_more d r ms i f a e =
+    sym (of_marks_over d f (drop i ms) e) ∙ ap (λ f. of_marks d f (drop i ms)) a
+    ∙ sym (of_marks-append d r (take i ms) (drop i ms)) ∙ ap (of_marks d r) (take-append-drop i ms)

@@ -1,13 +1,9 @@
 -- The reduced form that a value of the program is.
 use Rattle.std.specs.Prelude.{ℕ, List, [], ◌∷◌, Option, Some, None, reverse}
-use Rattle.std.specs.Prelude.{◌≡◌, ◌≤◌, ◌<◌, ◌+◌, length, vec_len, vec_capacity, false}
-use Rattle.jx_reduce.specs.Entries.{expect_at}
+use Rattle.std.specs.Prelude.{◌≡◌, ◌≤◌, ◌+◌, length, vec_len, vec_capacity}
 use Rattle.jx_reduce.specs.Form.{Form}
-use Rattle.jx_reduce.specs.Table.{next_of, change_of, Change, added}
-use Rattle.jx_reduce.specs.Join.{all_faulted, cut, absorbed, tail_of, base_at}
-use Rattle.jx_lex.specs.declared.mark.MarkKind.{MarkKind}
+use Rattle.jx_reduce.specs.Join.{cut, absorbed, tail_of, base_at}
 use Rattle.jx_reduce.specs.declared.entry.Entry.{Entry}
-use Rattle.jx_reduce.specs.declared.expect.Expect.{Expect}
 use Rattle.jx_reduce.specs.declared.holder.Holder.{Holder}
 use Rattle.jx_reduce.specs.declared.levels.Levels.{Levels}
 use Rattle.jx_reduce.specs.declared.part.Part.{Part}
@@ -45,21 +41,6 @@ pub record HasRoomOf (l : Levels) (r : Form) : Type 0 where
   pub ended : vec_len l.ended + length r.ended ≤ vec_capacity l.ended
   pub opens : vec_len l.opens + length r.opens ≤ vec_capacity l.opens
   pub heights : vec_len l.heights + length r.heights ≤ vec_capacity l.heights
-
--- a container that is opened is neither too deep nor deeper than any before it
-abbrev pub ReachesNoHeight : ℕ → Form → Change → Type 0
-ReachesNoHeight depth r (added h) = (length r.opens < depth) × (length r.opens < length r.ended + length r.heights)
-ReachesNoHeight depth r _ = Unit {0}
-
--- a mark of this kind stands in a container that was opened here, is no fault there, and reaches no new height
-pub record IsInside (depth : ℕ) (r : Form) (x : Entry) (kind : MarkKind) : Type 0 where
-  pub holder : Holder
-  pub around : List Holder
-  pub next : Expect
-  pub opens : r.opens ≡ holder ∷ around
-  pub allowed : next_of kind (expect_at x holder) holder ≡ Some next
-  pub low : ReachesNoHeight depth r (change_of kind)
-  pub goes_on : all_faulted r.last ≡ false
 
 -- a form with these open containers and this exit
 abbrev pub with_opens : Form → List Holder → Entry → Form

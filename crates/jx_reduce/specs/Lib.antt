@@ -7,6 +7,7 @@ pub mod Marks
 pub mod Fits
 pub mod Offsets
 pub mod Levels
+pub mod Quiet
 pub mod Reduced
 pub mod Reductions
 pub mod Follow

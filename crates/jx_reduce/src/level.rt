@@ -1,9 +1,11 @@
 ghost use Rattle.std.specs.Prelude.{◌≡◌};
 ghost use Rattle.jx_reduce.specs.Form.{fault_of};
 ghost use Rattle.jx_reduce.specs.Join.{all_faulted, merged, filled, closed, first_of};
+ghost use Rattle.jx_reduce.specs.Quiet.{unfaulted};
 
 use crate::ended_level::EndedLevel;
 use crate::holder::Holder;
+use crate::quiet::{ARRAY, BOTTOM, OBJECT};
 
 /// The marks that stand directly in one container which was open at entry, or in none: the offset of the first fault,
 /// if there is one, for each holder that the container may be.
@@ -37,6 +39,16 @@ impl Level {
         ensures { result ≡ all_faulted self }
     {
         self.array.is_some() && self.object.is_some() && self.bottom.is_some()
+    }
+
+    /// The holders that have not faulted.
+    pub(crate) fn unfaulted(self) -> u8
+        ensures { result ≡ unfaulted self }
+    {
+        let array = if self.array.is_none() { ARRAY } else { 0 };
+        let object = if self.object.is_none() { OBJECT } else { 0 };
+        let bottom = if self.bottom.is_none() { BOTTOM } else { 0 };
+        array + object + bottom
     }
 
     /// These faults, and where there are none those.

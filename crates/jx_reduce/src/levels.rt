@@ -1,18 +1,19 @@
 // Levels that are not known to begin in any container.
 
-ghost use Rattle.std.specs.Prelude.{◌≡◌, ◌≤◌, ◌<◌, ◌+◌, ◌^◌, OnOk, IfOk, IsOk, length, reverse, ◌∷◌, true, Some, vec_len, vec_capacity};
+ghost use Rattle.std.specs.Prelude.{◌≡◌, ◌≤◌, ◌<◌, ◌+◌, ◌^◌, OnOk, IfOk, IsOk, length, reverse, take, vec_len, vec_capacity};
 ghost use Rattle.jx_reduce.specs.Join.{halted, joined, joined_heights};
 ghost use Rattle.jx_reduce.specs.Marks.{pushed, of_change, of_marks, of_nothing};
-ghost use Rattle.jx_reduce.specs.Table.{change_of, same, added, removed};
+ghost use Rattle.jx_reduce.specs.Table.{same, added, removed};
 ghost use Rattle.jx_reduce.specs.Fits.{Fits};
-ghost use Rattle.jx_reduce.specs.Levels.{form_of, part_form, head_of, taken_in, ended_in, IsSameBut, HasRoom, IsInside, ReachesNoHeight, with_opens};
+ghost use Rattle.jx_reduce.specs.Quiet.{GoesOn};
+ghost use Rattle.jx_reduce.specs.Levels.{form_of, part_form, head_of, taken_in, ended_in, IsSameBut, HasRoom};
 
 use crate::ended_level::EndedLevel;
 use crate::entry::Entry;
 use crate::holder::Holder;
 use crate::level::Level;
-use crate::moves::next;
 use crate::part::Part;
+use crate::quiet;
 use jx_lex::{Mark, MarkKind};
 use std::alloc::{AllocError, Global};
 
@@ -211,9 +212,6 @@ impl Levels {
         let Some(entry) = self.exit else {
             return Ok(());
         };
-        if self.is_inside(depth, entry, mark.kind) {
-            return self.step_inside(depth, entry, mark);
-        }
         match mark.kind {
             MarkKind::OpenArray => self.open(depth, entry, mark, Holder::Array),
             MarkKind::OpenObject => self.open(depth, entry, mark, Holder::Object),
@@ -222,71 +220,22 @@ impl Levels {
         }
     }
 
-    /// Whether a mark of this kind opens no container, or one that is neither too deep nor deeper than any before it.
-    #[inline(always)]
-    fn is_low(&self, depth: usize, kind: MarkKind) -> bool
+    /// Takes in the marks in front that change at most the open containers and the exit, and answers how many they are.
+    fn run(&mut self, depth: usize, marks: &[Mark]) -> usize
         requires depth { depth < 2 ^ 32 }
-        requires fits { Fits depth (form_of self.now) }
-        ensures low { result ≡ true → ReachesNoHeight depth (form_of self.now) (change_of kind) }
-    {
-        match kind {
-            MarkKind::OpenArray | MarkKind::OpenObject => {
-                let count = self.opens.len();
-                count < depth && count < self.ended.len() + self.heights.len()
-            }
-            _ => true,
-        }
-    }
-
-    /// Whether a mark stands in a container that was opened here, is no fault there, and reaches no new height. Most
-    /// marks do.
-    #[inline(always)]
-    fn is_inside(&self, depth: usize, entry: Entry, kind: MarkKind) -> bool
-        requires depth { depth < 2 ^ 32 }
-        requires fits { Fits depth (form_of self.now) }
-        ensures inside { result ≡ true → IsInside depth (form_of self.now) entry kind }
-    {
-        if self.last.is_all() || !self.is_low(depth, kind) {
-            return false;
-        }
-        match innermost(&self.opens) {
-            Some(top) => next(kind, entry.at(top), top).is_some(),
-            None => false,
-        }
-    }
-
-    /// A container more is open.
-    #[inline(always)]
-    fn enter(&mut self, holder: Holder, exit: Entry) -> Result<(), AllocError>
-        ensures ok { OnOk result (form_of self.new ≡ with_opens (form_of self.old) (holder ∷ (form_of self.old).opens) exit) }
-    {
-        self.opens.push(holder)?;
-        self.exit = Some(exit);
-        Ok(())
-    }
-
-    /// Goes on with such a mark, which changes no level and no height.
-    #[inline(always)]
-    fn step_inside(&mut self, depth: usize, entry: Entry, mark: Mark) -> Result<(), AllocError>
-        requires exit { self.old.exit ≡ Some entry }
-        requires inside { IsInside depth (form_of self.old) entry mark.kind }
         requires fits { Fits depth (form_of self.old) }
-        ensures ok { OnOk result (form_of self.new ≡ pushed depth (form_of self.old) mark) }
+        requires goes_on { GoesOn (form_of self.old) }
+        ensures within { result ≤ length marks.now }
+        ensures form { form_of self.new ≡ of_marks depth (form_of self.old) (take result marks.now) }
     {
-        let exit = entry.leads_to(mark.kind);
-        match mark.kind {
-            MarkKind::OpenArray => self.enter(Holder::Array, exit),
-            MarkKind::OpenObject => self.enter(Holder::Object, exit),
-            MarkKind::CloseArray | MarkKind::CloseObject => {
-                let _ = self.opens.pop();
-                self.exit = Some(exit);
-                Ok(())
-            }
-            _ => {
-                self.exit = Some(exit);
-                Ok(())
-            }
-        }
+        let Some(entry) = self.exit else {
+            return 0;
+        };
+        let limit = depth.min(self.ended.len() + self.heights.len());
+        let base = self.last.unfaulted();
+        let (taken, exit) = quiet::run(&mut self.opens, limit, base, entry, marks);
+        self.exit = Some(exit);
+        taken
     }
 
     /// The form of no marks.
@@ -314,11 +263,13 @@ impl Levels {
         ensures fits { IfOk result (λ r. Fits depth (form_of r)) }
     {
         let mut levels = Levels::new(alloc, entry);
-        for mark in marks {
-            if levels.exit.is_none() {
-                break;
+        let mut done = 0;
+        while done < marks.len() && levels.exit.is_some() {
+            done += levels.run(depth, &marks[done..]);
+            if done < marks.len() {
+                levels.push(depth, marks[done])?;
+                done += 1;
             }
-            levels.push(depth, *mark)?;
         }
         Ok(levels)
     }

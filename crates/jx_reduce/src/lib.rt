@@ -15,6 +15,7 @@ mod moves;
 mod open_containers;
 mod outcome;
 mod part;
+mod quiet;
 mod reduced;
 mod reductions;
 #[cfg(test)]

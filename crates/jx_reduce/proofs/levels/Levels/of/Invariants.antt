@@ -1,13 +1,15 @@
-use Rattle.std.proofs.Common.{◌≡◌, drop}
+use Rattle.std.proofs.Common.{◌≡◌, ◌≤◌, ◌-◌, length, take}
 use Rattle.jx_reduce.specs.Marks.{of_marks, of_nothing}
-use Rattle.jx_reduce.specs.Fits.{Fits}
 use Rattle.jx_reduce.specs.Levels.{form_of}
 use Rattle.jx_reduce.proofs.levels.Levels.of.Given as goal
 
--- what is left of the marks leads where all of them led
-abbrev pub invariant-loop-mark : goal.invariant-loop-mark
-invariant-loop-mark l =
+-- the marks so far lead to the form
+abbrev pub invariant-loop-done : goal.invariant-loop-done
+invariant-loop-done l =
     record {
-      same : of_marks l.depth (form_of l.levels) (drop l.mark-index l.marks) ≡ of_marks l.depth (of_nothing l.fn.entry) l.marks;
-      fits : Fits l.depth (form_of l.levels);
+      within : l.done ≤ length l.marks;
+      same : form_of l.levels ≡ of_marks l.depth (of_nothing l.fn.entry) (take l.done l.marks);
     }
+
+abbrev pub decreases-loop-done : goal.decreases-loop-done
+decreases-loop-done l = length l.marks - l.done
