@@ -116,12 +116,12 @@ EachIn-append : {X : Type 0} (Q : X → Type 0) (xs ys : List X) → EachIn Q xs
 EachIn-append Q [] ys a b = b
 EachIn-append Q (x ∷ xs) ys a b = (a.0, EachIn-append Q xs ys a.1 b)
 
-EachIn-take : {X : Type 0} (Q : X → Type 0) (n : ℕ) (xs : List X) → EachIn Q xs → EachIn Q (take n xs)
+pub EachIn-take : {X : Type 0} (Q : X → Type 0) (n : ℕ) (xs : List X) → EachIn Q xs → EachIn Q (take n xs)
 EachIn-take Q zero xs a = tt
 EachIn-take Q (suc n) [] a = tt
 EachIn-take Q (suc n) (x ∷ xs) a = (a.0, EachIn-take Q n xs a.1)
 
-EachIn-drop : {X : Type 0} (Q : X → Type 0) (n : ℕ) (xs : List X) → EachIn Q xs → EachIn Q (drop n xs)
+pub EachIn-drop : {X : Type 0} (Q : X → Type 0) (n : ℕ) (xs : List X) → EachIn Q xs → EachIn Q (drop n xs)
 EachIn-drop Q zero xs a = a
 EachIn-drop Q (suc n) [] a = tt
 EachIn-drop Q (suc n) (x ∷ xs) a = EachIn-drop Q n xs a.1

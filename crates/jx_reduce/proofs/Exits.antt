@@ -1,7 +1,7 @@
 -- Where forms lead that something is joined to.
 use Rattle.std.proofs.Common.{◌≡◌, ℕ, List, [], ◌∷◌, refl, Option, Some, None, Bool, true, false, if◌then◌else◌, ◌||◌}
 use Rattle.jx_reduce.specs.Form.{Form}
-use Rattle.jx_reduce.specs.Join.{all_faulted, over, cut_short, cut, joined}
+use Rattle.jx_reduce.specs.Join.{all_faulted, over, cut_short, joined}
 use Rattle.jx_reduce.specs.Marks.{of_mark, of_nothing, pushed, pushed_from, of_marks}
 use Rattle.jx_reduce.specs.Quiet.{GoesOn}
 use Rattle.jx_reduce.specs.declared.entry.Entry.{Entry}

@@ -1,15 +1,15 @@
 -- A mark that is no fault of any holder standing, ends no level and reaches no new height changes only the open containers and the exit.
-use Rattle.std.proofs.Common.{◌≡◌, ℕ, ◌+◌, ◌-◌, ◌<◌, ◌≤◌, List, [], ◌∷◌, ◌++◌, length, take, drop, get_or, refl, sym, ap, subst, ◌∙◌, arith, Option, Some, None, true, false, is_some, if◌then◌else◌, ◌||◌, append-nil, inl, inr}
+use Rattle.std.proofs.Common.{◌≡◌, ℕ, ◌+◌, ◌-◌, ◌<◌, ◌≤◌, List, [], ◌∷◌, ◌++◌, length, take, get_or, refl, sym, ap, subst, ◌∙◌, arith, Option, Some, None, false, is_some, if◌then◌else◌, ◌||◌, append-nil, inl, inr}
 use Rattle.std.specs.Prelude.{◌⊎◌}
 use Rattle.std.proofs.lemmas.Bool.{le-ltb}
 use Rattle.std.proofs.lemmas.List.{take_all, drop_all}
 use Rattle.std.specs.Int.Bits.{bit_and}
 use Rattle.jx_reduce.specs.Entries.{leads_to}
 use Rattle.jx_reduce.specs.Fits.{Fits}
-use Rattle.jx_reduce.specs.Form.{Form, fault_of, end_fault_of}
-use Rattle.jx_reduce.specs.Join.{Tail, first_of, merged, no_faults, stop_or, with_tail, finished, absorbed, joined_heights, all_faulted, cut, cut_short, base_at, joined}
+use Rattle.jx_reduce.specs.Form.{Form, fault_of}
+use Rattle.jx_reduce.specs.Join.{Tail, first_of, merged, no_faults, stop_or, with_tail, absorbed, joined_heights, all_faulted, cut, cut_short, base_at, joined}
 use Rattle.jx_reduce.specs.Levels.{with_opens}
-use Rattle.jx_reduce.specs.Marks.{fault_at, faults_at, end_at, of_change, pushed, of_marks}
+use Rattle.jx_reduce.specs.Marks.{faults_at, end_at, of_change, pushed, of_marks}
 use Rattle.jx_reduce.specs.Quiet.{bit_of, fault_bits, unfaulted, standing, IsAt}
 use Rattle.jx_reduce.specs.Table.{change_of, same, added, removed}
 use Rattle.jx_reduce.specs.declared.holder.Holder.{Holder}

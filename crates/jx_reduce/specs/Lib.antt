@@ -11,6 +11,7 @@ pub mod Quiet
 pub mod Reduced
 pub mod Reductions
 pub mod Follow
+pub mod Parts
 pub mod View
 pub mod Outcome
 pub mod Whole

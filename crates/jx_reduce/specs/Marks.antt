@@ -1,5 +1,5 @@
 -- The reduced form of marks, made mark by mark.
-use Rattle.std.specs.Prelude.{◌≡◌, ℕ, List, [], ◌∷◌, Option, Some, None}
+use Rattle.std.specs.Prelude.{ℕ, List, [], ◌∷◌, Option, Some, None}
 use Rattle.jx_reduce.specs.Table.{next_of, change_of, Change, same, added, removed}
 use Rattle.jx_reduce.specs.Entries.{expect_at, leads_to}
 use Rattle.jx_reduce.specs.Form.{Form}
@@ -11,7 +11,6 @@ use Rattle.jx_reduce.specs.declared.entry.Entry.{Entry}
 use Rattle.jx_reduce.specs.declared.level.Level.{Level}
 use Rattle.jx_reduce.specs.declared.ended_level.EndedLevel.{EndedLevel}
 use Rattle.jx_lex.specs.declared.mark.Mark.{Mark}
-use Rattle.jx_lex.specs.declared.mark.MarkKind.{MarkKind}
 
 -- a mark that leads nowhere is a fault
 abbrev pub fault_unless : Option Expect → ℕ → Option ℕ
@@ -50,10 +49,3 @@ pushed d r m = pushed_from d r m r.exit
 abbrev pub of_marks : ℕ → Form → List Mark → Form
 of_marks d r [] = r
 of_marks d r (m ∷ ms) = of_marks d (pushed d r m) ms
-
--- there is a first mark, and it is of another kind
-pub record BeginsOtherwise (kind : MarkKind) (marks : List Mark) : Type 0 where
-  pub first : Mark
-  pub rest : List Mark
-  pub is : marks ≡ first ∷ rest
-  pub other : first.kind ≡ kind → ⊥

@@ -1,14 +1,13 @@
 // What the marks from one expectation come to, for every list of open containers at entry.
 
-ghost use Rattle.std.specs.Prelude.{◌≡◌, ◌≤◌, ◌+◌, [], OnOk, IfOk, false, length, reverse, slice_get};
+ghost use Rattle.std.specs.Prelude.{◌≡◌, ◌≤◌, ◌+◌, [], OnOk, IfOk, IfSome, length, reverse, slice_get};
 ghost use Rattle.jx_reduce.specs.Form.{levels_of, exit_at};
 ghost use Rattle.jx_reduce.specs.Join.{joined};
-ghost use Rattle.jx_reduce.specs.Marks.{BeginsOtherwise, of_marks, of_nothing};
+ghost use Rattle.jx_reduce.specs.Marks.{of_marks, of_nothing};
 ghost use Rattle.jx_reduce.specs.Fits.{Fits};
 ghost use Rattle.jx_reduce.specs.Levels.{form_of, HasRoomOf};
 ghost use Rattle.jx_reduce.specs.Outcome.{reading_of};
 ghost use Rattle.jx_reduce.specs.Whole.{whole_of};
-ghost use Rattle.jx_reduce.specs.declared.entry.Entry.TheVariants as entry;
 
 use crate::act::top_of;
 use crate::entry::Entry;
@@ -18,7 +17,7 @@ use crate::level::Level;
 use crate::levels::Levels;
 use crate::outcome::Outcome;
 use crate::whole::Whole;
-use jx_lex::{Depth, Mark, MarkKind};
+use jx_lex::{Depth, Mark};
 use std::alloc::{AllocError, Global};
 
 /// What a list of marks comes to from one expectation, for every list of open containers at entry that is no longer than
@@ -31,18 +30,9 @@ pub struct Reduced {
     ghost fits: { Fits depth (form_of levels) },
 }
 
-/// Whether there are no marks, or the first is of this kind.
-fn begins_with(marks: &[Mark], kind: MarkKind) -> bool
-    ensures { result ≡ false → BeginsOtherwise kind marks.now }
-{
-    match marks.first() {
-        Some(mark) => mark.kind == kind,
-        None => true,
-    }
-}
-
 impl Reduced {
     ghost use Rattle.jx_reduce.specs.Reduced.{depth_of, form_in, answer_of};
+    ghost use Rattle.jx_reduce.specs.Parts.{tail_behind, then_tail};
 
     /// The form of no marks.
     pub(crate) fn new(alloc: Global, entry: Entry, depth: Depth) -> Reduced
@@ -69,32 +59,36 @@ impl Reduced {
         Ok(Reduced { depth, levels })
     }
 
-    /// The form of these marks from the start of an array, by their form where a value is expected: only the array's
-    /// close as the first mark tells them apart.
-    pub(crate) fn array_first(&self, marks: &[Mark]) -> Result<Reduced, AllocError>
-        requires value { form_in self.now ≡ of_marks (depth_of self.now) (of_nothing entry.Value) marks.now }
-        ensures depth { IfOk result (λ r. depth_of r ≡ depth_of self.now) }
-        ensures form { IfOk result (λ r. form_in r ≡ of_marks (depth_of self.now) (of_nothing entry.ArrayFirst) marks.now) }
+    /// The form of a head of marks, read from this entry, and of the tail behind it where the head goes on.
+    pub(crate) fn of_parts(
+        alloc: Global,
+        entry: Entry,
+        head: &[Mark],
+        tail: &Option<Reduced>,
+        depth: Depth,
+    ) -> Result<Reduced, AllocError>
+        requires { IfSome tail.now (λ t. depth_of t ≡ depth) }
+        ensures depth { IfOk result (λ r. depth_of r ≡ depth) }
+        ensures form { IfOk result (λ r. form_in r ≡ then_tail depth (of_marks depth (of_nothing entry) head.now) tail.now) }
     {
-        if begins_with(marks, MarkKind::CloseArray) {
-            return Reduced::of(self.allocator(), Entry::ArrayFirst, marks, self.depth);
+        let mut reduced = Reduced::of(alloc, entry, head, depth)?;
+        if let Some(tail) = tail {
+            reduced.go_on(tail)?;
         }
-        let copied = self.copy()?;
-        Ok(copied)
+        Ok(reduced)
     }
 
-    /// The form of these marks from the start of an object, by their form where a name is expected: only the object's
-    /// close as the first mark tells them apart.
-    pub(crate) fn object_first(&self, marks: &[Mark]) -> Result<Reduced, AllocError>
-        requires name { form_in self.now ≡ of_marks (depth_of self.now) (of_nothing entry.Name) marks.now }
-        ensures depth { IfOk result (λ r. depth_of r ≡ depth_of self.now) }
-        ensures form { IfOk result (λ r. form_in r ≡ of_marks (depth_of self.now) (of_nothing entry.ObjectFirst) marks.now) }
+    /// Goes on with the tail, where anything goes on.
+    fn go_on(&mut self, tail: &Reduced) -> Result<(), AllocError>
+        requires { depth_of self.old ≡ depth_of tail.now }
+        ensures depth { depth_of self.new ≡ depth_of self.old }
+        ensures form { OnOk result (form_in self.new ≡ tail_behind (depth_of self.old) (form_in self.old) (form_in tail.now) (form_in self.old).exit) }
     {
-        if begins_with(marks, MarkKind::CloseObject) {
-            return Reduced::of(self.allocator(), Entry::ObjectFirst, marks, self.depth);
+        if self.exit().is_some() {
+            self.make_room(tail)?;
+            self.follow(tail);
         }
-        let copied = self.copy()?;
-        Ok(copied)
+        Ok(())
     }
 
     fn allocator(&self) -> Global {

@@ -1,17 +1,18 @@
 // The structure of a list of marks, from each expectation.
 
-ghost use Rattle.std.specs.Prelude.{◌≡◌, ◌≤◌, ◌<◌, ◌++◌, ℕ, List, [], OnOk, OnErr, IfOk, IfErr};
+ghost use Rattle.std.specs.Prelude.{◌≡◌, ◌≤◌, ◌<◌, ◌++◌, ℕ, List, [], length, take, OnOk, OnErr, IfOk, IfErr, IfSome};
 ghost use Rattle.jx_reduce.specs.Offsets.{RisingFrom, EachIn};
 ghost use Rattle.jx_reduce.specs.Fits.{IsOfSize};
 ghost use Rattle.jx_reduce.specs.Reduced.{depth_of, form_in};
 ghost use Rattle.jx_reduce.specs.Reductions.{form_at, entry_of, IsJoin, IsBefore, IsOf, SpansIn};
 ghost use Rattle.jx_reduce.specs.Follow.{followed, IsReady};
+ghost use Rattle.jx_reduce.specs.Parts.{EndsWith, IsTailOf};
 ghost use Rattle.jx_lex.specs.declared.mark.Mark.{Mark};
 
 use crate::entry::Entry;
 use crate::expect::Expect;
 use crate::reduced::Reduced;
-use jx_lex::{Depth, JoinFault, Mark};
+use jx_lex::{Depth, JoinFault, Mark, MarkKind};
 use std::alloc::{AllocError, Global};
 use std::marker::Model;
 
@@ -28,6 +29,19 @@ pub struct Reductions {
     after: Reduced,
     value_or_name: Reduced,
     after_or_colon: Reduced,
+}
+
+/// The marks up to the first that is no string: how many they are with it, and its kind.
+fn head_of(marks: &[Mark]) -> Option<(usize, MarkKind)>
+    ensures within { IfSome result (λ head. head.0 ≤ length marks.now) }
+    ensures ends { IfSome result (λ head. EndsWith (take head.0 marks.now) head.1) }
+{
+    for (at, mark) in marks.iter().enumerate() {
+        if mark.kind != MarkKind::String {
+            return Some((at + 1, mark.kind));
+        }
+    }
+    None
 }
 
 impl Model for Reductions {
@@ -62,27 +76,50 @@ impl Reductions {
         }
     }
 
-    /// The structure of these marks, in one pass for each entry that meets no fault. Only want of memory is refused.
+    /// The structure of these marks. Behind the first mark that is no string, all entries that go on stand at the same
+    /// one: so the marks behind it are read once, for all of them. Only want of memory is refused.
     pub fn of(alloc: Global, marks: &[Mark], depth: Depth) -> Result<Reductions, AllocError>
         requires rising { RisingFrom 0 marks.now }
         ensures depth { IfOk result (λ f. f.depth ≡ depth) }
         ensures reads { IfOk result (λ f. IsOf marks.now f) }
         ensures offsets { IfOk result (λ f. (low high : ℕ) → EachIn (λ m. (low ≤ m.at) × (m.at < high)) marks.now → SpansIn low high f) }
     {
-        let value = Reduced::of(alloc, Entry::Value, marks, depth)?;
-        let array_first = value.array_first(marks)?;
-        let name = Reduced::of(alloc, Entry::Name, marks, depth)?;
-        let object_first = name.object_first(marks)?;
+        match head_of(marks) {
+            Some((len, kind)) => {
+                let entry = Entry::Value.leads_to(kind);
+                let tail = Reduced::of(alloc, entry, &marks[len..], depth)?;
+                Reductions::of_parts(alloc, marks, len, &Some(tail), depth)
+            }
+            None => Reductions::of_parts(alloc, marks, marks.len(), &None, depth),
+        }
+    }
+
+    /// The structure of these marks, of which the head is read from each entry, and the tail is what stands behind it.
+    fn of_parts(
+        alloc: Global,
+        marks: &[Mark],
+        len: usize,
+        tail: &Option<Reduced>,
+        depth: Depth,
+    ) -> Result<Reductions, AllocError>
+        requires rising { RisingFrom 0 marks.now }
+        requires len { len ≤ length marks.now }
+        requires tail { IsTailOf depth marks.now len tail.now }
+        ensures depth { IfOk result (λ f. f.depth ≡ depth) }
+        ensures reads { IfOk result (λ f. IsOf marks.now f) }
+        ensures offsets { IfOk result (λ f. (low high : ℕ) → EachIn (λ m. (low ≤ m.at) × (m.at < high)) marks.now → SpansIn low high f) }
+    {
+        let head = &marks[..len];
         Ok(Reductions {
             depth,
-            value,
-            array_first,
-            object_first,
-            name,
-            colon: Reduced::of(alloc, Entry::Colon, marks, depth)?,
-            after: Reduced::of(alloc, Entry::After, marks, depth)?,
-            value_or_name: Reduced::of(alloc, Entry::ValueOrName, marks, depth)?,
-            after_or_colon: Reduced::of(alloc, Entry::AfterOrColon, marks, depth)?,
+            value: Reduced::of_parts(alloc, Entry::Value, head, tail, depth)?,
+            array_first: Reduced::of_parts(alloc, Entry::ArrayFirst, head, tail, depth)?,
+            object_first: Reduced::of_parts(alloc, Entry::ObjectFirst, head, tail, depth)?,
+            name: Reduced::of_parts(alloc, Entry::Name, head, tail, depth)?,
+            colon: Reduced::of_parts(alloc, Entry::Colon, head, tail, depth)?,
+            after: Reduced::of_parts(alloc, Entry::After, head, tail, depth)?,
+            value_or_name: Reduced::of_parts(alloc, Entry::ValueOrName, head, tail, depth)?,
+            after_or_colon: Reduced::of_parts(alloc, Entry::AfterOrColon, head, tail, depth)?,
         })
     }
 

@@ -1,11 +1,10 @@
-use Rattle.std.proofs.Common.{◌≡◌, ◌≤◌, ◌<◌, ◌++◌, ℕ, List, [], ◌∷◌, length, true, Option, Some, None, is_some, ap, ◌∙◌, sym, arith}
+use Rattle.std.proofs.Common.{◌≡◌, ◌++◌, List, [], ◌∷◌, true, Option, Some, None, is_some, ap, ◌∙◌, sym, arith}
 use Rattle.std.specs.Prelude.{reverse}
 use Rattle.std.specs.Option.{option_to_list}
 use Rattle.std.proofs.lemmas.List.{reverse-append, length-reverse}
-use Rattle.std.specs.Int.Bits.{bit_and}
 use Rattle.jx_reduce.specs.Form.{Form}
 use Rattle.jx_reduce.specs.Levels.{with_opens}
-use Rattle.jx_reduce.specs.Quiet.{standing, IsAt}
+use Rattle.jx_reduce.specs.Quiet.{standing}
 use Rattle.jx_reduce.specs.Table.{change_of}
 use Rattle.jx_reduce.specs.declared.entry.Entry.{Entry}
 use Rattle.jx_reduce.specs.declared.holder.Holder.{Holder}

@@ -1,0 +1,184 @@
+-- Behind a mark that is no string all entries stand at the same one.
+use Rattle.std.proofs.Common.{◌≡◌, ℕ, ◌<◌, ◌≤◌, List, [], ◌∷◌, ◌++◌, length, take, drop, refl, sym, ◌∙◌, ap, subst, Option, Some, None, Bool, true, false, if◌then◌else◌, inl, inr}
+use Rattle.std.specs.Prelude.{◌⊎◌}
+use Rattle.std.proofs.lemmas.List.{take_all, take-append-drop}
+use Rattle.jx_reduce.specs.Entries.{leads_to}
+use Rattle.jx_reduce.specs.Follow.{followed_by, followed}
+use Rattle.jx_reduce.specs.Form.{Form, fault_of, end_fault_of}
+use Rattle.jx_reduce.specs.Join.{Tail, closed, filled_end, tail_of, halted, stop_or, with_tail, with_level, passes, absorbed, over, cut_short, joined}
+use Rattle.jx_reduce.specs.Marks.{of_change, of_mark, of_nothing, pushed_from, of_marks}
+use Rattle.jx_reduce.specs.Offsets.{EachIn, OffsetsIn, RisingFrom}
+use Rattle.jx_reduce.specs.Parts.{EndsWith, IsTail, IsTailOf, tail_behind, then_tail}
+use Rattle.jx_reduce.specs.Reduced.{form_in}
+use Rattle.jx_reduce.specs.Reductions.{Forms, form_at, IsSound, IsBefore, IsOf}
+use Rattle.jx_reduce.specs.Table.{change_of, Change, same, added, removed}
+use Rattle.jx_reduce.specs.declared.ended_level.EndedLevel.{EndedLevel}
+use Rattle.jx_reduce.specs.declared.entry.Entry.{Entry}
+use Rattle.jx_reduce.specs.declared.entry.Entry.TheVariants.{ValueOrName, AfterOrColon, Value as AnyValue, ArrayFirst as AnyArrayFirst, ObjectFirst as AnyObjectFirst, Name as AnyName, Colon as AnyColon, After as AnyAfter}
+use Rattle.jx_reduce.specs.declared.holder.Holder.{Holder}
+use Rattle.jx_reduce.specs.declared.reduced.Reduced.{Reduced}
+use Rattle.jx_lex.specs.declared.mark.Mark.{Mark}
+use Rattle.jx_lex.specs.declared.mark.MarkKind.{MarkKind}
+use Rattle.jx_lex.specs.declared.mark.MarkKind.TheVariants.{OpenArray, CloseArray, OpenObject, CloseObject, Comma, String, Number, True, False, Null, Colon}
+use Rattle.jx_reduce.proofs.Bounds.{EachIn-take, EachIn-drop}
+use Rattle.jx_reduce.proofs.Cuts.{RisingFrom-take, RisingFrom-drop, before_of_parts}
+use Rattle.jx_reduce.proofs.Joined.{base_of, uncut}
+use Rattle.jx_reduce.proofs.Readings.{of_marks-append}
+use Rattle.jx_reduce.proofs.Runs.{is_of_join}
+use Rattle.jx_reduce.proofs.Sound.{Follows, FromMarks, eight_marks, is_of, sound_marks, in_marks, is_join, sound_join, in_join}
+
+-- a form to which something is joined leads nowhere, or where that leads
+abbrev LeadsTo : Option Entry → Option Entry → Type 0
+LeadsTo x a = (a ≡ None) ⊎ (a ≡ x)
+
+leads_stop : (f : Option ℕ) (r k : Form) (x : Option Entry) → LeadsTo x k.exit → LeadsTo x (stop_or f r k).exit
+leads_stop None r k x h = h
+leads_stop (Some p) r k x h = inl refl
+
+leads-absorbed : (d : ℕ) (es : List EndedLevel) (t : Tail) (os : List Holder) (r : Form) → LeadsTo t.exit (absorbed d es t os r).exit
+leads-absorbed d [] t [] r = inr refl
+leads-absorbed d [] t (o ∷ os) r = leads_stop (fault_of t.last o) r (with_tail r t r.last (t.opens ++ o ∷ os)) t.exit (inr refl)
+leads-absorbed d (e ∷ es) t (o ∷ os) r = leads_stop (end_fault_of e o) r (absorbed d es t os r) t.exit (leads-absorbed d es t os r)
+leads-absorbed d (e ∷ es) t [] r =
+    elim (passes d r (closed r.last e)) as (λ b. LeadsTo t.exit (if b then absorbed d es t [] (with_level r (closed r.last e)) else halted r (filled_end (closed r.last e))).exit) [
+      | true ↦ leads-absorbed d es t [] (with_level r (closed r.last e))
+      | false ↦ inl refl
+    ]
+
+leads_cut : (a : Form) (x : Option Entry) (b : Bool) → LeadsTo x a.exit → LeadsTo x (if b then cut_short a else a).exit
+leads_cut a x true h = inl refl
+leads_cut a x false h = h
+
+leads-joined : (d : ℕ) (l r : Form) → LeadsTo r.exit (joined d l r).exit
+leads-joined d l r = leads_cut (uncut d l r) r.exit (over d (uncut d l r)) (leads-absorbed d r.ended (tail_of r) l.opens (base_of d l r.heights))
+
+change_leads : (c : Change) (x : Entry) (m : Mark) → (of_change c x m).exit ≡ Some (leads_to m.kind x)
+change_leads same x m = refl
+change_leads (added h) x m = refl
+change_leads removed x m = refl
+
+-- only a string leads different entries to different ones
+same_lead : (k : MarkKind) (x y : Entry) → (k ≡ String → ⊥) → leads_to k x ≡ leads_to k y
+same_lead OpenArray x y h = refl
+same_lead CloseArray x y h = refl
+same_lead OpenObject x y h = refl
+same_lead CloseObject x y h = refl
+same_lead Colon x y h = refl
+same_lead Comma x y h = refl
+same_lead String x y h = absurd (h refl)
+same_lead Number x y h = refl
+same_lead True x y h = refl
+same_lead False x y h = refl
+same_lead Null x y h = refl
+
+led : (a b : Option Entry) (y z : Entry) → LeadsTo a b → a ≡ Some z → b ≡ Some y → y ≡ z
+led a b y z (inl e) f g = cc
+led a b y z (inr e) f g = cc
+
+pushed_leads : (d : ℕ) (r : Form) (m : Mark) (o : Option Entry) (y : Entry) → r.exit ≡ o → (m.kind ≡ String → ⊥)
+    → (pushed_from d r m o).exit ≡ Some y → y ≡ leads_to m.kind AnyValue
+pushed_leads d r m None y e h g = cc
+pushed_leads d r m (Some x) y e h g =
+    led (of_mark x m).exit (joined d r (of_mark x m)).exit y (leads_to m.kind x) (leads-joined d r (of_mark x m)) (change_leads (change_of m.kind) x m) g
+    ∙ same_lead m.kind x AnyValue h
+
+-- where something goes on behind marks that end with no string, it stands at the same entry
+ends_at : (d : ℕ) (r : Form) (ms : List Mark) (k : MarkKind) (y : Entry) → EndsWith ms k → (of_marks d r ms).exit ≡ Some y → y ≡ leads_to k AnyValue
+ends_at d r ms k y ends h =
+    pushed_leads d (of_marks d r ends.before) ends.last (of_marks d r ends.before).exit y refl (λ e. ends.other (sym ends.kind_is ∙ e))
+    (ap (λ (f : Form). f.exit) (sym (ap (of_marks d r) ends.is ∙ of_marks-append d r ends.before (ends.last ∷ []))) ∙ h)
+    ∙ ap (λ k. leads_to k AnyValue) ends.kind_is
+
+-- the forms of marks from each entry
+abbrev forms_from : ℕ → List Mark → Forms
+forms_from d ms = record {
+  depth = d;
+  value = of_marks d (of_nothing AnyValue) ms;
+  array_first = of_marks d (of_nothing AnyArrayFirst) ms;
+  object_first = of_marks d (of_nothing AnyObjectFirst) ms;
+  name = of_marks d (of_nothing AnyName) ms;
+  colon = of_marks d (of_nothing AnyColon) ms;
+  after = of_marks d (of_nothing AnyAfter) ms;
+  value_or_name = of_marks d (of_nothing ValueOrName) ms;
+  after_or_colon = of_marks d (of_nothing AfterOrColon) ms;
+}
+
+from_all : (d : ℕ) (ms : List Mark) → RisingFrom 0 ms → FromMarks ms (forms_from d ms)
+from_all d ms rising = record { rising = rising; each = eight_marks ms (forms_from d ms) refl refl refl refl refl refl refl refl }
+
+-- the forms that are made of a head, and of the tail behind it
+pub record FromParts (ms : List Mark) (n : ℕ) (tail : Option Reduced) (f : Forms) : Type 0 where
+  pub rising : RisingFrom 0 ms
+  pub tail_is : IsTailOf f.depth ms n tail
+  pub each : (x : Entry) → form_at f x ≡ then_tail f.depth (of_marks f.depth (of_nothing x) (take n ms)) tail
+
+-- a head that is all of the marks
+whole_head : (ms : List Mark) (n : ℕ) (f : Forms) → RisingFrom 0 ms → length ms ≤ n
+    → ((x : Entry) → form_at f x ≡ of_marks f.depth (of_nothing x) (take n ms)) → FromMarks ms f
+whole_head ms n f rising all each = record { rising = rising; each = λ x. each x ∙ ap (of_marks f.depth (of_nothing x)) (take_all n ms all) }
+
+-- a head and a tail: each form of the head goes on with that of the rest from the entry where it stands
+module _ (ms : List Mark) (n : ℕ) (t : Reduced) (f : Forms) (rising : RisingFrom 0 ms) (tail : IsTail f.depth ms n t)
+    (each : (x : Entry) → form_at f x ≡ then_tail f.depth (of_marks f.depth (of_nothing x) (take n ms)) (Some t)) where
+  head : FromMarks (take n ms) (forms_from f.depth (take n ms))
+  head = from_all f.depth (take n ms) (RisingFrom-take n 0 ms rising)
+
+  rest : FromMarks (drop n ms) (forms_from f.depth (drop n ms))
+  rest = from_all f.depth (drop n ms) (RisingFrom-drop n 0 ms rising)
+
+  at_exit : (l : Form) (o : Option Entry) → ((y : Entry) → o ≡ Some y → y ≡ leads_to tail.kind AnyValue)
+      → tail_behind f.depth l (form_in t) o ≡ followed_by f.depth l (forms_from f.depth (drop n ms)) o
+  at_exit l None h = refl
+  at_exit l (Some y) h =
+      ap (joined f.depth l)
+      (tail.form ∙ sym (ap (λ x. of_marks f.depth (of_nothing x) (drop n ms)) (h y refl)) ∙ sym (rest.each y))
+
+  each_follows : (x : Entry) → form_at f x ≡ followed f.depth (form_at (forms_from f.depth (take n ms)) x) (forms_from f.depth (drop n ms))
+  each_follows x =
+      each x
+      ∙ at_exit (of_marks f.depth (of_nothing x) (take n ms)) (of_marks f.depth (of_nothing x) (take n ms)).exit
+      (λ y e. ends_at f.depth (of_nothing x) (take n ms) tail.kind y tail.ends e)
+      ∙ ap (λ l. followed f.depth l (forms_from f.depth (drop n ms))) (sym (head.each x))
+
+  follows : Follows (forms_from f.depth (take n ms)) (forms_from f.depth (drop n ms)) f
+  follows = record { depths = refl; depth = refl; each = each_follows }
+
+  before : IsBefore (forms_from f.depth (take n ms)) (forms_from f.depth (drop n ms))
+  before =
+      before_of_parts n ms (forms_from f.depth (take n ms)) (forms_from f.depth (drop n ms)) rising
+      (λ low high e. in_marks (λ p. (low ≤ p) × (p < high)) (take n ms) (forms_from f.depth (take n ms)) head e)
+      (λ low high e. in_marks (λ p. (low ≤ p) × (p < high)) (drop n ms) (forms_from f.depth (drop n ms)) rest e)
+
+  head_sound : IsSound (forms_from f.depth (take n ms))
+  head_sound = sound_marks (take n ms) (forms_from f.depth (take n ms)) head
+
+  rest_sound : IsSound (forms_from f.depth (drop n ms))
+  rest_sound = sound_marks (drop n ms) (forms_from f.depth (drop n ms)) rest
+
+  tail_is_of : IsOf ms f
+  tail_is_of =
+      subst (λ ms. IsOf ms f) (take-append-drop n ms)
+      (is_of_join (take n ms) (drop n ms) (forms_from f.depth (take n ms)) (forms_from f.depth (drop n ms)) f refl refl
+      (is_of (take n ms) (forms_from f.depth (take n ms)) head) (is_of (drop n ms) (forms_from f.depth (drop n ms)) rest)
+      (is_join (forms_from f.depth (take n ms)) (forms_from f.depth (drop n ms)) f follows before head_sound rest_sound))
+
+  tail_sound : IsSound f
+  tail_sound = sound_join (forms_from f.depth (take n ms)) (forms_from f.depth (drop n ms)) f follows before head_sound rest_sound
+
+  tail_in : (Q : ℕ → Type 0) → EachIn (λ m. Q m.at) (take n ms) → EachIn (λ m. Q m.at) (drop n ms) → (x : Entry) → OffsetsIn Q (form_at f x)
+  tail_in Q a b =
+      in_join Q (forms_from f.depth (take n ms)) (forms_from f.depth (drop n ms)) f follows
+      (in_marks Q (take n ms) (forms_from f.depth (take n ms)) head a) (in_marks Q (drop n ms) (forms_from f.depth (drop n ms)) rest b)
+
+pub parts_is_of : (ms : List Mark) (n : ℕ) (tail : Option Reduced) (f : Forms) → FromParts ms n tail f → IsOf ms f
+parts_is_of ms n None f p = is_of ms f (whole_head ms n f p.rising p.tail_is p.each)
+parts_is_of ms n (Some t) f p = tail_is_of ms n t f p.rising p.tail_is p.each
+
+pub parts_sound : (ms : List Mark) (n : ℕ) (tail : Option Reduced) (f : Forms) → FromParts ms n tail f → IsSound f
+parts_sound ms n None f p = sound_marks ms f (whole_head ms n f p.rising p.tail_is p.each)
+parts_sound ms n (Some t) f p = tail_sound ms n t f p.rising p.tail_is p.each
+
+pub parts_in : (Q : ℕ → Type 0) (ms : List Mark) (n : ℕ) (tail : Option Reduced) (f : Forms) → FromParts ms n tail f
+    → EachIn (λ m. Q m.at) ms → (x : Entry) → OffsetsIn Q (form_at f x)
+parts_in Q ms n None f p a = in_marks Q ms f (whole_head ms n f p.rising p.tail_is p.each) a
+parts_in Q ms n (Some t) f p a = tail_in ms n t f p.rising p.tail_is p.each Q (EachIn-take _ n ms a) (EachIn-drop _ n ms a)
