@@ -169,7 +169,7 @@ pub(crate) fn run(
 {
     let most = limit.min(opens.capacity());
     let mut entry = entry;
-    let mut standing = standing_in(opens, base);
+    let mut standing: u8 = standing_in(opens, base);
     for (taken, mark) in marks.iter().enumerate() {
         if faults(mark.kind, entry) & standing != 0 {
             return (taken, entry);

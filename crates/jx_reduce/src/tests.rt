@@ -1,7 +1,7 @@
-ghost use Rattle.std.specs.Prelude.{◌≡◌, ◌≤◌, IfOk, length};
+ghost use Rattle.std.specs.Prelude.{◌≡◌, ◌≤◌, ◌<◌, IfOk, length};
 ghost use Rattle.jx_reduce.specs.Offsets.{RisingFrom};
 
-use crate::{Expect, Holder, Level, Outcome, Reductions, Whole};
+use crate::{Expect, Holder, Level, Outcome, Reductions, Whole, next};
 use jx_lex::{Depth, Mark, MarkKind};
 use std::alloc::{AllocError, Global};
 use std::test::Fail;
@@ -18,22 +18,27 @@ fn depth_of(containers: u32) -> Depth
     Depth::new(containers).unwrap_or_default()
 }
 
+// The kind of mark that this byte stands for.
+fn kind_of(byte: u8) -> MarkKind {
+    match byte {
+        b'[' => MarkKind::OpenArray,
+        b']' => MarkKind::CloseArray,
+        b'{' => MarkKind::OpenObject,
+        b'}' => MarkKind::CloseObject,
+        b':' => MarkKind::Colon,
+        b',' => MarkKind::Comma,
+        b's' => MarkKind::String,
+        _ => MarkKind::Number,
+    }
+}
+
 // The marks that these bytes stand for, each at the place of its byte.
 fn marks_of(alloc: Global, text: &[u8]) -> Result<Vec<Mark>, AllocError>
     ensures { IfOk result (λ marks. RisingFrom 0 marks.items) }
 {
     let mut marks = Vec::new(alloc);
     for (at, byte) in text.iter().enumerate() {
-        let kind = match *byte {
-            b'[' => MarkKind::OpenArray,
-            b']' => MarkKind::CloseArray,
-            b'{' => MarkKind::OpenObject,
-            b'}' => MarkKind::CloseObject,
-            b':' => MarkKind::Colon,
-            b',' => MarkKind::Comma,
-            b's' => MarkKind::String,
-            _ => MarkKind::Number,
-        };
+        let kind = kind_of(*byte);
         marks.push(Mark { kind, at })?;
     }
     Ok(marks)
@@ -293,5 +298,174 @@ fn one_right_serves_several_lefts(rt: HostRuntime) -> Result<(), Fail> {
     };
     assert_eq!(rt; first.entry(Expect::Value).act(&[Holder::Array])?, closed);
     assert_eq!(rt; first.entry(Expect::Value).act(&[])?, Outcome::Stopped(1));
+    Ok(())
+}
+
+// Numbers by chance, the same ones in each run.
+#[derive(Drop)]
+struct Chance {
+    seed: u64,
+}
+
+impl Chance {
+    fn below(&mut self, count: usize) -> usize
+        requires { 0 < count }
+        ensures { result < count }
+    {
+        self.seed = self
+            .seed
+            .wrapping_mul(6364136223846793005)
+            .wrapping_add(1442695040888963407);
+        (self.seed >> 33) as usize % count
+    }
+}
+
+const BYTES: [u8; 8] = [b'[', b']', b'{', b'}', b':', b',', b's', b'n'];
+
+// Marks by chance, of which most are allowed where they stand: of four at each place the first that is, or else the last.
+fn text_by_chance(alloc: Global, chance: &mut Chance, len: usize) -> Result<Vec<u8>, AllocError> {
+    let mut text = Vec::new(alloc);
+    let mut open: Vec<Holder> = Vec::new(alloc);
+    let mut expect = EXPECTS[chance.below(6)];
+    for _ in 0..len {
+        let around = [Holder::Array, Holder::Object][chance.below(2)];
+        let top = open.last().copied().unwrap_or(around);
+        let mut byte = BYTES[chance.below(8)];
+        for _ in 0..3 {
+            if next(kind_of(byte), expect, top).is_none() {
+                byte = BYTES[chance.below(8)];
+            }
+        }
+        let by_chance = EXPECTS[chance.below(6)];
+        expect = next(kind_of(byte), expect, top).unwrap_or(by_chance);
+        match byte {
+            b'[' => open.push(Holder::Array)?,
+            b'{' => open.push(Holder::Object)?,
+            b']' | b'}' => {
+                let _ = open.pop();
+            }
+            _ => {}
+        }
+        text.push(byte)?;
+    }
+    Ok(text)
+}
+
+// What the marks come to by the table of moves, one mark at a time.
+fn read_by_table(
+    alloc: Global,
+    marks: &[Mark],
+    depth: usize,
+    expect: Expect,
+    holders: &[Holder],
+) -> Result<Outcome, AllocError> {
+    let mut open = Vec::from_slice(alloc, holders)?;
+    let mut expect = expect;
+    for mark in marks {
+        let top = open.last().copied().unwrap_or(Holder::Bottom);
+        let Some(then) = next(mark.kind, expect, top) else {
+            return Ok(Outcome::Stopped(mark.at));
+        };
+        expect = then;
+        let opened = match mark.kind {
+            MarkKind::OpenArray => Holder::Array,
+            MarkKind::OpenObject => Holder::Object,
+            MarkKind::CloseArray | MarkKind::CloseObject => {
+                let _ = open.pop();
+                continue;
+            }
+            _ => continue,
+        };
+        if open.len() >= depth {
+            return Ok(Outcome::TooDeep(mark.at));
+        }
+        open.push(opened)?;
+    }
+    Ok(Outcome::Went {
+        expect,
+        holders: open,
+    })
+}
+
+const A: Holder = Holder::Array;
+
+const O: Holder = Holder::Object;
+
+// Whether the structure answers as the table does, from each expectation and over each list of at most three containers.
+fn is_as_read(alloc: Global, all: &Reductions, marks: &[Mark]) -> Result<bool, AllocError> {
+    let lists: [&[Holder]; 15] = [
+        &[],
+        &[A],
+        &[O],
+        &[A, A],
+        &[A, O],
+        &[O, A],
+        &[O, O],
+        &[A, A, A],
+        &[A, A, O],
+        &[A, O, A],
+        &[A, O, O],
+        &[O, A, A],
+        &[O, A, O],
+        &[O, O, A],
+        &[O, O, O],
+    ];
+    let depth = all.depth().containers() as usize;
+    for expect in EXPECTS {
+        for holders in lists {
+            if depth < holders.len() {
+                continue;
+            }
+            let one = all.entry(expect).act(holders)?;
+            let other = read_by_table(alloc, marks, depth, expect, holders)?;
+            if one != other {
+                return Ok(false);
+            }
+        }
+    }
+    Ok(true)
+}
+
+// Whether the structure of these marks answers as the table does, made at once and joined at each place.
+fn is_as_read_at_each_cut(alloc: Global, text: &[u8], containers: u32) -> Result<bool, AllocError> {
+    let marks = marks_of(alloc, text)?;
+    let all = Reductions::of(alloc, &marks, depth_of(containers))?;
+    let mut same = is_as_read(alloc, &all, &marks)?;
+    for cut in 0..marks.len() + 1 {
+        let both = joined_at(alloc, &marks, cut, depth_of(containers))?;
+        same = is_as_read(alloc, &both, &marks)? && same;
+    }
+    Ok(same)
+}
+
+#[test]
+fn lists_by_chance_are_read_as_by_the_table(rt: HostRuntime) -> Result<(), Fail> {
+    let mut chance = Chance { seed: 1 };
+    for containers in [0, 1, 2, 3, 512] {
+        for _ in 0..60 {
+            let text = text_by_chance(rt.alloc(), &mut chance, 40)?;
+            assert!(rt;
+                is_as_read_at_each_cut(rt.alloc(), &text, containers)?,
+                "depth {containers}"
+            );
+        }
+    }
+    Ok(())
+}
+
+#[test]
+fn more_containers_than_the_depth_are_read_as_by_the_table(rt: HostRuntime) -> Result<(), Fail> {
+    let mut text = Vec::new(rt.alloc());
+    for byte in [b'[', b']', b']', b'['] {
+        for _ in 0..260 {
+            text.push(byte)?;
+        }
+    }
+    for containers in [0, 1, 2, 3, 512] {
+        assert!(rt;
+            is_as_read_at_each_cut(rt.alloc(), &text, containers)?,
+            "depth {containers}"
+        );
+    }
     Ok(())
 }
