@@ -24,6 +24,7 @@ pub mod Reading
 pub mod ReadingOn
 pub mod Running
 pub mod Slices
+pub mod Spans
 pub mod Stays
 pub mod Stretches
 pub mod StringParts

@@ -29,3 +29,7 @@ pub record GoesTo (old new : Seen) (track : Track) (to : LexState) : Type 0 wher
 pub record TokenLists : Type 0 where
   pub marks : List Mark
   pub ends : List ℕ
+
+-- those of a reading behind them
+abbrev pub with_tokens : TokenLists → Track → TokenLists
+with_tokens tokens track = record { marks = tokens.marks ++ track.marks; ends = tokens.ends ++ track.ends }

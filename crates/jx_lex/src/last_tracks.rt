@@ -1,5 +1,5 @@
 // Reading on where only one or two tracks are left.
-ghost use Rattle.std.specs.Prelude.{◌≡◌, ◌≤◌, ◌<◌, ◌+◌, ◌∷◌, [], ◌⊎◌, false, length, IfOk, IfSome, IsNone, slice_range};
+ghost use Rattle.std.specs.Prelude.{◌≡◌, ◌≤◌, ◌<◌, ◌+◌, ◌∷◌, [], ◌⊎◌, false, length, IfOk, IfSome, IsNone, IsTrue, slice_range};
 ghost use Rattle.jx_lex.specs.declared.link.Link.TheVariants.{State};
 ghost use Rattle.jx_lex.specs.Bundle.{ReadsOn, is_apart};
 
@@ -9,6 +9,12 @@ use crate::passes::plain_end;
 use crate::segment::Segment;
 use crate::state::LexState;
 use std::alloc::AllocError;
+
+// Two tracks are read apart over so many bytes at first, and over twice as many each time up to so many: where they meet,
+// what was read of that stretch is read again.
+const FIRST_STRETCH: usize = 64;
+
+const LONGEST_STRETCH: usize = 4096;
 
 /// Whether both stand in a state, and not in the same one.
 fn are_apart(first: Link, second: Link) -> bool
@@ -68,6 +74,84 @@ fn read_pair(
     Ok(i)
 }
 
+/// Whether both may lead to one place: false where they surely don't.
+fn may_lead_alike(first: Link, second: Link) -> bool
+    ensures { result ≡ false → first ≡ second → ⊥ }
+{
+    match (first, second) {
+        (Link::State(one), Link::State(other)) => ordinal(one) == ordinal(other),
+        (Link::State(_), Link::Fault(_)) => false,
+        (Link::Fault(_), Link::State(_)) => false,
+        _ => true,
+    }
+}
+
+/// The end of a stretch of so many bytes, or of all that is left.
+fn stretch_end(from: usize, to: usize, stretch: usize) -> usize
+    requires { (from < to) × (0 < stretch) }
+    ensures { (from < result) × (result ≤ to) }
+{
+    if to - from < stretch {
+        to
+    } else {
+        from + stretch
+    }
+}
+
+/// Reads two segments over a stretch, one after the other. Where they then lead to the same, they may have met in it: both
+/// are put back as they were, and the answer is true.
+fn may_have_met(
+    first: &mut Segment,
+    second: &mut Segment,
+    text: &[u8],
+    from: usize,
+    to: usize,
+) -> Result<bool, AllocError>
+    requires { (from ≤ to) × (to ≤ length text.now) }
+    ensures read { IfOk result (λ met. met ≡ false → ReadsOn from (slice_range text.now from to) (first.old ∷ second.old ∷ []) (first.new ∷ second.new ∷ [])) }
+    ensures back { IfOk result (λ met. IsTrue met → (first.new ≡ first.old) × (second.new ≡ second.old)) }
+{
+    let (marks, ends, next) = (first.marks().len(), first.ends().len(), first.next());
+    let (others, other_ends, other) = (second.marks().len(), second.ends().len(), second.next());
+    first.read_span(text, from, to)?;
+    second.read_span(text, from, to)?;
+    if may_lead_alike(first.next(), second.next()) {
+        first.go_back(marks, ends, next);
+        second.go_back(others, other_ends, other);
+        return Ok(true);
+    }
+    Ok(false)
+}
+
+/// Reads two segments while they stand in two states, each over a stretch at a time. Gives the end of what was read.
+fn read_stretches(
+    first: &mut Segment,
+    second: &mut Segment,
+    text: &[u8],
+    from: usize,
+    to: usize,
+) -> Result<usize, AllocError>
+    requires { (from ≤ to) × (to ≤ length text.now) }
+    ensures bounds { IfOk result (λ end. (from ≤ end) × (end ≤ to)) }
+    ensures read { IfOk result (λ end. ReadsOn from (slice_range text.now from end) (first.old ∷ second.old ∷ []) (first.new ∷ second.new ∷ [])) }
+    ensures done { IfOk result (λ end. end < to → is_apart first.new.next second.new.next ≡ false) }
+{
+    let mut i = from;
+    let mut stretch = FIRST_STRETCH;
+    while i < to && are_apart(first.next(), second.next()) {
+        let end = stretch_end(i, to, stretch);
+        if may_have_met(first, second, text, i, end)? {
+            let met = read_pair(first, second, text, i, to)?;
+            return Ok(met);
+        }
+        i = end;
+        if stretch < LONGEST_STRETCH {
+            stretch *= 2;
+        }
+    }
+    Ok(i)
+}
+
 /// Reads to the end where two segments have come to stand in one state: they go on in a third.
 fn read_met(
     lanes: Vec<Segment>,
@@ -121,7 +205,7 @@ fn read_two(
     let mut lanes = lanes;
     let mut first = first;
     let mut second = second;
-    let i = read_pair(&mut first, &mut second, text, from, to)?;
+    let i = read_stretches(&mut first, &mut second, text, from, to)?;
     if let Some(state) = common_state(first.next(), second.next()) {
         let lanes = read_met(lanes, first, second, state, text, i, to)?;
         return Ok(lanes);

@@ -12,7 +12,6 @@ mod classes;
 mod depth;
 mod ends;
 mod exit;
-mod fast;
 mod join_fault;
 mod keeper;
 mod kind;

@@ -1,11 +1,13 @@
 // Where a track goes on.
 ghost use Rattle.std.specs.Prelude.{◌≡◌, ◌<◌, ◌+◌, ◌^◌, map};
 ghost use Rattle.jx_lex.specs.Follow.{IsIn, shifted, head, linked};
-ghost use Rattle.jx_lex.specs.Step.{link_of};
+ghost use Rattle.jx_lex.specs.Step.{link_at, link_of};
+ghost use Rattle.jx_lex.specs.View.{exit_of};
 ghost use Rattle.jx_lex.specs.Ordinal.{all_states};
 ghost use Rattle.jx_lex.specs.declared.link.Link.TheVariants.{State};
 ghost use Rattle.jx_lex.specs.declared.state.LexState.{LexState};
 
+use crate::exit::Exit;
 use crate::ordinal::ordinal;
 use crate::state::LexState;
 
@@ -25,6 +27,16 @@ impl Link {
         match next {
             Some(state) => Link::State(state),
             None => Link::Fault(at),
+        }
+    }
+
+    /// Where a reading ends.
+    pub(crate) fn of(exit: Exit) -> Link
+        ensures { result ≡ link_at (exit_of exit) }
+    {
+        match exit {
+            Exit::State(state) => Link::State(state),
+            Exit::Fault(at) => Link::Fault(at),
         }
     }
 

@@ -1,16 +1,11 @@
 // Going on after a byte over what follows of its token, or over blanks.
-ghost use Rattle.std.specs.Prelude.{◌≡◌, ◌≤◌, ◌<◌, ◌+◌, ◌↔◌, List, IfOk, IsTrue, slice_range, length};
-ghost use Rattle.jx_lex.specs.declared.link.Link.TheVariants.{State};
-ghost use Rattle.jx_lex.specs.declared.mark.Mark.{Mark};
+ghost use Rattle.std.specs.Prelude.{◌≡◌, ◌≤◌, ◌<◌, ◌+◌, ◌↔◌, IsTrue, slice_range, length};
 ghost use Rattle.jx_lex.specs.declared.state.LexState.TheVariants as state;
-ghost use Rattle.jx_lex.specs.Passing.{read_bytes};
 ghost use Rattle.jx_lex.specs.Runs.{AllKeep, Leads};
 ghost use Rattle.jx_lex.specs.Token.{IsE};
 
-use crate::parts::string_end;
 use crate::passes::{blank_end, digit_end};
 use crate::state::LexState;
-use std::alloc::AllocError;
 
 // The end of the blanks that follow. They mostly stand alone, but for those after a line feed.
 #[inline(always)]
@@ -168,49 +163,4 @@ pub(crate) fn number_rest(text: &[u8], state: LexState, from: usize, to: usize) 
     }
     let fraction = more_digits(text, last, pointed, to);
     exponent(text, last, fraction, to)
-}
-
-// What follows of a string, with the quotation mark that ends it.
-#[inline(always)]
-fn string_rest(
-    ends: &mut Vec<usize>,
-    text: &[u8],
-    from: usize,
-    to: usize,
-) -> Result<(LexState, usize), AllocError>
-    requires { (from ≤ to) × (to ≤ length text.now) }
-    ensures bounds { IfOk result (λ r. (from ≤ r.1) × (r.1 ≤ to)) }
-    ensures read { IfOk result (λ r. (marks : List Mark) → record { marks = marks; ends = ends.new.items; next = State r.0 }
-        ≡ read_bytes from (slice_range text.now from r.1) (record { marks = marks; ends = ends.old.items; next = State state.Str })) }
-{
-    let end = string_end(text, from, to);
-    if end < to && text[end] == b'"' {
-        ends.push(end + 1)?;
-        return Ok((LexState::Gap, end + 1));
-    }
-    Ok((LexState::Str, end))
-}
-
-/// Goes on from a state, to which this byte led, over what follows of a token or over blanks: gives the state behind it
-/// and its end.
-#[inline(always)]
-pub(crate) fn run_on(
-    ends: &mut Vec<usize>,
-    state: LexState,
-    text: &[u8],
-    byte: u8,
-    from: usize,
-    to: usize,
-) -> Result<(LexState, usize), AllocError>
-    requires { (from ≤ to) × (to ≤ length text.now) }
-    ensures bounds { IfOk result (λ r. (from ≤ r.1) × (r.1 ≤ to)) }
-    ensures read { IfOk result (λ r. (marks : List Mark) → record { marks = marks; ends = ends.new.items; next = State r.0 }
-        ≡ read_bytes from (slice_range text.now from r.1) (record { marks = marks; ends = ends.old.items; next = State state })) }
-{
-    match state {
-        LexState::Str => string_rest(ends, text, from, to),
-        LexState::Gap => Ok((LexState::Gap, gap_end(text, byte, from, to))),
-        LexState::Minus | LexState::Zero | LexState::Int => Ok(number_rest(text, state, from, to)),
-        _ => Ok((state, more_digits(text, state, from, to))),
-    }
 }

@@ -1,24 +1,24 @@
 // A part of one or more tracks.
-ghost use Rattle.std.specs.Prelude.{◌≡◌, ◌≤◌, ◌<◌, ◌+◌, ◌++◌, [], ◌^◌, length, OnOk, OnErr, IfOk};
+ghost use Rattle.std.specs.Prelude.{◌≡◌, ◌≤◌, ◌<◌, ◌+◌, ◌++◌, [], ◌^◌, length, take, slice_range, OnOk, OnErr};
 ghost use Rattle.jx_lex.specs.Closed.{ClosedTo};
 ghost use Rattle.jx_lex.specs.declared.state.LexState.{LexState};
 ghost use Rattle.jx_lex.specs.Follow.{IsIn, head, linked, linked_parts};
+ghost use Rattle.jx_lex.specs.Passing.{read_bytes};
 ghost use Rattle.jx_lex.specs.Step.{read_part};
 
+use crate::keeper::Keeper;
 use crate::link::Link;
 use crate::machine::step;
 use crate::mark::Mark;
 use crate::state::{LexState, TokenEnd};
-use smallvec::SmallVec;
+use crate::tokens::Tokens;
 use std::alloc::{AllocError, Global};
 use std::marker::Model;
-use std::mem;
 
 /// Marks and ends that stand one after another in each track that comes here.
 #[derive(Drop)]
 pub struct Segment {
-    marks: SmallVec<Mark, 4>,
-    ends: SmallVec<usize, 4>,
+    tokens: Tokens,
     next: Link,
 }
 
@@ -27,7 +27,7 @@ impl Model for Segment {
 
     ghost Value = { Part };
 
-    ghost view = { λ s. record { marks = s.marks.items; ends = s.ends.items; next = s.next } };
+    ghost view = { λ s. record { marks = s.tokens.marks; ends = s.tokens.ends; next = s.next } };
 }
 
 impl Segment {
@@ -35,8 +35,7 @@ impl Segment {
         ensures { result ≡ record { marks = []; ends = []; next = next } }
     {
         Segment {
-            marks: SmallVec::new(alloc),
-            ends: SmallVec::new(alloc),
+            tokens: Tokens::new(alloc),
             next,
         }
     }
@@ -45,14 +44,14 @@ impl Segment {
     pub fn marks(&self) -> &[Mark]
         ensures { result.now ≡ self.now.marks }
     {
-        self.marks.as_slice()
+        self.tokens.marks()
     }
 
     /// Its ends of strings, numbers and literals, in order, each just past the token's last byte.
     pub fn ends(&self) -> &[usize]
         ensures { result.now ≡ self.now.ends }
     {
-        self.ends.as_slice()
+        self.tokens.ends()
     }
 
     /// What follows it.
@@ -66,9 +65,7 @@ impl Segment {
     pub(crate) fn empty(&mut self)
         ensures { self.new ≡ record self.old { marks = []; ends = [] } }
     {
-        let alloc = *self.marks.allocator();
-        self.marks = SmallVec::new(alloc);
-        self.ends = SmallVec::new(alloc);
+        self.tokens.empty();
     }
 
     /// Takes in one more byte, where this is the end of a track.
@@ -81,40 +78,38 @@ impl Segment {
         };
         let step = step(state, byte);
         match step.end {
-            Some(TokenEnd::Before) => self.ends.push(at)?,
-            Some(TokenEnd::After) => self.ends.push(at + 1)?,
+            Some(TokenEnd::Before) => self.tokens.end(at)?,
+            Some(TokenEnd::After) => self.tokens.end(at + 1)?,
             None => {}
         }
         if let Some(kind) = step.begin {
-            self.marks.push(Mark { kind, at })?;
+            self.tokens.begin(Mark { kind, at })?;
         }
         self.next = Link::after(step.next, at);
         Ok(())
     }
 
-    /// Its marks and ends as vectors with room for so many more, which it lets go of.
-    pub(crate) fn take_out(
+    /// Takes in a stretch of text, where this is the end of a track.
+    pub(crate) fn read_span(
         &mut self,
-        marks: usize,
-        ends: usize,
-    ) -> Result<(Vec<Mark>, Vec<usize>), AllocError>
-        ensures marks { IfOk result (λ r. r.0.items ≡ self.old.marks) }
-        ensures ends { IfOk result (λ r. r.1.items ≡ self.old.ends) }
+        text: &[u8],
+        from: usize,
+        to: usize,
+    ) -> Result<(), AllocError>
+        requires { (from ≤ to) × (to ≤ length text.now) }
+        ensures { OnOk result (self.new ≡ read_bytes from (slice_range text.now from to) self.old) }
     {
-        let alloc = *self.marks.allocator();
-        let mut old_marks = mem::replace(&mut self.marks, SmallVec::new(alloc)).into_vec()?;
-        let mut old_ends = mem::replace(&mut self.ends, SmallVec::new(alloc)).into_vec()?;
-        old_marks.reserve(marks)?;
-        old_ends.reserve(ends)?;
-        Ok((old_marks, old_ends))
+        if let Link::State(state) = self.next {
+            self.next = self.tokens.read(state, text, from, to)?;
+        }
+        Ok(())
     }
 
-    /// Has these marks and ends, and leads there.
-    pub(crate) fn put_in(&mut self, marks: Vec<Mark>, ends: Vec<usize>, next: Link)
-        ensures { self.new ≡ record { marks = marks.items; ends = ends.items; next = next } }
+    /// Keeps only its first so many marks and ends, and leads there.
+    pub(crate) fn go_back(&mut self, marks: usize, ends: usize, next: Link)
+        ensures { self.new ≡ record { marks = take marks self.old.marks; ends = take ends self.old.ends; next = next } }
     {
-        self.marks = SmallVec::from_vec(marks);
-        self.ends = SmallVec::from_vec(ends);
+        self.tokens.cut_back(marks, ends);
         self.next = next;
     }
 

@@ -1,10 +1,21 @@
 // Marks and ends, each in a vector.
-ghost use Rattle.std.specs.Prelude.{◌≡◌, ◌++◌, ◌∷◌, [], OnOk};
+ghost use Rattle.std.specs.Prelude.{◌≡◌, ◌≤◌, ◌++◌, ◌∷◌, [], ℕ, List, length, take, slice_range, OnOk, IfOk};
+ghost use Rattle.jx_lex.specs.declared.mark.Mark.{Mark};
+ghost use Rattle.jx_lex.specs.Lex.{lex};
+ghost use Rattle.jx_lex.specs.Seen.{with_tokens};
+ghost use Rattle.jx_lex.specs.Step.{link_at};
 
 use crate::keeper::Keeper;
+use crate::link::Link;
 use crate::mark::Mark;
+use crate::scanner::scan;
+use crate::state::LexState;
 use std::alloc::{AllocError, Global};
 use std::marker::Model;
+
+// A stretch of at least so many bytes has room reserved for a mark to each four bytes and an end to each eight, so that
+// its vectors need not grow. Memory that is never written to costs next to nothing.
+const BLOCK: usize = 64;
 
 /// All marks and ends that it is told of, in order.
 #[derive(Drop)]
@@ -47,6 +58,52 @@ impl Tokens {
     {
         &self.ends
     }
+
+    /// Reads a stretch of text from this state, and gives where the reading ends.
+    pub(crate) fn read(
+        &mut self,
+        state: LexState,
+        text: &[u8],
+        from: usize,
+        to: usize,
+    ) -> Result<Link, AllocError>
+        requires { (from ≤ to) × (to ≤ length text.now) }
+        ensures tokens { OnOk result (self.new ≡ with_tokens self.old (lex state from (slice_range text.now from to))) }
+        ensures next { IfOk result (λ next. next ≡ link_at ((lex state from (slice_range text.now from to)).exit)) }
+    {
+        let blocks = (to - from) / BLOCK;
+        self.reserve(blocks * BLOCK / 4, blocks * BLOCK / 8)?;
+        match scan(self, state, text, from, to)? {
+            Some(exit) => Ok(Link::of(exit)),
+            None => unreachable!(),
+        }
+    }
+
+    /// Makes room for so many more, so that they can be kept without a move.
+    pub(crate) fn reserve(&mut self, marks: usize, ends: usize) -> Result<(), AllocError>
+        ensures { OnOk result (self.new ≡ self.old) }
+    {
+        self.marks.reserve(marks)?;
+        self.ends.reserve(ends)?;
+        Ok(())
+    }
+
+    /// Keeps only the first so many.
+    pub(crate) fn cut_back(&mut self, marks: usize, ends: usize)
+        ensures { self.new ≡ record { marks = take marks self.old.marks; ends = take ends self.old.ends } }
+    {
+        self.marks.truncate(marks);
+        self.ends.truncate(ends);
+    }
+
+    /// Lets go of all of them, and of their memory.
+    pub(crate) fn empty(&mut self)
+        ensures { self.new ≡ record { marks = []; ends = [] } }
+    {
+        let alloc = *self.marks.allocator();
+        self.marks = Vec::new(alloc);
+        self.ends = Vec::new(alloc);
+    }
 }
 
 impl Keeper for Tokens {
@@ -55,13 +112,19 @@ impl Keeper for Tokens {
     ghost has_seen = { λ t marks ends. t ≡ record { marks = marks; ends = ends } };
 
     #[inline(always)]
-    fn begin(&mut self, mark: Mark) -> Result<(), AllocError> {
+    fn begin(&mut self, mark: Mark) -> Result<(), AllocError>
+        ensures seen { OnOk result ((marks : List Mark) (ends : List ℕ) → self.old ≡ record { marks = marks; ends = ends } → self.new ≡ record { marks = marks ++ mark ∷ []; ends = ends }) }
+        ensures kept { OnOk result (self.new ≡ record self.old { marks = self.old.marks ++ mark ∷ [] }) }
+    {
         self.marks.push(mark)?;
         Ok(())
     }
 
     #[inline(always)]
-    fn end(&mut self, at: usize) -> Result<(), AllocError> {
+    fn end(&mut self, at: usize) -> Result<(), AllocError>
+        ensures seen { OnOk result ((marks : List Mark) (ends : List ℕ) → self.old ≡ record { marks = marks; ends = ends } → self.new ≡ record { marks = marks; ends = ends ++ at ∷ [] }) }
+        ensures kept { OnOk result (self.new ≡ record self.old { ends = self.old.ends ++ at ∷ [] }) }
+    {
         self.ends.push(at)?;
         Ok(())
     }
