@@ -188,6 +188,12 @@ fn wide_names(rt: HostRuntime) -> Result<(), AllocError> {
     if let Some(index) = read {
         assert!(rt; leads(&index, "/\u{1F600}", b"2"));
         assert!(rt; leads(&index, "/\u{FF5E}", b"1"));
+        assert!(rt; has_row(&index, 0, Kind::Object, 0, 18));
+        if index.row(index.root()).kind == Kind::Object {
+            let names = index.names(index.root());
+            assert!(rt; names.len() == 2);
+            assert!(rt; names[0].number() == 2 && names[1].number() == 1);
+        }
     }
     Ok(())
 }

@@ -1,0 +1,2 @@
+pub mod ShelfFaults
+pub mod Shelved

@@ -1,0 +1,10 @@
+-- What a refused publication hands back.
+use Rattle.std.specs.Prelude.{◌≡◌, Option, IsSome}
+use Rattle.jx_index.specs.Indexed.{IndexedValue}
+use Rattle.jx_shelf.specs.declared.shelf_fault.ShelfFault.{ShelfFault}
+use Rattle.jx_shelf.specs.declared.shelf_fault.ShelfFault.TheVariants.{Taken, Memory}
+
+-- the index itself; where the shelf is taken the note then knows an index
+abbrev pub Refuses : IndexedValue → Option IndexedValue → ShelfFault → Type 0
+Refuses index known (Taken back) = (back ≡ index) × IsSome known
+Refuses index known (Memory back) = back ≡ index
