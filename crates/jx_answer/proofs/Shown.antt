@@ -1,14 +1,13 @@
 -- The elements of an input, by what a run over the whole of it shows.
-use Rattle.std.proofs.Common.{◌≡◌, ℕ, ◌+◌, ◌<◌, List, [], ◌∷◌, ◌++◌, length, None, sym, ap, subst, ◌∙◌, append_assoc, arith}
+use Rattle.std.proofs.Common.{◌≡◌, ℕ, ◌+◌, ◌<◌, List, [], ◌∷◌, ◌++◌, length, sym, ap, subst, ◌∙◌, append_assoc, arith}
 use Rattle.std.specs.Prelude.{All, slice_range}
 use Rattle.std.specs.List.{AllZip}
-use Rattle.std.proofs.lemmas.List.Elements.{All-filter}
-use Rattle.jx_run.specs.Elements.{Part, part, span_of, before_mark, after_marks, filled, has_bytes}
-use Rattle.jx_run.specs.SeqRun.{IsMarked, MarkedValue, IsSummary}
+use Rattle.std.proofs.lemmas.List.Elements.{filter-append, All-filter}
+use Rattle.jx_run.specs.Elements.{Part, part, span_of, before_mark, after_marks, elements, filled, has_bytes}
+use Rattle.jx_run.specs.SeqRun.{IsMarked, MarkedValue}
 use Rattle.jx_run.specs.Started.{StartedValue}
 use Rattle.jx_run.specs.TextRun.{TextRunValue, IsTextRun, place_of}
 use Rattle.jx_run.specs.Tree.{span}
-use Rattle.jx_run.proofs.ElementPlaces.{elements_plain, elements_marked}
 use Rattle.jx_answer.specs.declared.element.Element.{Element}
 use Rattle.jx_answer.specs.Sequence.{IsElement, AreElements}
 use Rattle.jx_answer.specs.Pushed.{IsReadable, IsShown, PushesEach, PushesFilled, part_of, unmarked}
@@ -55,6 +54,12 @@ module _ (input : List ℕ) (before : TextRunValue) (done : List StartedValue) (
   first_place =
       ap (λ n. span n (n + length (before_mark input))) (sym shown.start) ∙ ap (span before.map.start) (sym shown.summary.0.long)
 
+  -- the elements of the input, those behind separators parted as the run parts them
+  parts_are : elements 0 input ≡ filled (part 0 (before_mark input) ∷ []) ++ (filled is_marked.between ++ filled (is_marked.last ∷ []))
+  parts_are =
+      filter-append has_bytes (part 0 (before_mark input) ∷ []) (after_marks 0 input)
+      ∙ ap (λ ps. filled (part 0 (before_mark input) ∷ []) ++ ps) (ap filled is_marked.parts ∙ filter-append has_bytes is_marked.between (is_marked.last ∷ []))
+
   pub shown_elements : (one two three : List Element) → one ≡ [] ++ unmarked (place_of before) → PushesEach input done one two
       → PushesFilled input after.limit (part_of input (place_of after)) two three → AreElements input before.limit three
   shown_elements one two three h each last =
@@ -68,13 +73,5 @@ module _ (input : List ℕ) (before : TextRunValue) (done : List StartedValue) (
       let items : three ≡ unmarked (place_of before) ++ (each.more ++ last.more) =
       (last.new_is ∙ ap (λ (xs : List Element). xs ++ last.more) (each.new_is ∙ ap (λ (xs : List Element). xs ++ each.more) h)
       ∙ append_assoc (unmarked (place_of before)) each.more last.more) in
-      subst (λ (ps : List Part). AllZip R ps three) (sym (elements_marked 0 input is_marked.between is_marked.last is_marked.parts))
+      subst (λ (ps : List Part). AllZip R ps three) (sym parts_are)
       (subst (λ (es : List Element). AllZip R (filled (part 0 (before_mark input) ∷ []) ++ (filled is_marked.between ++ filled (is_marked.last ∷ []))) es) (sym items) all)
-
-pub plain_shown : (input : List ℕ) (before : TextRunValue) → before.map.start ≡ 0 → IsSummary input before None
-    → AreElements input before.limit (unmarked (place_of before))
-plain_shown input before start h =
-    let none = subst (λ n. after_marks n input ≡ []) start h.0 in
-    let place : span_of (part 0 input) ≡ place_of before = ap (λ n. span n (n + length input)) (sym start) ∙ ap (span before.map.start) (sym h.1.long) in
-    subst (λ (ps : List Part). AllZip (IsElement input before.limit) ps (unmarked (place_of before))) (sym (elements_plain 0 input none))
-    (unmarked_is input before.limit input (place_of before) place)

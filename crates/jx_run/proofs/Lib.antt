@@ -4,6 +4,7 @@ pub mod Completion
 pub mod ElementPlaces
 pub mod Endings
 pub mod FromGrammar
+pub mod Fronts
 pub mod Fused
 pub mod LawProofs
 pub mod Parts
@@ -14,7 +15,9 @@ pub mod SeqJoins
 pub mod SeqReading
 pub mod Spans
 pub mod StateOrder
+pub mod TextRuns
 pub mod Theorems
 pub mod ToGrammar
 pub mod Unique
 pub mod VerdictLaws
+pub mod Ways

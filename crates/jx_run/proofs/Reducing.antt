@@ -1,12 +1,14 @@
--- The entries that are made of a chunk map.
-use Rattle.std.proofs.Common.{◌≡◌, ◌≢◌, ℕ, zero, suc, ◌+◌, ◌<◌, ◌≤◌, List, [], ◌∷◌, ◌++◌, length, get_or, take, Option, Some, None, Bool, true, false, Result, Ok, Err, set, flat_map, append_assoc, refl, sym, ap, subst, ◌∙◌, arith, All}
+-- The ways that are made of a chunk map, and their structures.
+use Rattle.std.proofs.Common.{◌≡◌, ◌≢◌, ℕ, zero, suc, ◌+◌, ◌<◌, ◌≤◌, List, [], ◌∷◌, ◌++◌, length, get_or, take, Option, Some, None, Bool, true, false, Result, Ok, Err, set, flat_map, append_assoc, refl, sym, ap, subst, ◌∙◌, inl, inr, ◌⊎◌, arith, All}
 use Rattle.std.specs.Prelude.{◌==◌, slice_get, IfSome, IsSomeAnd, OnOk}
 use Rattle.std.proofs.lemmas.Bool.Decides.{Decides-eqb, nat_tests, not_from_Decides}
 use Rattle.std.proofs.lemmas.List.{get_or_default, get_or-set_same, get_or-set_other, length-set}
 use Rattle.std.proofs.Math.Seq.{take-suc}
 use Rattle.std.proofs.lemmas.List.Concat.{flat_map-cons}
-use Rattle.jx_lex.specs.declared.link.Link.TheVariants.{Fault}
-use Rattle.std.proofs.lemmas.List.Elements.{All-cons, All-nil}
+use Rattle.jx_lex.specs.declared.exit.Exit.{Exit}
+use Rattle.jx_lex.specs.declared.link.Link.{Link}
+use Rattle.jx_lex.specs.declared.link.Link.TheVariants.{Ahead, State, Fault}
+use Rattle.std.proofs.lemmas.List.Elements.{All-append, All-cons, All-nil}
 use Rattle.jx_lex.specs.declared.mark.Mark.{Mark}
 use Rattle.jx_lex.specs.declared.mark.MarkKind.{MarkKind}
 use Rattle.jx_lex.specs.declared.state.LexState.{LexState}
@@ -17,18 +19,21 @@ use Rattle.jx_lex.specs.Map.{Map, track}
 use Rattle.jx_lex.specs.Map
 use Rattle.jx_lex.specs.Moves.{move}
 use Rattle.jx_lex.specs.Ordinal.{all_states, ordinal}
-use Rattle.jx_lex.specs.View.{exit_of, marks_at, ends_at}
+use Rattle.jx_lex.specs.View.{exit_of, marks_at, ends_at, path_from}
 use Rattle.jx_reduce.specs.declared.expect.Expect.{Expect}
 use Rattle.jx_reduce.specs.declared.holder.Holder.{Holder}
 use Rattle.jx_reduce.specs.Offsets.{EachIn, RisingFrom}
 use Rattle.jx_reduce.specs.Read.{read as read_marks, Reading}
 use Rattle.jx_reduce.specs.Reductions.{Forms, IsBefore, IsOf, SpansIn, answer}
+use Rattle.jx_reduce.proofs.Reached.{slice_get-append_some}
 use Rattle.jx_reduce.proofs.Spans.{before_of_spans}
-use Rattle.jx_run.specs.declared.entries.Entries.{Entries}
+use Rattle.jx_run.specs.declared.way.Way.{Way}
 use Rattle.jx_run.specs.Reading.{at_exit, read}
-use Rattle.jx_run.specs.Reduced.{AreReduced, IsReduced, AreOf, AreOfEach, AreRising}
+use Rattle.jx_run.specs.Reduced.{AreInside, AreNumbered, AreReduced, AreRising, AreWaysOf, IsAt, IsReduced, IsWayOf, path_at}
+use Rattle.jx_run.specs.Joins.{IsAbove}
 use Rattle.jx_run.specs.OutcomeRun.{OutcomeRunValue, IsOutcomeRun, IsWithin, outcome_in}
 use Rattle.jx_run.proofs.StateOrder.{state-at}
+use Rattle.jx_run.proofs.Ways.{all_at, at_end, entries_are}
 
 -- ---- the marks of the lexical machine rise, and lie where the bytes do
 
@@ -76,7 +81,7 @@ lex-in s at (b ∷ bytes) =
 pub tracks_rise : (m : Map) (bytes : List ℕ) → Map.IsOf bytes m → AreRising m
 tracks_rise m bytes h s = subst (λ (t : Track). RisingFrom 0 t.marks) (sym (h.tracks s)) (lower 0 m.start _ (omega arith) (lex-rising s m.start bytes))
 
-tracks_in : (m : Map) (bytes : List ℕ) → Map.IsOf bytes m → (s : LexState) → EachIn (IsIn m.start m.end) (track m s).marks
+pub tracks_in : (m : Map) (bytes : List ℕ) → Map.IsOf bytes m → AreInside m
 tracks_in m bytes h s =
     subst (λ n. EachIn (IsIn m.start n) (track m s).marks) (sym h.long)
     (subst (λ (t : Track). EachIn (IsIn m.start (m.start + length bytes)) t.marks) (sym (h.tracks s)) (lex-in s m.start bytes))
@@ -205,70 +210,154 @@ pub both_ok : {A E P Q R : Type 0} (r : Result A E) → (P → Q → R) → OnOk
 both_ok (Ok x) f p q = f p q
 both_ok (Err e) f p q = tt
 
--- ---- the entries of all states
+-- ---- the structures of paths
+
+none-behind : (n : ℕ) (ps : List Part) → path_from n ps (Ahead (length ps)) ≡ []
+unfolding path_from
+none-behind n [] = refl
+none-behind n (p ∷ ps) = none-behind (suc n) ps
+
+-- a path that goes on begins with the number of its first segment
+begins : (n : ℕ) (ps : List Part) (k : ℕ) → (path_from n ps (Ahead k) ≡ []) ⊎ ((rest : List ℕ) × (path_from n ps (Ahead k) ≡ (n + k) ∷ rest))
+unfolding path_from
+begins n [] k = inl refl
+begins n (p ∷ ps) zero = let e : n ≡ n + 0 = omega arith in inr (path_from (suc n) ps p.next, ap (λ i. i ∷ path_from (suc n) ps p.next) e)
+begins n (p ∷ ps) (suc k) = pick (begins (suc n) ps k)
+  where
+    pick : (path_from (suc n) ps (Ahead k) ≡ []) ⊎ ((rest : List ℕ) × (path_from (suc n) ps (Ahead k) ≡ (suc n + k) ∷ rest))
+        → (path_from (suc n) ps (Ahead k) ≡ []) ⊎ ((rest : List ℕ) × (path_from (suc n) ps (Ahead k) ≡ (n + suc k) ∷ rest))
+    pick (inl h) = inl h
+    pick (inr h) = let e : suc n + k ≡ n + suc k = omega arith in inr (h.0, h.1 ∙ ap (λ i. i ∷ h.0) e)
+
+-- a path is known by its first segment
+pub path-first : (ps : List Part) (link : Link) (n : ℕ) (rest : List ℕ) → path_from 0 ps link ≡ n ∷ rest → path_at ps n ≡ path_from 0 ps link
+unfolding path_from
+path-first [] (State s) n rest h = absurd cc
+path-first (p ∷ ps) (State s) n rest h = absurd cc
+path-first [] (Fault at) n rest h = absurd cc
+path-first (p ∷ ps) (Fault at) n rest h = absurd cc
+path-first ps (Ahead k) n rest h = pick (begins 0 ps k)
+  where
+    pick : (path_from 0 ps (Ahead k) ≡ []) ⊎ ((more : List ℕ) × (path_from 0 ps (Ahead k) ≡ (0 + k) ∷ more)) → path_at ps n ≡ path_from 0 ps (Ahead k)
+    pick (inl e) = absurd cc
+    pick (inr e) =
+        let same : n ∷ rest ≡ (0 + k) ∷ e.0 = sym h ∙ e.1 in
+        let first : n ≡ 0 + k = cc in
+        let here : n ≡ k = omega (arith, first) in
+        ap (path_at ps) here
+
+pub path-none : (ps : List Part) (link : Link) → path_from 0 ps link ≡ [] → path_at ps (length ps) ≡ path_from 0 ps link
+path-none ps link h = none-behind 0 ps ∙ sym h
+
+pub none_numbered : (limit : ℕ) (ps : List Part) (numbers : List (Option ℕ)) (fs : List Forms) → All (λ number. number ≡ None) numbers → AreNumbered limit ps numbers fs
+none_numbered limit ps numbers fs h n i e = let none : Some i ≡ None = all_at (λ number. number ≡ None) numbers n (Some i) h e in absurd cc
+
+pub at_above : (limit : ℕ) (marks : List Mark) (olds news : List Forms) (i : ℕ) → IsAbove olds news → IsAt limit marks olds i → IsAt limit marks news i
+at_above limit marks olds news i up h = record { form = h.form; at = up i h.form h.at; of = h.of }
+
+pub push_above : (fs : List Forms) (f : Forms) → IsAbove fs (fs ++ f ∷ [])
+push_above fs f i g h = slice_get-append_some fs (f ∷ []) i g h
+
+pub pushed_at : (limit : ℕ) (marks : List Mark) (fs : List Forms) (f : Forms) → IsReduced limit marks f → IsAt limit marks (fs ++ f ∷ []) (length fs)
+pushed_at limit marks fs f h = record { form = f; at = at_end fs f; of = h }
+
+pub set_numbered : (limit : ℕ) (ps : List Part) (numbers : List (Option ℕ)) (olds news : List Forms) (k j : ℕ) → k < length numbers → AreNumbered limit ps numbers olds
+    → IsAbove olds news → IsAt limit (flat_map (marks_at ps) (path_at ps k)) news j → AreNumbered limit ps (set numbers k (Some j)) news
+set_numbered limit ps numbers olds news k j low h up new n i e = pick (n == k) refl
+  where
+    low' : n < length numbers
+    low' = subst (λ m. n < m) (length-set numbers k (Some j)) (slice_get_within (set numbers k (Some j)) n (Some i) e)
+
+    is : get_or (set numbers k (Some j)) n None ≡ Some i
+    is = get_or_from_slice_get (set numbers k (Some j)) n (Some i) None e
+
+    pick : (b : Bool) → (n == k) ≡ b → IsAt limit (flat_map (marks_at ps) (path_at ps n)) news i
+    pick true q =
+        let here : n ≡ k = grind (arith, nat_tests) in
+        let it : Some j ≡ Some i = sym (get_or-set_same numbers k (Some j) None low) ∙ ap (λ m. get_or (set numbers k (Some j)) m None) (sym here) ∙ is in
+        let number : j ≡ i = cc in
+        subst (λ m. IsAt limit (flat_map (marks_at ps) (path_at ps m)) news i) (sym here) (subst (IsAt limit (flat_map (marks_at ps) (path_at ps k)) news) number new)
+    pick false q =
+        let other : n ≢ k = not_from_Decides (n == k) (Decides-eqb n k) q in
+        at_above limit (flat_map (marks_at ps) (path_at ps n)) olds news i up
+        (h n i (slice_get-get_or numbers n None low' ∙ ap Some (sym (get_or-set_other numbers k n (Some j) None other) ∙ is)))
+
+pub reduced_within : (limit low high : ℕ) (marks : List Mark) (f : Forms) → IsReduced limit marks f → EachIn (λ (m : Mark). (low ≤ m.at) × (m.at < high)) marks → IsWithin limit low high f
+reduced_within limit low high marks f h inside = record { depth = h.depth; offsets = h.offsets low high inside }
+
+pub all_push : {X : Type 0} (P : X → Type 0) (xs : List X) (x : X) → All P xs → P x → All P (xs ++ x ∷ [])
+all_push P xs x h p = All-append P xs (x ∷ []) h (All-cons P x [] p (All-nil P))
+
+-- ---- the ways of all states
 
 pub states-many : length all_states ≡ 32
 states-many = refl
 
-pub each-more : (limit : ℕ) (m : Map) (ss : List LexState) (es : List Entries) (s : LexState) (e : Entries) → AreOfEach limit m ss es → AreOf limit (track m s) e
-    → AreOfEach limit m (ss ++ s ∷ []) (es ++ e ∷ [])
-each-more limit m [] [] s e h a = (a, tt)
-each-more limit m [] (x ∷ es) s e h a = absurd h
-each-more limit m (t ∷ ss) [] s e h a = absurd h
-each-more limit m (t ∷ ss) (x ∷ es) s e h a = (h.0, each-more limit m ss es s e h.1 a)
+module _ (limit : ℕ) (m : Map) where
+  each-above : (olds news : List Forms) → IsAbove olds news → (ss : List LexState) (ws : List Way) → AreWaysOf limit m olds ss ws → AreWaysOf limit m news ss ws
+  each-above olds news up [] [] h = tt
+  each-above olds news up [] (w ∷ ws) h = absurd h
+  each-above olds news up (s ∷ ss) [] h = absurd h
+  each-above olds news up (s ∷ ss) (w ∷ ws) h =
+      (record { exit = h.0.exit; marks = at_above limit _ olds news w.structure up h.0.marks }, each-above olds news up ss ws h.1)
 
-pub each-length : (limit : ℕ) (m : Map) (ss : List LexState) (es : List Entries) → AreOfEach limit m ss es → length es ≡ length ss
-each-length limit m [] [] h = refl
-each-length limit m [] (x ∷ es) h = absurd h
-each-length limit m (t ∷ ss) [] h = absurd h
-each-length limit m (t ∷ ss) (x ∷ es) h = ap suc (each-length limit m ss es h.1)
+  each-more : (fs : List Forms) (ss : List LexState) (ws : List Way) (s : LexState) (w : Way) → AreWaysOf limit m fs ss ws → IsWayOf limit fs (track m s) w
+      → AreWaysOf limit m fs (ss ++ s ∷ []) (ws ++ w ∷ [])
+  each-more fs [] [] s w h a = (a, tt)
+  each-more fs [] (x ∷ ws) s w h a = absurd h
+  each-more fs (t ∷ ss) [] s w h a = absurd h
+  each-more fs (t ∷ ss) (x ∷ ws) s w h a = (h.0, each-more fs ss ws s w h.1 a)
 
-abbrev EntryAt : ℕ → Map → List Entries → ℕ → LexState → Type 0
-EntryAt limit m es i s = (e : Entries) × (slice_get es i ≡ Some e) × AreOf limit (track m s) e
+  pub each-length : (fs : List Forms) (ss : List LexState) (ws : List Way) → AreWaysOf limit m fs ss ws → length ws ≡ length ss
+  each-length fs [] [] h = refl
+  each-length fs [] (x ∷ ws) h = absurd h
+  each-length fs (t ∷ ss) [] h = absurd h
+  each-length fs (t ∷ ss) (x ∷ ws) h = ap suc (each-length fs ss ws h.1)
 
-each-at : (limit : ℕ) (m : Map) (ss : List LexState) (es : List Entries) → AreOfEach limit m ss es → (i : ℕ) (s : LexState) → slice_get ss i ≡ Some s → EntryAt limit m es i s
-each-at limit m [] es h i s g = absurd cc
-each-at limit m (t ∷ ss) [] h i s g = absurd h
-each-at limit m (t ∷ ss) (x ∷ es) h zero s g = let e : t ≡ s = cc in subst (EntryAt limit m (x ∷ es) 0) e (x, refl, h.0)
-each-at limit m (t ∷ ss) (x ∷ es) h (suc i) s g = each-at limit m ss es h.1 i s g
+  pub each_there : (fs : List Forms) (ss : List LexState) (ws : List Way) → AreWaysOf limit m fs ss ws → All (λ (w : Way). w.structure < length fs) ws
+  each_there fs [] [] h = All-nil (λ (w : Way). w.structure < length fs)
+  each_there fs [] (x ∷ ws) h = absurd h
+  each_there fs (t ∷ ss) [] h = absurd h
+  each_there fs (t ∷ ss) (x ∷ ws) h =
+      All-cons (λ (w : Way). w.structure < length fs) x ws (slice_get_within fs x.structure h.0.marks.form h.0.marks.at) (each_there fs ss ws h.1)
 
-each_within : (limit : ℕ) (m : Map) (ss : List LexState) (es : List Entries) → ((s : LexState) → EachIn (IsIn m.start m.end) (track m s).marks)
-    → AreOfEach limit m ss es → All (IsWithin limit m.start m.end) es
-each_within limit m [] [] w h = All-nil (IsWithin limit m.start m.end)
-each_within limit m [] (x ∷ es) w h = absurd h
-each_within limit m (t ∷ ss) [] w h = absurd h
-each_within limit m (t ∷ ss) (x ∷ es) w h =
-    All-cons (IsWithin limit m.start m.end) x es (record { depth = h.0.marks.depth; offsets = h.0.marks.offsets m.start m.end (w t) }) (each_within limit m ss es w h.1)
+  abbrev WayAt : List Forms → List Way → ℕ → LexState → Type 0
+  WayAt fs ws i s = (w : Way) × (slice_get ws i ≡ Some w) × IsWayOf limit fs (track m s) w
 
-pub all_within : (limit : ℕ) (m : Map) (es : List Entries) (bytes : List ℕ) → Map.IsOf bytes m → AreOfEach limit m all_states es → All (IsWithin limit m.start m.end) es
-all_within limit m es bytes h a = each_within limit m all_states es (tracks_in m bytes h) a
+  each-at : (fs : List Forms) (ss : List LexState) (ws : List Way) → AreWaysOf limit m fs ss ws → (i : ℕ) (s : LexState) → slice_get ss i ≡ Some s → WayAt fs ws i s
+  each-at fs [] ws h i s g = absurd cc
+  each-at fs (t ∷ ss) [] h i s g = absurd h
+  each-at fs (t ∷ ss) (x ∷ ws) h zero s g = let e : t ≡ s = cc in subst (WayAt fs (x ∷ ws) 0) e (x, refl, h.0)
+  each-at fs (t ∷ ss) (x ∷ ws) h (suc i) s g = each-at fs ss ws h.1 i s g
 
-pub each_next : (limit : ℕ) (m : Map) (states : List LexState) (i : ℕ) (es : List Entries) (d : LexState) (e : Entries) → i < 32 → states ≡ all_states
-    → AreOfEach limit m (take i all_states) es → AreOf limit (track m (get_or states i d)) e → AreOfEach limit m (take (i + 1) all_states) (es ++ e ∷ [])
-each_next limit m states i es d e low is h a =
-    subst (λ ss. AreOfEach limit m ss (es ++ e ∷ []))
-    (ap (λ ss. take i all_states ++ get_or ss i d ∷ []) is ∙ sym (take-suc all_states i d low) ∙ ap (λ n. take n all_states) (let n : suc i ≡ i + 1 = omega arith in n))
-    (each-more limit m (take i all_states) es (get_or states i d) e h a)
+  pub each_next : (states : List LexState) (i : ℕ) (olds news : List Forms) (ws : List Way) (d : LexState) (w : Way) → i < 32 → states ≡ all_states
+      → AreWaysOf limit m olds (take i all_states) ws → IsAbove olds news → IsWayOf limit news (track m (get_or states i d)) w
+      → AreWaysOf limit m news (take (i + 1) all_states) (ws ++ w ∷ [])
+  each_next states i olds news ws d w low is h up a =
+      subst (λ ss. AreWaysOf limit m news ss (ws ++ w ∷ []))
+      (ap (λ ss. take i all_states ++ get_or ss i d ∷ []) is ∙ sym (take-suc all_states i d low) ∙ ap (λ n. take n all_states) (let n : suc i ≡ i + 1 = omega arith in n))
+      (each-more news (take i all_states) ws (get_or states i d) w (each-above olds news up (take i all_states) ws h) a)
 
 -- ---- the run of the bytes
 
-outcome_is : (limit : ℕ) (s : LexState) (start : ℕ) (bytes : List ℕ) (t : Track) (e : Entries) → t ≡ lex s start bytes → AreOf limit t e
-    → (x : Expect) (o : List Holder) → length o ≤ limit → at_exit (exit_of e.exit) (answer e.marks x o) ≡ read limit s x o start bytes
+outcome_is : (limit : ℕ) (s : LexState) (start : ℕ) (bytes : List ℕ) (t : Track) (x : Exit) (f : Forms) → t ≡ lex s start bytes → exit_of x ≡ t.exit → IsReduced limit t.marks f
+    → (e : Expect) (o : List Holder) → length o ≤ limit → at_exit (exit_of x) (answer f e o) ≡ read limit s e o start bytes
 unfolding read
-outcome_is limit s start bytes t e same a x o h =
-    ap (λ z. at_exit z (answer e.marks x o)) a.exit
-    ∙ ap (at_exit t.exit) (a.marks.reads x o (subst (λ d. length o ≤ d) (sym a.marks.depth) h))
-    ∙ ap (λ d. at_exit t.exit (read_marks d t.marks (Reading.went x o))) a.marks.depth
-    ∙ ap (λ (t : Track). at_exit t.exit (read_marks limit t.marks (Reading.went x o))) same
+outcome_is limit s start bytes t x f same ends a e o h =
+    ap (λ z. at_exit z (answer f e o)) ends
+    ∙ ap (at_exit t.exit) (a.reads e o (subst (λ d. length o ≤ d) (sym a.depth) h))
+    ∙ ap (λ d. at_exit t.exit (read_marks d t.marks (Reading.went e o))) a.depth
+    ∙ ap (λ (t : Track). at_exit t.exit (read_marks limit t.marks (Reading.went e o))) same
 
 pub outcomes_are_of : (run : OutcomeRunValue) (map : Map) (bytes : List ℕ) → run.start ≡ map.start → run.end ≡ map.end → Map.IsOf bytes map
-    → AreOfEach run.limit map all_states run.entries → IsOutcomeRun bytes run
+    → AreWaysOf run.limit map run.structures all_states run.ways → IsOutcomeRun bytes run
 outcomes_are_of run map bytes start end h a =
     record {
       long = end ∙ h.long ∙ ap (λ n. n + length bytes) (sym start);
-      outcomes = λ s x o short.
-          let e = each-at run.limit map all_states run.entries a (ordinal s) s (state-at s) in
-          ap (λ z. outcome_in z x o) e.1
-          ∙ outcome_is run.limit s map.start bytes (track map s) e.0 (h.tracks s) e.2 x o short
-          ∙ ap (λ n. read run.limit s x o n bytes) (sym start);
+      outcomes = λ s e o short.
+          let w = each-at run.limit map run.structures all_states run.ways a (ordinal s) s (state-at s) in
+          let k = (w.2).marks in
+          ap (λ z. outcome_in z e o) (entries_are run s w.0 k.form w.1 k.at)
+          ∙ outcome_is run.limit s map.start bytes (track map s) (w.0).exit k.form (h.tracks s) (w.2).exit k.of e o short
+          ∙ ap (λ n. read run.limit s e o n bytes) (sym start);
     }

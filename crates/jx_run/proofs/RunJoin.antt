@@ -1,28 +1,35 @@
 -- Runs of neighbours, joined, read what the neighbours read one after the other.
-use Rattle.std.proofs.Common.{◌≡◌, ◌≢◌, set, ℕ, zero, suc, ◌+◌, ◌-◌, ◌<◌, ◌≤◌, List, [], ◌∷◌, ◌++◌, length, get_or, drop, Option, Some, None, Bool, true, false, cond, refl, sym, ap, subst, ◌∙◌, inl, inr, ◌⊎◌, arith}
-use Rattle.std.specs.Prelude.{◌==◌, nat_lt, slice_get}
-use Rattle.std.proofs.lemmas.Bool.Decides.{Decides-eqb, nat_tests, not_from_Decides}
-use Rattle.std.proofs.lemmas.List.{get_or-set_same, get_or-set_other, length-append, length-set}
-use Rattle.std.proofs.lemmas.Option.{get_or_from_slice_get, slice_get-get_or, slice_get_cases, slice_get_past, slice_get_within}
+use Rattle.std.proofs.Common.{◌≡◌, ℕ, zero, suc, ◌+◌, ◌<◌, ◌≤◌, List, [], ◌∷◌, ◌++◌, length, get_or, take, drop, Option, Some, None, Bool, true, false, cond, refl, sym, ap, subst, ◌∙◌, inl, inr, ◌⊎◌, arith, All}
+use Rattle.std.specs.Prelude.{nat_lt, slice_get}
+use Rattle.std.proofs.Math.Seq.{take-suc}
+use Rattle.std.proofs.lemmas.Bool.Decides.{nat_tests}
+use Rattle.std.proofs.lemmas.List.{length-append}
+use Rattle.std.proofs.lemmas.List.Elements.{All-cons, All-nil}
+use Rattle.std.proofs.lemmas.Option.{slice_get_within}
 use Rattle.jx_lex.specs.declared.state.LexState.{LexState}
 use Rattle.jx_lex.specs.declared.mark.MarkKind.{MarkKind}
+use Rattle.jx_lex.specs.declared.exit.Exit as declared_exit
 use Rattle.jx_lex.specs.declared.exit.Exit.TheVariants as exit
 use Rattle.jx_lex.specs.Lex.{Exit}
 use Rattle.jx_lex.specs.Moves.{move}
-use Rattle.jx_lex.specs.Ordinal.{ordinal}
+use Rattle.jx_lex.specs.Ordinal.{all_states, ordinal}
 use Rattle.jx_lex.specs.View.{exit_of}
 use Rattle.jx_reduce.specs.declared.expect.Expect.{Expect}
 use Rattle.jx_reduce.specs.declared.holder.Holder.{Holder}
 use Rattle.jx_reduce.specs.Read.{Reading, top, then_by}
 use Rattle.jx_reduce.specs.Reductions.{Forms, answer, IsJoin, SpansIn}
-use Rattle.jx_reduce.proofs.Reached.{slice_get-append_some, slice_get-append_none}
+use Rattle.jx_reduce.proofs.Reached.{slice_get-append_some}
 use Rattle.jx_reduce.proofs.Spans.{SpansIn_wider}
-use Rattle.jx_run.specs.declared.entries.Entries.{Entries}
+use Rattle.jx_run.specs.declared.joins.Pair.{Pair}
+use Rattle.jx_run.specs.declared.way.Way.{Way}
 use Rattle.jx_run.specs.Turns.{Turn, wrong, on, enter, leave, turn}
 use Rattle.jx_run.specs.Reading.{Outcome, went, stopped, too_deep, at_exit, and_then, read}
-use Rattle.jx_run.specs.OutcomeRun.{OutcomeRunValue, entries_at, in_place, outcome_in, outcome, AllGoOn, GoesOn, IsJoined, IsOutcomeRun, IsWhole, IsWithin}
+use Rattle.jx_run.specs.Joins.{AreJoined, AreJoinedWays, AreMade, GoesOnWith, GoesThrough, IsAbove, IsJoinedWay, IsMade, IsMadeAt, IsOnward}
+use Rattle.jx_run.specs.OutcomeRun.{OutcomeRunValue, Entries, entries_at, outcome_in, outcome, GoesOn, IsOutcomeRun, IsWhole, IsWithin}
 use Rattle.jx_run.proofs.Completion.{run-append}
-use Rattle.jx_run.proofs.StateOrder.{ordinal-low}
+use Rattle.jx_run.proofs.Reducing.{states-many}
+use Rattle.jx_run.proofs.StateOrder.{state-at}
+use Rattle.jx_run.proofs.Ways.{all_at, at_end, entries_are, has_entries, one_of, some_of, with_one}
 use Rattle.jx_run.proofs.Fused.{after_turn, after_mark, in_next, run, read-run}
 
 -- ---- no reading comes to more open containers than the depth
@@ -113,151 +120,183 @@ goes_on_fault limit l right i ends e o w =
     ∙ fault_stays i (answer l.marks e o) (outcome right)
     ∙ ap (λ x. and_then (at_exit (exit_of x) (answer l.marks e o)) (outcome right)) (sym ends)
 
--- ---- where the offsets of joined entries lie
+-- ---- where the offsets of joined structures lie
 
-pub stays_within : (limit low between high : ℕ) (l : Entries) → IsWithin limit low between l → between ≤ high → IsWithin limit low high l
-stays_within limit low between high l w above =
-    record { depth = w.depth; offsets = SpansIn_wider low between low high l.marks (omega arith) above w.offsets }
+pub stays_within : (limit low between high : ℕ) (f : Forms) → IsWithin limit low between f → between ≤ high → IsWithin limit low high f
+stays_within limit low between high f w above =
+    record { depth = w.depth; offsets = SpansIn_wider low between low high f (omega arith) above w.offsets }
 
-pub joined_within : (limit low between high : ℕ) (l r j : Entries) → IsWithin limit low between l → IsWithin limit between high r → low ≤ between → between ≤ high
-    → j.marks.depth ≡ l.marks.depth
-    → ((low high : ℕ) → SpansIn low high l.marks → SpansIn low high r.marks → SpansIn low high j.marks) → IsWithin limit low high j
-joined_within limit low between high l r j w v below above deep spans =
+pub joined_within : (limit low between high : ℕ) (a b f : Forms) → IsWithin limit low between a → IsWithin limit between high b → low ≤ between → between ≤ high
+    → GoesOnWith a b f → IsWithin limit low high f
+joined_within limit low between high a b f w v below above goes =
     record {
-      depth = deep ∙ w.depth;
-      offsets = spans low high (SpansIn_wider low between low high l.marks (omega arith) above w.offsets) (SpansIn_wider between high low high r.marks below (omega arith) v.offsets);
+      depth = goes.depth ∙ w.depth;
+      offsets = goes.offsets low high (SpansIn_wider low between low high a (omega arith) above w.offsets) (SpansIn_wider between high low high b below (omega arith) v.offsets);
     }
 
--- the right's entries, by the left's depth and end
-pub right_within : (limit limit' between start high : ℕ) (r : Entries) → limit ≡ limit' → between ≡ start → IsWithin limit' start high r → IsWithin limit between high r
-right_within limit limit' between start high r e f w = record { depth = w.depth ∙ sym e; offsets = subst (λ m. SpansIn m high r.marks) (sym f) w.offsets }
+-- the right's structure, by the left's depth and end
+pub right_within : (limit limit' between start high : ℕ) (f : Forms) → limit ≡ limit' → between ≡ start → IsWithin limit' start high f → IsWithin limit between high f
+right_within limit limit' between start high f e i w = record { depth = w.depth ∙ sym e; offsets = subst (λ m. SpansIn m high f) (sym i) w.offsets }
 
-pub one_of : {X : Type 0} (xs : List X) (n : ℕ) (x y : X) → slice_get xs n ≡ Some x → slice_get xs n ≡ Some y → x ≡ y
-one_of xs n x y h k = cc
+-- ---- ways that go on
 
--- ---- the joined entries, one after another
+pub through_fault : (left right : OutcomeRunValue) (s : LexState) (w : Way) (i : ℕ) → slice_get left.ways (ordinal s) ≡ Some w → w.structure < length left.structures
+    → w.exit ≡ exit.Fault i → GoesThrough left right s w.exit (record { left = w.structure; right = None })
+through_fault left right s w i h low ends e f is deep made =
+    let a = some_of left.structures w.structure low in
+    let entries : Entries = record { exit = w.exit; marks = a.0 } in
+    let it : Some entries ≡ Some e = sym (entries_are left s w a.0 h a.1) ∙ is in
+    let same : entries ≡ e = cc in
+    subst (λ g. GoesOn left.limit e right (record { exit = w.exit; marks = g })) (sym (made a.0 a.1))
+    (subst (λ x. GoesOn left.limit x right entries) same (goes_on_fault left.limit entries right i ends))
 
-pub each_push : (left right : OutcomeRunValue) (js : List (Option Entries)) (j : Option Entries)
-    → ((n : ℕ) (x : Entries) (y : Option Entries) → slice_get left.entries n ≡ Some x → slice_get js n ≡ Some y → IsJoined left right x (in_place y x))
-    → ((x : Entries) → slice_get left.entries (length js) ≡ Some x → IsJoined left right x (in_place j x))
-    → (n : ℕ) (x : Entries) (y : Option Entries) → slice_get left.entries n ≡ Some x → slice_get (js ++ j ∷ []) n ≡ Some y → IsJoined left right x (in_place y x)
-each_push left right js j each last n x y h k = pick (slice_get_cases js n).1
-  where
-    pick : ((z : Option Entries) × (n < length js) × (slice_get js n ≡ Some z) × (get_or js n z ≡ z)) ⊎ ((length js ≤ n) × (slice_get js n ≡ None)) → IsJoined left right x (in_place y x)
-    pick (inl p) =
-        let same : p.0 ≡ y = one_of (js ++ j ∷ []) n p.0 y (slice_get-append_some js (j ∷ []) n p.0 p.2) k in
-        subst (λ z. IsJoined left right x (in_place z x)) same (each n x p.0 h p.2)
-    pick (inr p) = at_end (n - length js) refl
-      where
-        at_end : (m : ℕ) → n - length js ≡ m → IsJoined left right x (in_place y x)
-        at_end zero e =
-            let here : n ≡ length js = let low = p.0 in omega (arith, e, low) in
-            let k' : slice_get (j ∷ []) 0 ≡ Some y = sym (ap (slice_get (j ∷ [])) e) ∙ sym (slice_get-append_none js (j ∷ []) n p.1) ∙ k in
-            let same : j ≡ y = cc in
-            subst (λ z. IsJoined left right x (in_place z x)) same (last x (sym (ap (slice_get left.entries) here) ∙ h))
-        at_end (suc m) e =
-            let k' : slice_get (j ∷ []) (suc m) ≡ Some y = sym (ap (slice_get (j ∷ [])) e) ∙ sym (slice_get-append_none js (j ∷ []) n p.1) ∙ k in
-            let past : slice_get (j ∷ []) (suc m) ≡ None = slice_get_past (j ∷ []) (suc m) (omega arith) in
-            absurd cc
+pub through_state : (left right : OutcomeRunValue) (s t : LexState) (w u : Way) → slice_get left.ways (ordinal s) ≡ Some w → w.structure < length left.structures
+    → w.exit ≡ exit.State t → slice_get right.ways (ordinal t) ≡ Some u → u.structure < length right.structures
+    → GoesThrough left right s u.exit (record { left = w.structure; right = Some u.structure })
+through_state left right s t w u h low ends k below e f is deep made =
+    let a = some_of left.structures w.structure low in
+    let b = some_of right.structures u.structure below in
+    let goes = made a.0 a.1 b.0 b.1 in
+    let entries : Entries = record { exit = w.exit; marks = a.0 } in
+    let next : Entries = record { exit = u.exit; marks = b.0 } in
+    let it : Some entries ≡ Some e = sym (entries_are left s w a.0 h a.1) ∙ is in
+    let same : entries ≡ e = cc in
+    subst (λ x. GoesOn left.limit x right (record { exit = u.exit; marks = f })) same
+    (goes_on_state left.limit entries next (record { exit = u.exit; marks = f }) right t ends (entries_are right t u b.0 k b.1) (sym goes.depth ∙ deep) refl goes.joined)
 
--- ---- the joined entries in their places
+pub from_there : (left : OutcomeRunValue) (s : LexState) (w : Way) → slice_get left.ways (ordinal s) ≡ Some w → w.structure < length left.structures
+    → (e : Entries) × (entries_at left s ≡ Some e)
+from_there left s w h low =
+    let a = some_of left.structures w.structure low in
+    (record { exit = w.exit; marks = a.0 }, entries_are left s w a.0 h a.1)
 
-pub set_same : {X : Type 0} (xs : List X) (k : ℕ) (a : X) → k < length xs → slice_get (set xs k a) k ≡ Some a
-set_same xs k a low = slice_get-get_or (set xs k a) k a (subst (λ n. k < n) (sym (length-set xs k a)) low) ∙ ap Some (get_or-set_same xs k a a low)
+-- ---- structures of pairs
 
-pub set_other : {X : Type 0} (xs : List X) (k n : ℕ) (a x : X) → n ≢ k → slice_get xs n ≡ Some x → slice_get (set xs k a) n ≡ Some x
-set_other xs k n a x other is =
-    let low = slice_get_within xs n x is in
-    slice_get-get_or (set xs k a) n x (subst (λ m. n < m) (sym (length-set xs k a)) low)
-    ∙ ap Some (get_or-set_other xs k n a x other ∙ get_or_from_slice_get xs n x x is)
+pub made_of : (left right : OutcomeRunValue) (pair : Pair) (r : ℕ) (a b f : Forms) → pair.right ≡ Some r → slice_get left.structures pair.left ≡ Some a
+    → slice_get right.structures r ≡ Some b → GoesOnWith a b f → IsMade left right pair f
+made_of left right pair r a b f is ha hb goes x hx =
+    subst (λ o. IsOnward right.structures o x f) (sym is)
+    (λ y hy. subst (λ z. GoesOnWith z y f) (one_of left.structures pair.left a x ha hx) (subst (λ z. GoesOnWith a z f) (one_of right.structures r b y hb hy) goes))
 
-slice_get_last : {X : Type 0} (xs : List X) (x : X) → slice_get (xs ++ x ∷ []) (length xs) ≡ Some x
-slice_get_last [] x = refl
-slice_get_last (y ∷ xs) x = slice_get_last xs x
-
-not_first : (n m : ℕ) → m ≤ n → n ≢ m → suc m ≤ n
-not_first n m h o = grind arith
-
--- the places from one on, once that one has its entries too
-pub put_next : (olds : List Entries) (js front : List (Option Entries)) (last : Option Entries) (news : List Entries)
-    → ((n : ℕ) (j : Option Entries) → slice_get (front ++ last ∷ []) n ≡ Some j → slice_get js n ≡ Some j)
-    → ((x : Entries) → slice_get olds (length front) ≡ Some x → slice_get news (length front) ≡ Some (in_place last x))
-    → ((n : ℕ) (x : Entries) (j : Option Entries) → suc (length front) ≤ n → slice_get olds n ≡ Some x → slice_get js n ≡ Some j → slice_get news n ≡ Some (in_place j x))
-    → (n : ℕ) (x : Entries) (j : Option Entries) → length front ≤ n → slice_get olds n ≡ Some x → slice_get js n ≡ Some j → slice_get news n ≡ Some (in_place j x)
-put_next olds js front last news same here done n x j low h k = pick (n == length front) refl
-  where
-    pick : (b : Bool) → (n == length front) ≡ b → slice_get news n ≡ Some (in_place j x)
-    pick true q =
-        let at : n ≡ length front = grind (arith, nat_tests) in
-        let one : last ≡ j = one_of js n last j (ap (slice_get js) at ∙ same (length front) last (slice_get_last front last)) k in
-        ap (slice_get news) at ∙ here x (sym (ap (slice_get olds) at) ∙ h) ∙ ap (λ z. Some (in_place z x)) one
-    pick false q =
-        let other : n ≢ length front = not_from_Decides (n == length front) (Decides-eqb n (length front)) q in
-        done n x j (not_first n (length front) low other) h k
-
--- each of the entries, joined
-pub record AreJoined (left right : OutcomeRunValue) (entries : List Entries) : Type 0 where
-  pub all : length entries ≡ length left.entries
-  pub each : (n : ℕ) (x y : Entries) → slice_get left.entries n ≡ Some x → slice_get entries n ≡ Some y → IsJoined left right x y
-
-pub some_of : {X : Type 0} (xs : List X) (n : ℕ) → n < length xs → (x : X) × (slice_get xs n ≡ Some x)
-some_of {X = X} xs n h = pick (slice_get_cases xs n).1
-  where
-    pick : ((x : X) × (n < length xs) × (slice_get xs n ≡ Some x) × (get_or xs n x ≡ x)) ⊎ ((length xs ≤ n) × (slice_get xs n ≡ None)) → (x : X) × (slice_get xs n ≡ Some x)
-    pick (inl p) = (p.0, p.2)
-    pick (inr p) = absurd (omega (arith, h, p.0))
-
-pub are_joined : (left right : OutcomeRunValue) (js : List (Option Entries)) (entries : List Entries) → AllGoOn left right js → length entries ≡ length left.entries
-    → ((n : ℕ) (x : Entries) (j : Option Entries) → slice_get left.entries n ≡ Some x → slice_get js n ≡ Some j → slice_get entries n ≡ Some (in_place j x))
-    → AreJoined left right entries
-are_joined left right js entries a many put =
+pub none_made : (left right : OutcomeRunValue) (pairs : List Pair) (fs : List Forms) → length pairs ≡ 0 → length fs ≡ 0 → AreMade left right pairs fs
+none_made left right pairs fs p f =
     record {
-      all = many;
-      each = λ n x y h k.
-          let low = slice_get_within left.entries n x h in
-          let j = some_of js n (let all = a.all in omega (arith, all, low)) in
-          subst (IsJoined left right x) (one_of entries n (in_place j.0 x) y (put n x j.0 h j.1) k) (a.each n x j.0 h j.1);
+      all = p ∙ sym f;
+      each = λ i pair h. let low = slice_get_within pairs i pair h in absurd (omega (arith, low, p));
     }
 
-pub joined_whole : (left right : OutcomeRunValue) (entries : List Entries) → IsWhole left → left.end ≤ right.end → AreJoined left right entries
-    → IsWhole (record { limit = left.limit; start = left.start; end = right.end; entries = entries })
-joined_whole left right entries w above a =
+pub push_made : (left right : OutcomeRunValue) (pairs : List Pair) (fs : List Forms) (pair : Pair) (f : Forms) → AreMade left right pairs fs → IsMade left right pair f
+    → AreMade left right (pairs ++ pair ∷ []) (fs ++ f ∷ [])
+push_made left right pairs fs pair f h made =
     record {
-      order = (let order = w.order in omega (arith, order, above));
-      all = a.all ∙ w.all;
-      within = λ n d low.
-          let all = a.all in
-          let x = some_of left.entries n (omega (arith, all, low)) in
-          (a.each n x.0 (get_or entries n d) x.1 (slice_get-get_or entries n d low)).within;
+      all = (let n = length-append pairs (pair ∷ []) in let m = length-append fs (f ∷ []) in let k = h.all in omega (arith, n, m, k));
+      each = λ i p e. pick i p (with_one pairs pair i p e);
     }
+  where
+    pick : (i : ℕ) (p : Pair) → (slice_get pairs i ≡ Some p) ⊎ ((i ≡ length pairs) × (pair ≡ p)) → IsMadeAt left right (fs ++ f ∷ []) p i
+    pick i p (inl e) =
+        let x = h.each i p e in
+        record { form = x.form; at = slice_get-append_some fs (f ∷ []) i x.form x.at; made = x.made }
+    pick i p (inr e) =
+        record {
+          form = f;
+          at = ap (slice_get (fs ++ f ∷ [])) (e.0 ∙ h.all) ∙ at_end fs f;
+          made = subst (λ q. IsMade left right q f) e.1 made;
+        }
+
+-- ---- the ways of the joined bytes
+
+module _ (left right : OutcomeRunValue) where
+  each-above : (olds news : List Forms) → IsAbove olds news → (ss : List LexState) (ws : List Way) → AreJoinedWays left right olds ss ws → AreJoinedWays left right news ss ws
+  each-above olds news up [] [] h = tt
+  each-above olds news up [] (w ∷ ws) h = absurd h
+  each-above olds news up (s ∷ ss) [] h = absurd h
+  each-above olds news up (s ∷ ss) (w ∷ ws) h =
+      (record { form = h.0.form; at = up w.structure h.0.form h.0.at; goes = h.0.goes }, each-above olds news up ss ws h.1)
+
+  each-more : (fs : List Forms) (ss : List LexState) (ws : List Way) (s : LexState) (w : Way) → AreJoinedWays left right fs ss ws → IsJoinedWay left right fs s w
+      → AreJoinedWays left right fs (ss ++ s ∷ []) (ws ++ w ∷ [])
+  each-more fs [] [] s w h a = (a, tt)
+  each-more fs [] (x ∷ ws) s w h a = absurd h
+  each-more fs (t ∷ ss) [] s w h a = absurd h
+  each-more fs (t ∷ ss) (x ∷ ws) s w h a = (h.0, each-more fs ss ws s w h.1 a)
+
+  pub joined-length : (fs : List Forms) (ss : List LexState) (ws : List Way) → AreJoinedWays left right fs ss ws → length ws ≡ length ss
+  joined-length fs [] [] h = refl
+  joined-length fs [] (x ∷ ws) h = absurd h
+  joined-length fs (t ∷ ss) [] h = absurd h
+  joined-length fs (t ∷ ss) (x ∷ ws) h = ap suc (joined-length fs ss ws h.1)
+
+  pub joined_there : (fs : List Forms) (ss : List LexState) (ws : List Way) → AreJoinedWays left right fs ss ws → All (λ (w : Way). w.structure < length fs) ws
+  joined_there fs [] [] h = All-nil (λ (w : Way). w.structure < length fs)
+  joined_there fs [] (x ∷ ws) h = absurd h
+  joined_there fs (t ∷ ss) [] h = absurd h
+  joined_there fs (t ∷ ss) (x ∷ ws) h =
+      All-cons (λ (w : Way). w.structure < length fs) x ws (slice_get_within fs x.structure h.0.form h.0.at) (joined_there fs ss ws h.1)
+
+  abbrev JoinedAt : List Forms → List Way → ℕ → LexState → Type 0
+  JoinedAt fs ws i s = (w : Way) × (slice_get ws i ≡ Some w) × IsJoinedWay left right fs s w
+
+  joined-at : (fs : List Forms) (ss : List LexState) (ws : List Way) → AreJoinedWays left right fs ss ws → (i : ℕ) (s : LexState) → slice_get ss i ≡ Some s → JoinedAt fs ws i s
+  joined-at fs [] ws h i s g = absurd cc
+  joined-at fs (t ∷ ss) [] h i s g = absurd h
+  joined-at fs (t ∷ ss) (x ∷ ws) h zero s g = let e : t ≡ s = cc in subst (JoinedAt fs (x ∷ ws) 0) e (x, refl, h.0)
+  joined-at fs (t ∷ ss) (x ∷ ws) h (suc i) s g = joined-at fs ss ws h.1 i s g
+
+  -- the way from the next state, by the structure of its pair
+  pub joined_next : (states : List LexState) (i : ℕ) (olds news : List Forms) (pairs : List Pair) (ws : List Way) (d : LexState) (out : declared_exit.Exit) (pair : Pair) (n : ℕ)
+      → i < 32 → states ≡ all_states → AreJoinedWays left right olds (take i all_states) ws → IsAbove olds news → AreMade left right pairs news
+      → All (IsWithin left.limit left.start right.end) news → slice_get pairs n ≡ Some pair → GoesThrough left right (get_or states i d) out pair
+      → AreJoinedWays left right news (take (i + 1) all_states) (ws ++ record { exit = out; structure = n } ∷ [])
+  joined_next states i olds news pairs ws d out pair n low is h up made within at goes =
+      let w : Way = record { exit = out; structure = n } in
+      let m = made.each n pair at in
+      let in_span : IsWithin left.limit left.start right.end m.form = all_at (IsWithin left.limit left.start right.end) news n m.form within m.at in
+      let it : IsJoinedWay left right news (get_or states i d) w = record { form = m.form; at = m.at; goes = λ e is. goes e m.form is in_span.depth m.made } in
+      subst (λ ss. AreJoinedWays left right news ss (ws ++ w ∷ []))
+      (ap (λ ss. take i all_states ++ get_or ss i d ∷ []) is ∙ sym (take-suc all_states i d low) ∙ ap (λ n. take n all_states) (let n : suc i ≡ i + 1 = omega arith in n))
+      (each-more news (take i all_states) ws (get_or states i d) w (each-above olds news up (take i all_states) ws h) it)
 
 -- ---- runs
 
-outcome_goes : (l r j : OutcomeRunValue) → IsWhole l → AreJoined l r j.entries → (s : LexState) (e : Expect) (o : List Holder)
-    → length o ≤ l.limit → outcome j s e o ≡ and_then (outcome l s e o) (outcome r)
-outcome_goes l r j w a s e o h =
-    let low : ordinal s < length l.entries = let n = w.all in let m = ordinal-low s in omega (arith, n, m) in
-    let x = some_of l.entries (ordinal s) low in
-    let y = some_of j.entries (ordinal s) (let all = a.all in omega (arith, all, low)) in
-    ap (λ z. outcome_in z e o) y.1
-    ∙ (a.each (ordinal s) x.0 y.0 x.1 y.1).goes_on e o h
+abbrev pub joined_run : OutcomeRunValue → OutcomeRunValue → List Way → List Forms → OutcomeRunValue
+joined_run left right ws fs = record { limit = left.limit; start = left.start; end = right.end; ways = ws; structures = fs }
+
+-- by what two runs show
+pub joined_seen : (l k r q : OutcomeRunValue) (ws : List Way) (fs : List Forms) → l ≡ k → r ≡ q → joined_run l r ws fs ≡ joined_run k q ws fs
+joined_seen l k r q ws fs e f = ap (λ (x : OutcomeRunValue). joined_run x r ws fs) e ∙ ap (λ (x : OutcomeRunValue). joined_run k x ws fs) f
+
+pub joined_whole : (left right : OutcomeRunValue) (ws : List Way) (fs : List Forms) → left.start ≤ right.end → AreJoined left right ws fs → IsWhole (joined_run left right ws fs)
+joined_whole left right ws fs order a =
+    record {
+      order = order;
+      all = joined-length left right fs all_states ws a.each ∙ states-many;
+      few = a.few;
+      there = joined_there left right fs all_states ws a.each;
+      within = a.within;
+    }
+
+outcome_goes : (l r : OutcomeRunValue) (ws : List Way) (fs : List Forms) → IsWhole l → AreJoined l r ws fs → (s : LexState) (e : Expect) (o : List Holder)
+    → length o ≤ l.limit → outcome (joined_run l r ws fs) s e o ≡ and_then (outcome l s e o) (outcome r)
+outcome_goes l r ws fs whole a s e o h =
+    let x = has_entries l whole s in
+    let w = joined-at l r fs all_states ws a.each (ordinal s) s (state-at s) in
+    let k = w.2 in
+    ap (λ z. outcome_in z e o) (entries_are (joined_run l r ws fs) s w.0 k.form w.1 k.at)
+    ∙ k.goes x.0 x.1 e o h
     ∙ ap (λ z. and_then (outcome_in z e o) (outcome r)) (sym x.1)
 
-pub joined_is_of : (l r j : OutcomeRunValue) → IsWhole l → AreJoined l r j.entries → j.limit ≡ l.limit → l.limit ≡ r.limit
-    → l.end ≡ r.start → j.start ≡ l.start → j.end ≡ r.end
-    → (xs ys : List ℕ) → IsOutcomeRun xs l → IsOutcomeRun ys r → IsOutcomeRun (xs ++ ys) j
-joined_is_of l r j w a jl lr mid start end xs ys x y =
+pub joined_is_of : (l r : OutcomeRunValue) (ws : List Way) (fs : List Forms) → IsWhole l → AreJoined l r ws fs → l.limit ≡ r.limit → l.end ≡ r.start
+    → (xs ys : List ℕ) → IsOutcomeRun xs l → IsOutcomeRun ys r → IsOutcomeRun (xs ++ ys) (joined_run l r ws fs)
+joined_is_of l r ws fs whole a lr mid xs ys x y =
     record {
-      long = (let n = length-append xs ys in let p = x.long in let q = y.long in omega (arith, n, p, q, mid, start, end));
+      long = (let n = length-append xs ys in let p = x.long in let q = y.long in omega (arith, n, p, q, mid));
       outcomes = λ s e o h.
-          let low : length o ≤ l.limit = subst (λ d. length o ≤ d) jl h in
-          outcome_goes l r j w a s e o low
-          ∙ ap (λ z. and_then z (outcome r)) (x.outcomes s e o low)
-          ∙ and_then-same l.limit (read l.limit s e o l.start xs) (outcome r) _ (read-within l.limit xs s e o l.start low)
+          outcome_goes l r ws fs whole a s e o h
+          ∙ ap (λ z. and_then z (outcome r)) (x.outcomes s e o h)
+          ∙ and_then-same l.limit (read l.limit s e o l.start xs) (outcome r) _ (read-within l.limit xs s e o l.start h)
           (λ s' e' o' w'. y.outcomes s' e' o' (subst (λ d. length o' ≤ d) lr w')
           ∙ ap (λ d. read d s' e' o' r.start ys) (sym lr)
           ∙ ap (λ i. read l.limit s' e' o' i ys) (sym mid ∙ x.long))
-          ∙ sym (read-append l.limit xs ys s e o l.start low)
-          ∙ ap (λ d. read d s e o l.start (xs ++ ys)) (sym jl)
-          ∙ ap (λ i. read j.limit s e o i (xs ++ ys)) (sym start);
+          ∙ sym (read-append l.limit xs ys s e o l.start h);
     }

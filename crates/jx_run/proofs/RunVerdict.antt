@@ -17,12 +17,11 @@ use Rattle.jx_reduce.specs.Form.{acts}
 use Rattle.jx_reduce.specs.Reduced.{answer_of, depth_of, form_in}
 use Rattle.jx_reduce.specs.Reductions.{Forms, answer, entry_of, form_at}
 use Rattle.jx_reduce.specs.Whole.{whole_of}
-use Rattle.jx_run.specs.declared.entries.Entries.{Entries}
 use Rattle.jx_run.specs.declared.verdict.Verdict.TheVariants as verdict
 use Rattle.jx_run.specs.declared.verdict.Refusal.TheVariants as refusal
 use Rattle.jx_run.specs.Laws.{is_end, verdict_of}
 use Rattle.jx_run.specs.Reading.{at_exit, and_then, read}
-use Rattle.jx_run.specs.OutcomeRun.{OutcomeRunValue, entries_at, exit_at, exit_in, outcome, outcome_in, outcome_of, GoesOn, IsOutcomeRun}
+use Rattle.jx_run.specs.OutcomeRun.{OutcomeRunValue, Entries, entries_at, exit_at, exit_in, outcome, outcome_in, outcome_of, GoesOn, IsOutcomeRun}
 use Rattle.jx_run.specs.Verdict.{Judged}
 use Rattle.jx_run.specs.Whole.{ends_text, verdict_from}
 use Rattle.jx_run.proofs.LawProofs.{verdict_law}

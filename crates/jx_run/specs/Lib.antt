@@ -1,10 +1,13 @@
 pub mod Elements
+pub mod Front
 pub mod Grammar
+pub mod Joins
 pub mod Laws
 pub mod OutcomeRun
 pub mod Reading
 pub mod Reduced
 pub mod SeqRun
+pub mod Settings
 pub mod Shape
 pub mod Started
 pub mod Text

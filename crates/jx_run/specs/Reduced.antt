@@ -1,14 +1,16 @@
 -- Structures of the marks of tracks.
-use Rattle.std.specs.Prelude.{◌≡◌, ℕ, ◌≤◌, ◌<◌, List, [], ◌∷◌, Option, Some, slice_get}
+use Rattle.std.specs.Prelude.{◌≡◌, ℕ, ◌≤◌, ◌<◌, ◌+◌, List, [], ◌∷◌, All, Option, Some, length, flat_map, slice_get}
+use Rattle.jx_lex.specs.declared.link.Link.TheVariants.{Ahead}
 use Rattle.jx_lex.specs.declared.mark.Mark.{Mark}
 use Rattle.jx_lex.specs.declared.state.LexState.{LexState}
 use Rattle.jx_lex.specs.Follow.{Part}
 use Rattle.jx_lex.specs.Lex.{Track}
 use Rattle.jx_lex.specs.Map.{Map, track}
-use Rattle.jx_lex.specs.View.{exit_of, marks_at}
+use Rattle.jx_lex.specs.View.{exit_of, marks_at, path_from}
 use Rattle.jx_reduce.specs.Offsets.{EachIn, RisingFrom}
 use Rattle.jx_reduce.specs.Reductions.{Forms, IsOf, SpansIn}
-use Rattle.jx_run.specs.declared.entries.Entries.{Entries}
+use Rattle.jx_run.specs.declared.way.Way.{Way}
+use Rattle.jx_run.specs.OutcomeRun.{IsWithin}
 
 -- the structure of these marks, which keeps no offset but theirs
 pub record IsReduced (limit : ℕ) (marks : List Mark) (f : Forms) : Type 0 where
@@ -20,18 +22,44 @@ pub record IsReduced (limit : ℕ) (marks : List Mark) (f : Forms) : Type 0 wher
 abbrev pub AreReduced : ℕ → List Part → List (Option Forms) → Type 0
 AreReduced limit ps parts = (n : ℕ) (f : Forms) → slice_get parts n ≡ Some (Some f) → IsReduced limit (marks_at ps n) f
 
--- the entries of a track
-pub record AreOf (limit : ℕ) (t : Track) (e : Entries) : Type 0 where
-  pub exit : exit_of e.exit ≡ t.exit
-  pub marks : IsReduced limit t.marks e.marks
+-- the structure in this place is that of these marks
+pub record IsAt (limit : ℕ) (marks : List Mark) (structures : List Forms) (i : ℕ) : Type 0 where
+  pub form : Forms
+  pub at : slice_get structures i ≡ Some form
+  pub of : IsReduced limit marks form
+
+-- the way of a track
+pub record IsWayOf (limit : ℕ) (structures : List Forms) (t : Track) (w : Way) : Type 0 where
+  pub exit : exit_of w.exit ≡ t.exit
+  pub marks : IsAt limit t.marks structures w.structure
 
 -- those of the tracks from these states, in order
-abbrev pub AreOfEach : ℕ → Map → List LexState → List Entries → Type 0
-AreOfEach limit m [] [] = Unit {0}
-AreOfEach limit m [] (e ∷ es) = ⊥
-AreOfEach limit m (s ∷ ss) [] = ⊥
-AreOfEach limit m (s ∷ ss) (e ∷ es) = AreOf limit (track m s) e × AreOfEach limit m ss es
+abbrev pub AreWaysOf : ℕ → Map → List Forms → List LexState → List Way → Type 0
+AreWaysOf limit m fs [] [] = Unit {0}
+AreWaysOf limit m fs [] (w ∷ ws) = ⊥
+AreWaysOf limit m fs (s ∷ ss) [] = ⊥
+AreWaysOf limit m fs (s ∷ ss) (w ∷ ws) = IsWayOf limit fs (track m s) w × AreWaysOf limit m fs ss ws
+
+-- the path that begins with the segment of this number; there is none behind the last
+abbrev pub path_at : List Part → ℕ → List ℕ
+path_at ps n = path_from 0 ps (Ahead n)
+
+-- by the number with which a path begins, the place of its structure, where it was made
+abbrev pub AreNumbered : ℕ → List Part → List (Option ℕ) → List Forms → Type 0
+AreNumbered limit ps numbers structures = (n i : ℕ) → slice_get numbers n ≡ Some (Some i) → IsAt limit (flat_map (marks_at ps) (path_at ps n)) structures i
+
+-- what was made of a map so far, the structures of segments and of paths
+pub record ArePaths (limit : ℕ) (m : Map) (parts : List (Option Forms)) (numbers : List (Option ℕ)) (structures : List Forms) : Type 0 where
+  pub parts_all : length parts ≡ length m.parts
+  pub numbers_all : length numbers ≡ length m.parts + 1
+  pub parts_are : AreReduced limit m.parts parts
+  pub numbers_are : AreNumbered limit m.parts numbers structures
+  pub within : All (IsWithin limit m.start m.end) structures
 
 -- the marks of each track rise
 abbrev pub AreRising : Map → Type 0
 AreRising m = (s : LexState) → RisingFrom 0 (track m s).marks
+
+-- and lie where its bytes do
+abbrev pub AreInside : Map → Type 0
+AreInside m = (s : LexState) → EachIn (λ (k : Mark). (m.start ≤ k.at) × (k.at < m.end)) (track m s).marks

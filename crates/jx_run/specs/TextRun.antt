@@ -6,7 +6,8 @@ use Rattle.jx_lex.specs.Lex.{lex}
 use Rattle.jx_lex.specs.Map.{Map, track}
 use Rattle.jx_reduce.specs.declared.expect.Expect.{Expect}
 use Rattle.jx_reduce.specs.declared.holder.Holder.{Holder}
-use Rattle.jx_run.specs.declared.entries.Entries.{Entries}
+use Rattle.jx_reduce.specs.Reductions.{Forms}
+use Rattle.jx_run.specs.declared.way.Way.{Way}
 use Rattle.jx_run.specs.OutcomeRun.{OutcomeRunValue, outcome}
 use Rattle.jx_run.specs.Reading.{read}
 use Rattle.jx_run.specs.Tree.{span}
@@ -14,14 +15,15 @@ use Rattle.jx_run.specs.Tree.{span}
 pub record TextRunValue : Type 0 where
   pub limit : ℕ
   pub map : Map
-  pub entries : List Entries
+  pub ways : List Way
+  pub structures : List Forms
 
 abbrev pub place_of : TextRunValue → Span
 place_of run = span run.map.start run.map.end
 
 -- its outcomes alone
 abbrev pub outcomes_of : TextRunValue → OutcomeRunValue
-outcomes_of run = record { limit = run.limit; start = run.map.start; end = run.map.end; entries = run.entries }
+outcomes_of run = record { limit = run.limit; start = run.map.start; end = run.map.end; ways = run.ways; structures = run.structures }
 
 -- the run is the summary of these bytes: from each state the marks, the ends and the exit are those of the lexical machine,
 -- and from each state, each expectation and every list of open containers within the depth the outcome is that of reading

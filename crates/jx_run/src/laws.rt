@@ -8,6 +8,9 @@ ghost use Rattle.jx_run.specs.Text.{Begins, IsDocument, Reads};
 ghost use Rattle.jx_run.specs.Reading.{read_text};
 ghost use Rattle.jx_run.specs.Laws.{Accepts, BeginsAtSomeDepth, FaultsAt, FaultsTooDeep, MeetsNoFault, span_of, verdict_of};
 ghost use Rattle.jx_run.specs.Verdict.{IsLongestBeginning, Judged};
+ghost use Rattle.jx_run.specs.Settings.{BeginsBy, IsDocumentBy, JudgedBy};
+ghost use Rattle.jx_run.specs.declared.settings.FrontMark.TheVariants.{Refused};
+ghost use Rattle.jx_run.specs.declared.settings.Settings.{Settings};
 ghost use Rattle.jx_run.specs.declared.verdict.Verdict.{Verdict};
 
 /// The plain reading is the grammar (RFC 8259, section 2): it meets no fault exactly on what begins a text, it accepts
@@ -44,4 +47,16 @@ pub fn beginnings_are_completed_by_bytes()
 pub fn values_fill_their_spans()
     ensures place { (text : List ℕ) (i j : ℕ) (rest : List ℕ) (tree : Tree) → Value i (drop i text) j rest tree → span_of tree ≡ span i j }
     ensures reads { (text : List ℕ) (i j : ℕ) (rest : List ℕ) (tree : Tree) → Value i (drop i text) j rest tree → Reads text i j tree }
+{}
+
+/// The verdict by settings is a function of the settings, the bytes and where they stand.
+pub fn verdict_by_settings_is_one()
+    ensures one_verdict { (settings : Settings) (at : ℕ) (bytes : List ℕ) (x y : Verdict) → JudgedBy settings at bytes x → JudgedBy settings at bytes y → x ≡ y }
+{}
+
+/// Where a byte order mark is refused, texts, beginnings and verdicts are those of the grammar alone.
+pub fn a_refused_mark_changes_nothing()
+    ensures texts { (settings : Settings) (at : ℕ) (bytes : List ℕ) (tree : Tree) → settings.mark ≡ Refused → IsDocumentBy settings at bytes tree ↔ IsDocument at bytes settings.depth tree }
+    ensures begins { (settings : Settings) (bytes : List ℕ) → settings.mark ≡ Refused → BeginsBy settings bytes ↔ Begins bytes settings.depth }
+    ensures verdict { (settings : Settings) (at : ℕ) (bytes : List ℕ) (verdict : Verdict) → settings.mark ≡ Refused → JudgedBy settings at bytes verdict ↔ Judged at bytes settings.depth verdict }
 {}

@@ -1,6 +1,7 @@
 // Runs over parts of a JSON text that keep no marks.
-ghost use Rattle.std.specs.Prelude.{◌≡◌, ◌<◌, ◌≤◌, ℕ, List, [], ◌++◌, length, Option, Some, slice_get, slice_range, IfOk, IfErr};
+ghost use Rattle.std.specs.Prelude.{◌≡◌, ◌<◌, ◌≤◌, ℕ, List, [], ◌++◌, length, Some, slice_get, slice_range, IfOk, IfErr};
 ghost use Rattle.jx_lex.specs.Map.{IsOf};
+ghost use Rattle.jx_lex.specs.Ordinal.{ordinal};
 ghost use Rattle.jx_lex.specs.View.{exit_of};
 ghost use Rattle.jx_reduce.specs.Fits.{IsOfSize};
 ghost use Rattle.jx_reduce.specs.Reduced.{answer_of, depth_of, form_in};
@@ -8,31 +9,34 @@ ghost use Rattle.jx_reduce.specs.Reductions.{answer, entry_of, form_at};
 ghost use Rattle.jx_reduce.specs.Whole.{whole_of};
 ghost use Rattle.jx_reduce.specs.declared.expect.Expect.TheVariants.{Value};
 ghost use Rattle.jx_reduce.specs.declared.holder.Holder.{Holder};
-ghost use Rattle.jx_run.specs.OutcomeRun.{entries_at, exit_at, in_place, outcome, place_of, AllGoOn, IsJoined, IsOutcomeRun, IsWithin};
+ghost use Rattle.jx_run.specs.Joins.{AreJoined, GoesThrough, IsMade, IsThere};
+ghost use Rattle.jx_run.specs.OutcomeRun.{entries_at, exit_at, place_of, Entries, IsOutcomeRun, IsWithin};
 ghost use Rattle.jx_run.specs.Reading.{at_exit, read};
 ghost use Rattle.jx_run.specs.Verdict.{Judged};
 ghost use Rattle.jx_run.specs.Whole.{ends_text, verdict_from};
-ghost use Rattle.jx_run.specs.declared.entries.Entries.{Entries};
 
-use crate::entries::Entries;
-use crate::reduce::all_entries;
-use crate::states::place_of;
+use crate::joins::{Joins, Pair};
+use crate::reduce::all_ways;
+use crate::states::{all_states, place_of};
 use crate::summary::Summary;
 use crate::verdict::{Refusal, Verdict};
+use crate::way::Way;
 use jx_lex::{ChunkMap, Depth, Exit, JoinFault, LexState, Span};
-use jx_reduce::{Expect, Reduced, Whole};
+use jx_reduce::{Expect, Reduced, Reductions, Whole};
 use std::alloc::{AllocError, Global};
 use std::marker::Model;
 
 /// What reading part of a text comes to from each of the 32 lexical states and each of the six expectations, for every list
-/// of open containers that is no longer than the depth, without its marks. It takes memory bounded by the depth, whatever
-/// the length of the text; only while it is made from bytes are their marks held too.
+/// of open containers that is no longer than the depth, without its marks. It keeps at most 32 structures, whose size the
+/// depth bounds, whatever the length of the text; only while it is made from bytes are their marks held too.
 #[derive(Drop)]
 pub struct OutcomeRun {
     depth: Depth,
     span: Span,
-    // those of each state, in the order of the states
-    entries: Vec<Entries>,
+    // those of all states, in their order
+    ways: Vec<Way>,
+    // those of the ways, each once
+    structures: Vec<Reductions>,
 }
 
 impl Model for OutcomeRun {
@@ -40,9 +44,9 @@ impl Model for OutcomeRun {
 
     ghost Value = { OutcomeRunValue };
 
-    ghost view = { λ r. record { limit = r.depth; start = r.span.start; end = r.span.end; entries = r.entries.items } };
+    ghost view = { λ r. record { limit = r.depth; start = r.span.start; end = r.span.end; ways = r.ways.items; structures = r.structures.items } };
 
-    ghost invariant = { λ r. IsWhole (record { limit = r.depth; start = r.span.start; end = r.span.end; entries = r.entries.items }) };
+    ghost invariant = { λ r. IsWhole (record { limit = r.depth; start = r.span.start; end = r.span.end; ways = r.ways.items; structures = r.structures.items }) };
 }
 
 /// Whether a whole text may end in this state, with this expectation and so many open containers.
@@ -78,25 +82,11 @@ fn verdict_from(exit: Exit, whole: Whole) -> Verdict
     }
 }
 
-/// The verdict on a whole text, from the entries of its start.
-fn verdict_of(entries: &Entries) -> Verdict
-    ensures { result ≡ verdict_from entries.now.exit (whole_of (answer entries.now.marks Value [])) }
+/// The verdict on a whole text, from where its track ends and from the structure of its marks.
+fn verdict_of(exit: Exit, structure: &Reductions) -> Verdict
+    ensures { result ≡ verdict_from exit (whole_of (answer structure.now Value [])) }
 {
-    verdict_from(entries.exit, entries.marks.entry(Expect::Value).whole())
-}
-
-/// Puts the joined entries in their places; where there are none, the entries stay what they are.
-fn put(entries: &mut [Entries], joined: Vec<Option<Entries>>)
-    requires many { length joined.items ≡ length entries.old }
-    ensures many { length entries.new ≡ length entries.old }
-    ensures each { (n : ℕ) (x : Entries) (j : Option Entries) → slice_get entries.old n ≡ Some x → slice_get joined.items n ≡ Some j → slice_get entries.new n ≡ Some (in_place j x) }
-{
-    let mut joined = joined;
-    while let Some(last) = joined.pop() {
-        if let Some(other) = last {
-            entries[joined.len()] = other;
-        }
-    }
+    verdict_from(exit, structure.entry(Expect::Value).whole())
 }
 
 impl OutcomeRun {
@@ -112,11 +102,12 @@ impl OutcomeRun {
         ensures limit { IfOk result (λ r. r.limit ≡ depth) }
         ensures of { IfOk result (λ r. (bytes : List ℕ) → IsOf bytes map.now → IsOutcomeRun bytes r) }
     {
-        let entries = all_entries(alloc, map, depth)?;
+        let (ways, structures) = all_ways(alloc, map, depth)?;
         Ok(OutcomeRun {
             depth,
             span: map.span(),
-            entries,
+            ways,
+            structures,
         })
     }
 
@@ -125,130 +116,151 @@ impl OutcomeRun {
     pub fn verdict(&self) -> Verdict
         ensures verdict { (bytes : List ℕ) → IsOutcomeRun bytes self.now → Judged self.now.start bytes self.now.limit result }
     {
-        verdict_of(self.from(LexState::Gap))
+        let way = self.way_from(LexState::Gap);
+        let structure = self.structure(way.structure);
+        verdict_of(way.exit, structure)
     }
 
     /// Where reading from a state ends, or the offset at which the lexical machine faults.
     pub fn exit(&self, state: LexState) -> Exit
         ensures exit { exit_of result ≡ exit_at self.now state }
     {
-        self.from(state).exit
+        self.way_from(state).exit
     }
 
     /// What the marks come to from a state and an expectation. With where reading from that state ends, it tells what the
     /// bytes come to over open containers, as many as the depth at most.
     pub fn entry(&self, state: LexState, expect: Expect) -> &Reduced
         ensures depth { depth_of result.now ≡ self.now.limit }
-        ensures all { length self.now.entries ≡ 32 }
+        ensures all { length self.now.ways ≡ 32 }
+        ensures few { length self.now.structures ≤ 32 }
         ensures form { (e : Entries) → entries_at self.now state ≡ Some e → form_in result.now ≡ form_at e.marks (entry_of expect) }
         ensures size { IsOfSize self.now.limit (form_in result.now) }
         ensures reads { (bytes : List ℕ) → IsOutcomeRun bytes self.now → (holders : List Holder) → length holders ≤ self.now.limit → at_exit (exit_at self.now state) (answer_of result.now holders) ≡ read self.now.limit state expect holders self.now.start bytes }
     {
-        self.from(state).marks.entry(expect)
+        let way = self.way_from(state);
+        let structure = self.structure(way.structure);
+        structure.entry(expect)
     }
 
-    /// The verdict on the joined bytes as a whole text; neither run changes, and no entries but those of its start are joined.
+    /// The verdict on the joined bytes as a whole text; neither run changes, and no structure but that of its start is joined.
     pub(crate) fn verdict_with(&self, right: &OutcomeRun) -> Result<Verdict, AllocError>
         requires neighbours { self.now.end ≡ right.now.start }
         requires depth { self.now.limit ≡ right.now.limit }
         ensures verdict { (xs ys : List ℕ) → IsOutcomeRun xs self.now → IsOutcomeRun ys right.now → IfOk result (Judged self.now.start (xs ++ ys) self.now.limit) }
     {
-        // Shows the proof what both runs keep.
-        let _ = &self.depth;
-        let _ = &right.depth;
-        match self.go_on(place_of(LexState::Gap), right)? {
-            None => Ok(verdict_of(self.from(LexState::Gap))),
-            Some(joined) => Ok(verdict_of(&joined)),
-        }
+        let (exit, pair) = self.onward(LexState::Gap, right);
+        let structure = self.extended(pair, right)?;
+        Ok(verdict_of(exit, &structure))
     }
 
     /// Where its memory comes from.
     pub(crate) fn allocator(&self) -> Global {
-        *self.entries.allocator()
+        *self.ways.allocator()
     }
 
-    /// The entries of a state.
-    pub(crate) fn from(&self, state: LexState) -> &Entries
-        ensures all { length self.now.entries ≡ 32 }
-        ensures entries { entries_at self.now state ≡ Some result.now }
-        ensures within { IsWithin self.now.limit self.now.start self.now.end result.now }
+    fn way_from(&self, state: LexState) -> Way
+        ensures way { slice_get self.now.ways (ordinal state) ≡ Some result }
+        ensures there { result.structure < length self.now.structures }
+        ensures all { length self.now.ways ≡ 32 }
+        ensures few { length self.now.structures ≤ 32 }
     {
-        &self.entries[place_of(state)]
+        self.ways[place_of(state)]
     }
 
-    fn at(&self, number: usize) -> &Entries
-        requires number { number < length self.now.entries }
-        ensures entries { slice_get self.now.entries number ≡ Some result.now }
+    fn structure(&self, number: usize) -> &Reductions
+        requires number { number < length self.now.structures }
+        ensures structure { slice_get self.now.structures number ≡ Some result.now }
         ensures within { IsWithin self.now.limit self.now.start self.now.end result.now }
         ensures order { self.now.start ≤ self.now.end }
     {
-        &self.entries[number]
+        &self.structures[number]
     }
 
-    /// The entries of this number, joined with those of the right from where they end; none where they end at a fault,
-    /// and stay what they are.
-    fn go_on(&self, number: usize, right: &OutcomeRun) -> Result<Option<Entries>, AllocError>
-        requires number { number < length self.now.entries }
+    /// Where the way from a state ends in the joined bytes, and the structures that it goes through: those of the left alone
+    /// where it ends at a fault there.
+    fn onward(&self, state: LexState, right: &OutcomeRun) -> (Exit, Pair)
         requires neighbours { self.now.end ≡ right.now.start }
         requires depth { self.now.limit ≡ right.now.limit }
-        requires order { right.now.start ≤ right.now.end }
-        ensures { IfOk result (λ j. (x : Entries) → slice_get self.now.entries number ≡ Some x → IsJoined self.now right.now x (in_place j x)) }
+        ensures from { (e : Entries) × (entries_at self.now state ≡ Some e) }
+        ensures there { IsThere self.now right.now result.1 }
+        ensures goes { GoesThrough self.now right.now state result.0 result.1 }
     {
-        let left = self.at(number);
-        match left.exit {
-            Exit::Fault(_) => Ok(None),
-            Exit::State(state) => {
-                let next = right.from(state);
-                let mut marks = left.marks.copy()?;
-                marks.extend(&next.marks)?;
-                Ok(Some(Entries {
-                    exit: next.exit,
-                    marks,
-                }))
+        let way = self.way_from(state);
+        let left = way.structure;
+        match way.exit {
+            Exit::Fault(_) => (way.exit, Pair { left, right: None }),
+            Exit::State(last) => {
+                let next = right.way_from(last);
+                let pair = Pair {
+                    left,
+                    right: Some(next.structure),
+                };
+                (next.exit, pair)
             }
         }
     }
 
-    /// All entries that go on, joined with those of the right.
-    pub(crate) fn all_go_on(&self, right: &OutcomeRun) -> Result<Vec<Option<Entries>>, AllocError>
+    /// The structure of the left of a pair, gone on with that of the right.
+    pub(crate) fn extended(&self, pair: Pair, right: &OutcomeRun) -> Result<Reductions, AllocError>
+        requires there { IsThere self.now right.now pair }
         requires neighbours { self.now.end ≡ right.now.start }
         requires depth { self.now.limit ≡ right.now.limit }
-        requires order { right.now.start ≤ right.now.end }
-        ensures all { IfOk result (λ js. AllGoOn self.now right.now js.items) }
+        ensures made { IfOk result (IsMade self.now right.now pair) }
+        ensures within { IfOk result (IsWithin self.now.limit self.now.start right.now.end) }
     {
-        let count = self.entries.len();
-        let mut joined = Vec::with_capacity(*self.entries.allocator(), count)?;
-        for number in 0..count {
-            joined.push(self.go_on(number, right)?)?;
+        // Shows the proof what the right keeps.
+        let _ = &right.depth;
+        let mut marks = self.structure(pair.left).copy()?;
+        match pair.right {
+            None => Ok(marks),
+            Some(number) => {
+                marks.extend(right.structure(number))?;
+                Ok(marks)
+            }
         }
-        Ok(joined)
     }
 
-    /// The run over the joined bytes, by the entries that go on. It takes no memory.
-    pub(crate) fn with(self, right: &OutcomeRun, joined: Vec<Option<Entries>>) -> OutcomeRun
-        requires neighbours { self.end ≡ right.now.start }
-        requires depth { self.limit ≡ right.now.limit }
-        requires all { AllGoOn self right.now joined.items }
-        ensures start { result.start ≡ self.start }
-        ensures end { result.end ≡ right.now.end }
-        ensures limit { result.limit ≡ self.limit }
-        ensures of { (xs ys : List ℕ) → IsOutcomeRun xs self → IsOutcomeRun ys right.now → IsOutcomeRun (xs ++ ys) result }
+    /// The run over the joined bytes, in which each two structures that follow one another are joined once. Neither run
+    /// changes.
+    pub(crate) fn joined(&self, right: &OutcomeRun) -> Result<OutcomeRun, AllocError>
+        requires neighbours { self.now.end ≡ right.now.start }
+        requires depth { self.now.limit ≡ right.now.limit }
+        ensures start { IfOk result (λ j. j.start ≡ self.now.start) }
+        ensures end { IfOk result (λ j. j.end ≡ right.now.end) }
+        ensures limit { IfOk result (λ j. j.limit ≡ self.now.limit) }
+        ensures of { IfOk result (λ j. (xs ys : List ℕ) → IsOutcomeRun xs self.now → IsOutcomeRun ys right.now → IsOutcomeRun (xs ++ ys) j) }
     {
-        let OutcomeRun {
-            depth,
-            span,
-            mut entries,
-        } = self;
-        put(&mut entries, joined);
-        let span = Span {
-            start: span.start,
-            end: right.span.end,
-        };
-        OutcomeRun {
-            depth,
-            span,
-            entries,
+        // Shows the proof what both runs keep.
+        let _ = &self.depth;
+        let _ = &right.depth;
+        let (ways, structures) = self.all_onward(right)?;
+        Ok(OutcomeRun {
+            depth: self.depth,
+            span: Span {
+                start: self.span.start,
+                end: right.span.end,
+            },
+            ways,
+            structures,
+        })
+    }
+
+    /// The ways of the joined bytes, and their structures.
+    fn all_onward(&self, right: &OutcomeRun) -> Result<(Vec<Way>, Vec<Reductions>), AllocError>
+        requires neighbours { self.now.end ≡ right.now.start }
+        requires depth { self.now.limit ≡ right.now.limit }
+        ensures joined { IfOk result (λ j. AreJoined self.now right.now j.0.items j.1.items) }
+    {
+        let states = all_states();
+        let mut joins = Joins::new(self.allocator());
+        let mut ways = Vec::with_capacity(self.allocator(), states.len())?;
+        for place in 0..states.len() {
+            let (exit, pair) = self.onward(states[place], right);
+            let structure = joins.number_of(self, right, pair)?;
+            ways.push(Way { exit, structure })?;
         }
+        Ok((ways, joins.structures))
     }
 }
 
@@ -271,8 +283,8 @@ impl Summary for OutcomeRun {
     }
 
     fn join(self, right: Self) -> Result<Self, JoinFault<Self>> {
-        match self.all_go_on(&right) {
-            Ok(joined) => Ok(self.with(&right, joined)),
+        match self.joined(&right) {
+            Ok(joined) => Ok(joined),
             Err(AllocError) => Err(JoinFault { left: self, right }),
         }
     }

@@ -1,15 +1,17 @@
-// The entries of the tracks of a chunk map. The marks of each segment are reduced once.
-ghost use Rattle.std.specs.Prelude.{◌≡◌, ◌<◌, ◌++◌, List, All, None, length, flat_map, IfOk, IfSome, IsSomeAnd, OnOk};
+// The ways of a chunk map and their structures. The marks of each segment are reduced once, and those of each path.
+ghost use Rattle.std.specs.Prelude.{◌≡◌, ◌<◌, ◌≤◌, ◌+◌, ◌++◌, List, All, None, length, flat_map, IfOk, IfSome, IsSomeAnd, OnOk};
 ghost use Rattle.jx_lex.specs.Map.{track};
 ghost use Rattle.jx_lex.specs.Ordinal.{all_states};
-ghost use Rattle.jx_lex.specs.View.{marks_at};
+ghost use Rattle.jx_lex.specs.View.{marks_at, view_track};
 ghost use Rattle.jx_lex.specs.declared.mark.Mark.{Mark};
-ghost use Rattle.jx_reduce.specs.Offsets.{RisingFrom};
-ghost use Rattle.jx_run.specs.Reduced.{AreOf, AreOfEach, AreReduced, AreRising, IsReduced};
+ghost use Rattle.jx_reduce.specs.Offsets.{EachIn, RisingFrom};
+ghost use Rattle.jx_run.specs.Joins.{IsAbove};
+ghost use Rattle.jx_run.specs.OutcomeRun.{IsWithin};
+ghost use Rattle.jx_run.specs.Reduced.{path_at, AreInside, ArePaths, AreReduced, AreRising, AreWaysOf, IsAt, IsReduced};
 
-use crate::entries::Entries;
 use crate::states::all_states;
-use jx_lex::{ChunkMap, Depth, LexState, Path, Segment};
+use crate::way::Way;
+use jx_lex::{ChunkMap, Depth, LexState, Path, Segment, TrackView};
 use jx_reduce::Reductions;
 use std::alloc::{AllocError, Global};
 
@@ -75,54 +77,114 @@ fn reduce_path(
     Ok(reduced)
 }
 
-/// The entries of the track from a state.
-fn entries_from(
+/// So many places that are still to be filled.
+fn none<T: Drop>(alloc: Global, count: usize) -> Result<Vec<Option<T>>, AllocError>
+    ensures many { IfOk result (λ v. length v.items ≡ count) }
+    ensures none { IfOk result (λ v. All (λ x. x ≡ None) v.items) }
+{
+    let mut places = Vec::with_capacity(alloc, count)?;
+    for _ in 0..count {
+        places.push(None)?;
+    }
+    Ok(places)
+}
+
+/// The number with which the path of a track begins, or the count of the segments where it has none.
+fn first_of(track: &TrackView<'_>, count: usize) -> usize
+    requires { count ≡ length track.now.parts }
+    ensures low { result ≤ count }
+    ensures marks { flat_map (marks_at track.now.parts) (path_at track.now.parts result) ≡ (view_track track.now).marks }
+{
+    let mut path = track.path();
+    match path.next() {
+        Some(number) => number,
+        None => count,
+    }
+}
+
+/// The structure of the marks of the track from a state.
+fn structure_from(
     alloc: Global,
     map: &ChunkMap,
     state: LexState,
     parts: &mut [Option<Reductions>],
     depth: Depth,
-) -> Result<Entries, AllocError>
+) -> Result<Reductions, AllocError>
     requires many { length parts.old ≡ length map.now.parts }
     requires parts { AreReduced depth map.now.parts parts.old }
     requires rising { RisingFrom 0 (track map.now state).marks }
     ensures parts { OnOk result (AreReduced depth map.now.parts parts.new) }
-    ensures entries { IfOk result (AreOf depth (track map.now state)) }
+    ensures marks { IfOk result (IsReduced depth (track map.now state).marks) }
 {
     let track = map.entry(state);
-    let exit = track.exit();
-    let marks = reduce_path(alloc, map.segments(), parts, track.path(), depth)?;
-    Ok(Entries { exit, marks })
+    reduce_path(alloc, map.segments(), parts, track.path(), depth)
 }
 
-/// So many structures that are still to be made.
-fn no_parts(alloc: Global, count: usize) -> Result<Vec<Option<Reductions>>, AllocError>
-    ensures many { IfOk result (λ v. length v.items ≡ count) }
-    ensures none { IfOk result (λ v. All (λ part. part ≡ None) v.items) }
-{
-    let mut parts = Vec::with_capacity(alloc, count)?;
-    for _ in 0..count {
-        parts.push(None)?;
+/// The structures of paths. A path is known by the segment with which it begins, so states that take one path share its
+/// structure.
+#[derive(Drop)]
+struct Paths {
+    // those of the segments
+    parts: Vec<Option<Reductions>>,
+    // for each segment the number of the structure of the path that begins with it, and last that of the path of none
+    numbers: Vec<Option<usize>>,
+    structures: Vec<Reductions>,
+}
+
+impl Paths {
+    /// The number of the structure of the path from a state, which is made unless it was before.
+    fn number_of(
+        &mut self,
+        alloc: Global,
+        map: &ChunkMap,
+        state: LexState,
+        depth: Depth,
+    ) -> Result<usize, AllocError>
+        requires rising { RisingFrom 0 (track map.now state).marks }
+        requires inside { EachIn (λ m. (map.now.start ≤ m.at) × (m.at < map.now.end)) (track map.now state).marks }
+        requires made { ArePaths depth map.now self.old.parts.items self.old.numbers.items self.old.structures.items }
+        ensures made { OnOk result (ArePaths depth map.now self.new.parts.items self.new.numbers.items self.new.structures.items) }
+        ensures few { OnOk result (length self.new.structures.items ≤ length self.old.structures.items + 1) }
+        ensures above { OnOk result (IsAbove self.old.structures.items self.new.structures.items) }
+        ensures number { IfOk result (IsAt depth (track map.now state).marks self.new.structures.items) }
+    {
+        let first = first_of(&map.entry(state), map.segments().len());
+        if let Some(number) = self.numbers[first] {
+            return Ok(number);
+        }
+        let marks = structure_from(alloc, map, state, &mut self.parts, depth)?;
+        self.structures.push(marks)?;
+        let number = self.structures.len() - 1;
+        self.numbers[first] = Some(number);
+        Ok(number)
     }
-    Ok(parts)
 }
 
-/// The entries of the tracks from all states, in order.
-pub(crate) fn all_entries(
+/// The ways from all states, in order, and the structures of their paths.
+pub(crate) fn all_ways(
     alloc: Global,
     map: &ChunkMap,
     depth: Depth,
-) -> Result<Vec<Entries>, AllocError>
+) -> Result<(Vec<Way>, Vec<Reductions>), AllocError>
     requires rising { AreRising map.now }
-    ensures entries { IfOk result (λ v. AreOfEach depth map.now all_states v.items) }
+    requires inside { AreInside map.now }
+    ensures ways { IfOk result (λ r. AreWaysOf depth map.now r.1.items all_states r.0.items) }
+    ensures few { IfOk result (λ r. length r.1.items ≤ 32) }
+    ensures within { IfOk result (λ r. All (IsWithin depth map.now.start map.now.end) r.1.items) }
 {
-    let mut made = no_parts(alloc, map.segments().len())?;
-    let parts = made.as_mut_slice();
+    let count = map.segments().len();
+    let mut paths = Paths {
+        parts: none(alloc, count)?,
+        numbers: none(alloc, count + 1)?,
+        structures: Vec::new(alloc),
+    };
     let states = all_states();
-    let mut entries = Vec::with_capacity(alloc, states.len())?;
+    let mut ways = Vec::with_capacity(alloc, states.len())?;
     for place in 0..states.len() {
         let state = states[place];
-        entries.push(entries_from(alloc, map, state, parts, depth)?)?;
+        let structure = paths.number_of(alloc, map, state, depth)?;
+        let exit = map.entry(state).exit();
+        ways.push(Way { exit, structure })?;
     }
-    Ok(entries)
+    Ok((ways, paths.structures))
 }

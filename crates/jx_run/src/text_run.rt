@@ -6,12 +6,11 @@ ghost use Rattle.jx_reduce.specs.Fits.{IsOfSize};
 ghost use Rattle.jx_reduce.specs.Reduced.{answer_of, depth_of, form_in};
 ghost use Rattle.jx_reduce.specs.Reductions.{form_at, entry_of};
 ghost use Rattle.jx_reduce.specs.declared.holder.Holder.{Holder};
-ghost use Rattle.jx_run.specs.OutcomeRun.{entries_at, exit_at, IsOutcomeRun};
+ghost use Rattle.jx_run.specs.OutcomeRun.{entries_at, exit_at, Entries, IsOutcomeRun};
 ghost use Rattle.jx_run.specs.Reading.{at_exit, read};
 ghost use Rattle.jx_run.specs.Started.{IsStarted};
 ghost use Rattle.jx_run.specs.TextRun.{outcomes_of, place_of, IsTextRun};
 ghost use Rattle.jx_run.specs.Verdict.{Judged};
-ghost use Rattle.jx_run.specs.declared.entries.Entries.{Entries};
 
 use crate::outcome_run::OutcomeRun;
 use crate::started::Started;
@@ -38,7 +37,7 @@ impl Model for TextRun {
 
     ghost Value = { TextRunValue };
 
-    ghost view = { λ r. record { limit = r.outcomes.limit; map = r.map; entries = r.outcomes.entries } };
+    ghost view = { λ r. record { limit = r.outcomes.limit; map = r.map; ways = r.outcomes.ways; structures = r.outcomes.structures } };
 
     ghost invariant = { λ r. (r.outcomes.start ≡ r.map.start) × (r.outcomes.end ≡ r.map.end) };
 }
@@ -73,7 +72,8 @@ impl TextRun {
     /// bytes come to over open containers, as many as the depth at most.
     pub fn entry(&self, state: LexState, expect: Expect) -> &Reduced
         ensures depth { depth_of result.now ≡ self.now.limit }
-        ensures all { length self.now.entries ≡ 32 }
+        ensures all { length self.now.ways ≡ 32 }
+        ensures few { length self.now.structures ≤ 32 }
         ensures form { (e : Entries) → entries_at (outcomes_of self.now) state ≡ Some e → form_in result.now ≡ form_at e.marks (entry_of expect) }
         ensures size { IsOfSize self.now.limit (form_in result.now) }
         ensures reads { (bytes : List ℕ) → IsTextRun bytes self.now → (holders : List Holder) → length holders ≤ self.now.limit → at_exit (exit_at (outcomes_of self.now) state) (answer_of result.now holders) ≡ read self.now.limit state expect holders self.now.map.start bytes }
@@ -120,15 +120,12 @@ impl Summary for TextRun {
     }
 
     fn join(self, right: Self) -> Result<Self, JoinFault<Self>> {
-        let joined = match self.outcomes.all_go_on(&right.outcomes) {
-            Ok(joined) => joined,
+        let outcomes = match self.outcomes.joined(&right.outcomes) {
+            Ok(outcomes) => outcomes,
             Err(AllocError) => return Err(JoinFault { left: self, right }),
         };
         match self.map.join(right.map) {
-            Ok(map) => Ok(TextRun {
-                map,
-                outcomes: self.outcomes.with(&right.outcomes, joined),
-            }),
+            Ok(map) => Ok(TextRun { map, outcomes }),
             Err(fault) => Err(JoinFault {
                 left: TextRun {
                     map: fault.left,

@@ -2,29 +2,36 @@ use Rattle.std.proofs.Common.{◌∙◌, ap, sym, subst, arith, All}
 use Rattle.jx_lex.specs.declared.span.Span.{Span}
 use Rattle.jx_lex.specs.Ordinal.{all_states}
 use Rattle.jx_run.specs.OutcomeRun.{IsWithin}
-use Rattle.jx_run.proofs.Reducing.{tracks_rise, each-length, states-many, all_within, outcomes_are_of}
+use Rattle.jx_run.proofs.Reducing.{tracks_in, tracks_rise, each-length, each_there, states-many, outcomes_are_of}
 use Rattle.jx_run.proofs.outcome_run.OutcomeRun.of_map.Goals as goal
 
-pub all_entries-requires : goal.all_entries-requires
-all_entries-requires c = record { rising = tracks_rise c.args.map.now c.requires.of.0 c.requires.of.1 }
+pub all_ways-requires : goal.all_ways-requires
+all_ways-requires c = record {
+  rising = tracks_rise c.args.map.now c.requires.of.0 c.requires.of.1;
+  inside = tracks_in c.args.map.now c.requires.of.0 c.requires.of.1;
+}
 
 pub invariant_of-result : goal.invariant_of-result
 invariant_of-result c =
     let map = c.args.map.now in
+    let ws = c.in_ok-ways.ways.items in
+    let fs = c.in_ok-ways.structures.items in
+    let made = c.in_ok-ways.ensures in
     let long = c.requires.of.1.long in
     let place = c.span.ensures.value in
     let start = ap (λ (s : Span). s.start) place in
     let end = ap (λ (s : Span). s.end) place in
     record {
       order = omega (arith, long, start, end);
-      all = each-length c.args.depth map all_states c.in_ok-entries.entries.items c.in_ok-entries.ensures.entries ∙ states-many;
-      within =
-          subst (λ (s : Span). All (IsWithin c.args.depth s.start s.end) c.in_ok-entries.entries.items) (sym place)
-          (all_within c.args.depth map c.in_ok-entries.entries.items c.requires.of.0 c.requires.of.1 c.in_ok-entries.ensures.entries);
+      all = each-length c.args.depth map fs all_states ws made.ways ∙ states-many;
+      few = made.few;
+      there = each_there c.args.depth map fs all_states ws made.ways;
+      within = subst (λ (s : Span). All (IsWithin c.args.depth s.start s.end) fs) (sym place) made.within;
     }
 
 pub returns-clause-of : goal.returns-clause-of
 returns-clause-of c bytes h =
     let place = c.span.ensures.value in
-    outcomes_are_of (record { limit = c.args.depth; start = c.span.result.start; end = c.span.result.end; entries = c.in_ok-entries.entries.items }) c.args.map.now bytes
-    (ap (λ (s : Span). s.start) place) (ap (λ (s : Span). s.end) place) h c.in_ok-entries.ensures.entries
+    outcomes_are_of
+    (record { limit = c.args.depth; start = c.span.result.start; end = c.span.result.end; ways = c.in_ok-ways.ways.items; structures = c.in_ok-ways.structures.items })
+    c.args.map.now bytes (ap (λ (s : Span). s.start) place) (ap (λ (s : Span). s.end) place) h c.in_ok-ways.ensures.ways

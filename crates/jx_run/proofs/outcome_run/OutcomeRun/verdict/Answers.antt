@@ -1,11 +1,17 @@
 use Rattle.std.proofs.Common.{sym, subst}
+use Rattle.jx_lex.specs.declared.state.LexState.TheVariants.{Gap}
+use Rattle.jx_run.specs.OutcomeRun.{Entries}
 use Rattle.jx_run.specs.Verdict.{Judged}
 use Rattle.jx_run.proofs.RunVerdict.{run_judged}
+use Rattle.jx_run.proofs.Ways.{entries_are}
 use Rattle.jx_run.proofs.outcome_run.OutcomeRun.verdict.Goals as goal
 
 pub returns : goal.returns
-returns c = record {
-  verdict = λ bytes h.
-      subst (Judged c.args.self.now.start bytes c.args.self.now.limit) (sym c.verdict_of.ensures)
-      (run_judged c.args.self.now c.from.result.now c.from.ensures.entries bytes h);
-}
+returns c =
+    let w = c.way_from-way.result in
+    let e : Entries = record { exit = w.exit; marks = c.structure-structure.result.now } in
+    record {
+      verdict = λ bytes h.
+          subst (Judged c.args.self.now.start bytes c.args.self.now.limit) (sym c.verdict_of.ensures)
+          (run_judged c.args.self.now e (entries_are c.args.self.now Gap w e.marks c.way_from-way.ensures.way c.structure-structure.ensures.structure) bytes h);
+    }

@@ -1,0 +1,25 @@
+use Rattle.std.proofs.Common.{◌+◌, take, ap, sym, subst, ◌∙◌, arith}
+use Rattle.jx_lex.specs.Lex.{Track}
+use Rattle.jx_lex.specs.Ordinal.{all_states}
+use Rattle.jx_run.specs.declared.way.Way.{Way}
+use Rattle.jx_run.specs.Reduced.{AreWaysOf}
+use Rattle.jx_run.proofs.Reducing.{each_next}
+use Rattle.jx_run.proofs.reduce.all_ways.Goals as goal
+
+pub loop-place-preserved : goal.loop-place-preserved
+loop-place-preserved c =
+    let l = c.loop-place in
+    let m = c.args.map.now in
+    let n = c.in_ok-structure.ensures in
+    let news = c.number_of.new.self.structures.items in
+    let w : Way = record { exit = c.exit-exit.result; structure = c.in_ok-structure.structure } in
+    let before = l.invariant.few in
+    let now = n.few in
+    record {
+      paths = n.made;
+      few = omega (arith, before, now);
+      ways = subst (AreWaysOf c.args.depth m news (take (l.place + 1) all_states)) (sym c.in_ok-push.ensures.items)
+          (each_next c.args.depth m c.all_states-states.result l.place l.paths.structures.items news l.ways.items _ w
+          (let t = c.loop-place-test.true in omega (arith, t)) c.all_states-states.ensures l.invariant.ways n.above
+          (record { exit = c.exit-exit.ensures.value ∙ ap (λ (t : Track). t.exit) c.entry.ensures.track; marks = n.number }));
+    }

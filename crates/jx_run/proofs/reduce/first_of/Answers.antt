@@ -1,0 +1,18 @@
+use Rattle.std.proofs.Common.{flat_map, ap, sym, ◌∙◌}
+use Rattle.jx_lex.specs.View.{marks_at}
+use Rattle.jx_run.specs.Reduced.{path_at}
+use Rattle.jx_run.proofs.Reducing.{path-first, path-none}
+use Rattle.jx_run.proofs.reduce.first_of.Goals as goal
+
+pub returns-in-Some-clause-marks : goal.returns-in-Some-clause-marks
+returns-in-Some-clause-marks c =
+    let v = c.args.track.now in
+    let path = c.path-path.ensures in
+    ap (flat_map (marks_at v.parts)) (path-first v.parts v.first c.in-Some.number c.next.new.self (sym path.all ∙ c.in-Some.ensures.steps) ∙ sym path.all) ∙ path.marks
+
+pub returns-in-None-clause-marks : goal.returns-in-None-clause-marks
+returns-in-None-clause-marks c =
+    let v = c.args.track.now in
+    let path = c.path-path.ensures in
+    ap (λ n. flat_map (marks_at v.parts) (path_at v.parts n)) c.requires
+    ∙ ap (flat_map (marks_at v.parts)) (path-none v.parts v.first (sym path.all ∙ c.in-None.ensures.steps.0) ∙ sym path.all) ∙ path.marks

@@ -1,0 +1,30 @@
+use crate::verdict::Refusal;
+use jx_lex::Depth;
+
+/// Whether a byte order mark, the bytes EF BB BF, may stand in front of a text. It has no place in the grammar; a parser may
+/// ignore one (RFC 8259, section 8.1).
+#[derive(Clone, Copy, Debug, PartialEq, Eq)]
+pub enum FrontMark {
+    /// It is no part of a text, so a text that begins with one is refused.
+    Refused,
+    /// One may stand in front of a text, before all blanks. Offsets count its bytes.
+    Ignored,
+}
+
+/// What a reader is told besides the bytes.
+#[derive(Clone, Copy, Debug, PartialEq, Eq)]
+pub struct Settings {
+    /// How many containers may stand open at once.
+    pub depth: Depth,
+    /// What becomes of a byte order mark in front of a text.
+    pub mark: FrontMark,
+}
+
+/// Where a text begins behind what stands in front of it, or why there is none whatever follows.
+#[derive(Clone, Copy, Debug, PartialEq, Eq)]
+pub enum Front {
+    /// The text begins behind so many bytes.
+    Skip(usize),
+    /// The bytes in front are no mark and begin no text.
+    Refused(Refusal),
+}
