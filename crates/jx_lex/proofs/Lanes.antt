@@ -1,4 +1,4 @@
--- Tests of 16 bytes at once: the mask of a vector's lanes, and the first of them that passes.
+-- Tests of up to 64 bytes at once: the mask of a vector's lanes, and the first of them that passes.
 use Rattle.std.proofs.Common.{◌≡◌, ℕ, ◌+◌, ◌%◌, ◌^◌, ◌<◌, ◌≤◌, Bool, true, false, not, cond, List, [], ◌∷◌, length, map, get_or, refl, sym, ap, subst, inl, inr, ◌∙◌, arith, w8, w64, Fits}
 use Rattle.std.specs.Int.{bit_at, trailing_zeros}
 use Rattle.std.specs.Simd.Lanes.{Each1, mask_l, top, chunk}
@@ -37,49 +37,49 @@ pub masked : {us vs : List ℕ} → us ≡ vs → mask_l (map (top 7) us) % 2 ^ 
 masked e = ap (λ l. mask_l (map (top 7) l) % 2 ^ 64) e
 
 -- the mask of lanes that were computed byte by byte, where each of the 256 bytes was tried
-pub lanes_mask : (f : ℕ → ℕ) (p : ℕ → Bool) (v : List ℕ) → length v ≡ 16 → Each1 (Fits w8) v
+pub lanes_mask : (n : ℕ) → n ≤ 64 → (f : ℕ → ℕ) (p : ℕ → Bool) (v : List ℕ) → length v ≡ n → Each1 (Fits w8) v
     → all_below 256 (λ x. agree (top 7 (f x)) (p x)) ≡ true → mask_l (map (top 7) (map f v)) % 2 ^ 64 ≡ mask_l (map p v)
-lanes_mask f p v long fits h =
+lanes_mask n few f p v long fits h =
     ap (λ l. mask_l l % 2 ^ 64) (map-again f (top 7) v ∙ same_tests (λ x. top 7 (f x)) p h v fits)
     ∙ mask_l-mod (map p v) 64 (omega (arith, long, length-map v p))
 
 -- the lowest bit of a mask stands for a lane
-lowest_is_lane : (ms : List Bool) → length ms ≡ 16 → 0 < mask_l ms → mask_l ms < 2 ^ 64 → trailing_zeros w64 (mask_l ms) < 16
-lowest_is_lane ms long some fits = within (trailing_zeros w64 (mask_l ms)) ((bit_at-trailing_zeros w64 (mask_l ms) some fits).1)
+lowest_is_lane : (n : ℕ) (ms : List Bool) → length ms ≡ n → 0 < mask_l ms → mask_l ms < 2 ^ 64 → trailing_zeros w64 (mask_l ms) < n
+lowest_is_lane n ms long some fits = within (trailing_zeros w64 (mask_l ms)) ((bit_at-trailing_zeros w64 (mask_l ms) some fits).1)
   where
-    past : (r : ℕ) → bit_at (mask_l ms) r ≡ 1 → 16 ≤ r → r < 16
+    past : (r : ℕ) → bit_at (mask_l ms) r ≡ 1 → n ≤ r → r < n
     past r set le =
         let none : cond {A = ℕ} (get_or ms r false) 1 0 ≡ 0 = ap (λ b. cond {A = ℕ} b 1 0) (get_or_past ms r false (omega (arith, long))) in
         let some : cond {A = ℕ} (get_or ms r false) 1 0 ≡ 1 = sym (bit_mask_l ms r) ∙ set in
         absurd (omega (arith, none, some))
 
-    within : (r : ℕ) → bit_at (mask_l ms) r ≡ 1 → r < 16
-    within r set = elim (cases_lt r 16) [ inl lt ↦ lt | inr le ↦ past r set le ]
+    within : (r : ℕ) → bit_at (mask_l ms) r ≡ 1 → r < n
+    within r set = elim (cases_lt r n) [ inl lt ↦ lt | inr le ↦ past r set le ]
 
-module _ (p : ℕ → Bool) (xs : List ℕ) (i : ℕ) (room : i + 16 ≤ length xs) where
-  long : length (map p (chunk i 16 xs)) ≡ 16
-  long = length-map (chunk i 16 xs) p ∙ length-chunk i 16 xs room
+module _ (n : ℕ) (few : n ≤ 64) (narrow : 2 ^ n ≤ 2 ^ 64) (p : ℕ → Bool) (xs : List ℕ) (i : ℕ) (room : i + n ≤ length xs) where
+  long : length (map p (chunk i n xs)) ≡ n
+  long = length-map (chunk i n xs) p ∙ length-chunk i n xs room
 
-  small : mask_l (map p (chunk i 16 xs)) < 2 ^ 64
-  small = let below = subst (λ n. mask_l (map p (chunk i 16 xs)) < 2 ^ n) long (mask_l-lt (map p (chunk i 16 xs))) in omega (arith, below)
+  small : mask_l (map p (chunk i n xs)) < 2 ^ 64
+  small = let below = subst (λ k. mask_l (map p (chunk i n xs)) < 2 ^ k) long (mask_l-lt (map p (chunk i n xs))) in omega (arith, below, narrow)
 
-  counted : 0 < mask_l (map p (chunk i 16 xs)) → trailing_zeros w64 (mask_l (map p (chunk i 16 xs))) ≡ prefix_len (λ x. not (p x)) (chunk i 16 xs)
-  counted some = trailing_mask_l p 64 (chunk i 16 xs) (let l = length-chunk i 16 xs room in omega (arith, l)) some
+  counted : 0 < mask_l (map p (chunk i n xs)) → trailing_zeros w64 (mask_l (map p (chunk i n xs))) ≡ prefix_len (λ x. not (p x)) (chunk i n xs)
+  counted some = trailing_mask_l p 64 (chunk i n xs) (let l = length-chunk i n xs room in omega (arith, l)) some
 
-  first_lane : (r : ℕ) → r < 16 → r ≡ prefix_len (λ x. not (p x)) (chunk i 16 xs) → IsFirstPlace (λ k. p (get_or xs k 0)) i (i + 16) (i + r)
+  first_lane : (r : ℕ) → r < n → r ≡ prefix_len (λ x. not (p x)) (chunk i n xs) → IsFirstPlace (λ k. p (get_or xs k 0)) i (i + n) (i + r)
   first_lane r lt is = record {
     low = omega arith;
     high = omega arith;
-    before = run_in_chunk_fails p xs i 16 r 0 room is;
-    hit = λ h. run_in_chunk_stops p xs i 16 r 0 room is lt;
+    before = run_in_chunk_fails p xs i n r 0 room is;
+    hit = λ h. run_in_chunk_stops p xs i n r 0 room is lt;
   }
 
-  mask_marks : Marks (λ k. p (get_or xs k 0)) i 16 (mask_l (map p (chunk i 16 xs)))
+  mask_marks : Marks (λ k. p (get_or xs k 0)) i n (mask_l (map p (chunk i n xs)))
   mask_marks = record {
-    none = λ z. none_from_empty_mask p xs i 16 0 room z;
-    lowest = λ some. let lt = lowest_is_lane (map p (chunk i 16 xs)) long some small in (lt, first_lane _ lt (counted some));
+    none = λ z. none_from_empty_mask p xs i n 0 room z;
+    lowest = λ some. let lt = lowest_is_lane n (map p (chunk i n xs)) long some small in (lt, first_lane _ lt (counted some));
   }
 
-  -- the mask of 16 bytes from i on shows where the test holds first
-  pub marks_of : (m : ℕ) → m ≡ mask_l (map p (chunk i 16 xs)) → Marks (λ k. p (get_or xs k 0)) i 16 m
-  marks_of m is = subst (Marks (λ k. p (get_or xs k 0)) i 16) (sym is) mask_marks
+  -- the mask of the bytes from i on shows where the test holds first
+  pub marks_of : (m : ℕ) → m ≡ mask_l (map p (chunk i n xs)) → Marks (λ k. p (get_or xs k 0)) i n m
+  marks_of m is = subst (Marks (λ k. p (get_or xs k 0)) i n) (sym is) mask_marks

@@ -2,10 +2,11 @@
 ghost use Rattle.std.specs.Prelude.{◌≡◌, ◌≤◌, ◌&&◌, length, nat_le, nat_lt, ℕ, List};
 ghost use Rattle.jx_lex.specs.Ahead.{IsSound};
 
-// A stretch is at most so long, and at first only so long.
-const MOST: usize = 4096;
+// So many bytes are read one character after another before a stretch is tested.
+pub(crate) const LEAST: usize = 32;
 
-const FIRST: usize = 128;
+// A stretch is at most so long.
+const MOST: usize = 4096;
 
 /// A stretch of a text, and whether it is well-formed UTF-8 (RFC 3629, section 4). Where it is, a reader of strings need
 /// not look at its characters one by one.
@@ -14,7 +15,8 @@ pub(crate) struct Ahead {
     pub(crate) from: usize,
     pub(crate) to: usize,
     pub(crate) is_utf8: bool,
-    // How many bytes are tested next: each time twice as many, so that a short string doesn't cost a long stretch.
+    // How many bytes were read one character after another, or the length of this stretch. The next one is four times as
+    // long, so that a short string costs no long stretch.
     pub(crate) next: usize,
 }
 
@@ -28,7 +30,18 @@ impl Ahead {
             from: 0,
             to: 0,
             is_utf8: false,
-            next: FIRST,
+            next: 0,
+        }
+    }
+
+    /// The same stretch, after so many bytes that were read one character after another.
+    #[inline(always)]
+    pub(crate) fn past(self, length: usize) -> Ahead
+        ensures sound { (text : List ℕ) → IsSound text self → IsSound text result }
+    {
+        Ahead {
+            next: self.next.saturating_add(length),
+            ..self
         }
     }
 
@@ -38,14 +51,32 @@ impl Ahead {
         requires { (from ≤ to) × (to ≤ length text.now) }
         ensures sound { IsSound text.now result }
     {
-        let long = if self.next < MOST { self.next } else { MOST };
+        let long = if self.next < MOST / 4 {
+            self.next * 4
+        } else {
+            MOST
+        };
         let most = if to - from < long { to } else { from + long };
-        let end = characters_end(text, from, most);
+        let end = whole_end(text, from, most);
         Ahead {
             from,
             to: end,
             is_utf8: simdutf8::is_utf8(&text[from..end]),
-            next: long * 2,
+            next: long,
+        }
+    }
+
+    /// The stretch with the byte at this place, or the one that begins there where it pays to test it, or what it was.
+    #[inline(always)]
+    pub(crate) fn at(self, text: &[u8], at: usize, to: usize) -> Ahead
+        requires bounds { (at ≤ to) × (to ≤ length text.now) }
+        requires sound { IsSound text.now self }
+        ensures sound { IsSound text.now result }
+    {
+        if self.next >= LEAST && !self.covers(at, to) {
+            self.after(text, at, to)
+        } else {
+            self
         }
     }
 
@@ -60,7 +91,7 @@ impl Ahead {
 
 // The end of the characters that are whole before `to`, if these bytes are UTF-8.
 #[inline(always)]
-fn characters_end(text: &[u8], from: usize, to: usize) -> usize
+fn whole_end(text: &[u8], from: usize, to: usize) -> usize
     requires { (from ≤ to) × (to ≤ length text.now) }
     ensures { (from ≤ result) × (result ≤ to) }
 {

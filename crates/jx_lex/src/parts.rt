@@ -4,7 +4,7 @@ ghost use Rattle.jx_lex.specs.declared.state.LexState.TheVariants as state;
 ghost use Rattle.jx_lex.specs.Ahead.{IsSound};
 ghost use Rattle.jx_lex.specs.Runs.{Leads, is_tail, is_two, is_three, is_four, is_escaped, is_escape, is_hex, is_unit};
 
-use crate::ahead::Ahead;
+use crate::ahead::{Ahead, LEAST};
 use crate::passes::{plain_end, unescaped_end};
 
 #[inline(always)]
@@ -136,8 +136,58 @@ fn is_lead(byte: u8) -> bool
     byte >= 0xc0
 }
 
-// The end of what begins with a byte above 7F: in a stretch that is known to be UTF-8, that of all characters that need no
-// escape, and else that of one character, or `from` where none stands whole.
+// The end of the ordinary ASCII from a place on. Behind an escape or a character there is often none.
+#[inline(always)]
+fn ascii_end(text: &[u8], from: usize, to: usize) -> usize
+    requires { (from ≤ to) × (to ≤ length text.now) }
+    ensures bounds { (from ≤ result) × (result ≤ to) }
+    ensures led { Leads state.Str (slice_range text.now from result) state.Str }
+{
+    if from < to && (text[from] == b'"' || text[from] > 0x7f) {
+        return from;
+    }
+    plain_end(text, from, to)
+}
+
+// The end of escapes and of the ordinary ASCII between them and behind them.
+#[inline(never)]
+fn escaped_end(text: &[u8], from: usize, to: usize) -> usize
+    requires { (from ≤ to) × (to ≤ length text.now) }
+    ensures bounds { (from ≤ result) × (result ≤ to) }
+    ensures led { Leads state.Str (slice_range text.now from result) state.Str }
+{
+    let mut i = from;
+    while i < to && text[i] == b'\\' {
+        let end = escapes_end(text, i, to);
+        if end == i {
+            break;
+        }
+        i = ascii_end(text, end, to);
+    }
+    i
+}
+
+// The end of characters above 7F, read one after another as long as they begin before `most`, and of the ordinary ASCII
+// between them.
+#[inline(always)]
+fn sequences_end(text: &[u8], from: usize, most: usize, to: usize) -> usize
+    requires { (from ≤ to) × (most ≤ to) × (to ≤ length text.now) }
+    ensures bounds { (from ≤ result) × (result ≤ to) }
+    ensures led { Leads state.Str (slice_range text.now from result) state.Str }
+{
+    let mut i = from;
+    while i < most && text[i] > 0x7f {
+        let length = character_len(&text[i..to]);
+        if length == 0 {
+            break;
+        }
+        i = ascii_end(text, i + length, to);
+    }
+    i
+}
+
+// The end of characters from a byte above 7F on: of all that may stand for themselves in a stretch that is known to be
+// UTF-8, and else of a few; or `from` where none stands whole.
 #[inline(always)]
 fn characters_end(text: &[u8], from: usize, to: usize, ahead: Ahead) -> (usize, Ahead)
     requires bounds { (from < to) × (to ≤ length text.now) }
@@ -146,17 +196,16 @@ fn characters_end(text: &[u8], from: usize, to: usize, ahead: Ahead) -> (usize, 
     ensures led { Leads state.Str (slice_range text.now from result.0) state.Str }
     ensures sound { IsSound text.now result.1 }
 {
-    let mut ahead = ahead;
-    if !ahead.covers(from, to) {
-        ahead = ahead.after(text, from, to);
-    }
+    let ahead = ahead.at(text, from, to);
     if ahead.is_utf8 && ahead.covers(from, to) && is_lead(text[from]) {
         return (unescaped_end(text, from, ahead.to), ahead);
     }
-    (from + character_len(&text[from..to]), ahead)
+    let most = if to - from < LEAST { to } else { from + LEAST };
+    let end = sequences_end(text, from, most, to);
+    (end, ahead.past(end - from))
 }
 
-// The end of a run of escapes, of characters above 7F or of ordinary ASCII, or `from` where none stands there whole.
+// The end of a run of escapes or of characters above 7F, and of the ordinary ASCII behind it, or `from`.
 #[inline(always)]
 fn part_end(text: &[u8], from: usize, to: usize, ahead: Ahead) -> (usize, Ahead)
     requires bounds { (from < to) × (to ≤ length text.now) }
@@ -165,17 +214,14 @@ fn part_end(text: &[u8], from: usize, to: usize, ahead: Ahead) -> (usize, Ahead)
     ensures led { Leads state.Str (slice_range text.now from result.0) state.Str }
     ensures sound { IsSound text.now result.1 }
 {
-    let byte = text[from];
-    if byte == b'\\' {
-        (escapes_end(text, from, to), ahead)
-    } else if byte > 0x7f {
-        characters_end(text, from, to, ahead)
-    } else {
-        (plain_end(text, from, to), ahead)
+    if text[from] <= 0x7f {
+        return (escaped_end(text, from, to), ahead);
     }
+    let (end, known) = characters_end(text, from, to, ahead);
+    (ascii_end(text, end, to), known)
 }
 
-// `string_end_ahead`, from a byte on that is no ordinary ASCII.
+// `string_end_ahead`, from a byte above 7F on.
 #[inline(never)]
 fn parts_end(text: &[u8], from: usize, to: usize, ahead: Ahead) -> (usize, Ahead)
     requires bounds { (from ≤ to) × (to ≤ length text.now) }
@@ -197,6 +243,20 @@ fn parts_end(text: &[u8], from: usize, to: usize, ahead: Ahead) -> (usize, Ahead
     (i, ahead)
 }
 
+// The end of ordinary ASCII and of escapes.
+#[inline(always)]
+fn ascii_string_end(text: &[u8], from: usize, to: usize) -> usize
+    requires { (from ≤ to) × (to ≤ length text.now) }
+    ensures bounds { (from ≤ result) × (result ≤ to) }
+    ensures led { Leads state.Str (slice_range text.now from result) state.Str }
+{
+    let end = plain_end(text, from, to);
+    if end < to && text[end] == b'\\' {
+        return escaped_end(text, end, to);
+    }
+    end
+}
+
 /// The end of a run of whole characters and escapes of a string from `from` on, or `to`: a quotation mark, a fault, or
 /// the first byte of a part that isn't whole before `to`. What was learnt of the UTF-8 ahead serves the strings that follow.
 #[inline(always)]
@@ -207,8 +267,8 @@ pub(crate) fn string_end_ahead(text: &[u8], from: usize, to: usize, ahead: Ahead
     ensures led { Leads state.Str (slice_range text.now from result.0) state.Str }
     ensures sound { IsSound text.now result.1 }
 {
-    let end = plain_end(text, from, to);
-    if end < to && (text[end] == b'\\' || text[end] > 0x7f) {
+    let end = ascii_string_end(text, from, to);
+    if end < to && text[end] > 0x7f {
         return parts_end(text, end, to, ahead);
     }
     (end, ahead)

@@ -1,4 +1,5 @@
-// Ends of runs of bytes over which the lexical machine keeps its state with no event, found 16 bytes at a time.
+// Ends of runs of bytes over which the lexical machine keeps its state with no event, found 16 bytes at a time, and in long
+// runs 64.
 ghost use Rattle.std.specs.Prelude.{◌≡◌, ◌≤◌, ◌<◌, ◌+◌, ℕ, Bool, not, length, slice_index, slice_range, map};
 ghost use Rattle.std.specs.Simd.Lanes.{mask_l};
 ghost use Rattle.std.specs.Slice.Scan.{HoldsNowhere, IsFirstPlace, Marks};
@@ -7,7 +8,7 @@ ghost use Rattle.jx_lex.specs.Runs.{AllKeep, is_plain, is_unescaped, is_digit, i
 
 use std::simd::prelude::*;
 
-// A test of bytes that go on a run, one by one and 16 at a time.
+// A test of bytes that go on a run: of one, of 16 and of 64.
 trait Run {
     ghost goes_on: { ℕ → Bool };
 
@@ -16,6 +17,9 @@ trait Run {
 
     // Bit k says that byte k is none of the run.
     fn others(block: u8x16) -> u64
+        ensures { result ≡ mask_l (map (λ byte. not (goes_on byte)) block) };
+
+    fn others_of_64(block: u8x64) -> u64
         ensures { result ≡ mask_l (map (λ byte. not (goes_on byte)) block) };
 }
 
@@ -41,6 +45,13 @@ impl Run for Plain {
             | block.simd_eq(u8x16::splat(b'\\'))
             | (block - u8x16::splat(0x20)).simd_ge(u8x16::splat(0x60))).to_bitmask()
     }
+
+    #[inline(always)]
+    fn others_of_64(block: u8x64) -> u64 {
+        (block.simd_eq(u8x64::splat(b'"'))
+            | block.simd_eq(u8x64::splat(b'\\'))
+            | (block - u8x64::splat(0x20)).simd_ge(u8x64::splat(0x60))).to_bitmask()
+    }
 }
 
 impl Run for Unescaped {
@@ -57,6 +68,13 @@ impl Run for Unescaped {
             | block.simd_eq(u8x16::splat(b'"'))
             | block.simd_lt(u8x16::splat(0x20))).to_bitmask()
     }
+
+    #[inline(always)]
+    fn others_of_64(block: u8x64) -> u64 {
+        (block.simd_eq(u8x64::splat(b'\\'))
+            | block.simd_eq(u8x64::splat(b'"'))
+            | block.simd_lt(u8x64::splat(0x20))).to_bitmask()
+    }
 }
 
 impl Run for Digits {
@@ -71,6 +89,13 @@ impl Run for Digits {
     fn others(block: u8x16) -> u64 {
         (block - u8x16::splat(b'0'))
             .simd_ge(u8x16::splat(10))
+            .to_bitmask()
+    }
+
+    #[inline(always)]
+    fn others_of_64(block: u8x64) -> u64 {
+        (block - u8x64::splat(b'0'))
+            .simd_ge(u8x64::splat(10))
             .to_bitmask()
     }
 }
@@ -90,6 +115,14 @@ impl Run for Blanks {
             & block.simd_ne(u8x16::splat(b'\n'))
             & block.simd_ne(u8x16::splat(b'\r'))).to_bitmask()
     }
+
+    #[inline(always)]
+    fn others_of_64(block: u8x64) -> u64 {
+        (block.simd_ne(u8x64::splat(b' '))
+            & block.simd_ne(u8x64::splat(b'\t'))
+            & block.simd_ne(u8x64::splat(b'\n'))
+            & block.simd_ne(u8x64::splat(b'\r'))).to_bitmask()
+    }
 }
 
 #[inline(always)]
@@ -100,13 +133,53 @@ fn marks<R: Run>(text: &[u8], i: usize) -> u64
     R::others(u8x16::from_slice(&text[i..]))
 }
 
-// The first place from `from` on whose byte is none of the run, or `to`.
+#[inline(always)]
+fn marks_of_64<R: Run>(text: &[u8], i: usize) -> u64
+    requires { i + 64 ≤ length text.now }
+    ensures { Marks (λ k. not (R.goes_on (slice_index text.now k))) i 64 result }
+{
+    R::others_of_64(u8x64::from_slice(&text[i..]))
+}
+
+// The first place from `from` on whose byte is none of the run, or `to`. Most runs end in their first 16 bytes.
 #[inline(always)]
 fn run_end<R: Run>(text: &[u8], from: usize, to: usize) -> usize
     requires { (from ≤ to) × (to ≤ length text.now) }
     ensures { IsFirstPlace (λ k. not (R.goes_on (slice_index text.now k))) from to result }
 {
-    let mut i = from;
+    if to - from < 16 {
+        return run_end_by_one::<R>(text, from, from, to);
+    }
+    let found = marks::<R>(text, from);
+    if found != 0 {
+        return from + found.trailing_zeros() as usize;
+    }
+    long_run_end::<R>(text, from, from + 16, to)
+}
+
+fn long_run_end<R: Run>(text: &[u8], from: usize, seen: usize, to: usize) -> usize
+    requires ordered { (from ≤ seen) × (seen ≤ to) × (to ≤ length text.now) }
+    requires passed { HoldsNowhere (λ k. not (R.goes_on (slice_index text.now k))) from seen }
+    ensures { IsFirstPlace (λ k. not (R.goes_on (slice_index text.now k))) from to result }
+{
+    let mut i = seen;
+    while to - i >= 64 {
+        let found = marks_of_64::<R>(text, i);
+        if found != 0 {
+            return i + found.trailing_zeros() as usize;
+        }
+        i += 64;
+    }
+    run_end_by_16::<R>(text, from, i, to)
+}
+
+#[inline(always)]
+fn run_end_by_16<R: Run>(text: &[u8], from: usize, seen: usize, to: usize) -> usize
+    requires ordered { (from ≤ seen) × (seen ≤ to) × (to ≤ length text.now) }
+    requires passed { HoldsNowhere (λ k. not (R.goes_on (slice_index text.now k))) from seen }
+    ensures { IsFirstPlace (λ k. not (R.goes_on (slice_index text.now k))) from to result }
+{
+    let mut i = seen;
     while to - i >= 16 {
         let found = marks::<R>(text, i);
         if found != 0 {

@@ -1,5 +1,5 @@
 // Going on after a byte over what follows of its token, or over blanks.
-ghost use Rattle.std.specs.Prelude.{◌≡◌, ◌≤◌, ◌<◌, ◌+◌, ◌↔◌, IsTrue, slice_range, length};
+ghost use Rattle.std.specs.Prelude.{◌≡◌, ◌≤◌, ◌<◌, ◌+◌, ◌↔◌, ◌||◌, ◌==◌, IsTrue, slice_range, length};
 ghost use Rattle.jx_lex.specs.declared.state.LexState.TheVariants as state;
 ghost use Rattle.jx_lex.specs.Runs.{AllKeep, Leads};
 ghost use Rattle.jx_lex.specs.Token.{IsE};
@@ -148,13 +148,24 @@ fn exponent(text: &[u8], state: LexState, from: usize, to: usize) -> (LexState, 
     (last, end)
 }
 
-// What follows of a number.
+// Whether no number goes on with this byte, and a value mostly ends before it.
+#[inline(always)]
+fn is_delimiter(byte: u8) -> bool
+    ensures { result ≡ (byte == 0x2c || byte == 0x5d || byte == 0x7d || byte == 0x0a) }
+{
+    byte == b',' || byte == b']' || byte == b'}' || byte == b'\n'
+}
+
+// What follows of a number. Many have one digit.
 #[inline(always)]
 pub(crate) fn number_rest(text: &[u8], state: LexState, from: usize, to: usize) -> (LexState, usize)
     requires { (from ≤ to) × (to ≤ length text.now) }
     ensures bounds { (from ≤ result.1) × (result.1 ≤ to) }
     ensures led { Leads state (slice_range text.now from result.1) result.0 }
 {
+    if from < to && is_delimiter(text[from]) {
+        return (state, from);
+    }
     let (first, begun) = first_digit(text, state, from, to);
     let integer = more_digits(text, first, begun, to);
     let (last, pointed) = point(text, first, integer, to);

@@ -1,4 +1,5 @@
 mod cuts;
+mod strings;
 mod words;
 
 use crate::ordinal::all;

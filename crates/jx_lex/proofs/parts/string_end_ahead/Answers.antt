@@ -1,11 +1,8 @@
-use Rattle.jx_lex.proofs.Running.{plain_leads, Leads-join}
+use Rattle.jx_lex.proofs.Running.{Leads-join}
 use Rattle.jx_lex.proofs.parts.string_end_ahead.Goals as goal
 
 pub returns-then-text-end-gt127-clause-led : goal.returns-then-text-end-gt127-clause-led
 returns-then-text-end-gt127-clause-led c =
-    let first = c.plain_end-end.ensures in
+    let first = c.ascii_string_end-end.ensures in
     let rest = c.parts_end.ensures in
-    Leads-join c.args.text.now c.args.from c.plain_end-end.result c.parts_end.result.0 first.bounds.0 rest.bounds.0 (plain_leads c.args.text.now c.args.from c.plain_end-end.result first.kept) rest.led
-
-pub returns-clause-led : goal.returns-clause-led
-returns-clause-led c = plain_leads c.args.text.now c.args.from c.plain_end-end.result c.plain_end-end.ensures.kept
+    Leads-join c.args.text.now c.args.from c.ascii_string_end-end.result c.parts_end.result.0 first.bounds.0 rest.bounds.0 first.led rest.led

@@ -1,6 +1,9 @@
 use Rattle.std.proofs.Common.{arith}
-use Rattle.jx_lex.proofs.Going.{leads-then}
+use Rattle.jx_lex.proofs.Going.{leads-none, leads-then}
 use Rattle.jx_lex.proofs.runs.number_rest.Goals as goal
+
+pub returns-then-is_delimiter-clause-led : goal.returns-then-is_delimiter-clause-led
+returns-then-is_delimiter-clause-led c = leads-none c.args.text.now c.args.from c.args.state
 
 pub returns-then-pointed-integer-clause-led : goal.returns-then-pointed-integer-clause-led
 returns-then-pointed-integer-clause-led c =

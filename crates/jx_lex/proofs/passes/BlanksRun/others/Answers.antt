@@ -1,4 +1,4 @@
-use Rattle.std.proofs.Common.{◌∙◌, refl, not}
+use Rattle.std.proofs.Common.{◌∙◌, refl, not, arith}
 use Rattle.std.proofs.lemmas.Simd.{zip2_splat, zip2_of_maps}
 use Rattle.jx_lex.specs.Runs.{is_blank}
 use Rattle.jx_lex.proofs.Lanes.{masked, lanes_mask}
@@ -13,4 +13,4 @@ returns c =
     (zip2_of_maps _ _ _ v (zip2_splat _ v 16 0x20 long) (zip2_splat _ v 16 0x09 long))
     (zip2_splat _ v 16 0x0a long))
     (zip2_splat _ v 16 0x0d long))
-    ∙ lanes_mask _ (λ byte. not (is_blank byte)) v long c.fits-block.1 refl
+    ∙ lanes_mask 16 (omega arith) _ (λ byte. not (is_blank byte)) v long c.fits-block.1 refl
