@@ -1,5 +1,5 @@
 // Known stacks over worked lists of marks, and beside reductions over long drawn ones.
-ghost use Rattle.std.specs.Prelude.{◌≡◌, ◌≤◌, ◌<◌, IfOk};
+ghost use Rattle.std.specs.Prelude.{IfOk};
 ghost use Rattle.jx_reduce.specs.Offsets.{RisingFrom};
 
 use crate::{Expect, Holder, KnownStack, Reductions, Whole, next};
@@ -111,19 +111,15 @@ struct Draws {
 }
 
 impl Draws {
-    fn below(&mut self, bound: u64) -> u64
-        requires { 0 < bound }
-    {
+    fn below(&mut self, bound: u64) -> u64 {
         self.state = self
             .state
             .wrapping_mul(6_364_136_223_846_793_005)
             .wrapping_add(1_442_695_040_888_963_407);
-        (self.state >> 33) % bound
+        (self.state >> 33) % bound.max(1)
     }
 
-    fn one_in(&mut self, bound: u64) -> bool
-        requires { 0 < bound }
-    {
+    fn one_in(&mut self, bound: u64) -> bool {
         self.below(bound) == 0
     }
 
@@ -141,9 +137,7 @@ impl Draws {
     }
 
     // Of the bytes of a value, an opening one but once in so many.
-    fn value(&mut self, scalars: u64) -> u8
-        requires { 0 < scalars }
-    {
+    fn value(&mut self, scalars: u64) -> u8 {
         match (self.one_in(scalars), self.one_in(2)) {
             (true, true) => b's',
             (true, false) => b'n',
@@ -175,9 +169,7 @@ impl Draws {
 
 // A list that sinks by long stretches and rises again. Once in so many its mark is any; at a fault the list goes on as
 // if the mark were not there.
-fn drawn(alloc: Global, seed: u64, len: usize, faults: u64) -> Result<Vec<u8>, AllocError>
-    requires { 0 < faults }
-{
+fn drawn(alloc: Global, seed: u64, len: usize, faults: u64) -> Result<Vec<u8>, AllocError> {
     let mut draws = Draws { state: seed };
     let mut text = Vec::new(alloc);
     let mut holders: Vec<Holder> = Vec::new(alloc);
@@ -230,7 +222,12 @@ const DEPTHS: [u32; 7] = [0, 1, 2, 3, 64, 65, 512];
 fn drawn_lists_beside_reductions(rt: HostRuntime) -> Result<(), Fail> {
     for seed in 0..60u64 {
         for faults in [4u64, 60, 100_000] {
-            let text = drawn(rt.alloc(), seed * 7 + faults, 1500, faults)?;
+            let text = drawn(
+                rt.alloc(),
+                seed.wrapping_mul(7).wrapping_add(faults),
+                1500,
+                faults,
+            )?;
             for containers in DEPTHS {
                 assert!(rt;
                     is_as_reduced(rt.alloc(), &text, containers)?,
@@ -242,23 +239,27 @@ fn drawn_lists_beside_reductions(rt: HostRuntime) -> Result<(), Fail> {
     Ok(())
 }
 
+fn is_object(pattern: u64, place: usize) -> bool {
+    (pattern >> (place % 64)) & 1 == 1
+}
+
 // So many containers, each in the one before, opened and closed. The one at a place is an object where the place's bit
 // of the pattern is set.
 fn nested(alloc: Global, count: usize, pattern: u64) -> Result<Vec<u8>, AllocError> {
     let mut text = Vec::new(alloc);
     for place in 0..count {
-        if pattern >> (place % 64) & 1 == 0 {
-            text.push(b'[')?;
-        } else {
+        if is_object(pattern, place) {
             text.extend_from_slice(b"{s:")?;
+        } else {
+            text.push(b'[')?;
         }
     }
     text.push(b'n')?;
     for place in (0..count).rev() {
-        let closing = if pattern >> (place % 64) & 1 == 0 {
-            b']'
-        } else {
+        let closing = if is_object(pattern, place) {
             b'}'
+        } else {
+            b']'
         };
         text.push(closing)?;
     }
@@ -268,13 +269,13 @@ fn nested(alloc: Global, count: usize, pattern: u64) -> Result<Vec<u8>, AllocErr
 #[test]
 fn nesting_across_the_ends_of_words(rt: HostRuntime) -> Result<(), Fail> {
     for count in [
-        1usize, 2, 62, 63, 64, 65, 66, 127, 128, 129, 130, 192, 193, 300,
+        1u32, 2, 62, 63, 64, 65, 66, 127, 128, 129, 130, 192, 193, 300,
     ] {
         for pattern in [0, 1, 0x8000_0000_0000_0001, 0xaaaa_aaaa_aaaa_aaaa, u64::MAX] {
-            let text = nested(rt.alloc(), count, pattern)?;
+            let text = nested(rt.alloc(), count as usize, pattern)?;
             let all = whole_of(rt.alloc(), &text, 300)?;
             assert_eq!(rt; all, went(Expect::After, 0), "{count}, {pattern}");
-            let depths = [count as u32, 64, 65, 128];
+            let depths = [count, 64, 65, 128];
             for containers in depths {
                 assert!(rt;
                     is_as_reduced(rt.alloc(), &text, containers)?,
