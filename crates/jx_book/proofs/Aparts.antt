@@ -51,7 +51,7 @@ module _ {S : Type 0} where
       }
 
   -- the runs from m on start no earlier than m
-  starts : (xs : List (HeldValue S)) → IsApart xs → (m k : ℕ) (d : HeldValue S) → m ≤ k → k < length xs → (get_or xs m d).span.start ≤ (get_or xs k d).span.start
+  pub starts : (xs : List (HeldValue S)) → IsApart xs → (m k : ℕ) (d : HeldValue S) → m ≤ k → k < length xs → (get_or xs m d).span.start ≤ (get_or xs k d).span.start
   starts xs h m k d le low = dite (ℕ_discrete m k) (λ e. rw e (omega arith)) (λ ne. omega (arith, h.apart m k d (omega arith) low, h.filled m d (omega arith)))
 
   pub no_overlap : (xs : List (HeldValue S)) → IsApart xs → (a : Span) (m : ℕ) → ((k : ℕ) (d : HeldValue S) → k < m → (get_or xs k d).span.end ≤ a.start) → ((d : HeldValue S) → m < length xs → a.end ≤ (get_or xs m d).span.start) → NoOverlap xs a

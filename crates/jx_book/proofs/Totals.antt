@@ -79,7 +79,7 @@ covered a [] b c = omega (arith, c)
 covered a (p ∷ ps) b c = omega (arith, sum_to_shift (piece_len (p ∷ ps)) (length ps), c.0, c.1, covered p.end ps b c.2)
 
 -- where each piece was drawn once, the seats drew all bytes
-pub all_bytes : (ps : List Span) (len : ℕ) (ss : List SeatValue) → Covers 0 ps len → EachGotOnce ss (length ps) → sum_by (λ (s : SeatValue). drawn_len ps s.got) ss ≡ len
-all_bytes ps len ss c h =
+pub all_bytes : (a : ℕ) (ps : List Span) (len : ℕ) (ss : List SeatValue) → Covers a ps len → EachGotOnce ss (length ps) → a + sum_by (λ (s : SeatValue). drawn_len ps s.got) ss ≡ len
+all_bytes a ps len ss c h =
     let once = counted (piece_len ps) (length ps) (all_got ss) (λ x. sum_all (λ z. cond (nat_eq z x) 1 0) ss ∙ h x) in
-    omega (arith, sum_all (piece_len ps) ss, once, covered 0 ps len c)
+    omega (arith, sum_all (piece_len ps) ss, once, covered a ps len c)

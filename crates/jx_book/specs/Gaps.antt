@@ -1,18 +1,18 @@
 -- The parts of a text that no run covers.
-use Rattle.std.specs.Prelude.{ℕ, ◌<◌, ◌≤◌, ◌↔◌, List, [], ◌∷◌, min, nat_lt, if◌then◌else◌, All, AllPairs, Any}
+use Rattle.std.specs.Prelude.{ℕ, ◌<◌, ◌≤◌, ◌↔◌, List, [], ◌∷◌, min, max, nat_lt, if◌then◌else◌, All, AllPairs, Any}
 use Rattle.jx_lex.specs.declared.span.Span.{Span}
 use Rattle.jx_book.specs.Spans.{span, Before}
 
 abbrev pub Covers : Span → ℕ → Type 0
 Covers a p = (a.start ≤ p) × (p < a.end)
 
--- parts that are not empty, stand in rising order with bytes between them, and have just those bytes below `len` that no run covers
-pub record AreGaps (runs : List Span) (len : ℕ) (gaps : List Span) : Type 0 where
+-- parts that are not empty, stand in rising order with bytes between them, and have just those bytes of a span that no run covers
+pub record AreGaps (runs : List Span) (part : Span) (gaps : List Span) : Type 0 where
   pub filled : All (λ g. g.start < g.end) gaps
   pub apart : AllPairs (λ g h. Before g h) gaps
-  pub uncovered : (p : ℕ) → Any (λ g. Covers g p) gaps ↔ ((p < len) × All (λ r. ¬ (Covers r p)) runs)
+  pub uncovered : (p : ℕ) → Any (λ g. Covers g p) gaps ↔ (Covers part p × All (λ r. ¬ (Covers r p)) runs)
 
--- the gaps from an offset on, before and between these runs and behind the last
+-- the gaps from an offset up to an end, before and between these runs and behind the last
 abbrev pub gaps_from : ℕ → List Span → ℕ → List Span
-gaps_from at [] len = if nat_lt at len then span at len ∷ [] else []
-gaps_from at (r ∷ rs) len = if nat_lt at (min r.start len) then span at (min r.start len) ∷ gaps_from r.end rs len else gaps_from r.end rs len
+gaps_from at [] end = if nat_lt at end then span at end ∷ [] else []
+gaps_from at (r ∷ rs) end = if nat_lt at (min r.start end) then span at (min r.start end) ∷ gaps_from (max at r.end) rs end else gaps_from (max at r.end) rs end

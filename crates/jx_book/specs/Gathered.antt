@@ -1,4 +1,4 @@
--- A run over a whole text.
+-- A run over a text from an offset on, or over all of it.
 use Rattle.std.specs.Prelude.{◌≡◌, ℕ, ◌<◌, List, length, All, Option, None, Some}
 use Rattle.jx_lex.specs.declared.span.Span.{Span}
 use Rattle.jx_book.specs.declared.outcome.Outcome.{Outcome}
@@ -16,14 +16,14 @@ pub record IsRest {S : Type 0} (text : List ℕ) (depth start : ℕ) (h : HeldVa
 abbrev pub IsWhole : {S : Type 0} → List ℕ → ℕ → HeldValue S → Type 0
 IsWhole text depth h = IsRest text depth 0 h
 
--- none exactly where there is no piece, and otherwise the run over the whole text
-abbrev pub IsGathered : {S : Type 0} → List Span → List ℕ → ℕ → Option (HeldValue S) → Type 0
-IsGathered ps text depth None = length ps ≡ 0
-IsGathered ps text depth (Some h) = (0 < length ps) × IsWhole text depth h
+-- none exactly where there is no piece, and otherwise the run over the text from the front on
+abbrev pub IsGathered : {S : Type 0} → List Span → List ℕ → ℕ → ℕ → Option (HeldValue S) → Type 0
+IsGathered ps text depth front None = length ps ≡ 0
+IsGathered ps text depth front (Some h) = (0 < length ps) × IsRest text depth front h
 
--- what workers left of this text and depth
-abbrev pub IsOutcome : {S : Type 0} → List ℕ → ℕ → Outcome S → Type 0
-IsOutcome text depth (Gathered h) = IsWhole text depth h
-IsOutcome text depth Empty = Unit {0}
-IsOutcome text depth (Stopped c) = All (λ r. IsOf text depth r) c
-IsOutcome text depth Other = Unit {0}
+-- what workers left of this text from the front on, and of this depth
+abbrev pub IsOutcome : {S : Type 0} → List ℕ → ℕ → ℕ → Outcome S → Type 0
+IsOutcome text depth front (Gathered h) = IsRest text depth front h
+IsOutcome text depth front Empty = Unit {0}
+IsOutcome text depth front (Stopped c) = All (λ r. IsOf text depth r) c
+IsOutcome text depth front Other = Unit {0}

@@ -1,5 +1,5 @@
 -- What shares have put and taken, and what a book gives when it is finished.
-use Rattle.std.specs.Prelude.{◌≡◌, ℕ, ◌+◌, ◌<◌, ◌≤◌, List, length}
+use Rattle.std.specs.Prelude.{◌≡◌, ◌⊎◌, ℕ, ◌+◌, ◌<◌, ◌≤◌, List, length}
 use Rattle.jx_book.specs.declared.put.Put.{Put}
 use Rattle.jx_book.specs.declared.put.Put.TheVariants.{Stored, Touches, Overlaps, Full, Memory}
 use Rattle.jx_book.specs.declared.finish_fault.FinishFault.{FinishFault}
@@ -26,6 +26,10 @@ IsShared s run (Memory r) t = (r ≡ run) × (t ≡ s)
 
 abbrev pub IsOther : {S : Type 0} → List ℕ → ℕ → FinishFault S → Type 0
 IsOther text depth (Other r) = IsOtherRun text depth r
+
+-- the same, or a run that begins before an offset
+abbrev pub IsOtherFrom : {S : Type 0} → List ℕ → ℕ → ℕ → FinishFault S → Type 0
+IsOtherFrom text depth front (Other r) = IsOtherRun text depth r ⊎ (r.span.start < front)
 
 -- the run is not empty, and no longer than the bytes put and not taken
 abbrev pub WasStored : {S : Type 0} → ℕ → ℕ → FinishFault S → Type 0

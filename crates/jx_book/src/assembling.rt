@@ -1,6 +1,6 @@
-ghost use Rattle.std.specs.Prelude.{◌≡◌, ◌≤◌, All, IfOk};
+ghost use Rattle.std.specs.Prelude.{◌≡◌, ◌≤◌, length, All, IfOk};
 ghost use Rattle.jx_book.specs.Shares.{IsOf};
-ghost use Rattle.jx_book.specs.Gathered.{IsWhole, IsRest};
+ghost use Rattle.jx_book.specs.Gathered.{IsRest};
 
 use crate::closed::Closed;
 use crate::held::Held;
@@ -9,24 +9,30 @@ use jx_lex::Depth;
 use jx_run::Summary;
 use std::alloc::{AllocError, Global};
 
-/// The run over a whole text: each gap that the runs leave is read as one piece, and all are joined. It fails only for
-/// want of memory.
+/// The run over a text from an offset on: each gap that the runs leave there is read as one piece, and all are joined. Runs
+/// that begin before that offset are let go. It fails only for want of memory.
 pub fn assemble<'a, S: Summary>(
     alloc: Global,
     closed: Closed<'a, S>,
     text: &'a [u8],
+    front: usize,
     depth: Depth,
 ) -> Result<Held<'a, S>, AllocError>
-    requires { All (λ r. IsOf text.now depth r) closed }
-    ensures { IfOk result (λ h. IsWhole text.entry.now depth h) }
+    requires of { All (λ r. IsOf text.now depth r) closed }
+    requires front { front ≤ length text.now }
+    ensures { IfOk result (λ h. IsRest text.entry.now depth front h) }
 {
     let mut runs = closed.into_runs();
     let mut rest = Held::read(alloc, text, text.len(), text.len(), depth)?;
     while let Some(run) = runs.pop() {
-        let filled = fill(alloc, text, depth, run.span().end, rest)?;
+        let place = run.span();
+        if place.start < front {
+            return fill(alloc, text, depth, front, rest);
+        }
+        let filled = fill(alloc, text, depth, place.end, rest)?;
         rest = join_same(run, filled)?;
     }
-    fill(alloc, text, depth, 0, rest)
+    fill(alloc, text, depth, front, rest)
 }
 
 // Reads what stands between an offset and the rest, and joins it to that.

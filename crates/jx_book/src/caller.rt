@@ -1,9 +1,9 @@
-ghost use Rattle.std.specs.Prelude.{◌≡◌, ◌+◌, List, length, true, All, sum_by, vec_len, IfOk};
+ghost use Rattle.std.specs.Prelude.{◌≡◌, ◌+◌, ◌≤◌, List, length, true, All, sum_by, vec_len, IfOk};
 ghost use Rattle.jx_lex.specs.declared.span.Span.{Span};
 ghost use Rattle.jx_claim.specs.Claimed.{TableId, AreFresh};
 ghost use Rattle.jx_claim.specs.Cut.{drawn_len};
 ghost use Rattle.jx_book.specs.Shares.{share};
-ghost use Rattle.jx_book.specs.Gathered.{IsWhole, IsOutcome};
+ghost use Rattle.jx_book.specs.Gathered.{IsRest, IsOutcome};
 ghost use Rattle.jx_book.specs.Balance.{Balances, IsFresh, IsHandedBack};
 
 use crate::assembling::assemble;
@@ -28,11 +28,11 @@ use std::sync::ledger::{Blank, Ledger};
 use std::thread;
 use std::thread::Threads;
 
-/// Reads a whole text by that many workers, each in a thread of its own where one can be made. It waits for them, and
-/// fails only for want of memory.
+/// Reads a text from the cutting's front on by that many workers, each in a thread of its own where one can be made. It
+/// waits for them, and fails only for want of memory.
 ///
-/// Where a worker stopped, the calling thread reads what is missing, each gap as one piece. An empty text gives the
-/// empty run.
+/// Where a worker stopped, the calling thread reads what is missing, each gap as one piece. Where there is no piece, it
+/// gives the empty run.
 pub fn read_whole<'a, S: Summary + Send, R: Threads + Wait + Sync, G: Gate + Sync>(
     rt: &R,
     alloc: Global,
@@ -43,7 +43,7 @@ pub fn read_whole<'a, S: Summary + Send, R: Threads + Wait + Sync, G: Gate + Syn
     gate: &G,
 ) -> Result<Held<'a, S>, AllocError>
     requires { cutting.now.len ≡ length text.now }
-    ensures { IfOk result (λ h. IsWhole text.entry.now depth h) }
+    ensures { IfOk result (λ h. IsRest text.entry.now depth cutting.now.front h) }
 {
     let put = Blank::new(u64::from(workers.count()));
     let taken = Blank::new(u64::from(workers.count()));
@@ -72,14 +72,14 @@ fn read_with<
     requires cutting { cutting.now.len ≡ length text.now }
     requires put { (put.name ≡ P.name) × (put.parts ≡ P.parts) × (put.parts ≡ workers) }
     requires taken { (taken.name ≡ T.name) × (taken.parts ≡ T.parts) × (taken.parts ≡ workers) }
-    ensures { IfOk result (λ h. IsWhole text.entry.now depth h) }
+    ensures { IfOk result (λ h. IsRest text.entry.now depth cutting.now.front h) }
 {
     match run_workers::<S, P, T, R, G>(
         rt, alloc, text, cutting, workers, depth, gate, put, taken,
     )? {
         Outcome::Gathered(run) => Ok(run),
-        Outcome::Stopped(closed) => assemble(alloc, closed, text, depth),
-        Outcome::Empty | Outcome::Other => read_alone(alloc, text, depth),
+        Outcome::Stopped(closed) => assemble(alloc, closed, text, cutting.front(), depth),
+        Outcome::Empty | Outcome::Other => read_alone(alloc, text, cutting.front(), depth),
     }
 }
 
@@ -105,7 +105,7 @@ pub(crate) fn run_workers<
     requires cutting { cutting.now.len ≡ length text.now }
     requires put { (put.name ≡ P.name) × (put.parts ≡ P.parts) × (put.parts ≡ workers) }
     requires taken { (taken.name ≡ T.name) × (taken.parts ≡ T.parts) × (taken.parts ≡ workers) }
-    ensures { IfOk result (λ o. IsOutcome text.entry.now depth o) }
+    ensures { IfOk result (λ o. IsOutcome text.entry.now depth cutting.now.front o) }
 {
     let _count = workers.count();
     let (book, shares) = Book::<S, P, T>::open(alloc, put, taken, workers)?;
@@ -131,15 +131,17 @@ pub(crate) fn run_workers<
     }
 }
 
-// Reads the whole text on this thread.
+// Reads the text from an offset on, on this thread.
 fn read_alone<'a, S: Summary>(
     alloc: Global,
     text: &'a [u8],
+    front: usize,
     depth: Depth,
 ) -> Result<Held<'a, S>, AllocError>
-    ensures { IfOk result (λ h. IsWhole text.entry.now depth h) }
+    requires { front ≤ length text.now }
+    ensures { IfOk result (λ h. IsRest text.entry.now depth front h) }
 {
-    Held::read(alloc, text, 0, text.len(), depth)
+    Held::read(alloc, text, front, text.len(), depth)
 }
 
 // A seat and a share for each worker.

@@ -4,6 +4,7 @@ ghost use Rattle.jx_book.specs.Gaps.{AreGaps};
 
 use crate::gaps::Gaps;
 use crate::held::Held;
+use jx_lex::Span;
 use jx_run::Summary;
 use std::marker::Model;
 
@@ -49,10 +50,10 @@ impl<'a, S: Summary> Closed<'a, S> {
         runs
     }
 
-    /// The parts of `0..len` that no run covers, in order. It takes no memory.
-    pub fn gaps(&self, len: usize) -> Gaps<'_, 'a, S>
-        ensures { AreGaps (spans_of self.now) len result }
+    /// The parts of a span that no run covers, in order. It takes no memory.
+    pub fn gaps(&self, part: Span) -> Gaps<'_, 'a, S>
+        ensures { AreGaps (spans_of self.now) part result }
     {
-        Gaps::new(self.runs.as_slice(), len)
+        Gaps::new(self.runs.as_slice(), part)
     }
 }

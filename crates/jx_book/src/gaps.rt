@@ -8,7 +8,7 @@ use jx_lex::Span;
 use jx_run::Summary;
 use std::marker::Model;
 
-/// The parts of a text that no run covers, in order.
+/// The parts of a span that no run covers, in order.
 #[derive(Drop)]
 pub struct Gaps<'r, 'a, S: Summary> {
     runs: &'r [Held<'a, S>],
@@ -16,7 +16,7 @@ pub struct Gaps<'r, 'a, S: Summary> {
     number: usize,
     // Where the next gap begins.
     start: usize,
-    len: usize,
+    end: usize,
 }
 
 impl<'r, 'a, S: Summary> Model for Gaps<'r, 'a, S> {
@@ -27,20 +27,20 @@ impl<'r, 'a, S: Summary> Model for Gaps<'r, 'a, S> {
 
     ghost Value = { List Span };
 
-    ghost view = { λ g. gaps_from g.start (spans_of (drop g.number g.runs.now)) g.len };
+    ghost view = { λ g. gaps_from g.start (spans_of (drop g.number g.runs.now)) g.end };
 
     ghost invariant = { λ g. g.number ≤ length g.runs.now };
 }
 
 impl<'r, 'a, S: Summary> Gaps<'r, 'a, S> {
-    pub(crate) fn new(runs: &'r [Held<'a, S>], len: usize) -> Gaps<'r, 'a, S>
-        ensures { result ≡ gaps_from 0 (spans_of runs.entry.now) len }
+    pub(crate) fn new(runs: &'r [Held<'a, S>], part: Span) -> Gaps<'r, 'a, S>
+        ensures { result ≡ gaps_from part.start (spans_of runs.entry.now) part.end }
     {
         Gaps {
             runs,
             number: 0,
-            start: 0,
-            len,
+            start: part.start,
+            end: part.end,
         }
     }
 }
@@ -53,7 +53,7 @@ impl<'r, 'a, S: Summary> Iterator for Gaps<'r, 'a, S> {
     ghost remaining = { item_count (λ gaps. gaps) };
 
     fn next(&mut self) -> Option<Span> {
-        let (gap, number, start) = first_gap(self.runs, self.number, self.start, self.len);
+        let (gap, number, start) = first_gap(self.runs, self.number, self.start, self.end);
         self.number = number;
         self.start = start;
         gap
@@ -66,10 +66,10 @@ fn first_gap<S: Summary>(
     runs: &[Held<'_, S>],
     number: usize,
     start: usize,
-    len: usize,
+    end: usize,
 ) -> (Option<Span>, usize, usize)
     requires { number ≤ length runs.now }
-    ensures first { YieldsFirst (λ gaps. gaps) (gaps_from start (spans_of (drop number runs.now)) len) result.0 (gaps_from result.2 (spans_of (drop result.1 runs.now)) len) }
+    ensures first { YieldsFirst (λ gaps. gaps) (gaps_from start (spans_of (drop number runs.now)) end) result.0 (gaps_from result.2 (spans_of (drop result.1 runs.now)) end) }
     ensures bound { result.1 ≤ length runs.now }
 {
     let mut at = start;
@@ -77,22 +77,22 @@ fn first_gap<S: Summary>(
     while next < runs.len() {
         let place = runs[next].span();
         let from = at;
-        let end = place.start.min(len);
-        at = place.end;
+        let to = place.start.min(end);
+        at = at.max(place.end);
         next += 1;
-        if from < end {
-            return (Some(Span { start: from, end }), next, at);
+        if from < to {
+            return (
+                Some(Span {
+                    start: from,
+                    end: to,
+                }),
+                next,
+                at,
+            );
         }
     }
-    if at < len {
-        (
-            Some(Span {
-                start: at,
-                end: len,
-            }),
-            next,
-            len,
-        )
+    if at < end {
+        (Some(Span { start: at, end }), next, end)
     } else {
         (None, next, at)
     }

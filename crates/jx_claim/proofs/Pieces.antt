@@ -1,11 +1,14 @@
 -- What the pieces of a cutting are, and what they cover.
-use Rattle.std.proofs.Common.{◌≡◌, ℕ, zero, suc, ◌+◌, ◌-◌, ◌*◌, ◌<◌, ◌≤◌, min, List, [], ◌∷◌, ◌++◌, length, get_or, refl, sym, ap, ◌∙◌, subst, arith}
+use Rattle.std.proofs.Common.{◌≡◌, ℕ, zero, suc, ◌+◌, ◌-◌, ◌*◌, ◌<◌, ◌≤◌, min, true, false, List, [], ◌∷◌, ◌++◌, length, get_or, refl, sym, ap, ◌∙◌, subst, arith}
 use Rattle.std.proofs.Math.Nat.{suc-mul, mul-le-mul_right}
-use Rattle.std.specs.Prelude.{map, slice_index}
+use Rattle.std.specs.Prelude.{map, max, nat_lt, slice_index}
+use mathlib.Core.Logic.{dite}
+use native.Mathlib.Decide.{dec_lt}
+use Rattle.std.proofs.lemmas.Bool.Decides.{nat_tests}
 use Rattle.jx_lex.specs.declared.span.Span.{Span}
-use Rattle.jx_claim.specs.Cut.{Covers, OfSize, span, span_len, no_span, meetings}
+use Rattle.jx_claim.specs.Cut.{Covers, OfSize, behind, span, span_len, no_span, meetings}
 use Rattle.jx_claim.specs.CutFaults.{AreSound}
-use Rattle.jx_claim.specs.Listed.{regular, between}
+use Rattle.jx_claim.specs.Listed.{regular, between, AreEnded}
 
 -- pieces do not go back
 covers_le : (a : ℕ) (ps : List Span) (b : ℕ) → Covers a ps b → a ≤ b
@@ -18,14 +21,125 @@ covers_at a [] b c k d low = absurd (omega arith)
 covers_at a (p ∷ ps) b c zero d low = (omega (arith, c.0, c.1), covers_le p.end ps b c.2)
 covers_at a (p ∷ ps) b c (suc k) d low = covers_at p.end ps b c.2 k d (omega arith)
 
--- so is the one that was read
-pub piece_covered : (ps : List Span) (len k : ℕ) (r : Span) → Covers 0 ps len → k < length ps → get_or ps k r ≡ r → (r.start < r.end) × (r.end ≤ len)
-piece_covered ps len k r c low e = subst (λ (p : Span). (p.start < p.end) × (p.end ≤ len)) e (covers_at 0 ps len c k r low)
+-- each piece ends behind where they begin
+ends_behind : (a : ℕ) (ps : List Span) (b : ℕ) → Covers a ps b → (i : ℕ) (d : Span) → i < length ps → a < (get_or ps i d).end
+ends_behind a [] b c i d low = absurd (omega arith)
+ends_behind a (p ∷ ps) b c zero d low = c.1
+ends_behind a (p ∷ ps) b c (suc i) d low = omega (arith, c.1, ends_behind p.end ps b c.2 i d (omega arith))
 
--- an empty text has no piece
-pub covers_none : (ps : List Span) (b : ℕ) → Covers 0 ps b → b ≡ 0 → length ps ≡ 0
-covers_none [] b c e = refl
-covers_none (p ∷ ps) b c e = absurd (omega (arith, c.1, covers_le p.end ps b c.2, e))
+-- later pieces end later
+covers_rise : (a : ℕ) (ps : List Span) (b : ℕ) → Covers a ps b → (i j : ℕ) (d : Span) → i ≤ j → j < length ps → (get_or ps i d).end ≤ (get_or ps j d).end
+covers_rise a [] b c i j d le low = absurd (omega arith)
+covers_rise a (p ∷ ps) b c zero zero d le low = omega arith
+covers_rise a (p ∷ ps) b c zero (suc j) d le low = omega (arith, ends_behind p.end ps b c.2 j d (omega arith))
+covers_rise a (p ∷ ps) b c (suc i) zero d le low = absurd (omega arith)
+covers_rise a (p ∷ ps) b c (suc i) (suc j) d le low = covers_rise p.end ps b c.2 i j d (omega arith) (omega arith)
+
+-- so is the one that was read
+pub piece_covered : (a : ℕ) (ps : List Span) (len k : ℕ) (r : Span) → Covers a ps len → k < length ps → get_or ps k r ≡ r → (r.start < r.end) × (r.end ≤ len)
+piece_covered a ps len k r c low e = subst (λ (p : Span). (p.start < p.end) × (p.end ≤ len)) e (covers_at a ps len c k r low)
+
+-- no bytes have no piece
+pub covers_none : (a : ℕ) (ps : List Span) (b : ℕ) → Covers a ps b → b ≤ a → length ps ≡ 0
+covers_none a [] b c e = refl
+covers_none a (p ∷ ps) b c e = absurd (omega (arith, c.1, covers_le p.end ps b c.2, e))
+
+-- which piece ends behind an offset
+is_behind : (n e : ℕ) → n < e → nat_lt n e ≡ true
+is_behind n e h = grind (arith, nat_tests)
+
+not_behind : (n e : ℕ) → e ≤ n → nat_lt n e ≡ false
+not_behind n e h = grind (arith, nat_tests)
+
+-- pieces that begin at an offset or behind it stay
+pub behind_start : (a : ℕ) (ps : List Span) (b n : ℕ) → Covers a ps b → n ≤ a → behind n ps ≡ ps
+behind_start a [] b n c le = refl
+behind_start a (p ∷ ps) b n c le =
+    let m : max n p.start ≡ p.start = omega (arith, c.0, le) in
+    rw (is_behind n p.end (omega (arith, c.1, le))) (λ i. span (m i) p.end ∷ behind_start p.end ps b n c.2 (omega (arith, c.1, le)) i)
+
+-- the others cover what lies behind it
+pub behind_covers : (a : ℕ) (ps : List Span) (b n : ℕ) → Covers a ps b → a ≤ n → n ≤ b → Covers n (behind n ps) b
+behind_covers a [] b n c from to = omega (arith, c)
+behind_covers a (p ∷ ps) b n c from to = dite (dec_lt n p.end)
+    (λ l.
+    let rest = behind_start p.end ps b n c.2 (omega arith) in
+    let tail : Covers p.end (behind n ps) b = subst (λ qs. Covers p.end qs b) (sym rest) c.2 in
+    rw (is_behind n p.end l) (omega (arith, c.0), l, tail))
+    (λ h. rw (not_behind n p.end (omega arith)) (behind_covers p.end ps b n c.2 (omega arith) to))
+
+-- what lies behind an earlier offset, and then behind a later one
+pub behind_again : (m n : ℕ) (ps : List Span) → m ≤ n → behind n (behind m ps) ≡ behind n ps
+behind_again m n [] le = refl
+behind_again m n (p ∷ ps) le = dite (dec_lt n p.end)
+    (λ l.
+    let e : max n (max m p.start) ≡ max n p.start = omega (arith, le) in
+    rw (is_behind m p.end (omega arith), is_behind n p.end l) (λ i. span (e i) p.end ∷ behind_again m n ps le i))
+    (λ h. dite (dec_lt m p.end)
+    (λ l. rw (is_behind m p.end l, not_behind n p.end (omega arith)) (behind_again m n ps le))
+    (λ k. rw (not_behind m p.end (omega arith), not_behind n p.end (omega arith)) (behind_again m n ps le)))
+
+ended_later : (n k : ℕ) (p : Span) (ps : List Span) → AreEnded n (suc k) (p ∷ ps) → AreEnded n k ps
+ended_later n k p ps h = record {
+  bound = omega (arith, h.bound);
+  before = λ i d low. h.before (suc i) d (omega arith);
+  after = λ i d le low. h.after (suc i) d (omega arith) (omega arith);
+}
+
+ended_none : (n : ℕ) (p : Span) (ps : List Span) → AreEnded n 0 (p ∷ ps) → AreEnded n 0 ps
+ended_none n p ps h = record {
+  bound = omega arith;
+  before = λ i d low. absurd (omega arith);
+  after = λ i d le low. h.after (suc i) d (omega arith) (omega arith);
+}
+
+-- where the first k pieces are left out, those behind an offset are the others
+pub behind_len : (n k : ℕ) (ps : List Span) → AreEnded n k ps → length (behind n ps) + k ≡ length ps
+behind_len n zero [] h = omega arith
+behind_len n (suc k) [] h = absurd (omega (arith, h.bound))
+behind_len n zero (p ∷ ps) h =
+    rw (is_behind n p.end (h.after 0 p (omega arith) (omega arith))) (omega (arith, behind_len n 0 ps (ended_none n p ps h)))
+behind_len n (suc k) (p ∷ ps) h =
+    rw (not_behind n p.end (h.before 0 p (omega arith))) (omega (arith, behind_len n k ps (ended_later n k p ps h)))
+
+-- which of the pieces lies at this place behind the offset
+pub behind_at : (n k : ℕ) (ps : List Span) → AreEnded n k ps → (i : ℕ) (d : Span) → k + i < length ps
+    → get_or (behind n ps) i d ≡ span (max n (get_or ps (k + i) d).start) (get_or ps (k + i) d).end
+behind_at n k [] h i d low = absurd (omega arith)
+behind_at n zero (p ∷ ps) h zero d low =
+    let e : 0 + 0 ≡ 0 = omega arith in
+    rw (is_behind n p.end (h.after 0 p (omega arith) (omega arith)), e) refl
+behind_at n zero (p ∷ ps) h (suc i) d low =
+    let e : 0 + suc i ≡ suc (0 + i) = omega arith in
+    rw (is_behind n p.end (h.after 0 p (omega arith) (omega arith)), e) (behind_at n 0 ps (ended_none n p ps h) i d (omega arith))
+behind_at n (suc k) (p ∷ ps) h i d low =
+    let e : suc k + i ≡ suc (k + i) = omega arith in
+    rw (not_behind n p.end (h.before 0 p (omega arith)), e) (behind_at n k ps (ended_later n k p ps h) i d (omega arith))
+
+-- no piece ends at the start
+pub none_ended : (ps : List Span) (b : ℕ) → Covers 0 ps b → AreEnded 0 0 ps
+none_ended ps b c = record {
+  bound = omega arith;
+  before = λ i d low. absurd (omega arith);
+  after = λ i d le low. ends_behind 0 ps b c i d low;
+}
+
+-- where all before a place end at an offset or before it, and the one there behind it
+pub ended_at : (ps : List Span) (b n k : ℕ) → Covers 0 ps b → k ≤ length ps → ((i : ℕ) (d : Span) → i < k → (get_or ps i d).end ≤ n)
+    → ((d : Span) → k < length ps → n < (get_or ps k d).end) → AreEnded n k ps
+ended_at ps b n k c bound before here = record {
+  bound = bound;
+  before = before;
+  after = λ i d le low. omega (arith, here d (omega arith), covers_rise 0 ps b c k i d le low);
+}
+
+-- all pieces end at the length or before it
+pub all_ended : (ps : List Span) (b : ℕ) → Covers 0 ps b → AreEnded b (length ps) ps
+all_ended ps b c = record {
+  bound = omega arith;
+  before = λ i d low. (covers_at 0 ps b c i d low).1;
+  after = λ i d le low. absurd (omega arith);
+}
 
 -- n regular pieces from a on, of which the last ends at len, cover the bytes from a to len
 pub regular_covers : (len size n a : ℕ) → 0 < size → a ≤ len → len ≤ a + n * size → a + n * size < len + size → Covers a (regular len size n a) len
@@ -90,6 +204,21 @@ pub too_many : (len size n : ℕ) → n * size < len + size → 4294967295 < n �
 too_many len size n few high =
     let more : 4294967296 ≤ n = omega arith in
     omega (arith, mul-le-mul_right size more)
+
+-- how many regular pieces end at an offset or before it
+pub regular_ended : (len size n offset q : ℕ) → 0 < size → len ≤ n * size → n * size < len + size → offset < len → q * size ≤ offset → offset < q * size + size
+    → AreEnded offset q (regular len size n 0)
+regular_ended len size n offset q some enough few low below above = record {
+  bound = dite (dec_lt n q)
+      (λ l. let more : suc n ≤ q = omega arith in absurd (omega (arith, mul-le-mul_right size more, suc-mul n size)))
+      (λ h. omega (arith, length-regular len size n 0));
+  before = λ i d l.
+      let less : suc i ≤ q = omega arith in
+      let fits : i < n = dite (dec_lt i n) (λ y. y) (λ no. let more : n ≤ i = omega arith in absurd (omega (arith, mul-le-mul_right size less, mul-le-mul_right size more, suc-mul i size))) in
+      omega (arith, ap (λ (p : Span). p.end) (regular_is len size n i d some fits few), mul-le-mul_right size less, suc-mul i size);
+  after = λ i d le l.
+      omega (arith, ap (λ (p : Span). p.end) (regular_is len size n i d some (omega (arith, length-regular len size n 0)) few), mul-le-mul_right size le);
+}
 
 pub length-between : (a : ℕ) (es : List ℕ) → length (between a es) ≡ length es
 length-between a [] = refl

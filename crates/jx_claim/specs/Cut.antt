@@ -1,10 +1,11 @@
 -- A text cut into pieces.
-use Rattle.std.specs.Prelude.{◌≡◌, ℕ, suc, ◌-◌, ◌<◌, ◌≤◌, List, [], ◌∷◌, map, length, sum_by, slice_index_or}
+use Rattle.std.specs.Prelude.{◌≡◌, ℕ, suc, ◌-◌, ◌<◌, ◌≤◌, List, [], ◌∷◌, max, nat_lt, if◌then◌else◌, map, length, sum_by, slice_index_or}
 use Rattle.jx_lex.specs.declared.span.Span.{Span}
 
--- the length of the text in bytes, and the spans of its pieces in order
+-- the length of the text in bytes, where its first piece begins, and the spans of its pieces in order
 pub record CuttingValue : Type 0 where
   pub len : ℕ
+  pub front : ℕ
   pub pieces : List Span
 
 abbrev pub span : ℕ → ℕ → Span
@@ -18,6 +19,11 @@ span_len a = a.end - a.start
 abbrev pub Covers : ℕ → List Span → ℕ → Type 0
 Covers a [] b = a ≡ b
 Covers a (p ∷ ps) b = (p.start ≡ a) × (a < p.end) × Covers p.end ps b
+
+-- the pieces cut to what lies from an offset on, those that end there or before it left out
+abbrev pub behind : ℕ → List Span → List Span
+behind n [] = []
+behind n (p ∷ ps) = if nat_lt n p.end then span (max n p.start) p.end ∷ behind n ps else behind n ps
 
 abbrev pub no_span : Span
 no_span = record { start = 0; end = 0 }

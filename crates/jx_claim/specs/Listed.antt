@@ -1,5 +1,5 @@
--- The pieces that a cutting stands for.
-use Rattle.std.specs.Prelude.{ℕ, zero, suc, ◌+◌, ◌*◌, ◌<◌, ◌≤◌, ⊤, min, List, [], ◌∷◌}
+-- The pieces that the parts of a cutting stand for, before its front is left out.
+use Rattle.std.specs.Prelude.{ℕ, zero, suc, ◌+◌, ◌*◌, ◌<◌, ◌≤◌, ⊤, min, List, [], ◌∷◌, length, slice_index_or}
 use Rattle.jx_lex.specs.declared.span.Span.{Span}
 use Rattle.jx_claim.specs.declared.parts.Parts.{Parts}
 use Rattle.jx_claim.specs.declared.parts.Parts.TheVariants.{Every, At}
@@ -23,3 +23,9 @@ listed len (At ends) = between 0 ends.items
 abbrev pub IsRegular : ℕ → Parts → Type 0
 IsRegular len (Every size count) = (0 < size) × (len ≤ count * size) × (count * size < len + size)
 IsRegular len (At ends) = ⊤
+
+-- the first k pieces, and no others, end at an offset or before it
+pub record AreEnded (n k : ℕ) (ps : List Span) : Type 0 where
+  pub bound : k ≤ length ps
+  pub before : (i : ℕ) (d : Span) → i < k → (slice_index_or ps i d).end ≤ n
+  pub after : (i : ℕ) (d : Span) → k ≤ i → i < length ps → n < (slice_index_or ps i d).end

@@ -1,33 +1,37 @@
 ghost use Rattle.std.specs.Prelude.{◌≡◌, ◌*◌, ◌<◌, ◌≤◌, ◌↔◌, [], ◌∷◌, ◌++◌, length, Some, slice_get, IsOk, IfOk, IfErr};
 ghost use Rattle.std.specs.Int.{div_ceil};
-ghost use Rattle.jx_claim.specs.Cut.{CuttingValue, Covers, OfSize, meetings};
+ghost use Rattle.jx_claim.specs.Cut.{CuttingValue, Covers, OfSize, behind, meetings};
 ghost use Rattle.jx_claim.specs.CutFaults.{AreSound, Refuses};
 
 use crate::cut_fault::CutFault;
-use crate::parts::{Parts, piece_between, regular_piece};
+use crate::parts::Parts;
 use crate::piece_no::PieceNo;
 use jx_lex::Span;
 use std::alloc::{AllocError, Global};
 use std::marker::Model;
 
-/// A text of a known length, cut into pieces: they are not empty, stand in order and cover the whole text. There are at
-/// most 4,294,967,295 of them, and none where the length is 0.
+/// A text of a known length, cut into pieces: they are not empty, stand in order and cover the text from its front on,
+/// which is 0 unless `without_front` set it. There are at most 4,294,967,295 of them, and none where nothing is left to
+/// cover.
 #[derive(Debug, Drop)]
 pub struct Cutting {
     len: usize,
+    front: usize,
+    // How many parts end at the front or before it.
+    skipped: usize,
     parts: Parts,
 }
 
 impl Model for Cutting {
-    ghost use Rattle.std.specs.Prelude.{◌<◌, length};
-    ghost use Rattle.jx_claim.specs.Cut.{CuttingValue, Covers};
-    ghost use Rattle.jx_claim.specs.Listed.{listed, IsRegular};
+    ghost use Rattle.std.specs.Prelude.{◌<◌, ◌≤◌, length};
+    ghost use Rattle.jx_claim.specs.Cut.{CuttingValue, Covers, behind};
+    ghost use Rattle.jx_claim.specs.Listed.{listed, IsRegular, AreEnded};
 
     ghost Value = { CuttingValue };
 
-    ghost view = { λ c. record { len = c.len; pieces = listed c.len c.parts } };
+    ghost view = { λ c. record { len = c.len; front = c.front; pieces = behind c.front (listed c.len c.parts) } };
 
-    ghost invariant = { λ c. Covers 0 (listed c.len c.parts) c.len × (length (listed c.len c.parts) < 4294967296) × IsRegular c.len c.parts };
+    ghost invariant = { λ c. Covers 0 (listed c.len c.parts) c.len × (length (listed c.len c.parts) < 4294967296) × IsRegular c.len c.parts × (c.front ≤ c.len) × AreEnded c.front c.skipped (listed c.len c.parts) };
 }
 
 impl Cutting {
@@ -36,6 +40,7 @@ impl Cutting {
     pub fn every(len: usize, size: usize) -> Result<Cutting, CutFault>
         requires { 1 ≤ size }
         ensures len { IfOk result (λ c. c.len ≡ len) }
+        ensures front { IfOk result (λ c. c.front ≡ 0) }
         ensures covers { IfOk result (λ c. Covers 0 c.pieces len) }
         ensures sizes { IfOk result (λ c. OfSize size c.pieces) }
         ensures count { IfOk result (λ c. length c.pieces ≡ div_ceil len size) }
@@ -49,6 +54,8 @@ impl Cutting {
         let count = count as u32;
         Ok(Cutting {
             len,
+            front: 0,
+            skipped: 0,
             parts: Parts::Every { size, count },
         })
     }
@@ -58,6 +65,7 @@ impl Cutting {
     /// `TooManyPieces`, and `Memory` comes last.
     pub fn at(alloc: Global, len: usize, cuts: &[usize]) -> Result<Cutting, CutFault>
         ensures len { IfOk result (λ c. c.len ≡ len) }
+        ensures front { IfOk result (λ c. c.front ≡ 0) }
         ensures covers { IfOk result (λ c. Covers 0 c.pieces len) }
         ensures meet { IfOk result (λ c. meetings c.pieces ≡ cuts.now) }
         ensures fault { IfErr result (λ f. Refuses len cuts.now f) }
@@ -69,6 +77,8 @@ impl Cutting {
         if len == 0 {
             return Ok(Cutting {
                 len,
+                front: 0,
+                skipped: 0,
                 parts: Parts::At {
                     ends: Vec::new(alloc),
                 },
@@ -79,16 +89,51 @@ impl Cutting {
         };
         Ok(Cutting {
             len,
+            front: 0,
+            skipped: 0,
             parts: Parts::At { ends },
         })
+    }
+
+    /// The same pieces without the first `front` bytes of the text: those that end there or before it are left out, and
+    /// one that goes on behind it begins there. It takes no memory.
+    pub fn without_front(self, front: usize) -> Cutting
+        requires from { self.front ≤ front }
+        requires within { front ≤ self.len }
+        ensures len { result.len ≡ self.len }
+        ensures front { result.front ≡ front }
+        ensures pieces { result.pieces ≡ behind front self.pieces }
+        ensures covers { Covers front result.pieces self.len }
+    {
+        let Cutting {
+            len,
+            front: _,
+            skipped: _,
+            parts,
+        } = self;
+        let skipped = parts.ended(len, front);
+        Cutting {
+            len,
+            front,
+            skipped,
+            parts,
+        }
     }
 
     /// The length of the text, in bytes.
     pub fn len(&self) -> usize
         ensures len { result ≡ self.now.len }
-        ensures covers { Covers 0 self.now.pieces self.now.len }
+        ensures covers { Covers self.now.front self.now.pieces self.now.len }
     {
         self.len
+    }
+
+    /// Where the first piece begins, in bytes from the start of the text; the length, where there is no piece.
+    pub fn front(&self) -> usize
+        ensures front { result ≡ self.now.front }
+        ensures within { result ≤ self.now.len }
+    {
+        self.front
     }
 
     /// How many pieces there are.
@@ -96,10 +141,7 @@ impl Cutting {
         ensures count { result ≡ length self.now.pieces }
         ensures none { self.now.len ≡ 0 → result ≡ 0 }
     {
-        match &self.parts {
-            Parts::Every { size: _, count } => *count,
-            Parts::At { ends } => ends.len() as u32,
-        }
+        (self.parts.count() - self.skipped) as u32
     }
 
     /// The piece of this number, which is below the count.
@@ -107,12 +149,13 @@ impl Cutting {
         requires { piece.0 < length self.now.pieces }
         ensures piece { slice_get self.now.pieces piece.0 ≡ Some result }
         ensures filled { result.start < result.end }
+        ensures behind { self.now.front ≤ result.start }
         ensures within { result.end ≤ self.now.len }
     {
-        let number = piece.0 as usize;
-        match &self.parts {
-            Parts::Every { size, count: _ } => regular_piece(self.len, *size, number),
-            Parts::At { ends } => piece_between(ends, number),
+        let place = self.parts.piece(self.len, self.skipped + piece.0 as usize);
+        Span {
+            start: place.start.max(self.front),
+            end: place.end,
         }
     }
 }

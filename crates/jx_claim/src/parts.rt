@@ -1,6 +1,7 @@
 // How a cutting keeps its pieces: regular ones by their size, others by where they end.
-ghost use Rattle.std.specs.Prelude.{◌≡◌, ◌+◌, ◌*◌, ◌<◌, ◌∷◌, min, length, slice_index};
-ghost use Rattle.jx_claim.specs.Cut.{span};
+ghost use Rattle.std.specs.Prelude.{◌≡◌, ℕ, ◌+◌, ◌*◌, ◌<◌, ◌≤◌, ◌∷◌, min, length, Some, slice_get, slice_index};
+ghost use Rattle.jx_claim.specs.Cut.{span, Covers};
+ghost use Rattle.jx_claim.specs.Listed.{listed, between, IsRegular, AreEnded};
 
 use jx_lex::Span;
 
@@ -12,8 +13,63 @@ pub enum Parts {
     At { ends: Vec<usize> },
 }
 
+impl Parts {
+    // How many pieces there are.
+    pub fn count(&self) -> usize
+        ensures { (len : ℕ) → result ≡ length (listed len self.now) }
+    {
+        match self {
+            Parts::Every { size: _, count } => *count as usize,
+            Parts::At { ends } => ends.len(),
+        }
+    }
+
+    // The piece of this number, of a text of this length.
+    pub fn piece(&self, len: usize, number: usize) -> Span
+        requires low { number < length (listed len self.now) }
+        requires regular { IsRegular len self.now }
+        ensures { slice_get (listed len self.now) number ≡ Some result }
+    {
+        match self {
+            Parts::Every { size, count: _ } => regular_piece(len, *size, number),
+            Parts::At { ends } => piece_between(ends, number),
+        }
+    }
+
+    // How many pieces of a text of this length end at an offset or before it.
+    pub fn ended(&self, len: usize, offset: usize) -> usize
+        requires covers { Covers 0 (listed len self.now) len }
+        requires regular { IsRegular len self.now }
+        requires within { offset ≤ len }
+        ensures { AreEnded offset result (listed len self.now) }
+    {
+        match self {
+            Parts::Every { size, count } => {
+                if offset == len {
+                    *count as usize
+                } else {
+                    offset / *size
+                }
+            }
+            Parts::At { ends } => ended_between(ends, offset),
+        }
+    }
+}
+
+// How many of the pieces that end at these offsets end at an offset or before it.
+fn ended_between(ends: &[usize], offset: usize) -> usize
+    requires { (len : ℕ) × Covers 0 (between 0 ends.now) len }
+    ensures { AreEnded offset result (between 0 ends.now) }
+{
+    let mut ended = 0;
+    while ended < ends.len() && ends[ended] <= offset {
+        ended += 1;
+    }
+    ended
+}
+
 // The piece of this number among those of `size` bytes.
-pub fn regular_piece(len: usize, size: usize, number: usize) -> Span
+fn regular_piece(len: usize, size: usize, number: usize) -> Span
     requires { number * size < len }
     ensures { result ≡ span (number * size) (min (number * size + size) len) }
 {
@@ -25,7 +81,7 @@ pub fn regular_piece(len: usize, size: usize, number: usize) -> Span
 }
 
 // The piece of this number among those that end at these offsets.
-pub fn piece_between(ends: &[usize], number: usize) -> Span
+fn piece_between(ends: &[usize], number: usize) -> Span
     requires { number < length ends.now }
     ensures { result ≡ span (slice_index (0 ∷ ends.now) number) (slice_index ends.now number) }
 {

@@ -54,7 +54,7 @@ fn puts<P: Ledger, T: Ledger, R: Wait>(
     let (put, taken) = (share.total_put(), share.total_taken());
     shares.push(share)?;
     let gaps = match book.finish(text, Depth::default(), shares) {
-        Ok(closed) => closed.gaps(7).collect(alloc)?,
+        Ok(closed) => closed.gaps(Span { start: 3, end: 7 }).collect(alloc)?,
         Err(_) => Vec::new(alloc),
     };
     Ok(Told {
@@ -92,13 +92,14 @@ fn one_workers_puts(rt: HostRuntime) -> Result<(), Fail> {
     Ok(())
 }
 
-// Puts the bytes 1..2 and 3..4 of a text of five bytes, and finishes the book with another text and depth: the parts of
-// 0..5 without a run, or none where a run is handed back.
+// Puts the bytes 1..2 and 3..4 of a text of five bytes, and finishes the book with another text and depth: the parts of a
+// span without a run, or none where a run is handed back.
 fn finished<P: Ledger, T: Ledger, R: Wait>(
     rt: &R,
     alloc: Global,
     texts: (&[u8], &[u8]),
     depth: Depth,
+    part: Span,
     put: Blank,
     taken: Blank,
     workers: Workers,
@@ -116,7 +117,7 @@ fn finished<P: Ledger, T: Ledger, R: Wait>(
     book.put(rt, &mut share, read(alloc, texts.0, 3, 4)?);
     shares.push(share)?;
     match book.finish(texts.1, depth, shares) {
-        Ok(closed) => Ok(Some(closed.gaps(5).collect(alloc)?)),
+        Ok(closed) => Ok(Some(closed.gaps(part).collect(alloc)?)),
         Err(FinishFault::Other(_)) => Ok(None),
     }
 }
@@ -126,36 +127,41 @@ fn finishing_takes_the_runs_of_the_text_alone(rt: HostRuntime) -> Result<(), Fai
     let alloc = rt.alloc();
     let workers = Workers::new(1).ok_or("one worker")?;
     let text: &[u8] = b"[1,2]";
-    let gaps = [
+    let all = Span { start: 0, end: 5 };
+    let gaps: &[Span] = &[
         Span { start: 0, end: 1 },
         Span { start: 2, end: 3 },
         Span { start: 4, end: 5 },
     ];
+    let inner = Span { start: 1, end: 3 };
+    let inner_gaps: &[Span] = &[Span { start: 2, end: 3 }];
+    let last = Span { start: 4, end: 5 };
+    let last_gaps: &[Span] = &[Span { start: 4, end: 5 }];
     let same: &[u8] = b"{1:2}";
     let other: &[u8] = b"[1,3]";
     let short: &[u8] = b"[1,";
     let less = Depth::new(511).ok_or("a depth")?;
     let cases = [
-        (same, Depth::default(), true),
-        (other, Depth::default(), false),
-        (short, Depth::default(), false),
-        (text, less, false),
+        (same, Depth::default(), all, Some(gaps)),
+        (same, Depth::default(), inner, Some(inner_gaps)),
+        (same, Depth::default(), last, Some(last_gaps)),
+        (other, Depth::default(), all, None),
+        (short, Depth::default(), all, None),
+        (text, less, all, None),
     ];
-    for (name, depth, fits) in cases {
+    for (name, depth, part, gaps) in cases {
         let (put, taken) = (Blank::new(1), Blank::new(1));
         let found = finished::<Brand, Brand, _>(
             &rt,
             alloc,
             (text, name),
             depth,
+            part,
             put,
             taken,
             workers,
         )?;
-        assert_eq!(rt; found.is_some(), fits);
-        if let Some(found) = found {
-            assert_eq!(rt; found.as_slice(), gaps.as_slice());
-        }
+        assert_eq!(rt; found.as_ref().map(|found| found.as_slice()), gaps);
     }
     Ok(())
 }

@@ -46,6 +46,47 @@ fn pieces_meet_at_the_cuts(rt: HostRuntime) -> Result<(), Fail> {
 }
 
 #[test]
+fn without_the_first_bytes(rt: HostRuntime) -> Result<(), Fail> {
+    let alloc = rt.alloc();
+    let wide = Cutting::every(10, 4)?.without_front(3);
+    let expected = [
+        Span { start: 3, end: 4 },
+        Span { start: 4, end: 8 },
+        Span { start: 8, end: 10 },
+    ];
+    assert_eq!(rt; wide.front(), 3);
+    assert_eq!(rt; wide.len(), 10);
+    assert_eq!(rt; pieces(alloc, &wide)?.as_slice(), expected.as_slice());
+    let narrow = Cutting::every(10, 2)?.without_front(3);
+    let expected = [
+        Span { start: 3, end: 4 },
+        Span { start: 4, end: 6 },
+        Span { start: 6, end: 8 },
+        Span { start: 8, end: 10 },
+    ];
+    assert_eq!(rt; pieces(alloc, &narrow)?.as_slice(), expected.as_slice());
+    let none = Cutting::every(3, 1)?.without_front(3);
+    assert_eq!(rt; none.front(), 3);
+    assert_eq!(rt; none.count(), 0);
+    Ok(())
+}
+
+#[test]
+fn without_the_first_bytes_at_cuts(rt: HostRuntime) -> Result<(), Fail> {
+    let alloc = rt.alloc();
+    let cutting = Cutting::at(alloc, 10, &[3, 9])?;
+    assert_eq!(rt; cutting.front(), 0);
+    let cutting = cutting.without_front(3);
+    let expected = [Span { start: 3, end: 9 }, Span { start: 9, end: 10 }];
+    assert_eq!(rt; pieces(alloc, &cutting)?.as_slice(), expected.as_slice());
+    let cutting = cutting.without_front(5);
+    let expected = [Span { start: 5, end: 9 }, Span { start: 9, end: 10 }];
+    assert_eq!(rt; pieces(alloc, &cutting)?.as_slice(), expected.as_slice());
+    assert_eq!(rt; cutting.without_front(10).count(), 0);
+    Ok(())
+}
+
+#[test]
 fn an_empty_text_has_no_piece(rt: HostRuntime) -> Result<(), Fail> {
     assert_eq!(rt; Cutting::at(rt.alloc(), 0, &[])?.count(), 0);
     assert_eq!(rt; Cutting::every(0, 4)?.count(), 0);

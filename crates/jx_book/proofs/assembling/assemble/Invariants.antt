@@ -10,6 +10,7 @@ invariant-loop-run g l = record {
   apart : IsApart l.runs.items;
   of : All (λ r. IsOf l.text l.depth r) l.runs.items;
   rest : IsRest l.text l.depth l.rest.span.start l.rest;
+  front : l.front ≤ l.rest.span.start;
   before : All (λ r. r.span.end ≤ l.rest.span.start) l.runs.items;
 }
 

@@ -6,7 +6,7 @@ use Rattle.jx_book.proofs.gaps.first_gap.Given as goal
 abbrev pub invariant-loop-next : goal.invariant-loop-next
 invariant-loop-next g l = record {
   bound : l.next ≤ length l.runs;
-  same : gaps_from l.start (spans_of (drop l.number l.runs)) l.len ≡ gaps_from l.at (spans_of (drop l.next l.runs)) l.len;
+  same : gaps_from l.start (spans_of (drop l.number l.runs)) l.end ≡ gaps_from l.at (spans_of (drop l.next l.runs)) l.end;
 }
 
 abbrev pub decreases-loop-next : goal.decreases-loop-next

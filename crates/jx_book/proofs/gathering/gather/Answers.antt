@@ -1,4 +1,4 @@
-use Rattle.std.proofs.Common.{rules, ◌≡◌, ℕ, ◌<◌, List, [], ◌∷◌, length, get_or, cond, Bool, true, sym, ap, ◌∙◌, arith}
+use Rattle.std.proofs.Common.{rules, ◌≡◌, ℕ, ◌+◌, ◌<◌, ◌≤◌, refl, subst, List, [], ◌∷◌, length, get_or, cond, Bool, true, sym, ap, ◌∙◌, arith}
 use Rattle.std.specs.Prelude.{count_by, sum_by, MatchOption}
 use Rattle.std.specs.declared.option.Option.{Option}
 use Rattle.std.specs.declared.option.Option.TheVariants.{None, Some}
@@ -7,7 +7,7 @@ use Rattle.jx_claim.specs.Claimed.{SeatValue, once_below}
 use Rattle.jx_lex.specs.declared.span.Span.{Span}
 use Rattle.jx_claim.specs.Cut.{Covers}
 use Rattle.jx_book.specs.Runs.{HeldValue, run_len}
-use Rattle.jx_book.specs.Gathered.{IsGathered, IsWhole}
+use Rattle.jx_book.specs.Gathered.{IsGathered, IsRest}
 use Rattle.jx_book.proofs.Totals.{all_bytes}
 use Rattle.jx_book.proofs.gathering.gather.Goals as goal
 
@@ -23,21 +23,30 @@ only_run-requires-clause-total g c =
     let ss : List SeatValue = c.args.seats.items in
     let ps = c.args.cutting.now.pieces in
     let all = c.close.ensures.spent (some_spent ss c.close.ensures.some c.requires.spent) in
-    let bytes = all_bytes ps c.args.cutting.now.len ss c.len-len.ensures.covers (λ x. c.close.ensures.got x ∙ ap (once_below x) (all ∙ c.requires.claims)) in
-    omega (arith, bytes, c.requires.bytes, c.in_ok-closed.ensures.total, c.requires.cutting, ap (λ (l : List (HeldValue g.row.S.Denot)). sum_by run_len l) c.into_runs.ensures.runs)
+    let bytes = all_bytes c.args.cutting.now.front ps c.args.cutting.now.len ss c.len-len.ensures.covers (λ x. c.close.ensures.got x ∙ ap (once_below x) (all ∙ c.requires.claims)) in
+    omega (arith, bytes, c.requires.bytes, c.in_ok-closed.ensures.total, c.requires.cutting, c.front-front.ensures.front, ap (λ (l : List (HeldValue g.row.S.Denot)). sum_by run_len l) c.into_runs-runs.ensures.runs)
 
-some_piece : (ps : List Span) (len : ℕ) → Covers 0 ps len → 0 < len → 0 < length ps
-some_piece [] len c low = absurd (omega (arith, c))
-some_piece (p ∷ ps) len c low = omega arith
+some_piece : (a : ℕ) (ps : List Span) (len : ℕ) → Covers a ps len → a < len → 0 < length ps
+some_piece a [] len c low = absurd (omega (arith, c, low))
+some_piece a (p ∷ ps) len c low = omega arith
 
-module _ {S : Type 0} (ps : List Span) (text : List ℕ) (depth : ℕ) where
-  gathered : (o : Option (HeldValue S)) → (length text ≡ 0 → length ps ≡ 0) → (0 < length text → 0 < length ps)
-      → MatchOption o (length text ≡ 0) (λ h. (0 < length text) × IsWhole text depth h) → IsGathered ps text depth o
-  gathered None none some h = none h
-  gathered (Some x) none some h = (some h.0, h.1)
+covers_le : (a : ℕ) (ps : List Span) (b : ℕ) → Covers a ps b → a ≤ b
+covers_le a [] b e = omega (arith, e)
+covers_le a (p ∷ ps) b c = omega (arith, c.1, covers_le p.end ps b c.2)
+
+no_piece : (a : ℕ) (ps : List Span) (len : ℕ) → Covers a ps len → len ≡ a → length ps ≡ 0
+no_piece a [] len c e = refl
+no_piece a (p ∷ ps) len c e = absurd (omega (arith, c.1, covers_le p.end ps len c.2, e))
+
+module _ {S : Type 0} (ps : List Span) (text : List ℕ) (depth front : ℕ) where
+  gathered : (o : Option (HeldValue S)) → Covers front ps (length text)
+      → MatchOption o (length text ≡ front) (λ h. (front < length text) × IsRest text depth front h) → IsGathered ps text depth front o
+  gathered None c h = no_piece front ps (length text) c h
+  gathered (Some x) c h = (some_piece front ps (length text) c h.0, h.1)
 
 pub returns-clause-ok : goal.returns-clause-ok
-returns-clause-ok g c = gathered c.args.cutting.now.pieces c.args.text.now c.args.depth c.only_run.result
-    (λ e. sym c.count-count.ensures.count ∙ c.count-count.ensures.none (c.requires.cutting ∙ e))
-    (λ some. some_piece c.args.cutting.now.pieces c.args.cutting.now.len c.len-len.ensures.covers (omega (arith, c.requires.cutting, some)))
-    c.only_run.ensures
+returns-clause-ok g c =
+    let v = c.args.cutting.now in
+    let at : c.front-front.result ≡ v.front = c.front-front.ensures.front in
+    let only = subst (λ (n : ℕ). MatchOption c.only_run.result (length c.args.text.now ≡ n) (λ h. (n < length c.args.text.now) × IsRest c.args.text.now c.args.depth n h)) at c.only_run.ensures in
+    gathered v.pieces c.args.text.now c.args.depth v.front c.only_run.result (subst (λ (n : ℕ). Covers v.front v.pieces n) c.requires.cutting c.len-len.ensures.covers) only

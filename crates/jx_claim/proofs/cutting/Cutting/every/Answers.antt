@@ -1,8 +1,9 @@
-use Rattle.std.proofs.Common.{◌+◌, ◌*◌, ◌<◌, ◌≤◌, sym, ◌∙◌, refl, subst, arith}
+use Rattle.std.proofs.Common.{◌≡◌, ◌+◌, ◌*◌, ◌<◌, ◌≤◌, List, length, ap, sym, ◌∙◌, refl, subst, arith}
 use Rattle.std.proofs.lemmas.Grind.{div_ceil_times}
-use Rattle.jx_claim.specs.Cut.{Covers}
+use Rattle.jx_lex.specs.declared.span.Span.{Span}
+use Rattle.jx_claim.specs.Cut.{Covers, OfSize, behind}
 use Rattle.jx_claim.specs.Listed.{regular}
-use Rattle.jx_claim.proofs.Pieces.{regular_covers, length-regular, regular_of_size, few_enough}
+use Rattle.jx_claim.proofs.Pieces.{regular_covers, length-regular, regular_of_size, few_enough, behind_start, none_ended}
 use Rattle.jx_claim.proofs.cutting.Cutting.every.Goals as goal
 
 -- the count is the number of pieces that begin before the end
@@ -14,21 +15,27 @@ covered : (c : goal.Else-count) → Covers 0 (regular c.args.len c.args.size c.d
 covered c = let k = counted c in
     regular_covers c.args.len c.args.size c.div_ceil-count.result 0 (omega arith) (omega arith) (omega (arith, k.0)) (omega (arith, k.1))
 
+-- none of them is cut off
+all_of : (c : goal.Else-count) → behind 0 (regular c.args.len c.args.size c.div_ceil-count.result 0) ≡ regular c.args.len c.args.size c.div_ceil-count.result 0
+all_of c = behind_start 0 (regular c.args.len c.args.size c.div_ceil-count.result 0) c.args.len 0 (covered c) (omega arith)
+
 pub invariant_of-result : goal.invariant_of-result
 invariant_of-result c = let k = counted c in (
   covered c,
   omega (arith, length-regular c.args.len c.args.size c.div_ceil-count.result 0),
   (omega arith, k.0, k.1),
+  omega arith,
+  none_ended (regular c.args.len c.args.size c.div_ceil-count.result 0) c.args.len (covered c),
 )
 
 pub returns-clause-covers : goal.returns-clause-covers
-returns-clause-covers c = covered c
+returns-clause-covers c = subst (λ ps. Covers 0 ps c.args.len) (sym (all_of c)) (covered c)
 
 pub returns-clause-sizes : goal.returns-clause-sizes
-returns-clause-sizes c = regular_of_size c.args.len c.args.size c.div_ceil-count.result (omega arith) (counted c).1
+returns-clause-sizes c = subst (OfSize c.args.size) (sym (all_of c)) (regular_of_size c.args.len c.args.size c.div_ceil-count.result (omega arith) (counted c).1)
 
 pub returns-clause-count : goal.returns-clause-count
-returns-clause-count c = length-regular c.args.len c.args.size c.div_ceil-count.result 0 ∙ c.div_ceil-count.ensures
+returns-clause-count c = ap (λ (ps : List Span). length ps) (all_of c) ∙ length-regular c.args.len c.args.size c.div_ceil-count.result 0 ∙ c.div_ceil-count.ensures
 
 pub returns-clause-few : goal.returns-clause-few
 returns-clause-few c = (λ _. few_enough c.args.len c.args.size c.div_ceil-count.result (counted c).0 (omega arith), λ _. refl)

@@ -1,68 +1,54 @@
-use Rattle.std.proofs.Common.{◌≡◌, ℕ, ◌<◌, List, ◌∷◌, length, get_or, refl, sym, ap, ◌∙◌, subst, arith}
-use Rattle.std.proofs.lemmas.Option.{slice_get_read}
+use Rattle.std.proofs.Common.{◌≡◌, ◌+◌, ◌<◌, ◌≤◌, length, get_or, refl, sym, ap, ◌∙◌, subst, arith}
+use Rattle.std.specs.Prelude.{max}
+use Rattle.std.proofs.lemmas.Option.{slice_get_read, get_or_from_slice_get}
 use Rattle.jx_lex.specs.declared.span.Span.{Span}
-use Rattle.std.specs.Prelude.{slice_index}
 use Rattle.jx_claim.specs.Cut.{CuttingValue, Covers, span}
-use Rattle.jx_claim.specs.Listed.{listed, IsRegular}
-use Rattle.jx_claim.proofs.Pieces.{length-regular, regular_is, regular_begins, length-between, between_at, piece_covered}
+use Rattle.jx_claim.specs.Listed.{listed}
+use Rattle.jx_claim.proofs.Pieces.{behind_len, behind_at, behind_covers, piece_covered}
 use Rattle.jx_claim.proofs.cutting.Cutting.piece.Goals as goal
+use Rattle.jx_claim.proofs.cutting.Cutting.piece.Goals.{After-max}
 
--- the number is below the count of regular pieces
-below : (c : goal.After-row_known-1) → c.args.piece.0 < c.in-Every.count
-below c =
-    let is = sym (ap (λ v. v.pieces) c.self.view_is) ∙ ap (listed c.self.inside.len) c.in-Every.is in
-    omega (arith, c.requires, ap (λ (l : List Span). length l) is, length-regular c.self.inside.len c.in-Every.size c.in-Every.count 0)
+low : (c : goal.After-struct_known-1) → c.self.inside.skipped + c.args.piece.0 < length (listed c.self.inside.len c.self.inside.parts)
+low c =
+    let s = c.self.inside in
+    omega (arith, c.requires, ap (λ (v : CuttingValue). length v.pieces) c.self.view_is, behind_len s.front s.skipped (listed s.len s.parts) c.self.invariant.4)
 
-pub regular_piece-requires : goal.regular_piece-requires
-regular_piece-requires c =
-    let regular = subst (IsRegular c.self.inside.len) c.in-Every.is c.self.invariant.2 in
-    regular_begins c.self.inside.len c.in-Every.size c.in-Every.count c.args.piece.0 (below c) regular.2
+pub overflow_add-self-inside : goal.overflow_add-self-inside
+overflow_add-self-inside c = omega (arith, low c, c.self.invariant.1)
 
-pub piece_between-requires : goal.piece_between-requires
-piece_between-requires c =
-    let is = sym (ap (λ v. v.pieces) c.self.view_is) ∙ ap (listed c.self.inside.len) c.in-At.is in
-    omega (arith, c.requires, ap (λ (l : List Span). length l) is, length-between 0 c.in-At.ends.items, ap (λ (l : List ℕ). length l) c.deref.ensures.value)
+pub piece-place-requires-clause-low : goal.piece-place-requires-clause-low
+piece-place-requires-clause-low c = low c
 
-every_read : (c : goal.After-regular_piece) → get_or c.args.self.now.pieces c.args.piece.0 c.regular_piece.result ≡ c.regular_piece.result
-every_read c =
-    let len = c.self.inside.len in
-    let k = c.args.piece.0 in
-    let r = c.regular_piece.result in
-    let is = sym (ap (λ v. v.pieces) c.self.view_is) ∙ ap (listed len) c.in-Every.is in
-    let fit = subst (IsRegular len) c.in-Every.is c.self.invariant.2 in
-    let low : k < c.in-Every.count = omega (arith, c.requires, ap (λ (l : List Span). length l) is, length-regular len c.in-Every.size c.in-Every.count 0) in
-    ap (λ ps. get_or ps k r) is ∙ regular_is len c.in-Every.size c.in-Every.count k r fit.0 low fit.2 ∙ sym c.regular_piece.ensures
+abbrev answer : After-max → Span
+answer c = span c.max.result c.piece-place.result.end
 
-at_read : (c : goal.After-piece_between) → get_or c.args.self.now.pieces c.args.piece.0 c.piece_between.result ≡ c.piece_between.result
-at_read c =
-    let len = c.self.inside.len in
-    let k = c.args.piece.0 in
-    let r = c.piece_between.result in
-    let ends = c.in-At.ends.items in
-    let is = sym (ap (λ v. v.pieces) c.self.view_is) ∙ ap (listed len) c.in-At.is in
-    let low : k < length ends = omega (arith, c.requires, ap (λ (l : List Span). length l) is, length-between 0 ends) in
-    ap (λ ps. get_or ps k r) is ∙ between_at 0 ends k r low
-    ∙ sym (c.piece_between.ensures ∙ ap (λ es. span (slice_index (0 ∷ es) k) (slice_index es k)) c.deref.ensures.value)
+-- the piece that was read
+read : (c : After-max) → get_or c.args.self.now.pieces c.args.piece.0 (answer c) ≡ answer c
+read c =
+    let s = c.self.inside in
+    let ps = listed s.len s.parts in
+    let i = c.args.piece.0 in
+    let r = answer c in
+    let place = c.piece-place.result in
+    let at : s.skipped + i < length ps = omega (arith, c.requires, ap (λ (v : CuttingValue). length v.pieces) c.self.view_is, behind_len s.front s.skipped ps c.self.invariant.4) in
+    let start : max s.front place.start ≡ c.max.result = omega (arith, c.max.ensures) in
+    sym (ap (λ (v : CuttingValue). get_or v.pieces i r) c.self.view_is) ∙ behind_at s.front s.skipped ps c.self.invariant.4 i r at
+    ∙ ap (λ (p : Span). span (max s.front p.start) p.end) (get_or_from_slice_get ps (s.skipped + i) place r c.piece-place.ensures)
+    ∙ (λ j. span (start j) place.end)
 
-pub returns-in-Every-clause-piece : goal.returns-in-Every-clause-piece
-returns-in-Every-clause-piece c = slice_get_read _ _ _ _ refl c.requires (sym (every_read c))
+-- so it is not empty, and lies in the text
+covered : (c : After-max) → (c.max.result < c.piece-place.result.end) × (c.piece-place.result.end ≤ c.args.self.now.len)
+covered c =
+    let s = c.self.inside in
+    let covers : Covers c.args.self.now.front c.args.self.now.pieces c.args.self.now.len = subst (λ (v : CuttingValue). Covers v.front v.pieces v.len) c.self.view_is
+    (behind_covers 0 (listed s.len s.parts) s.len s.front c.self.invariant.0 (omega arith) c.self.invariant.3) in
+    piece_covered c.args.self.now.front c.args.self.now.pieces c.args.self.now.len c.args.piece.0 (answer c) covers c.requires (read c)
 
--- the pieces cover the text
-covers : (c : goal.After-piece_between) → Covers 0 c.args.self.now.pieces c.args.self.now.len
-covers c = subst (λ (v : CuttingValue). Covers 0 v.pieces v.len) c.self.view_is c.self.invariant.0
+pub returns-clause-piece : goal.returns-clause-piece
+returns-clause-piece c = slice_get_read _ _ _ _ refl c.requires (sym (read c))
 
-pub returns-in-Every-clause-filled : goal.returns-in-Every-clause-filled
-returns-in-Every-clause-filled c =
-    (piece_covered c.args.self.now.pieces c.args.self.now.len c.args.piece.0 c.regular_piece.result
-    (subst (λ (v : CuttingValue). Covers 0 v.pieces v.len) c.self.view_is c.self.invariant.0) c.requires (every_read c)).0
+pub returns-clause-filled : goal.returns-clause-filled
+returns-clause-filled c = (covered c).0
 
-pub returns-in-At-clause-piece : goal.returns-in-At-clause-piece
-returns-in-At-clause-piece c = slice_get_read _ _ _ _ refl c.requires (sym (at_read c))
-
-pub returns-in-At-clause-filled : goal.returns-in-At-clause-filled
-returns-in-At-clause-filled c =
-    (piece_covered c.args.self.now.pieces c.args.self.now.len c.args.piece.0 c.piece_between.result (covers c) c.requires (at_read c)).0
-
-pub returns-in-At-clause-within : goal.returns-in-At-clause-within
-returns-in-At-clause-within c =
-    (piece_covered c.args.self.now.pieces c.args.self.now.len c.args.piece.0 c.piece_between.result (covers c) c.requires (at_read c)).1
+pub returns-clause-within : goal.returns-clause-within
+returns-clause-within c = (covered c).1
