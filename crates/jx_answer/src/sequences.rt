@@ -34,6 +34,7 @@ pub fn index_sequence<'a, R: Threads + Wait + Sync, G: Gate + Sync>(
     gate: &G,
 ) -> Result<Vec<Element<'a>>, Fault>
     requires cutting { cutting.now.len ≡ length text.now }
+    requires front { cutting.now.front ≡ 0 }
     // For every cutting, number of workers and gate, these are the answers on the elements of the bytes.
     ensures elements { IfOk result (λ elements. AreElements text.entry.now depth elements.items) }
 {

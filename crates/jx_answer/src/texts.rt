@@ -29,6 +29,7 @@ pub fn index_text<'a, R: Threads + Wait + Sync, G: Gate + Sync>(
     gate: &G,
 ) -> Result<TextAnswer<'a>, Fault>
     requires cutting { cutting.now.len ≡ length text.now }
+    requires front { cutting.now.front ≡ 0 }
     // For every cutting, number of workers and gate, it is the answer that the standard gives for the bytes.
     ensures answer { IfOk result (λ answer. IsAnswer text.entry.now depth answer) }
 {
@@ -50,6 +51,7 @@ pub fn verdict_of_text<R: Threads + Wait + Sync, G: Gate + Sync>(
     gate: &G,
 ) -> Result<Verdict, Fault>
     requires cutting { cutting.now.len ≡ length text.now }
+    requires front { cutting.now.front ≡ 0 }
     ensures verdict { IfOk result (λ verdict. Judged 0 text.now depth verdict) }
 {
     let run = read_text::<OutcomeRun, R, G>(rt, alloc, text, cutting, workers, depth, gate)?;
@@ -67,6 +69,7 @@ pub(crate) fn read_text<'a, S: Summary + Send, R: Threads + Wait + Sync, G: Gate
     gate: &G,
 ) -> Result<Held<'a, S>, Fault>
     requires cutting { cutting.now.len ≡ length text.now }
+    requires front { cutting.now.front ≡ 0 }
     ensures whole { IfOk result (λ h. IsWhole text.entry.now depth h) }
 {
     let read = if cutting.count() <= 1 {
