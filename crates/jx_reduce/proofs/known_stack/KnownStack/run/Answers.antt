@@ -1,4 +1,4 @@
-use Rattle.std.proofs.Common.{take, arith, ap, ◌∙◌, sym}
+use Rattle.std.proofs.Common.{take, arith, ap, ◌∙◌}
 use Rattle.std.proofs.lemmas.List.{take_more, take_all}
 use Rattle.jx_reduce.specs.Read.{read}
 use Rattle.jx_reduce.specs.KnownStack.{Known}
