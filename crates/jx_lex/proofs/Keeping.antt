@@ -3,13 +3,16 @@ use Rattle.std.proofs.Common.{◌≡◌, ℕ, suc, ◌+◌, ◌≤◌, ◌<◌, 
 use Rattle.std.specs.Prelude.{slice_range}
 use Rattle.jx_lex.specs.declared.state.LexState.{LexState}
 use Rattle.jx_lex.specs.declared.state.LexState.TheVariants as state
+use Rattle.jx_lex.specs.declared.state.Step.{Step}
 use Rattle.jx_lex.specs.declared.mark.Mark.{Mark}
 use Rattle.jx_lex.specs.Classes.{class_at}
 use Rattle.jx_lex.specs.Lex.{Track, Exit, lex, with_mark, with_end, on_next, after_step}
 use Rattle.jx_lex.specs.Lex as reading
-use Rattle.jx_lex.specs.Moves.{move}
+use Rattle.jx_lex.specs.Moves.{move, as_gap}
 use Rattle.jx_lex.specs.Runs.{Leads}
-use Rattle.jx_lex.specs.Seen.{Seen, Grows, SeesTrack, GoesTo}
+use Rattle.jx_lex.specs.Seen.{Seen, Grows, SeesTrack, GoesTo, EndsAtComma}
+use Rattle.jx_lex.specs.declared.mark.MarkKind.TheVariants.{Colon, Comma}
+use Rattle.jx_lex.specs.declared.state.TokenEnd.TheVariants.{Before}
 use Rattle.jx_lex.proofs.LexJoin.{right_of, lex-append}
 use Rattle.jx_lex.proofs.Reading.{one-is}
 use Rattle.jx_lex.proofs.Running.{lex-leads}
@@ -122,3 +125,39 @@ goes-closed xs a e old new low high quote led h =
     (goes-byte xs e state.Str state.Gap old new high
     (subst (λ (b : ℕ). Grows old new (with_mark ((move state.Str b).begin) e []) (with_end ((move state.Str b).end) e [])) (sym quote) k)
     (ap (λ (b : ℕ). (move state.Str b).next) quote))
+
+-- a name's colon
+pub goes-colon : (xs : List ℕ) (i : ℕ) (old new : Seen) → i < length xs → get_or xs i 0 ≡ 0x3a → Grows old new (record { kind = Colon; at = i } ∷ []) []
+    → GoesTo old new (lex state.Gap i (slice_range xs i (i + 1))) state.Gap
+unfolding class_at
+goes-colon xs i old new low is h =
+    goes-byte xs i state.Gap state.Gap old new low
+    (subst (λ (b : ℕ). Grows old new (with_mark ((move state.Gap b).begin) i []) (with_end ((move state.Gap b).end) i [])) (sym is) h)
+    (ap (λ (b : ℕ). (move state.Gap b).next) is)
+
+-- ---- numbers
+
+pub ends-zero : EndsAtComma state.Zero
+unfolding class_at as_gap
+ends-zero = refl
+
+pub ends-int : EndsAtComma state.Int
+unfolding class_at as_gap
+ends-int = refl
+
+pub ends-frac : EndsAtComma state.Frac
+unfolding class_at as_gap
+ends-frac = refl
+
+pub ends-exp : EndsAtComma state.Exp
+unfolding class_at as_gap
+ends-exp = refl
+
+-- the comma that ends a number
+pub goes-comma : (xs : List ℕ) (i : ℕ) (s : LexState) (old new : Seen) → i < length xs → get_or xs i 0 ≡ 0x2c → EndsAtComma s → Grows old new (record { kind = Comma; at = i } ∷ []) (i ∷ [])
+    → GoesTo old new (lex s i (slice_range xs i (i + 1))) state.Gap
+goes-comma xs i s old new low is ends h =
+    let e : move s (get_or xs i 0) ≡ record { end = Some Before; begin = Some Comma; next = Some state.Gap } = ap (move s) is ∙ ends in
+    goes-byte xs i s state.Gap old new low
+    (subst (λ (m : Step). Grows old new (with_mark m.begin i []) (with_end m.end i [])) (sym e) h)
+    (ap (λ (m : Step). m.next) e)

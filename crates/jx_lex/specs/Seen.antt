@@ -1,8 +1,13 @@
 -- What a keeper of tokens has seen, and how it grows.
-use Rattle.std.specs.Prelude.{◌≡◌, ℕ, List, ◌++◌}
+use Rattle.std.specs.Prelude.{◌≡◌, ℕ, List, ◌++◌, Some}
 use Rattle.jx_lex.specs.declared.state.LexState.{LexState}
 use Rattle.jx_lex.specs.declared.mark.Mark.{Mark}
-use Rattle.jx_lex.specs.Lex.{Track, state}
+use Rattle.jx_lex.specs.declared.mark.MarkKind.TheVariants.{Comma}
+use Rattle.jx_lex.specs.declared.state.LexState.TheVariants as state
+use Rattle.jx_lex.specs.declared.state.TokenEnd.TheVariants.{Before}
+use Rattle.jx_lex.specs.Lex as reading
+use Rattle.jx_lex.specs.Lex.{Track}
+use Rattle.jx_lex.specs.Moves.{move}
 
 -- which marks and ends a keeper may have seen
 abbrev pub Seen : Type 1
@@ -23,7 +28,7 @@ WantsNoMore seen = (marks more : List Mark) (ends others : List ℕ) → seen ma
 -- the marks and ends of a reading that led to a state
 pub record GoesTo (old new : Seen) (track : Track) (to : LexState) : Type 0 where
   pub seen : SeesTrack old new track
-  pub exit : track.exit ≡ state to
+  pub exit : track.exit ≡ reading.state to
 
 -- what a contract sees of the marks and ends of tokens
 pub record TokenLists : Type 0 where
@@ -33,3 +38,7 @@ pub record TokenLists : Type 0 where
 -- those of a reading behind them
 abbrev pub with_tokens : TokenLists → Track → TokenLists
 with_tokens tokens track = record { marks = tokens.marks ++ track.marks; ends = tokens.ends ++ track.ends }
+
+-- a number ends before a comma, which then stands between tokens
+abbrev pub EndsAtComma : LexState → Type 0
+EndsAtComma s = move s 0x2c ≡ record { end = Some Before; begin = Some Comma; next = Some state.Gap }

@@ -1,19 +1,21 @@
 // Reading bytes from a known lexical state, whatever is kept of the tokens.
-ghost use Rattle.std.specs.Prelude.{◌≡◌, ◌≤◌, ◌<◌, ◌+◌, ◌++◌, ◌∷◌, [], ◌^◌, length, OnOk, IfOk, IfSome, IsNone, slice_range, get_or};
+ghost use Rattle.std.specs.Prelude.{◌≡◌, ◌≤◌, ◌<◌, ◌+◌, ◌++◌, ◌∷◌, [], ◌^◌, length, OnOk, IfOk, IfSome, IsNone, IsTrue, slice_range};
 ghost use Rattle.jx_lex.specs.declared.state.LexState.TheVariants as state;
+ghost use Rattle.jx_lex.specs.Ahead.{IsSound};
 ghost use Rattle.jx_lex.specs.Cells.{step_of};
 ghost use Rattle.jx_lex.specs.Lex.{lex, with_mark, with_end};
 ghost use Rattle.jx_lex.specs.Moves.{move};
-ghost use Rattle.jx_lex.specs.Seen.{Grows, SeesTrack, WantsNoMore, GoesTo};
+ghost use Rattle.jx_lex.specs.Seen.{EndsAtComma, Grows, SeesTrack, WantsNoMore, GoesTo};
 ghost use Rattle.jx_lex.specs.View.{exit_of};
 
+use crate::ahead::Ahead;
 use crate::cell::Cell;
 use crate::class::{Class, class_of};
 use crate::exit::Exit;
 use crate::keeper::Keeper;
 use crate::machine::cell_at;
 use crate::mark::{Mark, MarkKind};
-use crate::parts::string_end;
+use crate::parts::string_end_ahead;
 use crate::runs::{gap_end, more_digits, number_rest};
 use crate::state::LexState;
 use std::alloc::AllocError;
@@ -105,24 +107,106 @@ fn take_byte<K: Keeper>(
     Ok(Some(begun))
 }
 
-/// What follows of a string, with the quotation mark that ends it.
+/// A name's colon, if it stands there, and gives its end.
+#[inline(always)]
+fn colon<K: Keeper>(
+    keeper: &mut K,
+    text: &[u8],
+    from: usize,
+    to: usize,
+) -> Result<usize, AllocError>
+    requires { (from ≤ to) × (to ≤ length text.now) }
+    ensures bounds { IfOk result (λ end. (from ≤ end) × (end ≤ to)) }
+    ensures read { IfOk result (λ end. GoesTo (K.has_seen keeper.old) (K.has_seen keeper.new) (lex state.Gap from (slice_range text.now from end)) state.Gap) }
+{
+    if from < to && text[from] == b':' {
+        keeper.begin(Mark {
+            kind: MarkKind::Colon,
+            at: from,
+        })?;
+        return Ok(from + 1);
+    }
+    Ok(from)
+}
+
+/// What follows of a string, with the quotation mark that ends it and a colon behind it.
 #[inline(always)]
 fn string_rest<K: Keeper>(
     keeper: &mut K,
     text: &[u8],
     from: usize,
     to: usize,
+    ahead: Ahead,
+) -> Result<(LexState, usize, Ahead), AllocError>
+    requires bounds { (from ≤ to) × (to ≤ length text.now) }
+    requires sound { IsSound text.now ahead }
+    ensures bounds { IfOk result (λ r. (from ≤ r.1) × (r.1 ≤ to)) }
+    ensures read { IfOk result (λ r. GoesTo (K.has_seen keeper.old) (K.has_seen keeper.new) (lex state.Str from (slice_range text.now from r.1)) r.0) }
+    ensures sound { IfOk result (λ r. IsSound text.now r.2) }
+{
+    let (end, known) = string_end_ahead(text, from, to, ahead);
+    if end < to && text[end] == b'"' {
+        keeper.end(end + 1)?;
+        let behind = colon(keeper, text, end + 1, to)?;
+        return Ok((LexState::Gap, behind, known));
+    }
+    Ok((LexState::Str, end, known))
+}
+
+/// Whether a number may end in this state.
+#[inline(always)]
+fn may_end(state: LexState) -> bool
+    ensures { IsTrue result → EndsAtComma state }
+{
+    match state {
+        LexState::Zero => true,
+        LexState::Int => true,
+        LexState::Frac => true,
+        LexState::Exp => true,
+        _ => false,
+    }
+}
+
+/// The comma that ends a number, if it stands there: gives the state behind it and its end.
+#[inline(always)]
+fn comma<K: Keeper>(
+    keeper: &mut K,
+    state: LexState,
+    text: &[u8],
+    from: usize,
+    to: usize,
 ) -> Result<(LexState, usize), AllocError>
     requires { (from ≤ to) × (to ≤ length text.now) }
     ensures bounds { IfOk result (λ r. (from ≤ r.1) × (r.1 ≤ to)) }
-    ensures read { IfOk result (λ r. GoesTo (K.has_seen keeper.old) (K.has_seen keeper.new) (lex state.Str from (slice_range text.now from r.1)) r.0) }
+    ensures read { IfOk result (λ r. GoesTo (K.has_seen keeper.old) (K.has_seen keeper.new) (lex state from (slice_range text.now from r.1)) r.0) }
 {
-    let end = string_end(text, from, to);
-    if end < to && text[end] == b'"' {
-        keeper.end(end + 1)?;
-        return Ok((LexState::Gap, end + 1));
+    if from < to && text[from] == b',' && may_end(state) {
+        keeper.end(from)?;
+        keeper.begin(Mark {
+            kind: MarkKind::Comma,
+            at: from,
+        })?;
+        return Ok((LexState::Gap, from + 1));
     }
-    Ok((LexState::Str, end))
+    Ok((state, from))
+}
+
+/// What follows of a number, with a comma behind it.
+#[inline(always)]
+fn number<K: Keeper>(
+    keeper: &mut K,
+    state: LexState,
+    text: &[u8],
+    from: usize,
+    to: usize,
+) -> Result<(LexState, usize), AllocError>
+    requires { (from ≤ to) × (to ≤ length text.now) }
+    ensures bounds { IfOk result (λ r. (from ≤ r.1) × (r.1 ≤ to)) }
+    ensures read { IfOk result (λ r. GoesTo (K.has_seen keeper.old) (K.has_seen keeper.new) (lex state from (slice_range text.now from r.1)) r.0) }
+{
+    let (last, end) = number_rest(text, state, from, to);
+    let (behind, place) = comma(keeper, last, text, end, to)?;
+    Ok((behind, place))
 }
 
 /// Goes on from a state, to which this byte led, over what follows of a token or over blanks: gives the state behind it
@@ -135,16 +219,22 @@ fn run_on<K: Keeper>(
     byte: u8,
     from: usize,
     to: usize,
-) -> Result<(LexState, usize), AllocError>
-    requires { (from ≤ to) × (to ≤ length text.now) }
+    ahead: Ahead,
+) -> Result<(LexState, usize, Ahead), AllocError>
+    requires bounds { (from ≤ to) × (to ≤ length text.now) }
+    requires sound { IsSound text.now ahead }
     ensures bounds { IfOk result (λ r. (from ≤ r.1) × (r.1 ≤ to)) }
     ensures read { IfOk result (λ r. GoesTo (K.has_seen keeper.old) (K.has_seen keeper.new) (lex state from (slice_range text.now from r.1)) r.0) }
+    ensures sound { IfOk result (λ r. IsSound text.now r.2) }
 {
     match state {
-        LexState::Str => string_rest(keeper, text, from, to),
-        LexState::Gap => Ok((LexState::Gap, gap_end(text, byte, from, to))),
-        LexState::Minus | LexState::Zero | LexState::Int => Ok(number_rest(text, state, from, to)),
-        _ => Ok((state, more_digits(text, state, from, to))),
+        LexState::Str => string_rest(keeper, text, from, to, ahead),
+        LexState::Gap => Ok((LexState::Gap, gap_end(text, byte, from, to), ahead)),
+        LexState::Minus | LexState::Zero | LexState::Int => {
+            let (last, end) = number(keeper, state, text, from, to)?;
+            Ok((last, end, ahead))
+        }
+        _ => Ok((state, more_digits(text, state, from, to), ahead)),
     }
 }
 
@@ -167,6 +257,7 @@ pub fn scan<K: Keeper>(
 {
     let mut state = state;
     let mut i = from;
+    let mut ahead = Ahead::nothing();
     while i < to {
         if keeper.is_done() {
             return Ok(None);
@@ -175,9 +266,10 @@ pub fn scan<K: Keeper>(
         let Some(next) = take_byte(keeper, state, byte, i)? else {
             return Ok(Some(Exit::Fault(i)));
         };
-        let (after, end) = run_on(keeper, next, text, byte, i + 1, to)?;
+        let (after, end, known) = run_on(keeper, next, text, byte, i + 1, to, ahead)?;
         state = after;
         i = end;
+        ahead = known;
     }
     Ok(Some(Exit::State(state)))
 }

@@ -10,13 +10,6 @@ returns-in-Gap-clause-read g c =
     let w = slice_range c.args.text.now c.args.from c.gap_end.result in
     goes-led (g.K.Keeper.has_seen c.args.keeper.now) c.args.state state.Gap c.args.from w (leads-from c.args.state state.Gap state.Gap w c.in-Gap.is (AllKeep-leads state.Gap w c.gap_end.ensures.kept))
 
-pub returns-in-Minus-clause-read : goal.returns-in-Minus-clause-read
-returns-in-Minus-clause-read g c =
-    goes-led (g.K.Keeper.has_seen c.args.keeper.now) c.args.state c.number_rest.result.0 c.args.from (slice_range c.args.text.now c.args.from c.number_rest.result.1) c.number_rest.ensures.led
-
-pub returns-in_default : goal.returns-in_default
-returns-in_default g c =
-    record {
-      bounds = c.more_digits.ensures.bounds;
-      read = goes-led (g.K.Keeper.has_seen c.args.keeper.now) c.args.state c.args.state c.args.from (slice_range c.args.text.now c.args.from c.more_digits.result) c.more_digits.ensures.led;
-    }
+pub returns-in_default-clause-read : goal.returns-in_default-clause-read
+returns-in_default-clause-read g c =
+    goes-led (g.K.Keeper.has_seen c.args.keeper.now) c.args.state c.args.state c.args.from (slice_range c.args.text.now c.args.from c.more_digits.result) c.more_digits.ensures.led

@@ -1,5 +1,6 @@
-use Rattle.std.proofs.Common.{arith, refl, sym, ap, ◌∙◌, ◌+◌}
+use Rattle.std.proofs.Common.{◌≡◌, ℕ, arith, refl, sym, subst, ap, ◌∙◌, ◌+◌}
 use Rattle.std.specs.Prelude.{slice_range}
+use Rattle.jx_lex.specs.Lex as reading
 use Rattle.jx_lex.specs.Lex.{lex, Track}
 use Rattle.jx_lex.specs.Seen.{GoesTo}
 use Rattle.jx_lex.proofs.Keeping.{goes-none, goes-byte, goes-then, sees-then, exit-then, fault-at, sees-same}
@@ -8,7 +9,7 @@ use Rattle.jx_lex.proofs.scanner.scan.Goals as goal
 pub loop-i-init : goal.loop-i-init
 loop-i-init g c =
     let b = c.requires in
-    record { low = omega arith; high = b.0; read = goes-none c.args.text.now c.args.from c.args.state (g.K.Keeper.has_seen c.args.keeper.now) }
+    record { low = omega arith; high = b.0; sound = c.nothing-ahead.ensures.sound c.args.text.now; read = goes-none c.args.text.now c.args.from c.args.state (g.K.Keeper.has_seen c.args.keeper.now) }
 
 pub returns-then-is_done-clause-seen : goal.returns-then-is_done-clause-seen
 returns-then-is_done-clause-seen g c =
@@ -57,6 +58,14 @@ loop-i-preserved g c =
     record {
       low = omega (arith, b, low);
       high = b.1;
+      sound = on.ensures.sound;
       read = goes-then xs c.args.from i on.end c.args.state c.loop-i.state on.after first old new low (omega (arith, b)) (omega (arith, fits, v.high)) v.read
           (goes-then xs i (i + 1) on.end c.loop-i.state c.in-Some.next on.after old mid new (omega arith) b.0 (omega (arith, fits, c.loop-i-test.true)) byte on.ensures.read);
     }
+
+pub returns-clause-exit : goal.returns-clause-exit
+returns-clause-exit g c =
+    let v = c.loop-i.invariant in
+    let high = v.high in
+    let same : c.loop-i.i ≡ c.args.to = omega (arith, high, c.loop-i-test.false) in
+    sym (subst (λ (k : ℕ). (lex c.args.state c.args.from (slice_range c.args.text.now c.args.from k)).exit ≡ reading.state c.loop-i.state) same v.read.exit)

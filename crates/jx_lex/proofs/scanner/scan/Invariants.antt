@@ -1,5 +1,6 @@
 use Rattle.std.proofs.Common.{◌≤◌, ◌-◌}
 use Rattle.std.specs.Prelude.{slice_range}
+use Rattle.jx_lex.specs.Ahead.{IsSound}
 use Rattle.jx_lex.specs.Lex.{lex}
 use Rattle.jx_lex.specs.Seen.{GoesTo}
 use Rattle.jx_lex.proofs.scanner.scan.Given as goal
@@ -9,6 +10,7 @@ abbrev pub invariant-loop-i : goal.invariant-loop-i
 invariant-loop-i g l = record {
   low : l.from ≤ l.i;
   high : l.i ≤ l.to;
+  sound : IsSound l.text l.ahead;
   read : GoesTo (g.K.Keeper.has_seen l.initial.keeper) (g.K.Keeper.has_seen l.keeper) (lex l.initial.state l.from (slice_range l.text l.from l.i)) l.state;
 }
 

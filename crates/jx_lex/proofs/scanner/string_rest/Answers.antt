@@ -2,17 +2,25 @@ use Rattle.std.proofs.Common.{◌+◌, ◌++◌, ◌∷◌, [], List, arith, sub
 use Rattle.std.specs.Prelude.{slice_range}
 use Rattle.jx_lex.specs.declared.mark.Mark.{Mark}
 use Rattle.jx_lex.specs.declared.state.LexState.TheVariants as state
-use Rattle.jx_lex.proofs.Keeping.{goes-closed, goes-led}
+use Rattle.jx_lex.proofs.Keeping.{goes-closed, goes-led, goes-then}
 use Rattle.jx_lex.proofs.scanner.string_rest.Goals as goal
 
 pub returns-then-text-end-eq34-clause-read : goal.returns-then-text-end-eq34-clause-read
 returns-then-text-end-eq34-clause-read g c =
-    let b = c.string_end-end.ensures.bounds in
-    let e = c.string_end-end.result in
-    let new = g.K.Keeper.has_seen c.end.new.self in
-    goes-closed c.args.text.now c.args.from e (g.K.Keeper.has_seen c.args.keeper.now) new b.0 (omega arith) c.if-text-end-eq34.true c.string_end-end.ensures.led
-    (λ marks ends h. subst (λ (ms : List Mark). new ms (ends ++ (e + 1) ∷ [])) (sym (append-nil marks)) (c.in_ok-end.ensures marks ends h))
+    let s = c.string_end_ahead-end in
+    let b = s.ensures.bounds in
+    let e = s.result.0 in
+    let xs = c.args.text.now in
+    let old = g.K.Keeper.has_seen c.args.keeper.now in
+    let mid = g.K.Keeper.has_seen c.end.new.self in
+    let new = g.K.Keeper.has_seen c.colon.new.keeper in
+    let k = c.in_ok-behind.ensures.bounds in
+    let fits = c.requires.bounds.1 in
+    goes-then xs c.args.from (e + 1) c.in_ok-behind.behind state.Str state.Gap state.Gap old mid new (omega (arith, b)) k.0 (omega (arith, fits, k))
+    (goes-closed xs c.args.from e old mid b.0 (omega (arith, fits, k)) c.if-text-end-eq34.true s.ensures.led
+    (λ marks ends h. subst (λ (ms : List Mark). mid ms (ends ++ (e + 1) ∷ [])) (sym (append-nil marks)) (c.in_ok-end.ensures marks ends h)))
+    c.in_ok-behind.ensures.read
 
 pub returns-clause-read : goal.returns-clause-read
 returns-clause-read g c =
-    goes-led (g.K.Keeper.has_seen c.args.keeper.now) state.Str state.Str c.args.from (slice_range c.args.text.now c.args.from c.string_end-end.result) c.string_end-end.ensures.led
+    goes-led (g.K.Keeper.has_seen c.args.keeper.now) state.Str state.Str c.args.from (slice_range c.args.text.now c.args.from c.string_end_ahead-end.result.0) c.string_end_ahead-end.ensures.led
