@@ -1,4 +1,4 @@
-use Rattle.std.proofs.Common.{◌≡◌, ap, sym, ◌∙◌}
+use Rattle.std.proofs.Common.{ap, sym, ◌∙◌}
 use Rattle.std.specs.Prelude.{slice_range}
 use Rattle.jx_lex.specs.Follow.{Part}
 use Rattle.jx_lex.proofs.Spans.{reads-differ, cut-back}

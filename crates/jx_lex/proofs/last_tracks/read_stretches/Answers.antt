@@ -1,5 +1,4 @@
-use Rattle.std.proofs.Common.{arith, ◌∷◌, [], refl}
-use Rattle.std.specs.Prelude.{slice_range}
+use Rattle.std.proofs.Common.{arith, ◌∷◌, []}
 use Rattle.jx_lex.proofs.ReadingOn.{reads-slices}
 use Rattle.jx_lex.proofs.last_tracks.read_stretches.Goals as goal
 
