@@ -1,0 +1,5 @@
+//! Tests that cross crates: each growth of memory refused in turn, stops of workers, ends that fail, and every cut.
+#![tactic(auto)]
+
+#[cfg(test)]
+mod tests;

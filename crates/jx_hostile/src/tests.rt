@@ -1,0 +1,6 @@
+mod answers;
+mod cuts;
+mod deep;
+mod growths;
+mod inputs;
+mod stops;

@@ -1,0 +1,130 @@
+// Runs of texts and of sequences under refused growths.
+ghost use Rattle.std.specs.Prelude.{◌≡◌, ◌≤◌, IfOk, IfSome, length};
+ghost use Rattle.jx_run.specs.OutcomeRun.{place_of};
+
+use crate::tests::inputs::{FIVE_ROWS, NESTED, REPEATED, SEQUENCE, UNSORTED};
+use jx_lex::{Depth, JoinFault, Span};
+use jx_run::{OutcomeRun, SeqRun, Shape, Summary, TextRun, Verdict};
+use std::alloc::{AllocError, Global};
+use std::process::Abort;
+use std::test::Fail;
+
+// The run of a part, asked for twice where it is refused.
+fn run_of<S: Summary>(alloc: Global, text: &[u8], start: usize, end: usize) -> Result<S, AllocError>
+    requires { (start ≤ end) × (end ≤ length text.now) }
+    ensures place { IfOk result (λ r. S.place r ≡ record { start = start; end = end }) }
+    ensures limit { IfOk result (λ r. S.limit r ≡ 512) }
+{
+    match S::of(alloc, text, start, end, Depth::default()) {
+        Ok(run) => Ok(run),
+        Err(_) => S::of(alloc, text, start, end, Depth::default()),
+    }
+}
+
+// The join of two runs. Where it is refused, both sides have their spans as before, and are joined again.
+fn joined<S: Summary>(left: S, right: S) -> Option<S>
+    requires neighbours { (S.place left).end ≡ (S.place right).start }
+    requires depth { S.limit left ≡ S.limit right }
+{
+    let spans = (left.span(), right.span());
+    match left.join(right) {
+        Ok(run) => Some(run),
+        Err(JoinFault { left, right }) => {
+            if (left.span(), right.span()) != spans {
+                return None;
+            }
+            left.join(right).ok()
+        }
+    }
+}
+
+// Runs over both sides of each cut of an accepted text, and their join.
+fn check_text<R: Abort>(rt: &R, alloc: Global, text: &[u8]) -> Result<(), Fail> {
+    for cut in 0..text.len() {
+        let left = run_of::<TextRun>(alloc, text, 0, cut)?;
+        let right = run_of::<TextRun>(alloc, text, cut, text.len())?;
+        let run = joined(left, right).ok_or("a join")?;
+        assert_eq!(rt; run.verdict(), Verdict::Accepted, "{text:?} cut at {cut}");
+        let started = match run.started() {
+            Ok(started) => started,
+            Err(_) => run.started()?,
+        };
+        assert_eq!(rt; started.verdict(), Verdict::Accepted);
+    }
+    Ok(())
+}
+
+// The same without marks.
+fn check_outcomes<R: Abort>(rt: &R, alloc: Global, text: &[u8]) -> Result<(), Fail> {
+    for cut in 0..text.len() {
+        let left = run_of::<OutcomeRun>(alloc, text, 0, cut)?;
+        let right = run_of::<OutcomeRun>(alloc, text, cut, text.len())?;
+        let run = joined(left, right).ok_or("a join")?;
+        assert_eq!(rt; run.verdict(), Verdict::Accepted, "{text:?} cut at {cut}");
+    }
+    Ok(())
+}
+
+#[test]
+fn text_runs_of_nested_arrays_under_a_refused_growth(rt: HostRuntime) -> Result<(), Fail> {
+    check_text(&rt, rt.alloc(), NESTED)
+}
+
+#[test]
+fn outcome_runs_of_nested_arrays_under_a_refused_growth(rt: HostRuntime) -> Result<(), Fail> {
+    check_outcomes(&rt, rt.alloc(), NESTED)
+}
+
+#[test]
+fn text_runs_of_five_rows_under_a_refused_growth(rt: HostRuntime) -> Result<(), Fail> {
+    check_text(&rt, rt.alloc(), FIVE_ROWS)
+}
+
+#[test]
+fn outcome_runs_of_five_rows_under_a_refused_growth(rt: HostRuntime) -> Result<(), Fail> {
+    check_outcomes(&rt, rt.alloc(), FIVE_ROWS)
+}
+
+#[test]
+fn text_runs_of_a_repeated_name_under_a_refused_growth(rt: HostRuntime) -> Result<(), Fail> {
+    check_text(&rt, rt.alloc(), REPEATED)
+}
+
+#[test]
+fn outcome_runs_of_a_repeated_name_under_a_refused_growth(rt: HostRuntime) -> Result<(), Fail> {
+    check_outcomes(&rt, rt.alloc(), REPEATED)
+}
+
+#[test]
+fn text_runs_of_names_out_of_order_under_a_refused_growth(rt: HostRuntime) -> Result<(), Fail> {
+    check_text(&rt, rt.alloc(), UNSORTED)
+}
+
+#[test]
+fn outcome_runs_of_names_out_of_order_under_a_refused_growth(rt: HostRuntime) -> Result<(), Fail> {
+    check_outcomes(&rt, rt.alloc(), UNSORTED)
+}
+
+#[test]
+fn sequence_runs_under_a_refused_growth(rt: HostRuntime) -> Result<(), Fail> {
+    let alloc = rt.alloc();
+    for cut in 0..SEQUENCE.len() {
+        let left = run_of::<SeqRun>(alloc, SEQUENCE, 0, cut)?;
+        let right = run_of::<SeqRun>(alloc, SEQUENCE, cut, SEQUENCE.len())?;
+        let run = joined(left, right).ok_or("a join")?;
+        let Shape::Marked {
+            before,
+            done,
+            after,
+        } = run.shape()
+        else {
+            return Err("separators".into());
+        };
+        assert_eq!(rt; before.span(), Span { start: 0, end: 0 });
+        assert_eq!(rt; done.len(), 2);
+        assert_eq!(rt; done[0].verdict(), Verdict::Accepted);
+        assert_eq!(rt; done[1].verdict(), Verdict::Accepted);
+        assert_eq!(rt; after.span(), Span { start: 13, end: 16 });
+    }
+    Ok(())
+}
