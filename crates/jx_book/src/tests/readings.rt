@@ -68,7 +68,11 @@ fn the_first_bytes_may_be_left_out(rt: HostRuntime) -> Result<(), Fail> {
         let gate = StopAt(number);
         let run: Held<'_, Copied> = read_whole(&rt, alloc, text, &cutting, workers, depth, &gate)?;
         assert_eq!(rt; run.span(), Span { start: 3, end: 6 });
-        assert_eq!(rt; run.run().bytes(), b"[1]".as_slice(), "without piece {number}");
+        assert_eq!(rt;
+            run.run().bytes(),
+            b"[1]".as_slice(),
+            "without piece {number}"
+        );
     }
     Ok(())
 }

@@ -3,7 +3,7 @@ ghost use Rattle.std.specs.Prelude.{◌≡◌, ◌≤◌, length};
 
 use crate::tests::copied::Copied;
 use crate::tests::scarce::Scarce;
-use crate::{Book, Cause, Event, Gate, Go, Hand, Held, OpenGate, work};
+use crate::{Book, Cause, Event, Gate, Go, Hand, Held, OpenGate, WorkerStop, work};
 use jx_claim::{Claims, Cutting, Workers};
 use jx_lex::{Depth, Span};
 use jx_run::Summary;
@@ -19,6 +19,7 @@ enum StopOn {
     Drew(u32),
     Stored,
     Took,
+    Worker(usize),
 }
 
 impl Gate for StopOn {
@@ -27,6 +28,7 @@ impl Gate for StopOn {
             (StopOn::Drew(number), Event::Drew { piece, .. }) if piece.0 == number => Go::Stop,
             (StopOn::Stored, Event::Stored { .. }) => Go::Stop,
             (StopOn::Took, Event::Took { .. }) => Go::Stop,
+            (StopOn::Worker(number), Event::Drew { worker, .. }) if worker == number => Go::Stop,
             _ => Go::On,
         }
     }
@@ -50,21 +52,16 @@ fn held_in<S: Summary>(hand: &Hand<'_, S>) -> Holding {
     }
 }
 
-// A run that stands in the book before the worker begins.
-#[derive(Clone, Copy)]
-struct Earlier<'a> {
-    text: &'a [u8],
-    place: Span,
-    depth: Depth,
-}
-
-// Lets one worker read a text in pieces of this size: why it stopped, and what it held.
+// Lets the worker of the last seat read a text alone: why it stopped, and what it held. A run of another text may stand
+// in the book before; an empty span is none.
 fn stop<'a, S: Summary, P: Ledger, T: Ledger, G: Gate, R: Wait>(
     rt: &R,
     alloc: Global,
     text: &'a [u8],
     cutting: &Cutting,
-    earlier: Option<Earlier<'a>>,
+    other: &'a [u8],
+    place: Span,
+    limit: Depth,
     gate: &G,
     put: Blank,
     taken: Blank,
@@ -82,45 +79,46 @@ fn stop<'a, S: Summary, P: Ledger, T: Ledger, G: Gate, R: Wait>(
     let Some(seat) = seats.pop() else {
         return Err(AllocError);
     };
-    if let Some(Earlier { text, place, depth }) = earlier {
-        if place.start < place.end && place.end <= text.len() {
-            let run = Held::read(alloc, text, place.start, place.end, depth)?;
-            book.put(rt, &mut share, run);
-        }
+    if place.start < place.end && place.end <= other.len() {
+        let run = Held::read(alloc, other, place.start, place.end, limit)?;
+        book.put(rt, &mut share, run);
     }
     let depth = Depth::default();
     match work(
         rt, alloc, &book, text, cutting, &claims, seat, share, depth, gate,
     ) {
         Ok(_) => Ok(None),
-        Err(stopped) => Ok(Some((stopped.cause, held_in(&stopped.hand)))),
+        Err(
+            WorkerStop {
+                seat: _,
+                share: _,
+                hand,
+                cause,
+            },
+        ) => Ok(Some((cause, held_in(&hand)))),
     }
 }
 
-// The same on the text `[1,2]`.
-fn stopped<S: Summary, G: Gate, R: Wait>(
+// The same on the text `[1,2]`, in pieces of this size, with so many seats.
+fn stopped<'a, S: Summary, G: Gate, R: Wait>(
     rt: &R,
     alloc: Global,
+    count: u8,
     size: usize,
-    earlier: Option<Earlier<'_>>,
+    other: &'a [u8],
+    place: Span,
+    limit: Depth,
     gate: &G,
 ) -> Result<Option<(Cause, Holding)>, Fail>
     requires { 1 ≤ size }
 {
-    let workers = Workers::new(1).ok_or("one worker")?;
+    let workers = Workers::new(count).ok_or("workers")?;
     let text: &[u8] = b"[1,2]";
     let cutting = Cutting::every(text.len(), size)?;
-    let (put, taken) = (Blank::new(1), Blank::new(1));
+    let put = Blank::new(u64::from(workers.count()));
+    let taken = Blank::new(u64::from(workers.count()));
     Ok(stop::<S, Brand, Brand, G, R>(
-        rt,
-        alloc,
-        text,
-        &cutting,
-        earlier,
-        gate,
-        put,
-        taken,
-        workers,
+        rt, alloc, text, &cutting, other, place, limit, gate, put, taken, workers,
     )?)
 }
 
@@ -131,24 +129,64 @@ fn span(start: usize, end: usize) -> Span {
 #[test]
 fn the_gate_stops_a_worker_at_each_step(rt: HostRuntime) -> Result<(), Fail> {
     let alloc = rt.alloc();
-    let drew = stopped::<Copied, _, _>(&rt, alloc, 2, None, &StopOn::Drew(1))?;
+    let depth = Depth::default();
+    let drew = stopped::<Copied, _, _>(&rt, alloc, 1, 2, b"", span(0, 0), depth, &StopOn::Drew(1))?;
     assert_eq!(rt; drew, Some((Cause::Gate, Holding::Piece(1))));
-    let stored = stopped::<Copied, _, _>(&rt, alloc, 2, None, &StopOn::Stored)?;
+    let stored = stopped::<Copied, _, _>(
+        &rt,
+        alloc,
+        1,
+        2,
+        b"",
+        span(0, 0),
+        depth,
+        &StopOn::Stored,
+    )?;
     assert_eq!(rt; stored, Some((Cause::Gate, Holding::Nothing)));
-    let took = stopped::<Copied, _, _>(&rt, alloc, 2, None, &StopOn::Took)?;
+    let took = stopped::<Copied, _, _>(&rt, alloc, 1, 2, b"", span(0, 0), depth, &StopOn::Took)?;
     let both = Holding::Two(span(0, 2), span(2, 4));
     assert_eq!(rt; took, Some((Cause::Gate, both)));
-    let none = stopped::<Copied, _, _>(&rt, alloc, 2, None, &OpenGate)?;
-    assert_eq!(rt; none, None);
+    let open = stopped::<Copied, _, _>(&rt, alloc, 1, 2, b"", span(0, 0), depth, &OpenGate)?;
+    assert_eq!(rt; open, None);
+    Ok(())
+}
+
+#[test]
+fn a_worker_is_told_by_the_number_of_its_seat(rt: HostRuntime) -> Result<(), Fail> {
+    let alloc = rt.alloc();
+    let depth = Depth::default();
+    let last = stopped::<Copied, _, _>(
+        &rt,
+        alloc,
+        3,
+        2,
+        b"",
+        span(0, 0),
+        depth,
+        &StopOn::Worker(2),
+    )?;
+    assert_eq!(rt; last, Some((Cause::Gate, Holding::Piece(0))));
+    let first = stopped::<Copied, _, _>(
+        &rt,
+        alloc,
+        3,
+        2,
+        b"",
+        span(0, 0),
+        depth,
+        &StopOn::Worker(0),
+    )?;
+    assert_eq!(rt; first, None);
     Ok(())
 }
 
 #[test]
 fn memory_that_is_refused_stops_a_worker(rt: HostRuntime) -> Result<(), Fail> {
     let alloc = rt.alloc();
-    let read = stopped::<Scarce, _, _>(&rt, alloc, 2, None, &OpenGate)?;
+    let depth = Depth::default();
+    let read = stopped::<Scarce, _, _>(&rt, alloc, 1, 2, b"", span(0, 0), depth, &OpenGate)?;
     assert_eq!(rt; read, Some((Cause::Memory, Holding::Piece(1))));
-    let joined = stopped::<Scarce, _, _>(&rt, alloc, 3, None, &OpenGate)?;
+    let joined = stopped::<Scarce, _, _>(&rt, alloc, 1, 3, b"", span(0, 0), depth, &OpenGate)?;
     let both = Holding::Two(span(0, 3), span(3, 5));
     assert_eq!(rt; joined, Some((Cause::Memory, both)));
     Ok(())
@@ -157,12 +195,8 @@ fn memory_that_is_refused_stops_a_worker(rt: HostRuntime) -> Result<(), Fail> {
 #[test]
 fn a_stored_run_that_overlaps_stops_a_worker(rt: HostRuntime) -> Result<(), Fail> {
     let alloc = rt.alloc();
-    let earlier = Earlier {
-        text: b"[1,2]",
-        place: span(3, 5),
-        depth: Depth::default(),
-    };
-    let met = stopped::<Copied, _, _>(&rt, alloc, 4, Some(earlier), &OpenGate)?;
+    let depth = Depth::default();
+    let met = stopped::<Copied, _, _>(&rt, alloc, 1, 4, b"[1,2]", span(3, 5), depth, &OpenGate)?;
     assert_eq!(rt; met, Some((Cause::Overlap, Holding::One(span(0, 4)))));
     Ok(())
 }
@@ -171,19 +205,11 @@ fn a_stored_run_that_overlaps_stops_a_worker(rt: HostRuntime) -> Result<(), Fail
 fn a_neighbour_of_another_text_or_depth_stops_a_worker(rt: HostRuntime) -> Result<(), Fail> {
     let alloc = rt.alloc();
     let both = Holding::Two(span(0, 2), span(2, 4));
-    let other = Earlier {
-        text: b"{1,2}",
-        place: span(2, 4),
-        depth: Depth::default(),
-    };
-    let met = stopped::<Copied, _, _>(&rt, alloc, 2, Some(other), &OpenGate)?;
+    let depth = Depth::default();
+    let met = stopped::<Copied, _, _>(&rt, alloc, 1, 2, b"{1,2}", span(2, 4), depth, &OpenGate)?;
     assert_eq!(rt; met, Some((Cause::Other, both)));
-    let less = Earlier {
-        text: b"[1,2]",
-        place: span(2, 4),
-        depth: Depth::new(511).ok_or("a depth")?,
-    };
-    let met = stopped::<Copied, _, _>(&rt, alloc, 2, Some(less), &OpenGate)?;
+    let less = Depth::new(511).ok_or("a depth")?;
+    let met = stopped::<Copied, _, _>(&rt, alloc, 1, 2, b"[1,2]", span(2, 4), less, &OpenGate)?;
     assert_eq!(rt; met, Some((Cause::Other, both)));
     Ok(())
 }
