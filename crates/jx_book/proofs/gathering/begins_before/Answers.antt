@@ -1,4 +1,4 @@
-use Rattle.std.proofs.Common.{rules, ◌≡◌, ◌≤◌, ◌<◌, List, length, get_or, sym, ap, subst, arith}
+use Rattle.std.proofs.Common.{List, ap, arith}
 use Rattle.jx_book.specs.Runs.{HeldValue}
 use Rattle.jx_book.proofs.Aparts.{starts, at_any}
 use Rattle.jx_book.proofs.gathering.begins_before.Goals as goal

@@ -1,4 +1,4 @@
-use Rattle.std.proofs.Common.{rules, ◌≡◌, ℕ, ◌+◌, ◌<◌, ◌≤◌, refl, subst, List, [], ◌∷◌, length, get_or, cond, Bool, true, sym, ap, ◌∙◌, arith}
+use Rattle.std.proofs.Common.{◌≡◌, ℕ, ◌<◌, ◌≤◌, refl, subst, List, [], ◌∷◌, length, get_or, cond, Bool, true, ap, ◌∙◌, arith}
 use Rattle.std.specs.Prelude.{count_by, sum_by, MatchOption}
 use Rattle.std.specs.declared.option.Option.{Option}
 use Rattle.std.specs.declared.option.Option.TheVariants.{None, Some}
