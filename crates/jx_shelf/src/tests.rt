@@ -88,11 +88,10 @@ fn another_thread_sees_the_index(rt: HostRuntime) -> Result<(), Fail> {
 fn words_of_faults(rt: HostRuntime) -> Result<(), Fail> {
     let alloc = rt.alloc();
     let taken = ShelfFault::Taken(index_of(alloc, b"1")?);
-    assert_eq!(rt;
-        format!(in alloc; "{taken}")?,
-        "another index is on the shelf"
-    );
+    let text = format!(in alloc; "{taken}")?;
+    assert_eq!(rt; text.as_str(), "another index is on the shelf");
     let memory = ShelfFault::Memory(index_of(alloc, b"1")?);
-    assert_eq!(rt; format!(in alloc; "{memory}")?, "out of memory");
+    let text = format!(in alloc; "{memory}")?;
+    assert_eq!(rt; text.as_str(), "out of memory");
     Ok(())
 }

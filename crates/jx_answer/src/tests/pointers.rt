@@ -60,7 +60,7 @@ fn pointers_of<'p>(alloc: Global, spelt: &[&'p str]) -> Result<Vec<Pointer<'p>>,
     Ok(pointers)
 }
 
-fn told(alloc: Global, index: &Indexed, answers: &[Answer]) -> Result<Vec<Told>, Fail> {
+fn all_told(alloc: Global, index: &Indexed, answers: &[Answer]) -> Result<Vec<Told>, Fail> {
     let mut all = Vec::new(alloc);
     for answer in answers {
         all.push(match answer {
@@ -95,12 +95,12 @@ fn pointers_are_answered_in_order(rt: HostRuntime) -> Result<(), Fail> {
         let workers = Workers::new(count).ok_or("workers")?;
         let answers = find_all(&rt, alloc, &arrays, &pointers, workers, &OpenGate)?;
         assert_eq!(rt;
-            told(alloc, &arrays, &answers)?.as_slice(),
+            all_told(alloc, &arrays, &answers)?.as_slice(),
             wanted.as_slice()
         );
         let answers = find_all(&rt, alloc, &arrays, &pointers, workers, &ShutGate)?;
         assert_eq!(rt;
-            told(alloc, &arrays, &answers)?.as_slice(),
+            all_told(alloc, &arrays, &answers)?.as_slice(),
             wanted.as_slice()
         );
     }
@@ -128,14 +128,17 @@ fn names_in_the_order_of_their_units(rt: HostRuntime) -> Result<(), Fail> {
         Told::Lost(FindFault::NameRepeated { token: 0 }),
     ];
     assert_eq!(rt;
-        told(alloc, &repeated, &answers)?.as_slice(),
+        all_told(alloc, &repeated, &answers)?.as_slice(),
         wanted.as_slice()
     );
     let wide = index_of(&rt, alloc, b"{\"\xEF\xBD\x9E\":1,\"\xF0\x9F\x98\x80\":2}")?;
     let pointers = pointers_of(alloc, &["/\u{1F600}", "/\u{FF5E}"])?;
     let answers = find_all(&rt, alloc, &wide, &pointers, workers, &OpenGate)?;
     let wanted = [Told::At(Kind::Number, 16, 17), Told::At(Kind::Number, 7, 8)];
-    assert_eq!(rt; told(alloc, &wide, &answers)?.as_slice(), wanted.as_slice());
+    assert_eq!(rt;
+        all_told(alloc, &wide, &answers)?.as_slice(),
+        wanted.as_slice()
+    );
     Ok(())
 }
 
@@ -149,7 +152,7 @@ fn another_worker_draws_while_the_first_is_held(rt: HostRuntime) -> Result<(), F
     let answers = find_all(&rt, alloc, &index, &pointers, workers, &gate)?;
     let wanted = [Told::At(Kind::Number, 1, 3), Told::At(Kind::Number, 4, 6)];
     assert_eq!(rt;
-        told(alloc, &index, &answers)?.as_slice(),
+        all_told(alloc, &index, &answers)?.as_slice(),
         wanted.as_slice()
     );
     assert!(rt; gate.took_place());
@@ -185,7 +188,7 @@ fn one_pointer_asks_no_gate(rt: HostRuntime) -> Result<(), Fail> {
     let answers = find_all(&rt, alloc, &index, &pointers, workers, &gate)?;
     let wanted = [Told::At(Kind::Number, 4, 6)];
     assert_eq!(rt;
-        told(alloc, &index, &answers)?.as_slice(),
+        all_told(alloc, &index, &answers)?.as_slice(),
         wanted.as_slice()
     );
     assert!(rt; !gate.took_place());
