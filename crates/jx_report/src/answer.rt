@@ -93,7 +93,8 @@ pub fn answer_of<R: Threads + Wait + Sync, G: Gate + Sync>(
     cutting: &Cutting,
     gate: &G,
 ) -> Result<Answer, AllocError>
-    requires { cutting.now.len ≡ length text.now }
+    requires cutting { cutting.now.len ≡ length text.now }
+    requires front { cutting.now.front ≡ 0 }
     ensures { IfOk result (λ answer. Output command.now.task command.now.depth text.now answer.output.items answer.exit) }
 {
     let Command { depth, workers, .. } = *command;
