@@ -8,6 +8,7 @@ pub mod Fronts
 pub mod Fused
 pub mod LawProofs
 pub mod Parts
+pub mod ReaderSteps
 pub mod Reducing
 pub mod RunJoin
 pub mod RunVerdict

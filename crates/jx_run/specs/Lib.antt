@@ -16,3 +16,6 @@ pub mod Tree
 pub mod Turns
 pub mod Verdict
 pub mod Whole
+pub mod Kept
+pub mod Reader
+pub mod ReaderInside

@@ -9,6 +9,9 @@ mod laws;
 mod marked;
 mod marks;
 mod outcome_run;
+mod reader;
+#[cfg(test)]
+mod reader_tests;
 mod reduce;
 mod seq_run;
 #[cfg(test)]
@@ -30,6 +33,7 @@ pub use laws::{
     text_has_one_tree, values_fill_their_spans, verdict_by_settings_is_one, verdict_is_one,
 };
 pub use outcome_run::OutcomeRun;
+pub use reader::Reader;
 pub use seq_run::SeqRun;
 pub use settings::{Front, FrontMark, Settings};
 pub use shape::Shape;

@@ -1,0 +1,20 @@
+-- What a contract sees of a reader that is fed a text from its start.
+use Rattle.std.specs.Prelude.{◌≡◌, ℕ, List, length, Option, Some, None}
+use Rattle.jx_run.specs.Reading.{Outcome, read_text}
+
+pub record ReaderValue : Type 0 where
+  pub limit : ℕ
+  -- the offset of the first byte, and how many bytes were fed
+  pub start : ℕ
+  pub count : ℕ
+  -- none where memory was refused
+  pub outcome : Option Outcome
+
+-- these are the bytes that it was fed since it began, and it has read them
+pub record HasRead (bytes : List ℕ) (reader : ReaderValue) : Type 0 where
+  pub count : reader.count ≡ length bytes
+  pub outcome : reader.outcome ≡ Some (read_text reader.limit reader.start bytes)
+
+-- memory was refused, and every slice will be
+abbrev pub HasFailed : ReaderValue → Type 0
+HasFailed reader = reader.outcome ≡ None

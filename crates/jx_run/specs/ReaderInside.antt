@@ -1,0 +1,70 @@
+-- The reading in a reader.
+use Rattle.std.specs.Prelude.{◌≡◌, ℕ, ◌+◌, ◌-◌, ◌^◌, ◌<◌, min, List, Option, Some, None}
+use Rattle.jx_lex.specs.declared.exit.Exit.{Exit}
+use Rattle.jx_lex.specs.declared.exit.Exit.TheVariants as exit
+use Rattle.jx_lex.specs.declared.mark.Mark.{Mark}
+use Rattle.jx_lex.specs.Lex as lexical
+use Rattle.jx_reduce.specs.KnownStack.{Known, IsFault, HasRead}
+use Rattle.jx_reduce.specs.Read.{Reading}
+use Rattle.jx_reduce.specs.declared.whole.Whole.{Whole}
+use Rattle.jx_reduce.specs.declared.whole.Whole.TheVariants as whole
+use Rattle.jx_run.specs.Reading.{Outcome, stopped, too_deep, at_exit}
+use Rattle.jx_run.specs.Reader.{ReaderValue}
+use Rattle.jx_run.specs.declared.reader.Progress.{Progress}
+use Rattle.jx_run.specs.declared.reader.Progress.TheVariants.{Going, Stopped, TooDeep, Failed}
+use Rattle.jx_run.specs.declared.reader.Reader.TheInside.{Inside}
+
+abbrev pub outcome_at : Progress → Reading → Option Outcome
+outcome_at (Going s) r = Some (at_exit (lexical.state s) r)
+outcome_at (Stopped at) r = Some (stopped at)
+outcome_at (TooDeep at) r = Some (too_deep at)
+outcome_at Failed r = None
+
+abbrev pub reader_of : Inside → ReaderValue
+reader_of a = record { limit = a.depth; start = a.start; count = a.count; outcome = outcome_at a.progress a.kept.stack.reading }
+
+-- the stack has read some marks within the depth
+pub record HasMarks (depth : ℕ) (stack : Known) : Type 0 where
+  pub depth_is : stack.depth ≡ depth
+  pub marks : List Mark
+  pub read : HasRead marks stack
+
+-- unless memory was refused, the stack is of use; it has met no fault while the reading goes on
+abbrev pub IsOfUse : Progress → ℕ → Known → Type 0
+IsOfUse (Going s) depth stack = HasMarks depth stack × (IsFault stack.reading → ⊥)
+IsOfUse (Stopped at) depth stack = HasMarks depth stack
+IsOfUse (TooDeep at) depth stack = HasMarks depth stack
+IsOfUse Failed depth stack = Unit {0}
+
+pub record IsLawful (a : Inside) : Type 0 where
+  pub fits : a.start + a.count < 2 ^ 64
+  pub of_use : IsOfUse a.progress a.depth a.kept.stack
+
+-- an offset in a slice that stands from another offset on
+abbrev pub offset_at : ℕ → ℕ → ℕ
+offset_at base at = min (base + at) (2 ^ 64 - 1)
+
+-- where a scan of a slice came to
+abbrev pub settled : ℕ → Option Exit → Whole → Progress
+settled base x (whole.Stopped at) = Stopped (offset_at base at)
+settled base x (whole.TooDeep at) = TooDeep (offset_at base at)
+settled base (Some (exit.State s)) (whole.Went expect n) = Going s
+settled base (Some (exit.Fault at)) (whole.Went expect n) = Stopped (offset_at base at)
+settled base None (whole.Went expect n) = Failed
+
+-- the same reading of bytes that stand further on
+abbrev pub shifted : ℕ → Outcome → Outcome
+shifted base (Outcome.went s expect holders) = Outcome.went s expect holders
+shifted base (stopped at) = stopped (base + at)
+shifted base (too_deep at) = too_deep (base + at)
+
+-- every fault is at an offset that fits
+abbrev pub IsLow : ℕ → Outcome → Type 0
+IsLow base (Outcome.went s expect holders) = Unit {0}
+IsLow base (stopped at) = base + at < 2 ^ 64
+IsLow base (too_deep at) = base + at < 2 ^ 64
+
+-- the reading of a slice, whose offsets count from its start, goes on behind the stack's reading
+pub record GoesOn (old : Known) (track : lexical.Track) (read : Reading) (base : ℕ) (progress : Progress) (new : Known) : Type 0 where
+  pub of_use : IsOfUse progress old.depth new
+  pub outcome : IsLow base (at_exit track.exit read) → outcome_at progress new.reading ≡ Some (shifted base (at_exit track.exit read))
