@@ -1,0 +1,18 @@
+use jx_answer::Fault;
+use jx_claim::CutFault;
+use std::alloc::AllocError;
+use thiserror::Error;
+
+/// Why an example has no answer.
+#[derive(Clone, Copy, Debug, PartialEq, Eq, Error)]
+pub enum ExampleFault {
+    /// The input has too many pieces.
+    #[error(transparent)]
+    Cut(#[from] CutFault),
+    /// There is no answer on the input.
+    #[error(transparent)]
+    Answer(#[from] Fault),
+    /// The memory of the example itself was refused.
+    #[error("out of memory")]
+    Memory(#[from(alloc)] AllocError),
+}

@@ -1,0 +1,26 @@
+ghost use Rattle.std.specs.Prelude.{IfOk};
+ghost use Rattle.jx_run.specs.Verdict.{Judged};
+
+use crate::example_fault::ExampleFault;
+use jx_answer::verdict_of_text;
+use jx_book::OpenGate;
+use jx_claim::{Cutting, Workers};
+use jx_lex::Depth;
+use jx_run::Verdict;
+use std::alloc::Global;
+use std::sync::Wait;
+use std::thread::Threads;
+
+/// Whether bytes are a JSON text of at most 512 containers within one another, and if not, where they stop being one.
+pub fn check<R: Threads + Wait + Sync>(
+    rt: &R,
+    alloc: Global,
+    text: &[u8],
+    workers: Workers,
+) -> Result<Verdict, ExampleFault>
+    ensures { IfOk result (Judged 0 text.now 512) }
+{
+    let cutting = Cutting::every(text.len(), 65536)?;
+    let depth = Depth::default();
+    Ok(verdict_of_text(rt, alloc, text, &cutting, workers, depth, &OpenGate)?)
+}
