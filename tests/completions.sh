@@ -3,7 +3,7 @@
 . "$(dirname "$0")/lib.sh"
 
 # The long options that the help on a command lists.
-options_of() { "$program" $1 --help 2>&1 | grep -oE '^ +(-[a-zA-Z], )?--[a-z]+' | grep -oE -- '--[a-z]+' | sort -u; }
+options_of() { "$program" $1 --help 2>&1 | grep -oE '^ +(-[a-zA-Z], )?--[a-z-]+' | grep -oE -- '--[a-z-]+' | sort -u; }
 
 offered() {
     COMP_WORDS=("$@")
@@ -30,8 +30,9 @@ same 'bash: a command that is begun' check "$(offered jx c)"
 same 'bash: an option that is begun' --depth "$(offered jx check --d)"
 printf x >text.json
 same 'bash: a file' text.json "$(offered jx check --file te)"
+same 'bash: a file of pointers' text.json "$(offered jx at --pointers te)"
 same 'bash: a number' '' "$(offered jx check --depth '')"
-for option in $(grep -oE -- "-l [a-z]+" "$root/completions/jx.fish" | sort -u | sed 's/-l /--/'); do
+for option in $(grep -oE -- "-l [a-z-]+" "$root/completions/jx.fish" | sort -u | sed 's/-l /--/'); do
     has "fish: $option is one" "$option" "$(for command in '' check index at seq; do options_of "$command"; done)"
 done
 for shell in zsh fish; do

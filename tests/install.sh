@@ -5,10 +5,16 @@
 # A copy of what ./install reads, built by now as it says itself.
 clone="$room/a clone"
 mkdir -p "$clone/crates/jx/src" "$clone/crates/jx/out"
-cp -R "$root/install" "$root/jx" "$root/tools" "$root/jx.1" "$root/completions" "$root/crates.txt" "$clone"
+mkdir -p "$clone/crates/jx_c/src" "$clone/crates/jx_c/out"
+cp -R "$root/install" "$root/jx" "$root/tools" "$root/jx.1" "$root/completions" "$root/crates.txt" "$root/include" "$root/jx.pc" "$clone"
 cp "$program" "$clone/crates/jx/out/jx"
-touch "$clone/jx.stamp"
-places='bin/jx share/man/man1/jx.1 share/bash-completion/completions/jx share/zsh/site-functions/_jx share/fish/vendor_completions.d/jx.fish'
+if [ -e "$root/crates/jx_c/out/libjx.a" ]; then
+    cp "$root/crates/jx_c/out/libjx.a" "$clone/crates/jx_c/out/libjx.a"
+else
+    echo 'no library' >"$clone/crates/jx_c/out/libjx.a"
+fi
+touch "$clone/jx.stamp" "$clone/jx.library.stamp"
+places='lib/libjx.a include/jx.h lib/pkgconfig/jx.pc bin/jx share/man/man1/jx.1 share/bash-completion/completions/jx share/zsh/site-functions/_jx share/fish/vendor_completions.d/jx.fish'
 
 mkdir home
 prefix="$room/home/.local"
@@ -19,7 +25,7 @@ for place in $places; do
     same "$place is there" yes "$([ -s "$prefix/$place" ] && echo yes)"
 done
 has 'a folder that is not on the PATH' "$prefix/bin is not on the PATH" "$said"
-same 'nothing else is there' 5 "$(find home -type f | wc -l)"
+same 'nothing else is there' 8 "$(find home -type f | wc -l)"
 
 # Nothing of the clone is needed from here on.
 rm -rf "$clone.moved"
@@ -28,7 +34,7 @@ same 'the installed program runs' accepted "$(printf null | env -i "$prefix/bin/
 same 'the installed program needs the C library alone' 'libc.so.6' \
     "$(readelf -d "$prefix/bin/jx" | sed -n 's/.*(NEEDED).*\[\(.*\)\]/\1/p')"
 if command -v man >/dev/null; then
-    has 'the installed page is found' 'jx at [OPTIONS] POINTER...' "$(MANPATH=$prefix/share/man MANWIDTH=79 man jx 2>&1 | col -bx)"
+    has 'the installed page is found' 'jx at [OPTIONS] [POINTER]...' "$(MANPATH=$prefix/share/man MANWIDTH=79 man jx 2>&1 | col -bx)"
 fi
 mv "$clone.moved" "$clone"
 

@@ -43,6 +43,49 @@ has 'no number' "$(lines 'status 2' "err: error: invalid value 'x' for '--depth 
 has 'no command' "$(lines 'status 2' "err: error: 'jx' requires a subcommand")" "$(said '')"
 has 'bytes that are no text in a word' "$(lines 'status 2' 'err: error: invalid UTF-8')" "$(said '' check --file $'\377')"
 
+# ---- a byte order mark
+bom='\357\273\277'
+same 'a mark is refused' "$(lines 'status 1' 'out: stopped at 0')" "$(said "${bom}1" check)"
+for piece in 1 2 3 4 65536; do
+    same "a mark is ignored, by pieces of $piece" "$(lines 'status 0' 'out: accepted')" "$(said "${bom}1" check --ignore-bom --piece $piece)"
+    same "its bytes are counted, by pieces of $piece" "$(lines 'status 0' 'out: accepted' 'out: 0 number 3..4 - 0 -')" "$(said "${bom}1" index --ignore-bom --piece $piece)"
+    same "pointers behind a mark, by pieces of $piece" "$(lines 'status 0' 'out: found number 4..5')" "$(said "${bom}[1]" at --ignore-bom --piece $piece /0)"
+    same "a mark before a sequence, by pieces of $piece" "$(lines 'status 0' 'out: 4..6 accepted')" "$(said "${bom}\00361\n" seq --ignore-bom --piece $piece)"
+    same "a part of a mark, by pieces of $piece" "$(lines 'status 1' 'out: truncated')" "$(said '\357\273' check --ignore-bom --piece $piece)"
+    same "a part of a mark and another byte, by pieces of $piece" "$(lines 'status 1' 'out: stopped at 2')" "$(said '\357\2731' check --ignore-bom --piece $piece)"
+    same "a second mark, by pieces of $piece" "$(lines 'status 1' 'out: stopped at 3')" "$(said "${bom}${bom}1" check --ignore-bom --piece $piece)"
+    same "a mark behind a blank, by pieces of $piece" "$(lines 'status 1' 'out: stopped at 1')" "$(said " ${bom}1" check --ignore-bom --piece $piece)"
+done
+same 'a mark before a sequence, where it is not ignored' "$(lines 'status 1' 'out: 0..3 unmarked' 'out: 4..6 accepted')" "$(said "${bom}\00361\n" seq)"
+same 'a mark in an element' "$(lines 'status 1' 'out: 1..6 stopped at 1')" "$(said "\036${bom}1\n" seq --ignore-bom)"
+same 'a mark with more before the first separator' "$(lines 'status 1' 'out: 0..4 unmarked' 'out: 5..7 accepted')" "$(said "${bom}1\00362\n" seq --ignore-bom)"
+
+# ---- pointers from a file
+printf '/1\n\n/0\r\n/0' >list
+same 'pointers: a line each, behind those among the words' \
+    "$(lines 'status 1' 'out: past end at token 0' 'out: found number 4..6' 'out: found array 0..7' 'out: not an index at token 0' 'out: found number 1..3')" \
+    "$(said '[10,20]' at /2 --pointers list)"
+printf '' >none
+same 'pointers: no line' 'status 0' "$(said '[10]' at --pointers none)"
+same 'pointers: no line, and one among the words' "$(lines 'status 0' 'out: found number 1..3')" "$(said '[10]' at /0 --pointers none)"
+printf '/0' >one
+same 'pointers: one line without an end' "$(lines 'status 0' 'out: found number 1..3')" "$(said '[10]' at --pointers one)"
+printf '\n' >empty
+same 'pointers: an empty line' "$(lines 'status 0' 'out: found array 0..4')" "$(said '[10]' at --pointers empty)"
+seq 0 99999 | sed 's|.*|"k&":{"n":&}|' | paste -sd, | sed 's/.*/{&}/' >many.json
+seq 0 99999 | sed 's|.*|/k&/n|' >many
+"$program" at --file many.json --pointers many >found
+same 'pointers: 100,000 lines' 0 $?
+same 'pointers: 100,000 lines, each answered in its place' "$(grep -obE '"n":[0-9]+' many.json | awk -F: '{ print "found number " $1 + 4 ".." $1 + 4 + length($3) }' | cksum)" "$(cksum <found)"
+"$program" at --file many.json --pointers many --workers 1 --piece 1073741824 >found.1
+same 'pointers: the same by one worker' "$(cksum <found)" "$(cksum <found.1)"
+same 'pointers: no file' "$(lines 'status 2' 'err: jx: cannot open')" "$(said '[10]' at --pointers missing)"
+same 'pointers: a folder' "$(lines 'status 2' 'err: jx: read failed')" "$(said '[10]' at /0 --pointers folder)"
+printf '/0\n/\377\n' >bytes
+has 'pointers: bytes that are no text' "$(lines 'status 2' 'err: error: invalid UTF-8')" "$(said '[10]' at --pointers bytes)"
+has 'neither a pointer nor a file of them' "$(lines 'status 2' 'err: error:')" "$(said '[10]' at)"
+has 'pointers are for at alone' "error: unexpected argument '--pointers' found" "$(said '[10]' index --pointers list)"
+
 # ---- FILE and POINTER as they stand
 printf '[1]' >'-x y'
 printf '[2' >--depth

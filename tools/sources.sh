@@ -4,9 +4,13 @@ program=$root/crates/jx/out/jx
 # Made when the last build began.
 stamp=$root/jx.stamp
 
-# Sets `crates`: jx and all that crates.txt says that it stands on, each named once.
+# The library that C links, and what was made when its last build began.
+library=$root/crates/jx_c/out/libjx.a
+library_stamp=$root/jx.library.stamp
+
+# Sets `crates`: the crate, or jx, and all that crates.txt says that it stands on, each named once.
 find_crates() {
-    crates=' jx '
+    crates=" ${1-jx} "
     known=
     while [ "$crates" != "$known" ]; do
         known=$crates
@@ -40,10 +44,16 @@ is_newer() {
 }
 
 # Whether the program is there, and nothing that it is made of is newer.
-is_built() {
-    if [ ! -x "$program" ] || [ ! -e "$stamp" ] || [ "$root/crates.txt" -nt "$stamp" ]; then return 1; fi
+is_built() { [ -x "$program" ] && is_fresh "$stamp"; }
+
+# Whether the library is there, and nothing that it is made of is newer.
+is_library_built() { [ -e "$library" ] && is_fresh "$library_stamp"; }
+
+# Whether no source of the crates is newer than the stamp.
+is_fresh() {
+    if [ ! -e "$1" ] || [ "$root/crates.txt" -nt "$1" ]; then return 1; fi
     for crate in $crates; do
-        if is_newer "$crate" "$stamp"; then return 1; fi
+        if is_newer "$crate" "$1"; then return 1; fi
     done
     return 0
 }

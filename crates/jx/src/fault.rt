@@ -54,4 +54,12 @@ impl Fault {
             _ => Fault::Open,
         }
     }
+
+    /// Where the file did not give its bytes.
+    pub fn of_reading(error: io::Error) -> Fault {
+        match error.kind() {
+            io::ErrorKind::OutOfMemory => Fault::Memory(AllocError),
+            _ => Fault::Report(ReportFault::Read),
+        }
+    }
 }

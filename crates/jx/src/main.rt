@@ -4,13 +4,15 @@
 
 mod fault;
 mod input;
+mod lines;
 #[cfg(test)]
 mod tests;
 
 use fault::Fault;
 use input::report_on;
-use jx_command::command_of;
+use jx_command::{Request, command_of};
 use jx_report::{End, Exit, ReportFault};
+use lines::add_lines;
 use std::env;
 use std::process::ExitCode;
 use std::sync::Wait;
@@ -23,7 +25,13 @@ fn run<R: Threads + Wait + Sync>(rt: &HostRuntime, threads: &R) -> Result<Exit, 
     let alloc = rt.alloc();
     let owned: Vec<String> = env::args(rt).map_err(Fault::of_words)?.collect(alloc)?;
     let words: Vec<&str> = owned.iter().map(|word| word.as_str()).collect(alloc)?;
-    let (command, file) = command_of(alloc, &words).map_err(Fault::of_arguments)?;
+    let request = command_of(alloc, &words).map_err(Fault::of_arguments)?;
+    let Request {
+        mut command,
+        file,
+        pointers,
+    } = request;
+    add_lines(rt, &mut command, pointers)?;
     let mut writer = End::new(rt.stdout());
     report_on(rt, threads, file, &mut writer, &command)
 }

@@ -1,7 +1,11 @@
+mod Fronts
+mod MarksAlone
 mod Ones
 mod Placed
 mod Pushing
 mod Readable
 mod Roots
 mod Shown
+mod Unmarked
+mod Verdicts
 mod Whole

@@ -1,5 +1,5 @@
 -- The definitions of the answers leave no choice, where a text has one tree and one verdict.
-use Rattle.std.proofs.Common.{◌≡◌, ℕ, ◌<◌, List, [], ◌∷◌, refl, sym, ap, subst, ◌∙◌, arith}
+use Rattle.std.proofs.Common.{◌≡◌, ℕ, List, [], ◌∷◌, refl, sym, ap, subst, ◌∙◌, arith}
 use Rattle.std.specs.List.{AllZip}
 use Rattle.jx_lex.specs.declared.span.Span.{Span}
 use Rattle.jx_run.specs.declared.verdict.Verdict.{Verdict}
@@ -16,8 +16,9 @@ use Rattle.jx_answer.specs.declared.element.ElementAnswer.{ElementAnswer}
 use Rattle.jx_answer.specs.declared.element.ElementAnswer.TheVariants as element
 use Rattle.jx_answer.specs.declared.text_answer.TextAnswer.{TextAnswer}
 use Rattle.jx_answer.specs.declared.text_answer.TextAnswer.TheVariants as answer
-use Rattle.jx_answer.specs.Answers.{IsIndexOf, IsAnswer}
-use Rattle.jx_answer.specs.Sequence.{IsElementAnswer, IsElementIndex, IsElement, AreElements, EndsUnclosed, end_of}
+use Rattle.jx_run.specs.Unclosed.{EndsUnclosed, end_of}
+use Rattle.jx_answer.specs.Answers.{IsAnswer}
+use Rattle.jx_answer.specs.Sequence.{IsElementAnswer, IsElementIndex, IsElement, AreElements}
 
 same_index : (x y : IndexedValue) → x.text ≡ y.text → x.place ≡ y.place → x.rows ≡ y.rows → x ≡ y
 same_index x y e f g =
@@ -84,3 +85,6 @@ module _ (one_tree : (at limit : ℕ) (bytes : List ℕ) (x y : Tree) → IsDocu
 
     pub one_elements : (xs ys : List Element) → AreElements input limit xs → AreElements input limit ys → xs ≡ ys
     one_elements xs ys h k = zip_one (IsElement input limit) one_element (elements 0 input) xs ys h k
+
+    pub one_elements_of : (ps : List Part) (xs ys : List Element) → AllZip (IsElement input limit) ps xs → AllZip (IsElement input limit) ps ys → xs ≡ ys
+    one_elements_of ps xs ys h k = zip_one (IsElement input limit) one_element ps xs ys h k

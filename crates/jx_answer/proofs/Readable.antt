@@ -33,7 +33,7 @@ before-short (b ∷ bytes) = pick (is_mark b) (before-short bytes)
     pick true h = omega arith
     pick false h = omega arith
 
-first_lies : (text : List ℕ) (at : ℕ) (bytes : List ℕ) → drop at text ≡ bytes → at ≤ length text → LiesIn text (part at (before_mark bytes))
+pub first_lies : (text : List ℕ) (at : ℕ) (bytes : List ℕ) → drop at text ≡ bytes → at ≤ length text → LiesIn text (part at (before_mark bytes))
 first_lies text at bytes h low =
     let n = length (before_mark bytes) in
     let same : (at + n) - at ≡ n = omega arith in

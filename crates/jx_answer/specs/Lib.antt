@@ -2,3 +2,4 @@ pub mod Answers
 pub mod Found
 pub mod Pushed
 pub mod Sequence
+pub mod Settled

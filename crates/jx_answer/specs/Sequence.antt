@@ -1,40 +1,19 @@
 -- The answers on a JSON text sequence (RFC 7464, sections 2.1 and 2.4).
-use Rattle.std.specs.Prelude.{◌≡◌, ℕ, ◌<◌, ◌+◌, Bool, true, false, List, length}
+use Rattle.std.specs.Prelude.{◌≡◌, ℕ, ◌<◌, List, map}
 use Rattle.std.specs.List.{AllZip}
-use Rattle.jx_lex.specs.declared.kind.Kind.{Kind}
-use Rattle.jx_lex.specs.declared.kind.Kind.TheVariants.{Object, Array, String, Number, True, False, Null}
-use Rattle.jx_run.specs.declared.verdict.Verdict.TheVariants.{Accepted, Refused}
+use Rattle.jx_run.specs.declared.verdict.Verdict.TheVariants.{Refused}
 use Rattle.jx_run.specs.Elements.{Part, span_of, elements}
-use Rattle.jx_run.specs.Tree.{Tree, node}
-use Rattle.jx_run.specs.Text.{IsDocument}
+use Rattle.jx_run.specs.declared.element_verdict.ElementVerdict.{ElementVerdict}
+use Rattle.jx_run.specs.declared.element_verdict.ElementVerdict.TheVariants as verdict
+use Rattle.jx_run.specs.declared.element_verdict.JudgedElement.{JudgedElement}
+use Rattle.jx_run.specs.Tree.{Tree}
+use Rattle.jx_run.specs.Unclosed.{EndsUnclosed, IsAccepted, end_of}
 use Rattle.jx_run.specs.Verdict.{Judged}
 use Rattle.jx_index.specs.Indexed.{IndexedValue}
 use Rattle.jx_index.specs.Rows.{rows}
 use Rattle.jx_answer.specs.declared.element.Element.{Element}
 use Rattle.jx_answer.specs.declared.element.ElementAnswer.{ElementAnswer}
 use Rattle.jx_answer.specs.declared.element.ElementAnswer.TheVariants as answer
-
--- a value whose end shows only in what follows it
-abbrev pub is_unclosed : Kind → Bool
-is_unclosed Object = false
-is_unclosed Array = false
-is_unclosed String = false
-is_unclosed Number = true
-is_unclosed True = true
-is_unclosed False = true
-is_unclosed Null = true
-
--- the root is such a value, and nothing follows it up to this offset
-abbrev pub EndsUnclosed : Tree → ℕ → Type 0
-EndsUnclosed (node kind span _) end = (is_unclosed kind ≡ true) × (span.end ≡ end)
-
-abbrev pub end_of : Part → ℕ
-end_of p = p.at + length p.bytes
-
--- the element is a text, and this is its tree
-pub record IsAccepted (p : Part) (limit : ℕ) (tree : Tree) : Type 0 where
-  pub judged : Judged p.at p.bytes limit Accepted
-  pub is_text : IsDocument p.at p.bytes limit tree
 
 -- the index is over the element, and its rows are those of its tree
 pub record IsElementIndex (input : List ℕ) (p : Part) (limit : ℕ) (index : IndexedValue) : Type 0 where
@@ -59,3 +38,22 @@ pub record IsElement (input : List ℕ) (limit : ℕ) (p : Part) (e : Element) :
 -- one for each element of the input, in order
 abbrev pub AreElements : List ℕ → ℕ → List Element → Type 0
 AreElements input limit answers = AllZip (IsElement input limit) (elements 0 input) answers
+
+-- an answer less the index
+abbrev pub without_index : ElementAnswer → ElementVerdict
+without_index answer.Unmarked = verdict.Unmarked
+without_index (answer.Refused refusal) = verdict.Refused refusal
+without_index answer.MayBeCut = verdict.MayBeCut
+without_index (answer.Accepted index) = verdict.Accepted
+
+abbrev pub judged : Element → JudgedElement
+judged e = record { span = e.span; verdict = without_index e.answer }
+
+-- one for each of these parts of the input, in order: its answer less the index
+pub record AreJudgedAs (ps : List Part) (input : List ℕ) (limit : ℕ) (verdicts : List JudgedElement) : Type 0 where
+  pub answers : List Element
+  pub are : AllZip (IsElement input limit) ps answers
+  pub less : map judged answers ≡ verdicts
+
+abbrev pub AreJudged : List ℕ → ℕ → List JudgedElement → Type 0
+AreJudged input limit verdicts = AreJudgedAs (elements 0 input) input limit verdicts

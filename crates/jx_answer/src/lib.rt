@@ -3,10 +3,12 @@
 #![tactic(auto)]
 
 mod answered;
+mod asking;
 mod element;
 mod fault;
 mod find_answer;
 mod found;
+mod judging;
 mod laws;
 mod lookups;
 mod sequences;
@@ -19,7 +21,8 @@ pub use element::{Element, ElementAnswer};
 pub use fault::Fault;
 pub use find_answer::Answer;
 pub use found::find_all;
-pub use laws::answers_are_one;
-pub use sequences::index_sequence;
+pub use judging::{judge_sequence, judge_sequence_with};
+pub use laws::{a_refused_mark_changes_no_answer, answers_are_one, elements_by_settings_are_one};
+pub use sequences::{index_sequence, index_sequence_with};
 pub use text_answer::TextAnswer;
-pub use texts::{index_text, verdict_of_text};
+pub use texts::{index_text, index_text_with, read_batch, verdict_of_text, verdict_of_text_with};

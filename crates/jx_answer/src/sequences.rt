@@ -1,11 +1,14 @@
 ghost use Rattle.std.specs.Prelude.{◌≡◌, ◌<◌, ◌≤◌, ◌↔◌, ◌++◌, ℕ, IsTrue, All, length, slice_range, IfOk, OnOk};
+ghost use Rattle.std.specs.List.{AllZip};
 ghost use Rattle.jx_run.specs.Elements.{Part, filled};
 ghost use Rattle.jx_run.specs.SeqRun.{IsSeqRun, place_of_seq};
 ghost use Rattle.jx_run.specs.Started.{IsStarted};
 ghost use Rattle.jx_run.specs.Text.{IsText};
 ghost use Rattle.jx_run.specs.TextRun.{IsTextRun, place_of};
 ghost use Rattle.jx_run.specs.Tree.{Tree, span};
-ghost use Rattle.jx_answer.specs.Sequence.{AreElements, EndsUnclosed, IsElement, IsElementAnswer, is_unclosed};
+ghost use Rattle.jx_run.specs.Unclosed.{EndsUnclosed, is_unclosed};
+ghost use Rattle.jx_answer.specs.Sequence.{AreElements, IsElement, IsElementAnswer};
+ghost use Rattle.jx_answer.specs.Settled.{AreElementsBy, elements_by, is_mark_alone};
 ghost use Rattle.jx_answer.specs.Pushed.{IsReadable, IsShown, PushesEach, PushesFilled, part_of, unmarked};
 
 use crate::element::{Element, ElementAnswer};
@@ -15,7 +18,9 @@ use jx_book::Gate;
 use jx_claim::{Cutting, Workers};
 use jx_index::Indexed;
 use jx_lex::{Depth, Kind, Span};
-use jx_run::{SeqRun, Shape, Started, Summary, TextRun, Verdict};
+use jx_run::{
+    Front, FrontMark, SeqRun, Settings, Shape, Started, Summary, TextRun, Verdict, front,
+};
 use std::alloc::{AllocError, Global};
 use std::sync::Wait;
 use std::thread::Threads;
@@ -42,6 +47,57 @@ pub fn index_sequence<'a, R: Threads + Wait + Sync, G: Gate + Sync>(
     match elements_of(alloc, text, run.run()) {
         Ok(elements) => Ok(elements),
         Err(AllocError) => Err(Fault::Memory),
+    }
+}
+
+/// The same by settings: where a byte order mark is ignored, one that stands alone before the first record separator is no
+/// element. The elements themselves are read as ever, so that a mark in one of them is refused.
+pub fn index_sequence_with<'a, R: Threads + Wait + Sync, G: Gate + Sync>(
+    rt: &R,
+    alloc: Global,
+    text: &'a [u8],
+    cutting: &Cutting,
+    workers: Workers,
+    settings: &Settings,
+    gate: &G,
+) -> Result<Vec<Element<'a>>, Fault>
+    requires cutting { cutting.now.len ≡ length text.now }
+    requires front { cutting.now.front ≡ 0 }
+    ensures elements { IfOk result (λ elements. AreElementsBy settings.now text.entry.now elements.items) }
+{
+    let elements = index_sequence(rt, alloc, text, cutting, workers, settings.depth, gate)?;
+    match settings.mark {
+        FrontMark::Refused => Ok(elements),
+        FrontMark::Ignored => Ok(without_mark(text, elements)),
+    }
+}
+
+// The answers without that on a byte order mark alone, before the first record separator.
+fn without_mark<'a>(text: &[u8], mut elements: Vec<Element<'a>>) -> Vec<Element<'a>>
+    requires elements { (limit : ℕ) × AreElements text.now limit elements.items }
+    ensures elements { (limit : ℕ) → AreElements text.now limit elements.entry.items → AllZip (IsElement text.now limit) (elements_by FrontMark.Ignored text.now) result.items }
+{
+    if elements.is_empty() {
+        return elements;
+    }
+    if !is_mark_alone(text, elements[0].span) {
+        return elements;
+    }
+    elements.remove(0);
+    elements
+}
+
+// Whether a part of the text stands at its start and is just the byte order mark.
+pub(crate) fn is_mark_alone(text: &[u8], span: Span) -> bool
+    requires within { span.end ≤ length text.now }
+    ensures alone { result ≡ is_mark_alone (part_of text.now span) }
+{
+    if span.start != 0 || span.end != 3 {
+        return false;
+    }
+    match front(text, FrontMark::Ignored) {
+        Front::Skip(count) => count == 3,
+        Front::Refused(_) => false,
     }
 }
 

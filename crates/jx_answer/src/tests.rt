@@ -1,5 +1,6 @@
 // Worked texts, sequences and pointers, cut in many places and answered by several workers.
 mod cuts;
+mod marks;
 mod meeting;
 mod pointers;
 mod sequences;

@@ -1,17 +1,22 @@
-ghost use Rattle.std.specs.Prelude.{◌≡◌, length, IfOk};
-ghost use Rattle.jx_run.specs.Tree.{span};
-ghost use Rattle.jx_run.specs.TextRun.{IsTextRun, place_of};
+ghost use Rattle.std.specs.Prelude.{◌≡◌, ◌+◌, ◌<◌, ◌≤◌, ◌^◌, ◌++◌, ℕ, List, length, IfOk, OnOk};
+ghost use Rattle.jx_run.specs.Reader.{HasRead};
+ghost use Rattle.jx_run.specs.TextRun.{IsTextRun};
+ghost use Rattle.jx_run.specs.Settings.{JudgedBy};
 ghost use Rattle.jx_run.specs.Verdict.{Judged};
-ghost use Rattle.jx_book.specs.Gathered.{IsWhole};
+ghost use Rattle.jx_book.specs.Gathered.{IsRest};
 ghost use Rattle.jx_answer.specs.Answers.{IsAnswer};
+ghost use Rattle.jx_answer.specs.Settled.{IsAnswerBy, IsAnswerFrom, rest_from};
 
+use crate::asking::Asking;
 use crate::fault::Fault;
 use crate::text_answer::TextAnswer;
 use jx_book::{Gate, Held, read_whole};
 use jx_claim::{Cutting, Workers};
 use jx_index::Indexed;
-use jx_lex::Depth;
-use jx_run::{OutcomeRun, Summary, TextRun, Verdict};
+use jx_lex::{Depth, Span};
+use jx_run::{
+    Front, OutcomeRun, Pace, Reader, RunReader, Settings, Summary, TextRun, Verdict, front,
+};
 use std::alloc::{AllocError, Global};
 use std::sync::Wait;
 use std::thread::Threads;
@@ -33,10 +38,30 @@ pub fn index_text<'a, R: Threads + Wait + Sync, G: Gate + Sync>(
     // For every cutting, number of workers and gate, it is the answer that the standard gives for the bytes.
     ensures answer { IfOk result (λ answer. IsAnswer text.entry.now depth answer) }
 {
-    let run = read_text::<TextRun, R, G>(rt, alloc, text, cutting, workers, depth, gate)?;
-    match answer_from(alloc, text, run.run()) {
-        Ok(answer) => Ok(answer),
-        Err(AllocError) => Err(Fault::Memory),
+    index_rest(rt, alloc, text, cutting, workers, depth, gate)
+}
+
+/// The same by settings: where a byte order mark is ignored, one may stand in front of the text. It is skipped here, so
+/// the cutting is of the whole input. Offsets count the bytes of the mark.
+pub fn index_text_with<'a, R: Threads + Wait + Sync, G: Gate + Sync>(
+    rt: &R,
+    alloc: Global,
+    text: &'a [u8],
+    cutting: &Cutting,
+    workers: Workers,
+    settings: &Settings,
+    gate: &G,
+) -> Result<TextAnswer<'a>, Fault>
+    requires cutting { cutting.now.len ≡ length text.now }
+    requires front { cutting.now.front ≡ 0 }
+    ensures answer { IfOk result (λ answer. IsAnswerBy settings.now text.entry.now answer) }
+{
+    match front(text, settings.mark) {
+        Front::Refused(refusal) => Ok(TextAnswer::Refused(refusal)),
+        Front::Skip(count) => {
+            let rest = behind(alloc, cutting, count)?;
+            index_rest(rt, alloc, text, &rest, workers, settings.depth, gate)
+        }
     }
 }
 
@@ -54,11 +79,153 @@ pub fn verdict_of_text<R: Threads + Wait + Sync, G: Gate + Sync>(
     requires front { cutting.now.front ≡ 0 }
     ensures verdict { IfOk result (λ verdict. Judged 0 text.now depth verdict) }
 {
+    verdict_of_rest(rt, alloc, text, cutting, workers, depth, gate)
+}
+
+/// The verdict that `index_text_with` comes to, without the index.
+pub fn verdict_of_text_with<R: Threads + Wait + Sync, G: Gate + Sync>(
+    rt: &R,
+    alloc: Global,
+    text: &[u8],
+    cutting: &Cutting,
+    workers: Workers,
+    settings: &Settings,
+    gate: &G,
+) -> Result<Verdict, Fault>
+    requires cutting { cutting.now.len ≡ length text.now }
+    requires front { cutting.now.front ≡ 0 }
+    ensures verdict { IfOk result (λ verdict. JudgedBy settings.now 0 text.now verdict) }
+{
+    match front(text, settings.mark) {
+        Front::Refused(refusal) => Ok(Verdict::Refused(refusal)),
+        Front::Skip(count) => {
+            let rest = behind(alloc, cutting, count)?;
+            verdict_of_rest(rt, alloc, text, &rest, workers, settings.depth, gate)
+        }
+    }
+}
+
+// The cutting without its first bytes.
+fn behind(alloc: Global, cutting: &Cutting, front: usize) -> Result<Cutting, Fault>
+    requires from { cutting.now.front ≡ 0 }
+    requires within { front ≤ cutting.now.len }
+    ensures len { IfOk result (λ c. c.len ≡ cutting.now.len) }
+    ensures front { IfOk result (λ c. c.front ≡ front) }
+{
+    match cutting.copy(alloc) {
+        Ok(copy) => Ok(copy.without_front(front)),
+        Err(AllocError) => Err(Fault::Memory),
+    }
+}
+
+// The answer on the text from the cutting's front on.
+fn index_rest<'a, R: Threads + Wait + Sync, G: Gate + Sync>(
+    rt: &R,
+    alloc: Global,
+    text: &'a [u8],
+    cutting: &Cutting,
+    workers: Workers,
+    depth: Depth,
+    gate: &G,
+) -> Result<TextAnswer<'a>, Fault>
+    requires cutting { cutting.now.len ≡ length text.now }
+    ensures answer { IfOk result (λ answer. IsAnswerFrom cutting.now.front text.entry.now depth answer) }
+{
+    if cutting.count() <= 1 || workers.count() == 1 {
+        return match index_alone(alloc, text, cutting, depth, gate) {
+            Ok(answer) => Ok(answer),
+            Err(AllocError) => Err(Fault::Memory),
+        };
+    }
+    let run = read_text::<TextRun, R, G>(rt, alloc, text, cutting, workers, depth, gate)?;
+    match answer_from(alloc, text, run.run()) {
+        Ok(answer) => Ok(answer),
+        Err(AllocError) => Err(Fault::Memory),
+    }
+}
+
+// The same by the calling thread alone, piece by piece.
+fn index_alone<'a, G: Gate>(
+    alloc: Global,
+    text: &'a [u8],
+    cutting: &Cutting,
+    depth: Depth,
+    gate: &G,
+) -> Result<TextAnswer<'a>, AllocError>
+    requires cutting { cutting.now.len ≡ length text.now }
+    ensures answer { IfOk result (λ answer. IsAnswerFrom cutting.now.front text.entry.now depth answer) }
+{
+    let mut asking = Asking::new(cutting, gate);
+    let answer = answer_in_one_pass(alloc, text, cutting.front(), depth, &mut asking)?;
+    Ok(answer)
+}
+
+// The verdict on the text from the cutting's front on.
+fn verdict_of_rest<R: Threads + Wait + Sync, G: Gate + Sync>(
+    rt: &R,
+    alloc: Global,
+    text: &[u8],
+    cutting: &Cutting,
+    workers: Workers,
+    depth: Depth,
+    gate: &G,
+) -> Result<Verdict, Fault>
+    requires cutting { cutting.now.len ≡ length text.now }
+    ensures verdict { IfOk result (λ verdict. Judged cutting.now.front (rest_from cutting.now.front text.now) depth verdict) }
+{
+    if cutting.count() <= 1 {
+        return verdict_from(alloc, text, cutting.front(), depth);
+    }
     let run = read_text::<OutcomeRun, R, G>(rt, alloc, text, cutting, workers, depth, gate)?;
     Ok(run.run().verdict())
 }
 
-// The run over a whole text. A text of one piece, or of none, is read on this thread.
+// The verdict on the text from an offset on, which is read on this thread. Up to 64 open containers take no memory.
+fn verdict_from(alloc: Global, text: &[u8], start: usize, depth: Depth) -> Result<Verdict, Fault>
+    requires within { start ≤ length text.now }
+    ensures verdict { IfOk result (λ verdict. Judged start (rest_from start text.now) depth verdict) }
+{
+    let mut reader = Reader::new(alloc, depth, start);
+    match reader.feed(&text[start..text.len()]) {
+        Ok(()) => Ok(reader.verdict()),
+        Err(AllocError) => Err(Fault::Memory),
+    }
+}
+
+/// Reads a batch of a text, which stands behind the bytes that the reader has read, by that many workers, who draw the
+/// pieces of the batch. It may wait for the workers. The gate is asked as by `index_text`. Behind a fault no byte is looked
+/// at. Only want of memory is a fault.
+pub fn read_batch<R: Threads + Wait + Sync, G: Gate + Sync>(
+    rt: &R,
+    alloc: Global,
+    reader: &mut RunReader,
+    batch: &[u8],
+    cutting: &Cutting,
+    workers: Workers,
+    gate: &G,
+) -> Result<(), Fault>
+    requires cutting { cutting.now.len ≡ length batch.now }
+    requires front { cutting.now.front ≡ 0 }
+    requires fits { reader.old.start + reader.old.count + length batch.now < 2 ^ 64 }
+    ensures limit { reader.new.limit ≡ reader.old.limit }
+    ensures start { reader.new.start ≡ reader.old.start }
+    // For every cutting, number of workers and gate, the reader goes on with the bytes of the batch.
+    ensures reads { OnOk result ((bytes : List ℕ) → HasRead bytes reader.old → HasRead (bytes ++ batch.now) reader.new) }
+    ensures count { OnOk result (reader.new.count ≡ reader.old.count + length batch.now) }
+{
+    if reader.is_done() {
+        reader.pass(batch);
+        return Ok(());
+    }
+    let depth = reader.depth();
+    let run = read_text::<OutcomeRun, R, G>(rt, alloc, batch, cutting, workers, depth, gate)?;
+    match reader.follow(run.run()) {
+        Ok(()) => Ok(()),
+        Err(AllocError) => Err(Fault::Memory),
+    }
+}
+
+// The run over a text from the cutting's front on. A text of one piece, or of none, is read on this thread.
 pub(crate) fn read_text<'a, S: Summary + Send, R: Threads + Wait + Sync, G: Gate + Sync>(
     rt: &R,
     alloc: Global,
@@ -69,11 +236,10 @@ pub(crate) fn read_text<'a, S: Summary + Send, R: Threads + Wait + Sync, G: Gate
     gate: &G,
 ) -> Result<Held<'a, S>, Fault>
     requires cutting { cutting.now.len ≡ length text.now }
-    requires front { cutting.now.front ≡ 0 }
-    ensures whole { IfOk result (λ h. IsWhole text.entry.now depth h) }
+    ensures rest { IfOk result (λ h. IsRest text.entry.now depth cutting.now.front h) }
 {
     let read = if cutting.count() <= 1 {
-        Held::read(alloc, text, 0, text.len(), depth)
+        Held::read(alloc, text, cutting.front(), text.len(), depth)
     } else {
         read_whole(rt, alloc, text, cutting, workers, depth, gate)
     };
@@ -83,24 +249,40 @@ pub(crate) fn read_text<'a, S: Summary + Send, R: Threads + Wait + Sync, G: Gate
     }
 }
 
-// The answer that a run over the whole of a text gives.
+// The answer that one pass over the text from an offset on gives, which one thread makes sooner than a run.
+fn answer_in_one_pass<'a, P: Pace>(
+    alloc: Global,
+    text: &'a [u8],
+    start: usize,
+    depth: Depth,
+    pace: &mut P,
+) -> Result<TextAnswer<'a>, AllocError>
+    requires within { start ≤ length text.now }
+    ensures answer { IfOk result (λ answer. IsAnswerFrom start text.entry.now depth answer) }
+{
+    let end = text.len();
+    let read = Indexed::read(alloc, text, Span { start, end }, depth, pace)?;
+    match read {
+        Ok(index) => Ok(TextAnswer::Accepted(index)),
+        Err(refusal) => Ok(TextAnswer::Refused(refusal)),
+    }
+}
+
+// The answer that a run over the end of a text gives.
 fn answer_from<'a>(
     alloc: Global,
     text: &'a [u8],
     run: &TextRun,
 ) -> Result<TextAnswer<'a>, AllocError>
-    requires place { place_of run.now ≡ span 0 (length text.now) }
-    requires of { IsTextRun text.now run.now }
-    ensures answer { IfOk result (λ answer. IsAnswer text.entry.now run.now.limit answer) }
+    requires ordered { run.now.map.start ≤ length text.now }
+    requires end { run.now.map.end ≡ length text.now }
+    requires of { IsTextRun (rest_from run.now.map.start text.now) run.now }
+    ensures answer { IfOk result (λ answer. IsAnswerFrom run.now.map.start text.entry.now run.now.limit answer) }
 {
-    if let Verdict::Refused(refusal) = run.verdict() {
-        return Ok(TextAnswer::Refused(refusal));
-    }
-    let started = run.started()?;
-    match started.verdict() {
+    match run.verdict() {
         Verdict::Refused(refusal) => Ok(TextAnswer::Refused(refusal)),
         Verdict::Accepted => {
-            let index = Indexed::build(alloc, text, &started)?;
+            let index = Indexed::of_run(alloc, text, run)?;
             Ok(TextAnswer::Accepted(index))
         }
     }

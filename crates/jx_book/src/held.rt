@@ -56,6 +56,17 @@ impl<'a, S: Summary> Held<'a, S> {
         &self.run
     }
 
+    /// The run alone, which is the summary of exactly its bytes.
+    pub fn into_run(self) -> S
+        ensures run { result ≡ self.entry.run }
+        ensures place { S.place result ≡ self.entry.span }
+        ensures depth { S.limit result ≡ self.entry.depth }
+        ensures of { S.is_of result (slice_range self.entry.text self.entry.span.start self.entry.span.end) }
+    {
+        let Held { run, .. } = self;
+        run
+    }
+
     /// The text that it carries.
     pub fn text(&self) -> &'a [u8]
         ensures { result.now ≡ self.now.text }

@@ -95,6 +95,19 @@ impl Cutting {
         })
     }
 
+    /// The same cutting once more. It takes memory where the pieces were given by their cuts, and none where they were
+    /// given by a size.
+    pub fn copy(&self, alloc: Global) -> Result<Cutting, AllocError>
+        ensures { IfOk result (λ c. c ≡ self.now) }
+    {
+        Ok(Cutting {
+            len: self.len,
+            front: self.front,
+            skipped: self.skipped,
+            parts: self.parts.copy(alloc)?,
+        })
+    }
+
     /// The same pieces without the first `front` bytes of the text: those that end there or before it are left out, and
     /// one that goes on behind it begins there. It takes no memory.
     pub fn without_front(self, front: usize) -> Cutting

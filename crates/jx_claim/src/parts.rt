@@ -1,9 +1,10 @@
 // How a cutting keeps its pieces: regular ones by their size, others by where they end.
-ghost use Rattle.std.specs.Prelude.{◌≡◌, ℕ, ◌+◌, ◌*◌, ◌<◌, ◌≤◌, ◌∷◌, min, length, Some, slice_get, slice_index};
+ghost use Rattle.std.specs.Prelude.{◌≡◌, ℕ, ◌+◌, ◌*◌, ◌<◌, ◌≤◌, ◌∷◌, min, length, Some, IfOk, slice_get, slice_index};
 ghost use Rattle.jx_claim.specs.Cut.{span, Covers};
 ghost use Rattle.jx_claim.specs.Listed.{listed, between, IsRegular, AreEnded};
 
 use jx_lex::Span;
+use std::alloc::{AllocError, Global};
 
 #[derive(Debug, Drop)]
 pub enum Parts {
@@ -33,6 +34,22 @@ impl Parts {
         match self {
             Parts::Every { size, count: _ } => regular_piece(len, *size, number),
             Parts::At { ends } => piece_between(ends, number),
+        }
+    }
+
+    // The same parts once more.
+    pub fn copy(&self, alloc: Global) -> Result<Parts, AllocError>
+        ensures same { IfOk result (λ parts. (len : ℕ) → listed len parts ≡ listed len self.now) }
+        ensures regular { IfOk result (λ parts. (len : ℕ) → IsRegular len self.now → IsRegular len parts) }
+    {
+        match self {
+            Parts::Every { size, count } => Ok(Parts::Every {
+                size: *size,
+                count: *count,
+            }),
+            Parts::At { ends } => Ok(Parts::At {
+                ends: Vec::from_slice(alloc, ends)?,
+            }),
         }
     }
 

@@ -2,12 +2,13 @@
 ghost use Rattle.std.specs.Prelude.{◌≤◌, IfOk, IfSome};
 
 use crate::arg_fault::ArgFault;
-use crate::command::{Command, Task};
+use crate::command::{Command, Request, Task};
 use crate::grammar::grammar;
 use clap::ArgMatches;
 use clap::error::ErrorKind;
 use jx_claim::Workers;
 use jx_lex::Depth;
+use jx_run::{FrontMark, Settings};
 use std::alloc::{AllocError, Global};
 
 const DEFAULT_WORKERS: u8 = 4;
@@ -21,12 +22,16 @@ fn refused(error: clap::Error) -> ArgFault {
     }
 }
 
-fn file_of<'a>(options: &ArgMatches<'a>) -> Option<&'a str> {
-    options.get_str("file")
-}
-
 fn depth_of(options: &ArgMatches<'_>) -> Option<Depth> {
     Depth::new(u32::from(options.get_one::<u16>("depth")?))
+}
+
+fn mark_of(options: &ArgMatches<'_>) -> FrontMark {
+    if options.get_flag("ignore_bom") {
+        FrontMark::Ignored
+    } else {
+        FrontMark::Refused
+    }
 }
 
 fn workers_of(options: &ArgMatches<'_>) -> Option<Workers> {
@@ -68,25 +73,32 @@ fn command_from(alloc: Global, name: &str, options: &ArgMatches<'_>) -> Result<C
     let default_workers = Workers::new(DEFAULT_WORKERS).unwrap();
     Ok(Command {
         task: task_of(alloc, name, options)?,
-        depth: depth_of(options).unwrap_or_default(),
+        settings: Settings {
+            depth: depth_of(options).unwrap_or_default(),
+            mark: mark_of(options),
+        },
         workers: workers_of(options).unwrap_or(default_workers),
         piece: piece_of(options).unwrap_or(DEFAULT_PIECE),
         quiet: options.get_flag("quiet"),
     })
 }
 
-/// The command that the words name, the first of which is the program's name, and FILE where it is given. FILE and each
-/// POINTER are taken as they stand: they are not cut, trimmed or read. Where the words are no command, or ask for help or
-/// the version, `Err` has what is to be told.
-pub fn command_of<'a>(
-    alloc: Global,
-    words: &'a [&'a str],
-) -> Result<(Command, Option<&'a str>), ArgFault>
-    ensures { IfOk result (λ r. 1 ≤ r.0.piece) }
+/// What the words ask for, the first of which is the program's name. Each FILE and each POINTER are taken as they stand:
+/// they are not cut, trimmed or read. Where the words are no command, or ask for help or the version, `Err` has what is
+/// to be told.
+pub fn command_of<'a>(alloc: Global, words: &'a [&'a str]) -> Result<Request<'a>, ArgFault>
+    ensures { IfOk result (λ r. 1 ≤ r.command.piece) }
 {
     let grammar = grammar(alloc).map_err(|_| ArgFault::Memory)?;
     let matches = grammar.try_get_matches_from(words).map_err(refused)?;
     let (name, options) = matches.subcommand().unwrap_or(("check", &matches));
     let command = command_from(alloc, name, options).map_err(|_| ArgFault::Memory)?;
-    Ok((command, file_of(options)))
+    Ok(Request {
+        command,
+        file: options.get_str("file"),
+        pointers: match name {
+            "at" => options.get_str("pointers_file"),
+            _ => None,
+        },
+    })
 }

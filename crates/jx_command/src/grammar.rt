@@ -43,6 +43,14 @@ fn piece<'a>(alloc: Global) -> Arg<'a> {
         .long_help(help::LONG_PIECE)
 }
 
+fn ignore_bom<'a>(alloc: Global) -> Arg<'a> {
+    Arg::new(alloc, "ignore_bom")
+        .long("ignore-bom")
+        .action(ArgAction::SetTrue)
+        .help(help::IGNORE_BOM)
+        .long_help(help::LONG_IGNORE_BOM)
+}
+
 fn quiet<'a>(alloc: Global) -> Arg<'a> {
     Arg::new(alloc, "quiet")
         .short('q')
@@ -52,13 +60,22 @@ fn quiet<'a>(alloc: Global) -> Arg<'a> {
         .long_help(help::LONG_QUIET)
 }
 
-fn pointers<'a>(alloc: Global) -> Arg<'a> {
+fn pointers<'a>(alloc: Global) -> Result<Arg<'a>, AllocError> {
     Arg::new(alloc, "pointers")
         .value_name("POINTER")
         .num_args(1..)
-        .required(true)
         .help(help::POINTER)
         .long_help(help::LONG_POINTER)
+        .required_unless_present("pointers_file")
+}
+
+fn pointers_file<'a>(alloc: Global) -> Arg<'a> {
+    Arg::new(alloc, "pointers_file")
+        .long("pointers")
+        .value_name("FILE")
+        .allow_hyphen_values(true)
+        .help(help::POINTERS)
+        .long_help(help::LONG_POINTERS)
 }
 
 /// A subcommand with the options that each of them takes.
@@ -74,14 +91,17 @@ fn subcommand<'a>(
         .arg(file(alloc))?
         .arg(depth(alloc))?
         .arg(workers(alloc))?
-        .arg(piece(alloc))
+        .arg(piece(alloc))?
+        .arg(ignore_bom(alloc))
 }
 
 /// The program with its four commands.
 pub fn grammar<'a>(alloc: Global) -> Result<Command<'a>, AllocError> {
     let check = subcommand(alloc, "check", help::CHECK, help::AFTER_CHECK)?.arg(quiet(alloc))?;
     let index = subcommand(alloc, "index", help::INDEX, help::AFTER_INDEX)?;
-    let at = subcommand(alloc, "at", help::AT, help::AFTER_AT)?.arg(pointers(alloc))?;
+    let at = subcommand(alloc, "at", help::AT, help::AFTER_AT)?
+        .arg(pointers(alloc)?)?
+        .arg(pointers_file(alloc))?;
     let seq = subcommand(alloc, "seq", help::SEQ, help::AFTER_SEQ)?.arg(quiet(alloc))?;
     Command::new(alloc, "jx")
         .version(help::VERSION)

@@ -54,6 +54,13 @@ pub const PIECE: &str = "Let a worker read N bytes at a time";
 pub const LONG_PIECE: &str = "Let a worker read N bytes at a time, 1 to 1073741824. The answer is
 the same for every number.";
 
+pub const IGNORE_BOM: &str = "Ignore a byte order mark in front";
+
+pub const LONG_IGNORE_BOM: &str =
+    "Ignore a byte order mark (EF BB BF) in front of a text, before all
+blanks, or before the first record separator of a sequence. Without
+this option it is refused. Offsets count its bytes.";
+
 pub const QUIET: &str = "Write no output: the exit status is the answer";
 
 pub const LONG_QUIET: &str = "Write no output: the exit status is the answer. What goes wrong is
@@ -65,6 +72,14 @@ pub const LONG_POINTER: &str = "A JSON Pointer (RFC 6901, section 3), taken as i
 the whole text, or tokens that each follow a slash, as /users/0/name.
 In a token ~1 stands for a slash and ~0 for a tilde. Behind the word
 -- also what begins with a hyphen is taken for a pointer.";
+
+pub const POINTERS: &str = "Look up the lines of FILE too";
+
+pub const LONG_POINTERS: &str =
+    "Look up the lines of FILE too, behind the pointers among the words. A
+line feed ends a line, and the last line may do without; an empty
+line is the empty pointer, and a carriage return stays in its line.
+There has to be a POINTER or this option.";
 
 pub const AFTER_CHECK: &str = "Output, one line:
   accepted       the input is a JSON text
@@ -111,7 +126,8 @@ Exit status: 0 all found, 1 refused or not all found, 2 no answer.
 
 Examples:
   jx at '' /users/0/name --file dump.json
-  jx at --file dump.json -- \"$pointer\"";
+  jx at --file dump.json -- \"$pointer\"
+  jx at --file dump.json --pointers list";
 
 pub const AFTER_SEQ: &str = "Output, a line for each element, its span and then:
   accepted       it is a JSON text

@@ -11,4 +11,4 @@ mod tests;
 
 pub use arg_fault::ArgFault;
 pub use arguments::command_of;
-pub use command::{Command, Task};
+pub use command::{Command, Request, Task};

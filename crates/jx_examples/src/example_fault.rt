@@ -1,5 +1,6 @@
 use jx_answer::Fault;
 use jx_claim::CutFault;
+use jx_report::ReportFault;
 use std::alloc::AllocError;
 use thiserror::Error;
 
@@ -12,6 +13,12 @@ pub enum ExampleFault {
     /// There is no answer on the input.
     #[error(transparent)]
     Answer(#[from] Fault),
+    /// A report failed.
+    #[error(transparent)]
+    Report(#[from] ReportFault),
+    /// A worker on a thread of the example's own stopped before its end.
+    #[error("a worker stopped")]
+    Stopped,
     /// The memory of the example itself was refused.
     #[error("out of memory")]
     Memory(#[from(alloc)] AllocError),

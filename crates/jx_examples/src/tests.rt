@@ -1,4 +1,4 @@
-use crate::{LookUp, check, look_up, whole_elements};
+use crate::{LookUp, check, check_on_own_threads, lines_of_values, look_up, whole_elements};
 use jx_claim::Workers;
 use jx_index::{FindFault, Pointer};
 use jx_lex::Span;
@@ -52,5 +52,41 @@ fn whole_elements_are_those_that_are_texts(rt: HostRuntime) -> Result<(), Fail> 
     let spans = whole_elements(&rt, rt.alloc(), input, workers)?;
     let wanted = [Span { start: 1, end: 6 }, Span { start: 17, end: 20 }];
     assert_eq!(rt; spans.as_slice(), wanted.as_slice());
+    Ok(())
+}
+
+#[test]
+fn own_threads_come_to_the_same_verdict(rt: HostRuntime) -> Result<(), Fail> {
+    for (text, verdict) in [
+        ("", Verdict::Refused(Refusal::Truncated)),
+        ("[10,20]", Verdict::Accepted),
+        ("nulx", Verdict::Refused(Refusal::Stopped { at: 3 })),
+    ] {
+        assert_eq!(rt;
+            check_on_own_threads(&rt, rt.alloc(), text.as_bytes())?,
+            verdict
+        );
+    }
+    Ok(())
+}
+
+#[test]
+fn own_threads_read_a_text_of_several_pieces(rt: HostRuntime) -> Result<(), Fail> {
+    let mut text = vec![in rt.alloc(); b' '; 200_000]?;
+    text.push(b'7')?;
+    let verdict = check_on_own_threads(&rt, rt.alloc(), text.as_slice())?;
+    assert_eq!(rt; verdict, Verdict::Accepted);
+    text.push(b']')?;
+    let verdict = check_on_own_threads(&rt, rt.alloc(), text.as_slice())?;
+    assert_eq!(rt; verdict, Verdict::Refused(Refusal::Stopped { at: 200_001 }));
+    Ok(())
+}
+
+#[test]
+fn a_report_over_memory_has_a_line_for_each_value(rt: HostRuntime) -> Result<(), Fail> {
+    let workers = Workers::new(2).ok_or("workers")?;
+    let lines = lines_of_values(&rt, rt.alloc(), b"[1,true]", workers)?;
+    let wanted = "accepted\n0 array 0..8 - 0 -\n1 number 1..2 0 0 -\n2 true 3..7 0 1 -\n";
+    assert_eq!(rt; lines.as_slice(), wanted.as_bytes());
     Ok(())
 }

@@ -19,10 +19,15 @@ pub mod Walks
 pub mod TokenLaws
 pub mod TokenSteps
 pub mod Rising
+pub mod RowKeeping
 pub mod SameFront
 pub mod Forms
 pub mod FindSteps
 pub mod Readings
+pub mod OnePass
 pub mod Indexes
 pub mod PartSteps
 pub mod Spelt
+pub mod Ties
+pub mod Leasts
+pub mod Placings

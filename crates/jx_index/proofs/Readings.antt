@@ -18,7 +18,7 @@ pub record HasTree (start : ℕ) (bytes : List ℕ) (limit : ℕ) : Type 0 where
   pub tree : Tree
   pub is : IsDocument start bytes limit tree
 
-tree_of : {start : ℕ} {bytes : List ℕ} {limit : ℕ} (v : Verdict) → Judged start bytes limit v → v ≡ Accepted → HasTree start bytes limit
+pub tree_of : {start : ℕ} {bytes : List ℕ} {limit : ℕ} (v : Verdict) → Judged start bytes limit v → v ≡ Accepted → HasTree start bytes limit
 tree_of v (a_text {tree = tree} d) e = record { tree = tree; is = d }
 tree_of v (cut_short n l) e = absurd (cc)
 tree_of v (too_deep n l h b) e = absurd (cc)

@@ -19,6 +19,14 @@ pub record HasTree (index : IndexedValue) : Type 0 where
   pub tree : Tree
   pub is_text : IsText index.text index.place.start index.place.end limit tree
 
+-- the rows and the numbers behind them are those of the text's tree
+pub record HasNodes (text : List ℕ) (place : Span) (table : List Row) (after : List ℕ) : Type 0 where
+  pub limit : ℕ
+  pub tree : Tree
+  pub is_text : IsText text place.start place.end limit tree
+  pub rows_are : table ≡ rows tree
+  pub after_are : after ≡ afters tree
+
 -- the rows, the numbers behind them and the ordered names are those of the text's tree
 pub record IsIndexed (text : List ℕ) (place : Span) (table : List Row) (after starts members : List ℕ) : Type 0 where
   pub limit : ℕ

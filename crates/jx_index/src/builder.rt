@@ -1,10 +1,10 @@
-ghost use Rattle.std.specs.Prelude.{◌≡◌, ◌<◌, ◌-◌, ◌^◌, reverse, slice_set, IfOk, All};
-ghost use Rattle.jx_lex.specs.declared.mark.Mark.{Mark};
-ghost use Rattle.jx_index.specs.Building.{place_in, parent_in, counted, set_end, nothing_built, add_leaf, begin_container, ended, is_name_next, on_mark, is_token, next_end, ends_after, built_of};
+ghost use Rattle.std.specs.Prelude.{◌≡◌, ◌<◌, ◌-◌, ◌^◌, reverse, slice_set, true, IfOk};
+ghost use Rattle.jx_index.specs.Building.{place_in, parent_in, counted, set_end, nothing_built, make, add_leaf, begin_container, ended, is_name_next, on_mark, is_token, next_end, ends_after, built_of};
 ghost use Rattle.jx_index.specs.Built.{built, Fits};
+ghost use Rattle.jx_index.specs.Low.{AllLow};
 
 use crate::row::{NodeId, Row};
-use jx_lex::{Kind, Mark, MarkKind, Span};
+use jx_lex::{Ends, Kind, Mark, MarkKind, Marks, Span};
 use std::alloc::{AllocError, Global};
 
 /// An open container: its row, what it is and how many children it has so far.
@@ -25,13 +25,13 @@ pub struct Builder {
 }
 
 fn count_child(opened: &mut Vec<Opened>)
-    requires { place_in (reverse opened.old.items) < 2 ^ 64 - 1 }
-    ensures { reverse opened.new.items ≡ counted (reverse opened.old.items) }
+    ensures { place_in (reverse opened.old.items) < 2 ^ 64 - 1 → reverse opened.new.items ≡ counted (reverse opened.old.items) }
 {
     let depth = opened.len();
     if depth > 0 {
         let top = &mut opened[depth - 1];
-        top.count += 1;
+        let count = top.count.saturating_add(1);
+        top.count = count;
     }
 }
 
@@ -71,7 +71,7 @@ fn set_after(after: &mut Vec<usize>, number: usize, next: usize)
 }
 
 impl Builder {
-    fn new(alloc: Global) -> Builder
+    pub(crate) fn new(alloc: Global) -> Builder
         ensures { built result ≡ nothing_built }
     {
         Builder {
@@ -84,8 +84,7 @@ impl Builder {
 
     // A value begins: it gets its row.
     fn add_row(&mut self, kind: Kind, span: Span) -> Result<(), AllocError>
-        requires { Fits (built self.old) }
-        ensures { IfOk result (λ _. built self.new ≡ add_leaf kind span (built self.old)) }
+        ensures { IfOk result (λ _. Fits (built self.old) → built self.new ≡ add_leaf kind span (built self.old)) }
     {
         let row = Row {
             kind,
@@ -102,16 +101,14 @@ impl Builder {
     }
 
     fn begin(&mut self, kind: Kind, is_object: bool, at: usize) -> Result<(), AllocError>
-        requires fits { Fits (built self.old) }
-        requires at { at < 2 ^ 64 - 1 }
-        ensures { IfOk result (λ _. built self.new ≡ begin_container kind is_object at (built self.old)) }
+        ensures { IfOk result (λ _. Fits (built self.old) → at < 2 ^ 64 - 1 → built self.new ≡ begin_container kind is_object at (built self.old)) }
     {
         let row = self.rows.len();
         self.add_row(
             kind,
             Span {
                 start: at,
-                end: at + 1,
+                end: at.saturating_add(1),
             },
         )?;
         self.opened.push(Opened {
@@ -140,17 +137,16 @@ impl Builder {
         }
     }
 
-    fn mark(&mut self, kind: MarkKind, at: usize, end: usize) -> Result<(), AllocError>
-        requires fits { Fits (built self.old) }
-        requires at { at < 2 ^ 64 - 1 }
-        ensures { IfOk result (λ _. built self.new ≡ on_mark kind at end (built self.old)) }
+    /// One mark more, and the end that belongs to it where it begins a token. Only want of memory is refused.
+    pub(crate) fn mark(&mut self, kind: MarkKind, at: usize, end: usize) -> Result<(), AllocError>
+        ensures { IfOk result (λ _. Fits (built self.old) → at < 2 ^ 64 - 1 → built self.new ≡ on_mark kind at end (built self.old)) }
     {
         let span = Span { start: at, end };
         match kind {
             MarkKind::OpenArray => self.begin(Kind::Array, false, at),
             MarkKind::OpenObject => self.begin(Kind::Object, true, at),
             MarkKind::CloseArray | MarkKind::CloseObject => {
-                self.end(at + 1);
+                self.end(at.saturating_add(1));
                 Ok(())
             }
             MarkKind::Colon | MarkKind::Comma => Ok(()),
@@ -170,7 +166,7 @@ impl Builder {
     }
 }
 
-fn has_end(kind: MarkKind) -> bool
+pub(crate) fn has_end(kind: MarkKind) -> bool
     ensures { result ≡ is_token kind }
 {
     matches!(
@@ -179,7 +175,7 @@ fn has_end(kind: MarkKind) -> bool
     )
 }
 
-fn first_end(ends: &[usize], last: usize) -> usize
+pub(crate) fn first_end(ends: &[usize], last: usize) -> usize
     ensures { result ≡ next_end last ends.now }
 {
     match ends.first() {
@@ -188,7 +184,7 @@ fn first_end(ends: &[usize], last: usize) -> usize
     }
 }
 
-fn later_ends<'a>(kind: MarkKind, ends: &'a [usize]) -> &'a [usize]
+pub(crate) fn later_ends<'a>(kind: MarkKind, ends: &'a [usize]) -> &'a [usize]
     ensures { result.now ≡ ends_after kind ends.now }
 {
     if has_end(kind) && !ends.is_empty() {
@@ -205,18 +201,16 @@ pub struct Nodes {
     pub after: Vec<usize>,
 }
 
-/// The nodes of a text that ends at `last`, from the marks and the ends of tokens of its reading.
-pub fn nodes_from_marks(
-    alloc: Global,
+/// The nodes of a text that ends at `last`, from what is built so far and the marks and the ends of tokens that are left.
+pub(crate) fn nodes_of(
+    mut builder: Builder,
     marks: &[Mark],
     ends: &[usize],
     last: usize,
 ) -> Result<Nodes, AllocError>
-    requires { All (λ (m : Mark). m.at < 2 ^ 64 - 1) marks.now }
-    ensures rows { IfOk result (λ nodes. nodes.rows.items ≡ (built_of last marks.now ends.now).rows) }
-    ensures after { IfOk result (λ nodes. nodes.after.items ≡ (built_of last marks.now ends.now).after) }
+    ensures rows { IfOk result (λ nodes. AllLow marks.now → Fits (built builder) → nodes.rows.items ≡ (make last marks.now ends.now (built builder)).rows) }
+    ensures after { IfOk result (λ nodes. AllLow marks.now → Fits (built builder) → nodes.after.items ≡ (make last marks.now ends.now (built builder)).after) }
 {
-    let mut builder = Builder::new(alloc);
     let mut left = ends;
     for mark in marks {
         let end = first_end(left, last);
@@ -227,4 +221,55 @@ pub fn nodes_from_marks(
         rows: builder.rows,
         after: builder.after,
     })
+}
+
+/// The end of a mark's token: the next of the ends, or `last` where none is left. A structural byte takes none.
+fn take_end(kind: MarkKind, ends: &mut Ends, last: usize) -> usize
+    ensures left { ends.new ≡ ends_after kind ends.old }
+    ensures end { is_token kind ≡ true → result ≡ next_end last ends.old }
+{
+    if !has_end(kind) {
+        return last;
+    }
+    match ends.next() {
+        Some(end) => end,
+        None => last,
+    }
+}
+
+/// The nodes of a text that ends at `last`, from the marks and the ends of tokens of its reading, which are read where
+/// they lie.
+pub fn nodes_of_track(
+    alloc: Global,
+    mut marks: Marks,
+    mut ends: Ends,
+    last: usize,
+) -> Result<Nodes, AllocError>
+    ensures rows { IfOk result (λ nodes. AllLow marks.entry → nodes.rows.items ≡ (built_of last marks.entry ends.entry).rows) }
+    ensures after { IfOk result (λ nodes. AllLow marks.entry → nodes.after.items ≡ (built_of last marks.entry ends.entry).after) }
+{
+    let mut builder = Builder::new(alloc);
+    while let Some(mark) = marks.next() {
+        let end = take_end(mark.kind, &mut ends, last);
+        builder.mark(mark.kind, mark.at, end)?;
+    }
+    Ok(Nodes {
+        rows: builder.rows,
+        after: builder.after,
+    })
+}
+
+/// The nodes of a text that ends at `last`, from the marks and the ends of tokens of its reading.
+pub fn nodes_from_marks(
+    alloc: Global,
+    marks: &[Mark],
+    ends: &[usize],
+    last: usize,
+) -> Result<Nodes, AllocError>
+    requires { AllLow marks.now }
+    ensures rows { IfOk result (λ nodes. nodes.rows.items ≡ (built_of last marks.now ends.now).rows) }
+    ensures after { IfOk result (λ nodes. nodes.after.items ≡ (built_of last marks.now ends.now).after) }
+{
+    let nodes = nodes_of(Builder::new(alloc), marks, ends, last)?;
+    Ok(nodes)
 }

@@ -1,5 +1,5 @@
 // The look-up of pointers (RFC 6901, section 4).
-ghost use Rattle.std.specs.Prelude.{◌≡◌, ◌<◌, ◌≤◌, ℕ, length, take, drop, slice_get, filter, IfOk};
+ghost use Rattle.std.specs.Prelude.{◌≡◌, ◌<◌, ◌≤◌, ℕ, length, take, drop, filter, IfOk};
 ghost use Rattle.jx_run.specs.Text.{IsText};
 ghost use Rattle.jx_run.specs.Tree.{Tree};
 ghost use Rattle.jx_index.specs.ArrayTokens.{place_in};
@@ -10,7 +10,6 @@ ghost use Rattle.jx_index.specs.RowsLead.{is_equal, row_token};
 ghost use Rattle.jx_index.specs.UnitsLeft.{units_left};
 
 use crate::array_token::{Place, place_of_token};
-use crate::children::Children;
 use crate::find_fault::FindFault;
 use crate::indexed::Indexed;
 use crate::look_up::find_name;
@@ -34,19 +33,6 @@ fn token_len(bytes: &[u8]) -> usize
     bytes.len()
 }
 
-fn child_at(mut children: Children, at: usize) -> Option<NodeId>
-    ensures { result ≡ slice_get children.entry at }
-{
-    let mut left = at;
-    while let Some(child) = children.next() {
-        if left == 0 {
-            return Some(child);
-        }
-        left -= 1;
-    }
-    None
-}
-
 impl<'a> Indexed<'a> {
     fn member(&self, object: NodeId, units: Units, token: usize) -> Result<NodeId, FindFault>
         requires { IsObjectAt self.now.rows object }
@@ -59,9 +45,7 @@ impl<'a> Indexed<'a> {
         ensures { result ≡ at_place (place_in (units_left units.entry) (length (child_numbers self.now.rows array))) (child_numbers self.now.rows array) token }
     {
         match place_of_token(units, self.rows().len()) {
-            Place::Element(at) => {
-                child_at(self.children(array), at).ok_or(FindFault::PastEnd { token })
-            }
+            Place::Element(at) => { self.child(array, at).ok_or(FindFault::PastEnd { token }) }
             Place::PastEnd => Err(FindFault::PastEnd { token }),
             Place::AfterLast => Err(FindFault::AfterLast { token }),
             Place::NotAnIndex => Err(FindFault::NotAnIndex { token }),

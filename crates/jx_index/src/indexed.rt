@@ -1,20 +1,23 @@
-ghost use Rattle.std.specs.Prelude.{◌≡◌, ◌<◌, ◌≤◌, ℕ, length, slice_get, slice_range, Some, IfOk};
+ghost use Rattle.std.specs.Prelude.{◌≡◌, ◌<◌, ◌≤◌, ℕ, length, slice_get, slice_range, Some, IfOk, IfErr};
 ghost use Rattle.std.specs.List.Sorted.{IsPermutation, IsSortedBy, IsStableBy};
-ghost use Rattle.jx_run.specs.declared.verdict.Verdict.TheVariants.{Accepted};
+ghost use Rattle.jx_run.specs.declared.verdict.Verdict.TheVariants.{Accepted, Refused};
 ghost use Rattle.jx_run.specs.Started.{IsStarted};
 ghost use Rattle.jx_run.specs.Text.{IsText};
+ghost use Rattle.jx_run.specs.TextRun.{IsTextRun, place_of};
 ghost use Rattle.jx_run.specs.Tree.{Tree};
-ghost use Rattle.jx_index.specs.Indexed.{HasTree};
+ghost use Rattle.jx_run.specs.Verdict.{Judged};
+ghost use Rattle.jx_index.specs.Indexed.{HasNodes, HasTree};
 ghost use Rattle.jx_index.specs.Names.{is_below};
 ghost use Rattle.jx_index.specs.Nodes.{IsObjectAt, child_numbers};
 ghost use Rattle.jx_index.specs.Rows.{rows as rows_of};
 
-use crate::builder::{Nodes, nodes_from_marks};
+use crate::builder::{Nodes, nodes_from_marks, nodes_of_track};
 use crate::children::{Children, children_in};
 use crate::names::{Names, part_of};
 use crate::row::{NodeId, Row};
-use jx_lex::Span;
-use jx_run::Started;
+use crate::row_keeper::RowKeeper;
+use jx_lex::{Depth, Span};
+use jx_run::{Pace, Refusal, Started, Summary, TextRun, Verdict, read_into};
 use std::alloc::{AllocError, Global};
 use std::marker::Model;
 
@@ -56,6 +59,78 @@ impl<'a> Indexed<'a> {
     {
         let span = started.span();
         let nodes = nodes_from_marks(alloc, started.marks(), started.ends(), span.end)?;
+        let index = Indexed::of_nodes(alloc, text, span, nodes)?;
+        Ok(index)
+    }
+
+    /// Reads the bytes of a span as a whole text (RFC 8259, section 2) and indexes it where it is accepted, in one pass over
+    /// the bytes that keeps nothing but the rows; else the refusal. It pauses where the pace says, which changes nothing of
+    /// that. `Err` where memory is refused.
+    pub fn read<P: Pace>(
+        alloc: Global,
+        text: &'a [u8],
+        span: Span,
+        depth: Depth,
+        pace: &mut P,
+    ) -> Result<Result<Indexed<'a>, Refusal>, AllocError>
+        requires ordered { span.start ≤ span.end }
+        requires within { span.end ≤ length text.now }
+        ensures accepted { IfOk result (λ read. IfOk read (λ _. Judged span.start (slice_range text.now span.start span.end) depth Accepted)) }
+        ensures refused { IfOk result (λ read. IfErr read (λ refusal. Judged span.start (slice_range text.now span.start span.end) depth (Refused refusal))) }
+        ensures text { IfOk result (λ read. IfOk read (λ index. index.text ≡ text.now)) }
+        ensures place { IfOk result (λ read. IfOk read (λ index. index.place ≡ span)) }
+        ensures rows { IfOk result (λ read. IfOk read (λ index. (limit : ℕ) (tree : Tree)
+            → IsText text.now span.start span.end limit tree → index.rows ≡ rows_of tree)) }
+    {
+        let told = read_into(
+            alloc,
+            text,
+            span.start,
+            span.end,
+            depth,
+            RowKeeper::new(alloc),
+            pace,
+        )?;
+        match told.verdict {
+            Verdict::Refused(refusal) => Ok(Err(refusal)),
+            Verdict::Accepted => {
+                let nodes = told.keeper.into_nodes(span.end)?;
+                let index = Indexed::of_nodes(alloc, text, span, nodes)?;
+                Ok(Ok(index))
+            }
+        }
+    }
+
+    /// The index of an accepted text by a run over it, whose marks and ends are read where they lie. `Err` where memory is
+    /// refused.
+    pub fn of_run(alloc: Global, text: &'a [u8], run: &TextRun) -> Result<Indexed<'a>, AllocError>
+        requires ordered { run.now.map.start ≤ run.now.map.end }
+        requires within { run.now.map.end ≤ length text.now }
+        requires of { IsTextRun (slice_range text.now run.now.map.start run.now.map.end) run.now }
+        requires accepted { Judged run.now.map.start (slice_range text.now run.now.map.start run.now.map.end) run.now.limit Accepted }
+        ensures text { IfOk result (λ index. index.text ≡ text.now) }
+        ensures place { IfOk result (λ index. index.place ≡ place_of run.now) }
+        ensures rows { IfOk result (λ index. (limit : ℕ) (tree : Tree)
+            → IsText text.now run.now.map.start run.now.map.end limit tree → index.rows ≡ rows_of tree) }
+    {
+        let span = run.span();
+        let nodes = nodes_of_track(alloc, run.marks(), run.ends(), span.end)?;
+        let index = Indexed::of_nodes(alloc, text, span, nodes)?;
+        Ok(index)
+    }
+
+    /// The index of a text by its nodes.
+    fn of_nodes(
+        alloc: Global,
+        text: &'a [u8],
+        span: Span,
+        nodes: Nodes,
+    ) -> Result<Indexed<'a>, AllocError>
+        requires { HasNodes text.now span nodes.rows.items nodes.after.items }
+        ensures text { IfOk result (λ index. index.text ≡ text.now) }
+        ensures place { IfOk result (λ index. index.place ≡ span) }
+        ensures rows { IfOk result (λ index. index.rows ≡ nodes.rows.items) }
+    {
         let names = Names::of(alloc, text, &nodes.rows, &nodes.after)?;
         Ok(Indexed {
             text,

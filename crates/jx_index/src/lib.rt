@@ -4,6 +4,7 @@
 mod array_token;
 mod builder;
 mod children;
+mod element;
 mod find;
 mod find_fault;
 mod indexed;
@@ -11,7 +12,9 @@ mod laws;
 mod look_up;
 mod names;
 mod pointer;
+mod repeats;
 mod row;
+mod row_keeper;
 mod units;
 
 pub use children::Children;
@@ -21,6 +24,9 @@ pub use laws::{look_ups_end_at_rows, readings_are_forms};
 pub use pointer::{Pointer, PointerFault};
 pub use row::{NodeId, Row};
 
+#[cfg(test)]
+mod pass_tests;
+mod repeat_tests;
 #[cfg(test)]
 mod tests;
 #[cfg(test)]

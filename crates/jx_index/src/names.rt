@@ -128,7 +128,7 @@ fn compare_rests(left: &[u8], right: &[u8]) -> Ordering
     }
 }
 
-fn compare_members(text: &[u8], rows: &[Row], first: NodeId, second: NodeId) -> Ordering
+pub(crate) fn compare_members(text: &[u8], rows: &[Row], first: NodeId, second: NodeId) -> Ordering
     ensures { result ≡ slice_cmp nat_cmp (name_units text.now rows.now first) (name_units text.now rows.now second) }
 {
     let left = name_bytes(text, rows, first);
@@ -166,7 +166,7 @@ fn collect_children(
     Ok(())
 }
 
-fn is_object(rows: &[Row], node: usize) -> bool
+pub(crate) fn is_object(rows: &[Row], node: usize) -> bool
     requires { node < length rows.now }
     ensures { IsTrue result ↔ IsObjectAt rows.now node }
 {

@@ -1,23 +1,17 @@
--- Going on over the rest of a token: bytes with no event, and the quotation mark that ends a string.
-use Rattle.std.proofs.Common.{◌≡◌, ℕ, suc, ◌+◌, ◌≤◌, ◌<◌, List, [], ◌∷◌, ◌++◌, length, get_or, refl, ap, sym, subst, ◌∙◌, arith, append-nil}
+-- Going on over the rest of a token: bytes with no event.
+use Rattle.std.proofs.Common.{◌≡◌, ℕ, ◌+◌, ◌≤◌, ◌<◌, List, [], ◌∷◌, ◌++◌, length, get_or, refl, ap, sym, subst, ◌∙◌, arith}
 use Rattle.std.specs.Prelude.{slice_range}
 use Rattle.jx_lex.specs.declared.class.Class.TheVariants as class
 use Rattle.jx_lex.specs.declared.state.LexState.{LexState}
 use Rattle.jx_lex.specs.declared.state.LexState.TheVariants as state
-use Rattle.jx_lex.specs.declared.mark.Mark.{Mark}
-use Rattle.jx_lex.specs.declared.link.Link.TheVariants.{State}
 use Rattle.jx_lex.specs.Character.{IsWithin}
 use Rattle.jx_lex.specs.Classes.{class_at}
-use Rattle.jx_lex.specs.Follow.{Part}
 use Rattle.jx_lex.specs.Moves.{move, row, go}
-use Rattle.jx_lex.specs.Passing.{read_bytes}
 use Rattle.jx_lex.specs.Runs.{AllKeep, Leads}
-use Rattle.jx_lex.specs.Step.{read_part}
 use Rattle.jx_lex.specs.Token.{IsE}
 use Rattle.jx_lex.proofs.Forward.{move-range, move-digit, move-e}
-use Rattle.jx_lex.proofs.Passing.{led-over}
 use Rattle.jx_lex.proofs.Running.{AllKeep-leads, Leads-append}
-use Rattle.jx_lex.proofs.Slices.{slice-none, slice-more, slice-split, slice-length}
+use Rattle.jx_lex.proofs.Slices.{slice-none, slice-more, slice-split}
 
 -- ---- one byte after another
 
@@ -95,32 +89,3 @@ pub exponent_begun : (xs : List ℕ) (a : ℕ) (s t : LexState) → a < length x
 exponent_begun xs a s t low e z d from to =
     let digit : IsWithin 0x30 0x39 (get_or xs a 0) = record { from = from; to = to } in
     leads-from s t state.Exp _ e (leads-one xs a t state.Exp low (move-digit t state.Exp z d digit))
-
--- ---- what a segment takes in
-
--- bytes with no event
-pub led-part : (at : ℕ) (w : List ℕ) (s t : LexState) (ms : List Mark) (es : List ℕ) → Leads s w t
-    → record { marks = ms; ends = es; next = State t } ≡ read_bytes at w (record { marks = ms; ends = es; next = State s })
-led-part at w s t ms es h =
-    let p : Part = record { marks = ms; ends = es; next = State s } in
-    sym (ap (λ v. read_bytes at v p) (sym (append-nil w)) ∙ led-over at w [] s t p refl h)
-
-closes : (at : ℕ) (ms : List Mark) (es : List ℕ)
-    → record { marks = ms; ends = es ++ suc at ∷ []; next = State state.Gap } ≡ read_part at 0x22 (record { marks = ms; ends = es; next = State state.Str })
-unfolding class_at
-closes at ms es = ap (λ (xs : List Mark). record { marks = xs; ends = es ++ suc at ∷ []; next = State state.Gap }) (sym (append-nil ms))
-
--- the rest of a string and the quotation mark that ends it
-pub closed-string : (xs : List ℕ) (a e : ℕ) (ms : List Mark) (es : List ℕ) → a ≤ e → e < length xs → get_or xs e 0 ≡ 0x22 → Leads state.Str (slice_range xs a e) state.Str
-    → record { marks = ms; ends = es ++ (e + 1) ∷ []; next = State state.Gap } ≡ read_bytes a (slice_range xs a (e + 1)) (record { marks = ms; ends = es; next = State state.Str })
-closed-string xs a e ms es low high quote led =
-    let p : Part = record { marks = ms; ends = es; next = State state.Str } in
-    let n : a + length (slice_range xs a e) ≡ e = let l = slice-length xs a e low (omega arith) in omega (arith, l) in
-    let m : e + 1 ≡ suc e = omega arith in
-    sym (
-    ap (λ w. read_bytes a w p) (slice-more xs a e 0 low high)
-    ∙ led-over a (slice_range xs a e) (get_or xs e 0 ∷ []) state.Str state.Str p refl led
-    ∙ ap (λ i. read_bytes i (get_or xs e 0 ∷ []) p) n
-    ∙ ap (λ b. read_part e b p) quote
-    ∙ sym (closes e ms es)
-    ∙ ap (λ i. record { marks = ms; ends = es ++ i ∷ []; next = State state.Gap }) (sym m))

@@ -10,7 +10,7 @@ use Rattle.jx_lex.specs.Lex.{Track, Exit, lex, with_mark, with_end, on_next, aft
 use Rattle.jx_lex.specs.Lex as reading
 use Rattle.jx_lex.specs.Moves.{move, as_gap}
 use Rattle.jx_lex.specs.Runs.{Leads}
-use Rattle.jx_lex.specs.Seen.{Seen, Grows, SeesTrack, GoesTo, EndsAtComma}
+use Rattle.jx_lex.specs.Seen.{Seen, Grows, SeesTrack, GoesTo, EndsAtComma, Shuts}
 use Rattle.jx_lex.specs.declared.mark.MarkKind.TheVariants.{Colon, Comma}
 use Rattle.jx_lex.specs.declared.state.TokenEnd.TheVariants.{Before}
 use Rattle.jx_lex.proofs.LexJoin.{right_of, lex-append}
@@ -125,6 +125,18 @@ goes-closed xs a e old new low high quote led h =
     (goes-byte xs e state.Str state.Gap old new high
     (subst (λ (b : ℕ). Grows old new (with_mark ((move state.Str b).begin) e []) (with_end ((move state.Str b).end) e [])) (sym quote) k)
     (ap (λ (b : ℕ). (move state.Str b).next) quote))
+
+-- the rest of a token, which ends with it
+pub goes-shut : (xs : List ℕ) (a e : ℕ) (s : LexState) (old new : Seen) → a ≤ e → e ≤ length xs → Shuts s (slice_range xs a e)
+    → ((marks : List Mark) (ends : List ℕ) → old marks ends → new marks (ends ++ e ∷ [])) → GoesTo old new (lex s a (slice_range xs a e)) state.Gap
+goes-shut xs a e s old new low high shut h =
+    let w = slice_range xs a e in
+    let n : e ≡ a + length w = slice-length xs a e low high in
+    goes-same old new _ (record { marks = []; ends = (a + length w) ∷ []; exit = reading.state state.Gap }) state.Gap (shut a)
+    (record {
+      seen = λ marks ends k. subst (λ (ms : List Mark). new ms (ends ++ (a + length w) ∷ [])) (sym (append-nil marks)) (subst (λ (x : ℕ). new marks (ends ++ x ∷ [])) n (h marks ends k));
+      exit = refl;
+    })
 
 -- a name's colon
 pub goes-colon : (xs : List ℕ) (i : ℕ) (old new : Seen) → i < length xs → get_or xs i 0 ≡ 0x3a → Grows old new (record { kind = Colon; at = i } ∷ []) []

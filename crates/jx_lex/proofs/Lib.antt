@@ -15,6 +15,7 @@ pub mod Joined
 pub mod Keeping
 pub mod Lanes
 pub mod LexJoin
+pub mod Literals
 pub mod Many
 pub mod Meeting
 pub mod Passing
@@ -26,7 +27,6 @@ pub mod Running
 pub mod Slices
 pub mod Spans
 pub mod Stays
-pub mod Stretches
 pub mod StringParts
 pub mod Unescaped
 pub mod Walking

@@ -64,3 +64,12 @@ pub kept-leads : (g : Link) (u : List ℕ) → KeptBy g u → LedBy g u
 kept-leads (State s) u h = AllKeep-leads s u h
 kept-leads (Ahead k) u h = tt
 kept-leads (Fault k) u h = tt
+
+-- what leads out is changed by no byte
+pub closed-span : (at : ℕ) (w : List ℕ) (p : Part) → ((s : LexState) → p.next ≡ State s → ⊥) → p ≡ read_bytes at w p
+closed-span at w p h = sym (ap (λ v. read_bytes at v p) (sym (append-nil w)) ∙ pass-over at w [] p p.next refl (go p.next h))
+  where
+    go : (g : Link) → ((s : LexState) → g ≡ State s → ⊥) → LedBy g w
+    go (State s) h = absurd (h s refl)
+    go (Ahead k) h = tt
+    go (Fault at) h = tt

@@ -17,7 +17,7 @@ use Rattle.jx_lex.specs.Passing.{read_bytes}
 use Rattle.jx_lex.specs.Seen.{WantsNoMore, TokenLists}
 use Rattle.jx_lex.specs.Bundle.{ReadsOn, is_apart}
 use Rattle.jx_lex.proofs.ReadingOn.{reads-none, reads-then, reads-apart, reads-two, kept-one}
-use Rattle.jx_lex.proofs.Stretches.{closed-span}
+use Rattle.jx_lex.proofs.Passing.{closed-span}
 
 with_mark-first : (m : Option MarkKind) (at : ℕ) (ms : List Mark) → with_mark m at [] ++ ms ≡ with_mark m at ms
 with_mark-first None at ms = refl

@@ -1,9 +1,9 @@
 -- What a tested stretch of a text says.
-use Rattle.std.specs.Prelude.{◌≡◌, ℕ, ◌≤◌, true, List, length, slice_range, IsUtf8}
+use Rattle.std.specs.Prelude.{ℕ, ◌≤◌, ◌<◌, List, length, slice_range, IsUtf8}
 use Rattle.jx_lex.specs.declared.ahead.Ahead.{Ahead}
 
--- the stretch lies in the text, and is well-formed UTF-8 if it says so
+-- the stretch lies in the text, and is well-formed UTF-8
 pub record IsSound (text : List ℕ) (ahead : Ahead) : Type 0 where
   pub order : ahead.from ≤ ahead.to
   pub within : ahead.to ≤ length text
-  pub utf8 : ahead.is_utf8 ≡ true → IsUtf8 (slice_range text ahead.from ahead.to)
+  pub utf8 : ahead.from < ahead.to → IsUtf8 (slice_range text ahead.from ahead.to)

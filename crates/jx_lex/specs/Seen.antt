@@ -1,12 +1,12 @@
 -- What a keeper of tokens has seen, and how it grows.
-use Rattle.std.specs.Prelude.{◌≡◌, ℕ, List, ◌++◌, Some}
+use Rattle.std.specs.Prelude.{◌≡◌, ℕ, ◌+◌, List, [], ◌∷◌, ◌++◌, length, Some}
 use Rattle.jx_lex.specs.declared.state.LexState.{LexState}
 use Rattle.jx_lex.specs.declared.mark.Mark.{Mark}
 use Rattle.jx_lex.specs.declared.mark.MarkKind.TheVariants.{Comma}
 use Rattle.jx_lex.specs.declared.state.LexState.TheVariants as state
 use Rattle.jx_lex.specs.declared.state.TokenEnd.TheVariants.{Before}
 use Rattle.jx_lex.specs.Lex as reading
-use Rattle.jx_lex.specs.Lex.{Track}
+use Rattle.jx_lex.specs.Lex.{Track, lex}
 use Rattle.jx_lex.specs.Moves.{move}
 
 -- which marks and ends a keeper may have seen
@@ -42,3 +42,7 @@ with_tokens tokens track = record { marks = tokens.marks ++ track.marks; ends = 
 -- a number ends before a comma, which then stands between tokens
 abbrev pub EndsAtComma : LexState → Type 0
 EndsAtComma s = move s 0x2c ≡ record { end = Some Before; begin = Some Comma; next = Some state.Gap }
+
+-- these bytes are the rest of a token, which ends with them
+abbrev pub Shuts : LexState → List ℕ → Type 0
+Shuts s bytes = (at : ℕ) → lex s at bytes ≡ record { marks = []; ends = (at + length bytes) ∷ []; exit = reading.state state.Gap }

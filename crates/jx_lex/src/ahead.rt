@@ -8,13 +8,17 @@ pub(crate) const LEAST: usize = 32;
 // A stretch is at most so long.
 const MOST: usize = 4096;
 
-/// A stretch of a text, and whether it is well-formed UTF-8 (RFC 3629, section 4). Where it is, a reader of strings need
-/// not look at its characters one by one.
+/// A stretch of a text that is well-formed UTF-8 (RFC 3629, section 4): a reader of strings need not look at its
+/// characters one by one.
+///
+/// It is carried along from token to token, so that each field fills a word: a smaller one would be copied with the bytes
+/// beside it, through memory.
 #[derive(Clone, Copy)]
 pub(crate) struct Ahead {
     pub(crate) from: usize,
     pub(crate) to: usize,
-    pub(crate) is_utf8: bool,
+    // The end of what was tested. Where that isn't well-formed, the stretch is empty.
+    tested: usize,
     // How many bytes were read one character after another, or the length of this stretch. The next one is four times as
     // long, so that a short string costs no long stretch.
     pub(crate) next: usize,
@@ -29,7 +33,7 @@ impl Ahead {
         Ahead {
             from: 0,
             to: 0,
-            is_utf8: false,
+            tested: 0,
             next: 0,
         }
     }
@@ -58,12 +62,26 @@ impl Ahead {
         };
         let most = if to - from < long { to } else { from + long };
         let end = whole_end(text, from, most);
+        if simdutf8::is_utf8(&text[from..end]) {
+            return Ahead {
+                from,
+                to: end,
+                tested: end,
+                next: long,
+            };
+        }
         Ahead {
             from,
-            to: end,
-            is_utf8: simdutf8::is_utf8(&text[from..end]),
+            to: from,
+            tested: end,
             next: long,
         }
+    }
+
+    // Whether the byte at this place was tested, and nothing past `to`.
+    #[inline(always)]
+    fn was_tested(self, at: usize, to: usize) -> bool {
+        self.from <= at && at < self.tested && self.tested <= to
     }
 
     /// The stretch with the byte at this place, or the one that begins there where it pays to test it, or what it was.
@@ -73,7 +91,7 @@ impl Ahead {
         requires sound { IsSound text.now self }
         ensures sound { IsSound text.now result }
     {
-        if self.next >= LEAST && !self.covers(at, to) {
+        if self.next >= LEAST && !self.was_tested(at, to) {
             self.after(text, at, to)
         } else {
             self

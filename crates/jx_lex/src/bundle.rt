@@ -9,7 +9,6 @@ ghost use Rattle.jx_lex.specs.Bundle.{Reads, Stands, ReadsOn, joined_bundle, liv
 use crate::last_tracks::read_lanes;
 use crate::link::{Link, link_heads, same_heads};
 use crate::machine::step;
-use crate::ordinal::{all, ordinal};
 use crate::segment::{Segment, append_linked};
 use crate::state::LexState;
 use std::alloc::{AllocError, Global};
@@ -35,7 +34,7 @@ impl Model for Bundle {
 fn is_live(live: &[bool; 32], state: LexState) -> bool
     ensures { result ≡ is_live live.now state }
 {
-    live[ordinal(state)]
+    live[state.number()]
 }
 
 /// How many states are live.
@@ -43,7 +42,7 @@ pub(crate) fn count_live(live: &[bool; 32]) -> usize
     ensures { result ≡ live_count live.now }
 {
     let mut count = 0;
-    for state in all() {
+    for state in LexState::all() {
         if is_live(live, state) {
             count += 1;
         }
@@ -78,7 +77,7 @@ impl Bundle {
     fn add_segment(&mut self, state: LexState, segment: Segment) -> Result<(), AllocError>
         ensures { OnOk result (self.new ≡ with_segment state segment self.old.live self.old) }
     {
-        self.heads[ordinal(state)] = Link::Ahead(self.segments.len());
+        self.heads[state.number()] = Link::Ahead(self.segments.len());
         self.segments.push(segment)?;
         Ok(())
     }
@@ -90,10 +89,10 @@ impl Bundle {
     {
         let step = step(state, byte);
         if let Some(next) = step.next {
-            self.live[ordinal(next)] = true;
+            self.live[next.number()] = true;
         }
         if step.end.is_none() && step.begin.is_none() {
-            self.heads[ordinal(state)] = Link::after(step.next, at);
+            self.heads[state.number()] = Link::after(step.next, at);
             return Ok(());
         }
         let mut segment = Segment::new(*self.segments.allocator(), Link::State(state));
@@ -129,7 +128,7 @@ impl Bundle {
         ensures stands { IfOk result (λ b. Stands (byte ∷ []) live.now b) }
     {
         let mut bundle = Bundle::empty(alloc, [false; 32]);
-        for state in all() {
+        for state in LexState::all() {
             bundle.add_live_byte(live, state, at, byte)?;
         }
         Ok(bundle)
@@ -153,7 +152,7 @@ impl Bundle {
         ensures count { IfOk result (λ b. length b.parts ≡ live_count live.now) }
     {
         let mut bundle = Bundle::empty(alloc, *live);
-        for state in all() {
+        for state in LexState::all() {
             bundle.open_live(live, state)?;
         }
         Ok(bundle)

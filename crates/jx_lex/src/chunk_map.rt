@@ -9,7 +9,6 @@ use crate::bundle::{Bundle, count_live};
 use crate::join_fault::JoinFault;
 use crate::link::{Link, link_heads};
 use crate::many_tracks::read_some;
-use crate::ordinal::ordinal;
 use crate::reach::{append_reached, exits, reached_from};
 use crate::segment::Segment;
 use crate::span::Span;
@@ -20,6 +19,9 @@ use std::marker::Model;
 
 /// So many bytes are read one by one from all states. Mostly two tracks are left by then.
 const MANY_BYTES: usize = 16;
+
+/// So many bytes at least has a beginning. Tracks that meet have mostly met by then.
+const BEGINNING: usize = 64;
 
 /// What reading a part of a text gives from each of the 32 lexical states, with no knowledge of what stands to its left:
 /// marks, ends and an exit for each. Tracks that come to stand in one state before one byte go on as one.
@@ -80,7 +82,7 @@ impl ChunkMap {
     {
         TrackView {
             segments: &self.segments,
-            first: self.heads[ordinal(state)],
+            first: self.heads[state.number()],
         }
     }
 
@@ -93,6 +95,47 @@ impl ChunkMap {
         ensures stored { IfOk result (λ m. stored m.parts ≤ shared_count (slice_range text.now start end)) }
         ensures placed { IfOk result (λ m. ArePlaced start end m.parts) }
     {
+        ChunkMap::up_to(alloc, text, start, end, end)
+    }
+
+    /// The map of a beginning of this part of the text, so long that its tracks mostly stand in two states behind it.
+    /// Whatever keeps what the rest of the part comes to can then be read with `scan` from these states alone.
+    pub fn of_beginning(
+        alloc: Global,
+        text: &[u8],
+        start: usize,
+        end: usize,
+    ) -> Result<ChunkMap, AllocError>
+        requires { (start ≤ end) × (end ≤ length text.now) }
+        ensures start { IfOk result (λ m. m.start ≡ start) }
+        ensures end { IfOk result (λ m. (start ≤ m.end) × (m.end ≤ end)) }
+        ensures of { IfOk result (λ m. IsOf (slice_range text.now start m.end) m) }
+        ensures stored { IfOk result (λ m. stored m.parts ≤ shared_count (slice_range text.now start m.end)) }
+        ensures placed { IfOk result (λ m. ArePlaced start m.end m.parts) }
+    {
+        let least = if end - start < BEGINNING {
+            end
+        } else {
+            start + BEGINNING
+        };
+        ChunkMap::up_to(alloc, text, start, least, end)
+    }
+
+    /// The map of a beginning that ends at an offset, or where no more than two states are live behind it.
+    fn up_to(
+        alloc: Global,
+        text: &[u8],
+        start: usize,
+        least: usize,
+        end: usize,
+    ) -> Result<ChunkMap, AllocError>
+        requires { (start ≤ least) × (least ≤ end) × (end ≤ length text.now) }
+        ensures start { IfOk result (λ m. m.start ≡ start) }
+        ensures end { IfOk result (λ m. (least ≤ m.end) × (m.end ≤ end)) }
+        ensures of { IfOk result (λ m. IsOf (slice_range text.now start m.end) m) }
+        ensures stored { IfOk result (λ m. stored m.parts ≤ shared_count (slice_range text.now start m.end)) }
+        ensures placed { IfOk result (λ m. ArePlaced start m.end m.parts) }
+    {
         let mut bundle = Bundle::unread(alloc);
         let mut at = start;
         while at < end && count_live(&bundle.live) > 2 {
@@ -101,7 +144,8 @@ impl ChunkMap {
             bundle.join(next)?;
             at = after;
         }
-        let rest = Bundle::open(alloc, &bundle.live)?.read_on(text, at, end)?;
+        let to = at.max(least);
+        let rest = Bundle::open(alloc, &bundle.live)?.read_on(text, at, to)?;
         bundle.join(rest)?;
         let Bundle {
             heads,
@@ -110,7 +154,7 @@ impl ChunkMap {
         } = bundle;
         Ok(ChunkMap {
             start,
-            end,
+            end: to,
             heads,
             segments,
             closed: 0,

@@ -4,7 +4,6 @@ ghost use Rattle.jx_lex.specs.declared.link.Link.TheVariants.{State};
 ghost use Rattle.jx_lex.specs.Bundle.{ReadsOn, is_apart};
 
 use crate::link::Link;
-use crate::ordinal::ordinal;
 use crate::passes::plain_end;
 use crate::segment::Segment;
 use crate::state::LexState;
@@ -21,7 +20,7 @@ fn are_apart(first: Link, second: Link) -> bool
     ensures { result ≡ is_apart first second }
 {
     match (first, second) {
-        (Link::State(one), Link::State(other)) => ordinal(one) != ordinal(other),
+        (Link::State(one), Link::State(other)) => one.number() != other.number(),
         _ => false,
     }
 }
@@ -79,7 +78,7 @@ fn may_lead_alike(first: Link, second: Link) -> bool
     ensures { result ≡ false → first ≡ second → ⊥ }
 {
     match (first, second) {
-        (Link::State(one), Link::State(other)) => ordinal(one) == ordinal(other),
+        (Link::State(one), Link::State(other)) => one.number() == other.number(),
         (Link::State(_), Link::Fault(_)) => false,
         (Link::Fault(_), Link::State(_)) => false,
         _ => true,

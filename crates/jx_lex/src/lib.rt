@@ -22,7 +22,6 @@ mod machine;
 mod many_tracks;
 mod mark;
 mod marks;
-mod ordinal;
 mod parts;
 mod passes;
 mod path;

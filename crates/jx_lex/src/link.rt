@@ -8,7 +8,6 @@ ghost use Rattle.jx_lex.specs.declared.link.Link.TheVariants.{State};
 ghost use Rattle.jx_lex.specs.declared.state.LexState.{LexState};
 
 use crate::exit::Exit;
-use crate::ordinal::ordinal;
 use crate::state::LexState;
 
 /// What follows a segment: the segment behind the next so many ones, or an exit.
@@ -58,7 +57,7 @@ impl Link {
         ensures { result ≡ linked heads.now by self }
     {
         match self {
-            Link::State(state) => heads[ordinal(state)].shifted(by, count),
+            Link::State(state) => heads[state.number()].shifted(by, count),
             other => other,
         }
     }

@@ -9,7 +9,6 @@ ghost use Rattle.jx_lex.specs.Step.{read_part, held_by};
 
 use crate::bundle::Bundle;
 use crate::link::Link;
-use crate::ordinal::ordinal;
 use crate::passes::digit_end;
 use crate::segment::Segment;
 use crate::state::LexState;
@@ -22,7 +21,7 @@ fn live_of(segments: &[Segment]) -> [bool; 32]
     let mut live = [false; 32];
     for i in 0..segments.len() {
         if let Link::State(state) = segments[i].next() {
-            live[ordinal(state)] = true;
+            live[state.number()] = true;
         }
     }
     live
@@ -36,10 +35,10 @@ fn are_many_apart(segments: &[Segment]) -> bool
     let mut standing = 0usize;
     for i in 0..segments.len() {
         if let Link::State(state) = segments[i].next() {
-            if seen[ordinal(state)] {
+            if seen[state.number()] {
                 return false;
             }
-            seen[ordinal(state)] = true;
+            seen[state.number()] = true;
             standing += 1;
         }
     }

@@ -197,7 +197,7 @@ fn characters_end(text: &[u8], from: usize, to: usize, ahead: Ahead) -> (usize, 
     ensures sound { IsSound text.now result.1 }
 {
     let ahead = ahead.at(text, from, to);
-    if ahead.is_utf8 && ahead.covers(from, to) && is_lead(text[from]) {
+    if ahead.covers(from, to) && is_lead(text[from]) {
         return (unescaped_end(text, from, ahead.to), ahead);
     }
     let most = if to - from < LEAST { to } else { from + LEAST };
@@ -260,26 +260,18 @@ fn ascii_string_end(text: &[u8], from: usize, to: usize) -> usize
 /// The end of a run of whole characters and escapes of a string from `from` on, or `to`: a quotation mark, a fault, or
 /// the first byte of a part that isn't whole before `to`. What was learnt of the UTF-8 ahead serves the strings that follow.
 #[inline(always)]
-pub(crate) fn string_end_ahead(text: &[u8], from: usize, to: usize, ahead: Ahead) -> (usize, Ahead)
+pub(crate) fn string_end_ahead(text: &[u8], from: usize, to: usize, ahead: &mut Ahead) -> usize
     requires bounds { (from ≤ to) × (to ≤ length text.now) }
-    requires sound { IsSound text.now ahead }
-    ensures bounds { (from ≤ result.0) × (result.0 ≤ to) }
-    ensures led { Leads state.Str (slice_range text.now from result.0) state.Str }
-    ensures sound { IsSound text.now result.1 }
+    requires sound { IsSound text.now ahead.old }
+    ensures bounds { (from ≤ result) × (result ≤ to) }
+    ensures led { Leads state.Str (slice_range text.now from result) state.Str }
+    ensures sound { IsSound text.now ahead.new }
 {
     let end = ascii_string_end(text, from, to);
     if end < to && text[end] > 0x7f {
-        return parts_end(text, end, to, ahead);
+        let (last, known) = parts_end(text, end, to, *ahead);
+        *ahead = known;
+        return last;
     }
-    (end, ahead)
-}
-
-/// `string_end_ahead`, where nothing is known of the UTF-8 ahead.
-#[inline(always)]
-pub(crate) fn string_end(text: &[u8], from: usize, to: usize) -> usize
-    requires { (from ≤ to) × (to ≤ length text.now) }
-    ensures bounds { (from ≤ result) × (result ≤ to) }
-    ensures led { Leads state.Str (slice_range text.now from result) state.Str }
-{
-    string_end_ahead(text, from, to, Ahead::nothing()).0
+    end
 }

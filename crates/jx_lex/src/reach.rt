@@ -7,7 +7,6 @@ ghost use Rattle.jx_lex.specs.Follow.{AreIn, IsIn, head, linked_parts};
 ghost use Rattle.jx_lex.specs.Pruned.{IsReached, pruned, with_exit_of};
 
 use crate::link::Link;
-use crate::ordinal::ordinal;
 use crate::segment::{Segment, link_segments};
 use std::alloc::{AllocError, Global};
 
@@ -16,7 +15,7 @@ fn note(live: &mut [bool; 32], link: Link)
     ensures { live.new ≡ with_exit_of link live.old }
 {
     if let Link::State(state) = link {
-        live[ordinal(state)] = true;
+        live[state.number()] = true;
     }
 }
 

@@ -2,6 +2,7 @@
 ghost use Rattle.std.specs.Prelude.{◌≡◌, ◌≤◌, ◌<◌, ◌+◌, ◌↔◌, ◌||◌, ◌==◌, IsTrue, slice_range, length};
 ghost use Rattle.jx_lex.specs.declared.state.LexState.TheVariants as state;
 ghost use Rattle.jx_lex.specs.Runs.{AllKeep, Leads};
+ghost use Rattle.jx_lex.specs.Seen.{Shuts};
 ghost use Rattle.jx_lex.specs.Token.{IsE};
 
 use crate::passes::{blank_end, digit_end};
@@ -23,19 +24,25 @@ pub(crate) fn gap_end(text: &[u8], byte: u8, from: usize, to: usize) -> usize
 
 // After a minus sign, its first digit.
 #[inline(always)]
-fn first_digit(text: &[u8], state: LexState, from: usize, to: usize) -> (LexState, usize)
+fn first_digit(text: &[u8], state: &mut LexState, from: usize, to: usize) -> usize
     requires { (from ≤ to) × (to ≤ length text.now) }
-    ensures bounds { (from ≤ result.1) × (result.1 ≤ to) }
-    ensures led { Leads state (slice_range text.now from result.1) result.0 }
+    ensures bounds { (from ≤ result) × (result ≤ to) }
+    ensures led { Leads state.old (slice_range text.now from result) state.new }
 {
     if from >= to {
-        return (state, from);
+        return from;
     }
     let digit = text[from];
-    match state {
-        LexState::Minus if digit == b'0' => (LexState::Zero, from + 1),
-        LexState::Minus if digit >= b'1' && digit <= b'9' => (LexState::Int, from + 1),
-        _ => (state, from),
+    match *state {
+        LexState::Minus if digit == b'0' => {
+            *state = LexState::Zero;
+            from + 1
+        }
+        LexState::Minus if digit >= b'1' && digit <= b'9' => {
+            *state = LexState::Int;
+            from + 1
+        }
+        _ => from,
     }
 }
 
@@ -56,36 +63,51 @@ pub(crate) fn more_digits(text: &[u8], state: LexState, from: usize, to: usize) 
 
 // A decimal point and a digit behind an integer part.
 #[inline(always)]
-fn point(text: &[u8], state: LexState, from: usize, to: usize) -> (LexState, usize)
+fn point(text: &[u8], state: &mut LexState, from: usize, to: usize) -> usize
     requires { (from ≤ to) × (to ≤ length text.now) }
-    ensures bounds { (from ≤ result.1) × (result.1 ≤ to) }
-    ensures led { Leads state (slice_range text.now from result.1) result.0 }
+    ensures bounds { (from ≤ result) × (result ≤ to) }
+    ensures led { Leads state.old (slice_range text.now from result) state.new }
 {
     if to - from < 2 || text[from] != b'.' || text[from + 1] < b'0' || text[from + 1] > b'9' {
-        return (state, from);
+        return from;
     }
-    match state {
-        LexState::Zero => (LexState::Frac, from + 2),
-        LexState::Int => (LexState::Frac, from + 2),
-        _ => (state, from),
+    match *state {
+        LexState::Zero => {
+            *state = LexState::Frac;
+            from + 2
+        }
+        LexState::Int => {
+            *state = LexState::Frac;
+            from + 2
+        }
+        _ => from,
     }
 }
 
 // The letter that begins an exponent, behind a digit.
 #[inline(always)]
-fn letter(text: &[u8], state: LexState, from: usize, to: usize) -> (LexState, usize)
+fn letter(text: &[u8], state: &mut LexState, from: usize, to: usize) -> usize
     requires { (from ≤ to) × (to ≤ length text.now) }
-    ensures bounds { (from ≤ result.1) × (result.1 ≤ to) }
-    ensures led { Leads state (slice_range text.now from result.1) result.0 }
+    ensures bounds { (from ≤ result) × (result ≤ to) }
+    ensures led { Leads state.old (slice_range text.now from result) state.new }
 {
     if from >= to || !is_letter(text[from]) {
-        return (state, from);
+        return from;
     }
-    match state {
-        LexState::Zero => (LexState::E, from + 1),
-        LexState::Int => (LexState::E, from + 1),
-        LexState::Frac => (LexState::E, from + 1),
-        _ => (state, from),
+    match *state {
+        LexState::Zero => {
+            *state = LexState::E;
+            from + 1
+        }
+        LexState::Int => {
+            *state = LexState::E;
+            from + 1
+        }
+        LexState::Frac => {
+            *state = LexState::E;
+            from + 1
+        }
+        _ => from,
     }
 }
 
@@ -98,54 +120,124 @@ fn is_letter(byte: u8) -> bool
 
 // The sign of an exponent, if it has one.
 #[inline(always)]
-fn sign(text: &[u8], state: LexState, from: usize, to: usize) -> (LexState, usize)
+fn sign(text: &[u8], state: &mut LexState, from: usize, to: usize) -> usize
     requires { (from ≤ to) × (to ≤ length text.now) }
-    ensures bounds { (from ≤ result.1) × (result.1 ≤ to) }
-    ensures led { Leads state (slice_range text.now from result.1) result.0 }
+    ensures bounds { (from ≤ result) × (result ≤ to) }
+    ensures led { Leads state.old (slice_range text.now from result) state.new }
 {
     if from >= to {
-        return (state, from);
+        return from;
     }
     let sign = text[from];
-    match state {
-        LexState::E if sign == b'-' => (LexState::ESign, from + 1),
-        LexState::E if sign == b'+' => (LexState::ESign, from + 1),
-        _ => (state, from),
+    match *state {
+        LexState::E if sign == b'-' => {
+            *state = LexState::ESign;
+            from + 1
+        }
+        LexState::E if sign == b'+' => {
+            *state = LexState::ESign;
+            from + 1
+        }
+        _ => from,
     }
 }
 
 // The first digit of an exponent.
 #[inline(always)]
-fn exponent_digit(text: &[u8], state: LexState, from: usize, to: usize) -> (LexState, usize)
+fn exponent_digit(text: &[u8], state: &mut LexState, from: usize, to: usize) -> usize
     requires { (from ≤ to) × (to ≤ length text.now) }
-    ensures bounds { (from ≤ result.1) × (result.1 ≤ to) }
-    ensures led { Leads state (slice_range text.now from result.1) result.0 }
+    ensures bounds { (from ≤ result) × (result ≤ to) }
+    ensures led { Leads state.old (slice_range text.now from result) state.new }
 {
     if from >= to || text[from] < b'0' || text[from] > b'9' {
-        return (state, from);
+        return from;
     }
-    match state {
-        LexState::E => (LexState::Exp, from + 1),
-        LexState::ESign => (LexState::Exp, from + 1),
-        _ => (state, from),
+    match *state {
+        LexState::E => {
+            *state = LexState::Exp;
+            from + 1
+        }
+        LexState::ESign => {
+            *state = LexState::Exp;
+            from + 1
+        }
+        _ => from,
     }
 }
 
 // An exponent, if the number has one, as far as it stands there.
 #[inline(always)]
-fn exponent(text: &[u8], state: LexState, from: usize, to: usize) -> (LexState, usize)
+fn exponent(text: &[u8], state: &mut LexState, from: usize, to: usize) -> usize
     requires { (from ≤ to) × (to ≤ length text.now) }
-    ensures bounds { (from ≤ result.1) × (result.1 ≤ to) }
-    ensures led { Leads state (slice_range text.now from result.1) result.0 }
+    ensures bounds { (from ≤ result) × (result ≤ to) }
+    ensures led { Leads state.old (slice_range text.now from result) state.new }
 {
-    let (begun, behind_letter) = letter(text, state, from, to);
+    let behind_letter = letter(text, state, from, to);
     if behind_letter == from {
-        return (begun, from);
+        return from;
     }
-    let (signed, behind_sign) = sign(text, begun, behind_letter, to);
-    let (last, behind_digit) = exponent_digit(text, signed, behind_sign, to);
-    let end = more_digits(text, last, behind_digit, to);
-    (last, end)
+    let behind_sign = sign(text, state, behind_letter, to);
+    let behind_digit = exponent_digit(text, state, behind_sign, to);
+    more_digits(text, *state, behind_digit, to)
+}
+
+// The end of `rue`, or `from` where that doesn't stand there.
+#[inline(always)]
+fn true_end(text: &[u8], from: usize, to: usize) -> usize
+    requires { (from ≤ to) × (to ≤ length text.now) }
+    ensures bounds { (from ≤ result) × (result ≤ to) }
+    ensures shut { from < result → Shuts state.T (slice_range text.now from result) }
+{
+    if to - from >= 3 && text[from] == b'r' && text[from + 1] == b'u' && text[from + 2] == b'e' {
+        return from + 3;
+    }
+    from
+}
+
+// The end of `alse`, or `from` where that doesn't stand there.
+#[inline(always)]
+fn false_end(text: &[u8], from: usize, to: usize) -> usize
+    requires { (from ≤ to) × (to ≤ length text.now) }
+    ensures bounds { (from ≤ result) × (result ≤ to) }
+    ensures shut { from < result → Shuts state.F (slice_range text.now from result) }
+{
+    if to - from >= 4
+        && text[from] == b'a'
+        && text[from + 1] == b'l'
+        && text[from + 2] == b's'
+        && text[from + 3] == b'e'
+    {
+        return from + 4;
+    }
+    from
+}
+
+// The end of `ull`, or `from` where that doesn't stand there.
+#[inline(always)]
+fn null_end(text: &[u8], from: usize, to: usize) -> usize
+    requires { (from ≤ to) × (to ≤ length text.now) }
+    ensures bounds { (from ≤ result) × (result ≤ to) }
+    ensures shut { from < result → Shuts state.N (slice_range text.now from result) }
+{
+    if to - from >= 3 && text[from] == b'u' && text[from + 1] == b'l' && text[from + 2] == b'l' {
+        return from + 3;
+    }
+    from
+}
+
+// The end of the literal that was begun, or `from` where it doesn't stand there whole.
+#[inline(always)]
+pub(crate) fn literal_end(text: &[u8], begun: LexState, from: usize, to: usize) -> usize
+    requires { (from ≤ to) × (to ≤ length text.now) }
+    ensures bounds { (from ≤ result) × (result ≤ to) }
+    ensures shut { from < result → Shuts begun (slice_range text.now from result) }
+{
+    match begun {
+        LexState::T => true_end(text, from, to),
+        LexState::F => false_end(text, from, to),
+        LexState::N => null_end(text, from, to),
+        _ => from,
+    }
 }
 
 // Whether no number goes on with this byte, and a value mostly ends before it.
@@ -158,20 +250,20 @@ fn is_delimiter(byte: u8) -> bool
 
 // What follows of a number. Many have one digit.
 #[inline(always)]
-pub(crate) fn number_rest(text: &[u8], state: LexState, from: usize, to: usize) -> (LexState, usize)
+pub(crate) fn number_rest(text: &[u8], state: &mut LexState, from: usize, to: usize) -> usize
     requires { (from ≤ to) × (to ≤ length text.now) }
-    ensures bounds { (from ≤ result.1) × (result.1 ≤ to) }
-    ensures led { Leads state (slice_range text.now from result.1) result.0 }
+    ensures bounds { (from ≤ result) × (result ≤ to) }
+    ensures led { Leads state.old (slice_range text.now from result) state.new }
 {
     if from < to && is_delimiter(text[from]) {
-        return (state, from);
+        return from;
     }
-    let (first, begun) = first_digit(text, state, from, to);
-    let integer = more_digits(text, first, begun, to);
-    let (last, pointed) = point(text, first, integer, to);
+    let begun = first_digit(text, state, from, to);
+    let integer = more_digits(text, *state, begun, to);
+    let pointed = point(text, state, integer, to);
     if pointed == integer {
-        return exponent(text, first, integer, to);
+        return exponent(text, state, integer, to);
     }
-    let fraction = more_digits(text, last, pointed, to);
-    exponent(text, last, fraction, to)
+    let fraction = more_digits(text, *state, pointed, to);
+    exponent(text, state, fraction, to)
 }

@@ -97,6 +97,43 @@ fn a_scan_goes_on_from_inside_a_token(rt: HostRuntime) -> Result<(), Fail> {
 }
 
 #[test]
+fn literals_end_where_their_letters_do(rt: HostRuntime) -> Result<(), Fail> {
+    let marks = [
+        (MarkKind::True, 0),
+        (MarkKind::Comma, 4),
+        (MarkKind::False, 5),
+        (MarkKind::Comma, 10),
+        (MarkKind::Null, 11),
+    ];
+    let gap = Exit::State(LexState::Gap);
+    let text = b"true,false,null";
+    assert!(rt; keeps(rt.alloc(), LexState::Gap, text, &marks, &[4, 10, 15], gap)?);
+    let cut = Exit::State(LexState::Nul);
+    assert!(rt;
+        keeps(
+            rt.alloc(),
+            LexState::Gap,
+            b"true,false,nul",
+            &marks,
+            &[4, 10],
+            cut
+        )?
+    );
+    let fault = Exit::Fault(3);
+    assert!(rt;
+        keeps(
+            rt.alloc(),
+            LexState::Gap,
+            b"tru,false",
+            &marks[..1],
+            &[],
+            fault
+        )?
+    );
+    Ok(())
+}
+
+#[test]
 fn a_keeper_that_wants_no_more_is_told_no_more(rt: HostRuntime) -> Result<(), Fail> {
     let mut first = FirstMarks { limit: 2, count: 0 };
     assert_eq!(rt; scan(&mut first, LexState::Gap, b"[[[\xff", 0, 4)?, None);

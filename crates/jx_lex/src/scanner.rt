@@ -16,7 +16,7 @@ use crate::keeper::Keeper;
 use crate::machine::cell_at;
 use crate::mark::{Mark, MarkKind};
 use crate::parts::string_end_ahead;
-use crate::runs::{gap_end, more_digits, number_rest};
+use crate::runs::{gap_end, literal_end, more_digits, number_rest};
 use crate::state::LexState;
 use std::alloc::AllocError;
 
@@ -129,28 +129,32 @@ fn colon<K: Keeper>(
     Ok(from)
 }
 
-/// What follows of a string, with the quotation mark that ends it and a colon behind it.
+/// What follows of a string, with the quotation mark that ends it and a colon behind it. The state that comes in is that
+/// inside the string.
 #[inline(always)]
 fn string_rest<K: Keeper>(
     keeper: &mut K,
+    last: &mut LexState,
     text: &[u8],
     from: usize,
     to: usize,
-    ahead: Ahead,
-) -> Result<(LexState, usize, Ahead), AllocError>
+    ahead: &mut Ahead,
+) -> Result<usize, AllocError>
     requires bounds { (from ≤ to) × (to ≤ length text.now) }
-    requires sound { IsSound text.now ahead }
-    ensures bounds { IfOk result (λ r. (from ≤ r.1) × (r.1 ≤ to)) }
-    ensures read { IfOk result (λ r. GoesTo (K.has_seen keeper.old) (K.has_seen keeper.new) (lex state.Str from (slice_range text.now from r.1)) r.0) }
-    ensures sound { IfOk result (λ r. IsSound text.now r.2) }
+    requires sound { IsSound text.now ahead.old }
+    requires inside { last.old ≡ state.Str }
+    ensures bounds { IfOk result (λ end. (from ≤ end) × (end ≤ to)) }
+    ensures read { IfOk result (λ end. GoesTo (K.has_seen keeper.old) (K.has_seen keeper.new) (lex state.Str from (slice_range text.now from end)) last.new) }
+    ensures sound { OnOk result (IsSound text.now ahead.new) }
 {
-    let (end, known) = string_end_ahead(text, from, to, ahead);
+    let end = string_end_ahead(text, from, to, ahead);
     if end < to && text[end] == b'"' {
         keeper.end(end + 1)?;
+        *last = LexState::Gap;
         let behind = colon(keeper, text, end + 1, to)?;
-        return Ok((LexState::Gap, behind, known));
+        return Ok(behind);
     }
-    Ok((LexState::Str, end, known))
+    Ok(end)
 }
 
 /// Whether a number may end in this state.
@@ -167,74 +171,101 @@ fn may_end(state: LexState) -> bool
     }
 }
 
-/// The comma that ends a number, if it stands there: gives the state behind it and its end.
+/// The comma that ends a number, if it stands there, and gives its end.
 #[inline(always)]
 fn comma<K: Keeper>(
     keeper: &mut K,
-    state: LexState,
+    state: &mut LexState,
     text: &[u8],
     from: usize,
     to: usize,
-) -> Result<(LexState, usize), AllocError>
+) -> Result<usize, AllocError>
     requires { (from ≤ to) × (to ≤ length text.now) }
-    ensures bounds { IfOk result (λ r. (from ≤ r.1) × (r.1 ≤ to)) }
-    ensures read { IfOk result (λ r. GoesTo (K.has_seen keeper.old) (K.has_seen keeper.new) (lex state from (slice_range text.now from r.1)) r.0) }
+    ensures bounds { IfOk result (λ end. (from ≤ end) × (end ≤ to)) }
+    ensures read { IfOk result (λ end. GoesTo (K.has_seen keeper.old) (K.has_seen keeper.new) (lex state.old from (slice_range text.now from end)) state.new) }
 {
-    if from < to && text[from] == b',' && may_end(state) {
+    if from < to && text[from] == b',' && may_end(*state) {
         keeper.end(from)?;
         keeper.begin(Mark {
             kind: MarkKind::Comma,
             at: from,
         })?;
-        return Ok((LexState::Gap, from + 1));
+        *state = LexState::Gap;
+        return Ok(from + 1);
     }
-    Ok((state, from))
+    Ok(from)
 }
 
-/// What follows of a number, with a comma behind it.
+/// What follows of a number, with a comma behind it, and gives its end.
 #[inline(always)]
 fn number<K: Keeper>(
     keeper: &mut K,
-    state: LexState,
+    state: &mut LexState,
     text: &[u8],
     from: usize,
     to: usize,
-) -> Result<(LexState, usize), AllocError>
+) -> Result<usize, AllocError>
     requires { (from ≤ to) × (to ≤ length text.now) }
-    ensures bounds { IfOk result (λ r. (from ≤ r.1) × (r.1 ≤ to)) }
-    ensures read { IfOk result (λ r. GoesTo (K.has_seen keeper.old) (K.has_seen keeper.new) (lex state from (slice_range text.now from r.1)) r.0) }
+    ensures bounds { IfOk result (λ end. (from ≤ end) × (end ≤ to)) }
+    ensures read { IfOk result (λ end. GoesTo (K.has_seen keeper.old) (K.has_seen keeper.new) (lex state.old from (slice_range text.now from end)) state.new) }
 {
-    let (last, end) = number_rest(text, state, from, to);
-    let (behind, place) = comma(keeper, last, text, end, to)?;
-    Ok((behind, place))
+    let end = number_rest(text, state, from, to);
+    let behind = comma(keeper, state, text, end, to)?;
+    Ok(behind)
 }
 
-/// Goes on from a state, to which this byte led, over what follows of a token or over blanks: gives the state behind it
-/// and its end.
+/// What follows of a literal, if it stands there whole, and gives its end.
+#[inline(always)]
+fn literal<K: Keeper>(
+    keeper: &mut K,
+    state: &mut LexState,
+    text: &[u8],
+    from: usize,
+    to: usize,
+) -> Result<usize, AllocError>
+    requires { (from ≤ to) × (to ≤ length text.now) }
+    ensures bounds { IfOk result (λ end. (from ≤ end) × (end ≤ to)) }
+    ensures read { IfOk result (λ end. GoesTo (K.has_seen keeper.old) (K.has_seen keeper.new) (lex state.old from (slice_range text.now from end)) state.new) }
+{
+    let end = literal_end(text, *state, from, to);
+    if end == from {
+        return Ok(from);
+    }
+    keeper.end(end)?;
+    *state = LexState::Gap;
+    Ok(end)
+}
+
+/// Goes on from a state, to which this byte led, over what follows of a token or over blanks: gives their end, and leaves
+/// the state behind them.
 #[inline(always)]
 fn run_on<K: Keeper>(
     keeper: &mut K,
-    state: LexState,
+    state: &mut LexState,
     text: &[u8],
     byte: u8,
     from: usize,
     to: usize,
-    ahead: Ahead,
-) -> Result<(LexState, usize, Ahead), AllocError>
+    ahead: &mut Ahead,
+) -> Result<usize, AllocError>
     requires bounds { (from ≤ to) × (to ≤ length text.now) }
-    requires sound { IsSound text.now ahead }
-    ensures bounds { IfOk result (λ r. (from ≤ r.1) × (r.1 ≤ to)) }
-    ensures read { IfOk result (λ r. GoesTo (K.has_seen keeper.old) (K.has_seen keeper.new) (lex state from (slice_range text.now from r.1)) r.0) }
-    ensures sound { IfOk result (λ r. IsSound text.now r.2) }
+    requires sound { IsSound text.now ahead.old }
+    ensures bounds { IfOk result (λ end. (from ≤ end) × (end ≤ to)) }
+    ensures read { IfOk result (λ end. GoesTo (K.has_seen keeper.old) (K.has_seen keeper.new) (lex state.old from (slice_range text.now from end)) state.new) }
+    ensures sound { OnOk result (IsSound text.now ahead.new) }
 {
-    match state {
-        LexState::Str => string_rest(keeper, text, from, to, ahead),
-        LexState::Gap => Ok((LexState::Gap, gap_end(text, byte, from, to), ahead)),
+    match *state {
+        LexState::Str => string_rest(keeper, state, text, from, to, ahead),
+        LexState::Gap => Ok(gap_end(text, byte, from, to)),
         LexState::Minus | LexState::Zero | LexState::Int => {
-            let (last, end) = number(keeper, state, text, from, to)?;
-            Ok((last, end, ahead))
+            let end = number(keeper, state, text, from, to)?;
+            Ok(end)
         }
-        _ => Ok((state, more_digits(text, state, from, to), ahead)),
+        LexState::T | LexState::F | LexState::N => {
+            let end = literal(keeper, state, text, from, to)?;
+            Ok(end)
+        }
+        _ => Ok(more_digits(text, *state, from, to)),
     }
 }
 
@@ -266,10 +297,9 @@ pub fn scan<K: Keeper>(
         let Some(next) = take_byte(keeper, state, byte, i)? else {
             return Ok(Some(Exit::Fault(i)));
         };
-        let (after, end, known) = run_on(keeper, next, text, byte, i + 1, to, ahead)?;
-        state = after;
+        state = next;
+        let end = run_on(keeper, &mut state, text, byte, i + 1, to, &mut ahead)?;
         i = end;
-        ahead = known;
     }
     Ok(Some(Exit::State(state)))
 }

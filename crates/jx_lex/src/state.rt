@@ -1,4 +1,7 @@
 // Where the lexical machine stands, and what a byte does to it.
+ghost use Rattle.std.specs.Prelude.{◌≡◌, ◌<◌};
+ghost use Rattle.jx_lex.specs.Ordinal.{ordinal, all_states};
+
 use crate::mark::MarkKind;
 
 /// Where the lexical machine stands between two bytes: between tokens, or how far it is in one (RFC 8259, sections 2, 3,
@@ -69,6 +72,57 @@ pub enum LexState {
     Nu,
     /// After `nul`.
     Nul,
+}
+
+impl LexState {
+    /// All states in order.
+    pub fn all() -> [LexState; 32]
+        ensures { result ≡ all_states }
+    {
+        [
+            LexState::Gap,
+            LexState::Str,
+            LexState::Esc,
+            LexState::Hex4,
+            LexState::Hex3,
+            LexState::Hex2,
+            LexState::Hex1,
+            LexState::Tail1,
+            LexState::Tail2,
+            LexState::Tail3,
+            LexState::AfterE0,
+            LexState::AfterEd,
+            LexState::AfterF0,
+            LexState::AfterF4,
+            LexState::Minus,
+            LexState::Zero,
+            LexState::Int,
+            LexState::Dot,
+            LexState::Frac,
+            LexState::E,
+            LexState::ESign,
+            LexState::Exp,
+            LexState::T,
+            LexState::Tr,
+            LexState::Tru,
+            LexState::F,
+            LexState::Fa,
+            LexState::Fal,
+            LexState::Fals,
+            LexState::N,
+            LexState::Nu,
+            LexState::Nul,
+        ]
+    }
+
+    /// Its place among all of them, counted from 0.
+    #[inline(always)]
+    pub fn number(self) -> usize
+        ensures place { result ≡ ordinal self }
+        ensures low { result < 32 }
+    {
+        self as usize
+    }
 }
 
 /// Where a string, a number or a literal ends, seen from the byte that shows it.

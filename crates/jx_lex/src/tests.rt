@@ -1,8 +1,8 @@
+mod beginnings;
 mod cuts;
 mod strings;
 mod words;
 
-use crate::ordinal::all;
 use crate::{ChunkMap, Exit, LexState, Mark, MarkKind, TokenEnd, TrackView, step};
 use std::alloc::{AllocError, Global};
 use std::test::Fail;
@@ -68,7 +68,7 @@ fn plain(alloc: Global, state: LexState, text: &[u8], start: usize) -> Result<Tr
 
 /// Whether each of the 32 views of a map of these bytes is what reading byte by byte gives.
 fn is_plain(alloc: Global, map: &ChunkMap, bytes: &[u8]) -> Result<bool, AllocError> {
-    for state in all() {
+    for state in LexState::all() {
         let track = plain(alloc, state, bytes, map.span().start)?;
         if !shows(&map.entry(state), &track.marks, &track.ends, track.exit)
             || !goes_along(map, state)
@@ -101,7 +101,7 @@ fn the_end_of_an_array_from_every_state(rt: HostRuntime) -> Result<(), Fail> {
     // Gap and Zero begin a number, and Int, Frac and Exp then come to the bracket.
     assert!(rt; map.stored() <= 5);
     let mut shown = 0usize;
-    for state in all() {
+    for state in LexState::all() {
         for _ in map.entry(state).marks() {
             shown = shown.wrapping_add(1);
         }

@@ -17,3 +17,4 @@ pub mod Spans
 pub mod Cuts
 mod KnownWords
 mod KnownMoves
+mod Windows

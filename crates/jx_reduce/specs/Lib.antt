@@ -9,6 +9,7 @@ pub mod Offsets
 pub mod Levels
 pub mod Quiet
 pub mod Reduced
+pub mod Reducer
 pub mod Reductions
 pub mod Follow
 pub mod Parts

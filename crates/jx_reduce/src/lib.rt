@@ -17,6 +17,7 @@ mod outcome;
 mod part;
 mod quiet;
 mod reduced;
+mod reducer;
 mod reductions;
 #[cfg(test)]
 mod tests;
@@ -29,5 +30,6 @@ pub use level::Level;
 pub use moves::next;
 pub use outcome::Outcome;
 pub use reduced::Reduced;
+pub use reducer::Reducer;
 pub use reductions::Reductions;
 pub use whole::Whole;

@@ -150,7 +150,12 @@ fn enter(opens: &mut Vec<Holder>, most: usize, holder: Holder) -> bool
     ensures entered { result ≡ true → (opens.new.items ≡ opens.old.items ++ holder ∷ []) × (length opens.old.items < most) }
     ensures same { result ≡ false → opens.new.items ≡ opens.old.items }
 {
-    opens.len() < most && opens.push(holder).is_ok()
+    if opens.len() >= most {
+        return false;
+    }
+    // Nothing grows here, so no call for memory stands in the loop.
+    opens.push_reserved(holder);
+    true
 }
 
 /// Runs through the marks that are no fault of any holder standing, end no level and reach no new height. It stops before

@@ -1,8 +1,9 @@
-ghost use Rattle.std.specs.Prelude.{◌≡◌, ◌≤◌, ◌<◌, IfOk, length};
-ghost use Rattle.jx_reduce.specs.Offsets.{RisingFrom};
+ghost use Rattle.std.specs.Prelude.{◌≡◌, ◌≤◌, ◌<◌, ℕ, IfOk, length};
+ghost use Rattle.jx_reduce.specs.Offsets.{EachIn, RisingFrom};
+ghost use Rattle.jx_reduce.specs.Reductions.{SpansIn};
 
-use crate::{Expect, Holder, Level, Outcome, Reductions, Whole, next};
-use jx_lex::{Depth, Mark, MarkKind};
+use crate::{Expect, Holder, KnownStack, Level, Outcome, Reductions, Whole, next};
+use jx_lex::{Depth, JoinFault, Mark, MarkKind};
 use std::alloc::{AllocError, Global};
 use std::test::Fail;
 
@@ -44,7 +45,19 @@ fn marks_of(alloc: Global, text: &[u8]) -> Result<Vec<Mark>, AllocError>
     Ok(marks)
 }
 
-// The structures of both parts of a list, joined.
+// The structure of marks, asked for twice where it is refused.
+fn structure_of(alloc: Global, marks: &[Mark], depth: Depth) -> Result<Reductions, AllocError>
+    requires rising { RisingFrom 0 marks.now }
+    ensures depth { IfOk result (λ f. f.depth ≡ depth) }
+    ensures offsets { IfOk result (λ f. (low high : ℕ) → EachIn (λ m. (low ≤ m.at) × (m.at < high)) marks.now → SpansIn low high f) }
+{
+    match Reductions::of(alloc, marks, depth) {
+        Ok(structure) => Ok(structure),
+        Err(_) => Reductions::of(alloc, marks, depth),
+    }
+}
+
+// The structures of both parts of a list, joined; where the join is refused, the sides that it handed back are joined.
 fn joined_at(
     alloc: Global,
     marks: &[Mark],
@@ -55,11 +68,14 @@ fn joined_at(
     requires cut { cut ≤ length marks.now }
     ensures { IfOk result (λ r. r.depth ≡ depth) }
 {
-    let left = Reductions::of(alloc, &marks[..cut], depth)?;
-    let right = Reductions::of(alloc, &marks[cut..], depth)?;
+    let left = structure_of(alloc, &marks[..cut], depth)?;
+    let right = structure_of(alloc, &marks[cut..], depth)?;
     match left.join(right) {
         Ok(both) => Ok(both),
-        Err(_) => Err(AllocError),
+        Err(JoinFault { left, right }) => match left.join(right) {
+            Ok(both) => Ok(both),
+            Err(_) => Err(AllocError),
+        },
     }
 }
 
@@ -467,5 +483,73 @@ fn more_containers_than_the_depth_are_read_as_by_the_table(rt: HostRuntime) -> R
             "depth {containers}"
         );
     }
+    Ok(())
+}
+
+// The marks of a text, asked for twice where they are refused.
+fn marks_again(alloc: Global, text: &[u8]) -> Result<Vec<Mark>, AllocError>
+    ensures { IfOk result (λ marks. RisingFrom 0 marks.items) }
+{
+    match marks_of(alloc, text) {
+        Ok(marks) => Ok(marks),
+        Err(_) => marks_of(alloc, text),
+    }
+}
+
+#[test]
+fn structures_under_a_refused_growth(rt: HostRuntime) -> Result<(), Fail> {
+    let alloc = rt.alloc();
+    let marks = marks_again(alloc, b"{s:[0,{s:0}]}")?;
+    let ended = Whole::Went {
+        expect: Expect::After,
+        open: 0,
+    };
+    for cut in 0..marks.len() {
+        let both = joined_at(alloc, marks.as_slice(), cut, Depth::default())?;
+        assert_eq!(rt; both.entry(Expect::Value).whole(), ended);
+        let copy = match both.copy() {
+            Ok(copy) => copy,
+            Err(_) => both.copy()?,
+        };
+        assert_eq!(rt; copy.entry(Expect::Value).whole(), ended);
+    }
+    Ok(())
+}
+
+#[test]
+fn readings_of_open_containers_under_a_refused_growth(rt: HostRuntime) -> Result<(), Fail> {
+    let alloc = rt.alloc();
+    let marks = marks_again(alloc, b",{s:[0")?;
+    let all = structure_of(alloc, marks.as_slice(), Depth::default())?;
+    let after = all.entry(Expect::After);
+    let outcome = match after.act(&[Holder::Array]) {
+        Ok(outcome) => outcome,
+        Err(_) => after.act(&[Holder::Array])?,
+    };
+    let Outcome::Went { expect, holders } = outcome else {
+        return Err("no fault".into());
+    };
+    assert_eq!(rt; expect, Expect::After);
+    let want = [Holder::Array, Holder::Object, Holder::Array];
+    assert_eq!(rt; holders.as_slice(), want.as_slice());
+    Ok(())
+}
+
+// One more mark, given again where it is refused.
+fn push_again(stack: &mut KnownStack, mark: Mark) -> Result<(), AllocError> {
+    match stack.push(mark) {
+        Ok(()) => Ok(()),
+        Err(_) => stack.push(mark),
+    }
+}
+
+#[test]
+fn known_stacks_under_a_refused_growth(rt: HostRuntime) -> Result<(), Fail> {
+    let mut stack = KnownStack::new(rt.alloc(), Depth::default());
+    for at in 0..200 {
+        push_again(&mut stack, mark(MarkKind::OpenArray, at))?;
+    }
+    push_again(&mut stack, mark(MarkKind::CloseObject, 200))?;
+    assert_eq!(rt; stack.whole(), Whole::Stopped(200));
     Ok(())
 }

@@ -1,39 +1,84 @@
 -- The output of an accepted text, from its index.
-use Rattle.std.proofs.Common.{◌≡◌, ℕ, ◌-◌, List, length, map, sym, subst, arith}
+use Rattle.std.proofs.Common.{◌≡◌, ℕ, ◌+◌, ◌-◌, ◌≤◌, List, [], ◌∷◌, ◌++◌, length, drop, map, refl, sym, ap, subst, ◌∙◌, arith}
 use Rattle.std.specs.Prelude.{slice_range, string_bytes, String, Vec}
 use Rattle.std.specs.declared.alloc.Global.{Global}
-use Rattle.std.proofs.lemmas.List.{take_all}
+use Rattle.std.proofs.lemmas.List.{take_all, length-drop}
+use Rattle.jx_run.specs.declared.settings.Settings.{Settings}
 use Rattle.jx_run.specs.declared.verdict.Verdict.TheVariants.{Accepted}
+use Rattle.jx_run.specs.Settings.{JudgedBy}
 use Rattle.jx_run.specs.Text.{IsDocument, IsText}
 use Rattle.jx_run.specs.Tree.{Tree}
-use Rattle.jx_run.specs.Verdict.{Judged}
 use Rattle.jx_index.specs.declared.row.Row.{Row}
 use Rattle.jx_index.specs.Indexed.{IndexedValue}
-use Rattle.jx_answer.specs.Answers.{IsIndexOf}
-use Rattle.jx_command.specs.declared.command.Task.TheVariants.{Index, At}
+use Rattle.jx_answer.specs.Settled.{AreJudgedBy, IsIndexBy}
+use Rattle.jx_answer.specs.declared.element.Element.{Element}
+use Rattle.jx_answer.specs.Sequence.{judged}
+use Rattle.jx_run.specs.declared.element_verdict.JudgedElement.{JudgedElement}
+use Rattle.jx_command.specs.declared.command.Task.TheVariants.{Index, At, Seq}
 use Rattle.jx_report.specs.declared.exit.Exit.{Exit}
+use Rattle.jx_report.specs.declared.exit.Exit.TheVariants.{Good}
+use Rattle.jx_report.specs.Elements.{element_lines, exit_past, exit_past_all, exit_past_judged, judged_line, judged_lines}
+use Rattle.jx_report.specs.JudgedWords.{SaysJudged}
 use Rattle.jx_report.specs.Output.{Output, SaysRows}
 use Rattle.jx_report.specs.Pointers.{PointerLines}
 use Rattle.jx_report.specs.Trees.{HasTree}
 
-module _ (text : List ℕ) (limit : ℕ) (index : IndexedValue) (judged : Judged 0 text limit Accepted) (x : IsIndexOf text limit index) where
-  whole : slice_range text 0 (length text) ≡ text
-  whole = take_all (length text - 0) text (omega arith)
+drop_front : (xs ys : List ℕ) → drop (length xs) (xs ++ ys) ≡ ys
+drop_front [] ys = refl
+drop_front (x ∷ xs) ys = drop_front xs ys
 
-  pub text_there : IsText index.text index.place.start index.place.end limit x.tree
+module _ (text : List ℕ) (settings : Settings) (index : IndexedValue) (judged : JudgedBy settings 0 text Accepted) (x : IsIndexBy settings text index) where
+  -- behind the front stands what the index is of
+  rest : slice_range text (length x.is_text.front) (length text) ≡ x.is_text.rest
+  rest =
+      let start = length x.is_text.front in
+      let short : length (drop start text) ≤ length text - start = (let e : length (drop start text) ≡ length text - start = length-drop start text in omega arith) in
+      take_all (length text - start) (drop start text) short
+      ∙ ap (λ (t : List ℕ). drop start t) x.is_text.whole
+      ∙ drop_front x.is_text.front x.is_text.rest
+
+  text_behind : IsDocument (length x.is_text.front) x.is_text.rest settings.depth x.tree
+  text_behind =
+      let at : 0 + length x.is_text.front ≡ length x.is_text.front = omega arith in
+      subst (λ (i : ℕ). IsDocument i x.is_text.rest settings.depth x.tree) at x.is_text.text
+
+  pub text_there : IsText index.text index.place.start index.place.end settings.depth x.tree
   text_there =
-      subst (λ p. IsText index.text p.start p.end limit x.tree) (sym x.place)
-      (subst (λ t. IsText t 0 (length text) limit x.tree) (sym x.text)
-      (subst (λ b. IsDocument 0 b limit x.tree) (sym whole) x.is_text))
+      subst (λ p. IsText index.text p.start p.end settings.depth x.tree) (sym x.place)
+      (subst (λ t. IsText t (length x.is_text.front) (length text) settings.depth x.tree) (sym x.text)
+      (subst (λ b. IsDocument (length x.is_text.front) b settings.depth x.tree) (sym rest) text_behind))
 
   pub has_tree : HasTree index
-  has_tree = record { limit = limit; tree = x.tree; is_text = text_there }
+  has_tree = record { limit = settings.depth; tree = x.tree; is_text = text_there }
 
-  pub rows_output : (output : List ℕ) (exit : Exit) → SaysRows index.rows output exit → Output Index limit text output exit
+  pub rows_output : (output : List ℕ) (exit : Exit) → SaysRows index.rows output exit → Output Index settings text output exit
   rows_output output exit h = (Accepted, judged, (x.tree, x.is_text, subst (λ (r : List Row). SaysRows r output exit) x.rows_are h))
 
   pub pointers_output : (pointers : Vec (String Global) Global) (output : List ℕ) (exit : Exit)
       → ((d : ℕ) (tree : Tree) → IsText index.text index.place.start index.place.end d tree → PointerLines index.text tree (map string_bytes pointers.items) output exit)
-      → Output (At pointers) limit text output exit
+      → Output (At pointers) settings text output exit
   pointers_output pointers output exit lines =
-      (Accepted, judged, (x.tree, x.is_text, subst (λ t. PointerLines t x.tree (map string_bytes pointers.items) output exit) x.text (lines limit x.tree text_there)))
+      (Accepted, judged, (x.tree, x.is_text, subst (λ t. PointerLines t x.tree (map string_bytes pointers.items) output exit) x.text (lines settings.depth x.tree text_there)))
+
+-- ---- the elements of a text sequence
+
+lines_same : (es : List Element) → element_lines es ≡ judged_lines (map judged es)
+unfolding element_lines judged_lines
+lines_same [] = refl
+lines_same (e ∷ es) = ap (λ xs. judged_line (judged e) ++ xs) (lines_same es)
+
+exits_same : (exit : Exit) (es : List Element) → exit_past_all exit es ≡ exit_past_judged exit (map judged es)
+unfolding exit_past_all exit_past_judged
+exits_same exit [] = refl
+exits_same exit (e ∷ es) = exits_same (exit_past exit e.answer) es
+
+pub judged_output : (text : List ℕ) (settings : Settings) (js : List JudgedElement) (output : List ℕ) (exit : Exit) → AreJudgedBy settings text js → SaysJudged js output exit
+    → Output Seq settings text output exit
+judged_output text settings js output exit h says = (
+  h.answers,
+  h.are,
+  (
+    says.0 ∙ ap judged_lines (sym h.less) ∙ sym (lines_same h.answers),
+    says.1 ∙ ap (exit_past_judged Good) (sym h.less) ∙ sym (exits_same Good h.answers),
+  ),
+)

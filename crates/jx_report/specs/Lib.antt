@@ -1,5 +1,7 @@
+pub mod Batches
 pub mod Elements
 pub mod Ends
+pub mod JudgedWords
 pub mod Output
 pub mod Pointers
 pub mod Reports

@@ -15,13 +15,20 @@ abbrev pub shown_output : Bool → List ℕ → List ℕ
 shown_output true output = []
 shown_output false output = output
 
+-- the reader gave all that it had, in no more pieces than there may be, and this is the output for it
+pub record IsAnswered (IsFor : List ℕ → List ℕ → Exit → Type 0) (piece : ℕ) (unread left : Option (List ℕ)) (output : List ℕ) (exit : Exit) : Type 0 where
+  pub text : List ℕ
+  pub read : ReadsToEnd unread left text
+  pub few : length text ≤ greatest_length piece
+  pub answer : IsFor text output exit
+
 -- the reader gave all that it had, and the writer got the whole output for it, or nothing where the command is quiet
 pub record Reports (command : Command) (unread left written grown : Option (List ℕ)) (exit : Exit) : Type 0 where
   pub text : List ℕ
   pub output : List ℕ
   pub read : ReadsToEnd unread left text
   pub few : length text ≤ greatest_length command.piece
-  pub answer : Output command.task command.depth text output exit
+  pub answer : Output command.task command.settings text output exit
   pub wrote : Appends written grown (shown_output command.quiet output)
 
 -- the reader gave all that it had, and the writer got a beginning of the output for it, and not all
@@ -31,7 +38,7 @@ pub record ReportsInPart (command : Command) (unread left written grown : Option
   pub exit : Exit
   pub read : ReadsToEnd unread left text
   pub few : length text ≤ greatest_length command.piece
-  pub answer : Output command.task command.depth text output exit
+  pub answer : Output command.task command.settings text output exit
   pub wrote : AppendsBeginning written grown (shown_output command.quiet output)
 
 -- the reader gave all that it had, and that makes more pieces than there may be

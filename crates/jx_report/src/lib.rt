@@ -2,9 +2,13 @@
 #![tactic(auto)]
 
 mod answer;
+mod batch;
+mod checking;
 mod element_words;
 mod end;
 mod exit;
+mod laws;
+mod pieces;
 mod pointer_answer;
 mod pointer_words;
 mod read_all;
@@ -15,11 +19,13 @@ mod sink;
 mod source;
 #[cfg(test)]
 mod tests;
+mod text_check;
 mod words;
 mod write_all;
 
 pub use end::End;
 pub use exit::Exit;
+pub use laws::outputs_are_one;
 pub use report_fault::ReportFault;
 pub use reporting::report;
 pub use sink::Sink;

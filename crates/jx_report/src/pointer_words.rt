@@ -1,14 +1,16 @@
 // The lines that stand for what pointers come to.
 ghost use Rattle.std.specs.Prelude.{◌≡◌, ◌++◌, ℕ, [], codes, decimal, map, string_bytes, IfOk, OnOk};
+ghost use Rattle.std.specs.List.{AllZip};
 ghost use Rattle.jx_run.specs.Text.{IsText};
 ghost use Rattle.jx_run.specs.Tree.{Tree};
 ghost use Rattle.jx_report.specs.Words.{line};
-ghost use Rattle.jx_report.specs.Pointers.{answer_words, exit_after, PointerLines};
+ghost use Rattle.jx_report.specs.Pointers.{answer_words, exit_after, IsFoundFor, PointerLines};
 ghost use Rattle.jx_report.specs.Trees.{HasTree};
 
 use crate::exit::Exit;
 use crate::pointer_answer::{PointerAnswer, answer_to};
 use crate::words::{push_kind, push_numbered, push_span};
+use jx_answer::Answer;
 use jx_index::{FindFault, Indexed, PointerFault, Row};
 use std::alloc::AllocError;
 
@@ -67,21 +69,23 @@ fn exit_after(exit: Exit, answer: &PointerAnswer) -> Exit
     }
 }
 
-/// Appends a line for each pointer, in their order. The exit is good where each of them is found.
+/// Appends a line for each pointer, in their order, where these were found. The exit is good where each of them is found.
 pub fn push_answers(
     out: &mut Vec<u8>,
     index: &Indexed,
     pointers: &[String],
+    found: &[Answer],
 ) -> Result<Exit, AllocError>
     requires empty { out.old.items ≡ [] }
     requires tree { HasTree index.now }
+    requires found { AllZip (IsFoundFor index.now) (map string_bytes pointers.now) found.now }
     ensures { IfOk result (λ exit. (limit : ℕ) (tree : Tree)
         → IsText index.now.text index.now.place.start index.now.place.end limit tree
         → PointerLines index.now.text tree (map string_bytes pointers.now) out.new.items exit) }
 {
     let mut exit = Exit::Good;
-    for pointer in pointers {
-        let answer = answer_to(index, pointer.as_str());
+    for at in 0..pointers.len() {
+        let answer = answer_to(index, pointers[at].as_str(), found[at]);
         push_answer(out, &answer)?;
         exit = exit_after(exit, &answer);
     }

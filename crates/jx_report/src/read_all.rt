@@ -8,9 +8,9 @@ use std::alloc::{AllocError, Global};
 use std::io;
 
 /// The least and the greatest room for one read, in bytes. Between them a read has room for as much as is there already.
-const LEAST_STEP: usize = 16 * 1024;
+pub(crate) const LEAST_STEP: usize = 16 * 1024;
 
-const GREATEST_STEP: usize = 1024 * 1024;
+pub(crate) const GREATEST_STEP: usize = 1024 * 1024;
 
 /// Makes `text` longer than `filled`, by zeros, unless it is.
 fn make_room(text: &mut Vec<u8>, filled: usize) -> Result<(), AllocError>
@@ -27,7 +27,7 @@ fn make_room(text: &mut Vec<u8>, filled: usize) -> Result<(), AllocError>
 }
 
 /// One read into the part of `text` from `at` on.
-fn read_at<R: Source>(reader: &mut R, text: &mut [u8], at: usize) -> io::Result<usize>
+pub(crate) fn read_at<R: Source>(reader: &mut R, text: &mut [u8], at: usize) -> io::Result<usize>
     requires room { at < length text.old }
     requires unfailed { R.has_failed reader.old ≡ false }
     ensures front { take at text.new ≡ take at text.old }

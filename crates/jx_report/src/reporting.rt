@@ -1,7 +1,9 @@
-ghost use Rattle.std.specs.Prelude.{◌≡◌, ◌≢◌, ◌≤◌, ◌↔◌, true, false, IfOk, IfErr, IsErrOf};
-ghost use Rattle.jx_report.specs.Reports.{Reports, ReportsInPart, HasTooManyPieces, shown_output};
+ghost use Rattle.std.specs.Prelude.{◌≡◌, ◌≢◌, ◌<◌, ◌≤◌, ◌^◌, ◌↔◌, true, false, IfOk, IfErr, IsErrOf};
+ghost use Rattle.jx_report.specs.Output.{Output};
+ghost use Rattle.jx_report.specs.Reports.{IsAnswered, Reports, ReportsInPart, HasTooManyPieces, shown_output};
 
-use crate::answer::answer_of;
+use crate::answer::{Answer, answer_of};
+use crate::checking::check_input;
 use crate::exit::Exit;
 use crate::read_all::read_all;
 use crate::report_fault::ReportFault;
@@ -10,16 +12,120 @@ use crate::source::Source;
 use crate::write_all::write_all;
 use jx_book::Gate;
 use jx_claim::Cutting;
-use jx_command::Command;
-use std::alloc::Global;
+use jx_command::{Command, Task};
+use std::alloc::{AllocError, Global};
 use std::sync::Wait;
 use std::thread::Threads;
+
+/// How many bytes of an input are read at a time, at most.
+const BATCH: usize = 8 * 1024 * 1024;
 
 /// What is written of an output: nothing where a command is quiet.
 fn shown(quiet: bool, output: &[u8]) -> &[u8]
     ensures { result.now ≡ shown_output quiet output.now }
 {
     if quiet { &[] } else { output }
+}
+
+/// Reads to the end of input, and answers by the command's workers. A check keeps one batch of so many bytes at a time;
+/// what else is asked keeps the whole input, and so does a check that ignores a byte order mark.
+fn answer_to_input<R: Threads + Wait + Sync, S: Source, G: Gate + Sync>(
+    rt: &R,
+    alloc: Global,
+    reader: &mut S,
+    command: &Command,
+    gate: &G,
+    batch: usize,
+) -> Result<Answer, ReportFault>
+    requires reader { S.has_failed reader.old ≡ false }
+    requires piece { 1 ≤ command.now.piece }
+    requires some { 1 ≤ batch }
+    requires few { batch < 2 ^ 32 }
+    ensures ok { IfOk result (λ answer. IsAnswered (Output command.now.task command.now.settings) command.now.piece (S.remaining reader.old)
+        (S.remaining reader.new) answer.output.items answer.exit) }
+    ensures read { IsErrOf result ReportFault.Read ↔ (S.has_failed reader.new ≡ true) }
+    ensures unwritten { IfErr result (λ fault. fault ≢ ReportFault.Write) }
+    ensures pieces { IsErrOf result ReportFault.Pieces → HasTooManyPieces command.now (S.remaining reader.old)
+        (S.remaining reader.new) }
+{
+    match &command.task {
+        Task::Check => check_input(rt, alloc, reader, command, gate, batch),
+        _ => answer_to_all(rt, alloc, reader, command, gate),
+    }
+}
+
+/// The same of an input that is kept as a whole.
+fn answer_to_all<R: Threads + Wait + Sync, S: Source, G: Gate + Sync>(
+    rt: &R,
+    alloc: Global,
+    reader: &mut S,
+    command: &Command,
+    gate: &G,
+) -> Result<Answer, ReportFault>
+    requires reader { S.has_failed reader.old ≡ false }
+    requires piece { 1 ≤ command.now.piece }
+    ensures ok { IfOk result (λ answer. IsAnswered (Output command.now.task command.now.settings) command.now.piece (S.remaining reader.old)
+        (S.remaining reader.new) answer.output.items answer.exit) }
+    ensures read { IsErrOf result ReportFault.Read ↔ (S.has_failed reader.new ≡ true) }
+    ensures unwritten { IfErr result (λ fault. fault ≢ ReportFault.Write) }
+    ensures pieces { IsErrOf result ReportFault.Pieces → HasTooManyPieces command.now (S.remaining reader.old)
+        (S.remaining reader.new) }
+{
+    let text = read_all(alloc, reader)?;
+    let Ok(cutting) = Cutting::every(text.len(), command.piece) else {
+        return Err(ReportFault::Pieces);
+    };
+    match answer_of(rt, alloc, command, &text, &cutting, gate) {
+        Ok(answer) => Ok(answer),
+        Err(AllocError) => Err(ReportFault::Memory),
+    }
+}
+
+/// How many bytes are read at a time: as many whole pieces as there is room for.
+fn batch_of(piece: usize) -> usize
+    requires { 1 ≤ piece }
+    ensures some { 1 ≤ result }
+    ensures few { result < 2 ^ 32 }
+{
+    if piece < BATCH {
+        BATCH - BATCH % piece
+    } else {
+        BATCH
+    }
+}
+
+/// `report` in batches of so many bytes.
+pub(crate) fn report_by<R: Threads + Wait + Sync, S: Source, W: Sink, G: Gate + Sync>(
+    rt: &R,
+    alloc: Global,
+    reader: &mut S,
+    writer: &mut W,
+    command: &Command,
+    gate: &G,
+    batch: usize,
+) -> Result<Exit, ReportFault>
+    requires reader { S.has_failed reader.old ≡ false }
+    requires writer { W.has_failed writer.old ≡ false }
+    requires piece { 1 ≤ command.now.piece }
+    requires some { 1 ≤ batch }
+    requires few { batch < 2 ^ 32 }
+    // All that the reader had was read, and its whole output was written.
+    ensures ok { IfOk result (λ exit. Reports command.now (S.remaining reader.old) (S.remaining reader.new)
+        (W.contents writer.old) (W.contents writer.new) exit) }
+    ensures read { IsErrOf result ReportFault.Read ↔ (S.has_failed reader.new ≡ true) }
+    ensures write { IsErrOf result ReportFault.Write ↔ (W.has_failed writer.new ≡ true) }
+    // After any other fault the writer is as it was.
+    ensures unwritten { IfErr result (λ fault. fault ≢ ReportFault.Write → writer.new ≡ writer.old) }
+    // After a write fault all was read, and a beginning of its output was written.
+    ensures beginning { IsErrOf result ReportFault.Write → ReportsInPart command.now (S.remaining reader.old)
+        (S.remaining reader.new) (W.contents writer.old) (W.contents writer.new) }
+    // Pieces are too many only where all was read, and it has more of them than there may be.
+    ensures pieces { IsErrOf result ReportFault.Pieces → HasTooManyPieces command.now (S.remaining reader.old)
+        (S.remaining reader.new) }
+{
+    let answer = answer_to_input(rt, alloc, reader, command, gate, batch)?;
+    write_all(writer, shown(command.quiet, &answer.output))?;
+    Ok(answer.exit)
 }
 
 /// Reads to the end of input, builds the whole output by the command's workers, and then writes it, unless the command is
@@ -50,12 +156,13 @@ pub fn report<R: Threads + Wait + Sync, S: Source, W: Sink, G: Gate + Sync>(
     ensures pieces { IsErrOf result ReportFault.Pieces → HasTooManyPieces command.now (S.remaining reader.old)
         (S.remaining reader.new) }
 {
-    let text = read_all(alloc, reader)?;
-    let Ok(cutting) = Cutting::every(text.len(), command.piece) else {
-        return Err(ReportFault::Pieces);
-    };
-    let answer = answer_of(rt, alloc, command, &text, &cutting, gate);
-    let answer = answer.map_err(|_| ReportFault::Memory)?;
-    write_all(writer, shown(command.quiet, &answer.output))?;
-    Ok(answer.exit)
+    report_by(
+        rt,
+        alloc,
+        reader,
+        writer,
+        command,
+        gate,
+        batch_of(command.piece),
+    )
 }

@@ -22,7 +22,7 @@ use Rattle.jx_run.specs.Text.{Begins, IsDocument}
 use Rattle.jx_run.specs.Tree.{Tree}
 use Rattle.jx_run.specs.Verdict.{IsLongestBeginning, Judged, a_text, cut_short, too_deep, stopped}
 use Rattle.jx_run.proofs.Fused.{run}
-use Rattle.jx_run.proofs.LawProofs.{begins_law, complete_law, completed_law, verdict_law}
+use Rattle.jx_run.proofs.LawProofs.{begins_law, complete_law, completed_law, tree_law, verdict_law}
 use Rattle.jx_run.proofs.Theorems.{begins→no_fault, begins-front, went→begins}
 use Rattle.jx_run.proofs.VerdictLaws.{one_verdict_by}
 
@@ -135,6 +135,28 @@ no_second s c u other b = let m = marked s 0 (c ∷ (u ++ b.more)) b.tree b.text
 
 no_third : (s : Settings) (c : ℕ) (u : List ℕ) → (c ≡ 0xbf → ⊥) → BeginsBy s (0xef ∷ 0xbb ∷ c ∷ u) → ⊥
 no_third s c u other b = let m = marked s 0 (0xbb ∷ c ∷ (u ++ b.more)) b.tree b.text in let is : 0xef ∷ 0xbb ∷ c ∷ (u ++ b.more) ≡ 0xef ∷ 0xbb ∷ 0xbf ∷ m.0 = m.1 in let same : c ≡ 0xbf = cc in other same
+
+-- ---- one tree
+
+pub one_tree_by : (s : Settings) (start : ℕ) (bytes : List ℕ) (x y : Tree) → IsDocumentBy s start bytes x → IsDocumentBy s start bytes y → x ≡ y
+one_tree_by s start [] x y d e =
+    let none : IsOther [] = (λ t h. cc) in
+    tree_law start s.depth [] x y (unmarked s start [] x none d) (unmarked s start [] y none e)
+one_tree_by s start (b ∷ t) x y d e = pick (b == 0xef) refl
+  where
+    pick : (v : Bool) → (b == 0xef) ≡ v → x ≡ y
+    pick true q =
+        let same : b ≡ 0xef = grind (arith, nat_tests) in
+        let m = marked s start t x (subst (λ (c : ℕ). IsDocumentBy s start (c ∷ t) x) same d) in
+        let n = marked s start t y (subst (λ (c : ℕ). IsDocumentBy s start (c ∷ t) y) same e) in
+        let first : 0xef ∷ t ≡ 0xef ∷ 0xbb ∷ 0xbf ∷ m.0 = m.1 in
+        let second : 0xef ∷ t ≡ 0xef ∷ 0xbb ∷ 0xbf ∷ n.0 = n.1 in
+        let rest : n.0 ≡ m.0 = cc in
+        tree_law (start + 3) s.depth m.0 x y m.2 (subst (λ (r : List ℕ). IsDocument (start + 3) r s.depth y) rest n.2)
+    pick false q =
+        let differs : b ≢ 0xef = not_from_Decides (b == 0xef) (Decides-eqb b 0xef) q in
+        let other : IsOther (b ∷ t) = (λ z h. let same : b ≡ 0xef = cc in differs same) in
+        tree_law start s.depth (b ∷ t) x y (unmarked s start (b ∷ t) x other d) (unmarked s start (b ∷ t) y other e)
 
 -- ---- the verdict behind so many bytes
 

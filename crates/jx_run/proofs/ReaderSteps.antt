@@ -133,7 +133,7 @@ settle_at b x (Reading.too_deep at) (lexical.state s) is none l = ap (λ (k : �
 settle_at b x (Reading.too_deep at) (lexical.fault i) is none l = ap (λ (k : ℕ). Some (too_deep k)) (fits b at l)
 
 -- no mark is allowed twice where it says no more
-stuck : (d : ℕ) (r : Reading) → r ≡ read_marks d (record { kind = kind.Colon; at = 0 } ∷ record { kind = kind.Colon; at = 0 } ∷ []) r → IsFault r
+pub stuck : (d : ℕ) (r : Reading) → r ≡ read_marks d (record { kind = kind.Colon; at = 0 } ∷ record { kind = kind.Colon; at = 0 } ∷ []) r → IsFault r
 stuck d (Reading.went expect.Value o) h = cc
 stuck d (Reading.went expect.ArrayFirst o) h = cc
 stuck d (Reading.went expect.ObjectFirst o) h = cc

@@ -34,7 +34,7 @@ use Rattle.jx_run.proofs.Fused.{after_turn, after_mark, in_next, run, read-run}
 
 -- ---- no reading comes to more open containers than the depth
 
-abbrev Within : ℕ → Outcome → Type 0
+abbrev pub Within : ℕ → Outcome → Type 0
 Within limit (went s e o) = length o ≤ limit
 Within limit (stopped at) = Unit {0}
 Within limit (too_deep at) = Unit {0}

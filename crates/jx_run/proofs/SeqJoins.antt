@@ -72,7 +72,7 @@ joined_last b m r j mid start jl of xs ys h k =
 
 -- ---- marks on both sides
 
-filled-middle : (ls : List Part) (p : Part) (rs : List Part) → filled (ls ++ p ∷ rs) ≡ filled ls ++ (filled (p ∷ []) ++ filled rs)
+pub filled-middle : (ls : List Part) (p : Part) (rs : List Part) → filled (ls ++ p ∷ rs) ≡ filled ls ++ (filled (p ∷ []) ++ filled rs)
 filled-middle ls p rs =
     filter-append has_bytes ls (p ∷ rs)
     ∙ ap (λ ps. filled ls ++ ps) (filter-append has_bytes (p ∷ []) rs)

@@ -72,26 +72,26 @@ slice-drop text i j k h =
 -- ---- the loop
 
 -- the parts before the rest are read
-pub record IsReadTo (limit : ℕ) (all rest : List Part) (done : List StartedValue) : Type 0 where
+pub record IsReadTo {D : Type 0} (R : Part → D → Type 0) (all rest : List Part) (done : List D) : Type 0 where
   pub between : List Part
   pub are : all ≡ between ++ rest
-  pub readings : AllZip (IsReading limit) (filled between) done
+  pub readings : AllZip R (filled between) done
 
-pub nothing_read : (limit : ℕ) (all : List Part) → IsReadTo limit all all []
-nothing_read limit all = record { between = []; are = refl; readings = tt }
+pub nothing_read : {D : Type 0} (R : Part → D → Type 0) (all : List Part) → IsReadTo R all all []
+nothing_read R all = record { between = []; are = refl; readings = tt }
 
 filled-push : (ps : List Part) (p : Part) → filled (ps ++ p ∷ []) ≡ filled ps ++ filled (p ∷ [])
 filled-push ps p = filter-append has_bytes ps (p ∷ [])
 
-read_more : (limit : ℕ) (all rest : List Part) (p : Part) (done more : List StartedValue) → IsReadTo limit all (p ∷ rest) done
-    → AllZip (IsReading limit) (filled (p ∷ [])) more → IsReadTo limit all rest (done ++ more)
-read_more limit all rest p done more h k =
+read_more : {D : Type 0} (R : Part → D → Type 0) (all rest : List Part) (p : Part) (done more : List D) → IsReadTo R all (p ∷ rest) done
+    → AllZip R (filled (p ∷ [])) more → IsReadTo R all rest (done ++ more)
+read_more R all rest p done more h k =
     record {
       between = h.between ++ p ∷ [];
       are = h.are ∙ sym (append_assoc h.between (p ∷ []) rest);
       readings =
-          subst (λ ps. AllZip (IsReading limit) ps (done ++ more)) (sym (filled-push h.between p))
-          (AllZip-append (IsReading limit) (filled h.between) (filled (p ∷ [])) done more h.readings k);
+          subst (λ ps. AllZip R ps (done ++ more)) (sym (filled-push h.between p))
+          (AllZip-append R (filled h.between) (filled (p ∷ [])) done more h.readings k);
     }
 
 abbrev pub these : Bool → Part → List Part
@@ -103,11 +103,11 @@ has p h = grind (arith, nat_tests)
 pub has_not : (p : Part) → length p.bytes ≡ 0 → has_bytes p ≡ false
 has_not p h = grind (arith, nat_tests)
 
-pub one_reading : (limit : ℕ) (p : Part) (s : StartedValue) → 0 < length p.bytes → IsReading limit p s → AllZip (IsReading limit) (filled (p ∷ [])) (s ∷ [])
-one_reading limit p s h k = subst (λ b. AllZip (IsReading limit) (these b p) (s ∷ [])) (sym (has p h)) (k, tt)
+pub one_reading : {D : Type 0} (R : Part → D → Type 0) (p : Part) (s : D) → 0 < length p.bytes → R p s → AllZip R (filled (p ∷ [])) (s ∷ [])
+one_reading R p s h k = subst (λ b. AllZip R (these b p) (s ∷ [])) (sym (has p h)) (k, tt)
 
-pub no_reading : (limit : ℕ) (p : Part) → length p.bytes ≡ 0 → AllZip (IsReading limit) (filled (p ∷ [])) []
-no_reading limit p h = subst (λ b. AllZip (IsReading limit) (these b p) []) (sym (has_not p h)) tt
+pub no_reading : {D : Type 0} (R : Part → D → Type 0) (p : Part) → length p.bytes ≡ 0 → AllZip R (filled (p ∷ [])) []
+no_reading R p h = subst (λ b. AllZip R (these b p) []) (sym (has_not p h)) tt
 
 -- the parts from here on, where the next mark is at `at`
 abbrev pub rest_at : List ℕ → ℕ → ℕ → List Part
@@ -117,37 +117,37 @@ next_parts : (text : List ℕ) (from at end : ℕ) → before_mark (slice_range 
     → after_marks from (slice_range text from end) ≡ rest_at text (at + 1) end → rest_at text from end ≡ part from (slice_range text from at) ∷ rest_at text (at + 1) end
 next_parts text from at end h k = ap (λ t. part from t ∷ after_marks from (slice_range text from end)) h ∙ ap (λ ps. part from (slice_range text from at) ∷ ps) k
 
-module _ (limit : ℕ) (text : List ℕ) (start from at end : ℕ) (done : List StartedValue) where
-  pub read_one : (s : StartedValue) → from < at → at ≤ length text → before_mark (slice_range text from end) ≡ slice_range text from at
-      → after_marks from (slice_range text from end) ≡ rest_at text (at + 1) end → IsReading limit (part from (slice_range text from at)) s
-      → IsReadTo limit (rest_at text start end) (rest_at text from end) done → IsReadTo limit (rest_at text start end) (rest_at text (at + 1) end) (done ++ s ∷ [])
+module _ {D : Type 0} (R : Part → D → Type 0) (text : List ℕ) (start from at end : ℕ) (done : List D) where
+  pub read_one : (s : D) → from < at → at ≤ length text → before_mark (slice_range text from end) ≡ slice_range text from at
+      → after_marks from (slice_range text from end) ≡ rest_at text (at + 1) end → R (part from (slice_range text from at)) s
+      → IsReadTo R (rest_at text start end) (rest_at text from end) done → IsReadTo R (rest_at text start end) (rest_at text (at + 1) end) (done ++ s ∷ [])
   read_one s low high h k r so_far =
       let long : length (slice_range text from at) ≡ at - from = length-between text from at high in
-      read_more limit (rest_at text start end) (rest_at text (at + 1) end) (part from (slice_range text from at)) done (s ∷ [])
-      (subst (λ ps. IsReadTo limit (rest_at text start end) ps done) (next_parts text from at end h k) so_far)
-      (one_reading limit (part from (slice_range text from at)) s (omega arith) r)
+      read_more R (rest_at text start end) (rest_at text (at + 1) end) (part from (slice_range text from at)) done (s ∷ [])
+      (subst (λ ps. IsReadTo R (rest_at text start end) ps done) (next_parts text from at end h k) so_far)
+      (one_reading R (part from (slice_range text from at)) s (omega arith) r)
 
   pub read_none : at ≤ from → at ≤ length text → before_mark (slice_range text from end) ≡ slice_range text from at
       → after_marks from (slice_range text from end) ≡ rest_at text (at + 1) end
-      → IsReadTo limit (rest_at text start end) (rest_at text from end) done → IsReadTo limit (rest_at text start end) (rest_at text (at + 1) end) done
+      → IsReadTo R (rest_at text start end) (rest_at text from end) done → IsReadTo R (rest_at text start end) (rest_at text (at + 1) end) done
   read_none low high h k so_far =
       let long : length (slice_range text from at) ≡ at - from = length-between text from at high in
       let none : length (slice_range text from at) ≡ 0 = omega arith in
-      subst (IsReadTo limit (rest_at text start end) (rest_at text (at + 1) end)) (append-nil done)
-      (read_more limit (rest_at text start end) (rest_at text (at + 1) end) (part from (slice_range text from at)) done []
-      (subst (λ ps. IsReadTo limit (rest_at text start end) ps done) (next_parts text from at end h k) so_far)
-      (no_reading limit (part from (slice_range text from at)) none))
+      subst (IsReadTo R (rest_at text start end) (rest_at text (at + 1) end)) (append-nil done)
+      (read_more R (rest_at text start end) (rest_at text (at + 1) end) (part from (slice_range text from at)) done []
+      (subst (λ ps. IsReadTo R (rest_at text start end) ps done) (next_parts text from at end h k) so_far)
+      (no_reading R (part from (slice_range text from at)) none))
 
-  pub read_all : (after : TextRunValue) → after_marks from (slice_range text from end) ≡ [] → after.map.start ≡ from → after.limit ≡ limit
-      → IsTextRun (slice_range text from end) after → IsReadTo limit (rest_at text start end) (rest_at text from end) done
-      → IsMarked limit (rest_at text start end) (record { done = done; after = after })
-  read_all after none here deep of so_far =
-      record {
-        between = so_far.between;
-        last = part from (before_mark (slice_range text from end));
-        parts = so_far.are ∙ ap (λ ps. so_far.between ++ part from (before_mark (slice_range text from end)) ∷ ps) none;
-        done = so_far.readings;
-        start = here;
-        depth = deep;
-        after = subst (λ t. IsTextRun t after) (sym (unmarked-before (slice_range text from end) from none)) of;
-      }
+pub read_all : (limit : ℕ) (text : List ℕ) (start from end : ℕ) (done : List StartedValue) (after : TextRunValue) → after_marks from (slice_range text from end) ≡ [] → after.map.start ≡ from → after.limit ≡ limit
+    → IsTextRun (slice_range text from end) after → IsReadTo (IsReading limit) (rest_at text start end) (rest_at text from end) done
+    → IsMarked limit (rest_at text start end) (record { done = done; after = after })
+read_all limit text start from end done after none here deep of so_far =
+    record {
+      between = so_far.between;
+      last = part from (before_mark (slice_range text from end));
+      parts = so_far.are ∙ ap (λ ps. so_far.between ++ part from (before_mark (slice_range text from end)) ∷ ps) none;
+      done = so_far.readings;
+      start = here;
+      depth = deep;
+      after = subst (λ t. IsTextRun t after) (sym (unmarked-before (slice_range text from end) from none)) of;
+    }

@@ -1,4 +1,7 @@
+pub mod Beside
+pub mod ElementVerdict
 pub mod Elements
+pub mod ElementsRun
 pub mod Front
 pub mod Grammar
 pub mod Joins
@@ -14,8 +17,10 @@ pub mod Text
 pub mod TextRun
 pub mod Tree
 pub mod Turns
+pub mod Unclosed
 pub mod Verdict
 pub mod Whole
 pub mod Kept
 pub mod Reader
 pub mod ReaderInside
+pub mod RunReaderInside

@@ -1,6 +1,6 @@
 -- What a contract sees of a reader that is fed a text from its start.
-use Rattle.std.specs.Prelude.{◌≡◌, ℕ, List, length, Option, Some, None}
-use Rattle.jx_run.specs.Reading.{Outcome, read_text}
+use Rattle.std.specs.Prelude.{◌≡◌, ℕ, List, length, Option, Some, None, Bool, true, false}
+use Rattle.jx_run.specs.Reading.{Outcome, went, stopped, too_deep, read_text}
 
 pub record ReaderValue : Type 0 where
   pub limit : ℕ
@@ -18,3 +18,10 @@ pub record HasRead (bytes : List ℕ) (reader : ReaderValue) : Type 0 where
 -- memory was refused, and every slice will be
 abbrev pub HasFailed : ReaderValue → Type 0
 HasFailed reader = reader.outcome ≡ None
+
+-- a fault was met, and no byte behind it changes the verdict
+abbrev pub is_fault : Option Outcome → Bool
+is_fault (Some (went s e o)) = false
+is_fault (Some (stopped at)) = true
+is_fault (Some (too_deep at)) = true
+is_fault None = false

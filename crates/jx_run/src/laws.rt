@@ -8,7 +8,9 @@ ghost use Rattle.jx_run.specs.Text.{Begins, IsDocument, Reads};
 ghost use Rattle.jx_run.specs.Reading.{read_text};
 ghost use Rattle.jx_run.specs.Laws.{Accepts, BeginsAtSomeDepth, FaultsAt, FaultsTooDeep, MeetsNoFault, span_of, verdict_of};
 ghost use Rattle.jx_run.specs.Verdict.{IsLongestBeginning, Judged};
+ghost use Rattle.jx_run.specs.Front.{front_of, IsTold};
 ghost use Rattle.jx_run.specs.Settings.{BeginsBy, IsDocumentBy, JudgedBy};
+ghost use Rattle.jx_run.specs.declared.settings.FrontMark.{FrontMark};
 ghost use Rattle.jx_run.specs.declared.settings.FrontMark.TheVariants.{Refused};
 ghost use Rattle.jx_run.specs.declared.settings.Settings.{Settings};
 ghost use Rattle.jx_run.specs.declared.verdict.Verdict.{Verdict};
@@ -54,9 +56,19 @@ pub fn verdict_by_settings_is_one()
     ensures one_verdict { (settings : Settings) (at : ℕ) (bytes : List ℕ) (x y : Verdict) → JudgedBy settings at bytes x → JudgedBy settings at bytes y → x ≡ y }
 {}
 
+/// A text by settings has one tree.
+pub fn text_by_settings_has_one_tree()
+    ensures one_tree { (settings : Settings) (at : ℕ) (bytes : List ℕ) (x y : Tree) → IsDocumentBy settings at bytes x → IsDocumentBy settings at bytes y → x ≡ y }
+{}
+
 /// Where a byte order mark is refused, texts, beginnings and verdicts are those of the grammar alone.
 pub fn a_refused_mark_changes_nothing()
     ensures texts { (settings : Settings) (at : ℕ) (bytes : List ℕ) (tree : Tree) → settings.mark ≡ Refused → IsDocumentBy settings at bytes tree ↔ IsDocument at bytes settings.depth tree }
     ensures begins { (settings : Settings) (bytes : List ℕ) → settings.mark ≡ Refused → BeginsBy settings bytes ↔ Begins bytes settings.depth }
     ensures verdict { (settings : Settings) (at : ℕ) (bytes : List ℕ) (verdict : Verdict) → settings.mark ≡ Refused → JudgedBy settings at bytes verdict ↔ Judged at bytes settings.depth verdict }
+{}
+
+/// What stands in front of a text decides where the verdict by settings begins, or refuses the text.
+pub fn fronts_decide_where_texts_begin()
+    ensures told { (mark : FrontMark) (text : List ℕ) → IsTold mark text (front_of mark text) }
 {}

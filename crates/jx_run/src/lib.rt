@@ -2,24 +2,32 @@
 #![tactic(auto)]
 
 mod byte_order_mark;
+mod element_verdict;
+mod elements_run;
+#[cfg(test)]
+mod elements_tests;
 #[cfg(test)]
 mod front_tests;
 mod joins;
 mod laws;
 mod marked;
+mod marked_elements;
 mod marks;
+mod one_pass;
+mod open_end;
 mod outcome_run;
+mod part_run;
 mod reader;
 #[cfg(test)]
 mod reader_tests;
 mod reduce;
+mod run_reader;
 mod seq_run;
 #[cfg(test)]
 mod sequence_tests;
 mod settings;
 mod shape;
 mod started;
-mod states;
 mod summary;
 #[cfg(test)]
 mod tests;
@@ -28,12 +36,17 @@ mod verdict;
 mod way;
 
 pub use byte_order_mark::front;
+pub use element_verdict::{ElementVerdict, JudgedElement};
+pub use elements_run::ElementsRun;
 pub use laws::{
-    a_refused_mark_changes_nothing, beginnings_are_completed_by_bytes, reader_is_grammar,
+    a_refused_mark_changes_nothing, beginnings_are_completed_by_bytes,
+    fronts_decide_where_texts_begin, reader_is_grammar, text_by_settings_has_one_tree,
     text_has_one_tree, values_fill_their_spans, verdict_by_settings_is_one, verdict_is_one,
 };
+pub use one_pass::{NoPause, Pace, Told, read_into};
 pub use outcome_run::OutcomeRun;
 pub use reader::Reader;
+pub use run_reader::RunReader;
 pub use seq_run::SeqRun;
 pub use settings::{Front, FrontMark, Settings};
 pub use shape::Shape;

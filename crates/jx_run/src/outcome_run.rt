@@ -17,7 +17,6 @@ ghost use Rattle.jx_run.specs.Whole.{ends_text, verdict_from};
 
 use crate::joins::{Joins, Pair};
 use crate::reduce::all_ways;
-use crate::states::{all_states, place_of};
 use crate::summary::Summary;
 use crate::verdict::{Refusal, Verdict};
 use crate::way::Way;
@@ -64,7 +63,7 @@ fn ends_text(state: LexState, expect: Expect, containers: usize) -> bool
 }
 
 /// The verdict on a whole text, from where its track ends and from what its marks come to.
-fn verdict_from(exit: Exit, whole: Whole) -> Verdict
+pub(crate) fn verdict_from(exit: Exit, whole: Whole) -> Verdict
     ensures { result ≡ verdict_from exit whole }
 {
     match (whole, exit) {
@@ -165,7 +164,7 @@ impl OutcomeRun {
         ensures all { length self.now.ways ≡ 32 }
         ensures few { length self.now.structures ≤ 32 }
     {
-        self.ways[place_of(state)]
+        self.ways[state.number()]
     }
 
     fn structure(&self, number: usize) -> &Reductions
@@ -252,7 +251,7 @@ impl OutcomeRun {
         requires depth { self.now.limit ≡ right.now.limit }
         ensures joined { IfOk result (λ j. AreJoined self.now right.now j.0.items j.1.items) }
     {
-        let states = all_states();
+        let states = LexState::all();
         let mut joins = Joins::new(self.allocator());
         let mut ways = Vec::with_capacity(self.allocator(), states.len())?;
         for place in 0..states.len() {

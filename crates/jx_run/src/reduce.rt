@@ -9,7 +9,6 @@ ghost use Rattle.jx_run.specs.Joins.{IsAbove};
 ghost use Rattle.jx_run.specs.OutcomeRun.{IsWithin};
 ghost use Rattle.jx_run.specs.Reduced.{path_at, AreInside, ArePaths, AreReduced, AreRising, AreWaysOf, IsAt, IsReduced};
 
-use crate::states::all_states;
 use crate::way::Way;
 use jx_lex::{ChunkMap, Depth, LexState, Path, Segment, TrackView};
 use jx_reduce::Reductions;
@@ -178,7 +177,7 @@ pub(crate) fn all_ways(
         numbers: none(alloc, count + 1)?,
         structures: Vec::new(alloc),
     };
-    let states = all_states();
+    let states = LexState::all();
     let mut ways = Vec::with_capacity(alloc, states.len())?;
     for place in 0..states.len() {
         let state = states[place];

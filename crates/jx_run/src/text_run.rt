@@ -1,5 +1,6 @@
 // Runs over parts of a JSON text.
 ghost use Rattle.std.specs.Prelude.{◌≡◌, ◌≤◌, ℕ, List, ◌++◌, length, Some, slice_range, IfOk, IfErr};
+ghost use Rattle.jx_lex.specs.declared.state.LexState.TheVariants.{Gap};
 ghost use Rattle.jx_lex.specs.Map.{track};
 ghost use Rattle.jx_lex.specs.View.{exit_of};
 ghost use Rattle.jx_reduce.specs.Fits.{IsOfSize};
@@ -16,7 +17,7 @@ use crate::outcome_run::OutcomeRun;
 use crate::started::Started;
 use crate::summary::Summary;
 use crate::verdict::Verdict;
-use jx_lex::{ChunkMap, Depth, Exit, JoinFault, LexState, Mark, Span};
+use jx_lex::{ChunkMap, Depth, Ends, Exit, JoinFault, LexState, Mark, Marks, Span};
 use jx_reduce::{Expect, Reduced};
 use std::alloc::{AllocError, Global};
 use std::marker::Model;
@@ -59,6 +60,21 @@ impl TextRun {
     {
         let (marks, ends) = self.copy_track(LexState::Gap)?;
         Ok(Started::new(self.map.span(), self.depth(), marks, ends, self.verdict()))
+    }
+
+    /// The marks of the reading from the start of a text, in order, read where they lie.
+    pub fn marks(&self) -> Marks<'_>
+        ensures all { result ≡ (track self.now.map Gap).marks }
+    {
+        self.map.entry(LexState::Gap).marks()
+    }
+
+    /// The ends of the strings, numbers and literals of that reading, in order, each just past the token's last byte. A
+    /// number that ends with the bytes has none.
+    pub fn ends(&self) -> Ends<'_>
+        ensures all { result ≡ (track self.now.map Gap).ends }
+    {
+        self.map.entry(LexState::Gap).ends()
     }
 
     /// Where reading from a state ends, or the offset at which the lexical machine faults.

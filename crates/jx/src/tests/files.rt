@@ -3,10 +3,12 @@ ghost use Rattle.std.specs.Prelude.{◌≡◌};
 
 use crate::fault::Fault;
 use crate::input::report_on;
+use crate::lines::text_of;
 use jx_claim::Workers;
 use jx_command::{Command, Task};
 use jx_lex::Depth;
 use jx_report::{End, Exit, ReportFault};
+use jx_run::{FrontMark, Settings};
 use std::sync::Wait;
 use std::test::Fail;
 use std::thread::Threads;
@@ -17,7 +19,10 @@ fn check() -> Command
 {
     Command {
         task: Task::Check,
-        depth: Depth::default(),
+        settings: Settings {
+            depth: Depth::default(),
+            mark: FrontMark::Refused,
+        },
         workers: Workers::new(2).unwrap(),
         piece: 65536,
         quiet: false,
@@ -63,5 +68,31 @@ fn what_is_not_there_does_not_open(rt: HostRuntime) -> Result<(), Fail> {
     let (answer, output) = checked(&rt, &rt, path.as_str());
     assert!(rt; matches!(answer, Err(Fault::Open)));
     assert!(rt; output.is_empty());
+    Ok(())
+}
+
+// What a file of these bytes is as lines of pointers.
+fn text_in(rt: &HostRuntime, name: &str, bytes: &[u8]) -> Result<Result<String, Fault>, Fail> {
+    let name = format!(in rt.alloc(); "jx-test-{}-{name}", process::id(rt.process()))?;
+    let path = env::temp_dir(rt)?.join(rt.alloc(), name.as_str())?;
+    fs::write(rt, &path, bytes)?;
+    let text = text_of(rt, path.as_str());
+    fs::remove_file(rt, &path)?;
+    Ok(text)
+}
+
+#[test]
+fn lines_of_a_file(rt: HostRuntime) -> Result<(), Fail> {
+    let Ok(text) = text_in(&rt, "lines", b"/a\r\n\xC3\xA9")? else {
+        return Err("it is read".into());
+    };
+    assert_eq!(rt; text.as_str(), "/a\r\n\u{E9}");
+    let bytes = text_in(&rt, "bytes", b"/a\n\xFF\n")?;
+    assert!(rt; matches!(bytes, Err(Fault::NotText)));
+    let folder = env::temp_dir(&rt)?;
+    let read = text_of(&rt, folder.as_str());
+    assert!(rt; matches!(read, Err(Fault::Report(ReportFault::Read))));
+    let missing = folder.join(rt.alloc(), "jx-test-no-such-list")?;
+    assert!(rt; matches!(text_of(&rt, missing.as_str()), Err(Fault::Open)));
     Ok(())
 }

@@ -55,6 +55,29 @@ fn what_stopped_workers_left_is_read_too(rt: HostRuntime) -> Result<(), Fail> {
 }
 
 #[test]
+fn the_first_bytes_may_be_left_out(rt: HostRuntime) -> Result<(), Fail> {
+    let alloc = rt.alloc();
+    let text: &[u8] = b"\xEF\xBB\xBF[1]";
+    let depth = Depth::default();
+    let workers = Workers::new(2).ok_or("workers")?;
+    let Ok(cutting) = Cutting::every(text.len(), 2) else {
+        return Err("a cutting".into());
+    };
+    let cutting = cutting.without_front(3);
+    for number in 0..3 {
+        let gate = StopAt(number);
+        let run: Held<'_, Copied> = read_whole(&rt, alloc, text, &cutting, workers, depth, &gate)?;
+        assert_eq!(rt; run.span(), Span { start: 3, end: 6 });
+        assert_eq!(rt;
+            run.run().bytes(),
+            b"[1]".as_slice(),
+            "without piece {number}"
+        );
+    }
+    Ok(())
+}
+
+#[test]
 fn an_empty_text_gives_the_empty_run(rt: HostRuntime) -> Result<(), Fail> {
     let alloc = rt.alloc();
     let workers = Workers::new(2).ok_or("workers")?;

@@ -87,6 +87,24 @@ fn without_the_first_bytes_at_cuts(rt: HostRuntime) -> Result<(), Fail> {
 }
 
 #[test]
+fn a_copy_has_the_same_pieces(rt: HostRuntime) -> Result<(), Fail> {
+    let alloc = rt.alloc();
+    for cutting in [
+        Cutting::every(10, 4)?.without_front(3),
+        Cutting::at(alloc, 10, &[3, 9])?.without_front(5),
+    ] {
+        let copy = cutting.copy(alloc)?;
+        assert_eq!(rt; copy.len(), cutting.len());
+        assert_eq!(rt; copy.front(), cutting.front());
+        assert_eq!(rt;
+            pieces(alloc, &copy)?.as_slice(),
+            pieces(alloc, &cutting)?.as_slice()
+        );
+    }
+    Ok(())
+}
+
+#[test]
 fn an_empty_text_has_no_piece(rt: HostRuntime) -> Result<(), Fail> {
     assert_eq!(rt; Cutting::at(rt.alloc(), 0, &[])?.count(), 0);
     assert_eq!(rt; Cutting::every(0, 4)?.count(), 0);

@@ -1,5 +1,5 @@
 // Answers in a form that can be compared, without taking memory.
-use jx_answer::{Element, ElementAnswer, TextAnswer};
+use jx_answer::{Answer, Element, ElementAnswer, TextAnswer};
 use jx_lex::Span;
 use jx_run::Refusal;
 
@@ -58,4 +58,13 @@ pub fn has_spans(answer: &TextAnswer<'_>, spans: &[(usize, usize)]) -> bool {
         }
         TextAnswer::Refused(_) => false,
     }
+}
+
+/// Whether each pointer is found at its span, where it has one, and else is lost.
+pub fn are_found(found: &[Answer], spans: &[Option<(usize, usize)>]) -> bool {
+    found.len() == spans.len()
+        && found.iter().zip(spans).all(|(answer, span)| match answer {
+            Answer::Found { span: there, .. } => Some((there.start, there.end)) == *span,
+            Answer::Fault(_) => span.is_none(),
+        })
 }

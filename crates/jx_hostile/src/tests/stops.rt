@@ -1,14 +1,17 @@
 // Workers that are stopped: what they left is read by the calling thread, and the answer is the same.
-ghost use Rattle.std.specs.Prelude.{◌≡◌, length};
-
-use crate::tests::answers::{are_told, has_spans};
-use crate::tests::inputs::{ELEMENTS, SEQUENCE, TEXTS};
-use jx_answer::{index_sequence, index_text};
-use jx_book::{Event, Gate, Go};
+use crate::tests::answers::{are_found, are_told, has_spans};
+use crate::tests::inputs::{ELEMENTS, SEQUENCE, TEXTS, UNSORTED};
+use jx_answer::{TextAnswer, find_all, index_sequence, index_text};
+use jx_book::{Event, Gate, Go, OpenGate};
 use jx_claim::{Cutting, Workers};
+use jx_index::Pointer;
 use jx_lex::Depth;
+use std::alloc::Global;
+use std::process::Abort;
+use std::sync::Wait;
 use std::sync::atomic::{AtomicBool, AtomicU64, Ordering};
 use std::test::Fail;
+use std::thread::Threads;
 
 /// Stops at the event of this number, counted from 0, and at all later ones.
 #[derive(Drop)]
@@ -83,6 +86,51 @@ fn sequences_whose_workers_stop(rt: HostRuntime) -> Result<(), Fail> {
             }
         }
         assert!(rt; ended);
+    }
+    Ok(())
+}
+
+// Look-ups by that many workers, who stop from each event on in turn until a run meets no stop.
+fn check_look_ups<R: Abort + Threads + Wait + Sync>(
+    rt: &R,
+    alloc: Global,
+    count: u8,
+) -> Result<(), Fail> {
+    let workers = Workers::new(count).ok_or("workers")?;
+    let cutting = Cutting::every(UNSORTED.len(), 4)?;
+    let depth = Depth::default();
+    let answer = index_text(rt, alloc, UNSORTED, &cutting, workers, depth, &OpenGate)?;
+    let TextAnswer::Accepted(index) = answer else {
+        return Err("a text".into());
+    };
+    let (Ok(root), Ok(name), Ok(repeated), Ok(missing)) = (
+        Pointer::read(""),
+        Pointer::read("/a"),
+        Pointer::read("/b"),
+        Pointer::read("/c"),
+    ) else {
+        return Err("four pointers".into());
+    };
+    let pointers = [root, name, repeated, missing];
+    let spans = [Some((0, 19)), Some((11, 12)), None, None];
+    let mut ended = false;
+    for number in 0..MANY {
+        let gate = StopFrom::new(number);
+        let found = find_all(rt, alloc, &index, &pointers, workers, &gate)?;
+        assert!(rt; are_found(&found, &spans), "stopped at {number}");
+        if !gate.has_stopped.load(Ordering::SeqCst) {
+            ended = true;
+            break;
+        }
+    }
+    assert!(rt; ended);
+    Ok(())
+}
+
+#[test]
+fn look_ups_whose_workers_stop(rt: HostRuntime) -> Result<(), Fail> {
+    for count in [1, 2, 5] {
+        check_look_ups(&rt, rt.alloc(), count)?;
     }
     Ok(())
 }

@@ -9,6 +9,7 @@ use jx_book::OpenGate;
 use jx_claim::Workers;
 use jx_command::{Command, Task};
 use jx_lex::Depth;
+use jx_run::{FrontMark, Settings};
 use std::alloc::{AllocError, Global};
 use std::sync::Wait;
 use std::thread::Threads;
@@ -19,7 +20,10 @@ pub fn command(task: Task, containers: u32) -> Command
 {
     Command {
         task,
-        depth: Depth::new(containers).unwrap_or_default(),
+        settings: Settings {
+            depth: Depth::new(containers).unwrap_or_default(),
+            mark: FrontMark::Refused,
+        },
         workers: Workers::new(5).unwrap(),
         piece: 1,
         quiet: false,

@@ -25,6 +25,20 @@ impl Read for FailingReader<'_> {
     }
 }
 
+/// Gives as many zeros as are left, all that there is room for at each call.
+#[derive(Drop)]
+pub struct Zeros {
+    pub left: usize,
+}
+
+impl Read for Zeros {
+    fn read(&mut self, buf: &mut [u8]) -> io::Result<usize> {
+        let count = self.left.min(buf.len());
+        self.left -= count;
+        Ok(count)
+    }
+}
+
 /// What a writer does at the call at which it fails.
 #[derive(Clone, Copy)]
 pub enum Refusal {

@@ -7,9 +7,12 @@ const NOBODY: u64 = u64::MAX;
 /// How often the worker that is held looks whether it may go on.
 const TURNS: u32 = 200_000_000;
 
-/// Holds the worker that is the first to draw until another one has put a run into the book or taken one out.
+/// Holds the worker that is the first to draw, behind as many draws as are said, until another one has put a run into the
+/// book or taken one out.
 #[derive(Drop)]
 pub struct Meeting {
+    passing: u64,
+    draws: AtomicU64,
     first: AtomicU64,
     other_came: AtomicBool,
     waited_in_vain: AtomicBool,
@@ -17,7 +20,13 @@ pub struct Meeting {
 
 impl Meeting {
     pub fn new() -> Meeting {
+        Meeting::behind(0)
+    }
+
+    pub fn behind(passing: u64) -> Meeting {
         Meeting {
+            passing,
+            draws: AtomicU64::new(0),
             first: AtomicU64::new(NOBODY),
             other_came: AtomicBool::new(false),
             waited_in_vain: AtomicBool::new(false),
@@ -33,8 +42,18 @@ impl Meeting {
         self.waited_in_vain.store(true, Ordering::SeqCst);
     }
 
+    fn meet(&self, worker: usize) {
+        let first = self
+            .first
+            .compare_exchange(NOBODY, worker as u64, Ordering::SeqCst, Ordering::SeqCst);
+        if first.is_ok() {
+            self.hold();
+        }
+    }
+
     fn note(&self, worker: usize) {
-        if self.first.load(Ordering::SeqCst) != worker as u64 {
+        let first = self.first.load(Ordering::SeqCst);
+        if first != NOBODY && first != worker as u64 {
             self.other_came.store(true, Ordering::SeqCst);
         }
     }
@@ -49,11 +68,8 @@ impl Gate for Meeting {
     fn pass(&self, event: Event) -> Go {
         match event {
             Event::Drew { worker, .. } => {
-                let first = self
-                    .first
-                    .compare_exchange(NOBODY, worker as u64, Ordering::SeqCst, Ordering::SeqCst);
-                if first.is_ok() {
-                    self.hold();
+                if self.draws.fetch_add(1, Ordering::SeqCst) >= self.passing {
+                    self.meet(worker);
                 }
             }
             Event::Stored { worker } | Event::Took { worker } => self.note(worker),

@@ -1,5 +1,5 @@
 use Rattle.std.proofs.Common.{rules, sym, subst, ap, ◌∙◌}
-use Rattle.jx_answer.specs.Sequence.{EndsUnclosed}
+use Rattle.jx_run.specs.Unclosed.{EndsUnclosed}
 use Rattle.jx_answer.proofs.Roots.{accepted_as, text_in, ends_at, spans_at}
 use Rattle.jx_answer.proofs.sequences.answer_of.Goals as goal
 

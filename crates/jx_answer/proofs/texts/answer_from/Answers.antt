@@ -1,14 +1,44 @@
-use Rattle.std.proofs.Common.{rules, ◌∙◌}
-use Rattle.jx_answer.proofs.Whole.{judged_whole, index_whole}
+use Rattle.std.proofs.Common.{ℕ, length, ap, sym, subst, ◌∙◌}
+use Rattle.std.specs.Prelude.{slice_range}
+use Rattle.jx_run.specs.declared.verdict.Verdict.TheVariants.{Accepted, Refused}
+use Rattle.jx_run.specs.Text.{IsText}
+use Rattle.jx_run.specs.TextRun.{IsTextRun}
+use Rattle.jx_run.specs.Tree.{span}
+use Rattle.jx_run.specs.Verdict.{Judged}
+use Rattle.jx_answer.specs.Settled.{rest_from}
+use Rattle.jx_answer.proofs.Whole.{read_rest}
 use Rattle.jx_answer.proofs.texts.answer_from.Goals as goal
 
-pub returns : goal.returns
-returns c =
+pub of_run-requires-clause-of : goal.of_run-requires-clause-of
+of_run-requires-clause-of c =
+    let run = c.args.run.now in
+    subst (λ (n : ℕ). IsTextRun (slice_range c.args.text.now run.map.start n) run) (sym c.requires.end) c.requires.of
+
+pub of_run-requires-clause-accepted : goal.of_run-requires-clause-accepted
+of_run-requires-clause-accepted c =
     let text = c.args.text.now in
-    let limit = c.args.run.now.limit in
-    let s = c.in_ok-started.started in
-    let is = c.in_ok-started.ensures in
-    let place = is.place ∙ c.requires.place in
-    let judged = judged_whole text limit s place is.limit (is.started text c.requires.of) (search rules) in
-    let index = c.in_ok-index-in-Accepted in
-    record { answer = (judged, index_whole text limit s index.index place judged index.ensures.text index.ensures.place index.ensures.rows) }
+    let run = c.args.run.now in
+    subst (λ (n : ℕ). Judged run.map.start (slice_range text run.map.start n) run.limit Accepted) (sym c.requires.end)
+    (subst (Judged run.map.start (rest_from run.map.start text) run.limit) c.in-Accepted.is (c.verdict.ensures.verdict (rest_from run.map.start text) c.requires.of))
+
+pub returns-in-Refused : goal.returns-in-Refused
+returns-in-Refused c =
+    let text = c.args.text.now in
+    let run = c.args.run.now in
+    record { answer = subst (Judged run.map.start (rest_from run.map.start text) run.limit) c.in-Refused.is (c.verdict.ensures.verdict (rest_from run.map.start text) c.requires.of) }
+
+pub returns-in_ok-index-in-Accepted : goal.returns-in_ok-index-in-Accepted
+returns-in_ok-index-in-Accepted c =
+    let text = c.args.text.now in
+    let run = c.args.run.now in
+    let start = run.map.start in
+    let index = c.in_ok-index-in-Accepted.index in
+    let e = c.in_ok-index-in-Accepted.ensures in
+    let judged = subst (Judged start (rest_from start text) run.limit) c.in-Accepted.is (c.verdict.ensures.verdict (rest_from start text) c.requires.of) in
+    record {
+      answer = (
+        judged,
+        read_rest text start run.limit index judged e.text (e.place ∙ ap (λ (n : ℕ). span start n) c.requires.end)
+            (λ limit tree t. e.rows limit tree (subst (λ (n : ℕ). IsText text start n limit tree) (sym c.requires.end) t)),
+      );
+    }

@@ -4,7 +4,7 @@ ghost use Rattle.jx_run.specs.OutcomeRun.{place_of};
 
 use crate::tests::inputs::{FIVE_ROWS, NESTED, REPEATED, SEQUENCE, UNSORTED};
 use jx_lex::{Depth, JoinFault, Span};
-use jx_run::{OutcomeRun, SeqRun, Shape, Summary, TextRun, Verdict};
+use jx_run::{OutcomeRun, Reader, Refusal, SeqRun, Shape, Summary, TextRun, Verdict};
 use std::alloc::{AllocError, Global};
 use std::process::Abort;
 use std::test::Fail;
@@ -125,6 +125,34 @@ fn sequence_runs_under_a_refused_growth(rt: HostRuntime) -> Result<(), Fail> {
         assert_eq!(rt; done[0].verdict(), Verdict::Accepted);
         assert_eq!(rt; done[1].verdict(), Verdict::Accepted);
         assert_eq!(rt; after.span(), Span { start: 13, end: 16 });
+    }
+    Ok(())
+}
+
+// Feeds a text by slices of so many bytes, and gives the verdict.
+fn fed(reader: &mut Reader, text: &[u8], size: usize) -> Result<Verdict, AllocError> {
+    for slice in text.chunks(size.max(1)) {
+        if reader.end() < 1_000_000 && slice.len() < 1_000_000 {
+            reader.feed(slice)?;
+        }
+    }
+    Ok(reader.verdict())
+}
+
+#[test]
+fn readers_under_a_refused_growth(rt: HostRuntime) -> Result<(), Fail> {
+    let mut text = [b'['; 201];
+    text[200] = b'}';
+    for size in [1, 7, 201] {
+        let mut reader = Reader::new(rt.alloc(), Depth::default(), 0);
+        let verdict = match fed(&mut reader, text.as_slice(), size) {
+            Ok(verdict) => verdict,
+            Err(_) => {
+                reader.reset(0);
+                fed(&mut reader, text.as_slice(), size)?
+            }
+        };
+        assert_eq!(rt; verdict, Verdict::Refused(Refusal::Stopped { at: 200 }));
     }
     Ok(())
 }

@@ -3,7 +3,7 @@ use Rattle.std.proofs.lemmas.List.{take_all}
 use Rattle.jx_lex.specs.Follow.{Part}
 use Rattle.jx_lex.proofs.Many.{Apart, Apart-none, Apart-state, Apart-out, Apart-single, take-next}
 use Rattle.jx_lex.proofs.many_tracks.are_many_apart.Goals as goal
-use Rattle.jx_lex.proofs.many_tracks.are_many_apart.Goals.{in-State+else-seen-ordinal, in_default}
+use Rattle.jx_lex.proofs.many_tracks.are_many_apart.Goals.{in-State+else-seen-number, in_default}
 
 pub loop-i-init : goal.loop-i-init
 loop-i-init c = record { apart = Apart-none; few = omega arith }
@@ -19,15 +19,15 @@ loop-i-preserved c =
     record {
       apart = subst (λ (qs : List Part). Apart c.match-next.seen qs) (sym (take-next ps i p c.loop-i-test.true c.index-segments-i.is))
           (elim c.match-next.branch [
-            | in-State+else-seen-ordinal w ↦ (
+            | in-State+else-seen-number w ↦ (
                 let s = w.in-State.state in
-                subst (λ (l : List Bool). Apart l (take i ps ++ p ∷ [])) (sym (w.seen-is ∙ ap (λ n. set seen n true) w.ordinal-in-State.ensures.place))
-                (Apart-state seen (take i ps) p s v (sym w.in-State.ensures) (rw w.ordinal.ensures.place at w.if-seen-ordinal.false)))
+                subst (λ (l : List Bool). Apart l (take i ps ++ p ∷ [])) (sym (w.seen-is ∙ ap (λ n. set seen n true) w.number-in-State.ensures.place))
+                (Apart-state seen (take i ps) p s v (sym w.in-State.ensures) (rw w.number.ensures.place at w.if-seen-number.false)))
             | in_default w ↦
                 subst (λ (l : List Bool). Apart l (take i ps ++ p ∷ [])) (sym w.seen-is) (Apart-out seen (take i ps) p v (λ s e. w.in_default.not-State s (c.next.ensures ∙ e)))
           ]);
       few = elim c.match-next.branch [
-        | in-State+else-seen-ordinal w ↦ (let n = w.standing-is in omega (arith, few, n))
+        | in-State+else-seen-number w ↦ (let n = w.standing-is in omega (arith, few, n))
         | in_default w ↦ (let n = w.standing-is in omega (arith, few, n))
       ];
     }

@@ -19,7 +19,7 @@ loop-i-preserved c =
     subst (λ (qs : List Part). StandIn c.match-next.live qs) (sym (take-next ps i p c.loop-i-test.true c.index-segments-i.is))
     (elim c.match-next.branch [
       | in-State w ↦
-          subst (λ (l : List Bool). StandIn l (take i ps ++ p ∷ [])) (sym (w.live-is ∙ ap (λ n. set live n true) w.ordinal.ensures.place))
+          subst (λ (l : List Bool). StandIn l (take i ps ++ p ∷ [])) (sym (w.live-is ∙ ap (λ n. set live n true) w.number.ensures.place))
           (StandIn-state live (take i ps) p w.in-State.state v (sym w.in-State.ensures))
       | in_default w ↦
           subst (λ (l : List Bool). StandIn l (take i ps ++ p ∷ [])) (sym w.live-is) (StandIn-out live (take i ps) p v (λ s e. w.in_default.not-State s (c.next.ensures ∙ e)))

@@ -7,11 +7,13 @@ pub returns-clause-read : goal.returns-clause-read
 returns-clause-read g c =
     let xs = c.args.text.now in
     let from = c.args.from in
-    let digits = c.number_rest-last in
+    let digits = c.number_rest-end in
     let b = digits.ensures.bounds in
     let fits = c.requires.1 in
     let on = c.in_ok-behind in
+    let s = c.args.state.now in
+    let t = digits.new.state in
     let old = g.K.Keeper.has_seen c.args.keeper.now in
     let new = g.K.Keeper.has_seen c.comma.new.keeper in
-    goes-then xs from digits.result.1 on.place c.args.state digits.result.0 on.behind old old new b.0 on.ensures.bounds.0 (omega (arith, b, fits))
-    (goes-led old c.args.state digits.result.0 from (slice_range xs from digits.result.1) digits.ensures.led) on.ensures.read
+    goes-then xs from digits.result on.behind s t c.comma.new.state old old new b.0 on.ensures.bounds.0 (omega (arith, b, fits))
+    (goes-led old s t from (slice_range xs from digits.result) digits.ensures.led) on.ensures.read

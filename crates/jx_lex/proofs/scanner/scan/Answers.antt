@@ -46,7 +46,7 @@ loop-i-preserved g c =
     let xs = c.args.text.now in
     let i = c.loop-i.i in
     let fits = c.requires.1 in
-    let on = c.in_ok-after in
+    let on = c.in_ok-end in
     let b = on.ensures.bounds in
     let low = v.low in
     let first = g.K.Keeper.has_seen c.args.keeper.now in
@@ -59,8 +59,8 @@ loop-i-preserved g c =
       low = omega (arith, b, low);
       high = b.1;
       sound = on.ensures.sound;
-      read = goes-then xs c.args.from i on.end c.args.state c.loop-i.state on.after first old new low (omega (arith, b)) (omega (arith, fits, v.high)) v.read
-          (goes-then xs i (i + 1) on.end c.loop-i.state c.in-Some.next on.after old mid new (omega arith) b.0 (omega (arith, fits, c.loop-i-test.true)) byte on.ensures.read);
+      read = goes-then xs c.args.from i on.end c.args.state c.loop-i.state c.run_on.new.state first old new low (omega (arith, b)) (omega (arith, fits, v.high)) v.read
+          (goes-then xs i (i + 1) on.end c.loop-i.state c.in-Some.next c.run_on.new.state old mid new (omega arith) b.0 (omega (arith, fits, c.loop-i-test.true)) byte on.ensures.read);
     }
 
 pub returns-clause-exit : goal.returns-clause-exit

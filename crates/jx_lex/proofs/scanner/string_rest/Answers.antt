@@ -1,7 +1,10 @@
 use Rattle.std.proofs.Common.{◌+◌, ◌++◌, ◌∷◌, [], List, arith, subst, sym, append-nil}
 use Rattle.std.specs.Prelude.{slice_range}
 use Rattle.jx_lex.specs.declared.mark.Mark.{Mark}
+use Rattle.jx_lex.specs.declared.state.LexState.{LexState}
 use Rattle.jx_lex.specs.declared.state.LexState.TheVariants as state
+use Rattle.jx_lex.specs.Lex.{lex}
+use Rattle.jx_lex.specs.Seen.{GoesTo}
 use Rattle.jx_lex.proofs.Keeping.{goes-closed, goes-led, goes-then}
 use Rattle.jx_lex.proofs.scanner.string_rest.Goals as goal
 
@@ -9,7 +12,7 @@ pub returns-then-text-end-eq34-clause-read : goal.returns-then-text-end-eq34-cla
 returns-then-text-end-eq34-clause-read g c =
     let s = c.string_end_ahead-end in
     let b = s.ensures.bounds in
-    let e = s.result.0 in
+    let e = s.result in
     let xs = c.args.text.now in
     let old = g.K.Keeper.has_seen c.args.keeper.now in
     let mid = g.K.Keeper.has_seen c.end.new.self in
@@ -23,4 +26,7 @@ returns-then-text-end-eq34-clause-read g c =
 
 pub returns-clause-read : goal.returns-clause-read
 returns-clause-read g c =
-    goes-led (g.K.Keeper.has_seen c.args.keeper.now) state.Str state.Str c.args.from (slice_range c.args.text.now c.args.from c.string_end_ahead-end.result.0) c.string_end_ahead-end.ensures.led
+    let seen = g.K.Keeper.has_seen c.args.keeper.now in
+    let w = slice_range c.args.text.now c.args.from c.string_end_ahead-end.result in
+    subst (λ (t : LexState). GoesTo seen seen (lex state.Str c.args.from w) t) (sym c.requires.inside)
+    (goes-led seen state.Str state.Str c.args.from w c.string_end_ahead-end.ensures.led)

@@ -2,11 +2,12 @@ use Rattle.std.proofs.Common.{ℕ, List, map, sym, subst}
 use Rattle.std.specs.Prelude.{String, string_bytes}
 use Rattle.std.specs.declared.alloc.Global.{Global}
 use Rattle.std.proofs.lemmas.Result.{IfOk-weaker}
+use Rattle.jx_run.specs.declared.settings.Settings.{Settings}
 use Rattle.jx_run.specs.Text.{IsText}
 use Rattle.jx_run.specs.Tree.{Tree}
 use Rattle.jx_index.specs.Indexed.{IndexedValue}
 use Rattle.jx_answer.specs.declared.text_answer.TextAnswer.TheVariants.{Accepted}
-use Rattle.jx_answer.specs.Answers.{IsAnswer}
+use Rattle.jx_answer.specs.Settled.{IsAnswerBy}
 use Rattle.jx_report.specs.declared.answer.Answer.{Answer}
 use Rattle.jx_command.specs.declared.command.Task.{Task}
 use Rattle.jx_report.specs.Output.{Output}
@@ -14,16 +15,16 @@ use Rattle.jx_report.specs.Pointers.{PointerLines}
 use Rattle.jx_report.proofs.Answers.{pointers_output}
 use Rattle.jx_report.proofs.answer.answer_of.Goals as goal
 
-pub returns-in-Ok-Accepted-index_text-2 : goal.returns-in-Ok-Accepted-index_text-2
-returns-in-Ok-Accepted-index_text-2 g c =
-    let index : IndexedValue = c.in-Ok-Accepted-index_text-2.index in
-    let depth : ℕ = c.args.command.now.depth in
+pub returns-in-Ok-Accepted-index_text_with-2 : goal.returns-in-Ok-Accepted-index_text_with-2
+returns-in-Ok-Accepted-index_text_with-2 g c =
+    let index : IndexedValue = c.in-Ok-Accepted-index_text_with-2.index in
+    let settings : Settings = c.args.command.now.settings in
     let text : List ℕ = c.args.text.now in
-    let read : IsAnswer text depth (Accepted index) = subst (λ a. IsAnswer text depth a) c.in-Ok-Accepted-index_text-2.field-0-is c.in-Ok-Accepted-index_text-2.ensures.answer in
+    let read : IsAnswerBy settings text (Accepted index) = subst (λ a. IsAnswerBy settings text a) c.in-Ok-Accepted-index_text_with-2.field-0-is c.in-Ok-Accepted-index_text_with-2.ensures.answer in
     let lines : List (String Global) → Answer → Type 0 = λ pointers a. (limit : ℕ) (tree : Tree)
     → IsText index.text index.place.start index.place.end limit tree → PointerLines index.text tree (map string_bytes pointers) a.output.items a.exit in
-    IfOk-weaker c.pointers_answer.result (lines c.deref.result.now) (λ (a : Answer). Output c.args.command.now.task depth text a.output.items a.exit)
+    IfOk-weaker c.pointers_answer.result (lines c.deref.result.now) (λ (a : Answer). Output c.args.command.now.task settings text a.output.items a.exit)
     (λ a h.
-    subst (λ (t : Task). Output t depth text a.output.items a.exit) (sym c.in-At.is)
-    (pointers_output text depth index read.0 read.1 c.in-At.pointers a.output.items a.exit (subst (λ (ps : List (String Global)). lines ps a) c.deref.ensures.value h)))
+    subst (λ (t : Task). Output t settings text a.output.items a.exit) (sym c.in-At.is)
+    (pointers_output text settings index read.0 read.1 c.in-At.pointers a.output.items a.exit (subst (λ (ps : List (String Global)). lines ps a) c.deref.ensures.value h)))
     c.pointers_answer.ensures

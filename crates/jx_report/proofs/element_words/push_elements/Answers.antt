@@ -1,4 +1,5 @@
-use Rattle.std.proofs.Common.{◌∙◌, sym}
+use Rattle.std.proofs.Common.{◌≡◌, ◌∙◌, get_or, sym}
+use Rattle.std.proofs.lemmas.Option.{get_or_from_slice_get}
 use Rattle.jx_report.proofs.ElementSteps.{elements_step, elements_done, exit_step, exit_done}
 use Rattle.jx_report.proofs.element_words.push_elements.Goals as goal
 
@@ -6,13 +7,14 @@ pub loop-number-preserved : goal.loop-number-preserved
 loop-number-preserved c =
     let i = c.loop-number.number in
     let elements = c.args.elements.now in
-    let element = c.index-elements-number.result in
+    let element = c.element_at-element.result in
+    let is : element ≡ get_or elements i element = sym (get_or_from_slice_get elements i element element c.element_at-element.ensures) in
     record {
       output =
-          elements_step i elements element element c.loop-number.out.items c.push_element.new.out.items c.loop-number-test.true c.index-elements-number.is c.in_ok-push_element.ensures
+          elements_step i elements element element c.loop-number.out.items c.push_element.new.out.items c.loop-number-test.true is c.in_ok-push_element.ensures
           ∙ c.loop-number.invariant.output;
       exit =
-          exit_step i elements element element c.loop-number.exit c.exit_past-exit.result c.loop-number-test.true c.index-elements-number.is c.exit_past-exit.ensures
+          exit_step i elements element element c.loop-number.exit c.exit_past-exit.result c.loop-number-test.true is c.exit_past-exit.ensures
           ∙ c.loop-number.invariant.exit;
     }
 

@@ -19,7 +19,7 @@ loop-place-preserved c =
       paths = n.made;
       few = omega (arith, before, now);
       ways = subst (AreWaysOf c.args.depth m news (take (l.place + 1) all_states)) (sym c.in_ok-push.ensures.items)
-          (each_next c.args.depth m c.all_states-states.result l.place l.paths.structures.items news l.ways.items _ w
-          (let t = c.loop-place-test.true in omega (arith, t)) c.all_states-states.ensures l.invariant.ways n.above
+          (each_next c.args.depth m c.all-states.result l.place l.paths.structures.items news l.ways.items _ w
+          (let t = c.loop-place-test.true in omega (arith, t)) c.all-states.ensures l.invariant.ways n.above
           (record { exit = c.exit-exit.ensures.value ∙ ap (λ (t : Track). t.exit) c.entry.ensures.track; marks = n.number }));
     }

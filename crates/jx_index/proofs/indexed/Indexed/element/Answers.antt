@@ -1,5 +1,5 @@
-use Rattle.std.proofs.Common.{◌≡◌, List, length, sym, ap, ◌∙◌, arith, Option}
-use Rattle.std.specs.Prelude.{slice_get, ok_or}
+use Rattle.std.proofs.Common.{◌≡◌, length, sym, ap, ◌∙◌, arith, Option}
+use Rattle.std.specs.Prelude.{ok_or}
 use Prim.Native.Nat.{ℕ}
 use Rattle.jx_index.specs.declared.array_token.Place.{Place}
 use Rattle.jx_index.specs.declared.find_fault.FindFault.TheVariants.{PastEnd}
@@ -17,7 +17,7 @@ returns-in-Element c =
     let rows : length c.rows.result.now ≡ length c.args.self.now.rows = ap length c.rows.ensures.same in
     let short = children-length c.args.array 0 c.args.self.now.rows in
     c.ok_or.ensures.value
-    ∙ ap (λ (o : Option ℕ). ok_or o (PastEnd c.args.token)) (c.child_at.ensures ∙ ap (λ (x : List ℕ). slice_get x c.in-Element.at) c.children.ensures)
+    ∙ ap (λ (o : Option ℕ). ok_or o (PastEnd c.args.token)) c.child.ensures
     ∙ sym (element_is cs c.in-Element.at c.args.token)
     ∙ ap (λ (p : Place). at_place p cs c.args.token) (sym c.in-Element.is ∙ c.place_of_token.ensures)
     ∙ place_more units (length c.rows.result.now) cs c.args.token (omega arith)

@@ -6,7 +6,7 @@ use Rattle.jx_lex.specs.Lex.{lex}
 use Rattle.jx_lex.specs.Passing.{read_bytes}
 use Rattle.jx_lex.specs.Seen.{TokenLists}
 use Rattle.jx_lex.specs.Step.{link_at}
-use Rattle.jx_lex.proofs.Stretches.{closed-span}
+use Rattle.jx_lex.proofs.Passing.{closed-span}
 use Rattle.jx_lex.proofs.Spans.{read-lex}
 use Rattle.jx_lex.proofs.segment.Segment.read_span.Goals as goal
 

@@ -1,5 +1,6 @@
 use Rattle.std.proofs.Common.{◌<◌, ◌≤◌, length, ap, arith}
 use Rattle.jx_lex.specs.declared.span.Span.{Span}
+use Rattle.jx_run.specs.SeqRun.{IsReading}
 use Rattle.jx_run.proofs.SeqReading.{read_one, read_none, read_all}
 use Rattle.jx_run.proofs.marked.Marked.of.Goals.{then-from-at+in_ok-read_part+in_ok-push, else-from-at}
 use Rattle.jx_run.proofs.marked.Marked.of.Goals as goal
@@ -16,14 +17,14 @@ loop-at-preserved c =
       read =
           elim c.if-from-at.branch [
             | then-from-at+in_ok-read_part+in_ok-push w ↦ rw (w.done-is, w.in_ok-push.ensures.items)
-                (read_one c.args.depth c.args.text.now c.args.start l.from c.in-Some.at c.args.end l.done.items w.in_ok-read_part.field-0 w.if-from-at.true inside
+                (read_one (IsReading c.args.depth) c.args.text.now c.args.start l.from c.in-Some.at c.args.end l.done.items w.in_ok-read_part.field-0 w.if-from-at.true inside
                 found.before found.behind w.in_ok-read_part.ensures l.invariant.read)
             | else-from-at w ↦ rw (w.done-is)
-                (read_none c.args.depth c.args.text.now c.args.start l.from c.in-Some.at c.args.end l.done.items w.if-from-at.false inside found.before found.behind l.invariant.read)
+                (read_none (IsReading c.args.depth) c.args.text.now c.args.start l.from c.in-Some.at c.args.end l.done.items w.if-from-at.false inside found.before found.behind l.invariant.read)
           ];
     }
 
 pub returns-clause-of : goal.returns-clause-of
 returns-clause-of c =
-    read_all c.args.depth c.args.text.now c.args.start c.loop-at.from c.args.end c.args.end c.loop-at.done.items c.in_ok-after.after c.in_default.ensures.none
+    read_all c.args.depth c.args.text.now c.args.start c.loop-at.from c.args.end c.loop-at.done.items c.in_ok-after.after c.in_default.ensures.none
     (ap (λ (s : Span). s.start) c.in_ok-after.ensures.place) c.in_ok-after.ensures.limit c.in_ok-after.ensures.of c.loop-at.invariant.read

@@ -1,11 +1,12 @@
 use Rattle.std.proofs.Common.{◌≤◌, ◌-◌}
+use Rattle.jx_run.specs.SeqRun.{IsReading}
 use Rattle.jx_run.proofs.SeqReading.{IsReadTo, rest_at}
 use Rattle.jx_run.proofs.marked.Marked.of.Given as goal
 
 abbrev pub invariant-loop-at : goal.invariant-loop-at
 invariant-loop-at l = record {
   within : l.from ≤ l.end;
-  read : IsReadTo l.depth (rest_at l.text l.fn.start l.end) (rest_at l.text l.from l.end) l.done.items;
+  read : IsReadTo (IsReading l.depth) (rest_at l.text l.fn.start l.end) (rest_at l.text l.from l.end) l.done.items;
 }
 
 abbrev pub decreases-loop-at : goal.decreases-loop-at

@@ -18,6 +18,6 @@ loop-place-preserved c =
       within = n.within;
       few = omega (arith, before, now);
       ways = subst (AreJoinedWays left right news (take (l.place + 1) all_states)) (sym c.in_ok-push.ensures.items)
-          (joined_next left right c.all_states-states.result l.place l.joins.structures.items news c.number_of.new.self.pairs.items l.ways.items _ c.onward-exit.result.0 c.onward-exit.result.1
-          c.in_ok-structure.structure (let t = c.loop-place-test.true in omega (arith, t)) c.all_states-states.ensures l.invariant.ways n.above n.made n.within n.number c.onward-exit.ensures.goes);
+          (joined_next left right c.all-states.result l.place l.joins.structures.items news c.number_of.new.self.pairs.items l.ways.items _ c.onward-exit.result.0 c.onward-exit.result.1
+          c.in_ok-structure.structure (let t = c.loop-place-test.true in omega (arith, t)) c.all-states.ensures l.invariant.ways n.above n.made n.within n.number c.onward-exit.ensures.goes);
     }

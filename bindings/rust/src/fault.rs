@@ -1,0 +1,30 @@
+use crate::refusal::Refusal;
+use std::error::Error;
+use std::fmt;
+
+/// Why a text has no rows.
+#[derive(Clone, Copy, Debug, PartialEq, Eq, Hash)]
+pub enum Fault {
+    /// A growth of memory was refused.
+    OutOfMemory,
+    /// The bytes are no text.
+    Refused(Refusal),
+}
+
+impl fmt::Display for Fault {
+    fn fmt(&self, f: &mut fmt::Formatter<'_>) -> fmt::Result {
+        match self {
+            Fault::OutOfMemory => f.write_str("out of memory"),
+            Fault::Refused(refusal) => refusal.fmt(f),
+        }
+    }
+}
+
+impl Error for Fault {
+    fn source(&self) -> Option<&(dyn Error + 'static)> {
+        match self {
+            Fault::OutOfMemory => None,
+            Fault::Refused(refusal) => Some(refusal),
+        }
+    }
+}

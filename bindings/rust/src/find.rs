@@ -1,0 +1,137 @@
+use crate::raw;
+use crate::refusal::Refusal;
+use crate::rows::Kind;
+use std::error::Error;
+use std::fmt;
+use std::ops::Range;
+
+/// The value that a pointer leads to.
+#[derive(Clone, Debug, PartialEq, Eq, Hash)]
+pub struct Found {
+    /// What it is.
+    pub kind: Kind,
+    /// Where it stands: a string with its quotation marks, a container with its brackets.
+    pub span: Range<usize>,
+}
+
+/// Why a pointer (RFC 6901, sections 3 and 4) leads to no value. Tokens are counted from 0.
+#[derive(Clone, Copy, Debug, PartialEq, Eq, Hash)]
+pub enum FindError {
+    /// A growth of memory was refused.
+    OutOfMemory,
+    /// The object has no member of that name.
+    NoSuchMember {
+        /// The number of the token.
+        token: usize,
+    },
+    /// The object has two or more members of that name.
+    NameRepeated {
+        /// The number of the token.
+        token: usize,
+    },
+    /// In an array the token is neither `-` nor a number: `0`, or digits without a leading `0`.
+    NotAnIndex {
+        /// The number of the token.
+        token: usize,
+    },
+    /// The number is not below the count of the array's elements.
+    PastEnd {
+        /// The number of the token.
+        token: usize,
+    },
+    /// The token is `-`, which names what would stand after an array's last element.
+    AfterLast {
+        /// The number of the token.
+        token: usize,
+    },
+    /// The value is neither an object nor an array.
+    NotAContainer {
+        /// The number of the token.
+        token: usize,
+    },
+    /// The pointer is not empty and does not begin with `/`.
+    NoSlash,
+    /// The pointer's first `~` without `0` or `1` after it.
+    BadEscape {
+        /// Its offset in the pointer.
+        at: usize,
+    },
+    /// The bytes are no text.
+    Refused(Refusal),
+}
+
+impl fmt::Display for FindError {
+    fn fmt(&self, f: &mut fmt::Formatter<'_>) -> fmt::Result {
+        match self {
+            FindError::OutOfMemory => f.write_str("out of memory"),
+            FindError::NoSuchMember { token } => write!(f, "no such member at token {token}"),
+            FindError::NameRepeated { token } => write!(f, "name repeated at token {token}"),
+            FindError::NotAnIndex { token } => write!(f, "not an index at token {token}"),
+            FindError::PastEnd { token } => write!(f, "past end at token {token}"),
+            FindError::AfterLast { token } => write!(f, "after last at token {token}"),
+            FindError::NotAContainer { token } => write!(f, "not a container at token {token}"),
+            FindError::NoSlash => f.write_str("no slash"),
+            FindError::BadEscape { at } => write!(f, "bad escape at {at}"),
+            FindError::Refused(refusal) => refusal.fmt(f),
+        }
+    }
+}
+
+impl Error for FindError {
+    fn source(&self) -> Option<&(dyn Error + 'static)> {
+        match self {
+            FindError::Refused(refusal) => Some(refusal),
+            _ => None,
+        }
+    }
+}
+
+/// What a pointer (RFC 6901) leads to in a JSON text.
+///
+/// ```
+/// use jx::{find, FindError};
+///
+/// let text = br#"{"users":[{"name":"Ann"},{"name":"Bo"}]}"#;
+/// let found = find(text, "/users/1/name", jx::DEPTH)?;
+/// assert_eq!(&text[found.span], br#""Bo""#);
+/// assert_eq!(find(text, "/users/2", jx::DEPTH), Err(FindError::PastEnd { token: 1 }));
+/// assert_eq!(find(text, "users", jx::DEPTH), Err(FindError::NoSlash));
+/// # Ok::<(), FindError>(())
+/// ```
+pub fn find(text: &[u8], pointer: &str, depth: u16) -> Result<Found, FindError> {
+    let mut answer = raw::Answer::default();
+    // SAFETY: each pointer and size are those of one slice, and all are borrowed for the call alone.
+    let status = unsafe {
+        raw::jx_at(
+            text.as_ptr(),
+            text.len(),
+            pointer.as_ptr(),
+            pointer.len(),
+            depth.into(),
+            &mut answer,
+        )
+    };
+    if status == raw::NO_MEMORY {
+        return Err(FindError::OutOfMemory);
+    }
+    debug_assert_eq!(status, raw::OK);
+    let (token, at) = (answer.at, answer.at);
+    match answer.outcome {
+        0 => Ok(Found {
+            kind: Kind::of(answer.kind),
+            span: answer.span.start..answer.span.end,
+        }),
+        1 => Err(FindError::NoSuchMember { token }),
+        2 => Err(FindError::NameRepeated { token }),
+        3 => Err(FindError::NotAnIndex { token }),
+        4 => Err(FindError::PastEnd { token }),
+        5 => Err(FindError::AfterLast { token }),
+        6 => Err(FindError::NotAContainer { token }),
+        7 => Err(FindError::NoSlash),
+        8 => Err(FindError::BadEscape { at }),
+        9 => unreachable!("a str is in UTF-8"),
+        10 => Err(FindError::Refused(Refusal::Stopped { at })),
+        11 => Err(FindError::Refused(Refusal::Truncated)),
+        _ => Err(FindError::Refused(Refusal::TooDeep { at })),
+    }
+}

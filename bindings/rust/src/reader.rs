@@ -1,0 +1,117 @@
+use crate::raw;
+use crate::refusal::Refusal;
+use std::error::Error;
+use std::fmt;
+use std::io;
+
+/// A text that comes slice by slice. It has 8 KiB and takes no more memory; no byte of the text is kept.
+///
+/// ```
+/// use jx::{Reader, Refusal};
+/// use std::io::Write;
+///
+/// let mut reader = Reader::new(jx::DEPTH);
+/// reader.write_all(b"{\"a\":")?;
+/// assert_eq!(reader.verdict(), Err(Refusal::Truncated));
+/// reader.write_all(b"[1,2]}")?;
+/// assert_eq!(reader.verdict(), Ok(()));
+/// reader.write_all(b"]")?;
+/// assert_eq!(reader.verdict(), Err(Refusal::Stopped { at: 11 }));
+/// # Ok::<(), std::io::Error>(())
+/// ```
+///
+/// Whatever writes into an [`io::Write`] feeds one, as [`io::copy`] does:
+///
+/// ```
+/// let mut reader = jx::Reader::new(jx::DEPTH);
+/// std::io::copy(&mut &b"[1,2]"[..], &mut reader)?;
+/// assert_eq!(reader.verdict(), Ok(()));
+/// # Ok::<(), std::io::Error>(())
+/// ```
+#[derive(Clone)]
+pub struct Reader {
+    raw: raw::Reader,
+}
+
+/// A reader would have been fed 2^64 bytes or more. It was left as it was.
+#[derive(Clone, Copy, Debug, PartialEq, Eq)]
+pub struct TooManyBytes;
+
+impl fmt::Display for TooManyBytes {
+    fn fmt(&self, f: &mut fmt::Formatter<'_>) -> fmt::Result {
+        f.write_str("too many bytes")
+    }
+}
+
+impl Error for TooManyBytes {}
+
+impl Reader {
+    /// A reader at the start of a text with at most so many containers open at once.
+    pub fn new(depth: u16) -> Reader {
+        let mut reader = Reader {
+            raw: raw::Reader { words: [0; 1031] },
+        };
+        reader.start(depth);
+        reader
+    }
+
+    /// Begins another text.
+    ///
+    /// ```
+    /// let mut reader = jx::Reader::new(jx::DEPTH);
+    /// reader.feed(b"nulx")?;
+    /// reader.start(0);
+    /// reader.feed(b"null")?;
+    /// assert_eq!(reader.verdict(), Ok(()));
+    /// # Ok::<(), jx::TooManyBytes>(())
+    /// ```
+    pub fn start(&mut self, depth: u16) {
+        // SAFETY: the reader is borrowed for the call alone; whatever stands in it may stand there.
+        let status = unsafe { raw::jx_reader_start(&mut self.raw, depth.into()) };
+        debug_assert_eq!(status, raw::OK);
+    }
+
+    /// Reads the bytes behind all that it was fed. Behind a fault they are counted and not looked at. A slice may end
+    /// anywhere, also inside a character.
+    pub fn feed(&mut self, bytes: &[u8]) -> Result<(), TooManyBytes> {
+        // SAFETY: the pointer and the size are those of one slice, and the reader is borrowed for the call alone.
+        match unsafe { raw::jx_reader_feed(&mut self.raw, bytes.as_ptr(), bytes.len()) } {
+            raw::TOO_MANY_BYTES => Err(TooManyBytes),
+            status => {
+                debug_assert_eq!(status, raw::OK);
+                Ok(())
+            }
+        }
+    }
+
+    /// The verdict on all bytes that it was fed, as one text: the same as [`check`](crate::check) tells. It may be fed on.
+    pub fn verdict(&self) -> Result<(), Refusal> {
+        let mut verdict = raw::Verdict {
+            offset: 0,
+            kind: raw::TRUNCATED,
+        };
+        // SAFETY: both are borrowed for the call alone.
+        let status = unsafe { raw::jx_reader_verdict(&self.raw, &mut verdict) };
+        debug_assert_eq!(status, raw::OK);
+        Refusal::of(verdict)
+    }
+}
+
+impl fmt::Debug for Reader {
+    fn fmt(&self, f: &mut fmt::Formatter<'_>) -> fmt::Result {
+        f.debug_struct("Reader")
+            .field("verdict", &self.verdict())
+            .finish_non_exhaustive()
+    }
+}
+
+impl io::Write for Reader {
+    fn write(&mut self, bytes: &[u8]) -> io::Result<usize> {
+        self.feed(bytes).map_err(io::Error::other)?;
+        Ok(bytes.len())
+    }
+
+    fn flush(&mut self) -> io::Result<()> {
+        Ok(())
+    }
+}

@@ -1,0 +1,43 @@
+use crate::raw;
+use std::error::Error;
+use std::fmt;
+
+/// Why bytes are no JSON text. Offsets count bytes from the text's start.
+#[derive(Clone, Copy, Debug, PartialEq, Eq, Hash)]
+pub enum Refusal {
+    /// With the byte there the text can't go on.
+    Stopped {
+        /// The offset of the byte.
+        at: usize,
+    },
+    /// The text ends too early: bytes can be added that make a text of it.
+    Truncated,
+    /// Only a greater depth would let the text go on with the byte there.
+    TooDeep {
+        /// The offset of the byte.
+        at: usize,
+    },
+}
+
+impl Refusal {
+    pub(crate) fn of(verdict: raw::Verdict) -> Result<(), Refusal> {
+        match verdict.kind {
+            raw::ACCEPTED => Ok(()),
+            raw::STOPPED => Err(Refusal::Stopped { at: verdict.offset }),
+            raw::TOO_DEEP => Err(Refusal::TooDeep { at: verdict.offset }),
+            _ => Err(Refusal::Truncated),
+        }
+    }
+}
+
+impl fmt::Display for Refusal {
+    fn fmt(&self, f: &mut fmt::Formatter<'_>) -> fmt::Result {
+        match self {
+            Refusal::Stopped { at } => write!(f, "stopped at {at}"),
+            Refusal::Truncated => f.write_str("truncated"),
+            Refusal::TooDeep { at } => write!(f, "too deep at {at}"),
+        }
+    }
+}
+
+impl Error for Refusal {}

@@ -1,0 +1,35 @@
+use Rattle.std.proofs.Common.{◌≡◌, ℕ, ◌<◌, ◌≤◌, List, length, true, false, rules, sym, ap, subst, ◌∙◌}
+use Rattle.jx_run.specs.declared.element_verdict.JudgedElement.{JudgedElement}
+use Rattle.jx_answer.specs.Pushed.{part_of}
+use Rattle.jx_answer.specs.Settled.{is_mark_alone}
+use Rattle.jx_answer.proofs.Verdicts.{judged_none, judged_within, judged_stays, judged_goes}
+use Rattle.jx_answer.proofs.judging.without_mark.Goals as goal
+
+pub is_mark_alone-requires : goal.is_mark_alone-requires
+is_mark_alone-requires c =
+    let js : List JudgedElement = c.args.elements.items in
+    let low : 0 < length js = search rules in
+    record { within = judged_within c.args.text.now c.requires.elements.0 js c.requires.elements.1 c.index.result.now low c.index.ensures }
+
+pub returns-then-is_empty : goal.returns-then-is_empty
+returns-then-is_empty c =
+    let js : List JudgedElement = c.args.elements.items in
+    let none : length js ≡ 0 = search rules in
+    record { elements = λ limit h. judged_none c.args.text.now limit js h none }
+
+pub returns-then-not-is_mark_alone : goal.returns-then-not-is_mark_alone
+returns-then-not-is_mark_alone c =
+    let js : List JudgedElement = c.args.elements.items in
+    let low : 0 < length js = search rules in
+    let flag : c.is_mark_alone.result ≡ false = search rules in
+    record { elements = λ limit h. judged_stays c.args.text.now limit js h c.index.result.now low c.index.ensures (sym c.is_mark_alone.ensures.alone ∙ flag) }
+
+pub returns : goal.returns
+returns c =
+    let js : List JudgedElement = c.args.elements.items in
+    let low : 0 < length js = search rules in
+    let flag : c.is_mark_alone.result ≡ true = search rules in
+    record {
+      elements = λ limit h. judged_goes c.args.text.now limit js h c.index.result.now low c.index.ensures (sym c.is_mark_alone.ensures.alone ∙ flag) c.remove.new.self.items
+          c.remove.ensures.by_index.2;
+    }

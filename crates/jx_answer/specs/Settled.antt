@@ -1,0 +1,78 @@
+-- The answers by settings: where a byte order mark is ignored, one may stand in front of a text, or alone before the first
+-- record separator of a sequence.
+use Rattle.std.specs.Prelude.{◌≡◌, ◌==◌, ◌&&◌, ℕ, Bool, List, [], ◌∷◌, length, if◌then◌else◌, slice_range}
+use Rattle.std.specs.List.{AllZip}
+use Rattle.jx_run.specs.declared.element_verdict.JudgedElement.{JudgedElement}
+use Rattle.jx_run.specs.declared.settings.FrontMark.{FrontMark}
+use Rattle.jx_run.specs.declared.settings.FrontMark.TheVariants as on_mark
+use Rattle.jx_run.specs.declared.settings.Settings.{Settings}
+use Rattle.jx_run.specs.declared.verdict.Verdict.TheVariants.{Accepted, Refused}
+use Rattle.jx_run.specs.Elements.{Part, elements}
+use Rattle.jx_run.specs.Front.{agreed}
+use Rattle.jx_run.specs.Settings.{byte_order_mark, IsDocumentBy, JudgedBy}
+use Rattle.jx_run.specs.Text.{IsText}
+use Rattle.jx_run.specs.Tree.{Tree, span}
+use Rattle.jx_run.specs.Verdict.{Judged}
+use Rattle.jx_index.specs.Indexed.{IndexedValue}
+use Rattle.jx_index.specs.Rows.{rows}
+use Rattle.jx_answer.specs.declared.element.Element.{Element}
+use Rattle.jx_answer.specs.declared.text_answer.TextAnswer.{TextAnswer}
+use Rattle.jx_answer.specs.declared.text_answer.TextAnswer.TheVariants as answer
+use Rattle.jx_answer.specs.Sequence.{AreJudgedAs, IsElement}
+
+-- ---- a text
+
+-- the index is over what stands behind the front, at its offsets in all bytes, and its rows are those of the tree
+pub record IsIndexBy (settings : Settings) (bytes : List ℕ) (index : IndexedValue) : Type 0 where
+  pub text : index.text ≡ bytes
+  pub tree : Tree
+  pub is_text : IsDocumentBy settings 0 bytes tree
+  pub place : index.place ≡ span (length is_text.front) (length bytes)
+  pub rows_are : index.rows ≡ rows tree
+
+-- accepted with the rows of the tree, or refused by the verdict
+abbrev pub IsAnswerBy : Settings → List ℕ → TextAnswer → Type 0
+IsAnswerBy settings bytes (answer.Accepted index) = JudgedBy settings 0 bytes Accepted × IsIndexBy settings bytes index
+IsAnswerBy settings bytes (answer.Refused refusal) = JudgedBy settings 0 bytes (Refused refusal)
+
+-- ---- what stands from an offset on
+
+-- the bytes from an offset on
+abbrev pub rest_from : ℕ → List ℕ → List ℕ
+rest_from start bytes = slice_range bytes start (length bytes)
+
+-- the index is over the bytes from an offset on, and its rows are those of their tree
+pub record IsIndexFrom (start : ℕ) (bytes : List ℕ) (limit : ℕ) (index : IndexedValue) : Type 0 where
+  pub text : index.text ≡ bytes
+  pub place : index.place ≡ span start (length bytes)
+  pub tree : Tree
+  pub is_text : IsText bytes start (length bytes) limit tree
+  pub rows_are : index.rows ≡ rows tree
+
+-- the RFC 8259 reading of the bytes from an offset on
+abbrev pub IsAnswerFrom : ℕ → List ℕ → ℕ → TextAnswer → Type 0
+IsAnswerFrom start bytes limit (answer.Accepted index) = Judged start (rest_from start bytes) limit Accepted × IsIndexFrom start bytes limit index
+IsAnswerFrom start bytes limit (answer.Refused refusal) = Judged start (rest_from start bytes) limit (Refused refusal)
+
+-- ---- a sequence
+
+-- the part stands at the start and is just the byte order mark
+abbrev pub is_mark_alone : Part → Bool
+is_mark_alone p = (p.at == 0) && ((length p.bytes == 3) && (agreed p.bytes byte_order_mark == 3))
+
+abbrev pub without_mark : List Part → List Part
+without_mark [] = []
+without_mark (p ∷ ps) = if is_mark_alone p then ps else p ∷ ps
+
+-- the elements of the input in order, without a mark that stands alone before the first separator where it is ignored
+abbrev pub elements_by : FrontMark → List ℕ → List Part
+elements_by on_mark.Refused input = elements 0 input
+elements_by on_mark.Ignored input = without_mark (elements 0 input)
+
+-- one answer for each of them, in order
+abbrev pub AreElementsBy : Settings → List ℕ → List Element → Type 0
+AreElementsBy settings input answers = AllZip (IsElement input settings.depth) (elements_by settings.mark input) answers
+
+-- the same less the indexes
+abbrev pub AreJudgedBy : Settings → List ℕ → List JudgedElement → Type 0
+AreJudgedBy settings input verdicts = AreJudgedAs (elements_by settings.mark input) input settings.depth verdicts

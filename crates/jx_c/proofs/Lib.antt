@@ -1,0 +1,8 @@
+pub mod Words
+pub mod Moves
+pub mod Reading
+pub mod Feeds
+pub mod Filled
+pub mod Led
+pub mod There
+pub mod Whole

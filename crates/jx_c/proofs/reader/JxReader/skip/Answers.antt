@@ -1,0 +1,16 @@
+use Rattle.std.proofs.Common.{arith}
+use Rattle.std.proofs.lemmas.List.{length-append}
+use Rattle.jx_c.specs.Reader.{state_in}
+use Rattle.jx_c.specs.Stack.{known_of}
+use Rattle.jx_c.proofs.Reading.{passed}
+use Rattle.jx_c.proofs.reader.JxReader.skip.Goals as goal
+
+pub returns : goal.returns
+returns c = λ depth fed h.
+    record {
+      started = h.started;
+      depth_is = h.depth_is;
+      count = omega (arith, h.count, length-append fed c.args.slice.now);
+      outcome = passed depth c.args.self.now.progress c.args.self.now.at (state_in c.args.self.now.state) fed c.args.slice.now (known_of c.args.self.now.stack).reading c.requires.over h.outcome;
+      of_use = h.of_use;
+    }

@@ -1,0 +1,65 @@
+-- What the bytes of a pointer come to in bytes (RFC 6901), and how C sees it.
+use Rattle.std.specs.Prelude.{◌≡◌, ℕ, List, Ok, Err}
+use Rattle.std.specs.Str.{IsUtf8}
+use Rattle.jx_lex.specs.declared.kind.Kind.{Kind}
+use Rattle.jx_lex.specs.declared.span.Span.{Span}
+use Rattle.jx_run.specs.declared.verdict.Refusal.TheVariants as refusal
+use Rattle.jx_run.specs.declared.verdict.Verdict.TheVariants as verdict
+use Rattle.jx_run.specs.Laws.{span_of}
+use Rattle.jx_run.specs.Text.{IsDocument}
+use Rattle.jx_run.specs.Tree.{Tree}
+use Rattle.jx_run.specs.Verdict.{Judged}
+use Rattle.jx_index.specs.declared.find_fault.FindFault.TheVariants.{NoSuchMember, NameRepeated, NotAnIndex, PastEnd, AfterLast, NotAContainer}
+use Rattle.jx_index.specs.declared.pointer.PointerFault.TheVariants.{NoSlash, BadEscape}
+use Rattle.jx_index.specs.Leads.{Numbered, kind_of, led}
+use Rattle.jx_index.specs.PointerFaults.{IsFaultOf}
+use Rattle.jx_index.specs.Pointers.{tokens}
+use Rattle.jx_c.specs.Rows.{kind_in, shown_span}
+use Rattle.jx_c.specs.declared.look_up.JxAnswer.{JxAnswer}
+use Rattle.jx_c.specs.declared.look_up.LookUp.{LookUp}
+use Rattle.jx_c.specs.declared.look_up.LookUp.TheVariants.{Found, Lost, BadPointer, NotUtf8, NoText}
+
+-- the kind and span of the node to which the pointer's tokens lead in the tree
+pub record IsFoundIn (text : List ℕ) (tree : Tree) (pointer : List ℕ) (kind : Kind) (place : Span) : Type 0 where
+  pub node : Numbered
+  pub leads : led text tree (tokens pointer) ≡ Ok node
+  pub kind_is : kind ≡ kind_of node.tree
+  pub span_is : place ≡ span_of node.tree
+
+-- in a text with this tree: that kind and span, or why the tokens lead nowhere
+abbrev pub IsLed : List ℕ → Tree → List ℕ → LookUp → Type 0
+IsLed text tree pointer (Found kind place) = IsFoundIn text tree pointer kind place
+IsLed text tree pointer (Lost fault) = led text tree (tokens pointer) ≡ Err fault
+IsLed text tree pointer (BadPointer fault) = ⊥
+IsLed text tree pointer NotUtf8 = ⊥
+IsLed text tree pointer (NoText refused) = ⊥
+
+-- in any bytes: the same in their tree, or why there is no pointer or no text
+abbrev pub IsLookUp : List ℕ → ℕ → List ℕ → LookUp → Type 0
+IsLookUp text depth pointer (Found kind place) = (tree : Tree) × IsDocument 0 text depth tree × IsLed text tree pointer (Found kind place)
+IsLookUp text depth pointer (Lost fault) = (tree : Tree) × IsDocument 0 text depth tree × IsLed text tree pointer (Lost fault)
+IsLookUp text depth pointer (BadPointer fault) = IsUtf8 pointer × IsFaultOf pointer fault
+IsLookUp text depth pointer NotUtf8 = IsUtf8 pointer → ⊥
+IsLookUp text depth pointer (NoText refused) = Judged 0 text depth (verdict.Refused refused)
+
+abbrev pub told : ℕ → ℕ → JxAnswer
+told outcome at = record { span = record { start = 0; end = 0 }; at = at; outcome = outcome; kind = 0 }
+
+abbrev pub shown_look_up : LookUp → JxAnswer
+shown_look_up (Found kind place) = record { span = shown_span place; at = 0; outcome = 0; kind = kind_in kind }
+shown_look_up (Lost (NoSuchMember token)) = told 1 token
+shown_look_up (Lost (NameRepeated token)) = told 2 token
+shown_look_up (Lost (NotAnIndex token)) = told 3 token
+shown_look_up (Lost (PastEnd token)) = told 4 token
+shown_look_up (Lost (AfterLast token)) = told 5 token
+shown_look_up (Lost (NotAContainer token)) = told 6 token
+shown_look_up (BadPointer NoSlash) = told 7 0
+shown_look_up (BadPointer (BadEscape at)) = told 8 at
+shown_look_up NotUtf8 = told 9 0
+shown_look_up (NoText (refusal.Stopped at)) = told 10 at
+shown_look_up (NoText refusal.Truncated) = told 11 0
+shown_look_up (NoText (refusal.TooDeep at)) = told 12 at
+
+-- it shows what the pointer comes to
+abbrev pub IsAnswerOf : List ℕ → ℕ → List ℕ → JxAnswer → Type 0
+IsAnswerOf text depth pointer told_as = (look_up : LookUp) × (IsLookUp text depth pointer look_up × (told_as ≡ shown_look_up look_up))

@@ -1,0 +1,62 @@
+// A text that C feeds slice by slice.
+ghost use Rattle.std.specs.Prelude.{◌≡◌, ◌++◌, ◌≤◌, ◌<◌, ◌+◌, ◌^◌, ℕ, List, [], length};
+ghost use Rattle.jx_c.specs.Reader.{HasRead};
+ghost use Rattle.jx_c.specs.Verdict.{IsVerdictOn};
+
+use crate::reader::{GOING, JxReader, STARTED};
+use crate::status::{DEPTH_TOO_GREAT, NO_MEMORY, NOT_STARTED, OK, TOO_MANY_BYTES};
+use crate::verdict::{JxVerdict, shown};
+use std::alloc::AllocError;
+
+/// Begins a text, whatever stood in the reader, with at most so many containers open at once (RFC 8259, section 9).
+#[unsafe(no_mangle)]
+pub extern "C" fn jx_reader_start(reader: &mut JxReader, depth: u32) -> u32
+    ensures started { depth ≤ 65535 → (result ≡ OK) × HasRead depth [] reader.new }
+    ensures depth { 65535 < depth → (result ≡ DEPTH_TOO_GREAT) × (reader.new ≡ reader.old) }
+{
+    if depth > 65535 {
+        return DEPTH_TOO_GREAT;
+    }
+    reader.start(depth as u16);
+    OK
+}
+
+/// Reads the bytes behind all that the reader was fed.
+#[unsafe(no_mangle)]
+pub extern "C" fn jx_reader_feed(reader: &mut JxReader, bytes: &[u8]) -> u32
+    ensures reads { result ≡ OK → (depth : ℕ) (fed : List ℕ) → HasRead depth fed reader.old → HasRead depth (fed ++ bytes.now) reader.new }
+    ensures not_started { (reader.old.started ≡ STARTED → ⊥) → (result ≡ NOT_STARTED) × (reader.new ≡ reader.old) }
+    ensures too_many { reader.old.started ≡ STARTED → 2 ^ 64 ≤ reader.old.count + length bytes.now → (result ≡ TOO_MANY_BYTES) × (reader.new ≡ reader.old) }
+{
+    if reader.started != STARTED {
+        return NOT_STARTED;
+    }
+    if bytes.len() > usize::MAX - reader.count {
+        return TOO_MANY_BYTES;
+    }
+    if reader.progress != GOING {
+        reader.skip(bytes);
+        return OK;
+    }
+    match reader.read(bytes) {
+        Ok(()) => OK,
+        Err(AllocError) => {
+            reader.started = 0;
+            NO_MEMORY
+        }
+    }
+}
+
+/// The verdict on the bytes that the reader was fed, as a whole text (RFC 8259). The reader may be fed on.
+#[unsafe(no_mangle)]
+pub extern "C" fn jx_reader_verdict(reader: &JxReader, verdict: &mut JxVerdict) -> u32
+    ensures judged { result ≡ OK → (depth : ℕ) (fed : List ℕ) → HasRead depth fed reader.now → IsVerdictOn fed depth verdict.new }
+    ensures started { reader.now.started ≡ STARTED → result ≡ OK }
+    ensures not_started { (reader.now.started ≡ STARTED → ⊥) → (result ≡ NOT_STARTED) × (verdict.new ≡ verdict.old) }
+{
+    if reader.started != STARTED {
+        return NOT_STARTED;
+    }
+    *verdict = shown(reader.verdict());
+    OK
+}

@@ -1,0 +1,186 @@
+// What a pointer leads to in a text.
+ghost use Rattle.std.specs.Prelude.{◌≡◌, ◌<◌, ℕ, List, IfOk, IfErr};
+ghost use Rattle.jx_c.specs.Answers.{IsAnswer};
+ghost use Rattle.jx_run.specs.Text.{IsText};
+ghost use Rattle.jx_run.specs.Tree.{Tree};
+ghost use Rattle.jx_c.specs.LookUps.{IsAnswerOf, IsLookUp, IsLed, shown_look_up};
+
+use crate::places::{JxSpan, kind_in, shown_span};
+use crate::status::{DEPTH_TOO_GREAT, NO_MEMORY, OK};
+use crate::texts::{TextAnswer, index_text};
+use jx_index::{FindFault, Indexed, Pointer, PointerFault, look_ups_end_at_rows};
+use jx_lex::{Depth, Kind, Span};
+use jx_run::Refusal;
+use std::alloc::{AllocError, Global};
+use std::str;
+
+const FOUND: u32 = 0;
+
+const NO_SUCH_MEMBER: u32 = 1;
+
+const NAME_REPEATED: u32 = 2;
+
+const NOT_AN_INDEX: u32 = 3;
+
+const PAST_END: u32 = 4;
+
+const AFTER_LAST: u32 = 5;
+
+const NOT_A_CONTAINER: u32 = 6;
+
+const NO_SLASH: u32 = 7;
+
+const BAD_ESCAPE: u32 = 8;
+
+const NOT_UTF8: u32 = 9;
+
+const TEXT_STOPPED: u32 = 10;
+
+const TEXT_TRUNCATED: u32 = 11;
+
+const TEXT_TOO_DEEP: u32 = 12;
+
+/// What a pointer comes to in a text.
+#[repr(C)]
+#[derive(Clone, Copy)]
+pub struct JxAnswer {
+    /// Where the value stands that was found; 0 and 0 where none was.
+    pub span: JxSpan,
+    /// The token that leads nowhere, or the offset of a fault in the pointer or in the text; 0 where the outcome has none.
+    pub at: usize,
+    pub outcome: u32,
+    /// The kind of the value that was found; 0 where none was.
+    pub kind: u32,
+}
+
+/// What a pointer comes to in bytes.
+#[derive(Clone, Copy)]
+pub enum LookUp {
+    /// It leads to a value.
+    Found { kind: Kind, span: Span },
+    /// It leads nowhere.
+    Lost(FindFault),
+    /// It is no pointer.
+    BadPointer(PointerFault),
+    /// It is not in UTF-8, and so no pointer.
+    NotUtf8,
+    /// The bytes are no text.
+    NoText(Refusal),
+}
+
+fn answer(outcome: u32, at: usize) -> JxAnswer
+    ensures { result ≡ record { span = record { start = 0; end = 0 }; at = at; outcome = outcome; kind = 0 } }
+{
+    JxAnswer {
+        span: JxSpan { start: 0, end: 0 },
+        at,
+        outcome,
+        kind: 0,
+    }
+}
+
+/// A look-up as C sees it.
+fn shown_look_up(look_up: LookUp) -> JxAnswer
+    ensures { result ≡ shown_look_up look_up }
+{
+    match look_up {
+        LookUp::Found { kind, span } => JxAnswer {
+            span: shown_span(span),
+            at: 0,
+            outcome: FOUND,
+            kind: kind_in(kind),
+        },
+        LookUp::Lost(FindFault::NoSuchMember { token }) => answer(NO_SUCH_MEMBER, token),
+        LookUp::Lost(FindFault::NameRepeated { token }) => answer(NAME_REPEATED, token),
+        LookUp::Lost(FindFault::NotAnIndex { token }) => answer(NOT_AN_INDEX, token),
+        LookUp::Lost(FindFault::PastEnd { token }) => answer(PAST_END, token),
+        LookUp::Lost(FindFault::AfterLast { token }) => answer(AFTER_LAST, token),
+        LookUp::Lost(FindFault::NotAContainer { token }) => answer(NOT_A_CONTAINER, token),
+        LookUp::BadPointer(PointerFault::NoSlash) => answer(NO_SLASH, 0),
+        LookUp::BadPointer(PointerFault::BadEscape { at }) => answer(BAD_ESCAPE, at),
+        LookUp::NotUtf8 => answer(NOT_UTF8, 0),
+        LookUp::NoText(Refusal::Stopped { at }) => answer(TEXT_STOPPED, at),
+        LookUp::NoText(Refusal::Truncated) => answer(TEXT_TRUNCATED, 0),
+        LookUp::NoText(Refusal::TooDeep { at }) => answer(TEXT_TOO_DEEP, at),
+    }
+}
+
+/// What a pointer leads to in an index.
+fn led(index: &Indexed, pointer: &Pointer) -> LookUp
+    ensures { (limit : ℕ) (tree : Tree) → IsText index.now.text index.now.place.start index.now.place.end limit tree
+        → IsLed index.now.text tree pointer.now result }
+{
+    look_ups_end_at_rows();
+    match index.find(pointer) {
+        Ok(node) => {
+            let row = index.row(node);
+            LookUp::Found {
+                kind: row.kind,
+                span: row.span,
+            }
+        }
+        Err(fault) => LookUp::Lost(fault),
+    }
+}
+
+/// What a pointer comes to in what was answered on a text.
+fn led_in(answer: TextAnswer, pointer: &Pointer) -> LookUp
+    ensures { (text : List ℕ) (depth : ℕ) → IsAnswer text depth answer.entry → IsLookUp text depth pointer.now result }
+{
+    match answer {
+        TextAnswer::Accepted(index) => led(&index, pointer),
+        TextAnswer::Refused(refusal) => LookUp::NoText(refusal),
+    }
+}
+
+/// The pointer that bytes spell, or what they come to where they spell none.
+fn spelt(pointer: &[u8]) -> Result<Pointer<'_>, LookUp>
+    ensures pointer { IfOk result (λ p. p ≡ pointer.now) }
+    ensures none { IfErr result (λ l. (text : List ℕ) (depth : ℕ) → IsLookUp text depth pointer.now l) }
+{
+    let Ok(text) = str::from_utf8(pointer) else {
+        return Err(LookUp::NotUtf8);
+    };
+    match Pointer::read(text) {
+        Ok(read) => Ok(read),
+        Err(fault) => Err(LookUp::BadPointer(fault)),
+    }
+}
+
+/// What the bytes of a pointer come to in a text.
+fn look_up(alloc: Global, text: &[u8], pointer: &[u8], depth: Depth) -> Result<LookUp, AllocError>
+    ensures { IfOk result (IsLookUp text.now depth pointer.now) }
+{
+    match spelt(pointer) {
+        Ok(read) => {
+            let answer = index_text(alloc, text, depth)?;
+            Ok(led_in(answer, &read))
+        }
+        Err(none) => Ok(none),
+    }
+}
+
+/// What a pointer (RFC 6901) leads to in a JSON text (RFC 8259). A pointer that is none is told before the text is read.
+#[unsafe(no_mangle)]
+pub extern "C" fn jx_at(
+    alloc: Global,
+    text: &[u8],
+    pointer: &[u8],
+    depth: u32,
+    answer: &mut JxAnswer,
+) -> u32
+    ensures answer { result ≡ OK → IsAnswerOf text.now depth pointer.now answer.new }
+    ensures depth { 65535 < depth → result ≡ DEPTH_TOO_GREAT }
+    ensures unchanged { (result ≡ OK → ⊥) → answer.new ≡ answer.old }
+{
+    let Some(limit) = Depth::new(depth) else {
+        return DEPTH_TOO_GREAT;
+    };
+    match look_up(alloc, text, pointer, limit) {
+        Ok(found) => {
+            *answer = shown_look_up(found);
+            OK
+        }
+        Err(AllocError) => NO_MEMORY,
+    }
+}

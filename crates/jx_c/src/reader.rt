@@ -1,0 +1,173 @@
+// A text that C feeds slice by slice.
+ghost use Rattle.std.specs.Prelude.{◌≡◌, ◌+◌, ◌<◌, ◌≤◌, ◌^◌, ◌++◌, ℕ, List, [], OnOk, length};
+ghost use Rattle.jx_lex.specs.declared.exit.Exit.TheVariants as exit;
+ghost use Rattle.jx_run.specs.ReaderInside.{settled};
+ghost use Rattle.jx_run.specs.Verdict.{Judged};
+ghost use Rattle.jx_run.specs.Whole.{ends_text, verdict_from};
+ghost use Rattle.jx_c.specs.Reader.{HasRead, progress_in};
+
+use crate::stack::JxStack;
+use crate::states::{place_of, state_at};
+use jx_lex::{Exit, LexState, scan};
+use jx_reduce::{Expect, Whole};
+use jx_run::{Refusal, Verdict};
+use std::alloc::AllocError;
+
+/// What stands in a reader that was started: the letters "jxreader".
+pub const STARTED: u64 = 0x6A78_7265_6164_6572;
+
+/// No fault so far.
+pub const GOING: u32 = 0;
+
+const STOPPED: u32 = 1;
+
+const TOO_DEEP: u32 = 2;
+
+const FAILED: u32 = 3;
+
+/// A text that is read from its start: fed by slices one after another, it has the verdict on all their bytes at any
+/// moment. It takes no memory.
+#[repr(C)]
+#[derive(Drop)]
+pub struct JxReader {
+    /// Tells a reader that was started from one that was not.
+    pub started: u64,
+    /// How many bytes it was fed.
+    pub count: usize,
+    /// The offset of the fault.
+    pub at: usize,
+    /// 0 as long as there is no fault, 1 where the text can't go on, 2 where it is too deep.
+    pub progress: u32,
+    /// The lexical state, by its place among all.
+    pub state: u32,
+    pub stack: JxStack,
+}
+
+/// Whether a whole text may end in this state, with this expected and so many containers open.
+fn ends_text(state: LexState, expect: Expect, containers: usize) -> bool
+    ensures { result ≡ ends_text state expect containers }
+{
+    if containers != 0 {
+        return false;
+    }
+    matches!(expect, Expect::After)
+        && matches!(
+            state,
+            LexState::Gap | LexState::Zero | LexState::Int | LexState::Frac | LexState::Exp
+        )
+}
+
+/// The verdict where the bytes led to this state and the marks came to this.
+fn verdict_at(state: LexState, whole: Whole) -> Verdict
+    ensures { result ≡ verdict_from (exit.State state) whole }
+{
+    match whole {
+        Whole::Stopped(at) => Verdict::Refused(Refusal::Stopped { at }),
+        Whole::TooDeep(at) => Verdict::Refused(Refusal::TooDeep { at }),
+        Whole::Went { expect, open } => {
+            if ends_text(state, expect, open) {
+                Verdict::Accepted
+            } else {
+                Verdict::Refused(Refusal::Truncated)
+            }
+        }
+    }
+}
+
+impl JxReader {
+    /// A reader at the start of a text.
+    pub fn new(depth: u16) -> JxReader
+        ensures going { result.progress ≡ 0 }
+        ensures reads { HasRead depth [] result }
+    {
+        JxReader {
+            started: STARTED,
+            count: 0,
+            at: 0,
+            progress: GOING,
+            state: 0,
+            stack: JxStack::new(depth),
+        }
+    }
+
+    /// Begins a text, whatever stood in the reader.
+    pub fn start(&mut self, depth: u16)
+        ensures { HasRead depth [] self.new }
+    {
+        self.started = STARTED;
+        self.count = 0;
+        self.at = 0;
+        self.progress = GOING;
+        self.state = 0;
+        self.stack.start(depth);
+    }
+
+    /// Takes in where a scan of a slice came to that stands from `base` on.
+    fn settle(&mut self, base: usize, exit: Option<Exit>, whole: Whole)
+        ensures progress { progress_in self.new ≡ settled base exit whole }
+        ensures stack { self.new.stack ≡ self.old.stack }
+        ensures started { self.new.started ≡ self.old.started }
+        ensures count { self.new.count ≡ self.old.count }
+    {
+        match whole {
+            Whole::Stopped(at) => {
+                self.progress = STOPPED;
+                self.at = base.saturating_add(at);
+            }
+            Whole::TooDeep(at) => {
+                self.progress = TOO_DEEP;
+                self.at = base.saturating_add(at);
+            }
+            Whole::Went { .. } => match exit {
+                Some(Exit::State(state)) => {
+                    self.progress = GOING;
+                    self.state = place_of(state);
+                }
+                Some(Exit::Fault(at)) => {
+                    self.progress = STOPPED;
+                    self.at = base.saturating_add(at);
+                }
+                None => self.progress = FAILED,
+            },
+        }
+    }
+
+    /// Reads the slice behind all bytes that it was fed, where there was no fault. Nothing refuses memory.
+    pub fn read(&mut self, slice: &[u8]) -> Result<(), AllocError>
+        requires going { self.old.progress ≡ 0 }
+        requires fits { self.old.count + length slice.now < 2 ^ 64 }
+        ensures { OnOk result ((depth : ℕ) (fed : List ℕ) → HasRead depth fed self.old → HasRead depth (fed ++ slice.now) self.new) }
+    {
+        let base = self.count;
+        let state = state_at(self.state);
+        let exit = scan(&mut self.stack, state, slice, 0, slice.len())?;
+        let whole = self.stack.whole();
+        self.settle(base, exit, whole);
+        self.count = base + slice.len();
+        Ok(())
+    }
+
+    /// Counts the bytes of a slice, which behind a fault is not looked at.
+    pub fn skip(&mut self, slice: &[u8])
+        requires over { self.old.progress ≡ 0 → ⊥ }
+        requires fits { self.old.count + length slice.now < 2 ^ 64 }
+        ensures { (depth : ℕ) (fed : List ℕ) → HasRead depth fed self.old → HasRead depth (fed ++ slice.now) self.new }
+    {
+        self.count += slice.len();
+    }
+
+    /// The verdict on the bytes that it was fed, as a whole text.
+    pub fn verdict(&self) -> Verdict
+        ensures { (depth : ℕ) (fed : List ℕ) → HasRead depth fed self.now → Judged 0 fed depth result }
+    {
+        if self.progress == GOING {
+            verdict_at(state_at(self.state), self.stack.whole())
+        } else if self.progress == STOPPED {
+            Verdict::Refused(Refusal::Stopped { at: self.at })
+        } else if self.progress == TOO_DEEP {
+            Verdict::Refused(Refusal::TooDeep { at: self.at })
+        } else {
+            Verdict::Refused(Refusal::Truncated)
+        }
+    }
+}

@@ -1,0 +1,71 @@
+// The rows of a text.
+ghost use Rattle.std.specs.Prelude.{◌≡◌, ◌<◌, ℕ, List};
+ghost use Rattle.jx_c.specs.Answers.{IsAnswer};
+ghost use Rattle.jx_c.specs.Buffers.{IsFilled};
+ghost use Rattle.jx_c.specs.Rows.{AreRowsOf, shown_row};
+
+use crate::places::{JxRow, shown_row};
+use crate::status::{DEPTH_TOO_GREAT, NO_MEMORY, OK};
+use crate::texts::{TextAnswer, index_text};
+use crate::verdict::{JxVerdict, shown};
+use jx_index::Row;
+use jx_lex::Depth;
+use jx_run::Verdict;
+use std::alloc::{AllocError, Global};
+
+/// Puts the rows into the buffer, as many as it has room for.
+fn fill(rows: &mut [JxRow], from: &[Row])
+    ensures { IsFilled shown_row rows.old rows.new from.now }
+{
+    let count = rows.len().min(from.len());
+    for at in 0..count {
+        rows[at] = shown_row(from[at]);
+    }
+}
+
+/// Tells the answer on a text: the verdict, how many rows there are, and in the buffer the rows.
+fn tell(answer: TextAnswer, rows: &mut [JxRow], count: &mut usize, verdict: &mut JxVerdict)
+    ensures { (bytes : List ℕ) (depth : ℕ) → IsAnswer bytes depth answer.entry → AreRowsOf bytes depth rows.old rows.new count.new verdict.new }
+{
+    match answer {
+        TextAnswer::Accepted(index) => {
+            let all = index.rows();
+            *count = all.len();
+            *verdict = shown(Verdict::Accepted);
+            fill(rows, all);
+        }
+        TextAnswer::Refused(refusal) => {
+            *count = 0;
+            *verdict = shown(Verdict::Refused(refusal));
+        }
+    }
+}
+
+/// The rows of a JSON text (RFC 8259): all its values in the order of their starts. As many as the buffer has room for are
+/// put there, and `count` tells how many there are; where the bytes are no text there are none.
+#[unsafe(no_mangle)]
+pub extern "C" fn jx_rows(
+    alloc: Global,
+    text: &[u8],
+    depth: u32,
+    rows: &mut [JxRow],
+    count: &mut usize,
+    verdict: &mut JxVerdict,
+) -> u32
+    ensures rows { result ≡ OK → AreRowsOf text.now depth rows.old rows.new count.new verdict.new }
+    ensures depth { 65535 < depth → result ≡ DEPTH_TOO_GREAT }
+    ensures unchanged_rows { (result ≡ OK → ⊥) → rows.new ≡ rows.old }
+    ensures unchanged_count { (result ≡ OK → ⊥) → count.new ≡ count.old }
+    ensures unchanged_verdict { (result ≡ OK → ⊥) → verdict.new ≡ verdict.old }
+{
+    let Some(limit) = Depth::new(depth) else {
+        return DEPTH_TOO_GREAT;
+    };
+    match index_text(alloc, text, limit) {
+        Ok(answer) => {
+            tell(answer, rows, count, verdict);
+            OK
+        }
+        Err(AllocError) => NO_MEMORY,
+    }
+}

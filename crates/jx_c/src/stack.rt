@@ -1,0 +1,305 @@
+// The moves over marks from the start of a text, in a struct of fixed size that C holds.
+//
+// Each of its fields may hold any number, since C may hand anything over: what they mean is said for all of them.
+ghost use Rattle.std.specs.Prelude.{◌≡◌, ◌-◌, ◌/◌, ◌%◌, ◌<◌, ◌↔◌, ◌++◌, ◌∷◌, [], List, IsTrue, length};
+ghost use Rattle.jx_lex.specs.declared.mark.Mark.{Mark};
+ghost use Rattle.jx_reduce.specs.Bits.{holder_of};
+ghost use Rattle.jx_reduce.specs.KnownStack.{HasRead, IsFault};
+ghost use Rattle.jx_reduce.specs.Read.{changed, step, top, without_top};
+ghost use Rattle.jx_reduce.specs.Table.{added};
+ghost use Rattle.jx_reduce.specs.Whole.{whole_of};
+ghost use Rattle.jx_run.specs.Kept.{HasSeen};
+ghost use Rattle.jx_c.specs.Containers.{holders};
+ghost use Rattle.jx_c.specs.Stack.{code_of, stage_in, holders_of, known_of};
+
+use jx_lex::{Keeper, Mark, MarkKind};
+use jx_reduce::{Expect, Holder, Whole, next};
+use std::alloc::AllocError;
+
+/// Half of what a word counts to.
+const HALF: u64 = 0x8000_0000_0000_0000;
+
+/// The stage behind a mark that the table of moves does not allow.
+const STOPPED: u32 = 6;
+
+/// The stage behind a mark that opens one container more than the depth.
+const TOO_DEEP: u32 = 7;
+
+/// What may stand next, or which fault was met.
+#[derive(Clone, Copy)]
+pub enum Stage {
+    Going(Expect),
+    Stopped,
+    TooDeep,
+}
+
+/// What marks come to from the start of a text (RFC 8259, sections 2 to 5). The open containers are bits, an array 0 and
+/// an object 1: 64 of them fill a word, and those that fill none yet are held apart, the innermost lowest.
+#[repr(C)]
+#[derive(Drop)]
+pub struct JxStack {
+    /// The innermost containers.
+    pub bits: u64,
+    /// The offset of the fault.
+    pub at: usize,
+    /// What may stand next, from 0 to 5; 6 behind a mark that may not stand there, above behind one that is too deep.
+    pub stage: u32,
+    /// How many containers may stand open at once.
+    pub depth: u16,
+    /// How many containers are open.
+    pub count: u16,
+    /// The full words, the outermost first.
+    pub words: [u64; 1024],
+}
+
+/// The bit of a container.
+#[inline(always)]
+fn bit_of(holder: Holder) -> u64
+    requires { holder ≡ Holder.Bottom → ⊥ }
+    ensures within { result < 2 }
+    ensures holder { holder_of result ≡ holder }
+{
+    match holder {
+        Holder::Array => 0,
+        Holder::Object => 1,
+        Holder::Bottom => unreachable!(),
+    }
+}
+
+/// The number of what may stand next.
+#[inline(always)]
+fn code_of(expect: Expect) -> u32
+    ensures { result ≡ code_of expect }
+{
+    match expect {
+        Expect::Value => 0,
+        Expect::ArrayFirst => 1,
+        Expect::ObjectFirst => 2,
+        Expect::Name => 3,
+        Expect::Colon => 4,
+        Expect::After => 5,
+    }
+}
+
+/// The stage of a number.
+#[inline(always)]
+fn stage_of(code: u32) -> Stage
+    ensures { result ≡ stage_in code }
+{
+    if code == 0 {
+        Stage::Going(Expect::Value)
+    } else if code == 1 {
+        Stage::Going(Expect::ArrayFirst)
+    } else if code == 2 {
+        Stage::Going(Expect::ObjectFirst)
+    } else if code == 3 {
+        Stage::Going(Expect::Name)
+    } else if code == 4 {
+        Stage::Going(Expect::Colon)
+    } else if code == 5 {
+        Stage::Going(Expect::After)
+    } else if code == STOPPED {
+        Stage::Stopped
+    } else {
+        Stage::TooDeep
+    }
+}
+
+impl JxStack {
+    /// A stack at the start of a text.
+    pub fn new(depth: u16) -> JxStack
+        ensures depth { result.depth ≡ depth }
+        ensures reads { HasRead [] (known_of result) }
+    {
+        JxStack {
+            bits: 0,
+            at: 0,
+            stage: 0,
+            depth,
+            count: 0,
+            words: [0; 1024],
+        }
+    }
+
+    /// The start of a text: nothing is open, and a value is expected.
+    pub fn start(&mut self, depth: u16)
+        ensures depth { self.new.depth ≡ depth }
+        ensures reads { HasRead [] (known_of self.new) }
+    {
+        self.bits = 0;
+        self.at = 0;
+        self.stage = 0;
+        self.depth = depth;
+        self.count = 0;
+    }
+
+    /// The full words, and what stands behind them.
+    #[inline(always)]
+    fn words(&self) -> &[u64]
+        ensures same { result.now ≡ self.now.words }
+        ensures all { length self.now.words ≡ 1024 }
+    {
+        &self.words
+    }
+
+    /// How many containers are open.
+    #[inline(always)]
+    fn open_count(&self) -> usize
+        ensures count { result ≡ self.now.count }
+        ensures long { result ≡ length (holders_of self.now) }
+    {
+        let _ = self.words();
+        self.count as usize
+    }
+
+    /// The word in which the innermost container stands lowest.
+    #[inline(always)]
+    fn inner(&self) -> u64
+        requires { 0 < self.now.count }
+        ensures innermost { top (holders_of self.now) ≡ holder_of (result % 2) }
+        ensures rest { holders (self.now.count - 1) (result / 2) self.now.words ≡ without_top (holders_of self.now) }
+    {
+        let words = self.words();
+        if self.count % 64 == 0 {
+            words[(self.count / 64 - 1) as usize]
+        } else {
+            self.bits
+        }
+    }
+
+    /// The innermost container.
+    #[inline(always)]
+    fn top(&self) -> Holder
+        ensures { result ≡ top (holders_of self.now) }
+    {
+        if self.count == 0 {
+            return Holder::Bottom;
+        }
+        if self.inner() % 2 == 0 {
+            Holder::Array
+        } else {
+            Holder::Object
+        }
+    }
+
+    /// A container more is open. The word stands among the full ones from its last container on.
+    #[inline(always)]
+    fn open(&mut self, holder: Holder)
+        requires holder { holder ≡ Holder.Bottom → ⊥ }
+        requires room { self.old.count < 65535 }
+        ensures depth { self.new.depth ≡ self.old.depth }
+        ensures holders { holders_of self.new ≡ holder ∷ holders_of self.old }
+    {
+        let _ = self.words();
+        let bits = self.bits % HALF * 2 + bit_of(holder);
+        self.words[(self.count / 64) as usize] = bits;
+        self.bits = bits;
+        self.count += 1;
+    }
+
+    /// The innermost container is closed.
+    #[inline(always)]
+    fn close(&mut self)
+        ensures depth { self.new.depth ≡ self.old.depth }
+        ensures holders { holders_of self.new ≡ without_top (holders_of self.old) }
+    {
+        if self.count > 0 {
+            self.bits = self.inner() / 2;
+            self.count -= 1;
+        }
+    }
+
+    /// Whether a fault was met.
+    #[inline(always)]
+    pub fn is_faulty(&self) -> bool
+        ensures { IsTrue result ↔ IsFault (known_of self.now).reading }
+    {
+        match stage_of(self.stage) {
+            Stage::Going(_) => false,
+            Stage::Stopped => true,
+            Stage::TooDeep => true,
+        }
+    }
+
+    /// What the marks have come to.
+    pub fn whole(&self) -> Whole
+        ensures { result ≡ whole_of (known_of self.now).reading }
+    {
+        match stage_of(self.stage) {
+            Stage::Going(expect) => Whole::Went {
+                expect,
+                open: self.open_count(),
+            },
+            Stage::Stopped => Whole::Stopped(self.at),
+            Stage::TooDeep => Whole::TooDeep(self.at),
+        }
+    }
+
+    /// A container more is open, within the depth.
+    #[inline(always)]
+    fn enter(&mut self, holder: Holder, expect: Expect, at: usize)
+        requires { holder ≡ Holder.Bottom → ⊥ }
+        ensures depth { self.new.depth ≡ self.old.depth }
+        ensures reads { (known_of self.new).reading ≡ changed self.old.depth at (added holder) expect (holders_of self.old) }
+    {
+        if self.open_count() < self.depth as usize {
+            self.open(holder);
+            self.stage = code_of(expect);
+        } else {
+            self.stage = TOO_DEEP;
+            self.at = at;
+        }
+    }
+
+    /// The move at one mark. Behind a fault no mark changes anything.
+    #[inline(always)]
+    fn step(&mut self, mark: Mark)
+        ensures depth { self.new.depth ≡ self.old.depth }
+        ensures reads { (known_of self.new).reading ≡ step self.old.depth mark (known_of self.old).reading }
+    {
+        let Stage::Going(expect) = stage_of(self.stage) else {
+            return;
+        };
+        let Some(then) = next(mark.kind, expect, self.top()) else {
+            self.stage = STOPPED;
+            self.at = mark.at;
+            return;
+        };
+        match mark.kind {
+            MarkKind::OpenArray => return self.enter(Holder::Array, then, mark.at),
+            MarkKind::OpenObject => return self.enter(Holder::Object, then, mark.at),
+            MarkKind::CloseArray | MarkKind::CloseObject => self.close(),
+            _ => {}
+        }
+        self.stage = code_of(then);
+    }
+
+    /// One more mark.
+    #[inline(always)]
+    fn push(&mut self, mark: Mark)
+        ensures depth { self.new.depth ≡ self.old.depth }
+        ensures marks { (before : List Mark) → HasRead before (known_of self.old) → HasRead (before ++ mark ∷ []) (known_of self.new) }
+    {
+        self.step(mark);
+    }
+}
+
+impl Keeper for JxStack {
+    ghost has_seen = { λ stack marks ends. HasSeen marks ends (known_of stack) };
+
+    #[inline(always)]
+    fn begin(&mut self, mark: Mark) -> Result<(), AllocError> {
+        self.push(mark);
+        Ok(())
+    }
+
+    #[inline(always)]
+    fn end(&mut self, _at: usize) -> Result<(), AllocError> {
+        Ok(())
+    }
+
+    #[inline(always)]
+    fn is_done(&self) -> bool {
+        self.is_faulty()
+    }
+}

@@ -1,0 +1,47 @@
+// Verdicts as C sees them.
+ghost use Rattle.std.specs.Prelude.{◌≡◌};
+ghost use Rattle.jx_c.specs.Verdict.{shown};
+
+use jx_run::{Refusal, Verdict};
+
+/// It is a text.
+const ACCEPTED: u32 = 0;
+/// With the byte at the offset the text can't go on.
+const STOPPED: u32 = 1;
+/// The text ends too early.
+const TRUNCATED: u32 = 2;
+/// Only a greater depth would let the text go on with the byte at the offset.
+const TOO_DEEP: u32 = 3;
+
+/// What reading a text comes to.
+#[repr(C)]
+#[derive(Clone, Copy)]
+pub struct JxVerdict {
+    /// In bytes from the text's start; 0 where the kind has none.
+    pub offset: usize,
+    pub kind: u32,
+}
+
+/// The verdict as C sees it.
+pub fn shown(verdict: Verdict) -> JxVerdict
+    ensures { result ≡ shown verdict }
+{
+    match verdict {
+        Verdict::Accepted => JxVerdict {
+            offset: 0,
+            kind: ACCEPTED,
+        },
+        Verdict::Refused(Refusal::Stopped { at }) => JxVerdict {
+            offset: at,
+            kind: STOPPED,
+        },
+        Verdict::Refused(Refusal::Truncated) => JxVerdict {
+            offset: 0,
+            kind: TRUNCATED,
+        },
+        Verdict::Refused(Refusal::TooDeep { at }) => JxVerdict {
+            offset: at,
+            kind: TOO_DEEP,
+        },
+    }
+}

@@ -1,0 +1,42 @@
+ghost use Rattle.std.specs.Prelude.{IfOk};
+ghost use Rattle.jx_command.specs.declared.command.Task.{Task};
+ghost use Rattle.jx_run.specs.declared.settings.FrontMark.{FrontMark};
+ghost use Rattle.jx_report.specs.declared.exit.Exit.{Exit};
+ghost use Rattle.jx_report.specs.Output.{Output};
+
+use crate::example_fault::ExampleFault;
+use jx_book::OpenGate;
+use jx_claim::Workers;
+use jx_command::{Command, Task};
+use jx_lex::Depth;
+use jx_report::{End, report};
+use jx_run::{FrontMark, Settings};
+use std::alloc::Global;
+use std::sync::Wait;
+use std::thread::Threads;
+
+/// The lines that the program writes for a text in memory, one for each value.
+pub fn lines_of_values<R: Threads + Wait + Sync>(
+    rt: &R,
+    alloc: Global,
+    text: &[u8],
+    workers: Workers,
+) -> Result<Vec<u8>, ExampleFault>
+    ensures { IfOk result (λ lines. (exit : Exit)
+        × Output Task.Index (record { depth = 512; mark = FrontMark.Refused }) text.now lines.items exit) }
+{
+    let command = Command {
+        task: Task::Index,
+        settings: Settings {
+            depth: Depth::default(),
+            mark: FrontMark::Refused,
+        },
+        workers,
+        piece: 65536,
+        quiet: false,
+    };
+    let mut reader = End::new(text);
+    let mut writer = End::new(Vec::new(alloc));
+    report(rt, alloc, &mut reader, &mut writer, &command, &OpenGate)?;
+    Ok(writer.inner)
+}

@@ -1,0 +1,221 @@
+// Reports over memory under refused growths: the right output, or want of memory with nothing written.
+ghost use Rattle.std.specs.Prelude.{◌≡◌};
+
+use crate::tests::inputs::{FIVE_ROWS, SEQUENCE};
+use jx_book::OpenGate;
+use jx_claim::Workers;
+use jx_command::{Command, Task};
+use jx_lex::Depth;
+use jx_report::{End, Exit, ReportFault, report};
+use jx_run::{FrontMark, Settings};
+use std::alloc::{AllocError, Global};
+use std::process::Abort;
+use std::sync::Wait;
+use std::test::Fail;
+use std::thread::Threads;
+
+// Room for what these reports write, so that a write takes no memory.
+fn room(alloc: Global) -> Result<Vec<u8>, AllocError> {
+    match Vec::with_capacity(alloc, 256) {
+        Ok(bytes) => Ok(bytes),
+        Err(_) => Vec::with_capacity(alloc, 256),
+    }
+}
+
+fn command(task: Task, mark: FrontMark, workers: Workers) -> Command
+    ensures { result.piece ≡ 1 }
+{
+    Command {
+        task,
+        settings: Settings {
+            depth: Depth::default(),
+            mark,
+        },
+        workers,
+        piece: 1,
+        quiet: false,
+    }
+}
+
+// A report on an input in pieces of a byte, by that many workers, made once more where memory was refused.
+fn check<R: Abort + Threads + Wait + Sync>(
+    rt: &R,
+    alloc: Global,
+    task: Task,
+    mark: FrontMark,
+    text: &[u8],
+    count: u8,
+    want: (&str, Exit),
+) -> Result<(), Fail> {
+    let (output, exit) = want;
+    let command = command(task, mark, Workers::new(count).ok_or("workers")?);
+    let mut writer = End::new(room(alloc)?);
+    let mut reader = End::new(text);
+    let answer = match report(rt, alloc, &mut reader, &mut writer, &command, &OpenGate) {
+        Ok(exit) => exit,
+        Err(fault) => {
+            assert_eq!(rt; fault, ReportFault::Memory);
+            assert!(rt; writer.inner.is_empty());
+            let mut reader = End::new(text);
+            report(rt, alloc, &mut reader, &mut writer, &command, &OpenGate)?
+        }
+    };
+    assert_eq!(rt; answer, exit);
+    assert_eq!(rt;
+        writer.inner.as_slice(),
+        output.as_bytes(),
+        "{text:?} by {count}"
+    );
+    Ok(())
+}
+
+// A byte order mark in front of a text.
+const MARKED: &[u8] = b"\xEF\xBB\xBF[1]";
+
+const ROWS: (&str, Exit) = (
+    "accepted\n0 object 0..17 - 0 -\n1 array 5..16 0 0 1..4\n2 number 6..7 1 0 -\n3 object 8..15 1 1 -\n4 number 13..14 3 0 9..12\n",
+    Exit::Good,
+);
+
+const ELEMENTS: (&str, Exit) = (
+    "1..6 accepted\n7..11 may be cut\n13..16 truncated\n",
+    Exit::Bad,
+);
+
+const FOUND: (&str, Exit) = ("found number 13..14\npast end at token 1\n", Exit::Bad);
+
+// Two pointers into the text of five rows, asked for twice where they are refused.
+fn pointers(alloc: Global) -> Result<Vec<String>, AllocError> {
+    let mut pointers = Vec::with_capacity(alloc, 2)?;
+    for pointer in ["/a/1/b", "/a/2"] {
+        pointers.push(String::from_str(alloc, pointer)?)?;
+    }
+    Ok(pointers)
+}
+
+fn check_pointers<R: Abort + Threads + Wait + Sync>(
+    rt: &R,
+    alloc: Global,
+    count: u8,
+) -> Result<(), Fail> {
+    let pointers = match pointers(alloc) {
+        Ok(pointers) => pointers,
+        Err(_) => pointers(alloc)?,
+    };
+    check(
+        rt,
+        alloc,
+        Task::At(pointers),
+        FrontMark::Refused,
+        FIVE_ROWS,
+        count,
+        FOUND,
+    )
+}
+
+#[test]
+fn a_check_by_two_workers_under_a_refused_growth(rt: HostRuntime) -> Result<(), Fail> {
+    let want = ("accepted\n", Exit::Good);
+    check(
+        &rt,
+        rt.alloc(),
+        Task::Check,
+        FrontMark::Refused,
+        FIVE_ROWS,
+        2,
+        want,
+    )
+}
+
+#[test]
+fn rows_by_one_worker_under_a_refused_growth(rt: HostRuntime) -> Result<(), Fail> {
+    check(
+        &rt,
+        rt.alloc(),
+        Task::Index,
+        FrontMark::Refused,
+        FIVE_ROWS,
+        1,
+        ROWS,
+    )
+}
+
+#[test]
+fn rows_by_two_workers_under_a_refused_growth(rt: HostRuntime) -> Result<(), Fail> {
+    check(
+        &rt,
+        rt.alloc(),
+        Task::Index,
+        FrontMark::Refused,
+        FIVE_ROWS,
+        2,
+        ROWS,
+    )
+}
+
+#[test]
+fn pointers_by_one_worker_under_a_refused_growth(rt: HostRuntime) -> Result<(), Fail> {
+    check_pointers(&rt, rt.alloc(), 1)
+}
+
+#[test]
+fn pointers_by_two_workers_under_a_refused_growth(rt: HostRuntime) -> Result<(), Fail> {
+    check_pointers(&rt, rt.alloc(), 2)
+}
+
+#[test]
+fn elements_by_one_worker_under_a_refused_growth(rt: HostRuntime) -> Result<(), Fail> {
+    check(
+        &rt,
+        rt.alloc(),
+        Task::Seq,
+        FrontMark::Refused,
+        SEQUENCE,
+        1,
+        ELEMENTS,
+    )
+}
+
+#[test]
+fn elements_by_two_workers_under_a_refused_growth(rt: HostRuntime) -> Result<(), Fail> {
+    check(
+        &rt,
+        rt.alloc(),
+        Task::Seq,
+        FrontMark::Refused,
+        SEQUENCE,
+        2,
+        ELEMENTS,
+    )
+}
+
+#[test]
+fn a_marked_text_by_one_worker_under_a_refused_growth(rt: HostRuntime) -> Result<(), Fail> {
+    let want = (
+        "accepted\n0 array 3..6 - 0 -\n1 number 4..5 0 0 -\n",
+        Exit::Good,
+    );
+    check(
+        &rt,
+        rt.alloc(),
+        Task::Index,
+        FrontMark::Ignored,
+        MARKED,
+        1,
+        want,
+    )
+}
+
+#[test]
+fn a_marked_text_by_two_workers_under_a_refused_growth(rt: HostRuntime) -> Result<(), Fail> {
+    let want = ("accepted\n", Exit::Good);
+    check(
+        &rt,
+        rt.alloc(),
+        Task::Check,
+        FrontMark::Ignored,
+        MARKED,
+        2,
+        want,
+    )
+}

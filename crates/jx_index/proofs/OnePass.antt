@@ -1,0 +1,94 @@
+-- What is built in one pass over a text is its tree's.
+use Rattle.std.proofs.Common.{◌≡◌, ℕ, ◌≤◌, ◌<◌, ◌-◌, ◌^◌, List, refl, ap, sym, subst, ◌∙◌, arith}
+use Rattle.std.specs.Prelude.{slice_range, length}
+use Rattle.jx_lex.specs.declared.mark.Mark.{Mark}
+use Rattle.jx_lex.specs.declared.span.Span.{Span}
+use Rattle.jx_lex.specs.declared.state.LexState.TheVariants as state
+use Rattle.jx_lex.specs.Lex.{lex, Track}
+use Rattle.jx_lex.specs.Map.{track}
+use Rattle.jx_run.specs.declared.verdict.Verdict.{Verdict}
+use Rattle.jx_run.specs.declared.verdict.Verdict.TheVariants.{Accepted}
+use Rattle.jx_run.specs.Text.{IsText}
+use Rattle.jx_run.specs.TextRun.{TextRunValue, IsTextRun, place_of}
+use Rattle.jx_run.specs.Tree.{Tree}
+use Rattle.jx_run.specs.Verdict.{Judged}
+use Rattle.jx_index.specs.declared.row.Row.{Row}
+use Rattle.jx_index.specs.Building.{Building, built_of}
+use Rattle.jx_index.specs.Indexed.{HasNodes}
+use Rattle.jx_index.specs.Low.{AllLow}
+use Rattle.jx_index.specs.Rows.{rows}
+use Rattle.jx_index.proofs.Builds.{IsBuilt, built_is}
+use Rattle.jx_index.proofs.Readings.{tree_of}
+use Rattle.jx_index.proofs.Within.{marks_within, part_end}
+
+-- what is built of a run's marks and ends
+pub record RunNodes (run : TextRunValue) (place : Span) (marks : List Mark) (ends : List ℕ) (told : List Row) (after : List ℕ) : Type 0 where
+  pub place_is : place ≡ place_of run
+  pub marks_are : marks ≡ (track run.map state.Gap).marks
+  pub ends_are : ends ≡ (track run.map state.Gap).ends
+  pub rows_are : AllLow marks → told ≡ (built_of place.end marks ends).rows
+  pub after_are : AllLow marks → after ≡ (built_of place.end marks ends).after
+
+module _ (text : List ℕ) (place : Span) (ordered : place.start ≤ place.end) (within : place.end ≤ length text) where
+  all_low : length text < 2 ^ 64 → AllLow (lex state.Gap place.start (slice_range text place.start place.end)).marks
+  all_low fits =
+      let end = part_end text place.start place.end ordered within in
+      marks_within state.Gap place.start (slice_range text place.start place.end) (2 ^ 64 - 1) (omega (arith, end))
+
+  is_built : (limit : ℕ) (tree : Tree) → IsText text place.start place.end limit tree
+      → IsBuilt tree (built_of place.end (lex state.Gap place.start (slice_range text place.start place.end)).marks (lex state.Gap place.start (slice_range text place.start place.end)).ends)
+  is_built limit tree t =
+      let bytes = slice_range text place.start place.end in
+      subst (λ (n : ℕ). IsBuilt tree (built_of n (lex state.Gap place.start bytes).marks (lex state.Gap place.start bytes).ends)) (part_end text place.start place.end ordered within)
+      (built_is place.start limit bytes tree t)
+
+  pub rows_told : (limit : ℕ) (tree : Tree) (told : List Row) → length text < 2 ^ 64
+      → (AllLow (lex state.Gap place.start (slice_range text place.start place.end)).marks
+      → told ≡ (built_of place.end (lex state.Gap place.start (slice_range text place.start place.end)).marks (lex state.Gap place.start (slice_range text place.start place.end)).ends).rows)
+      → IsText text place.start place.end limit tree → told ≡ rows tree
+  rows_told limit tree told fits h t = h (all_low fits) ∙ (is_built limit tree t).rows_are
+
+  pub nodes_told : (limit : ℕ) (v : Verdict) (told : List Row) (after : List ℕ) → length text < 2 ^ 64
+      → Judged place.start (slice_range text place.start place.end) limit v → v ≡ Accepted
+      → (AllLow (lex state.Gap place.start (slice_range text place.start place.end)).marks
+      → told ≡ (built_of place.end (lex state.Gap place.start (slice_range text place.start place.end)).marks (lex state.Gap place.start (slice_range text place.start place.end)).ends).rows)
+      → (AllLow (lex state.Gap place.start (slice_range text place.start place.end)).marks
+      → after ≡ (built_of place.end (lex state.Gap place.start (slice_range text place.start place.end)).marks (lex state.Gap place.start (slice_range text place.start place.end)).ends).after)
+      → HasNodes text place told after
+  nodes_told limit v told after fits judged e h k =
+      let t = tree_of v judged e in
+      record {
+        limit = limit;
+        tree = t.tree;
+        is_text = t.is;
+        rows_are = h (all_low fits) ∙ (is_built limit t.tree t.is).rows_are;
+        after_are = k (all_low fits) ∙ (is_built limit t.tree t.is).after_are;
+      }
+
+module _ (text : List ℕ) (run : TextRunValue) (ordered : run.map.start ≤ run.map.end) (within : run.map.end ≤ length text) (fits : length text < 2 ^ 64)
+    (of : IsTextRun (slice_range text run.map.start run.map.end) run) where
+  module _ (place : Span) (marks : List Mark) (ends : List ℕ) (told : List Row) (after : List ℕ) (nodes : RunNodes run place marks ends told after) where
+    same_track : track run.map state.Gap ≡ lex state.Gap run.map.start (slice_range text run.map.start run.map.end)
+    same_track = of.tracks state.Gap
+
+    same_building : built_of place.end marks ends
+        ≡ built_of run.map.end (lex state.Gap run.map.start (slice_range text run.map.start run.map.end)).marks (lex state.Gap run.map.start (slice_range text run.map.start run.map.end)).ends
+    same_building =
+        ap (λ (s : Span). built_of s.end marks ends) nodes.place_is
+        ∙ ap (λ (x : List Mark). built_of run.map.end x ends) nodes.marks_are
+        ∙ ap (λ (x : List ℕ). built_of run.map.end (track run.map state.Gap).marks x) nodes.ends_are
+        ∙ ap (λ (t : Track). built_of run.map.end t.marks t.ends) same_track
+
+    low_too : AllLow (lex state.Gap run.map.start (slice_range text run.map.start run.map.end)).marks → AllLow marks
+    low_too h = subst AllLow (sym (nodes.marks_are ∙ ap (λ (t : Track). t.marks) same_track)) h
+
+    pub run_rows : (limit : ℕ) (tree : Tree) → IsText text run.map.start run.map.end limit tree → told ≡ rows tree
+    run_rows limit tree t =
+        rows_told text (place_of run) ordered within limit tree told fits (λ low. nodes.rows_are (low_too low) ∙ ap (λ (b : Building). b.rows) same_building) t
+
+    pub run_nodes : Judged run.map.start (slice_range text run.map.start run.map.end) run.limit Accepted → HasNodes text place told after
+    run_nodes judged =
+        subst (λ (s : Span). HasNodes text s told after) (sym nodes.place_is)
+        (nodes_told text (place_of run) ordered within run.limit Accepted told after fits judged refl
+        (λ low. nodes.rows_are (low_too low) ∙ ap (λ (b : Building). b.rows) same_building)
+        (λ low. nodes.after_are (low_too low) ∙ ap (λ (b : Building). b.after) same_building))

@@ -1,0 +1,26 @@
+use Rattle.std.proofs.Common.{ℕ, ◌+◌, List, length, sym, ap, subst, ◌∙◌}
+use Rattle.jx_index.specs.NameParts.{HaveParts}
+use Rattle.jx_index.specs.Walk.{IsForward, IsBounded}
+use Rattle.jx_index.specs.declared.row.Row.{Row}
+use Rattle.jx_index.proofs.Shapes.{forward_of, bounded_of}
+use Rattle.jx_index.proofs.indexed.Indexed.of_nodes.Goals as goal
+
+pub of-requires-clause-forward : goal.of-requires-clause-forward
+of-requires-clause-forward c = subst IsForward (sym (c.deref-2.ensures.value ∙ c.requires.after_are)) (forward_of c.requires.tree)
+
+pub of-requires-clause-bounded : goal.of-requires-clause-bounded
+of-requires-clause-bounded c = subst IsBounded (sym (c.deref-2.ensures.value ∙ c.requires.after_are)) (bounded_of c.requires.tree)
+
+pub invariant_of-result : goal.invariant_of-result
+invariant_of-result c = record {
+  limit = c.requires.limit;
+  tree = c.requires.tree;
+  is_text = c.requires.is_text;
+  rows_are = c.requires.rows_are;
+  after_are = c.requires.after_are;
+  starts_are = c.in_ok-names.ensures.starts ∙ ap (λ (r : List Row). length r + 1) c.deref.ensures.value;
+  parts =
+      subst (λ (r : List Row). HaveParts c.args.text.now r c.args.nodes.after.items c.in_ok-names.names.starts.items c.in_ok-names.names.members.items (length r)) c.deref.ensures.value
+      (subst (λ (a : List ℕ). HaveParts c.args.text.now c.deref.result.now a c.in_ok-names.names.starts.items c.in_ok-names.names.members.items (length c.deref.result.now)) c.deref-2.ensures.value
+      c.in_ok-names.ensures.parts);
+}

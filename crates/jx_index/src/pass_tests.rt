@@ -1,0 +1,218 @@
+// Texts that are indexed in one pass over their bytes, and builders that are told tokens out of order.
+use crate::indexed::Indexed;
+use crate::pointer::Pointer;
+use crate::row::Row;
+use crate::row_keeper::RowKeeper;
+use jx_lex::{Depth, Keeper, Kind, Mark, MarkKind, Span};
+use jx_run::{NoPause, Pace, Refusal, Summary, TextRun, Verdict};
+use std::alloc::{AllocError, Global};
+
+fn refusal_of(alloc: Global, text: &[u8], depth: Depth) -> Result<Option<Refusal>, AllocError> {
+    let end = text.len();
+    let read = Indexed::read(alloc, text, Span { start: 0, end }, depth, &mut NoPause)?;
+    Ok(read.err())
+}
+
+// Whether one pass over the text and a run over it give the same rows.
+fn is_same(alloc: Global, text: &[u8]) -> Result<bool, AllocError> {
+    let end = text.len();
+    let depth = Depth::default();
+    let run = TextRun::of(alloc, text, 0, end, depth)?;
+    let started = run.started()?;
+    if started.verdict() != Verdict::Accepted {
+        return Ok(false);
+    }
+    let built = Indexed::build(alloc, text, &started)?;
+    let read = Indexed::read(alloc, text, Span { start: 0, end }, depth, &mut NoPause)?;
+    Ok(match read {
+        Ok(index) => index.rows() == built.rows(),
+        Err(_) => false,
+    })
+}
+
+#[test]
+fn rows_of_one_pass_are_those_of_a_run(rt: HostRuntime) -> Result<(), AllocError> {
+    let alloc = rt.alloc();
+    assert!(rt; is_same(alloc, b"12")?);
+    assert!(rt; is_same(alloc, b" -0.5e+3 ")?);
+    assert!(rt; is_same(alloc, b"\"a\\u0062\"")?);
+    assert!(rt; is_same(alloc, b"[]")?);
+    assert!(rt; is_same(alloc, b"{}")?);
+    assert!(rt; is_same(alloc, b"[1,2,[3,[]],{\"a\":{}},null]")?);
+    assert!(rt;
+        is_same(
+            alloc,
+            b"{\"a\" : true, \"b\" :[ false , \"x\\\"\" ],\"a\":1}"
+        )?
+    );
+    Ok(())
+}
+
+#[test]
+fn refusals_of_one_pass(rt: HostRuntime) -> Result<(), AllocError> {
+    let alloc = rt.alloc();
+    let deep = Depth::default();
+    let Some(flat) = Depth::new(1) else {
+        return Ok(());
+    };
+    assert!(rt; refusal_of(alloc, b"[1,", deep)? == Some(Refusal::Truncated));
+    assert!(rt; refusal_of(alloc, b"", deep)? == Some(Refusal::Truncated));
+    assert!(rt; refusal_of(alloc, b"[1 2]", deep)? == Some(Refusal::Stopped { at: 3 }));
+    assert!(rt; refusal_of(alloc, b"[nul]", deep)? == Some(Refusal::Stopped { at: 4 }));
+    assert!(rt; refusal_of(alloc, b"[[1]]", flat)? == Some(Refusal::TooDeep { at: 1 }));
+    assert!(rt; refusal_of(alloc, b"[[1]]", deep)?.is_none());
+    Ok(())
+}
+
+#[test]
+fn a_text_within_a_larger_input(rt: HostRuntime) -> Result<(), AllocError> {
+    let text = b"xx{\"a\":7}y";
+    let span = Span { start: 2, end: 9 };
+    let read = Indexed::read(rt.alloc(), text, span, Depth::default(), &mut NoPause)?;
+    assert!(rt; read.is_ok());
+    let Ok(index) = read else {
+        return Ok(());
+    };
+    assert!(rt; index.span() == span);
+    let Ok(pointer) = Pointer::read("/a") else {
+        return Ok(());
+    };
+    let found = index.find(&pointer);
+    assert!(rt; found.is_ok());
+    if let Ok(node) = found {
+        let row = index.rows().get(node.number());
+        assert!(rt; row.map(|row| row.span) == Some(Span { start: 7, end: 8 }));
+    }
+    Ok(())
+}
+
+/// Pauses behind each byte.
+#[derive(Drop)]
+struct EachByte;
+
+impl Pace for EachByte {
+    fn next_stop(&mut self, at: usize, _end: usize) -> usize {
+        at.saturating_add(1)
+    }
+}
+
+#[test]
+fn pauses_change_nothing(rt: HostRuntime) -> Result<(), AllocError> {
+    let text = b" {\"a\\u0020\" : [ -1.5e3 , true, \"\xc3\xa4\" ] }";
+    let end = text.len();
+    let span = Span { start: 0, end };
+    let whole = Indexed::read(rt.alloc(), text, span, Depth::default(), &mut NoPause)?;
+    let parts = Indexed::read(rt.alloc(), text, span, Depth::default(), &mut EachByte)?;
+    let same = match (whole, parts) {
+        (Ok(whole), Ok(parts)) => whole.rows() == parts.rows() && parts.rows().len() == 5,
+        _ => false,
+    };
+    assert!(rt; same);
+    let faulty = Indexed::read(
+        rt.alloc(),
+        b"[1,x]",
+        Span { start: 0, end: 5 },
+        Depth::default(),
+        &mut EachByte,
+    )?;
+    assert!(rt; faulty.err() == Some(Refusal::Stopped { at: 3 }));
+    Ok(())
+}
+
+fn spans_are(rows: &[Row], spans: &[Span]) -> bool {
+    rows.iter().map(|row| row.span).eq(spans.iter().copied())
+}
+
+// A scan tells an end before the next mark. Told later, it is still the end of its own token.
+#[test]
+fn ends_that_come_late(rt: HostRuntime) -> Result<(), AllocError> {
+    let mut keeper = RowKeeper::new(rt.alloc());
+    keeper.begin(Mark {
+        kind: MarkKind::OpenArray,
+        at: 0,
+    })?;
+    keeper.begin(Mark {
+        kind: MarkKind::True,
+        at: 1,
+    })?;
+    keeper.begin(Mark {
+        kind: MarkKind::Comma,
+        at: 5,
+    })?;
+    keeper.end(5)?;
+    keeper.begin(Mark {
+        kind: MarkKind::Number,
+        at: 6,
+    })?;
+    keeper.end(7)?;
+    keeper.begin(Mark {
+        kind: MarkKind::CloseArray,
+        at: 7,
+    })?;
+    let nodes = keeper.into_nodes(8)?;
+    let spans = [
+        Span { start: 0, end: 8 },
+        Span { start: 1, end: 5 },
+        Span { start: 6, end: 7 },
+    ];
+    assert!(rt; spans_are(&nodes.rows, &spans));
+    assert!(rt; nodes.rows.first().map(|row| row.kind) == Some(Kind::Array));
+    Ok(())
+}
+
+fn found(index: &Indexed, pointer: &str) -> Option<Span> {
+    let Ok(pointer) = Pointer::read(pointer) else {
+        return None;
+    };
+    let Ok(node) = index.find(&pointer) else {
+        return None;
+    };
+    index.rows().get(node.number()).map(|row| row.span)
+}
+
+#[test]
+fn elements_behind_many_others(rt: HostRuntime) -> Result<(), AllocError> {
+    let mut text = Vec::new(rt.alloc());
+    text.push(b'[')?;
+    for _ in 0..3000 {
+        text.extend_from_slice(b"[{\"a\":[]}],")?;
+    }
+    text.extend_from_slice(b"7]")?;
+    let end = text.len();
+    let span = Span { start: 0, end };
+    let read = Indexed::read(rt.alloc(), &text, span, Depth::default(), &mut NoPause)?;
+    assert!(rt; read.is_ok());
+    let Ok(index) = read else {
+        return Ok(());
+    };
+    assert!(rt; index.rows().len() == 9002);
+    let last = Span {
+        start: 33001,
+        end: 33002,
+    };
+    assert!(rt; found(&index, "/3000") == Some(last));
+    assert!(rt; found(&index, "/2999/0/a").is_some());
+    assert!(rt; found(&index, "/3001").is_none());
+    Ok(())
+}
+
+#[test]
+fn escaped_names_beside_plain_ones(rt: HostRuntime) -> Result<(), AllocError> {
+    let text = b"{\"b\\n\":0,\"c\":1,\"\\u0062\":2,\"a\":3}";
+    let end = text.len();
+    let span = Span { start: 0, end };
+    let read = Indexed::read(rt.alloc(), text, span, Depth::default(), &mut NoPause)?;
+    assert!(rt; read.is_ok());
+    let Ok(index) = read else {
+        return Ok(());
+    };
+    assert!(rt; found(&index, "/a") == Some(Span { start: 30, end: 31 }));
+    assert!(rt; found(&index, "/b") == Some(Span { start: 24, end: 25 }));
+    assert!(rt; found(&index, "/b\n") == Some(Span { start: 7, end: 8 }));
+    if index.row(index.root()).kind == Kind::Object {
+        let names = index.names(index.root());
+        let numbers = names.iter().map(|node| node.number());
+        assert!(rt; numbers.eq([4, 3, 1, 2].iter().copied()));
+    }
+    Ok(())
+}

@@ -1,0 +1,90 @@
+// Names that an object repeats.
+ghost use Rattle.std.specs.Prelude.{◌≡◌, ◌<◌, length};
+ghost use Rattle.std.specs.List.Sorted.{IsSortedBy};
+ghost use Rattle.jx_index.specs.Names.{is_below};
+ghost use Rattle.jx_index.specs.Nodes.{name_at};
+ghost use Rattle.jx_index.specs.Repeats.{earlier_of, start_in, tie_start, IsLeast, IsRepeat, IsRepeatIn, IsRepeatOf, IsTie};
+
+use crate::indexed::Indexed;
+use crate::names::{compare_members, is_object};
+use crate::row::{NodeId, Row};
+use std::cmp::Ordering;
+
+// The lesser of two offsets, where there are any.
+fn earlier(one: Option<usize>, other: Option<usize>) -> Option<usize>
+    ensures { result ≡ earlier_of one other }
+{
+    match one {
+        None => other,
+        Some(first) => match other {
+            None => Some(first),
+            Some(second) => Some(first.min(second)),
+        },
+    }
+}
+
+fn start_of_name(rows: &[Row], node: NodeId) -> Option<usize>
+    ensures { result ≡ start_in (name_at rows.now node) }
+{
+    let Some(row) = rows.get(node.number()) else {
+        return None;
+    };
+    match row.name {
+        Some(name) => Some(name.start),
+        None => None,
+    }
+}
+
+// Where the second name begins, if it has the units of the first.
+fn start_of_tie(text: &[u8], rows: &[Row], first: NodeId, second: NodeId) -> Option<usize>
+    ensures { result ≡ tie_start text.now rows.now first second }
+{
+    match compare_members(text, rows, first, second) {
+        Ordering::Equal => start_of_name(rows, second),
+        Ordering::Less | Ordering::Greater => None,
+    }
+}
+
+// The least start of a name that has the units of the one before it.
+fn first_tie(text: &[u8], rows: &[Row], names: &[NodeId]) -> Option<usize>
+    ensures { IsLeast (IsTie text.now rows.now names.now) result }
+{
+    let mut first = None;
+    for at in 0..names.len().saturating_sub(1) {
+        first = earlier(first, start_of_tie(text, rows, names[at], names[at + 1]));
+    }
+    first
+}
+
+// The same, which is the first name that is not the first of its units, where the names rise.
+fn first_repeat(text: &[u8], rows: &[Row], names: &[NodeId]) -> Option<usize>
+    requires { IsSortedBy (is_below text.now rows.now) names.now }
+    ensures { IsLeast (IsRepeatIn text.now rows.now names.now) result }
+{
+    first_tie(text, rows, names)
+}
+
+impl<'a> Indexed<'a> {
+    // The first name that an object repeats; none where the node is no object.
+    fn repeated_in(&self, node: usize) -> Option<usize>
+        requires { node < length self.now.rows }
+        ensures { IsLeast (IsRepeatOf self.now.text self.now.rows node) result }
+    {
+        if !is_object(self.rows(), node) {
+            return None;
+        }
+        first_repeat(self.text(), self.rows(), self.names(NodeId::new(node)))
+    }
+
+    /// The start of the first name whose value, as a list of UTF-16 code units, is that of an earlier name of the same
+    /// object; none where no object repeats a name. It takes no memory, and compares each name with one other.
+    pub fn repeated(&self) -> Option<usize>
+        ensures { IsLeast (IsRepeat self.now.text self.now.rows) result }
+    {
+        let mut first = None;
+        for node in 0..self.rows().len() {
+            first = earlier(first, self.repeated_in(node));
+        }
+        first
+    }
+}

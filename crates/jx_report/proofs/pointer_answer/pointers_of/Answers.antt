@@ -1,0 +1,11 @@
+use Rattle.std.proofs.Common.{ap, ◌∙◌}
+use Rattle.std.specs.Prelude.{String, string_bytes}
+use Rattle.std.specs.declared.alloc.Global.{Global}
+use Rattle.jx_report.proofs.FoundSteps.{pointers_step}
+use Rattle.jx_report.proofs.pointer_answer.pointers_of.Goals as goal
+
+pub loop-word-preserved : goal.loop-word-preserved
+loop-word-preserved c =
+    pointers_step c.args.spelt.now c.word-item.result c.loop-word.word-index c.as_str.result.now c.loop-word.pointers.items c.push.new.self.items c.pointer_of.result
+    c.loop-word-test.true (c.as_str.ensures.value ∙ ap (λ (s : String Global). string_bytes s) c.word-item.is) c.loop-word.invariant
+    c.pointer_of.ensures c.in_ok-push.ensures.items

@@ -1,0 +1,43 @@
+-- An input that is read batch by batch.
+use Rattle.std.specs.Prelude.{◌≡◌, ◌⊎◌, ℕ, ◌+◌, ◌≤◌, List, ◌++◌, length, take, drop, Option, Some, None, false}
+use Rattle.jx_run.specs.declared.settings.Front.TheVariants.{Refused, Skip}
+use Rattle.jx_run.specs.declared.settings.Settings.{Settings}
+use Rattle.jx_run.specs.declared.verdict.Refusal.{Refusal}
+use Rattle.jx_run.specs.Front.{front_of}
+use Rattle.jx_run.specs.Reader.{ReaderValue, HasRead}
+use Rattle.jx_report.specs.declared.text_check.TextReader.{TextReader}
+use Rattle.jx_report.specs.declared.text_check.TextReader.TheVariants.{Alone, Shared}
+use Rattle.jx_report.specs.declared.text_check.TextCheck.{TextCheck}
+use Rattle.jx_report.specs.Ends.{ReadsToEnd}
+
+abbrev pub seen : TextReader → ReaderValue
+seen (Alone r) = r
+seen (Shared r) = r
+
+-- these bytes were taken in from the start of an input, and the text behind what stands in front was read unless memory was refused
+pub record IsTaken (settings : Settings) (text : List ℕ) (check : TextCheck) : Type 0 where
+  pub total : check.total ≡ length text
+  pub limit : (seen check.reader).limit ≡ settings.depth
+  pub start : (seen check.reader).start ≡ check.front
+  pub within : check.front ≤ length text
+  pub refused : (refusal : Refusal) → check.refused ≡ Some refusal → front_of settings.mark text ≡ Refused refusal
+  pub skipped : check.refused ≡ None → front_of settings.mark text ≡ Skip check.front
+  pub read : check.refused ≡ None → check.failed ≡ false → HasRead (drop check.front text) (seen check.reader)
+
+-- nothing, or at least so many bytes as a byte order mark has, which show whether one stands in front
+abbrev pub ShowsFront : List ℕ → Type 0
+ShowsFront text = (length text ≡ 0) ⊎ (3 ≤ length text)
+
+-- the reader gave all that it had, and that was taken in
+pub record IsChecked (settings : Settings) (unread left : Option (List ℕ)) (check : TextCheck) : Type 0 where
+  pub text : List ℕ
+  pub read : ReadsToEnd unread left text
+  pub taken : IsTaken settings text check
+
+-- the reader went on with the text up to this offset
+pub record GoesOn (text : List ℕ) (done : ℕ) (old new : ReaderValue) : Type 0 where
+  pub within : done ≤ length text
+  pub limit : new.limit ≡ old.limit
+  pub start : new.start ≡ old.start
+  pub count : new.count ≡ old.count + done
+  pub reads : (bytes : List ℕ) → HasRead bytes old → HasRead (bytes ++ take done text) new

@@ -1,0 +1,230 @@
+// Checks of inputs that come in several batches.
+ghost use Rattle.std.specs.Prelude.{◌≤◌, ◌<◌};
+
+use crate::end::End;
+use crate::exit::Exit;
+use crate::report_fault::ReportFault;
+use crate::reporting::report_by;
+use crate::sink::Sink;
+use crate::source::Source;
+use crate::tests::commands::{Outcome, check_within, command};
+use crate::tests::ends::{FailingReader, Zeros};
+use crate::tests::gates::Meeting;
+use jx_book::OpenGate;
+use jx_claim::Workers;
+use jx_command::{Command, Task};
+use jx_run::FrontMark;
+use std::alloc::Global;
+use std::io;
+use std::sync::Wait;
+use std::test::Fail;
+use std::thread::Threads;
+
+// What a report in batches of so many bytes answers.
+fn reported_by<R: Threads + Wait + Sync>(
+    rt: &R,
+    alloc: Global,
+    text: &[u8],
+    command: &Command,
+    batch: usize,
+) -> Outcome
+    requires piece { 1 ≤ command.now.piece }
+    requires some { 1 ≤ batch }
+    requires few { batch < 4294967296 }
+{
+    let mut reader = End::new(text);
+    let mut writer = End::new(Vec::new(alloc));
+    let answer = report_by(
+        rt,
+        alloc,
+        &mut reader,
+        &mut writer,
+        command,
+        &OpenGate,
+        batch,
+    );
+    Outcome {
+        answer,
+        output: writer.inner,
+    }
+}
+
+// Elements, strings, escapes and characters that go from one batch to the next.
+#[test]
+fn texts_in_batches(rt: HostRuntime) -> Result<(), Fail> {
+    let texts: [(&[u8], u32, &[u8], Exit); 12] = [
+        (
+            b"[1,22,333,{\"a\":\"bcd\"}]",
+            512,
+            b"accepted\n",
+            Exit::Good,
+        ),
+        (b"\"\\u0041\\n\\\\\"", 0, b"accepted\n", Exit::Good),
+        (
+            b"\"\xE6\x97\xA5\xF0\x9F\x98\x80\"",
+            0,
+            b"accepted\n",
+            Exit::Good,
+        ),
+        (
+            b"\"\xE6\x97\xA5\xED\xA0\x80\"",
+            0,
+            b"stopped at 5\n",
+            Exit::Bad,
+        ),
+        (b"  [ true , false ]  ", 1, b"accepted\n", Exit::Good),
+        (b"[[[[]]]]", 3, b"too deep at 3\n", Exit::Bad),
+        (b"[[[[]]]]", 4, b"accepted\n", Exit::Good),
+        (b"[1,[2,[3,[4]]]]x", 4, b"stopped at 15\n", Exit::Bad),
+        (b"[1,[2,[3,[4]]]", 4, b"truncated\n", Exit::Bad),
+        (b"{\"a\":{\"b\":[1,2]]}", 4, b"stopped at 15\n", Exit::Bad),
+        (b"-12.5e+10", 0, b"accepted\n", Exit::Good),
+        (b"", 0, b"truncated\n", Exit::Bad),
+    ];
+    for (text, depth, output, exit) in texts {
+        for batch in 1..=7usize {
+            for workers in [1u8, 2, 5] {
+                let mut check = check_within(depth);
+                check.workers = Workers::new(workers).ok_or("workers")?;
+                let ran = reported_by(&rt, rt.alloc(), text, &check, batch);
+                assert_eq!(rt; ran.answer, Ok(exit), "at {text:?} in batches of {batch}");
+                assert_eq!(rt;
+                    ran.output.as_slice(),
+                    output,
+                    "at {text:?} in batches of {batch}"
+                );
+            }
+        }
+    }
+    Ok(())
+}
+
+// Byte order marks that are ignored, in first batches of a few bytes.
+#[test]
+fn ignored_marks_in_batches(rt: HostRuntime) -> Result<(), Fail> {
+    let texts: [(&[u8], &[u8], Exit); 9] = [
+        (b"\xEF\xBB\xBF[1,22]", b"accepted\n", Exit::Good),
+        (b"\xEF", b"truncated\n", Exit::Bad),
+        (b"\xEF\xBB", b"truncated\n", Exit::Bad),
+        (b"\xEF\xBB\xBF", b"truncated\n", Exit::Bad),
+        (b"\xEF\xBB[1,22]", b"stopped at 2\n", Exit::Bad),
+        (b"\xEF\xBB\xBF\xEF\xBB\xBF1", b"stopped at 3\n", Exit::Bad),
+        (b"    \xEF\xBB\xBF1", b"stopped at 4\n", Exit::Bad),
+        (b"\xEF\xBB\xBF[1,[22]]", b"too deep at 6\n", Exit::Bad),
+        (b"[1,\"\xEF\xBB\xBF\"]", b"accepted\n", Exit::Good),
+    ];
+    for (text, output, exit) in texts {
+        for batch in 1..=7usize {
+            for workers in [1u8, 2] {
+                let mut check = check_within(1);
+                check.settings.mark = FrontMark::Ignored;
+                check.workers = Workers::new(workers).ok_or("workers")?;
+                let ran = reported_by(&rt, rt.alloc(), text, &check, batch);
+                assert_eq!(rt; ran.answer, Ok(exit), "at {text:?} in batches of {batch}");
+                assert_eq!(rt;
+                    ran.output.as_slice(),
+                    output,
+                    "at {text:?} in batches of {batch}"
+                );
+            }
+        }
+    }
+    Ok(())
+}
+
+// A byte that is allowed nowhere, at each offset: in each batch, and on both sides of each border.
+#[test]
+fn a_fault_at_each_offset(rt: HostRuntime) -> Result<(), Fail> {
+    for at in 0..17usize {
+        let mut text = *b"[0,1,2,3,4,5,6,7]";
+        text[at] = b'x';
+        let line = format!(in rt.alloc(); "stopped at {at}\n")?;
+        for batch in [3usize, 4, 5] {
+            for workers in [1u8, 3] {
+                let mut check = check_within(1);
+                check.workers = Workers::new(workers).ok_or("workers")?;
+                let ran = reported_by(&rt, rt.alloc(), &text, &check, batch);
+                assert_eq!(rt; ran.answer, Ok(Exit::Bad), "at {at}");
+                assert_eq!(rt; ran.output.as_slice(), line.as_bytes(), "at {at}");
+            }
+        }
+    }
+    Ok(())
+}
+
+// Seven bytes, one a call, and the call that meets the end; behind a fault the reader is asked all the same.
+#[test]
+fn a_reader_that_fails_in_each_batch(rt: HostRuntime) -> Result<(), Fail> {
+    for text in [b"[1,2,3]".as_slice(), b"x1,2,3]".as_slice()] {
+        for fails_at in 1..=8u32 {
+            let check = check_within(1);
+            let mut reader = End::new(FailingReader {
+                text,
+                call: 0,
+                fails_at,
+                kind: io::ErrorKind::Other,
+            });
+            let mut writer = End::new(Vec::new(rt.alloc()));
+            let answer = report_by(
+                &rt,
+                rt.alloc(),
+                &mut reader,
+                &mut writer,
+                &check,
+                &OpenGate,
+                2,
+            );
+            assert_eq!(rt; answer, Err(ReportFault::Read), "at call {fails_at}");
+            assert!(rt; reader.failed());
+            assert!(rt; writer.inner.is_empty());
+            assert!(rt; !writer.failed());
+        }
+    }
+    Ok(())
+}
+
+// One byte more than there may be pieces, behind a fault in the first batch.
+#[test]
+fn too_many_pieces(rt: HostRuntime) -> Result<(), Fail> {
+    let lengths = [
+        (
+            4_294_967_295usize,
+            Ok(Exit::Bad),
+            b"stopped at 0\n".as_slice(),
+        ),
+        (4_294_967_296, Err(ReportFault::Pieces), b"".as_slice()),
+    ];
+    for (left, wanted, output) in lengths {
+        let check = check_within(1);
+        let mut reader = End::new(Zeros { left });
+        let mut writer = End::new(Vec::new(rt.alloc()));
+        let answer = report_by(
+            &rt,
+            rt.alloc(),
+            &mut reader,
+            &mut writer,
+            &check,
+            &OpenGate,
+            4096,
+        );
+        assert_eq!(rt; answer, wanted);
+        assert_eq!(rt; writer.inner.as_slice(), output);
+        assert_eq!(rt; reader.inner.left, 0);
+    }
+    Ok(())
+}
+
+// In the second batch one worker draws and is held until the other has put a run into the book.
+#[test]
+fn two_workers_in_the_second_batch(rt: HostRuntime) -> Result<(), Fail> {
+    let mut check = command(Task::Check, 512);
+    check.workers = Workers::new(2).ok_or("workers")?;
+    let gate = Meeting::behind(3);
+    let mut reader = End::new(b"[1,2]".as_slice());
+    let mut writer = End::new(Vec::new(rt.alloc()));
+    let answer = report_by(&rt, rt.alloc(), &mut reader, &mut writer, &check, &gate, 3);
+    assert_eq!(rt; answer, Ok(Exit::Good));
+    assert_eq!(rt; writer.inner.as_slice(), b"accepted\n".as_slice());
+    assert!(rt; gate.took_place());
+    Ok(())
+}

@@ -1,0 +1,275 @@
+// An input that is checked batch by batch.
+ghost use Rattle.std.specs.Prelude.{◌≡◌, ◌+◌, ◌<◌, ◌≤◌, ◌^◌, ◌++◌, ℕ, List, [], length, OnOk, IfOk, IfErr};
+ghost use Rattle.jx_run.specs.Reader.{HasRead};
+ghost use Rattle.jx_run.specs.Front.{front_of};
+ghost use Rattle.jx_run.specs.Settings.{JudgedBy};
+ghost use Rattle.jx_run.specs.Verdict.{Judged};
+ghost use Rattle.jx_run.specs.declared.settings.Front.TheVariants.{Refused, Skip};
+ghost use Rattle.jx_run.specs.declared.settings.Settings.{Settings};
+ghost use Rattle.jx_report.specs.Batches.{seen, IsTaken, ShowsFront};
+
+use crate::pieces::feed_pieces;
+use crate::report_fault::ReportFault;
+use jx_answer::read_batch;
+use jx_book::Gate;
+use jx_claim::Cutting;
+use jx_command::Command;
+use jx_lex::Depth;
+use jx_run::{Front, Reader, Refusal, RunReader, Verdict, front, fronts_decide_where_texts_begin};
+use std::alloc::{AllocError, Global};
+use std::sync::Wait;
+use std::thread::Threads;
+
+/// A reader of a text from its start.
+#[derive(Drop)]
+pub(crate) enum TextReader {
+    /// On this thread, byte by byte.
+    Alone(Reader),
+    /// By the runs that workers make of each batch.
+    Shared(RunReader),
+}
+
+impl TextReader {
+    /// Reads a batch behind what was read.
+    fn read<R: Threads + Wait + Sync, G: Gate + Sync>(
+        &mut self,
+        rt: &R,
+        alloc: Global,
+        command: &Command,
+        batch: &[u8],
+        gate: &G,
+    ) -> Result<(), AllocError>
+        requires piece { 1 ≤ command.now.piece }
+        requires few { length batch.now < 2 ^ 32 }
+        requires fits { (seen self.old).start + (seen self.old).count + length batch.now < 2 ^ 64 }
+        ensures limit { (seen self.new).limit ≡ (seen self.old).limit }
+        ensures start { (seen self.new).start ≡ (seen self.old).start }
+        ensures reads { OnOk result ((bytes : List ℕ) → HasRead bytes (seen self.old) → HasRead (bytes ++ batch.now) (seen self.new)) }
+    {
+        match self {
+            TextReader::Alone(reader) => read_alone(reader, command, batch, gate),
+            TextReader::Shared(reader) => read_shared(rt, alloc, reader, command, batch, gate),
+        }
+    }
+
+    fn verdict(&self) -> Verdict
+        ensures verdict { (bytes : List ℕ) → HasRead bytes (seen self.now) → Judged (seen self.now).start bytes (seen self.now).limit result }
+    {
+        match self {
+            TextReader::Alone(reader) => reader.verdict(),
+            TextReader::Shared(reader) => reader.verdict(),
+        }
+    }
+}
+
+/// Reads a batch on this thread behind what was read, piece by piece where it has several.
+fn read_alone<G: Gate>(
+    reader: &mut Reader,
+    command: &Command,
+    batch: &[u8],
+    gate: &G,
+) -> Result<(), AllocError>
+    requires piece { 1 ≤ command.now.piece }
+    requires few { length batch.now < 2 ^ 32 }
+    requires fits { reader.old.start + reader.old.count + length batch.now < 2 ^ 64 }
+    ensures limit { reader.new.limit ≡ reader.old.limit }
+    ensures start { reader.new.start ≡ reader.old.start }
+    ensures reads { OnOk result ((bytes : List ℕ) → HasRead bytes reader.old → HasRead (bytes ++ batch.now) reader.new) }
+{
+    if batch.len() <= command.piece {
+        return reader.feed(batch);
+    }
+    let Ok(cutting) = Cutting::every(batch.len(), command.piece) else {
+        unreachable!()
+    };
+    feed_pieces(reader, batch, &cutting, gate)
+}
+
+/// Lets the workers read a batch behind what was read.
+fn read_shared<R: Threads + Wait + Sync, G: Gate + Sync>(
+    rt: &R,
+    alloc: Global,
+    reader: &mut RunReader,
+    command: &Command,
+    batch: &[u8],
+    gate: &G,
+) -> Result<(), AllocError>
+    requires piece { 1 ≤ command.now.piece }
+    requires few { length batch.now < 2 ^ 32 }
+    requires fits { reader.old.start + reader.old.count + length batch.now < 2 ^ 64 }
+    ensures limit { reader.new.limit ≡ reader.old.limit }
+    ensures start { reader.new.start ≡ reader.old.start }
+    ensures reads { OnOk result ((bytes : List ℕ) → HasRead bytes reader.old → HasRead (bytes ++ batch.now) reader.new) }
+{
+    let Ok(cutting) = Cutting::every(batch.len(), command.piece) else {
+        unreachable!()
+    };
+    match read_batch(rt, alloc, reader, batch, &cutting, command.workers, gate) {
+        Ok(()) => Ok(()),
+        Err(_) => Err(AllocError),
+    }
+}
+
+/// What was read of an input so far. It keeps no byte of it.
+#[derive(Drop)]
+pub(crate) struct TextCheck {
+    reader: TextReader,
+    /// How many bytes stand in front of the text.
+    front: usize,
+    /// Why no text begins behind what stands in front, where none does. What follows is counted and not looked at.
+    refused: Option<Refusal>,
+    /// How many bytes there were.
+    total: usize,
+    /// Whether memory was refused. What follows is counted and not looked at.
+    failed: bool,
+}
+
+impl TextCheck {
+    /// Before the first byte.
+    pub fn new(alloc: Global, depth: Depth) -> TextCheck
+        ensures { (settings : Settings) → settings.depth ≡ depth → IsTaken settings [] result }
+    {
+        TextCheck {
+            reader: TextReader::Alone(Reader::new(alloc, depth, 0)),
+            front: 0,
+            refused: None,
+            total: 0,
+            failed: false,
+        }
+    }
+
+    /// Before the first byte of a text, behind so many bytes in front of it. Workers read it where there are several, and
+    /// more than one piece for them in the first batch.
+    fn behind(alloc: Global, command: &Command, front: usize, batch: usize) -> TextCheck
+        ensures { (settings : Settings) (text : List ℕ) → settings.depth ≡ command.now.settings.depth → length text ≡ front
+            → front_of settings.mark text ≡ Skip front → IsTaken settings text result }
+    {
+        let depth = command.settings.depth;
+        let reader = if command.workers.count() > 1 && command.piece < batch {
+            TextReader::Shared(RunReader::new(alloc, depth, front))
+        } else {
+            TextReader::Alone(Reader::new(alloc, depth, front))
+        };
+        TextCheck {
+            reader,
+            front,
+            refused: None,
+            total: front,
+            failed: false,
+        }
+    }
+
+    /// Where no text begins behind what stands in front of so many bytes.
+    fn refused(alloc: Global, command: &Command, refusal: Refusal, total: usize) -> TextCheck
+        ensures { (settings : Settings) (text : List ℕ) → settings.depth ≡ command.now.settings.depth → length text ≡ total
+            → front_of settings.mark text ≡ Refused refusal → IsTaken settings text result }
+    {
+        TextCheck {
+            reader: TextReader::Alone(Reader::new(alloc, command.settings.depth, 0)),
+            front: 0,
+            refused: Some(refusal),
+            total,
+            failed: false,
+        }
+    }
+
+    /// Takes in the first batch of an input. A byte order mark that is ignored is skipped in it; whether one stands there
+    /// shows in the first three bytes.
+    fn begin<R: Threads + Wait + Sync, G: Gate + Sync>(
+        rt: &R,
+        alloc: Global,
+        command: &Command,
+        batch: &[u8],
+        gate: &G,
+    ) -> TextCheck
+        requires piece { 1 ≤ command.now.piece }
+        requires few { length batch.now < 2 ^ 32 }
+        ensures taken { IsTaken command.now.settings batch.now result }
+        ensures total { result.total ≡ length batch.now }
+    {
+        match front(batch, command.settings.mark) {
+            Front::Refused(refusal) => TextCheck::refused(alloc, command, refusal, batch.len()),
+            Front::Skip(count) => {
+                let mut check = TextCheck::behind(alloc, command, count, batch.len());
+                check.go_on(rt, alloc, command, &batch[count..batch.len()], gate);
+                check
+            }
+        }
+    }
+
+    /// How many bytes there were.
+    pub fn total(&self) -> usize
+        ensures { result ≡ self.now.total }
+    {
+        self.total
+    }
+
+    /// Reads a batch behind what was read. Where memory is refused, the rest is counted alone.
+    fn go_on<R: Threads + Wait + Sync, G: Gate + Sync>(
+        &mut self,
+        rt: &R,
+        alloc: Global,
+        command: &Command,
+        batch: &[u8],
+        gate: &G,
+    )
+        requires piece { 1 ≤ command.now.piece }
+        requires few { length batch.now < 2 ^ 32 }
+        requires fits { self.old.total + length batch.now < 2 ^ 64 }
+        requires so_far { (text : List ℕ) × IsTaken command.now.settings text self.old }
+        ensures taken { (text : List ℕ) → IsTaken command.now.settings text self.old
+            → front_of command.now.settings.mark (text ++ batch.now) ≡ front_of command.now.settings.mark text
+            → IsTaken command.now.settings (text ++ batch.now) self.new }
+        ensures total { self.new.total ≡ self.old.total + length batch.now }
+    {
+        if !self.failed && self.refused.is_none() {
+            let read = self.reader.read(rt, alloc, command, batch, gate);
+            self.failed = read.is_err();
+        }
+        self.total += batch.len();
+    }
+
+    /// Takes in a batch behind what was read, the first one or behind at least three bytes. It is refused, as for want of
+    /// memory, where the bytes are more than can be counted.
+    pub fn take_in<R: Threads + Wait + Sync, G: Gate + Sync>(
+        &mut self,
+        rt: &R,
+        alloc: Global,
+        command: &Command,
+        batch: &[u8],
+        gate: &G,
+    ) -> Result<(), ReportFault>
+        requires piece { 1 ≤ command.now.piece }
+        requires few { length batch.now < 2 ^ 32 }
+        requires so_far { (text : List ℕ) × IsTaken command.now.settings text self.old }
+        ensures taken { OnOk result ((text : List ℕ) → ShowsFront text → IsTaken command.now.settings text self.old
+            → IsTaken command.now.settings (text ++ batch.now) self.new) }
+        ensures total { OnOk result (self.new.total ≡ self.old.total + length batch.now) }
+        ensures fits { OnOk result (self.new.total < 2 ^ 64) }
+        ensures fault { IfErr result (λ fault. fault ≡ ReportFault.Memory) }
+    {
+        if usize::MAX - self.total < batch.len() {
+            return Err(ReportFault::Memory);
+        }
+        if self.total == 0 {
+            *self = TextCheck::begin(rt, alloc, command, batch, gate);
+        } else {
+            self.go_on(rt, alloc, command, batch, gate);
+        }
+        Ok(())
+    }
+
+    /// The verdict on all bytes, unless memory was refused.
+    pub fn verdict(&self) -> Result<Verdict, AllocError>
+        ensures { IfOk result (λ verdict. (settings : Settings) (text : List ℕ) → IsTaken settings text self.now → JudgedBy settings 0 text verdict) }
+    {
+        fronts_decide_where_texts_begin();
+        if let Some(refusal) = self.refused {
+            return Ok(Verdict::Refused(refusal));
+        }
+        if self.failed {
+            return Err(AllocError);
+        }
+        Ok(self.reader.verdict())
+    }
+}

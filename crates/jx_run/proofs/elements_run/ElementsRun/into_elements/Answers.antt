@@ -1,0 +1,33 @@
+use Rattle.std.proofs.Common.{◌≡◌, [], ◌∷◌, sym, subst, ap, ◌∙◌}
+use Rattle.std.specs.List.{AllZip}
+use Rattle.jx_run.specs.Elements.{after_marks, elements, filled}
+use Rattle.jx_run.specs.ElementsRun.{ElementsRunValue, AreMarked, IsSummaryOf}
+use Rattle.jx_run.specs.ElementVerdict.{IsJudgedElement}
+use Rattle.jx_run.specs.OutcomeRun.{place_of}
+use Rattle.jx_run.proofs.ElementSteps.{unmarked_rest, marked_rest, with_first, without_first}
+use Rattle.jx_run.proofs.elements_run.ElementsRun.into_elements.Goals.{in-None, in-Some+in_ok-elements-in-Some, then-span+in_ok-insert, else-span}
+use Rattle.jx_run.proofs.elements_run.ElementsRun.into_elements.Goals as goal
+
+pub returns : goal.returns
+returns c = record {
+  elements = λ bytes h.
+      let before = c.self.inside.before in
+      let marked = c.self.inside.marked in
+      let limit = before.outcomes.limit in
+      let k : IsSummaryOf bytes before marked = subst (λ (v : ElementsRunValue). IsSummaryOf bytes v.before v.marked) (sym c.self.view_is) h in
+      let starts : before.outcomes.start ≡ 0 = ap (λ (v : ElementsRunValue). v.before.outcomes.start) c.self.view_is ∙ c.requires.whole in
+      let rest : AllZip (IsJudgedElement limit) (filled (after_marks before.outcomes.start bytes)) c.match-marked.elements.items =
+      elim c.match-marked.branch [
+        | in-None w ↦ rw (w.elements-is, w.new-elements.ensures.items, unmarked_rest bytes before marked w.in-None.is k) tt
+        | in-Some+in_ok-elements-in-Some w ↦ rw (w.elements-is)
+            (w.in_ok-elements-in-Some.ensures limit (after_marks before.outcomes.start bytes) (marked_rest bytes before marked w.in-Some.marked w.in-Some.is k))
+      ] in
+      let all : AllZip (IsJudgedElement limit) (elements 0 bytes) c.if-span.elements.items =
+      elim c.if-span.branch [
+        | then-span+in_ok-insert w ↦ rw (w.elements-is, w.in_ok-insert.ensures.items)
+            (with_first bytes before marked c.span-span.result c.span-span.ensures starts k limit c.match-marked.elements.items rest w.if-span.true)
+        | else-span w ↦ rw (w.elements-is)
+            (without_first bytes before marked c.span-span.result c.span-span.ensures starts k limit c.match-marked.elements.items rest w.if-span.false)
+      ] in
+      subst (λ (v : ElementsRunValue). AllZip (IsJudgedElement v.before.outcomes.limit) (elements 0 bytes) c.if-span.elements.items) c.self.view_is all;
+}

@@ -1,0 +1,5 @@
+use Rattle.jx_run.proofs.Fronts.{one_tree_by}
+use Rattle.jx_run.proofs.laws.text_by_settings_has_one_tree.Goals as goal
+
+pub returns : goal.returns
+returns c = record { one_tree = one_tree_by }

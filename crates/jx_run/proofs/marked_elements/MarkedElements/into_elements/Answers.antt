@@ -1,0 +1,18 @@
+use Rattle.std.proofs.Common.{◌∙◌, sym, subst, ap}
+use Rattle.std.specs.List.{AllZip}
+use Rattle.jx_run.specs.Elements.{filled}
+use Rattle.jx_run.specs.ElementsRun.{AreMarked, MarkedElementsValue}
+use Rattle.jx_run.specs.ElementVerdict.{IsJudgedElement}
+use Rattle.jx_run.proofs.ElementSteps.{last_judged, last_empty}
+use Rattle.jx_run.proofs.marked_elements.MarkedElements.into_elements.Goals.{then-span+in_ok-push, else-span}
+use Rattle.jx_run.proofs.marked_elements.MarkedElements.into_elements.Goals as goal
+
+pub returns : goal.returns
+returns c limit behind h =
+    let m : MarkedElementsValue = record { done = c.self.inside.done.items; after = c.self.inside.after } in
+    let k : AreMarked limit behind m = subst (AreMarked limit behind) (sym c.self.view_is) h in
+    elim c.if-span.branch [
+      | then-span+in_ok-push w ↦ rw (w.elements-is, w.in_ok-push.ensures.items)
+          (last_judged limit behind m k c.span-span.result w.judged.result c.span-span.ensures w.if-span.true w.judged.ensures)
+      | else-span w ↦ rw (w.elements-is) (last_empty limit behind m k c.span-span.result c.span-span.ensures w.if-span.false)
+    ]

@@ -1,0 +1,37 @@
+use Rattle.std.proofs.Common.{◌≡◌, List, ℕ, subst, sym, ap, ◌∙◌, refl}
+use Rattle.std.specs.Prelude.{is_some, slice_range, unwrap_or}
+use Rattle.jx_lex.specs.declared.exit.Exit.{Exit}
+use Rattle.jx_lex.specs.declared.exit.Exit.TheVariants as exit
+use Rattle.jx_lex.specs.declared.state.LexState.TheVariants as state
+use Rattle.jx_run.specs.Verdict.{Judged}
+use Rattle.jx_run.specs.Whole.{verdict_from}
+use Rattle.jx_run.proofs.OnePass.{Scanned, both_judged, other_seen}
+use Rattle.jx_run.proofs.one_pass.read_into.Goals as goal
+
+pub returns-clause-verdict : goal.returns-clause-verdict
+returns-clause-verdict g c =
+    let bytes = slice_range c.args.text.now c.args.from c.args.to in
+    let s : Scanned c.args.depth c.args.from bytes (g.K.Keeper.has_seen c.args.keeper) (g.K.Keeper.has_seen c.scan_by.new.keeper.other) c.new.result c.scan_by.new.keeper.stack c.in_ok-exit.exit c.whole.result = record {
+      depth = c.new.ensures.depth;
+      start = c.new.ensures.reads;
+      sees = c.in_ok-exit.ensures.seen;
+      exit = c.in_ok-exit.ensures.exit;
+      done = λ e. c.in_ok-exit.ensures.done (ap is_some e);
+      whole = c.whole.ensures;
+    } in
+    subst (Judged c.args.from bytes c.args.depth)
+    (ap (λ (e : Exit). verdict_from e c.whole.result) (sym c.unwrap_or.ensures) ∙ sym c.verdict_from-verdict.ensures)
+    (both_judged _ _ _ _ _ _ _ _ _ s c.requires.empty)
+
+pub returns-clause-seen : goal.returns-clause-seen
+returns-clause-seen g c = λ accepted.
+    let bytes = slice_range c.args.text.now c.args.from c.args.to in
+    let s : Scanned c.args.depth c.args.from bytes (g.K.Keeper.has_seen c.args.keeper) (g.K.Keeper.has_seen c.scan_by.new.keeper.other) c.new.result c.scan_by.new.keeper.stack c.in_ok-exit.exit c.whole.result = record {
+      depth = c.new.ensures.depth;
+      start = c.new.ensures.reads;
+      sees = c.in_ok-exit.ensures.seen;
+      exit = c.in_ok-exit.ensures.exit;
+      done = λ e. c.in_ok-exit.ensures.done (ap is_some e);
+      whole = c.whole.ensures;
+    } in
+    other_seen _ _ _ _ _ _ _ _ _ c.unwrap_or.result s c.requires.empty (sym c.verdict_from-verdict.ensures ∙ accepted)

@@ -1,0 +1,97 @@
+use Rattle.std.proofs.Common.{◌≡◌, ℕ, arith, refl, sym, subst, ap, ◌∙◌, Option, Some}
+use Rattle.std.specs.Prelude.{slice_range, IfSome, is_some}
+use Rattle.jx_lex.specs.declared.exit.Exit.{Exit}
+use Rattle.jx_lex.specs.declared.state.LexState.TheVariants.{Gap}
+use Rattle.jx_lex.specs.Lex as reading
+use Rattle.jx_lex.specs.Lex.{lex, Track}
+use Rattle.jx_lex.specs.Seen.{GoesTo}
+use Rattle.jx_lex.specs.View.{exit_of}
+use Rattle.jx_lex.proofs.Keeping.{goes-none, goes-then, sees-then, exit-then, sees-same}
+use Rattle.jx_run.proofs.Paces.{fault_ends, done_sees}
+use Rattle.jx_run.proofs.one_pass.scan_by.Goals as goal
+
+pub loop-at-init : goal.loop-at-init
+loop-at-init g c =
+    let b = c.requires in
+    record { low = omega arith; high = b.0; read = goes-none c.args.text.now c.args.from Gap (g.K.Keeper.has_seen c.args.keeper.now) }
+
+pub returns-in_default-clause-seen : goal.returns-in_default-clause-seen
+returns-in_default-clause-seen g c =
+    let v = c.loop-at.invariant in
+    let xs = c.args.text.now in
+    let at = c.loop-at.at in
+    let stop = c.stop_within-stop.result in
+    let b = c.stop_within-stop.ensures in
+    let fits = c.requires.1 in
+    let old = g.K.Keeper.has_seen c.loop-at.keeper in
+    let new = g.K.Keeper.has_seen c.scan.new.keeper in
+    sees-then xs c.args.from at c.args.to Gap c.loop-at.state (g.K.Keeper.has_seen c.args.keeper.now) old new v.low v.high (let h = v.high in omega (arith, fits, h)) v.read
+    (done_sees xs at stop c.args.to c.loop-at.state old new (omega (arith, b)) b.1 c.in_ok-exit.ensures.seen (c.in_ok-exit.ensures.done (ap is_some c.in_default.is)))
+
+pub returns-in-Fault-clause-seen : goal.returns-in-Fault-clause-seen
+returns-in-Fault-clause-seen g c =
+    let v = c.loop-at.invariant in
+    let xs = c.args.text.now in
+    let at = c.loop-at.at in
+    let stop = c.stop_within-stop.result in
+    let b = c.stop_within-stop.ensures in
+    let fits = c.requires.1 in
+    let old = g.K.Keeper.has_seen c.loop-at.keeper in
+    let new = g.K.Keeper.has_seen c.scan.new.keeper in
+    let track = lex c.loop-at.state at (slice_range xs at stop) in
+    let e : exit_of c.in-Some.exit ≡ track.exit = subst (λ (o : Option Exit). IfSome o (λ e. exit_of e ≡ track.exit)) c.in-Some.is c.in_ok-exit.ensures.exit in
+    let f : track.exit ≡ reading.fault c.in-Fault.fault = sym e ∙ ap exit_of c.in-Fault.is in
+    sees-then xs c.args.from at c.args.to Gap c.loop-at.state (g.K.Keeper.has_seen c.args.keeper.now) old new v.low v.high (let h = v.high in omega (arith, fits, h)) v.read
+    (sees-same old new _ _ (fault_ends xs at stop c.args.to c.loop-at.state c.in-Fault.fault (omega (arith, b)) b.1 f) c.in_ok-exit.ensures.seen)
+
+pub returns-in-Fault-clause-exit : goal.returns-in-Fault-clause-exit
+returns-in-Fault-clause-exit g c =
+    let v = c.loop-at.invariant in
+    let xs = c.args.text.now in
+    let at = c.loop-at.at in
+    let stop = c.stop_within-stop.result in
+    let b = c.stop_within-stop.ensures in
+    let fits = c.requires.1 in
+    let track = lex c.loop-at.state at (slice_range xs at stop) in
+    let e : exit_of c.in-Some.exit ≡ track.exit = subst (λ (o : Option Exit). IfSome o (λ e. exit_of e ≡ track.exit)) c.in-Some.is c.in_ok-exit.ensures.exit in
+    let f : track.exit ≡ reading.fault c.in-Fault.fault = sym e ∙ ap exit_of c.in-Fault.is in
+    sym (
+    exit-then xs c.args.from at c.args.to Gap c.loop-at.state v.low v.high (let h = v.high in omega (arith, fits, h)) v.read.exit
+    ∙ ap (λ (t : Track). t.exit) (fault_ends xs at stop c.args.to c.loop-at.state c.in-Fault.fault (omega (arith, b)) b.1 f)
+    ∙ f)
+
+pub loop-at-preserved : goal.loop-at-preserved
+loop-at-preserved g c =
+    let v = c.loop-at.invariant in
+    let xs = c.args.text.now in
+    let at = c.loop-at.at in
+    let stop = c.stop_within-stop.result in
+    let b = c.stop_within-stop.ensures in
+    let fits = c.requires.1 in
+    let low = v.low in
+    let old = g.K.Keeper.has_seen c.loop-at.keeper in
+    let new = g.K.Keeper.has_seen c.scan.new.keeper in
+    let track = lex c.loop-at.state at (slice_range xs at stop) in
+    let e : exit_of c.in-Some.exit ≡ track.exit = subst (λ (o : Option Exit). IfSome o (λ e. exit_of e ≡ track.exit)) c.in-Some.is c.in_ok-exit.ensures.exit in
+    let next : track.exit ≡ reading.state c.in-State.next = sym e ∙ ap exit_of c.in-State.is in
+    let here : GoesTo old new track c.in-State.next = record { seen = c.in_ok-exit.ensures.seen; exit = next } in
+    record {
+      low = omega (arith, b, low);
+      high = b.1;
+      read = goes-then xs c.args.from at stop Gap c.loop-at.state c.in-State.next (g.K.Keeper.has_seen c.args.keeper.now) old new low (omega (arith, b))
+          (let h = v.high in omega (arith, fits, h)) v.read here;
+    }
+
+pub returns-clause-seen : goal.returns-clause-seen
+returns-clause-seen g c =
+    let v = c.loop-at.invariant in
+    let high = v.high in
+    let same : c.loop-at.at ≡ c.args.to = omega (arith, high, c.loop-at-test.false) in
+    (subst (λ (k : ℕ). GoesTo (g.K.Keeper.has_seen c.args.keeper.now) (g.K.Keeper.has_seen c.loop-at.keeper) (lex Gap c.args.from (slice_range c.args.text.now c.args.from k)) c.loop-at.state) same v.read).seen
+
+pub returns-clause-exit : goal.returns-clause-exit
+returns-clause-exit g c =
+    let v = c.loop-at.invariant in
+    let high = v.high in
+    let same : c.loop-at.at ≡ c.args.to = omega (arith, high, c.loop-at-test.false) in
+    sym (subst (λ (k : ℕ). (lex Gap c.args.from (slice_range c.args.text.now c.args.from k)).exit ≡ reading.state c.loop-at.state) same v.read.exit)

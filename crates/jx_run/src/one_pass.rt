@@ -1,0 +1,140 @@
+// A text that is read once, from its start to its end, while something else is kept of its tokens.
+ghost use Rattle.std.specs.Prelude.{◌≡◌, ◌≤◌, ◌<◌, [], length, slice_range, IfOk, IfSome, IsNone, OnOk};
+ghost use Rattle.jx_lex.specs.declared.state.LexState.TheVariants.{Gap};
+ghost use Rattle.jx_lex.specs.Lex.{lex};
+ghost use Rattle.jx_lex.specs.Seen.{SeesTrack, WantsNoMore};
+ghost use Rattle.jx_lex.specs.View.{exit_of};
+ghost use Rattle.jx_run.specs.Verdict.{Judged};
+ghost use Rattle.jx_run.specs.declared.verdict.Verdict.TheVariants.{Accepted};
+
+use crate::outcome_run::verdict_from;
+use crate::verdict::Verdict;
+use jx_lex::{Depth, Exit, Keeper, LexState, Mark, scan};
+use jx_reduce::KnownStack;
+use std::alloc::{AllocError, Global};
+
+/// The known stack, and a keeper that is told the same. Where the stack meets a fault, both are of no more use.
+#[derive(Drop)]
+struct Beside<K: Drop> {
+    stack: KnownStack,
+    other: K,
+}
+
+impl<K: Keeper + Drop> Keeper for Beside<K> {
+    ghost use Rattle.jx_run.specs.Beside.{BothHaveSeen};
+
+    ghost has_seen = { λ both marks ends. BothHaveSeen (K.has_seen both.other) marks ends both.stack };
+
+    #[inline(always)]
+    fn begin(&mut self, mark: Mark) -> Result<(), AllocError> {
+        self.stack.push(mark)?;
+        self.other.begin(mark)?;
+        Ok(())
+    }
+
+    #[inline(always)]
+    fn end(&mut self, at: usize) -> Result<(), AllocError> {
+        self.other.end(at)?;
+        Ok(())
+    }
+
+    #[inline(always)]
+    fn is_done(&self) -> bool {
+        self.stack.is_done()
+    }
+}
+
+/// Says where a reading pauses.
+pub trait Pace {
+    /// The offset at which a reading that stands at `at`, before `end`, asks again. One that is not behind `at`, or past
+    /// `end`, counts as `end`.
+    fn next_stop(&mut self, at: usize, end: usize) -> usize;
+}
+
+/// Lets a reading go on to its end.
+#[derive(Clone, Copy, Debug)]
+pub struct NoPause;
+
+impl Pace for NoPause {
+    fn next_stop(&mut self, _at: usize, end: usize) -> usize {
+        end
+    }
+}
+
+fn stop_within(stop: usize, at: usize, end: usize) -> usize
+    requires { at < end }
+    ensures { (at < result) × (result ≤ end) }
+{
+    if at < stop && stop <= end { stop } else { end }
+}
+
+/// Scans a text from its start, and pauses now and then; what the keeper has seen and the exit are those of one scan.
+fn scan_by<K: Keeper, P: Pace>(
+    keeper: &mut K,
+    pace: &mut P,
+    text: &[u8],
+    from: usize,
+    to: usize,
+) -> Result<Option<Exit>, AllocError>
+    requires { (from ≤ to) × (to ≤ length text.now) }
+    ensures seen { OnOk result (SeesTrack (K.has_seen keeper.old) (K.has_seen keeper.new) (lex Gap from (slice_range text.now from to))) }
+    ensures exit { IfOk result (λ exit. IfSome exit (λ e. exit_of e ≡ (lex Gap from (slice_range text.now from to)).exit)) }
+    ensures done { IfOk result (λ exit. IsNone exit → WantsNoMore (K.has_seen keeper.new)) }
+{
+    let mut state = LexState::Gap;
+    let mut at = from;
+    while at < to {
+        let stop = stop_within(pace.next_stop(at, to), at, to);
+        let Some(exit) = scan(keeper, state, text, at, stop)? else {
+            return Ok(None);
+        };
+        match exit {
+            Exit::State(next) => state = next,
+            Exit::Fault(fault) => return Ok(Some(Exit::Fault(fault))),
+        }
+        at = stop;
+    }
+    Ok(Some(Exit::State(state)))
+}
+
+/// A text's verdict, and what was kept of its tokens.
+#[derive(Drop)]
+pub struct Told<K: Drop> {
+    pub verdict: Verdict,
+    pub keeper: K,
+}
+
+/// Reads the bytes from one offset to another as a whole text (RFC 8259, section 2), in one pass from their start, and
+/// tells a keeper, which has seen nothing so far, of its tokens as they are found. It has then seen all marks and ends of
+/// an accepted text, with their offsets; soon behind the first fault it is told nothing more. Only want of memory is
+/// refused. It pauses where the pace says, which changes nothing of that.
+pub fn read_into<K: Keeper + Drop, P: Pace>(
+    alloc: Global,
+    text: &[u8],
+    from: usize,
+    to: usize,
+    depth: Depth,
+    keeper: K,
+    pace: &mut P,
+) -> Result<Told<K>, AllocError>
+    requires bounds { (from ≤ to) × (to ≤ length text.now) }
+    requires empty { K.has_seen keeper [] [] }
+    ensures verdict { IfOk result (λ told. Judged from (slice_range text.now from to) depth told.verdict) }
+    ensures seen { IfOk result (λ told. told.verdict ≡ Accepted
+        → K.has_seen told.keeper (lex Gap from (slice_range text.now from to)).marks (lex Gap from (slice_range text.now from to)).ends) }
+{
+    let mut both = Beside {
+        stack: KnownStack::new(alloc, depth),
+        other: keeper,
+    };
+    // The scan ends early only at a fault of the stack, and then it does not matter where.
+    let exit = scan_by(&mut both, pace, text, from, to)?;
+    let verdict = verdict_from(
+        exit.unwrap_or(Exit::State(LexState::Gap)),
+        both.stack.whole(),
+    );
+    Ok(Told {
+        verdict,
+        keeper: both.other,
+    })
+}

@@ -1,0 +1,35 @@
+// Whether the last byte of an element may be followed by more of its value.
+ghost use Rattle.std.specs.Prelude.{◌≡◌};
+ghost use Rattle.jx_run.specs.ElementVerdict.{told};
+ghost use Rattle.jx_run.specs.Unclosed.{is_open, ends_open};
+
+use crate::element_verdict::ElementVerdict;
+use crate::verdict::Verdict;
+
+/// No blank, and no byte that ends a string or a container.
+fn is_open(byte: u8) -> bool
+    ensures { result ≡ is_open byte }
+{
+    !matches!(byte, b' ' | b'\t' | b'\n' | b'\r' | b'"' | b']' | b'}')
+}
+
+/// Whether the last byte is such a byte.
+pub(crate) fn ends_open(bytes: &[u8]) -> bool
+    ensures { result ≡ ends_open bytes.now }
+{
+    match bytes.last() {
+        None => false,
+        Some(byte) => is_open(*byte),
+    }
+}
+
+/// The verdict on an element behind a record mark, by that on its bytes and by whether their last one is open.
+pub(crate) fn told(verdict: Verdict, loose: bool) -> ElementVerdict
+    ensures { result ≡ told verdict loose }
+{
+    match verdict {
+        Verdict::Accepted if loose => ElementVerdict::MayBeCut,
+        Verdict::Accepted => ElementVerdict::Accepted,
+        Verdict::Refused(refusal) => ElementVerdict::Refused(refusal),
+    }
+}

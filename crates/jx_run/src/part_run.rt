@@ -1,0 +1,126 @@
+// Runs over parts of the elements of a JSON text sequence.
+ghost use Rattle.std.specs.Prelude.{◌≡◌, ◌≤◌, ◌<◌, ℕ, List, ◌++◌, length, slice_range, IfOk, IfErr};
+ghost use Rattle.jx_run.specs.Elements.{part};
+ghost use Rattle.jx_run.specs.ElementsRun.{IsPartRun};
+ghost use Rattle.jx_run.specs.ElementVerdict.{IsJudgedElement};
+ghost use Rattle.jx_run.specs.OutcomeRun.{place_of};
+ghost use Rattle.jx_run.specs.Tree.{span};
+ghost use Rattle.jx_run.specs.Unclosed.{ends_open};
+
+use crate::element_verdict::JudgedElement;
+use crate::open_end::{ends_open, told};
+use crate::outcome_run::OutcomeRun;
+use crate::summary::Summary;
+use jx_lex::{Depth, JoinFault, Span};
+use std::alloc::{AllocError, Global};
+use std::marker::Model;
+
+/// What reading a part of an element gives, or all of it. No byte of it is a record mark.
+#[derive(Drop)]
+pub(crate) struct PartRun {
+    outcomes: OutcomeRun,
+    // whether its last byte is open, so that more of a value may follow
+    loose: bool,
+}
+
+impl Model for PartRun {
+    ghost use Rattle.jx_run.specs.ElementsRun.{PartRunValue};
+
+    ghost Value = { PartRunValue };
+
+    ghost view = { λ r. record { outcomes = r.outcomes; loose = r.loose } };
+}
+
+impl PartRun {
+    pub(crate) fn of(
+        alloc: Global,
+        text: &[u8],
+        start: usize,
+        end: usize,
+        depth: Depth,
+    ) -> Result<PartRun, AllocError>
+        requires ordered { start ≤ end }
+        requires within { end ≤ length text.now }
+        ensures place { IfOk result (λ r. place_of r.outcomes ≡ span start end) }
+        ensures limit { IfOk result (λ r. r.outcomes.limit ≡ depth) }
+        ensures of { IfOk result (λ r. IsPartRun (slice_range text.now start end) r) }
+    {
+        let outcomes = OutcomeRun::of(alloc, text, start, end, depth)?;
+        let loose = ends_open(&text[start..end]);
+        Ok(PartRun { outcomes, loose })
+    }
+
+    pub(crate) fn span(&self) -> Span
+        ensures { result ≡ place_of self.now.outcomes }
+    {
+        self.outcomes.span()
+    }
+
+    pub(crate) fn depth(&self) -> Depth
+        ensures { result ≡ self.now.outcomes.limit }
+    {
+        self.outcomes.depth()
+    }
+
+    pub(crate) fn allocator(&self) -> Global {
+        self.outcomes.allocator()
+    }
+
+    /// Whether the last byte of the joined bytes is open.
+    fn loose_with(&self, right: &PartRun) -> bool
+        requires neighbours { self.now.outcomes.end ≡ right.now.outcomes.start }
+        ensures { (xs ys : List ℕ) → IsPartRun xs self.now → IsPartRun ys right.now → result ≡ ends_open (xs ++ ys) }
+    {
+        let place = right.outcomes.span();
+        if place.start < place.end {
+            right.loose
+        } else {
+            self.loose
+        }
+    }
+
+    /// Joins with the part to the right; where memory is refused, both are handed back as they were.
+    pub(crate) fn join(self, right: PartRun) -> Result<PartRun, JoinFault<PartRun>>
+        requires neighbours { self.outcomes.end ≡ right.outcomes.start }
+        requires depth { self.outcomes.limit ≡ right.outcomes.limit }
+        ensures place { IfOk result (λ r. place_of r.outcomes ≡ span self.outcomes.start right.outcomes.end) }
+        ensures limit { IfOk result (λ r. r.outcomes.limit ≡ self.outcomes.limit) }
+        ensures of { IfOk result (λ r. (xs ys : List ℕ) → IsPartRun xs self → IsPartRun ys right → IsPartRun (xs ++ ys) r) }
+        ensures refused { IfErr result (λ f. (f.left ≡ self) × (f.right ≡ right)) }
+    {
+        let loose = self.loose_with(&right);
+        match self.outcomes.joined(&right.outcomes) {
+            Ok(outcomes) => Ok(PartRun { outcomes, loose }),
+            Err(AllocError) => Err(JoinFault { left: self, right }),
+        }
+    }
+
+    /// The element that has these bytes and stands behind a record mark. It takes no memory.
+    pub(crate) fn judged(&self) -> JudgedElement
+        ensures { (bytes : List ℕ) → 0 < self.now.outcomes.start → IsPartRun bytes self.now
+            → IsJudgedElement self.now.outcomes.limit (part self.now.outcomes.start bytes) result }
+    {
+        JudgedElement {
+            span: self.outcomes.span(),
+            verdict: told(self.outcomes.verdict(), self.loose),
+        }
+    }
+
+    /// The element that has the joined bytes and stands behind a record mark; neither part changes.
+    pub(crate) fn judged_with(&self, right: &PartRun) -> Result<JudgedElement, AllocError>
+        requires neighbours { self.now.outcomes.end ≡ right.now.outcomes.start }
+        requires depth { self.now.outcomes.limit ≡ right.now.outcomes.limit }
+        ensures { (xs ys : List ℕ) → 0 < self.now.outcomes.start → IsPartRun xs self.now → IsPartRun ys right.now
+            → IfOk result (IsJudgedElement self.now.outcomes.limit (part self.now.outcomes.start (xs ++ ys))) }
+    {
+        let verdict = self.outcomes.verdict_with(&right.outcomes)?;
+        let span = Span {
+            start: self.outcomes.span().start,
+            end: right.outcomes.span().end,
+        };
+        Ok(JudgedElement {
+            span,
+            verdict: told(verdict, self.loose_with(right)),
+        })
+    }
+}

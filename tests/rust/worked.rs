@@ -1,0 +1,119 @@
+//! Reads the worked texts, each beginning of them, and each of these in slices of one byte.
+
+use jx::{check, Reader, Refusal};
+
+struct Worked {
+    line: usize,
+    wanted: Result<(), Refusal>,
+    depth: u16,
+    text: Vec<u8>,
+}
+
+fn spelt(text: &str) -> Vec<u8> {
+    let mut parts = text.split("\\x");
+    let mut bytes = parts.next().unwrap().as_bytes().to_vec();
+    for part in parts {
+        bytes.push(u8::from_str_radix(&part[..2], 16).unwrap());
+        bytes.extend_from_slice(part[2..].as_bytes());
+    }
+    bytes
+}
+
+fn worked() -> Vec<Worked> {
+    let table = include_str!("../worked");
+    let rows = table
+        .lines()
+        .enumerate()
+        .filter(|(_, row)| !row.starts_with('#'));
+    rows.map(|(number, row)| {
+        let words: Vec<&str> = row.splitn(4, ' ').collect();
+        let at = words[1].parse().unwrap();
+        let wanted = match words[0] {
+            "accepted" => Ok(()),
+            "stopped" => Err(Refusal::Stopped { at }),
+            "truncated" => Err(Refusal::Truncated),
+            "too_deep" => Err(Refusal::TooDeep { at }),
+            word => panic!("no verdict: {word}"),
+        };
+        Worked {
+            line: number + 1,
+            wanted,
+            depth: words[2].parse().unwrap(),
+            text: spelt(words[3]),
+        }
+    })
+    .collect()
+}
+
+#[test]
+fn verdicts() {
+    for one in worked() {
+        assert_eq!(check(&one.text, one.depth), one.wanted, "line {}", one.line);
+    }
+}
+
+#[test]
+fn slices_of_one_byte_come_to_the_same() {
+    for one in worked() {
+        let mut reader = Reader::new(one.depth);
+        for end in 0..=one.text.len() {
+            let whole = check(&one.text[..end], one.depth);
+            assert_eq!(reader.verdict(), whole, "line {}, {end} bytes", one.line);
+            match one.wanted {
+                Err(Refusal::Stopped { at } | Refusal::TooDeep { at }) if end > at => {
+                    assert_eq!(whole, one.wanted, "line {}, {end} bytes", one.line);
+                }
+                _ => assert!(
+                    matches!(whole, Ok(()) | Err(Refusal::Truncated)),
+                    "line {}, {end} bytes",
+                    one.line
+                ),
+            }
+            if let Some(byte) = one.text.get(end) {
+                reader.feed(&[*byte]).unwrap();
+            }
+        }
+    }
+}
+
+#[test]
+fn a_reader_starts_again() {
+    let mut reader = Reader::new(0);
+    for one in worked() {
+        reader.start(one.depth);
+        reader.feed(&one.text).unwrap();
+        assert_eq!(reader.verdict(), one.wanted, "line {}", one.line);
+    }
+}
+
+#[test]
+fn deep_texts() {
+    let mut text = vec![b'['; 65535];
+    text.resize(131_070, b']');
+    assert_eq!(check(&text, u16::MAX), Ok(()));
+    assert_eq!(
+        check(&text, u16::MAX - 1),
+        Err(Refusal::TooDeep { at: 65534 })
+    );
+}
+
+#[test]
+fn each_row_stands_in_its_parent() {
+    for one in worked() {
+        let Ok(all) = jx::rows(&one.text, one.depth) else {
+            assert!(one.wanted.is_err(), "line {}", one.line);
+            continue;
+        };
+        assert_eq!(one.wanted, Ok(()), "line {}", one.line);
+        assert_eq!(all[0].parent, None, "line {}", one.line);
+        for (number, row) in all.iter().enumerate().skip(1) {
+            let parent = row.parent.unwrap();
+            let outer = &all[parent].span;
+            assert!(
+                parent < number && outer.start < row.span.start && row.span.end < outer.end,
+                "line {}, row {number}",
+                one.line
+            );
+        }
+    }
+}
