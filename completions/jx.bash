@@ -21,9 +21,9 @@ _jx() {
     case $command in
     '') mapfile -t COMPREPLY < <(compgen -W 'check index at seq help -h --help -V --version' -- "$word") ;;
     help) mapfile -t COMPREPLY < <(compgen -W 'check index at seq' -- "$word") ;;
-    check | seq) mapfile -t COMPREPLY < <(compgen -W '--file --depth --workers --piece --ignore-bom -q --quiet -h --help' -- "$word") ;;
-    at) mapfile -t COMPREPLY < <(compgen -W '--file --pointers --depth --workers --piece --ignore-bom -h --help' -- "$word") ;;
-    *) mapfile -t COMPREPLY < <(compgen -W '--file --depth --workers --piece --ignore-bom -h --help' -- "$word") ;;
+    check | seq) mapfile -t COMPREPLY < <(compgen -W '--file --depth --workers --piece --ignore-bom --unique-names -q --quiet -h --help' -- "$word") ;;
+    at) mapfile -t COMPREPLY < <(compgen -W '--file --pointers --depth --workers --piece --ignore-bom --unique-names -h --help' -- "$word") ;;
+    *) mapfile -t COMPREPLY < <(compgen -W '--file --depth --workers --piece --ignore-bom --unique-names -h --help' -- "$word") ;;
     esac
 }
 complete -F _jx jx

@@ -12,6 +12,7 @@ complete -c jx -n '__fish_seen_subcommand_from check index at seq' -l depth -x -
 complete -c jx -n '__fish_seen_subcommand_from check index at seq' -l workers -x -d 'Read by N workers, 1 to 64'
 complete -c jx -n '__fish_seen_subcommand_from check index at seq' -l piece -x -d 'Let a worker read N bytes at a time'
 complete -c jx -n '__fish_seen_subcommand_from check index at seq' -l ignore-bom -d 'Ignore a byte order mark in front'
+complete -c jx -n '__fish_seen_subcommand_from check index at seq' -l unique-names -d 'Refuse objects that repeat a name'
 complete -c jx -n '__fish_seen_subcommand_from at' -l pointers -r -F -d 'Look up the lines of FILE too'
 complete -c jx -n '__fish_seen_subcommand_from check seq' -s q -l quiet -d 'Write no output: the exit status is the answer'
 complete -c jx -n '__fish_seen_subcommand_from help' -a 'check index at seq'

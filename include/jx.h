@@ -141,6 +141,28 @@ typedef struct jx_row {
  * It takes memory in proportion to the text, and frees it. JX_OK, JX_NO_MEMORY or JX_DEPTH_TOO_GREAT. */
 uint32_t jx_rows(const uint8_t *text, size_t size, uint32_t depth, jx_row *rows, size_t room, size_t *count, jx_verdict *verdict);
 
+/* Kinds of verdicts on elements of sequences, besides those on texts. */
+enum {
+    JX_MAY_BE_CUT = 4, /* a text that is a number, true, false or null with nothing behind it: perhaps a longer one was cut
+                          there (RFC 7464, section 2.4) */
+    JX_UNMARKED = 5    /* the element stands before the first record separator */
+};
+
+/* An element of a JSON text sequence. */
+typedef struct jx_element {
+    jx_span span;       /* where it stands: from behind its record separator up to the next one or the end */
+    jx_verdict verdict; /* JX_ACCEPTED .. JX_UNMARKED; offsets count from the sequence's start */
+} jx_element;
+
+/* Tells all elements of a JSON text sequence (RFC 7464, section 2.1) in order, whatever each comes to: puts as many as there
+ * is room for into `elements`, the rest of which it leaves as it was, and how many there are into `count`. A record separator
+ * is the byte 1E; between two in a row stands no element, and none behind one at the end. So there are at most one more than
+ * record separators, and a first call with room 0 tells how many; `elements` may not be null in either.
+ *
+ * It takes memory in proportion to the count of elements and to the sizes of the first and the last one, and frees it.
+ * JX_OK, JX_NO_MEMORY or JX_DEPTH_TOO_GREAT. */
+uint32_t jx_elements(const uint8_t *sequence, size_t size, uint32_t depth, jx_element *elements, size_t room, size_t *count);
+
 /* The version: 10,000 times its first number, 100 times the second, and the third. 100 is 0.1.0. */
 uint32_t jx_version(void);
 

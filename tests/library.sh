@@ -28,10 +28,10 @@ for compiler in gcc clang; do
         continue
     fi
     is_compiled=yes
-    for name in worked indexed; do
-        # The second refuses requests for memory.
+    for name in worked indexed sequences; do
+        # All but the first refuse requests for memory.
         wrapped=
-        if [ "$name" = indexed ]; then wrapped=-Wl,--wrap=malloc,--wrap=realloc; fi
+        if [ "$name" != worked ]; then wrapped=-Wl,--wrap=malloc,--wrap=realloc; fi
         said=$("$compiler" -std=c11 -O1 -g -Wall -Wextra -Werror -fsanitize=address,undefined -fno-sanitize-recover=all \
             $wrapped -I"$root/include" "$root/tests/c/$name.c" -L"$library" -ljx -o "$name" 2>&1)
         same "$compiler compiles and links $name" '' "$said"

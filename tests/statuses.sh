@@ -60,6 +60,17 @@ same 'a mark before a sequence, where it is not ignored' "$(lines 'status 1' 'ou
 same 'a mark in an element' "$(lines 'status 1' 'out: 1..6 stopped at 1')" "$(said "\036${bom}1\n" seq --ignore-bom)"
 same 'a mark with more before the first separator' "$(lines 'status 1' 'out: 0..4 unmarked' 'out: 5..7 accepted')" "$(said "${bom}1\00362\n" seq --ignore-bom)"
 
+# ---- unique names
+same 'a name may be repeated' "$(lines 'status 0' 'out: accepted')" "$(said '{"a":1,"\\u0061":2}' check)"
+for piece in 1 2 3 4 65536; do
+    same "a repeated name, by pieces of $piece" "$(lines 'status 1' 'out: repeated name at 7')" "$(said '{"a":1,"\\u0061":2}' check --unique-names --piece $piece)"
+    same "one behind a mark, by pieces of $piece" "$(lines 'status 1' 'out: repeated name at 10')" "$(said "${bom}"'{"a":1,"a":2}' index --unique-names --ignore-bom --piece $piece)"
+    same "pointers into unique names, by pieces of $piece" "$(lines 'status 0' 'out: found number 11..12')" "$(said '{"a":1,"b":2}' at --unique-names --piece $piece /b)"
+    same "pointers into repeated names, by pieces of $piece" "$(lines 'status 1' 'out: repeated name at 7')" "$(said '{"a":1,"a":2}' at --unique-names --piece $piece /b)"
+    same "an element that repeats a name, by pieces of $piece" "$(lines 'status 1' 'out: 1..15 repeated name at 8' 'out: 16..18 accepted')" "$(said '\036{"a":1,"a":2}\n\00361\n' seq --unique-names --piece $piece)"
+    same "what is no text, by pieces of $piece" "$(lines 'status 1' 'out: stopped at 12')" "$(said '{"a":1,"a":2]' check --unique-names --piece $piece)"
+done
+
 # ---- pointers from a file
 printf '/1\n\n/0\r\n/0' >list
 same 'pointers: a line each, behind those among the words' \

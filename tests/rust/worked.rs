@@ -1,6 +1,6 @@
 //! Reads the worked texts, each beginning of them, and each of these in slices of one byte.
 
-use jx::{check, Reader, Refusal};
+use jx::{check, elements, ElementVerdict, Reader, Refusal};
 
 struct Worked {
     line: usize,
@@ -116,4 +116,41 @@ fn each_row_stands_in_its_parent() {
             );
         }
     }
+}
+
+/// What bytes come to as an element that stands from an offset on.
+fn wanted(bytes: &[u8], depth: u16, start: usize) -> ElementVerdict {
+    match check(bytes, depth) {
+        Ok(()) if b"0123456789el".contains(bytes.last().unwrap()) => ElementVerdict::MayBeCut,
+        Ok(()) => ElementVerdict::Accepted,
+        Err(Refusal::Truncated) => ElementVerdict::Refused(Refusal::Truncated),
+        Err(Refusal::Stopped { at }) => ElementVerdict::Refused(Refusal::Stopped { at: start + at }),
+        Err(Refusal::TooDeep { at }) => ElementVerdict::Refused(Refusal::TooDeep { at: start + at }),
+    }
+}
+
+#[test]
+fn each_beginning_is_an_element() {
+    for one in worked() {
+        for end in 1..=one.text.len() {
+            let mut sequence = b"1\x1E\x1E".to_vec();
+            sequence.extend_from_slice(&one.text[..end]);
+            sequence.extend_from_slice(b"\x1E\"a\"");
+            let all = elements(&sequence, one.depth).unwrap();
+            let found: Vec<_> = all.iter().map(|e| (e.span.clone(), e.verdict)).collect();
+            let last = 3 + end;
+            let all_wanted = [
+                (0..1, ElementVerdict::Unmarked),
+                (3..last, wanted(&one.text[..end], one.depth, 3)),
+                (last + 1..last + 4, ElementVerdict::Accepted),
+            ];
+            assert_eq!(found, all_wanted, "line {}, {end} bytes", one.line);
+        }
+    }
+}
+
+#[test]
+fn sequences_without_elements() {
+    assert_eq!(elements(b"", jx::DEPTH), Ok(Vec::new()));
+    assert_eq!(elements(b"\x1E\x1E", jx::DEPTH), Ok(Vec::new()));
 }

@@ -11,6 +11,7 @@
 
 #![deny(missing_docs, unsafe_op_in_unsafe_fn)]
 
+mod elements;
 mod fault;
 mod find;
 mod raw;
@@ -18,6 +19,7 @@ mod reader;
 mod refusal;
 mod rows;
 
+pub use elements::{elements, Element, ElementVerdict, OutOfMemory};
 pub use fault::Fault;
 pub use find::{find, FindError, Found};
 pub use reader::{Reader, TooManyBytes};

@@ -1,7 +1,7 @@
 //! The calls of `jx.h`, as that file declares them.
 
 #[repr(C)]
-#[derive(Clone, Copy)]
+#[derive(Clone, Copy, Default)]
 pub struct Verdict {
     pub offset: usize,
     pub kind: u32,
@@ -40,6 +40,13 @@ pub struct Row {
     pub kind: u32,
 }
 
+#[repr(C)]
+#[derive(Clone, Copy, Default)]
+pub struct Element {
+    pub span: Span,
+    pub verdict: Verdict,
+}
+
 pub const OK: u32 = 0;
 pub const NO_MEMORY: u32 = 1;
 pub const TOO_MANY_BYTES: u32 = 4;
@@ -48,6 +55,8 @@ pub const ACCEPTED: u32 = 0;
 pub const STOPPED: u32 = 1;
 pub const TRUNCATED: u32 = 2;
 pub const TOO_DEEP: u32 = 3;
+pub const MAY_BE_CUT: u32 = 4;
+pub const UNMARKED: u32 = 5;
 
 extern "C" {
     pub fn jx_check(text: *const u8, size: usize, depth: u32, verdict: *mut Verdict) -> u32;
@@ -67,6 +76,14 @@ extern "C" {
         room: usize,
         count: *mut usize,
         verdict: *mut Verdict,
+    ) -> u32;
+    pub fn jx_elements(
+        sequence: *const u8,
+        size: usize,
+        depth: u32,
+        elements: *mut Element,
+        room: usize,
+        count: *mut usize,
     ) -> u32;
     pub fn jx_version() -> u32;
     pub fn jx_reader_start(reader: *mut Reader, depth: u32) -> u32;

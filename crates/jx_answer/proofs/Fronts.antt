@@ -18,7 +18,7 @@ use Rattle.jx_run.specs.Verdict.{Judged}
 use Rattle.jx_answer.specs.declared.text_answer.TextAnswer.{TextAnswer}
 use Rattle.jx_answer.specs.declared.text_answer.TextAnswer.TheVariants as answer
 use Rattle.jx_answer.specs.Answers.{IsAnswer}
-use Rattle.jx_answer.specs.Settled.{IsAnswerBy, IsAnswerFrom, rest_from}
+use Rattle.jx_answer.specs.Settled.{IsReadBy, IsAnswerFrom, rest_from}
 use Rattle.jx_answer.proofs.Whole.{slice_range-all}
 
 pub rest_is : (n : ℕ) (text : List ℕ) → rest_from n text ≡ drop n text
@@ -89,7 +89,7 @@ pub behind_judged : (settings : Settings) (text : List ℕ) (n : ℕ) (v : Verdi
 behind_judged settings text n v told j = told.1 settings v refl (subst (λ b. Judged n b settings.depth v) (rest_is n text) j)
 
 pub behind_answer : (settings : Settings) (text : List ℕ) (n : ℕ) (a : TextAnswer) → front_of settings.mark text ≡ seen.Skip n
-    → IsTold settings.mark text (seen.Skip n) → IsAnswerFrom n text settings.depth a → IsAnswerBy settings text a
+    → IsTold settings.mark text (seen.Skip n) → IsAnswerFrom n text settings.depth a → IsReadBy settings text a
 behind_answer settings text n (answer.Refused r) is told h = behind_judged settings text n (Refused r) told h
 behind_answer settings text n (answer.Accepted index) is told h =
     let s = skipped_is settings.mark text n is in

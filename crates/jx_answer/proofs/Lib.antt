@@ -1,4 +1,6 @@
+mod ByNames
 mod Fronts
+mod InPlace
 mod MarksAlone
 mod Ones
 mod Placed

@@ -5,6 +5,7 @@ use Rattle.jx_lex.specs.declared.span.Span.{Span}
 use Rattle.jx_run.specs.declared.verdict.Verdict.{Verdict}
 use Rattle.jx_run.specs.declared.verdict.Verdict.TheVariants.{Accepted, Refused}
 use Rattle.jx_run.specs.declared.verdict.Refusal.{Refusal}
+use Rattle.jx_run.specs.declared.settings.Settings.{Settings}
 use Rattle.jx_run.specs.Elements.{Part, elements}
 use Rattle.jx_run.specs.Text.{IsDocument}
 use Rattle.jx_run.specs.Tree.{Tree}
@@ -18,7 +19,10 @@ use Rattle.jx_answer.specs.declared.text_answer.TextAnswer.{TextAnswer}
 use Rattle.jx_answer.specs.declared.text_answer.TextAnswer.TheVariants as answer
 use Rattle.jx_run.specs.Unclosed.{EndsUnclosed, end_of}
 use Rattle.jx_answer.specs.Answers.{IsAnswer}
+use Rattle.jx_answer.specs.ByNames.{IsByNames}
 use Rattle.jx_answer.specs.Sequence.{IsElementAnswer, IsElementIndex, IsElement, AreElements}
+use Rattle.jx_answer.specs.Settled.{AreElementsBy, IsElementBy, elements_by}
+use Rattle.jx_answer.proofs.ByNames.{one_by_names}
 
 same_index : (x y : IndexedValue) → x.text ≡ y.text → x.place ≡ y.place → x.rows ≡ y.rows → x ≡ y
 same_index x y e f g =
@@ -86,5 +90,12 @@ module _ (one_tree : (at limit : ℕ) (bytes : List ℕ) (x y : Tree) → IsDocu
     pub one_elements : (xs ys : List Element) → AreElements input limit xs → AreElements input limit ys → xs ≡ ys
     one_elements xs ys h k = zip_one (IsElement input limit) one_element (elements 0 input) xs ys h k
 
-    pub one_elements_of : (ps : List Part) (xs ys : List Element) → AllZip (IsElement input limit) ps xs → AllZip (IsElement input limit) ps ys → xs ≡ ys
-    one_elements_of ps xs ys h k = zip_one (IsElement input limit) one_element ps xs ys h k
+  module _ (settings : Settings) (input : List ℕ) where
+    one_element_by : (p : Part) (x y : Element) → IsElementBy settings input p x → IsElementBy settings input p y → x ≡ y
+    one_element_by p x y h k =
+        let same : h.told ≡ k.told = one_of input settings.depth p h.told k.told h.answer_is k.answer_is in
+        let answers : x.answer ≡ y.answer = one_by_names settings.names h.told x.answer y.answer h.by_names (subst (λ (a : ElementAnswer). IsByNames settings.names a y.answer) (sym same) k.by_names) in
+        ap (λ (s : Span). record x { span = s }) (h.span_is ∙ sym k.span_is) ∙ ap (λ (a : ElementAnswer). record y { answer = a }) answers
+
+    pub one_elements_by : (xs ys : List Element) → AreElementsBy settings input xs → AreElementsBy settings input ys → xs ≡ ys
+    one_elements_by xs ys h k = zip_one (IsElementBy settings input) one_element_by (elements_by settings.mark input) xs ys h k

@@ -1,9 +1,10 @@
--- Where a byte order mark is refused, nothing stands in front of a text.
+-- Where a byte order mark is refused, nothing stands in front of a text; and where objects may have any names, none is refused.
 use Rattle.std.proofs.Common.{◌≡◌, ℕ, List, [], length, refl, sym, ap, subst, ◌∙◌}
 use Rattle.std.specs.Prelude.{◌↔◌}
 use Rattle.std.specs.List.{AllZip}
 use Rattle.jx_run.specs.declared.settings.FrontMark.{FrontMark}
 use Rattle.jx_run.specs.declared.settings.FrontMark.TheVariants as on_mark
+use Rattle.jx_run.specs.declared.settings.NameRule.TheVariants.{Any}
 use Rattle.jx_run.specs.declared.settings.Settings.{Settings}
 use Rattle.jx_run.specs.declared.verdict.Verdict.{Verdict}
 use Rattle.jx_run.specs.declared.verdict.Verdict.TheVariants.{Accepted, Refused}
@@ -16,18 +17,19 @@ use Rattle.jx_answer.specs.declared.text_answer.TextAnswer.{TextAnswer}
 use Rattle.jx_answer.specs.declared.text_answer.TextAnswer.TheVariants as answer
 use Rattle.jx_answer.specs.Answers.{IsAnswer}
 use Rattle.jx_answer.specs.Sequence.{AreElements, IsElement}
-use Rattle.jx_answer.specs.Settled.{AreElementsBy, IsAnswerBy, elements_by}
+use Rattle.jx_answer.specs.Settled.{AreElementsBy, IsAnswerBy, IsElementBy, elements_by}
+use Rattle.jx_answer.proofs.ByNames.{any_element, any_names, judged_anyhow, zip_more}
 
 module _ (texts : (settings : Settings) (at : ℕ) (bytes : List ℕ) (tree : Tree) → settings.mark ≡ on_mark.Refused → IsDocumentBy settings at bytes tree ↔ IsDocument at bytes settings.depth tree)
     (verdicts : (settings : Settings) (at : ℕ) (bytes : List ℕ) (v : Verdict) → settings.mark ≡ on_mark.Refused → JudgedBy settings at bytes v ↔ Judged at bytes settings.depth v)
-    (settings : Settings) (is : settings.mark ≡ on_mark.Refused) where
+    (settings : Settings) (is : settings.mark ≡ on_mark.Refused) (any : settings.names ≡ Any) where
   no_front : (front : List ℕ) → IsFront settings.mark front → length front ≡ 0
   no_front front h = let none : front ≡ [] = subst (λ (m : FrontMark). IsFront m front) is h in ap length none
 
   unsettled : (text : List ℕ) (a : TextAnswer) → IsAnswerBy settings text a → IsAnswer text settings.depth a
-  unsettled text (answer.Refused r) h = (verdicts settings 0 text (Refused r) is).0 h
+  unsettled text (answer.Refused r) h = (verdicts settings 0 text (Refused r) is).0 (judged_anyhow settings text (Refused r) any h)
   unsettled text (answer.Accepted index) h = (
-    (verdicts settings 0 text Accepted is).0 h.0,
+    (verdicts settings 0 text Accepted is).0 (judged_anyhow settings text Accepted any h.0),
     record {
       text = h.1.text;
       place = h.1.place ∙ ap (λ (n : ℕ). span n (length text)) (no_front h.1.is_text.front h.1.is_text.is_front);
@@ -38,9 +40,9 @@ module _ (texts : (settings : Settings) (at : ℕ) (bytes : List ℕ) (tree : Tr
   )
 
   settled : (text : List ℕ) (a : TextAnswer) → IsAnswer text settings.depth a → IsAnswerBy settings text a
-  settled text (answer.Refused r) h = (verdicts settings 0 text (Refused r) is).1 h
+  settled text (answer.Refused r) h = any_names settings text (Refused r) any ((verdicts settings 0 text (Refused r) is).1 h)
   settled text (answer.Accepted index) h = (
-    (verdicts settings 0 text Accepted is).1 h.0,
+    any_names settings text Accepted any ((verdicts settings 0 text Accepted is).1 h.0),
     record {
       text = h.1.text;
       tree = h.1.tree;
@@ -55,6 +57,10 @@ module _ (texts : (settings : Settings) (at : ℕ) (bytes : List ℕ) (tree : Tr
 
   pub same_elements : (input : List ℕ) (xs : List Element) → AreElementsBy settings input xs ↔ AreElements input settings.depth xs
   same_elements input xs = (
-    (λ h. subst (λ (m : FrontMark). AllZip (IsElement input settings.depth) (elements_by m input) xs) is h),
-    (λ h. subst (λ (m : FrontMark). AllZip (IsElement input settings.depth) (elements_by m input) xs) (sym is) h),
+    (λ h.
+        subst (λ (m : FrontMark). AllZip (IsElement input settings.depth) (elements_by m input) xs) is
+        (zip_more (IsElementBy settings input) (IsElement input settings.depth) (λ p e k. (any_element settings input p e any).0 k) (elements_by settings.mark input) xs h)),
+    (λ h.
+        zip_more (IsElement input settings.depth) (IsElementBy settings input) (λ p e k. (any_element settings input p e any).1 k) (elements_by settings.mark input) xs
+        (subst (λ (m : FrontMark). AllZip (IsElement input settings.depth) (elements_by m input) xs) (sym is) h)),
   )

@@ -1,24 +1,37 @@
 -- Verdicts on the elements of an input are the answers on them less their indexes.
-use Rattle.std.proofs.Common.{◌≡◌, ℕ, ◌<◌, ◌≤◌, List, [], ◌∷◌, ◌++◌, length, take, drop, map, true, false, refl, sym, ap, subst, ◌∙◌, arith}
-use Rattle.std.specs.Prelude.{slice_index_or}
+use Rattle.std.proofs.Common.{◌≡◌, ℕ, ◌<◌, ◌≤◌, List, [], ◌∷◌, ◌++◌, length, take, drop, map, Option, None, Some, Bool, true, false, cond, refl, sym, ap, subst, ◌∙◌, arith}
+use Rattle.std.specs.Prelude.{All, slice_index_or}
 use Rattle.std.proofs.lemmas.List.{length-map}
+use Rattle.std.proofs.lemmas.List.Elements.{All-head, All-tail}
 use Rattle.jx_lex.specs.declared.span.Span.{Span}
+use Rattle.jx_run.specs.declared.settings.FrontMark.{FrontMark}
 use Rattle.jx_run.specs.declared.settings.FrontMark.TheVariants as on_mark
+use Rattle.jx_run.specs.declared.settings.NameRule.{NameRule}
+use Rattle.jx_run.specs.declared.settings.NameRule.TheVariants.{Any, Unique}
+use Rattle.jx_run.specs.declared.settings.Settings.{Settings}
 use Rattle.std.specs.List.{AllZip}
 use Rattle.jx_run.specs.declared.element_verdict.ElementVerdict.{ElementVerdict}
 use Rattle.jx_run.specs.declared.element_verdict.ElementVerdict.TheVariants as verdict
 use Rattle.jx_run.specs.declared.element_verdict.JudgedElement.{JudgedElement}
 use Rattle.jx_run.specs.Elements.{Part, span_of, elements}
 use Rattle.jx_run.specs.ElementVerdict.{IsVerdictOn, IsJudgedElement}
+use Rattle.jx_run.specs.Text.{IsDocument, IsText}
+use Rattle.jx_run.specs.Tree.{Tree}
+use Rattle.jx_run.specs.Unclosed.{IsAccepted}
 use Rattle.jx_index.specs.Indexed.{IndexedValue}
+use Rattle.jx_index.specs.Repeats.{IsLeast, IsRepeat}
 use Rattle.jx_index.specs.Rows.{rows}
+use Rattle.jx_index.specs.declared.row.Row.{Row}
 use Rattle.jx_answer.specs.declared.element.Element.{Element}
 use Rattle.jx_answer.specs.declared.element.ElementAnswer.{ElementAnswer}
 use Rattle.jx_answer.specs.declared.element.ElementAnswer.TheVariants as answer
-use Rattle.jx_answer.specs.Pushed.{part_of}
-use Rattle.jx_answer.specs.Sequence.{IsElementAnswer, IsElement, AreJudged, AreJudgedAs, judged, without_index}
-use Rattle.jx_answer.specs.Settled.{elements_by, is_mark_alone}
-use Rattle.jx_answer.proofs.MarksAlone.{within_input, none_at_all, mark_stays, mark_goes}
+use Rattle.jx_answer.specs.ByNames.{IsByNames, RefusesName, RefusesNameIn, judged_unless, unless_refused}
+use Rattle.jx_answer.specs.Pushed.{IsJudgedIn, part_of}
+use Rattle.jx_answer.specs.Sequence.{IsElementAnswer, IsElementIndex, IsElement, AreJudged, AreJudgedAs, judged, without_index}
+use Rattle.jx_answer.specs.Settled.{IsJudgedBy, elements_by, is_mark_alone, without_mark}
+use Rattle.jx_answer.proofs.ByNames.{stays_so}
+use Rattle.jx_answer.proofs.Readable.{LiesIn}
+use Rattle.jx_answer.proofs.MarksAlone.{elements_lie, within_input, none_at_all, mark_stays, mark_goes}
 
 -- an answer that is the verdict, with an index where one belongs to it
 record Answered (input : List ℕ) (p : Part) (limit : ℕ) (v : ElementVerdict) : Type 0 where
@@ -114,3 +127,131 @@ module _ (input : List ℕ) (limit : ℕ) (js : List JudgedElement) (h : AreJudg
               are = mark_goes input limit (a ∷ more) more a z (omega arith) (subst (λ (s : Span). is_mark_alone (part_of input s) ≡ true) (sym (first_span a more e)) told) refl;
               less = sym (rest ∙ ap (λ ys. take 0 ys ++ drop 1 ys) (sym e));
             }
+
+-- ---- with where each element lies
+
+paired : (input : List ℕ) (limit : ℕ) (ps : List Part) (es : List Element) (js : List JudgedElement) → AllZip (IsElement input limit) ps es → map judged es ≡ js → All (LiesIn input) ps
+    → AllZip (IsJudgedIn input limit) ps js
+paired input limit [] [] [] z e l = tt
+paired input limit [] [] (j ∷ js) z e l = absurd (cc)
+paired input limit [] (x ∷ es) js z e l = absurd z
+paired input limit (p ∷ ps) [] js z e l = absurd z
+paired input limit (p ∷ ps) (x ∷ es) [] z e l = absurd (cc)
+paired input limit (p ∷ ps) (x ∷ es) (j ∷ js) z e l =
+    let first : judged x ≡ j = cc in
+    let rest : map judged es ≡ js = cc in
+    let lies = All-head (LiesIn input) p ps l in
+    (record { answer = x; is = z.0; less = first; bytes = lies.bytes; within = lies.within }, paired input limit ps es js z.1 rest (All-tail (LiesIn input) p ps l))
+
+pub lie_in : (mark : FrontMark) (input : List ℕ) → All (LiesIn input) (elements_by mark input)
+lie_in on_mark.Refused input = elements_lie input
+lie_in on_mark.Ignored input = left (elements 0 input) (elements_lie input)
+  where
+    left : (ps : List Part) → All (LiesIn input) ps → All (LiesIn input) (without_mark ps)
+    left [] l = l
+    left (p ∷ ps) l = pick (is_mark_alone p)
+      where
+        pick : (b : Bool) → All (LiesIn input) (cond b ps (p ∷ ps))
+        pick true = All-tail (LiesIn input) p ps l
+        pick false = l
+
+pub judged_in : (mark : FrontMark) (input : List ℕ) (limit : ℕ) (js : List JudgedElement) → AreJudgedAs (elements_by mark input) input limit js → AllZip (IsJudgedIn input limit) (elements_by mark input) js
+judged_in mark input limit js h = paired input limit (elements_by mark input) h.answers js h.are h.less (lie_in mark input)
+
+-- ---- by the rule on names
+
+module _ (settings : Settings) (input : List ℕ) (p : Part) (j : JudgedElement) (h : IsJudgedIn input settings.depth p j) where
+  span_here : j.span ≡ span_of p
+  span_here = ap (λ (x : JudgedElement). x.span) (sym h.less) ∙ h.is.span_is
+
+  pub span_ordered : j.span.start ≤ j.span.end
+  span_ordered = subst (λ (s : Span). s.start ≤ s.end) (sym span_here) (omega arith)
+
+  pub span_within : j.span.end ≤ length input
+  span_within = subst (λ (s : Span). s.end ≤ length input) (sym span_here) h.within
+
+  -- the rule refuses no name
+  pub judged_so : IsByNames settings.names h.answer.answer h.answer.answer → IsJudgedBy settings input p j
+  judged_so named = record {
+    answer = h.answer;
+    is = record { told = h.answer.answer; span_is = h.is.span_is; answer_is = h.is.answer_is; by_names = named };
+    less = h.less;
+  }
+
+  there : (tree : Tree) → IsAccepted p settings.depth tree → IsText input j.span.start j.span.end settings.depth tree
+  there tree a =
+      subst (λ (s : Span). IsText input s.start s.end settings.depth tree) (sym span_here)
+      (subst (λ (b : List ℕ). IsDocument p.at b settings.depth tree) (sym h.bytes) a.is_text)
+
+  -- what is accepted has an index
+  pub record HasIndex : Type 0 where
+    pub index : IndexedValue
+    pub answer_is : h.answer.answer ≡ answer.Accepted index
+    pub is_index : IsElementIndex input p settings.depth index
+
+  pub is_accepted : j.verdict ≡ verdict.Accepted → HasIndex
+  is_accepted e = go h.answer.answer refl h.is.answer_is (ap (λ (x : JudgedElement). x.verdict) h.less ∙ e)
+    where
+      go : (a : ElementAnswer) → h.answer.answer ≡ a → IsElementAnswer input p settings.depth a → without_index a ≡ verdict.Accepted → HasIndex
+      go (answer.Accepted index) q k v = record { index = index; answer_is = q; is_index = k.1 }
+      go (answer.Refused r) q k v = absurd (cc)
+      go answer.MayBeCut q k v = absurd (cc)
+      go answer.Unmarked q k v = absurd (cc)
+
+  -- what is not accepted has no name that is refused
+  not_accepted : (j.verdict ≡ verdict.Accepted → ⊥) → IsJudgedBy settings input p j
+  not_accepted other = judged_so (go h.answer.answer (λ e. other (ap (λ (x : JudgedElement). x.verdict) (sym h.less) ∙ e)))
+    where
+      none_in : (a : ElementAnswer) → (without_index a ≡ verdict.Accepted → ⊥) → RefusesNameIn settings.names a None
+      none_in (answer.Accepted index) f = absurd (f refl)
+      none_in (answer.Refused r) f = refl
+      none_in answer.MayBeCut f = refl
+      none_in answer.Unmarked f = refl
+
+      go : (a : ElementAnswer) → (without_index a ≡ verdict.Accepted → ⊥) → IsByNames settings.names a a
+      go a f = record { name = None; refused = none_in a f; after_is = refl }
+
+  -- the rule refuses nothing in what is not accepted, and nothing at all where any names are allowed
+  pub left_so : ((settings.names ≡ Unique) × (j.verdict ≡ verdict.Accepted) → ⊥) → IsJudgedBy settings input p j
+  left_so other = pick settings.names refl
+    where
+      pick : (rule : NameRule) → settings.names ≡ rule → IsJudgedBy settings input p j
+      pick Any is = judged_so (stays_so settings.names h.answer.answer is)
+      pick Unique is = not_accepted (λ e. other (is, e))
+
+  module _ (accepted : j.verdict ≡ verdict.Accepted) (is : settings.names ≡ Unique) (name : Option ℕ)
+      (least : (tree : Tree) → IsText input j.span.start j.span.end settings.depth tree → IsLeast (IsRepeat input (rows tree)) name) where
+    refused_here : (x : HasIndex) → RefusesName settings.names x.index.text x.index.rows name
+    refused_here x =
+        subst (λ (rule : NameRule). RefusesName rule x.index.text x.index.rows name) (sym is)
+        (subst (λ (t : List ℕ). IsLeast (IsRepeat t x.index.rows) name) (sym x.is_index.text)
+        (subst (λ (table : List Row). IsLeast (IsRepeat input table) name) (sym x.is_index.rows_are) (least x.is_index.tree (there x.is_index.tree x.is_index.accepted))))
+
+    judged_by_name : (after : JudgedElement) → after.span ≡ j.span → after.verdict ≡ without_index (unless_refused name (h.answer.answer)) → IsJudgedBy settings input p after
+    judged_by_name after span told =
+        let x = is_accepted accepted in
+        let e : Element = record { span = h.answer.span; answer = unless_refused name h.answer.answer } in
+        record {
+          answer = e;
+          is = record {
+            told = h.answer.answer;
+            span_is = h.is.span_is;
+            answer_is = h.is.answer_is;
+            by_names = record { name = name; refused = subst (λ (a : ElementAnswer). RefusesNameIn settings.names a name) (sym x.answer_is) (refused_here x); after_is = refl };
+          };
+          less = same_judged e after (ap (λ (y : JudgedElement). y.span) h.less ∙ sym span) (sym told);
+        }
+
+  told_as : (name : Option ℕ) → ((judged_unless name j).span ≡ j.span) × ((judged_unless name j).verdict ≡ without_index (unless_refused name h.answer.answer))
+  told_as None = (refl, sym (ap (λ (x : JudgedElement). x.verdict) h.less))
+  told_as (Some at) = (refl, refl)
+
+  pub judged_unless_named : j.verdict ≡ verdict.Accepted → settings.names ≡ Unique → (name : Option ℕ)
+      → ((tree : Tree) → IsText input j.span.start j.span.end settings.depth tree → IsLeast (IsRepeat input (rows tree)) name)
+      → (after : JudgedElement) → after ≡ judged_unless name j → IsJudgedBy settings input p after
+  judged_unless_named accepted is name least after same =
+      let t = told_as name in
+      subst (λ (e : JudgedElement). IsJudgedBy settings input p e) (sym same) (judged_by_name accepted is name least (judged_unless name j) t.0 t.1)
+
+  pub has_text : j.verdict ≡ verdict.Accepted → (tree : Tree) × IsText input j.span.start j.span.end settings.depth tree
+  has_text e = let x = is_accepted e in (x.is_index.tree, there x.is_index.tree x.is_index.accepted)

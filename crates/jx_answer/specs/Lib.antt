@@ -1,4 +1,5 @@
 pub mod Answers
+pub mod ByNames
 pub mod Found
 pub mod Pushed
 pub mod Sequence

@@ -1,14 +1,15 @@
 -- What the steps of answering on a sequence do to the list of elements.
-use Rattle.std.specs.Prelude.{◌≡◌, ℕ, ◌<◌, ◌≤◌, List, [], ◌∷◌, ◌++◌, length, nat_lt, if◌then◌else◌, slice_range, Some}
+use Rattle.std.specs.Prelude.{◌≡◌, ℕ, ◌+◌, ◌<◌, ◌≤◌, List, [], ◌∷◌, ◌++◌, length, nat_lt, if◌then◌else◌, slice_range, Some}
 use Rattle.std.specs.List.{AllZip}
 use Rattle.jx_lex.specs.declared.span.Span.{Span}
+use Rattle.jx_run.specs.declared.element_verdict.JudgedElement.{JudgedElement}
 use Rattle.jx_run.specs.Elements.{Part, part, filled}
 use Rattle.jx_run.specs.SeqRun.{IsSummary}
 use Rattle.jx_run.specs.Started.{StartedValue, IsStarted}
 use Rattle.jx_run.specs.TextRun.{TextRunValue}
 use Rattle.jx_answer.specs.declared.element.Element.{Element}
 use Rattle.jx_answer.specs.declared.element.ElementAnswer.TheVariants as answer
-use Rattle.jx_answer.specs.Sequence.{IsElement}
+use Rattle.jx_answer.specs.Sequence.{IsElement, judged}
 
 -- the bytes of the input at a span
 abbrev pub part_of : List ℕ → Span → Part
@@ -40,6 +41,14 @@ pub record PushesFilled (input : List ℕ) (limit : ℕ) (p : Part) (old new : L
   pub more : List Element
   pub new_is : new ≡ old ++ more
   pub each : AllZip (IsElement input limit) (filled (p ∷ [])) more
+
+-- an element's verdict whatever names its objects have, with where the element lies in the input
+pub record IsJudgedIn (input : List ℕ) (limit : ℕ) (p : Part) (e : JudgedElement) : Type 0 where
+  pub answer : Element
+  pub is : IsElement input limit p answer
+  pub less : judged answer ≡ e
+  pub bytes : slice_range input p.at (p.at + length p.bytes) ≡ p.bytes
+  pub within : p.at + length p.bytes ≤ length input
 
 -- what a run over the whole input shows where that has record separators
 pub record IsShown (input : List ℕ) (before : TextRunValue) (done : List StartedValue) (after : TextRunValue) : Type 0 where

@@ -1,5 +1,5 @@
 -- The answers by settings: where a byte order mark is ignored, one may stand in front of a text, or alone before the first
--- record separator of a sequence.
+-- record separator of a sequence; where names have to be unique, what repeats one is refused.
 use Rattle.std.specs.Prelude.{◌≡◌, ◌==◌, ◌&&◌, ℕ, Bool, List, [], ◌∷◌, length, if◌then◌else◌, slice_range}
 use Rattle.std.specs.List.{AllZip}
 use Rattle.jx_run.specs.declared.element_verdict.JudgedElement.{JudgedElement}
@@ -7,7 +7,7 @@ use Rattle.jx_run.specs.declared.settings.FrontMark.{FrontMark}
 use Rattle.jx_run.specs.declared.settings.FrontMark.TheVariants as on_mark
 use Rattle.jx_run.specs.declared.settings.Settings.{Settings}
 use Rattle.jx_run.specs.declared.verdict.Verdict.TheVariants.{Accepted, Refused}
-use Rattle.jx_run.specs.Elements.{Part, elements}
+use Rattle.jx_run.specs.Elements.{Part, span_of, elements}
 use Rattle.jx_run.specs.Front.{agreed}
 use Rattle.jx_run.specs.Settings.{byte_order_mark, IsDocumentBy, JudgedBy}
 use Rattle.jx_run.specs.Text.{IsText}
@@ -16,9 +16,11 @@ use Rattle.jx_run.specs.Verdict.{Judged}
 use Rattle.jx_index.specs.Indexed.{IndexedValue}
 use Rattle.jx_index.specs.Rows.{rows}
 use Rattle.jx_answer.specs.declared.element.Element.{Element}
+use Rattle.jx_answer.specs.declared.element.ElementAnswer.{ElementAnswer}
 use Rattle.jx_answer.specs.declared.text_answer.TextAnswer.{TextAnswer}
 use Rattle.jx_answer.specs.declared.text_answer.TextAnswer.TheVariants as answer
-use Rattle.jx_answer.specs.Sequence.{AreJudgedAs, IsElement}
+use Rattle.jx_answer.specs.ByNames.{IsByNames, IsVerdictBy}
+use Rattle.jx_answer.specs.Sequence.{IsElementAnswer, judged}
 
 -- ---- a text
 
@@ -32,8 +34,13 @@ pub record IsIndexBy (settings : Settings) (bytes : List ℕ) (index : IndexedVa
 
 -- accepted with the rows of the tree, or refused by the verdict
 abbrev pub IsAnswerBy : Settings → List ℕ → TextAnswer → Type 0
-IsAnswerBy settings bytes (answer.Accepted index) = JudgedBy settings 0 bytes Accepted × IsIndexBy settings bytes index
-IsAnswerBy settings bytes (answer.Refused refusal) = JudgedBy settings 0 bytes (Refused refusal)
+IsAnswerBy settings bytes (answer.Accepted index) = IsVerdictBy settings bytes Accepted × IsIndexBy settings bytes index
+IsAnswerBy settings bytes (answer.Refused refusal) = IsVerdictBy settings bytes (Refused refusal)
+
+-- the same, whatever names the objects have
+abbrev pub IsReadBy : Settings → List ℕ → TextAnswer → Type 0
+IsReadBy settings bytes (answer.Accepted index) = JudgedBy settings 0 bytes Accepted × IsIndexBy settings bytes index
+IsReadBy settings bytes (answer.Refused refusal) = JudgedBy settings 0 bytes (Refused refusal)
 
 -- ---- what stands from an offset on
 
@@ -69,10 +76,22 @@ abbrev pub elements_by : FrontMark → List ℕ → List Part
 elements_by on_mark.Refused input = elements 0 input
 elements_by on_mark.Ignored input = without_mark (elements 0 input)
 
+-- what is answered on an element within the depth, and what the rule on names makes of that
+pub record IsElementBy (settings : Settings) (input : List ℕ) (p : Part) (e : Element) : Type 0 where
+  pub told : ElementAnswer
+  pub span_is : e.span ≡ span_of p
+  pub answer_is : IsElementAnswer input p settings.depth told
+  pub by_names : IsByNames settings.names told e.answer
+
 -- one answer for each of them, in order
 abbrev pub AreElementsBy : Settings → List ℕ → List Element → Type 0
-AreElementsBy settings input answers = AllZip (IsElement input settings.depth) (elements_by settings.mark input) answers
+AreElementsBy settings input answers = AllZip (IsElementBy settings input) (elements_by settings.mark input) answers
 
--- the same less the indexes
+-- the same less the index
+pub record IsJudgedBy (settings : Settings) (input : List ℕ) (p : Part) (e : JudgedElement) : Type 0 where
+  pub answer : Element
+  pub is : IsElementBy settings input p answer
+  pub less : judged answer ≡ e
+
 abbrev pub AreJudgedBy : Settings → List ℕ → List JudgedElement → Type 0
-AreJudgedBy settings input verdicts = AreJudgedAs (elements_by settings.mark input) input settings.depth verdicts
+AreJudgedBy settings input verdicts = AllZip (IsJudgedBy settings input) (elements_by settings.mark input) verdicts

@@ -1,13 +1,21 @@
 ghost use Rattle.std.specs.Prelude.{◌≡◌, ◌↔◌, ℕ, List};
 ghost use Rattle.jx_run.specs.declared.settings.FrontMark.TheVariants.{Refused};
+ghost use Rattle.jx_run.specs.declared.settings.NameRule.TheVariants.{Any};
 ghost use Rattle.jx_run.specs.declared.settings.Settings.{Settings};
+ghost use Rattle.jx_run.specs.declared.verdict.Verdict.{Verdict};
+ghost use Rattle.jx_run.specs.Elements.{Part};
+ghost use Rattle.jx_run.specs.Settings.{JudgedBy};
 ghost use Rattle.jx_answer.specs.Answers.{IsAnswer};
-ghost use Rattle.jx_answer.specs.Sequence.{AreElements};
-ghost use Rattle.jx_answer.specs.Settled.{AreElementsBy, IsAnswerBy};
+ghost use Rattle.jx_answer.specs.ByNames.{IsVerdictBy};
+ghost use Rattle.jx_answer.specs.Sequence.{AreElements, IsElement};
+ghost use Rattle.jx_answer.specs.Settled.{AreElementsBy, IsAnswerBy, IsElementBy};
 ghost use Rattle.jx_answer.specs.declared.element.Element.{Element};
 ghost use Rattle.jx_answer.specs.declared.text_answer.TextAnswer.{TextAnswer};
 
-use jx_run::{a_refused_mark_changes_nothing, text_has_one_tree, verdict_is_one};
+use jx_run::{
+    a_refused_mark_changes_nothing, text_by_settings_has_one_tree, text_has_one_tree,
+    verdict_by_settings_is_one, verdict_is_one,
+};
 
 /// A text has one answer within a depth, and an input one list of elements: two cuttings, two numbers of workers or two gates
 /// never give two, neither in the verdict nor in a row.
@@ -27,10 +35,25 @@ pub fn elements_by_settings_are_one()
     verdict_is_one();
 }
 
-/// Where a byte order mark is refused, the answers by settings are those within the depth.
-pub fn a_refused_mark_changes_no_answer()
-    ensures text { (settings : Settings) (text : List ℕ) (answer : TextAnswer) → settings.mark ≡ Refused → IsAnswerBy settings text answer ↔ IsAnswer text settings.depth answer }
-    ensures elements { (settings : Settings) (input : List ℕ) (elements : List Element) → settings.mark ≡ Refused → AreElementsBy settings input elements ↔ AreElements input settings.depth elements }
+/// An input has one verdict by settings.
+pub fn verdicts_by_settings_are_one()
+    ensures verdict { (settings : Settings) (bytes : List ℕ) (x y : Verdict) → IsVerdictBy settings bytes x → IsVerdictBy settings bytes y → x ≡ y }
+{
+    text_by_settings_has_one_tree();
+    verdict_by_settings_is_one();
+}
+
+/// Where objects may have any names, verdicts and elements are those of the grammar and the byte order mark alone.
+pub fn any_names_change_nothing()
+    ensures verdict { (settings : Settings) (bytes : List ℕ) (verdict : Verdict) → settings.names ≡ Any → IsVerdictBy settings bytes verdict ↔ JudgedBy settings 0 bytes verdict }
+    ensures element { (settings : Settings) (input : List ℕ) (p : Part) (element : Element) → settings.names ≡ Any → IsElementBy settings input p element ↔ IsElement input settings.depth p element }
+{}
+
+/// Where a byte order mark is refused and objects may have any names, the answers by settings are those within the depth.
+pub fn settings_that_are_off_change_no_answer()
+    ensures text { (settings : Settings) (text : List ℕ) (answer : TextAnswer) → settings.mark ≡ Refused → settings.names ≡ Any → IsAnswerBy settings text answer ↔ IsAnswer text settings.depth answer }
+    ensures elements { (settings : Settings) (input : List ℕ) (elements : List Element) → settings.mark ≡ Refused → settings.names ≡ Any → AreElementsBy settings input elements ↔ AreElements input settings.depth elements }
 {
     a_refused_mark_changes_nothing();
+    any_names_change_nothing();
 }

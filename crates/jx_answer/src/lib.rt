@@ -4,6 +4,7 @@
 
 mod answered;
 mod asking;
+mod by_names;
 mod element;
 mod fault;
 mod find_answer;
@@ -22,7 +23,10 @@ pub use fault::Fault;
 pub use find_answer::Answer;
 pub use found::find_all;
 pub use judging::{judge_sequence, judge_sequence_with};
-pub use laws::{a_refused_mark_changes_no_answer, answers_are_one, elements_by_settings_are_one};
+pub use laws::{
+    answers_are_one, any_names_change_nothing, elements_by_settings_are_one,
+    settings_that_are_off_change_no_answer, verdicts_by_settings_are_one,
+};
 pub use sequences::{index_sequence, index_sequence_with};
 pub use text_answer::TextAnswer;
 pub use texts::{index_text, index_text_with, read_batch, verdict_of_text, verdict_of_text_with};

@@ -11,6 +11,7 @@ ghost use Rattle.jx_answer.specs.Sequence.{AreElements, IsElement, IsElementAnsw
 ghost use Rattle.jx_answer.specs.Settled.{AreElementsBy, elements_by, is_mark_alone};
 ghost use Rattle.jx_answer.specs.Pushed.{IsReadable, IsShown, PushesEach, PushesFilled, part_of, unmarked};
 
+use crate::by_names::elements_by_names;
 use crate::element::{Element, ElementAnswer};
 use crate::fault::Fault;
 use crate::texts::read_text;
@@ -50,8 +51,9 @@ pub fn index_sequence<'a, R: Threads + Wait + Sync, G: Gate + Sync>(
     }
 }
 
-/// The same by settings: where a byte order mark is ignored, one that stands alone before the first record separator is no
-/// element. The elements themselves are read as ever, so that a mark in one of them is refused.
+/// The same by settings. Where a byte order mark is ignored, one that stands alone before the first record separator is no
+/// element; a mark in an element is refused as ever. Where names have to be unique, an element that is otherwise accepted is
+/// refused for the first name that an object repeats.
 pub fn index_sequence_with<'a, R: Threads + Wait + Sync, G: Gate + Sync>(
     rt: &R,
     alloc: Global,
@@ -64,6 +66,24 @@ pub fn index_sequence_with<'a, R: Threads + Wait + Sync, G: Gate + Sync>(
     requires cutting { cutting.now.len ≡ length text.now }
     requires front { cutting.now.front ≡ 0 }
     ensures elements { IfOk result (λ elements. AreElementsBy settings.now text.entry.now elements.items) }
+{
+    let elements = index_by_mark(rt, alloc, text, cutting, workers, settings, gate)?;
+    Ok(elements_by_names(settings.names, elements))
+}
+
+// The same whatever names the objects have.
+fn index_by_mark<'a, R: Threads + Wait + Sync, G: Gate + Sync>(
+    rt: &R,
+    alloc: Global,
+    text: &'a [u8],
+    cutting: &Cutting,
+    workers: Workers,
+    settings: &Settings,
+    gate: &G,
+) -> Result<Vec<Element<'a>>, Fault>
+    requires cutting { cutting.now.len ≡ length text.now }
+    requires front { cutting.now.front ≡ 0 }
+    ensures elements { IfOk result (λ elements. AllZip (IsElement text.entry.now settings.now.depth) (elements_by settings.now.mark text.entry.now) elements.items) }
 {
     let elements = index_sequence(rt, alloc, text, cutting, workers, settings.depth, gate)?;
     match settings.mark {

@@ -2,6 +2,7 @@
 mod cuts;
 mod marks;
 mod meeting;
+mod names;
 mod pointers;
 mod sequences;
 mod texts;

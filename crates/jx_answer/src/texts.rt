@@ -2,20 +2,26 @@ ghost use Rattle.std.specs.Prelude.{◌≡◌, ◌+◌, ◌<◌, ◌≤◌, ◌^
 ghost use Rattle.jx_run.specs.Reader.{HasRead};
 ghost use Rattle.jx_run.specs.TextRun.{IsTextRun};
 ghost use Rattle.jx_run.specs.Settings.{JudgedBy};
+ghost use Rattle.jx_run.specs.declared.settings.NameRule.TheVariants.{Any};
+ghost use Rattle.jx_run.specs.declared.settings.Settings.{Settings};
 ghost use Rattle.jx_run.specs.Verdict.{Judged};
 ghost use Rattle.jx_book.specs.Gathered.{IsRest};
 ghost use Rattle.jx_answer.specs.Answers.{IsAnswer};
-ghost use Rattle.jx_answer.specs.Settled.{IsAnswerBy, IsAnswerFrom, rest_from};
+ghost use Rattle.jx_answer.specs.ByNames.{IsVerdictBy};
+ghost use Rattle.jx_answer.specs.Settled.{IsAnswerBy, IsAnswerFrom, IsReadBy, rest_from};
 
 use crate::asking::Asking;
+use crate::by_names::text_by_names;
 use crate::fault::Fault;
+use crate::laws::any_names_change_nothing;
 use crate::text_answer::TextAnswer;
 use jx_book::{Gate, Held, read_whole};
 use jx_claim::{Cutting, Workers};
 use jx_index::Indexed;
 use jx_lex::{Depth, Span};
 use jx_run::{
-    Front, OutcomeRun, Pace, Reader, RunReader, Settings, Summary, TextRun, Verdict, front,
+    Front, NameRule, OutcomeRun, Pace, Reader, RunReader, Settings, Summary, TextRun, Verdict,
+    front,
 };
 use std::alloc::{AllocError, Global};
 use std::sync::Wait;
@@ -41,8 +47,9 @@ pub fn index_text<'a, R: Threads + Wait + Sync, G: Gate + Sync>(
     index_rest(rt, alloc, text, cutting, workers, depth, gate)
 }
 
-/// The same by settings: where a byte order mark is ignored, one may stand in front of the text. It is skipped here, so
-/// the cutting is of the whole input. Offsets count the bytes of the mark.
+/// The same by settings. Where a byte order mark is ignored, one may stand in front of the text. It is skipped here, so
+/// the cutting is of the whole input; offsets count the bytes of the mark. Where names have to be unique, what is otherwise
+/// accepted is refused for the first name that an object repeats.
 pub fn index_text_with<'a, R: Threads + Wait + Sync, G: Gate + Sync>(
     rt: &R,
     alloc: Global,
@@ -55,6 +62,24 @@ pub fn index_text_with<'a, R: Threads + Wait + Sync, G: Gate + Sync>(
     requires cutting { cutting.now.len ≡ length text.now }
     requires front { cutting.now.front ≡ 0 }
     ensures answer { IfOk result (λ answer. IsAnswerBy settings.now text.entry.now answer) }
+{
+    let answer = index_behind_front(rt, alloc, text, cutting, workers, settings, gate)?;
+    Ok(text_by_names(settings.names, answer))
+}
+
+// The same whatever names the objects have.
+fn index_behind_front<'a, R: Threads + Wait + Sync, G: Gate + Sync>(
+    rt: &R,
+    alloc: Global,
+    text: &'a [u8],
+    cutting: &Cutting,
+    workers: Workers,
+    settings: &Settings,
+    gate: &G,
+) -> Result<TextAnswer<'a>, Fault>
+    requires cutting { cutting.now.len ≡ length text.now }
+    requires front { cutting.now.front ≡ 0 }
+    ensures answer { IfOk result (λ answer. IsReadBy settings.now text.entry.now answer) }
 {
     match front(text, settings.mark) {
         Front::Refused(refusal) => Ok(TextAnswer::Refused(refusal)),
@@ -82,8 +107,76 @@ pub fn verdict_of_text<R: Threads + Wait + Sync, G: Gate + Sync>(
     verdict_of_rest(rt, alloc, text, cutting, workers, depth, gate)
 }
 
-/// The verdict that `index_text_with` comes to, without the index.
+/// The verdict that `index_text_with` comes to, without the index, which is made only where names have to be unique.
 pub fn verdict_of_text_with<R: Threads + Wait + Sync, G: Gate + Sync>(
+    rt: &R,
+    alloc: Global,
+    text: &[u8],
+    cutting: &Cutting,
+    workers: Workers,
+    settings: &Settings,
+    gate: &G,
+) -> Result<Verdict, Fault>
+    requires cutting { cutting.now.len ≡ length text.now }
+    requires front { cutting.now.front ≡ 0 }
+    ensures verdict { IfOk result (λ verdict. IsVerdictBy settings.now text.now verdict) }
+{
+    match settings.names {
+        NameRule::Any => verdict_of_any(rt, alloc, text, cutting, workers, settings, gate),
+        NameRule::Unique => verdict_by_index(rt, alloc, text, cutting, workers, settings, gate),
+    }
+}
+
+// The same where objects may have any names.
+fn verdict_of_any<R: Threads + Wait + Sync, G: Gate + Sync>(
+    rt: &R,
+    alloc: Global,
+    text: &[u8],
+    cutting: &Cutting,
+    workers: Workers,
+    settings: &Settings,
+    gate: &G,
+) -> Result<Verdict, Fault>
+    requires cutting { cutting.now.len ≡ length text.now }
+    requires front { cutting.now.front ≡ 0 }
+    requires names { settings.now.names ≡ Any }
+    ensures verdict { IfOk result (λ verdict. IsVerdictBy settings.now text.now verdict) }
+{
+    any_names_change_nothing();
+    let verdict = verdict_behind_front(rt, alloc, text, cutting, workers, settings, gate)?;
+    Ok(verdict)
+}
+
+// The same by an index that is let go.
+fn verdict_by_index<R: Threads + Wait + Sync, G: Gate + Sync>(
+    rt: &R,
+    alloc: Global,
+    text: &[u8],
+    cutting: &Cutting,
+    workers: Workers,
+    settings: &Settings,
+    gate: &G,
+) -> Result<Verdict, Fault>
+    requires cutting { cutting.now.len ≡ length text.now }
+    requires front { cutting.now.front ≡ 0 }
+    ensures verdict { IfOk result (λ verdict. IsVerdictBy settings.now text.now verdict) }
+{
+    let answer = index_text_with(rt, alloc, text, cutting, workers, settings, gate)?;
+    Ok(verdict_of(answer))
+}
+
+// An answer less the index.
+fn verdict_of(answer: TextAnswer<'_>) -> Verdict
+    ensures { (settings : Settings) (text : List ℕ) → IsAnswerBy settings text answer.entry → IsVerdictBy settings text result }
+{
+    match answer {
+        TextAnswer::Accepted(_) => Verdict::Accepted,
+        TextAnswer::Refused(refusal) => Verdict::Refused(refusal),
+    }
+}
+
+// The verdict on the text behind its front, whatever names the objects have.
+fn verdict_behind_front<R: Threads + Wait + Sync, G: Gate + Sync>(
     rt: &R,
     alloc: Global,
     text: &[u8],

@@ -3,6 +3,8 @@ pub mod Moves
 pub mod Reading
 pub mod Feeds
 pub mod Filled
+pub mod Indexes
 pub mod Led
+pub mod Parts
+pub mod Slices
 pub mod There
-pub mod Whole

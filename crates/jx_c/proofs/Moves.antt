@@ -2,16 +2,16 @@
 use Rattle.std.proofs.Common.{◌≡◌, ℕ, ◌<◌, ◌≤◌, List, ◌∷◌, ◌++◌, length, refl, sym, ◌∙◌, ap, arith, true, false, Bool}
 use Rattle.std.specs.Prelude.{nat_lt, if◌then◌else◌}
 use Rattle.std.proofs.lemmas.Bool.Decides.{nat_tests}
+use Rattle.std.proofs.lemmas.List.Sums.{fold-append}
 use Rattle.jx_lex.specs.declared.mark.Mark.{Mark}
 use Rattle.jx_reduce.specs.KnownStack.{Known, start, HasRead}
-use Rattle.jx_reduce.specs.Read.{went, too_deep, changed, read}
+use Rattle.jx_reduce.specs.Read.{went, too_deep, changed, read, step}
 use Rattle.jx_reduce.specs.Table.{added}
 use Rattle.jx_reduce.specs.Whole.{whole_of}
 use Rattle.jx_reduce.specs.declared.expect.Expect.{Expect}
 use Rattle.jx_reduce.specs.declared.expect.Expect.TheVariants.{Value, ArrayFirst, ObjectFirst, Name, Colon, After}
 use Rattle.jx_reduce.specs.declared.holder.Holder.{Holder}
 use Rattle.jx_reduce.specs.declared.whole.Whole.TheVariants.{Went}
-use Rattle.jx_reduce.proofs.Readings.{read-append}
 use Rattle.jx_c.specs.Stack.{code_of, stage_in, reading_at}
 use Rattle.jx_c.specs.declared.stack.Stage.{Stage}
 use Rattle.jx_c.specs.declared.stack.Stage.TheVariants.{Going}
@@ -45,4 +45,4 @@ entered_none d at e h s over =
 -- all marks since the start
 pub has_read-then : (old new : Known) (before ms : List Mark) → new.depth ≡ old.depth → new.reading ≡ read old.depth ms old.reading → HasRead before old → HasRead (before ++ ms) new
 has_read-then old new before ms d e h =
-    e ∙ ap (read old.depth ms) h ∙ sym (read-append old.depth before ms start) ∙ ap (λ (k : ℕ). read k (before ++ ms) start) (sym d)
+    e ∙ ap (read old.depth ms) h ∙ sym (fold-append (λ reading mark. step old.depth mark reading) start before ms) ∙ ap (λ (k : ℕ). read k (before ++ ms) start) (sym d)

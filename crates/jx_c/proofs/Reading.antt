@@ -1,21 +1,24 @@
 -- The reading of a text goes on, slice by slice.
-use Rattle.std.proofs.Common.{◌≡◌, ℕ, zero, suc, ◌+◌, ◌^◌, ◌<◌, List, ◌++◌, length, refl, ◌∙◌, ap, subst, arith, Option, Some, None}
+use Rattle.std.proofs.Common.{◌≡◌, ℕ, zero, suc, ◌+◌, ◌^◌, ◌<◌, List, ◌++◌, length, true, refl, sym, ◌∙◌, ap, subst, arith, Option, Some, None}
 use Rattle.std.specs.Prelude.{IfSome}
 use Rattle.jx_lex.specs.declared.exit.Exit.{Exit}
 use Rattle.jx_lex.specs.declared.exit.Exit.TheVariants as exit
 use Rattle.jx_lex.specs.declared.state.LexState.{LexState}
 use Rattle.jx_lex.specs.declared.state.LexState.TheVariants as state
+use Rattle.jx_lex.specs.declared.mark.Mark.{Mark}
+use Rattle.jx_lex.specs.Lex as lexical
 use Rattle.jx_lex.specs.Lex.{lex}
 use Rattle.jx_lex.specs.Ordinal.{ordinal}
 use Rattle.jx_lex.specs.Seen.{SeesTrack, WantsNoMore}
 use Rattle.jx_lex.specs.View.{exit_of}
-use Rattle.jx_reduce.specs.KnownStack.{Known}
+use Rattle.jx_reduce.specs.KnownStack.{Known, IsFault, HasRead as StackHasRead}
 use Rattle.jx_reduce.specs.Read.{Reading, read as read_marks}
 use Rattle.jx_reduce.specs.Whole.{whole_of}
 use Rattle.jx_reduce.specs.declared.whole.Whole.{Whole}
 use Rattle.jx_run.specs.Kept.{HasSeen}
-use Rattle.jx_run.specs.Reader.{ReaderValue}
-use Rattle.jx_run.specs.Reading.{Outcome, read_text}
+use Rattle.jx_run.specs.Laws.{verdict_of}
+use Rattle.jx_run.specs.Reader.{is_fault}
+use Rattle.jx_run.specs.Reading.{Outcome, stopped, too_deep, at_exit, read_text}
 use Rattle.jx_run.specs.ReaderInside.{outcome_at, IsOfUse, settled, GoesOn}
 use Rattle.jx_run.specs.Verdict.{Judged}
 use Rattle.jx_run.specs.Whole.{verdict_from}
@@ -24,7 +27,6 @@ use Rattle.jx_run.specs.declared.reader.Progress.TheVariants.{Going, Stopped, To
 use Rattle.jx_run.specs.declared.verdict.Verdict.{Verdict}
 use Rattle.jx_run.specs.declared.verdict.Verdict.TheVariants as verdict
 use Rattle.jx_run.specs.declared.verdict.Refusal.TheVariants as refusal
-use Rattle.jx_run.proofs.ReaderSteps.{goes_on, fed_slice, fed_stopped, fed_too_deep, judged_going, judged_stopped, judged_too_deep}
 use Rattle.jx_c.specs.Reader.{state_in, progress_at}
 
 -- each state stands in its place
@@ -69,13 +71,34 @@ depth_stays (Stopped at) d k o usable h = usable.depth_is
 depth_stays (TooDeep at) d k o usable h = usable.depth_is
 depth_stays Failed d k o usable h = cc
 
+-- what the law of readings says
+
+abbrev pub Scanned : Type 0
+Scanned = (old new : Known) (marks : List Mark) (track : lexical.Track) (base : ℕ) (x : Option Exit) (w : Whole) → StackHasRead marks old
+    → SeesTrack (λ marks ends. HasSeen marks ends old) (λ marks ends. HasSeen marks ends new) track
+    → IfSome x (λ e. exit_of e ≡ track.exit) → (x ≡ None → WantsNoMore (λ marks ends. HasSeen marks ends new)) → w ≡ whole_of new.reading
+    → GoesOn old track (read_marks old.depth track.marks old.reading) base (settled base x w) new
+
+abbrev pub Fed : Type 0
+Fed = (limit from count : ℕ) (bytes slice : List ℕ) (s : LexState) (old new : Known) (p : Progress) → old.depth ≡ limit → (IsFault old.reading → ⊥)
+    → GoesOn old (lex s 0 slice) (read_marks old.depth (lex s 0 slice).marks old.reading) (from + count) p new → count ≡ length bytes → from + count + length slice < 2 ^ 64
+    → outcome_at (Going s) old.reading ≡ Some (read_text limit from bytes) → outcome_at p new.reading ≡ Some (read_text limit from (bytes ++ slice))
+
+abbrev pub Passed : Type 0
+Passed = (limit from : ℕ) (bytes more : List ℕ) (z : Option Outcome) → is_fault z ≡ true → z ≡ Some (read_text limit from bytes) → z ≡ Some (read_text limit from (bytes ++ more))
+
+-- the verdict that a reading comes to, and how it is told
+pub record Verdicts : Type 0 where
+  pub judged : (limit at : ℕ) (bytes : List ℕ) → Judged at bytes limit (verdict_of (read_text limit at bytes))
+  pub told : (x : Exit) (r : Reading) → verdict_of (at_exit (exit_of x) r) ≡ verdict_from x (whole_of r)
+
 -- what a scan of a slice came to
-pub scanned : (limit count : ℕ) (fed slice : List ℕ) (s : LexState) (old new : Known) (x : Option Exit) → old.depth ≡ limit → count ≡ length fed → count + length slice < 2 ^ 64
+pub scanned : Scanned → Fed → (limit count : ℕ) (fed slice : List ℕ) (s : LexState) (old new : Known) (x : Option Exit) → old.depth ≡ limit → count ≡ length fed → count + length slice < 2 ^ 64
     → IsOfUse (Going s) limit old → outcome_at (Going s) old.reading ≡ Some (read_text limit 0 fed)
     → SeesTrack (λ marks ends. HasSeen marks ends old) (λ marks ends. HasSeen marks ends new) (lex s 0 slice)
     → IfSome x (λ e. exit_of e ≡ (lex s 0 slice).exit) → (x ≡ None → WantsNoMore (λ marks ends. HasSeen marks ends new))
     → (outcome_at (settled count x (whole_of new.reading)) new.reading ≡ Some (read_text limit 0 (fed ++ slice))) × IsOfUse (settled count x (whole_of new.reading)) limit new
-scanned limit count fed slice s old new x deep long fits usable is sees ends done =
+scanned goes_on fed_slice limit count fed slice s old new x deep long fits usable is sees ends done =
     let p = settled count x (whole_of new.reading) in
     let goes : GoesOn old (lex s 0 slice) (read_marks old.depth (lex s 0 slice).marks old.reading) count p new =
     goes_on old new usable.0.marks (lex s 0 slice) count x (whole_of new.reading) usable.0.read sees ends done refl in
@@ -85,34 +108,31 @@ scanned limit count fed slice s old new x deep long fits usable is sees ends don
     (fed_slice limit 0 count fed slice s old new p deep usable.1 there long (omega arith) is, subst (λ (d : ℕ). IsOfUse p d new) deep goes.of_use)
 
 -- behind a fault nothing changes
-pub passed : (limit n at : ℕ) (s : LexState) (fed slice : List ℕ) (r : Reading) → (n ≡ 0 → ⊥) → outcome_at (progress_at n s at) r ≡ Some (read_text limit 0 fed)
+pub passed : Passed → (limit n at : ℕ) (s : LexState) (fed slice : List ℕ) (r : Reading) → (n ≡ 0 → ⊥) → outcome_at (progress_at n s at) r ≡ Some (read_text limit 0 fed)
     → outcome_at (progress_at n s at) r ≡ Some (read_text limit 0 (fed ++ slice))
-passed limit zero at s fed slice r over h = absurd (over refl)
-passed limit (suc zero) at s fed slice r over h = fed_stopped limit 0 at fed slice r (Stopped at) refl h
-passed limit (suc (suc zero)) at s fed slice r over h = fed_too_deep limit 0 at fed slice r (TooDeep at) refl h
-passed limit (suc (suc (suc n))) at s fed slice r over h = cc
+passed law limit zero at s fed slice r over h = absurd (over refl)
+passed law limit (suc zero) at s fed slice r over h = law limit 0 fed slice (Some (stopped at)) refl h
+passed law limit (suc (suc zero)) at s fed slice r over h = law limit 0 fed slice (Some (too_deep at)) refl h
+passed law limit (suc (suc (suc n))) at s fed slice r over h = cc
 
-value : ℕ → List ℕ → ReaderValue
-value limit fed = record { limit = limit; start = 0; count = length fed; outcome = Some (read_text limit 0 fed) }
+-- the verdict is that of the outcome
+judged_outcome : Verdicts → (limit : ℕ) (fed : List ℕ) (o : Outcome) → Some o ≡ Some (read_text limit 0 fed) → Judged 0 fed limit (verdict_of o)
+judged_outcome law limit fed o h = let f : read_text limit 0 fed ≡ o = sym cc in subst (Judged 0 fed limit) (ap verdict_of f) (law.judged limit 0 fed)
 
-pub judged_at : (limit at n : ℕ) (s t : LexState) (r : Reading) (w : Whole) (fed : List ℕ) (v : Verdict) → n ≡ 0 → t ≡ s → w ≡ whole_of r → v ≡ verdict_from (exit.State t) w
+pub judged_at : Verdicts → (limit at n : ℕ) (s t : LexState) (r : Reading) (w : Whole) (fed : List ℕ) (v : Verdict) → n ≡ 0 → t ≡ s → w ≡ whole_of r → v ≡ verdict_from (exit.State t) w
     → outcome_at (progress_at n s at) r ≡ Some (read_text limit 0 fed) → Judged 0 fed limit v
-unfolding value
-judged_at limit at n s t r w fed v zero_is same all from h =
-    judged_going (value limit fed) (progress_at n s at) s r w fed v (ap (λ (k : ℕ). progress_at k s at) zero_is) h all
-    (from ∙ ap (λ (u : LexState). verdict_from (exit.State u) w) same) (record { count = refl; outcome = refl })
+judged_at law limit at n s t r w fed v zero_is same all from h =
+    subst (Judged 0 fed limit)
+    (law.told (exit.State s) r ∙ ap (verdict_from (exit.State s)) (sym all) ∙ ap (λ (u : LexState). verdict_from (exit.State u) w) (sym same) ∙ sym from)
+    (judged_outcome law limit fed (at_exit (lexical.state s) r) (ap (λ (k : ℕ). outcome_at (progress_at k s at) r) (sym zero_is) ∙ h))
 
-pub judged_stop : (limit at n : ℕ) (s : LexState) (r : Reading) (fed : List ℕ) → n ≡ 1
+pub judged_stop : Verdicts → (limit at n : ℕ) (s : LexState) (r : Reading) (fed : List ℕ) → n ≡ 1
     → outcome_at (progress_at n s at) r ≡ Some (read_text limit 0 fed) → Judged 0 fed limit (verdict.Refused (refusal.Stopped at))
-unfolding value
-judged_stop limit at n s r fed is h =
-    judged_stopped (value limit fed) (progress_at n s at) at r fed (ap (λ (k : ℕ). progress_at k s at) is) h (record { count = refl; outcome = refl })
+judged_stop law limit at n s r fed is h = judged_outcome law limit fed (stopped at) (ap (λ (k : ℕ). outcome_at (progress_at k s at) r) (sym is) ∙ h)
 
-pub judged_deep : (limit at n : ℕ) (s : LexState) (r : Reading) (fed : List ℕ) → n ≡ 2
+pub judged_deep : Verdicts → (limit at n : ℕ) (s : LexState) (r : Reading) (fed : List ℕ) → n ≡ 2
     → outcome_at (progress_at n s at) r ≡ Some (read_text limit 0 fed) → Judged 0 fed limit (verdict.Refused (refusal.TooDeep at))
-unfolding value
-judged_deep limit at n s r fed is h =
-    judged_too_deep (value limit fed) (progress_at n s at) at r fed (ap (λ (k : ℕ). progress_at k s at) is) h (record { count = refl; outcome = refl })
+judged_deep law limit at n s r fed is h = judged_outcome law limit fed (too_deep at) (ap (λ (k : ℕ). outcome_at (progress_at k s at) r) (sym is) ∙ h)
 
 pub judged_none : (limit at n : ℕ) (s : LexState) (r : Reading) (fed : List ℕ) (P : Type 0) → (n ≡ 0 → ⊥) → (n ≡ 1 → ⊥) → (n ≡ 2 → ⊥)
     → outcome_at (progress_at n s at) r ≡ Some (read_text limit 0 fed) → P

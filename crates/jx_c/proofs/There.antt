@@ -1,7 +1,7 @@
 -- What stands at the place of an index over all bytes is their text.
-use Rattle.std.proofs.Common.{ℕ, List, length, sym, subst}
+use Rattle.std.proofs.Common.{ℕ, List, length, sym, subst, ◌-◌, arith}
 use Rattle.jx_run.specs.Text.{IsDocument, IsText}
-use Rattle.jx_run.proofs.ReaderSteps.{slice_all}
+use Rattle.std.proofs.lemmas.List.{take_all}
 use Rattle.jx_index.specs.Indexed.{IndexedValue}
 use Rattle.jx_c.specs.Answers.{IsIndexOf}
 
@@ -9,4 +9,4 @@ pub text_there : (bytes : List ℕ) (depth : ℕ) (index : IndexedValue) (x : Is
 text_there bytes depth index x =
     subst (λ p. IsText index.text p.start p.end depth x.tree) (sym x.place)
     (subst (λ t. IsText t 0 (length bytes) depth x.tree) (sym x.text)
-    (subst (λ b. IsDocument 0 b depth x.tree) (sym (slice_all bytes)) x.is_text))
+    (subst (λ b. IsDocument 0 b depth x.tree) (sym (take_all (length bytes - 0) bytes (omega arith))) x.is_text))

@@ -1,6 +1,7 @@
 pub mod Answers
 pub mod Buffers
 pub mod Containers
+pub mod Elements
 pub mod LookUps
 pub mod Reader
 pub mod Rows

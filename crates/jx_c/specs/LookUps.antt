@@ -59,6 +59,7 @@ shown_look_up NotUtf8 = told 9 0
 shown_look_up (NoText (refusal.Stopped at)) = told 10 at
 shown_look_up (NoText refusal.Truncated) = told 11 0
 shown_look_up (NoText (refusal.TooDeep at)) = told 12 at
+shown_look_up (NoText (refusal.RepeatedName at)) = told 13 at
 
 -- it shows what the pointer comes to
 abbrev pub IsAnswerOf : List ℕ → ℕ → List ℕ → JxAnswer → Type 0

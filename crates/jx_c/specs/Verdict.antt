@@ -2,7 +2,7 @@
 use Rattle.std.specs.Prelude.{◌≡◌, ℕ, List}
 use Rattle.jx_run.specs.declared.verdict.Verdict.{Verdict}
 use Rattle.jx_run.specs.declared.verdict.Verdict.TheVariants.{Accepted, Refused}
-use Rattle.jx_run.specs.declared.verdict.Refusal.TheVariants.{Stopped, Truncated, TooDeep}
+use Rattle.jx_run.specs.declared.verdict.Refusal.TheVariants.{Stopped, Truncated, TooDeep, RepeatedName}
 use Rattle.jx_run.specs.Verdict.{Judged}
 use Rattle.jx_c.specs.declared.verdict.JxVerdict.{JxVerdict}
 
@@ -11,6 +11,7 @@ shown Accepted = record { offset = 0; kind = 0 }
 shown (Refused (Stopped at)) = record { offset = at; kind = 1 }
 shown (Refused Truncated) = record { offset = 0; kind = 2 }
 shown (Refused (TooDeep at)) = record { offset = at; kind = 3 }
+shown (Refused (RepeatedName at)) = record { offset = at; kind = 6 }
 
 -- it shows the verdict on these bytes
 abbrev pub IsVerdictOn : List ℕ → ℕ → JxVerdict → Type 0

@@ -2,6 +2,7 @@
 #![tactic(auto)]
 
 mod check;
+mod elements;
 mod feeding;
 mod look_up;
 mod places;

@@ -40,6 +40,9 @@ const TEXT_TRUNCATED: u32 = 11;
 
 const TEXT_TOO_DEEP: u32 = 12;
 
+/// No call asks for unique names, so none tells it.
+const TEXT_REPEATED_NAME: u32 = 13;
+
 /// What a pointer comes to in a text.
 #[repr(C)]
 #[derive(Clone, Copy)]
@@ -102,6 +105,7 @@ fn shown_look_up(look_up: LookUp) -> JxAnswer
         LookUp::NoText(Refusal::Stopped { at }) => answer(TEXT_STOPPED, at),
         LookUp::NoText(Refusal::Truncated) => answer(TEXT_TRUNCATED, 0),
         LookUp::NoText(Refusal::TooDeep { at }) => answer(TEXT_TOO_DEEP, at),
+        LookUp::NoText(Refusal::RepeatedName { at }) => answer(TEXT_REPEATED_NAME, at),
     }
 }
 

@@ -10,7 +10,7 @@ use crate::stack::JxStack;
 use crate::states::{place_of, state_at};
 use jx_lex::{Exit, LexState, scan};
 use jx_reduce::{Expect, Whole};
-use jx_run::{Refusal, Verdict};
+use jx_run::{Refusal, Verdict, reader_is_grammar, readings_go_on};
 use std::alloc::AllocError;
 
 /// What stands in a reader that was started: the letters "jxreader".
@@ -138,6 +138,7 @@ impl JxReader {
         requires fits { self.old.count + length slice.now < 2 ^ 64 }
         ensures { OnOk result ((depth : ℕ) (fed : List ℕ) → HasRead depth fed self.old → HasRead depth (fed ++ slice.now) self.new) }
     {
+        readings_go_on();
         let base = self.count;
         let state = state_at(self.state);
         let exit = scan(&mut self.stack, state, slice, 0, slice.len())?;
@@ -153,6 +154,7 @@ impl JxReader {
         requires fits { self.old.count + length slice.now < 2 ^ 64 }
         ensures { (depth : ℕ) (fed : List ℕ) → HasRead depth fed self.old → HasRead depth (fed ++ slice.now) self.new }
     {
+        readings_go_on();
         self.count += slice.len();
     }
 
@@ -160,6 +162,8 @@ impl JxReader {
     pub fn verdict(&self) -> Verdict
         ensures { (depth : ℕ) (fed : List ℕ) → HasRead depth fed self.now → Judged 0 fed depth result }
     {
+        reader_is_grammar();
+        readings_go_on();
         if self.progress == GOING {
             verdict_at(state_at(self.state), self.stack.whole())
         } else if self.progress == STOPPED {

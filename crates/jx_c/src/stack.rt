@@ -14,6 +14,7 @@ ghost use Rattle.jx_c.specs.Stack.{code_of, stage_in, holders_of, known_of};
 
 use jx_lex::{Keeper, Mark, MarkKind};
 use jx_reduce::{Expect, Holder, Whole, next};
+use jx_run::readings_go_on;
 use std::alloc::AllocError;
 
 /// Half of what a word counts to.
@@ -300,6 +301,7 @@ impl Keeper for JxStack {
 
     #[inline(always)]
     fn is_done(&self) -> bool {
+        readings_go_on();
         self.is_faulty()
     }
 }

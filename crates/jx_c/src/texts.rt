@@ -1,10 +1,10 @@
 // What reading a whole text comes to, with its index.
-ghost use Rattle.std.specs.Prelude.{IfOk};
-ghost use Rattle.jx_c.specs.Answers.{IsAnswer};
+ghost use Rattle.std.specs.Prelude.{◌≤◌, length, IfOk};
+ghost use Rattle.jx_c.specs.Answers.{IsAnswer, IsAnswerFrom};
 
 use jx_index::Indexed;
-use jx_lex::Depth;
-use jx_run::{Refusal, Summary, TextRun, Verdict};
+use jx_lex::{Depth, Span};
+use jx_run::{NoPause, Refusal};
 use std::alloc::{AllocError, Global};
 
 /// What reading a JSON text comes to.
@@ -16,7 +16,25 @@ pub enum TextAnswer<'a> {
     Refused(Refusal),
 }
 
-/// Reads a JSON text (RFC 8259) on the calling thread, and indexes it where it is accepted.
+/// Reads what stands in the bytes from an offset on.
+fn index_from<'a>(
+    alloc: Global,
+    text: &'a [u8],
+    start: usize,
+    depth: Depth,
+) -> Result<TextAnswer<'a>, AllocError>
+    requires { start ≤ length text.now }
+    ensures { IfOk result (IsAnswerFrom start text.entry.now depth) }
+{
+    let end = text.len();
+    let read = Indexed::read(alloc, text, Span { start, end }, depth, &mut NoPause)?;
+    match read {
+        Ok(index) => Ok(TextAnswer::Accepted(index)),
+        Err(refusal) => Ok(TextAnswer::Refused(refusal)),
+    }
+}
+
+/// Reads a JSON text (RFC 8259) on the calling thread in one pass, and indexes it where it is accepted.
 pub fn index_text<'a>(
     alloc: Global,
     text: &'a [u8],
@@ -24,13 +42,6 @@ pub fn index_text<'a>(
 ) -> Result<TextAnswer<'a>, AllocError>
     ensures { IfOk result (IsAnswer text.entry.now depth) }
 {
-    let run = TextRun::of(alloc, text, 0, text.len(), depth)?;
-    let started = run.started()?;
-    match started.verdict() {
-        Verdict::Refused(refusal) => Ok(TextAnswer::Refused(refusal)),
-        Verdict::Accepted => {
-            let index = Indexed::build(alloc, text, &started)?;
-            Ok(TextAnswer::Accepted(index))
-        }
-    }
+    let answer = index_from(alloc, text, 0, depth)?;
+    Ok(answer)
 }

@@ -8,7 +8,7 @@ use clap::ArgMatches;
 use clap::error::ErrorKind;
 use jx_claim::Workers;
 use jx_lex::Depth;
-use jx_run::{FrontMark, Settings};
+use jx_run::{FrontMark, NameRule, Settings};
 use std::alloc::{AllocError, Global};
 
 const DEFAULT_WORKERS: u8 = 4;
@@ -31,6 +31,14 @@ fn mark_of(options: &ArgMatches<'_>) -> FrontMark {
         FrontMark::Ignored
     } else {
         FrontMark::Refused
+    }
+}
+
+fn names_of(options: &ArgMatches<'_>) -> NameRule {
+    if options.get_flag("unique_names") {
+        NameRule::Unique
+    } else {
+        NameRule::Any
     }
 }
 
@@ -76,6 +84,7 @@ fn command_from(alloc: Global, name: &str, options: &ArgMatches<'_>) -> Result<C
         settings: Settings {
             depth: depth_of(options).unwrap_or_default(),
             mark: mark_of(options),
+            names: names_of(options),
         },
         workers: workers_of(options).unwrap_or(default_workers),
         piece: piece_of(options).unwrap_or(DEFAULT_PIECE),

@@ -22,8 +22,8 @@ pub enum Task {
 #[derive(Debug, Drop)]
 pub struct Command {
     pub task: Task,
-    /// How deep a text may be (RFC 8259, section 9, lets a parser set such a limit), and whether a byte order mark may stand
-    /// in front of one (section 8.1).
+    /// How deep a text may be (RFC 8259, section 9, lets a parser set such a limit), whether a byte order mark may stand in
+    /// front of one (section 8.1), and whether an object may have several members of one name (section 4).
     pub settings: Settings,
     /// How many threads read.
     pub workers: Workers,

@@ -51,6 +51,14 @@ fn ignore_bom<'a>(alloc: Global) -> Arg<'a> {
         .long_help(help::LONG_IGNORE_BOM)
 }
 
+fn unique_names<'a>(alloc: Global) -> Arg<'a> {
+    Arg::new(alloc, "unique_names")
+        .long("unique-names")
+        .action(ArgAction::SetTrue)
+        .help(help::UNIQUE_NAMES)
+        .long_help(help::LONG_UNIQUE_NAMES)
+}
+
 fn quiet<'a>(alloc: Global) -> Arg<'a> {
     Arg::new(alloc, "quiet")
         .short('q')
@@ -92,7 +100,8 @@ fn subcommand<'a>(
         .arg(depth(alloc))?
         .arg(workers(alloc))?
         .arg(piece(alloc))?
-        .arg(ignore_bom(alloc))
+        .arg(ignore_bom(alloc))?
+        .arg(unique_names(alloc))
 }
 
 /// The program with its four commands.

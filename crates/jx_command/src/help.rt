@@ -61,6 +61,14 @@ pub const LONG_IGNORE_BOM: &str =
 blanks, or before the first record separator of a sequence. Without
 this option it is refused. Offsets count its bytes.";
 
+pub const UNIQUE_NAMES: &str = "Refuse objects that repeat a name";
+
+pub const LONG_UNIQUE_NAMES: &str =
+    "Refuse a text or an element in which an object repeats a name. Names
+are equal where their values are: escapes stand for the characters
+they name. Without this option such a text is accepted (RFC 8259,
+section 4).";
+
 pub const QUIET: &str = "Write no output: the exit status is the answer";
 
 pub const LONG_QUIET: &str = "Write no output: the exit status is the answer. What goes wrong is
@@ -82,10 +90,12 @@ line is the empty pointer, and a carriage return stays in its line.
 There has to be a POINTER or this option.";
 
 pub const AFTER_CHECK: &str = "Output, one line:
-  accepted       the input is a JSON text
-  stopped at K   no JSON text goes on with the byte at K
-  truncated      the input ends before a JSON text does
-  too deep at K  with the byte at K more than N containers would be open
+  accepted            the input is a JSON text
+  stopped at K        no JSON text goes on with the byte at K
+  truncated           the input ends before a JSON text does
+  too deep at K       with the byte at K more than N containers would be open
+  repeated name at K  the name at K is that of an earlier member of its object
+                      (with --unique-names)
 
 Exit status: 0 accepted, 1 refused, 2 no answer.
 
@@ -130,13 +140,14 @@ Examples:
   jx at --file dump.json --pointers list";
 
 pub const AFTER_SEQ: &str = "Output, a line for each element, its span and then:
-  accepted       it is a JSON text
-  may be cut     its root is a number or a literal with nothing behind it
-                 (RFC 7464, section 2.4)
-  unmarked       it stands before the first record separator (byte 1E)
-  stopped at K   as by 'jx check'; K counts from the start of the input
-  truncated      as by 'jx check'
-  too deep at K  as by 'jx check'; K counts from the start of the input
+  accepted            it is a JSON text
+  may be cut          its root is a number or a literal with nothing behind it
+                      (RFC 7464, section 2.4)
+  unmarked            it stands before the first record separator (byte 1E)
+  stopped at K        as by 'jx check'; K counts from the start of the input
+  truncated           as by 'jx check'
+  too deep at K       as by 'jx check'; K counts from the start of the input
+  repeated name at K  as by 'jx check'; K counts from the start of the input
 
 Exit status: 0 all accepted, 1 not all accepted, 2 no answer.
 

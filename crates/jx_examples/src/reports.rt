@@ -1,6 +1,7 @@
 ghost use Rattle.std.specs.Prelude.{IfOk};
 ghost use Rattle.jx_command.specs.declared.command.Task.{Task};
 ghost use Rattle.jx_run.specs.declared.settings.FrontMark.{FrontMark};
+ghost use Rattle.jx_run.specs.declared.settings.NameRule.{NameRule};
 ghost use Rattle.jx_report.specs.declared.exit.Exit.{Exit};
 ghost use Rattle.jx_report.specs.Output.{Output};
 
@@ -10,7 +11,7 @@ use jx_claim::Workers;
 use jx_command::{Command, Task};
 use jx_lex::Depth;
 use jx_report::{End, report};
-use jx_run::{FrontMark, Settings};
+use jx_run::{FrontMark, NameRule, Settings};
 use std::alloc::Global;
 use std::sync::Wait;
 use std::thread::Threads;
@@ -23,13 +24,14 @@ pub fn lines_of_values<R: Threads + Wait + Sync>(
     workers: Workers,
 ) -> Result<Vec<u8>, ExampleFault>
     ensures { IfOk result (λ lines. (exit : Exit)
-        × Output Task.Index (record { depth = 512; mark = FrontMark.Refused }) text.now lines.items exit) }
+        × Output Task.Index (record { depth = 512; mark = FrontMark.Refused; names = NameRule.Any }) text.now lines.items exit) }
 {
     let command = Command {
         task: Task::Index,
         settings: Settings {
             depth: Depth::default(),
             mark: FrontMark::Refused,
+            names: NameRule::Any,
         },
         workers,
         piece: 65536,

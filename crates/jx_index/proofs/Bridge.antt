@@ -1,5 +1,5 @@
 -- The look-up over a tree's rows is that over the tree.
-use Rattle.std.proofs.Common.{◌≡◌, ℕ, zero, suc, ◌+◌, ◌<◌, ◌≤◌, List, [], ◌∷◌, ◌++◌, length, Option, None, Some, Bool, true, false, cond, refl, sym, ap, ◌∙◌, arith, Result, Ok, Err, get_or, subst}
+use Rattle.std.proofs.Common.{◌≡◌, ℕ, zero, suc, ◌+◌, ◌<◌, List, [], ◌∷◌, ◌++◌, length, Option, None, Some, Bool, true, false, cond, refl, sym, ap, ◌∙◌, arith, Result, Ok, Err, get_or, subst}
 use Rattle.std.specs.Prelude.{slice_get}
 use Rattle.std.proofs.lemmas.Option.{slice_get-get_or}
 use Rattle.std.specs.Ordering.{nat_cmp, is_eq}
@@ -35,7 +35,7 @@ row_there {tree = tree} {inner = inner} {t = t} w =
     ∙ ap (slice_get (h.before ++ (row_of inner t ∷ h.behind))) (let e : t.number ≡ length h.before = omega (arith, h.number_is) in e)
     ∙ slice_get_seam h.before (row_of inner t) h.behind
 
-kind_there : (inner : Tree) (t : Standing) → kind_in (Some (row_of inner t)) ≡ kind_of inner
+pub kind_there : (inner : Tree) (t : Standing) → kind_in (Some (row_of inner t)) ≡ kind_of inner
 kind_there (node k place below) t = refl
 
 name_there : (inner : Tree) (t : Standing) → name_in (Some (row_of inner t)) ≡ t.name
@@ -43,11 +43,11 @@ name_there (node k place below) t = refl
 
 -- ---- children
 
-record IsChild (tree : Tree) (c : Numbered) : Type 0 where
-  t : Standing
-  stands : Stands tree root_standing c.tree t
-  number_is : t.number ≡ c.number
-  name_is : t.name ≡ c.name
+pub record IsChild (tree : Tree) (c : Numbered) : Type 0 where
+  pub t : Standing
+  pub stands : Stands tree root_standing c.tree t
+  pub number_is : t.number ≡ c.number
+  pub name_is : t.name ≡ c.name
 
 each_child : (tree : Tree) (children : Children) (m q p : ℕ) → ((x : Tree) (u : Standing) → StandsBelow children m q p x u → Stands tree root_standing x u)
     → Each (IsChild tree) (numbered children m)
@@ -57,7 +57,11 @@ each_child tree (child name c more) m q p into = (
   each_child tree more (m + size c) q (suc p) (λ x u w. into x u (in_later w)),
 )
 
-each_named : (children : Children) (m : ℕ) → AllNamed children → Each (λ (c : Numbered). HasName c.name) (numbered children m)
+-- the children of a node
+pub children_stand : (tree inner : Tree) (t : Standing) → Stands tree root_standing inner t → Each (IsChild tree) (numbered (children_of inner) (suc t.number))
+children_stand tree inner t w = each_child tree (children_of inner) (suc t.number) t.number 0 (λ x u b. goes_on w b)
+
+pub each_named : (children : Children) (m : ℕ) → AllNamed children → Each (λ (c : Numbered). HasName c.name) (numbered children m)
 each_named no_children m h = tt
 each_named (child name tree more) m h = (h.0, each_named more (m + size tree) h.1)
 
@@ -65,12 +69,13 @@ same_name : (text token : List ℕ) (name : Option Span) → HasName name → is
 same_name text token None h = absurd h
 same_name text token (Some name) h = refl
 
+-- the name in a child's row
+pub name_of_child : (tree : Tree) (c : Numbered) → IsChild tree c → name_at (rows tree) c.number ≡ c.name
+name_of_child tree c i = ap (name_at (rows tree)) (sym i.number_is) ∙ ap name_in (row_there i.stands) ∙ name_there c.tree i.t ∙ i.name_is
+
 equal_is_name : (text token : List ℕ) (tree : Tree) (c : Numbered) → IsChild tree c × HasName c.name → is_equal text (rows tree) token c.number ≡ is_name text token c.name
 equal_is_name text token tree c h =
-    let i = h.0 in
-    let n : name_at (rows tree) c.number ≡ c.name =
-    ap (name_at (rows tree)) (sym i.number_is) ∙ ap name_in (row_there i.stands) ∙ name_there c.tree i.t ∙ i.name_is in
-    ap (λ x. is_eq (slice_cmp nat_cmp (units_of_name text x) token)) n ∙ same_name text token c.name h.1
+    ap (λ x. is_eq (slice_cmp nat_cmp (units_of_name text x) token)) (name_of_child tree c h.0) ∙ same_name text token c.name h.1
 
 of_object : (k : Kind) (text token : List ℕ) (tree : Tree) (below : Children) (m : ℕ) → NamedFor k below → Each (IsChild tree) (numbered below m)
     → OfObject (λ (c : Numbered). c.number) k (Each (λ (c : Numbered). is_equal text (rows tree) token c.number ≡ is_name text token c.name) (numbered below m))
@@ -82,7 +87,7 @@ of_object kind.True text token tree below m h e = tt
 of_object kind.False text token tree below m h e = tt
 of_object kind.Null text token tree below m h e = tt
 
-named_for : (inner : Tree) → Named inner → NamedFor (kind_of inner) (children_of inner)
+pub named_for : (inner : Tree) → Named inner → NamedFor (kind_of inner) (children_of inner)
 named_for (node k place below) h = h.0
 
 -- ---- one token, and then the others
@@ -96,8 +101,7 @@ step_is text tree named token inner t w k =
     ap (λ x. one_token p token x (child_numbers (rows tree) t.number) k) (ap kind_in (row_there w) ∙ kind_there inner t)
     ∙ ap (λ x. one_token p token (kind_of inner) x k) (children_are w ∙ numbers-numbered (children_of inner) (suc t.number))
     ∙ token_map (λ (c : Numbered). c.number) p (λ (c : Numbered). is_name text token c.name) token (kind_of inner) xs k
-    (of_object (kind_of inner) text token tree (children_of inner) (suc t.number) (named_for inner (named_inner w named))
-    (each_child tree (children_of inner) (suc t.number) t.number 0 (λ x u b. goes_on w b)))
+    (of_object (kind_of inner) text token tree (children_of inner) (suc t.number) (named_for inner (named_inner w named)) (children_stand tree inner t w))
 
 number_then : (r : Result Numbered FindFault) (on : Numbered → Result Numbered FindFault) (to : ℕ → Result ℕ FindFault)
     → AtOk (λ (c : Numbered). number_of (on c) ≡ to c.number) r → number_of (and_then r on) ≡ and_then (map_ok (λ (c : Numbered). c.number) r) to
@@ -120,7 +124,7 @@ leads_are text tree named (token ∷ tokens) name inner t w k =
     ∙ leads_are text tree named tokens c.name c.tree h.t h.stands (suc k)
     ∙ ap (λ n. rows_lead text (rows tree) tokens n (suc k)) h.number_is)
     (numbered (children_of inner) (suc t.number))
-    (each_child tree (children_of inner) (suc t.number) t.number 0 (λ x u b. goes_on w b))))
+    (children_stand tree inner t w)))
     ∙ sym (ap (λ x. and_then x to) (step_is text tree named token inner t w k))
 
 -- ---- what tokens lead to is a node, whose row stands at its number
@@ -166,15 +170,12 @@ children_within n i (row ∷ table) =
     pick true h = (omega arith, h)
     pick false h = h
 
-pub children-length : (n i : ℕ) (table : List Row) → length (with_parent n i table) ≤ length table
-children-length n i [] = omega arith
-children-length n i (row ∷ table) = pick (is_parent n row.parent) (children-length n (suc i) table)
-  where
-    pick : (b : Bool) → length (with_parent n (suc i) table) ≤ length table → length (cond b (i ∷ with_parent n (suc i) table) (with_parent n (suc i) table)) ≤ suc (length table)
-    pick true h = omega arith
-    pick false h = omega arith
-
 -- a row of that kind is there
+pub array_row : (table : List Row) (n : ℕ) → kind_at table n ≡ kind.Array → n < length table
+array_row [] n h = absurd (cc)
+array_row (row ∷ table) zero h = omega arith
+array_row (row ∷ table) (suc n) h = omega (arith, array_row table n h)
+
 pub object_row : (table : List Row) (n : ℕ) → kind_at table n ≡ kind.Object → n < length table
 object_row [] n h = absurd (cc)
 object_row (row ∷ table) zero h = omega arith

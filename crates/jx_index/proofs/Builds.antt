@@ -12,7 +12,7 @@ use Rattle.jx_lex.specs.declared.mark.MarkKind.TheVariants as mark
 use Rattle.jx_lex.specs.Classes.{class_at}
 use Rattle.jx_lex.specs.Lex.{lex}
 use Rattle.jx_lex.specs.Token.{IsBlank, space, tab, line_feed, carriage_return, IsToken}
-use Rattle.jx_lex.proofs.Inside.{mark_of}
+use Rattle.jx_lex.specs.TokenStates.{mark_of}
 use Rattle.jx_run.specs.Tree.{Tree, node, Children, no_children, child, span}
 use Rattle.jx_run.specs.Grammar.{Blanks, no_blanks, blank, Scalar, Value, leaf, empty_array, array, empty_object, object, Items, last_item, item, Members, last_member, member}
 use Rattle.jx_run.specs.Text.{Document, document, IsDocument}
@@ -21,8 +21,7 @@ use Rattle.jx_index.specs.declared.builder.Opened.{Opened}
 use Rattle.jx_index.specs.Rows.{size, sizes, rows_from, rows_below, rows}
 use Rattle.jx_index.specs.Afters.{afters_from, afters_below, afters}
 use Rattle.jx_index.specs.Building.{Building, nothing_built, parent_in, place_in, counted, next_row, add_leaf, begin_container, with_end, set_end, is_name_next, on_mark, is_token, next_end, make, built_of}
-use Rattle.jx_index.proofs.Tokens.{Delimited, at_end, at_close_array, at_close_object, at_colon, at_comma, blanks_delimited, tokened}
-use Rattle.jx_run.proofs.Spans.{IsPart, value_part, items_part, members_part}
+use Rattle.jx_index.proofs.Tokens.{Delimited, at_end, at_close_array, at_close_object, at_colon, at_comma, blanks_delimited, tokened, TokensAreRead}
 
 -- ---- numbers of rows
 
@@ -108,10 +107,10 @@ token_is kind.True w h = refl
 token_is kind.False w h = refl
 token_is kind.Null w h = refl
 
-token_read : (last : ℕ) {k : Kind} {i j : ℕ} {t rest : List ℕ} → Scalar k i t j rest → Delimited rest → j + length rest ≡ last → (building : Building)
+token_read : TokensAreRead → (last : ℕ) {k : Kind} {i j : ℕ} {t rest : List ℕ} → Scalar k i t j rest → Delimited rest → j + length rest ≡ last → (building : Building)
     → reads last i t building ≡ reads last j rest (on_mark (mark_of k) i j building)
-token_read last {k = k} {i = i} {j = j} scalar d h building =
-    let p = tokened scalar d last h in
+token_read law last {k = k} {i = i} {j = j} scalar d h building =
+    let p = tokened law scalar d last h in
     make_token last (mark_of k) (token_is k scalar.token scalar.is_token) i j _ _ _ _ building p.marks p.end p.ends
 
 -- ---- rows, and the numbers behind them
@@ -267,73 +266,90 @@ blanks_length : {i j : ℕ} {t rest : List ℕ} → Blanks i t j rest → i + le
 blanks_length no_blanks = refl
 blanks_length (blank {i = i} {bytes = bytes} h bs) = (let e : i + suc (length bytes) ≡ suc i + length bytes = omega arith in e) ∙ blanks_length bs
 
-part_length : {i j : ℕ} {t u : List ℕ} → IsPart i t j u → i + length t ≡ j + length u
-part_length {u = u} p = omega (arith, ap length p.whole, length-append p.part u, p.end)
+scalar_length : {k : Kind} {i j : ℕ} {t rest : List ℕ} → Scalar k i t j rest → i + length t ≡ j + length rest
+scalar_length {rest = rest} x = omega (arith, ap length x.whole, length-append x.token rest, x.end)
+
+mutual
+  value_length : {i j : ℕ} {t rest : List ℕ} {tree : Tree} → Value i t j rest tree → i + length t ≡ j + length rest
+  value_length (leaf x) = scalar_length x
+  value_length (empty_array bs) = omega (arith, blanks_length bs)
+  value_length (array xs) = omega (arith, items_length xs)
+  value_length (empty_object bs) = omega (arith, blanks_length bs)
+  value_length (object xs) = omega (arith, members_length xs)
+
+  items_length : {i j : ℕ} {t rest : List ℕ} {children : Children} → Items i t j rest children → i + length t ≡ j + length rest
+  items_length (last_item bs v cs) = blanks_length bs ∙ value_length v ∙ blanks_length cs
+  items_length (item bs v cs xs) = omega (arith, blanks_length bs, value_length v, blanks_length cs, items_length xs)
+
+  members_length : {i j : ℕ} {t rest : List ℕ} {children : Children} → Members i t j rest children → i + length t ≡ j + length rest
+  members_length (last_member bs n cs ds v es) = omega (arith, blanks_length bs, scalar_length n, blanks_length cs, blanks_length ds, value_length v, blanks_length es)
+  members_length (member bs n cs ds v es xs) =
+      omega (arith, blanks_length bs, scalar_length n, blanks_length cs, blanks_length ds, value_length v, blanks_length es, members_length xs)
 
 -- ---- the induction
 
 mutual
-  pub value_reads : (last : ℕ) {i j : ℕ} {t rest : List ℕ} {tree : Tree} → Value i t j rest tree → Delimited rest → j + length rest ≡ last
+  pub value_reads : TokensAreRead → (last : ℕ) {i j : ℕ} {t rest : List ℕ} {tree : Tree} → Value i t j rest tree → Delimited rest → j + length rest ≡ last
       → (b : Building) → is_name_next b.opened b.name ≡ false → Even (laid b) → reads last i t b ≡ reads last j rest (with_value tree b)
-  value_reads last (leaf {kind = k} {i = i} {j = j} {rest = rest} s) d h b n even =
-      token_read last s d h b ∙ ap (λ x. reads last j rest x) (leaf_marks k s.token s.is_token i j b n)
-  value_reads last (empty_array {i = i} {j = j} {bytes = t} {rest = rest} bs) d h b n even =
+  value_reads law last (leaf {kind = k} {i = i} {j = j} {rest = rest} s) d h b n even =
+      token_read law last s d h b ∙ ap (λ x. reads last j rest x) (leaf_marks k s.token s.is_token i j b n)
+  value_reads law last (empty_array {i = i} {j = j} {bytes = t} {rest = rest} bs) d h b n even =
       structural_reads last open_array i t b
       ∙ blanks_read last bs (begin_container kind.Array false i b)
       ∙ structural_reads last close_array j rest (begin_container kind.Array false i b)
       ∙ ap (λ (x : Laid). reads last (suc j) rest (past x (counted b.opened))) (empty_over kind.Array i j b even)
-  value_reads last (array {i = i} {j = j} {bytes = t} {rest = rest} {children = children} xs) d h b n even =
+  value_reads law last (array {i = i} {j = j} {bytes = t} {rest = rest} {children = children} xs) d h b n even =
       structural_reads last open_array i t b
-      ∙ items_read last xs at_close_array (omega arith) (opening kind.Array i b) (length b.rows) 0 (counted b.opened) (even_opening kind.Array i b even)
+      ∙ items_read law last xs at_close_array (omega arith) (opening kind.Array i b) (length b.rows) 0 (counted b.opened) (even_opening kind.Array i b even)
       ∙ structural_reads last close_array j rest (with_children children (opening kind.Array i b) (length b.rows) false 0 (counted b.opened))
       ∙ ap (λ (x : Laid). reads last (suc j) rest (past x (counted b.opened))) (over_is kind.Array i j children (parent_in b.opened) (place_in b.opened) b.name (laid b) even)
-  value_reads last (empty_object {i = i} {j = j} {bytes = t} {rest = rest} bs) d h b n even =
+  value_reads law last (empty_object {i = i} {j = j} {bytes = t} {rest = rest} bs) d h b n even =
       structural_reads last open_object i t b
       ∙ blanks_read last bs (begin_container kind.Object true i b)
       ∙ structural_reads last close_object j rest (begin_container kind.Object true i b)
       ∙ ap (λ (x : Laid). reads last (suc j) rest (past x (counted b.opened))) (empty_over kind.Object i j b even)
-  value_reads last (object {i = i} {j = j} {bytes = t} {rest = rest} {children = children} xs) d h b n even =
+  value_reads law last (object {i = i} {j = j} {bytes = t} {rest = rest} {children = children} xs) d h b n even =
       structural_reads last open_object i t b
-      ∙ members_read last xs at_close_object (omega arith) (opening kind.Object i b) (length b.rows) 0 (counted b.opened) (even_opening kind.Object i b even)
+      ∙ members_read law last xs at_close_object (omega arith) (opening kind.Object i b) (length b.rows) 0 (counted b.opened) (even_opening kind.Object i b even)
       ∙ structural_reads last close_object j rest (with_children children (opening kind.Object i b) (length b.rows) true 0 (counted b.opened))
       ∙ ap (λ (x : Laid). reads last (suc j) rest (past x (counted b.opened))) (over_is kind.Object i j children (parent_in b.opened) (place_in b.opened) b.name (laid b) even)
 
-  pub items_read : (last : ℕ) {i j : ℕ} {t rest : List ℕ} {children : Children} → Items i t j rest children → Delimited rest → j + length rest ≡ last
+  pub items_read : TokensAreRead → (last : ℕ) {i j : ℕ} {t rest : List ℕ} {children : Children} → Items i t j rest children → Delimited rest → j + length rest ≡ last
       → (x : Laid) (row count : ℕ) (outer : List Opened) → Even x → reads last i t (inside x row false count outer) ≡ reads last j rest (with_children children x row false count outer)
-  items_read last (last_item {k = k} {l = l} {t2 = t2} {rest = rest} {tree = tree} bs v cs) d h x row count outer even =
+  items_read law last (last_item {k = k} {l = l} {t2 = t2} {rest = rest} {tree = tree} bs v cs) d h x row count outer even =
       blanks_read last bs _
-      ∙ value_reads last v (blanks_delimited cs d) (omega (arith, blanks_length cs)) (inside x row false count outer) refl even
+      ∙ value_reads law last v (blanks_delimited cs d) (omega (arith, blanks_length cs)) (inside x row false count outer) refl even
       ∙ blanks_read last cs _
       ∙ ap (λ b. reads last l rest b) (then_none None tree x row false count outer)
-  items_read last (item {l = l} {m = m} {t3 = t3} {rest = rest} {tree = tree} {more = more} bs v cs xs) d h x row count outer even =
+  items_read law last (item {l = l} {m = m} {t3 = t3} {rest = rest} {tree = tree} {more = more} bs v cs xs) d h x row count outer even =
       blanks_read last bs _
-      ∙ value_reads last v (blanks_delimited cs at_comma) (omega (arith, blanks_length cs, part_length (items_part xs))) (inside x row false count outer) refl even
+      ∙ value_reads law last v (blanks_delimited cs at_comma) (omega (arith, blanks_length cs, items_length xs)) (inside x row false count outer) refl even
       ∙ blanks_read last cs _
       ∙ structural_reads last comma l t3 _
-      ∙ items_read last xs d h (with_tree tree (Some row) count None x) row (suc count) outer (even_tree tree (Some row) count None x even)
+      ∙ items_read law last xs d h (with_tree tree (Some row) count None x) row (suc count) outer (even_tree tree (Some row) count None x even)
       ∙ ap (λ b. reads last m rest b) (then_more None tree more x row false count outer)
 
-  pub members_read : (last : ℕ) {i j : ℕ} {t rest : List ℕ} {children : Children} → Members i t j rest children → Delimited rest → j + length rest ≡ last
+  pub members_read : TokensAreRead → (last : ℕ) {i j : ℕ} {t rest : List ℕ} {children : Children} → Members i t j rest children → Delimited rest → j + length rest ≡ last
       → (x : Laid) (row count : ℕ) (outer : List Opened) → Even x → reads last i t (inside x row true count outer) ≡ reads last j rest (with_children children x row true count outer)
-  members_read last (last_member {j = j} {k = k} {l = l} {m = m} {n = n} {o = o} {t3 = t3} {rest = rest} {tree = tree} bs s cs ds v es) d h x row count outer even =
+  members_read law last (last_member {j = j} {k = k} {l = l} {m = m} {n = n} {o = o} {t3 = t3} {rest = rest} {tree = tree} bs s cs ds v es) d h x row count outer even =
       blanks_read last bs _
-      ∙ token_read last s (blanks_delimited cs at_colon) (omega (arith, blanks_length cs, blanks_length ds, part_length (value_part v), blanks_length es)) (inside x row true count outer)
+      ∙ token_read law last s (blanks_delimited cs at_colon) (omega (arith, blanks_length cs, blanks_length ds, value_length v, blanks_length es)) (inside x row true count outer)
       ∙ blanks_read last cs _
       ∙ structural_reads last colon l t3 _
       ∙ blanks_read last ds _
-      ∙ value_reads last v (blanks_delimited es d) (omega (arith, blanks_length es)) (record (inside x row true count outer) { name = Some (span j k) }) refl even
+      ∙ value_reads law last v (blanks_delimited es d) (omega (arith, blanks_length es)) (record (inside x row true count outer) { name = Some (span j k) }) refl even
       ∙ blanks_read last es _
       ∙ ap (λ b. reads last o rest b) (then_none (Some (span j k)) tree x row true count outer)
-  members_read last (member {j = j} {k = k} {l = l} {m = m} {n = n} {o = o} {p = p} {t3 = t3} {t6 = t6} {rest = rest} {tree = tree} {more = more} bs s cs ds v es xs) d h x row count outer even =
+  members_read law last (member {j = j} {k = k} {l = l} {m = m} {n = n} {o = o} {p = p} {t3 = t3} {t6 = t6} {rest = rest} {tree = tree} {more = more} bs s cs ds v es xs) d h x row count outer even =
       blanks_read last bs _
-      ∙ token_read last s (blanks_delimited cs at_colon) (omega (arith, blanks_length cs, blanks_length ds, part_length (value_part v), blanks_length es, part_length (members_part xs))) (inside x row true count outer)
+      ∙ token_read law last s (blanks_delimited cs at_colon) (omega (arith, blanks_length cs, blanks_length ds, value_length v, blanks_length es, members_length xs)) (inside x row true count outer)
       ∙ blanks_read last cs _
       ∙ structural_reads last colon l t3 _
       ∙ blanks_read last ds _
-      ∙ value_reads last v (blanks_delimited es at_comma) (omega (arith, blanks_length es, part_length (members_part xs))) (record (inside x row true count outer) { name = Some (span j k) }) refl even
+      ∙ value_reads law last v (blanks_delimited es at_comma) (omega (arith, blanks_length es, members_length xs)) (record (inside x row true count outer) { name = Some (span j k) }) refl even
       ∙ blanks_read last es _
       ∙ structural_reads last comma o t6 _
-      ∙ members_read last xs d h (with_tree tree (Some row) count (Some (span j k)) x) row (suc count) outer (even_tree tree (Some row) count (Some (span j k)) x even)
+      ∙ members_read law last xs d h (with_tree tree (Some row) count (Some (span j k)) x) row (suc count) outer (even_tree tree (Some row) count (Some (span j k)) x even)
       ∙ ap (λ b. reads last p rest b) (then_more (Some (span j k)) tree more x row true count outer)
 
 -- what is built of a whole text
@@ -341,14 +357,14 @@ pub record IsBuilt (tree : Tree) (b : Building) : Type 0 where
   pub rows_are : b.rows ≡ rows tree
   pub after_are : b.after ≡ afters tree
 
-pub built_is : (start limit : ℕ) (bytes : List ℕ) (tree : Tree) → IsDocument start bytes limit tree
+pub built_is : TokensAreRead → (start limit : ℕ) (bytes : List ℕ) (tree : Tree) → IsDocument start bytes limit tree
     → IsBuilt tree (built_of (start + length bytes) (lex state.Gap start bytes).marks (lex state.Gap start bytes).ends)
 unfolding make lex
-built_is start limit bytes tree text =
+built_is law start limit bytes tree text =
     let e = whole text.reads in record { rows_are = ap (λ (b : Building). b.rows) e; after_are = ap (λ (b : Building). b.after) e }
   where
     whole : {t : List ℕ} → Document start t tree → built_of (start + length t) (lex state.Gap start t).marks (lex state.Gap start t).ends ≡ with_value tree nothing_built
     whole {t = t} (document {i = i} {l = l} bs v cs) =
         blanks_read (start + length t) bs nothing_built
-        ∙ value_reads (start + length t) v (blanks_delimited cs at_end) (sym (blanks_length bs ∙ part_length (value_part v))) nothing_built refl refl
+        ∙ value_reads law (start + length t) v (blanks_delimited cs at_end) (sym (blanks_length bs ∙ value_length v)) nothing_built refl refl
         ∙ blanks_read (start + length t) cs _

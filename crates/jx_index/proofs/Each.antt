@@ -1,7 +1,6 @@
 -- Facts of each element of a list, and of what a token picks of it.
-use Rattle.std.proofs.Common.{◌≡◌, ℕ, zero, suc, ◌≤◌, List, [], ◌∷◌, length, map, Bool, true, false, cond, refl, ap, ◌∙◌, sym, arith, Result, Ok, Err, inl, inr}
-use Rattle.std.specs.Prelude.{filter, slice_get, ok_or, nat_lt, not, if◌then◌else◌}
-use Rattle.std.proofs.lemmas.Bool.Decides.{nat_tests}
+use Rattle.std.proofs.Common.{◌≡◌, ℕ, zero, suc, List, [], ◌∷◌, length, map, Bool, true, false, cond, refl, ap, ◌∙◌, Result, Ok, Err}
+use Rattle.std.specs.Prelude.{filter, slice_get, ok_or}
 use Rattle.std.proofs.lemmas.List.{length-map}
 use Rattle.jx_lex.specs.declared.kind.Kind.{Kind}
 use Rattle.jx_lex.specs.declared.kind.Kind.TheVariants as kind
@@ -9,9 +8,8 @@ use Rattle.jx_index.specs.declared.array_token.Place.{Place}
 use Rattle.jx_index.specs.declared.array_token.Place.TheVariants as place
 use Rattle.jx_index.specs.declared.find_fault.FindFault.{FindFault}
 use Rattle.jx_index.specs.declared.find_fault.FindFault.TheVariants.{PastEnd}
-use Rattle.jx_index.specs.ArrayTokens.{is_dash, is_index, value_after, place_in}
-use Rattle.jx_index.specs.Leads.{only, element, at_place, one_token, and_then}
-use Rattle.jx_index.proofs.WalkLaws.{le_or}
+use Rattle.jx_index.specs.ArrayTokens.{place_in}
+use Rattle.jx_index.specs.Leads.{only, element, at_place, one_token}
 
 module _ {A : Type 0} where
   abbrev pub Each : (A → Type 0) → List A → Type 0
@@ -34,7 +32,7 @@ module _ {A : Type 0} where
   each_kept P true x xs h k = (h, k)
   each_kept P false x xs h k = k
 
-  each_filter : (P : A → Type 0) (p : A → Bool) (xs : List A) → Each P xs → Each P (filter p xs)
+  pub each_filter : (P : A → Type 0) (p : A → Bool) (xs : List A) → Each P xs → Each P (filter p xs)
   each_filter P p [] h = tt
   each_filter P p (x ∷ xs) h = each_kept P (p x) x (filter p xs) h.0 (each_filter P p xs h.1)
 
@@ -70,37 +68,6 @@ module _ {A : Type 0} where
   element_is [] i k = refl
   element_is (x ∷ xs) zero k = refl
   element_is (x ∷ xs) (suc i) k = element_is xs i k
-
-  element_past : (xs : List A) (i k : ℕ) → length xs ≤ i → element xs i k ≡ Err (PastEnd k)
-  element_past [] i k h = refl
-  element_past (x ∷ xs) zero k h = absurd (omega arith)
-  element_past (x ∷ xs) (suc i) k h = element_past xs i k (omega arith)
-
-  past_either : (b : Bool) (xs : List A) (i k : ℕ) → length xs ≤ i → at_place (cond b (place.Element i) place.PastEnd) xs k ≡ Err (PastEnd k)
-  past_either true xs i k h = element_past xs i k h
-  past_either false xs i k h = refl
-
-  below_any : (xs : List A) (i m k : ℕ) → length xs ≤ m
-      → at_place (cond (nat_lt i m) (place.Element i) place.PastEnd) xs k ≡ at_place (cond (nat_lt i (length xs)) (place.Element i) place.PastEnd) xs k
-  below_any xs i m k h =
-      elim (le_or (length xs) i) [
-        | inl past ↦ past_either (nat_lt i m) xs i k past ∙ sym (past_either (nat_lt i (length xs)) xs i k past)
-        | inr lt ↦ (
-            let a : nat_lt i m ≡ true = grind (arith, nat_tests) in
-            let b : nat_lt i (length xs) ≡ true = grind (arith, nat_tests) in
-            ap (λ t. at_place (cond t (place.Element i) place.PastEnd) xs k) a ∙ sym (ap (λ t. at_place (cond t (place.Element i) place.PastEnd) xs k) b))
-      ]
-
-  -- a count that is too great changes nothing
-  pub place_more : (units : List ℕ) (m : ℕ) (xs : List A) (k : ℕ) → length xs ≤ m → at_place (place_in units m) xs k ≡ at_place (place_in units (length xs)) xs k
-  place_more units m xs k h = cases (is_dash units) (not (is_index units))
-    where
-      cases : (d i : Bool)
-          → at_place (if d then place.AfterLast else if i then place.NotAnIndex else if nat_lt (value_after 0 units) m then place.Element (value_after 0 units) else place.PastEnd) xs k
-          ≡ at_place (if d then place.AfterLast else if i then place.NotAnIndex else if nat_lt (value_after 0 units) (length xs) then place.Element (value_after 0 units) else place.PastEnd) xs k
-      cases true i = refl
-      cases false true = refl
-      cases false false = below_any xs (value_after 0 units) m k h
 
 -- ---- the same through a function
 

@@ -30,4 +30,4 @@ pub mod PartSteps
 pub mod Spelt
 pub mod Ties
 pub mod Leasts
-pub mod Placings
+pub mod Uniques

@@ -19,6 +19,7 @@ use Rattle.jx_index.specs.Low.{AllLow}
 use Rattle.jx_index.specs.Rows.{rows}
 use Rattle.jx_index.proofs.Builds.{IsBuilt, built_is}
 use Rattle.jx_index.proofs.Readings.{tree_of}
+use Rattle.jx_index.proofs.Tokens.{TokensAreRead}
 use Rattle.jx_index.proofs.Within.{marks_within, part_end}
 
 -- what is built of a run's marks and ends
@@ -35,34 +36,34 @@ module _ (text : List ℕ) (place : Span) (ordered : place.start ≤ place.end) 
       let end = part_end text place.start place.end ordered within in
       marks_within state.Gap place.start (slice_range text place.start place.end) (2 ^ 64 - 1) (omega (arith, end))
 
-  is_built : (limit : ℕ) (tree : Tree) → IsText text place.start place.end limit tree
+  is_built : TokensAreRead → (limit : ℕ) (tree : Tree) → IsText text place.start place.end limit tree
       → IsBuilt tree (built_of place.end (lex state.Gap place.start (slice_range text place.start place.end)).marks (lex state.Gap place.start (slice_range text place.start place.end)).ends)
-  is_built limit tree t =
+  is_built law limit tree t =
       let bytes = slice_range text place.start place.end in
       subst (λ (n : ℕ). IsBuilt tree (built_of n (lex state.Gap place.start bytes).marks (lex state.Gap place.start bytes).ends)) (part_end text place.start place.end ordered within)
-      (built_is place.start limit bytes tree t)
+      (built_is law place.start limit bytes tree t)
 
-  pub rows_told : (limit : ℕ) (tree : Tree) (told : List Row) → length text < 2 ^ 64
+  pub rows_told : TokensAreRead → (limit : ℕ) (tree : Tree) (told : List Row) → length text < 2 ^ 64
       → (AllLow (lex state.Gap place.start (slice_range text place.start place.end)).marks
       → told ≡ (built_of place.end (lex state.Gap place.start (slice_range text place.start place.end)).marks (lex state.Gap place.start (slice_range text place.start place.end)).ends).rows)
       → IsText text place.start place.end limit tree → told ≡ rows tree
-  rows_told limit tree told fits h t = h (all_low fits) ∙ (is_built limit tree t).rows_are
+  rows_told law limit tree told fits h t = h (all_low fits) ∙ (is_built law limit tree t).rows_are
 
-  pub nodes_told : (limit : ℕ) (v : Verdict) (told : List Row) (after : List ℕ) → length text < 2 ^ 64
+  pub nodes_told : TokensAreRead → (limit : ℕ) (v : Verdict) (told : List Row) (after : List ℕ) → length text < 2 ^ 64
       → Judged place.start (slice_range text place.start place.end) limit v → v ≡ Accepted
       → (AllLow (lex state.Gap place.start (slice_range text place.start place.end)).marks
       → told ≡ (built_of place.end (lex state.Gap place.start (slice_range text place.start place.end)).marks (lex state.Gap place.start (slice_range text place.start place.end)).ends).rows)
       → (AllLow (lex state.Gap place.start (slice_range text place.start place.end)).marks
       → after ≡ (built_of place.end (lex state.Gap place.start (slice_range text place.start place.end)).marks (lex state.Gap place.start (slice_range text place.start place.end)).ends).after)
       → HasNodes text place told after
-  nodes_told limit v told after fits judged e h k =
+  nodes_told law limit v told after fits judged e h k =
       let t = tree_of v judged e in
       record {
         limit = limit;
         tree = t.tree;
         is_text = t.is;
-        rows_are = h (all_low fits) ∙ (is_built limit t.tree t.is).rows_are;
-        after_are = k (all_low fits) ∙ (is_built limit t.tree t.is).after_are;
+        rows_are = h (all_low fits) ∙ (is_built law limit t.tree t.is).rows_are;
+        after_are = k (all_low fits) ∙ (is_built law limit t.tree t.is).after_are;
       }
 
 module _ (text : List ℕ) (run : TextRunValue) (ordered : run.map.start ≤ run.map.end) (within : run.map.end ≤ length text) (fits : length text < 2 ^ 64)
@@ -82,13 +83,13 @@ module _ (text : List ℕ) (run : TextRunValue) (ordered : run.map.start ≤ run
     low_too : AllLow (lex state.Gap run.map.start (slice_range text run.map.start run.map.end)).marks → AllLow marks
     low_too h = subst AllLow (sym (nodes.marks_are ∙ ap (λ (t : Track). t.marks) same_track)) h
 
-    pub run_rows : (limit : ℕ) (tree : Tree) → IsText text run.map.start run.map.end limit tree → told ≡ rows tree
-    run_rows limit tree t =
-        rows_told text (place_of run) ordered within limit tree told fits (λ low. nodes.rows_are (low_too low) ∙ ap (λ (b : Building). b.rows) same_building) t
+    pub run_rows : TokensAreRead → (limit : ℕ) (tree : Tree) → IsText text run.map.start run.map.end limit tree → told ≡ rows tree
+    run_rows law limit tree t =
+        rows_told text (place_of run) ordered within law limit tree told fits (λ low. nodes.rows_are (low_too low) ∙ ap (λ (b : Building). b.rows) same_building) t
 
-    pub run_nodes : Judged run.map.start (slice_range text run.map.start run.map.end) run.limit Accepted → HasNodes text place told after
-    run_nodes judged =
+    pub run_nodes : TokensAreRead → Judged run.map.start (slice_range text run.map.start run.map.end) run.limit Accepted → HasNodes text place told after
+    run_nodes law judged =
         subst (λ (s : Span). HasNodes text s told after) (sym nodes.place_is)
-        (nodes_told text (place_of run) ordered within run.limit Accepted told after fits judged refl
+        (nodes_told text (place_of run) ordered within law run.limit Accepted told after fits judged refl
         (λ low. nodes.rows_are (low_too low) ∙ ap (λ (b : Building). b.rows) same_building)
         (λ low. nodes.after_are (low_too low) ∙ ap (λ (b : Building). b.after) same_building))

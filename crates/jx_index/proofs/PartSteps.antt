@@ -5,8 +5,8 @@ use Rattle.std.proofs.lemmas.List.{length-append, take-append-le}
 use Rattle.std.proofs.Math.Seq.{get_or-append_seam, drop-append_seam, take-length}
 use Rattle.jx_index.specs.declared.row.Row.{Row}
 use Rattle.jx_index.specs.Names.{IsInNameOrder}
-use Rattle.jx_index.specs.NameParts.{names_of, HasPart, HaveParts}
-use Rattle.jx_index.specs.Nodes.{IsObjectAt}
+use Rattle.jx_index.specs.Parts.{part_at, HasPart, HaveParts}
+use Rattle.jx_index.specs.Nodes.{IsArrayAt, IsObjectAt}
 use Rattle.jx_index.specs.Walk.{walk_children}
 
 get_or-append_front : (xs ys : List ℕ) (i : ℕ) → i < length xs → get_or (xs ++ ys) i 0 ≡ get_or xs i 0
@@ -28,39 +28,42 @@ slice_range-append_back xs ys =
     let e : length (xs ++ ys) - length xs ≡ length ys = omega (arith, length-append xs ys) in
     ap (λ n. take n (drop (length xs) (xs ++ ys))) e ∙ ap (take (length ys)) (drop-append_seam xs ys) ∙ take-length ys
 
-module _ (text : List ℕ) (rows : List Row) (after starts members part : List ℕ) (n next : ℕ) (long : length starts ≡ n + 1) where
-  kept : (k : ℕ) → k < n → HasPart text rows after starts members k → HasPart text rows after (starts ++ (next ∷ [])) (members ++ part) k
+module _ (text : List ℕ) (rows : List Row) (after starts children part : List ℕ) (n next : ℕ) (long : length starts ≡ n + 1) where
+  kept : (k : ℕ) → k < n → HasPart text rows after starts children k → HasPart text rows after (starts ++ (next ∷ [])) (children ++ part) k
   kept k h p =
       let a : slice_index (starts ++ (next ∷ [])) k ≡ slice_index starts k = get_or-append_front starts (next ∷ []) k (omega arith) in
       let b : slice_index (starts ++ (next ∷ [])) (k + 1) ≡ slice_index starts (k + 1) = get_or-append_front starts (next ∷ []) (k + 1) (omega arith) in
       let o = p.ordered in
       let w = p.within in
-      let same : names_of starts members k ≡ names_of (starts ++ (next ∷ [])) (members ++ part) k =
-      sym (slice_range-append_front members part (slice_index starts k) (slice_index starts (k + 1)) o w)
-      ∙ ap (λ x. slice_range (members ++ part) x (slice_index starts (k + 1))) (sym a)
-      ∙ ap (λ x. slice_range (members ++ part) (slice_index (starts ++ (next ∷ [])) k) x) (sym b) in
+      let same : part_at starts children k ≡ part_at (starts ++ (next ∷ [])) (children ++ part) k =
+      sym (slice_range-append_front children part (slice_index starts k) (slice_index starts (k + 1)) o w)
+      ∙ ap (λ x. slice_range (children ++ part) x (slice_index starts (k + 1))) (sym a)
+      ∙ ap (λ x. slice_range (children ++ part) (slice_index (starts ++ (next ∷ [])) k) x) (sym b) in
       record {
         ordered = omega arith;
-        within = omega (arith, length-append members part);
-        in_order = subst (IsInNameOrder text rows (walk_children after k)) same p.in_order;
+        within = omega (arith, length-append children part);
+        by_name = λ o. subst (IsInNameOrder text rows (walk_children after k)) same (p.by_name o);
+        by_place = λ o. sym same ∙ p.by_place o;
       }
 
   last_start : slice_index (starts ++ (next ∷ [])) (n + 1) ≡ next
   last_start = ap (λ x. get_or (starts ++ (next ∷ [])) x 0) (sym long) ∙ get_or-append_seam starts next [] 0
 
-  added : slice_index starts n ≡ length members → next ≡ length (members ++ part) → IsInNameOrder text rows (walk_children after n) part
-      → HasPart text rows after (starts ++ (next ∷ [])) (members ++ part) n
-  added l e p =
-      let a : slice_index (starts ++ (next ∷ [])) n ≡ length members = get_or-append_front starts (next ∷ []) n (omega arith) ∙ l in
-      let b : slice_index (starts ++ (next ∷ [])) (n + 1) ≡ length (members ++ part) = last_start ∙ e in
-      let same : part ≡ names_of (starts ++ (next ∷ [])) (members ++ part) n =
-      sym (slice_range-append_back members part)
-      ∙ ap (λ x. slice_range (members ++ part) x (length (members ++ part))) (sym a)
-      ∙ ap (λ x. slice_range (members ++ part) (slice_index (starts ++ (next ∷ [])) n) x) (sym b) in
+  added : slice_index starts n ≡ length children → next ≡ length (children ++ part)
+      → (IsObjectAt rows n → IsInNameOrder text rows (walk_children after n) part) → (IsArrayAt rows n → part ≡ walk_children after n)
+      → HasPart text rows after (starts ++ (next ∷ [])) (children ++ part) n
+  added l e named placed =
+      let a : slice_index (starts ++ (next ∷ [])) n ≡ length children = get_or-append_front starts (next ∷ []) n (omega arith) ∙ l in
+      let b : slice_index (starts ++ (next ∷ [])) (n + 1) ≡ length (children ++ part) = last_start ∙ e in
+      let same : part ≡ part_at (starts ++ (next ∷ [])) (children ++ part) n =
+      sym (slice_range-append_back children part)
+      ∙ ap (λ x. slice_range (children ++ part) x (length (children ++ part))) (sym a)
+      ∙ ap (λ x. slice_range (children ++ part) (slice_index (starts ++ (next ∷ [])) n) x) (sym b) in
       record {
-        ordered = omega (arith, length-append members part);
+        ordered = omega (arith, length-append children part);
         within = omega arith;
-        in_order = subst (IsInNameOrder text rows (walk_children after n)) same p;
+        by_name = λ o. subst (IsInNameOrder text rows (walk_children after n)) same (named o);
+        by_place = λ o. sym same ∙ placed o;
       }
 
   last_or : (k : ℕ) → k < n + 1 → (k ≡ n) ⊎ (k < n)
@@ -72,33 +75,35 @@ module _ (text : List ℕ) (rows : List Row) (after starts members part : List �
       le (suc a) zero l = absurd (omega arith)
       le (suc a) (suc b) l = elim (le a b (omega arith)) [ inl e ↦ inl (omega arith) | inr h ↦ inr (omega arith) ]
 
-  pub parts_more : slice_index starts n ≡ length members → next ≡ length (members ++ part) → HaveParts text rows after starts members n
-      → (IsObjectAt rows n → IsInNameOrder text rows (walk_children after n) part) → HaveParts text rows after (starts ++ (next ∷ [])) (members ++ part) (n + 1)
-  parts_more l e all one k h o =
+  pub parts_more : slice_index starts n ≡ length children → next ≡ length (children ++ part) → HaveParts text rows after starts children n
+      → (IsObjectAt rows n → IsInNameOrder text rows (walk_children after n) part) → (IsArrayAt rows n → part ≡ walk_children after n)
+      → HaveParts text rows after (starts ++ (next ∷ [])) (children ++ part) (n + 1)
+  parts_more l e all named placed k h =
       elim (last_or k h) [
-        | inl same ↦ subst (HasPart text rows after (starts ++ (next ∷ [])) (members ++ part)) (sym same) (added l e (one (subst (IsObjectAt rows) same o)))
-        | inr less ↦ kept k less (all k less o)
+        | inl same ↦ subst (HasPart text rows after (starts ++ (next ∷ [])) (children ++ part)) (sym same) (added l e named placed)
+        | inr less ↦ kept k less (all k less)
       ]
 
   pub start_more : slice_index (starts ++ (next ∷ [])) (n + 1) ≡ next
   start_more = last_start
 
 -- what the parts up to a row are, after a step
-pub record HasStarts (text : List ℕ) (rows : List Row) (after starts members : List ℕ) (n : ℕ) : Type 0 where
+pub record HasStarts (text : List ℕ) (rows : List Row) (after starts children : List ℕ) (n : ℕ) : Type 0 where
   pub starts_long : length starts ≡ n + 1
-  pub last : slice_index starts n ≡ length members
-  pub parts : HaveParts text rows after starts members n
+  pub last : slice_index starts n ≡ length children
+  pub parts : HaveParts text rows after starts children n
 
-pub has_more : (text : List ℕ) (rows : List Row) (after starts members part : List ℕ) (n next : ℕ) (starts' members' : List ℕ)
-    → length starts ≡ n + 1 → slice_index starts n ≡ length members → HaveParts text rows after starts members n
-    → starts' ≡ starts ++ (next ∷ []) → members' ≡ members ++ part → next ≡ length members'
-    → (IsObjectAt rows n → IsInNameOrder text rows (walk_children after n) part) → HasStarts text rows after starts' members' (n + 1)
-has_more text rows after starts members part n next starts' members' long l all es em en one =
-    let e : next ≡ length (members ++ part) = en ∙ ap length em in
-    subst (λ x. HasStarts text rows after x members' (n + 1)) (sym es)
+pub has_more : (text : List ℕ) (rows : List Row) (after starts children part : List ℕ) (n next : ℕ) (starts' children' : List ℕ)
+    → length starts ≡ n + 1 → slice_index starts n ≡ length children → HaveParts text rows after starts children n
+    → starts' ≡ starts ++ (next ∷ []) → children' ≡ children ++ part → next ≡ length children'
+    → (IsObjectAt rows n → IsInNameOrder text rows (walk_children after n) part) → (IsArrayAt rows n → part ≡ walk_children after n)
+    → HasStarts text rows after starts' children' (n + 1)
+has_more text rows after starts children part n next starts' children' long l all es em en named placed =
+    let e : next ≡ length (children ++ part) = en ∙ ap length em in
+    subst (λ x. HasStarts text rows after x children' (n + 1)) (sym es)
     (subst (λ x. HasStarts text rows after (starts ++ (next ∷ [])) x (n + 1)) (sym em)
     (record {
       starts_long = omega (arith, length-append starts (next ∷ []));
-      last = start_more text rows after starts members part n next long ∙ e;
-      parts = parts_more text rows after starts members part n next long l e all one;
+      last = start_more text rows after starts children part n next long ∙ e;
+      parts = parts_more text rows after starts children part n next long l e all named placed;
     }))

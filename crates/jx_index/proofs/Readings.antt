@@ -12,6 +12,7 @@ use Rattle.jx_run.specs.Tree.{Tree}
 use Rattle.jx_run.specs.Verdict.{Judged, a_text, cut_short, too_deep, stopped}
 use Rattle.jx_index.specs.Building.{built_of}
 use Rattle.jx_index.proofs.Builds.{IsBuilt, built_is}
+use Rattle.jx_index.proofs.Tokens.{TokensAreRead}
 use Rattle.jx_index.proofs.Within.{marks_within}
 
 pub record HasTree (start : ℕ) (bytes : List ℕ) (limit : ℕ) : Type 0 where
@@ -28,15 +29,15 @@ module _ (text : List ℕ) (s : StartedValue) (reading : IsStarted (slice_range 
   pub accepted_tree : s.verdict ≡ Accepted → HasTree s.place.start (slice_range text s.place.start s.place.end) s.limit
   accepted_tree e = tree_of s.verdict reading.judged e
 
-  pub built_here : (marks : List Mark) (ends : List ℕ) (last limit : ℕ) (tree : Tree) → marks ≡ s.marks → ends ≡ s.ends → last ≡ s.place.end
+  pub built_here : TokensAreRead → (marks : List Mark) (ends : List ℕ) (last limit : ℕ) (tree : Tree) → marks ≡ s.marks → ends ≡ s.ends → last ≡ s.place.end
       → IsText text s.place.start s.place.end limit tree → IsBuilt tree (built_of last marks ends)
-  built_here marks ends last limit tree em ee el t =
+  built_here law marks ends last limit tree em ee el t =
       let bytes = slice_range text s.place.start s.place.end in
       subst (IsBuilt tree)
       (ap (λ n. built_of n (lex state.Gap s.place.start bytes).marks (lex state.Gap s.place.start bytes).ends) (sym reading.long ∙ sym el)
       ∙ ap (λ x. built_of last x (lex state.Gap s.place.start bytes).ends) (sym (em ∙ reading.marks))
       ∙ ap (λ x. built_of last marks x) (sym (ee ∙ reading.ends)))
-      (built_is s.place.start limit bytes tree t)
+      (built_is law s.place.start limit bytes tree t)
 
   pub marks_small : (marks : List Mark) (limit : ℕ) → marks ≡ s.marks → s.place.end ≤ limit → All (λ (m : Mark). m.at < limit) marks
   marks_small marks limit em h =

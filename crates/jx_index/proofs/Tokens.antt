@@ -9,11 +9,15 @@ use Rattle.jx_lex.specs.declared.state.Step.{Step}
 use Rattle.jx_lex.specs.Classes.{class_at}
 use Rattle.jx_lex.specs.Lex.{lex, after_step, on_next}
 use Rattle.jx_lex.specs.Moves.{move, as_gap, go, close, begin}
-use Rattle.jx_lex.specs.Token.{IsBlank, space, tab, line_feed, carriage_return}
-use Rattle.jx_lex.proofs.Inside.{Spells, here, goes, shuts, in_token, IsFinal, final_gap, final_zero, final_int, final_frac, final_exp, mark_of, token_reads}
-use Rattle.jx_lex.proofs.Stays.{go_stays}
+use Rattle.jx_lex.specs.Token.{IsBlank, space, tab, line_feed, carriage_return, IsToken}
+use Rattle.jx_lex.specs.TokenStates.{Spells, here, goes, shuts, in_token, IsFinal, final_gap, final_zero, final_int, final_frac, final_exp, mark_of, IsRead}
 use Rattle.jx_run.specs.Grammar.{Blanks, no_blanks, blank, Scalar}
 use Rattle.jx_index.specs.Building.{next_end}
+
+-- what the law of tokens says
+pub record TokensAreRead : Type 0 where
+  pub reads : (kind : Kind) (bytes : List ℕ) → IsToken kind bytes → IsRead (mark_of kind) bytes
+  pub stays : (s next : LexState) (byte : ℕ) → in_token s ≡ true → move s byte ≡ go next → in_token next ≡ true
 
 -- with the end of a token that its last byte shows
 abbrev pub ended : LexState → ℕ → List ℕ → List ℕ
@@ -47,10 +51,10 @@ spelt-here {s = s} at j rest h e =
       ends = ap (λ n. (lex s n rest).ends) e ∙ sym (ap (λ c. cond c (lex s j rest).ends (j ∷ (lex s j rest).ends)) h);
     }
 
-pub spelt : {s last : LexState} {w : List ℕ} → Spells s w last → in_token s ≡ true → (at j : ℕ) → j ≡ at + length w → (rest : List ℕ) → Spelt s last at j w rest
-spelt here h at j e rest = spelt-here at j rest h (omega arith)
-spelt (goes {s = s} {next = next} {b = b} m i) h at j e rest = spelt-goes at j rest m (spelt i (go_stays s b next h m) (suc at) j (omega arith) rest)
-spelt (shuts m) h at j e rest = spelt-shuts at j rest m (omega arith)
+pub spelt : TokensAreRead → {s last : LexState} {w : List ℕ} → Spells s w last → in_token s ≡ true → (at j : ℕ) → j ≡ at + length w → (rest : List ℕ) → Spelt s last at j w rest
+spelt law here h at j e rest = spelt-here at j rest h (omega arith)
+spelt law (goes {s = s} {next = next} {b = b} m i) h at j e rest = spelt-goes at j rest m (spelt law i (law.stays s next b h m) (suc at) j (omega arith) rest)
+spelt law (shuts m) h at j e rest = spelt-shuts at j rest m (omega arith)
 
 -- ---- what may follow a token
 
@@ -127,12 +131,12 @@ begins_token first i t h = (
   ap (λ (m : Step). (after_step m i (on_next m.next i (λ n. lex n (suc i) t))).ends) h,
 )
 
-pub tokened : {k : Kind} {i j : ℕ} {t rest : List ℕ} → Scalar k i t j rest → Delimited rest → (last : ℕ) → j + length rest ≡ last → Tokened (mark_of k) i j last t rest
-tokened {k = k} {i = i} {j = j} {t = t} {rest = rest} scalar d last h =
-    let r = token_reads k scalar.token scalar.is_token in
+pub tokened : TokensAreRead → {k : Kind} {i j : ℕ} {t rest : List ℕ} → Scalar k i t j rest → Delimited rest → (last : ℕ) → j + length rest ≡ last → Tokened (mark_of k) i j last t rest
+tokened law {k = k} {i = i} {j = j} {t = t} {rest = rest} scalar d last h =
+    let r = law.reads k scalar.token scalar.is_token in
     let w : t ≡ r.first ∷ (r.bytes ++ rest) = scalar.whole ∙ ap (λ x. x ++ rest) r.whole in
     let b = begins_token r.first i (r.bytes ++ rest) r.begins in
-    let p = spelt r.inside r.entered (suc i) j (omega (arith, scalar.end, ap length r.whole)) rest in
+    let p = spelt law r.inside r.entered (suc i) j (omega (arith, scalar.end, ap length r.whole)) rest in
     let q = resumes r.final d j last h in
     record {
       marks = ap (λ x. (lex state.Gap i x).marks) w ∙ b.0 ∙ ap (λ (x : List Mark). record { kind = mark_of k; at = i } ∷ x) (p.marks ∙ q.marks);

@@ -6,7 +6,7 @@ use Rattle.jx_run.specs.Text.{IsText}
 use Rattle.jx_index.specs.declared.row.Row.{Row}
 use Rattle.jx_index.specs.Rows.{rows}
 use Rattle.jx_index.specs.Afters.{afters}
-use Rattle.jx_index.specs.NameParts.{HaveParts}
+use Rattle.jx_index.specs.Parts.{HaveParts}
 
 pub record IndexedValue : Type 0 where
   pub text : List ℕ
@@ -27,12 +27,13 @@ pub record HasNodes (text : List ℕ) (place : Span) (table : List Row) (after :
   pub rows_are : table ≡ rows tree
   pub after_are : after ≡ afters tree
 
--- the rows, the numbers behind them and the ordered names are those of the text's tree
-pub record IsIndexed (text : List ℕ) (place : Span) (table : List Row) (after starts members : List ℕ) : Type 0 where
+-- the rows, the numbers behind them and the ordered children are those of the text's one tree
+pub record IsIndexed (text : List ℕ) (place : Span) (table : List Row) (after starts children : List ℕ) : Type 0 where
   pub limit : ℕ
   pub tree : Tree
   pub is_text : IsText text place.start place.end limit tree
   pub rows_are : table ≡ rows tree
   pub after_are : after ≡ afters tree
+  pub one_tree : (most : ℕ) (other : Tree) → IsText text place.start place.end most other → tree ≡ other
   pub starts_are : length starts ≡ length table + 1
-  pub parts : HaveParts text table after starts members (length table)
+  pub parts : HaveParts text table after starts children (length table)

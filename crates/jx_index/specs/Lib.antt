@@ -3,14 +3,13 @@ pub mod ArrayDigits
 pub mod ArrayTokens
 pub mod Building
 pub mod Built
-pub mod ChildPlaces
 pub mod Indexed
 pub mod Leads
 pub mod LookUp
-pub mod NameParts
 pub mod Low
 pub mod Names
 pub mod Nodes
+pub mod Parts
 pub mod PointerFaults
 pub mod PointerForm
 pub mod Pointers

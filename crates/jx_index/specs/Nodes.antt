@@ -16,6 +16,9 @@ kind_at rows node = kind_in (slice_get rows node)
 abbrev pub IsObjectAt : List Row → ℕ → Type 0
 IsObjectAt rows node = kind_at rows node ≡ kind.Object
 
+abbrev pub IsArrayAt : List Row → ℕ → Type 0
+IsArrayAt rows node = kind_at rows node ≡ kind.Array
+
 abbrev pub name_in : Option Row → Option Span
 name_in None = None
 name_in (Some row) = row.name

@@ -1,13 +1,14 @@
 // The look-up of pointers (RFC 6901, section 4).
-ghost use Rattle.std.specs.Prelude.{◌≡◌, ◌<◌, ◌≤◌, ℕ, length, take, drop, filter, IfOk};
+ghost use Rattle.std.specs.Prelude.{◌≡◌, ◌<◌, ◌≤◌, ℕ, length, take, drop, filter, slice_get, IfOk};
 ghost use Rattle.jx_run.specs.Text.{IsText};
 ghost use Rattle.jx_run.specs.Tree.{Tree};
+ghost use Rattle.jx_index.specs.declared.units.Spelling.TheVariants.{InToken};
 ghost use Rattle.jx_index.specs.ArrayTokens.{place_in};
 ghost use Rattle.jx_index.specs.Leads.{only, at_place, leads};
-ghost use Rattle.jx_index.specs.Nodes.{IsObjectAt, kind_at, child_numbers};
+ghost use Rattle.jx_index.specs.Nodes.{IsArrayAt, IsObjectAt, kind_at, child_numbers};
 ghost use Rattle.jx_index.specs.Pointers.{HasSlash, tokens, NoSlash};
 ghost use Rattle.jx_index.specs.RowsLead.{is_equal, row_token};
-ghost use Rattle.jx_index.specs.UnitsLeft.{units_left};
+ghost use Rattle.jx_index.specs.Units.{parts_units};
 
 use crate::array_token::{Place, place_of_token};
 use crate::find_fault::FindFault;
@@ -33,44 +34,49 @@ fn token_len(bytes: &[u8]) -> usize
     bytes.len()
 }
 
+fn node_at(nodes: &[NodeId], at: usize) -> Option<NodeId>
+    ensures { result ≡ slice_get nodes.now at }
+{
+    match nodes.get(at) {
+        Some(node) => Some(*node),
+        None => None,
+    }
+}
+
 impl<'a> Indexed<'a> {
-    fn member(&self, object: NodeId, units: Units, token: usize) -> Result<NodeId, FindFault>
+    fn member(&self, object: NodeId, name: &[u8], token: usize) -> Result<NodeId, FindFault>
         requires { IsObjectAt self.now.rows object }
-        ensures { result ≡ only (filter (is_equal self.now.text self.now.rows (units_left units.entry)) (child_numbers self.now.rows object)) token }
+        ensures { result ≡ only (filter (is_equal self.now.text self.now.rows (parts_units InToken 0 name.now)) (child_numbers self.now.rows object)) token }
     {
-        find_name(self.text(), self.rows(), self.names(object), units, token)
+        find_name(self.text(), self.rows(), self.names(object), name, token)
     }
 
-    fn element(&self, array: NodeId, units: Units, token: usize) -> Result<NodeId, FindFault>
-        ensures { result ≡ at_place (place_in (units_left units.entry) (length (child_numbers self.now.rows array))) (child_numbers self.now.rows array) token }
+    fn element(&self, array: NodeId, name: &[u8], token: usize) -> Result<NodeId, FindFault>
+        requires { IsArrayAt self.now.rows array }
+        ensures { result ≡ at_place (place_in (parts_units InToken 0 name.now) (length (child_numbers self.now.rows array))) (child_numbers self.now.rows array) token }
     {
-        match place_of_token(units, self.rows().len()) {
-            Place::Element(at) => { self.child(array, at).ok_or(FindFault::PastEnd { token }) }
+        let elements = self.elements(array);
+        match place_of_token(Units::new(name, Spelling::InToken), elements.len()) {
+            Place::Element(at) => node_at(elements, at).ok_or(FindFault::PastEnd { token }),
             Place::PastEnd => Err(FindFault::PastEnd { token }),
             Place::AfterLast => Err(FindFault::AfterLast { token }),
             Place::NotAnIndex => Err(FindFault::NotAnIndex { token }),
         }
     }
 
-    fn step(
-        &self,
-        kind: Kind,
-        node: NodeId,
-        units: Units,
-        token: usize,
-    ) -> Result<NodeId, FindFault>
+    fn step(&self, kind: Kind, node: NodeId, name: &[u8], token: usize) -> Result<NodeId, FindFault>
         requires { kind ≡ kind_at self.now.rows node }
-        ensures { result ≡ row_token self.now.text self.now.rows (units_left units.entry) node token }
+        ensures { result ≡ row_token self.now.text self.now.rows (parts_units InToken 0 name.now) node token }
     {
         match kind {
-            Kind::Object => self.member(node, units, token),
-            Kind::Array => self.element(node, units, token),
+            Kind::Object => self.member(node, name, token),
+            Kind::Array => self.element(node, name, token),
             _ => Err(FindFault::NotAContainer { token }),
         }
     }
 
     /// The node that a pointer leads to, or the first token that leads nowhere. It takes no memory, and in an object it
-    /// looks at no more names than a halving needs.
+    /// looks at no more names than a halving needs, in an array at one element.
     pub fn find(&self, pointer: &Pointer) -> Result<NodeId, FindFault>
         ensures row { IfOk result (λ node. node < length self.now.rows) }
         ensures leads { (limit : ℕ) (tree : Tree)
@@ -83,8 +89,8 @@ impl<'a> Indexed<'a> {
         while !rest.is_empty() {
             let bytes = skip(rest, 1);
             let len = token_len(bytes);
-            let units = Units::new(keep(bytes, len), Spelling::InToken);
-            node = self.step(rows[node.number()].kind, node, units, token)?;
+            let name = keep(bytes, len);
+            node = self.step(rows[node.number()].kind, node, name, token)?;
             rest = skip(bytes, len);
             token += 1;
         }

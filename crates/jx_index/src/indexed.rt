@@ -8,16 +8,16 @@ ghost use Rattle.jx_run.specs.Tree.{Tree};
 ghost use Rattle.jx_run.specs.Verdict.{Judged};
 ghost use Rattle.jx_index.specs.Indexed.{HasNodes, HasTree};
 ghost use Rattle.jx_index.specs.Names.{is_below};
-ghost use Rattle.jx_index.specs.Nodes.{IsObjectAt, child_numbers};
+ghost use Rattle.jx_index.specs.Nodes.{IsArrayAt, IsObjectAt, child_numbers};
 ghost use Rattle.jx_index.specs.Rows.{rows as rows_of};
 
 use crate::builder::{Nodes, nodes_from_marks, nodes_of_track};
 use crate::children::{Children, children_in};
-use crate::names::{Names, part_of};
+use crate::parts::{Parts, part_of};
 use crate::row::{NodeId, Row};
 use crate::row_keeper::RowKeeper;
-use jx_lex::{Depth, Span};
-use jx_run::{Pace, Refusal, Started, Summary, TextRun, Verdict, read_into};
+use jx_lex::{Depth, Span, tokens_are_read};
+use jx_run::{Pace, Refusal, Started, Summary, TextRun, Verdict, read_into, text_has_one_tree};
 use std::alloc::{AllocError, Global};
 use std::marker::Model;
 
@@ -27,7 +27,7 @@ pub struct Indexed<'a> {
     text: &'a [u8],
     span: Span,
     nodes: Nodes,
-    names: Names,
+    parts: Parts,
 }
 
 impl<'a> Model for Indexed<'a> {
@@ -37,7 +37,7 @@ impl<'a> Model for Indexed<'a> {
 
     ghost view = { λ i. record { text = i.text.now; place = i.span; rows = i.nodes.rows.items } };
 
-    ghost invariant = { λ i. IsIndexed i.text.now i.span i.nodes.rows.items i.nodes.after.items i.names.starts.items i.names.members.items };
+    ghost invariant = { λ i. IsIndexed i.text.now i.span i.nodes.rows.items i.nodes.after.items i.parts.starts.items i.parts.children.items };
 }
 
 impl<'a> Indexed<'a> {
@@ -57,6 +57,7 @@ impl<'a> Indexed<'a> {
         ensures rows { IfOk result (λ index. (limit : ℕ) (tree : Tree)
             → IsText text.now started.now.place.start started.now.place.end limit tree → index.rows ≡ rows_of tree) }
     {
+        tokens_are_read();
         let span = started.span();
         let nodes = nodes_from_marks(alloc, started.marks(), started.ends(), span.end)?;
         let index = Indexed::of_nodes(alloc, text, span, nodes)?;
@@ -82,6 +83,7 @@ impl<'a> Indexed<'a> {
         ensures rows { IfOk result (λ read. IfOk read (λ index. (limit : ℕ) (tree : Tree)
             → IsText text.now span.start span.end limit tree → index.rows ≡ rows_of tree)) }
     {
+        tokens_are_read();
         let told = read_into(
             alloc,
             text,
@@ -113,6 +115,7 @@ impl<'a> Indexed<'a> {
         ensures rows { IfOk result (λ index. (limit : ℕ) (tree : Tree)
             → IsText text.now run.now.map.start run.now.map.end limit tree → index.rows ≡ rows_of tree) }
     {
+        tokens_are_read();
         let span = run.span();
         let nodes = nodes_of_track(alloc, run.marks(), run.ends(), span.end)?;
         let index = Indexed::of_nodes(alloc, text, span, nodes)?;
@@ -131,12 +134,13 @@ impl<'a> Indexed<'a> {
         ensures place { IfOk result (λ index. index.place ≡ span) }
         ensures rows { IfOk result (λ index. index.rows ≡ nodes.rows.items) }
     {
-        let names = Names::of(alloc, text, &nodes.rows, &nodes.after)?;
+        text_has_one_tree();
+        let parts = Parts::of(alloc, text, &nodes.rows, &nodes.after)?;
         Ok(Indexed {
             text,
             span,
             nodes,
-            names,
+            parts,
         })
     }
 
@@ -199,6 +203,14 @@ impl<'a> Indexed<'a> {
         ensures rising { IsSortedBy (is_below self.now.text self.now.rows) result.now }
         ensures equal_by_place { IsStableBy (is_below self.now.text self.now.rows) (child_numbers self.now.rows object) result.now }
     {
-        part_of(&self.names.starts, &self.names.members, object.number())
+        part_of(&self.parts.starts, &self.parts.children, object.number())
+    }
+
+    // The elements of an array by place.
+    pub(crate) fn elements(&self, array: NodeId) -> &[NodeId]
+        requires { IsArrayAt self.now.rows array }
+        ensures { result.now ≡ child_numbers self.now.rows array }
+    {
+        part_of(&self.parts.starts, &self.parts.children, array.number())
     }
 }

@@ -1,18 +1,22 @@
-ghost use Rattle.std.specs.Prelude.{◌≡◌, ◌<◌, ℕ, suc, List, Ok, length, map};
+ghost use Rattle.std.specs.Prelude.{◌≡◌, ◌<◌, ℕ, suc, List, None, Ok, Err, length, map};
 ghost use Rattle.std.specs.List.Sorted.{IsStrictlyIncreasing};
 ghost use Rattle.std.specs.Str.{IsUtf8};
 ghost use Rattle.jx_lex.specs.Token.{IsString};
-ghost use Rattle.jx_run.specs.Text.{IsDocument};
+ghost use Rattle.jx_run.specs.Text.{IsDocument, IsText};
 ghost use Rattle.jx_run.specs.Tree.{Tree};
+ghost use Rattle.jx_index.specs.declared.find_fault.FindFault.TheVariants.{NameRepeated};
 ghost use Rattle.jx_index.specs.declared.units.Spelling.TheVariants.{InText};
 ghost use Rattle.jx_index.specs.declared.row.Row.{Row};
-ghost use Rattle.jx_index.specs.Leads.{HasRow, Numbered, children_of, led, numbered};
+ghost use Rattle.jx_index.specs.Leads.{HasRow, Numbered, children_of, leads, led, numbered};
 ghost use Rattle.jx_index.specs.Nodes.{child_numbers};
 ghost use Rattle.jx_index.specs.PointerForm.{IsPointerOf};
 ghost use Rattle.jx_index.specs.Pointers.{IsPointer, tokens};
+ghost use Rattle.jx_index.specs.Repeats.{IsLeast, IsRepeat};
 ghost use Rattle.jx_index.specs.Rows.{rows};
 ghost use Rattle.jx_index.specs.Standing.{HasNode, Standing, Stands, root_standing};
 ghost use Rattle.jx_index.specs.Units.{parts_units, between_marks};
+
+use jx_lex::tokens_are_read;
 
 /// What is read off a string is its value; the texts that are read as pointers are exactly those that have the form of one,
 /// and what is read off them are that form's tokens; the rows of a text stand in rising order of their starts, and those whose parent is a node
@@ -26,11 +30,19 @@ pub fn readings_are_forms()
         → IsStrictlyIncreasing (map (λ (row : Row). row.span.start) (rows tree)) }
     ensures children { (tree inner : Tree) (t : Standing) → Stands tree root_standing inner t
         → child_numbers (rows tree) t.number ≡ map (λ (c : Numbered). c.number) (numbered (children_of inner) (suc t.number)) }
-{}
+{
+    tokens_are_read();
+}
 
 /// The row of the node to which tokens lead has that node's kind, span and name; and each row of a text is the row of a node
 /// of its tree.
 pub fn look_ups_end_at_rows()
     ensures led { (text : List ℕ) (tree : Tree) (tokens : List (List ℕ)) (node : Numbered) → led text tree tokens ≡ Ok node → HasRow (rows tree) node }
     ensures nodes { (tree : Tree) (number : ℕ) → number < length (rows tree) → HasNode tree number }
+{}
+
+/// Where no object of a text repeats a name, as `Indexed::repeated` tells, no look-up answers that a name is repeated.
+pub fn unique_names_are_met_once()
+    ensures { (text : List ℕ) (start end limit : ℕ) (tree : Tree) → IsText text start end limit tree → IsLeast (IsRepeat text (rows tree)) None
+        → (tokens : List (List ℕ)) (token : ℕ) → leads text tree tokens ≡ Err (NameRepeated token) → ⊥ }
 {}

@@ -4,13 +4,13 @@
 mod array_token;
 mod builder;
 mod children;
-mod element;
 mod find;
 mod find_fault;
 mod indexed;
 mod laws;
 mod look_up;
 mod names;
+mod parts;
 mod pointer;
 mod repeats;
 mod row;
@@ -20,7 +20,7 @@ mod units;
 pub use children::Children;
 pub use find_fault::FindFault;
 pub use indexed::Indexed;
-pub use laws::{look_ups_end_at_rows, readings_are_forms};
+pub use laws::{look_ups_end_at_rows, readings_are_forms, unique_names_are_met_once};
 pub use pointer::{Pointer, PointerFault};
 pub use row::{NodeId, Row};
 

@@ -1,20 +1,17 @@
-// The members of all objects, ordered by the values of their names.
-ghost use Rattle.std.specs.Prelude.{◌≡◌, ◌<◌, ◌++◌, ◌+◌, ◌≤◌, ◌↔◌, ◌∷◌, [], take, drop, length, slice_index, IsTrue, IfOk, IfSome};
+// Names by their values.
+ghost use Rattle.std.specs.Prelude.{◌≡◌, ◌<◌, ◌↔◌, ◌∷◌, [], take, drop, length, IsTrue, IfOk, IfSome};
 ghost use Rattle.std.specs.Ordering.{nat_cmp};
 ghost use Rattle.std.specs.Cmp.Lexicographic.{slice_cmp};
-ghost use Rattle.jx_index.specs.declared.units.Spelling.TheVariants.{InText};
+ghost use Rattle.jx_index.specs.declared.units.Spelling.TheVariants.{InText, InToken};
 ghost use Rattle.jx_index.specs.Names.{name_units, IsInNameOrder};
 ghost use Rattle.jx_index.specs.Nodes.{IsObjectAt};
-ghost use Rattle.jx_index.specs.NameParts.{HaveParts, names_of};
 ghost use Rattle.jx_index.specs.Units.{units_at, parts_units};
 ghost use Rattle.jx_index.specs.UnitsLeft.{units_left};
-ghost use Rattle.jx_index.specs.Walk.{IsForward, IsBounded, walk_children};
 
-use crate::children::children_in;
 use crate::row::{NodeId, Row};
 use crate::units::{Spelling, Units, skip};
 use jx_lex::{Kind, Span};
-use std::alloc::{AllocError, Global};
+use std::alloc::AllocError;
 use std::cmp::Ordering;
 
 /// Units in order: the first different unit decides, and a beginning comes before what it begins.
@@ -79,21 +76,15 @@ fn name_bytes<'a>(text: &'a [u8], rows: &[Row], node: NodeId) -> &'a [u8]
     }
 }
 
-/// The units of a member's name; none where the row has no name.
-pub fn units_of_member<'a>(text: &'a [u8], rows: &[Row], node: NodeId) -> Units<'a>
-    ensures { units_left result ≡ name_units text.now rows.now node }
-{
-    Units::new(name_bytes(text, rows, node), Spelling::InText)
-}
-
-// How many bytes both begin with, each of which stands for one unit. To compare the others decides as to compare all.
-fn same_front(left: &[u8], right: &[u8]) -> usize
-    ensures { slice_cmp nat_cmp (parts_units InText 0 left.now) (parts_units InText 0 right.now) ≡ slice_cmp nat_cmp (parts_units InText 0 (drop result left.now)) (parts_units InText 0 (drop result right.now)) }
+// How many bytes both begin with, each of which stands for one unit in a text and in a token. To compare the others
+// decides as to compare all.
+fn same_front(left: &[u8], right: &[u8], spelling: Spelling) -> usize
+    ensures { slice_cmp nat_cmp (parts_units InText 0 left.now) (parts_units spelling 0 right.now) ≡ slice_cmp nat_cmp (parts_units InText 0 (drop result left.now)) (parts_units spelling 0 (drop result right.now)) }
 {
     let mut at = 0;
     while at < left.len() && at < right.len() {
         let byte = left[at];
-        if byte != right[at] || byte >= 0x80 || byte == b'\\' {
+        if byte != right[at] || byte >= 0x80 || byte == b'\\' || byte == b'~' {
             return at;
         }
         at += 1;
@@ -101,43 +92,64 @@ fn same_front(left: &[u8], right: &[u8]) -> usize
     at
 }
 
-// The first byte, where it stands for one unit of its own.
-fn first_plain(bytes: &[u8]) -> Option<u8>
-    ensures { IfSome result (λ unit. parts_units InText 0 bytes.now ≡ unit ∷ parts_units InText 0 (drop 1 bytes.now)) }
+// The first byte, where it stands for one unit of its own in a text and in a token.
+fn first_plain(bytes: &[u8], spelling: Spelling) -> Option<u8>
+    ensures { IfSome result (λ unit. parts_units spelling 0 bytes.now ≡ unit ∷ parts_units spelling 0 (drop 1 bytes.now)) }
 {
     match bytes {
-        [byte, ..] if *byte < 0x80 && *byte != b'\\' => Some(*byte),
+        [byte, ..] if *byte < 0x80 && *byte != b'\\' && *byte != b'~' => Some(*byte),
         _ => None,
     }
 }
 
 // What is left of two names behind the bytes with which both begin. The next bytes mostly decide.
 #[tactic(auto, unfolding(crate::specs::Units::parts_units))]
-fn compare_rests(left: &[u8], right: &[u8]) -> Ordering
-    ensures { result ≡ slice_cmp nat_cmp (parts_units InText 0 left.now) (parts_units InText 0 right.now) }
+fn compare_rests(left: &[u8], right: &[u8], spelling: Spelling) -> Ordering
+    ensures { result ≡ slice_cmp nat_cmp (parts_units InText 0 left.now) (parts_units spelling 0 right.now) }
 {
-    match (first_plain(left), first_plain(right)) {
+    match (
+        first_plain(left, Spelling::InText),
+        first_plain(right, spelling),
+    ) {
         (Some(one), Some(other)) if one < other => Ordering::Less,
         (Some(one), Some(other)) if other < one => Ordering::Greater,
+        (None, None) if left.is_empty() && right.is_empty() => Ordering::Equal,
         (None, Some(_)) if left.is_empty() => Ordering::Less,
         (Some(_), None) if right.is_empty() => Ordering::Greater,
         _ => compare(
             Units::new(left, Spelling::InText),
-            Units::new(right, Spelling::InText),
+            Units::new(right, spelling),
         ),
     }
+}
+
+// A name against another name or a token, as they are spelt. Bytes decide as long as each of them stands for one unit.
+fn compare_bytes(name: &[u8], other: &[u8], spelling: Spelling) -> Ordering
+    ensures { result ≡ slice_cmp nat_cmp (parts_units InText 0 name.now) (parts_units spelling 0 other.now) }
+{
+    let same = same_front(name, other, spelling);
+    compare_rests(skip(name, same), skip(other, same), spelling)
 }
 
 pub(crate) fn compare_members(text: &[u8], rows: &[Row], first: NodeId, second: NodeId) -> Ordering
     ensures { result ≡ slice_cmp nat_cmp (name_units text.now rows.now first) (name_units text.now rows.now second) }
 {
-    let left = name_bytes(text, rows, first);
-    let right = name_bytes(text, rows, second);
-    let same = same_front(left, right);
-    compare_rests(skip(left, same), skip(right, same))
+    compare_bytes(
+        name_bytes(text, rows, first),
+        name_bytes(text, rows, second),
+        Spelling::InText,
+    )
 }
 
-/// Sorts members by the units of their names; equal names keep their order.
+/// A member's name against a token as a pointer spells it.
+pub(crate) fn compare_to_token(text: &[u8], rows: &[Row], node: NodeId, token: &[u8]) -> Ordering
+    ensures { result ≡ slice_cmp nat_cmp (name_units text.now rows.now node) (parts_units InToken 0 token.now) }
+{
+    compare_bytes(name_bytes(text, rows, node), token, Spelling::InToken)
+}
+
+/// Sorts members by the units of their names; equal names keep their order. Where the order holds already, one comparison
+/// for each two neighbours is all that it costs, and up to 20 members take no memory.
 pub(crate) fn sort_members(
     text: &[u8],
     rows: &[Row],
@@ -149,92 +161,9 @@ pub(crate) fn sort_members(
     Ok(())
 }
 
-fn collect_children(
-    after: &[usize],
-    node: NodeId,
-    members: &mut Vec<NodeId>,
-) -> Result<(), AllocError>
-    requires forward { IsForward after.now }
-    requires bounded { IsBounded after.now }
-    ensures { IfOk result (λ _. members.new.items ≡ walk_children after.now node) }
-{
-    members.clear();
-    let mut children = children_in(after, node);
-    while let Some(child) = children.next() {
-        members.push(child)?;
-    }
-    Ok(())
-}
-
 pub(crate) fn is_object(rows: &[Row], node: usize) -> bool
     requires { node < length rows.now }
     ensures { IsTrue result ↔ IsObjectAt rows.now node }
 {
     matches!(rows[node].kind, Kind::Object)
-}
-
-// Adds the part of one row: its members by rising names where it is an object, else nothing.
-fn add_part(
-    text: &[u8],
-    rows: &[Row],
-    after: &[usize],
-    node: usize,
-    part: &mut Vec<NodeId>,
-    members: &mut Vec<NodeId>,
-) -> Result<(), AllocError>
-    requires row { node < length rows.now }
-    requires forward { IsForward after.now }
-    requires bounded { IsBounded after.now }
-    ensures added { IfOk result (λ _. members.new.items ≡ members.old.items ++ part.new.items) }
-    ensures in_order { IfOk result (λ _. IsObjectAt rows.now node → IsInNameOrder text.now rows.now (walk_children after.now node) part.new.items) }
-{
-    if !is_object(rows, node) {
-        part.clear();
-        return Ok(());
-    }
-    collect_children(after, NodeId::new(node), part)?;
-    sort_members(text, rows, part)?;
-    members.extend_from_slice(part)?;
-    Ok(())
-}
-
-/// The members of each object by rising names, object after object, and where the part of each row begins.
-#[derive(Debug, Drop)]
-pub struct Names {
-    pub(crate) starts: Vec<usize>,
-    pub(crate) members: Vec<NodeId>,
-}
-
-impl Names {
-    pub fn of(
-        alloc: Global,
-        text: &[u8],
-        rows: &[Row],
-        after: &[usize],
-    ) -> Result<Names, AllocError>
-        requires forward { IsForward after.now }
-        requires bounded { IsBounded after.now }
-        ensures starts { IfOk result (λ names. length names.starts.items ≡ length rows.now + 1) }
-        ensures parts { IfOk result (λ names. HaveParts text.now rows.now after.now names.starts.items names.members.items (length rows.now)) }
-    {
-        let mut starts = Vec::new(alloc);
-        let mut members = Vec::new(alloc);
-        let mut part = Vec::new(alloc);
-        starts.push(0)?;
-        for node in 0..rows.len() {
-            add_part(text, rows, after, node, &mut part, &mut members)?;
-            starts.push(members.len())?;
-        }
-        Ok(Names { starts, members })
-    }
-}
-
-/// The part of one row.
-pub(crate) fn part_of<'i>(starts: &[usize], members: &'i [NodeId], node: usize) -> &'i [NodeId]
-    requires there { node + 1 < length starts.now }
-    requires ordered { slice_index starts.now node ≤ slice_index starts.now (node + 1) }
-    requires within { slice_index starts.now (node + 1) ≤ length members.now }
-    ensures { result.now ≡ names_of starts.now members.now node }
-{
-    &members[starts[node]..starts[node + 1]]
 }

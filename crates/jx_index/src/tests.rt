@@ -1,7 +1,7 @@
 use crate::array_token::{Place, place_of_token};
 use crate::builder::{Nodes, nodes_from_marks};
 use crate::find_fault::FindFault;
-use crate::names::{compare, sort_members, units_of_member};
+use crate::names::{compare_to_token, sort_members};
 use crate::pointer::{Pointer, PointerFault};
 use crate::row::{NodeId, Row};
 use crate::units::{Spelling, Units};
@@ -102,8 +102,8 @@ fn array_tokens(rt: HostRuntime) {
 // Whether the only member of the text has a name of the token's units.
 fn names_same(alloc: Global, text: &[u8], pointed: &[u8]) -> Result<bool, AllocError> {
     let nodes = nodes_of(alloc, text)?;
-    let name = units_of_member(text, &nodes.rows, NodeId::new(1));
-    Ok(matches!(compare(name, token(pointed)), Ordering::Equal))
+    let order = compare_to_token(text, &nodes.rows, NodeId::new(1), pointed);
+    Ok(matches!(order, Ordering::Equal))
 }
 
 #[test]

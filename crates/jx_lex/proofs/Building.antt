@@ -451,7 +451,7 @@ Opened-where live i s b e h = subst (λ n. Opened live (n + 1) (if is_live live 
 head-exit : (s : LexState) → head (map State all_states) s ≡ State s
 head-exit s = get_or-map State all_states (ordinal s) state.Gap (Fault 0) (ordinal-low s) ∙ ap State (state-at s)
 
-every-live : (s : LexState) → is_live (replicate 32 true) s ≡ true
+pub every-live : (s : LexState) → is_live (replicate 32 true) s ≡ true
 every-live s = get_or-replicate 32 (ordinal s) true false (ordinal-low s)
 
 pub Reads-unread : (at : ℕ) → Reads at [] (replicate 32 true) (record { heads = map State all_states; parts = []; live = replicate 32 true })

@@ -8,13 +8,14 @@ use Rattle.jx_lex.specs.Lex.{Track, Exit, lex}
 use Rattle.jx_lex.specs.Follow.{Part, follow, IsIn, AreIn, head, shifted, linked, linked_parts}
 use Rattle.jx_lex.specs.Shared.{has, held_after, shared_from, after}
 use Rattle.jx_lex.specs.Bundle.{Bundle, is_live, LiveAt, AllLive, Reads, Stands, joined_bundle}
-use Rattle.jx_lex.proofs.LexJoin.{joined, right_of, lex-append}
+use Rattle.jx_lex.specs.TwoParts.{joined, right_of}
+use Rattle.jx_lex.proofs.LexJoin.{lex-append}
 use Rattle.jx_lex.proofs.Joined.{head-map, follow-linked, IsIn-linked, AreIn-linked, length-linked}
 use Rattle.jx_lex.proofs.Counting.{stored-append, stored-linked}
 use Rattle.jx_lex.proofs.Placing.{ArePlaced-wider, ArePlaced-append, ArePlaced-linked}
 
 -- a track that ends in a state ends in a live one
-exit-live : (live : List Bool) (ps : List Part) (g : Link) → LiveAt live g → AllLive live ps → IsIn (length ps) g → AreIn ps
+pub exit-live : (live : List Bool) (ps : List Part) (g : Link) → LiveAt live g → AllLive live ps → IsIn (length ps) g → AreIn ps
     → (s : LexState) → (follow ps g).exit ≡ Exit.state s → is_live live s ≡ true
 unfolding follow
 exit-live live ps (State t) l ls h w s e = let i : t ≡ s = cc in subst (λ x. is_live live x ≡ true) i l

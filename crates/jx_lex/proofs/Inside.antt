@@ -1,64 +1,23 @@
 -- The bytes of a token take the machine from Gap through the token's states, with one mark, at the first byte.
-use Rattle.std.proofs.Common.{◌≡◌, ◌≢◌, ℕ, ◌≤◌, Bool, true, false, List, [], ◌∷◌, ◌++◌, Some, None, refl, ap, arith}
+use Rattle.std.proofs.Common.{◌≡◌, ◌≢◌, ℕ, ◌≤◌, true, List, [], ◌∷◌, ◌++◌, refl, arith}
 use Rattle.jx_lex.specs.declared.class.Class.TheVariants as class
 use Rattle.jx_lex.specs.declared.kind.Kind.{Kind}
 use Rattle.jx_lex.specs.declared.kind.Kind.TheVariants as kind
 use Rattle.jx_lex.specs.declared.state.LexState.{LexState}
 use Rattle.jx_lex.specs.declared.state.LexState.TheVariants as state
-use Rattle.jx_lex.specs.declared.mark.MarkKind.{MarkKind}
 use Rattle.jx_lex.specs.declared.mark.MarkKind.TheVariants as mark
 use Rattle.jx_lex.specs.Character.{IsTail, Utf8, one, two, three_e0, three_low, three_ed, three_high, four_f0, four_mid, four_f4}
 use Rattle.jx_lex.specs.Classes.{class_at}
-use Rattle.jx_lex.specs.Moves.{move, row, go, begin, close}
+use Rattle.jx_lex.specs.Moves.{move, row, go, begin}
 use Rattle.jx_lex.specs.Token
 use Rattle.jx_lex.specs.Token.{IsDigit, Digits, no_digits, digit, IsMinus, unsigned, minus, IsInt, zero_alone, leading, IsFrac, no_frac, frac, IsSign, no_sign, plus, minus_sign, IsE, IsExp, no_exp, exp, IsNumber, number, IsHexDigit, IsEscaped, IsPart, character, escape, unit, Parts, no_parts, part, IsString, quoted, IsToken}
+use Rattle.jx_lex.specs.TokenStates.{in_token, Spells, here, goes, shuts, IsFinal, final_gap, final_zero, final_int, final_frac, final_exp, mark_of, IsRead}
 use Rattle.jx_lex.proofs.Forward.{move-range, move-digit, move-e, move-hex, move-tail, Str-ordinary}
-
--- from a state of a token to another over some bytes, or to the token's end where its last byte shows it
-pub data Spells : LexState → List ℕ → LexState → Type 0 where
-  here : {s : LexState} → Spells s [] s
-  goes : {s next last : LexState} {b : ℕ} {bs : List ℕ} → move s b ≡ go next → Spells next bs last → Spells s (b ∷ bs) last
-  shuts : {s : LexState} {b : ℕ} → move s b ≡ close → Spells s (b ∷ []) state.Gap
-
--- no state of a token is between tokens
-abbrev pub in_token : LexState → Bool
-in_token state.Gap = false
-in_token _ = true
 
 pub Spells-append : {s m last : LexState} {u v : List ℕ} → in_token m ≡ true → Spells s u m → Spells m v last → Spells s (u ++ v) last
 Spells-append k here j = j
 Spells-append k (goes e i) j = goes e (Spells-append k i j)
 Spells-append k (shuts e) j = absurd cc
-
--- from a state to another over some bytes, with no mark
-pub data Inside : LexState → List ℕ → LexState → Type 0 where
-  stays : {s : LexState} → Inside s [] s
-  step : {s next last : LexState} {b : ℕ} {bs : List ℕ} → (move s b).begin ≡ None → (move s b).next ≡ Some next → Inside next bs last → Inside s (b ∷ bs) last
-
-pub inside_of : {s last : LexState} {w : List ℕ} → Spells s w last → Inside s w last
-inside_of here = stays
-inside_of (goes e i) = step (ap (λ m. m.begin) e) (ap (λ m. m.next) e) (inside_of i)
-inside_of (shuts e) = step (ap (λ m. m.begin) e) (ap (λ m. m.next) e) stays
-
--- a state in which a whole text may end
-pub data IsFinal : LexState → Type 0 where
-  final_gap : IsFinal state.Gap
-  final_zero : IsFinal state.Zero
-  final_int : IsFinal state.Int
-  final_frac : IsFinal state.Frac
-  final_exp : IsFinal state.Exp
-
--- the bytes are one token, which begins with such a mark
-pub record Reads (k : MarkKind) (w : List ℕ) : Type 0 where
-  pub first : ℕ
-  pub bytes : List ℕ
-  pub entry : LexState
-  pub last : LexState
-  pub whole : w ≡ first ∷ bytes
-  pub begins : move state.Gap first ≡ begin k entry
-  pub inside : Spells entry bytes last
-  pub final : IsFinal last
-  pub entered : in_token entry ≡ true
 
 -- ---- numbers
 
@@ -97,7 +56,7 @@ frac_part at_int (frac h ds) x =
     let e = exp_part state.Frac final_frac refl refl x in
     record { last = e.last; final = e.final; inside = goes {next = state.Dot} refl (goes (move-digit state.Dot state.Frac refl refl h) (Spells-append refl (digits state.Frac refl refl ds) e.inside)) }
 
-pub number_reads : {w : List ℕ} → IsNumber w → Reads mark.Number w
+pub number_reads : {w : List ℕ} → IsNumber w → IsRead mark.Number w
 unfolding class_at
 number_reads (number unsigned zero_alone f x) =
     let e = frac_part at_zero f x in
@@ -181,7 +140,7 @@ pub parts_inside : {w us : List ℕ} → Parts w us → Spells state.Str w state
 parts_inside no_parts = here
 parts_inside (part p ps) = Spells-append refl (part_inside p) (parts_inside ps)
 
-pub string_reads : {w us : List ℕ} → IsString w us → Reads mark.String w
+pub string_reads : {w us : List ℕ} → IsString w us → IsRead mark.String w
 unfolding class_at
 string_reads (quoted ps) =
     record {
@@ -198,17 +157,7 @@ string_reads (quoted ps) =
 
 -- ---- all tokens
 
--- the mark of a scalar
-abbrev pub mark_of : Kind → MarkKind
-mark_of kind.Object = mark.OpenObject
-mark_of kind.Array = mark.OpenArray
-mark_of kind.String = mark.String
-mark_of kind.Number = mark.Number
-mark_of kind.True = mark.True
-mark_of kind.False = mark.False
-mark_of kind.Null = mark.Null
-
-pub token_reads : (k : Kind) (w : List ℕ) → IsToken k w → Reads (mark_of k) w
+pub token_reads : (k : Kind) (w : List ℕ) → IsToken k w → IsRead (mark_of k) w
 unfolding class_at
 token_reads kind.Object w h = absurd h
 token_reads kind.Array w h = absurd h

@@ -4,7 +4,8 @@ use Rattle.std.proofs.lemmas.List.{length-map, get_or-map}
 use Rattle.jx_lex.specs.declared.state.LexState.{LexState}
 use Rattle.jx_lex.specs.declared.mark.Mark.{Mark}
 use Rattle.jx_lex.specs.Lex.{Track, Exit, lex}
-use Rattle.jx_lex.proofs.LexJoin.{joined, right_of, lex-append}
+use Rattle.jx_lex.specs.TwoParts.{joined, right_of}
+use Rattle.jx_lex.proofs.LexJoin.{lex-append}
 use Rattle.jx_lex.specs.declared.state.LexState.TheVariants as state
 use Rattle.jx_lex.specs.Map.{Map, IsWhole, IsOf, joined_map, track}
 use Rattle.jx_lex.specs.declared.link.Link.{Link}

@@ -13,7 +13,8 @@ use Rattle.jx_lex.specs.Runs.{Leads}
 use Rattle.jx_lex.specs.Seen.{Seen, Grows, SeesTrack, GoesTo, EndsAtComma, Shuts}
 use Rattle.jx_lex.specs.declared.mark.MarkKind.TheVariants.{Colon, Comma}
 use Rattle.jx_lex.specs.declared.state.TokenEnd.TheVariants.{Before}
-use Rattle.jx_lex.proofs.LexJoin.{right_of, lex-append}
+use Rattle.jx_lex.specs.TwoParts.{joined, right_of}
+use Rattle.jx_lex.proofs.LexJoin.{lex-append}
 use Rattle.jx_lex.proofs.Reading.{one-is}
 use Rattle.jx_lex.proofs.Running.{lex-leads}
 use Rattle.jx_lex.proofs.Slices.{slice-none, slice-more, slice-first, slice-length, slice-split}
@@ -43,17 +44,23 @@ then t u = record { marks = t.marks ++ u.marks; ends = t.ends ++ u.ends; exit = 
 right-at : (e : Exit) (s : LexState) (right : LexState → Track) → e ≡ reading.state s → right_of e right ≡ right s
 right-at e s right h = ap (λ (x : Exit). right_of x right) h
 
+-- a stretch is read in two parts
+pub in_two : (xs : List ℕ) (a b c : ℕ) (s : LexState) → a ≤ b → b ≤ c → b ≤ length xs
+    → lex s a (slice_range xs a c) ≡ joined (lex s a (slice_range xs a b)) (λ next. lex next b (slice_range xs b c))
+in_two xs a b c s low high fits =
+    let u = slice_range xs a b in
+    let v = slice_range xs b c in
+    let n : a + length u ≡ b = sym (slice-length xs a b low fits) in
+    ap (lex s a) (slice-split xs a b c low high) ∙ lex-append u v s a ∙ ap (λ (k : ℕ). joined (lex s a u) (λ next. lex next k v)) n
+
 -- reading goes on where the first part led to
 pub lex-then : (xs : List ℕ) (a b c : ℕ) (s t : LexState) → a ≤ b → b ≤ c → b ≤ length xs → (lex s a (slice_range xs a b)).exit ≡ reading.state t
     → lex s a (slice_range xs a c) ≡ then (lex s a (slice_range xs a b)) (lex t b (slice_range xs b c))
 lex-then xs a b c s t low high fits h =
     let u = slice_range xs a b in
     let v = slice_range xs b c in
-    let n : a + length u ≡ b = sym (slice-length xs a b low fits) in
-    ap (lex s a) (slice-split xs a b c low high)
-    ∙ lex-append u v s a
-    ∙ ap (λ (r : Track). record { marks = (lex s a u).marks ++ r.marks; ends = (lex s a u).ends ++ r.ends; exit = r.exit }) (right-at (lex s a u).exit t (λ n. lex n (a + length u) v) h)
-    ∙ ap (λ (k : ℕ). then (lex s a u) (lex t k v)) n
+    in_two xs a b c s low high fits
+    ∙ ap (λ (r : Track). record { marks = (lex s a u).marks ++ r.marks; ends = (lex s a u).ends ++ r.ends; exit = r.exit }) (right-at (lex s a u).exit t (λ n. lex n b v) h)
 
 pub sees-then : (xs : List ℕ) (a b c : ℕ) (s t : LexState) (old mid new : Seen) → a ≤ b → b ≤ c → b ≤ length xs
     → GoesTo old mid (lex s a (slice_range xs a b)) t → SeesTrack mid new (lex t b (slice_range xs b c)) → SeesTrack old new (lex s a (slice_range xs a c))

@@ -7,17 +7,8 @@ use Rattle.jx_lex.specs.declared.state.TokenEnd.TheVariants.{Before, After}
 use Rattle.jx_lex.specs.declared.state.Step.{Step}
 use Rattle.jx_lex.specs.declared.mark.Mark.{Mark}
 use Rattle.jx_lex.specs.Moves.{move}
-use Rattle.jx_lex.specs.Lex.{lex, Exit, Track, with_mark, with_end, after_step, on_next, stops_at}
-
--- the track of the right side is the one of the left side's exit; a fault stops there
-abbrev pub right_of : Exit → (LexState → Track) → Track
-right_of (Exit.state s) right = right s
-right_of (Exit.fault at) right = stops_at at
-
-abbrev pub joined : Track → (LexState → Track) → Track
-joined left right =
-    let r = right_of left.exit right in
-    record { marks = left.marks ++ r.marks; ends = left.ends ++ r.ends; exit = r.exit }
+use Rattle.jx_lex.specs.Lex.{lex, Track, with_mark, with_end, after_step, on_next}
+use Rattle.jx_lex.specs.TwoParts.{joined, right_of}
 
 with_mark-append : (m : Option MarkKind) (at : ℕ) (xs ys : List Mark) → with_mark m at (xs ++ ys) ≡ with_mark m at xs ++ ys
 with_mark-append None at xs ys = refl

@@ -8,6 +8,7 @@ pub mod ClassTable
 pub mod Closing
 pub mod Completes
 pub mod Counting
+pub mod Fewness
 pub mod Forward
 pub mod Going
 pub mod Inside
@@ -23,6 +24,7 @@ pub mod Placing
 pub mod Pruning
 pub mod Reading
 pub mod ReadingOn
+pub mod Recognized
 pub mod Running
 pub mod Slices
 pub mod Spans

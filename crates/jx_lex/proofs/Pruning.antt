@@ -14,7 +14,7 @@ use Rattle.jx_lex.specs.Map.{Map, IsWhole, joined_map, stored, track}
 use Rattle.jx_lex.specs.Pruned.{IsReached, with_reached, emptied, pruned, with_exit_of}
 use Rattle.jx_lex.proofs.Building.{AllLive-append, AllLive-more, LiveAt-more, live-new, ordinal-at}
 use Rattle.jx_lex.proofs.Joined.{track-joined}
-use Rattle.jx_lex.proofs.LexJoin.{joined, right_of}
+use Rattle.jx_lex.specs.TwoParts.{joined, right_of}
 use Rattle.jx_lex.proofs.Many.{take-next}
 
 -- ---- what is reached

@@ -5,7 +5,7 @@ use Rattle.jx_lex.specs.declared.state.LexState.{LexState}
 use Rattle.jx_lex.specs.declared.mark.Mark.{Mark}
 use Rattle.jx_lex.specs.Moves.{move}
 use Rattle.jx_lex.specs.Lex.{Track, Exit, state, fault, lex, with_mark, with_end, after_step, on_next}
-use Rattle.jx_lex.proofs.LexJoin.{joined}
+use Rattle.jx_lex.specs.TwoParts.{joined}
 use Rattle.jx_lex.specs.declared.link.Link.{Link}
 use Rattle.jx_lex.specs.declared.link.Link.TheVariants.{Ahead, State, Fault}
 use Rattle.jx_lex.specs.Follow.{Part, done, behind, follow, IsIn, AreIn}

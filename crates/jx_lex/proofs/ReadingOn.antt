@@ -19,7 +19,8 @@ use Rattle.jx_lex.specs.Passing.{KeptBy, AllKept, read_bytes}
 use Rattle.jx_lex.specs.Map.{MarksIn, ArePlaced}
 use Rattle.jx_lex.specs.Shared.{has, beginning, shared_from, after, HeldAt, AllHeld}
 use Rattle.jx_lex.specs.Bundle.{Bundle, LiveAt, AllLive, Within, Reads, Stands, ReadsOn, is_apart, joined_bundle}
-use Rattle.jx_lex.proofs.LexJoin.{joined, lex-append}
+use Rattle.jx_lex.specs.TwoParts.{joined}
+use Rattle.jx_lex.proofs.LexJoin.{lex-append}
 use Rattle.jx_lex.proofs.Joined.{length-linked, AreIn-linked}
 use Rattle.jx_lex.proofs.Meeting.{same_ordinal, follow-met, head-meeting, IsIn-meeting}
 use Rattle.jx_lex.proofs.Reading.{one, follow-read, AreIn-read}

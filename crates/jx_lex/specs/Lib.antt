@@ -16,4 +16,7 @@ pub mod Step
 pub mod Runs
 pub mod Seen
 pub mod Token
+pub mod TokenStates
+pub mod TokenSteps
+pub mod TwoParts
 pub mod View

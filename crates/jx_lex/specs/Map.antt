@@ -1,7 +1,7 @@
 -- What a contract sees of a chunk map.
-use Rattle.std.specs.Prelude.{◌≡◌, ℕ, ◌+◌, ◌≤◌, ◌<◌, List, [], ◌∷◌, ◌++◌, length, map}
+use Rattle.std.specs.Prelude.{◌≡◌, ◌⊎◌, ℕ, ◌+◌, ◌≤◌, ◌<◌, List, [], ◌∷◌, ◌++◌, length, map}
 use Rattle.jx_lex.specs.declared.state.LexState.{LexState}
-use Rattle.jx_lex.specs.Lex.{Track, lex}
+use Rattle.jx_lex.specs.Lex.{Exit, Track, lex}
 use Rattle.jx_lex.specs.declared.mark.Mark.{Mark}
 use Rattle.jx_lex.specs.declared.link.Link.{Link}
 use Rattle.jx_lex.specs.Follow.{Part, follow, head, IsIn, AreIn, linked, linked_parts}
@@ -26,6 +26,12 @@ pub record IsWhole (m : Map) : Type 0 where
 pub record IsOf (bytes : List ℕ) (m : Map) : Type 0 where
   pub long : m.end ≡ m.start + length bytes
   pub tracks : (s : LexState) → track m s ≡ lex s m.start bytes
+
+-- two states, in one of which each track ends that meets no fault
+pub record EndsInTwo (m : Map) : Type 0 where
+  pub one : LexState
+  pub other : LexState
+  pub all : (s t : LexState) → (track m s).exit ≡ Exit.state t → (t ≡ one) ⊎ (t ≡ other)
 
 abbrev pub stored : List Part → ℕ
 stored [] = 0

@@ -1,4 +1,5 @@
--- Blanks, strings, numbers and literals (RFC 8259, sections 2, 3, 6 and 7), each as a whole list of bytes.
+-- Blanks, strings, numbers and literals (RFC 8259, sections 2, 3, 6 and 7), each as a whole list of bytes. Over each
+-- definition stands the rule of the standard's grammar (RFC 5234) that it says.
 use Rattle.std.specs.Prelude.{◌≡◌, ◌≢◌, ℕ, ◌+◌, ◌*◌, ◌≤◌, ◌⊎◌, ◌==◌, if◌then◌else◌, List, [], ◌∷◌, ◌++◌, codes}
 use Rattle.std.specs.Char.{digit_value}
 use Rattle.std.specs.Char.Escape.{encode_utf16}
@@ -9,6 +10,7 @@ use Rattle.jx_lex.specs.declared.kind.Kind.TheVariants.{Object, Array, String, N
 -- ---- between tokens (section 2)
 
 -- space, tab, line feed, carriage return
+--   one of those in ws = *( %x20 / %x09 / %x0A / %x0D )
 pub data IsBlank : ℕ → Type 0 where
   space : IsBlank 0x20
   tab : IsBlank 0x09
@@ -18,57 +20,68 @@ pub data IsBlank : ℕ → Type 0 where
 -- ---- numbers (section 6)
 
 -- 0 to 9
+--   DIGIT = %x30-39
 abbrev pub IsDigit : ℕ → Type 0
 IsDigit byte = IsWithin 0x30 0x39 byte
 
 -- any number of digits
+--   *DIGIT
 pub data Digits : List ℕ → Type 0 where
   no_digits : Digits []
   digit : {b : ℕ} {bs : List ℕ} → IsDigit b → Digits bs → Digits (b ∷ bs)
 
 -- a minus sign or none
+--   [ minus ], minus = %x2D
 pub data IsMinus : List ℕ → Type 0 where
   unsigned : IsMinus []
   minus : IsMinus (0x2d ∷ [])
 
 -- 0, or 1 to 9 and any digits
+--   int = zero / ( digit1-9 *DIGIT ), zero = %x30, digit1-9 = %x31-39
 pub data IsInt : List ℕ → Type 0 where
   zero_alone : IsInt (0x30 ∷ [])
   leading : {b : ℕ} {bs : List ℕ} → IsWithin 0x31 0x39 b → Digits bs → IsInt (b ∷ bs)
 
 -- nothing, or a dot and at least one digit
+--   [ frac ], frac = decimal-point 1*DIGIT, decimal-point = %x2E
 pub data IsFrac : List ℕ → Type 0 where
   no_frac : IsFrac []
   frac : {b : ℕ} {bs : List ℕ} → IsDigit b → Digits bs → IsFrac (0x2e ∷ b ∷ bs)
 
 -- a sign of an exponent, or none
+--   [ minus / plus ], plus = %x2B
 pub data IsSign : List ℕ → Type 0 where
   no_sign : IsSign []
   plus : IsSign (0x2b ∷ [])
   minus_sign : IsSign (0x2d ∷ [])
 
 -- e or E
+--   e = %x65 / %x45
 abbrev pub IsE : ℕ → Type 0
 IsE byte = (byte ≡ 0x65) ⊎ (byte ≡ 0x45)
 
 -- nothing, or e or E, an optional sign and at least one digit
+--   [ exp ], exp = e [ minus / plus ] 1*DIGIT
 pub data IsExp : List ℕ → Type 0 where
   no_exp : IsExp []
   exp : {e b : ℕ} {sign bs : List ℕ} → IsE e → IsSign sign → IsDigit b → Digits bs → IsExp (e ∷ (sign ++ (b ∷ bs)))
 
 -- a number: its four parts one after another
+--   number = [ minus ] int [ frac ] [ exp ]
 pub data IsNumber : List ℕ → Type 0 where
   number : {minus int frac exp : List ℕ} → IsMinus minus → IsInt int → IsFrac frac → IsExp exp → IsNumber (minus ++ (int ++ (frac ++ exp)))
 
 -- ---- strings (section 7)
 
 -- 0 to 9, A to F, a to f
+--   HEXDIG, in either case
 pub data IsHexDigit : ℕ → Type 0 where
   decimal : {b : ℕ} → IsDigit b → IsHexDigit b
   upper : {b : ℕ} → IsWithin 0x41 0x46 b → IsHexDigit b
   lower : {b : ℕ} → IsWithin 0x61 0x66 b → IsHexDigit b
 
 -- what may stand after a backslash, other than u
+--   %x22 / %x5C / %x2F / %x62 / %x66 / %x6E / %x72 / %x74
 pub data IsEscaped : ℕ → Type 0 where
   quotation_mark : IsEscaped 0x22
   backslash : IsEscaped 0x5c
@@ -93,23 +106,28 @@ abbrev pub hex_unit : ℕ → ℕ → ℕ → ℕ → ℕ
 hex_unit a b c d = digit_value a * 4096 + digit_value b * 256 + digit_value c * 16 + digit_value d
 
 -- a part of a string, and its UTF-16 units: a character that stands for itself, or an escape
+--   char = unescaped / escape ( one of the above / %x75 4HEXDIG ), escape = %x5C,
+--   unescaped = %x20-21 / %x23-5B / %x5D-10FFFF
 pub data IsPart : List ℕ → List ℕ → Type 0 where
   character : {w : List ℕ} {c : ℕ} → Utf8 w c → 0x20 ≤ c → c ≢ 0x22 → c ≢ 0x5c → IsPart w (encode_utf16 c)
   escape : {b : ℕ} → IsEscaped b → IsPart (0x5c ∷ b ∷ []) (escaped_unit b ∷ [])
   unit : {a b c d : ℕ} → IsHexDigit a → IsHexDigit b → IsHexDigit c → IsHexDigit d → IsPart (0x5c ∷ 0x75 ∷ a ∷ b ∷ c ∷ d ∷ []) (hex_unit a b c d ∷ [])
 
 -- any number of parts, and their units
+--   *char
 pub data Parts : List ℕ → List ℕ → Type 0 where
   no_parts : Parts [] []
   part : {w v us vs : List ℕ} → IsPart w us → Parts v vs → Parts (w ++ v) (us ++ vs)
 
 -- a string, and its value as UTF-16 units
+--   string = quotation-mark *char quotation-mark, quotation-mark = %x22
 pub data IsString : List ℕ → List ℕ → Type 0 where
   quoted : {w us : List ℕ} → Parts w us → IsString (0x22 ∷ (w ++ (0x22 ∷ []))) us
 
 -- ---- tokens (section 3)
 
 -- a token of a kind; an object and an array are none
+--   false = %x66.61.6C.73.65, null = %x6E.75.6C.6C, true = %x74.72.75.65
 abbrev pub IsToken : Kind → List ℕ → Type 0
 IsToken String w = (units : List ℕ) × IsString w units
 IsToken Number w = IsNumber w

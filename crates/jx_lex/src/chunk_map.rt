@@ -1,9 +1,9 @@
 // What reading a span gives from each state.
-ghost use Rattle.std.specs.Prelude.{◌≡◌, ◌≤◌, ◌<◌, ◌+◌, ◌++◌, length, IfOk, IfErr, map, slice_range, ℕ, List};
+ghost use Rattle.std.specs.Prelude.{◌≡◌, ◌⊎◌, ◌≤◌, ◌<◌, ◌+◌, ◌++◌, length, IfOk, IfErr, map, slice_range, ℕ, List};
 ghost use Rattle.jx_lex.specs.declared.state.LexState.{LexState};
 ghost use Rattle.jx_lex.specs.View.{view_track};
 ghost use Rattle.jx_lex.specs.Shared.{shared_count};
-ghost use Rattle.jx_lex.specs.Map.{ArePlaced, joined_map, IsOf, stored, track};
+ghost use Rattle.jx_lex.specs.Map.{ArePlaced, EndsInTwo, joined_map, IsOf, stored, track};
 
 use crate::bundle::{Bundle, count_live};
 use crate::join_fault::JoinFault;
@@ -98,8 +98,8 @@ impl ChunkMap {
         ChunkMap::up_to(alloc, text, start, end, end)
     }
 
-    /// The map of a beginning of this part of the text, so long that its tracks mostly stand in two states behind it.
-    /// Whatever keeps what the rest of the part comes to can then be read with `scan` from these states alone.
+    /// The map of a beginning of this part of the text, so long that its tracks stand in at most two states behind it, or
+    /// else of all of it. Whatever keeps what the rest comes to can then be read with `scan` from these states alone.
     pub fn of_beginning(
         alloc: Global,
         text: &[u8],
@@ -110,6 +110,7 @@ impl ChunkMap {
         ensures start { IfOk result (λ m. m.start ≡ start) }
         ensures end { IfOk result (λ m. (start ≤ m.end) × (m.end ≤ end)) }
         ensures of { IfOk result (λ m. IsOf (slice_range text.now start m.end) m) }
+        ensures few { IfOk result (λ m. (m.end ≡ end) ⊎ EndsInTwo m) }
         ensures stored { IfOk result (λ m. stored m.parts ≤ shared_count (slice_range text.now start m.end)) }
         ensures placed { IfOk result (λ m. ArePlaced start m.end m.parts) }
     {
@@ -133,6 +134,7 @@ impl ChunkMap {
         ensures start { IfOk result (λ m. m.start ≡ start) }
         ensures end { IfOk result (λ m. (least ≤ m.end) × (m.end ≤ end)) }
         ensures of { IfOk result (λ m. IsOf (slice_range text.now start m.end) m) }
+        ensures few { IfOk result (λ m. (m.end ≡ end) ⊎ EndsInTwo m) }
         ensures stored { IfOk result (λ m. stored m.parts ≤ shared_count (slice_range text.now start m.end)) }
         ensures placed { IfOk result (λ m. ArePlaced start m.end m.parts) }
     {

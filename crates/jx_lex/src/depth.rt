@@ -1,3 +1,4 @@
+// How deep containers may nest.
 ghost use Rattle.std.specs.Prelude.{◌≡◌, ◌≤◌, ◌↔◌, IsSome, IfSome};
 
 use std::marker::Model;

@@ -1,3 +1,4 @@
+// Where a reading ends.
 use crate::state::LexState;
 
 /// Where a track ends: in a state, or at the offset of the first byte that no token can have there.

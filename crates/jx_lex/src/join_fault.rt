@@ -1,3 +1,4 @@
+// A join that was refused memory.
 use thiserror::Error;
 
 /// No memory could be had for a join. Both sides are handed back, equal to what came in.

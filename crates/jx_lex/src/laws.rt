@@ -1,11 +1,35 @@
 // Laws of the plain reading by the lexical machine, each on a function that does nothing.
-ghost use Rattle.std.specs.Prelude.{◌≡◌, ℕ, ◌+◌, List, ◌++◌, length};
+ghost use Rattle.std.specs.Prelude.{◌≡◌, ◌≤◌, ℕ, ◌+◌, List, ◌++◌, length, slice_range, true};
+ghost use Rattle.jx_lex.specs.declared.kind.Kind.{Kind};
 ghost use Rattle.jx_lex.specs.declared.state.LexState.{LexState};
 ghost use Rattle.jx_lex.specs.Lex.{lex};
+ghost use Rattle.jx_lex.specs.Moves.{go, move};
 ghost use Rattle.jx_lex.specs.Runs.{AllKeep, Leads};
+ghost use Rattle.jx_lex.specs.Token.{IsToken};
+ghost use Rattle.jx_lex.specs.TokenStates.{IsRead, in_token, mark_of};
+ghost use Rattle.jx_lex.specs.TokenSteps.{GapStep, TokenStep};
+ghost use Rattle.jx_lex.specs.TwoParts.{joined};
 
 /// Bytes that keep the state and have no event may be passed over, and so may those that lead back to it.
 pub fn runs_may_be_passed_over()
     ensures kept { (s : LexState) (at : ℕ) (run bytes : List ℕ) → AllKeep s run → lex s at (run ++ bytes) ≡ lex s (at + length run) bytes }
     ensures led { (s t : LexState) (at : ℕ) (run bytes : List ℕ) → Leads s run t → lex s at (run ++ bytes) ≡ lex t (at + length run) bytes }
+{}
+
+/// Bytes are read part by part: the rest goes on in the state that the first part leads to, and behind a fault nothing is
+/// read.
+pub fn parts_are_read_in_turn()
+    ensures two { (s : LexState) (at : ℕ) (first rest : List ℕ) → lex s at (first ++ rest) ≡ joined (lex s at first) (λ next. lex next (at + length first) rest) }
+    ensures stretch { (text : List ℕ) (a b c : ℕ) (s : LexState) → a ≤ b → b ≤ c → b ≤ length text
+        → lex s a (slice_range text a c) ≡ joined (lex s a (slice_range text a b)) (λ next. lex next b (slice_range text b c)) }
+{}
+
+/// What is read as one token is exactly what is a token of RFC 8259 (sections 3, 6 and 7); and what a byte may do, in a token
+/// and between tokens.
+pub fn tokens_are_read()
+    ensures reads { (kind : Kind) (bytes : List ℕ) → IsToken kind bytes → IsRead (mark_of kind) bytes }
+    ensures tokens { (kind : Kind) (bytes : List ℕ) → IsRead (mark_of kind) bytes → IsToken kind bytes }
+    ensures stays { (s next : LexState) (byte : ℕ) → in_token s ≡ true → move s byte ≡ go next → in_token next ≡ true }
+    ensures steps { (s : LexState) (byte : ℕ) → in_token s ≡ true → TokenStep s byte }
+    ensures gaps { (byte : ℕ) → GapStep byte }
 {}

@@ -2,41 +2,51 @@
 //! part of a text gives from each state, whatever stands to its left.
 #![tactic(auto)]
 
-mod ahead;
-mod bundle;
+// The alphabet and the machine: classes of bytes, the states, what a byte does in each, and the marks and exits that come
+// of it.
 mod cell;
 mod cells;
-mod chunk_map;
 mod class;
 mod classes;
-mod depth;
-mod ends;
 mod exit;
-mod join_fault;
-mod keeper;
-mod kind;
-mod last_tracks;
 mod laws;
-mod link;
 mod machine;
-mod many_tracks;
 mod mark;
-mod marks;
+mod state;
+
+// The scanner: bytes are read from one known state, into whatever is kept of their tokens.
+mod ahead;
+mod keeper;
 mod parts;
 mod passes;
+mod runs;
+mod scanner;
+mod tokens;
+
+// The map: what a part of a text gives from each state, in segments that its tracks share.
+mod bundle;
+mod chunk_map;
+mod ends;
+mod join_fault;
+mod last_tracks;
+mod link;
+mod many_tracks;
+mod marks;
 mod path;
 mod reach;
-mod runs;
-#[cfg(test)]
-mod scan_tests;
-mod scanner;
 mod segment;
 mod span;
-mod state;
+mod track_view;
+
+// What the crates above share beside these: kinds of values, and a limit of nesting.
+mod depth;
+mod kind;
+
+// Tests.
+#[cfg(test)]
+mod scan_tests;
 #[cfg(test)]
 mod tests;
-mod tokens;
-mod track_view;
 
 pub use chunk_map::ChunkMap;
 pub use class::{Class, class_of};
@@ -46,7 +56,7 @@ pub use exit::Exit;
 pub use join_fault::JoinFault;
 pub use keeper::Keeper;
 pub use kind::Kind;
-pub use laws::runs_may_be_passed_over;
+pub use laws::{parts_are_read_in_turn, runs_may_be_passed_over, tokens_are_read};
 pub use link::Link;
 pub use machine::step;
 pub use mark::{Mark, MarkKind};

@@ -1,3 +1,4 @@
+// Chunk maps beside a reading byte by byte.
 mod beginnings;
 mod cuts;
 mod strings;

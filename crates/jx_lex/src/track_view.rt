@@ -1,3 +1,4 @@
+// One track of a map, as it is shown.
 ghost use Rattle.std.specs.Prelude.{◌≡◌, ◌<◌, ◌+◌, length, slice_index_or, drop, All, flat_map};
 ghost use Rattle.jx_lex.specs.View.{exit_of, view_track, view_path, marks_at, ends_at};
 

@@ -2,6 +2,7 @@
 use Rattle.std.proofs.Common.{◌≡◌, ℕ, ◌+◌, ◌-◌, ◌<◌, ◌≤◌, List, [], ◌∷◌, ◌++◌, length, take, drop, get_or, refl, sym, ◌∙◌, ap, subst, arith, Option, Some, None, false}
 use Rattle.std.proofs.Math.Seq.{take-add}
 use Rattle.std.proofs.lemmas.List.{take_more, take_rest, take-append-drop}
+use Rattle.std.proofs.lemmas.List.Sums.{fold-append}
 use Rattle.std.specs.Prelude.{slice_get, is_some}
 use Rattle.jx_reduce.specs.Entries.{expect_at}
 use Rattle.jx_reduce.specs.Table.{next_of, change_of, Change, same, added, removed}
@@ -143,8 +144,7 @@ OffsetsIn-of_nothing Q x = record { ended = tt; last = none_in Q; heights = tt }
 
 -- reading two lists of marks
 pub read-append : (d : ℕ) (ms ns : List Mark) (r : Reading) → read d (ms ++ ns) r ≡ read d ns (read d ms r)
-read-append d [] ns r = refl
-read-append d (m ∷ ms) ns r = read-append d ms ns (step d m r)
+read-append d ms ns r = fold-append (λ reading mark. step d mark reading) r ms ns
 
 read_halted : (d : ℕ) (ms : List Mark) (at : ℕ) → read d ms (stopped at) ≡ stopped at
 read_halted d [] at = refl

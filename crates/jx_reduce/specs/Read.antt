@@ -1,5 +1,5 @@
 -- The plain reading of marks, which knows all open containers.
-use Rattle.std.specs.Prelude.{ℕ, List, [], ◌∷◌, Option, Some, None, length, nat_lt, if◌then◌else◌}
+use Rattle.std.specs.Prelude.{ℕ, List, [], ◌∷◌, Option, Some, None, fold, length, nat_lt, if◌then◌else◌}
 use Rattle.jx_reduce.specs.Table.{next_of, change_of, Change, same, added, removed}
 use Rattle.jx_reduce.specs.declared.holder.Holder.{Holder}
 use Rattle.jx_reduce.specs.declared.holder.Holder.TheVariants.{Bottom}
@@ -37,8 +37,7 @@ step d m (stopped at) = stopped at
 step d m (too_deep at) = too_deep at
 
 abbrev pub read : ℕ → List Mark → Reading → Reading
-read d [] r = r
-read d (m ∷ ms) r = read d ms (step d m r)
+read d ms r = fold (λ reading mark. step d mark reading) r ms
 
 -- a second reading goes on where the first one went
 abbrev pub then_by : (Expect → List Holder → Reading) → Reading → Reading

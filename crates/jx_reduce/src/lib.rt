@@ -9,6 +9,7 @@ mod holder;
 mod known_stack;
 #[cfg(test)]
 mod known_tests;
+mod laws;
 mod level;
 mod levels;
 mod moves;
@@ -26,6 +27,7 @@ mod whole;
 pub use expect::Expect;
 pub use holder::Holder;
 pub use known_stack::KnownStack;
+pub use laws::offsets_lie_in_spans;
 pub use level::Level;
 pub use moves::next;
 pub use outcome::Outcome;

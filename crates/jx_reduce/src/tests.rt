@@ -2,6 +2,8 @@ ghost use Rattle.std.specs.Prelude.{◌≡◌, ◌≤◌, ◌<◌, ℕ, IfOk, le
 ghost use Rattle.jx_reduce.specs.Offsets.{EachIn, RisingFrom};
 ghost use Rattle.jx_reduce.specs.Reductions.{SpansIn};
 
+mod reducers;
+
 use crate::{Expect, Holder, KnownStack, Level, Outcome, Reductions, Whole, next};
 use jx_lex::{Depth, JoinFault, Mark, MarkKind};
 use std::alloc::{AllocError, Global};

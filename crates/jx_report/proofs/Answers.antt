@@ -5,12 +5,14 @@ use Rattle.std.specs.declared.alloc.Global.{Global}
 use Rattle.std.proofs.lemmas.List.{take_all, length-drop}
 use Rattle.jx_run.specs.declared.settings.Settings.{Settings}
 use Rattle.jx_run.specs.declared.verdict.Verdict.TheVariants.{Accepted}
-use Rattle.jx_run.specs.Settings.{JudgedBy}
+use Rattle.std.specs.List.{AllZip}
+use Rattle.jx_run.specs.Elements.{Part}
 use Rattle.jx_run.specs.Text.{IsDocument, IsText}
 use Rattle.jx_run.specs.Tree.{Tree}
 use Rattle.jx_index.specs.declared.row.Row.{Row}
 use Rattle.jx_index.specs.Indexed.{IndexedValue}
-use Rattle.jx_answer.specs.Settled.{AreJudgedBy, IsIndexBy}
+use Rattle.jx_answer.specs.ByNames.{IsVerdictBy}
+use Rattle.jx_answer.specs.Settled.{AreJudgedBy, IsElementBy, IsIndexBy, IsJudgedBy, elements_by}
 use Rattle.jx_answer.specs.declared.element.Element.{Element}
 use Rattle.jx_answer.specs.Sequence.{judged}
 use Rattle.jx_run.specs.declared.element_verdict.JudgedElement.{JudgedElement}
@@ -27,7 +29,7 @@ drop_front : (xs ys : List ℕ) → drop (length xs) (xs ++ ys) ≡ ys
 drop_front [] ys = refl
 drop_front (x ∷ xs) ys = drop_front xs ys
 
-module _ (text : List ℕ) (settings : Settings) (index : IndexedValue) (judged : JudgedBy settings 0 text Accepted) (x : IsIndexBy settings text index) where
+module _ (text : List ℕ) (settings : Settings) (index : IndexedValue) (judged : IsVerdictBy settings text Accepted) (x : IsIndexBy settings text index) where
   -- behind the front stands what the index is of
   rest : slice_range text (length x.is_text.front) (length text) ≡ x.is_text.rest
   rest =
@@ -72,13 +74,33 @@ unfolding exit_past_all exit_past_judged
 exits_same exit [] = refl
 exits_same exit (e ∷ es) = exits_same (exit_past exit e.answer) es
 
+-- the answers that have these verdicts
+record Answered (settings : Settings) (text : List ℕ) (ps : List Part) (js : List JudgedElement) : Type 0 where
+  answers : List Element
+  are : AllZip (IsElementBy settings text) ps answers
+  less : map judged answers ≡ js
+
+answered : (settings : Settings) (text : List ℕ) (ps : List Part) (js : List JudgedElement) → AllZip (IsJudgedBy settings text) ps js → Answered settings text ps js
+answered settings text [] [] z = record { answers = []; are = tt; less = refl }
+answered settings text [] (j ∷ js) z = absurd z
+answered settings text (p ∷ ps) [] z = absurd z
+answered settings text (p ∷ ps) (j ∷ js) z =
+    let rest = answered settings text ps js z.1 in
+    let one = z.0 in
+    record {
+      answers = one.answer ∷ rest.answers;
+      are = (one.is, rest.are);
+      less = ap (λ x. x ∷ map judged rest.answers) one.less ∙ ap (λ xs. j ∷ xs) rest.less;
+    }
+
 pub judged_output : (text : List ℕ) (settings : Settings) (js : List JudgedElement) (output : List ℕ) (exit : Exit) → AreJudgedBy settings text js → SaysJudged js output exit
     → Output Seq settings text output exit
-judged_output text settings js output exit h says = (
-  h.answers,
-  h.are,
-  (
-    says.0 ∙ ap judged_lines (sym h.less) ∙ sym (lines_same h.answers),
-    says.1 ∙ ap (exit_past_judged Good) (sym h.less) ∙ sym (exits_same Good h.answers),
-  ),
-)
+judged_output text settings js output exit h says =
+    let a = answered settings text (elements_by settings.mark text) js h in (
+      a.answers,
+      a.are,
+      (
+        says.0 ∙ ap judged_lines (sym a.less) ∙ sym (lines_same a.answers),
+        says.1 ∙ ap (exit_past_judged Good) (sym a.less) ∙ sym (exits_same Good a.answers),
+      ),
+    )

@@ -6,7 +6,7 @@ use Rattle.jx_run.specs.declared.verdict.Verdict.{Verdict}
 use Rattle.jx_run.specs.declared.verdict.Verdict.TheVariants.{Accepted, Refused}
 use Rattle.jx_run.specs.declared.verdict.Refusal.{Refusal}
 use Rattle.jx_run.specs.declared.settings.Settings.{Settings}
-use Rattle.jx_run.specs.Settings.{IsDocumentBy, JudgedBy}
+use Rattle.jx_run.specs.Settings.{IsDocumentBy}
 use Rattle.jx_run.specs.Tree.{Tree}
 use Rattle.jx_index.specs.declared.find_fault.FindFault.{FindFault}
 use Rattle.jx_index.specs.declared.pointer.PointerFault.{PointerFault}
@@ -17,6 +17,7 @@ use Rattle.jx_index.specs.PointerFaults.{IsFaultOf}
 use Rattle.jx_index.specs.Pointers.{IsFirstBadEscape, IsPointer, tokens}
 use Rattle.jx_index.specs.Rows.{rows}
 use Rattle.jx_answer.specs.declared.element.Element.{Element}
+use Rattle.jx_answer.specs.ByNames.{IsVerdictBy}
 use Rattle.jx_answer.specs.Settled.{AreElementsBy}
 use Rattle.jx_command.specs.declared.command.Task.{Task}
 use Rattle.jx_command.specs.declared.command.Task.TheVariants.{Check, Index, At, Seq}
@@ -115,7 +116,7 @@ by_verdict IsFor one (Refused r) (Refused s) g x y e f h k =
     (h.0 ∙ ap (λ (z : Refusal). line (refusal_words z)) (same_refusal r s g) ∙ sym k.0, h.1 ∙ sym k.1)
 
 module _ (one_tree : (settings : Settings) (at : ℕ) (bytes : List ℕ) (x y : Tree) → IsDocumentBy settings at bytes x → IsDocumentBy settings at bytes y → x ≡ y)
-    (one_verdict : (settings : Settings) (at : ℕ) (bytes : List ℕ) (x y : Verdict) → JudgedBy settings at bytes x → JudgedBy settings at bytes y → x ≡ y)
+    (one_verdict : (settings : Settings) (bytes : List ℕ) (x y : Verdict) → IsVerdictBy settings bytes x → IsVerdictBy settings bytes y → x ≡ y)
     (one_elements : (settings : Settings) (input : List ℕ) (xs ys : List Element) → AreElementsBy settings input xs → AreElementsBy settings input ys → xs ≡ ys) where
   module _ (settings : Settings) (input : List ℕ) where
     accepted : (x y : List ℕ) (e f : Exit) → SaysAccepted x e → SaysAccepted y f → (x ≡ y) × (e ≡ f)
@@ -132,11 +133,11 @@ module _ (one_tree : (settings : Settings) (at : ℕ) (bytes : List ℕ) (x y : 
         one_lines input u pointers pointers x y e f refl (subst (λ z. PointerLines input z pointers x e) same h) k
 
   pub one_output : (task : Task) (settings : Settings) (input x y : List ℕ) (e f : Exit) → Output task settings input x e → Output task settings input y f → (x ≡ y) × (e ≡ f)
-  one_output Check settings input x y e f (v, h, hs) (w, k, ks) = by_verdict SaysAccepted (accepted settings input) v w (one_verdict settings 0 input v w h k) x y e f hs ks
-  one_output Index settings input x y e f (v, h, hs) (w, k, ks) = by_verdict (ListsRows settings input) (listed settings input) v w (one_verdict settings 0 input v w h k) x y e f hs ks
+  one_output Check settings input x y e f (v, h, hs) (w, k, ks) = by_verdict SaysAccepted (accepted settings input) v w (one_verdict settings input v w h k) x y e f hs ks
+  one_output Index settings input x y e f (v, h, hs) (w, k, ks) = by_verdict (ListsRows settings input) (listed settings input) v w (one_verdict settings input v w h k) x y e f hs ks
   one_output (At pointers) settings input x y e f (v, h, hs) (w, k, ks) =
       let spelt = map string_bytes pointers.items in
-      by_verdict (AnswersPointers spelt settings input) (answered settings input spelt) v w (one_verdict settings 0 input v w h k) x y e f hs ks
+      by_verdict (AnswersPointers spelt settings input) (answered settings input spelt) v w (one_verdict settings input v w h k) x y e f hs ks
   one_output Seq settings input x y e f (xs, h, hs) (ys, k, ks) =
       let same = one_elements settings input xs ys h k in
       (hs.0 ∙ ap element_lines same ∙ sym ks.0, hs.1 ∙ ap (exit_past_all Good) same ∙ sym ks.1)

@@ -4,11 +4,12 @@ use Rattle.jx_run.specs.declared.verdict.Verdict.{Verdict}
 use Rattle.jx_run.specs.declared.verdict.Verdict.TheVariants.{Accepted, Refused}
 use Rattle.jx_run.specs.declared.verdict.Refusal.{Refusal}
 use Rattle.jx_run.specs.declared.settings.Settings.{Settings}
-use Rattle.jx_run.specs.Settings.{IsDocumentBy, JudgedBy}
+use Rattle.jx_run.specs.Settings.{IsDocumentBy}
 use Rattle.jx_run.specs.Tree.{Tree}
 use Rattle.jx_index.specs.declared.row.Row.{Row}
 use Rattle.jx_index.specs.Rows.{rows}
 use Rattle.jx_answer.specs.declared.element.Element.{Element}
+use Rattle.jx_answer.specs.ByNames.{IsVerdictBy}
 use Rattle.jx_answer.specs.Settled.{AreElementsBy}
 use Rattle.jx_command.specs.declared.command.Task.{Task}
 use Rattle.jx_command.specs.declared.command.Task.TheVariants.{Check, Index, At, Seq}
@@ -51,7 +52,7 @@ ByVerdict IsForText Accepted output exit = IsForText output exit
 ByVerdict IsForText (Refused refusal) output exit = SaysRefused refusal output exit
 
 abbrev pub TextOutput : (List ℕ → Exit → Type 0) → Settings → List ℕ → List ℕ → Exit → Type 0
-TextOutput IsForText settings input output exit = (verdict : Verdict) × JudgedBy settings 0 input verdict × ByVerdict IsForText verdict output exit
+TextOutput IsForText settings input output exit = (verdict : Verdict) × IsVerdictBy settings input verdict × ByVerdict IsForText verdict output exit
 
 -- the whole output for an input by settings, and the exit
 abbrev pub Output : Task → Settings → List ℕ → List ℕ → Exit → Type 0

@@ -4,7 +4,7 @@ use Rattle.jx_lex.specs.declared.kind.Kind.{Kind}
 use Rattle.jx_lex.specs.declared.kind.Kind.TheVariants.{Object, Array, String, Number, True, False, Null}
 use Rattle.jx_lex.specs.declared.span.Span.{Span}
 use Rattle.jx_run.specs.declared.verdict.Refusal.{Refusal}
-use Rattle.jx_run.specs.declared.verdict.Refusal.TheVariants.{Stopped, Truncated, TooDeep}
+use Rattle.jx_run.specs.declared.verdict.Refusal.TheVariants.{Stopped, Truncated, TooDeep, RepeatedName}
 
 -- words, then LF
 abbrev pub line : List ℕ → List ℕ
@@ -15,6 +15,7 @@ abbrev pub refusal_words : Refusal → List ℕ
 refusal_words (Stopped at) = codes "stopped at " ++ decimal at
 refusal_words Truncated = codes "truncated"
 refusal_words (TooDeep at) = codes "too deep at " ++ decimal at
+refusal_words (RepeatedName at) = codes "repeated name at " ++ decimal at
 
 abbrev pub kind_words : Kind → List ℕ
 kind_words Object = codes "object"

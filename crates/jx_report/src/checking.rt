@@ -1,5 +1,6 @@
 // The check of an input that is read batch by batch.
 ghost use Rattle.std.specs.Prelude.{◌≡◌, ◌≢◌, ◌<◌, ◌≤◌, ◌^◌, ◌↔◌, ℕ, List, false, true, IfOk, IfErr, IsErrOf};
+ghost use Rattle.jx_run.specs.declared.settings.NameRule.TheVariants.{Any};
 ghost use Rattle.jx_run.specs.declared.settings.Settings.{Settings};
 ghost use Rattle.jx_report.specs.Batches.{IsChecked, IsTaken};
 ghost use Rattle.jx_report.specs.Output.{TextOutput, SaysAccepted};
@@ -10,6 +11,7 @@ use crate::batch::fill;
 use crate::report_fault::ReportFault;
 use crate::source::Source;
 use crate::text_check::TextCheck;
+use jx_answer::any_names_change_nothing;
 use jx_book::Gate;
 use jx_claim::Cutting;
 use jx_command::Command;
@@ -52,13 +54,16 @@ fn check_batches<R: Threads + Wait + Sync, S: Source, G: Gate + Sync>(
 
 /// The line for the verdict.
 fn answer_of_check(alloc: Global, check: &TextCheck) -> Result<Answer, AllocError>
-    ensures { IfOk result (λ answer. (settings : Settings) (text : List ℕ) → IsTaken settings text check.now → TextOutput SaysAccepted settings text answer.output.items answer.exit) }
+    ensures { IfOk result (λ answer. (settings : Settings) (text : List ℕ) → settings.names ≡ Any → IsTaken settings text check.now
+        → TextOutput SaysAccepted settings text answer.output.items answer.exit) }
 {
+    any_names_change_nothing();
     let verdict = check.verdict()?;
     verdict_answer(alloc, verdict)
 }
 
-/// Reads to the end of input and answers whether it is a text, in memory for one batch of so many bytes.
+/// Reads to the end of input and answers whether it is a text, whatever names its objects have, in memory for one batch of
+/// so many bytes.
 pub(crate) fn check_input<R: Threads + Wait + Sync, S: Source, G: Gate + Sync>(
     rt: &R,
     alloc: Global,
@@ -71,6 +76,7 @@ pub(crate) fn check_input<R: Threads + Wait + Sync, S: Source, G: Gate + Sync>(
     requires piece { 1 ≤ command.now.piece }
     requires some { 1 ≤ batch }
     requires few { batch < 2 ^ 32 }
+    requires names { command.now.settings.names ≡ Any }
     ensures ok { IfOk result (λ answer. IsAnswered (TextOutput SaysAccepted command.now.settings) command.now.piece (S.remaining reader.old)
         (S.remaining reader.new) answer.output.items answer.exit) }
     ensures read { IsErrOf result ReportFault.Read ↔ (S.has_failed reader.new ≡ true) }

@@ -13,6 +13,7 @@ use crate::write_all::write_all;
 use jx_book::Gate;
 use jx_claim::Cutting;
 use jx_command::{Command, Task};
+use jx_run::NameRule;
 use std::alloc::{AllocError, Global};
 use std::sync::Wait;
 use std::thread::Threads;
@@ -28,7 +29,7 @@ fn shown(quiet: bool, output: &[u8]) -> &[u8]
 }
 
 /// Reads to the end of input, and answers by the command's workers. A check keeps one batch of so many bytes at a time;
-/// what else is asked keeps the whole input, and so does a check that ignores a byte order mark.
+/// what else is asked keeps the whole input, and so does a check for unique names, which needs the index.
 fn answer_to_input<R: Threads + Wait + Sync, S: Source, G: Gate + Sync>(
     rt: &R,
     alloc: Global,
@@ -48,9 +49,12 @@ fn answer_to_input<R: Threads + Wait + Sync, S: Source, G: Gate + Sync>(
     ensures pieces { IsErrOf result ReportFault.Pieces → HasTooManyPieces command.now (S.remaining reader.old)
         (S.remaining reader.new) }
 {
-    match &command.task {
-        Task::Check => check_input(rt, alloc, reader, command, gate, batch),
-        _ => answer_to_all(rt, alloc, reader, command, gate),
+    match command.settings.names {
+        NameRule::Unique => answer_to_all(rt, alloc, reader, command, gate),
+        NameRule::Any => match &command.task {
+            Task::Check => check_input(rt, alloc, reader, command, gate, batch),
+            _ => answer_to_all(rt, alloc, reader, command, gate),
+        },
     }
 }
 

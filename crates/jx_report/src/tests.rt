@@ -6,5 +6,7 @@ mod gates;
 mod growths;
 mod indexes;
 mod marks;
+mod names;
 mod reports;
 mod sequences;
+mod stops;

@@ -31,6 +31,7 @@ pub fn push_refusal(out: &mut Vec<u8>, refusal: Refusal) -> Result<(), AllocErro
         Refusal::Stopped { at } => push_numbered(out, b"stopped at ", at),
         Refusal::Truncated => out.extend_from_slice(b"truncated"),
         Refusal::TooDeep { at } => push_numbered(out, b"too deep at ", at),
+        Refusal::RepeatedName { at } => push_numbered(out, b"repeated name at ", at),
     }
 }
 

@@ -7,7 +7,7 @@ use Rattle.jx_lex.specs.declared.mark.MarkKind.{MarkKind}
 use Rattle.jx_lex.specs.declared.mark.MarkKind.TheVariants as mark
 use Rattle.jx_lex.specs.Classes.{class_at}
 use Rattle.jx_lex.specs.Moves.{move, as_gap}
-use Rattle.jx_lex.proofs.Inside.{Inside, stays, step, final_gap}
+use Rattle.jx_lex.specs.TokenStates.{final_gap}
 use Rattle.jx_reduce.specs.declared.expect.Expect.{Expect}
 use Rattle.jx_reduce.specs.declared.expect.Expect.TheVariants as expect
 use Rattle.jx_reduce.specs.declared.holder.Holder.{Holder}
@@ -16,7 +16,7 @@ use Rattle.jx_reduce.specs.Read.{top}
 use Rattle.jx_run.specs.Turns.{Turn, wrong, on, enter, leave, turn}
 use Rattle.jx_run.specs.Reading.{Outcome, went, stopped, too_deep, and_then}
 use Rattle.jx_run.proofs.Fused.{after_turn, run, after_mark, in_next}
-use Rattle.jx_run.proofs.FromGrammar.{run-inside}
+use Rattle.jx_run.proofs.FromGrammar.{Inside, stays, step, run-inside}
 use Rattle.jx_run.proofs.ToGrammar.{Accepted, accepted}
 
 -- ---- the open list holds containers alone

@@ -1,5 +1,5 @@
 -- What one byte does, and where a reading first stops: for every depth, and wherever the bytes stand.
-use Rattle.std.proofs.Common.{◌≡◌, ℕ, suc, ◌+◌, ◌≤◌, ◌<◌, List, [], ◌∷◌, length, take, Option, Some, None, Bool, true, false, cond, drop, refl, ap, ◌∙◌, arith}
+use Rattle.std.proofs.Common.{◌≡◌, ℕ, suc, ◌+◌, ◌≤◌, ◌<◌, List, [], ◌∷◌, length, take, Option, Some, None, Bool, true, false, cond, drop, refl, sym, ap, subst, ◌∙◌, arith}
 use Rattle.std.specs.Prelude.{nat_lt}
 use Rattle.std.proofs.lemmas.Bool.Decides.{nat_tests}
 use Rattle.jx_lex.specs.declared.state.LexState.{LexState}
@@ -7,13 +7,16 @@ use Rattle.jx_lex.specs.declared.state.LexState.TheVariants as state
 use Rattle.jx_lex.specs.declared.mark.MarkKind.{MarkKind}
 use Rattle.jx_lex.specs.declared.state.Step.{Step}
 use Rattle.jx_lex.specs.Moves.{move, as_gap}
-use Rattle.jx_lex.proofs.Cases
+use Rattle.jx_lex.specs.Classes.{class_at}
+use Rattle.jx_lex.specs.TokenStates.{in_token}
+use Rattle.jx_lex.specs.TokenSteps.{TokenStep, goes_on as token_goes_on, ends, ended, fails, GapStep, a_blank, a_token, a_mark, no_step}
 use Rattle.jx_reduce.specs.declared.expect.Expect.{Expect}
 use Rattle.jx_reduce.specs.declared.holder.Holder.{Holder}
 use Rattle.jx_reduce.specs.Read.{top}
 use Rattle.jx_run.specs.Turns.{Turn, wrong, on, enter, leave, turn}
 use Rattle.jx_run.specs.Reading.{Outcome, went, stopped, too_deep}
 use Rattle.jx_run.proofs.Fused.{after_turn, run, on_step}
+use Rattle.jx_run.proofs.Lexical.{TokensAreRead, gap_of}
 
 -- a byte that begins a token, or that is a mark, is no fault of the lexical machine
 abbrev begin_ok : Option MarkKind → Option LexState → Type 0
@@ -24,43 +27,34 @@ begin_ok None n = Unit {0}
 abbrev BeginOk : Step → Type 0
 BeginOk st = begin_ok st.begin st.next
 
-gap_ok : (b : ℕ) → BeginOk (move state.Gap b)
-gap_ok b = Cases.cases_Gap b BeginOk (λ h. tt) (λ h. tt) (λ h. tt) (λ h. tt) (λ h. tt) (λ h. tt) (λ h. tt) (λ h. tt) (λ h. tt) (λ h. tt) (λ h. tt) (λ h. tt) (λ h. tt) (λ h. tt) tt
+gap_ok : TokensAreRead → (b : ℕ) → BeginOk (move state.Gap b)
+gap_ok law b = pick (law.gaps b)
+  where
+    pick : GapStep b → BeginOk (move state.Gap b)
+    pick (a_blank h m) = subst BeginOk (sym m) tt
+    pick (a_token k entry scalar h m) = subst BeginOk (sym m) tt
+    pick (a_mark h m) = subst BeginOk (sym m) tt
+    pick (no_step m) = subst BeginOk (sym m) tt
 
-moves_ok : (s : LexState) (b : ℕ) → BeginOk (move s b)
+gap_same : (b : ℕ) → BeginOk (move state.Gap b) → BeginOk (as_gap (class_at b))
 unfolding as_gap
-moves_ok state.Gap b = gap_ok b
-moves_ok state.Str b = Cases.cases_Str b BeginOk (λ h. tt) (λ h. tt) (λ h. tt) (λ h. tt) (λ h. tt) (λ h. tt) (λ h. tt) (λ h. tt) (λ h. tt) (λ h. tt) tt
-moves_ok state.Esc b = Cases.cases_Esc b BeginOk (λ h. tt) (λ h. tt) tt
-moves_ok state.Hex4 b = Cases.cases_Hex4 b BeginOk (λ h. tt) tt
-moves_ok state.Hex3 b = Cases.cases_Hex3 b BeginOk (λ h. tt) tt
-moves_ok state.Hex2 b = Cases.cases_Hex2 b BeginOk (λ h. tt) tt
-moves_ok state.Hex1 b = Cases.cases_Hex1 b BeginOk (λ h. tt) tt
-moves_ok state.Tail1 b = Cases.cases_Tail1 b BeginOk (λ h. tt) tt
-moves_ok state.Tail2 b = Cases.cases_Tail2 b BeginOk (λ h. tt) tt
-moves_ok state.Tail3 b = Cases.cases_Tail3 b BeginOk (λ h. tt) tt
-moves_ok state.AfterE0 b = Cases.cases_AfterE0 b BeginOk (λ h. tt) tt
-moves_ok state.AfterEd b = Cases.cases_AfterEd b BeginOk (λ h. tt) tt
-moves_ok state.AfterF0 b = Cases.cases_AfterF0 b BeginOk (λ h. tt) tt
-moves_ok state.AfterF4 b = Cases.cases_AfterF4 b BeginOk (λ h. tt) tt
-moves_ok state.Minus b = Cases.cases_Minus b BeginOk (λ h. tt) (λ h. tt) tt
-moves_ok state.Zero b = Cases.cases_Zero b BeginOk (λ h. tt) (λ h. tt) (gap_ok b)
-moves_ok state.Int b = Cases.cases_Int b BeginOk (λ h. tt) (λ h. tt) (λ h. tt) (gap_ok b)
-moves_ok state.Dot b = Cases.cases_Dot b BeginOk (λ h. tt) tt
-moves_ok state.Frac b = Cases.cases_Frac b BeginOk (λ h. tt) (λ h. tt) (gap_ok b)
-moves_ok state.E b = Cases.cases_E b BeginOk (λ h. tt) (λ h. tt) tt
-moves_ok state.ESign b = Cases.cases_ESign b BeginOk (λ h. tt) tt
-moves_ok state.Exp b = Cases.cases_Exp b BeginOk (λ h. tt) (gap_ok b)
-moves_ok state.T b = Cases.cases_T b BeginOk (λ h. tt) tt
-moves_ok state.Tr b = Cases.cases_Tr b BeginOk (λ h. tt) tt
-moves_ok state.Tru b = Cases.cases_Tru b BeginOk (λ h. tt) tt
-moves_ok state.F b = Cases.cases_F b BeginOk (λ h. tt) tt
-moves_ok state.Fa b = Cases.cases_Fa b BeginOk (λ h. tt) tt
-moves_ok state.Fal b = Cases.cases_Fal b BeginOk (λ h. tt) tt
-moves_ok state.Fals b = Cases.cases_Fals b BeginOk (λ h. tt) tt
-moves_ok state.N b = Cases.cases_N b BeginOk (λ h. tt) tt
-moves_ok state.Nu b = Cases.cases_Nu b BeginOk (λ h. tt) tt
-moves_ok state.Nul b = Cases.cases_Nul b BeginOk (λ h. tt) tt
+gap_same b h = h
+
+token_ok : TokensAreRead → (s : LexState) (b : ℕ) → in_token s ≡ true → BeginOk (move s b)
+token_ok law s b inside = pick (law.steps s b inside)
+  where
+    pick : TokenStep s b → BeginOk (move s b)
+    pick (token_goes_on h m) = subst BeginOk (sym m) tt
+    pick (ends m) = subst BeginOk (sym m) tt
+    pick (ended f m) = subst BeginOk (sym m) (gap_same b (gap_ok law b))
+    pick (fails m) = subst BeginOk (sym m) tt
+
+moves_ok : TokensAreRead → (s : LexState) (b : ℕ) → BeginOk (move s b)
+moves_ok law s b = pick (in_token s) refl
+  where
+    pick : (c : Bool) → in_token s ≡ c → BeginOk (move s b)
+    pick true h = token_ok law s b h
+    pick false h = subst (λ (x : LexState). BeginOk (move x b)) (sym (gap_of s h)) (gap_ok law b)
 
 abbrev More : Type 0
 More = LexState → Expect → List Holder → Outcome
@@ -115,10 +109,10 @@ pub data Ending (limit : ℕ) (s : LexState) (e : Expect) (o : List Holder) (t :
 later : (f : ℕ → Outcome) (at k : ℕ) → f (suc at + k) ≡ f (at + suc k)
 later f at k = ap f (omega arith)
 
-pub ending : (limit : ℕ) (t : List ℕ) (s : LexState) (e : Expect) (o : List Holder) → Ending limit s e o t
+pub ending : TokensAreRead → (limit : ℕ) (t : List ℕ) (s : LexState) (e : Expect) (o : List Holder) → Ending limit s e o t
 unfolding run
-ending limit [] s e o = goes_on s e o (λ d at le. refl)
-ending limit (b ∷ t) s e o = by_kind (step_kind limit e o (move s b) (moves_ok s b)) (λ s' e' o'. ending limit t s' e' o')
+ending law limit [] s e o = goes_on s e o (λ d at le. refl)
+ending law limit (b ∷ t) s e o = by_kind (step_kind limit e o (move s b) (moves_ok law s b)) (λ s' e' o'. ending law limit t s' e' o')
   where
     onwards : (s' : LexState) (e' : Expect) (o' : List Holder) → ((d at : ℕ) (more : More) → limit ≤ d → on_step d at e o (move s b) more ≡ more s' e' o')
         → Ending limit s' e' o' t → Ending limit s e o (b ∷ t)

@@ -1,5 +1,5 @@
 -- A text of the grammar is read without a fault, at its depth.
-use Rattle.std.proofs.Common.{◌≡◌, ℕ, suc, ◌+◌, ◌≤◌, ◌<◌, List, ◌∷◌, ◌++◌, length, refl, ap, ◌∙◌, arith}
+use Rattle.std.proofs.Common.{◌≡◌, ℕ, suc, ◌+◌, ◌≤◌, ◌<◌, List, [], ◌∷◌, ◌++◌, length, Some, None, refl, ap, ◌∙◌, arith}
 use Rattle.std.proofs.lemmas.Bool.Decides.{nat_tests}
 use Rattle.jx_lex.specs.declared.kind.Kind.{Kind}
 use Rattle.jx_lex.specs.declared.kind.Kind.TheVariants as kind
@@ -10,7 +10,7 @@ use Rattle.jx_lex.specs.declared.mark.MarkKind.TheVariants as mark
 use Rattle.jx_lex.specs.Classes.{class_at}
 use Rattle.jx_lex.specs.Moves.{move, as_gap}
 use Rattle.jx_lex.specs.Token.{IsBlank, space, tab, line_feed, carriage_return, IsToken}
-use Rattle.jx_lex.proofs.Inside.{Inside, stays, step, inside_of, IsFinal, final_gap, final_zero, final_int, final_frac, final_exp, mark_of, token_reads}
+use Rattle.jx_lex.specs.TokenStates.{Spells, here, goes, shuts, IsFinal, final_gap, final_zero, final_int, final_frac, final_exp, mark_of}
 use Rattle.jx_reduce.specs.declared.expect.Expect.{Expect}
 use Rattle.jx_reduce.specs.declared.expect.Expect.TheVariants as expect
 use Rattle.jx_reduce.specs.declared.holder.Holder.{Holder}
@@ -21,6 +21,7 @@ use Rattle.jx_run.specs.Reading.{Outcome}
 use Rattle.jx_run.specs.Tree.{Tree, Children, depth, deepest}
 use Rattle.jx_run.specs.Grammar.{Blanks, no_blanks, blank, Scalar, Value, leaf, empty_array, array, empty_object, object, Items, last_item, item, Members, last_member, member}
 use Rattle.jx_run.proofs.Fused.{after_turn, run, on_step, after_mark, in_next}
+use Rattle.jx_run.proofs.Lexical.{TokensAreRead}
 
 -- a value may begin
 pub data ForValue : Expect → Type 0 where
@@ -31,6 +32,16 @@ pub data ForValue : Expect → Type 0 where
 pub data ForName : Expect → Type 0 where
   at_name : ForName expect.Name
   at_first_name : ForName expect.ObjectFirst
+
+-- from a state to another over some bytes, with no mark
+pub data Inside : LexState → List ℕ → LexState → Type 0 where
+  stays : {s : LexState} → Inside s [] s
+  step : {s next last : LexState} {b : ℕ} {bs : List ℕ} → (move s b).begin ≡ None → (move s b).next ≡ Some next → Inside next bs last → Inside s (b ∷ bs) last
+
+inside_of : {s last : LexState} {w : List ℕ} → Spells s w last → Inside s w last
+inside_of here = stays
+inside_of (goes e i) = step (ap (λ m. m.begin) e) (ap (λ m. m.next) e) (inside_of i)
+inside_of (shuts e) = step (ap (λ m. m.begin) e) (ap (λ m. m.next) e) stays
 
 module _ (limit : ℕ) where
   -- the bytes of a token after its first leave the expectation and the open list
@@ -116,11 +127,11 @@ module _ (limit : ℕ) where
   mark_step _ final_exp comma e o at rest = refl
 
   -- a token, at its mark's turn
-  run-token : {kind : Kind} {i j : ℕ} {t rest : List ℕ} → Scalar kind i t j rest → (e next : Expect) (o : List Holder)
+  run-token : TokensAreRead → {kind : Kind} {i j : ℕ} {t rest : List ℕ} → Scalar kind i t j rest → (e next : Expect) (o : List Holder)
       → turn (mark_of kind) e (top o) ≡ on next → Goes (run limit state.Gap e o i t) next o j rest
   unfolding run
-  run-token {kind = kind} {i = i} {j = j} {t = t} {rest = rest} scalar e next o h =
-      let r = token_reads kind scalar.token scalar.is_token in
+  run-token law {kind = kind} {i = i} {j = j} {t = t} {rest = rest} scalar e next o h =
+      let r = law.reads kind scalar.token scalar.is_token in
       record {
         last = r.last;
         final = r.final;
@@ -187,42 +198,42 @@ module _ (limit : ℕ) where
   closes_object s f o j rest = record { last = state.Gap; final = final_gap; same = mark_step s f close_object expect.After (holder.Object ∷ o) j rest }
 
   mutual
-    pub value_goes : {i j : ℕ} {t rest : List ℕ} {tree : Tree} → Value i t j rest tree → (e : Expect) → ForValue e → (o : List Holder)
+    pub value_goes : TokensAreRead → {i j : ℕ} {t rest : List ℕ} {tree : Tree} → Value i t j rest tree → (e : Expect) → ForValue e → (o : List Holder)
         → depth tree + length o ≤ limit → Goes (run limit state.Gap e o i t) expect.After o j rest
-    value_goes (leaf {kind = k} s) e f o le = run-token s e expect.After o (scalar_turn k s.token s.is_token e f (top o))
-    value_goes (empty_array {i = i} {j = j} {bytes = t} {rest = rest} bs) e f o le =
+    value_goes law (leaf {kind = k} s) e f o le = run-token law s e expect.After o (scalar_turn k s.token s.is_token e f (top o))
+    value_goes law (empty_array {i = i} {j = j} {bytes = t} {rest = rest} bs) e f o le =
         from (open_array e f o (omega arith) i t ∙ run-gaps bs expect.ArrayFirst (holder.Array ∷ o) ∙ mark_step state.Gap final_gap close_array expect.ArrayFirst (holder.Array ∷ o) j rest)
         (record { last = state.Gap; final = final_gap; same = refl })
-    value_goes (array {i = i} {j = j} {bytes = t} {rest = rest} xs) e f o le =
-        from (open_array e f o (omega arith) i t) (next (items_goes xs expect.ArrayFirst at_first o (omega arith)) (λ s h. closes_array s h o j rest))
-    value_goes (empty_object {i = i} {j = j} {bytes = t} {rest = rest} bs) e f o le =
+    value_goes law (array {i = i} {j = j} {bytes = t} {rest = rest} xs) e f o le =
+        from (open_array e f o (omega arith) i t) (next (items_goes law xs expect.ArrayFirst at_first o (omega arith)) (λ s h. closes_array s h o j rest))
+    value_goes law (empty_object {i = i} {j = j} {bytes = t} {rest = rest} bs) e f o le =
         from (open_object e f o (omega arith) i t ∙ run-gaps bs expect.ObjectFirst (holder.Object ∷ o) ∙ mark_step state.Gap final_gap close_object expect.ObjectFirst (holder.Object ∷ o) j rest)
         (record { last = state.Gap; final = final_gap; same = refl })
-    value_goes (object {i = i} {j = j} {bytes = t} {rest = rest} xs) e f o le =
-        from (open_object e f o (omega arith) i t) (next (members_goes xs expect.ObjectFirst at_first_name o (omega arith)) (λ s h. closes_object s h o j rest))
+    value_goes law (object {i = i} {j = j} {bytes = t} {rest = rest} xs) e f o le =
+        from (open_object e f o (omega arith) i t) (next (members_goes law xs expect.ObjectFirst at_first_name o (omega arith)) (λ s h. closes_object s h o j rest))
 
-    pub items_goes : {i j : ℕ} {t rest : List ℕ} {children : Children} → Items i t j rest children → (e : Expect) → ForValue e → (o : List Holder)
+    pub items_goes : TokensAreRead → {i j : ℕ} {t rest : List ℕ} {children : Children} → Items i t j rest children → (e : Expect) → ForValue e → (o : List Holder)
         → deepest children + suc (length o) ≤ limit → Goes (run limit state.Gap e (holder.Array ∷ o) i t) expect.After (holder.Array ∷ o) j rest
-    items_goes (last_item bs v cs) e f o le =
-        from (run-gaps bs e (holder.Array ∷ o)) (next (value_goes v e f (holder.Array ∷ o) (omega arith))
+    items_goes law (last_item bs v cs) e f o le =
+        from (run-gaps bs e (holder.Array ∷ o)) (next (value_goes law v e f (holder.Array ∷ o) (omega arith))
         (λ s h. run-blanks cs s h expect.After (holder.Array ∷ o)))
-    items_goes (item {l = l} {t3 = t3} bs v cs xs) e f o le =
-        from (run-gaps bs e (holder.Array ∷ o)) (next (value_goes v e f (holder.Array ∷ o) (omega arith))
+    items_goes law (item {l = l} {t3 = t3} bs v cs xs) e f o le =
+        from (run-gaps bs e (holder.Array ∷ o)) (next (value_goes law v e f (holder.Array ∷ o) (omega arith))
         (λ s h. next (run-blanks cs s h expect.After (holder.Array ∷ o))
-        (λ s h. from (mark_step s h comma expect.After (holder.Array ∷ o) l t3) (items_goes xs expect.Value at_value o (omega arith)))))
+        (λ s h. from (mark_step s h comma expect.After (holder.Array ∷ o) l t3) (items_goes law xs expect.Value at_value o (omega arith)))))
 
-    pub members_goes : {i j : ℕ} {t rest : List ℕ} {children : Children} → Members i t j rest children → (e : Expect) → ForName e → (o : List Holder)
+    pub members_goes : TokensAreRead → {i j : ℕ} {t rest : List ℕ} {children : Children} → Members i t j rest children → (e : Expect) → ForName e → (o : List Holder)
         → deepest children + suc (length o) ≤ limit → Goes (run limit state.Gap e (holder.Object ∷ o) i t) expect.After (holder.Object ∷ o) j rest
-    members_goes (last_member {l = l} {t3 = t3} bs n cs ds v es) e f o le =
-        from (run-gaps bs e (holder.Object ∷ o)) (next (run-token n e expect.Colon (holder.Object ∷ o) (name_turn e f holder.Object))
+    members_goes law (last_member {l = l} {t3 = t3} bs n cs ds v es) e f o le =
+        from (run-gaps bs e (holder.Object ∷ o)) (next (run-token law n e expect.Colon (holder.Object ∷ o) (name_turn e f holder.Object))
         (λ s h. next (run-blanks cs s h expect.Colon (holder.Object ∷ o))
         (λ s h. from (mark_step s h colon expect.Colon (holder.Object ∷ o) l t3 ∙ run-gaps ds expect.Value (holder.Object ∷ o))
-        (next (value_goes v expect.Value at_value (holder.Object ∷ o) (omega arith))
+        (next (value_goes law v expect.Value at_value (holder.Object ∷ o) (omega arith))
         (λ s h. run-blanks es s h expect.After (holder.Object ∷ o))))))
-    members_goes (member {l = l} {o = p} {t3 = t3} {t6 = t6} bs n cs ds v es xs) e f o le =
-        from (run-gaps bs e (holder.Object ∷ o)) (next (run-token n e expect.Colon (holder.Object ∷ o) (name_turn e f holder.Object))
+    members_goes law (member {l = l} {o = p} {t3 = t3} {t6 = t6} bs n cs ds v es xs) e f o le =
+        from (run-gaps bs e (holder.Object ∷ o)) (next (run-token law n e expect.Colon (holder.Object ∷ o) (name_turn e f holder.Object))
         (λ s h. next (run-blanks cs s h expect.Colon (holder.Object ∷ o))
         (λ s h. from (mark_step s h colon expect.Colon (holder.Object ∷ o) l t3 ∙ run-gaps ds expect.Value (holder.Object ∷ o))
-        (next (value_goes v expect.Value at_value (holder.Object ∷ o) (omega arith))
+        (next (value_goes law v expect.Value at_value (holder.Object ∷ o) (omega arith))
         (λ s h. next (run-blanks es s h expect.After (holder.Object ∷ o))
-        (λ s h. from (mark_step s h comma expect.After (holder.Object ∷ o) p t6) (members_goes xs expect.Name at_name o (omega arith))))))))
+        (λ s h. from (mark_step s h comma expect.After (holder.Object ∷ o) p t6) (members_goes law xs expect.Name at_name o (omega arith))))))))

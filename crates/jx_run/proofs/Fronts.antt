@@ -24,26 +24,27 @@ use Rattle.jx_run.specs.Verdict.{IsLongestBeginning, Judged, a_text, cut_short, 
 use Rattle.jx_run.proofs.Fused.{run}
 use Rattle.jx_run.proofs.LawProofs.{begins_law, complete_law, completed_law, tree_law, verdict_law}
 use Rattle.jx_run.proofs.Theorems.{begins→no_fault, begins-front, went→begins}
+use Rattle.jx_run.proofs.Lexical.{TokensAreRead}
 use Rattle.jx_run.proofs.VerdictLaws.{one_verdict_by}
 
 -- ---- texts and their first byte
 
 -- no text begins with the first byte of a mark
-no_mark : (limit : ℕ) (x : List ℕ) → Begins (0xef ∷ x) limit → ⊥
+no_mark : TokensAreRead → (limit : ℕ) (x : List ℕ) → Begins (0xef ∷ x) limit → ⊥
 unfolding run class_at
-no_mark limit x b = begins→no_fault limit (0xef ∷ x) b
+no_mark law limit x b = begins→no_fault law limit (0xef ∷ x) b
 
-begins_none : (limit : ℕ) → Begins [] limit
+begins_none : TokensAreRead → (limit : ℕ) → Begins [] limit
 unfolding run
-begins_none limit = went→begins limit 0 [] state.Gap expect.Value [] refl
+begins_none law limit = went→begins law limit 0 [] state.Gap expect.Value [] refl
 
 accepting_no_fault : (r : Outcome) → IsAccepting r → IsNoFault r
 accepting_no_fault (went s e o) h = tt
 accepting_no_fault (reading.Outcome.stopped at) h = h
 accepting_no_fault (reading.Outcome.too_deep at) h = h
 
-document_begins : (limit at : ℕ) (t : List ℕ) (tree : Tree) → IsDocument at t limit tree → Begins t limit
-document_begins limit at t tree d = (begins_law limit at t).0 (accepting_no_fault (read_text limit at t) (complete_law limit at t tree d))
+document_begins : TokensAreRead → (limit at : ℕ) (t : List ℕ) (tree : Tree) → IsDocument at t limit tree → Begins t limit
+document_begins law limit at t tree d = (begins_law law limit at t).0 (accepting_no_fault (read_text limit at t) (complete_law law limit at t tree d))
 
 -- ---- fronts
 
@@ -84,11 +85,11 @@ unmarked s start bytes tree other d = pick (fronts s.mark d.front d.is_front)
 abbrev IsMarked : Settings → ℕ → List ℕ → Tree → Type 0
 IsMarked s start bytes tree = (rest : List ℕ) × (bytes ≡ byte_order_mark ++ rest) × IsDocument (start + 3) rest s.depth tree
 
-marked : (s : Settings) (start : ℕ) (x : List ℕ) (tree : Tree) → IsDocumentBy s start (0xef ∷ x) tree → IsMarked s start (0xef ∷ x) tree
-marked s start x tree d = pick (fronts s.mark d.front d.is_front)
+marked : TokensAreRead → (s : Settings) (start : ℕ) (x : List ℕ) (tree : Tree) → IsDocumentBy s start (0xef ∷ x) tree → IsMarked s start (0xef ∷ x) tree
+marked law s start x tree d = pick (fronts s.mark d.front d.is_front)
   where
     pick : (d.front ≡ []) ⊎ (d.front ≡ byte_order_mark) → IsMarked s start (0xef ∷ x) tree
-    pick (inl e) = absurd (no_mark s.depth x (document_begins s.depth start (0xef ∷ x) tree (bare s start (0xef ∷ x) tree d e)))
+    pick (inl e) = absurd (no_mark law s.depth x (document_begins law s.depth start (0xef ∷ x) tree (bare s start (0xef ∷ x) tree d e)))
     pick (inr e) = (d.rest, d.whole ∙ ap (λ f. f ++ d.rest) e, subst (λ f. IsDocument (start + length f) d.rest s.depth tree) e d.text)
 
 -- ---- beginnings
@@ -96,67 +97,67 @@ marked s start x tree d = pick (fronts s.mark d.front d.is_front)
 pub begins_plain : (s : Settings) (t : List ℕ) → Begins t s.depth → BeginsBy s t
 begins_plain s t b = record { more = b.more; tree = b.tree; text = plain s 0 (t ++ b.more) b.tree b.text }
 
-begins_unmarked : (s : Settings) (bytes : List ℕ) (n : ℕ) → IsOther bytes → BeginsBy s (take n bytes) → Begins (take n bytes) s.depth
-begins_unmarked s [] zero other b = begins_none s.depth
-begins_unmarked s (c ∷ t) zero other b = begins_none s.depth
-begins_unmarked s [] (suc n) other b = begins_none s.depth
-begins_unmarked s (c ∷ t) (suc n) other b =
+begins_unmarked : TokensAreRead → (s : Settings) (bytes : List ℕ) (n : ℕ) → IsOther bytes → BeginsBy s (take n bytes) → Begins (take n bytes) s.depth
+begins_unmarked law s [] zero other b = begins_none law s.depth
+begins_unmarked law s (c ∷ t) zero other b = begins_none law s.depth
+begins_unmarked law s [] (suc n) other b = begins_none law s.depth
+begins_unmarked law s (c ∷ t) (suc n) other b =
     record {
       more = b.more;
       tree = b.tree;
       text = unmarked s 0 ((c ∷ take n t) ++ b.more) b.tree (λ x h. let same : c ≡ 0xef = cc in other t (ap (λ z. z ∷ t) same)) b.text;
     }
 
-module _ (s : Settings) (is : s.mark ≡ on_mark.Ignored) where
+module _ (law : TokensAreRead) (s : Settings) (is : s.mark ≡ on_mark.Ignored) where
   begins_marked : (t : List ℕ) → Begins t s.depth → BeginsBy s (byte_order_mark ++ t)
   begins_marked t b =
-      let c = completed_law 3 s.depth t b in
+      let c = completed_law law 3 s.depth t b in
       record { more = c.0; tree = c.1; text = record { front = byte_order_mark; rest = t ++ c.0; is_front = ignored s is; whole = refl; text = c.3 } }
 
   -- a part of the mark begins a text
   begins_part : (p q : List ℕ) → p ++ q ≡ byte_order_mark → BeginsBy s p
   begins_part p q h =
-      let b = begins_marked [] (begins_none s.depth) in
+      let b = begins_marked [] (begins_none law s.depth) in
       record {
         more = q ++ b.more;
         tree = b.tree;
         text = subst (λ x. IsDocumentBy s 0 x b.tree) (sym (sym (append_assoc p q b.more) ∙ ap (λ f. f ++ b.more) h)) b.text;
       }
 
-behind_mark : (s : Settings) (t : List ℕ) → BeginsBy s (byte_order_mark ++ t) → Begins t s.depth
-behind_mark s t b =
-    let m = marked s 0 (0xbb ∷ 0xbf ∷ (t ++ b.more)) b.tree b.text in
+behind_mark : TokensAreRead → (s : Settings) (t : List ℕ) → BeginsBy s (byte_order_mark ++ t) → Begins t s.depth
+behind_mark law s t b =
+    let m = marked law s 0 (0xbb ∷ 0xbf ∷ (t ++ b.more)) b.tree b.text in
     let is : 0xef ∷ 0xbb ∷ 0xbf ∷ (t ++ b.more) ≡ 0xef ∷ 0xbb ∷ 0xbf ∷ m.0 = m.1 in
     let same : t ++ b.more ≡ m.0 = cc in
-    begins-front s.depth t b.more (document_begins s.depth 3 (t ++ b.more) b.tree (subst (λ x. IsDocument 3 x s.depth b.tree) (sym same) m.2))
+    begins-front s.depth t b.more (document_begins law s.depth 3 (t ++ b.more) b.tree (subst (λ x. IsDocument 3 x s.depth b.tree) (sym same) m.2))
 
-no_second : (s : Settings) (c : ℕ) (u : List ℕ) → (c ≡ 0xbb → ⊥) → BeginsBy s (0xef ∷ c ∷ u) → ⊥
-no_second s c u other b = let m = marked s 0 (c ∷ (u ++ b.more)) b.tree b.text in let is : 0xef ∷ c ∷ (u ++ b.more) ≡ 0xef ∷ 0xbb ∷ 0xbf ∷ m.0 = m.1 in let same : c ≡ 0xbb = cc in other same
+no_second : TokensAreRead → (s : Settings) (c : ℕ) (u : List ℕ) → (c ≡ 0xbb → ⊥) → BeginsBy s (0xef ∷ c ∷ u) → ⊥
+no_second law s c u other b = let m = marked law s 0 (c ∷ (u ++ b.more)) b.tree b.text in let is : 0xef ∷ c ∷ (u ++ b.more) ≡ 0xef ∷ 0xbb ∷ 0xbf ∷ m.0 = m.1 in let same : c ≡ 0xbb = cc in other same
 
-no_third : (s : Settings) (c : ℕ) (u : List ℕ) → (c ≡ 0xbf → ⊥) → BeginsBy s (0xef ∷ 0xbb ∷ c ∷ u) → ⊥
-no_third s c u other b = let m = marked s 0 (0xbb ∷ c ∷ (u ++ b.more)) b.tree b.text in let is : 0xef ∷ 0xbb ∷ c ∷ (u ++ b.more) ≡ 0xef ∷ 0xbb ∷ 0xbf ∷ m.0 = m.1 in let same : c ≡ 0xbf = cc in other same
+no_third : TokensAreRead → (s : Settings) (c : ℕ) (u : List ℕ) → (c ≡ 0xbf → ⊥) → BeginsBy s (0xef ∷ 0xbb ∷ c ∷ u) → ⊥
+no_third law s c u other b = let m = marked law s 0 (0xbb ∷ c ∷ (u ++ b.more)) b.tree b.text in let is : 0xef ∷ 0xbb ∷ c ∷ (u ++ b.more) ≡ 0xef ∷ 0xbb ∷ 0xbf ∷ m.0 = m.1 in let same : c ≡ 0xbf = cc in other same
 
 -- ---- one tree
 
-pub one_tree_by : (s : Settings) (start : ℕ) (bytes : List ℕ) (x y : Tree) → IsDocumentBy s start bytes x → IsDocumentBy s start bytes y → x ≡ y
-one_tree_by s start [] x y d e =
+pub one_tree_by : TokensAreRead → (s : Settings) (start : ℕ) (bytes : List ℕ) (x y : Tree) → IsDocumentBy s start bytes x → IsDocumentBy s start bytes y → x ≡ y
+one_tree_by law s start [] x y d e =
     let none : IsOther [] = (λ t h. cc) in
-    tree_law start s.depth [] x y (unmarked s start [] x none d) (unmarked s start [] y none e)
-one_tree_by s start (b ∷ t) x y d e = pick (b == 0xef) refl
+    tree_law law start s.depth [] x y (unmarked s start [] x none d) (unmarked s start [] y none e)
+one_tree_by law s start (b ∷ t) x y d e = pick (b == 0xef) refl
   where
     pick : (v : Bool) → (b == 0xef) ≡ v → x ≡ y
     pick true q =
         let same : b ≡ 0xef = grind (arith, nat_tests) in
-        let m = marked s start t x (subst (λ (c : ℕ). IsDocumentBy s start (c ∷ t) x) same d) in
-        let n = marked s start t y (subst (λ (c : ℕ). IsDocumentBy s start (c ∷ t) y) same e) in
+        let m = marked law s start t x (subst (λ (c : ℕ). IsDocumentBy s start (c ∷ t) x) same d) in
+        let n = marked law s start t y (subst (λ (c : ℕ). IsDocumentBy s start (c ∷ t) y) same e) in
         let first : 0xef ∷ t ≡ 0xef ∷ 0xbb ∷ 0xbf ∷ m.0 = m.1 in
         let second : 0xef ∷ t ≡ 0xef ∷ 0xbb ∷ 0xbf ∷ n.0 = n.1 in
         let rest : n.0 ≡ m.0 = cc in
-        tree_law (start + 3) s.depth m.0 x y m.2 (subst (λ (r : List ℕ). IsDocument (start + 3) r s.depth y) rest n.2)
+        tree_law law (start + 3) s.depth m.0 x y m.2 (subst (λ (r : List ℕ). IsDocument (start + 3) r s.depth y) rest n.2)
     pick false q =
         let differs : b ≢ 0xef = not_from_Decides (b == 0xef) (Decides-eqb b 0xef) q in
         let other : IsOther (b ∷ t) = (λ z h. let same : b ≡ 0xef = cc in differs same) in
-        tree_law start s.depth (b ∷ t) x y (unmarked s start (b ∷ t) x other d) (unmarked s start (b ∷ t) y other e)
+        tree_law law start s.depth (b ∷ t) x y (unmarked s start (b ∷ t) x other d) (unmarked s start (b ∷ t) y other e)
 
 -- ---- the verdict behind so many bytes
 
@@ -190,8 +191,8 @@ module _ (s : Settings) (start m : ℕ) (bytes rest : List ℕ) (long : length b
       (by.stopped (λ tree d. never tree (of tree d)) (longest k l) (omega (arith, lt, long)) (λ e c. b e (begins_of e (suc k) (subst (λ i. BeginsBy (at_depth s e) (take i bytes)) next c))))
 
 -- bytes that don't begin as a mark does
-judged_other : (s : Settings) (start : ℕ) (bytes : List ℕ) → IsOther bytes → (v : Verdict) → Judged start bytes s.depth v → JudgedBy s start bytes v
-judged_other s start bytes other v j =
+judged_other : TokensAreRead → (s : Settings) (start : ℕ) (bytes : List ℕ) → IsOther bytes → (v : Verdict) → Judged start bytes s.depth v → JudgedBy s start bytes v
+judged_other law s start bytes other v j =
     let e : start ≡ start + 0 = omega arith in
     let none : (n : ℕ) → n ≡ 0 + n = λ n. omega arith in
     let here : start + 0 ≡ start = omega arith in
@@ -199,54 +200,54 @@ judged_other s start bytes other v j =
     (λ tree d. plain s start bytes tree (subst (λ i. IsDocument i bytes s.depth tree) here d))
     (λ tree d. subst (λ i. IsDocument i bytes s.depth tree) e (unmarked s start bytes tree other d))
     (λ e n b. subst (λ i. BeginsBy (at_depth s e) (take i bytes)) (none n) (begins_plain (at_depth s e) (take n bytes) b))
-    (λ e n b. begins_unmarked (at_depth s e) bytes n other (subst (λ i. BeginsBy (at_depth s e) (take i bytes)) (sym (none n)) b))
+    (λ e n b. begins_unmarked law (at_depth s e) bytes n other (subst (λ i. BeginsBy (at_depth s e) (take i bytes)) (sym (none n)) b))
     v (subst (λ i. Judged i bytes s.depth v) e j)
 
-judged_marked : (s : Settings) → s.mark ≡ on_mark.Ignored → (rest : List ℕ) (v : Verdict) → Judged 3 rest s.depth v → JudgedBy s 0 (byte_order_mark ++ rest) v
-judged_marked s is rest v j =
+judged_marked : TokensAreRead → (s : Settings) → s.mark ≡ on_mark.Ignored → (rest : List ℕ) (v : Verdict) → Judged 3 rest s.depth v → JudgedBy s 0 (byte_order_mark ++ rest) v
+judged_marked law s is rest v j =
     let three : (n : ℕ) → suc (suc (suc n)) ≡ 3 + n = λ n. omega arith in
     judged_behind s 0 3 (byte_order_mark ++ rest) rest (three (length rest))
     (λ tree d. record { front = byte_order_mark; rest = rest; is_front = ignored s is; whole = refl; text = d })
-    (λ tree d. let m = marked s 0 (0xbb ∷ 0xbf ∷ rest) tree d in let is : 0xef ∷ 0xbb ∷ 0xbf ∷ rest ≡ 0xef ∷ 0xbb ∷ 0xbf ∷ m.0 = m.1 in let same : rest ≡ m.0 = cc in subst (λ x. IsDocument 3 x s.depth tree) (sym same) m.2)
-    (λ e n b. subst (λ i. BeginsBy (at_depth s e) (take i (byte_order_mark ++ rest))) (three n) (begins_marked (at_depth s e) is (take n rest) b))
-    (λ e n b. behind_mark (at_depth s e) (take n rest) (subst (λ i. BeginsBy (at_depth s e) (take i (byte_order_mark ++ rest))) (sym (three n)) b))
+    (λ tree d. let m = marked law s 0 (0xbb ∷ 0xbf ∷ rest) tree d in let is : 0xef ∷ 0xbb ∷ 0xbf ∷ rest ≡ 0xef ∷ 0xbb ∷ 0xbf ∷ m.0 = m.1 in let same : rest ≡ m.0 = cc in subst (λ x. IsDocument 3 x s.depth tree) (sym same) m.2)
+    (λ e n b. subst (λ i. BeginsBy (at_depth s e) (take i (byte_order_mark ++ rest))) (three n) (begins_marked law (at_depth s e) is (take n rest) b))
+    (λ e n b. behind_mark law (at_depth s e) (take n rest) (subst (λ i. BeginsBy (at_depth s e) (take i (byte_order_mark ++ rest))) (sym (three n)) b))
     v j
 
 -- ---- a part of the mark
 
-module _ (s : Settings) (is : s.mark ≡ on_mark.Ignored) where
+module _ (law : TokensAreRead) (s : Settings) (is : s.mark ≡ on_mark.Ignored) where
   one_cut : JudgedBy s 0 (0xef ∷ []) (verdict.Refused refusal.Truncated)
   one_cut =
-      by.cut_short (λ tree d. let m = marked s 0 [] tree d in let e : 0xef ∷ [] ≡ 0xef ∷ 0xbb ∷ 0xbf ∷ m.0 = m.1 in cc)
-      (record { within = omega arith; begins = begins_part s is (0xef ∷ []) (0xbb ∷ 0xbf ∷ []) refl; greatest = λ n lt le b. omega (arith, lt, le) })
+      by.cut_short (λ tree d. let m = marked law s 0 [] tree d in let e : 0xef ∷ [] ≡ 0xef ∷ 0xbb ∷ 0xbf ∷ m.0 = m.1 in cc)
+      (record { within = omega arith; begins = begins_part law s is (0xef ∷ []) (0xbb ∷ 0xbf ∷ []) refl; greatest = λ n lt le b. omega (arith, lt, le) })
 
   two_cut : JudgedBy s 0 (0xef ∷ 0xbb ∷ []) (verdict.Refused refusal.Truncated)
   two_cut =
-      by.cut_short (λ tree d. let m = marked s 0 (0xbb ∷ []) tree d in let e : 0xef ∷ 0xbb ∷ [] ≡ 0xef ∷ 0xbb ∷ 0xbf ∷ m.0 = m.1 in cc)
-      (record { within = omega arith; begins = begins_part s is (0xef ∷ 0xbb ∷ []) (0xbf ∷ []) refl; greatest = λ n lt le b. omega (arith, lt, le) })
+      by.cut_short (λ tree d. let m = marked law s 0 (0xbb ∷ []) tree d in let e : 0xef ∷ 0xbb ∷ [] ≡ 0xef ∷ 0xbb ∷ 0xbf ∷ m.0 = m.1 in cc)
+      (record { within = omega arith; begins = begins_part law s is (0xef ∷ 0xbb ∷ []) (0xbf ∷ []) refl; greatest = λ n lt le b. omega (arith, lt, le) })
 
   one_other : (c : ℕ) (t : List ℕ) → (c ≡ 0xbb → ⊥) → JudgedBy s 0 (0xef ∷ c ∷ t) (verdict.Refused (refusal.Stopped 1))
   one_other c t other =
-      by.stopped {k = 1} (λ tree d. let m = marked s 0 (c ∷ t) tree d in let e : 0xef ∷ c ∷ t ≡ 0xef ∷ 0xbb ∷ 0xbf ∷ m.0 = m.1 in let same : c ≡ 0xbb = cc in other same)
-      (record { within = omega arith; begins = begins_part s is (0xef ∷ []) (0xbb ∷ 0xbf ∷ []) refl; greatest = greatest })
-      (omega arith) (λ e b. no_second (at_depth s e) c [] other b)
+      by.stopped {k = 1} (λ tree d. let m = marked law s 0 (c ∷ t) tree d in let e : 0xef ∷ c ∷ t ≡ 0xef ∷ 0xbb ∷ 0xbf ∷ m.0 = m.1 in let same : c ≡ 0xbb = cc in other same)
+      (record { within = omega arith; begins = begins_part law s is (0xef ∷ []) (0xbb ∷ 0xbf ∷ []) refl; greatest = greatest })
+      (omega arith) (λ e b. no_second law (at_depth s e) c [] other b)
     where
       greatest : (n : ℕ) → 1 < n → n ≤ length (0xef ∷ c ∷ t) → BeginsBy s (take n (0xef ∷ c ∷ t)) → ⊥
       greatest zero lt le b = omega (arith, lt)
       greatest (suc zero) lt le b = omega (arith, lt)
-      greatest (suc (suc n)) lt le b = no_second s c (take n t) other b
+      greatest (suc (suc n)) lt le b = no_second law s c (take n t) other b
 
   two_other : (c : ℕ) (t : List ℕ) → (c ≡ 0xbf → ⊥) → JudgedBy s 0 (0xef ∷ 0xbb ∷ c ∷ t) (verdict.Refused (refusal.Stopped 2))
   two_other c t other =
-      by.stopped {k = 2} (λ tree d. let m = marked s 0 (0xbb ∷ c ∷ t) tree d in let e : 0xef ∷ 0xbb ∷ c ∷ t ≡ 0xef ∷ 0xbb ∷ 0xbf ∷ m.0 = m.1 in let same : c ≡ 0xbf = cc in other same)
-      (record { within = omega arith; begins = begins_part s is (0xef ∷ 0xbb ∷ []) (0xbf ∷ []) refl; greatest = greatest })
-      (omega arith) (λ e b. no_third (at_depth s e) c [] other b)
+      by.stopped {k = 2} (λ tree d. let m = marked law s 0 (0xbb ∷ c ∷ t) tree d in let e : 0xef ∷ 0xbb ∷ c ∷ t ≡ 0xef ∷ 0xbb ∷ 0xbf ∷ m.0 = m.1 in let same : c ≡ 0xbf = cc in other same)
+      (record { within = omega arith; begins = begins_part law s is (0xef ∷ 0xbb ∷ []) (0xbf ∷ []) refl; greatest = greatest })
+      (omega arith) (λ e b. no_third law (at_depth s e) c [] other b)
     where
       greatest : (n : ℕ) → 2 < n → n ≤ length (0xef ∷ 0xbb ∷ c ∷ t) → BeginsBy s (take n (0xef ∷ 0xbb ∷ c ∷ t)) → ⊥
       greatest zero lt le b = omega (arith, lt)
       greatest (suc zero) lt le b = omega (arith, lt)
       greatest (suc (suc zero)) lt le b = omega (arith, lt)
-      greatest (suc (suc (suc n))) lt le b = no_third s c (take n t) other b
+      greatest (suc (suc (suc n))) lt le b = no_third law s c (take n t) other b
 
 -- ---- no mark is ignored
 
@@ -274,10 +275,10 @@ refused_judged s start bytes is v j =
     v (subst (λ i. Judged i bytes s.depth v) e j)
 
 -- the other way, since the verdict is one
-pub judged_refused : (s : Settings) (start : ℕ) (bytes : List ℕ) → s.mark ≡ on_mark.Refused → (v : Verdict) → JudgedBy s start bytes v → Judged start bytes s.depth v
-judged_refused s start bytes is v j =
+pub judged_refused : TokensAreRead → (s : Settings) (start : ℕ) (bytes : List ℕ) → s.mark ≡ on_mark.Refused → (v : Verdict) → JudgedBy s start bytes v → Judged start bytes s.depth v
+judged_refused law s start bytes is v j =
     let w = verdict_of (read_text s.depth start bytes) in
-    let k : Judged start bytes s.depth w = verdict_law s.depth start bytes in
+    let k : Judged start bytes s.depth w = verdict_law law s.depth start bytes in
     subst (Judged start bytes s.depth) (one_verdict_by s start bytes w v (refused_judged s start bytes is w k) j) k
 
 -- ---- how many bytes agree
@@ -310,48 +311,48 @@ agreed_differs (x ∷ xs) (m ∷ ms) (suc i) d e low h other = agreed_differs xs
 abbrev Told : List ℕ → ℕ → ℕ → Type 0
 Told text n count = IsTold on_mark.Ignored text (front_by n count)
 
-other_told : (text : List ℕ) (count : ℕ) → IsOther text → Told text 0 count
-other_told text count other = (omega arith, λ s v is j. judged_other s 0 text other v j)
+other_told : TokensAreRead → (text : List ℕ) (count : ℕ) → IsOther text → Told text 0 count
+other_told law text count other = (omega arith, λ s v is j. judged_other law s 0 text other v j)
 
 -- agreed w [] doesn't compute before w is known
 pub none_agreed : (w : List ℕ) → agreed w [] ≡ 0
 none_agreed [] = refl
 none_agreed (b ∷ w) = refl
 
-all_told : (d : ℕ) (w : List ℕ) → d ≡ 0xbf → Told (0xef ∷ 0xbb ∷ d ∷ w) (suc (suc (suc (agreed w [])))) (suc (suc (suc (length w))))
-all_told d w same =
+all_told : TokensAreRead → (d : ℕ) (w : List ℕ) → d ≡ 0xbf → Told (0xef ∷ 0xbb ∷ d ∷ w) (suc (suc (suc (agreed w [])))) (suc (suc (suc (length w))))
+all_told law d w same =
     subst (λ n. Told (0xef ∷ 0xbb ∷ d ∷ w) (suc (suc (suc n))) (suc (suc (suc (length w))))) (sym (none_agreed w))
-    (subst (λ b. Told (0xef ∷ 0xbb ∷ b ∷ w) 3 (suc (suc (suc (length w))))) (sym same) (omega arith, λ s v is j. judged_marked s is w v j))
+    (subst (λ b. Told (0xef ∷ 0xbb ∷ b ∷ w) 3 (suc (suc (suc (length w))))) (sym same) (omega arith, λ s v is j. judged_marked law s is w v j))
 
-second : (u : List ℕ) → Told (0xef ∷ u) (suc (agreed u (0xbb ∷ 0xbf ∷ []))) (suc (length u))
-second [] = λ s is. one_cut s is
-second (c ∷ t) = pick (c == 0xbb) refl
+second : TokensAreRead → (u : List ℕ) → Told (0xef ∷ u) (suc (agreed u (0xbb ∷ 0xbf ∷ []))) (suc (length u))
+second law [] = λ s is. one_cut law s is
+second law (c ∷ t) = pick (c == 0xbb) refl
   where
     third : (t : List ℕ) → Told (0xef ∷ 0xbb ∷ t) (suc (suc (agreed t (0xbf ∷ [])))) (suc (suc (length t)))
-    third [] = λ s is. two_cut s is
+    third [] = λ s is. two_cut law s is
     third (d ∷ w) = last (d == 0xbf) refl
       where
         last : (x : Bool) → (d == 0xbf) ≡ x → Told (0xef ∷ 0xbb ∷ d ∷ w) (suc (suc (cond x (suc (agreed w [])) 0))) (suc (suc (suc (length w))))
-        last true q = all_told d w (grind (arith, nat_tests))
+        last true q = all_told law d w (grind (arith, nat_tests))
         last false q =
             let more : (2 == suc (suc (suc (length w)))) ≡ false = grind (arith, nat_tests) in
             let other : d ≢ 0xbf = not_from_Decides (d == 0xbf) (Decides-eqb d 0xbf) q in
-            subst (λ b. IsTold on_mark.Ignored (0xef ∷ 0xbb ∷ d ∷ w) (cond b (seen.Refused refusal.Truncated) (seen.Refused (refusal.Stopped 2)))) (sym more) (λ s is. two_other s is d w other)
+            subst (λ b. IsTold on_mark.Ignored (0xef ∷ 0xbb ∷ d ∷ w) (cond b (seen.Refused refusal.Truncated) (seen.Refused (refusal.Stopped 2)))) (sym more) (λ s is. two_other law s is d w other)
 
     pick : (x : Bool) → (c == 0xbb) ≡ x → Told (0xef ∷ c ∷ t) (suc (cond x (suc (agreed t (0xbf ∷ []))) 0)) (suc (suc (length t)))
     pick true q = let same : c ≡ 0xbb = grind (arith, nat_tests) in subst (λ b. Told (0xef ∷ b ∷ t) (suc (suc (agreed t (0xbf ∷ [])))) (suc (suc (length t)))) (sym same) (third t)
     pick false q =
         let more : (1 == suc (suc (length t))) ≡ false = grind (arith, nat_tests) in
         let other : c ≢ 0xbb = not_from_Decides (c == 0xbb) (Decides-eqb c 0xbb) q in
-        subst (λ b. IsTold on_mark.Ignored (0xef ∷ c ∷ t) (cond b (seen.Refused refusal.Truncated) (seen.Refused (refusal.Stopped 1)))) (sym more) (λ s is. one_other s is c t other)
+        subst (λ b. IsTold on_mark.Ignored (0xef ∷ c ∷ t) (cond b (seen.Refused refusal.Truncated) (seen.Refused (refusal.Stopped 1)))) (sym more) (λ s is. one_other law s is c t other)
 
-pub front_told : (m : FrontMark) (text : List ℕ) → IsTold m text (front_of m text)
-front_told on_mark.Refused text = (omega arith, λ s v is j. refused_judged s 0 text is v j)
-front_told on_mark.Ignored [] = other_told [] 0 (λ x h. cc)
-front_told on_mark.Ignored (a ∷ u) = pick (a == 0xef) refl
+pub front_told : TokensAreRead → (m : FrontMark) (text : List ℕ) → IsTold m text (front_of m text)
+front_told law on_mark.Refused text = (omega arith, λ s v is j. refused_judged s 0 text is v j)
+front_told law on_mark.Ignored [] = other_told law [] 0 (λ x h. cc)
+front_told law on_mark.Ignored (a ∷ u) = pick (a == 0xef) refl
   where
     pick : (x : Bool) → (a == 0xef) ≡ x → Told (a ∷ u) (cond x (suc (agreed u (0xbb ∷ 0xbf ∷ []))) 0) (suc (length u))
-    pick true q = let same : a ≡ 0xef = grind (arith, nat_tests) in subst (λ b. Told (b ∷ u) (suc (agreed u (0xbb ∷ 0xbf ∷ []))) (suc (length u))) (sym same) (second u)
+    pick true q = let same : a ≡ 0xef = grind (arith, nat_tests) in subst (λ b. Told (b ∷ u) (suc (agreed u (0xbb ∷ 0xbf ∷ []))) (suc (length u))) (sym same) (second law u)
     pick false q =
         let other : a ≢ 0xef = not_from_Decides (a == 0xef) (Decides-eqb a 0xef) q in
-        other_told (a ∷ u) (suc (length u)) (λ x h. let same : a ≡ 0xef = cc in other same)
+        other_told law (a ∷ u) (suc (length u)) (λ x h. let same : a ≡ 0xef = cc in other same)

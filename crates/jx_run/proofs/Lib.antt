@@ -9,6 +9,7 @@ pub mod FromGrammar
 pub mod Fronts
 pub mod Fused
 pub mod LawProofs
+pub mod Lexical
 pub mod OnePass
 pub mod OpenEnds
 pub mod Paces

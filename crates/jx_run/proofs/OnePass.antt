@@ -1,6 +1,7 @@
 -- A known stack, and another keeper beside it, over the whole of a text.
 use Rattle.std.proofs.Common.{◌≡◌, ℕ, List, [], ◌∷◌, ◌++◌, refl, sym, ◌∙◌, ap, subst, Option, Some, None, append_assoc}
 use Rattle.std.specs.Prelude.{IfSome, unwrap_or}
+use Rattle.std.proofs.lemmas.List.Sums.{fold-append}
 use Rattle.jx_lex.specs.declared.exit.Exit.{Exit}
 use Rattle.jx_lex.specs.declared.exit.Exit.TheVariants as exit
 use Rattle.jx_lex.specs.declared.mark.Mark.{Mark}
@@ -21,8 +22,7 @@ use Rattle.jx_run.specs.Verdict.{Judged}
 use Rattle.jx_run.specs.Whole.{verdict_from}
 use Rattle.jx_run.specs.declared.verdict.Verdict.{Verdict}
 use Rattle.jx_run.specs.declared.verdict.Verdict.TheVariants as verdict
-use Rattle.jx_run.proofs.LawProofs.{verdict_law}
-use Rattle.jx_reduce.proofs.Readings.{read-append as marks-append}
+use Rattle.jx_run.proofs.LawProofs.{Verdicts}
 use Rattle.jx_lex.specs.declared.mark.MarkKind.TheVariants as kind
 use Rattle.jx_run.proofs.ReaderSteps.{seen_done, stuck}
 use Rattle.jx_run.proofs.RunVerdict.{same_verdict}
@@ -90,7 +90,7 @@ both_fault k other ms es seen done =
     let more : BothHaveSeen other (ms ++ two) (es ++ []) k = done ms two es [] seen in
     let then : k.reading ≡ read_marks k.depth (ms ++ two) stack_start = more.stack_has.read in
     let here : k.reading ≡ read_marks k.depth ms stack_start = seen.stack_has.read in
-    stuck k.depth k.reading (then ∙ marks-append k.depth ms two stack_start ∙ ap (read_marks k.depth two) (sym here))
+    stuck k.depth k.reading (then ∙ fold-append (λ reading mark. step k.depth mark reading) stack_start ms two ∙ ap (read_marks k.depth two) (sym here))
 
 both_seen : (limit from : ℕ) (bytes : List ℕ) (before after : Seen) (old new : Known) (x : Option Exit) (w : Whole) → Scanned limit from bytes before after old new x w → before [] []
     → BothHaveSeen after (lex state.Gap from bytes).marks (old.depth ∷ (lex state.Gap from bytes).ends) new
@@ -101,9 +101,9 @@ text_is : (limit from : ℕ) (bytes : List ℕ) → read_text limit from bytes �
 unfolding read
 text_is limit from bytes = refl
 
-pub both_judged : (limit from : ℕ) (bytes : List ℕ) (before after : Seen) (old new : Known) (x : Option Exit) (w : Whole) → Scanned limit from bytes before after old new x w → before [] []
+pub both_judged : Verdicts → (limit from : ℕ) (bytes : List ℕ) (before after : Seen) (old new : Known) (x : Option Exit) (w : Whole) → Scanned limit from bytes before after old new x w → before [] []
     → Judged from bytes limit (verdict_from (unwrap_or x (exit.State state.Gap)) w)
-both_judged limit from bytes before after old new x w s none =
+both_judged verdict_law limit from bytes before after old new x w s none =
     let track = lex state.Gap from bytes in
     let seen : BothHaveSeen after track.marks (old.depth ∷ track.ends) new = both_seen limit from bytes before after old new x w s none in
     let tied : old.depth ∷ track.ends ≡ new.depth ∷ seen.stack_has.rest = seen.stack_has.depth in

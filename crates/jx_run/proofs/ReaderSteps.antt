@@ -4,6 +4,7 @@ use Rattle.std.specs.Prelude.{nat_lt, IfSome}
 use Rattle.std.specs.Prelude.{slice_range}
 use Rattle.std.proofs.Math.Nat.{add-suc}
 use Rattle.std.proofs.lemmas.List.{length-append, take_all}
+use Rattle.std.proofs.lemmas.List.Sums.{fold-append}
 use Rattle.jx_lex.specs.declared.exit.Exit.{Exit}
 use Rattle.jx_lex.specs.declared.exit.Exit.TheVariants as exit
 use Rattle.jx_lex.specs.declared.mark.Mark.{Mark}
@@ -22,9 +23,8 @@ use Rattle.jx_reduce.specs.declared.holder.Holder.{Holder}
 use Rattle.jx_reduce.specs.declared.whole.Whole.{Whole}
 use Rattle.jx_reduce.specs.declared.whole.Whole.TheVariants as whole
 use Rattle.jx_reduce.specs.KnownStack.{Known, IsFault, HasRead as StackHasRead, start as stack_start}
-use Rattle.jx_reduce.specs.Read.{Reading, top, read as read_marks}
+use Rattle.jx_reduce.specs.Read.{Reading, top, read as read_marks, step as mark_step}
 use Rattle.jx_reduce.specs.Whole.{whole_of}
-use Rattle.jx_reduce.proofs.Readings.{read-append as marks-append}
 use Rattle.jx_run.specs.Kept.{HasSeen}
 use Rattle.jx_run.specs.Laws.{IsFaultAt, verdict_of}
 use Rattle.jx_run.specs.Reading.{Outcome, went, stopped, too_deep, at_exit, and_then, read, read_text}
@@ -39,7 +39,7 @@ use Rattle.jx_run.specs.declared.verdict.Verdict.TheVariants as verdict
 use Rattle.jx_run.specs.declared.verdict.Refusal.TheVariants as refusal
 use Rattle.jx_run.specs.Turns.{Turn, wrong, on, enter, leave, turn}
 use Rattle.jx_run.proofs.Fused.{after_turn, after_mark, in_next, run, read-run}
-use Rattle.jx_run.proofs.LawProofs.{first_fault_law, verdict_law}
+use Rattle.jx_run.proofs.LawProofs.{FirstFaults, Verdicts}
 use Rattle.jx_run.proofs.RunJoin.{read-append}
 use Rattle.jx_run.proofs.RunVerdict.{same_verdict}
 
@@ -102,14 +102,14 @@ fed_over limit from bytes slice r over h =
     ∙ over _
 
 -- no fault lies past the bytes
-pub low : (limit from b : ℕ) (bytes : List ℕ) (r : Outcome) → read_text limit from bytes ≡ shifted b r → from + length bytes < 2 ^ 64 → IsLow b r
-low limit from b bytes (went s e o) h fits = tt
-low limit from b bytes (stopped at) h fits =
+pub low : FirstFaults → (limit from b : ℕ) (bytes : List ℕ) (r : Outcome) → read_text limit from bytes ≡ shifted b r → from + length bytes < 2 ^ 64 → IsLow b r
+low first_fault_law limit from b bytes (went s e o) h fits = tt
+low first_fault_law limit from b bytes (stopped at) h fits =
     let f = first_fault_law limit from (b + at) bytes (subst (λ (z : Outcome). IsFaultAt z (b + at)) (sym h) refl) in
     let same = f.1 in
     let within = f.2.within in
     omega (arith, same, within)
-low limit from b bytes (too_deep at) h fits =
+low first_fault_law limit from b bytes (too_deep at) h fits =
     let f = first_fault_law limit from (b + at) bytes (subst (λ (z : Outcome). IsFaultAt z (b + at)) (sym h) refl) in
     let same = f.1 in
     let within = f.2.within in
@@ -147,7 +147,7 @@ done_fault : (k : Known) (ms : List Mark) (es : List ℕ) → HasSeen ms es k �
 done_fault k ms es seen done =
     let two : List Mark = record { kind = kind.Colon; at = 0 } ∷ record { kind = kind.Colon; at = 0 } ∷ [] in
     let more : HasSeen (ms ++ two) (es ++ []) k = done ms two es [] seen in
-    stuck k.depth k.reading (more.read ∙ marks-append k.depth ms two stack_start ∙ ap (read_marks k.depth two) (sym seen.read))
+    stuck k.depth k.reading (more.read ∙ fold-append (λ reading mark. mark_step k.depth mark reading) stack_start ms two ∙ ap (read_marks k.depth two) (sym seen.read))
 
 no_fault : (r : Reading) (e : Expect) (n : ℕ) → whole.Went e n ≡ whole_of r → IsFault r → ⊥
 no_fault (Reading.went f o) e n h i = i
@@ -170,7 +170,7 @@ goes_on old new ms track b x w h sees is done whole_is =
     let tied : old.depth ∷ track.ends ≡ new.depth ∷ seen.rest = seen.depth in
     let deep : new.depth ≡ old.depth = cc in
     let reading : new.reading ≡ read_marks old.depth track.marks old.reading =
-    seen.read ∙ ap (λ (d : ℕ). read_marks d (ms ++ track.marks) stack_start) deep ∙ marks-append old.depth ms track.marks stack_start ∙ ap (read_marks old.depth track.marks) (sym h) in
+    seen.read ∙ ap (λ (d : ℕ). read_marks d (ms ++ track.marks) stack_start) deep ∙ fold-append (λ reading mark. mark_step old.depth mark reading) stack_start ms track.marks ∙ ap (read_marks old.depth track.marks) (sym h) in
     let at_new : IsLow b (at_exit track.exit new.reading) → outcome_at (settled b x w) new.reading ≡ Some (shifted b (at_exit track.exit new.reading)) =
     λ l. ap (λ (v : Whole). outcome_at (settled b x v) new.reading) whole_is
     ∙ settle_at b x new.reading track.exit is (λ e. done_fault new _ _ seen (done e)) l in
@@ -196,11 +196,11 @@ read_is limit d s e o xs r i j =
     ap (λ (k : ℕ). at_exit (lex s 0 xs).exit (read_marks k (lex s 0 xs).marks (Reading.went e o))) (sym i)
     ∙ ap (λ (q : Reading). at_exit (lex s 0 xs).exit (read_marks d (lex s 0 xs).marks q)) (sym j)
 
-pub fed_slice : (limit from count : ℕ) (bytes slice : List ℕ) (s : LexState) (old new : Known) (p : Progress) → old.depth ≡ limit → (IsFault old.reading → ⊥)
+pub fed_slice : FirstFaults → (limit from count : ℕ) (bytes slice : List ℕ) (s : LexState) (old new : Known) (p : Progress) → old.depth ≡ limit → (IsFault old.reading → ⊥)
     → GoesOn old (lex s 0 slice) (read_marks old.depth (lex s 0 slice).marks old.reading) (from + count) p new
     → count ≡ length bytes → from + count + length slice < 2 ^ 64 → Some (at_exit (lexical.state s) old.reading) ≡ Some (read_text limit from bytes)
     → outcome_at p new.reading ≡ Some (read_text limit from (bytes ++ slice))
-fed_slice limit from count bytes slice s old new p deep going goes long fit h =
+fed_slice first_fault_law limit from count bytes slice s old new p deep going goes long fit h =
     let a = at_state limit from bytes s old.reading going h in
     let base : from + length bytes ≡ from + count = omega arith in
     let text : read_text limit from (bytes ++ slice) ≡ shifted (from + count) (at_exit (lex s 0 slice).exit (read_marks old.depth (lex s 0 slice).marks old.reading)) =
@@ -209,7 +209,7 @@ fed_slice limit from count bytes slice s old new p deep going goes long fit h =
     ∙ ap (shifted (from + count)) (read_is limit old.depth s a.0 a.1 slice old.reading deep a.2) in
     let all : length (bytes ++ slice) ≡ length bytes + length slice = length-append bytes slice in
     let fits_all : from + length (bytes ++ slice) < 2 ^ 64 = omega arith in
-    goes.outcome (low limit from (from + count) (bytes ++ slice) _ text fits_all) ∙ ap (λ (o : Outcome). Some o) (sym text)
+    goes.outcome (low first_fault_law limit from (from + count) (bytes ++ slice) _ text fits_all) ∙ ap (λ (o : Outcome). Some o) (sym text)
 
 pub fed_stopped : (limit from at : ℕ) (bytes slice : List ℕ) (r : Reading) (p : Progress) → p ≡ Stopped at → outcome_at p r ≡ Some (read_text limit from bytes)
     → outcome_at p r ≡ Some (read_text limit from (bytes ++ slice))
@@ -244,30 +244,30 @@ over d (m ∷ ms) (Reading.too_deep at) f = over d ms (Reading.too_deep at) f
 pub seen_done : (k : Known) → IsFault k.reading → WantsNoMore (λ marks ends. HasSeen marks ends k)
 seen_done k f marks more ends others seen =
     record {
-      read = sym (over k.depth more k.reading f) ∙ ap (read_marks k.depth more) seen.read ∙ sym (marks-append k.depth marks more stack_start);
+      read = sym (over k.depth more k.reading f) ∙ ap (read_marks k.depth more) seen.read ∙ sym (fold-append (λ reading mark. mark_step k.depth mark reading) stack_start marks more);
       rest = seen.rest ++ others;
       depth = ap (λ (es : List ℕ). es ++ others) seen.depth;
     }
 
 -- ---- verdicts
 
-pub judged_going : (v : ReaderValue) (p : Progress) (s : LexState) (r : Reading) (w : Whole) (bytes : List ℕ) (x : Verdict) → p ≡ Going s → outcome_at p r ≡ v.outcome → w ≡ whole_of r
+pub judged_going : Verdicts → (v : ReaderValue) (p : Progress) (s : LexState) (r : Reading) (w : Whole) (bytes : List ℕ) (x : Verdict) → p ≡ Going s → outcome_at p r ≡ v.outcome → w ≡ whole_of r
     → x ≡ verdict_from (exit.State s) w → HasRead bytes v → Judged v.start bytes v.limit x
-judged_going v p s r w bytes x is same all from h =
+judged_going verdict_law v p s r w bytes x is same all from h =
     let e : Some (at_exit (lexical.state s) r) ≡ Some (read_text v.limit v.start bytes) = ap (λ (q : Progress). outcome_at q r) (sym is) ∙ same ∙ h.outcome in
     let f : read_text v.limit v.start bytes ≡ at_exit (lexical.state s) r = cc in
     subst (Judged v.start bytes v.limit) (ap verdict_of f ∙ same_verdict (exit.State s) r ∙ ap (verdict_from (exit.State s)) (sym all) ∙ sym from) (verdict_law v.limit v.start bytes)
 
-pub judged_stopped : (v : ReaderValue) (p : Progress) (at : ℕ) (r : Reading) (bytes : List ℕ) → p ≡ Stopped at → outcome_at p r ≡ v.outcome → HasRead bytes v
+pub judged_stopped : Verdicts → (v : ReaderValue) (p : Progress) (at : ℕ) (r : Reading) (bytes : List ℕ) → p ≡ Stopped at → outcome_at p r ≡ v.outcome → HasRead bytes v
     → Judged v.start bytes v.limit (verdict.Refused (refusal.Stopped at))
-judged_stopped v p at r bytes is same h =
+judged_stopped verdict_law v p at r bytes is same h =
     let e : Some (stopped at) ≡ Some (read_text v.limit v.start bytes) = ap (λ (q : Progress). outcome_at q r) (sym is) ∙ same ∙ h.outcome in
     let f : read_text v.limit v.start bytes ≡ stopped at = cc in
     subst (Judged v.start bytes v.limit) (ap verdict_of f) (verdict_law v.limit v.start bytes)
 
-pub judged_too_deep : (v : ReaderValue) (p : Progress) (at : ℕ) (r : Reading) (bytes : List ℕ) → p ≡ TooDeep at → outcome_at p r ≡ v.outcome → HasRead bytes v
+pub judged_too_deep : Verdicts → (v : ReaderValue) (p : Progress) (at : ℕ) (r : Reading) (bytes : List ℕ) → p ≡ TooDeep at → outcome_at p r ≡ v.outcome → HasRead bytes v
     → Judged v.start bytes v.limit (verdict.Refused (refusal.TooDeep at))
-judged_too_deep v p at r bytes is same h =
+judged_too_deep verdict_law v p at r bytes is same h =
     let e : Some (too_deep at) ≡ Some (read_text v.limit v.start bytes) = ap (λ (q : Progress). outcome_at q r) (sym is) ∙ same ∙ h.outcome in
     let f : read_text v.limit v.start bytes ≡ too_deep at = cc in
     subst (Judged v.start bytes v.limit) (ap verdict_of f) (verdict_law v.limit v.start bytes)

@@ -2,7 +2,7 @@
 use Rattle.std.proofs.Common.{◌≡◌, ◌≢◌, ℕ, zero, suc, ◌+◌, ◌<◌, ◌≤◌, List, [], ◌∷◌, ◌++◌, length, get_or, take, Option, Some, None, Bool, true, false, Result, Ok, Err, set, flat_map, append_assoc, refl, sym, ap, subst, ◌∙◌, inl, inr, ◌⊎◌, arith, All}
 use Rattle.std.specs.Prelude.{◌==◌, slice_get, IfSome, IsSomeAnd, OnOk}
 use Rattle.std.proofs.lemmas.Bool.Decides.{Decides-eqb, nat_tests, not_from_Decides}
-use Rattle.std.proofs.lemmas.List.{get_or_default, get_or-set_same, get_or-set_other, length-set}
+use Rattle.std.proofs.lemmas.List.{get_or_append_left, get_or_default, get_or-set_same, get_or-set_other, length-append, length-set}
 use Rattle.std.proofs.Math.Seq.{take-suc}
 use Rattle.std.proofs.lemmas.List.Concat.{flat_map-cons}
 use Rattle.jx_lex.specs.declared.exit.Exit.{Exit}
@@ -25,8 +25,6 @@ use Rattle.jx_reduce.specs.declared.holder.Holder.{Holder}
 use Rattle.jx_reduce.specs.Offsets.{EachIn, RisingFrom}
 use Rattle.jx_reduce.specs.Read.{read as read_marks, Reading}
 use Rattle.jx_reduce.specs.Reductions.{Forms, IsBefore, IsOf, SpansIn, answer}
-use Rattle.jx_reduce.proofs.Reached.{slice_get-append_some}
-use Rattle.jx_reduce.proofs.Spans.{before_of_spans}
 use Rattle.jx_run.specs.declared.way.Way.{Way}
 use Rattle.jx_run.specs.Reading.{at_exit, read}
 use Rattle.jx_run.specs.Reduced.{AreInside, AreNumbered, AreReduced, AreRising, AreWaysOf, IsAt, IsReduced, IsWayOf, path_at}
@@ -131,9 +129,13 @@ segment_rises xs ys h = lower 0 (end_of 0 xs) ys (omega arith) (rising_parts 0 x
 pub front_rises : (xs ys : List Mark) → RisingFrom 0 (xs ++ ys) → RisingFrom 0 xs
 front_rises xs ys h = (rising_parts 0 xs ys h).0
 
-pub reduced_before : (limit : ℕ) (xs ys : List Mark) (f g : Forms) → IsReduced limit xs f → IsReduced limit ys g → RisingFrom 0 (xs ++ ys) → IsBefore f g
-reduced_before limit xs ys f g a b h =
-    let p = parted xs ys h in before_of_spans 0 p.between p.high f g (a.offsets 0 p.between p.below) (b.offsets p.between p.high p.above)
+-- the structures of neighbouring spans may be joined
+abbrev pub Before : Type 0
+Before = (low between high : ℕ) (l r : Forms) → SpansIn low between l → SpansIn between high r → IsBefore l r
+
+pub reduced_before : Before → (limit : ℕ) (xs ys : List Mark) (f g : Forms) → IsReduced limit xs f → IsReduced limit ys g → RisingFrom 0 (xs ++ ys) → IsBefore f g
+reduced_before before limit xs ys f g a b h =
+    let p = parted xs ys h in before 0 p.between p.high f g (a.offsets 0 p.between p.below) (b.offsets p.between p.high p.above)
 
 pub reduced_more : (limit : ℕ) (xs ys : List Mark) (f g j : Forms) → IsReduced limit xs f → IsReduced limit ys g → j.depth ≡ f.depth
     → ((ms ns : List Mark) → IsOf ms f → IsOf ns g → IsOf (ms ++ ns) j)
@@ -255,8 +257,16 @@ none_numbered limit ps numbers fs h n i e = let none : Some i ≡ None = all_at 
 pub at_above : (limit : ℕ) (marks : List Mark) (olds news : List Forms) (i : ℕ) → IsAbove olds news → IsAt limit marks olds i → IsAt limit marks news i
 at_above limit marks olds news i up h = record { form = h.form; at = up i h.form h.at; of = h.of }
 
+-- what stands in a list stays where more is pushed
+pub stays_there : {X : Type 0} (xs : List X) (y : X) (i : ℕ) (x : X) → slice_get xs i ≡ Some x → slice_get (xs ++ y ∷ []) i ≡ Some x
+stays_there xs y i x h =
+    let low = slice_get_within xs i x h in
+    let long = length-append xs (y ∷ []) in
+    slice_get-get_or (xs ++ y ∷ []) i x (omega (arith, low, long))
+    ∙ ap (λ z. Some z) (get_or_append_left xs (y ∷ []) x i low ∙ get_or_from_slice_get xs i x x h)
+
 pub push_above : (fs : List Forms) (f : Forms) → IsAbove fs (fs ++ f ∷ [])
-push_above fs f i g h = slice_get-append_some fs (f ∷ []) i g h
+push_above fs f i g h = stays_there fs f i g h
 
 pub pushed_at : (limit : ℕ) (marks : List Mark) (fs : List Forms) (f : Forms) → IsReduced limit marks f → IsAt limit marks (fs ++ f ∷ []) (length fs)
 pushed_at limit marks fs f h = record { form = f; at = at_end fs f; of = h }

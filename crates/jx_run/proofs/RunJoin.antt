@@ -18,8 +18,6 @@ use Rattle.jx_reduce.specs.declared.expect.Expect.{Expect}
 use Rattle.jx_reduce.specs.declared.holder.Holder.{Holder}
 use Rattle.jx_reduce.specs.Read.{Reading, top, then_by}
 use Rattle.jx_reduce.specs.Reductions.{Forms, answer, IsJoin, SpansIn}
-use Rattle.jx_reduce.proofs.Reached.{slice_get-append_some}
-use Rattle.jx_reduce.proofs.Spans.{SpansIn_wider}
 use Rattle.jx_run.specs.declared.joins.Pair.{Pair}
 use Rattle.jx_run.specs.declared.way.Way.{Way}
 use Rattle.jx_run.specs.Turns.{Turn, wrong, on, enter, leave, turn}
@@ -27,7 +25,7 @@ use Rattle.jx_run.specs.Reading.{Outcome, went, stopped, too_deep, at_exit, and_
 use Rattle.jx_run.specs.Joins.{AreJoined, AreJoinedWays, AreMade, GoesOnWith, GoesThrough, IsAbove, IsJoinedWay, IsMade, IsMadeAt, IsOnward}
 use Rattle.jx_run.specs.OutcomeRun.{OutcomeRunValue, Entries, entries_at, outcome_in, outcome, GoesOn, IsOutcomeRun, IsWhole, IsWithin}
 use Rattle.jx_run.proofs.Completion.{run-append}
-use Rattle.jx_run.proofs.Reducing.{states-many}
+use Rattle.jx_run.proofs.Reducing.{push_above, states-many}
 use Rattle.jx_run.proofs.StateOrder.{state-at}
 use Rattle.jx_run.proofs.Ways.{all_at, at_end, entries_are, has_entries, one_of, some_of, with_one}
 use Rattle.jx_run.proofs.Fused.{after_turn, after_mark, in_next, run, read-run}
@@ -122,16 +120,20 @@ goes_on_fault limit l right i ends e o w =
 
 -- ---- where the offsets of joined structures lie
 
-pub stays_within : (limit low between high : ℕ) (f : Forms) → IsWithin limit low between f → between ≤ high → IsWithin limit low high f
-stays_within limit low between high f w above =
-    record { depth = w.depth; offsets = SpansIn_wider low between low high f (omega arith) above w.offsets }
+-- a span may be widened
+abbrev pub Wider : Type 0
+Wider = (low high less more : ℕ) (f : Forms) → less ≤ low → high ≤ more → SpansIn low high f → SpansIn less more f
 
-pub joined_within : (limit low between high : ℕ) (a b f : Forms) → IsWithin limit low between a → IsWithin limit between high b → low ≤ between → between ≤ high
+pub stays_within : Wider → (limit low between high : ℕ) (f : Forms) → IsWithin limit low between f → between ≤ high → IsWithin limit low high f
+stays_within wider limit low between high f w above =
+    record { depth = w.depth; offsets = wider low between low high f (omega arith) above w.offsets }
+
+pub joined_within : Wider → (limit low between high : ℕ) (a b f : Forms) → IsWithin limit low between a → IsWithin limit between high b → low ≤ between → between ≤ high
     → GoesOnWith a b f → IsWithin limit low high f
-joined_within limit low between high a b f w v below above goes =
+joined_within wider limit low between high a b f w v below above goes =
     record {
       depth = goes.depth ∙ w.depth;
-      offsets = goes.offsets low high (SpansIn_wider low between low high a (omega arith) above w.offsets) (SpansIn_wider between high low high b below (omega arith) v.offsets);
+      offsets = goes.offsets low high (wider low between low high a (omega arith) above w.offsets) (wider between high low high b below (omega arith) v.offsets);
     }
 
 -- the right's structure, by the left's depth and end
@@ -196,7 +198,7 @@ push_made left right pairs fs pair f h made =
     pick : (i : ℕ) (p : Pair) → (slice_get pairs i ≡ Some p) ⊎ ((i ≡ length pairs) × (pair ≡ p)) → IsMadeAt left right (fs ++ f ∷ []) p i
     pick i p (inl e) =
         let x = h.each i p e in
-        record { form = x.form; at = slice_get-append_some fs (f ∷ []) i x.form x.at; made = x.made }
+        record { form = x.form; at = push_above fs f i x.form x.at; made = x.made }
     pick i p (inr e) =
         record {
           form = f;

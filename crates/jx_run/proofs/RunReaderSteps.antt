@@ -22,7 +22,7 @@ use Rattle.jx_run.specs.Verdict.{Judged}
 use Rattle.jx_run.specs.Whole.{verdict_from}
 use Rattle.jx_run.specs.declared.run_reader.Course.{Course}
 use Rattle.jx_run.specs.declared.verdict.Verdict.{Verdict}
-use Rattle.jx_run.proofs.LawProofs.{verdict_law}
+use Rattle.jx_run.proofs.LawProofs.{FirstFaults, Verdicts}
 use Rattle.jx_run.proofs.ReaderSteps.{fed_went, fed_over, low}
 use Rattle.jx_run.proofs.RunJoin.{Within}
 use Rattle.jx_run.proofs.RunVerdict.{same_verdict}
@@ -45,10 +45,10 @@ leads b limit x o c r is e w =
     (subst (λ (z : Outcome). LeadsTo b limit z (arrived b x o)) e (leads_at b limit x o (subst (Within limit) (sym e) w)))
 
 -- the text with the bytes of a run behind it
-pub followed : (limit from count depth at : ℕ) (bytes more : List ℕ) (s : LexState) (e : Expect) (o : List Holder) (c : Course) → depth ≡ limit → at ≡ 0
+pub followed : FirstFaults → (limit from count depth at : ℕ) (bytes more : List ℕ) (s : LexState) (e : Expect) (o : List Holder) (c : Course) → depth ≡ limit → at ≡ 0
     → LeadsTo (from + count) depth (read depth s e o at more) c → count ≡ length bytes → from + count + length more < 2 ^ 64
     → Some (went s e o) ≡ Some (read_text limit from bytes) → outcome_on c ≡ Some (read_text limit from (bytes ++ more))
-followed limit from count depth at bytes more s e o c deep zero leads long fit h =
+followed first_fault_law limit from count depth at bytes more s e o c deep zero leads long fit h =
     let here : read_text limit from bytes ≡ went s e o = sym cc in
     let base : from + length bytes ≡ from + count = omega arith in
     let same : read limit s e o 0 more ≡ read depth s e o at more = ap (λ (d : ℕ). read d s e o 0 more) (sym deep) ∙ ap (λ (i : ℕ). read depth s e o i more) (sym zero) in
@@ -58,7 +58,7 @@ followed limit from count depth at bytes more s e o c deep zero leads long fit h
     ∙ ap (shifted (from + count)) same in
     let all : length (bytes ++ more) ≡ length bytes + length more = length-append bytes more in
     let fits_all : from + length (bytes ++ more) < 2 ^ 64 = omega arith in
-    leads.outcome (low limit from (from + count) (bytes ++ more) _ text fits_all) ∙ ap (λ (z : Outcome). Some z) (sym text)
+    leads.outcome (low first_fault_law limit from (from + count) (bytes ++ more) _ text fits_all) ∙ ap (λ (z : Outcome). Some z) (sym text)
 
 -- no byte behind a fault changes what a text comes to
 over_at : (r : Outcome) → is_fault (Some r) ≡ true → (more : LexState → Expect → List Holder → Outcome) → and_then r more ≡ r
@@ -73,20 +73,20 @@ passed limit from bytes more z f h =
 
 -- ---- verdicts
 
-judged_outcome : (v : ReaderValue) (o : Outcome) (x : Verdict) (bytes : List ℕ) → Some o ≡ v.outcome → x ≡ verdict_of o → HasRead bytes v → Judged v.start bytes v.limit x
-judged_outcome v o x bytes same is h =
+judged_outcome : Verdicts → (v : ReaderValue) (o : Outcome) (x : Verdict) (bytes : List ℕ) → Some o ≡ v.outcome → x ≡ verdict_of o → HasRead bytes v → Judged v.start bytes v.limit x
+judged_outcome verdict_law v o x bytes same is h =
     let e : Some o ≡ Some (read_text v.limit v.start bytes) = same ∙ h.outcome in
     let f : read_text v.limit v.start bytes ≡ o = sym cc in
     subst (Judged v.start bytes v.limit) (ap verdict_of f ∙ sym is) (verdict_law v.limit v.start bytes)
 
-pub judged_going : (v : ReaderValue) (s : LexState) (e : Expect) (hs : List Holder) (x : Verdict) (bytes : List ℕ) → Some (went s e (reverse hs)) ≡ v.outcome
+pub judged_going : Verdicts → (v : ReaderValue) (s : LexState) (e : Expect) (hs : List Holder) (x : Verdict) (bytes : List ℕ) → Some (went s e (reverse hs)) ≡ v.outcome
     → x ≡ verdict_from (exit.State s) (whole.Went e (length hs)) → HasRead bytes v → Judged v.start bytes v.limit x
-judged_going v s e hs x bytes same is h =
-    judged_outcome v (went s e (reverse hs)) x bytes same
+judged_going verdict_law v s e hs x bytes same is h =
+    judged_outcome verdict_law v (went s e (reverse hs)) x bytes same
     (is ∙ ap (λ (n : ℕ). verdict_from (exit.State s) (whole.Went e n)) (sym (length-reverse hs)) ∙ sym (same_verdict (exit.State s) (Reading.went e (reverse hs)))) h
 
-pub judged_stopped : (v : ReaderValue) (at : ℕ) (x : Verdict) (bytes : List ℕ) → Some (stopped at) ≡ v.outcome → x ≡ verdict_of (stopped at) → HasRead bytes v → Judged v.start bytes v.limit x
-judged_stopped v at x bytes same is h = judged_outcome v (stopped at) x bytes same is h
+pub judged_stopped : Verdicts → (v : ReaderValue) (at : ℕ) (x : Verdict) (bytes : List ℕ) → Some (stopped at) ≡ v.outcome → x ≡ verdict_of (stopped at) → HasRead bytes v → Judged v.start bytes v.limit x
+judged_stopped verdict_law v at x bytes same is h = judged_outcome verdict_law v (stopped at) x bytes same is h
 
-pub judged_too_deep : (v : ReaderValue) (at : ℕ) (x : Verdict) (bytes : List ℕ) → Some (too_deep at) ≡ v.outcome → x ≡ verdict_of (too_deep at) → HasRead bytes v → Judged v.start bytes v.limit x
-judged_too_deep v at x bytes same is h = judged_outcome v (too_deep at) x bytes same is h
+pub judged_too_deep : Verdicts → (v : ReaderValue) (at : ℕ) (x : Verdict) (bytes : List ℕ) → Some (too_deep at) ≡ v.outcome → x ≡ verdict_of (too_deep at) → HasRead bytes v → Judged v.start bytes v.limit x
+judged_too_deep verdict_law v at x bytes same is h = judged_outcome verdict_law v (too_deep at) x bytes same is h

@@ -24,7 +24,7 @@ use Rattle.jx_run.specs.Reading.{at_exit, and_then, read}
 use Rattle.jx_run.specs.OutcomeRun.{OutcomeRunValue, Entries, entries_at, exit_at, exit_in, outcome, outcome_in, outcome_of, GoesOn, IsOutcomeRun}
 use Rattle.jx_run.specs.Verdict.{Judged}
 use Rattle.jx_run.specs.Whole.{ends_text, verdict_from}
-use Rattle.jx_run.proofs.LawProofs.{verdict_law}
+use Rattle.jx_run.proofs.LawProofs.{Verdicts}
 use Rattle.jx_run.proofs.RunJoin.{and_then-same, read-append, read-within}
 
 open_none : (s : LexState) (e : Expect) (h : Holder) (o : List Holder) → is_end s e (h ∷ o) ≡ false
@@ -62,17 +62,17 @@ entry_reads run s x e is r deep form bytes h o short =
     ∙ sym (ap (λ z. outcome_in z x o) is)
     ∙ h.outcomes s x o short
 
-pub run_judged : (run : OutcomeRunValue) (e : Entries) → entries_at run state.Gap ≡ Some e → (bytes : List ℕ) → IsOutcomeRun bytes run
+pub run_judged : Verdicts → (run : OutcomeRunValue) (e : Entries) → entries_at run state.Gap ≡ Some e → (bytes : List ℕ) → IsOutcomeRun bytes run
     → Judged run.start bytes run.limit (verdict_from e.exit (whole_of (answer e.marks expect.Value [])))
-run_judged run e is bytes h =
+run_judged verdict_law run e is bytes h =
     subst (Judged run.start bytes run.limit)
     (ap verdict_of (sym (h.outcomes state.Gap expect.Value [] (omega arith)) ∙ ap (λ z. outcome_in z expect.Value []) is) ∙ same_verdict e.exit (answer e.marks expect.Value []))
     (verdict_law run.limit run.start bytes)
 
 -- the verdict on the bytes of two neighbours
-pub judged_through : (l r : OutcomeRunValue) (e j : Entries) → entries_at l state.Gap ≡ Some e → GoesOn l.limit e r j → l.limit ≡ r.limit → l.end ≡ r.start
+pub judged_through : Verdicts → (l r : OutcomeRunValue) (e j : Entries) → entries_at l state.Gap ≡ Some e → GoesOn l.limit e r j → l.limit ≡ r.limit → l.end ≡ r.start
     → (xs ys : List ℕ) → IsOutcomeRun xs l → IsOutcomeRun ys r → Judged l.start (xs ++ ys) l.limit (verdict_from j.exit (whole_of (answer j.marks expect.Value [])))
-judged_through l r e j is goes deep mid xs ys h k =
+judged_through verdict_law l r e j is goes deep mid xs ys h k =
     let none : 0 ≤ l.limit = omega arith in
     let here : r.start ≡ l.start + length xs = sym mid ∙ h.long in
     let same : outcome_of j expect.Value [] ≡ read l.limit state.Gap expect.Value [] l.start (xs ++ ys) =

@@ -6,13 +6,15 @@ use Rattle.jx_lex.specs.declared.kind.Kind.{Kind}
 use Rattle.jx_lex.specs.declared.kind.Kind.TheVariants as kind
 use Rattle.jx_lex.specs.declared.state.LexState.{LexState}
 use Rattle.jx_lex.specs.declared.state.LexState.TheVariants as state
-use Rattle.jx_lex.specs.Moves.{move, as_gap}
-use Rattle.jx_lex.specs.Token
-use Rattle.jx_lex.specs.Token.{IsBlank, IsToken, IsNumber, IsString}
-use Rattle.jx_lex.proofs.Cases
-use Rattle.jx_lex.proofs.Completes
-use Rattle.jx_lex.proofs.Completes.{Completes}
-use Rattle.jx_lex.proofs.Inside.{IsFinal, final_gap, final_zero, final_int, final_frac, final_exp}
+use Rattle.jx_lex.specs.Classes.{class_at}
+use Rattle.jx_lex.specs.Moves.{move, begin, structural, as_gap}
+use Rattle.jx_lex.specs.declared.mark.MarkKind.{MarkKind}
+use Rattle.jx_lex.specs.declared.mark.MarkKind.TheVariants as mark
+use Rattle.jx_lex.specs.declared.state.Step.{Step}
+use Rattle.jx_lex.specs.Token.{IsBlank, IsToken}
+use Rattle.jx_lex.specs.TokenStates.{in_token, Spells, here, goes, shuts, IsFinal, final_gap, final_zero, final_int, final_frac, final_exp, mark_of}
+use Rattle.jx_lex.specs.TokenSteps as byte
+use Rattle.jx_lex.specs.TokenSteps.{IsScalar, TokenStep, IsStructural, GapStep}
 use Rattle.jx_reduce.specs.declared.expect.Expect.{Expect}
 use Rattle.jx_reduce.specs.declared.expect.Expect.TheVariants as expect
 use Rattle.jx_reduce.specs.declared.holder.Holder.{Holder}
@@ -23,6 +25,7 @@ use Rattle.jx_run.specs.Reading.{Outcome, went}
 use Rattle.jx_run.specs.Tree.{Tree, Children, no_children, depth, deepest, depth_over}
 use Rattle.jx_run.specs.Grammar.{Blanks, no_blanks, blank, Scalar, Value, leaf, empty_array, array, empty_object, object, Items, last_item, item, Members, last_member, member}
 use Rattle.jx_run.proofs.Fused.{after_turn, run, on_step}
+use Rattle.jx_run.proofs.Lexical.{TokensAreRead, gap_of}
 
 -- the end of a whole text
 pub data Accepted : Outcome → Type 0 where
@@ -78,7 +81,9 @@ module _ (limit : ℕ) where
     pub token : List ℕ
     pub after : List ℕ
     pub end : ℕ
-    pub completes : Completes s token
+    pub last : LexState
+    pub spells : Spells s token last
+    pub final : IsFinal last
     pub whole : t ≡ token ++ after
     pub is_end : end ≡ i + length token
     pub rest : RestGap e o end after
@@ -86,6 +91,14 @@ module _ (limit : ℕ) where
   abbrev pub Rest : LexState → Expect → List Holder → ℕ → List ℕ → Type 0
   Rest state.Gap e o i t = RestGap e o i t
   Rest s e o i t = RestToken s e o i t
+
+  to_rest : (s : LexState) (e : Expect) (o : List Holder) (i : ℕ) (t : List ℕ) → in_token s ≡ true → RestToken s e o i t → Rest s e o i t
+  to_rest state.Gap e o i t h r = absurd cc
+  to_rest _ e o i t h r = r
+
+  of_rest : (s : LexState) (e : Expect) (o : List Holder) (i : ℕ) (t : List ℕ) → in_token s ≡ true → Rest s e o i t → RestToken s e o i t
+  of_rest state.Gap e o i t h r = absurd cc
+  of_rest _ e o i t h r = r
 
   -- ---- a blank before
 
@@ -173,7 +186,7 @@ module _ (limit : ℕ) where
 
   -- ---- one byte between tokens
 
-  module _ (i : ℕ) (t : List ℕ) (more : LexState → Expect → List Holder → Outcome)
+  module _ (law : TokensAreRead) (i : ℕ) (t : List ℕ) (more : LexState → Expect → List Holder → Outcome)
       (ih : (s : LexState) (e : Expect) (o : List Holder) → Accepted (more s e o) → length o ≤ limit → Rest s e o (suc i) t) where
     -- a scalar that begins with this byte
     scalar_rest : (k : Kind) (b : ℕ) (w after : List ℕ) (end : ℕ) (o : List Holder) → depth_over k 0 ≡ 0 → IsToken k (b ∷ w) → t ≡ w ++ after → end ≡ suc i + length w
@@ -250,224 +263,106 @@ module _ (limit : ℕ) where
     comma_turns expect.After (holder.Object ∷ o) le acc = comma_object (ih state.Gap expect.Name (holder.Object ∷ o) acc le)
     comma_turns _ _ le acc = elim acc [ ]
 
-    -- a number, a literal and a string that begin here
-    number_begins : (b : ℕ) (s : LexState) (e : Expect) (o : List Holder) → length o ≤ limit → ((w : List ℕ) → Completes s w → IsNumber (b ∷ w))
-        → (Accepted (more s expect.After o) → RestToken s expect.After o (suc i) t) → Accepted (after_turn limit i o (at_scalar e) (λ e o. more s e o)) → RestGap e o i (b ∷ t)
-    number_begins b s e o le h rec acc =
-        scalar_turns e o b (λ e o. more s e o) acc (λ a. let r = rec a in scalar_rest kind.Number b r.token r.after r.end o refl (h r.token r.completes) r.whole r.is_end le r.rest)
+    -- ---- a token that begins here
 
-    literal_begins : (k : Kind) (b : ℕ) (s : LexState) (e : Expect) (o : List Holder) → length o ≤ limit → depth_over k 0 ≡ 0 → ((w : List ℕ) → Completes s w → IsToken k (b ∷ w))
-        → (Accepted (more s expect.After o) → RestToken s expect.After o (suc i) t) → Accepted (after_turn limit i o (at_scalar e) (λ e o. more s e o)) → RestGap e o i (b ∷ t)
-    literal_begins k b s e o le flat h rec acc =
-        scalar_turns e o b (λ e o. more s e o) acc (λ a. let r = rec a in scalar_rest k b r.token r.after r.end o flat (h r.token r.completes) r.whole r.is_end le r.rest)
+    token_is : (k : Kind) (b : ℕ) (entry : LexState) → in_token entry ≡ true → move state.Gap b ≡ begin (mark_of k) entry → {e : Expect} {o : List Holder} {j : ℕ} {u : List ℕ}
+        → (r : RestToken entry e o j u) → IsToken k (b ∷ r.token)
+    token_is k b entry h m r =
+        law.tokens k (b ∷ r.token) (record { first = b; bytes = r.token; entry = entry; last = r.last; whole = refl; begins = m; inside = r.spells; final = r.final; entered = h })
 
-    string_begins : (e : Expect) (o : List Holder) → length o ≤ limit → Accepted (after_turn limit i o (at_string e) (λ e o. more state.Str e o)) → RestGap e o i (0x22 ∷ t)
-    string_begins e o le acc =
-        string_turns e o 0x22 (λ e o. more state.Str e o) acc
-        (λ a. let r = ih state.Str expect.After o a le in scalar_rest kind.String 0x22 r.token r.after r.end o refl (Completes.string_of r.completes) r.whole r.is_end le r.rest)
-        (λ a. let r = ih state.Str expect.Colon o a le in
-        a_name {j = i} {k = r.end} {v = r.after} no_blanks (record { token = 0x22 ∷ r.token; is_token = Completes.string_of r.completes; whole = ap (λ x. 0x22 ∷ x) r.whole; end = let x : r.end ≡ i + suc (length r.token) = omega (arith, r.is_end) in x }) r.rest)
+    scalar_begins : (k : Kind) (b : ℕ) (entry : LexState) → in_token entry ≡ true → move state.Gap b ≡ begin (mark_of k) entry → depth_over k 0 ≡ 0 → (e : Expect) (o : List Holder)
+        → length o ≤ limit → Accepted (after_turn limit i o (at_scalar e) (λ e o. more entry e o)) → RestGap e o i (b ∷ t)
+    scalar_begins k b entry h m flat e o le acc =
+        scalar_turns e o b (λ e o. more entry e o) acc
+        (λ a. let r = of_rest entry expect.After o (suc i) t h (ih entry expect.After o a le) in scalar_rest k b r.token r.after r.end o flat (token_is k b entry h m r) r.whole r.is_end le r.rest)
 
-    at_byte : (n b : ℕ) (e : Expect) (o : List Holder) → b ≡ n → RestGap e o i (n ∷ t) → RestGap e o i (b ∷ t)
-    at_byte n b e o h r = subst (λ m. RestGap e o i (m ∷ t)) (sym h) r
+    string_begins : (b : ℕ) (entry : LexState) → in_token entry ≡ true → move state.Gap b ≡ begin mark.String entry → (e : Expect) (o : List Holder)
+        → length o ≤ limit → Accepted (after_turn limit i o (at_string e) (λ e o. more entry e o)) → RestGap e o i (b ∷ t)
+    string_begins b entry h m e o le acc =
+        string_turns e o b (λ e o. more entry e o) acc
+        (λ a. let r = of_rest entry expect.After o (suc i) t h (ih entry expect.After o a le) in scalar_rest kind.String b r.token r.after r.end o refl (token_is kind.String b entry h m r) r.whole r.is_end le r.rest)
+        (λ a. let r = of_rest entry expect.Colon o (suc i) t h (ih entry expect.Colon o a le) in
+        a_name {j = i} {k = r.end} {v = r.after} no_blanks (record { token = b ∷ r.token; is_token = token_is kind.String b entry h m r; whole = ap (λ x. b ∷ x) r.whole; end = let x : r.end ≡ i + suc (length r.token) = omega (arith, r.is_end) in x }) r.rest)
 
-    true_of : (w : List ℕ) → Completes state.T w → IsToken kind.True (0x74 ∷ w)
-    true_of _ Completes.from_t = refl
+    token_begins : (k : Kind) (b : ℕ) (entry : LexState) → IsScalar k → in_token entry ≡ true → move state.Gap b ≡ begin (mark_of k) entry → (e : Expect) (o : List Holder)
+        → length o ≤ limit → Accepted (on_step limit i e o (begin (mark_of k) entry) more) → RestGap e o i (b ∷ t)
+    token_begins kind.Object b entry scalar h m e o le acc = absurd scalar
+    token_begins kind.Array b entry scalar h m e o le acc = absurd scalar
+    token_begins kind.String b entry scalar h m e o le acc = string_begins b entry h m e o le acc
+    token_begins kind.Number b entry scalar h m e o le acc = scalar_begins kind.Number b entry h m refl e o le acc
+    token_begins kind.True b entry scalar h m e o le acc = scalar_begins kind.True b entry h m refl e o le acc
+    token_begins kind.False b entry scalar h m e o le acc = scalar_begins kind.False b entry h m refl e o le acc
+    token_begins kind.Null b entry scalar h m e o le acc = scalar_begins kind.Null b entry h m refl e o le acc
 
-    false_of : (w : List ℕ) → Completes state.F w → IsToken kind.False (0x66 ∷ w)
-    false_of _ Completes.from_f = refl
-
-    null_of : (w : List ℕ) → Completes state.N w → IsToken kind.Null (0x6e ∷ w)
-    null_of _ Completes.from_n = refl
+    mark_rest : {b : ℕ} {k : MarkKind} → IsStructural b k → (e : Expect) (o : List Holder) → length o ≤ limit → Accepted (on_step limit i e o (structural k) more) → RestGap e o i (b ∷ t)
+    mark_rest byte.open_array e o le acc = open_array_turns e o (λ e o. more state.Gap e o) acc (λ lt a. open_array lt (ih state.Gap expect.ArrayFirst (holder.Array ∷ o) a lt))
+    mark_rest byte.close_array e o le acc = close_array_turns e o le acc
+    mark_rest byte.open_object e o le acc = open_object_turns e o (λ e o. more state.Gap e o) acc (λ lt a. open_object lt (ih state.Gap expect.ObjectFirst (holder.Object ∷ o) a lt))
+    mark_rest byte.close_object e o le acc = close_object_turns e o le acc
+    mark_rest byte.colon e o le acc = colon_turns e o le acc
+    mark_rest byte.comma e o le acc = comma_turns e o le acc
 
     gap_step : (b : ℕ) (e : Expect) (o : List Holder) → length o ≤ limit → Accepted (on_step limit i e o (move state.Gap b) more) → RestGap e o i (b ∷ t)
-    gap_step b e o le = Cases.cases_Gap b (λ step. Accepted (on_step limit i e o step more) → RestGap e o i (b ∷ t))
-        (λ h acc. gap_blank e o i t h (ih state.Gap e o acc le))
-        (λ h acc. at_byte 0x22 b e o h (string_begins e o le acc))
-        (λ h acc. at_byte 0x2d b e o h (number_begins 0x2d state.Minus e o le (λ w c. Completes.number_minus c) (λ a. ih state.Minus expect.After o a le) acc))
-        (λ h acc. at_byte 0x30 b e o h (number_begins 0x30 state.Zero e o le (λ w c. Completes.number_zero c) (λ a. ih state.Zero expect.After o a le) acc))
-        (λ h acc. number_begins b state.Int e o le (λ w c. Completes.number_digit h c) (λ a. ih state.Int expect.After o a le) acc)
-        (λ h acc. at_byte 0x74 b e o h (literal_begins kind.True 0x74 state.T e o le refl true_of (λ a. ih state.T expect.After o a le) acc))
-        (λ h acc. at_byte 0x66 b e o h (literal_begins kind.False 0x66 state.F e o le refl false_of (λ a. ih state.F expect.After o a le) acc))
-        (λ h acc. at_byte 0x6e b e o h (literal_begins kind.Null 0x6e state.N e o le refl null_of (λ a. ih state.N expect.After o a le) acc))
-        (λ h acc. at_byte 0x5b b e o h (open_array_turns e o (λ e o. more state.Gap e o) acc (λ lt a. open_array lt (ih state.Gap expect.ArrayFirst (holder.Array ∷ o) a lt))))
-        (λ h acc. at_byte 0x5d b e o h (close_array_turns e o le acc))
-        (λ h acc. at_byte 0x7b b e o h (open_object_turns e o (λ e o. more state.Gap e o) acc (λ lt a. open_object lt (ih state.Gap expect.ObjectFirst (holder.Object ∷ o) a lt))))
-        (λ h acc. at_byte 0x7d b e o h (close_object_turns e o le acc))
-        (λ h acc. at_byte 0x3a b e o h (colon_turns e o le acc))
-        (λ h acc. at_byte 0x2c b e o h (comma_turns e o le acc))
-        (λ acc. elim acc [ ])
+    gap_step b e o le acc = pick (law.gaps b)
+      where
+        to : {st : Step} → move state.Gap b ≡ st → Accepted (on_step limit i e o st more)
+        to m = subst (λ (st : Step). Accepted (on_step limit i e o st more)) m acc
+
+        pick : GapStep b → RestGap e o i (b ∷ t)
+        pick (byte.a_blank h m) = gap_blank e o i t h (ih state.Gap e o (to m) le)
+        pick (byte.a_token k entry scalar h m) = token_begins k b entry scalar h m e o le (to m)
+        pick (byte.a_mark h m) = mark_rest h e o le (to m)
+        pick (byte.no_step m) = elim (to m) [ ]
 
     -- ---- one byte inside a token
 
-    extend : (from next : LexState) (b : ℕ) (e : Expect) (o : List Holder) → ((w : List ℕ) → Completes next w → Completes from (b ∷ w))
-        → RestToken next e o (suc i) t → RestToken from e o i (b ∷ t)
-    extend from next b e o h r =
-        record {
-          token = b ∷ r.token;
-          after = r.after;
-          end = r.end;
-          completes = h r.token r.completes;
-          whole = ap (λ x. b ∷ x) r.whole;
-          is_end = let x : r.end ≡ i + suc (length r.token) = omega (arith, r.is_end) in x;
-          rest = r.rest;
-        }
-
-    at_token : (n b : ℕ) (s : LexState) (e : Expect) (o : List Holder) → b ≡ n → RestToken s e o i (n ∷ t) → RestToken s e o i (b ∷ t)
-    at_token n b s e o h r = subst (λ m. RestToken s e o i (m ∷ t)) (sym h) r
-
-    -- the token's last byte
-    closes : (from : LexState) (b : ℕ) (e : Expect) (o : List Holder) → Completes from (b ∷ []) → RestGap e o (suc i) t → RestToken from e o i (b ∷ t)
-    closes from b e o h r =
-        record { token = b ∷ []; after = t; end = suc i; completes = h; whole = refl; is_end = let x : suc i ≡ i + 1 = omega arith in x; rest = r }
-
-    -- a number that ended before this byte
-    ended : (from : LexState) (b : ℕ) (e : Expect) (o : List Holder) → Completes from [] → RestGap e o i (b ∷ t) → RestToken from e o i (b ∷ t)
-    ended from b e o h r =
-        record { token = []; after = b ∷ t; end = i; completes = h; whole = refl; is_end = let x : i ≡ i + 0 = omega arith in x; rest = r }
-
-    t_r : (w : List ℕ) → Completes state.Tr w → Completes state.T (0x72 ∷ w)
-    t_r _ Completes.from_tr = Completes.from_t
-
-    tr_u : (w : List ℕ) → Completes state.Tru w → Completes state.Tr (0x75 ∷ w)
-    tr_u _ Completes.from_tru = Completes.from_tr
-
-    f_a : (w : List ℕ) → Completes state.Fa w → Completes state.F (0x61 ∷ w)
-    f_a _ Completes.from_fa = Completes.from_f
-
-    fa_l : (w : List ℕ) → Completes state.Fal w → Completes state.Fa (0x6c ∷ w)
-    fa_l _ Completes.from_fal = Completes.from_fa
-
-    fal_s : (w : List ℕ) → Completes state.Fals w → Completes state.Fal (0x73 ∷ w)
-    fal_s _ Completes.from_fals = Completes.from_fal
-
-    n_u : (w : List ℕ) → Completes state.Nu w → Completes state.N (0x75 ∷ w)
-    n_u _ Completes.from_nu = Completes.from_n
-
-    nu_l : (w : List ℕ) → Completes state.Nul w → Completes state.Nu (0x6c ∷ w)
-    nu_l _ Completes.from_nul = Completes.from_nu
-
-    token_step : (s : LexState) (b : ℕ) (e : Expect) (o : List Holder) → length o ≤ limit → Accepted (on_step limit i e o (move s b) more) → Rest s e o i (b ∷ t)
+    gap_again : (b : ℕ) (e : Expect) (o : List Holder) → Accepted (on_step limit i e o (as_gap (class_at b)) more) → Accepted (on_step limit i e o (move state.Gap b) more)
     unfolding as_gap
-    token_step state.Gap b e o le = gap_step b e o le
-    token_step state.Str b e o le = Cases.cases_Str b (λ step. Accepted (on_step limit i e o step more) → RestToken state.Str e o i (b ∷ t))
-        (λ h acc. at_token 0x22 b state.Str e o h (closes state.Str 0x22 e o Completes.str_close (ih state.Gap e o acc le)))
-        (λ h acc. at_token 0x5c b state.Str e o h (extend state.Str state.Esc 0x5c e o (λ w c. Completes.str_escape c) (ih state.Esc e o acc le)))
-        (λ h acc. extend state.Str state.Str b e o (λ w c. Completes.str_ordinary h c) (ih state.Str e o acc le))
-        (λ h acc. extend state.Str state.Tail1 b e o (λ w c. Completes.str_lead2 h c) (ih state.Tail1 e o acc le))
-        (λ h acc. at_token 0xe0 b state.Str e o h (extend state.Str state.AfterE0 0xe0 e o (λ w c. Completes.str_e0 c) (ih state.AfterE0 e o acc le)))
-        (λ h acc. extend state.Str state.Tail2 b e o (λ w c. Completes.str_lead3 h c) (ih state.Tail2 e o acc le))
-        (λ h acc. at_token 0xed b state.Str e o h (extend state.Str state.AfterEd 0xed e o (λ w c. Completes.str_ed c) (ih state.AfterEd e o acc le)))
-        (λ h acc. at_token 0xf0 b state.Str e o h (extend state.Str state.AfterF0 0xf0 e o (λ w c. Completes.str_f0 c) (ih state.AfterF0 e o acc le)))
-        (λ h acc. extend state.Str state.Tail3 b e o (λ w c. Completes.str_lead4 h c) (ih state.Tail3 e o acc le))
-        (λ h acc. at_token 0xf4 b state.Str e o h (extend state.Str state.AfterF4 0xf4 e o (λ w c. Completes.str_f4 c) (ih state.AfterF4 e o acc le)))
-        (λ acc. elim acc [ ])
-    token_step state.Esc b e o le = Cases.cases_Esc b (λ step. Accepted (on_step limit i e o step more) → RestToken state.Esc e o i (b ∷ t))
-        (λ h acc. extend state.Esc state.Str b e o (λ w c. Completes.from_esc_letter h c) (ih state.Str e o acc le))
-        (λ h acc. at_token 0x75 b state.Esc e o h (extend state.Esc state.Hex4 0x75 e o (λ w c. Completes.from_esc_u c) (ih state.Hex4 e o acc le)))
-        (λ acc. elim acc [ ])
-    token_step state.Hex4 b e o le = Cases.cases_Hex4 b (λ step. Accepted (on_step limit i e o step more) → RestToken state.Hex4 e o i (b ∷ t))
-        (λ h acc. extend state.Hex4 state.Hex3 b e o (λ w c. Completes.from_hex4 h c) (ih state.Hex3 e o acc le))
-        (λ acc. elim acc [ ])
-    token_step state.Hex3 b e o le = Cases.cases_Hex3 b (λ step. Accepted (on_step limit i e o step more) → RestToken state.Hex3 e o i (b ∷ t))
-        (λ h acc. extend state.Hex3 state.Hex2 b e o (λ w c. Completes.from_hex3 h c) (ih state.Hex2 e o acc le))
-        (λ acc. elim acc [ ])
-    token_step state.Hex2 b e o le = Cases.cases_Hex2 b (λ step. Accepted (on_step limit i e o step more) → RestToken state.Hex2 e o i (b ∷ t))
-        (λ h acc. extend state.Hex2 state.Hex1 b e o (λ w c. Completes.from_hex2 h c) (ih state.Hex1 e o acc le))
-        (λ acc. elim acc [ ])
-    token_step state.Hex1 b e o le = Cases.cases_Hex1 b (λ step. Accepted (on_step limit i e o step more) → RestToken state.Hex1 e o i (b ∷ t))
-        (λ h acc. extend state.Hex1 state.Str b e o (λ w c. Completes.from_hex1 h c) (ih state.Str e o acc le))
-        (λ acc. elim acc [ ])
-    token_step state.Tail1 b e o le = Cases.cases_Tail1 b (λ step. Accepted (on_step limit i e o step more) → RestToken state.Tail1 e o i (b ∷ t))
-        (λ h acc. extend state.Tail1 state.Str b e o (λ w c. Completes.from_tail1 h c) (ih state.Str e o acc le))
-        (λ acc. elim acc [ ])
-    token_step state.Tail2 b e o le = Cases.cases_Tail2 b (λ step. Accepted (on_step limit i e o step more) → RestToken state.Tail2 e o i (b ∷ t))
-        (λ h acc. extend state.Tail2 state.Tail1 b e o (λ w c. Completes.from_tail2 h c) (ih state.Tail1 e o acc le))
-        (λ acc. elim acc [ ])
-    token_step state.Tail3 b e o le = Cases.cases_Tail3 b (λ step. Accepted (on_step limit i e o step more) → RestToken state.Tail3 e o i (b ∷ t))
-        (λ h acc. extend state.Tail3 state.Tail2 b e o (λ w c. Completes.from_tail3 h c) (ih state.Tail2 e o acc le))
-        (λ acc. elim acc [ ])
-    token_step state.AfterE0 b e o le = Cases.cases_AfterE0 b (λ step. Accepted (on_step limit i e o step more) → RestToken state.AfterE0 e o i (b ∷ t))
-        (λ h acc. extend state.AfterE0 state.Tail1 b e o (λ w c. Completes.from_e0 h c) (ih state.Tail1 e o acc le))
-        (λ acc. elim acc [ ])
-    token_step state.AfterEd b e o le = Cases.cases_AfterEd b (λ step. Accepted (on_step limit i e o step more) → RestToken state.AfterEd e o i (b ∷ t))
-        (λ h acc. extend state.AfterEd state.Tail1 b e o (λ w c. Completes.from_ed h c) (ih state.Tail1 e o acc le))
-        (λ acc. elim acc [ ])
-    token_step state.AfterF0 b e o le = Cases.cases_AfterF0 b (λ step. Accepted (on_step limit i e o step more) → RestToken state.AfterF0 e o i (b ∷ t))
-        (λ h acc. extend state.AfterF0 state.Tail2 b e o (λ w c. Completes.from_f0 h c) (ih state.Tail2 e o acc le))
-        (λ acc. elim acc [ ])
-    token_step state.AfterF4 b e o le = Cases.cases_AfterF4 b (λ step. Accepted (on_step limit i e o step more) → RestToken state.AfterF4 e o i (b ∷ t))
-        (λ h acc. extend state.AfterF4 state.Tail2 b e o (λ w c. Completes.from_f4 h c) (ih state.Tail2 e o acc le))
-        (λ acc. elim acc [ ])
-    token_step state.Minus b e o le = Cases.cases_Minus b (λ step. Accepted (on_step limit i e o step more) → RestToken state.Minus e o i (b ∷ t))
-        (λ h acc. at_token 0x30 b state.Minus e o h (extend state.Minus state.Zero 0x30 e o (λ w c. Completes.minus_zero c) (ih state.Zero e o acc le)))
-        (λ h acc. extend state.Minus state.Int b e o (λ w c. Completes.minus_digit h c) (ih state.Int e o acc le))
-        (λ acc. elim acc [ ])
-    token_step state.Zero b e o le = Cases.cases_Zero b (λ step. Accepted (on_step limit i e o step more) → RestToken state.Zero e o i (b ∷ t))
-        (λ h acc. at_token 0x2e b state.Zero e o h (extend state.Zero state.Dot 0x2e e o (λ w c. Completes.zero_dot c) (ih state.Dot e o acc le)))
-        (λ h acc. extend state.Zero state.E b e o (λ w c. Completes.zero_e h c) (ih state.E e o acc le))
-        (λ acc. ended state.Zero b e o (Completes.from_zero Token.no_frac Token.no_exp) (gap_step b e o le acc))
-    token_step state.Int b e o le = Cases.cases_Int b (λ step. Accepted (on_step limit i e o step more) → RestToken state.Int e o i (b ∷ t))
-        (λ h acc. extend state.Int state.Int b e o (λ w c. Completes.int_digit h c) (ih state.Int e o acc le))
-        (λ h acc. at_token 0x2e b state.Int e o h (extend state.Int state.Dot 0x2e e o (λ w c. Completes.int_dot c) (ih state.Dot e o acc le)))
-        (λ h acc. extend state.Int state.E b e o (λ w c. Completes.int_e h c) (ih state.E e o acc le))
-        (λ acc. ended state.Int b e o (Completes.from_int Token.no_digits Token.no_frac Token.no_exp) (gap_step b e o le acc))
-    token_step state.Dot b e o le = Cases.cases_Dot b (λ step. Accepted (on_step limit i e o step more) → RestToken state.Dot e o i (b ∷ t))
-        (λ h acc. extend state.Dot state.Frac b e o (λ w c. Completes.dot_digit h c) (ih state.Frac e o acc le))
-        (λ acc. elim acc [ ])
-    token_step state.Frac b e o le = Cases.cases_Frac b (λ step. Accepted (on_step limit i e o step more) → RestToken state.Frac e o i (b ∷ t))
-        (λ h acc. extend state.Frac state.Frac b e o (λ w c. Completes.frac_digit h c) (ih state.Frac e o acc le))
-        (λ h acc. extend state.Frac state.E b e o (λ w c. Completes.frac_e h c) (ih state.E e o acc le))
-        (λ acc. ended state.Frac b e o (Completes.from_frac Token.no_digits Token.no_exp) (gap_step b e o le acc))
-    token_step state.E b e o le = Cases.cases_E b (λ step. Accepted (on_step limit i e o step more) → RestToken state.E e o i (b ∷ t))
-        (λ h acc. extend state.E state.ESign b e o (λ w c. Completes.e_sign h c) (ih state.ESign e o acc le))
-        (λ h acc. extend state.E state.Exp b e o (λ w c. Completes.e_digit h c) (ih state.Exp e o acc le))
-        (λ acc. elim acc [ ])
-    token_step state.ESign b e o le = Cases.cases_ESign b (λ step. Accepted (on_step limit i e o step more) → RestToken state.ESign e o i (b ∷ t))
-        (λ h acc. extend state.ESign state.Exp b e o (λ w c. Completes.sign_digit h c) (ih state.Exp e o acc le))
-        (λ acc. elim acc [ ])
-    token_step state.Exp b e o le = Cases.cases_Exp b (λ step. Accepted (on_step limit i e o step more) → RestToken state.Exp e o i (b ∷ t))
-        (λ h acc. extend state.Exp state.Exp b e o (λ w c. Completes.exp_digit h c) (ih state.Exp e o acc le))
-        (λ acc. ended state.Exp b e o (Completes.from_exp Token.no_digits) (gap_step b e o le acc))
-    token_step state.T b e o le = Cases.cases_T b (λ step. Accepted (on_step limit i e o step more) → RestToken state.T e o i (b ∷ t))
-        (λ h acc. at_token 0x72 b state.T e o h (extend state.T state.Tr 0x72 e o t_r (ih state.Tr e o acc le)))
-        (λ acc. elim acc [ ])
-    token_step state.Tr b e o le = Cases.cases_Tr b (λ step. Accepted (on_step limit i e o step more) → RestToken state.Tr e o i (b ∷ t))
-        (λ h acc. at_token 0x75 b state.Tr e o h (extend state.Tr state.Tru 0x75 e o tr_u (ih state.Tru e o acc le)))
-        (λ acc. elim acc [ ])
-    token_step state.Tru b e o le = Cases.cases_Tru b (λ step. Accepted (on_step limit i e o step more) → RestToken state.Tru e o i (b ∷ t))
-        (λ h acc. at_token 0x65 b state.Tru e o h (closes state.Tru 0x65 e o Completes.from_tru (ih state.Gap e o acc le)))
-        (λ acc. elim acc [ ])
-    token_step state.F b e o le = Cases.cases_F b (λ step. Accepted (on_step limit i e o step more) → RestToken state.F e o i (b ∷ t))
-        (λ h acc. at_token 0x61 b state.F e o h (extend state.F state.Fa 0x61 e o f_a (ih state.Fa e o acc le)))
-        (λ acc. elim acc [ ])
-    token_step state.Fa b e o le = Cases.cases_Fa b (λ step. Accepted (on_step limit i e o step more) → RestToken state.Fa e o i (b ∷ t))
-        (λ h acc. at_token 0x6c b state.Fa e o h (extend state.Fa state.Fal 0x6c e o fa_l (ih state.Fal e o acc le)))
-        (λ acc. elim acc [ ])
-    token_step state.Fal b e o le = Cases.cases_Fal b (λ step. Accepted (on_step limit i e o step more) → RestToken state.Fal e o i (b ∷ t))
-        (λ h acc. at_token 0x73 b state.Fal e o h (extend state.Fal state.Fals 0x73 e o fal_s (ih state.Fals e o acc le)))
-        (λ acc. elim acc [ ])
-    token_step state.Fals b e o le = Cases.cases_Fals b (λ step. Accepted (on_step limit i e o step more) → RestToken state.Fals e o i (b ∷ t))
-        (λ h acc. at_token 0x65 b state.Fals e o h (closes state.Fals 0x65 e o Completes.from_fals (ih state.Gap e o acc le)))
-        (λ acc. elim acc [ ])
-    token_step state.N b e o le = Cases.cases_N b (λ step. Accepted (on_step limit i e o step more) → RestToken state.N e o i (b ∷ t))
-        (λ h acc. at_token 0x75 b state.N e o h (extend state.N state.Nu 0x75 e o n_u (ih state.Nu e o acc le)))
-        (λ acc. elim acc [ ])
-    token_step state.Nu b e o le = Cases.cases_Nu b (λ step. Accepted (on_step limit i e o step more) → RestToken state.Nu e o i (b ∷ t))
-        (λ h acc. at_token 0x6c b state.Nu e o h (extend state.Nu state.Nul 0x6c e o nu_l (ih state.Nul e o acc le)))
-        (λ acc. elim acc [ ])
-    token_step state.Nul b e o le = Cases.cases_Nul b (λ step. Accepted (on_step limit i e o step more) → RestToken state.Nul e o i (b ∷ t))
-        (λ h acc. at_token 0x6c b state.Nul e o h (closes state.Nul 0x6c e o Completes.from_nul (ih state.Gap e o acc le)))
-        (λ acc. elim acc [ ])
+    gap_again b e o acc = acc
+
+    token_step : (s : LexState) (b : ℕ) (e : Expect) (o : List Holder) → length o ≤ limit → in_token s ≡ true → Accepted (on_step limit i e o (move s b) more) → RestToken s e o i (b ∷ t)
+    token_step s b e o le inside acc = pick (law.steps s b inside)
+      where
+        to : {st : Step} → move s b ≡ st → Accepted (on_step limit i e o st more)
+        to m = subst (λ (st : Step). Accepted (on_step limit i e o st more)) m acc
+
+        pick : TokenStep s b → RestToken s e o i (b ∷ t)
+        pick (byte.goes_on {next = next} h m) =
+            let r = of_rest next e o (suc i) t h (ih next e o (to m) le) in
+            record {
+              token = b ∷ r.token;
+              after = r.after;
+              end = r.end;
+              last = r.last;
+              spells = goes m r.spells;
+              final = r.final;
+              whole = ap (λ x. b ∷ x) r.whole;
+              is_end = let x : r.end ≡ i + suc (length r.token) = omega (arith, r.is_end) in x;
+              rest = r.rest;
+            }
+        pick (byte.ends m) =
+            record { token = b ∷ []; after = t; end = suc i; last = state.Gap; spells = shuts m; final = final_gap; whole = refl; is_end = let x : suc i ≡ i + 1 = omega arith in x; rest = ih state.Gap e o (to m) le }
+        pick (byte.ended f m) =
+            record { token = []; after = b ∷ t; end = i; last = s; spells = here; final = f; whole = refl; is_end = let x : i ≡ i + 0 = omega arith in x; rest = gap_step b e o le (gap_again b e o (to m)) }
+        pick (byte.fails m) = elim (to m) [ ]
+
+    any_step : (s : LexState) (b : ℕ) (e : Expect) (o : List Holder) → length o ≤ limit → Accepted (on_step limit i e o (move s b) more) → Rest s e o i (b ∷ t)
+    any_step s b e o le acc = pick (in_token s) refl
+      where
+        pick : (c : Bool) → in_token s ≡ c → Rest s e o i (b ∷ t)
+        pick true h = to_rest s e o i (b ∷ t) h (token_step s b e o le h acc)
+        pick false h =
+            subst (λ (x : LexState). Rest x e o i (b ∷ t)) (sym (gap_of s h))
+            (gap_step b e o le (subst (λ (x : LexState). Accepted (on_step limit i e o (move x b) more)) (gap_of s h) acc))
 
   at_end : (s : LexState) (e : Expect) (o : List Holder) (i : ℕ) → Accepted (went s e o) → Rest s e o i []
   at_end _ _ _ i (accepted final_gap) = at_bottom no_blanks
-  at_end _ _ _ i (accepted final_zero) = record { token = []; after = []; end = i; completes = (Completes.from_zero Token.no_frac Token.no_exp); whole = refl; is_end = let x : i ≡ i + 0 = omega arith in x; rest = at_bottom no_blanks }
-  at_end _ _ _ i (accepted final_int) = record { token = []; after = []; end = i; completes = (Completes.from_int Token.no_digits Token.no_frac Token.no_exp); whole = refl; is_end = let x : i ≡ i + 0 = omega arith in x; rest = at_bottom no_blanks }
-  at_end _ _ _ i (accepted final_frac) = record { token = []; after = []; end = i; completes = (Completes.from_frac Token.no_digits Token.no_exp); whole = refl; is_end = let x : i ≡ i + 0 = omega arith in x; rest = at_bottom no_blanks }
-  at_end _ _ _ i (accepted final_exp) = record { token = []; after = []; end = i; completes = (Completes.from_exp Token.no_digits); whole = refl; is_end = let x : i ≡ i + 0 = omega arith in x; rest = at_bottom no_blanks }
+  at_end _ _ _ i (accepted final_zero) = record { token = []; after = []; end = i; last = state.Zero; spells = here; final = final_zero; whole = refl; is_end = let x : i ≡ i + 0 = omega arith in x; rest = at_bottom no_blanks }
+  at_end _ _ _ i (accepted final_int) = record { token = []; after = []; end = i; last = state.Int; spells = here; final = final_int; whole = refl; is_end = let x : i ≡ i + 0 = omega arith in x; rest = at_bottom no_blanks }
+  at_end _ _ _ i (accepted final_frac) = record { token = []; after = []; end = i; last = state.Frac; spells = here; final = final_frac; whole = refl; is_end = let x : i ≡ i + 0 = omega arith in x; rest = at_bottom no_blanks }
+  at_end _ _ _ i (accepted final_exp) = record { token = []; after = []; end = i; last = state.Exp; spells = here; final = final_exp; whole = refl; is_end = let x : i ≡ i + 0 = omega arith in x; rest = at_bottom no_blanks }
 
-  pub rest_of : (t : List ℕ) (s : LexState) (e : Expect) (o : List Holder) (i : ℕ) → Accepted (run limit s e o i t) → length o ≤ limit → Rest s e o i t
+  pub rest_of : TokensAreRead → (t : List ℕ) (s : LexState) (e : Expect) (o : List Holder) (i : ℕ) → Accepted (run limit s e o i t) → length o ≤ limit → Rest s e o i t
   unfolding run
-  rest_of [] s e o i acc le = at_end s e o i acc
-  rest_of (b ∷ t) s e o i acc le = token_step i t (λ s e o. run limit s e o (suc i) t) (λ s e o a l. rest_of t s e o (suc i) a l) s b e o le acc
+  rest_of law [] s e o i acc le = at_end s e o i acc
+  rest_of law (b ∷ t) s e o i acc le = any_step law i t (λ s e o. run limit s e o (suc i) t) (λ s e o a l. rest_of law t s e o (suc i) a l) s b e o le acc

@@ -13,12 +13,12 @@ use Rattle.jx_lex.specs.declared.state.TokenEnd.TheVariants.{Before, After}
 use Rattle.jx_lex.specs.Classes.{class_at}
 use Rattle.jx_lex.specs.Moves.{move, as_gap}
 use Rattle.jx_lex.specs.Token.{IsBlank, space, tab, line_feed, carriage_return, IsToken}
-use Rattle.jx_lex.proofs.Inside.{Spells, here, goes, shuts, IsFinal, final_gap, final_zero, final_int, final_frac, final_exp, mark_of, token_reads, in_token}
-use Rattle.jx_lex.proofs.Stays.{go_stays}
+use Rattle.jx_lex.specs.TokenStates.{Spells, here, goes, shuts, IsFinal, final_gap, final_zero, final_int, final_frac, final_exp, mark_of, in_token}
 use Rattle.jx_run.specs.Tree.{Tree, node, Children, no_children, child, span}
 use Rattle.jx_lex.specs.declared.span.Span.{Span}
 use Rattle.jx_run.specs.Grammar.{Blanks, no_blanks, blank, Scalar, Value, leaf, empty_array, array, empty_object, object, Items, last_item, item, Members, last_member, member}
 use Rattle.jx_run.specs.Text.{Document, document}
+use Rattle.jx_run.proofs.Lexical.{TokensAreRead}
 
 -- an offset, and the bytes from there on
 pub record Place : Type 0 where
@@ -211,15 +211,15 @@ number_end _ final_exp h i an_array_end = refl
 number_end _ final_exp h i an_object_end = refl
 number_end _ final_exp h i a_colon = refl
 
-scan-spells : {s last : LexState} {w : List ℕ} → Spells s w last → in_token s ≡ true → IsFinal last → (i : ℕ) (rest : List ℕ) → Delim rest
+scan-spells : TokensAreRead → {s last : LexState} {w : List ℕ} → Spells s w last → in_token s ≡ true → IsFinal last → (i : ℕ) (rest : List ℕ) → Delim rest
     → scan s i (w ++ rest) ≡ place (i + length w) rest
 unfolding scan
-scan-spells (here {s = s}) h f i rest d = number_end s f h i d ∙ ap (λ n. place n rest) (let x : i ≡ i + 0 = omega arith in x)
-scan-spells (goes {s = s} {next = n} {b = b} {bs = bs} e p) h f i rest d =
+scan-spells law (here {s = s}) h f i rest d = number_end s f h i d ∙ ap (λ n. place n rest) (let x : i ≡ i + 0 = omega arith in x)
+scan-spells law (goes {s = s} {next = n} {b = b} {bs = bs} e p) h f i rest d =
     ap (λ m. scan_end i b (bs ++ rest) m.end m.next (λ n. scan n (suc i) (bs ++ rest))) e
-    ∙ scan-spells p (go_stays s b n h e) f (suc i) rest d
+    ∙ scan-spells law p (law.stays s n b h e) f (suc i) rest d
     ∙ ap (λ n. place n rest) (let x : suc i + length bs ≡ i + suc (length bs) = omega arith in x)
-scan-spells (shuts {b = b} e) h f i rest d =
+scan-spells law (shuts {b = b} e) h f i rest d =
     ap (λ m. scan_end i b rest m.end m.next (λ n. scan n (suc i) rest)) e ∙ ap (λ n. place n rest) (let x : suc i ≡ i + 1 = omega arith in x)
 
 -- a token begins with its mark, and its end is found
@@ -230,9 +230,9 @@ record TokenFound (k : Kind) (i : ℕ) (t : List ℕ) (j : ℕ) (rest : List ℕ
   marks : (move state.Gap first).begin ≡ Some (mark_of k)
   end : token_end i t ≡ place j rest
 
-token_found : {k : Kind} {i j : ℕ} {t rest : List ℕ} → Scalar k i t j rest → Delim rest → TokenFound k i t j rest
-token_found {k = k} {i = i} {j = j} {t = t} {rest = rest} x d =
-    let r = token_reads k x.token x.is_token in
+token_found : TokensAreRead → {k : Kind} {i j : ℕ} {t rest : List ℕ} → Scalar k i t j rest → Delim rest → TokenFound k i t j rest
+token_found law {k = k} {i = i} {j = j} {t = t} {rest = rest} x d =
+    let r = law.reads k x.token x.is_token in
     let whole : t ≡ r.first ∷ (r.bytes ++ rest) = x.whole ∙ ap (λ v. v ++ rest) r.whole in
     record {
       first = r.first;
@@ -240,7 +240,7 @@ token_found {k = k} {i = i} {j = j} {t = t} {rest = rest} x d =
       whole = whole;
       marks = ap (λ m. m.begin) r.begins;
       end = ap (token_end i) whole ∙ ap (λ m. scan_from m.next (suc i) (r.bytes ++ rest)) r.begins
-          ∙ scan-spells r.inside r.entered r.final (suc i) rest d
+          ∙ scan-spells law r.inside r.entered r.final (suc i) rest d
           ∙ ap (λ n. place n rest) (let y : suc i + length r.bytes ≡ j = omega (arith, x.end, ap length r.whole) in y);
     }
 
@@ -295,18 +295,18 @@ start_of b bytes t h starting =
       no_object_end = not_byte 0x7d b refl starting;
     }
 
-token_start : {k : Kind} {i j : ℕ} {t rest : List ℕ} → Scalar k i t j rest → Start t
-token_start {k = k} {rest = rest} x =
-    let r = token_reads k x.token x.is_token in
+token_start : TokensAreRead → {k : Kind} {i j : ℕ} {t rest : List ℕ} → Scalar k i t j rest → Start t
+token_start law {k = k} {rest = rest} x =
+    let r = law.reads k x.token x.is_token in
     start_of r.first (r.bytes ++ rest) _ (x.whole ∙ ap (λ v. v ++ rest) r.whole) (ap (λ m. starts m.begin) r.begins ∙ starts_scalar k x.token x.is_token)
 
-value_start : {i j : ℕ} {t rest : List ℕ} {tree : Tree} → Value i t j rest tree → Start t
+value_start : TokensAreRead → {i j : ℕ} {t rest : List ℕ} {tree : Tree} → Value i t j rest tree → Start t
 unfolding class_at
-value_start (leaf s) = token_start s
-value_start (empty_array {bytes = t} bs) = start_of 0x5b t _ refl refl
-value_start (array {bytes = t} xs) = start_of 0x5b t _ refl refl
-value_start (empty_object {bytes = t} bs) = start_of 0x7b t _ refl refl
-value_start (object {bytes = t} xs) = start_of 0x7b t _ refl refl
+value_start law (leaf s) = token_start law s
+value_start law (empty_array {bytes = t} bs) = start_of 0x5b t _ refl refl
+value_start law (array {bytes = t} xs) = start_of 0x5b t _ refl refl
+value_start law (empty_object {bytes = t} bs) = start_of 0x7b t _ refl refl
+value_start law (object {bytes = t} xs) = start_of 0x7b t _ refl refl
 
 start_not_blank : (t : List ℕ) → Start t → NotBlank t
 start_not_blank t s = subst NotBlank (sym s.whole) (other s.no_blank)
@@ -371,10 +371,10 @@ leaf_case kind.True w h items members i bytes t = refl
 leaf_case kind.False w h items members i bytes t = refl
 leaf_case kind.Null w h items members i bytes t = refl
 
-leaf_value : {k : Kind} {i j : ℕ} {t rest : List ℕ} → Scalar k i t j rest → Delim rest → (items members : Place → Option FoundAll)
+leaf_value : TokensAreRead → {k : Kind} {i j : ℕ} {t rest : List ℕ} → Scalar k i t j rest → Delim rest → (items members : Place → Option FoundAll)
     → value_with items members i t ≡ found (node k (span i j) no_children) (place j rest)
-leaf_value {k = k} {i = i} {t = t} x d items members =
-    let f = token_found x d in
+leaf_value law {k = k} {i = i} {t = t} x d items members =
+    let f = token_found law x d in
     ap (value_with items members i) f.whole
     ∙ ap (λ m. value_by m items members i (f.first ∷ f.bytes) f.bytes) f.marks
     ∙ leaf_case k x.token x.is_token items members i (f.first ∷ f.bytes) f.bytes
@@ -388,13 +388,13 @@ container_more k c i j rest kids p b t close_byte more h differs r =
     ap (container_on k c i p more) h ∙ ap (λ x. cond x (close_found k i no_children p) (all_found k i (more p))) differs ∙ ap (all_found k i) r
 
 -- the children begin behind the blanks
-items_skip : {i j : ℕ} {t rest : List ℕ} {kids : Children} → Items i t j rest kids → Start ((skip i t).bytes)
-items_skip (last_item bs v cs) = let s = value_start v in subst Start (sym (ap (λ p. p.bytes) (skip_is bs (start_not_blank _ s)))) s
-items_skip (item bs v cs xs) = let s = value_start v in subst Start (sym (ap (λ p. p.bytes) (skip_is bs (start_not_blank _ s)))) s
+items_skip : TokensAreRead → {i j : ℕ} {t rest : List ℕ} {kids : Children} → Items i t j rest kids → Start ((skip i t).bytes)
+items_skip law (last_item bs v cs) = let s = value_start law v in subst Start (sym (ap (λ p. p.bytes) (skip_is bs (start_not_blank _ s)))) s
+items_skip law (item bs v cs xs) = let s = value_start law v in subst Start (sym (ap (λ p. p.bytes) (skip_is bs (start_not_blank _ s)))) s
 
-members_skip : {i j : ℕ} {t rest : List ℕ} {kids : Children} → Members i t j rest kids → Start ((skip i t).bytes)
-members_skip (last_member bs n cs ds v es) = let s = token_start n in subst Start (sym (ap (λ p. p.bytes) (skip_is bs (start_not_blank _ s)))) s
-members_skip (member bs n cs ds v es xs) = let s = token_start n in subst Start (sym (ap (λ p. p.bytes) (skip_is bs (start_not_blank _ s)))) s
+members_skip : TokensAreRead → {i j : ℕ} {t rest : List ℕ} {kids : Children} → Members i t j rest kids → Start ((skip i t).bytes)
+members_skip law (last_member bs n cs ds v es) = let s = token_start law n in subst Start (sym (ap (λ p. p.bytes) (skip_is bs (start_not_blank _ s)))) s
+members_skip law (member bs n cs ds v es xs) = let s = token_start law n in subst Start (sym (ap (λ p. p.bytes) (skip_is bs (start_not_blank _ s)))) s
 
 module _ (P : ℕ → Type 0) (Q : ℕ → Type 0) where
   both : Enough P → Enough Q → (R : ℕ → Type 0) → ((m : ℕ) → P m → Q m → R (suc m)) → Enough R
@@ -411,10 +411,10 @@ name_place e = let q = skip e.at e.bytes in record { end = e.at; value = skip (s
 abbrev after_name : ℕ → ℕ → NamePlace → Option FoundAll
 after_name m j x = child_found (Some (span j x.end)) (value_at m x.value.at x.value.bytes) (λ q. members_at m q)
 
-name_is : {j k l a : ℕ} {t1 t2 t3 t4 : List ℕ} → Scalar kind.String j t1 k t2 → Delim t2 → Blanks k t2 l (0x3a ∷ t3) → Blanks (suc l) t3 a t4 → Start t4
+name_is : TokensAreRead → {j k l a : ℕ} {t1 t2 t3 t4 : List ℕ} → Scalar kind.String j t1 k t2 → Delim t2 → Blanks k t2 l (0x3a ∷ t3) → Blanks (suc l) t3 a t4 → Start t4
     → name_place (token_end j t1) ≡ record { end = k; value = place a t4 }
-name_is {k = k} {l = l} {t3 = t3} w d cs ds s =
-    let f = token_found w d in
+name_is law {k = k} {l = l} {t3 = t3} w d cs ds s =
+    let f = token_found law w d in
     ap name_place f.end
     ∙ ap (λ (q : Place). record { end = k; value = skip (suc q.at) (rest_of q.bytes) }) (skip_is cs (other refl))
     ∙ ap (λ (v : Place). record { end = k; value = v }) (skip_is ds (start_not_blank _ s))
@@ -422,45 +422,45 @@ name_is {k = k} {l = l} {t3 = t3} w d cs ds s =
 mutual
   unfolding class_at value_at
 
-  value_parsed : {i j : ℕ} {t rest : List ℕ} {tree : Tree} → Value i t j rest tree → Delim rest → Enough (ValueFound i t j rest tree)
-  value_parsed (leaf {i = i} {j = j} {bytes = t} {rest = rest} x) d = one_more (ValueFound i t j rest _) 0 (λ m le. leaf_value x d (λ p. items_at m p) (λ p. members_at m p))
-  value_parsed (empty_array {i = i} {j = j} {bytes = t} {rest = rest} bs) d =
+  value_parsed : TokensAreRead → {i j : ℕ} {t rest : List ℕ} {tree : Tree} → Value i t j rest tree → Delim rest → Enough (ValueFound i t j rest tree)
+  value_parsed law (leaf {i = i} {j = j} {bytes = t} {rest = rest} x) d = one_more (ValueFound i t j rest _) 0 (λ m le. leaf_value law x d (λ p. items_at m p) (λ p. members_at m p))
+  value_parsed law (empty_array {i = i} {j = j} {bytes = t} {rest = rest} bs) d =
       one_more (ValueFound i (0x5b ∷ t) (suc j) rest _) 0 (λ m le. ap (λ p. container kind.Array 0x5d i p (λ p. items_at m p)) (skip_is bs (other refl)))
-  value_parsed (array {i = i} {j = j} {bytes = t} {rest = rest} {children = kids} xs) d =
-      let s = items_skip xs in let e = items_parsed xs array_ends in
+  value_parsed law (array {i = i} {j = j} {bytes = t} {rest = rest} {children = kids} xs) d =
+      let s = items_skip law xs in let e = items_parsed law xs array_ends in
       one_more (ValueFound i (0x5b ∷ t) (suc j) rest _) e.from
       (λ m le. container_more kind.Array 0x5d i j rest kids (skip (suc i) t) s.first s.bytes 0x5d (λ p. items_at m p) s.whole s.no_array_end (e.holds m le))
-  value_parsed (empty_object {i = i} {j = j} {bytes = t} {rest = rest} bs) d =
+  value_parsed law (empty_object {i = i} {j = j} {bytes = t} {rest = rest} bs) d =
       one_more (ValueFound i (0x7b ∷ t) (suc j) rest _) 0 (λ m le. ap (λ p. container kind.Object 0x7d i p (λ p. members_at m p)) (skip_is bs (other refl)))
-  value_parsed (object {i = i} {j = j} {bytes = t} {rest = rest} {children = kids} xs) d =
-      let s = members_skip xs in let e = members_parsed xs object_ends in
+  value_parsed law (object {i = i} {j = j} {bytes = t} {rest = rest} {children = kids} xs) d =
+      let s = members_skip law xs in let e = members_parsed law xs object_ends in
       one_more (ValueFound i (0x7b ∷ t) (suc j) rest _) e.from
       (λ m le. container_more kind.Object 0x7d i j rest kids (skip (suc i) t) s.first s.bytes 0x7d (λ p. members_at m p) s.whole s.no_object_end (e.holds m le))
 
-  items_parsed : {i j : ℕ} {t rest : List ℕ} {kids : Children} → Items i t j rest kids → Ends rest → Enough (ItemsFound (skip i t) j rest kids)
-  items_parsed (last_item {i = i} {j = j} {k = k} {l = l} {t0 = t0} {t1 = t1} {t2 = t2} {rest = rest} {tree = tree} bs v cs) d =
-      let e = value_parsed v (blanks_delim cs (ends_delim d)) in
+  items_parsed : TokensAreRead → {i j : ℕ} {t rest : List ℕ} {kids : Children} → Items i t j rest kids → Ends rest → Enough (ItemsFound (skip i t) j rest kids)
+  items_parsed law (last_item {i = i} {j = j} {k = k} {l = l} {t0 = t0} {t1 = t1} {t2 = t2} {rest = rest} {tree = tree} bs v cs) d =
+      let e = value_parsed law v (blanks_delim cs (ends_delim d)) in
       one_more (ItemsFound (skip i t0) l rest _) e.from (λ m le.
-      ap (λ p. items_at (suc m) p) (skip_is bs (start_not_blank _ (value_start v)))
+      ap (λ p. items_at (suc m) p) (skip_is bs (start_not_blank _ (value_start law v)))
       ∙ child_last None tree k l t2 rest (value_at m j t1) (λ q. items_at m q) (e.holds m le) (skip_is cs (ends_not_blank d)) d)
-  items_parsed (item {i = i} {j = j} {k = k} {l = l} {m = n} {t0 = t0} {t1 = t1} {t2 = t2} {t3 = t3} {rest = rest} {tree = tree} {more = kids} bs v cs xs) d =
-      let e = value_parsed v (blanks_delim cs a_comma) in let f = items_parsed xs d in
+  items_parsed law (item {i = i} {j = j} {k = k} {l = l} {m = n} {t0 = t0} {t1 = t1} {t2 = t2} {t3 = t3} {rest = rest} {tree = tree} {more = kids} bs v cs xs) d =
+      let e = value_parsed law v (blanks_delim cs a_comma) in let f = items_parsed law xs d in
       one_more (ItemsFound (skip i t0) n rest _) (max e.from f.from) (λ m le.
-      ap (λ p. items_at (suc m) p) (skip_is bs (start_not_blank _ (value_start v)))
+      ap (λ p. items_at (suc m) p) (skip_is bs (start_not_blank _ (value_start law v)))
       ∙ child_more None tree k l n t2 t3 rest kids (value_at m j t1) (λ q. items_at m q) (e.holds m (omega arith)) (skip_is cs (other refl)) (f.holds m (omega arith)))
 
-  members_parsed : {i j : ℕ} {t rest : List ℕ} {kids : Children} → Members i t j rest kids → Ends rest → Enough (MembersFound (skip i t) j rest kids)
-  members_parsed (last_member {i = i} {j = j} {k = k} {l = l} {m = a} {n = b} {o = c} {t0 = t0} {t1 = t1} {t2 = t2} {t3 = t3} {t4 = t4} {t5 = t5} {rest = rest} {tree = tree} bs w cs ds v es) d =
-      let e = value_parsed v (blanks_delim es (ends_delim d)) in
+  members_parsed : TokensAreRead → {i j : ℕ} {t rest : List ℕ} {kids : Children} → Members i t j rest kids → Ends rest → Enough (MembersFound (skip i t) j rest kids)
+  members_parsed law (last_member {i = i} {j = j} {k = k} {l = l} {m = a} {n = b} {o = c} {t0 = t0} {t1 = t1} {t2 = t2} {t3 = t3} {t4 = t4} {t5 = t5} {rest = rest} {tree = tree} bs w cs ds v es) d =
+      let e = value_parsed law v (blanks_delim es (ends_delim d)) in
       one_more (MembersFound (skip i t0) c rest _) e.from (λ m le.
-      ap (λ p. members_at (suc m) p) (skip_is bs (start_not_blank _ (token_start w)))
-      ∙ ap (after_name m j) (name_is w (blanks_delim cs a_colon) cs ds (value_start v))
+      ap (λ p. members_at (suc m) p) (skip_is bs (start_not_blank _ (token_start law w)))
+      ∙ ap (after_name m j) (name_is law w (blanks_delim cs a_colon) cs ds (value_start law v))
       ∙ child_last (Some (span j k)) tree b c t5 rest (value_at m a t4) (λ q. members_at m q) (e.holds m le) (skip_is es (ends_not_blank d)) d)
-  members_parsed (member {i = i} {j = j} {k = k} {l = l} {m = a} {n = b} {o = c} {p = q} {t0 = t0} {t1 = t1} {t2 = t2} {t3 = t3} {t4 = t4} {t5 = t5} {t6 = t6} {rest = rest} {tree = tree} {more = kids} bs w cs ds v es xs) d =
-      let e = value_parsed v (blanks_delim es a_comma) in let f = members_parsed xs d in
+  members_parsed law (member {i = i} {j = j} {k = k} {l = l} {m = a} {n = b} {o = c} {p = q} {t0 = t0} {t1 = t1} {t2 = t2} {t3 = t3} {t4 = t4} {t5 = t5} {t6 = t6} {rest = rest} {tree = tree} {more = kids} bs w cs ds v es xs) d =
+      let e = value_parsed law v (blanks_delim es a_comma) in let f = members_parsed law xs d in
       one_more (MembersFound (skip i t0) q rest _) (max e.from f.from) (λ m le.
-      ap (λ p. members_at (suc m) p) (skip_is bs (start_not_blank _ (token_start w)))
-      ∙ ap (after_name m j) (name_is w (blanks_delim cs a_colon) cs ds (value_start v))
+      ap (λ p. members_at (suc m) p) (skip_is bs (start_not_blank _ (token_start law w)))
+      ∙ ap (after_name m j) (name_is law w (blanks_delim cs a_colon) cs ds (value_start law v))
       ∙ child_more (Some (span j k)) tree b c q t5 t6 rest kids (value_at m a t4) (λ q. members_at m q) (e.holds m (omega arith)) (skip_is es (other refl)) (f.holds m (omega arith)))
 
 -- ---- a text has one tree
@@ -469,10 +469,10 @@ record Parsed (i : ℕ) (t : List ℕ) (x : Tree) : Type 0 where
   after : Place
   enough : Enough (λ n. value_at n (skip i t).at (skip i t).bytes ≡ found x after)
 
-parsed : {i : ℕ} {t : List ℕ} {x : Tree} → Document i t x → Parsed i t x
-parsed {i = i} {t = t} (document {k = k} {t2 = t2} bs v cs) =
-    let e = value_parsed v (blanks_delim cs at_the_end) in
-    record { after = place k t2; enough = record { from = e.from; holds = λ n le. ap (λ (p : Place). value_at n p.at p.bytes) (skip_is bs (start_not_blank _ (value_start v))) ∙ e.holds n le } }
+parsed : TokensAreRead → {i : ℕ} {t : List ℕ} {x : Tree} → Document i t x → Parsed i t x
+parsed law {i = i} {t = t} (document {k = k} {t2 = t2} bs v cs) =
+    let e = value_parsed law v (blanks_delim cs at_the_end) in
+    record { after = place k t2; enough = record { from = e.from; holds = λ n le. ap (λ (p : Place). value_at n p.at p.bytes) (skip_is bs (start_not_blank _ (value_start law v))) ∙ e.holds n le } }
 
 some_found : {x y : Found} → Some x ≡ Some y → x ≡ y
 some_found e = cc
@@ -480,8 +480,8 @@ some_found e = cc
 same_tree : {x y : Tree} {p q : Place} → found x p ≡ found y q → x ≡ y
 same_tree e = ap (λ (f : Found). f.tree) (some_found e)
 
-pub one_tree : {i : ℕ} {t : List ℕ} {x y : Tree} → Document i t x → Document i t y → x ≡ y
-one_tree {i = i} {t = t} a b =
-    let p = parsed a in let q = parsed b in
+pub one_tree : TokensAreRead → {i : ℕ} {t : List ℕ} {x y : Tree} → Document i t x → Document i t y → x ≡ y
+one_tree law {i = i} {t = t} a b =
+    let p = parsed law a in let q = parsed law b in
     let n : ℕ = max (p.enough.from) (q.enough.from) in
     same_tree (sym (p.enough.holds n (omega arith)) ∙ q.enough.holds n (omega arith))

@@ -46,7 +46,7 @@ pub record IsLongestBeginningBy (settings : Settings) (bytes : List ℕ) (k : �
 abbrev pub IsNoTextBy : Settings → ℕ → List ℕ → Type 0
 IsNoTextBy settings start bytes = (tree : Tree) → IsDocumentBy settings start bytes tree → ⊥
 
--- by cases, the verdict on the bytes
+-- by cases, the verdict on the bytes, whatever names their objects have
 pub data JudgedBy (settings : Settings) (start : ℕ) (bytes : List ℕ) : Verdict → Type 0 where
   -- a text
   a_text : {tree : Tree} → IsDocumentBy settings start bytes tree → JudgedBy settings start bytes Accepted

@@ -2,6 +2,7 @@
 ghost use Rattle.std.specs.Prelude.{◌≡◌, ◌≤◌, length};
 ghost use Rattle.jx_run.specs.Front.{agreed, front_of, IsTold};
 
+use crate::laws::fronts_decide_where_texts_begin;
 use crate::settings::{Front, FrontMark};
 use crate::verdict::Refusal;
 
@@ -46,5 +47,6 @@ pub fn front(text: &[u8], mark: FrontMark) -> Front
     ensures value { result ≡ front_of mark text.now }
     ensures verdict { IsTold mark text.now result }
 {
+    fronts_decide_where_texts_begin();
     seen(text, mark)
 }

@@ -40,15 +40,16 @@ pub use element_verdict::{ElementVerdict, JudgedElement};
 pub use elements_run::ElementsRun;
 pub use laws::{
     a_refused_mark_changes_nothing, beginnings_are_completed_by_bytes,
-    fronts_decide_where_texts_begin, reader_is_grammar, text_by_settings_has_one_tree,
-    text_has_one_tree, values_fill_their_spans, verdict_by_settings_is_one, verdict_is_one,
+    fronts_decide_where_texts_begin, reader_is_grammar, readings_go_on,
+    text_by_settings_has_one_tree, text_has_one_tree, values_fill_their_spans,
+    verdict_by_settings_is_one, verdict_is_one,
 };
 pub use one_pass::{NoPause, Pace, Told, read_into};
 pub use outcome_run::OutcomeRun;
 pub use reader::Reader;
 pub use run_reader::RunReader;
 pub use seq_run::SeqRun;
-pub use settings::{Front, FrontMark, Settings};
+pub use settings::{Front, FrontMark, NameRule, Settings};
 pub use shape::Shape;
 pub use started::Started;
 pub use summary::Summary;

@@ -7,9 +7,10 @@ ghost use Rattle.jx_lex.specs.View.{exit_of};
 ghost use Rattle.jx_run.specs.Verdict.{Judged};
 ghost use Rattle.jx_run.specs.declared.verdict.Verdict.TheVariants.{Accepted};
 
+use crate::laws::reader_is_grammar;
 use crate::outcome_run::verdict_from;
 use crate::verdict::Verdict;
-use jx_lex::{Depth, Exit, Keeper, LexState, Mark, scan};
+use jx_lex::{Depth, Exit, Keeper, LexState, Mark, parts_are_read_in_turn, scan};
 use jx_reduce::KnownStack;
 use std::alloc::{AllocError, Global};
 
@@ -81,6 +82,7 @@ fn scan_by<K: Keeper, P: Pace>(
     ensures exit { IfOk result (λ exit. IfSome exit (λ e. exit_of e ≡ (lex Gap from (slice_range text.now from to)).exit)) }
     ensures done { IfOk result (λ exit. IsNone exit → WantsNoMore (K.has_seen keeper.new)) }
 {
+    parts_are_read_in_turn();
     let mut state = LexState::Gap;
     let mut at = from;
     while at < to {
@@ -123,6 +125,7 @@ pub fn read_into<K: Keeper + Drop, P: Pace>(
     ensures seen { IfOk result (λ told. told.verdict ≡ Accepted
         → K.has_seen told.keeper (lex Gap from (slice_range text.now from to)).marks (lex Gap from (slice_range text.now from to)).ends) }
 {
+    reader_is_grammar();
     let mut both = Beside {
         stack: KnownStack::new(alloc, depth),
         other: keeper,

@@ -16,12 +16,13 @@ ghost use Rattle.jx_run.specs.Verdict.{Judged};
 ghost use Rattle.jx_run.specs.Whole.{ends_text, verdict_from};
 
 use crate::joins::{Joins, Pair};
+use crate::laws::reader_is_grammar;
 use crate::reduce::all_ways;
 use crate::summary::Summary;
 use crate::verdict::{Refusal, Verdict};
 use crate::way::Way;
 use jx_lex::{ChunkMap, Depth, Exit, JoinFault, LexState, Span};
-use jx_reduce::{Expect, Reduced, Reductions, Whole};
+use jx_reduce::{Expect, Reduced, Reductions, Whole, offsets_lie_in_spans};
 use std::alloc::{AllocError, Global};
 use std::marker::Model;
 
@@ -115,6 +116,7 @@ impl OutcomeRun {
     pub fn verdict(&self) -> Verdict
         ensures verdict { (bytes : List ℕ) → IsOutcomeRun bytes self.now → Judged self.now.start bytes self.now.limit result }
     {
+        reader_is_grammar();
         let way = self.way_from(LexState::Gap);
         let structure = self.structure(way.structure);
         verdict_of(way.exit, structure)
@@ -148,6 +150,7 @@ impl OutcomeRun {
         requires depth { self.now.limit ≡ right.now.limit }
         ensures verdict { (xs ys : List ℕ) → IsOutcomeRun xs self.now → IsOutcomeRun ys right.now → IfOk result (Judged self.now.start (xs ++ ys) self.now.limit) }
     {
+        reader_is_grammar();
         let (exit, pair) = self.onward(LexState::Gap, right);
         let structure = self.extended(pair, right)?;
         Ok(verdict_of(exit, &structure))
@@ -210,6 +213,7 @@ impl OutcomeRun {
     {
         // Shows the proof what the right keeps.
         let _ = &right.depth;
+        offsets_lie_in_spans();
         let mut marks = self.structure(pair.left).copy()?;
         match pair.right {
             None => Ok(marks),

@@ -10,6 +10,7 @@ ghost use Rattle.jx_run.specs.Reader.{HasRead, HasFailed};
 ghost use Rattle.jx_run.specs.Verdict.{Judged};
 ghost use Rattle.jx_run.specs.Whole.{ends_text, verdict_from};
 
+use crate::laws::reader_is_grammar;
 use crate::verdict::{Refusal, Verdict};
 use jx_lex::{Depth, Exit, Keeper, LexState, Mark, scan};
 use jx_reduce::{Expect, KnownStack, Whole};
@@ -203,6 +204,7 @@ impl Reader {
         ensures err { OnErr result (HasFailed self.new) }
         ensures failed { HasFailed self.old → IsErr result }
     {
+        reader_is_grammar();
         let base = self.start + self.count;
         self.count += slice.len();
         match self.progress {
@@ -224,6 +226,7 @@ impl Reader {
     pub fn verdict(&self) -> Verdict
         ensures verdict { (bytes : List ℕ) → HasRead bytes self.now → Judged self.now.start bytes self.now.limit result }
     {
+        reader_is_grammar();
         match self.progress {
             Progress::Going(state) => verdict_at(state, self.kept.stack.whole()),
             Progress::Stopped(at) => Verdict::Refused(Refusal::Stopped { at }),

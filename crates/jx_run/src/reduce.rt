@@ -11,7 +11,7 @@ ghost use Rattle.jx_run.specs.Reduced.{path_at, AreInside, ArePaths, AreReduced,
 
 use crate::way::Way;
 use jx_lex::{ChunkMap, Depth, LexState, Path, Segment, TrackView};
-use jx_reduce::Reductions;
+use jx_reduce::{Reductions, offsets_lie_in_spans};
 use std::alloc::{AllocError, Global};
 
 /// Reduces the marks of a segment, unless that was done before.
@@ -46,6 +46,7 @@ fn take_in(
     ensures depth { reduced.new.depth ≡ reduced.old.depth }
     ensures reduced { OnOk result ((marks : List Mark) → IsReduced reduced.old.depth marks reduced.old → IsReduced reduced.old.depth (marks ++ segment.now.marks) reduced.new) }
 {
+    offsets_lie_in_spans();
     fill(alloc, segment, part, reduced.depth())?;
     match part {
         Some(part) => reduced.extend(part),

@@ -7,6 +7,7 @@ ghost use Rattle.jx_run.specs.Reading.{read};
 ghost use Rattle.jx_run.specs.RunReaderInside.{arrived, LeadsTo};
 ghost use Rattle.jx_run.specs.Verdict.{Judged};
 
+use crate::laws::reader_is_grammar;
 use crate::outcome_run::{OutcomeRun, verdict_from};
 use crate::summary::Summary;
 use crate::verdict::{Refusal, Verdict};
@@ -142,6 +143,7 @@ impl RunReader {
         ensures err { OnErr result (HasFailed self.new) }
         ensures failed { HasFailed self.old → IsErr result }
     {
+        reader_is_grammar();
         let base = self.start + self.count;
         self.count += run.span().end;
         let led = match &self.course {
@@ -183,6 +185,7 @@ impl RunReader {
     pub fn verdict(&self) -> Verdict
         ensures verdict { (bytes : List ℕ) → HasRead bytes self.now → Judged self.now.start bytes self.now.limit result }
     {
+        reader_is_grammar();
         match &self.course {
             Course::Going {
                 state,

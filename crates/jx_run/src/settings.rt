@@ -11,6 +11,16 @@ pub enum FrontMark {
     Ignored,
 }
 
+/// Whether an object may have several members of one name (RFC 8259, section 4).
+#[derive(Clone, Copy, Debug, PartialEq, Eq)]
+pub enum NameRule {
+    /// It may.
+    Any,
+    /// It may not: a text that repeats a name is refused. Names are equal where their values are, as lists of UTF-16 code
+    /// units.
+    Unique,
+}
+
 /// What a reader is told besides the bytes.
 #[derive(Clone, Copy, Debug, PartialEq, Eq)]
 pub struct Settings {
@@ -18,6 +28,8 @@ pub struct Settings {
     pub depth: Depth,
     /// What becomes of a byte order mark in front of a text.
     pub mark: FrontMark,
+    /// What becomes of a name that an object repeats.
+    pub names: NameRule,
 }
 
 /// Where a text begins behind what stands in front of it, or why there is none whatever follows.

@@ -4,6 +4,9 @@ pub enum Refusal {
     Stopped { at: usize },
     Truncated,
     TooDeep { at: usize },
+    /// The first name that is that of an earlier member of its object. Only the settings can refuse one, and only in what is
+    /// otherwise accepted.
+    RepeatedName { at: usize },
 }
 
 /// What reading a text comes to.

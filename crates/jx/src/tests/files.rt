@@ -8,7 +8,7 @@ use jx_claim::Workers;
 use jx_command::{Command, Task};
 use jx_lex::Depth;
 use jx_report::{End, Exit, ReportFault};
-use jx_run::{FrontMark, Settings};
+use jx_run::{FrontMark, NameRule, Settings};
 use std::sync::Wait;
 use std::test::Fail;
 use std::thread::Threads;
@@ -22,6 +22,7 @@ fn check() -> Command
         settings: Settings {
             depth: Depth::default(),
             mark: FrontMark::Refused,
+            names: NameRule::Any,
         },
         workers: Workers::new(2).unwrap(),
         piece: 65536,

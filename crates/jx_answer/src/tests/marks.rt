@@ -5,7 +5,7 @@ use jx_book::OpenGate;
 use jx_claim::Workers;
 use jx_index::Pointer;
 use jx_lex::{Depth, Kind, Span};
-use jx_run::{FrontMark, Refusal, Settings, Verdict};
+use jx_run::{FrontMark, NameRule, Refusal, Settings, Verdict};
 use std::alloc::Global;
 use std::process::Abort;
 use std::sync::Wait;
@@ -29,11 +29,25 @@ fn check_at<R: Abort + Threads + Wait + Sync>(
     mark: FrontMark,
     want: Root,
 ) -> Result<(), Fail> {
+    check_by(rt, alloc, text, cuts, mark, NameRule::Any, want)?;
+    check_by(rt, alloc, text, cuts, mark, NameRule::Unique, want)
+}
+
+fn check_by<R: Abort + Threads + Wait + Sync>(
+    rt: &R,
+    alloc: Global,
+    text: &[u8],
+    cuts: &[usize],
+    mark: FrontMark,
+    names: NameRule,
+    want: Root,
+) -> Result<(), Fail> {
     let workers = Workers::new(2).ok_or("workers")?;
     let cutting = cut(alloc, text.len(), cuts)?;
     let settings = Settings {
         depth: Depth::default(),
         mark,
+        names,
     };
     let verdict = verdict_of_text_with(rt, alloc, text, &cutting, workers, &settings, &OpenGate)?;
     let answer = index_text_with(rt, alloc, text, &cutting, workers, &settings, &OpenGate)?;
@@ -113,6 +127,7 @@ fn a_pointer_behind_a_mark(rt: HostRuntime) -> Result<(), Fail> {
     let settings = Settings {
         depth: Depth::default(),
         mark: FrontMark::Ignored,
+        names: NameRule::Any,
     };
     for place in 1..text.len() {
         let cutting = cut(alloc, text.len(), &[place])?;

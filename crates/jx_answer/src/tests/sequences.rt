@@ -7,7 +7,7 @@ use crate::{
 use jx_book::OpenGate;
 use jx_claim::Workers;
 use jx_lex::Depth;
-use jx_run::{ElementVerdict, FrontMark, JudgedElement, Refusal, Settings};
+use jx_run::{ElementVerdict, FrontMark, JudgedElement, NameRule, Refusal, Settings};
 use std::alloc::{AllocError, Global};
 use std::process::Abort;
 use std::sync::Wait;
@@ -158,6 +158,7 @@ fn check_by<R: Abort + Threads + Wait + Sync>(
     let settings = Settings {
         depth: Depth::default(),
         mark,
+        names: NameRule::Any,
     };
     for place in 0..text.len() {
         let single = [place];

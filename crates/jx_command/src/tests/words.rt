@@ -2,7 +2,7 @@
 use crate::arg_fault::ArgFault;
 use crate::arguments::command_of;
 use crate::command::{Request, Task};
-use jx_run::FrontMark;
+use jx_run::{FrontMark, NameRule};
 use std::alloc::Global;
 use std::test::Fail;
 
@@ -309,5 +309,30 @@ fn help_in_80_columns(rt: HostRuntime) -> Result<(), Fail> {
 fn words_of_want_of_memory(rt: HostRuntime) -> Result<(), Fail> {
     let shown = ArgFault::Memory.to_string(rt.alloc())?;
     assert_eq!(rt; shown.as_str(), "jx: out of memory");
+    Ok(())
+}
+
+#[test]
+fn unique_names(rt: HostRuntime) -> Result<(), Fail> {
+    let rows: [&[&str]; 4] = [
+        &["jx", "check"],
+        &["jx", "index"],
+        &["jx", "at", "/a"],
+        &["jx", "seq"],
+    ];
+    for words in rows {
+        let Request { command, .. } = command_of(rt.alloc(), words)?;
+        assert_eq!(rt; command.settings.names, NameRule::Any, "at {words:?}");
+    }
+    let rows: [&[&str]; 4] = [
+        &["jx", "check", "--unique-names"],
+        &["jx", "index", "--unique-names", "--depth", "3"],
+        &["jx", "at", "/a", "--unique-names"],
+        &["jx", "seq", "-q", "--unique-names", "--ignore-bom"],
+    ];
+    for words in rows {
+        let Request { command, .. } = command_of(rt.alloc(), words)?;
+        assert_eq!(rt; command.settings.names, NameRule::Unique, "at {words:?}");
+    }
     Ok(())
 }

@@ -7,6 +7,7 @@ use jx_claim::{Cutting, Workers};
 use jx_lex::Depth;
 use jx_run::{Refusal, Verdict};
 use std::alloc::{AllocError, Global};
+use std::process::Abort;
 use std::sync::Wait;
 use std::test::Fail;
 use std::thread::Threads;
@@ -74,26 +75,56 @@ fn many_workers_and_pieces_of_a_byte(rt: HostRuntime) -> Result<(), Fail> {
     Ok(())
 }
 
+const DEPTHS: [u32; 5] = [0, 1, 2, 512, 65535];
+
+fn check_by_each_count<R: Abort + Threads + Wait + Sync>(
+    rt: &R,
+    alloc: Global,
+    text: &[u8],
+    containers: u32,
+    want: Verdict,
+) -> Result<(), Fail> {
+    for count in [1, 5, 64] {
+        assert_eq!(rt; verdict(rt, alloc, text, 7, count, containers)?, want);
+    }
+    Ok(())
+}
+
 #[test]
 fn deep_and_unclosed_texts(rt: HostRuntime) -> Result<(), Fail> {
     let alloc = rt.alloc();
-    let texts: [(&[(u8, usize)], u32, Verdict); 10] = [
-        (&[(b'[', 2000)], 512, too_deep(512)),
-        (&[(b'[', 2000)], 65535, TRUNCATED),
-        (&[(b'[', 2000)], 0, too_deep(0)),
-        (&[(b'[', 600), (b']', 600)], 512, too_deep(512)),
-        (&[(b'[', 600), (b']', 600)], 600, Verdict::Accepted),
-        (&[(b'[', 600), (b']', 600)], 2, too_deep(2)),
-        (&[(b']', 1000)], 512, stopped(0)),
-        (&[(b'"', 1), (b'\\', 1000)], 512, TRUNCATED),
-        (&[(b'"', 1), (b'\\', 1001), (b'x', 1)], 512, stopped(1002)),
-        (&[(b'[', 1), (b' ', 3000), (b']', 1)], 1, Verdict::Accepted),
+    let accepted = Verdict::Accepted;
+    let deep = [too_deep(0), too_deep(1), too_deep(2), too_deep(512)];
+    let texts: [(&[(u8, usize)], [Verdict; 5]); 6] = [
+        (
+            &[(b'[', 2000)],
+            [deep[0], deep[1], deep[2], deep[3], TRUNCATED],
+        ),
+        (
+            &[(b'[', 600), (b']', 600)],
+            [deep[0], deep[1], deep[2], deep[3], accepted],
+        ),
+        (&[(b']', 1000)], [stopped(0); 5]),
+        (&[(b'"', 1), (b'\\', 1000)], [TRUNCATED; 5]),
+        (&[(b'"', 1), (b'\\', 1001), (b'x', 1)], [stopped(1002); 5]),
+        (
+            &[(b'[', 1), (b' ', 3000), (b']', 1)],
+            [deep[0], accepted, accepted, accepted, accepted],
+        ),
     ];
-    for (parts, containers, want) in texts {
+    for (parts, wanted) in texts {
         let text = repeated(alloc, parts)?;
-        for count in [1, 5, 64] {
-            assert_eq!(rt; verdict(&rt, alloc, &text, 7, count, containers)?, want);
+        for (containers, want) in DEPTHS.iter().zip(&wanted) {
+            check_by_each_count(&rt, alloc, &text, *containers, *want)?;
         }
     }
     Ok(())
+}
+
+#[test]
+fn a_text_as_deep_as_may_be(rt: HostRuntime) -> Result<(), Fail> {
+    let alloc = rt.alloc();
+    let text = repeated(alloc, &[(b'[', 600), (b']', 600)])?;
+    check_by_each_count(&rt, alloc, &text, 599, too_deep(599))?;
+    check_by_each_count(&rt, alloc, &text, 600, Verdict::Accepted)
 }

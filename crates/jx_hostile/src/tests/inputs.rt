@@ -1,6 +1,19 @@
 // Inputs that several tests read, and what they come to.
 use crate::tests::answers::{Told, ToldElement};
-use jx_run::Refusal;
+use jx_lex::Depth;
+use jx_run::{FrontMark, NameRule, Refusal, Settings};
+
+/// Both things that may become of a byte order mark.
+pub const MARKS: [FrontMark; 2] = [FrontMark::Refused, FrontMark::Ignored];
+
+/// Settings by which this becomes of a byte order mark.
+pub fn settings(depth: Depth, mark: FrontMark) -> Settings {
+    Settings {
+        depth,
+        mark,
+        names: NameRule::Any,
+    }
+}
 
 /// Three arrays, each in the one before.
 pub const NESTED: &[u8] = b"[[[]]]";
@@ -25,6 +38,14 @@ pub const REPEATED_NAME: Indexed = (REPEATED, &[(0, 18), (5, 6), (16, 17)]);
 
 pub const UNSORTED_NAMES: Indexed = (UNSORTED, &[(0, 19), (5, 6), (11, 12), (17, 18)]);
 
+/// The text of five rows behind a byte order mark.
+pub const MARKED_FIVE_ROWS: &[u8] = b"\xEF\xBB\xBF{\"a\":[1,{\"b\":2}]}";
+
+pub const MARKED_FIVE: Indexed = (
+    MARKED_FIVE_ROWS,
+    &[(3, 20), (8, 19), (9, 10), (11, 18), (16, 17)],
+);
+
 pub const TEXTS: [Indexed; 4] = [NESTED_ROWS, FIVE, REPEATED_NAME, UNSORTED_NAMES];
 
 const TRUNCATED: Told = Told::Refused(Refusal::Truncated);
@@ -38,6 +59,15 @@ pub const ELEMENTS: [ToldElement; 3] = [
     (1, 6, Told::Accepted),
     (7, 11, Told::MayBeCut),
     (13, 16, TRUNCATED),
+];
+
+/// The same sequence behind a byte order mark.
+pub const MARKED_SEQUENCE: &[u8] = b"\xEF\xBB\xBF\x1Etrue\n\x1Etrue\x1E\x1E[1\n";
+
+pub const MARKED_ELEMENTS: [ToldElement; 3] = [
+    (4, 9, Told::Accepted),
+    (10, 14, Told::MayBeCut),
+    (16, 19, TRUNCATED),
 ];
 
 /// Sequences with the answers on their elements.

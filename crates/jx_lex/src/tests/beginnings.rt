@@ -1,3 +1,4 @@
+// Maps of beginnings.
 use crate::ChunkMap;
 use crate::tests::is_plain;
 use std::test::Fail;

@@ -1,3 +1,4 @@
+// Examples of texts that are cut inside a token.
 use crate::mark::MarkKind::{CloseArray, Number, OpenArray, String, True};
 use crate::tests::shows;
 use crate::{ChunkMap, Exit, LexState, Mark};

@@ -1,3 +1,4 @@
+// Strings whose parts stand across the steps of the scanner.
 use crate::ChunkMap;
 use crate::tests::{is_plain, repeated};
 use std::test::Fail;

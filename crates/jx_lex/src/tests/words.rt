@@ -1,3 +1,4 @@
+// What a fault says of itself.
 use crate::{ChunkMap, JoinFault};
 use std::test::Fail;
 

@@ -9,7 +9,7 @@ use jx_book::OpenGate;
 use jx_claim::Workers;
 use jx_command::{Command, Task};
 use jx_lex::Depth;
-use jx_run::{FrontMark, Settings};
+use jx_run::{FrontMark, NameRule, Settings};
 use std::alloc::{AllocError, Global};
 use std::sync::Wait;
 use std::thread::Threads;
@@ -23,6 +23,7 @@ pub fn command(task: Task, containers: u32) -> Command
         settings: Settings {
             depth: Depth::new(containers).unwrap_or_default(),
             mark: FrontMark::Refused,
+            names: NameRule::Any,
         },
         workers: Workers::new(5).unwrap(),
         piece: 1,

@@ -2,6 +2,7 @@
 use std::alloc::Global;
 use std::io;
 use std::io::{Read, Write};
+use std::sync::atomic::{AtomicBool, Ordering};
 
 /// Gives one byte a call, and fails at the call of the number named, from 1 on.
 #[derive(Drop)]
@@ -84,5 +85,28 @@ impl Write for FailingWriter {
 
     fn flush(&mut self) -> io::Result<()> {
         Ok(())
+    }
+}
+
+/// Tells when it is asked for what stands behind so many first bytes.
+#[derive(Drop)]
+pub struct TellingReader<'a> {
+    pub text: &'a [u8],
+    pub first: usize,
+    pub begun: &'a AtomicBool,
+}
+
+impl Read for TellingReader<'_> {
+    fn read(&mut self, buf: &mut [u8]) -> io::Result<usize> {
+        let mut count = self.text.len().min(buf.len());
+        if self.first == 0 {
+            self.begun.store(true, Ordering::SeqCst);
+        } else {
+            count = count.min(self.first);
+            self.first -= count;
+        }
+        buf[..count].copy_from_slice(&self.text[..count]);
+        self.text = &self.text[count..];
+        Ok(count)
     }
 }

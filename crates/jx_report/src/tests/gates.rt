@@ -1,4 +1,4 @@
-// A gate through which two workers pass only together.
+// A gate through which two workers pass only together, and one that stops them.
 use jx_book::{Event, Gate, Go};
 use std::sync::atomic::{AtomicBool, AtomicU64, Ordering};
 
@@ -75,5 +75,40 @@ impl Gate for Meeting {
             Event::Stored { worker } | Event::Took { worker } => self.note(worker),
         }
         Go::On
+    }
+}
+
+/// Stops at the event of this number, counted from 0 from a moment on that a reader tells, and at all later ones.
+#[derive(Drop)]
+pub struct StopFrom<'a> {
+    number: u64,
+    begun: &'a AtomicBool,
+    events: AtomicU64,
+    has_stopped: AtomicBool,
+}
+
+impl<'a> StopFrom<'a> {
+    pub fn new(number: u64, begun: &'a AtomicBool) -> StopFrom<'a> {
+        StopFrom {
+            number,
+            begun,
+            events: AtomicU64::new(0),
+            has_stopped: AtomicBool::new(false),
+        }
+    }
+
+    pub fn has_stopped(&self) -> bool {
+        self.has_stopped.load(Ordering::SeqCst)
+    }
+}
+
+impl<'a> Gate for StopFrom<'a> {
+    fn pass(&self, _event: Event) -> Go {
+        let is_counted = self.begun.load(Ordering::SeqCst);
+        if !is_counted || self.events.fetch_add(1, Ordering::SeqCst) < self.number {
+            return Go::On;
+        }
+        self.has_stopped.store(true, Ordering::SeqCst);
+        Go::Stop
     }
 }

@@ -9,7 +9,7 @@ ghost use Rattle.jx_run.specs.Tree.{span};
 use crate::started::Started;
 use crate::summary::Summary;
 use crate::text_run::TextRun;
-use jx_lex::{Exit, LexState, Mark, Span};
+use jx_lex::{Exit, LexState, Mark, Span, parts_are_read_in_turn};
 use std::alloc::AllocError;
 
 impl TextRun {
@@ -36,6 +36,7 @@ impl TextRun {
         ensures marks { (xs ys : List ℕ) → IsTextRun xs self.now → IsTextRun ys right.now → IfOk result (λ r. r.0.items ≡ (lex Gap self.now.map.start (xs ++ ys)).marks) }
         ensures ends { (xs ys : List ℕ) → IsTextRun xs self.now → IsTextRun ys right.now → IfOk result (λ r. r.1.items ≡ (lex Gap self.now.map.start (xs ++ ys)).ends) }
     {
+        parts_are_read_in_turn();
         let (mut marks, mut ends) = self.copy_track(LexState::Gap)?;
         match self.map.entry(LexState::Gap).exit() {
             Exit::Fault(_) => Ok((marks, ends)),

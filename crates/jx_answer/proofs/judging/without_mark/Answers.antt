@@ -1,7 +1,5 @@
-use Rattle.std.proofs.Common.{◌≡◌, ℕ, ◌<◌, ◌≤◌, List, length, true, false, rules, sym, ap, subst, ◌∙◌}
+use Rattle.std.proofs.Common.{◌≡◌, ◌<◌, List, length, true, false, rules, sym, ◌∙◌}
 use Rattle.jx_run.specs.declared.element_verdict.JudgedElement.{JudgedElement}
-use Rattle.jx_answer.specs.Pushed.{part_of}
-use Rattle.jx_answer.specs.Settled.{is_mark_alone}
 use Rattle.jx_answer.proofs.Verdicts.{judged_none, judged_within, judged_stays, judged_goes}
 use Rattle.jx_answer.proofs.judging.without_mark.Goals as goal
 

@@ -5,4 +5,4 @@ use Rattle.jx_lex.specs.declared.state.LexState.TheVariants as state
 use Rattle.jx_c.proofs.states.state_at.Goals as goal
 
 pub returns : goal.returns
-returns c = c.state_or_gap.ensures ∙ ap (λ (xs : List LexState). slice_index_or xs c.args.place state.Gap) c.all_states.ensures
+returns c = c.state_or_gap.ensures ∙ ap (λ (xs : List LexState). slice_index_or xs c.args.place state.Gap) c.all.ensures

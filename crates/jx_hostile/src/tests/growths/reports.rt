@@ -7,7 +7,7 @@ use jx_claim::Workers;
 use jx_command::{Command, Task};
 use jx_lex::Depth;
 use jx_report::{End, Exit, ReportFault, report};
-use jx_run::{FrontMark, Settings};
+use jx_run::{FrontMark, NameRule, Settings};
 use std::alloc::{AllocError, Global};
 use std::process::Abort;
 use std::sync::Wait;
@@ -30,6 +30,7 @@ fn command(task: Task, mark: FrontMark, workers: Workers) -> Command
         settings: Settings {
             depth: Depth::default(),
             mark,
+            names: NameRule::Any,
         },
         workers,
         piece: 1,

@@ -21,7 +21,7 @@ pub returns-clause-forms : goal.returns-clause-forms
 returns-clause-forms c = λ p u i. has_form p u i
 
 pub returns-clause-starts : goal.returns-clause-starts
-returns-clause-starts c = λ start limit bytes tree d. starts_rise d.reads
+returns-clause-starts c = λ start limit bytes tree d. starts_rise (record { reads = c.tokens_are_read.ensures.reads; stays = c.tokens_are_read.ensures.stays }) d.reads
 
 pub returns-clause-spelt : goal.returns-clause-spelt
 returns-clause-spelt c = λ p ts h. (utf8_of_form h, pointer_of_form h)

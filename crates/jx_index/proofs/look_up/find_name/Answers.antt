@@ -7,11 +7,12 @@ use Rattle.std.specs.List.Sorted.{IsNonDecreasingBy, IsSortedBy}
 use Rattle.std.specs.Ordering.{nat_cmp}
 use Rattle.jx_index.specs.declared.find_fault.FindFault.{FindFault}
 use Rattle.jx_index.specs.declared.row.Row.{Row}
+use Rattle.jx_index.specs.declared.units.Spelling.TheVariants.{InToken}
 use Rattle.jx_index.specs.Leads.{only}
 use Rattle.jx_index.specs.LookUp.{rank_of, IsEqualAt}
 use Rattle.jx_index.specs.Names.{is_below, name_units}
 use Rattle.jx_index.specs.RowsLead.{is_equal}
-use Rattle.jx_index.specs.UnitsLeft.{units_left}
+use Rattle.jx_index.specs.Units.{parts_units}
 use Rattle.jx_index.proofs.Halving.{eq_at_one, eq_not_one, nowhere, once, often}
 use Rattle.jx_index.proofs.look_up.find_name.Goals as goal
 
@@ -28,7 +29,7 @@ pub returns-then-not-is_equal_at : goal.returns-then-not-is_equal_at
 returns-then-not-is_equal_at c =
     let text = c.args.text.now in
     let rows = c.args.rows.now in
-    let units = units_left c.args.units in
+    let units = parts_units InToken 0 c.args.name.now in
     let up = rises text rows c.args.names.now units c.requires in
     let point = IsPartitionPoint-from_clause (λ y. ltb (rank_of text rows units y) 1) _ _ c.partition_point-at.ensures.partitioned (IsPartitionedBy-ltb (rank_of text rows units) _ 1 up) (λ a r q k. search rules) in
     sym (ap (λ (x : List ℕ). only x c.args.token)
@@ -39,7 +40,7 @@ pub returns-then-is_equal_at : goal.returns-then-is_equal_at
 returns-then-is_equal_at c =
     let text = c.args.text.now in
     let rows = c.args.rows.now in
-    let units = units_left c.args.units in
+    let units = parts_units InToken 0 c.args.name.now in
     let up = rises text rows c.args.names.now units c.requires in
     let point = IsPartitionPoint-from_clause (λ y. ltb (rank_of text rows units y) 1) _ _ c.partition_point-at.ensures.partitioned (IsPartitionedBy-ltb (rank_of text rows units) _ 1 up) (λ a r q k. search rules) in
     let e : c.partition_point-at.result + 1 ≡ suc c.partition_point-at.result = omega arith in
@@ -51,7 +52,7 @@ pub returns : goal.returns
 returns c =
     let text = c.args.text.now in
     let rows = c.args.rows.now in
-    let units = units_left c.args.units in
+    let units = parts_units InToken 0 c.args.name.now in
     let up = rises text rows c.args.names.now units c.requires in
     let point = IsPartitionPoint-from_clause (λ y. ltb (rank_of text rows units y) 1) _ _ c.partition_point-at.ensures.partitioned (IsPartitionedBy-ltb (rank_of text rows units) _ 1 up) (λ a r q k. search rules) in
     let e : suc c.partition_point-at.result ≡ c.partition_point-at.result + 1 = omega arith in

@@ -7,8 +7,8 @@ use Rattle.jx_index.proofs.names.same_front.Given as goal
 
 abbrev pub invariant-loop-at : goal.invariant-loop-at
 invariant-loop-at l =
-    slice_cmp nat_cmp (parts_units InText 0 l.left) (parts_units InText 0 l.right)
-    ≡ slice_cmp nat_cmp (parts_units InText 0 (drop l.at l.left)) (parts_units InText 0 (drop l.at l.right))
+    slice_cmp nat_cmp (parts_units InText 0 l.left) (parts_units l.fn.spelling 0 l.right)
+    ≡ slice_cmp nat_cmp (parts_units InText 0 (drop l.at l.left)) (parts_units l.fn.spelling 0 (drop l.at l.right))
 
 abbrev pub decreases-loop-at : goal.decreases-loop-at
 decreases-loop-at l = length l.left - l.at

@@ -8,4 +8,4 @@ pub returns-clause-begins : goal.returns-clause-begins
 returns-clause-begins c s bytes is = (refused_begins s is bytes, begins_plain s bytes)
 
 pub returns-clause-verdict : goal.returns-clause-verdict
-returns-clause-verdict c s at bytes v is = (judged_refused s at bytes is v, refused_judged s at bytes is v)
+returns-clause-verdict c s at bytes v is = (judged_refused (record { reads = c.tokens_are_read.ensures.reads; tokens = c.tokens_are_read.ensures.tokens; stays = c.tokens_are_read.ensures.stays; steps = c.tokens_are_read.ensures.steps; gaps = c.tokens_are_read.ensures.gaps }) s at bytes is v, refused_judged s at bytes is v)

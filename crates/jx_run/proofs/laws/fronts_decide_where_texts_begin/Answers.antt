@@ -2,4 +2,4 @@ use Rattle.jx_run.proofs.Fronts.{front_told}
 use Rattle.jx_run.proofs.laws.fronts_decide_where_texts_begin.Goals as goal
 
 pub returns : goal.returns
-returns c = record { told = front_told }
+returns c = record { told = front_told (record { reads = c.tokens_are_read.ensures.reads; tokens = c.tokens_are_read.ensures.tokens; stays = c.tokens_are_read.ensures.stays; steps = c.tokens_are_read.ensures.steps; gaps = c.tokens_are_read.ensures.gaps }) }

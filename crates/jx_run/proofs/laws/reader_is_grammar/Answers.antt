@@ -2,19 +2,19 @@ use Rattle.jx_run.proofs.LawProofs.{begins_law, sound_law, complete_law, first_f
 use Rattle.jx_run.proofs.laws.reader_is_grammar.Goals as goal
 
 pub returns-clause-begins : goal.returns-clause-begins
-returns-clause-begins c = begins_law
+returns-clause-begins c = begins_law (record { reads = c.tokens_are_read.ensures.reads; tokens = c.tokens_are_read.ensures.tokens; stays = c.tokens_are_read.ensures.stays; steps = c.tokens_are_read.ensures.steps; gaps = c.tokens_are_read.ensures.gaps })
 
 pub returns-clause-sound : goal.returns-clause-sound
-returns-clause-sound c = sound_law
+returns-clause-sound c = sound_law (record { reads = c.tokens_are_read.ensures.reads; tokens = c.tokens_are_read.ensures.tokens; stays = c.tokens_are_read.ensures.stays; steps = c.tokens_are_read.ensures.steps; gaps = c.tokens_are_read.ensures.gaps })
 
 pub returns-clause-complete : goal.returns-clause-complete
-returns-clause-complete c = complete_law
+returns-clause-complete c = complete_law (record { reads = c.tokens_are_read.ensures.reads; tokens = c.tokens_are_read.ensures.tokens; stays = c.tokens_are_read.ensures.stays; steps = c.tokens_are_read.ensures.steps; gaps = c.tokens_are_read.ensures.gaps })
 
 pub returns-clause-first_fault : goal.returns-clause-first_fault
-returns-clause-first_fault c = first_fault_law
+returns-clause-first_fault c = first_fault_law (record { reads = c.tokens_are_read.ensures.reads; tokens = c.tokens_are_read.ensures.tokens; stays = c.tokens_are_read.ensures.stays; steps = c.tokens_are_read.ensures.steps; gaps = c.tokens_are_read.ensures.gaps })
 
 pub returns-clause-too_deep : goal.returns-clause-too_deep
-returns-clause-too_deep c = too_deep_law
+returns-clause-too_deep c = too_deep_law (record { reads = c.tokens_are_read.ensures.reads; tokens = c.tokens_are_read.ensures.tokens; stays = c.tokens_are_read.ensures.stays; steps = c.tokens_are_read.ensures.steps; gaps = c.tokens_are_read.ensures.gaps })
 
 pub returns-clause-verdict : goal.returns-clause-verdict
-returns-clause-verdict c = verdict_law
+returns-clause-verdict c = verdict_law (record { reads = c.tokens_are_read.ensures.reads; tokens = c.tokens_are_read.ensures.tokens; stays = c.tokens_are_read.ensures.stays; steps = c.tokens_are_read.ensures.steps; gaps = c.tokens_are_read.ensures.gaps })

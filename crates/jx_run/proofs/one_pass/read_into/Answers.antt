@@ -21,7 +21,7 @@ returns-clause-verdict g c =
     } in
     subst (Judged c.args.from bytes c.args.depth)
     (ap (λ (e : Exit). verdict_from e c.whole.result) (sym c.unwrap_or.ensures) ∙ sym c.verdict_from-verdict.ensures)
-    (both_judged _ _ _ _ _ _ _ _ _ s c.requires.empty)
+    (both_judged c.reader_is_grammar.ensures.verdict _ _ _ _ _ _ _ _ _ s c.requires.empty)
 
 pub returns-clause-seen : goal.returns-clause-seen
 returns-clause-seen g c = λ accepted.

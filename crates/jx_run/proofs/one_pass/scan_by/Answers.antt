@@ -4,16 +4,15 @@ use Rattle.jx_lex.specs.declared.exit.Exit.{Exit}
 use Rattle.jx_lex.specs.declared.state.LexState.TheVariants.{Gap}
 use Rattle.jx_lex.specs.Lex as reading
 use Rattle.jx_lex.specs.Lex.{lex, Track}
-use Rattle.jx_lex.specs.Seen.{GoesTo}
+use Rattle.jx_lex.specs.Seen.{GoesTo, SeesTrack}
 use Rattle.jx_lex.specs.View.{exit_of}
-use Rattle.jx_lex.proofs.Keeping.{goes-none, goes-then, sees-then, exit-then, sees-same}
-use Rattle.jx_run.proofs.Paces.{fault_ends, done_sees}
+use Rattle.jx_run.proofs.Paces.{goes_none, fault_ends, done_sees, exit_then, sees_then}
 use Rattle.jx_run.proofs.one_pass.scan_by.Goals as goal
 
 pub loop-at-init : goal.loop-at-init
 loop-at-init g c =
     let b = c.requires in
-    record { low = omega arith; high = b.0; read = goes-none c.args.text.now c.args.from Gap (g.K.Keeper.has_seen c.args.keeper.now) }
+    record { low = omega arith; high = b.0; read = goes_none c.args.text.now c.args.from Gap (g.K.Keeper.has_seen c.args.keeper.now) }
 
 pub returns-in_default-clause-seen : goal.returns-in_default-clause-seen
 returns-in_default-clause-seen g c =
@@ -25,8 +24,8 @@ returns-in_default-clause-seen g c =
     let fits = c.requires.1 in
     let old = g.K.Keeper.has_seen c.loop-at.keeper in
     let new = g.K.Keeper.has_seen c.scan.new.keeper in
-    sees-then xs c.args.from at c.args.to Gap c.loop-at.state (g.K.Keeper.has_seen c.args.keeper.now) old new v.low v.high (let h = v.high in omega (arith, fits, h)) v.read
-    (done_sees xs at stop c.args.to c.loop-at.state old new (omega (arith, b)) b.1 c.in_ok-exit.ensures.seen (c.in_ok-exit.ensures.done (ap is_some c.in_default.is)))
+    sees_then c.parts_are_read_in_turn.ensures.stretch xs c.args.from at c.args.to Gap v.low v.high (let h = v.high in omega (arith, fits, h)) c.loop-at.state v.read.exit (g.K.Keeper.has_seen c.args.keeper.now) old new v.read.seen
+    (done_sees c.parts_are_read_in_turn.ensures.stretch xs at stop c.args.to c.loop-at.state (omega (arith, b)) b.1 (let h = b.1 in omega (arith, fits, h)) old new c.in_ok-exit.ensures.seen (c.in_ok-exit.ensures.done (ap is_some c.in_default.is)))
 
 pub returns-in-Fault-clause-seen : goal.returns-in-Fault-clause-seen
 returns-in-Fault-clause-seen g c =
@@ -41,8 +40,8 @@ returns-in-Fault-clause-seen g c =
     let track = lex c.loop-at.state at (slice_range xs at stop) in
     let e : exit_of c.in-Some.exit ≡ track.exit = subst (λ (o : Option Exit). IfSome o (λ e. exit_of e ≡ track.exit)) c.in-Some.is c.in_ok-exit.ensures.exit in
     let f : track.exit ≡ reading.fault c.in-Fault.fault = sym e ∙ ap exit_of c.in-Fault.is in
-    sees-then xs c.args.from at c.args.to Gap c.loop-at.state (g.K.Keeper.has_seen c.args.keeper.now) old new v.low v.high (let h = v.high in omega (arith, fits, h)) v.read
-    (sees-same old new _ _ (fault_ends xs at stop c.args.to c.loop-at.state c.in-Fault.fault (omega (arith, b)) b.1 f) c.in_ok-exit.ensures.seen)
+    sees_then c.parts_are_read_in_turn.ensures.stretch xs c.args.from at c.args.to Gap v.low v.high (let h = v.high in omega (arith, fits, h)) c.loop-at.state v.read.exit (g.K.Keeper.has_seen c.args.keeper.now) old new v.read.seen
+    (subst (λ (x : Track). SeesTrack old new x) (sym (fault_ends c.parts_are_read_in_turn.ensures.stretch xs at stop c.args.to c.loop-at.state (omega (arith, b)) b.1 (let h = b.1 in omega (arith, fits, h)) c.in-Fault.fault f)) c.in_ok-exit.ensures.seen)
 
 pub returns-in-Fault-clause-exit : goal.returns-in-Fault-clause-exit
 returns-in-Fault-clause-exit g c =
@@ -56,8 +55,8 @@ returns-in-Fault-clause-exit g c =
     let e : exit_of c.in-Some.exit ≡ track.exit = subst (λ (o : Option Exit). IfSome o (λ e. exit_of e ≡ track.exit)) c.in-Some.is c.in_ok-exit.ensures.exit in
     let f : track.exit ≡ reading.fault c.in-Fault.fault = sym e ∙ ap exit_of c.in-Fault.is in
     sym (
-    exit-then xs c.args.from at c.args.to Gap c.loop-at.state v.low v.high (let h = v.high in omega (arith, fits, h)) v.read.exit
-    ∙ ap (λ (t : Track). t.exit) (fault_ends xs at stop c.args.to c.loop-at.state c.in-Fault.fault (omega (arith, b)) b.1 f)
+    exit_then c.parts_are_read_in_turn.ensures.stretch xs c.args.from at c.args.to Gap v.low v.high (let h = v.high in omega (arith, fits, h)) c.loop-at.state v.read.exit
+    ∙ ap (λ (t : Track). t.exit) (fault_ends c.parts_are_read_in_turn.ensures.stretch xs at stop c.args.to c.loop-at.state (omega (arith, b)) b.1 (let h = b.1 in omega (arith, fits, h)) c.in-Fault.fault f)
     ∙ f)
 
 pub loop-at-preserved : goal.loop-at-preserved
@@ -78,8 +77,10 @@ loop-at-preserved g c =
     record {
       low = omega (arith, b, low);
       high = b.1;
-      read = goes-then xs c.args.from at stop Gap c.loop-at.state c.in-State.next (g.K.Keeper.has_seen c.args.keeper.now) old new low (omega (arith, b))
-          (let h = v.high in omega (arith, fits, h)) v.read here;
+      read = record {
+        seen = sees_then c.parts_are_read_in_turn.ensures.stretch xs c.args.from at stop Gap low (omega (arith, b)) (let h = v.high in omega (arith, fits, h)) c.loop-at.state v.read.exit (g.K.Keeper.has_seen c.args.keeper.now) old new v.read.seen here.seen;
+        exit = exit_then c.parts_are_read_in_turn.ensures.stretch xs c.args.from at stop Gap low (omega (arith, b)) (let h = v.high in omega (arith, fits, h)) c.loop-at.state v.read.exit ∙ here.exit;
+      };
     }
 
 pub returns-clause-seen : goal.returns-clause-seen

@@ -12,7 +12,7 @@ extend-requires-clause-before c =
     let part : IsReduced c.args.reduced.now.depth c.args.segment.now.marks c.in-Some.part =
     subst (λ o. IsSomeAnd o (IsReduced c.args.reduced.now.depth c.args.segment.now.marks)) c.in-Some.is
     (subst (λ d. IsSomeAnd c.fill.new.part (IsReduced d c.args.segment.now.marks)) c.depth.ensures c.in_ok-fill.ensures.part) in
-    reduced_before c.args.reduced.now.depth c.requires.rising.0 c.args.segment.now.marks c.args.reduced.now c.in-Some.part c.requires.rising.1 part c.requires.rising.2
+    reduced_before c.offsets_lie_in_spans.ensures.before c.args.reduced.now.depth c.requires.rising.0 c.args.segment.now.marks c.args.reduced.now c.in-Some.part c.requires.rising.1 part c.requires.rising.2
 
 pub returns-clause-reduced : goal.returns-clause-reduced
 returns-clause-reduced c =

@@ -11,6 +11,6 @@ returns c = λ depth fed h.
       started = h.started;
       depth_is = h.depth_is;
       count = omega (arith, h.count, length-append fed c.args.slice.now);
-      outcome = passed depth c.args.self.now.progress c.args.self.now.at (state_in c.args.self.now.state) fed c.args.slice.now (known_of c.args.self.now.stack).reading c.requires.over h.outcome;
+      outcome = passed c.readings_go_on.ensures.passed depth c.args.self.now.progress c.args.self.now.at (state_in c.args.self.now.state) fed c.args.slice.now (known_of c.args.self.now.stack).reading c.requires.over h.outcome;
       of_use = h.of_use;
     }

@@ -8,16 +8,16 @@ use Rattle.jx_c.proofs.reader.JxReader.verdict.Goals as goal
 
 pub returns-then-self-eq-GOING : goal.returns-then-self-eq-GOING
 returns-then-self-eq-GOING c = λ depth fed h.
-    judged_at depth c.args.self.now.at c.args.self.now.progress (state_in c.args.self.now.state) c.state_at.result (known_of c.args.self.now.stack).reading c.whole.result fed c.verdict_at.result
+    judged_at (record { judged = c.reader_is_grammar.ensures.verdict; told = c.readings_go_on.ensures.verdict }) depth c.args.self.now.at c.args.self.now.progress (state_in c.args.self.now.state) c.state_at.result (known_of c.args.self.now.stack).reading c.whole.result fed c.verdict_at.result
     c.if-self-eq-GOING.true c.state_at.ensures c.whole.ensures c.verdict_at.ensures h.outcome
 
 pub returns-then-self-eq-STOPPED : goal.returns-then-self-eq-STOPPED
 returns-then-self-eq-STOPPED c = λ depth fed h.
-    judged_stop depth c.args.self.now.at c.args.self.now.progress (state_in c.args.self.now.state) (known_of c.args.self.now.stack).reading fed c.if-self-eq-STOPPED.true h.outcome
+    judged_stop (record { judged = c.reader_is_grammar.ensures.verdict; told = c.readings_go_on.ensures.verdict }) depth c.args.self.now.at c.args.self.now.progress (state_in c.args.self.now.state) (known_of c.args.self.now.stack).reading fed c.if-self-eq-STOPPED.true h.outcome
 
 pub returns-then-self-eq-TOO_DEEP : goal.returns-then-self-eq-TOO_DEEP
 returns-then-self-eq-TOO_DEEP c = λ depth fed h.
-    judged_deep depth c.args.self.now.at c.args.self.now.progress (state_in c.args.self.now.state) (known_of c.args.self.now.stack).reading fed c.if-self-eq-TOO_DEEP.true h.outcome
+    judged_deep (record { judged = c.reader_is_grammar.ensures.verdict; told = c.readings_go_on.ensures.verdict }) depth c.args.self.now.at c.args.self.now.progress (state_in c.args.self.now.state) (known_of c.args.self.now.stack).reading fed c.if-self-eq-TOO_DEEP.true h.outcome
 
 pub returns-else-self-eq-TOO_DEEP : goal.returns-else-self-eq-TOO_DEEP
 returns-else-self-eq-TOO_DEEP c = λ depth fed h.

@@ -1,7 +1,9 @@
 use Rattle.std.proofs.Common.{ℕ, ◌+◌, List, length, sym, ap, subst, ◌∙◌}
-use Rattle.jx_index.specs.NameParts.{HaveParts}
+use Rattle.std.specs.Prelude.{slice_range}
+use Rattle.jx_index.specs.Parts.{HaveParts}
 use Rattle.jx_index.specs.Walk.{IsForward, IsBounded}
 use Rattle.jx_index.specs.declared.row.Row.{Row}
+use Rattle.jx_index.proofs.Indexes.{one_of_any}
 use Rattle.jx_index.proofs.Shapes.{forward_of, bounded_of}
 use Rattle.jx_index.proofs.indexed.Indexed.of_nodes.Goals as goal
 
@@ -18,9 +20,11 @@ invariant_of-result c = record {
   is_text = c.requires.is_text;
   rows_are = c.requires.rows_are;
   after_are = c.requires.after_are;
-  starts_are = c.in_ok-names.ensures.starts ∙ ap (λ (r : List Row). length r + 1) c.deref.ensures.value;
+  one_tree = λ most other t.
+      one_of_any c.text_has_one_tree.ensures.one_tree c.args.span.start c.requires.limit most (slice_range c.args.text.now c.args.span.start c.args.span.end) c.requires.tree other c.requires.is_text t;
+  starts_are = c.in_ok-parts.ensures.starts ∙ ap (λ (r : List Row). length r + 1) c.deref.ensures.value;
   parts =
-      subst (λ (r : List Row). HaveParts c.args.text.now r c.args.nodes.after.items c.in_ok-names.names.starts.items c.in_ok-names.names.members.items (length r)) c.deref.ensures.value
-      (subst (λ (a : List ℕ). HaveParts c.args.text.now c.deref.result.now a c.in_ok-names.names.starts.items c.in_ok-names.names.members.items (length c.deref.result.now)) c.deref-2.ensures.value
-      c.in_ok-names.ensures.parts);
+      subst (λ (r : List Row). HaveParts c.args.text.now r c.args.nodes.after.items c.in_ok-parts.parts.starts.items c.in_ok-parts.parts.children.items (length r)) c.deref.ensures.value
+      (subst (λ (a : List ℕ). HaveParts c.args.text.now c.deref.result.now a c.in_ok-parts.parts.starts.items c.in_ok-parts.parts.children.items (length c.deref.result.now)) c.deref-2.ensures.value
+      c.in_ok-parts.ensures.parts);
 }

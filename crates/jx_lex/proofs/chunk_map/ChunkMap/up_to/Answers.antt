@@ -1,15 +1,16 @@
-use Rattle.std.proofs.Common.{◌≤◌, [], arith, length, replicate, true, subst, sym, ◌∙◌}
+use Rattle.std.proofs.Common.{◌≤◌, [], arith, inl, inr, length, replicate, true, subst, sym, ◌∙◌}
 use Rattle.std.specs.Prelude.{slice_range}
-use Rattle.jx_lex.specs.Bundle.{Bundle, Reads, Stands}
+use Rattle.jx_lex.specs.Bundle.{Bundle, Reads, Stands, live_count}
 use Rattle.jx_lex.specs.Closed.{AreClosed}
 use Rattle.jx_lex.specs.Map.{ArePlaced}
 use Rattle.jx_lex.specs.Ordinal.{all_states}
 use Rattle.jx_lex.proofs.Building.{IsOf-reads, IsWhole-reads, shared-all}
 use Rattle.jx_lex.proofs.Bundles.{Reads-joined, Stands-joined}
+use Rattle.jx_lex.proofs.Fewness.{LeaveTwo, live-two, two-read_on, map-two}
 use Rattle.jx_lex.proofs.ReadingOn.{Reads-rest, span-read}
 use Rattle.jx_lex.proofs.Slices.{slice-none, slice-split, slice-length}
 use Rattle.jx_lex.proofs.chunk_map.ChunkMap.up_to.Goals as goal
-use Rattle.jx_lex.proofs.chunk_map.ChunkMap.up_to.Goals.{After-heads-1}
+use Rattle.jx_lex.proofs.chunk_map.ChunkMap.up_to.Goals.{After-heads-1, then-loop-at-test+else-count_live-gt2, else-loop-at-test}
 
 pub loop-at-init : goal.loop-at-init
 loop-at-init c =
@@ -97,3 +98,26 @@ returns-clause-stored c = (whole c).0.counted all_states (shared-all [])
 pub returns-clause-placed : goal.returns-clause-placed
 returns-clause-placed c =
     subst (λ n. ArePlaced c.args.start n c.bundle-2.inside.segments.items) (sym (slice-length c.args.text.now c.args.start c.max-to.result (last c).0 (last c).1)) (whole c).0.placed
+
+-- behind the bytes that were read side by side at most two states are live, so behind all of them there are at most two
+few : (c : After-heads-1) → live_count c.bundle.inside.live ≤ 2 → LeaveTwo c.args.start (slice_range c.args.text.now c.args.start c.max-to.result)
+few c count =
+    let v = c.loop-at.invariant in
+    let xs = c.args.text.now in
+    let start = c.args.start in
+    let at = c.loop-at.at in
+    let to = c.max-to.result in
+    let late : at ≤ to = omega (arith, c.max-to.ensures) in
+    let live : live_count c.loop-at.bundle.live ≤ 2 = subst (λ (b : Bundle). live_count b.live ≤ 2) c.bundle.view_is count in
+    subst (λ bytes. LeaveTwo start bytes) (sym (slice-split xs start at to v.low late))
+    (two-read_on start (slice_range xs start at) (slice_range xs at to) (live-two start (slice_range xs start at) c.loop-at.bundle v.reads v.stands live))
+
+pub returns-clause-few : goal.returns-clause-few
+returns-clause-few c =
+    elim c.loop-at-test.branch [
+      | then-loop-at-test+else-count_live-gt2 w ↦ inr (map-two _ _ (returns-clause-of c) (few c (omega (arith, w.count_live.ensures, w.if-count_live-gt2.false))))
+      | else-loop-at-test w ↦ (
+          let high = c.loop-at.invariant.high in
+          let r = c.requires in
+          inl (omega (arith, high, w.loop-at-test.false, c.max-to.ensures, r.1)))
+    ]

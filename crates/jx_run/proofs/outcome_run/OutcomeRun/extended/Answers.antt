@@ -1,6 +1,5 @@
 use Rattle.std.proofs.Common.{ap, sym, subst, ◌∙◌, arith}
 use Rattle.jx_reduce.specs.Reductions.{IsBefore, SpansIn}
-use Rattle.jx_reduce.proofs.Spans.{before_of_spans}
 use Rattle.jx_run.specs.Joins.{GoesOnWith, IsOnward}
 use Rattle.jx_run.specs.OutcomeRun.{OutcomeRunValue, IsWithin}
 use Rattle.jx_run.proofs.RunJoin.{joined_within, made_of, right_within, stays_within}
@@ -20,7 +19,7 @@ returns-in-None-clause-within c =
     let start = ap (λ (v : OutcomeRunValue). v.start) c.right.view_is in
     let end = ap (λ (v : OutcomeRunValue). v.end) c.right.view_is in
     let mid = c.requires.neighbours in
-    subst (IsWithin l.limit l.start r.end) (sym c.in_ok-marks.ensures) (stays_within l.limit l.start l.end r.end c.structure.result.now c.structure.ensures.within (omega (arith, order, start, end, mid)))
+    subst (IsWithin l.limit l.start r.end) (sym c.in_ok-marks.ensures) (stays_within c.offsets_lie_in_spans.ensures.wider l.limit l.start l.end r.end c.structure.result.now c.structure.ensures.within (omega (arith, order, start, end, mid)))
 
 pub extend-requires-clause-before : goal.extend-requires-clause-before
 extend-requires-clause-before c =
@@ -28,7 +27,7 @@ extend-requires-clause-before c =
     let r = c.args.right.now in
     let b = c.structure-in-Some.result.now in
     subst (λ f. IsBefore f b) (sym c.in_ok-marks.ensures)
-    (before_of_spans l.start l.end r.end c.structure.result.now b c.structure.ensures.within.offsets
+    (c.offsets_lie_in_spans.ensures.before l.start l.end r.end c.structure.result.now b c.structure.ensures.within.offsets
     (subst (λ m. SpansIn m r.end b) (sym c.requires.neighbours) c.structure-in-Some.ensures.within.offsets))
 
 pub returns-in_ok-extend-in-Some-clause-made : goal.returns-in_ok-extend-in-Some-clause-made
@@ -51,6 +50,6 @@ returns-in_ok-extend-in-Some-clause-within c =
     let low = c.structure.ensures.order in
     let high = c.structure-in-Some.ensures.order in
     let mid = c.requires.neighbours in
-    joined_within l.limit l.start l.end r.end a b c.extend.new.self c.structure.ensures.within
+    joined_within c.offsets_lie_in_spans.ensures.wider l.limit l.start l.end r.end a b c.extend.new.self c.structure.ensures.within
     (right_within l.limit r.limit l.end r.start r.end b c.requires.depth c.requires.neighbours c.structure-in-Some.ensures.within) low (omega (arith, high, mid))
     (subst (λ f. GoesOnWith f b c.extend.new.self) c.in_ok-marks.ensures goes)

@@ -13,5 +13,5 @@ returns c =
     record {
       verdict = λ bytes h.
           subst (Judged c.args.self.now.start bytes c.args.self.now.limit) (sym c.verdict_of.ensures)
-          (run_judged c.args.self.now e (entries_are c.args.self.now Gap w e.marks c.way_from-way.ensures.way c.structure-structure.ensures.structure) bytes h);
+          (run_judged c.reader_is_grammar.ensures.verdict c.args.self.now e (entries_are c.args.self.now Gap w e.marks c.way_from-way.ensures.way c.structure-structure.ensures.structure) bytes h);
     }

@@ -18,7 +18,7 @@ returns-in_ok-progress-in-Going-clause-reads c = λ bytes h.
     record {
       count = omega (arith, long, all);
       outcome =
-          fed_slice a.depth a.start a.count bytes c.args.slice.now c.in-Going.state a.kept.stack c.read_slice.new.kept.stack c.in_ok-progress-in-Going.progress
+          fed_slice c.reader_is_grammar.ensures.first_fault a.depth a.start a.count bytes c.args.slice.now c.in-Going.state a.kept.stack c.read_slice.new.kept.stack c.in_ok-progress-in-Going.progress
           of_use.0.depth_is of_use.1 (c.in_ok-progress-in-Going.ensures of_use.0.marks of_use.0.read) long fit
           (ap (λ (p : Progress). outcome_at p a.kept.stack.reading) (sym c.in-Going.is) ∙ k.outcome);
     }

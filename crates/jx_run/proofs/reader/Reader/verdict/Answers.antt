@@ -6,18 +6,18 @@ use Rattle.jx_run.proofs.reader.Reader.verdict.Goals as goal
 pub returns-in-Going : goal.returns-in-Going
 returns-in-Going c = record {
   verdict = λ bytes h.
-      judged_going c.args.self.now c.self.inside.progress c.in-Going.state c.self.inside.kept.stack.reading c.whole.result bytes c.verdict_at.result
+      judged_going c.reader_is_grammar.ensures.verdict c.args.self.now c.self.inside.progress c.in-Going.state c.self.inside.kept.stack.reading c.whole.result bytes c.verdict_at.result
       c.in-Going.is (ap (λ (v : ReaderValue). v.outcome) c.self.view_is) c.whole.ensures c.verdict_at.ensures h;
 }
 
 pub returns-in-Stopped : goal.returns-in-Stopped
 returns-in-Stopped c = record {
   verdict = λ bytes h.
-      judged_stopped c.args.self.now c.self.inside.progress c.in-Stopped.at c.self.inside.kept.stack.reading bytes c.in-Stopped.is (ap (λ (v : ReaderValue). v.outcome) c.self.view_is) h;
+      judged_stopped c.reader_is_grammar.ensures.verdict c.args.self.now c.self.inside.progress c.in-Stopped.at c.self.inside.kept.stack.reading bytes c.in-Stopped.is (ap (λ (v : ReaderValue). v.outcome) c.self.view_is) h;
 }
 
 pub returns-in-TooDeep : goal.returns-in-TooDeep
 returns-in-TooDeep c = record {
   verdict = λ bytes h.
-      judged_too_deep c.args.self.now c.self.inside.progress c.in-TooDeep.at c.self.inside.kept.stack.reading bytes c.in-TooDeep.is (ap (λ (v : ReaderValue). v.outcome) c.self.view_is) h;
+      judged_too_deep c.reader_is_grammar.ensures.verdict c.args.self.now c.self.inside.progress c.in-TooDeep.at c.self.inside.kept.stack.reading bytes c.in-TooDeep.is (ap (λ (v : ReaderValue). v.outcome) c.self.view_is) h;
 }

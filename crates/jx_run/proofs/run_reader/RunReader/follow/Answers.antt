@@ -53,7 +53,7 @@ returns-in-Ok-clause-reads c = λ bytes more h r.
     record {
       count = omega (arith, long, all, end, run_long, zero);
       outcome =
-          followed a.depth a.start a.count c.args.run.now.limit c.args.run.now.start bytes more c.in-Going.state c.in-Going.expect (reverse c.deref.result.now) c.in-Ok.course
+          followed c.reader_is_grammar.ensures.first_fault a.depth a.start a.count c.args.run.now.limit c.args.run.now.start bytes more c.in-Going.state c.in-Going.expect (reverse c.deref.result.now) c.in-Ok.course
           (c.requires.limit ∙ sym (ap (λ (v : ReaderValue). v.limit) c.self.view_is)) zero (c.in-Ok.ensures.leads more r) long fit_all
           (ap (λ (xs : List Holder). Some (went c.in-Going.state c.in-Going.expect (reverse xs))) c.deref.ensures.value ∙ sym (ap outcome_on c.in-Going.is) ∙ k.outcome);
     }

@@ -1,0 +1,12 @@
+use Rattle.std.proofs.Common.{◌≡◌, length}
+use Rattle.jx_answer.specs.Pushed.{IsJudgedIn}
+use Rattle.jx_answer.specs.Settled.{IsJudgedBy, elements_by}
+use Rattle.jx_answer.proofs.InPlace.{Passed}
+use Rattle.jx_answer.proofs.judging.judged_by_names.Given as goal
+
+-- the elements before this one had their turn
+abbrev pub invariant-loop-at : goal.invariant-loop-at
+invariant-loop-at l = record {
+  long : length l.elements.items ≡ length l.initial.elements.items;
+  passed : Passed (IsJudgedIn l.text l.settings.depth) (IsJudgedBy l.settings l.text) l.at (elements_by l.settings.mark l.text) l.elements.items;
+}

@@ -1,0 +1,104 @@
+// The elements of a JSON text sequence.
+ghost use Rattle.std.specs.Prelude.{◌≡◌, ◌<◌, IfOk, length};
+ghost use Rattle.std.specs.List.{AllZip};
+ghost use Rattle.jx_run.specs.Elements.{elements as elements_of};
+ghost use Rattle.jx_run.specs.ElementVerdict.{IsJudgedElement};
+ghost use Rattle.jx_c.specs.Buffers.{IsFilled};
+ghost use Rattle.jx_c.specs.Elements.{AreElementsOf, shown_element, shown_verdict};
+
+use crate::places::{JxSpan, shown_span};
+use crate::status::{DEPTH_TOO_GREAT, NO_MEMORY, OK};
+use crate::verdict::{JxVerdict, shown};
+use jx_lex::Depth;
+use jx_run::{ElementVerdict, ElementsRun, JudgedElement, Summary, Verdict};
+use std::alloc::{AllocError, Global};
+
+/// It is a text that may be the beginning of a longer one.
+const MAY_BE_CUT: u32 = 4;
+
+/// It stands before the first record separator.
+const UNMARKED: u32 = 5;
+
+/// An element of a sequence.
+#[repr(C)]
+#[derive(Clone, Copy)]
+pub struct JxElement {
+    /// Where it stands, without its record separator.
+    pub span: JxSpan,
+    /// What it comes to; offsets count from the sequence's start.
+    pub verdict: JxVerdict,
+}
+
+fn shown_verdict(verdict: ElementVerdict) -> JxVerdict
+    ensures { result ≡ shown_verdict verdict }
+{
+    match verdict {
+        ElementVerdict::Accepted => shown(Verdict::Accepted),
+        ElementVerdict::Refused(refusal) => shown(Verdict::Refused(refusal)),
+        ElementVerdict::MayBeCut => JxVerdict {
+            offset: 0,
+            kind: MAY_BE_CUT,
+        },
+        ElementVerdict::Unmarked => JxVerdict {
+            offset: 0,
+            kind: UNMARKED,
+        },
+    }
+}
+
+/// The element as C sees it.
+fn shown_element(element: JudgedElement) -> JxElement
+    ensures { result ≡ shown_element element }
+{
+    JxElement {
+        span: shown_span(element.span),
+        verdict: shown_verdict(element.verdict),
+    }
+}
+
+/// Puts the elements into the buffer, as many as it has room for.
+fn fill(elements: &mut [JxElement], from: &[JudgedElement])
+    ensures { IsFilled shown_element elements.old elements.new from.now }
+{
+    let count = elements.len().min(from.len());
+    for at in 0..count {
+        elements[at] = shown_element(from[at]);
+    }
+}
+
+/// Reads a sequence on the calling thread, and judges its elements.
+fn judge(alloc: Global, sequence: &[u8], depth: Depth) -> Result<Vec<JudgedElement>, AllocError>
+    ensures { IfOk result (λ judged. AllZip (IsJudgedElement depth) (elements_of 0 sequence.now) judged.items) }
+{
+    let run = ElementsRun::of(alloc, sequence, 0, sequence.len(), depth)?;
+    let judged = run.into_elements()?;
+    Ok(judged)
+}
+
+/// The elements of a JSON text sequence (RFC 7464, section 2.1) in order, each with where it stands and what it comes to.
+/// As many as the buffer has room for are put there, and `count` tells how many there are.
+#[unsafe(no_mangle)]
+pub extern "C" fn jx_elements(
+    alloc: Global,
+    sequence: &[u8],
+    depth: u32,
+    elements: &mut [JxElement],
+    count: &mut usize,
+) -> u32
+    ensures elements { result ≡ OK → AreElementsOf sequence.now depth elements.old elements.new count.new }
+    ensures depth { 65535 < depth → result ≡ DEPTH_TOO_GREAT }
+    ensures unchanged_elements { (result ≡ OK → ⊥) → elements.new ≡ elements.old }
+    ensures unchanged_count { (result ≡ OK → ⊥) → count.new ≡ count.old }
+{
+    let Some(limit) = Depth::new(depth) else {
+        return DEPTH_TOO_GREAT;
+    };
+    match judge(alloc, sequence, limit) {
+        Ok(judged) => {
+            *count = judged.len();
+            fill(elements, &judged);
+            OK
+        }
+        Err(AllocError) => NO_MEMORY,
+    }
+}
