@@ -27,7 +27,9 @@ enum {
     JX_NO_MEMORY = 1,       /* a growth of memory was refused */
     JX_DEPTH_TOO_GREAT = 2, /* the depth is above JX_DEPTH_MAX */
     JX_NOT_STARTED = 3,     /* the reader was not started */
-    JX_TOO_MANY_BYTES = 4   /* with these bytes the reader would have been fed 2^64 or more */
+    JX_TOO_MANY_BYTES = 4,  /* with these bytes the reader would have been fed 2^64 or more */
+    JX_UNKNOWN_FLAG = 5,    /* the settings have a flag that there is not */
+    JX_NO_UNIQUE_NAMES = 6  /* the settings ask for unique names, and a reader keeps none */
 };
 
 /* Depths: how many containers may stand open at once. The depth of a scalar is 0, and that of a container one more than
@@ -37,17 +39,36 @@ enum {
     JX_DEPTH_MAX = 65535
 };
 
-/* Kinds of verdicts. */
+/* Flags of settings. */
 enum {
-    JX_ACCEPTED = 0,  /* the bytes are a text */
-    JX_STOPPED = 1,   /* with the byte at the offset the text can't go on */
-    JX_TRUNCATED = 2, /* the text ends too early: bytes can be added that make a text of it */
-    JX_TOO_DEEP = 3   /* only a greater depth would let the text go on with the byte at the offset */
+    /* A byte order mark, the bytes EF BB BF, may stand in front of a text, before all blanks, and is ignored (RFC 8259,
+     * section 8.1). Offsets count its bytes. Where the bytes end within a mark, the text is truncated. Without this flag a
+     * text that begins with a mark is stopped at 0. */
+    JX_IGNORE_MARK = 1,
+    /* An object may not have two members of one name: what is otherwise accepted is refused for the first name, by offset,
+     * that is that of an earlier member of its object. Names are equal where their values are, as lists of UTF-16 code
+     * units. Without this flag any names are accepted (RFC 8259, section 4). */
+    JX_UNIQUE_NAMES = 2
+};
+
+/* What the calls are told whose names end in _with. Where flags is 0, they do what those do that are told a depth alone. */
+typedef struct jx_settings {
+    uint32_t depth; /* how many containers may stand open at once, at most JX_DEPTH_MAX */
+    uint32_t flags; /* the sum of flags, 0 for none */
+} jx_settings;
+
+/* Kinds of verdicts. Elements of sequences have two more. */
+enum {
+    JX_ACCEPTED = 0,     /* the bytes are a text */
+    JX_STOPPED = 1,      /* with the byte at the offset the text can't go on */
+    JX_TRUNCATED = 2,    /* the text ends too early: bytes can be added that make a text of it */
+    JX_TOO_DEEP = 3,     /* only a greater depth would let the text go on with the byte at the offset */
+    JX_REPEATED_NAME = 6 /* JX_UNIQUE_NAMES alone: the name that begins at the offset is that of an earlier member */
 };
 
 typedef struct jx_verdict {
     size_t offset; /* of the byte, from the text's start; 0 where the kind has none */
-    uint32_t kind; /* JX_ACCEPTED, JX_STOPPED, JX_TRUNCATED or JX_TOO_DEEP */
+    uint32_t kind; /* JX_ACCEPTED .. JX_REPEATED_NAME */
 } jx_verdict;
 
 /* Tells whether the bytes are a JSON text (RFC 8259, section 2), and if not, where they stop being one: behind the
@@ -55,6 +76,12 @@ typedef struct jx_verdict {
  *
  * It takes no memory. JX_OK, or JX_DEPTH_TOO_GREAT. */
 uint32_t jx_check(const uint8_t *text, size_t size, uint32_t depth, jx_verdict *verdict);
+
+/* The same by settings.
+ *
+ * It takes no memory without JX_UNIQUE_NAMES, and with it memory in proportion to the text, which it frees. JX_OK,
+ * JX_DEPTH_TOO_GREAT, JX_UNKNOWN_FLAG, or JX_NO_MEMORY with JX_UNIQUE_NAMES. */
+uint32_t jx_check_with(const uint8_t *text, size_t size, const jx_settings *settings, jx_verdict *verdict);
 
 /* A text that comes slice by slice. Its size is fixed, and no byte of the text is kept. The words in it are the
  * library's alone. A reader that was started may be copied; it needs no end. */
@@ -67,14 +94,20 @@ typedef struct jx_reader {
  * It takes no memory. JX_OK, or JX_DEPTH_TOO_GREAT. */
 uint32_t jx_reader_start(jx_reader *reader, uint32_t depth);
 
+/* The same by settings. A mark that is ignored may come in any number of slices. A reader keeps no names, so that
+ * JX_UNIQUE_NAMES is refused.
+ *
+ * It takes no memory. JX_OK, JX_DEPTH_TOO_GREAT, JX_UNKNOWN_FLAG or JX_NO_UNIQUE_NAMES. */
+uint32_t jx_reader_start_with(jx_reader *reader, const jx_settings *settings);
+
 /* Reads the bytes behind all that the reader was fed. Behind a fault they are counted and not looked at. A slice may have
  * any size, also 0, and may end anywhere, also inside a character.
  *
  * It takes no memory. JX_OK, JX_NOT_STARTED or JX_TOO_MANY_BYTES. */
 uint32_t jx_reader_feed(jx_reader *reader, const uint8_t *bytes, size_t size);
 
-/* Tells the verdict on all bytes that the reader was fed, as one text: the same as jx_check tells. Offsets count from the
- * first byte that it was fed. The reader may be fed on.
+/* Tells the verdict on all bytes that the reader was fed, as one text: the same as jx_check tells, or jx_check_with where
+ * jx_reader_start_with began it. Offsets count from the first byte that it was fed. The reader may be fed on.
  *
  * It takes no memory. JX_OK, or JX_NOT_STARTED. */
 uint32_t jx_reader_verdict(const jx_reader *reader, jx_verdict *verdict);
@@ -110,13 +143,14 @@ enum {
     JX_NOT_UTF8 = 9,         /* the pointer is not in UTF-8 */
     JX_TEXT_STOPPED = 10,    /* the bytes are no text: JX_STOPPED at `at` */
     JX_TEXT_TRUNCATED = 11,  /* the bytes are no text: JX_TRUNCATED */
-    JX_TEXT_TOO_DEEP = 12    /* the bytes are no text: JX_TOO_DEEP at `at` */
+    JX_TEXT_TOO_DEEP = 12,   /* the bytes are no text: JX_TOO_DEEP at `at` */
+    JX_TEXT_REPEATED_NAME = 13 /* the bytes are a text with a name that may not be: JX_REPEATED_NAME at `at` */
 };
 
 typedef struct jx_answer {
     jx_span span;     /* where the value stands that was found, a string with its quotation marks; 0 and 0 where none was */
     size_t at;        /* a token's number, counted from 0, or an offset; 0 where the outcome has none */
-    uint32_t outcome; /* JX_FOUND .. JX_TEXT_TOO_DEEP */
+    uint32_t outcome; /* JX_FOUND .. JX_TEXT_REPEATED_NAME */
     uint32_t kind;    /* JX_OBJECT .. JX_NULL; 0 where nothing was found */
 } jx_answer;
 
@@ -124,6 +158,12 @@ typedef struct jx_answer {
  *
  * It takes memory in proportion to the text, and frees it. JX_OK, JX_NO_MEMORY or JX_DEPTH_TOO_GREAT. */
 uint32_t jx_at(const uint8_t *text, size_t size, const uint8_t *pointer, size_t pointer_size, uint32_t depth, jx_answer *answer);
+
+/* The same by settings.
+ *
+ * JX_OK, JX_NO_MEMORY, JX_DEPTH_TOO_GREAT or JX_UNKNOWN_FLAG. */
+uint32_t jx_at_with(const uint8_t *text, size_t size, const uint8_t *pointer, size_t pointer_size, const jx_settings *settings,
+                    jx_answer *answer);
 
 /* A value of a text. */
 typedef struct jx_row {
@@ -141,6 +181,13 @@ typedef struct jx_row {
  * It takes memory in proportion to the text, and frees it. JX_OK, JX_NO_MEMORY or JX_DEPTH_TOO_GREAT. */
 uint32_t jx_rows(const uint8_t *text, size_t size, uint32_t depth, jx_row *rows, size_t room, size_t *count, jx_verdict *verdict);
 
+/* The same by settings. A mark that is ignored has no row, and spans count its bytes. Where a name is repeated that may not
+ * be, there are no rows.
+ *
+ * JX_OK, JX_NO_MEMORY, JX_DEPTH_TOO_GREAT or JX_UNKNOWN_FLAG. */
+uint32_t jx_rows_with(const uint8_t *text, size_t size, const jx_settings *settings, jx_row *rows, size_t room, size_t *count,
+                      jx_verdict *verdict);
+
 /* Kinds of verdicts on elements of sequences, besides those on texts. */
 enum {
     JX_MAY_BE_CUT = 4, /* a text that is a number, true, false or null with nothing behind it: perhaps a longer one was cut
@@ -151,7 +198,7 @@ enum {
 /* An element of a JSON text sequence. */
 typedef struct jx_element {
     jx_span span;       /* where it stands: from behind its record separator up to the next one or the end */
-    jx_verdict verdict; /* JX_ACCEPTED .. JX_UNMARKED; offsets count from the sequence's start */
+    jx_verdict verdict; /* JX_ACCEPTED .. JX_REPEATED_NAME; offsets count from the sequence's start */
 } jx_element;
 
 /* Tells all elements of a JSON text sequence (RFC 7464, section 2.1) in order, whatever each comes to: puts as many as there
@@ -162,6 +209,14 @@ typedef struct jx_element {
  * It takes memory in proportion to the count of elements and to the sizes of the first and the last one, and frees it.
  * JX_OK, JX_NO_MEMORY or JX_DEPTH_TOO_GREAT. */
 uint32_t jx_elements(const uint8_t *sequence, size_t size, uint32_t depth, jx_element *elements, size_t room, size_t *count);
+
+/* The same by settings. A mark is ignored where it stands alone before the first record separator, and is no element then;
+ * in an element it is refused with either flag. With JX_UNIQUE_NAMES an accepted element is refused for the first name that
+ * one of its objects repeats; each of them takes memory in proportion to its size, one after another.
+ *
+ * JX_OK, JX_NO_MEMORY, JX_DEPTH_TOO_GREAT or JX_UNKNOWN_FLAG. */
+uint32_t jx_elements_with(const uint8_t *sequence, size_t size, const jx_settings *settings, jx_element *elements, size_t room,
+                          size_t *count);
 
 /* The version: 10,000 times its first number, 100 times the second, and the third. 100 is 0.1.0. */
 uint32_t jx_version(void);

@@ -28,7 +28,7 @@ for compiler in gcc clang; do
         continue
     fi
     is_compiled=yes
-    for name in worked indexed sequences; do
+    for name in worked indexed sequences settings; do
         # All but the first refuse requests for memory.
         wrapped=
         if [ "$name" != worked ]; then wrapped=-Wl,--wrap=malloc,--wrap=realloc; fi

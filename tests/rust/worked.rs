@@ -1,6 +1,8 @@
 //! Reads the worked texts, each beginning of them, and each of these in slices of one byte.
 
-use jx::{check, elements, ElementVerdict, Reader, Refusal};
+use jx::{
+    check, elements, ElementVerdict, Fault, FindError, NoUniqueNames, Reader, Refusal, Settings,
+};
 
 struct Worked {
     line: usize,
@@ -126,6 +128,7 @@ fn wanted(bytes: &[u8], depth: u16, start: usize) -> ElementVerdict {
         Err(Refusal::Truncated) => ElementVerdict::Refused(Refusal::Truncated),
         Err(Refusal::Stopped { at }) => ElementVerdict::Refused(Refusal::Stopped { at: start + at }),
         Err(Refusal::TooDeep { at }) => ElementVerdict::Refused(Refusal::TooDeep { at: start + at }),
+        Err(Refusal::RepeatedName { .. }) => panic!("any names are accepted"),
     }
 }
 
@@ -153,4 +156,94 @@ fn each_beginning_is_an_element() {
 fn sequences_without_elements() {
     assert_eq!(elements(b"", jx::DEPTH), Ok(Vec::new()));
     assert_eq!(elements(b"\x1E\x1E", jx::DEPTH), Ok(Vec::new()));
+}
+
+const MARK: [u8; 3] = [0xEF, 0xBB, 0xBF];
+
+/// What bytes come to where a byte order mark is ignored, by what `check` tells of those behind it.
+fn behind_mark(text: &[u8], depth: u16) -> Result<(), Refusal> {
+    let agreed = text.iter().zip(MARK).take_while(|(a, b)| **a == *b).count();
+    let count = match agreed {
+        1 | 2 if agreed == text.len() => return Err(Refusal::Truncated),
+        1 | 2 => return Err(Refusal::Stopped { at: agreed }),
+        count => count,
+    };
+    check(&text[count..], depth).map_err(|refusal| match refusal {
+        Refusal::Stopped { at } => Refusal::Stopped { at: count + at },
+        Refusal::TooDeep { at } => Refusal::TooDeep { at: count + at },
+        other => other,
+    })
+}
+
+#[test]
+fn marks_may_be_cut() {
+    for one in worked() {
+        let settings = Settings {
+            depth: one.depth,
+            ignore_mark: true,
+            unique_names: false,
+        };
+        for text in [one.text.clone(), [&MARK, &one.text[..]].concat()] {
+            let mut reader = settings.reader().unwrap();
+            for end in 0..=text.len() {
+                let wanted = behind_mark(&text[..end], one.depth);
+                let told = settings.check(&text[..end]);
+                assert_eq!(told, wanted.map_err(Fault::Refused), "line {}", one.line);
+                assert_eq!(reader.verdict(), wanted, "line {}, {end} bytes", one.line);
+                if let Some(byte) = text.get(end) {
+                    reader.feed(&[*byte]).unwrap();
+                }
+            }
+        }
+    }
+}
+
+#[test]
+fn settings_that_are_the_default_change_nothing() {
+    for one in worked() {
+        let settings = Settings {
+            depth: one.depth,
+            ..Settings::default()
+        };
+        let told = settings.check(&one.text);
+        assert_eq!(told, one.wanted.map_err(Fault::Refused), "line {}", one.line);
+        assert_eq!(settings.rows(&one.text), jx::rows(&one.text, one.depth));
+        assert_eq!(settings.find(&one.text, ""), jx::find(&one.text, "", one.depth));
+        let reader = settings.reader().unwrap();
+        assert_eq!(reader.verdict(), Err(Refusal::Truncated));
+    }
+}
+
+#[test]
+fn names_are_compared_by_value() {
+    let settings = Settings {
+        ignore_mark: true,
+        unique_names: true,
+        ..Settings::default()
+    };
+    let repeated = Refusal::RepeatedName { at: 10 };
+    let text = b"\xEF\xBB\xBF{\"a\":1,\"\\u0061\":2}";
+    assert_eq!(settings.check(text), Err(Fault::Refused(repeated)));
+    assert_eq!(settings.rows(text), Err(Fault::Refused(repeated)));
+    assert_eq!(settings.find(text, "/a"), Err(FindError::Refused(repeated)));
+    assert_eq!(settings.reader().map(|_| ()), Err(NoUniqueNames));
+    let text = b"\xEF\xBB\xBF[{\"a\":1},{\"a\":2}]";
+    assert_eq!(settings.check(text), Ok(()));
+    assert_eq!(settings.rows(text).unwrap()[0].span, 3..20);
+    assert_eq!(settings.find(text, "/1/a").unwrap().span, 17..18);
+}
+
+#[test]
+fn a_mark_alone_is_no_element() {
+    let settings = Settings {
+        ignore_mark: true,
+        unique_names: true,
+        ..Settings::default()
+    };
+    let sequence = b"\xEF\xBB\xBF\x1E{\"a\":1,\"a\":2}\n\x1E[]";
+    let all = settings.elements(sequence).unwrap();
+    let found: Vec<_> = all.iter().map(|e| (e.span.clone(), e.verdict)).collect();
+    let repeated = ElementVerdict::Refused(Refusal::RepeatedName { at: 11 });
+    assert_eq!(found, [(4..18, repeated), (19..21, ElementVerdict::Accepted)]);
+    assert_eq!(elements(sequence, jx::DEPTH).unwrap().len(), 3);
 }

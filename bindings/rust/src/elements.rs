@@ -1,5 +1,6 @@
 use crate::raw;
 use crate::refusal::Refusal;
+use crate::settings::Settings;
 use std::error::Error;
 use std::fmt;
 use std::ops::Range;
@@ -53,14 +54,18 @@ impl fmt::Display for OutOfMemory {
 impl Error for OutOfMemory {}
 
 /// Fills a buffer; gives how many elements there are.
-fn fill(sequence: &[u8], depth: u16, buffer: &mut [raw::Element]) -> Result<usize, OutOfMemory> {
+fn fill(
+    sequence: &[u8],
+    settings: &Settings,
+    buffer: &mut [raw::Element],
+) -> Result<usize, OutOfMemory> {
     let mut count = 0;
     // SAFETY: each pointer and size are those of one slice, and all are borrowed for the call alone.
     let status = unsafe {
-        raw::jx_elements(
+        raw::jx_elements_with(
             sequence.as_ptr(),
             sequence.len(),
-            depth.into(),
+            &settings.raw(),
             buffer.as_mut_ptr(),
             buffer.len(),
             &mut count,
@@ -87,6 +92,14 @@ fn fill(sequence: &[u8], depth: u16, buffer: &mut [raw::Element]) -> Result<usiz
 /// # Ok::<(), jx::OutOfMemory>(())
 /// ```
 pub fn elements(sequence: &[u8], depth: u16) -> Result<Vec<Element>, OutOfMemory> {
+    elements_with(sequence, &Settings::of_depth(depth))
+}
+
+/// The same by settings.
+pub(crate) fn elements_with(
+    sequence: &[u8],
+    settings: &Settings,
+) -> Result<Vec<Element>, OutOfMemory> {
     // An element needs a record separator, but for one: there is room for all of them.
     let marks = sequence.iter().filter(|byte| **byte == 0x1E).count();
     let mut buffer = Vec::new();
@@ -94,7 +107,7 @@ pub fn elements(sequence: &[u8], depth: u16) -> Result<Vec<Element>, OutOfMemory
         .try_reserve_exact(marks + 1)
         .map_err(|_| OutOfMemory)?;
     buffer.resize(marks + 1, raw::Element::default());
-    let count = fill(sequence, depth, &mut buffer)?;
+    let count = fill(sequence, settings, &mut buffer)?;
     let found = buffer[..count].iter();
     Ok(found
         .map(|element| Element {

@@ -2,7 +2,7 @@ use crate::refusal::Refusal;
 use std::error::Error;
 use std::fmt;
 
-/// Why a text has no rows.
+/// Why bytes were not accepted by a call that may take memory.
 #[derive(Clone, Copy, Debug, PartialEq, Eq, Hash)]
 pub enum Fault {
     /// A growth of memory was refused.

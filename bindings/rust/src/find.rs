@@ -1,6 +1,7 @@
 use crate::raw;
 use crate::refusal::Refusal;
 use crate::rows::Kind;
+use crate::settings::Settings;
 use std::error::Error;
 use std::fmt;
 use std::ops::Range;
@@ -99,15 +100,24 @@ impl Error for FindError {
 /// # Ok::<(), FindError>(())
 /// ```
 pub fn find(text: &[u8], pointer: &str, depth: u16) -> Result<Found, FindError> {
+    find_with(text, pointer, &Settings::of_depth(depth))
+}
+
+/// The same by settings.
+pub(crate) fn find_with(
+    text: &[u8],
+    pointer: &str,
+    settings: &Settings,
+) -> Result<Found, FindError> {
     let mut answer = raw::Answer::default();
     // SAFETY: each pointer and size are those of one slice, and all are borrowed for the call alone.
     let status = unsafe {
-        raw::jx_at(
+        raw::jx_at_with(
             text.as_ptr(),
             text.len(),
             pointer.as_ptr(),
             pointer.len(),
-            depth.into(),
+            &settings.raw(),
             &mut answer,
         )
     };
@@ -132,6 +142,7 @@ pub fn find(text: &[u8], pointer: &str, depth: u16) -> Result<Found, FindError> 
         9 => unreachable!("a str is in UTF-8"),
         10 => Err(FindError::Refused(Refusal::Stopped { at })),
         11 => Err(FindError::Refused(Refusal::Truncated)),
-        _ => Err(FindError::Refused(Refusal::TooDeep { at })),
+        12 => Err(FindError::Refused(Refusal::TooDeep { at })),
+        _ => Err(FindError::Refused(Refusal::RepeatedName { at })),
     }
 }

@@ -6,8 +6,8 @@
 //! ```
 //!
 //! Offsets count bytes from the text's start. A depth is how many containers may stand open at once: that of a scalar is 0,
-//! and that of a container one more than that of its deepest child. [`check`]
-//! and [`Reader`] take no memory; nothing starts a thread.
+//! and that of a container one more than that of its deepest child. [`Settings`] say more than a depth. [`check`] and
+//! [`Reader`] take no memory; nothing starts a thread.
 
 #![deny(missing_docs, unsafe_op_in_unsafe_fn)]
 
@@ -18,6 +18,7 @@ mod raw;
 mod reader;
 mod refusal;
 mod rows;
+mod settings;
 
 pub use elements::{elements, Element, ElementVerdict, OutOfMemory};
 pub use fault::Fault;
@@ -25,6 +26,7 @@ pub use find::{find, FindError, Found};
 pub use reader::{Reader, TooManyBytes};
 pub use refusal::Refusal;
 pub use rows::{rows, Kind, Row};
+pub use settings::{NoUniqueNames, Settings};
 
 /// The depth that the program `jx` takes where none is named.
 pub const DEPTH: u16 = 512;

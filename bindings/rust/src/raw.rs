@@ -7,6 +7,13 @@ pub struct Verdict {
     pub kind: u32,
 }
 
+#[repr(C)]
+#[derive(Clone, Copy)]
+pub struct Settings {
+    pub depth: u32,
+    pub flags: u32,
+}
+
 /// The words are the library's alone.
 #[repr(C)]
 #[derive(Clone)]
@@ -50,6 +57,10 @@ pub struct Element {
 pub const OK: u32 = 0;
 pub const NO_MEMORY: u32 = 1;
 pub const TOO_MANY_BYTES: u32 = 4;
+pub const NO_UNIQUE_NAMES: u32 = 6;
+
+pub const IGNORE_MARK: u32 = 1;
+pub const UNIQUE_NAMES: u32 = 2;
 
 pub const ACCEPTED: u32 = 0;
 pub const STOPPED: u32 = 1;
@@ -57,36 +68,44 @@ pub const TRUNCATED: u32 = 2;
 pub const TOO_DEEP: u32 = 3;
 pub const MAY_BE_CUT: u32 = 4;
 pub const UNMARKED: u32 = 5;
+pub const REPEATED_NAME: u32 = 6;
 
 extern "C" {
     pub fn jx_check(text: *const u8, size: usize, depth: u32, verdict: *mut Verdict) -> u32;
-    pub fn jx_at(
+    pub fn jx_check_with(
+        text: *const u8,
+        size: usize,
+        settings: *const Settings,
+        verdict: *mut Verdict,
+    ) -> u32;
+    pub fn jx_at_with(
         text: *const u8,
         size: usize,
         pointer: *const u8,
         pointer_size: usize,
-        depth: u32,
+        settings: *const Settings,
         answer: *mut Answer,
     ) -> u32;
-    pub fn jx_rows(
+    pub fn jx_rows_with(
         text: *const u8,
         size: usize,
-        depth: u32,
+        settings: *const Settings,
         rows: *mut Row,
         room: usize,
         count: *mut usize,
         verdict: *mut Verdict,
     ) -> u32;
-    pub fn jx_elements(
+    pub fn jx_elements_with(
         sequence: *const u8,
         size: usize,
-        depth: u32,
+        settings: *const Settings,
         elements: *mut Element,
         room: usize,
         count: *mut usize,
     ) -> u32;
     pub fn jx_version() -> u32;
     pub fn jx_reader_start(reader: *mut Reader, depth: u32) -> u32;
+    pub fn jx_reader_start_with(reader: *mut Reader, settings: *const Settings) -> u32;
     pub fn jx_reader_feed(reader: *mut Reader, bytes: *const u8, size: usize) -> u32;
     pub fn jx_reader_verdict(reader: *const Reader, verdict: *mut Verdict) -> u32;
 }

@@ -1,5 +1,6 @@
 use crate::raw;
 use crate::refusal::Refusal;
+use crate::settings::{NoUniqueNames, Settings};
 use std::error::Error;
 use std::fmt;
 use std::io;
@@ -55,7 +56,22 @@ impl Reader {
         reader
     }
 
-    /// Begins another text.
+    /// A reader at the start of a text by settings.
+    pub(crate) fn with(settings: &Settings) -> Result<Reader, NoUniqueNames> {
+        let mut reader = Reader {
+            raw: raw::Reader { words: [0; 1031] },
+        };
+        // SAFETY: both are borrowed for the call alone; whatever stands in the reader may stand there.
+        match unsafe { raw::jx_reader_start_with(&mut reader.raw, &settings.raw()) } {
+            raw::NO_UNIQUE_NAMES => Err(NoUniqueNames),
+            status => {
+                debug_assert_eq!(status, raw::OK);
+                Ok(reader)
+            }
+        }
+    }
+
+    /// Begins another text, of which a byte order mark is no part.
     ///
     /// ```
     /// let mut reader = jx::Reader::new(jx::DEPTH);
@@ -84,7 +100,8 @@ impl Reader {
         }
     }
 
-    /// The verdict on all bytes that it was fed, as one text: the same as [`check`](crate::check) tells. It may be fed on.
+    /// The verdict on all bytes that it was fed, as one text: the same as [`check`](crate::check) tells, or
+    /// [`Settings::check`] where [`Settings::reader`] made it. It may be fed on.
     pub fn verdict(&self) -> Result<(), Refusal> {
         let mut verdict = raw::Verdict {
             offset: 0,

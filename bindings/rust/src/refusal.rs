@@ -17,6 +17,12 @@ pub enum Refusal {
         /// The offset of the byte.
         at: usize,
     },
+    /// The name there is that of an earlier member of its object. Only [`Settings`](crate::Settings) that ask for unique names
+    /// refuse a text for one.
+    RepeatedName {
+        /// The offset of the name's quotation mark.
+        at: usize,
+    },
 }
 
 impl Refusal {
@@ -25,6 +31,7 @@ impl Refusal {
             raw::ACCEPTED => Ok(()),
             raw::STOPPED => Err(Refusal::Stopped { at: verdict.offset }),
             raw::TOO_DEEP => Err(Refusal::TooDeep { at: verdict.offset }),
+            raw::REPEATED_NAME => Err(Refusal::RepeatedName { at: verdict.offset }),
             _ => Err(Refusal::Truncated),
         }
     }
@@ -36,6 +43,7 @@ impl fmt::Display for Refusal {
             Refusal::Stopped { at } => write!(f, "stopped at {at}"),
             Refusal::Truncated => f.write_str("truncated"),
             Refusal::TooDeep { at } => write!(f, "too deep at {at}"),
+            Refusal::RepeatedName { at } => write!(f, "repeated name at {at}"),
         }
     }
 }

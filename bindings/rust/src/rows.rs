@@ -1,6 +1,7 @@
 use crate::fault::Fault;
 use crate::raw;
 use crate::refusal::Refusal;
+use crate::settings::Settings;
 use std::ops::Range;
 
 /// What a value is (RFC 8259, section 3).
@@ -58,7 +59,7 @@ impl Row {
 }
 
 /// Fills a buffer; gives how many rows there are.
-fn fill(text: &[u8], depth: u16, buffer: &mut [raw::Row]) -> Result<usize, Fault> {
+fn fill(text: &[u8], settings: &Settings, buffer: &mut [raw::Row]) -> Result<usize, Fault> {
     let mut count = 0;
     let mut verdict = raw::Verdict {
         offset: 0,
@@ -66,10 +67,10 @@ fn fill(text: &[u8], depth: u16, buffer: &mut [raw::Row]) -> Result<usize, Fault
     };
     // SAFETY: each pointer and size are those of one slice, and all are borrowed for the call alone.
     let status = unsafe {
-        raw::jx_rows(
+        raw::jx_rows_with(
             text.as_ptr(),
             text.len(),
-            depth.into(),
+            &settings.raw(),
             buffer.as_mut_ptr(),
             buffer.len(),
             &mut count,
@@ -101,6 +102,11 @@ fn fill(text: &[u8], depth: u16, buffer: &mut [raw::Row]) -> Result<usize, Fault
 /// # Ok::<(), jx::Fault>(())
 /// ```
 pub fn rows(text: &[u8], depth: u16) -> Result<Vec<Row>, Fault> {
+    rows_with(text, &Settings::of_depth(depth))
+}
+
+/// The same by settings.
+pub(crate) fn rows_with(text: &[u8], settings: &Settings) -> Result<Vec<Row>, Fault> {
     // The text is read again where there are more rows than room: in most texts a value takes eight bytes and more.
     let mut buffer = Vec::new();
     let mut room = text.len() / 8 + 1;
@@ -109,7 +115,7 @@ pub fn rows(text: &[u8], depth: u16) -> Result<Vec<Row>, Fault> {
             .try_reserve_exact(room)
             .map_err(|_| Fault::OutOfMemory)?;
         buffer.resize(room, raw::Row::default());
-        let count = fill(text, depth, &mut buffer)?;
+        let count = fill(text, settings, &mut buffer)?;
         if count <= room {
             return Ok(buffer[..count].iter().map(Row::of).collect());
         }

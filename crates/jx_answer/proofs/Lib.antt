@@ -2,6 +2,7 @@ mod ByNames
 mod Fronts
 mod InPlace
 mod MarksAlone
+mod OneAnswer
 mod Ones
 mod Placed
 mod Pushing

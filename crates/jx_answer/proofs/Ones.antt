@@ -1,11 +1,12 @@
 -- The definitions of the answers leave no choice, where a text has one tree and one verdict.
-use Rattle.std.proofs.Common.{◌≡◌, ℕ, List, [], ◌∷◌, refl, sym, ap, subst, ◌∙◌, arith}
+use Rattle.std.proofs.Common.{◌≡◌, ℕ, List, [], ◌∷◌, map, refl, sym, ap, subst, ◌∙◌, arith}
 use Rattle.std.specs.List.{AllZip}
 use Rattle.jx_lex.specs.declared.span.Span.{Span}
 use Rattle.jx_run.specs.declared.verdict.Verdict.{Verdict}
 use Rattle.jx_run.specs.declared.verdict.Verdict.TheVariants.{Accepted, Refused}
 use Rattle.jx_run.specs.declared.verdict.Refusal.{Refusal}
 use Rattle.jx_run.specs.declared.settings.Settings.{Settings}
+use Rattle.jx_run.specs.declared.element_verdict.JudgedElement.{JudgedElement}
 use Rattle.jx_run.specs.Elements.{Part, elements}
 use Rattle.jx_run.specs.Text.{IsDocument}
 use Rattle.jx_run.specs.Tree.{Tree}
@@ -20,18 +21,18 @@ use Rattle.jx_answer.specs.declared.text_answer.TextAnswer.TheVariants as answer
 use Rattle.jx_run.specs.Unclosed.{EndsUnclosed, end_of}
 use Rattle.jx_answer.specs.Answers.{IsAnswer}
 use Rattle.jx_answer.specs.ByNames.{IsByNames}
-use Rattle.jx_answer.specs.Sequence.{IsElementAnswer, IsElementIndex, IsElement, AreElements}
-use Rattle.jx_answer.specs.Settled.{AreElementsBy, IsElementBy, elements_by}
+use Rattle.jx_answer.specs.Sequence.{IsElementAnswer, IsElementIndex, IsElement, AreElements, AreJudged, judged}
+use Rattle.jx_answer.specs.Settled.{AreElementsBy, AreJudgedBy, IsElementBy, IsJudgedBy, elements_by}
 use Rattle.jx_answer.proofs.ByNames.{one_by_names}
 
-same_index : (x y : IndexedValue) → x.text ≡ y.text → x.place ≡ y.place → x.rows ≡ y.rows → x ≡ y
+pub same_index : (x y : IndexedValue) → x.text ≡ y.text → x.place ≡ y.place → x.rows ≡ y.rows → x ≡ y
 same_index x y e f g =
     ap (λ t. record x { text = t }) e ∙ ap (λ p. record x { text = y.text; place = p }) f ∙ ap (λ r. record y { rows = r }) g
 
-same_refusal : (r s : Refusal) → Refused r ≡ Refused s → r ≡ s
+pub same_refusal : (r s : Refusal) → Refused r ≡ Refused s → r ≡ s
 same_refusal r s e = cc
 
-not_both : {A : Type 0} (r : Refusal) → Accepted ≡ Refused r → A
+pub not_both : {A : Type 0} (r : Refusal) → Accepted ≡ Refused r → A
 not_both r e = absurd (cc)
 
 zip_one : {A B : Type 0} (R : A → B → Type 0) → ((a : A) (x y : B) → R a x → R a y → x ≡ y) → (ps : List A) (xs ys : List B) → AllZip R ps xs → AllZip R ps ys → xs ≡ ys
@@ -90,6 +91,9 @@ module _ (one_tree : (at limit : ℕ) (bytes : List ℕ) (x y : Tree) → IsDocu
     pub one_elements : (xs ys : List Element) → AreElements input limit xs → AreElements input limit ys → xs ≡ ys
     one_elements xs ys h k = zip_one (IsElement input limit) one_element (elements 0 input) xs ys h k
 
+    pub one_judged : (xs ys : List JudgedElement) → AreJudged input limit xs → AreJudged input limit ys → xs ≡ ys
+    one_judged xs ys h k = sym h.less ∙ ap (map judged) (one_elements h.answers k.answers h.are k.are) ∙ k.less
+
   module _ (settings : Settings) (input : List ℕ) where
     one_element_by : (p : Part) (x y : Element) → IsElementBy settings input p x → IsElementBy settings input p y → x ≡ y
     one_element_by p x y h k =
@@ -99,3 +103,9 @@ module _ (one_tree : (at limit : ℕ) (bytes : List ℕ) (x y : Tree) → IsDocu
 
     pub one_elements_by : (xs ys : List Element) → AreElementsBy settings input xs → AreElementsBy settings input ys → xs ≡ ys
     one_elements_by xs ys h k = zip_one (IsElementBy settings input) one_element_by (elements_by settings.mark input) xs ys h k
+
+    one_judged_by : (p : Part) (x y : JudgedElement) → IsJudgedBy settings input p x → IsJudgedBy settings input p y → x ≡ y
+    one_judged_by p x y h k = sym h.less ∙ ap judged (one_element_by p h.answer k.answer h.is k.is) ∙ k.less
+
+    pub all_judged_by : (xs ys : List JudgedElement) → AreJudgedBy settings input xs → AreJudgedBy settings input ys → xs ≡ ys
+    all_judged_by xs ys h k = zip_one (IsJudgedBy settings input) one_judged_by (elements_by settings.mark input) xs ys h k

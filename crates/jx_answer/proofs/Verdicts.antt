@@ -255,3 +255,11 @@ module _ (settings : Settings) (input : List ℕ) (p : Part) (j : JudgedElement)
 
   pub has_text : j.verdict ≡ verdict.Accepted → (tree : Tree) × IsText input j.span.start j.span.end settings.depth tree
   has_text e = let x = is_accepted e in (x.is_index.tree, there x.is_index.tree x.is_index.accepted)
+
+-- where any names are allowed the rule refuses none
+pub by_any : (settings : Settings) (input : List ℕ) (ps : List Part) (js : List JudgedElement) → settings.names ≡ Any → AllZip (IsJudgedIn input settings.depth) ps js
+    → AllZip (IsJudgedBy settings input) ps js
+by_any settings input [] [] e z = tt
+by_any settings input [] (j ∷ js) e z = absurd z
+by_any settings input (p ∷ ps) [] e z = absurd z
+by_any settings input (p ∷ ps) (j ∷ js) e z = (left_so settings input p j z.0 (λ both. let same : Any ≡ Unique = sym e ∙ both.0 in absurd (cc)), by_any settings input ps js e z.1)

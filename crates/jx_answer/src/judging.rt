@@ -11,8 +11,8 @@ ghost use Rattle.jx_answer.specs.Pushed.{IsJudgedIn};
 ghost use Rattle.jx_answer.specs.Sequence.{AreJudged, AreJudgedAs};
 ghost use Rattle.jx_answer.specs.Settled.{AreJudgedBy, IsJudgedBy, elements_by};
 
+use crate::batches::without_mark;
 use crate::fault::Fault;
-use crate::sequences::is_mark_alone;
 use crate::texts::read_text;
 use jx_book::Gate;
 use jx_claim::{Cutting, Workers};
@@ -20,6 +20,7 @@ use jx_index::Indexed;
 use jx_lex::{Depth, Span};
 use jx_run::{
     ElementVerdict, ElementsRun, FrontMark, JudgedElement, NameRule, NoPause, Refusal, Settings,
+    front,
 };
 use std::alloc::{AllocError, Global};
 use std::sync::Wait;
@@ -86,7 +87,7 @@ fn judge_by_mark<R: Threads + Wait + Sync, G: Gate + Sync>(
     let elements = judge_sequence(rt, alloc, text, cutting, workers, settings.depth, gate)?;
     match settings.mark {
         FrontMark::Refused => Ok(elements),
-        FrontMark::Ignored => Ok(without_mark(text, elements)),
+        FrontMark::Ignored => Ok(without_mark(front(text, FrontMark::Ignored), elements)),
     }
 }
 
@@ -163,19 +164,4 @@ fn repeated_name(
         Ok(index) => Ok(index.repeated()),
         Err(_) => unreachable!(),
     }
-}
-
-// The answers without that on a byte order mark alone, before the first record separator.
-fn without_mark(text: &[u8], mut elements: Vec<JudgedElement>) -> Vec<JudgedElement>
-    requires elements { (limit : ℕ) × AreJudged text.now limit elements.items }
-    ensures elements { (limit : ℕ) → AreJudged text.now limit elements.items → AreJudgedAs (elements_by FrontMark.Ignored text.now) text.now limit result.items }
-{
-    if elements.is_empty() {
-        return elements;
-    }
-    if !is_mark_alone(text, elements[0].span) {
-        return elements;
-    }
-    elements.remove(0);
-    elements
 }

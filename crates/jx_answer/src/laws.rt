@@ -1,4 +1,5 @@
 ghost use Rattle.std.specs.Prelude.{◌≡◌, ◌↔◌, ℕ, List};
+ghost use Rattle.jx_run.specs.declared.element_verdict.JudgedElement.{JudgedElement};
 ghost use Rattle.jx_run.specs.declared.settings.FrontMark.TheVariants.{Refused};
 ghost use Rattle.jx_run.specs.declared.settings.NameRule.TheVariants.{Any};
 ghost use Rattle.jx_run.specs.declared.settings.Settings.{Settings};
@@ -7,8 +8,8 @@ ghost use Rattle.jx_run.specs.Elements.{Part};
 ghost use Rattle.jx_run.specs.Settings.{JudgedBy};
 ghost use Rattle.jx_answer.specs.Answers.{IsAnswer};
 ghost use Rattle.jx_answer.specs.ByNames.{IsVerdictBy};
-ghost use Rattle.jx_answer.specs.Sequence.{AreElements, IsElement};
-ghost use Rattle.jx_answer.specs.Settled.{AreElementsBy, IsAnswerBy, IsElementBy};
+ghost use Rattle.jx_answer.specs.Sequence.{AreElements, AreJudged, IsElement};
+ghost use Rattle.jx_answer.specs.Settled.{AreElementsBy, AreJudgedBy, IsAnswerBy, IsElementBy};
 ghost use Rattle.jx_answer.specs.declared.element.Element.{Element};
 ghost use Rattle.jx_answer.specs.declared.text_answer.TextAnswer.{TextAnswer};
 
@@ -27,9 +28,26 @@ pub fn answers_are_one()
     verdict_is_one();
 }
 
+/// A text has one answer by settings, in the verdict and in each row.
+pub fn answers_by_settings_are_one()
+    ensures text { (settings : Settings) (bytes : List ℕ) (x y : TextAnswer) → IsAnswerBy settings bytes x → IsAnswerBy settings bytes y → x ≡ y }
+{
+    text_by_settings_has_one_tree();
+    verdict_by_settings_is_one();
+}
+
 /// An input has one list of elements by settings.
 pub fn elements_by_settings_are_one()
     ensures elements { (settings : Settings) (input : List ℕ) (xs ys : List Element) → AreElementsBy settings input xs → AreElementsBy settings input ys → xs ≡ ys }
+{
+    text_has_one_tree();
+    verdict_is_one();
+}
+
+/// An input has one list of verdicts on its elements, within a depth as by settings.
+pub fn verdicts_on_elements_are_one()
+    ensures within_a_depth { (input : List ℕ) (depth : ℕ) (xs ys : List JudgedElement) → AreJudged input depth xs → AreJudged input depth ys → xs ≡ ys }
+    ensures by_settings { (settings : Settings) (input : List ℕ) (xs ys : List JudgedElement) → AreJudgedBy settings input xs → AreJudgedBy settings input ys → xs ≡ ys }
 {
     text_has_one_tree();
     verdict_is_one();

@@ -11,6 +11,7 @@ ghost use Rattle.jx_answer.specs.Sequence.{AreElements, IsElement, IsElementAnsw
 ghost use Rattle.jx_answer.specs.Settled.{AreElementsBy, elements_by, is_mark_alone};
 ghost use Rattle.jx_answer.specs.Pushed.{IsReadable, IsShown, PushesEach, PushesFilled, part_of, unmarked};
 
+use crate::batches::is_mark_there;
 use crate::by_names::elements_by_names;
 use crate::element::{Element, ElementAnswer};
 use crate::fault::Fault;
@@ -19,9 +20,7 @@ use jx_book::Gate;
 use jx_claim::{Cutting, Workers};
 use jx_index::Indexed;
 use jx_lex::{Depth, Kind, Span};
-use jx_run::{
-    Front, FrontMark, SeqRun, Settings, Shape, Started, Summary, TextRun, Verdict, front,
-};
+use jx_run::{FrontMark, SeqRun, Settings, Shape, Started, Summary, TextRun, Verdict, front};
 use std::alloc::{AllocError, Global};
 use std::sync::Wait;
 use std::thread::Threads;
@@ -108,17 +107,11 @@ fn without_mark<'a>(text: &[u8], mut elements: Vec<Element<'a>>) -> Vec<Element<
 }
 
 // Whether a part of the text stands at its start and is just the byte order mark.
-pub(crate) fn is_mark_alone(text: &[u8], span: Span) -> bool
+fn is_mark_alone(text: &[u8], span: Span) -> bool
     requires within { span.end ≤ length text.now }
     ensures alone { result ≡ is_mark_alone (part_of text.now span) }
 {
-    if span.start != 0 || span.end != 3 {
-        return false;
-    }
-    match front(text, FrontMark::Ignored) {
-        Front::Skip(count) => count == 3,
-        Front::Refused(_) => false,
-    }
+    is_mark_there(front(text, FrontMark::Ignored), span)
 }
 
 // The answers that a run over the whole input gives.

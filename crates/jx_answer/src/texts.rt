@@ -29,7 +29,9 @@ use std::thread::Threads;
 
 /// Reads a JSON text (RFC 8259) by that many workers, who draw the pieces of the cutting, and indexes it where it is
 /// accepted. It may wait for the workers. The gate is asked after each step of a worker; what workers that it stopped
-/// left is read by the calling thread. Only want of memory is a fault.
+/// left is read by the calling thread. One worker alone starts no thread: the calling thread reads piece by piece, and asks
+/// the gate as each begins, until it says stop. A cutting of at most one piece starts no worker and asks no gate. Only want
+/// of memory is a fault.
 pub fn index_text<'a, R: Threads + Wait + Sync, G: Gate + Sync>(
     rt: &R,
     alloc: Global,

@@ -5,7 +5,10 @@ mod reading;
 mod task;
 
 use anyhow::{Context, Result};
-use reading::{PIECE, marks_by_map, marks_by_step, reading_of, rows_of, runs_of_pieces};
+use reading::{
+    PIECE, marks_by_map, marks_by_step, marks_over_stack, marks_reduced, outcomes_of_pieces,
+    reading_of, rows_of, runs_of_pieces,
+};
 use std::alloc::Global;
 use std::time::{Duration, Instant};
 use std::{env, fs};
@@ -14,7 +17,7 @@ use task::Task;
 /// How often the text is read: the least time counts.
 const ROUNDS: usize = 5;
 
-const USAGE: &str = "usage: jx_bench steps|maps|runs|reading|rows FILE";
+const USAGE: &str = "usage: jx_bench steps|maps|runs|outcomes|stack|structures|reading|rows FILE";
 
 /// What one round took, and how many marks, runs or rows it found.
 #[derive(Clone, Copy)]
@@ -30,6 +33,9 @@ fn timed(rt: &HostRuntime, task: Task, text: &[u8]) -> Result<Round> {
         Task::Steps => marks_by_step(text),
         Task::Maps => marks_by_map(alloc, text)?,
         Task::Runs => runs_of_pieces(alloc, text)?,
+        Task::Outcomes => outcomes_of_pieces(alloc, text)?,
+        Task::Stack => return timed_marks(rt, text, false),
+        Task::Structures => return timed_marks(rt, text, true),
         Task::Reading => reading_of(alloc, text)?.marks().len() as u64,
         Task::Rows => return timed_rows(rt, text),
     };
@@ -44,6 +50,21 @@ fn timed_rows(rt: &HostRuntime, text: &[u8]) -> Result<Round> {
     let started = reading_of(rt.alloc(), text)?;
     let start = Instant::now(rt)?;
     let found = rows_of(rt.alloc(), text, &started)?;
+    Ok(Round {
+        time: start.elapsed(rt)?,
+        found,
+    })
+}
+
+// What the marks come to, alone, over one stack or from every entry: they are read before the clock starts.
+fn timed_marks(rt: &HostRuntime, text: &[u8], reduced: bool) -> Result<Round> {
+    let started = reading_of(rt.alloc(), text)?;
+    let start = Instant::now(rt)?;
+    let found = if reduced {
+        marks_reduced(rt.alloc(), &started)?
+    } else {
+        marks_over_stack(rt.alloc(), &started)?
+    };
     Ok(Round {
         time: start.elapsed(rt)?,
         found,

@@ -5,7 +5,8 @@ ghost use Rattle.jx_run.specs.Tree.{span};
 
 use jx_index::Indexed;
 use jx_lex::{ChunkMap, Depth, LexState, step};
-use jx_run::{Started, Summary, TextRun, Verdict};
+use jx_reduce::{KnownStack, Reducer};
+use jx_run::{OutcomeRun, Started, Summary, TextRun, Verdict};
 use std::alloc::{AllocError, Global};
 
 /// The bytes of a piece, as `jx` cuts a text where it is told nothing else.
@@ -50,6 +51,39 @@ pub fn runs_of_pieces(alloc: Global, text: &[u8]) -> Result<u64, AllocError> {
         }
     }
     Ok(runs)
+}
+
+/// Makes the outcome run of each piece of the text, and counts those that are texts.
+pub fn outcomes_of_pieces(alloc: Global, text: &[u8]) -> Result<u64, AllocError> {
+    let mut texts = 0u64;
+    for piece in text.chunks(PIECE) {
+        let run = OutcomeRun::of(alloc, piece, 0, piece.len(), Depth::default())?;
+        if run.verdict() == Verdict::Accepted {
+            texts = texts.wrapping_add(1);
+        }
+    }
+    Ok(texts)
+}
+
+/// Follows the marks of a text over one stack of open containers, and counts them.
+pub fn marks_over_stack(alloc: Global, started: &Started) -> Result<u64, AllocError> {
+    let mut stack = KnownStack::new(alloc, Depth::default());
+    stack.push_all(started.marks())?;
+    Ok(if stack.is_done() {
+        0
+    } else {
+        started.marks().len() as u64
+    })
+}
+
+/// Reduces the marks of a text as if nothing were known of where they begin, and counts them.
+pub fn marks_reduced(alloc: Global, started: &Started) -> Result<u64, AllocError> {
+    let mut reducer = Reducer::new(alloc, Depth::default());
+    for mark in started.marks() {
+        reducer.push(*mark)?;
+    }
+    let _ = reducer.finish()?;
+    Ok(started.marks().len() as u64)
 }
 
 /// The reading of the whole text as one run.

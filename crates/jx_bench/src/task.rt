@@ -1,5 +1,5 @@
 ghost use Rattle.std.specs.Prelude.{◌≡◌, ◌↔◌, Some, codes};
-ghost use Rattle.jx_bench.specs.declared.task.Task.TheVariants.{Steps, Maps, Runs, Reading, Rows};
+ghost use Rattle.jx_bench.specs.declared.task.Task.TheVariants.{Steps, Maps, Runs, Outcomes, Stack, Structures, Reading, Rows};
 
 /// What is measured.
 #[derive(Clone, Copy, Debug)]
@@ -10,6 +10,12 @@ pub enum Task {
     Maps,
     /// Text runs of pieces one after another: their maps, and what the marks come to.
     Runs,
+    /// Outcome runs of pieces one after another: what their marks come to, which aren't kept.
+    Outcomes,
+    /// The marks of a text's reading over one stack of open containers, from its start.
+    Stack,
+    /// The structure of the same marks, given one by one.
+    Structures,
     /// The reading of a text from its start, as one run, with its marks and ends.
     Reading,
     /// The rows of a text, from the marks and ends of its reading.
@@ -22,6 +28,9 @@ impl Task {
         ensures steps { (result ≡ Some Steps) ↔ (name.now ≡ codes "steps") }
         ensures maps { (result ≡ Some Maps) ↔ (name.now ≡ codes "maps") }
         ensures runs { (result ≡ Some Runs) ↔ (name.now ≡ codes "runs") }
+        ensures outcomes { (result ≡ Some Outcomes) ↔ (name.now ≡ codes "outcomes") }
+        ensures stack { (result ≡ Some Stack) ↔ (name.now ≡ codes "stack") }
+        ensures structures { (result ≡ Some Structures) ↔ (name.now ≡ codes "structures") }
         ensures reading { (result ≡ Some Reading) ↔ (name.now ≡ codes "reading") }
         ensures rows { (result ≡ Some Rows) ↔ (name.now ≡ codes "rows") }
     {
@@ -29,6 +38,9 @@ impl Task {
             "steps" => Some(Task::Steps),
             "maps" => Some(Task::Maps),
             "runs" => Some(Task::Runs),
+            "outcomes" => Some(Task::Outcomes),
+            "stack" => Some(Task::Stack),
+            "structures" => Some(Task::Structures),
             "reading" => Some(Task::Reading),
             "rows" => Some(Task::Rows),
             _ => None,

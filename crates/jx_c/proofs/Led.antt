@@ -1,5 +1,5 @@
 -- The row that a look-up ends at shows the kind and span of the node that the tokens lead to.
-use Rattle.std.proofs.Common.{◌≡◌, ℕ, List, Some, Result, Ok, Err, refl, sym, ap, ◌∙◌}
+use Rattle.std.proofs.Common.{◌≡◌, ℕ, List, Some, None, Result, Ok, Err, refl, sym, ap, ◌∙◌}
 use Rattle.std.specs.Prelude.{slice_get}
 use Rattle.jx_run.specs.Text.{IsDocument}
 use Rattle.jx_run.specs.Tree.{Tree}
@@ -8,7 +8,11 @@ use Rattle.jx_index.specs.declared.row.Row.{Row}
 use Rattle.jx_index.specs.Leads.{Numbered, HasRow, led, leads, number_of}
 use Rattle.jx_index.specs.Pointers.{tokens}
 use Rattle.jx_index.specs.Rows.{rows}
+use Rattle.jx_run.specs.declared.settings.Settings.{Settings}
+use Rattle.jx_run.specs.Settings.{IsDocumentBy}
+use Rattle.jx_c.specs.ByNames.{RefusesName}
 use Rattle.jx_c.specs.LookUps.{IsFoundIn, IsLed, IsLookUp}
+use Rattle.jx_c.specs.Settled.{IsLookUpBy}
 use Rattle.jx_c.specs.declared.look_up.LookUp.{LookUp}
 use Rattle.jx_c.specs.declared.look_up.LookUp.TheVariants.{Found, Lost, BadPointer, NotUtf8, NoText}
 
@@ -40,3 +44,10 @@ module _ (text : List ℕ) (tree : Tree) (pointer : List ℕ) where
   in_bytes depth d (BadPointer fault) h = absurd h
   in_bytes depth d NotUtf8 h = absurd h
   in_bytes depth d (NoText refused) h = absurd h
+
+  pub in_bytes_by : (settings : Settings) → IsDocumentBy settings 0 text tree → RefusesName settings.names text (rows tree) None → (l : LookUp) → IsLed text tree pointer l → IsLookUpBy settings text pointer l
+  in_bytes_by settings d n (Found kind place) h = (tree, d, n, h)
+  in_bytes_by settings d n (Lost fault) h = (tree, d, n, h)
+  in_bytes_by settings d n (BadPointer fault) h = absurd h
+  in_bytes_by settings d n NotUtf8 h = absurd h
+  in_bytes_by settings d n (NoText refused) h = absurd h

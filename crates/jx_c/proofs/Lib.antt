@@ -8,3 +8,10 @@ pub mod Led
 pub mod Parts
 pub mod Slices
 pub mod There
+pub mod ByRules
+pub mod Deciding
+pub mod Fronts
+pub mod InPlace
+pub mod Verdicts
+pub mod MarksAlone
+pub mod Readable

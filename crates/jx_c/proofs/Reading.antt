@@ -93,50 +93,49 @@ pub record Verdicts : Type 0 where
   pub told : (x : Exit) (r : Reading) → verdict_of (at_exit (exit_of x) r) ≡ verdict_from x (whole_of r)
 
 -- what a scan of a slice came to
-pub scanned : Scanned → Fed → (limit count : ℕ) (fed slice : List ℕ) (s : LexState) (old new : Known) (x : Option Exit) → old.depth ≡ limit → count ≡ length fed → count + length slice < 2 ^ 64
-    → IsOfUse (Going s) limit old → outcome_at (Going s) old.reading ≡ Some (read_text limit 0 fed)
+pub scanned : Scanned → Fed → (limit start count : ℕ) (text slice : List ℕ) (s : LexState) (old new : Known) (x : Option Exit) → old.depth ≡ limit → count ≡ start + length text → count + length slice < 2 ^ 64
+    → IsOfUse (Going s) limit old → outcome_at (Going s) old.reading ≡ Some (read_text limit start text)
     → SeesTrack (λ marks ends. HasSeen marks ends old) (λ marks ends. HasSeen marks ends new) (lex s 0 slice)
     → IfSome x (λ e. exit_of e ≡ (lex s 0 slice).exit) → (x ≡ None → WantsNoMore (λ marks ends. HasSeen marks ends new))
-    → (outcome_at (settled count x (whole_of new.reading)) new.reading ≡ Some (read_text limit 0 (fed ++ slice))) × IsOfUse (settled count x (whole_of new.reading)) limit new
-scanned goes_on fed_slice limit count fed slice s old new x deep long fits usable is sees ends done =
+    → (outcome_at (settled count x (whole_of new.reading)) new.reading ≡ Some (read_text limit start (text ++ slice))) × IsOfUse (settled count x (whole_of new.reading)) limit new
+scanned goes_on fed_slice limit start count text slice s old new x deep long fits usable is sees ends done =
     let p = settled count x (whole_of new.reading) in
     let goes : GoesOn old (lex s 0 slice) (read_marks old.depth (lex s 0 slice).marks old.reading) count p new =
     goes_on old new usable.0.marks (lex s 0 slice) count x (whole_of new.reading) usable.0.read sees ends done refl in
-    let same : count ≡ 0 + count = omega arith in
-    let there : GoesOn old (lex s 0 slice) (read_marks old.depth (lex s 0 slice).marks old.reading) (0 + count) p new =
-    subst (λ (b : ℕ). GoesOn old (lex s 0 slice) (read_marks old.depth (lex s 0 slice).marks old.reading) b p new) same goes in
-    (fed_slice limit 0 count fed slice s old new p deep usable.1 there long (omega arith) is, subst (λ (d : ℕ). IsOfUse p d new) deep goes.of_use)
+    let there : GoesOn old (lex s 0 slice) (read_marks old.depth (lex s 0 slice).marks old.reading) (start + length text) p new =
+    subst (λ (b : ℕ). GoesOn old (lex s 0 slice) (read_marks old.depth (lex s 0 slice).marks old.reading) b p new) long goes in
+    (fed_slice limit start (length text) text slice s old new p deep usable.1 there refl (omega (arith, long, fits)) is, subst (λ (d : ℕ). IsOfUse p d new) deep goes.of_use)
 
 -- behind a fault nothing changes
-pub passed : Passed → (limit n at : ℕ) (s : LexState) (fed slice : List ℕ) (r : Reading) → (n ≡ 0 → ⊥) → outcome_at (progress_at n s at) r ≡ Some (read_text limit 0 fed)
-    → outcome_at (progress_at n s at) r ≡ Some (read_text limit 0 (fed ++ slice))
-passed law limit zero at s fed slice r over h = absurd (over refl)
-passed law limit (suc zero) at s fed slice r over h = law limit 0 fed slice (Some (stopped at)) refl h
-passed law limit (suc (suc zero)) at s fed slice r over h = law limit 0 fed slice (Some (too_deep at)) refl h
-passed law limit (suc (suc (suc n))) at s fed slice r over h = cc
+pub passed : Passed → (limit start n at : ℕ) (s : LexState) (text slice : List ℕ) (r : Reading) → (n ≡ 0 → ⊥) → outcome_at (progress_at n s at) r ≡ Some (read_text limit start text)
+    → outcome_at (progress_at n s at) r ≡ Some (read_text limit start (text ++ slice))
+passed law limit start zero at s text slice r over h = absurd (over refl)
+passed law limit start (suc zero) at s text slice r over h = law limit start text slice (Some (stopped at)) refl h
+passed law limit start (suc (suc zero)) at s text slice r over h = law limit start text slice (Some (too_deep at)) refl h
+passed law limit start (suc (suc (suc n))) at s text slice r over h = cc
 
 -- the verdict is that of the outcome
-judged_outcome : Verdicts → (limit : ℕ) (fed : List ℕ) (o : Outcome) → Some o ≡ Some (read_text limit 0 fed) → Judged 0 fed limit (verdict_of o)
-judged_outcome law limit fed o h = let f : read_text limit 0 fed ≡ o = sym cc in subst (Judged 0 fed limit) (ap verdict_of f) (law.judged limit 0 fed)
+judged_outcome : Verdicts → (limit start : ℕ) (text : List ℕ) (o : Outcome) → Some o ≡ Some (read_text limit start text) → Judged start text limit (verdict_of o)
+judged_outcome law limit start text o h = let f : read_text limit start text ≡ o = sym cc in subst (Judged start text limit) (ap verdict_of f) (law.judged limit start text)
 
-pub judged_at : Verdicts → (limit at n : ℕ) (s t : LexState) (r : Reading) (w : Whole) (fed : List ℕ) (v : Verdict) → n ≡ 0 → t ≡ s → w ≡ whole_of r → v ≡ verdict_from (exit.State t) w
-    → outcome_at (progress_at n s at) r ≡ Some (read_text limit 0 fed) → Judged 0 fed limit v
-judged_at law limit at n s t r w fed v zero_is same all from h =
-    subst (Judged 0 fed limit)
+pub judged_at : Verdicts → (limit start at n : ℕ) (s t : LexState) (r : Reading) (w : Whole) (text : List ℕ) (v : Verdict) → n ≡ 0 → t ≡ s → w ≡ whole_of r → v ≡ verdict_from (exit.State t) w
+    → outcome_at (progress_at n s at) r ≡ Some (read_text limit start text) → Judged start text limit v
+judged_at law limit start at n s t r w text v zero_is same all from h =
+    subst (Judged start text limit)
     (law.told (exit.State s) r ∙ ap (verdict_from (exit.State s)) (sym all) ∙ ap (λ (u : LexState). verdict_from (exit.State u) w) (sym same) ∙ sym from)
-    (judged_outcome law limit fed (at_exit (lexical.state s) r) (ap (λ (k : ℕ). outcome_at (progress_at k s at) r) (sym zero_is) ∙ h))
+    (judged_outcome law limit start text (at_exit (lexical.state s) r) (ap (λ (k : ℕ). outcome_at (progress_at k s at) r) (sym zero_is) ∙ h))
 
-pub judged_stop : Verdicts → (limit at n : ℕ) (s : LexState) (r : Reading) (fed : List ℕ) → n ≡ 1
-    → outcome_at (progress_at n s at) r ≡ Some (read_text limit 0 fed) → Judged 0 fed limit (verdict.Refused (refusal.Stopped at))
-judged_stop law limit at n s r fed is h = judged_outcome law limit fed (stopped at) (ap (λ (k : ℕ). outcome_at (progress_at k s at) r) (sym is) ∙ h)
+pub judged_stop : Verdicts → (limit start at n : ℕ) (s : LexState) (r : Reading) (text : List ℕ) → n ≡ 1
+    → outcome_at (progress_at n s at) r ≡ Some (read_text limit start text) → Judged start text limit (verdict.Refused (refusal.Stopped at))
+judged_stop law limit start at n s r text is h = judged_outcome law limit start text (stopped at) (ap (λ (k : ℕ). outcome_at (progress_at k s at) r) (sym is) ∙ h)
 
-pub judged_deep : Verdicts → (limit at n : ℕ) (s : LexState) (r : Reading) (fed : List ℕ) → n ≡ 2
-    → outcome_at (progress_at n s at) r ≡ Some (read_text limit 0 fed) → Judged 0 fed limit (verdict.Refused (refusal.TooDeep at))
-judged_deep law limit at n s r fed is h = judged_outcome law limit fed (too_deep at) (ap (λ (k : ℕ). outcome_at (progress_at k s at) r) (sym is) ∙ h)
+pub judged_deep : Verdicts → (limit start at n : ℕ) (s : LexState) (r : Reading) (text : List ℕ) → n ≡ 2
+    → outcome_at (progress_at n s at) r ≡ Some (read_text limit start text) → Judged start text limit (verdict.Refused (refusal.TooDeep at))
+judged_deep law limit start at n s r text is h = judged_outcome law limit start text (too_deep at) (ap (λ (k : ℕ). outcome_at (progress_at k s at) r) (sym is) ∙ h)
 
-pub judged_none : (limit at n : ℕ) (s : LexState) (r : Reading) (fed : List ℕ) (P : Type 0) → (n ≡ 0 → ⊥) → (n ≡ 1 → ⊥) → (n ≡ 2 → ⊥)
-    → outcome_at (progress_at n s at) r ≡ Some (read_text limit 0 fed) → P
-judged_none limit at zero s r fed P a b c h = absurd (a refl)
-judged_none limit at (suc zero) s r fed P a b c h = absurd (b refl)
-judged_none limit at (suc (suc zero)) s r fed P a b c h = absurd (c refl)
-judged_none limit at (suc (suc (suc n))) s r fed P a b c h = absurd cc
+pub judged_none : (limit start at n : ℕ) (s : LexState) (r : Reading) (text : List ℕ) (P : Type 0) → (n ≡ 0 → ⊥) → (n ≡ 1 → ⊥) → (n ≡ 2 → ⊥)
+    → outcome_at (progress_at n s at) r ≡ Some (read_text limit start text) → P
+judged_none limit start at zero s r text P a b c h = absurd (a refl)
+judged_none limit start at (suc zero) s r text P a b c h = absurd (b refl)
+judged_none limit start at (suc (suc zero)) s r text P a b c h = absurd (c refl)
+judged_none limit start at (suc (suc (suc n))) s r text P a b c h = absurd cc

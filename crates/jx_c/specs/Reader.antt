@@ -1,5 +1,5 @@
 -- What the fields of a reader mean, whatever stands in them, and the bytes that it was fed.
-use Rattle.std.specs.Prelude.{◌≡◌, ℕ, zero, suc, List, length, Some, slice_index_or}
+use Rattle.std.specs.Prelude.{◌≡◌, ℕ, zero, suc, ◌+◌, List, length, Some, slice_index_or}
 use Rattle.jx_lex.specs.Ordinal.{all_states}
 use Rattle.jx_lex.specs.declared.state.LexState.{LexState}
 use Rattle.jx_lex.specs.declared.state.LexState.TheVariants.{Gap}
@@ -23,10 +23,14 @@ progress_at (suc (suc (suc n))) s at = Failed
 abbrev pub progress_in : JxReader → Progress
 progress_in r = progress_at r.progress (state_in r.state) r.at
 
--- it was started with this depth and fed these bytes, and it has read them
-pub record HasRead (depth : ℕ) (fed : List ℕ) (r : JxReader) : Type 0 where
+-- it was started with this depth, and it has read these bytes of a text, which stands from an offset on
+pub record HasReadFrom (start depth : ℕ) (text : List ℕ) (r : JxReader) : Type 0 where
   pub started : r.started ≡ 0x6A78_7265_6164_6572
   pub depth_is : r.stack.depth ≡ depth
-  pub count : r.count ≡ length fed
-  pub outcome : outcome_at (progress_in r) (known_of r.stack).reading ≡ Some (read_text depth 0 fed)
+  pub count : r.count ≡ start + length text
+  pub outcome : outcome_at (progress_in r) (known_of r.stack).reading ≡ Some (read_text depth start text)
   pub of_use : IsOfUse (progress_in r) depth (known_of r.stack)
+
+-- it was started with this depth and fed these bytes, and it has read them
+abbrev pub HasRead : ℕ → List ℕ → JxReader → Type 0
+HasRead depth fed r = HasReadFrom 0 depth fed r

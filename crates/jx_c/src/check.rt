@@ -1,11 +1,20 @@
 // Checks of whole texts.
-ghost use Rattle.std.specs.Prelude.{◌≡◌, ◌<◌, ◌⊎◌};
+ghost use Rattle.std.specs.Prelude.{◌≡◌, ◌<◌, ◌≤◌, IfOk};
+ghost use Rattle.jx_run.specs.Settings.{JudgedBy};
+ghost use Rattle.jx_run.specs.declared.settings.NameRule.TheVariants.{Any};
+ghost use Rattle.jx_c.specs.ByNames.{IsVerdictBy};
+ghost use Rattle.jx_c.specs.Settings.{settings_in};
+ghost use Rattle.jx_c.specs.Settled.{IsVerdictWith};
 ghost use Rattle.jx_c.specs.Verdict.{IsVerdictOn};
 
+use crate::by_names::verdict_of;
 use crate::reader::JxReader;
-use crate::status::{DEPTH_TOO_GREAT, NO_MEMORY, OK};
+use crate::settings::{JxSettings, settings_in};
+use crate::status::{DEPTH_TOO_GREAT, NO_MEMORY, OK, UNKNOWN_FLAG};
+use crate::texts::index_text_with;
 use crate::verdict::{JxVerdict, shown};
-use std::alloc::AllocError;
+use jx_run::{Front, NameRule, Settings, Verdict, front};
+use std::alloc::{AllocError, Global};
 
 /// Whether the bytes are a JSON text (RFC 8259) with at most so many containers open at once, and if not, where they stop
 /// being one. It takes no memory.
@@ -18,10 +27,77 @@ pub extern "C" fn jx_check(text: &[u8], depth: u32, verdict: &mut JxVerdict) -> 
     if depth > 65535 {
         return DEPTH_TOO_GREAT;
     }
-    let mut reader = JxReader::new(depth as u16);
+    let mut reader = JxReader::new(depth as u16, 0);
     match reader.read(text) {
         Ok(()) => {
             *verdict = shown(reader.verdict());
+            OK
+        }
+        Err(AllocError) => NO_MEMORY,
+    }
+}
+
+/// The verdict on a text by settings, whatever names its objects have. It takes no memory.
+fn verdict_behind_front(text: &[u8], settings: &Settings) -> Result<Verdict, AllocError>
+    ensures { IfOk result (λ verdict. JudgedBy settings.now 0 text.now verdict) }
+{
+    match front(text, settings.mark) {
+        Front::Refused(refusal) => Ok(Verdict::Refused(refusal)),
+        Front::Skip(count) => {
+            let mut reader = JxReader::new(settings.depth.containers() as u16, count);
+            reader.read(&text[count..text.len()])?;
+            Ok(reader.verdict())
+        }
+    }
+}
+
+/// The same where names have to be unique, by an index that is let go.
+fn verdict_by_index(alloc: Global, text: &[u8], settings: &Settings) -> Result<Verdict, AllocError>
+    ensures { IfOk result (IsVerdictBy settings.now text.now) }
+{
+    let answer = index_text_with(alloc, text, settings)?;
+    Ok(verdict_of(answer))
+}
+
+/// The same where objects may have any names.
+fn verdict_of_any(text: &[u8], settings: &Settings) -> Result<Verdict, AllocError>
+    requires { settings.now.names ≡ Any }
+    ensures { IfOk result (IsVerdictBy settings.now text.now) }
+{
+    let verdict = verdict_behind_front(text, settings)?;
+    Ok(verdict)
+}
+
+fn verdict_by(alloc: Global, text: &[u8], settings: &Settings) -> Result<Verdict, AllocError>
+    ensures { IfOk result (IsVerdictBy settings.now text.now) }
+{
+    match settings.names {
+        NameRule::Any => verdict_of_any(text, settings),
+        NameRule::Unique => verdict_by_index(alloc, text, settings),
+    }
+}
+
+/// The same as `jx_check` by settings: a byte order mark may be ignored (RFC 8259, section 8.1), and names may have to be
+/// unique (section 4). It takes memory only where they have to be.
+#[unsafe(no_mangle)]
+pub extern "C" fn jx_check_with(
+    alloc: Global,
+    text: &[u8],
+    settings: &JxSettings,
+    verdict: &mut JxVerdict,
+) -> u32
+    ensures judged { result ≡ OK → IsVerdictWith (settings_in settings.now) text.now verdict.new }
+    ensures depth { 65535 < settings.now.depth → result ≡ DEPTH_TOO_GREAT }
+    ensures flags { settings.now.depth ≤ 65535 → 3 < settings.now.flags → result ≡ UNKNOWN_FLAG }
+    ensures unchanged { (result ≡ OK → ⊥) → verdict.new ≡ verdict.old }
+{
+    let asked = match settings_in(settings) {
+        Ok(asked) => asked,
+        Err(status) => return status,
+    };
+    match verdict_by(alloc, text, &asked) {
+        Ok(told) => {
+            *verdict = shown(told);
             OK
         }
         Err(AllocError) => NO_MEMORY,

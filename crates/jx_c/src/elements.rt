@@ -1,16 +1,17 @@
 // The elements of a JSON text sequence.
-ghost use Rattle.std.specs.Prelude.{◌≡◌, ◌<◌, IfOk, length};
-ghost use Rattle.std.specs.List.{AllZip};
-ghost use Rattle.jx_run.specs.Elements.{elements as elements_of};
-ghost use Rattle.jx_run.specs.ElementVerdict.{IsJudgedElement};
+ghost use Rattle.std.specs.Prelude.{◌≡◌, ◌<◌, ◌≤◌};
 ghost use Rattle.jx_c.specs.Buffers.{IsFilled};
 ghost use Rattle.jx_c.specs.Elements.{AreElementsOf, shown_element, shown_verdict};
+ghost use Rattle.jx_c.specs.Settings.{settings_in};
+ghost use Rattle.jx_c.specs.Settled.{AreElementsWith};
 
+use crate::judging::{judge, judge_with};
 use crate::places::{JxSpan, shown_span};
-use crate::status::{DEPTH_TOO_GREAT, NO_MEMORY, OK};
+use crate::settings::{JxSettings, settings_in};
+use crate::status::{DEPTH_TOO_GREAT, NO_MEMORY, OK, UNKNOWN_FLAG};
 use crate::verdict::{JxVerdict, shown};
 use jx_lex::Depth;
-use jx_run::{ElementVerdict, ElementsRun, JudgedElement, Summary, Verdict};
+use jx_run::{ElementVerdict, JudgedElement, Verdict};
 use std::alloc::{AllocError, Global};
 
 /// It is a text that may be the beginning of a longer one.
@@ -66,15 +67,6 @@ fn fill(elements: &mut [JxElement], from: &[JudgedElement])
     }
 }
 
-/// Reads a sequence on the calling thread, and judges its elements.
-fn judge(alloc: Global, sequence: &[u8], depth: Depth) -> Result<Vec<JudgedElement>, AllocError>
-    ensures { IfOk result (λ judged. AllZip (IsJudgedElement depth) (elements_of 0 sequence.now) judged.items) }
-{
-    let run = ElementsRun::of(alloc, sequence, 0, sequence.len(), depth)?;
-    let judged = run.into_elements()?;
-    Ok(judged)
-}
-
 /// The elements of a JSON text sequence (RFC 7464, section 2.1) in order, each with where it stands and what it comes to.
 /// As many as the buffer has room for are put there, and `count` tells how many there are.
 #[unsafe(no_mangle)]
@@ -97,6 +89,36 @@ pub extern "C" fn jx_elements(
         Ok(judged) => {
             *count = judged.len();
             fill(elements, &judged);
+            OK
+        }
+        Err(AllocError) => NO_MEMORY,
+    }
+}
+
+/// The same by settings: a byte order mark that stands alone before the first record separator may be ignored, and is no
+/// element then; names may have to be unique (RFC 8259, section 4).
+#[unsafe(no_mangle)]
+pub extern "C" fn jx_elements_with(
+    alloc: Global,
+    sequence: &[u8],
+    settings: &JxSettings,
+    elements: &mut [JxElement],
+    count: &mut usize,
+) -> u32
+    ensures elements { result ≡ OK → AreElementsWith (settings_in settings.now) sequence.now elements.old elements.new count.new }
+    ensures depth { 65535 < settings.now.depth → result ≡ DEPTH_TOO_GREAT }
+    ensures flags { settings.now.depth ≤ 65535 → 3 < settings.now.flags → result ≡ UNKNOWN_FLAG }
+    ensures unchanged_elements { (result ≡ OK → ⊥) → elements.new ≡ elements.old }
+    ensures unchanged_count { (result ≡ OK → ⊥) → count.new ≡ count.old }
+{
+    let asked = match settings_in(settings) {
+        Ok(asked) => asked,
+        Err(status) => return status,
+    };
+    match judge_with(alloc, sequence, &asked) {
+        Ok(all) => {
+            *count = all.len();
+            fill(elements, &all);
             OK
         }
         Err(AllocError) => NO_MEMORY,

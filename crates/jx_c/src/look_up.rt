@@ -1,16 +1,20 @@
 // What a pointer leads to in a text.
-ghost use Rattle.std.specs.Prelude.{◌≡◌, ◌<◌, ℕ, List, IfOk, IfErr};
+ghost use Rattle.std.specs.Prelude.{◌≡◌, ◌<◌, ◌≤◌, ℕ, List, IfOk, IfErr};
 ghost use Rattle.jx_c.specs.Answers.{IsAnswer};
 ghost use Rattle.jx_run.specs.Text.{IsText};
 ghost use Rattle.jx_run.specs.Tree.{Tree};
+ghost use Rattle.jx_run.specs.declared.settings.Settings.{Settings};
 ghost use Rattle.jx_c.specs.LookUps.{IsAnswerOf, IsLookUp, IsLed, shown_look_up};
+ghost use Rattle.jx_c.specs.Settings.{settings_in};
+ghost use Rattle.jx_c.specs.Settled.{IsAnswerBy, IsAnswerWith, IsLookUpBy};
 
 use crate::places::{JxSpan, kind_in, shown_span};
-use crate::status::{DEPTH_TOO_GREAT, NO_MEMORY, OK};
-use crate::texts::{TextAnswer, index_text};
+use crate::settings::{JxSettings, settings_in};
+use crate::status::{DEPTH_TOO_GREAT, NO_MEMORY, OK, UNKNOWN_FLAG};
+use crate::texts::{TextAnswer, index_text, index_text_with};
 use jx_index::{FindFault, Indexed, Pointer, PointerFault, look_ups_end_at_rows};
 use jx_lex::{Depth, Kind, Span};
-use jx_run::Refusal;
+use jx_run::{Refusal, Settings};
 use std::alloc::{AllocError, Global};
 use std::str;
 
@@ -40,7 +44,6 @@ const TEXT_TRUNCATED: u32 = 11;
 
 const TEXT_TOO_DEEP: u32 = 12;
 
-/// No call asks for unique names, so none tells it.
 const TEXT_REPEATED_NAME: u32 = 13;
 
 /// What a pointer comes to in a text.
@@ -129,7 +132,8 @@ fn led(index: &Indexed, pointer: &Pointer) -> LookUp
 
 /// What a pointer comes to in what was answered on a text.
 fn led_in(answer: TextAnswer, pointer: &Pointer) -> LookUp
-    ensures { (text : List ℕ) (depth : ℕ) → IsAnswer text depth answer.entry → IsLookUp text depth pointer.now result }
+    ensures plain { (text : List ℕ) (depth : ℕ) → IsAnswer text depth answer.entry → IsLookUp text depth pointer.now result }
+    ensures settled { (settings : Settings) (text : List ℕ) → IsAnswerBy settings text answer.entry → IsLookUpBy settings text pointer.now result }
 {
     match answer {
         TextAnswer::Accepted(index) => led(&index, pointer),
@@ -141,6 +145,7 @@ fn led_in(answer: TextAnswer, pointer: &Pointer) -> LookUp
 fn spelt(pointer: &[u8]) -> Result<Pointer<'_>, LookUp>
     ensures pointer { IfOk result (λ p. p ≡ pointer.now) }
     ensures none { IfErr result (λ l. (text : List ℕ) (depth : ℕ) → IsLookUp text depth pointer.now l) }
+    ensures none_settled { IfErr result (λ l. (settings : Settings) (text : List ℕ) → IsLookUpBy settings text pointer.now l) }
 {
     let Ok(text) = str::from_utf8(pointer) else {
         return Err(LookUp::NotUtf8);
@@ -158,6 +163,24 @@ fn look_up(alloc: Global, text: &[u8], pointer: &[u8], depth: Depth) -> Result<L
     match spelt(pointer) {
         Ok(read) => {
             let answer = index_text(alloc, text, depth)?;
+            Ok(led_in(answer, &read))
+        }
+        Err(none) => Ok(none),
+    }
+}
+
+/// The same by settings.
+fn look_up_with(
+    alloc: Global,
+    text: &[u8],
+    pointer: &[u8],
+    settings: &Settings,
+) -> Result<LookUp, AllocError>
+    ensures { IfOk result (IsLookUpBy settings.now text.now pointer.now) }
+{
+    match spelt(pointer) {
+        Ok(read) => {
+            let answer = index_text_with(alloc, text, settings)?;
             Ok(led_in(answer, &read))
         }
         Err(none) => Ok(none),
@@ -183,6 +206,34 @@ pub extern "C" fn jx_at(
     match look_up(alloc, text, pointer, limit) {
         Ok(found) => {
             *answer = shown_look_up(found);
+            OK
+        }
+        Err(AllocError) => NO_MEMORY,
+    }
+}
+
+/// The same by settings: a byte order mark may be ignored (RFC 8259, section 8.1), and names may have to be unique
+/// (section 4).
+#[unsafe(no_mangle)]
+pub extern "C" fn jx_at_with(
+    alloc: Global,
+    text: &[u8],
+    pointer: &[u8],
+    settings: &JxSettings,
+    answer: &mut JxAnswer,
+) -> u32
+    ensures answer { result ≡ OK → IsAnswerWith (settings_in settings.now) text.now pointer.now answer.new }
+    ensures depth { 65535 < settings.now.depth → result ≡ DEPTH_TOO_GREAT }
+    ensures flags { settings.now.depth ≤ 65535 → 3 < settings.now.flags → result ≡ UNKNOWN_FLAG }
+    ensures unchanged { (result ≡ OK → ⊥) → answer.new ≡ answer.old }
+{
+    let asked = match settings_in(settings) {
+        Ok(asked) => asked,
+        Err(status) => return status,
+    };
+    match look_up_with(alloc, text, pointer, &asked) {
+        Ok(look_up) => {
+            *answer = shown_look_up(look_up);
             OK
         }
         Err(AllocError) => NO_MEMORY,

@@ -2,15 +2,20 @@
 ghost use Rattle.std.specs.Prelude.{◌≡◌, ◌+◌, ◌<◌, ◌≤◌, ◌^◌, ◌++◌, ℕ, List, [], OnOk, length};
 ghost use Rattle.jx_lex.specs.declared.exit.Exit.TheVariants as exit;
 ghost use Rattle.jx_run.specs.ReaderInside.{settled};
+ghost use Rattle.jx_run.specs.Settings.{JudgedBy};
 ghost use Rattle.jx_run.specs.Verdict.{Judged};
+ghost use Rattle.jx_run.specs.declared.settings.Settings.{Settings};
 ghost use Rattle.jx_run.specs.Whole.{ends_text, verdict_from};
-ghost use Rattle.jx_c.specs.Reader.{HasRead, progress_in};
+ghost use Rattle.jx_c.specs.Front.{HasReadBy, IsFresh, IsRefused};
+ghost use Rattle.jx_c.specs.Reader.{HasRead, HasReadFrom, progress_in};
 
 use crate::stack::JxStack;
 use crate::states::{place_of, state_at};
 use jx_lex::{Exit, LexState, scan};
 use jx_reduce::{Expect, Whole};
-use jx_run::{Refusal, Verdict, reader_is_grammar, readings_go_on};
+use jx_run::{
+    Refusal, Verdict, fronts_decide_where_texts_begin, reader_is_grammar, readings_go_on,
+};
 use std::alloc::AllocError;
 
 /// What stands in a reader that was started: the letters "jxreader".
@@ -19,11 +24,16 @@ pub const STARTED: u64 = 0x6A78_7265_6164_6572;
 /// No fault so far.
 pub const GOING: u32 = 0;
 
-const STOPPED: u32 = 1;
+/// A fault: the text can't go on.
+pub const STOPPED: u32 = 1;
 
 const TOO_DEEP: u32 = 2;
 
-const FAILED: u32 = 3;
+/// A byte order mark may yet be ignored, and nothing was fed. The next two numbers say the same with one and with two of
+/// its bytes fed.
+pub const IN_FRONT: u32 = 3;
+
+const FAILED: u32 = 6;
 
 /// A text that is read from its start: fed by slices one after another, it has the verdict on all their bytes at any
 /// moment. It takes no memory.
@@ -36,7 +46,8 @@ pub struct JxReader {
     pub count: usize,
     /// The offset of the fault.
     pub at: usize,
-    /// 0 as long as there is no fault, 1 where the text can't go on, 2 where it is too deep.
+    /// 0 as long as there is no fault, 1 where the text can't go on, 2 where it is too deep; 3, 4 or 5 where a byte order
+    /// mark may yet be ignored, and none, one or two of its bytes were fed.
     pub progress: u32,
     /// The lexical state, by its place among all.
     pub state: u32,
@@ -75,14 +86,15 @@ fn verdict_at(state: LexState, whole: Whole) -> Verdict
 }
 
 impl JxReader {
-    /// A reader at the start of a text.
-    pub fn new(depth: u16) -> JxReader
+    /// A reader at the start of a text, which stands from an offset on.
+    pub fn new(depth: u16, start: usize) -> JxReader
         ensures going { result.progress ≡ 0 }
-        ensures reads { HasRead depth [] result }
+        ensures count { result.count ≡ start }
+        ensures reads { HasReadFrom start depth [] result }
     {
         JxReader {
             started: STARTED,
-            count: 0,
+            count: start,
             at: 0,
             progress: GOING,
             state: 0,
@@ -92,7 +104,8 @@ impl JxReader {
 
     /// Begins a text, whatever stood in the reader.
     pub fn start(&mut self, depth: u16)
-        ensures { HasRead depth [] self.new }
+        ensures reads { HasRead depth [] self.new }
+        ensures front { IsFresh depth self.new }
     {
         self.started = STARTED;
         self.count = 0;
@@ -136,7 +149,7 @@ impl JxReader {
     pub fn read(&mut self, slice: &[u8]) -> Result<(), AllocError>
         requires going { self.old.progress ≡ 0 }
         requires fits { self.old.count + length slice.now < 2 ^ 64 }
-        ensures { OnOk result ((depth : ℕ) (fed : List ℕ) → HasRead depth fed self.old → HasRead depth (fed ++ slice.now) self.new) }
+        ensures { OnOk result ((start depth : ℕ) (text : List ℕ) → HasReadFrom start depth text self.old → HasReadFrom start depth (text ++ slice.now) self.new) }
     {
         readings_go_on();
         let base = self.count;
@@ -152,7 +165,8 @@ impl JxReader {
     pub fn skip(&mut self, slice: &[u8])
         requires over { self.old.progress ≡ 0 → ⊥ }
         requires fits { self.old.count + length slice.now < 2 ^ 64 }
-        ensures { (depth : ℕ) (fed : List ℕ) → HasRead depth fed self.old → HasRead depth (fed ++ slice.now) self.new }
+        ensures reads { (start depth : ℕ) (text : List ℕ) → HasReadFrom start depth text self.old → HasReadFrom start depth (text ++ slice.now) self.new }
+        ensures refused { (settings : Settings) (fed : List ℕ) → IsRefused settings fed self.old → IsRefused settings (fed ++ slice.now) self.new }
     {
         readings_go_on();
         self.count += slice.len();
@@ -160,8 +174,10 @@ impl JxReader {
 
     /// The verdict on the bytes that it was fed, as a whole text.
     pub fn verdict(&self) -> Verdict
-        ensures { (depth : ℕ) (fed : List ℕ) → HasRead depth fed self.now → Judged 0 fed depth result }
+        ensures reads { (start depth : ℕ) (text : List ℕ) → HasReadFrom start depth text self.now → Judged start text depth result }
+        ensures settled { (settings : Settings) (fed : List ℕ) → HasReadBy settings fed self.now → JudgedBy settings 0 fed result }
     {
+        fronts_decide_where_texts_begin();
         reader_is_grammar();
         readings_go_on();
         if self.progress == GOING {

@@ -1,12 +1,16 @@
 // The rows of a text.
-ghost use Rattle.std.specs.Prelude.{◌≡◌, ◌<◌, ℕ, List};
+ghost use Rattle.std.specs.Prelude.{◌≡◌, ◌<◌, ◌≤◌, ℕ, List};
+ghost use Rattle.jx_run.specs.declared.settings.Settings.{Settings};
 ghost use Rattle.jx_c.specs.Answers.{IsAnswer};
 ghost use Rattle.jx_c.specs.Buffers.{IsFilled};
 ghost use Rattle.jx_c.specs.Rows.{AreRowsOf, shown_row};
+ghost use Rattle.jx_c.specs.Settings.{settings_in};
+ghost use Rattle.jx_c.specs.Settled.{AreRowsWith, IsAnswerBy};
 
 use crate::places::{JxRow, shown_row};
-use crate::status::{DEPTH_TOO_GREAT, NO_MEMORY, OK};
-use crate::texts::{TextAnswer, index_text};
+use crate::settings::{JxSettings, settings_in};
+use crate::status::{DEPTH_TOO_GREAT, NO_MEMORY, OK, UNKNOWN_FLAG};
+use crate::texts::{TextAnswer, index_text, index_text_with};
 use crate::verdict::{JxVerdict, shown};
 use jx_index::Row;
 use jx_lex::Depth;
@@ -25,7 +29,8 @@ fn fill(rows: &mut [JxRow], from: &[Row])
 
 /// Tells the answer on a text: the verdict, how many rows there are, and in the buffer the rows.
 fn tell(answer: TextAnswer, rows: &mut [JxRow], count: &mut usize, verdict: &mut JxVerdict)
-    ensures { (bytes : List ℕ) (depth : ℕ) → IsAnswer bytes depth answer.entry → AreRowsOf bytes depth rows.old rows.new count.new verdict.new }
+    ensures plain { (bytes : List ℕ) (depth : ℕ) → IsAnswer bytes depth answer.entry → AreRowsOf bytes depth rows.old rows.new count.new verdict.new }
+    ensures settled { (settings : Settings) (bytes : List ℕ) → IsAnswerBy settings bytes answer.entry → AreRowsWith settings bytes rows.old rows.new count.new verdict.new }
 {
     match answer {
         TextAnswer::Accepted(index) => {
@@ -62,6 +67,37 @@ pub extern "C" fn jx_rows(
         return DEPTH_TOO_GREAT;
     };
     match index_text(alloc, text, limit) {
+        Ok(answer) => {
+            tell(answer, rows, count, verdict);
+            OK
+        }
+        Err(AllocError) => NO_MEMORY,
+    }
+}
+
+/// The same by settings: a byte order mark may be ignored (RFC 8259, section 8.1), and names may have to be unique
+/// (section 4).
+#[unsafe(no_mangle)]
+pub extern "C" fn jx_rows_with(
+    alloc: Global,
+    text: &[u8],
+    settings: &JxSettings,
+    rows: &mut [JxRow],
+    count: &mut usize,
+    verdict: &mut JxVerdict,
+) -> u32
+    ensures rows { result ≡ OK → AreRowsWith (settings_in settings.now) text.now rows.old rows.new count.new verdict.new }
+    ensures depth { 65535 < settings.now.depth → result ≡ DEPTH_TOO_GREAT }
+    ensures flags { settings.now.depth ≤ 65535 → 3 < settings.now.flags → result ≡ UNKNOWN_FLAG }
+    ensures unchanged_rows { (result ≡ OK → ⊥) → rows.new ≡ rows.old }
+    ensures unchanged_count { (result ≡ OK → ⊥) → count.new ≡ count.old }
+    ensures unchanged_verdict { (result ≡ OK → ⊥) → verdict.new ≡ verdict.old }
+{
+    let asked = match settings_in(settings) {
+        Ok(asked) => asked,
+        Err(status) => return status,
+    };
+    match index_text_with(alloc, text, &asked) {
         Ok(answer) => {
             tell(answer, rows, count, verdict);
             OK

@@ -14,3 +14,9 @@ pub const NOT_STARTED: u32 = 3;
 
 /// With these bytes the reader would have been fed more than a number of 64 bits counts.
 pub const TOO_MANY_BYTES: u32 = 4;
+
+/// The settings have a flag that there is not.
+pub const UNKNOWN_FLAG: u32 = 5;
+
+/// The settings ask for unique names, and a reader keeps none.
+pub const NO_UNIQUE_NAMES: u32 = 6;

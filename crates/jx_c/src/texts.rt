@@ -1,10 +1,12 @@
 // What reading a whole text comes to, with its index.
 ghost use Rattle.std.specs.Prelude.{◌≤◌, length, IfOk};
 ghost use Rattle.jx_c.specs.Answers.{IsAnswer, IsAnswerFrom};
+ghost use Rattle.jx_c.specs.Settled.{IsAnswerBy, IsReadBy};
 
+use crate::by_names::text_by_names;
 use jx_index::Indexed;
 use jx_lex::{Depth, Span};
-use jx_run::{NoPause, Refusal};
+use jx_run::{Front, NoPause, Refusal, Settings, front};
 use std::alloc::{AllocError, Global};
 
 /// What reading a JSON text comes to.
@@ -44,4 +46,34 @@ pub fn index_text<'a>(
 {
     let answer = index_from(alloc, text, 0, depth)?;
     Ok(answer)
+}
+
+/// The same by settings, whatever names the objects have: behind a byte order mark where one is ignored.
+fn index_behind_front<'a>(
+    alloc: Global,
+    text: &'a [u8],
+    settings: &Settings,
+) -> Result<TextAnswer<'a>, AllocError>
+    ensures { IfOk result (IsReadBy settings.now text.entry.now) }
+{
+    match front(text, settings.mark) {
+        Front::Refused(refusal) => Ok(TextAnswer::Refused(refusal)),
+        Front::Skip(count) => {
+            let answer = index_from(alloc, text, count, settings.depth)?;
+            Ok(answer)
+        }
+    }
+}
+
+/// The same by settings. Where names have to be unique, what is otherwise accepted is refused for the first name that an
+/// object repeats.
+pub fn index_text_with<'a>(
+    alloc: Global,
+    text: &'a [u8],
+    settings: &Settings,
+) -> Result<TextAnswer<'a>, AllocError>
+    ensures { IfOk result (IsAnswerBy settings.now text.entry.now) }
+{
+    let answer = index_behind_front(alloc, text, settings)?;
+    Ok(text_by_names(settings.names, answer))
 }

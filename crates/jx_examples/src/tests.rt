@@ -1,8 +1,13 @@
-use crate::{LookUp, check, check_on_own_threads, lines_of_values, look_up, whole_elements};
-use jx_claim::Workers;
+use crate::{
+    ExampleFault, LookUp, check, check_on_own_threads, lines_of_values, look_up, whole_elements,
+};
+use jx_answer::Fault;
+use jx_claim::{CutFault, Workers};
 use jx_index::{FindFault, Pointer};
 use jx_lex::Span;
+use jx_report::ReportFault;
 use jx_run::{Refusal, Verdict};
+use std::alloc::AllocError;
 use std::test::Fail;
 
 #[test]
@@ -88,5 +93,24 @@ fn a_report_over_memory_has_a_line_for_each_value(rt: HostRuntime) -> Result<(),
     let lines = lines_of_values(&rt, rt.alloc(), b"[1,true]", workers)?;
     let wanted = "accepted\n0 array 0..8 - 0 -\n1 number 1..2 0 0 -\n2 true 3..7 0 1 -\n";
     assert_eq!(rt; lines.as_slice(), wanted.as_bytes());
+    Ok(())
+}
+
+#[test]
+fn the_words_of_faults(rt: HostRuntime) -> Result<(), Fail> {
+    let alloc = rt.alloc();
+    let faults = [
+        (
+            ExampleFault::Cut(CutFault::TooManyPieces),
+            "too many pieces",
+        ),
+        (ExampleFault::Answer(Fault::Memory), "out of memory"),
+        (ExampleFault::Report(ReportFault::Read), "jx: read failed"),
+        (ExampleFault::Stopped, "a worker stopped"),
+        (ExampleFault::Memory(AllocError), "out of memory"),
+    ];
+    for (fault, words) in faults {
+        assert_eq!(rt; format!(in alloc; "{fault}")?.as_str(), words);
+    }
     Ok(())
 }

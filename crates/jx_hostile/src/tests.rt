@@ -1,6 +1,9 @@
 mod answers;
+mod calls;
 mod cuts;
 mod deep;
+mod gathered;
 mod growths;
 mod inputs;
+mod likeness;
 mod stops;

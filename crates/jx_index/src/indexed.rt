@@ -168,6 +168,14 @@ impl<'a> Indexed<'a> {
         self.nodes.rows.as_slice()
     }
 
+    /// All rows, in rising order of their starts. What else the index holds is let go.
+    pub fn into_rows(self) -> Vec<Row>
+        ensures { result.items ≡ self.entry.rows }
+    {
+        let Indexed { nodes, .. } = self;
+        nodes.rows
+    }
+
     /// The row of a node.
     pub fn row(&self, node: NodeId) -> &Row
         requires { node < length self.now.rows }

@@ -4,6 +4,7 @@
 mod array_token;
 mod builder;
 mod children;
+mod comparing;
 mod find;
 mod find_fault;
 mod indexed;
@@ -25,7 +26,10 @@ pub use pointer::{Pointer, PointerFault};
 pub use row::{NodeId, Row};
 
 #[cfg(test)]
+mod counted;
+#[cfg(test)]
 mod pass_tests;
+#[cfg(test)]
 mod repeat_tests;
 #[cfg(test)]
 mod tests;

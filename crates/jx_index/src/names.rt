@@ -8,6 +8,7 @@ ghost use Rattle.jx_index.specs.Nodes.{IsObjectAt};
 ghost use Rattle.jx_index.specs.Units.{units_at, parts_units};
 ghost use Rattle.jx_index.specs.UnitsLeft.{units_left};
 
+use crate::comparing::Comparing;
 use crate::row::{NodeId, Row};
 use crate::units::{Spelling, Units, skip};
 use jx_lex::{Kind, Span};
@@ -150,14 +151,15 @@ pub(crate) fn compare_to_token(text: &[u8], rows: &[Row], node: NodeId, token: &
 
 /// Sorts members by the units of their names; equal names keep their order. Where the order holds already, one comparison
 /// for each two neighbours is all that it costs, and up to 20 members take no memory.
-pub(crate) fn sort_members(
+pub(crate) fn sort_members<C: Comparing>(
     text: &[u8],
     rows: &[Row],
     members: &mut Vec<NodeId>,
+    comparing: &mut C,
 ) -> Result<(), AllocError>
     ensures { IfOk result (λ _. IsInNameOrder text.now rows.now members.old.items members.new.items) }
 {
-    members.sort_by(|a, b| compare_members(text, rows, *a, *b))?;
+    members.sort_by(|a, b| comparing.compare(text, rows, *a, *b))?;
     Ok(())
 }
 

@@ -5,6 +5,7 @@ ghost use Rattle.jx_index.specs.Parts.{HaveParts, IsAdded, part_at};
 ghost use Rattle.jx_index.specs.Walk.{IsForward, IsBounded, walk_children};
 
 use crate::children::children_in;
+use crate::comparing::Uncounted;
 use crate::names::sort_members;
 use crate::row::{NodeId, Row};
 use jx_lex::Kind;
@@ -37,7 +38,7 @@ fn collect_members(
 {
     members.clear();
     add_children(after, object, members)?;
-    sort_members(text, rows, members)?;
+    sort_members(text, rows, members, &mut Uncounted)?;
     Ok(())
 }
 

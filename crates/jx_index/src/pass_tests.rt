@@ -1,4 +1,6 @@
 // Texts that are indexed in one pass over their bytes, and builders that are told tokens out of order.
+ghost use Rattle.std.specs.Prelude.{◌≤◌, length};
+
 use crate::indexed::Indexed;
 use crate::pointer::Pointer;
 use crate::row::Row;
@@ -6,6 +8,7 @@ use crate::row_keeper::RowKeeper;
 use jx_lex::{Depth, Keeper, Kind, Mark, MarkKind, Span};
 use jx_run::{NoPause, Pace, Refusal, Summary, TextRun, Verdict};
 use std::alloc::{AllocError, Global};
+use std::test::Fail;
 
 fn refusal_of(alloc: Global, text: &[u8], depth: Depth) -> Result<Option<Refusal>, AllocError> {
     let end = text.len();
@@ -49,12 +52,10 @@ fn rows_of_one_pass_are_those_of_a_run(rt: HostRuntime) -> Result<(), AllocError
 }
 
 #[test]
-fn refusals_of_one_pass(rt: HostRuntime) -> Result<(), AllocError> {
+fn refusals_of_one_pass(rt: HostRuntime) -> Result<(), Fail> {
     let alloc = rt.alloc();
     let deep = Depth::default();
-    let Some(flat) = Depth::new(1) else {
-        return Ok(());
-    };
+    let flat = Depth::new(1).ok_or("a depth")?;
     assert!(rt; refusal_of(alloc, b"[1,", deep)? == Some(Refusal::Truncated));
     assert!(rt; refusal_of(alloc, b"", deep)? == Some(Refusal::Truncated));
     assert!(rt; refusal_of(alloc, b"[1 2]", deep)? == Some(Refusal::Stopped { at: 3 }));
@@ -64,25 +65,31 @@ fn refusals_of_one_pass(rt: HostRuntime) -> Result<(), AllocError> {
     Ok(())
 }
 
+// The index of the text at a span, read in one pass.
+fn index_of<'a>(alloc: Global, text: &'a [u8], span: Span) -> Result<Indexed<'a>, Fail>
+    requires ordered { span.start ≤ span.end }
+    requires within { span.end ≤ length text.now }
+{
+    let read = Indexed::read(alloc, text, span, Depth::default(), &mut NoPause)?;
+    Ok(read.ok().ok_or("it is no text")?)
+}
+
+// Where the value stands to which a pointer leads, if it leads to one.
+fn found(index: &Indexed, pointer: &str) -> Result<Option<Span>, Fail> {
+    let pointer = Pointer::read(pointer).ok().ok_or("a pointer")?;
+    let Ok(node) = index.find(&pointer) else {
+        return Ok(None);
+    };
+    let row = index.rows().get(node.number()).ok_or("a row")?;
+    Ok(Some(row.span))
+}
+
 #[test]
-fn a_text_within_a_larger_input(rt: HostRuntime) -> Result<(), AllocError> {
-    let text = b"xx{\"a\":7}y";
+fn a_text_within_a_larger_input(rt: HostRuntime) -> Result<(), Fail> {
     let span = Span { start: 2, end: 9 };
-    let read = Indexed::read(rt.alloc(), text, span, Depth::default(), &mut NoPause)?;
-    assert!(rt; read.is_ok());
-    let Ok(index) = read else {
-        return Ok(());
-    };
+    let index = index_of(rt.alloc(), b"xx{\"a\":7}y", span)?;
     assert!(rt; index.span() == span);
-    let Ok(pointer) = Pointer::read("/a") else {
-        return Ok(());
-    };
-    let found = index.find(&pointer);
-    assert!(rt; found.is_ok());
-    if let Ok(node) = found {
-        let row = index.rows().get(node.number());
-        assert!(rt; row.map(|row| row.span) == Some(Span { start: 7, end: 8 }));
-    }
+    assert!(rt; found(&index, "/a")? == Some(Span { start: 7, end: 8 }));
     Ok(())
 }
 
@@ -160,18 +167,8 @@ fn ends_that_come_late(rt: HostRuntime) -> Result<(), AllocError> {
     Ok(())
 }
 
-fn found(index: &Indexed, pointer: &str) -> Option<Span> {
-    let Ok(pointer) = Pointer::read(pointer) else {
-        return None;
-    };
-    let Ok(node) = index.find(&pointer) else {
-        return None;
-    };
-    index.rows().get(node.number()).map(|row| row.span)
-}
-
 #[test]
-fn elements_behind_many_others(rt: HostRuntime) -> Result<(), AllocError> {
+fn elements_behind_many_others(rt: HostRuntime) -> Result<(), Fail> {
     let mut text = Vec::new(rt.alloc());
     text.push(b'[')?;
     for _ in 0..3000 {
@@ -179,40 +176,31 @@ fn elements_behind_many_others(rt: HostRuntime) -> Result<(), AllocError> {
     }
     text.extend_from_slice(b"7]")?;
     let end = text.len();
-    let span = Span { start: 0, end };
-    let read = Indexed::read(rt.alloc(), &text, span, Depth::default(), &mut NoPause)?;
-    assert!(rt; read.is_ok());
-    let Ok(index) = read else {
-        return Ok(());
-    };
+    let index = index_of(rt.alloc(), &text, Span { start: 0, end })?;
     assert!(rt; index.rows().len() == 9002);
     let last = Span {
         start: 33001,
         end: 33002,
     };
-    assert!(rt; found(&index, "/3000") == Some(last));
-    assert!(rt; found(&index, "/2999/0/a").is_some());
-    assert!(rt; found(&index, "/3001").is_none());
+    assert!(rt; found(&index, "/3000")? == Some(last));
+    assert!(rt; found(&index, "/2999/0/a")?.is_some());
+    assert!(rt; found(&index, "/3001")?.is_none());
     Ok(())
 }
 
 #[test]
-fn escaped_names_beside_plain_ones(rt: HostRuntime) -> Result<(), AllocError> {
+fn escaped_names_beside_plain_ones(rt: HostRuntime) -> Result<(), Fail> {
     let text = b"{\"b\\n\":0,\"c\":1,\"\\u0062\":2,\"a\":3}";
     let end = text.len();
-    let span = Span { start: 0, end };
-    let read = Indexed::read(rt.alloc(), text, span, Depth::default(), &mut NoPause)?;
-    assert!(rt; read.is_ok());
-    let Ok(index) = read else {
-        return Ok(());
-    };
-    assert!(rt; found(&index, "/a") == Some(Span { start: 30, end: 31 }));
-    assert!(rt; found(&index, "/b") == Some(Span { start: 24, end: 25 }));
-    assert!(rt; found(&index, "/b\n") == Some(Span { start: 7, end: 8 }));
-    if index.row(index.root()).kind == Kind::Object {
-        let names = index.names(index.root());
-        let numbers = names.iter().map(|node| node.number());
-        assert!(rt; numbers.eq([4, 3, 1, 2].iter().copied()));
+    let index = index_of(rt.alloc(), text, Span { start: 0, end })?;
+    assert!(rt; found(&index, "/a")? == Some(Span { start: 30, end: 31 }));
+    assert!(rt; found(&index, "/b")? == Some(Span { start: 24, end: 25 }));
+    assert!(rt; found(&index, "/b\n")? == Some(Span { start: 7, end: 8 }));
+    if index.row(index.root()).kind != Kind::Object {
+        return Err("an object".into());
     }
+    let names = index.names(index.root());
+    let numbers = names.iter().map(|node| node.number());
+    assert!(rt; numbers.eq([4, 3, 1, 2].iter().copied()));
     Ok(())
 }

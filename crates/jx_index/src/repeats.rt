@@ -5,8 +5,9 @@ ghost use Rattle.jx_index.specs.Names.{is_below};
 ghost use Rattle.jx_index.specs.Nodes.{name_at};
 ghost use Rattle.jx_index.specs.Repeats.{earlier_of, start_in, tie_start, IsLeast, IsRepeat, IsRepeatIn, IsRepeatOf, IsTie};
 
+use crate::comparing::{Comparing, Uncounted};
 use crate::indexed::Indexed;
-use crate::names::{compare_members, is_object};
+use crate::names::is_object;
 use crate::row::{NodeId, Row};
 use std::cmp::Ordering;
 
@@ -36,32 +37,49 @@ fn start_of_name(rows: &[Row], node: NodeId) -> Option<usize>
 }
 
 // Where the second name begins, if it has the units of the first.
-fn start_of_tie(text: &[u8], rows: &[Row], first: NodeId, second: NodeId) -> Option<usize>
+fn start_of_tie<C: Comparing>(
+    text: &[u8],
+    rows: &[Row],
+    first: NodeId,
+    second: NodeId,
+    comparing: &mut C,
+) -> Option<usize>
     ensures { result ≡ tie_start text.now rows.now first second }
 {
-    match compare_members(text, rows, first, second) {
+    match comparing.compare(text, rows, first, second) {
         Ordering::Equal => start_of_name(rows, second),
         Ordering::Less | Ordering::Greater => None,
     }
 }
 
 // The least start of a name that has the units of the one before it.
-fn first_tie(text: &[u8], rows: &[Row], names: &[NodeId]) -> Option<usize>
+pub(crate) fn first_tie<C: Comparing>(
+    text: &[u8],
+    rows: &[Row],
+    names: &[NodeId],
+    comparing: &mut C,
+) -> Option<usize>
     ensures { IsLeast (IsTie text.now rows.now names.now) result }
 {
     let mut first = None;
     for at in 0..names.len().saturating_sub(1) {
-        first = earlier(first, start_of_tie(text, rows, names[at], names[at + 1]));
+        let tie = start_of_tie(text, rows, names[at], names[at + 1], comparing);
+        first = earlier(first, tie);
     }
     first
 }
 
 // The same, which is the first name that is not the first of its units, where the names rise.
-fn first_repeat(text: &[u8], rows: &[Row], names: &[NodeId]) -> Option<usize>
+fn first_repeat<C: Comparing>(
+    text: &[u8],
+    rows: &[Row],
+    names: &[NodeId],
+    comparing: &mut C,
+) -> Option<usize>
     requires { IsSortedBy (is_below text.now rows.now) names.now }
     ensures { IsLeast (IsRepeatIn text.now rows.now names.now) result }
 {
-    first_tie(text, rows, names)
+    first_tie(text, rows, names, comparing)
 }
 
 impl<'a> Indexed<'a> {
@@ -73,7 +91,8 @@ impl<'a> Indexed<'a> {
         if !is_object(self.rows(), node) {
             return None;
         }
-        first_repeat(self.text(), self.rows(), self.names(NodeId::new(node)))
+        let names = self.names(NodeId::new(node));
+        first_repeat(self.text(), self.rows(), names, &mut Uncounted)
     }
 
     /// The start of the first name whose value, as a list of UTF-16 code units, is that of an earlier name of the same

@@ -1,5 +1,6 @@
 use crate::array_token::{Place, place_of_token};
 use crate::builder::{Nodes, nodes_from_marks};
+use crate::comparing::Uncounted;
 use crate::find_fault::FindFault;
 use crate::names::{compare_to_token, sort_members};
 use crate::pointer::{Pointer, PointerFault};
@@ -126,13 +127,13 @@ fn members_in_order(rt: HostRuntime) -> Result<(), AllocError> {
     let text = b"{\"b\":1,\"a\":2,\"b\":3}";
     let nodes = nodes_of(rt.alloc(), text)?;
     let mut members = vec![in rt.alloc(); NodeId::new(1), NodeId::new(2), NodeId::new(3)]?;
-    sort_members(text, &nodes.rows, &mut members)?;
+    sort_members(text, &nodes.rows, &mut members, &mut Uncounted)?;
     assert!(rt; members.len() == 3);
     assert!(rt; members[0].number() == 2 && members[1].number() == 1 && members[2].number() == 3);
     let wide = b"{\"\xEF\xBD\x9E\":1,\"\xF0\x9F\x98\x80\":2}";
     let nodes = nodes_of(rt.alloc(), wide)?;
     let mut members = vec![in rt.alloc(); NodeId::new(1), NodeId::new(2)]?;
-    sort_members(wide, &nodes.rows, &mut members)?;
+    sort_members(wide, &nodes.rows, &mut members, &mut Uncounted)?;
     assert!(rt; members.len() == 2);
     assert!(rt; members[0].number() == 2 && members[1].number() == 1);
     Ok(())

@@ -1,5 +1,6 @@
 -- Byte classes (RFC 8259, sections 2, 3, 6 and 7; RFC 3629, section 4). The table of ranges says which bytes a class has. Every byte is
--- in exactly one class, as `class_of` ensures: so what is found by going through the classes below is that one, whatever their order.
+-- in exactly one class, as `class_of` ensures by its clauses `row` and `only`. So the search through the classes, at the end, need not be
+-- believed: every search for a class that has the byte gives this one, in whatever order it goes.
 use Rattle.std.specs.Prelude.{ℕ, Bool, ◌&&◌, List, [], ◌∷◌, if◌then◌else◌, nat_le}
 use Rattle.std.specs.List.{list_any}
 use Rattle.jx_lex.specs.declared.class.Class.{Class}

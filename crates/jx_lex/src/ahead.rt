@@ -38,6 +38,20 @@ impl Ahead {
         }
     }
 
+    /// No stretch yet, in bytes that begin inside a string: what stood before them is not known here, and they are mostly a
+    /// part of a long string, so that the first stretch is as long as one may be.
+    #[inline(always)]
+    pub(crate) fn inside_string() -> Ahead
+        ensures sound { (text : List ℕ) → IsSound text result }
+    {
+        Ahead {
+            from: 0,
+            to: 0,
+            tested: 0,
+            next: MOST,
+        }
+    }
+
     /// The same stretch, after so many bytes that were read one character after another.
     #[inline(always)]
     pub(crate) fn past(self, length: usize) -> Ahead

@@ -1,5 +1,5 @@
 // Reading bytes from a known lexical state, whatever is kept of the tokens.
-ghost use Rattle.std.specs.Prelude.{◌≡◌, ◌≤◌, ◌<◌, ◌+◌, ◌++◌, ◌∷◌, [], ◌^◌, length, OnOk, IfOk, IfSome, IsNone, IsTrue, slice_range};
+ghost use Rattle.std.specs.Prelude.{◌≡◌, ◌≤◌, ◌<◌, ◌+◌, ◌++◌, ◌∷◌, [], ◌^◌, ℕ, List, length, OnOk, IfOk, IfSome, IsNone, IsTrue, slice_range};
 ghost use Rattle.jx_lex.specs.declared.state.LexState.TheVariants as state;
 ghost use Rattle.jx_lex.specs.Ahead.{IsSound};
 ghost use Rattle.jx_lex.specs.Cells.{step_of};
@@ -269,6 +269,20 @@ fn run_on<K: Keeper>(
     }
 }
 
+/// What is known of the UTF-8 ahead of bytes that are read from this state on.
+#[inline(always)]
+fn known_ahead(state: LexState) -> Ahead
+    ensures sound { (text : List ℕ) → IsSound text result }
+{
+    match state {
+        LexState::Str => Ahead::inside_string(),
+        LexState::Tail1 | LexState::Tail2 | LexState::Tail3 => Ahead::inside_string(),
+        LexState::AfterE0 | LexState::AfterEd => Ahead::inside_string(),
+        LexState::AfterF0 | LexState::AfterF4 => Ahead::inside_string(),
+        _ => Ahead::nothing(),
+    }
+}
+
 /// Reads the bytes of a text from one offset to another, from a known lexical state, into a keeper. What the keeper has
 /// seen grows by the marks and ends of that reading, with their offsets in the text.
 ///
@@ -288,7 +302,7 @@ pub fn scan<K: Keeper>(
 {
     let mut state = state;
     let mut i = from;
-    let mut ahead = Ahead::nothing();
+    let mut ahead = known_ahead(state);
     while i < to {
         if keeper.is_done() {
             return Ok(None);

@@ -31,7 +31,7 @@ first_some : (a b : Option ℕ) → IsTrue (is_some b) → IsTrue (is_some (firs
 first_some None b h = h
 first_some (Some p) b h = refl
 
-all_merged : (a b : Level) → all_faulted b ≡ true → all_faulted (merged a b) ≡ true
+pub all_merged : (a b : Level) → all_faulted b ≡ true → all_faulted (merged a b) ≡ true
 all_merged a b h =
     let g = halts_all b.array b.object b.bottom h in
     all_some _ _ _ (first_some a.array b.array g.0.0) (first_some a.object b.object g.0.1) (first_some a.bottom b.bottom g.1)

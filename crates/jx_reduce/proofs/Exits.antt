@@ -17,7 +17,7 @@ GoesOn-cut : (d : ℕ) (r : Form) (b : Bool) → over d r ≡ b → GoesOn (if b
 GoesOn-cut d r true e = λ x h. cc
 GoesOn-cut d r false e = λ x h. second _ (all_faulted r.last) e
 
-GoesOn-joined : (d : ℕ) (l r : Form) → GoesOn (joined d l r)
+pub GoesOn-joined : (d : ℕ) (l r : Form) → GoesOn (joined d l r)
 GoesOn-joined d l r = GoesOn-cut d (uncut d l r) (over d (uncut d l r)) refl
 
 goes_on_from : (d : ℕ) (r : Form) (m : Mark) (x : Option Entry) → r.exit ≡ x → GoesOn r → GoesOn (pushed_from d r m x)

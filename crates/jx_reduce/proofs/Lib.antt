@@ -12,6 +12,7 @@ pub mod Extended
 mod HolderSets
 mod QuietMarks
 mod Exits
+mod Strings
 mod Parts
 pub mod Spans
 pub mod Cuts

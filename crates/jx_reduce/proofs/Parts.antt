@@ -1,15 +1,17 @@
--- Behind a mark that is no string all entries stand at the same one.
-use Rattle.std.proofs.Common.{◌≡◌, ℕ, ◌<◌, ◌≤◌, List, [], ◌∷◌, ◌++◌, length, take, drop, refl, sym, ◌∙◌, ap, subst, Option, Some, None, Bool, true, false, if◌then◌else◌, inl, inr}
-use Rattle.std.specs.Prelude.{◌⊎◌}
-use Rattle.std.proofs.lemmas.List.{take_all, take-append-drop}
-use Rattle.jx_reduce.specs.Entries.{leads_to}
+-- Behind a mark that is no string, or a second string, all entries that go on stand at the same one.
+use Rattle.std.proofs.Common.{◌≡◌, ℕ, ◌<◌, ◌≤◌, List, [], ◌∷◌, ◌++◌, length, get_or, take, drop, append_assoc, refl, sym, ◌∙◌, ap, subst, arith, length-take, Option, Some, None, Bool, true, false, if◌then◌else◌, inl, inr}
+use Rattle.std.specs.Prelude.{◌⊎◌, nat_lt, slice_get}
+use Rattle.std.proofs.lemmas.List.{take_all, take-append-drop, take-append-le, drop-append-le, length-take-le}
+use Rattle.std.proofs.lemmas.Option.{same_Some}
+use Rattle.std.proofs.Math.Seq.{take-append_seam, drop-append_seam}
+use Rattle.jx_reduce.specs.Entries.{leads_to, string_leads}
 use Rattle.jx_reduce.specs.Follow.{followed_by, followed}
 use Rattle.jx_reduce.specs.Form.{Form, fault_of, end_fault_of}
 use Rattle.jx_reduce.specs.Join.{Tail, closed, filled_end, tail_of, halted, stop_or, with_tail, with_level, passes, absorbed, over, cut_short, joined}
-use Rattle.jx_reduce.specs.Marks.{of_change, of_mark, of_nothing, pushed_from, of_marks}
+use Rattle.jx_reduce.specs.Marks.{of_change, of_mark, of_nothing, pushed_from, pushed, of_marks}
 use Rattle.jx_reduce.specs.Offsets.{EachIn, OffsetsIn, RisingFrom}
-use Rattle.jx_reduce.specs.Parts.{EndsWith, IsTail, IsTailOf, tail_behind, then_tail}
-use Rattle.jx_reduce.specs.Reduced.{form_in}
+use Rattle.jx_reduce.specs.Parts.{EndsWith, IsTail, IsTailOf, AreParts, tail_behind, then_tail}
+use Rattle.jx_reduce.specs.Reduced.{depth_of, form_in}
 use Rattle.jx_reduce.specs.Reductions.{Forms, form_at, IsSound, IsBefore, IsOf}
 use Rattle.jx_reduce.specs.Table.{change_of, Change, same, added, removed}
 use Rattle.jx_reduce.specs.declared.ended_level.EndedLevel.{EndedLevel}
@@ -25,6 +27,7 @@ use Rattle.jx_reduce.proofs.Cuts.{RisingFrom-take, RisingFrom-drop, before_of_pa
 use Rattle.jx_reduce.proofs.Joined.{base_of, uncut}
 use Rattle.jx_reduce.proofs.Readings.{of_marks-append}
 use Rattle.jx_reduce.proofs.Runs.{is_of_join}
+use Rattle.jx_reduce.proofs.Strings.{second_none}
 use Rattle.jx_reduce.proofs.Sound.{Follows, FromMarks, eight_marks, is_of, sound_marks, in_marks, is_join, sound_join, in_join}
 
 -- a form to which something is joined leads nowhere, or where that leads
@@ -82,12 +85,165 @@ pushed_leads d r m (Some x) y e h g =
     led (of_mark x m).exit (joined d r (of_mark x m)).exit y (leads_to m.kind x) (leads-joined d r (of_mark x m)) (change_leads (change_of m.kind) x m) g
     ∙ same_lead m.kind x AnyValue h
 
--- where something goes on behind marks that end with no string, it stands at the same entry
+-- a string leads nowhere, or where it does from some entry
+string_leads_on : (d : ℕ) (r : Form) (s : Mark) (o : Option Entry) → r.exit ≡ o → s.kind ≡ String → (x : Entry) × LeadsTo (Some (string_leads x)) (pushed_from d r s o).exit
+string_leads_on d r s None e k = (AnyValue, inl e)
+string_leads_on d r s (Some x) e k = (
+  x,
+  subst (λ a. LeadsTo a (joined d r (of_mark x s)).exit) (change_leads (change_of s.kind) x s ∙ ap (λ k. Some (leads_to k x)) k) (leads-joined d r (of_mark x s)),
+)
+
+second_pushed : (d : ℕ) (r : Form) (m : Mark) (o : Option Entry) (x : Entry) → r.exit ≡ o → LeadsTo (Some (string_leads x)) o → m.kind ≡ String → (pushed_from d r m o).exit ≡ None
+second_pushed d r m None x e h k = e
+second_pushed d r m (Some y) x e (inl f) k = cc
+second_pushed d r m (Some y) x e (inr f) k =
+    subst (λ y. (joined d r (of_mark y m)).exit ≡ None) (sym (same_Some y (string_leads x) f)) (second_none d r x m k)
+
+two_strings : (d : ℕ) (r : Form) (s m : Mark) → s.kind ≡ String → m.kind ≡ String → (pushed d (pushed d r s) m).exit ≡ None
+two_strings d r s m a b =
+    let x = string_leads_on d r s r.exit refl a in
+    second_pushed d (pushed d r s) m (pushed d r s).exit x.0 refl x.1 b
+
+is_string : (k : MarkKind) → (k ≡ String) ⊎ (k ≡ String → ⊥)
+is_string OpenArray = inr (λ e. cc)
+is_string CloseArray = inr (λ e. cc)
+is_string OpenObject = inr (λ e. cc)
+is_string CloseObject = inr (λ e. cc)
+is_string Colon = inr (λ e. cc)
+is_string Comma = inr (λ e. cc)
+is_string String = inl refl
+is_string Number = inr (λ e. cc)
+is_string True = inr (λ e. cc)
+is_string False = inr (λ e. cc)
+is_string Null = inr (λ e. cc)
+
+of_last : (d : ℕ) (r : Form) (ms before : List Mark) (last : Mark) → ms ≡ before ++ last ∷ [] → of_marks d r ms ≡ pushed d (of_marks d r before) last
+of_last d r ms before last e = ap (of_marks d r) e ∙ of_marks-append d r before (last ∷ [])
+
+-- where something goes on behind the marks of a head, it stands at the same entry
 ends_at : (d : ℕ) (r : Form) (ms : List Mark) (k : MarkKind) (y : Entry) → EndsWith ms k → (of_marks d r ms).exit ≡ Some y → y ≡ leads_to k AnyValue
-ends_at d r ms k y ends h =
-    pushed_leads d (of_marks d r ends.before) ends.last (of_marks d r ends.before).exit y refl (λ e. ends.other (sym ends.kind_is ∙ e))
-    (ap (λ (f : Form). f.exit) (sym (ap (of_marks d r) ends.is ∙ of_marks-append d r ends.before (ends.last ∷ []))) ∙ h)
-    ∙ ap (λ k. leads_to k AnyValue) ends.kind_is
+ends_at d r ms k y ends h = at (is_string k) where
+  at : (k ≡ String) ⊎ (k ≡ String → ⊥) → y ≡ leads_to k AnyValue
+  at (inr other) =
+      pushed_leads d (of_marks d r ends.before) ends.last (of_marks d r ends.before).exit y refl (λ e. other (sym ends.kind_is ∙ e))
+      (ap (λ (f : Form). f.exit) (sym (of_last d r ms ends.before ends.last ends.is)) ∙ h)
+      ∙ ap (λ k. leads_to k AnyValue) ends.kind_is
+  at (inl e) =
+      let s = ends.other e in
+      let none : (of_marks d r ms).exit ≡ None =
+      ap (λ (f : Form). f.exit) (of_last d r ms ends.before ends.last ends.is ∙ ap (λ f. pushed d f ends.last) (of_last d r ends.before s.before s.last s.is))
+      ∙ two_strings d (of_marks d r s.before) s.last ends.last s.kind_is (ends.kind_is ∙ e) in
+      absurd (cc (none, h))
+
+-- ---- the parts of marks
+
+-- the heads of marks
+pub first_within : (ms : List Mark) (m : Mark) → slice_get ms 0 ≡ Some m → 1 ≤ length ms
+first_within [] m e = absurd cc
+first_within (x ∷ ms) m e = omega arith
+
+pub first_ends : (ms : List Mark) (m : Mark) → slice_get ms 0 ≡ Some m → (m.kind ≡ String → ⊥) → EndsWith (take 1 ms) m.kind
+first_ends [] m e other = absurd cc
+first_ends (x ∷ ms) m e other = record { before = []; last = x; is = refl; kind_is = ap (λ (m : Mark). m.kind) (same_Some x m e); other = λ k. absurd (other k) }
+
+pub second_ends : (ms : List Mark) (s m : Mark) → slice_get ms 0 ≡ Some s → true ≡ nat_lt 1 (length ms) → m ≡ get_or ms 1 m → s.kind ≡ String → EndsWith (take 2 ms) m.kind
+second_ends [] s m a b c k = absurd cc
+second_ends (x ∷ []) s m a b c k = absurd cc
+second_ends (x ∷ y ∷ ms) s m a b c k =
+    record {
+      before = x ∷ [];
+      last = y;
+      is = refl;
+      kind_is = ap (λ (m : Mark). m.kind) (sym c);
+      other = λ _. record { before = []; last = x; is = refl; kind_is = ap (λ (m : Mark). m.kind) (same_Some x s a) ∙ k };
+    }
+
+-- marks that are cut behind their head
+pub parts_at : (d n : ℕ) (ms : List Mark) (k : MarkKind) (t : Reduced) → RisingFrom 0 ms → n ≤ length ms → EndsWith (take n ms) k → depth_of t ≡ d
+    → form_in t ≡ of_marks d (of_nothing (leads_to k AnyValue)) (drop n ms) → AreParts d (take n ms) (Some t) ms
+parts_at d n ms k t rising few ends depth form =
+    let same : length (take n ms) ≡ n = length-take-le n ms few in
+    record {
+      rising = rising;
+      head_is = ap (λ n. take n ms) (sym same);
+      tail_is = subst (λ n. IsTail d ms n t) (sym same) (record { kind = k; ends = ends; depth = depth; form = form });
+    }
+
+-- marks that are all in the head
+pub parts_all : (d : ℕ) (ms : List Mark) → RisingFrom 0 ms → AreParts d ms None ms
+parts_all d ms rising = record { rising = rising; head_is = sym (take_all (length ms) ms (omega arith)); tail_is = omega arith }
+
+all_head : (d : ℕ) (head ms : List Mark) → AreParts d head None ms → head ≡ ms
+all_head d head ms p = p.head_is ∙ take_all (length head) ms p.tail_is
+
+-- more marks, of which none end the head
+pub parts_more : (d : ℕ) (head ms more : List Mark) → AreParts d head None ms → RisingFrom 0 (ms ++ more) → AreParts d (head ++ more) None (ms ++ more)
+parts_more d head ms more p rising =
+    subst (λ head. AreParts d (head ++ more) None (ms ++ more)) (sym (all_head d head ms p)) (parts_all d (ms ++ more) rising)
+
+ends_more : (before ms : List Mark) (k : MarkKind) → EndsWith ms k → EndsWith (before ++ ms) k
+ends_more before ms k e =
+    record {
+      before = before ++ e.before;
+      last = e.last;
+      is = ap (λ ms. before ++ ms) e.is ∙ sym (append_assoc before e.before (e.last ∷ []));
+      kind_is = e.kind_is;
+      other = λ k. let s = e.other k in record {
+        before = before ++ s.before;
+        last = s.last;
+        is = ap (λ ms. before ++ ms) s.is ∙ sym (append_assoc before s.before (s.last ∷ []));
+        kind_is = s.kind_is;
+      };
+    }
+
+-- more marks, among which the head ends
+pub parts_end : (d n : ℕ) (head ms more : List Mark) (k : MarkKind) (t : Reduced) → AreParts d head None ms → RisingFrom 0 (ms ++ more)
+    → n ≤ length more → EndsWith (take n more) k → depth_of t ≡ d → form_in t ≡ of_marks d (of_nothing (leads_to k AnyValue)) (drop n more)
+    → AreParts d (head ++ take n more) (Some t) (ms ++ more)
+parts_end d n head ms more k t p rising few ends depth form = subst (λ head. AreParts d (head ++ take n more) (Some t) (ms ++ more)) (sym (all_head d head ms p)) parts where
+  cut : (ms ++ take n more) ++ drop n more ≡ ms ++ more
+  cut = append_assoc ms (take n more) (drop n more) ∙ ap (λ more. ms ++ more) (take-append-drop n more)
+
+  first : take (length (ms ++ take n more)) (ms ++ more) ≡ ms ++ take n more
+  first = ap (take (length (ms ++ take n more))) (sym cut) ∙ take-append_seam (ms ++ take n more) (drop n more)
+
+  rest : drop (length (ms ++ take n more)) (ms ++ more) ≡ drop n more
+  rest = ap (drop (length (ms ++ take n more))) (sym cut) ∙ drop-append_seam (ms ++ take n more) (drop n more)
+
+  parts : AreParts d (ms ++ take n more) (Some t) (ms ++ more)
+  parts =
+      record {
+        rising = rising;
+        head_is = sym first;
+        tail_is = record {
+          kind = k;
+          ends = subst (λ ms. EndsWith ms k) (sym first) (ends_more ms (take n more) k ends);
+          depth = depth;
+          form = form ∙ ap (of_marks d (of_nothing (leads_to k AnyValue))) (sym rest);
+        };
+      }
+
+head_within : (head ms : List Mark) → head ≡ take (length head) ms → length head ≤ length ms
+head_within head ms e = omega (arith, ap length e, length-take (length head) ms)
+
+-- more marks, which the tail goes on with
+pub parts_on : (d : ℕ) (head ms more : List Mark) (t next : Reduced) → AreParts d head (Some t) ms → RisingFrom 0 (ms ++ more)
+    → depth_of next ≡ depth_of t → form_in next ≡ of_marks (depth_of t) (form_in t) more → AreParts d head (Some next) (ms ++ more)
+parts_on d head ms more t next p rising depth form =
+    let few : length head ≤ length ms = head_within head ms p.head_is in
+    record {
+      rising = rising;
+      head_is = p.head_is ∙ sym (take-append-le (length head) ms more few);
+      tail_is = record {
+        kind = p.tail_is.kind;
+        ends = subst (λ ms. EndsWith ms p.tail_is.kind) (sym (take-append-le (length head) ms more few)) p.tail_is.ends;
+        depth = depth ∙ p.tail_is.depth;
+        form =
+            form ∙ ap (λ d. of_marks d (form_in t) more) p.tail_is.depth ∙ ap (λ f. of_marks d f more) p.tail_is.form
+            ∙ sym (of_marks-append d (of_nothing (leads_to p.tail_is.kind AnyValue)) (drop (length head) ms) more)
+            ∙ ap (of_marks d (of_nothing (leads_to p.tail_is.kind AnyValue))) (sym (drop-append-le (length head) ms more few));
+      };
+    }
 
 -- the forms of marks from each entry
 abbrev forms_from : ℕ → List Mark → Forms

@@ -1,43 +1,20 @@
--- Marks that are reduced window by window.
-use Rattle.std.proofs.Common.{◌≡◌, ℕ, suc, ◌+◌, ◌-◌, ◌<◌, ◌≤◌, List, [], ◌∷◌, ◌++◌, length, append_assoc, append-nil, refl, sym, ap, subst, ◌∙◌, arith, Option, None, Some, true}
-use Rattle.std.specs.Prelude.{slice_get}
-use Rattle.jx_reduce.specs.Offsets.{EachIn, RisingFrom}
+-- Marks that are read window by window.
+use Rattle.std.proofs.Common.{◌≡◌, ℕ, ◌+◌, ◌-◌, List, [], ◌∷◌, ◌++◌, length, append_assoc, append-nil, refl, sym, ap, subst, ◌∙◌, arith, Option, None, Some, true}
+use Rattle.std.specs.Prelude.{◌↔◌, slice_get}
+use Rattle.jx_reduce.specs.Offsets.{RisingFrom}
+use Rattle.jx_reduce.specs.Parts.{AreParts}
 use Rattle.jx_reduce.specs.Reducer.{ReducerValue, IsFront, HasReduced, past}
-use Rattle.jx_reduce.specs.Reductions.{Forms, IsBefore, IsOf, SpansIn}
-use Rattle.jx_reduce.proofs.Cuts.{RisingFrom-less}
-use Rattle.jx_reduce.proofs.Spans.{before_of_spans, SpansIn_wider}
+use Rattle.jx_reduce.proofs.Parts.{parts_all}
 use Rattle.jx_lex.specs.declared.mark.Mark.{Mark}
-
-abbrev pub IsIn : ℕ → ℕ → Mark → Type 0
-IsIn low high m = (low ≤ m.at) × (m.at < high)
 
 -- just past the last of the marks, or where none is, this
 abbrev pub end_of : ℕ → List Mark → ℕ
 end_of b [] = b
 end_of b (m ∷ ms) = end_of (m.at + 1) ms
 
-pub end-low : (b : ℕ) (ms : List Mark) → RisingFrom b ms → b ≤ end_of b ms
-end-low b [] h = omega arith
-end-low b (m ∷ ms) h = let r = end-low (m.at + 1) ms h.1 in let l = h.0 in omega (arith, r, l)
-
-lower : (b c d : ℕ) (ms : List Mark) → b ≤ c → EachIn (IsIn c d) ms → EachIn (IsIn b d) ms
-lower b c d [] h e = tt
-lower b c d (m ∷ ms) h e = ((omega (arith, h, e.0.0), e.0.1), lower b c d ms h e.1)
-
-pub rising-in : (b : ℕ) (ms : List Mark) → RisingFrom b ms → EachIn (IsIn b (end_of b ms)) ms
-rising-in b [] h = tt
-rising-in b (m ∷ ms) h =
-    let r = end-low (m.at + 1) ms h.1 in
-    let l = h.0 in
-    ((l, omega (arith, r)), lower b (m.at + 1) (end_of (m.at + 1) ms) ms (omega (arith, l)) (rising-in (m.at + 1) ms h.1))
-
 pub rising-parts : (b : ℕ) (xs ys : List Mark) → RisingFrom b (xs ++ ys) → RisingFrom b xs × RisingFrom (end_of b xs) ys
 rising-parts b [] ys h = (tt, h)
 rising-parts b (x ∷ xs) ys h = let r = rising-parts (x.at + 1) xs ys h.1 in ((h.0, r.0), r.1)
-
-each-front : (Q : Mark → Type 0) (xs ys : List Mark) → EachIn Q (xs ++ ys) → EachIn Q xs × EachIn Q ys
-each-front Q [] ys h = (tt, h)
-each-front Q (x ∷ xs) ys h = let r = each-front Q xs ys h.1 in ((h.0, r.0), r.1)
 
 end-last : (b : ℕ) (m : Mark) (ms : List Mark) (l : Mark) → slice_get (m ∷ ms) (length ms) ≡ Some l → end_of b (m ∷ ms) ≡ l.at + 1
 end-last b m [] l h = let e : m ≡ l = cc in ap (λ (x : Mark). x.at + 1) e
@@ -47,8 +24,6 @@ end-last b m (n ∷ ms) l h = end-last (m.at + 1) n ms l h
 pub past-last : (b : ℕ) (ms : List Mark) (l : Mark) → slice_get ms (length ms - 1) ≡ Some l → past (Some l.at) ≡ end_of b ms
 past-last b [] l h = absurd cc
 past-last b (m ∷ ms) l h = sym (end-last b m ms l (ap (slice_get (m ∷ ms)) (let e : length ms ≡ length (m ∷ ms) - 1 = omega arith in e) ∙ h))
-
--- ---- a window is reduced
 
 has_last : (m : Mark) (ms : List Mark) → (l : Mark) × (slice_get (m ∷ ms) (length ms) ≡ Some l)
 has_last m [] = (m, refl)
@@ -62,74 +37,81 @@ past-none b (m ∷ ms) h =
     let some : None ≡ Some l.0 = sym h ∙ ap (slice_get (m ∷ ms)) same ∙ l.1 in
     absurd (cc)
 
-module _ (last : Option ℕ) (ms : List Mark) (l r : Forms) (h : RisingFrom (past last) ms) (a : SpansIn 0 (past last) l)
-    (b : (low high : ℕ) → EachIn (IsIn low high) ms → SpansIn low high r) where
-  pub window_before : IsBefore l r
-  window_before = before_of_spans 0 (past last) (end_of (past last) ms) l r a (b (past last) (end_of (past last) ms) (rising-in (past last) ms h))
+-- more marks behind those that rise
+rising-more : (b : ℕ) (xs ys : List Mark) → RisingFrom b xs → RisingFrom (end_of b xs) ys → RisingFrom b (xs ++ ys)
+rising-more b [] ys h k = k
+rising-more b (x ∷ xs) ys h k = (h.0, rising-more (x.at + 1) xs ys h.1 k)
 
-  module _ (j : Forms) (both : (low high : ℕ) → SpansIn low high l → SpansIn low high r → SpansIn low high j) (next : Option ℕ) (e : past next ≡ end_of (past last) ms) where
-    pub window_within : SpansIn 0 (past next) j
-    window_within =
-        let high = end-low (past last) ms h in
-        subst (λ n. SpansIn 0 n j) (sym e)
-        (both 0 (end_of (past last) ms)
-        (SpansIn_wider 0 (past last) 0 (end_of (past last) ms) l (omega arith) high a)
-        (SpansIn_wider (past last) (end_of (past last) ms) 0 (end_of (past last) ms) r (omega arith) (omega arith)
-        (b (past last) (end_of (past last) ms) (rising-in (past last) ms h))))
+-- marks that go on rising behind a window
+pub behind_window : (b : ℕ) (next : Option ℕ) (window : List Mark) → RisingFrom b window → past next ≡ end_of b window
+    → (more : List Mark) → RisingFrom b (window ++ more) ↔ RisingFrom (past next) more
+behind_window b next window h e more = (
+  λ up. subst (λ n. RisingFrom n more) (sym e) (rising-parts b window more up).1,
+  λ up. rising-more b window more h (subst (λ n. RisingFrom n more) e up),
+)
 
-    pub window_front : IsOf ms r → ((xs ys : List Mark) → IsOf xs l → IsOf ys r → IsOf (xs ++ ys) j) → (front : List Mark) → IsFront front l last → IsFront (front ++ ms) j next
-    window_front reads joins front k =
-        record {
-          reads = joins front ms k.reads reads;
-          offsets = λ low high each. let parts = each-front (IsIn low high) front ms each in both low high (k.offsets low high parts.0) (b low high parts.1);
-          behind = λ more up.
-              subst (λ n. RisingFrom n more) (sym e)
-              (rising-parts (past last) ms more (k.behind (ms ++ more) (subst (RisingFrom 0) (append_assoc front ms more) up))).1;
-        }
+-- the front of no marks
+pub no_front : (d : ℕ) (head : List Mark) → head ≡ [] → IsFront [] d head None None
+no_front d head e = subst (λ head. IsFront [] d head None None) (sym e) (record { parts = parts_all d [] tt; behind = λ more. (λ up. up, λ up. up) })
 
-pub nothing_front : (f : Forms) → IsOf [] f → ((low high : ℕ) → SpansIn low high f) → IsFront [] f None
-nothing_front f reads spans = record { reads = reads; offsets = λ low high each. spans low high; behind = λ more up. up }
+pub nothing_reduced : (d : ℕ) (head window : List Mark) → head ≡ [] → window ≡ []
+    → HasReduced [] (record { depth = d; head = head; tail = None; last = None; window = window; rising = true })
+nothing_reduced d head window e f rising = record { front = []; are = sym f; rising = refl; is = no_front d head e }
 
-pub nothing_reduced : (f : Forms) → IsOf [] f → ((low high : ℕ) → SpansIn low high f) → (window : List Mark) → window ≡ []
-    → HasReduced [] (record { reduced = f; last = None; window = window; rising = true })
-nothing_reduced f reads spans window e rising = record { front = []; are = sym e; rising = refl; is = nothing_front f reads spans }
+-- ---- a window is read
 
--- ---- a window is reduced
+-- what reading a window comes to
+pub record IsRead (old new : ReducerValue) : Type 0 where
+  pub depth : new.depth ≡ old.depth
+  pub window : RisingFrom (past old.last) old.window
+  pub parts : (front : List Mark) → AreParts old.depth old.head old.tail front → RisingFrom 0 (front ++ old.window) → AreParts old.depth new.head new.tail (front ++ old.window)
+  pub behind : (more : List Mark) → RisingFrom (past old.last) (old.window ++ more) ↔ RisingFrom (past new.last) more
 
-pub window_reduced : (old new : ReducerValue) → new.window ≡ [] → new.rising ≡ old.rising
-    → ((front : List Mark) → IsFront front old.reduced old.last → IsFront (front ++ old.window) new.reduced new.last)
+pub front_read : (old new : ReducerValue) → IsRead old new → (front : List Mark) → IsFront front old.depth old.head old.tail old.last
+    → IsFront (front ++ old.window) new.depth new.head new.tail new.last
+front_read old new r front k =
+    record {
+      parts = subst (λ d. AreParts d new.head new.tail (front ++ old.window)) (sym r.depth) (r.parts front k.parts ((k.behind old.window).1 r.window));
+      behind = λ more. (
+        λ up. (r.behind more).0 ((k.behind (old.window ++ more)).0 (subst (RisingFrom 0) (append_assoc front old.window more) up)),
+        λ up. subst (RisingFrom 0) (sym (append_assoc front old.window more)) ((k.behind (old.window ++ more)).1 ((r.behind more).1 up)),
+      );
+    }
+
+pub window_reduced : (old new : ReducerValue) → IsRead old new → new.window ≡ [] → new.rising ≡ true
     → (marks : List Mark) → HasReduced marks old → HasReduced marks new
-window_reduced old new e same goes marks h rising =
+window_reduced old new r e same marks h rising =
     let k = h rising in
     record {
       front = k.front ++ old.window;
       are = k.are ∙ sym (append-nil (k.front ++ old.window)) ∙ ap (λ xs. (k.front ++ old.window) ++ xs) (sym e);
-      rising = same ∙ k.rising;
-      is = goes k.front k.is;
+      rising = same;
+      is = front_read old new r k.front k.is;
     }
 
 -- marks that don't rise are of no account
 pub not_rising : (old new : ReducerValue) → (old.rising ≡ true → RisingFrom (past old.last) old.window → ⊥) → (marks : List Mark) → HasReduced marks old → HasReduced marks new
 not_rising old new falls marks h rising =
-    let k = h rising in absurd (falls k.rising (k.is.behind old.window (subst (RisingFrom 0) k.are rising)))
+    let k = h rising in absurd (falls k.rising ((k.is.behind old.window).0 (subst (RisingFrom 0) k.are rising)))
 
-pub window_pushed : (old new : ReducerValue) (m : Mark) → new.reduced ≡ old.reduced → new.last ≡ old.last → new.window ≡ old.window ++ m ∷ [] → new.rising ≡ old.rising
-    → (marks : List Mark) → HasReduced marks old → HasReduced (marks ++ m ∷ []) new
-window_pushed old new m a b c d marks h rising =
+pub window_pushed : (old : ReducerValue) (window : List Mark) (m : Mark) → window ≡ old.window ++ m ∷ []
+    → (marks : List Mark) → HasReduced marks old
+    → HasReduced (marks ++ m ∷ []) (record { depth = old.depth; head = old.head; tail = old.tail; last = old.last; window = window; rising = old.rising })
+window_pushed old window m e marks h rising =
     let k = h (rising-parts 0 marks (m ∷ []) rising).0 in
     record {
       front = k.front;
-      are = ap (λ xs. xs ++ m ∷ []) k.are ∙ append_assoc k.front old.window (m ∷ []) ∙ ap (λ xs. k.front ++ xs) (sym c);
-      rising = d ∙ k.rising;
-      is = subst (λ l. IsFront k.front new.reduced l) (sym b) (subst (λ f. IsFront k.front f old.last) (sym a) k.is);
+      are = ap (λ xs. xs ++ m ∷ []) k.are ∙ append_assoc k.front old.window (m ∷ []) ∙ ap (λ xs. k.front ++ xs) (sym e);
+      rising = k.rising;
+      is = k.is;
     }
 
-pub all_front : (r : ReducerValue) → r.window ≡ [] → (marks : List Mark) → HasReduced marks r → RisingFrom 0 marks → IsFront marks r.reduced r.last
+-- with no window left, the marks are the front
+pub all_front : (r : ReducerValue) → r.window ≡ [] → (marks : List Mark) → HasReduced marks r → RisingFrom 0 marks
+    → (r.rising ≡ true) × IsFront marks r.depth r.head r.tail r.last
 all_front r e marks h rising =
-    let k = h rising in subst (λ ms. IsFront ms r.reduced r.last) (sym (k.are ∙ ap (λ xs. k.front ++ xs) e ∙ append-nil k.front)) k.is
-
-pub lower_start : (b : ℕ) (ms : List Mark) → RisingFrom b ms → RisingFrom 0 ms
-lower_start b ms h = RisingFrom-less b 0 ms (omega arith) h
+    let k = h rising in
+    (k.rising, subst (λ ms. IsFront ms r.depth r.head r.tail r.last) (sym (k.are ∙ ap (λ xs. k.front ++ xs) e ∙ append-nil k.front)) k.is)
 
 -- ---- the test
 

@@ -4,6 +4,7 @@ use Rattle.jx_reduce.specs.Entries.{leads_to}
 use Rattle.jx_reduce.specs.Form.{Form}
 use Rattle.jx_reduce.specs.Join.{joined}
 use Rattle.jx_reduce.specs.Marks.{of_marks, of_nothing}
+use Rattle.jx_reduce.specs.Offsets.{RisingFrom}
 use Rattle.jx_reduce.specs.Reduced.{depth_of, form_in}
 use Rattle.jx_reduce.specs.declared.entry.Entry.{Entry}
 use Rattle.jx_reduce.specs.declared.entry.Entry.TheVariants.{Value as AnyValue}
@@ -12,13 +13,19 @@ use Rattle.jx_lex.specs.declared.mark.Mark.{Mark}
 use Rattle.jx_lex.specs.declared.mark.MarkKind.{MarkKind}
 use Rattle.jx_lex.specs.declared.mark.MarkKind.TheVariants.{String}
 
--- the last of these marks is of this kind, and no string
+pub record EndsWithString (ms : List Mark) : Type 0 where
+  pub before : List Mark
+  pub last : Mark
+  pub is : ms ≡ before ++ last ∷ []
+  pub kind_is : last.kind ≡ String
+
+-- the last of these marks is of this kind, and no string, or a string behind a string, where nothing goes on
 pub record EndsWith (ms : List Mark) (kind : MarkKind) : Type 0 where
   pub before : List Mark
   pub last : Mark
   pub is : ms ≡ before ++ last ∷ []
   pub kind_is : last.kind ≡ kind
-  pub other : kind ≡ String → ⊥
+  pub other : kind ≡ String → EndsWithString before
 
 -- the form of what stands behind the first n marks, or no form where nothing does
 pub record IsTail (d : ℕ) (ms : List Mark) (n : ℕ) (t : Reduced) : Type 0 where
@@ -30,6 +37,12 @@ pub record IsTail (d : ℕ) (ms : List Mark) (n : ℕ) (t : Reduced) : Type 0 wh
 abbrev pub IsTailOf : ℕ → List Mark → ℕ → Option Reduced → Type 0
 IsTailOf d ms n None = length ms ≤ n
 IsTailOf d ms n (Some t) = IsTail d ms n t
+
+-- the first of these marks are the head, and the tail is of all that stand behind it
+pub record AreParts (d : ℕ) (head : List Mark) (tail : Option Reduced) (ms : List Mark) : Type 0 where
+  pub rising : RisingFrom 0 ms
+  pub head_is : head ≡ take (length head) ms
+  pub tail_is : IsTailOf d ms (length head) tail
 
 -- a form, and the tail behind it where something goes on
 abbrev pub tail_behind : ℕ → Form → Form → Option Entry → Form

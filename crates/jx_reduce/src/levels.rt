@@ -261,8 +261,21 @@ impl Levels {
         requires { depth < 2 ^ 32 }
         ensures form { IfOk result (λ r. form_of r ≡ of_marks depth (of_nothing entry) marks.now) }
         ensures fits { IfOk result (λ r. Fits depth (form_of r)) }
+        ensures goes_on { IfOk result (λ r. GoesOn (form_of r)) }
     {
-        let mut levels = Levels::new(alloc, entry);
+        Levels::new(alloc, entry).go_on(marks, depth)
+    }
+
+    /// Goes on with these marks. By value, since where memory is refused only some of them were read.
+    pub fn go_on(self, marks: &[Mark], depth: usize) -> Result<Levels, AllocError>
+        requires depth { depth < 2 ^ 32 }
+        requires fits { Fits depth (form_of self) }
+        requires goes_on { GoesOn (form_of self) }
+        ensures form { IfOk result (λ r. form_of r ≡ of_marks depth (form_of self) marks.now) }
+        ensures fits { IfOk result (λ r. Fits depth (form_of r)) }
+        ensures goes_on { IfOk result (λ r. GoesOn (form_of r)) }
+    {
+        let mut levels = self;
         let mut done = 0;
         while done < marks.len() && levels.exit.is_some() {
             done += levels.run(depth, &marks[done..]);

@@ -7,6 +7,7 @@ ghost use Rattle.jx_reduce.specs.Marks.{of_marks, of_nothing};
 ghost use Rattle.jx_reduce.specs.Fits.{Fits};
 ghost use Rattle.jx_reduce.specs.Levels.{form_of, HasRoomOf};
 ghost use Rattle.jx_reduce.specs.Outcome.{reading_of};
+ghost use Rattle.jx_reduce.specs.Quiet.{GoesOn};
 ghost use Rattle.jx_reduce.specs.Whole.{whole_of};
 
 use crate::act::top_of;
@@ -32,6 +33,7 @@ pub struct Reduced {
     depth: Depth,
     levels: Levels,
     ghost fits: { Fits depth (form_of levels) },
+    ghost goes_on: { GoesOn (form_of levels) },
 }
 
 impl Reduced {
@@ -60,6 +62,16 @@ impl Reduced {
         ensures form { IfOk result (λ r. form_in r ≡ of_marks depth (of_nothing entry) marks.now) }
     {
         let levels = Levels::of(alloc, entry, marks, depth.containers() as usize)?;
+        Ok(Reduced { depth, levels })
+    }
+
+    /// Goes on with these marks, none of which is looked at again.
+    pub(crate) fn read_on(self, marks: &[Mark]) -> Result<Reduced, AllocError>
+        ensures depth { IfOk result (λ r. depth_of r ≡ depth_of self) }
+        ensures form { IfOk result (λ r. form_in r ≡ of_marks (depth_of self) (form_in self) marks.now) }
+    {
+        let Reduced { depth, levels } = self;
+        let levels = levels.go_on(marks, depth.containers() as usize)?;
         Ok(Reduced { depth, levels })
     }
 

@@ -1,38 +1,42 @@
 // Marks that are reduced as they come.
 
-ghost use Rattle.std.specs.Prelude.{◌≡◌, ◌↔◌, ◌≤◌, ◌<◌, ◌++◌, ℕ, List, [], ◌∷◌, IsTrue, OnOk, OnErr, IfOk};
+ghost use Rattle.std.specs.Prelude.{◌≡◌, ◌↔◌, ◌≤◌, ◌<◌, ◌++◌, ℕ, List, [], ◌∷◌, true, IsTrue, OnOk, IfOk};
 ghost use Rattle.jx_reduce.specs.Offsets.{RisingFrom, EachIn};
-ghost use Rattle.jx_reduce.specs.Reducer.{HasReduced, IsFront, past};
+ghost use Rattle.jx_reduce.specs.Parts.{AreParts};
+ghost use Rattle.jx_reduce.specs.Reducer.{ReducerValue, HasReduced, IsFront, past};
 ghost use Rattle.jx_reduce.specs.Reductions.{IsOf, SpansIn};
 ghost use Rattle.jx_lex.specs.declared.mark.Mark.{Mark};
 
-use crate::reductions::Reductions;
+use crate::entry::Entry;
+use crate::reduced::Reduced;
+use crate::reductions::{Reductions, head_of};
 use jx_lex::{Depth, Keeper, Mark};
 use std::alloc::{AllocError, Global};
 use std::marker::Model;
 
-/// So many marks are held before they are reduced. They stay in the first cache.
+/// So many marks are held before they are read. They stay in the first cache.
 const WINDOW: usize = 512;
 
-/// The structure of marks that are given one by one, in the order of their offsets. A short window of them is held, and no
-/// other.
+/// The structure of marks that are given one by one, in the order of their offsets. The first
+/// one or two, up to one that is no string, are kept, to be read from each entry in the end. Those behind them are read
+/// once, window by window, and only the window is held.
 #[derive(Drop)]
 pub struct Reducer {
-    reduced: Reductions,
+    depth: Depth,
+    head: Vec<Mark>,
+    // none until the head is complete
+    tail: Option<Reduced>,
     last: Option<usize>,
     window: Vec<Mark>,
     rising: bool,
 }
 
 impl Model for Reducer {
-    ghost use Rattle.jx_reduce.specs.Reducer.{ReducerValue, past};
-    ghost use Rattle.jx_reduce.specs.Reductions.{SpansIn};
-
     ghost Value = { ReducerValue };
 
-    ghost view = { λ r. record { reduced = r.reduced; last = r.last; window = r.window.items; rising = r.rising } };
+    ghost view = { λ r. record { depth = r.depth; head = r.head.items; tail = r.tail; last = r.last; window = r.window.items; rising = r.rising } };
 
-    ghost invariant = { λ r. SpansIn 0 (past r.last) r.reduced };
+    ghost invariant = { λ r. r.rising ≡ true → (front : List Mark) × IsFront front r.depth r.head.items r.tail r.last };
 }
 
 /// Whether the offsets of the marks rise, from behind the last mark before them.
@@ -51,52 +55,76 @@ fn rise(last: Option<usize>, marks: &[Mark]) -> bool
     true
 }
 
-/// Goes on with the marks of a window. Gives the last of all marks.
-fn take(
-    alloc: Global,
-    reduced: &mut Reductions,
-    last: Option<usize>,
-    window: &[Mark],
-) -> Result<Option<usize>, AllocError>
-    requires rising { RisingFrom (past last) window.now }
-    requires placed { SpansIn 0 (past last) reduced.old }
-    ensures depth { reduced.new.depth ≡ reduced.old.depth }
-    ensures placed { IfOk result (λ next. SpansIn 0 (past next) reduced.new) }
-    ensures front { IfOk result (λ next. (front : List Mark) → IsFront front reduced.old last → IsFront (front ++ window.now) reduced.new next) }
-    ensures err { OnErr result (reduced.new ≡ reduced.old) }
+/// The offset of the last of all marks.
+fn last_of(last: Option<usize>, marks: &[Mark]) -> Option<usize>
+    requires { RisingFrom (past last) marks.now }
+    ensures { (more : List Mark) → RisingFrom (past last) (marks.now ++ more) ↔ RisingFrom (past result) more }
 {
-    let next = Reductions::of(alloc, window, reduced.depth())?;
-    reduced.extend(&next)?;
-    match window.last() {
-        Some(mark) => Ok(Some(mark.at)),
-        None => Ok(last),
+    match marks.last() {
+        Some(mark) => Some(mark.at),
+        None => last,
+    }
+}
+
+/// Goes on with the marks of a window: as the tail does, and where there is none yet, with the marks of the head. Gives the
+/// tail behind the window.
+fn read_on(
+    head: &mut Vec<Mark>,
+    tail: Option<Reduced>,
+    window: &[Mark],
+    depth: Depth,
+) -> Result<Option<Reduced>, AllocError>
+    ensures { IfOk result (λ next. (front : List Mark) → AreParts depth head.old.items tail front → RisingFrom 0 (front ++ window.now) → AreParts depth head.new.items next (front ++ window.now)) }
+{
+    if let Some(tail) = tail {
+        return Ok(Some(tail.read_on(window)?));
+    }
+    match head_of(window) {
+        Some((len, kind)) => {
+            head.extend_from_slice(&window[..len])?;
+            let alloc = *head.allocator();
+            let entry = Entry::Value.leads_to(kind);
+            let tail = Reduced::of(alloc, entry, &window[len..], depth)?;
+            Ok(Some(tail))
+        }
+        None => {
+            head.extend_from_slice(window)?;
+            Ok(None)
+        }
     }
 }
 
 impl Reducer {
     /// A reducer of no marks so far. It takes no memory.
     pub fn new(alloc: Global, depth: Depth) -> Reducer
-        ensures depth { result.reduced.depth ≡ depth }
+        ensures depth { result.depth ≡ depth }
         ensures none { HasReduced [] result }
     {
         Reducer {
-            reduced: Reductions::new(alloc, depth),
+            depth,
+            head: Vec::new(alloc),
+            tail: None,
             last: None,
             window: Vec::new(alloc),
             rising: true,
         }
     }
 
-    /// Reduces the window.
+    /// Reads the window.
     #[inline(never)]
     fn flush(&mut self) -> Result<(), AllocError>
-        ensures depth { self.new.reduced.depth ≡ self.old.reduced.depth }
+        ensures depth { self.new.depth ≡ self.old.depth }
         ensures empty { OnOk result (self.new.window ≡ []) }
         ensures marks { OnOk result ((marks : List Mark) → HasReduced marks self.old → HasReduced marks self.new) }
     {
         if self.rising && rise(self.last, &self.window) {
-            let alloc = *self.window.allocator();
-            self.last = take(alloc, &mut self.reduced, self.last, &self.window)?;
+            // The tail is lost where memory is refused. Until it is back, nothing is promised of the marks, as where they
+            // don't rise.
+            self.rising = false;
+            let tail = self.tail.take();
+            self.tail = read_on(&mut self.head, tail, &self.window, self.depth)?;
+            self.last = last_of(self.last, &self.window);
+            self.rising = true;
         } else {
             self.rising = false;
         }
@@ -107,7 +135,7 @@ impl Reducer {
     /// One more mark. Only want of memory is refused.
     #[inline(always)]
     pub fn push(&mut self, mark: Mark) -> Result<(), AllocError>
-        ensures depth { self.new.reduced.depth ≡ self.old.reduced.depth }
+        ensures depth { self.new.depth ≡ self.old.depth }
         ensures marks { OnOk result ((marks : List Mark) → HasReduced marks self.old → HasReduced (marks ++ mark ∷ []) self.new) }
     {
         if self.window.len() >= WINDOW {
@@ -119,14 +147,26 @@ impl Reducer {
 
     /// The structure of the marks that it was given. Only want of memory is refused.
     pub fn finish(self) -> Result<Reductions, AllocError>
-        ensures depth { IfOk result (λ f. f.depth ≡ self.reduced.depth) }
+        ensures depth { IfOk result (λ f. f.depth ≡ self.depth) }
         ensures reads { (marks : List Mark) → HasReduced marks self → RisingFrom 0 marks → IfOk result (IsOf marks) }
         ensures offsets { (marks : List Mark) → HasReduced marks self → RisingFrom 0 marks → IfOk result (λ f. (low high : ℕ) → EachIn (λ m. (low ≤ m.at) × (m.at < high)) marks → SpansIn low high f) }
     {
         let mut reducer = self;
         reducer.flush()?;
-        let Reducer { reduced, .. } = reducer;
-        Ok(reduced)
+        let Reducer {
+            depth,
+            head,
+            tail,
+            window,
+            rising,
+            ..
+        } = reducer;
+        if rising {
+            Reductions::of_parts(*head.allocator(), &head, &tail, depth)
+        } else {
+            // There is no structure of marks in no order.
+            Ok(Reductions::new(*window.allocator(), depth))
+        }
     }
 }
 

@@ -6,7 +6,7 @@ ghost use Rattle.jx_reduce.specs.Fits.{IsOfSize};
 ghost use Rattle.jx_reduce.specs.Reduced.{depth_of, form_in};
 ghost use Rattle.jx_reduce.specs.Reductions.{form_at, entry_of, IsJoin, IsBefore, IsOf, SpansIn};
 ghost use Rattle.jx_reduce.specs.Follow.{followed, IsReady};
-ghost use Rattle.jx_reduce.specs.Parts.{EndsWith, IsTailOf};
+ghost use Rattle.jx_reduce.specs.Parts.{EndsWith, AreParts};
 ghost use Rattle.jx_lex.specs.declared.mark.Mark.{Mark};
 
 use crate::entry::Entry;
@@ -31,17 +31,20 @@ pub struct Reductions {
     after_or_colon: Reduced,
 }
 
-/// The marks up to the first that is no string: how many they are with it, and its kind.
-fn head_of(marks: &[Mark]) -> Option<(usize, MarkKind)>
+/// The marks up to the first that is no string, or up to the second: how many they are, and the last one's kind. Behind a
+/// string that stands behind a string nothing goes on.
+pub(crate) fn head_of(marks: &[Mark]) -> Option<(usize, MarkKind)>
     ensures within { IfSome result (λ head. head.0 ≤ length marks.now) }
     ensures ends { IfSome result (λ head. EndsWith (take head.0 marks.now) head.1) }
 {
-    for (at, mark) in marks.iter().enumerate() {
-        if mark.kind != MarkKind::String {
-            return Some((at + 1, mark.kind));
+    let first = marks.first()?;
+    match first.kind {
+        MarkKind::String => {
+            let second = marks.get(1)?;
+            Some((2, second.kind))
         }
+        kind => Some((1, kind)),
     }
-    None
 }
 
 impl Model for Reductions {
@@ -76,8 +79,8 @@ impl Reductions {
         }
     }
 
-    /// The structure of these marks. Behind the first mark that is no string, all entries that go on stand at the same
-    /// one: so the marks behind it are read once, for all of them. Only want of memory is refused.
+    /// The structure of these marks. Behind the first mark that is no string, or behind a second string, all entries that go
+    /// on stand at the same one: so the marks behind it are read once, for all of them. Only want of memory is refused.
     pub fn of(alloc: Global, marks: &[Mark], depth: Depth) -> Result<Reductions, AllocError>
         requires rising { RisingFrom 0 marks.now }
         ensures depth { IfOk result (λ f. f.depth ≡ depth) }
@@ -88,28 +91,24 @@ impl Reductions {
             Some((len, kind)) => {
                 let entry = Entry::Value.leads_to(kind);
                 let tail = Reduced::of(alloc, entry, &marks[len..], depth)?;
-                Reductions::of_parts(alloc, marks, len, &Some(tail), depth)
+                Reductions::of_parts(alloc, &marks[..len], &Some(tail), depth)
             }
-            None => Reductions::of_parts(alloc, marks, marks.len(), &None, depth),
+            None => Reductions::of_parts(alloc, marks, &None, depth),
         }
     }
 
-    /// The structure of these marks, of which the head is read from each entry, and the tail is what stands behind it.
-    fn of_parts(
+    /// The structure of all marks of which these are the head, that is read from each entry, and the tail behind it.
+    pub(crate) fn of_parts(
         alloc: Global,
-        marks: &[Mark],
-        len: usize,
+        head: &[Mark],
         tail: &Option<Reduced>,
         depth: Depth,
     ) -> Result<Reductions, AllocError>
-        requires rising { RisingFrom 0 marks.now }
-        requires len { len ≤ length marks.now }
-        requires tail { IsTailOf depth marks.now len tail.now }
+        requires parts { (marks : List Mark) × AreParts depth head.now tail.now marks }
         ensures depth { IfOk result (λ f. f.depth ≡ depth) }
-        ensures reads { IfOk result (λ f. IsOf marks.now f) }
-        ensures offsets { IfOk result (λ f. (low high : ℕ) → EachIn (λ m. (low ≤ m.at) × (m.at < high)) marks.now → SpansIn low high f) }
+        ensures reads { IfOk result (λ f. (marks : List Mark) → AreParts depth head.now tail.now marks → IsOf marks f) }
+        ensures offsets { IfOk result (λ f. (marks : List Mark) → AreParts depth head.now tail.now marks → (low high : ℕ) → EachIn (λ m. (low ≤ m.at) × (m.at < high)) marks → SpansIn low high f) }
     {
-        let head = &marks[..len];
         Ok(Reductions {
             depth,
             value: Reduced::of_parts(alloc, Entry::Value, head, tail, depth)?,

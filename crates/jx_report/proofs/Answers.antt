@@ -4,7 +4,8 @@ use Rattle.std.specs.Prelude.{slice_range, string_bytes, String, Vec}
 use Rattle.std.specs.declared.alloc.Global.{Global}
 use Rattle.std.proofs.lemmas.List.{take_all, length-drop}
 use Rattle.jx_run.specs.declared.settings.Settings.{Settings}
-use Rattle.jx_run.specs.declared.verdict.Verdict.TheVariants.{Accepted}
+use Rattle.jx_run.specs.declared.verdict.Verdict.{Verdict}
+use Rattle.jx_run.specs.declared.verdict.Verdict.TheVariants.{Accepted, Refused}
 use Rattle.std.specs.List.{AllZip}
 use Rattle.jx_run.specs.Elements.{Part}
 use Rattle.jx_run.specs.Text.{IsDocument, IsText}
@@ -20,10 +21,14 @@ use Rattle.jx_command.specs.declared.command.Task.TheVariants.{Index, At, Seq}
 use Rattle.jx_report.specs.declared.exit.Exit.{Exit}
 use Rattle.jx_report.specs.declared.exit.Exit.TheVariants.{Good}
 use Rattle.jx_report.specs.Elements.{element_lines, exit_past, exit_past_all, exit_past_judged, judged_line, judged_lines}
-use Rattle.jx_report.specs.JudgedWords.{SaysJudged}
-use Rattle.jx_report.specs.Output.{Output, SaysRows}
+use Rattle.jx_report.specs.Output.{ByVerdict, Output, SaysAccepted, SaysRows}
 use Rattle.jx_report.specs.Pointers.{PointerLines}
-use Rattle.jx_report.specs.Trees.{HasTree}
+use Rattle.jx_report.specs.Replies.{verdict_exit, verdict_line}
+
+-- what is written for a verdict alone, whatever is written for a text that is accepted
+pub says_verdict : (verdict : Verdict) → ByVerdict SaysAccepted verdict (verdict_line verdict) (verdict_exit verdict)
+says_verdict Accepted = (refl, refl)
+says_verdict (Refused refusal) = (refl, refl)
 
 drop_front : (xs ys : List ℕ) → drop (length xs) (xs ++ ys) ≡ ys
 drop_front [] ys = refl
@@ -44,14 +49,11 @@ module _ (text : List ℕ) (settings : Settings) (index : IndexedValue) (judged 
       let at : 0 + length x.is_text.front ≡ length x.is_text.front = omega arith in
       subst (λ (i : ℕ). IsDocument i x.is_text.rest settings.depth x.tree) at x.is_text.text
 
-  pub text_there : IsText index.text index.place.start index.place.end settings.depth x.tree
+  text_there : IsText index.text index.place.start index.place.end settings.depth x.tree
   text_there =
       subst (λ p. IsText index.text p.start p.end settings.depth x.tree) (sym x.place)
       (subst (λ t. IsText t (length x.is_text.front) (length text) settings.depth x.tree) (sym x.text)
       (subst (λ b. IsDocument (length x.is_text.front) b settings.depth x.tree) (sym rest) text_behind))
-
-  pub has_tree : HasTree index
-  has_tree = record { limit = settings.depth; tree = x.tree; is_text = text_there }
 
   pub rows_output : (output : List ℕ) (exit : Exit) → SaysRows index.rows output exit → Output Index settings text output exit
   rows_output output exit h = (Accepted, judged, (x.tree, x.is_text, subst (λ (r : List Row). SaysRows r output exit) x.rows_are h))
@@ -93,14 +95,11 @@ answered settings text (p ∷ ps) (j ∷ js) z =
       less = ap (λ x. x ∷ map judged rest.answers) one.less ∙ ap (λ xs. j ∷ xs) rest.less;
     }
 
-pub judged_output : (text : List ℕ) (settings : Settings) (js : List JudgedElement) (output : List ℕ) (exit : Exit) → AreJudgedBy settings text js → SaysJudged js output exit
-    → Output Seq settings text output exit
-judged_output text settings js output exit h says =
+pub judged_output : (text : List ℕ) (settings : Settings) (js : List JudgedElement) → AreJudgedBy settings text js
+    → Output Seq settings text (judged_lines js) (exit_past_judged Good js)
+judged_output text settings js h =
     let a = answered settings text (elements_by settings.mark text) js h in (
       a.answers,
       a.are,
-      (
-        says.0 ∙ ap judged_lines (sym a.less) ∙ sym (lines_same a.answers),
-        says.1 ∙ ap (exit_past_judged Good) (sym a.less) ∙ sym (exits_same Good a.answers),
-      ),
+      (ap judged_lines (sym a.less) ∙ sym (lines_same a.answers), ap (exit_past_judged Good) (sym a.less) ∙ sym (exits_same Good a.answers)),
     )

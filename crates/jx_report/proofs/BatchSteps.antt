@@ -8,7 +8,10 @@ use Rattle.std.proofs.lemmas.List.{take_all, length-append}
 use Rattle.jx_run.specs.Reader.{ReaderValue, HasRead}
 use Rattle.jx_run.specs.declared.settings.Settings.{Settings}
 use Rattle.jx_report.specs.declared.text_check.TextCheck.{TextCheck}
+use Rattle.jx_report.specs.declared.sequence_check.SequenceCheck.{SequenceCheck}
 use Rattle.jx_report.specs.Batches.{GoesOn, IsChecked, IsTaken, ShowsFront}
+use Rattle.jx_report.specs.Ends.{ReadsToEnd}
+use Rattle.jx_report.specs.Sequences.{AreTaken, IsSequenceTaken}
 
 -- the part up to an offset, and what stands from there up to another
 pub up_to : (bytes text : List ℕ) (done end : ℕ) → done ≤ end → (bytes ++ take done text) ++ take (end - done) (drop done text) ≡ bytes ++ take end text
@@ -51,19 +54,27 @@ pub length_front : (n : ℕ) (xs : List ℕ) → n ≤ length xs → length (tak
 length_front n xs h = rw length-take (omega (arith, h))
 
 -- a batch of at least three bytes more was taken in
-pub taken_more : (settings : Settings) (text slice part : List ℕ) (n : ℕ) (a b c : Option (List ℕ)) (check : TextCheck) → IsTaken settings (text ++ slice) check → slice ≡ part
-    → length part ≡ n → 3 ≤ n → Consumes a b text → Consumes b c part → (x : List ℕ) × (ShowsFront x × (IsTaken settings x check × Consumes a c x))
-taken_more settings text slice part n a b c check taken same long least before more =
+pub taken_more : (P : List ℕ → Type 0) (text slice part : List ℕ) (n : ℕ) (a b c : Option (List ℕ)) → P (text ++ slice) → slice ≡ part
+    → length part ≡ n → 3 ≤ n → Consumes a b text → Consumes b c part → (x : List ℕ) × (ShowsFront x × (P x × Consumes a c x))
+taken_more P text slice part n a b c taken same long least before more =
     let sum : length (text ++ slice) ≡ length text + length slice = length-append text slice in
     let all : length slice ≡ n = ap length same ∙ long in
     let shown : 3 ≤ length (text ++ slice) = omega (arith, sum, all, least) in
     (text ++ slice, (inr shown, (taken, subst (λ (xs : List ℕ). Consumes a c (text ++ xs)) (sym same) (Consumes-trans a b c text part before more))))
 
 -- the last batch was taken in
+pub read_to_end : (text slice part : List ℕ) (a b c : Option (List ℕ)) → slice ≡ part → Consumes a b text → Consumes b c part → IsAtEnd c → ReadsToEnd a c (text ++ slice)
+read_to_end text slice part a b c same before more end = (subst (λ (xs : List ℕ). Consumes a c (text ++ xs)) (sym same) (Consumes-trans a b c text part before more), end)
+
 pub checked : (settings : Settings) (text slice part : List ℕ) (a b c : Option (List ℕ)) (check : TextCheck) → IsTaken settings (text ++ slice) check → slice ≡ part
     → Consumes a b text → Consumes b c part → IsAtEnd c → IsChecked settings a c check
 checked settings text slice part a b c check taken same before more end =
-    record { text = text ++ slice; read = (subst (λ (xs : List ℕ). Consumes a c (text ++ xs)) (sym same) (Consumes-trans a b c text part before more), end); taken = taken }
+    record { text = text ++ slice; read = read_to_end text slice part a b c same before more end; taken = taken }
+
+pub all_taken : (settings : Settings) (text slice part : List ℕ) (a b c : Option (List ℕ)) (check : SequenceCheck) → IsSequenceTaken settings (text ++ slice) check → slice ≡ part
+    → Consumes a b text → Consumes b c part → IsAtEnd c → AreTaken settings a c check
+all_taken settings text slice part a b c check taken same before more end =
+    record { text = text ++ slice; read = read_to_end text slice part a b c same before more end; taken = taken }
 
 -- a full batch leaves fewer bytes that can be counted
 pub fewer : (old new filled batch : ℕ) (slice part : List ℕ) → new ≡ old + length slice → slice ≡ part → length part ≡ filled → new < 2 ^ 64 → 1 ≤ batch → batch ≤ filled

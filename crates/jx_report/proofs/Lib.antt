@@ -3,6 +3,9 @@ mod BatchSteps
 mod ElementSteps
 mod FoundSteps
 mod FrontSteps
+mod LineSteps
 mod OneOutput
 mod PointerSteps
+mod PutSteps
 mod RowSteps
+mod SequenceSteps

@@ -2,6 +2,8 @@
 use Rattle.std.proofs.Common.{◌≡◌, ℕ, ◌<◌, List, [], ◌∷◌, ◌++◌, length, Some, Ok, Err, map, refl, sym, ap, subst, ◌∙◌, arith}
 use Rattle.std.specs.Prelude.{codes, slice_get, string_bytes}
 use Rattle.std.proofs.lemmas.List.{length-append}
+use Rattle.jx_lex.specs.declared.kind.Kind.{Kind}
+use Rattle.jx_lex.specs.declared.span.Span.{Span}
 use Rattle.jx_run.specs.declared.verdict.Verdict.{Verdict}
 use Rattle.jx_run.specs.declared.verdict.Verdict.TheVariants.{Accepted, Refused}
 use Rattle.jx_run.specs.declared.verdict.Refusal.{Refusal}
@@ -66,24 +68,28 @@ module _ (pointer : List ℕ) where
   no_fault (BadEscape at) h p = p.escapes at h.here
 
 module _ (text : List ℕ) (tree : Tree) where
-  one_row : (p : List ℕ) (r s : Row) → LeadsTo text tree p r → LeadsTo text tree p s → r ≡ s
-  one_row p r s h k =
-      let there : Ok h.node ≡ Ok k.node = sym h.leads_there ∙ k.leads_there in
-      let node : h.node ≡ k.node = cc in
-      let rows_are : Some r ≡ Some s = sym h.is_row ∙ ap (slice_get (rows tree)) node ∙ k.is_row in
-      cc
+  one_row : (p : List ℕ) (k l : Kind) (a b : Span) → LeadsTo text tree p k a → LeadsTo text tree p l b → (k ≡ l) × (a ≡ b)
+  one_row p k l a b f g =
+      let there : Ok f.node ≡ Ok g.node = sym f.leads_there ∙ g.leads_there in
+      let node : f.node ≡ g.node = cc in
+      let rows_are : Some f.there.row ≡ Some g.there.row = sym f.there.is_row ∙ ap (slice_get (rows tree)) node ∙ g.there.is_row in
+      let same : f.there.row ≡ g.there.row = cc in (
+        sym f.there.kind_is ∙ ap (λ (r : Row). r.kind) same ∙ g.there.kind_is,
+        sym f.there.span_is ∙ ap (λ (r : Row). r.span) same ∙ g.there.span_is,
+      )
 
-  no_loss : (p : List ℕ) (r : Row) (f : FindFault) → LeadsTo text tree p r → leads text tree (tokens p) ≡ Err f → ⊥
-  no_loss p r f h k = let both : Ok h.node ≡ Err f = sym h.leads_there ∙ k in absurd (cc)
+  no_loss : (p : List ℕ) (k : Kind) (a : Span) (f : FindFault) → LeadsTo text tree p k a → leads text tree (tokens p) ≡ Err f → ⊥
+  no_loss p k a f h g = let both : Ok h.node ≡ Err f = sym h.leads_there ∙ g in absurd (cc)
 
   one_answer : (p : List ℕ) (x y : PointerAnswer) → IsAnswerTo text tree p x → IsAnswerTo text tree p y → x ≡ y
-  one_answer p (Found r) (Found s) h k = ap (λ (row : Row). Found row) (one_row p r s h k)
-  one_answer p (Found r) (Unread g) h k = absurd (no_fault p g k h.is_pointer)
-  one_answer p (Found r) (Lost g) h k = absurd (no_loss p r g h k.1)
-  one_answer p (Unread f) (Found s) h k = absurd (no_fault p f h k.is_pointer)
+  one_answer p (Found k a) (Found l b) h g =
+      let both = one_row p k l a b h g in ap (λ (x : Kind). Found x a) both.0 ∙ ap (λ (x : Span). Found l x) both.1
+  one_answer p (Found k a) (Unread g) h i = absurd (no_fault p g i h.is_pointer)
+  one_answer p (Found k a) (Lost g) h i = absurd (no_loss p k a g h i.1)
+  one_answer p (Unread f) (Found k a) h i = absurd (no_fault p f h i.is_pointer)
   one_answer p (Unread f) (Unread g) h k = ap (λ (x : PointerFault). Unread x) (one_fault p f g h k)
   one_answer p (Unread f) (Lost g) h k = absurd (no_fault p f h k.0)
-  one_answer p (Lost f) (Found s) h k = absurd (no_loss p s f k h.1)
+  one_answer p (Lost f) (Found k a) h i = absurd (no_loss p k a f i h.1)
   one_answer p (Lost f) (Unread g) h k = absurd (no_fault p g k h.0)
   one_answer p (Lost f) (Lost g) h k =
       let both : Err f ≡ Err g = sym h.1 ∙ k.1 in

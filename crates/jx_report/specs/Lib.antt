@@ -1,10 +1,11 @@
 pub mod Batches
 pub mod Elements
 pub mod Ends
-pub mod JudgedWords
 pub mod Output
 pub mod Pointers
+pub mod Replies
 pub mod Reports
+pub mod Room
 pub mod RowWords
-pub mod Trees
+pub mod Sequences
 pub mod Words

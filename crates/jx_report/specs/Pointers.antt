@@ -1,10 +1,11 @@
 -- What pointers come to in a text (RFC 6901), and the lines that are written for them.
-use Rattle.std.specs.Prelude.{◌≡◌, ℕ, List, [], ◌∷◌, ◌++◌, Some, Ok, Err, codes, decimal, slice_get}
+use Rattle.std.specs.Prelude.{◌≡◌, ℕ, List, [], ◌∷◌, ◌++◌, Ok, Err, codes, decimal}
 use Rattle.std.specs.List.{AllZip}
+use Rattle.jx_lex.specs.declared.kind.Kind.{Kind}
+use Rattle.jx_lex.specs.declared.span.Span.{Span}
 use Rattle.jx_run.specs.Tree.{Tree}
 use Rattle.jx_index.specs.declared.find_fault.FindFault.TheVariants.{NoSuchMember, NameRepeated, NotAnIndex, PastEnd, AfterLast, NotAContainer}
 use Rattle.jx_index.specs.declared.pointer.PointerFault.TheVariants.{NoSlash, BadEscape}
-use Rattle.jx_index.specs.declared.row.Row.{Row}
 use Rattle.jx_index.specs.Indexed.{IndexedValue}
 use Rattle.jx_index.specs.Leads.{leads}
 use Rattle.jx_index.specs.PointerFaults.{IsFaultOf}
@@ -18,21 +19,21 @@ use Rattle.jx_report.specs.declared.pointer_answer.PointerAnswer.{PointerAnswer}
 use Rattle.jx_report.specs.declared.pointer_answer.PointerAnswer.TheVariants.{Found, Unread, Lost}
 use Rattle.jx_report.specs.Words.{line, kind_words, span_words}
 
--- the pointer leads to the node of this row
-pub record LeadsTo (text : List ℕ) (tree : Tree) (pointer : List ℕ) (row : Row) : Type 0 where
+-- the pointer leads to a node whose row has this kind and this span
+pub record LeadsTo (text : List ℕ) (tree : Tree) (pointer : List ℕ) (kind : Kind) (span : Span) : Type 0 where
   pub is_pointer : IsPointer pointer
   pub node : ℕ
   pub leads_there : leads text tree (tokens pointer) ≡ Ok node
-  pub is_row : slice_get (rows tree) node ≡ Some row
+  pub there : found.HasRowAt (rows tree) node kind span
 
 -- what a pointer comes to in a text with this tree
 abbrev pub IsAnswerTo : List ℕ → Tree → List ℕ → PointerAnswer → Type 0
-IsAnswerTo text tree pointer (Found row) = LeadsTo text tree pointer row
+IsAnswerTo text tree pointer (Found kind span) = LeadsTo text tree pointer kind span
 IsAnswerTo text tree pointer (Unread fault) = IsFaultOf pointer fault
 IsAnswerTo text tree pointer (Lost fault) = IsPointer pointer × (leads text tree (tokens pointer) ≡ Err fault)
 
 abbrev pub answer_words : PointerAnswer → List ℕ
-answer_words (Found row) = codes "found " ++ kind_words row.kind ++ codes " " ++ span_words row.span
+answer_words (Found kind span) = codes "found " ++ kind_words kind ++ codes " " ++ span_words span
 answer_words (Unread NoSlash) = codes "no slash"
 answer_words (Unread (BadEscape at)) = codes "bad escape at " ++ decimal at
 answer_words (Lost (NoSuchMember token)) = codes "no such member at token " ++ decimal token
@@ -44,7 +45,7 @@ answer_words (Lost (NotAContainer token)) = codes "not a container at token " ++
 
 -- bad from the first pointer on that is not found
 abbrev pub exit_after : Exit → PointerAnswer → Exit
-exit_after exit (Found row) = exit
+exit_after exit (Found kind span) = exit
 exit_after exit (Unread fault) = Bad
 exit_after exit (Lost fault) = Bad
 

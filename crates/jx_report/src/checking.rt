@@ -4,10 +4,11 @@ ghost use Rattle.jx_run.specs.declared.settings.NameRule.TheVariants.{Any};
 ghost use Rattle.jx_run.specs.declared.settings.Settings.{Settings};
 ghost use Rattle.jx_report.specs.Batches.{IsChecked, IsTaken};
 ghost use Rattle.jx_report.specs.Output.{TextOutput, SaysAccepted};
+ghost use Rattle.jx_report.specs.Replies.{reply_exit, reply_output};
 ghost use Rattle.jx_report.specs.Reports.{IsAnswered, HasTooManyPieces};
 
-use crate::answer::{Answer, verdict_answer};
 use crate::batch::fill;
+use crate::reply::Reply;
 use crate::report_fault::ReportFault;
 use crate::source::Source;
 use crate::text_check::TextCheck;
@@ -52,14 +53,13 @@ fn check_batches<R: Threads + Wait + Sync, S: Source, G: Gate + Sync>(
     Ok(check)
 }
 
-/// The line for the verdict.
-fn answer_of_check(alloc: Global, check: &TextCheck) -> Result<Answer, AllocError>
-    ensures { IfOk result (λ answer. (settings : Settings) (text : List ℕ) → settings.names ≡ Any → IsTaken settings text check.now
-        → TextOutput SaysAccepted settings text answer.output.items answer.exit) }
+fn reply_of_check(check: &TextCheck) -> Result<Reply, AllocError>
+    ensures { IfOk result (λ reply. (settings : Settings) (text : List ℕ) → settings.names ≡ Any → IsTaken settings text check.now
+        → TextOutput SaysAccepted settings text (reply_output reply) (reply_exit reply)) }
 {
     any_names_change_nothing();
     let verdict = check.verdict()?;
-    verdict_answer(alloc, verdict)
+    Ok(Reply::Verdict(verdict))
 }
 
 /// Reads to the end of input and answers whether it is a text, whatever names its objects have, in memory for one batch of
@@ -71,14 +71,14 @@ pub(crate) fn check_input<R: Threads + Wait + Sync, S: Source, G: Gate + Sync>(
     command: &Command,
     gate: &G,
     batch: usize,
-) -> Result<Answer, ReportFault>
+) -> Result<Reply, ReportFault>
     requires reader { S.has_failed reader.old ≡ false }
     requires piece { 1 ≤ command.now.piece }
     requires some { 1 ≤ batch }
     requires few { batch < 2 ^ 32 }
     requires names { command.now.settings.names ≡ Any }
-    ensures ok { IfOk result (λ answer. IsAnswered (TextOutput SaysAccepted command.now.settings) command.now.piece (S.remaining reader.old)
-        (S.remaining reader.new) answer.output.items answer.exit) }
+    ensures ok { IfOk result (λ reply. IsAnswered (TextOutput SaysAccepted command.now.settings) command.now.piece (S.remaining reader.old)
+        (S.remaining reader.new) (reply_output reply) (reply_exit reply)) }
     ensures read { IsErrOf result ReportFault.Read ↔ (S.has_failed reader.new ≡ true) }
     ensures unwritten { IfErr result (λ fault. fault ≢ ReportFault.Write) }
     ensures pieces { IsErrOf result ReportFault.Pieces → HasTooManyPieces command.now (S.remaining reader.old)
@@ -88,8 +88,8 @@ pub(crate) fn check_input<R: Threads + Wait + Sync, S: Source, G: Gate + Sync>(
     if Cutting::every(check.total(), command.piece).is_err() {
         return Err(ReportFault::Pieces);
     }
-    match answer_of_check(alloc, &check) {
-        Ok(answer) => Ok(answer),
+    match reply_of_check(&check) {
+        Ok(reply) => Ok(reply),
         Err(AllocError) => Err(ReportFault::Memory),
     }
 }

@@ -1,33 +1,36 @@
 // The lines that stand for the elements of a text sequence.
-ghost use Rattle.std.specs.Prelude.{◌≡◌, ◌<◌, ◌++◌, Some, codes, length, slice_get, IfOk, OnOk};
-ghost use Rattle.jx_report.specs.Elements.{judged_line, judged_lines, verdict_words, exit_past_verdict, exit_past_judged};
+ghost use Rattle.std.specs.Prelude.{◌≡◌, ◌<◌, ◌++◌, Some, codes, length, slice_get};
+ghost use Rattle.jx_report.specs.Elements.{exit_past_judged, exit_past_verdict, judged_line, verdict_words};
+ghost use Rattle.jx_report.specs.Room.{HasRoom, TakesRoom};
 ghost use Rattle.jx_report.specs.declared.exit.Exit.TheVariants.{Good};
 
 use crate::exit::Exit;
-use crate::words::{push_refusal, push_span};
+use crate::words::{push_bytes, push_refusal, push_span};
 use jx_run::{ElementVerdict, JudgedElement};
-use std::alloc::AllocError;
 
-fn push_word(out: &mut Vec<u8>, verdict: ElementVerdict) -> Result<(), AllocError>
-    ensures { OnOk result (out.new.items ≡ out.old.items ++ verdict_words verdict) }
+fn push_word(out: &mut Vec<u8>, verdict: ElementVerdict)
+    requires { HasRoom out.old 37 }
+    ensures words { out.new.items ≡ out.old.items ++ verdict_words verdict }
+    ensures room { TakesRoom out.old out.new 37 }
 {
     match verdict {
-        ElementVerdict::Accepted => out.extend_from_slice(b"accepted"),
+        ElementVerdict::Accepted => push_bytes(out, b"accepted"),
         ElementVerdict::Refused(refusal) => push_refusal(out, refusal),
-        ElementVerdict::MayBeCut => out.extend_from_slice(b"may be cut"),
-        ElementVerdict::Unmarked => out.extend_from_slice(b"unmarked"),
+        ElementVerdict::MayBeCut => push_bytes(out, b"may be cut"),
+        ElementVerdict::Unmarked => push_bytes(out, b"unmarked"),
     }
 }
 
 /// Appends the line of an element.
-fn push_element(out: &mut Vec<u8>, element: JudgedElement) -> Result<(), AllocError>
-    ensures { OnOk result (out.new.items ≡ out.old.items ++ judged_line element) }
+pub fn push_element(out: &mut Vec<u8>, element: JudgedElement)
+    requires { HasRoom out.old 81 }
+    ensures words { out.new.items ≡ out.old.items ++ judged_line element }
+    ensures room { TakesRoom out.old out.new 81 }
 {
-    push_span(out, element.span)?;
-    out.push(b' ')?;
-    push_word(out, element.verdict)?;
-    out.push(b'\n')?;
-    Ok(())
+    push_span(out, element.span);
+    push_bytes(out, b" ");
+    push_word(out, element.verdict);
+    push_bytes(out, b"\n");
 }
 
 fn exit_past(exit: Exit, verdict: ElementVerdict) -> Exit
@@ -39,23 +42,21 @@ fn exit_past(exit: Exit, verdict: ElementVerdict) -> Exit
     }
 }
 
-fn element_at(elements: &[JudgedElement], number: usize) -> JudgedElement
+pub fn element_at(elements: &[JudgedElement], number: usize) -> JudgedElement
     requires { number < length elements.now }
     ensures { slice_get elements.now number ≡ Some result }
 {
     elements[number]
 }
 
-/// Appends a line for each element, in order. The exit is good where each of them is accepted.
-pub fn push_elements(out: &mut Vec<u8>, elements: &[JudgedElement]) -> Result<Exit, AllocError>
-    ensures output { OnOk result (out.new.items ≡ out.old.items ++ judged_lines elements.now) }
-    ensures exit { IfOk result (λ exit. exit ≡ exit_past_judged Good elements.now) }
+/// Good where each of the elements is accepted.
+pub fn exit_of_elements(elements: &[JudgedElement]) -> Exit
+    ensures { result ≡ exit_past_judged Good elements.now }
 {
     let mut exit = Exit::Good;
     for number in 0..elements.len() {
         let element = element_at(elements, number);
-        push_element(out, element)?;
         exit = exit_past(exit, element.verdict);
     }
-    Ok(exit)
+    exit
 }

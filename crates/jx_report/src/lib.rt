@@ -1,20 +1,23 @@
 //! What is written for an input: reads it to its end, has it answered by several workers, and writes the output.
 #![tactic(auto)]
 
-mod answer;
 mod batch;
 mod checking;
 mod element_words;
 mod end;
 mod exit;
+mod judging;
 mod laws;
 mod pieces;
 mod pointer_answer;
 mod pointer_words;
 mod read_all;
+mod reply;
 mod report_fault;
 mod reporting;
 mod row_words;
+mod sequence_check;
+mod sequence_reader;
 mod sink;
 mod source;
 #[cfg(test)]
@@ -22,6 +25,7 @@ mod tests;
 mod text_check;
 mod words;
 mod write_all;
+mod writing;
 
 pub use end::End;
 pub use exit::Exit;

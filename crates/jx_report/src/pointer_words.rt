@@ -1,39 +1,29 @@
-// The lines that stand for what pointers come to.
-ghost use Rattle.std.specs.Prelude.{◌≡◌, ◌++◌, ℕ, [], codes, decimal, map, string_bytes, IfOk, OnOk};
-ghost use Rattle.std.specs.List.{AllZip};
-ghost use Rattle.jx_run.specs.Text.{IsText};
-ghost use Rattle.jx_run.specs.Tree.{Tree};
+// The words that stand for what pointers come to.
+ghost use Rattle.std.specs.Prelude.{◌≡◌, ◌++◌, codes, decimal, length};
+ghost use Rattle.jx_report.specs.Pointers.{answer_words};
+ghost use Rattle.jx_report.specs.Room.{HasRoom, TakesRoom};
 ghost use Rattle.jx_report.specs.Words.{line};
-ghost use Rattle.jx_report.specs.Pointers.{answer_words, exit_after, IsFoundFor, PointerLines};
-ghost use Rattle.jx_report.specs.Trees.{HasTree};
 
-use crate::exit::Exit;
-use crate::pointer_answer::{PointerAnswer, answer_to};
-use crate::words::{push_kind, push_numbered, push_span};
-use jx_answer::Answer;
-use jx_index::{FindFault, Indexed, PointerFault, Row};
-use std::alloc::AllocError;
+use crate::pointer_answer::PointerAnswer;
+use crate::words::{push_bytes, push_kind, push_numbered, push_span};
+use jx_index::{FindFault, PointerFault};
+use jx_lex::{Kind, Span};
 
-fn push_found(out: &mut Vec<u8>, row: &Row) -> Result<(), AllocError>
-    ensures { OnOk result (out.new.items ≡ out.old.items ++ answer_words (PointerAnswer.Found row.now)) }
-{
-    out.extend_from_slice(b"found ")?;
-    push_kind(out, row.kind)?;
-    out.push(b' ')?;
-    push_span(out, row.span)
-}
-
-fn push_unread(out: &mut Vec<u8>, fault: PointerFault) -> Result<(), AllocError>
-    ensures { OnOk result (out.new.items ≡ out.old.items ++ answer_words (PointerAnswer.Unread fault)) }
+fn push_unread(out: &mut Vec<u8>, fault: PointerFault)
+    requires { HasRoom out.old 45 }
+    ensures words { out.new.items ≡ out.old.items ++ answer_words (PointerAnswer.Unread fault) }
+    ensures room { TakesRoom out.old out.new 45 }
 {
     match fault {
-        PointerFault::NoSlash => out.extend_from_slice(b"no slash"),
+        PointerFault::NoSlash => push_bytes(out, b"no slash"),
         PointerFault::BadEscape { at } => push_numbered(out, b"bad escape at ", at),
     }
 }
 
-fn push_lost(out: &mut Vec<u8>, fault: FindFault) -> Result<(), AllocError>
-    ensures { OnOk result (out.new.items ≡ out.old.items ++ answer_words (PointerAnswer.Lost fault)) }
+fn push_lost(out: &mut Vec<u8>, fault: FindFault)
+    requires { HasRoom out.old 45 }
+    ensures words { out.new.items ≡ out.old.items ++ answer_words (PointerAnswer.Lost fault) }
+    ensures room { TakesRoom out.old out.new 45 }
 {
     match fault {
         FindFault::NoSuchMember { token } => push_numbered(out, b"no such member at token ", token),
@@ -47,47 +37,27 @@ fn push_lost(out: &mut Vec<u8>, fault: FindFault) -> Result<(), AllocError>
     }
 }
 
-/// Appends the line for what a pointer comes to.
-fn push_answer(out: &mut Vec<u8>, answer: &PointerAnswer) -> Result<(), AllocError>
-    ensures { OnOk result (out.new.items ≡ out.old.items ++ line (answer_words answer.now)) }
+fn push_found(out: &mut Vec<u8>, kind: Kind, span: Span)
+    requires { HasRoom out.old 55 }
+    ensures words { out.new.items ≡ out.old.items ++ answer_words (PointerAnswer.Found kind span) }
+    ensures room { TakesRoom out.old out.new 55 }
 {
-    match answer {
-        PointerAnswer::Found(row) => push_found(out, row)?,
-        PointerAnswer::Unread(fault) => push_unread(out, *fault)?,
-        PointerAnswer::Lost(fault) => push_lost(out, *fault)?,
-    }
-    out.push(b'\n')?;
-    Ok(())
+    push_bytes(out, b"found ");
+    push_kind(out, kind);
+    push_bytes(out, b" ");
+    push_span(out, span);
 }
 
-fn exit_after(exit: Exit, answer: &PointerAnswer) -> Exit
-    ensures { result ≡ exit_after exit answer.now }
+/// Appends the line of a pointer.
+pub fn push_pointer(out: &mut Vec<u8>, answer: PointerAnswer)
+    requires { HasRoom out.old 56 }
+    ensures words { out.new.items ≡ out.old.items ++ line (answer_words answer) }
+    ensures room { TakesRoom out.old out.new 56 }
 {
     match answer {
-        PointerAnswer::Found(_) => exit,
-        PointerAnswer::Unread(_) | PointerAnswer::Lost(_) => Exit::Bad,
+        PointerAnswer::Found { kind, span } => push_found(out, kind, span),
+        PointerAnswer::Unread(fault) => push_unread(out, fault),
+        PointerAnswer::Lost(fault) => push_lost(out, fault),
     }
-}
-
-/// Appends a line for each pointer, in their order, where these were found. The exit is good where each of them is found.
-pub fn push_answers(
-    out: &mut Vec<u8>,
-    index: &Indexed,
-    pointers: &[String],
-    found: &[Answer],
-) -> Result<Exit, AllocError>
-    requires empty { out.old.items ≡ [] }
-    requires tree { HasTree index.now }
-    requires found { AllZip (IsFoundFor index.now) (map string_bytes pointers.now) found.now }
-    ensures { IfOk result (λ exit. (limit : ℕ) (tree : Tree)
-        → IsText index.now.text index.now.place.start index.now.place.end limit tree
-        → PointerLines index.now.text tree (map string_bytes pointers.now) out.new.items exit) }
-{
-    let mut exit = Exit::Good;
-    for at in 0..pointers.len() {
-        let answer = answer_to(index, pointers[at].as_str(), found[at]);
-        push_answer(out, &answer)?;
-        exit = exit_after(exit, &answer);
-    }
-    Ok(exit)
+    push_bytes(out, b"\n");
 }

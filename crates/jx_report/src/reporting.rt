@@ -1,15 +1,17 @@
 ghost use Rattle.std.specs.Prelude.{◌≡◌, ◌≢◌, ◌<◌, ◌≤◌, ◌^◌, ◌↔◌, true, false, IfOk, IfErr, IsErrOf};
 ghost use Rattle.jx_report.specs.Output.{Output};
-ghost use Rattle.jx_report.specs.Reports.{IsAnswered, Reports, ReportsInPart, HasTooManyPieces, shown_output};
+ghost use Rattle.jx_report.specs.Reports.{IsAnswered, Reports, ReportsInPart, HasTooManyPieces};
+ghost use Rattle.jx_report.specs.Replies.{reply_exit, reply_output};
 
-use crate::answer::{Answer, answer_of};
 use crate::checking::check_input;
 use crate::exit::Exit;
+use crate::judging::judge_input;
 use crate::read_all::read_all;
+use crate::reply::{Reply, reply_to};
 use crate::report_fault::ReportFault;
 use crate::sink::Sink;
 use crate::source::Source;
-use crate::write_all::write_all;
+use crate::writing::write_reply;
 use jx_book::Gate;
 use jx_claim::Cutting;
 use jx_command::{Command, Task};
@@ -21,15 +23,12 @@ use std::thread::Threads;
 /// How many bytes of an input are read at a time, at most.
 const BATCH: usize = 8 * 1024 * 1024;
 
-/// What is written of an output: nothing where a command is quiet.
-fn shown(quiet: bool, output: &[u8]) -> &[u8]
-    ensures { result.now ≡ shown_output quiet output.now }
-{
-    if quiet { &[] } else { output }
-}
+/// How many bytes of an output are written at a time, at most.
+const BUFFER: usize = 64 * 1024;
 
-/// Reads to the end of input, and answers by the command's workers. A check keeps one batch of so many bytes at a time;
-/// what else is asked keeps the whole input, and so does a check for unique names, which needs the index.
+/// Reads to the end of input, and answers by the command's workers. A check keeps one batch of so many bytes at a time, and
+/// so do the verdicts on the elements of a sequence; what else is asked keeps the whole input, and so does what is asked for
+/// unique names, which needs indexes.
 fn answer_to_input<R: Threads + Wait + Sync, S: Source, G: Gate + Sync>(
     rt: &R,
     alloc: Global,
@@ -37,13 +36,13 @@ fn answer_to_input<R: Threads + Wait + Sync, S: Source, G: Gate + Sync>(
     command: &Command,
     gate: &G,
     batch: usize,
-) -> Result<Answer, ReportFault>
+) -> Result<Reply, ReportFault>
     requires reader { S.has_failed reader.old ≡ false }
     requires piece { 1 ≤ command.now.piece }
     requires some { 1 ≤ batch }
     requires few { batch < 2 ^ 32 }
-    ensures ok { IfOk result (λ answer. IsAnswered (Output command.now.task command.now.settings) command.now.piece (S.remaining reader.old)
-        (S.remaining reader.new) answer.output.items answer.exit) }
+    ensures ok { IfOk result (λ reply. IsAnswered (Output command.now.task command.now.settings) command.now.piece (S.remaining reader.old)
+        (S.remaining reader.new) (reply_output reply) (reply_exit reply)) }
     ensures read { IsErrOf result ReportFault.Read ↔ (S.has_failed reader.new ≡ true) }
     ensures unwritten { IfErr result (λ fault. fault ≢ ReportFault.Write) }
     ensures pieces { IsErrOf result ReportFault.Pieces → HasTooManyPieces command.now (S.remaining reader.old)
@@ -53,6 +52,7 @@ fn answer_to_input<R: Threads + Wait + Sync, S: Source, G: Gate + Sync>(
         NameRule::Unique => answer_to_all(rt, alloc, reader, command, gate),
         NameRule::Any => match &command.task {
             Task::Check => check_input(rt, alloc, reader, command, gate, batch),
+            Task::Seq => judge_input(rt, alloc, reader, command, gate, batch),
             _ => answer_to_all(rt, alloc, reader, command, gate),
         },
     }
@@ -65,11 +65,11 @@ fn answer_to_all<R: Threads + Wait + Sync, S: Source, G: Gate + Sync>(
     reader: &mut S,
     command: &Command,
     gate: &G,
-) -> Result<Answer, ReportFault>
+) -> Result<Reply, ReportFault>
     requires reader { S.has_failed reader.old ≡ false }
     requires piece { 1 ≤ command.now.piece }
-    ensures ok { IfOk result (λ answer. IsAnswered (Output command.now.task command.now.settings) command.now.piece (S.remaining reader.old)
-        (S.remaining reader.new) answer.output.items answer.exit) }
+    ensures ok { IfOk result (λ reply. IsAnswered (Output command.now.task command.now.settings) command.now.piece (S.remaining reader.old)
+        (S.remaining reader.new) (reply_output reply) (reply_exit reply)) }
     ensures read { IsErrOf result ReportFault.Read ↔ (S.has_failed reader.new ≡ true) }
     ensures unwritten { IfErr result (λ fault. fault ≢ ReportFault.Write) }
     ensures pieces { IsErrOf result ReportFault.Pieces → HasTooManyPieces command.now (S.remaining reader.old)
@@ -79,8 +79,8 @@ fn answer_to_all<R: Threads + Wait + Sync, S: Source, G: Gate + Sync>(
     let Ok(cutting) = Cutting::every(text.len(), command.piece) else {
         return Err(ReportFault::Pieces);
     };
-    match answer_of(rt, alloc, command, &text, &cutting, gate) {
-        Ok(answer) => Ok(answer),
+    match reply_to(rt, alloc, command, &text, &cutting, gate) {
+        Ok(reply) => Ok(reply),
         Err(AllocError) => Err(ReportFault::Memory),
     }
 }
@@ -127,14 +127,16 @@ pub(crate) fn report_by<R: Threads + Wait + Sync, S: Source, W: Sink, G: Gate + 
     ensures pieces { IsErrOf result ReportFault.Pieces → HasTooManyPieces command.now (S.remaining reader.old)
         (S.remaining reader.new) }
 {
-    let answer = answer_to_input(rt, alloc, reader, command, gate, batch)?;
-    write_all(writer, shown(command.quiet, &answer.output))?;
-    Ok(answer.exit)
+    let reply = answer_to_input(rt, alloc, reader, command, gate, batch)?;
+    if !command.quiet {
+        write_reply(alloc, writer, &reply, BUFFER)?;
+    }
+    Ok(reply.exit())
 }
 
-/// Reads to the end of input, builds the whole output by the command's workers, and then writes it, unless the command is
-/// quiet; the exit is the same then. It may wait for the workers. The gate is asked after each step of a worker, and
-/// changes no output.
+/// Reads to the end of input, has it answered by the command's workers, and then writes the output through one buffer,
+/// unless the command is quiet; the exit is the same then. No memory is taken once the first byte is written. It may wait
+/// for the workers. The gate is asked after each step of a worker, and changes no output.
 pub fn report<R: Threads + Wait + Sync, S: Source, W: Sink, G: Gate + Sync>(
     rt: &R,
     alloc: Global,

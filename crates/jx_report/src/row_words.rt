@@ -1,70 +1,69 @@
 // The lines that stand for the rows of a text.
-ghost use Rattle.std.specs.Prelude.{◌≡◌, ◌++◌, codes, decimal, length, OnOk};
+ghost use Rattle.std.specs.Prelude.{◌≡◌, ◌++◌, codes, decimal, length};
+ghost use Rattle.jx_report.specs.Room.{HasRoom, TakesRoom};
 ghost use Rattle.jx_report.specs.Words.{line};
-ghost use Rattle.jx_report.specs.RowWords.{node_words, parent_words, name_words, place_words, row_words, row_lines};
+ghost use Rattle.jx_report.specs.RowWords.{node_words, parent_words, name_words, place_words, row_words};
 
-use crate::words::{push_kind, push_number, push_span};
+use crate::words::{push_bytes, push_kind, push_number, push_span};
 use jx_index::{NodeId, Row};
 use jx_lex::Span;
-use std::alloc::AllocError;
 
-fn push_parent(out: &mut Vec<u8>, parent: Option<NodeId>) -> Result<(), AllocError>
-    ensures { OnOk result (out.new.items ≡ out.old.items ++ parent_words parent) }
+fn push_parent(out: &mut Vec<u8>, parent: Option<NodeId>)
+    requires { HasRoom out.old 20 }
+    ensures words { out.new.items ≡ out.old.items ++ parent_words parent }
+    ensures room { TakesRoom out.old out.new 20 }
 {
     match parent {
         Some(node) => push_number(out, node.number()),
-        None => Ok(out.push(b'-')?),
+        None => push_bytes(out, b"-"),
     }
 }
 
-fn push_name(out: &mut Vec<u8>, name: Option<Span>) -> Result<(), AllocError>
-    ensures { OnOk result (out.new.items ≡ out.old.items ++ name_words name) }
+fn push_name(out: &mut Vec<u8>, name: Option<Span>)
+    requires { HasRoom out.old 42 }
+    ensures words { out.new.items ≡ out.old.items ++ name_words name }
+    ensures room { TakesRoom out.old out.new 42 }
 {
     match name {
         Some(span) => push_span(out, span),
-        None => Ok(out.push(b'-')?),
+        None => push_bytes(out, b"-"),
     }
 }
 
 /// Appends the number of a row, the kind of its value and where it stands.
-fn push_node(out: &mut Vec<u8>, number: usize, row: &Row) -> Result<(), AllocError>
-    ensures { OnOk result (out.new.items ≡ out.old.items ++ node_words number row.now) }
+fn push_node(out: &mut Vec<u8>, number: usize, row: &Row)
+    requires { HasRoom out.old 70 }
+    ensures words { out.new.items ≡ out.old.items ++ node_words number row.now }
+    ensures room { TakesRoom out.old out.new 70 }
 {
-    push_number(out, number)?;
-    out.push(b' ')?;
-    push_kind(out, row.kind)?;
-    out.push(b' ')?;
-    push_span(out, row.span)
+    push_number(out, number);
+    push_bytes(out, b" ");
+    push_kind(out, row.kind);
+    push_bytes(out, b" ");
+    push_span(out, row.span);
 }
 
 /// Appends the parent of a row, its place there and its name.
-fn push_place(out: &mut Vec<u8>, row: &Row) -> Result<(), AllocError>
-    ensures { OnOk result (out.new.items ≡ out.old.items ++ place_words row.now) }
+fn push_place(out: &mut Vec<u8>, row: &Row)
+    requires { HasRoom out.old 84 }
+    ensures words { out.new.items ≡ out.old.items ++ place_words row.now }
+    ensures room { TakesRoom out.old out.new 84 }
 {
-    push_parent(out, row.parent)?;
-    out.push(b' ')?;
-    push_number(out, row.place)?;
-    out.push(b' ')?;
-    push_name(out, row.name)
+    push_parent(out, row.parent);
+    push_bytes(out, b" ");
+    push_number(out, row.place);
+    push_bytes(out, b" ");
+    push_name(out, row.name);
 }
 
 /// Appends the line of a row.
-fn push_row(out: &mut Vec<u8>, number: usize, row: &Row) -> Result<(), AllocError>
-    ensures { OnOk result (out.new.items ≡ out.old.items ++ line (row_words number row.now)) }
+pub fn push_row(out: &mut Vec<u8>, number: usize, row: &Row)
+    requires { HasRoom out.old 156 }
+    ensures words { out.new.items ≡ out.old.items ++ line (row_words number row.now) }
+    ensures room { TakesRoom out.old out.new 156 }
 {
-    push_node(out, number, row)?;
-    out.push(b' ')?;
-    push_place(out, row)?;
-    out.push(b'\n')?;
-    Ok(())
-}
-
-/// Appends the lines of all rows, which are numbered from 0.
-pub fn push_rows(out: &mut Vec<u8>, rows: &[Row]) -> Result<(), AllocError>
-    ensures { OnOk result (out.new.items ≡ out.old.items ++ row_lines 0 rows.now) }
-{
-    for number in 0..rows.len() {
-        push_row(out, number, &rows[number])?;
-    }
-    Ok(())
+    push_node(out, number, row);
+    push_bytes(out, b" ");
+    push_place(out, row);
+    push_bytes(out, b"\n");
 }

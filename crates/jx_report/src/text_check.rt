@@ -3,6 +3,7 @@ ghost use Rattle.std.specs.Prelude.{◌≡◌, ◌+◌, ◌<◌, ◌≤◌, ◌^
 ghost use Rattle.jx_run.specs.Reader.{HasRead};
 ghost use Rattle.jx_run.specs.Front.{front_of};
 ghost use Rattle.jx_run.specs.Settings.{JudgedBy};
+ghost use Rattle.jx_run.specs.Tree.{span};
 ghost use Rattle.jx_run.specs.Verdict.{Judged};
 ghost use Rattle.jx_run.specs.declared.settings.Front.TheVariants.{Refused, Skip};
 ghost use Rattle.jx_run.specs.declared.settings.Settings.{Settings};
@@ -14,7 +15,7 @@ use jx_answer::read_batch;
 use jx_book::Gate;
 use jx_claim::Cutting;
 use jx_command::Command;
-use jx_lex::Depth;
+use jx_lex::{Depth, Span};
 use jx_run::{Front, Reader, Refusal, RunReader, Verdict, front, fronts_decide_where_texts_begin};
 use std::alloc::{AllocError, Global};
 use std::sync::Wait;
@@ -30,8 +31,33 @@ pub(crate) enum TextReader {
 }
 
 impl TextReader {
+    /// Before the first byte of a text, which has this offset. Where there are several workers, they read it.
+    pub fn new(alloc: Global, command: &Command, start: usize) -> TextReader
+        ensures limit { (seen result).limit ≡ command.now.settings.depth }
+        ensures start { (seen result).start ≡ start }
+        ensures reads { HasRead [] (seen result) }
+    {
+        let depth = command.settings.depth;
+        if command.workers.count() > 1 {
+            TextReader::Shared(RunReader::new(alloc, depth, start))
+        } else {
+            TextReader::Alone(Reader::new(alloc, depth, start))
+        }
+    }
+
+    /// Where the bytes stand that were read.
+    pub fn span(&self) -> Span
+        ensures { result ≡ span (seen self.now).start ((seen self.now).start + (seen self.now).count) }
+    {
+        let (start, end) = match self {
+            TextReader::Alone(reader) => (reader.start(), reader.end()),
+            TextReader::Shared(reader) => (reader.start(), reader.end()),
+        };
+        Span { start, end }
+    }
+
     /// Reads a batch behind what was read.
-    fn read<R: Threads + Wait + Sync, G: Gate + Sync>(
+    pub fn read<R: Threads + Wait + Sync, G: Gate + Sync>(
         &mut self,
         rt: &R,
         alloc: Global,
@@ -52,7 +78,8 @@ impl TextReader {
         }
     }
 
-    fn verdict(&self) -> Verdict
+    /// The verdict on all bytes that were read.
+    pub fn verdict(&self) -> Verdict
         ensures verdict { (bytes : List ℕ) → HasRead bytes (seen self.now) → Judged (seen self.now).start bytes (seen self.now).limit result }
     {
         match self {

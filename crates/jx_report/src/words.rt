@@ -1,42 +1,60 @@
-// The words of the output.
-ghost use Rattle.std.specs.Prelude.{◌≡◌, ◌++◌, codes, decimal, length, OnOk};
+// The words of the output. Each is put into room that is there, so that none takes memory.
+ghost use Rattle.std.specs.Prelude.{◌≡◌, ◌+◌, ◌≤◌, ◌++◌, codes, decimal, length};
+ghost use Rattle.jx_report.specs.Room.{HasRoom, TakesRoom};
 ghost use Rattle.jx_report.specs.Words.{refusal_words, kind_words, span_words};
 
 use itoa::Buffer;
 use jx_lex::{Kind, Span};
 use jx_run::Refusal;
-use std::alloc::AllocError;
 
-/// Appends a number in plain decimal.
-pub fn push_number(out: &mut Vec<u8>, number: usize) -> Result<(), AllocError>
-    ensures { OnOk result (out.new.items ≡ out.old.items ++ decimal number) }
+/// Appends bytes where there is room for them.
+pub fn push_bytes(out: &mut Vec<u8>, bytes: &[u8])
+    requires { HasRoom out.old (length bytes.now) }
+    ensures words { out.new.items ≡ out.old.items ++ bytes.now }
+    ensures room { TakesRoom out.old out.new (length bytes.now) }
+{
+    if out.extend_from_slice(bytes).is_err() {
+        unreachable!();
+    }
+}
+
+/// Appends a number in plain decimal, at most 20 digits.
+pub fn push_number(out: &mut Vec<u8>, number: usize)
+    requires { HasRoom out.old 20 }
+    ensures words { out.new.items ≡ out.old.items ++ decimal number }
+    ensures room { TakesRoom out.old out.new 20 }
 {
     let mut buffer = Buffer::new();
-    out.extend_from_slice(buffer.format(number).as_bytes())
+    push_bytes(out, buffer.format(number).as_bytes());
 }
 
 /// Appends words, and a number after them.
-pub fn push_numbered(out: &mut Vec<u8>, words: &[u8], number: usize) -> Result<(), AllocError>
-    ensures { OnOk result (out.new.items ≡ out.old.items ++ (words.now ++ decimal number)) }
+pub fn push_numbered(out: &mut Vec<u8>, words: &[u8], number: usize)
+    requires { HasRoom out.old (length words.now + 20) }
+    ensures words { out.new.items ≡ out.old.items ++ (words.now ++ decimal number) }
+    ensures room { TakesRoom out.old out.new (length words.now + 20) }
 {
-    out.extend_from_slice(words)?;
-    push_number(out, number)
+    push_bytes(out, words);
+    push_number(out, number);
 }
 
 /// Appends the words for a refusal; its offset is in the whole input.
-pub fn push_refusal(out: &mut Vec<u8>, refusal: Refusal) -> Result<(), AllocError>
-    ensures { OnOk result (out.new.items ≡ out.old.items ++ refusal_words refusal) }
+pub fn push_refusal(out: &mut Vec<u8>, refusal: Refusal)
+    requires { HasRoom out.old 37 }
+    ensures words { out.new.items ≡ out.old.items ++ refusal_words refusal }
+    ensures room { TakesRoom out.old out.new 37 }
 {
     match refusal {
         Refusal::Stopped { at } => push_numbered(out, b"stopped at ", at),
-        Refusal::Truncated => out.extend_from_slice(b"truncated"),
+        Refusal::Truncated => push_bytes(out, b"truncated"),
         Refusal::TooDeep { at } => push_numbered(out, b"too deep at ", at),
         Refusal::RepeatedName { at } => push_numbered(out, b"repeated name at ", at),
     }
 }
 
 fn word_of_kind(kind: Kind) -> &'static str
-    ensures { result.now ≡ kind_words kind }
+    ensures word { result.now ≡ kind_words kind }
+    ensures short { length result.now ≤ 6 }
 {
     match kind {
         Kind::Object => "object",
@@ -49,16 +67,20 @@ fn word_of_kind(kind: Kind) -> &'static str
     }
 }
 
-pub fn push_kind(out: &mut Vec<u8>, kind: Kind) -> Result<(), AllocError>
-    ensures { OnOk result (out.new.items ≡ out.old.items ++ kind_words kind) }
+pub fn push_kind(out: &mut Vec<u8>, kind: Kind)
+    requires { HasRoom out.old 6 }
+    ensures words { out.new.items ≡ out.old.items ++ kind_words kind }
+    ensures room { TakesRoom out.old out.new 6 }
 {
-    out.extend_from_slice(word_of_kind(kind).as_bytes())
+    push_bytes(out, word_of_kind(kind).as_bytes());
 }
 
 /// Appends a span, as `S..E`.
-pub fn push_span(out: &mut Vec<u8>, span: Span) -> Result<(), AllocError>
-    ensures { OnOk result (out.new.items ≡ out.old.items ++ span_words span) }
+pub fn push_span(out: &mut Vec<u8>, span: Span)
+    requires { HasRoom out.old 42 }
+    ensures words { out.new.items ≡ out.old.items ++ span_words span }
+    ensures room { TakesRoom out.old out.new 42 }
 {
-    push_number(out, span.start)?;
-    push_numbered(out, b"..", span.end)
+    push_number(out, span.start);
+    push_numbered(out, b"..", span.end);
 }

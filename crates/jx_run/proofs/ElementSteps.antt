@@ -28,9 +28,12 @@ last_open-get : (o : Bool) (x : ℕ) (xs : List ℕ) → (b : ℕ) → slice_get
 last_open-get o x [] b h = let e : x ≡ b = cc in ap is_open e
 last_open-get o x (y ∷ ys) b h = last_open-get (is_open x) y ys b h
 
+pub last-open : (o : Bool) (xs : List ℕ) (b : ℕ) → slice_get xs (length xs - 1) ≡ Some b → last_open o xs ≡ is_open b
+last-open o [] b h = absurd cc
+last-open o (x ∷ xs) b h = last_open-get o x xs b (ap (slice_get (x ∷ xs)) (let e : length xs ≡ length (x ∷ xs) - 1 = omega arith in e) ∙ h)
+
 pub ends-last : (xs : List ℕ) (b : ℕ) → slice_get xs (length xs - 1) ≡ Some b → ends_open xs ≡ is_open b
-ends-last [] b h = absurd cc
-ends-last (x ∷ xs) b h = last_open-get false x xs b (ap (slice_get (x ∷ xs)) (let e : length xs ≡ length (x ∷ xs) - 1 = omega arith in e) ∙ h)
+ends-last xs b h = last-open false xs b h
 
 pub ends-right : (xs ys : List ℕ) → 0 < length ys → ends_open (xs ++ ys) ≡ ends_open ys
 ends-right xs [] h = absurd (omega arith)

@@ -90,7 +90,7 @@ both_fault k other ms es seen done =
     let more : BothHaveSeen other (ms ++ two) (es ++ []) k = done ms two es [] seen in
     let then : k.reading ≡ read_marks k.depth (ms ++ two) stack_start = more.stack_has.read in
     let here : k.reading ≡ read_marks k.depth ms stack_start = seen.stack_has.read in
-    stuck k.depth k.reading (then ∙ fold-append (λ reading mark. step k.depth mark reading) stack_start ms two ∙ ap (read_marks k.depth two) (sym here))
+    stuck k.depth 0 0 k.reading (then ∙ fold-append (λ reading mark. step k.depth mark reading) stack_start ms two ∙ ap (read_marks k.depth two) (sym here))
 
 both_seen : (limit from : ℕ) (bytes : List ℕ) (before after : Seen) (old new : Known) (x : Option Exit) (w : Whole) → Scanned limit from bytes before after old new x w → before [] []
     → BothHaveSeen after (lex state.Gap from bytes).marks (old.depth ∷ (lex state.Gap from bytes).ends) new

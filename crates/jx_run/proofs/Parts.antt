@@ -89,6 +89,12 @@ marked-after-append (b ∷ xs) ys at between last h =
     pick true (p ∷ ps) h more = first xs ys (suc at) p ps last h (more ps (cc))
     pick false between h more = more between h
 
+-- so it is where all parts are looked at
+pub parts-append : (xs ys : List ℕ) (at : ℕ) (between : List Part) (last : Part) → part at (before_mark xs) ∷ after_marks at xs ≡ between ++ last ∷ []
+    → part at (before_mark (xs ++ ys)) ∷ after_marks at (xs ++ ys) ≡ between ++ longer last (before_mark ys) ∷ after_marks (at + length xs) ys
+parts-append xs ys at [] last h = only xs ys at last (cc) (cc)
+parts-append xs ys at (p ∷ ps) last h = first xs ys at p ps last h (marked-after-append xs ys at ps last (cc))
+
 -- the last part ends where the bytes end
 pub last-ends : (xs : List ℕ) (at : ℕ) (between : List Part) (last : Part) → after_marks at xs ≡ between ++ last ∷ [] → last.at + length last.bytes ≡ at + length xs
 last-ends [] at [] last h = absurd cc

@@ -133,21 +133,21 @@ settle_at b x (Reading.too_deep at) (lexical.state s) is none l = ap (λ (k : �
 settle_at b x (Reading.too_deep at) (lexical.fault i) is none l = ap (λ (k : ℕ). Some (too_deep k)) (fits b at l)
 
 -- no mark is allowed twice where it says no more
-pub stuck : (d : ℕ) (r : Reading) → r ≡ read_marks d (record { kind = kind.Colon; at = 0 } ∷ record { kind = kind.Colon; at = 0 } ∷ []) r → IsFault r
-stuck d (Reading.went expect.Value o) h = cc
-stuck d (Reading.went expect.ArrayFirst o) h = cc
-stuck d (Reading.went expect.ObjectFirst o) h = cc
-stuck d (Reading.went expect.Name o) h = cc
-stuck d (Reading.went expect.Colon o) h = cc
-stuck d (Reading.went expect.After o) h = cc
-stuck d (Reading.stopped at) h = tt
-stuck d (Reading.too_deep at) h = tt
+pub stuck : (d i j : ℕ) (r : Reading) → r ≡ read_marks d (record { kind = kind.Colon; at = i } ∷ record { kind = kind.Colon; at = j } ∷ []) r → IsFault r
+stuck d i j (Reading.went expect.Value o) h = cc
+stuck d i j (Reading.went expect.ArrayFirst o) h = cc
+stuck d i j (Reading.went expect.ObjectFirst o) h = cc
+stuck d i j (Reading.went expect.Name o) h = cc
+stuck d i j (Reading.went expect.Colon o) h = cc
+stuck d i j (Reading.went expect.After o) h = cc
+stuck d i j (Reading.stopped at) h = tt
+stuck d i j (Reading.too_deep at) h = tt
 
 done_fault : (k : Known) (ms : List Mark) (es : List ℕ) → HasSeen ms es k → WantsNoMore (λ marks ends. HasSeen marks ends k) → IsFault k.reading
 done_fault k ms es seen done =
     let two : List Mark = record { kind = kind.Colon; at = 0 } ∷ record { kind = kind.Colon; at = 0 } ∷ [] in
     let more : HasSeen (ms ++ two) (es ++ []) k = done ms two es [] seen in
-    stuck k.depth k.reading (more.read ∙ fold-append (λ reading mark. mark_step k.depth mark reading) stack_start ms two ∙ ap (read_marks k.depth two) (sym seen.read))
+    stuck k.depth 0 0 k.reading (more.read ∙ fold-append (λ reading mark. mark_step k.depth mark reading) stack_start ms two ∙ ap (read_marks k.depth two) (sym seen.read))
 
 no_fault : (r : Reading) (e : Expect) (n : ℕ) → whole.Went e n ≡ whole_of r → IsFault r → ⊥
 no_fault (Reading.went f o) e n h i = i

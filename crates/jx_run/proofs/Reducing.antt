@@ -63,7 +63,7 @@ marked_in : (k : Option MarkKind) (at high : ℕ) (ms : List Mark) → at < high
 marked_in None at high ms lt h = wider (suc at) high at high ms (omega arith) (omega arith) h
 marked_in (Some k) at high ms lt h = ((omega arith, lt), wider (suc at) high at high ms (omega arith) (omega arith) h)
 
-lex-in : (s : LexState) (at : ℕ) (bytes : List ℕ) → EachIn (IsIn at (at + length bytes)) (lex s at bytes).marks
+pub lex-in : (s : LexState) (at : ℕ) (bytes : List ℕ) → EachIn (IsIn at (at + length bytes)) (lex s at bytes).marks
 unfolding lex
 lex-in s at [] = tt
 lex-in s at (b ∷ bytes) =
@@ -76,8 +76,16 @@ lex-in s at (b ∷ bytes) =
     after None h = tt
     after (Some n) h = h n
 
+pub lex_rises : (s : LexState) (at : ℕ) (bytes : List ℕ) → RisingFrom 0 (lex s at bytes).marks
+lex_rises s at bytes = lower 0 at _ (omega arith) (lex-rising s at bytes)
+
+-- marks that go on rising behind these
+pub rises-then : (low from high : ℕ) (xs ys : List Mark) → low ≤ high → RisingFrom low xs → EachIn (IsIn from high) xs → RisingFrom high ys → RisingFrom low (xs ++ ys)
+rises-then low from high [] ys le h i k = lower low high ys le k
+rises-then low from high (m ∷ xs) ys le h i k = (h.0, rises-then (m.at + 1) from high xs ys (let b = i.0.1 in omega (arith, b)) h.1 i.1 k)
+
 pub tracks_rise : (m : Map) (bytes : List ℕ) → Map.IsOf bytes m → AreRising m
-tracks_rise m bytes h s = subst (λ (t : Track). RisingFrom 0 t.marks) (sym (h.tracks s)) (lower 0 m.start _ (omega arith) (lex-rising s m.start bytes))
+tracks_rise m bytes h s = subst (λ (t : Track). RisingFrom 0 t.marks) (sym (h.tracks s)) (lex_rises s m.start bytes)
 
 pub tracks_in : (m : Map) (bytes : List ℕ) → Map.IsOf bytes m → AreInside m
 tracks_in m bytes h s =

@@ -23,7 +23,8 @@ use Rattle.jx_run.specs.declared.way.Way.{Way}
 use Rattle.jx_run.specs.Turns.{Turn, wrong, on, enter, leave, turn}
 use Rattle.jx_run.specs.Reading.{Outcome, went, stopped, too_deep, at_exit, and_then, read}
 use Rattle.jx_run.specs.Joins.{AreJoined, AreJoinedWays, AreMade, GoesOnWith, GoesThrough, IsAbove, IsJoinedWay, IsMade, IsMadeAt, IsOnward}
-use Rattle.jx_run.specs.OutcomeRun.{OutcomeRunValue, Entries, entries_at, outcome_in, outcome, GoesOn, IsOutcomeRun, IsWhole, IsWithin}
+use Rattle.jx_run.specs.OutcomeRun.{OutcomeRunValue, Entries, entries_at, exit_at, exit_in, outcome_in, outcome, GoesOn, IsOutcomeRun, IsWhole, IsWithin}
+use Rattle.jx_run.specs.Rest.{IsRestOf}
 use Rattle.jx_run.proofs.Completion.{run-append}
 use Rattle.jx_run.proofs.Reducing.{push_above, states-many}
 use Rattle.jx_run.proofs.StateOrder.{state-at}
@@ -288,17 +289,44 @@ outcome_goes l r ws fs whole a s e o h =
     ∙ k.goes x.0 x.1 e o h
     ∙ ap (λ z. and_then (outcome_in z e o) (outcome r)) (sym x.1)
 
-pub joined_is_of : (l r : OutcomeRunValue) (ws : List Way) (fs : List Forms) → IsWhole l → AreJoined l r ws fs → l.limit ≡ r.limit → l.end ≡ r.start
-    → (xs ys : List ℕ) → IsOutcomeRun xs l → IsOutcomeRun ys r → IsOutcomeRun (xs ++ ys) (joined_run l r ws fs)
-joined_is_of l r ws fs whole a lr mid xs ys x y =
+-- an outcome that goes on does so from the state in which its way ends
+went-ends : (x : Exit) (r : Reading) (t : LexState) (e : Expect) (o : List Holder) → at_exit x r ≡ went t e o → x ≡ Exit.state t
+went-ends (Exit.state s) (Reading.went e' o') t e o h = cc
+went-ends (Exit.fault i) (Reading.went e' o') t e o h = cc
+went-ends (Exit.state s) (Reading.stopped at) t e o h = cc
+went-ends (Exit.fault i) (Reading.stopped at) t e o h = cc
+went-ends (Exit.state s) (Reading.too_deep at) t e o h = cc
+went-ends (Exit.fault i) (Reading.too_deep at) t e o h = cc
+
+run_ends : (l : OutcomeRunValue) → IsWhole l → (s t : LexState) (e d : Expect) (o p : List Holder) → outcome l s e o ≡ went t d p → exit_at l s ≡ Exit.state t
+run_ends l whole s t e d o p h =
+    let x = has_entries l whole s in
+    ap exit_in x.1 ∙ went-ends (exit_of (x.0).exit) (answer (x.0).marks e o) t d p (sym (ap (λ z. outcome_in z e o) x.1) ∙ h)
+
+-- what reading goes on to is asked only of where it goes on
+and_then-there : (r : Outcome) (f g : LexState → Expect → List Holder → Outcome) → ((s : LexState) (e : Expect) (o : List Holder) → r ≡ went s e o → f s e o ≡ g s e o)
+    → and_then r f ≡ and_then r g
+and_then-there (went s e o) f g h = h s e o refl
+and_then-there (stopped at) f g h = refl
+and_then-there (too_deep at) f g h = refl
+
+-- a run of the bytes is one from each state
+pub any_rest : (l r : OutcomeRunValue) (ys : List ℕ) → IsOutcomeRun ys r → IsRestOf l ys r
+any_rest l r ys y = record { long = y.long; outcomes = λ s t ends. y.outcomes t }
+
+pub rest_is_of : (l r : OutcomeRunValue) (ws : List Way) (fs : List Forms) → IsWhole l → AreJoined l r ws fs → l.limit ≡ r.limit → l.end ≡ r.start
+    → (xs ys : List ℕ) → IsOutcomeRun xs l → IsRestOf l ys r → IsOutcomeRun (xs ++ ys) (joined_run l r ws fs)
+rest_is_of l r ws fs whole a lr mid xs ys x y =
     record {
       long = (let n = length-append xs ys in let p = x.long in let q = y.long in omega (arith, n, p, q, mid));
       outcomes = λ s e o h.
           outcome_goes l r ws fs whole a s e o h
-          ∙ ap (λ z. and_then z (outcome r)) (x.outcomes s e o h)
-          ∙ and_then-same l.limit (read l.limit s e o l.start xs) (outcome r) _ (read-within l.limit xs s e o l.start h)
-          (λ s' e' o' w'. y.outcomes s' e' o' (subst (λ d. length o' ≤ d) lr w')
-          ∙ ap (λ d. read d s' e' o' r.start ys) (sym lr)
-          ∙ ap (λ i. read l.limit s' e' o' i ys) (sym mid ∙ x.long))
+          ∙ and_then-there (outcome l s e o) (outcome r) (λ s e o. read l.limit s e o (l.start + length xs) ys)
+          (λ t d p is.
+          y.outcomes s t (run_ends l whole s t e d o p is) d p
+          (subst (λ n. length p ≤ n) lr (subst (Within l.limit) (sym (x.outcomes s e o h) ∙ is) (read-within l.limit xs s e o l.start h)))
+          ∙ ap (λ n. read n t d p r.start ys) (sym lr)
+          ∙ ap (λ i. read l.limit t d p i ys) (sym mid ∙ x.long))
+          ∙ ap (λ z. and_then z (λ s e o. read l.limit s e o (l.start + length xs) ys)) (x.outcomes s e o h)
           ∙ sym (read-append l.limit xs ys s e o l.start h);
     }

@@ -9,6 +9,7 @@ pub mod Laws
 pub mod OutcomeRun
 pub mod Reading
 pub mod Reduced
+pub mod Rest
 pub mod SeqRun
 pub mod Settings
 pub mod Shape
@@ -24,3 +25,5 @@ pub mod Kept
 pub mod Reader
 pub mod ReaderInside
 pub mod RunReaderInside
+pub mod Moved
+pub mod SequenceRead

@@ -1,4 +1,10 @@
-use crate::verdict::Refusal;
+// What elements of a JSON text sequence come to.
+ghost use Rattle.std.specs.Prelude.{◌≡◌, map};
+ghost use Rattle.jx_run.specs.Moved.{moved, moved_refusal, moved_verdict};
+ghost use Rattle.jx_run.specs.SequenceRead.{ended_there};
+
+use crate::open_end::told;
+use crate::verdict::{Refusal, Verdict};
 use jx_lex::Span;
 
 /// What an element of a JSON text sequence comes to.
@@ -21,4 +27,73 @@ pub struct JudgedElement {
     /// Where it stands, as offsets in the whole input.
     pub span: Span,
     pub verdict: ElementVerdict,
+}
+
+/// The same refusal of bytes that stand so much further on.
+fn moved_refusal(by: usize, refusal: Refusal) -> Refusal
+    ensures { result ≡ moved_refusal by refusal }
+{
+    match refusal {
+        Refusal::Stopped { at } => Refusal::Stopped {
+            at: by.saturating_add(at),
+        },
+        Refusal::Truncated => Refusal::Truncated,
+        Refusal::TooDeep { at } => Refusal::TooDeep {
+            at: by.saturating_add(at),
+        },
+        Refusal::RepeatedName { at } => Refusal::RepeatedName {
+            at: by.saturating_add(at),
+        },
+    }
+}
+
+fn moved_verdict(by: usize, verdict: ElementVerdict) -> ElementVerdict
+    ensures { result ≡ moved_verdict by verdict }
+{
+    match verdict {
+        ElementVerdict::Refused(refusal) => ElementVerdict::Refused(moved_refusal(by, refusal)),
+        ElementVerdict::Accepted => ElementVerdict::Accepted,
+        ElementVerdict::MayBeCut => ElementVerdict::MayBeCut,
+        ElementVerdict::Unmarked => ElementVerdict::Unmarked,
+    }
+}
+
+/// The same element so many bytes further on.
+fn moved(by: usize, element: JudgedElement) -> JudgedElement
+    ensures { result ≡ moved by element }
+{
+    let span = Span {
+        start: by.saturating_add(element.span.start),
+        end: by.saturating_add(element.span.end),
+    };
+    JudgedElement {
+        span,
+        verdict: moved_verdict(by, element.verdict),
+    }
+}
+
+/// The same elements so many bytes further on.
+pub(crate) fn all_moved(by: usize, mut elements: Vec<JudgedElement>) -> Vec<JudgedElement>
+    ensures { result.items ≡ map (moved by) elements.items }
+{
+    for at in 0..elements.len() {
+        elements[at] = moved(by, elements[at]);
+    }
+    elements
+}
+
+/// The element of a sequence that has this span, by the verdict on its bytes and by whether their last one is open; none
+/// where the span is empty. What stands at the start has no record separator before it.
+pub fn ended_there(span: Span, verdict: Verdict, loose: bool) -> Option<JudgedElement>
+    ensures { result ≡ ended_there span verdict loose }
+{
+    if span.start == span.end {
+        return None;
+    }
+    let verdict = if span.start == 0 {
+        ElementVerdict::Unmarked
+    } else {
+        told(verdict, loose)
+    };
+    Some(JudgedElement { span, verdict })
 }

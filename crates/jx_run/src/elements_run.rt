@@ -1,11 +1,13 @@
 // Runs over parts of a JSON text sequence that keep verdicts alone.
-ghost use Rattle.std.specs.Prelude.{◌≡◌, ◌++◌, ℕ, List, None, Some, IfOk, IfErr, OnOk, OnErr};
+ghost use Rattle.std.specs.Prelude.{◌≡◌, ◌++◌, ◌+◌, ◌<◌, ◌^◌, ℕ, List, None, Some, IfOk, IfErr, OnOk, OnErr, length};
 ghost use Rattle.std.specs.List.{AllZip};
 ghost use Rattle.jx_run.specs.Elements.{elements};
 ghost use Rattle.jx_run.specs.ElementsRun.{AreClosed, IsElementsJoin, IsElementsRun, last_part, place_of_elements};
 ghost use Rattle.jx_run.specs.ElementVerdict.{IsJudgedElement};
+ghost use Rattle.jx_run.specs.SequenceRead.{StartsWithMark};
 
-use crate::element_verdict::{ElementVerdict, JudgedElement};
+use crate::element_verdict::{ElementVerdict, JudgedElement, all_moved};
+use crate::laws::reader_is_grammar;
 use crate::marked_elements::MarkedElements;
 use crate::marks::next_mark;
 use crate::part_run::PartRun;
@@ -52,6 +54,18 @@ impl ElementsRun {
             elements.insert(0, JudgedElement { span, verdict })?;
         }
         Ok(elements)
+    }
+
+    /// The elements of a part of a sequence, in order, where the part begins with a record separator, was read as a sequence of its
+    /// own, and stands behind so many bytes: each is moved to where it stands.
+    pub fn into_elements_behind(self, by: usize) -> Result<Vec<JudgedElement>, AllocError>
+        requires whole { (place_of_elements self).start ≡ 0 }
+        ensures elements { (bytes : List ℕ) → IsElementsRun bytes self → StartsWithMark bytes → by + length bytes < 2 ^ 64
+            → IfOk result (λ es. AllZip (IsJudgedElement self.before.outcomes.limit) (elements by bytes) es.items) }
+    {
+        reader_is_grammar();
+        let elements = self.into_elements()?;
+        Ok(all_moved(by, elements))
     }
 }
 

@@ -1,6 +1,5 @@
 // The verdicts on the elements of worked sequences, at every pair of cuts.
 ghost use Rattle.std.specs.Prelude.{◌≡◌, ◌≤◌, IfOk, length};
-ghost use Rattle.jx_run.specs.ElementsRun.{place_of_elements};
 ghost use Rattle.jx_run.specs.Tree.{span};
 
 use crate::{ElementVerdict, ElementsRun, JudgedElement, Refusal, Summary};
@@ -21,21 +20,21 @@ fn stopped(at: usize) -> ElementVerdict {
     ElementVerdict::Refused(Refusal::Stopped { at })
 }
 
-/// The sequence read in three parts that meet at the cuts.
-fn cut_at(
+/// The bytes read in three parts that meet at the cuts.
+fn cut_at<S: Summary>(
     alloc: Global,
     text: &[u8],
     first: usize,
     second: usize,
     depth: Depth,
-) -> Result<ElementsRun, AllocError>
+) -> Result<S, AllocError>
     requires ordered { first ≤ second }
     requires within { second ≤ length text.now }
-    ensures place { IfOk result (λ r. place_of_elements r ≡ span 0 (length text.now)) }
+    ensures place { IfOk result (λ r. S.place r ≡ span 0 (length text.now)) }
 {
-    let left = ElementsRun::of(alloc, text, 0, first, depth)?;
-    let middle = ElementsRun::of(alloc, text, first, second, depth)?;
-    let right = ElementsRun::of(alloc, text, second, text.len(), depth)?;
+    let left = S::of(alloc, text, 0, first, depth)?;
+    let middle = S::of(alloc, text, first, second, depth)?;
+    let right = S::of(alloc, text, second, text.len(), depth)?;
     let Ok(front) = left.join(middle) else {
         return Err(AllocError);
     };
@@ -54,7 +53,7 @@ fn check(
     let depth = Depth::default();
     for second in 0..text.len() {
         for first in 0..second {
-            let run = cut_at(alloc, text, first, second, depth)?;
+            let run = cut_at::<ElementsRun>(alloc, text, first, second, depth)?;
             assert_eq!(rt; run.depth(), depth);
             let span = Span {
                 start: 0,

@@ -61,6 +61,29 @@ impl Joins {
         if let Some(number) = find(&self.pairs, pair) {
             return Ok(number);
         }
+        self.add(left, right, pair)
+    }
+
+    /// The number of the structure of a pair, which is made.
+    // Apart, since a structure is large: a pair that is known then costs nothing.
+    #[inline(never)]
+    fn add(
+        &mut self,
+        left: &OutcomeRun,
+        right: &OutcomeRun,
+        pair: Pair,
+    ) -> Result<usize, AllocError>
+        requires there { IsThere left.now right.now pair }
+        requires neighbours { left.now.end ≡ right.now.start }
+        requires depth { left.now.limit ≡ right.now.limit }
+        requires made { AreMade left.now right.now self.old.pairs.items self.old.structures.items }
+        requires within { All (IsWithin left.now.limit left.now.start right.now.end) self.old.structures.items }
+        ensures made { OnOk result (AreMade left.now right.now self.new.pairs.items self.new.structures.items) }
+        ensures within { OnOk result (All (IsWithin left.now.limit left.now.start right.now.end) self.new.structures.items) }
+        ensures few { OnOk result (length self.new.structures.items ≤ length self.old.structures.items + 1) }
+        ensures above { OnOk result (IsAbove self.old.structures.items self.new.structures.items) }
+        ensures number { IfOk result (λ number. slice_get self.new.pairs.items number ≡ Some pair) }
+    {
         self.structures.push(left.extended(pair, right)?)?;
         self.pairs.push(pair)?;
         Ok(self.pairs.len() - 1)

@@ -1,7 +1,8 @@
 // The theorems on which verdicts rest, each on a function that does nothing: for every list of bytes, wherever in an
 // input it stands, and for every depth.
 
-ghost use Rattle.std.specs.Prelude.{◌≡◌, ◌<◌, ◌+◌, ◌^◌, ◌++◌, ◌↔◌, ℕ, suc, List, All, IfSome, None, Option, Some, drop, length, take, true};
+ghost use Rattle.std.specs.Prelude.{◌≡◌, ◌<◌, ◌+◌, ◌^◌, ◌++◌, ◌↔◌, ℕ, suc, Bool, List, [], All, IfSome, None, Option, Some, drop, false, length, take, true};
+ghost use Rattle.std.specs.List.{AllZip};
 ghost use Rattle.jx_lex.specs.declared.exit.Exit.{Exit};
 ghost use Rattle.jx_lex.specs.declared.mark.Mark.{Mark};
 ghost use Rattle.jx_lex.specs.declared.state.LexState.{LexState};
@@ -17,7 +18,12 @@ ghost use Rattle.jx_run.specs.Grammar.{Value};
 ghost use Rattle.jx_run.specs.Text.{Begins, IsDocument, Reads};
 ghost use Rattle.jx_run.specs.Reading.{Outcome, at_exit, read_text};
 ghost use Rattle.jx_run.specs.Kept.{HasSeen};
-ghost use Rattle.jx_run.specs.Reader.{is_fault};
+ghost use Rattle.jx_run.specs.Reader.{is_fault, HasRead as HasReadText, ReaderValue};
+ghost use Rattle.jx_run.specs.Elements.{elements};
+ghost use Rattle.jx_run.specs.ElementVerdict.{IsJudgedElement};
+ghost use Rattle.jx_run.specs.SequenceRead.{AreRead, EndsWithMark, IsUnmarked, StartsWithMark, ended_there, listed};
+ghost use Rattle.jx_run.specs.Unclosed.{last_open};
+ghost use Rattle.jx_run.specs.declared.element_verdict.JudgedElement.{JudgedElement};
 ghost use Rattle.jx_run.specs.ReaderInside.{GoesOn, outcome_at, settled};
 ghost use Rattle.jx_run.specs.Whole.{verdict_from};
 ghost use Rattle.jx_run.specs.Laws.{Accepts, BeginsAtSomeDepth, FaultsAt, FaultsTooDeep, MeetsNoFault, span_of, verdict_of};
@@ -123,3 +129,22 @@ pub fn readings_go_on()
 {
     reader_is_grammar();
 }
+
+/// How a text sequence is read part by part, cut at some of its record separators (RFC 7464, section 2).
+///
+/// The element that goes on is read further by bytes without a mark; where it ends, it comes behind those that ended; and
+/// what begins and ends with a mark brings its own elements, and a new one that has no byte yet.
+pub fn sequences_are_read_part_by_part()
+    ensures begun { (limit : ℕ) (reader : ReaderValue) → reader.limit ≡ limit → reader.start ≡ 0 → HasReadText [] reader → AreRead limit [] [] reader false }
+    ensures gone_on { (limit : ℕ) (bytes more : List ℕ) (done : List JudgedElement) (old new : ReaderValue) (loose next : Bool) → AreRead limit bytes done old loose
+        → IsUnmarked more → new.limit ≡ old.limit → new.start ≡ old.start → ((xs : List ℕ) → HasReadText xs old → HasReadText (xs ++ more) new)
+        → next ≡ last_open loose more → AreRead limit (bytes ++ more) done new next }
+    ensures reached { (limit : ℕ) (bytes : List ℕ) (done : List JudgedElement) (reader : ReaderValue) (loose : Bool) → AreRead limit bytes done reader loose
+        → reader.start + reader.count ≡ length bytes }
+    ensures ended { (limit : ℕ) (bytes : List ℕ) (done : List JudgedElement) (reader : ReaderValue) (loose : Bool) (verdict : Verdict) → AreRead limit bytes done reader loose
+        → ((xs : List ℕ) → HasReadText xs reader → Judged reader.start xs reader.limit verdict)
+        → AllZip (IsJudgedElement limit) (elements 0 bytes) (done ++ listed (ended_there (span reader.start (reader.start + reader.count)) verdict loose)) }
+    ensures marked { (limit : ℕ) (bytes more : List ℕ) (done behind : List JudgedElement) (reader : ReaderValue) → AllZip (IsJudgedElement limit) (elements 0 bytes) done
+        → StartsWithMark more → EndsWithMark more → AllZip (IsJudgedElement limit) (elements (length bytes) more) behind
+        → reader.limit ≡ limit → reader.start ≡ length bytes + length more → HasReadText [] reader → AreRead limit (bytes ++ more) (done ++ behind) reader false }
+{}

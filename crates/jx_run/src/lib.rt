@@ -21,6 +21,9 @@ mod reader;
 #[cfg(test)]
 mod reader_tests;
 mod reduce;
+mod rest;
+#[cfg(test)]
+mod rest_tests;
 mod run_reader;
 mod seq_run;
 #[cfg(test)]
@@ -36,15 +39,17 @@ mod verdict;
 mod way;
 
 pub use byte_order_mark::front;
-pub use element_verdict::{ElementVerdict, JudgedElement};
+pub use element_verdict::{ElementVerdict, JudgedElement, ended_there};
 pub use elements_run::ElementsRun;
 pub use laws::{
     a_refused_mark_changes_nothing, beginnings_are_completed_by_bytes,
     fronts_decide_where_texts_begin, reader_is_grammar, readings_go_on,
-    text_by_settings_has_one_tree, text_has_one_tree, values_fill_their_spans,
-    verdict_by_settings_is_one, verdict_is_one,
+    sequences_are_read_part_by_part, text_by_settings_has_one_tree, text_has_one_tree,
+    values_fill_their_spans, verdict_by_settings_is_one, verdict_is_one,
 };
+pub use marks::marked_part;
 pub use one_pass::{NoPause, Pace, Told, read_into};
+pub use open_end::ends_open_behind;
 pub use outcome_run::OutcomeRun;
 pub use reader::Reader;
 pub use run_reader::RunReader;

@@ -1,4 +1,4 @@
-// What stands behind the first record mark of a part of a JSON text sequence.
+// What stands behind the first record separator of a part of a JSON text sequence.
 ghost use Rattle.std.specs.Prelude.{◌≡◌, ◌≤◌, ◌<◌, length, slice_range, IfOk};
 ghost use Rattle.jx_run.specs.Elements.{part, parts};
 ghost use Rattle.jx_run.specs.SeqRun.{IsMarked, IsReading};

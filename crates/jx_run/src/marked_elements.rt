@@ -1,4 +1,4 @@
-// What stands behind the first record mark of a part of a JSON text sequence, of which verdicts alone are kept.
+// What stands behind the first record separator of a part of a JSON text sequence, of which verdicts alone are kept.
 ghost use Rattle.std.specs.Prelude.{◌≡◌, ◌≤◌, ◌<◌, ℕ, List, length, slice_range, IfOk};
 ghost use Rattle.std.specs.List.{AllZip};
 ghost use Rattle.jx_run.specs.Elements.{Part, filled, part, parts};

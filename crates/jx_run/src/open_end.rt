@@ -1,7 +1,7 @@
 // Whether the last byte of an element may be followed by more of its value.
 ghost use Rattle.std.specs.Prelude.{◌≡◌};
 ghost use Rattle.jx_run.specs.ElementVerdict.{told};
-ghost use Rattle.jx_run.specs.Unclosed.{is_open, ends_open};
+ghost use Rattle.jx_run.specs.Unclosed.{is_open, ends_open, last_open};
 
 use crate::element_verdict::ElementVerdict;
 use crate::verdict::Verdict;
@@ -23,7 +23,18 @@ pub(crate) fn ends_open(bytes: &[u8]) -> bool
     }
 }
 
-/// The verdict on an element behind a record mark, by that on its bytes and by whether their last one is open.
+/// Whether the last byte of an element may be followed by more of its value, where these bytes stand behind others of it of
+/// which this was told; at its start `before` is false (RFC 7464, section 2.4).
+pub fn ends_open_behind(before: bool, bytes: &[u8]) -> bool
+    ensures { result ≡ last_open before bytes.now }
+{
+    match bytes.last() {
+        None => before,
+        Some(byte) => is_open(*byte),
+    }
+}
+
+/// The verdict on an element behind a record separator, by that on its bytes and by whether their last one is open.
 pub(crate) fn told(verdict: Verdict, loose: bool) -> ElementVerdict
     ensures { result ≡ told verdict loose }
 {

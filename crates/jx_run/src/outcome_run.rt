@@ -12,12 +12,14 @@ ghost use Rattle.jx_reduce.specs.declared.holder.Holder.{Holder};
 ghost use Rattle.jx_run.specs.Joins.{AreJoined, GoesThrough, IsMade, IsThere};
 ghost use Rattle.jx_run.specs.OutcomeRun.{entries_at, exit_at, place_of, Entries, IsOutcomeRun, IsWithin};
 ghost use Rattle.jx_run.specs.Reading.{at_exit, read};
+ghost use Rattle.jx_run.specs.Rest.{IsRestOf};
 ghost use Rattle.jx_run.specs.Verdict.{Judged};
 ghost use Rattle.jx_run.specs.Whole.{ends_text, verdict_from};
 
 use crate::joins::{Joins, Pair};
 use crate::laws::reader_is_grammar;
 use crate::reduce::all_ways;
+use crate::rest::rest_ways;
 use crate::summary::Summary;
 use crate::verdict::{Refusal, Verdict};
 use crate::way::Way;
@@ -28,7 +30,8 @@ use std::marker::Model;
 
 /// What reading part of a text comes to from each of the 32 lexical states and each of the six expectations, for every list
 /// of open containers that is no longer than the depth, without its marks. It keeps at most 32 structures, whose size the
-/// depth bounds, whatever the length of the text; only while it is made from bytes are their marks held too.
+/// depth bounds, whatever the length of the text. While it is made from bytes, the marks of their beginning are held too, and
+/// of the rest a short window of marks.
 #[derive(Drop)]
 pub struct OutcomeRun {
     depth: Depth,
@@ -106,6 +109,50 @@ impl OutcomeRun {
         Ok(OutcomeRun {
             depth,
             span: map.span(),
+            ways,
+            structures,
+        })
+    }
+
+    /// What reading a beginning of a part of a text comes to, so long that its ways end in two states at most. The map that
+    /// it is made of is let go.
+    fn of_beginning(
+        alloc: Global,
+        text: &[u8],
+        start: usize,
+        end: usize,
+        depth: Depth,
+    ) -> Result<OutcomeRun, AllocError>
+        requires { (start ≤ end) × (end ≤ length text.now) }
+        ensures start { IfOk result (λ r. r.start ≡ start) }
+        ensures end { IfOk result (λ r. (start ≤ r.end) × (r.end ≤ end)) }
+        ensures limit { IfOk result (λ r. r.limit ≡ depth) }
+        ensures of { IfOk result (λ r. IsOutcomeRun (slice_range text.now start r.end) r) }
+    {
+        let map = ChunkMap::of_beginning(alloc, text, start, end)?;
+        OutcomeRun::of_map(alloc, &map, depth)
+    }
+
+    /// What reading on up to `end` comes to, from the states in which ways of this run end.
+    fn rest(&self, text: &[u8], end: usize) -> Result<OutcomeRun, AllocError>
+        requires { (self.now.end ≤ end) × (end ≤ length text.now) }
+        ensures start { IfOk result (λ r. r.start ≡ self.now.end) }
+        ensures end { IfOk result (λ r. r.end ≡ end) }
+        ensures limit { IfOk result (λ r. r.limit ≡ self.now.limit) }
+        ensures rest { IfOk result (λ r. IsRestOf self.now (slice_range text.now self.now.end end) r) }
+    {
+        let start = self.span.end;
+        let (ways, structures) = rest_ways(
+            self.allocator(),
+            &self.ways,
+            text,
+            start,
+            end,
+            self.depth,
+        )?;
+        Ok(OutcomeRun {
+            depth: self.depth,
+            span: Span { start, end },
             ways,
             structures,
         })
@@ -225,7 +272,7 @@ impl OutcomeRun {
     }
 
     /// The run over the joined bytes, in which each two structures that follow one another are joined once. Neither run
-    /// changes.
+    /// changes. The right need not be of use from states to which nothing leads.
     pub(crate) fn joined(&self, right: &OutcomeRun) -> Result<OutcomeRun, AllocError>
         requires neighbours { self.now.end ≡ right.now.start }
         requires depth { self.now.limit ≡ right.now.limit }
@@ -233,6 +280,7 @@ impl OutcomeRun {
         ensures end { IfOk result (λ j. j.end ≡ right.now.end) }
         ensures limit { IfOk result (λ j. j.limit ≡ self.now.limit) }
         ensures of { IfOk result (λ j. (xs ys : List ℕ) → IsOutcomeRun xs self.now → IsOutcomeRun ys right.now → IsOutcomeRun (xs ++ ys) j) }
+        ensures rest { IfOk result (λ j. (xs ys : List ℕ) → IsOutcomeRun xs self.now → IsRestOf self.now ys right.now → IsOutcomeRun (xs ++ ys) j) }
     {
         // Shows the proof what both runs keep.
         let _ = &self.depth;
@@ -281,8 +329,12 @@ impl Summary for OutcomeRun {
         end: usize,
         depth: Depth,
     ) -> Result<Self, AllocError> {
-        let map = ChunkMap::of(alloc, text, start, end)?;
-        OutcomeRun::of_map(alloc, &map, depth)
+        let beginning = OutcomeRun::of_beginning(alloc, text, start, end, depth)?;
+        if beginning.span.end == end {
+            return Ok(beginning);
+        }
+        let rest = beginning.rest(text, end)?;
+        beginning.joined(&rest)
     }
 
     fn join(self, right: Self) -> Result<Self, JoinFault<Self>> {

@@ -169,6 +169,13 @@ impl Reader {
         self.depth
     }
 
+    /// The offset of its text's first byte.
+    pub fn start(&self) -> usize
+        ensures { result ≡ self.now.start }
+    {
+        self.start
+    }
+
     /// The offset just past the last byte that it was fed.
     pub fn end(&self) -> usize
         ensures { result ≡ self.now.start + self.now.count }

@@ -152,6 +152,30 @@ impl Paths {
         if let Some(number) = self.numbers[first] {
             return Ok(number);
         }
+        self.add(alloc, map, state, first, depth)
+    }
+
+    /// The number of the structure of the path from a state, which is made. The path begins with this number.
+    // Apart, since a structure is large: a path that is known then costs nothing.
+    #[inline(never)]
+    fn add(
+        &mut self,
+        alloc: Global,
+        map: &ChunkMap,
+        state: LexState,
+        first: usize,
+        depth: Depth,
+    ) -> Result<usize, AllocError>
+        requires first { first ≤ length map.now.parts }
+        requires path { flat_map (marks_at map.now.parts) (path_at map.now.parts first) ≡ (track map.now state).marks }
+        requires rising { RisingFrom 0 (track map.now state).marks }
+        requires inside { EachIn (λ m. (map.now.start ≤ m.at) × (m.at < map.now.end)) (track map.now state).marks }
+        requires made { ArePaths depth map.now self.old.parts.items self.old.numbers.items self.old.structures.items }
+        ensures made { OnOk result (ArePaths depth map.now self.new.parts.items self.new.numbers.items self.new.structures.items) }
+        ensures few { OnOk result (length self.new.structures.items ≤ length self.old.structures.items + 1) }
+        ensures above { OnOk result (IsAbove self.old.structures.items self.new.structures.items) }
+        ensures number { IfOk result (IsAt depth (track map.now state).marks self.new.structures.items) }
+    {
         let marks = structure_from(alloc, map, state, &mut self.parts, depth)?;
         self.structures.push(marks)?;
         let number = self.structures.len() - 1;

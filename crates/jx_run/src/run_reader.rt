@@ -115,6 +115,13 @@ impl RunReader {
         self.depth
     }
 
+    /// The offset of its text's first byte.
+    pub fn start(&self) -> usize
+        ensures { result ≡ self.now.start }
+    {
+        self.start
+    }
+
     /// The offset just past the last byte that it has read.
     pub fn end(&self) -> usize
         ensures { result ≡ self.now.start + self.now.count }

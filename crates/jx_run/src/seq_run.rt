@@ -14,7 +14,7 @@ use jx_lex::{Depth, JoinFault, Span};
 use std::alloc::{AllocError, Global};
 use std::marker::Model;
 
-/// What reading part of a JSON text sequence gives (RFC 7464). The record marks in it are seen, whatever stands around
+/// What reading part of a JSON text sequence gives (RFC 7464). The record separators in it are seen, whatever stands around
 /// them: a JSON text holds no byte 1E.
 #[derive(Drop)]
 pub struct SeqRun {
@@ -35,7 +35,7 @@ impl Model for SeqRun {
 }
 
 impl SeqRun {
-    /// The parts of the bytes between the record marks.
+    /// The parts of the bytes between the record separators.
     pub fn shape(&self) -> Shape<'_>
         ensures shape { shown result ≡ self.now }
         ensures elements { (bytes : List ℕ) → IsSeqRun bytes self.now → map span_of (elements self.now.before.map.start bytes) ≡ element_places self.now.before self.now.marked }

@@ -1,18 +1,16 @@
 // The elements of worked sequences, read as one run, cut at every byte, and joined from runs of single bytes.
-ghost use Rattle.std.specs.Prelude.{◌≡◌, ◌≤◌, IfOk, length};
-ghost use Rattle.jx_run.specs.SeqRun.{place_of_seq};
-ghost use Rattle.jx_run.specs.Tree.{span};
 
 use crate::seq_run::SeqRun;
 use crate::shape::Shape;
 use crate::summary::Summary;
+use crate::tests::{cut_at, from_left};
 use crate::text_run::TextRun;
 use crate::verdict::{Refusal, Verdict};
 use jx_lex::{Depth, Span};
 use std::alloc::{AllocError, Global};
 use std::process::Abort;
 
-/// An element, with the verdict on it where a record mark stands before it.
+/// An element, with the verdict on it where a record separator stands before it.
 #[derive(Clone, Copy, Debug, PartialEq, Eq)]
 struct Seen {
     span: Span,
@@ -67,34 +65,6 @@ fn elements(alloc: Global, run: &SeqRun) -> Result<Vec<Seen>, AllocError> {
     Ok(seen)
 }
 
-/// Runs of single bytes, joined from the left.
-fn by_bytes(alloc: Global, text: &[u8], depth: Depth) -> Result<SeqRun, AllocError>
-    ensures place { IfOk result (λ r. place_of_seq r ≡ span 0 (length text.now)) }
-    ensures depth { IfOk result (λ r. r.before.limit ≡ depth) }
-{
-    let mut run = SeqRun::of(alloc, text, 0, 0, depth)?;
-    for i in 0..text.len() {
-        let right = SeqRun::of(alloc, text, i, i + 1, depth)?;
-        run = match run.join(right) {
-            Ok(joined) => joined,
-            Err(_) => return Err(AllocError),
-        };
-    }
-    Ok(run)
-}
-
-/// The sequence read in two parts that meet at the cut.
-fn cut_at(alloc: Global, text: &[u8], cut: usize, depth: Depth) -> Result<SeqRun, AllocError>
-    requires { cut ≤ length text.now }
-{
-    let left = SeqRun::of(alloc, text, 0, cut, depth)?;
-    let right = SeqRun::of(alloc, text, cut, text.len(), depth)?;
-    match left.join(right) {
-        Ok(joined) => Ok(joined),
-        Err(_) => Err(AllocError),
-    }
-}
-
 fn check_run(
     rt: &impl Abort,
     alloc: Global,
@@ -114,10 +84,10 @@ fn check(rt: &impl Abort, alloc: Global, text: &[u8], want: &[Seen]) -> Result<(
     let depth = Depth::default();
     let whole = SeqRun::of(alloc, text, 0, text.len(), depth)?;
     check_run(rt, alloc, &whole, text, want)?;
-    let bytes = by_bytes(alloc, text, depth)?;
+    let bytes: SeqRun = from_left(alloc, text, depth)?;
     check_run(rt, alloc, &bytes, text, want)?;
     for cut in 0..text.len() {
-        let joined = cut_at(alloc, text, cut, depth)?;
+        let joined: SeqRun = cut_at(alloc, text, cut, depth)?;
         check_run(rt, alloc, &joined, text, want)?;
     }
     Ok(())

@@ -1,10 +1,10 @@
 use crate::started::Started;
 use crate::text_run::TextRun;
 
-/// What a run over part of a JSON text sequence holds (RFC 7464, section 2). A record mark is the byte 1E.
+/// What a run over part of a JSON text sequence holds (RFC 7464, section 2). A record separator is the byte 1E.
 #[derive(Clone, Copy, Drop)]
 pub enum Shape<'a> {
-    /// The bytes hold no record mark.
+    /// The bytes hold no record separator.
     Plain(&'a TextRun),
     /// The run of the bytes before the first mark, the reading of each part between two neighbouring marks that isn't
     /// empty, in order, and the run of the bytes behind the last mark.

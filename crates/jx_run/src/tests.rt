@@ -28,14 +28,35 @@ impl Judge for OutcomeRun {
     }
 }
 
-/// Runs of single bytes, joined from the left.
-fn from_left<J: Judge>(alloc: Global, text: &[u8], depth: Depth) -> Result<J, AllocError>
-    ensures place { IfOk result (λ r. J.place r ≡ span 0 (length text.now)) }
-    ensures depth { IfOk result (λ r. J.limit r ≡ depth) }
+/// The summaries of both sides of a cut, joined.
+pub(crate) fn cut_at<S: Summary>(
+    alloc: Global,
+    text: &[u8],
+    cut: usize,
+    depth: Depth,
+) -> Result<S, AllocError>
+    requires { cut ≤ length text.now }
 {
-    let mut run = J::of(alloc, text, 0, 0, depth)?;
+    let left = S::of(alloc, text, 0, cut, depth)?;
+    let right = S::of(alloc, text, cut, text.len(), depth)?;
+    match left.join(right) {
+        Ok(joined) => Ok(joined),
+        Err(_) => Err(AllocError),
+    }
+}
+
+/// Summaries of single bytes, joined from the left.
+pub(crate) fn from_left<S: Summary>(
+    alloc: Global,
+    text: &[u8],
+    depth: Depth,
+) -> Result<S, AllocError>
+    ensures place { IfOk result (λ r. S.place r ≡ span 0 (length text.now)) }
+    ensures depth { IfOk result (λ r. S.limit r ≡ depth) }
+{
+    let mut run = S::of(alloc, text, 0, 0, depth)?;
     for i in 0..text.len() {
-        let right = J::of(alloc, text, i, i + 1, depth)?;
+        let right = S::of(alloc, text, i, i + 1, depth)?;
         run = match run.join(right) {
             Ok(joined) => joined,
             Err(_) => return Err(AllocError),

@@ -1,11 +1,16 @@
-/// Why a text is refused. Offsets are in the whole input.
+/// Why a text, or an element of a sequence, is no JSON text (RFC 8259, section 2). Each offset counts bytes of the whole input
+/// from 0; what stands of the text before it begins one within the depth.
 #[derive(Clone, Copy, Debug, PartialEq, Eq)]
 pub enum Refusal {
+    /// With the byte at this offset it begins no text of any depth.
     Stopped { at: usize },
+    /// It ends too early: all of its bytes begin a text within the depth, and are none.
     Truncated,
+    /// With the byte at this offset it begins only texts of a greater depth: the byte opens one container more than may stand
+    /// open at once (section 9).
     TooDeep { at: usize },
-    /// The first name that is that of an earlier member of its object. Only the settings can refuse one, and only in what is
-    /// otherwise accepted.
+    /// The name that begins at this offset, the first by offset that is that of an earlier member of its object (section 4).
+    /// Only the settings can refuse one, and only in what is otherwise accepted.
     RepeatedName { at: usize },
 }
 

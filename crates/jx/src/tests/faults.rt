@@ -33,6 +33,10 @@ fn what_the_system_refused(rt: HostRuntime) {
     assert!(rt; matches!(Fault::of_opening(missing), Fault::Open));
     let full = io::Error::from(io::ErrorKind::OutOfMemory);
     assert!(rt; matches!(Fault::of_opening(full), Fault::Memory(_)));
+    let broken = io::Error::from(io::ErrorKind::Interrupted);
+    assert!(rt; matches!(Fault::of_reading(broken), Fault::Report(ReportFault::Read)));
+    let full = io::Error::from(io::ErrorKind::OutOfMemory);
+    assert!(rt; matches!(Fault::of_reading(full), Fault::Memory(_)));
     let bytes = io::Error::from(io::ErrorKind::InvalidData);
     assert!(rt; matches!(Fault::of_words(bytes), Fault::NotText));
     let full = io::Error::from(io::ErrorKind::OutOfMemory);

@@ -119,26 +119,59 @@ fn a_mark_elsewhere(rt: HostRuntime) -> Result<(), Fail> {
     check(&rt, alloc, b"\"\xEF\xBB\xBF\"", string, string)
 }
 
+// A raw control character stops a string, and a lone surrogate may stand there as an escape.
+#[test]
+fn texts_without_a_mark(rt: HostRuntime) -> Result<(), Fail> {
+    let alloc = rt.alloc();
+    check(&rt, alloc, b"\"\n\"", stopped(1), stopped(1))?;
+    let array = Ok((Kind::Array, 0, 10));
+    check(&rt, alloc, b"[\"\\uD800\"]", array, array)
+}
+
+// Where the pointer `/0` leads in a text, or why the text is none.
+fn check_pointer<R: Abort + Threads + Wait + Sync>(
+    rt: &R,
+    alloc: Global,
+    text: &[u8],
+    cuts: &[usize],
+    settings: &Settings,
+    want: Result<Span, Refusal>,
+) -> Result<(), Fail> {
+    let workers = Workers::new(2).ok_or("workers")?;
+    let cutting = cut(alloc, text.len(), cuts)?;
+    let told = match index_text_with(rt, alloc, text, &cutting, workers, settings, &OpenGate)? {
+        TextAnswer::Accepted(index) => {
+            let pointer = Pointer::read("/0").ok().ok_or("a pointer")?;
+            let node = index.find(&pointer).ok().ok_or("found")?;
+            let row = index.rows().get(node.number()).ok_or("a row")?;
+            Ok(row.span)
+        }
+        TextAnswer::Refused(refusal) => Err(refusal),
+    };
+    assert_eq!(rt; told, want, "{text:?} cut at {cuts:?}");
+    Ok(())
+}
+
 #[test]
 fn a_pointer_behind_a_mark(rt: HostRuntime) -> Result<(), Fail> {
-    let alloc = rt.alloc();
     let text: &[u8] = b"\xEF\xBB\xBF[1]";
-    let workers = Workers::new(2).ok_or("workers")?;
-    let settings = Settings {
-        depth: Depth::default(),
-        mark: FrontMark::Ignored,
-        names: NameRule::Any,
-    };
-    for place in 1..text.len() {
-        let cutting = cut(alloc, text.len(), &[place])?;
-        let answer = index_text_with(&rt, alloc, text, &cutting, workers, &settings, &OpenGate)?;
-        let TextAnswer::Accepted(index) = answer else {
-            return Err("accepted".into());
+    let found = Ok(Span { start: 4, end: 5 });
+    let refused = Err(Refusal::Stopped { at: 0 });
+    for (mark, names, want) in [
+        (FrontMark::Ignored, NameRule::Any, found),
+        (FrontMark::Ignored, NameRule::Unique, found),
+        (FrontMark::Refused, NameRule::Any, refused),
+        (FrontMark::Refused, NameRule::Unique, refused),
+    ] {
+        let settings = Settings {
+            depth: Depth::default(),
+            mark,
+            names,
         };
-        let pointer = Pointer::read("/0").ok().ok_or("a pointer")?;
-        let node = index.find(&pointer).ok().ok_or("found")?;
-        let row = index.rows().get(node.number()).ok_or("a row")?;
-        assert_eq!(rt; row.span, Span { start: 4, end: 5 });
+        check_pointer(&rt, rt.alloc(), text, &[], &settings, want)?;
+        for place in 1..text.len() {
+            check_pointer(&rt, rt.alloc(), text, &[place], &settings, want)?;
+        }
     }
     Ok(())
 }

@@ -128,14 +128,18 @@ fn texts_that_may_repeat_a_name(rt: HostRuntime) -> Result<(), Fail> {
 #[test]
 fn texts_without_repeated_names(rt: HostRuntime) -> Result<(), Fail> {
     let alloc = rt.alloc();
-    let texts: [&[u8]; 8] = [
+    let texts: [&[u8]; 12] = [
         b"null",
         b"12",
         b"\"\xC3\xA9\"",
+        b"\"\\u0041\"",
+        b"[\"\\uD800\"]",
         b"{\"\\uD83D\\uDE00\":1}",
+        b"{\"\xEF\xBD\x9E\":1,\"\xF0\x9F\x98\x80\":2}",
         b"[[[]]]",
         b"{\"a\":[1,{\"b\":2}]}",
         b"{\"a/b\":1,\"m~n\":8,\"\":0}",
+        b"[1,2]",
         b"[10,20]",
     ];
     for text in texts {

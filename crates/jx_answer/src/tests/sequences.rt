@@ -146,7 +146,27 @@ fn a_refused_element_does_not_stop_the_rest(rt: HostRuntime) -> Result<(), Fail>
     check(&rt, alloc, b"\x1E]\n\x1E1 ", &want)
 }
 
-// The answers by a setting, in one piece and at every single cut.
+// The answers by settings on a sequence that is cut there, with their indexes and without.
+fn check_settings<R: Abort + Threads + Wait + Sync>(
+    rt: &R,
+    alloc: Global,
+    text: &[u8],
+    cuts: &[usize],
+    settings: &Settings,
+    want: &[(usize, usize, Told)],
+) -> Result<(), Fail> {
+    let workers = Workers::new(2).ok_or("workers")?;
+    let cutting = cut(alloc, text.len(), cuts)?;
+    let elements = index_sequence_with(rt, alloc, text, &cutting, workers, settings, &OpenGate)?;
+    let answers = answers_of(alloc, &elements)?;
+    assert_eq!(rt; answers.as_slice(), want, "{text:?} cut at {cuts:?}");
+    let judged = judge_sequence_with(rt, alloc, text, &cutting, workers, settings, &OpenGate)?;
+    let verdicts = verdicts_of(alloc, &judged)?;
+    assert_eq!(rt; verdicts.as_slice(), want, "{text:?} cut at {cuts:?}");
+    Ok(())
+}
+
+// The same in one piece and at every single cut, whether or not names have to be unique.
 fn check_by<R: Abort + Threads + Wait + Sync>(
     rt: &R,
     alloc: Global,
@@ -154,26 +174,37 @@ fn check_by<R: Abort + Threads + Wait + Sync>(
     mark: FrontMark,
     want: &[(usize, usize, Told)],
 ) -> Result<(), Fail> {
-    let workers = Workers::new(2).ok_or("workers")?;
-    let settings = Settings {
-        depth: Depth::default(),
-        mark,
-        names: NameRule::Any,
-    };
-    for place in 0..text.len() {
-        let single = [place];
-        let cuts: &[usize] = if place == 0 { &[] } else { &single };
-        let cutting = cut(alloc, text.len(), cuts)?;
-        let elements = index_sequence_with(
-            rt, alloc, text, &cutting, workers, &settings, &OpenGate,
-        )?;
-        let answers = answers_of(alloc, &elements)?;
-        assert_eq!(rt; answers.as_slice(), want, "{text:?} cut at {cuts:?}");
-        let judged = judge_sequence_with(rt, alloc, text, &cutting, workers, &settings, &OpenGate)?;
-        let verdicts = verdicts_of(alloc, &judged)?;
-        assert_eq!(rt; verdicts.as_slice(), want, "{text:?} cut at {cuts:?}");
+    for names in [NameRule::Any, NameRule::Unique] {
+        let settings = Settings {
+            depth: Depth::default(),
+            mark,
+            names,
+        };
+        check_settings(rt, alloc, text, &[], &settings, want)?;
+        for place in 1..text.len() {
+            check_settings(rt, alloc, text, &[place], &settings, want)?;
+        }
     }
     Ok(())
+}
+
+// No element here repeats a name, so that the answers are those without the setting.
+#[test]
+fn elements_that_repeat_no_name(rt: HostRuntime) -> Result<(), Fail> {
+    let alloc = rt.alloc();
+    let text: &[u8] = b"\x1Etrue\n\x1Etrue\x1E\x1E[1\n";
+    let want = [
+        (1, 6, Told::Accepted),
+        (7, 11, Told::MayBeCut),
+        (13, 16, TRUNCATED),
+    ];
+    check_by(&rt, alloc, text, FrontMark::Refused, &want)?;
+    let want = [(0, 2, Told::Unmarked), (3, 5, Told::Accepted)];
+    check_by(&rt, alloc, b"1\n\x1E2\n", FrontMark::Refused, &want)?;
+    let want = [(1, 4, Told::Accepted)];
+    check_by(&rt, alloc, b"\x1E\"a\"", FrontMark::Refused, &want)?;
+    let want = [(1, 3, Told::Accepted), (4, 6, stopped(4))];
+    check_by(&rt, alloc, b"\x1E1 \x1E]\n", FrontMark::Refused, &want)
 }
 
 #[test]

@@ -154,25 +154,3 @@ fn one_to_sixty_four_workers(rt: HostRuntime) -> Result<(), Fail> {
     }
     Ok(())
 }
-
-#[test]
-fn faults_in_words(rt: HostRuntime) -> Result<(), Fail> {
-    let alloc = rt.alloc();
-    let words = [
-        (
-            CutFault::Outside { index: 2 },
-            "the cut at index 2 is outside the text",
-        ),
-        (
-            CutFault::NotRising { index: 1 },
-            "the cut at index 1 is not above the one before it",
-        ),
-        (CutFault::TooManyPieces, "too many pieces"),
-        (CutFault::Memory, "out of memory"),
-    ];
-    for (fault, expected) in words {
-        let text = format!(in alloc; "{fault}")?;
-        assert_eq!(rt; text.as_str(), expected);
-    }
-    Ok(())
-}

@@ -1,12 +1,14 @@
 // Answers in a form that can be compared, without taking memory.
+use crate::tests::inputs::{Worked, WorkedRow};
 use jx_answer::{Answer, Element, ElementAnswer, TextAnswer};
-use jx_lex::Span;
-use jx_run::Refusal;
+use jx_index::{FindFault, Row};
+use jx_lex::{Kind, Span};
+use jx_run::{ElementVerdict, JudgedElement, NameRule, Refusal, Verdict};
 
-/// What an element comes to, but for its rows.
+/// What an element comes to: its rows, or why it has none.
 #[derive(Clone, Copy, Debug, PartialEq, Eq)]
 pub enum Told {
-    Accepted,
+    Accepted(&'static [WorkedRow]),
     Refused(Refusal),
     MayBeCut,
     Unmarked,
@@ -15,23 +17,85 @@ pub enum Told {
 /// An element that begins and ends there, with its answer.
 pub type ToldElement = (usize, usize, Told);
 
-pub fn answer_on(element: &Element<'_>) -> ToldElement {
-    let answer = match element.answer {
-        ElementAnswer::Accepted(_) => Told::Accepted,
-        ElementAnswer::Refused(refusal) => Told::Refused(refusal),
-        ElementAnswer::MayBeCut => Told::MayBeCut,
-        ElementAnswer::Unmarked => Told::Unmarked,
-    };
-    (element.span.start, element.span.end, answer)
+// Whether it is the span, moved by so many bytes.
+fn is_moved(place: Span, span: (usize, usize), by: usize) -> bool {
+    place.start == span.0.saturating_add(by) && place.end == span.1.saturating_add(by)
 }
 
-/// Whether these are the elements, in order.
+// Whether there is such a span just where one is wanted.
+fn is_name(name: Option<Span>, want: Option<(usize, usize)>, by: usize) -> bool {
+    match (name, want) {
+        (Some(name), Some(want)) => is_moved(name, want, by),
+        (None, None) => true,
+        _ => false,
+    }
+}
+
+fn parent_of(row: &Row) -> Option<usize> {
+    match row.parent {
+        Some(node) => Some(node.number()),
+        None => None,
+    }
+}
+
+// Whether it is the row, moved by so many bytes.
+fn is_row(row: &Row, want: &WorkedRow, by: usize) -> bool {
+    let (kind, span, parent, place, name) = *want;
+    row.kind == kind
+        && is_moved(row.span, span, by)
+        && parent_of(row) == parent
+        && row.place == place
+        && is_name(row.name, name, by)
+}
+
+/// Whether these are the rows, in order, moved by so many bytes.
+pub fn are_rows(rows: &[Row], want: &[WorkedRow], by: usize) -> bool {
+    rows.len() == want.len()
+        && rows
+            .iter()
+            .zip(want)
+            .all(|(row, want)| is_row(row, want, by))
+}
+
+fn is_told(element: &Element<'_>, want: &ToldElement) -> bool {
+    let (start, end, told) = *want;
+    let answered = match (&element.answer, told) {
+        (ElementAnswer::Accepted(index), Told::Accepted(rows)) => are_rows(index.rows(), rows, 0),
+        (ElementAnswer::Refused(refusal), Told::Refused(want)) => *refusal == want,
+        (ElementAnswer::MayBeCut, Told::MayBeCut) => true,
+        (ElementAnswer::Unmarked, Told::Unmarked) => true,
+        _ => false,
+    };
+    element.span == Span { start, end } && answered
+}
+
+/// Whether these are the elements, in order, with their rows.
 pub fn are_told(elements: &[Element<'_>], want: &[ToldElement]) -> bool {
     elements.len() == want.len()
         && elements
             .iter()
             .zip(want)
-            .all(|(element, want)| answer_on(element) == *want)
+            .all(|(element, want)| is_told(element, want))
+}
+
+fn is_judged(element: &JudgedElement, want: &ToldElement) -> bool {
+    let (start, end, told) = *want;
+    let verdict = match told {
+        Told::Accepted(_) => ElementVerdict::Accepted,
+        Told::Refused(refusal) => ElementVerdict::Refused(refusal),
+        Told::MayBeCut => ElementVerdict::MayBeCut,
+        Told::Unmarked => ElementVerdict::Unmarked,
+    };
+    element.span == Span { start, end } && element.verdict == verdict
+}
+
+/// Whether these are the elements, in order, without their rows.
+pub fn are_judged(elements: &[JudgedElement], want: &[ToldElement]) -> bool {
+    elements.len() == want.len()
+        && elements
+            .iter()
+            .zip(want)
+            .all(|(element, want)| is_judged(element, want))
 }
 
 /// Whether two answers are the same refusal, or have the same rows.
@@ -43,28 +107,62 @@ pub fn are_equal(one: &TextAnswer<'_>, other: &TextAnswer<'_>) -> bool {
     }
 }
 
-/// Whether it is accepted with rows of these spans, in order.
-pub fn has_spans(answer: &TextAnswer<'_>, spans: &[(usize, usize)]) -> bool {
+/// An answer less its rows.
+pub fn verdict_in(answer: &TextAnswer<'_>) -> Verdict {
     match answer {
-        TextAnswer::Accepted(index) => {
-            index.rows().len() == spans.len()
-                && index.rows().iter().zip(spans).all(|(row, span)| {
-                    row.span
-                        == Span {
-                            start: span.0,
-                            end: span.1,
-                        }
-                })
-        }
-        TextAnswer::Refused(_) => false,
+        TextAnswer::Accepted(_) => Verdict::Accepted,
+        TextAnswer::Refused(refusal) => Verdict::Refused(*refusal),
     }
 }
 
-/// Whether each pointer is found at its span, where it has one, and else is lost.
-pub fn are_found(found: &[Answer], spans: &[Option<(usize, usize)>]) -> bool {
-    found.len() == spans.len()
-        && found.iter().zip(spans).all(|(answer, span)| match answer {
-            Answer::Found { span: there, .. } => Some((there.start, there.end)) == *span,
-            Answer::Fault(_) => span.is_none(),
-        })
+/// The refusal of a worked text by a rule for names, if it is refused.
+fn refusal_of(worked: &Worked, names: NameRule) -> Option<Refusal> {
+    match (worked.answer, names, worked.repeated) {
+        (Err(refusal), _, _) => Some(refusal),
+        (Ok(_), NameRule::Unique, Some(at)) => Some(Refusal::RepeatedName {
+            at: at.saturating_add(worked.front),
+        }),
+        _ => None,
+    }
+}
+
+/// The verdict on a worked text by a rule for names.
+pub fn worked_verdict(worked: &Worked, names: NameRule) -> Verdict {
+    match refusal_of(worked, names) {
+        Some(refusal) => Verdict::Refused(refusal),
+        None => Verdict::Accepted,
+    }
+}
+
+/// Whether it is the answer on a worked text by a rule for names, with all its rows.
+pub fn is_worked(answer: &TextAnswer<'_>, worked: &Worked, names: NameRule) -> bool {
+    match (answer, worked.answer, refusal_of(worked, names)) {
+        (TextAnswer::Accepted(index), Ok(rows), None) => {
+            are_rows(index.rows(), rows, worked.front)
+        }
+        (TextAnswer::Refused(refusal), _, Some(want)) => *refusal == want,
+        _ => false,
+    }
+}
+
+/// A value's row number, kind and span, or why a pointer leads nowhere.
+pub type LookUp = Result<(usize, Kind, (usize, usize)), FindFault>;
+
+fn is_look_up(answer: &Answer, want: &LookUp) -> bool {
+    match (answer, want) {
+        (Answer::Found { node, kind, span }, Ok((number, wanted, place))) => {
+            node.number() == *number && kind == wanted && (span.start, span.end) == *place
+        }
+        (Answer::Fault(fault), Err(want)) => fault == want,
+        _ => false,
+    }
+}
+
+/// Whether these are the answers on pointers, in order.
+pub fn are_found(found: &[Answer], want: &[LookUp]) -> bool {
+    found.len() == want.len()
+        && found
+            .iter()
+            .zip(want)
+            .all(|(answer, want)| is_look_up(answer, want))
 }

@@ -1,16 +1,18 @@
-// Every single cut and every pair of cuts: the answer is that of one piece.
+// Every single cut and every pair of cuts: the answer is that of one piece, with all its rows. One worker reads a text in one
+// pass over the pieces, and by runs of the pieces, which are joined in a book; a sequence it reads by such runs alone.
 ghost use Rattle.std.specs.Prelude.{◌≡◌, length};
 
-use crate::tests::answers::{ToldElement, are_equal, are_told};
+use crate::tests::answers::{ToldElement, are_equal, verdict_in};
+use crate::tests::calls::{SEQUENCE_CALLS, answer_by_run, by_names, tells};
 use crate::tests::inputs::{
-    FIVE_ROWS, MARKED_ELEMENTS, MARKED_FIVE_ROWS, MARKED_SEQUENCE, MARKS, SEQUENCES, SHORT,
-    settings,
+    FIVE_ROWS, MARKED_FIVE_ROWS, MARKED_SEQUENCES, MARKS, REPEATED_SEQUENCES, RULES, SEQUENCES,
+    SHORT, WorkedSequence, settings,
 };
-use jx_answer::{TextAnswer, index_sequence_with, index_text_with};
+use jx_answer::{TextAnswer, index_text_with, verdict_of_text_with};
 use jx_book::OpenGate;
 use jx_claim::{Cutting, Workers};
 use jx_lex::Depth;
-use jx_run::{FrontMark, Settings};
+use jx_run::{FrontMark, NameRule, Settings};
 use std::alloc::Global;
 use std::process::Abort;
 use std::sync::Wait;
@@ -19,135 +21,297 @@ use std::thread::Threads;
 
 const DEPTHS: [u32; 5] = [0, 1, 2, 512, 65535];
 
-fn answer_at<'a, R: Threads + Wait + Sync>(
+// The answer of one worker that reads a text in one piece.
+fn answer_of_one_piece<'a, R: Threads + Wait + Sync>(
     rt: &R,
     alloc: Global,
     text: &'a [u8],
-    cuts: &[usize],
     settings: &Settings,
 ) -> Result<TextAnswer<'a>, Fail> {
     let workers = Workers::new(1).ok_or("one worker")?;
-    let cutting = Cutting::at(alloc, text.len(), cuts)?;
+    let cutting = Cutting::at(alloc, text.len(), &[])?;
     let answer = index_text_with(rt, alloc, text, &cutting, workers, settings, &OpenGate)?;
     Ok(answer)
 }
 
-// The first cuts, one or two of them, at which the answer is another than in one piece.
+// Whether so many workers give the answer on a text that is cut there, with its rows and without them.
+fn is_told_at<R: Threads + Wait + Sync>(
+    rt: &R,
+    alloc: Global,
+    text: &[u8],
+    cuts: &[usize],
+    settings: &Settings,
+    count: u8,
+    whole: &TextAnswer<'_>,
+) -> Result<bool, Fail> {
+    let workers = Workers::new(count).ok_or("workers")?;
+    let cutting = Cutting::at(alloc, text.len(), cuts)?;
+    let answer = index_text_with(rt, alloc, text, &cutting, workers, settings, &OpenGate)?;
+    let verdict = verdict_of_text_with(rt, alloc, text, &cutting, workers, settings, &OpenGate)?;
+    Ok(are_equal(&answer, whole) && verdict == verdict_in(whole))
+}
+
+// Whether one worker that joins the runs of the pieces in a book gives the answer on a text that is cut there.
+fn is_joined_at<R: Threads + Wait + Sync>(
+    rt: &R,
+    alloc: Global,
+    text: &[u8],
+    cuts: &[usize],
+    settings: &Settings,
+    whole: &TextAnswer<'_>,
+) -> Result<bool, Fail> {
+    let workers = Workers::new(1).ok_or("one worker")?;
+    let cutting = Cutting::at(alloc, text.len(), cuts)?;
+    let answer = answer_by_run(rt, alloc, text, cutting, workers, settings, &OpenGate)?;
+    Ok(are_equal(&answer, whole))
+}
+
+// The first cut behind this one, or this one alone, at which the answer of one worker is another one.
+fn other_second_cut<R: Threads + Wait + Sync>(
+    rt: &R,
+    alloc: Global,
+    text: &[u8],
+    first: usize,
+    settings: &Settings,
+    whole: &TextAnswer<'_>,
+) -> Result<Option<usize>, Fail> {
+    for second in first..text.len() {
+        let pair = [first, second];
+        let count = if second == first { 1 } else { 2 };
+        let cuts = &pair[..count];
+        if !is_told_at(rt, alloc, text, cuts, settings, 1, whole)?
+            || !is_joined_at(rt, alloc, text, cuts, settings, whole)?
+        {
+            return Ok(Some(second));
+        }
+    }
+    Ok(None)
+}
+
+// The first cuts, one or two of them, at which the answer of one worker is another than in one piece. One cut stands twice.
 fn other_cuts<R: Threads + Wait + Sync>(
     rt: &R,
     alloc: Global,
     text: &[u8],
     settings: &Settings,
 ) -> Result<Option<(usize, usize)>, Fail> {
-    let whole = answer_at(rt, alloc, text, &[], settings)?;
+    let whole = answer_of_one_piece(rt, alloc, text, settings)?;
     for first in 1..text.len() {
-        let answer = answer_at(rt, alloc, text, &[first], settings)?;
-        if !are_equal(&answer, &whole) {
-            return Ok(Some((first, first)));
-        }
-        for second in first.saturating_add(1)..text.len() {
-            let answer = answer_at(rt, alloc, text, &[first, second], settings)?;
-            if !are_equal(&answer, &whole) {
-                return Ok(Some((first, second)));
-            }
+        if let Some(second) = other_second_cut(rt, alloc, text, first, settings, &whole)? {
+            return Ok(Some((first, second)));
         }
     }
     Ok(None)
+}
+
+// Short texts at every pair of cuts, within each depth.
+fn check_short<R: Abort + Threads + Wait + Sync>(
+    rt: &R,
+    alloc: Global,
+    mark: FrontMark,
+    names: NameRule,
+) -> Result<(), Fail> {
+    for text in SHORT {
+        for containers in DEPTHS {
+            let settings = settings(Depth::new(containers).ok_or("a depth")?, mark, names);
+            let other = other_cuts(rt, alloc, text, &settings)?;
+            assert_eq!(rt; other, None, "{text:?} by {settings:?}");
+        }
+    }
+    Ok(())
 }
 
 #[test]
 fn short_texts_at_every_pair_of_cuts(rt: HostRuntime) -> Result<(), Fail> {
-    for text in SHORT {
-        for containers in DEPTHS {
-            for mark in MARKS {
-                let settings = settings(Depth::new(containers).ok_or("a depth")?, mark);
-                let other = other_cuts(&rt, rt.alloc(), text, &settings)?;
-                assert_eq!(rt; other, None, "{text:?} within {containers}, {mark:?}");
-            }
-        }
-    }
-    Ok(())
-}
-
-// Whether a sequence that is cut there has these elements.
-fn has_elements_at<R: Threads + Wait + Sync>(
-    rt: &R,
-    alloc: Global,
-    text: &[u8],
-    cuts: &[usize],
-    mark: FrontMark,
-    want: &[ToldElement],
-) -> Result<bool, Fail> {
-    let workers = Workers::new(1).ok_or("one worker")?;
-    let cutting = Cutting::at(alloc, text.len(), cuts)?;
-    let settings = settings(Depth::default(), mark);
-    let elements = index_sequence_with(rt, alloc, text, &cutting, workers, &settings, &OpenGate)?;
-    Ok(are_told(&elements, want))
-}
-
-// The first cuts, one or two of them, at which a sequence has other elements.
-fn other_sequence_cuts<R: Threads + Wait + Sync>(
-    rt: &R,
-    alloc: Global,
-    text: &[u8],
-    mark: FrontMark,
-    want: &[ToldElement],
-) -> Result<Option<(usize, usize)>, Fail> {
-    for first in 1..text.len() {
-        if !has_elements_at(rt, alloc, text, &[first], mark, want)? {
-            return Ok(Some((first, first)));
-        }
-        for second in first.saturating_add(1)..text.len() {
-            if !has_elements_at(rt, alloc, text, &[first, second], mark, want)? {
-                return Ok(Some((first, second)));
-            }
-        }
-    }
-    Ok(None)
+    check_short(&rt, rt.alloc(), FrontMark::Refused, NameRule::Any)
 }
 
 #[test]
-fn sequences_at_every_pair_of_cuts(rt: HostRuntime) -> Result<(), Fail> {
-    for (text, want) in SEQUENCES {
-        for mark in MARKS {
-            let other = other_sequence_cuts(&rt, rt.alloc(), text, mark, want)?;
-            assert_eq!(rt; other, None, "{text:?}, {mark:?}");
-        }
-    }
-    let (text, want) = (MARKED_SEQUENCE, &MARKED_ELEMENTS);
-    let other = other_sequence_cuts(&rt, rt.alloc(), text, FrontMark::Ignored, want)?;
-    assert_eq!(rt; other, None);
-    Ok(())
+fn short_texts_of_unique_names_at_every_pair_of_cuts(rt: HostRuntime) -> Result<(), Fail> {
+    check_short(&rt, rt.alloc(), FrontMark::Refused, NameRule::Unique)
 }
 
-// The first single cut at which a text has another answer than in one piece.
-fn other_cut<R: Threads + Wait + Sync>(
+#[test]
+fn short_texts_behind_marks_at_every_pair_of_cuts(rt: HostRuntime) -> Result<(), Fail> {
+    check_short(&rt, rt.alloc(), FrontMark::Ignored, NameRule::Any)
+}
+
+#[test]
+fn short_texts_of_unique_names_behind_marks_at_every_pair_of_cuts(
+    rt: HostRuntime,
+) -> Result<(), Fail> {
+    check_short(&rt, rt.alloc(), FrontMark::Ignored, NameRule::Unique)
+}
+
+// The first single cut at which two workers answer something else than is answered in one piece.
+fn other_cut_of_two<R: Threads + Wait + Sync>(
     rt: &R,
     alloc: Global,
     text: &[u8],
     settings: &Settings,
 ) -> Result<Option<usize>, Fail> {
-    let whole = answer_at(rt, alloc, text, &[], settings)?;
+    let whole = answer_of_one_piece(rt, alloc, text, settings)?;
     for cut in 1..text.len() {
-        if !are_equal(&answer_at(rt, alloc, text, &[cut], settings)?, &whole) {
+        if !is_told_at(rt, alloc, text, &[cut], settings, 2, &whole)? {
             return Ok(Some(cut));
         }
     }
     Ok(None)
 }
 
+// A short text at every cut by two workers, by each of the settings.
+fn check_by_two<R: Abort + Threads + Wait + Sync>(
+    rt: &R,
+    alloc: Global,
+    text: &[u8],
+    depth: Depth,
+) -> Result<(), Fail> {
+    for mark in MARKS {
+        for names in RULES {
+            let settings = settings(depth, mark, names);
+            let other = other_cut_of_two(rt, alloc, text, &settings)?;
+            assert_eq!(rt; other, None, "{text:?} by {settings:?}");
+        }
+    }
+    Ok(())
+}
+
+#[test]
+fn short_texts_at_every_cut_by_two_workers(rt: HostRuntime) -> Result<(), Fail> {
+    for text in SHORT {
+        for containers in DEPTHS {
+            let depth = Depth::new(containers).ok_or("a depth")?;
+            check_by_two(&rt, rt.alloc(), text, depth)?;
+        }
+    }
+    Ok(())
+}
+
+// Whether a sequence that is cut there has these elements, with their rows and without them.
+fn has_elements_at<R: Threads + Wait + Sync>(
+    rt: &R,
+    alloc: Global,
+    text: &[u8],
+    cuts: &[usize],
+    settings: &Settings,
+    want: &[ToldElement],
+) -> Result<bool, Fail> {
+    let workers = Workers::new(1).ok_or("one worker")?;
+    let cutting = Cutting::at(alloc, text.len(), cuts)?;
+    let mut tell = true;
+    for call in SEQUENCE_CALLS {
+        tell = tells(
+            rt, alloc, call, text, want, &cutting, workers, settings, &OpenGate,
+        )? && tell;
+    }
+    Ok(tell)
+}
+
+// The first cut behind this one, or this one alone, at which a sequence has other elements.
+fn other_second_sequence_cut<R: Threads + Wait + Sync>(
+    rt: &R,
+    alloc: Global,
+    text: &[u8],
+    first: usize,
+    settings: &Settings,
+    want: &[ToldElement],
+) -> Result<Option<usize>, Fail> {
+    for second in first..text.len() {
+        let pair = [first, second];
+        let count = if second == first { 1 } else { 2 };
+        let cuts = &pair[..count];
+        if !has_elements_at(rt, alloc, text, cuts, settings, want)? {
+            return Ok(Some(second));
+        }
+    }
+    Ok(None)
+}
+
+// The first cuts, one or two of them, at which a sequence has other elements. One cut stands twice, and none is 0.
+fn other_sequence_cuts<R: Threads + Wait + Sync>(
+    rt: &R,
+    alloc: Global,
+    text: &[u8],
+    settings: &Settings,
+    want: &[ToldElement],
+) -> Result<Option<(usize, usize)>, Fail> {
+    if !has_elements_at(rt, alloc, text, &[], settings, want)? {
+        return Ok(Some((0, 0)));
+    }
+    for first in 1..text.len() {
+        if let Some(second) = other_second_sequence_cut(rt, alloc, text, first, settings, want)? {
+            return Ok(Some((first, second)));
+        }
+    }
+    Ok(None)
+}
+
+// Sequences at every pair of cuts.
+fn check_sequences<R: Abort + Threads + Wait + Sync>(
+    rt: &R,
+    alloc: Global,
+    sequences: &[WorkedSequence],
+    settings: &Settings,
+) -> Result<(), Fail> {
+    for (text, want) in sequences {
+        let other = other_sequence_cuts(rt, alloc, text, settings, want)?;
+        assert_eq!(rt; other, None, "{text:?} by {settings:?}");
+    }
+    Ok(())
+}
+
+#[test]
+fn sequences_at_every_pair_of_cuts(rt: HostRuntime) -> Result<(), Fail> {
+    for (mark, marked) in MARKS.iter().zip(&MARKED_SEQUENCES) {
+        for (names, repeated) in RULES.iter().zip(&REPEATED_SEQUENCES) {
+            let settings = settings(Depth::default(), *mark, *names);
+            check_sequences(&rt, rt.alloc(), &SEQUENCES, &settings)?;
+            check_sequences(&rt, rt.alloc(), marked, &settings)?;
+            check_sequences(&rt, rt.alloc(), repeated, &settings)?;
+        }
+    }
+    Ok(())
+}
+
+// The first single cut at which one worker answers something else than in one pass over one piece: in one pass over both, or by
+// runs that it joins, by either rule for names.
+fn other_cut<R: Threads + Wait + Sync>(
+    rt: &R,
+    alloc: Global,
+    text: &[u8],
+    mark: FrontMark,
+) -> Result<Option<usize>, Fail> {
+    let workers = Workers::new(1).ok_or("one worker")?;
+    let any = settings(Depth::default(), mark, NameRule::Any);
+    let unique = settings(Depth::default(), mark, NameRule::Unique);
+    let want = answer_of_one_piece(rt, alloc, text, &any)?;
+    let want_unique = answer_of_one_piece(rt, alloc, text, &unique)?;
+    for cut in 1..text.len() {
+        let cutting = Cutting::at(alloc, text.len(), &[cut])?;
+        let told = index_text_with(rt, alloc, text, &cutting, workers, &any, &OpenGate)?;
+        let answer = answer_by_run(rt, alloc, text, cutting, workers, &any, &OpenGate)?;
+        if !are_equal(&told, &want)
+            || !are_equal(&answer, &want)
+            || !are_equal(&by_names(NameRule::Unique, answer), &want_unique)
+        {
+            return Ok(Some(cut));
+        }
+    }
+    Ok(None)
+}
+
+// A text in which each byte is replaced by each value in turn.
 fn check_replaced<R: Abort + Threads + Wait + Sync>(
     rt: &R,
     alloc: Global,
     bytes: &[u8],
     mark: FrontMark,
 ) -> Result<(), Fail> {
-    let settings = settings(Depth::default(), mark);
     for place in 0..bytes.len() {
         for byte in 0..=255u8 {
             let mut text = Vec::from_slice(alloc, bytes)?;
             *text.get_mut(place).ok_or("a byte")? = byte;
-            let other = other_cut(rt, alloc, &text, &settings)?;
+            let other = other_cut(rt, alloc, &text, mark)?;
             assert_eq!(rt; other, None, "{byte} at {place}, {mark:?}");
         }
     }
@@ -156,12 +320,20 @@ fn check_replaced<R: Abort + Threads + Wait + Sync>(
 
 #[test]
 fn each_byte_replaced_by_each_value_at_every_cut(rt: HostRuntime) -> Result<(), Fail> {
-    check_replaced(&rt, rt.alloc(), FIVE_ROWS, FrontMark::Refused)?;
+    check_replaced(&rt, rt.alloc(), FIVE_ROWS, FrontMark::Refused)
+}
+
+#[test]
+fn each_byte_replaced_at_every_cut_where_marks_are_ignored(rt: HostRuntime) -> Result<(), Fail> {
     check_replaced(&rt, rt.alloc(), FIVE_ROWS, FrontMark::Ignored)
 }
 
 #[test]
 fn each_byte_replaced_behind_a_mark_at_every_cut(rt: HostRuntime) -> Result<(), Fail> {
-    check_replaced(&rt, rt.alloc(), MARKED_FIVE_ROWS, FrontMark::Refused)?;
+    check_replaced(&rt, rt.alloc(), MARKED_FIVE_ROWS, FrontMark::Refused)
+}
+
+#[test]
+fn each_byte_replaced_behind_an_ignored_mark_at_every_cut(rt: HostRuntime) -> Result<(), Fail> {
     check_replaced(&rt, rt.alloc(), MARKED_FIVE_ROWS, FrontMark::Ignored)
 }

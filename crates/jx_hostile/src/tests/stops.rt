@@ -1,15 +1,18 @@
 // Workers that are stopped: what they left is read by the calling thread, and the answer is the same.
-use crate::tests::answers::{ToldElement, are_found, are_told, has_spans};
+ghost use Rattle.std.specs.Prelude.{◌≡◌, length};
+
+use crate::tests::answers::{LookUp, ToldElement, are_found};
+use crate::tests::calls::{SEQUENCE_CALLS, SequenceCall, TEXT_CALLS, TextCall, is_right, tells};
 use crate::tests::inputs::{
-    ELEMENTS, Indexed, MARKED_ELEMENTS, MARKED_FIVE, MARKED_SEQUENCE, MARKS, SEQUENCE, TEXTS,
-    UNSORTED, settings,
+    MARKED_SEQUENCES, MARKED_TEXTS, MARKS, REPEATED_SEQUENCES, RULES, SEQUENCES, TEXTS, UNSORTED,
+    Worked, WorkedSequence, settings,
 };
-use jx_answer::{TextAnswer, find_all, index_sequence_with, index_text, index_text_with};
+use jx_answer::{TextAnswer, find_all, index_text};
 use jx_book::{Event, Gate, Go, OpenGate};
 use jx_claim::{Cutting, Workers};
-use jx_index::Pointer;
-use jx_lex::Depth;
-use jx_run::FrontMark;
+use jx_index::{FindFault, Pointer};
+use jx_lex::{Depth, Kind};
+use jx_run::{FrontMark, Settings};
 use std::alloc::Global;
 use std::process::Abort;
 use std::sync::Wait;
@@ -48,60 +51,23 @@ impl Gate for StopFrom {
 /// More events than any of these runs has.
 const MANY: u64 = 1000;
 
-// A text that so many workers read, who stop from each event on in turn until a run meets no stop.
-fn check_text<R: Abort + Threads + Wait + Sync>(
+// A call on a text by so many workers, who stop from each event on in turn until a run meets no stop.
+fn check_call<R: Abort + Threads + Wait + Sync>(
     rt: &R,
     alloc: Global,
-    text: Indexed,
-    mark: FrontMark,
-    count: u8,
-) -> Result<(), Fail> {
-    let (bytes, spans) = text;
-    let workers = Workers::new(count).ok_or("workers")?;
-    let settings = settings(Depth::default(), mark);
-    for number in 0..MANY {
-        let gate = StopFrom::new(number);
-        let cutting = Cutting::every(bytes.len(), 1)?;
-        let answer = index_text_with(rt, alloc, bytes, &cutting, workers, &settings, &gate)?;
-        assert!(rt; has_spans(&answer, spans), "{bytes:?}, stopped at {number}");
-        if !gate.has_stopped.load(Ordering::SeqCst) {
-            return Ok(());
-        }
-    }
-    Err("a run that meets no stop".into())
-}
-
-#[test]
-fn texts_whose_workers_stop(rt: HostRuntime) -> Result<(), Fail> {
-    for count in [1, 2, 5] {
-        for text in TEXTS {
-            for mark in MARKS {
-                check_text(&rt, rt.alloc(), text, mark, count)?;
-            }
-        }
-        check_text(&rt, rt.alloc(), MARKED_FIVE, FrontMark::Ignored, count)?;
-    }
-    Ok(())
-}
-
-// The same of a text sequence.
-fn check_sequence<R: Abort + Threads + Wait + Sync>(
-    rt: &R,
-    alloc: Global,
-    text: &[u8],
-    elements: &[ToldElement],
-    mark: FrontMark,
+    call: TextCall,
+    worked: &Worked,
+    settings: &Settings,
     count: u8,
 ) -> Result<(), Fail> {
     let workers = Workers::new(count).ok_or("workers")?;
-    let settings = settings(Depth::default(), mark);
     for number in 0..MANY {
         let gate = StopFrom::new(number);
-        let cutting = Cutting::every(text.len(), 1)?;
-        let answer = index_sequence_with(rt, alloc, text, &cutting, workers, &settings, &gate)?;
+        let cutting = Cutting::every(worked.text.len(), 1)?;
+        let right = is_right(rt, alloc, call, worked, cutting, workers, settings, &gate)?;
         assert!(rt;
-            are_told(&answer, elements),
-            "{text:?}, stopped at {number}"
+            right,
+            "{call:?} on {worked:?} by {settings:?} and {count}, stopped at {number}"
         );
         if !gate.has_stopped.load(Ordering::SeqCst) {
             return Ok(());
@@ -110,21 +76,111 @@ fn check_sequence<R: Abort + Threads + Wait + Sync>(
     Err("a run that meets no stop".into())
 }
 
+// Each call on a text by both rules for names.
+fn check_text<R: Abort + Threads + Wait + Sync>(
+    rt: &R,
+    alloc: Global,
+    worked: &Worked,
+    mark: FrontMark,
+    count: u8,
+) -> Result<(), Fail> {
+    let depth = Depth::new(worked.containers).ok_or("a depth")?;
+    for names in RULES {
+        for call in TEXT_CALLS {
+            check_call(
+                rt,
+                alloc,
+                call,
+                worked,
+                &settings(depth, mark, names),
+                count,
+            )?;
+        }
+    }
+    Ok(())
+}
+
+fn check_texts<R: Abort + Threads + Wait + Sync>(
+    rt: &R,
+    alloc: Global,
+    texts: &[Worked],
+    mark: FrontMark,
+) -> Result<(), Fail> {
+    for worked in texts {
+        for count in [1, 2, 5] {
+            check_text(rt, alloc, worked, mark, count)?;
+        }
+    }
+    Ok(())
+}
+
+#[test]
+fn texts_whose_workers_stop(rt: HostRuntime) -> Result<(), Fail> {
+    for mark in MARKS {
+        check_texts(&rt, rt.alloc(), &TEXTS, mark)?;
+    }
+    Ok(())
+}
+
+#[test]
+fn texts_behind_a_mark_whose_workers_stop(rt: HostRuntime) -> Result<(), Fail> {
+    check_texts(&rt, rt.alloc(), &MARKED_TEXTS, FrontMark::Ignored)
+}
+
+// The same of a text sequence.
+fn check_sequence<R: Abort + Threads + Wait + Sync>(
+    rt: &R,
+    alloc: Global,
+    call: SequenceCall,
+    text: &[u8],
+    want: &[ToldElement],
+    settings: &Settings,
+    count: u8,
+) -> Result<(), Fail> {
+    let workers = Workers::new(count).ok_or("workers")?;
+    let cutting = Cutting::every(text.len(), 1)?;
+    for number in 0..MANY {
+        let gate = StopFrom::new(number);
+        let told = tells(
+            rt, alloc, call, text, want, &cutting, workers, settings, &gate,
+        )?;
+        assert!(rt;
+            told,
+            "{call:?} on {text:?} by {settings:?} and {count}, stopped at {number}"
+        );
+        if !gate.has_stopped.load(Ordering::SeqCst) {
+            return Ok(());
+        }
+    }
+    Err("a run that meets no stop".into())
+}
+
+// Each call on these sequences by so many workers.
+fn check_sequences<R: Abort + Threads + Wait + Sync>(
+    rt: &R,
+    alloc: Global,
+    sequences: &[WorkedSequence],
+    settings: &Settings,
+) -> Result<(), Fail> {
+    for (text, want) in sequences {
+        for call in SEQUENCE_CALLS {
+            for count in [1, 2, 5] {
+                check_sequence(rt, alloc, call, text, want, settings, count)?;
+            }
+        }
+    }
+    Ok(())
+}
+
 #[test]
 fn sequences_whose_workers_stop(rt: HostRuntime) -> Result<(), Fail> {
-    let alloc = rt.alloc();
-    for count in [1, 2, 5] {
-        for mark in MARKS {
-            check_sequence(&rt, alloc, SEQUENCE, &ELEMENTS, mark, count)?;
+    for (mark, marked) in MARKS.iter().zip(&MARKED_SEQUENCES) {
+        for (names, repeated) in RULES.iter().zip(&REPEATED_SEQUENCES) {
+            let settings = settings(Depth::default(), *mark, *names);
+            check_sequences(&rt, rt.alloc(), &SEQUENCES, &settings)?;
+            check_sequences(&rt, rt.alloc(), marked, &settings)?;
+            check_sequences(&rt, rt.alloc(), repeated, &settings)?;
         }
-        check_sequence(
-            &rt,
-            alloc,
-            MARKED_SEQUENCE,
-            &MARKED_ELEMENTS,
-            FrontMark::Ignored,
-            count,
-        )?;
     }
     Ok(())
 }
@@ -151,19 +207,21 @@ fn check_look_ups<R: Abort + Threads + Wait + Sync>(
         return Err("four pointers".into());
     };
     let pointers = [root, name, repeated, missing];
-    let spans = [Some((0, 19)), Some((11, 12)), None, None];
-    let mut ended = false;
+    let want: [LookUp; 4] = [
+        Ok((0, Kind::Object, (0, 19))),
+        Ok((2, Kind::Number, (11, 12))),
+        Err(FindFault::NameRepeated { token: 0 }),
+        Err(FindFault::NoSuchMember { token: 0 }),
+    ];
     for number in 0..MANY {
         let gate = StopFrom::new(number);
         let found = find_all(rt, alloc, &index, &pointers, workers, &gate)?;
-        assert!(rt; are_found(&found, &spans), "stopped at {number}");
+        assert!(rt; are_found(&found, &want), "stopped at {number}");
         if !gate.has_stopped.load(Ordering::SeqCst) {
-            ended = true;
-            break;
+            return Ok(());
         }
     }
-    assert!(rt; ended);
-    Ok(())
+    Err("a run that meets no stop".into())
 }
 
 #[test]

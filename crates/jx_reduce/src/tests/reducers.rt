@@ -54,11 +54,12 @@ fn fitting(chance: &mut Chance, expect: Expect, top: Holder, open: usize, most: 
     b','
 }
 
-// Marks that may stand where they do, but once in so many any mark. At a fault the list goes on as if the mark were not
-// there, so that it has many more behind the first one.
+// Marks that may stand where they do from this expectation on, but once in so many any mark. At a fault the list goes on as
+// if the mark were not there, so that it has many more behind the first one.
 fn long_by_chance(
     alloc: Global,
     chance: &mut Chance,
+    expect: Expect,
     len: usize,
     most: usize,
     faults: usize,
@@ -68,7 +69,7 @@ fn long_by_chance(
     let mut text = Vec::new(alloc);
     let mut open: Vec<Holder> = Vec::new(alloc);
     let around = [A, O][chance.below(2)];
-    let mut expect = EXPECTS[chance.below(6)];
+    let mut expect = expect;
     for _ in 0..len {
         let top = open.last().copied().unwrap_or(around);
         let byte = if chance.below(faults) == 0 {
@@ -90,6 +91,28 @@ fn long_by_chance(
             _ => {}
         }
     }
+    Ok(text)
+}
+
+// So many strings.
+fn strings(alloc: Global, count: usize) -> Result<Vec<u8>, AllocError> {
+    let mut text = Vec::new(alloc);
+    for _ in 0..count {
+        text.push(b's')?;
+    }
+    Ok(text)
+}
+
+// So many strings, and behind them marks that may stand where they do from this expectation on.
+fn long_behind_strings(
+    alloc: Global,
+    chance: &mut Chance,
+    count: usize,
+    expect: Expect,
+) -> Result<Vec<u8>, AllocError> {
+    let mut text = strings(alloc, count)?;
+    let marks = long_by_chance(alloc, chance, expect, LONG, 3, 100_000)?;
+    text.extend_from_slice(&marks)?;
     Ok(text)
 }
 
@@ -171,12 +194,42 @@ fn long_lists_with_frequent_faults_are_reduced_as_by_the_table(
     for containers in [0u32, 1, 2, 3, 512] {
         for faults in [8usize, 150, 600, 100_000] {
             let most = chance.below(containers as usize + 1);
-            let text = long_by_chance(rt.alloc(), &mut chance, LONG, most, faults)?;
+            let expect = EXPECTS[chance.below(6)];
+            let text = long_by_chance(rt.alloc(), &mut chance, expect, LONG, most, faults)?;
             assert!(rt;
                 is_as_read_at_each_cut(rt.alloc(), &text, containers)?,
                 "depth {containers}, a fault in {faults}"
             );
         }
+    }
+    Ok(())
+}
+
+#[test]
+fn long_lists_that_begin_with_strings_are_reduced_as_by_the_table(
+    rt: HostRuntime,
+) -> Result<(), Fail> {
+    let mut chance = Chance { seed: 8 };
+    for count in [1usize, 2, 511, 512, 600] {
+        for expect in [Expect::After, Expect::Colon] {
+            let text = long_behind_strings(rt.alloc(), &mut chance, count, expect)?;
+            assert!(rt;
+                is_as_read_at_each_cut(rt.alloc(), &text, 3)?,
+                "{count} strings, and {expect:?}"
+            );
+        }
+    }
+    Ok(())
+}
+
+#[test]
+fn lists_of_strings_are_reduced_as_by_the_table(rt: HostRuntime) -> Result<(), Fail> {
+    for count in [0usize, 1, 2, 3, 511, 512, 513, LONG] {
+        let text = strings(rt.alloc(), count)?;
+        assert!(rt;
+            is_as_read_at_each_cut(rt.alloc(), &text, 2)?,
+            "{count} strings"
+        );
     }
     Ok(())
 }

@@ -16,6 +16,7 @@ use jx_command::{Command, Task};
 use jx_run::FrontMark;
 use std::alloc::Global;
 use std::io;
+use std::process::Abort;
 use std::sync::Wait;
 use std::test::Fail;
 use std::thread::Threads;
@@ -99,34 +100,66 @@ fn texts_in_batches(rt: HostRuntime) -> Result<(), Fail> {
     Ok(())
 }
 
-// Byte order marks that are ignored, in first batches of a few bytes.
+// A text by what becomes of a mark in front of it, in batches of a few bytes, by several numbers of workers.
+fn check_mark<R: Abort + Threads + Wait + Sync>(
+    rt: &R,
+    alloc: Global,
+    text: &[u8],
+    mark: FrontMark,
+    want: (&[u8], Exit),
+) -> Result<(), Fail> {
+    let (output, exit) = want;
+    for batch in 1..=7usize {
+        for workers in [1u8, 2, 5] {
+            let mut check = check_within(1);
+            check.settings.mark = mark;
+            check.workers = Workers::new(workers).ok_or("workers")?;
+            let ran = reported_by(rt, alloc, text, &check, batch);
+            assert_eq!(rt; ran.answer, Ok(exit), "at {text:?} in batches of {batch}");
+            assert_eq!(rt;
+                ran.output.as_slice(),
+                output,
+                "at {text:?} in batches of {batch}"
+            );
+        }
+    }
+    Ok(())
+}
+
+// Byte order marks in first batches of a few bytes: what is told where a mark is ignored, and where it is refused.
 #[test]
-fn ignored_marks_in_batches(rt: HostRuntime) -> Result<(), Fail> {
-    let texts: [(&[u8], &[u8], Exit); 9] = [
-        (b"\xEF\xBB\xBF[1,22]", b"accepted\n", Exit::Good),
-        (b"\xEF", b"truncated\n", Exit::Bad),
-        (b"\xEF\xBB", b"truncated\n", Exit::Bad),
-        (b"\xEF\xBB\xBF", b"truncated\n", Exit::Bad),
-        (b"\xEF\xBB[1,22]", b"stopped at 2\n", Exit::Bad),
-        (b"\xEF\xBB\xBF\xEF\xBB\xBF1", b"stopped at 3\n", Exit::Bad),
-        (b"    \xEF\xBB\xBF1", b"stopped at 4\n", Exit::Bad),
-        (b"\xEF\xBB\xBF[1,[22]]", b"too deep at 6\n", Exit::Bad),
-        (b"[1,\"\xEF\xBB\xBF\"]", b"accepted\n", Exit::Good),
+fn marks_in_batches(rt: HostRuntime) -> Result<(), Fail> {
+    let texts: [(&[u8], &[u8], &[u8]); 13] = [
+        (b"\xEF\xBB\xBF1", b"accepted\n", b"stopped at 0\n"),
+        (b"\xEF\xBB\xBF[1,22]", b"accepted\n", b"stopped at 0\n"),
+        (b"\xEF", b"truncated\n", b"stopped at 0\n"),
+        (b"\xEF\xBB", b"truncated\n", b"stopped at 0\n"),
+        (b"\xEF\xBB\xBF", b"truncated\n", b"stopped at 0\n"),
+        (b"\xEF1", b"stopped at 1\n", b"stopped at 0\n"),
+        (b"\xEF\xBB1", b"stopped at 2\n", b"stopped at 0\n"),
+        (
+            b"\xEF\xBB\xBF\xEF\xBB\xBF1",
+            b"stopped at 3\n",
+            b"stopped at 0\n",
+        ),
+        (b" \xEF\xBB\xBF1", b"stopped at 1\n", b"stopped at 1\n"),
+        (b"    \xEF\xBB\xBF1", b"stopped at 4\n", b"stopped at 4\n"),
+        (
+            b"\xEF\xBB\xBF[1,[22]]",
+            b"too deep at 6\n",
+            b"stopped at 0\n",
+        ),
+        (b"\"\xEF\xBB\xBF\"", b"accepted\n", b"accepted\n"),
+        (b"[1,\"\xEF\xBB\xBF\"]", b"accepted\n", b"accepted\n"),
     ];
-    for (text, output, exit) in texts {
-        for batch in 1..=7usize {
-            for workers in [1u8, 2] {
-                let mut check = check_within(1);
-                check.settings.mark = FrontMark::Ignored;
-                check.workers = Workers::new(workers).ok_or("workers")?;
-                let ran = reported_by(&rt, rt.alloc(), text, &check, batch);
-                assert_eq!(rt; ran.answer, Ok(exit), "at {text:?} in batches of {batch}");
-                assert_eq!(rt;
-                    ran.output.as_slice(),
-                    output,
-                    "at {text:?} in batches of {batch}"
-                );
-            }
+    for (text, ignored, refused) in texts {
+        for (mark, output) in [(FrontMark::Ignored, ignored), (FrontMark::Refused, refused)] {
+            let exit = if output == b"accepted\n".as_slice() {
+                Exit::Good
+            } else {
+                Exit::Bad
+            };
+            check_mark(&rt, rt.alloc(), text, mark, (output, exit))?;
         }
     }
     Ok(())

@@ -39,9 +39,14 @@ fn marks_ignored(rt: HostRuntime) -> Result<(), Fail> {
 
 #[test]
 fn marks_refused(rt: HostRuntime) -> Result<(), Fail> {
-    let texts: [(&[u8], &[u8], Exit); 4] = [
+    let texts: [(&[u8], &[u8], Exit); 9] = [
         (b"\xEF\xBB\xBF1", b"stopped at 0\n", Exit::Bad),
+        (b"\xEF", b"stopped at 0\n", Exit::Bad),
         (b"\xEF\xBB", b"stopped at 0\n", Exit::Bad),
+        (b"\xEF\xBB\xBF", b"stopped at 0\n", Exit::Bad),
+        (b"\xEF1", b"stopped at 0\n", Exit::Bad),
+        (b"\xEF\xBB1", b"stopped at 0\n", Exit::Bad),
+        (b"\xEF\xBB\xBF\xEF\xBB\xBF1", b"stopped at 0\n", Exit::Bad),
         (b" \xEF\xBB\xBF1", b"stopped at 1\n", Exit::Bad),
         (b"\"\xEF\xBB\xBF\"", b"accepted\n", Exit::Good),
     ];
@@ -80,6 +85,29 @@ fn offsets_count_the_mark(rt: HostRuntime) -> Result<(), Fail> {
         let ran = reported(&rt, rt.alloc(), text, &at);
         assert_eq!(rt; ran.answer, Ok(Exit::Good), "in pieces of {piece}");
         assert_eq!(rt; ran.output.as_slice(), b"found number 4..5\n".as_slice());
+    }
+    Ok(())
+}
+
+// Without the setting a mark is a fault of a text, and in a sequence it stands before the first separator.
+#[test]
+fn pointers_and_sequences_where_marks_are_refused(rt: HostRuntime) -> Result<(), Fail> {
+    for piece in 1..9 {
+        let mut pointers = Vec::new(rt.alloc());
+        pointers.push(String::from_str(rt.alloc(), "/0")?)?;
+        let mut at = command(Task::At(pointers), 512);
+        at.piece = piece;
+        let ran = reported(&rt, rt.alloc(), b"\xEF\xBB\xBF[1]", &at);
+        assert_eq!(rt; ran.answer, Ok(Exit::Bad), "in pieces of {piece}");
+        assert_eq!(rt; ran.output.as_slice(), b"stopped at 0\n".as_slice());
+        let mut seq = command(Task::Seq, 512);
+        seq.piece = piece;
+        let ran = reported(&rt, rt.alloc(), b"\xEF\xBB\xBF\x1E1\n", &seq);
+        assert_eq!(rt; ran.answer, Ok(Exit::Bad), "in pieces of {piece}");
+        assert_eq!(rt;
+            ran.output.as_slice(),
+            b"0..3 unmarked\n4..6 accepted\n".as_slice()
+        );
     }
     Ok(())
 }

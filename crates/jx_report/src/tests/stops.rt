@@ -1,4 +1,5 @@
-// Checks in batches whose workers stop, in the second batch or from the first on: the answer is the same.
+// Checks whose workers stop, in the second batch, from the first on, or over an input that is kept whole since its names have
+// to be unique: the answer is the same.
 ghost use Rattle.std.specs.Prelude.{◌≤◌};
 
 use crate::end::End;
@@ -9,7 +10,7 @@ use crate::tests::ends::TellingReader;
 use crate::tests::gates::StopFrom;
 use jx_claim::Workers;
 use jx_command::Command;
-use jx_run::FrontMark;
+use jx_run::{FrontMark, NameRule};
 use std::alloc::Global;
 use std::process::Abort;
 use std::sync::Wait;
@@ -92,7 +93,7 @@ fn stopped_from_each<R: Abort + Threads + Wait + Sync>(
     Err("a run that meets no stop".into())
 }
 
-// Stops in the second batch, and in both; what is behind a fault asks no gate.
+// Stops in the second batch, in both, and in the whole input; what is behind a fault asks no gate.
 fn check_stops<R: Abort + Threads + Wait + Sync>(
     rt: &R,
     alloc: Global,
@@ -105,8 +106,10 @@ fn check_stops<R: Abort + Threads + Wait + Sync>(
     command.workers = Workers::new(count).ok_or("workers")?;
     let second = stopped_from_each(rt, alloc, &command, BATCH, checked)?;
     let both = stopped_from_each(rt, alloc, &command, 0, checked)?;
+    command.settings.names = NameRule::Unique;
+    let whole = stopped_from_each(rt, alloc, &command, 0, checked)?;
     if checked.2 == Exit::Good {
-        assert!(rt; second > 0 && both > second);
+        assert!(rt; second > 0 && both > second && whole > 0);
     }
     Ok(())
 }

@@ -1,14 +1,15 @@
 // Held runs, books and their workers under refused growths.
 ghost use Rattle.std.specs.Prelude.{◌≡◌, ◌<◌, ◌≤◌, IfOk, IfSome, false, length, vec_len};
 
-use crate::tests::inputs::{FIVE_ROWS, NESTED};
+use crate::tests::inputs::{FIVE_ROWS, NESTED, REPEATED, SEQUENCE, UNSORTED};
+use crate::tests::likeness::{Likeness, is_as_read};
 use jx_book::{
     Book, BookState, Cause, Hand, Held, HeldFault, OpenGate, Put, Share, WorkerEnd, WorkerStop,
     work,
 };
 use jx_claim::{ClaimSeat, Claims, Cutting, Workers};
 use jx_lex::{Depth, Span};
-use jx_run::{OutcomeRun, Verdict};
+use jx_run::{OutcomeRun, SeqRun, TextRun};
 use std::alloc::{AllocError, Global};
 use std::marker::Brand;
 use std::process::Abort;
@@ -17,12 +18,12 @@ use std::sync::ledger::{Blank, Ledger};
 use std::test::Fail;
 
 // The run of a part, asked for twice where it is refused.
-fn run_of(
+fn run_of<S: Likeness>(
     alloc: Global,
     text: &[u8],
     start: usize,
     end: usize,
-) -> Result<Held<'_, OutcomeRun>, AllocError>
+) -> Result<Held<'_, S>, AllocError>
     requires { (start ≤ end) × (end ≤ length text.now) }
     ensures { IfOk result (λ h. h.span ≡ record { start = start; end = end }) }
 {
@@ -32,18 +33,27 @@ fn run_of(
     }
 }
 
-// The join of two neighbours. Where it is refused, both sides have their spans as before, and are joined again.
-fn joined<'a>(
-    left: Held<'a, OutcomeRun>,
-    right: Held<'a, OutcomeRun>,
-) -> Option<Held<'a, OutcomeRun>>
+// Whether a run is the one that its span gives in the text that it carries.
+fn is_as_held<S: Likeness>(alloc: Global, run: &Held<'_, S>) -> bool {
+    is_as_read(alloc, run.text(), run.run())
+}
+
+// The join of two neighbours. Where it is refused, both sides have to be as they were, and are joined again.
+fn joined<'a, S: Likeness>(
+    alloc: Global,
+    left: Held<'a, S>,
+    right: Held<'a, S>,
+) -> Option<Held<'a, S>>
     requires { left.span.end ≡ right.span.start }
 {
     let spans = (left.span(), right.span());
     match left.join(right) {
         Ok(run) => Some(run),
         Err(HeldFault::Memory(left, right)) => {
-            if (left.span(), right.span()) != spans {
+            if (left.span(), right.span()) != spans
+                || !is_as_held(alloc, &left)
+                || !is_as_held(alloc, &right)
+            {
                 return None;
             }
             left.join(right).ok()
@@ -52,60 +62,119 @@ fn joined<'a>(
     }
 }
 
-#[test]
-fn held_runs_under_a_refused_growth(rt: HostRuntime) -> Result<(), Fail> {
-    let alloc = rt.alloc();
-    for cut in 0..FIVE_ROWS.len() {
-        let left = run_of(alloc, FIVE_ROWS, 0, cut)?;
-        let right = run_of(alloc, FIVE_ROWS, cut, FIVE_ROWS.len())?;
-        let run = joined(left, right).ok_or("two sides and their join")?;
-        assert_eq!(rt; run.run().verdict(), Verdict::Accepted);
+// Held runs over both sides of each cut of a text, and their join.
+fn check_joins<S: Likeness, R: Abort>(rt: &R, alloc: Global, text: &[u8]) -> Result<(), Fail> {
+    for cut in 0..text.len() {
+        let left = run_of::<S>(alloc, text, 0, cut)?;
+        let right = run_of::<S>(alloc, text, cut, text.len())?;
+        let run = joined(alloc, left, right).ok_or("two sides as they were, and their join")?;
+        assert!(rt; is_as_held(alloc, &run), "{text:?} cut at {cut}");
     }
     Ok(())
 }
 
-// Whether the run stands in the state then. Where it is refused, the state is as it was, and the same run is put again.
-fn is_stored<'a>(state: &mut BookState<'a, OutcomeRun>, run: Held<'a, OutcomeRun>) -> bool
+#[test]
+fn held_runs_of_nested_arrays_under_a_refused_growth(rt: HostRuntime) -> Result<(), Fail> {
+    check_joins::<TextRun, _>(&rt, rt.alloc(), NESTED)
+}
+
+#[test]
+fn held_runs_of_five_rows_under_a_refused_growth(rt: HostRuntime) -> Result<(), Fail> {
+    check_joins::<OutcomeRun, _>(&rt, rt.alloc(), FIVE_ROWS)
+}
+
+#[test]
+fn held_runs_of_a_repeated_name_under_a_refused_growth(rt: HostRuntime) -> Result<(), Fail> {
+    check_joins::<OutcomeRun, _>(&rt, rt.alloc(), REPEATED)
+}
+
+#[test]
+fn held_runs_of_names_out_of_order_under_a_refused_growth(rt: HostRuntime) -> Result<(), Fail> {
+    check_joins::<OutcomeRun, _>(&rt, rt.alloc(), UNSORTED)
+}
+
+#[test]
+fn held_runs_of_a_sequence_under_a_refused_growth(rt: HostRuntime) -> Result<(), Fail> {
+    check_joins::<SeqRun, _>(&rt, rt.alloc(), SEQUENCE)
+}
+
+// Whether these are runs of so many bytes of a text, every second one, each as it was read.
+fn are_every_second<S: Likeness>(alloc: Global, runs: &[Held<'_, S>], count: usize) -> bool {
+    runs.len() == count
+        && runs.iter().enumerate().all(|(place, run)| {
+            let start = place.saturating_mul(2);
+            let end = start.saturating_add(1);
+            run.span() == Span { start, end } && is_as_held(alloc, run)
+        })
+}
+
+// Whether the run stands in the state then, in which so many stood. Where it is refused, the state is as it was, and the same
+// run is put again.
+fn is_stored<'a, S: Likeness>(
+    alloc: Global,
+    state: &mut BookState<'a, S>,
+    run: Held<'a, S>,
+    count: usize,
+) -> bool
     requires { run.span.start < run.span.end }
 {
     let place = run.span();
-    let before = (state.runs().len(), state.total_put(), state.total_taken());
+    let before = (state.total_put(), state.total_taken());
     match state.put(run) {
         Put::Stored => true,
         Put::Memory(run) => {
-            let after = (state.runs().len(), state.total_put(), state.total_taken());
-            run.span() == place && after == before && matches!(state.put(run), Put::Stored)
+            let after = (state.total_put(), state.total_taken());
+            run.span() == place
+                && is_as_held(alloc, &run)
+                && after == before
+                && are_every_second(alloc, state.runs(), count)
+                && matches!(state.put(run), Put::Stored)
         }
         _ => false,
     }
 }
 
+// Every second byte of a text, put into a state.
+fn check_state<S: Likeness, R: Abort>(rt: &R, alloc: Global, text: &[u8]) -> Result<(), Fail> {
+    let mut state = BookState::<S>::new(alloc);
+    let count = text.len() / 2;
+    for place in 0..count {
+        let run = run_of::<S>(alloc, text, 2 * place, 2 * place + 1)?;
+        assert!(rt;
+            is_stored(alloc, &mut state, run, place),
+            "the byte at {}",
+            2 * place
+        );
+    }
+    assert!(rt; are_every_second(alloc, state.runs(), count), "{text:?}");
+    Ok(())
+}
+
 #[test]
 fn states_of_a_book_under_a_refused_growth(rt: HostRuntime) -> Result<(), Fail> {
-    let alloc = rt.alloc();
-    let mut state = BookState::new(alloc);
-    for place in 0..FIVE_ROWS.len() / 2 {
-        let run = run_of(alloc, FIVE_ROWS, 2 * place, 2 * place + 1)?;
-        assert!(rt; is_stored(&mut state, run), "the byte at {}", 2 * place);
-        assert_eq!(rt; state.runs().len(), place + 1);
-    }
-    for (place, run) in state.runs().iter().enumerate() {
-        assert_eq!(rt; run.span().start, 2 * place);
+    for text in [NESTED, FIVE_ROWS, REPEATED, UNSORTED] {
+        check_state::<OutcomeRun, _>(&rt, rt.alloc(), text)?;
     }
     Ok(())
 }
 
+#[test]
+fn states_of_a_sequence_under_a_refused_growth(rt: HostRuntime) -> Result<(), Fail> {
+    check_state::<SeqRun, _>(&rt, rt.alloc(), SEQUENCE)
+}
+
 // The join of two neighbours, where it is one that is not empty.
-fn both_of<'a>(
-    left: Held<'a, OutcomeRun>,
-    right: Held<'a, OutcomeRun>,
-) -> Option<Held<'a, OutcomeRun>>
+fn both_of<'a, S: Likeness>(
+    alloc: Global,
+    left: Held<'a, S>,
+    right: Held<'a, S>,
+) -> Option<Held<'a, S>>
     ensures { IfSome result (λ h. h.span.start < h.span.end) }
 {
     if left.span().end != right.span().start {
         return None;
     }
-    let run = joined(left, right)?;
+    let run = joined(alloc, left, right)?;
     if run.span().start < run.span().end {
         Some(run)
     } else {
@@ -113,48 +182,135 @@ fn both_of<'a>(
     }
 }
 
-// Whether the run stands in the book then. Where it is refused, the same run is put again.
-fn is_put<'a, P: Ledger, T: Ledger, R: Wait>(
+// Whether the run stands in the book then. Where it is refused, it comes back as it was, the share is as it was, and the same run
+// is put again.
+fn is_put<'a, S: Likeness, P: Ledger, T: Ledger, R: Wait>(
     rt: &R,
-    book: &Book<'a, OutcomeRun, P, T>,
+    alloc: Global,
+    book: &Book<'a, S, P, T>,
     share: &mut Share<P, T>,
-    run: Held<'a, OutcomeRun>,
+    run: Held<'a, S>,
 ) -> bool
     requires { run.span.start < run.span.end }
 {
+    let place = run.span();
+    let before = (share.total_put(), share.total_taken());
     match book.put(rt, share, run) {
         Put::Stored => true,
-        Put::Memory(run) => matches!(book.put(rt, share, run), Put::Stored),
+        Put::Memory(run) => {
+            let after = (share.total_put(), share.total_taken());
+            run.span() == place
+                && is_as_held(alloc, &run)
+                && after == before
+                && matches!(book.put(rt, share, run), Put::Stored)
+        }
         _ => false,
     }
 }
 
-// The same, where its left neighbour may stand there: then both are joined first.
-fn is_handed_over<'a, P: Ledger, T: Ledger, R: Wait>(
+// Whether every second byte of a text stands in a book at its end, each put for itself.
+fn are_put<'a, S: Likeness, P: Ledger, T: Ledger, R: Wait>(
     rt: &R,
-    book: &Book<'a, OutcomeRun, P, T>,
+    alloc: Global,
+    text: &'a [u8],
+    put: Blank,
+    taken: Blank,
+    workers: Workers,
+) -> Result<bool, AllocError>
+    requires one { workers ≡ 1 }
+    requires put { (put.name ≡ P.name) × (put.parts ≡ P.parts) × (put.parts ≡ workers) }
+    requires taken { (taken.name ≡ T.name) × (taken.parts ≡ T.parts) × (taken.parts ≡ workers) }
+{
+    let (book, mut shares) = Book::<S, P, T>::open(alloc, put, taken, workers)?;
+    let Some(mut share) = shares.pop() else {
+        return Ok(false);
+    };
+    let count = text.len() / 2;
+    for place in 0..count {
+        let run = run_of::<S>(alloc, text, 2 * place, 2 * place + 1)?;
+        if !is_put(rt, alloc, &book, &mut share, run) {
+            return Ok(false);
+        }
+    }
+    if share.total_put() != count as u128 || share.total_taken() != 0 {
+        return Ok(false);
+    }
+    shares.push(share)?;
+    match book.finish(text, Depth::default(), shares) {
+        Ok(closed) => Ok(are_every_second(alloc, closed.runs(), count)),
+        Err(_) => Ok(false),
+    }
+}
+
+// The same, with blanks for the ledgers of a book.
+fn are_put_by_one<S: Likeness, R: Wait>(
+    rt: &R,
+    alloc: Global,
+    text: &[u8],
+    workers: Workers,
+) -> Result<bool, AllocError>
+    requires one { workers ≡ 1 }
+{
+    let put = Blank::new(u64::from(workers.count()));
+    let taken = Blank::new(u64::from(workers.count()));
+    are_put::<S, Brand, Brand, R>(rt, alloc, text, put, taken, workers)
+}
+
+// Every second byte of a text, put into a book. Where there is no memory for the book, it is opened again.
+fn check_puts<S: Likeness, R: Abort + Wait>(
+    rt: &R,
+    alloc: Global,
+    text: &[u8],
+) -> Result<(), Fail> {
+    let workers = Workers::new(1).ok_or("workers")?;
+    let put = match are_put_by_one::<S, R>(rt, alloc, text, workers) {
+        Ok(put) => put,
+        Err(AllocError) => are_put_by_one::<S, R>(rt, alloc, text, workers)?,
+    };
+    assert!(rt; put, "{text:?}");
+    Ok(())
+}
+
+#[test]
+fn puts_under_a_refused_growth(rt: HostRuntime) -> Result<(), Fail> {
+    for text in [NESTED, FIVE_ROWS, REPEATED, UNSORTED] {
+        check_puts::<OutcomeRun, _>(&rt, rt.alloc(), text)?;
+    }
+    Ok(())
+}
+
+#[test]
+fn puts_of_a_sequence_under_a_refused_growth(rt: HostRuntime) -> Result<(), Fail> {
+    check_puts::<SeqRun, _>(&rt, rt.alloc(), SEQUENCE)
+}
+
+// The same, where its left neighbour may stand there: then both are joined first.
+fn is_handed_over<'a, S: Likeness, P: Ledger, T: Ledger, R: Wait>(
+    rt: &R,
+    alloc: Global,
+    book: &Book<'a, S, P, T>,
     share: &mut Share<P, T>,
-    run: Held<'a, OutcomeRun>,
+    run: Held<'a, S>,
 ) -> bool
     requires { run.span.start < run.span.end }
 {
     match book.put(rt, share, run) {
         Put::Stored => true,
-        Put::Touches(run, neighbour) => match both_of(neighbour, run) {
-            Some(both) => is_put(rt, book, share, both),
+        Put::Touches(run, neighbour) => match both_of(alloc, neighbour, run) {
+            Some(both) => is_put(rt, alloc, book, share, both),
             None => false,
         },
         _ => false,
     }
 }
 
-// The run of all that a stopped worker holds, if it holds something.
-fn run_in<'a>(
+// The run of all that a stopped worker holds, if it holds something, and that as it was read.
+fn run_in<'a, S: Likeness>(
     alloc: Global,
     text: &'a [u8],
     cutting: &Cutting,
-    hand: Hand<'a, OutcomeRun>,
-) -> Option<Held<'a, OutcomeRun>>
+    hand: Hand<'a, S>,
+) -> Option<Held<'a, S>>
     requires { cutting.now.len ≡ length text.now }
     ensures { IfSome result (λ h. h.span.start < h.span.end) }
 {
@@ -168,19 +324,26 @@ fn run_in<'a>(
             run_of(alloc, text, place.start, place.end).ok()
         }
         Hand::One(run) => {
-            if run.span().start < run.span().end {
+            if run.span().start < run.span().end && is_as_held(alloc, &run) {
                 Some(run)
             } else {
                 None
             }
         }
-        Hand::Two(left, right) => both_of(left, right),
+        Hand::Two(left, right) => {
+            if is_as_held(alloc, &left) && is_as_held(alloc, &right) {
+                both_of(alloc, left, right)
+            } else {
+                None
+            }
+        }
     }
 }
 
-// Whether the book has one run then, over the whole of the text, which is accepted.
-fn is_whole<'a, P: Ledger, T: Ledger>(
-    book: Book<'a, OutcomeRun, P, T>,
+// Whether the book has one run then, over the whole of the text, like the one that reading it at once gives.
+fn is_whole<'a, S: Likeness, P: Ledger, T: Ledger>(
+    alloc: Global,
+    book: Book<'a, S, P, T>,
     text: &'a [u8],
     shares: Vec<Share<P, T>>,
 ) -> bool
@@ -194,19 +357,21 @@ fn is_whole<'a, P: Ledger, T: Ledger>(
         end: text.len(),
     };
     closed.runs().len() == 1
-        && closed.runs().iter().all(|run| run.span() == whole
-            && run.run().verdict() == Verdict::Accepted)
+        && closed
+            .runs()
+            .iter()
+            .all(|run| run.span() == whole && is_as_held(alloc, run))
 }
 
 // What is in the hand of a worker that stopped for want of memory is put, and the worker goes on to its end: its share.
-fn share_of_stopped<'a, P: Ledger, T: Ledger, R: Wait>(
+fn share_of_stopped<'a, S: Likeness, P: Ledger, T: Ledger, R: Wait>(
     rt: &R,
     alloc: Global,
-    book: &Book<'a, OutcomeRun, P, T>,
+    book: &Book<'a, S, P, T>,
     text: &'a [u8],
     cutting: &Cutting,
     claims: &Claims,
-    stop: WorkerStop<'a, OutcomeRun, P, T>,
+    stop: WorkerStop<'a, S, P, T>,
 ) -> Option<Share<P, T>>
     requires cutting { cutting.now.len ≡ length text.now }
     requires claims { claims.now.pieces ≡ length cutting.now.pieces }
@@ -222,7 +387,7 @@ fn share_of_stopped<'a, P: Ledger, T: Ledger, R: Wait>(
     if cause != Cause::Memory || seat.spent() {
         return None;
     }
-    if !is_handed_over(rt, book, &mut share, run) {
+    if !is_handed_over(rt, alloc, book, &mut share, run) {
         return None;
     }
     let depth = Depth::default();
@@ -235,10 +400,10 @@ fn share_of_stopped<'a, P: Ledger, T: Ledger, R: Wait>(
 }
 
 // Lets one worker read to its end: its share.
-fn share_of_worker<'a, P: Ledger, T: Ledger, R: Wait>(
+fn share_of_worker<'a, S: Likeness, P: Ledger, T: Ledger, R: Wait>(
     rt: &R,
     alloc: Global,
-    book: &Book<'a, OutcomeRun, P, T>,
+    book: &Book<'a, S, P, T>,
     text: &'a [u8],
     cutting: &Cutting,
     claims: &Claims,
@@ -259,7 +424,7 @@ fn share_of_worker<'a, P: Ledger, T: Ledger, R: Wait>(
 }
 
 // Whether one worker reads the whole text.
-fn is_read<'a, P: Ledger, T: Ledger, R: Wait>(
+fn is_read<'a, S: Likeness, P: Ledger, T: Ledger, R: Wait>(
     rt: &R,
     alloc: Global,
     text: &'a [u8],
@@ -273,7 +438,7 @@ fn is_read<'a, P: Ledger, T: Ledger, R: Wait>(
     requires put { (put.name ≡ P.name) × (put.parts ≡ P.parts) × (put.parts ≡ workers) }
     requires taken { (taken.name ≡ T.name) × (taken.parts ≡ T.parts) × (taken.parts ≡ workers) }
 {
-    let (book, mut shares) = Book::<OutcomeRun, P, T>::open(alloc, put, taken, workers)?;
+    let (book, mut shares) = Book::<S, P, T>::open(alloc, put, taken, workers)?;
     let (claims, mut seats) = Claims::open(alloc, cutting.count(), workers)?;
     let Some(share) = shares.pop() else {
         return Ok(false);
@@ -284,14 +449,14 @@ fn is_read<'a, P: Ledger, T: Ledger, R: Wait>(
     match share_of_worker(rt, alloc, &book, text, cutting, &claims, seat, share) {
         Some(share) => {
             shares.push(share)?;
-            Ok(is_whole(book, text, shares))
+            Ok(is_whole(alloc, book, text, shares))
         }
         None => Ok(false),
     }
 }
 
 // The same, with blanks for the ledgers of a book.
-fn is_read_by_one<R: Wait>(
+fn is_read_by_one<S: Likeness, R: Wait>(
     rt: &R,
     alloc: Global,
     text: &[u8],
@@ -303,16 +468,16 @@ fn is_read_by_one<R: Wait>(
 {
     let put = Blank::new(u64::from(workers.count()));
     let taken = Blank::new(u64::from(workers.count()));
-    is_read::<Brand, Brand, R>(rt, alloc, text, cutting, put, taken, workers)
+    is_read::<S, Brand, Brand, R>(rt, alloc, text, cutting, put, taken, workers)
 }
 
 // A text in pieces of a byte, by one worker. Where there is no memory for the book or for the claims, they are opened again.
-fn check<R: Abort + Wait>(rt: &R, alloc: Global, text: &[u8]) -> Result<(), Fail> {
+fn check<S: Likeness, R: Abort + Wait>(rt: &R, alloc: Global, text: &[u8]) -> Result<(), Fail> {
     let workers = Workers::new(1).ok_or("workers")?;
     let cutting = Cutting::every(text.len(), 1)?;
-    let read = match is_read_by_one(rt, alloc, text, &cutting, workers) {
+    let read = match is_read_by_one::<S, R>(rt, alloc, text, &cutting, workers) {
         Ok(read) => read,
-        Err(AllocError) => is_read_by_one(rt, alloc, text, &cutting, workers)?,
+        Err(AllocError) => is_read_by_one::<S, R>(rt, alloc, text, &cutting, workers)?,
     };
     assert!(rt; read, "{text:?}");
     Ok(())
@@ -320,10 +485,25 @@ fn check<R: Abort + Wait>(rt: &R, alloc: Global, text: &[u8]) -> Result<(), Fail
 
 #[test]
 fn a_worker_on_nested_arrays_under_a_refused_growth(rt: HostRuntime) -> Result<(), Fail> {
-    check(&rt, rt.alloc(), NESTED)
+    check::<TextRun, _>(&rt, rt.alloc(), NESTED)
 }
 
 #[test]
 fn a_worker_on_five_rows_under_a_refused_growth(rt: HostRuntime) -> Result<(), Fail> {
-    check(&rt, rt.alloc(), FIVE_ROWS)
+    check::<OutcomeRun, _>(&rt, rt.alloc(), FIVE_ROWS)
+}
+
+#[test]
+fn a_worker_on_a_repeated_name_under_a_refused_growth(rt: HostRuntime) -> Result<(), Fail> {
+    check::<OutcomeRun, _>(&rt, rt.alloc(), REPEATED)
+}
+
+#[test]
+fn a_worker_on_names_out_of_order_under_a_refused_growth(rt: HostRuntime) -> Result<(), Fail> {
+    check::<OutcomeRun, _>(&rt, rt.alloc(), UNSORTED)
+}
+
+#[test]
+fn a_worker_on_a_sequence_under_a_refused_growth(rt: HostRuntime) -> Result<(), Fail> {
+    check::<SeqRun, _>(&rt, rt.alloc(), SEQUENCE)
 }

@@ -1,11 +1,11 @@
 // Indexes, their shelf and look-ups in them under refused growths.
-use crate::tests::answers::are_found;
-use crate::tests::inputs::{FIVE, Indexed as Want, NESTED_ROWS, REPEATED_NAME, UNSORTED_NAMES};
+use crate::tests::answers::{LookUp, are_found, are_rows};
+use crate::tests::inputs::{FIVE, NESTED_ARRAYS, REPEATED_NAME, UNSORTED_NAMES, Worked};
 use jx_answer::{Fault, find_all};
 use jx_book::OpenGate;
 use jx_claim::Workers;
-use jx_index::{Indexed, Pointer};
-use jx_lex::Depth;
+use jx_index::{FindFault, Indexed, Pointer};
+use jx_lex::{Depth, Kind};
 use jx_run::{Summary, TextRun, Verdict};
 use jx_shelf::{Shelf, ShelfFault};
 use std::alloc::{AllocError, Global};
@@ -33,25 +33,37 @@ fn index_of(alloc: Global, text: &[u8]) -> Result<Option<Indexed<'_>>, AllocErro
     }
 }
 
-fn has_rows(index: &Indexed<'_>, spans: &[(usize, usize)]) -> bool {
-    index.rows().len() == spans.len()
-        && index
-            .rows()
-            .iter()
-            .zip(spans)
-            .all(|(row, span)| (row.span.start, row.span.end) == *span)
+// Whether an index has the rows of an accepted text.
+fn is_index_of(index: &Indexed<'_>, worked: &Worked) -> bool {
+    match worked.answer {
+        Ok(rows) => are_rows(index.rows(), rows, 0) && index.repeated() == worked.repeated,
+        Err(_) => false,
+    }
 }
 
-fn check<R: Abort>(rt: &R, alloc: Global, want: Want) -> Result<(), Fail> {
-    let (text, spans) = want;
-    let index = index_of(alloc, text)?.ok_or("a text")?;
-    assert!(rt; has_rows(&index, spans), "{text:?}");
+// The index of a text, which is shown on a shelf. Where the shelf has no memory, the index comes back, and is shown then.
+fn check<R: Abort>(rt: &R, alloc: Global, worked: Worked) -> Result<(), Fail> {
+    let index = index_of(alloc, worked.text)?.ok_or("a text")?;
+    assert!(rt; is_index_of(&index, &worked), "{worked:?}");
+    let shelf = Shelf::new(alloc);
+    let mut note = shelf.note();
+    match shelf.publish(&mut note, index) {
+        Ok(()) => (),
+        Err(ShelfFault::Memory(index)) => {
+            assert!(rt; shelf.look(&mut note).is_none());
+            assert!(rt; is_index_of(&index, &worked), "{worked:?}");
+            assert!(rt; shelf.publish(&mut note, index).is_ok());
+        }
+        Err(ShelfFault::Taken(_)) => return Err("an empty shelf".into()),
+    }
+    let shown = shelf.look(&mut note).ok_or("an index")?;
+    assert!(rt; is_index_of(shown, &worked), "{worked:?}");
     Ok(())
 }
 
 #[test]
 fn an_index_of_nested_arrays_under_a_refused_growth(rt: HostRuntime) -> Result<(), Fail> {
-    check(&rt, rt.alloc(), NESTED_ROWS)
+    check(&rt, rt.alloc(), NESTED_ARRAYS)
 }
 
 #[test]
@@ -69,56 +81,67 @@ fn an_index_of_names_out_of_order_under_a_refused_growth(rt: HostRuntime) -> Res
     check(&rt, rt.alloc(), UNSORTED_NAMES)
 }
 
-#[test]
-fn a_shelf_under_a_refused_growth(rt: HostRuntime) -> Result<(), Fail> {
-    let alloc = rt.alloc();
-    let (text, spans) = FIVE;
-    let index = index_of(alloc, text)?.ok_or("a text")?;
-    let shelf = Shelf::new(alloc);
-    let mut note = shelf.note();
-    match shelf.publish(&mut note, index) {
-        Ok(()) => (),
-        Err(ShelfFault::Memory(index)) => {
-            assert!(rt; shelf.look(&mut note).is_none());
-            assert!(rt; has_rows(&index, spans));
-            assert!(rt; shelf.publish(&mut note, index).is_ok());
-        }
-        Err(ShelfFault::Taken(_)) => return Err("an empty shelf".into()),
-    }
-    let shown = shelf.look(&mut note).ok_or("an index")?;
-    assert!(rt; has_rows(shown, spans));
-    Ok(())
-}
-
-// Pointers into the text with names out of order, with what they come to: by that many workers.
-fn check_look_ups<R: Abort + Threads + Sync>(rt: &R, alloc: Global, count: u8) -> Result<(), Fail> {
-    let (text, _) = UNSORTED_NAMES;
+// Three pointers into a text, with what they come to: by that many workers.
+fn check_look_ups<R: Abort + Threads + Sync>(
+    rt: &R,
+    alloc: Global,
+    worked: Worked,
+    spelt: [&str; 3],
+    want: [LookUp; 3],
+    count: u8,
+) -> Result<(), Fail> {
     let workers = Workers::new(count).ok_or("workers")?;
-    let index = index_of(alloc, text)?.ok_or("a text")?;
-    let (Ok(root), Ok(name), Ok(repeated), Ok(missing)) = (
-        Pointer::read(""),
-        Pointer::read("/a"),
-        Pointer::read("/b"),
-        Pointer::read("/c"),
+    let index = index_of(alloc, worked.text)?.ok_or("a text")?;
+    let [first, second, third] = spelt;
+    let (Ok(first), Ok(second), Ok(third)) = (
+        Pointer::read(first),
+        Pointer::read(second),
+        Pointer::read(third),
     ) else {
-        return Err("four pointers".into());
+        return Err("three pointers".into());
     };
-    let pointers = [root, name, repeated, missing];
+    let pointers = [first, second, third];
     let found = match find_all(rt, alloc, &index, &pointers, workers, &OpenGate) {
         Ok(found) => found,
         Err(Fault::Memory) => find_all(rt, alloc, &index, &pointers, workers, &OpenGate)?,
     };
-    let spans = [Some((0, 19)), Some((11, 12)), None, None];
-    assert!(rt; are_found(&found, &spans), "by {count}");
+    assert!(rt; are_found(&found, &want), "{worked:?} by {count}");
     Ok(())
+}
+
+// Pointers into each of the texts by that many workers.
+fn check_all_look_ups<R: Abort + Threads + Sync>(
+    rt: &R,
+    alloc: Global,
+    count: u8,
+) -> Result<(), Fail> {
+    let past_end = Err(FindFault::PastEnd { token: 2 });
+    let after_last = Err(FindFault::AfterLast { token: 0 });
+    let inner = Ok((1, Kind::Array, (1, 5)));
+    let (spelt, want) = (["/0", "/0/0/0", "/-"], [inner, past_end, after_last]);
+    check_look_ups(rt, alloc, NESTED_ARRAYS, spelt, want, count)?;
+    let past_end = Err(FindFault::PastEnd { token: 1 });
+    let no_index = Err(FindFault::NotAnIndex { token: 1 });
+    let inner = Ok((4, Kind::Number, (13, 14)));
+    let (spelt, want) = (["/a/1/b", "/a/2", "/a/b"], [inner, past_end, no_index]);
+    check_look_ups(rt, alloc, FIVE, spelt, want, count)?;
+    let repeated = Err(FindFault::NameRepeated { token: 0 });
+    let missing = Err(FindFault::NoSuchMember { token: 0 });
+    let root = Ok((0, Kind::Object, (0, 18)));
+    let (spelt, want) = (["", "/a", "/b"], [root, repeated, missing]);
+    check_look_ups(rt, alloc, REPEATED_NAME, spelt, want, count)?;
+    let scalar = Err(FindFault::NotAContainer { token: 1 });
+    let value = Ok((2, Kind::Number, (11, 12)));
+    let (spelt, want) = (["/a", "/b", "/a/x"], [value, repeated, scalar]);
+    check_look_ups(rt, alloc, UNSORTED_NAMES, spelt, want, count)
 }
 
 #[test]
 fn look_ups_by_one_worker_under_a_refused_growth(rt: HostRuntime) -> Result<(), Fail> {
-    check_look_ups(&rt, rt.alloc(), 1)
+    check_all_look_ups(&rt, rt.alloc(), 1)
 }
 
 #[test]
 fn look_ups_by_two_workers_under_a_refused_growth(rt: HostRuntime) -> Result<(), Fail> {
-    check_look_ups(&rt, rt.alloc(), 2)
+    check_all_look_ups(&rt, rt.alloc(), 2)
 }

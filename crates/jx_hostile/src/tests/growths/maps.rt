@@ -1,20 +1,11 @@
 // Chunk maps under refused growths.
 ghost use Rattle.std.specs.Prelude.{◌≡◌, ◌≤◌, IfOk, length};
 
-use crate::tests::inputs::{FIVE_ROWS, NESTED, REPEATED, UNSORTED};
+use crate::tests::inputs::{FIVE_ROWS, NESTED, REPEATED, SEQUENCE, UNSORTED};
 use jx_lex::{ChunkMap, Exit, JoinFault, LexState, TokenEnd, TrackView, step};
 use std::alloc::{AllocError, Global};
 use std::process::Abort;
 use std::test::Fail;
-
-const STATES: [LexState; 6] = [
-    LexState::Gap,
-    LexState::Str,
-    LexState::Esc,
-    LexState::Hex2,
-    LexState::Int,
-    LexState::Tru,
-];
 
 // Whether a view shows what reading these bytes one by one gives. It takes no memory.
 fn is_plain(view: &TrackView<'_>, from: LexState, bytes: &[u8], start: usize) -> bool {
@@ -48,12 +39,13 @@ fn is_plain(view: &TrackView<'_>, from: LexState, bytes: &[u8], start: usize) ->
     view.exit() == Exit::State(state) && marks.next().is_none() && ends.next().is_none()
 }
 
+// Whether a map shows so much from each of the states.
 fn is_right(map: &ChunkMap, text: &[u8]) -> bool {
     let span = map.span();
     let Some(bytes) = text.get(span.start..span.end) else {
         return false;
     };
-    STATES.iter().all(|state| is_plain(&map.entry(*state), *state, bytes, span.start))
+    LexState::all().iter().all(|state| is_plain(&map.entry(*state), *state, bytes, span.start))
 }
 
 // The map of a part, asked for twice where it is refused.
@@ -112,4 +104,9 @@ fn chunk_maps_of_a_repeated_name_under_a_refused_growth(rt: HostRuntime) -> Resu
 #[test]
 fn chunk_maps_of_names_out_of_order_under_a_refused_growth(rt: HostRuntime) -> Result<(), Fail> {
     check(&rt, rt.alloc(), UNSORTED)
+}
+
+#[test]
+fn chunk_maps_of_a_sequence_under_a_refused_growth(rt: HostRuntime) -> Result<(), Fail> {
+    check(&rt, rt.alloc(), SEQUENCE)
 }

@@ -1,7 +1,9 @@
 // Reports over memory under refused growths: the right output, or want of memory with nothing written.
 ghost use Rattle.std.specs.Prelude.{◌≡◌};
 
-use crate::tests::inputs::{FIVE_ROWS, SEQUENCE};
+use crate::tests::inputs::{
+    FIVE_ROWS, NESTED, REPEATED, REPEATED_SEQUENCE, SEQUENCE, UNSORTED, settings,
+};
 use jx_book::OpenGate;
 use jx_claim::Workers;
 use jx_command::{Command, Task};
@@ -22,16 +24,12 @@ fn room(alloc: Global) -> Result<Vec<u8>, AllocError> {
     }
 }
 
-fn command(task: Task, mark: FrontMark, workers: Workers) -> Command
+fn command(task: Task, settings: Settings, workers: Workers) -> Command
     ensures { result.piece ≡ 1 }
 {
     Command {
         task,
-        settings: Settings {
-            depth: Depth::default(),
-            mark,
-            names: NameRule::Any,
-        },
+        settings,
         workers,
         piece: 1,
         quiet: false,
@@ -43,13 +41,13 @@ fn check<R: Abort + Threads + Wait + Sync>(
     rt: &R,
     alloc: Global,
     task: Task,
-    mark: FrontMark,
+    settings: Settings,
     text: &[u8],
     count: u8,
     want: (&str, Exit),
 ) -> Result<(), Fail> {
     let (output, exit) = want;
-    let command = command(task, mark, Workers::new(count).ok_or("workers")?);
+    let command = command(task, settings, Workers::new(count).ok_or("workers")?);
     let mut writer = End::new(room(alloc)?);
     let mut reader = End::new(text);
     let answer = match report(rt, alloc, &mut reader, &mut writer, &command, &OpenGate) {
@@ -70,6 +68,16 @@ fn check<R: Abort + Threads + Wait + Sync>(
     Ok(())
 }
 
+// Settings of the default depth by which names may be repeated.
+fn plain(mark: FrontMark) -> Settings {
+    settings(Depth::default(), mark, NameRule::Any)
+}
+
+// Settings of the default depth by which names have to be unique.
+fn unique() -> Settings {
+    settings(Depth::default(), FrontMark::Refused, NameRule::Unique)
+}
+
 // A byte order mark in front of a text.
 const MARKED: &[u8] = b"\xEF\xBB\xBF[1]";
 
@@ -85,10 +93,10 @@ const ELEMENTS: (&str, Exit) = (
 
 const FOUND: (&str, Exit) = ("found number 13..14\npast end at token 1\n", Exit::Bad);
 
-// Two pointers into the text of five rows, asked for twice where they are refused.
-fn pointers(alloc: Global) -> Result<Vec<String>, AllocError> {
+// Two pointers.
+fn pointers(alloc: Global, spelt: [&str; 2]) -> Result<Vec<String>, AllocError> {
     let mut pointers = Vec::with_capacity(alloc, 2)?;
-    for pointer in ["/a/1/b", "/a/2"] {
+    for pointer in spelt {
         pointers.push(String::from_str(alloc, pointer)?)?;
     }
     Ok(pointers)
@@ -97,21 +105,56 @@ fn pointers(alloc: Global) -> Result<Vec<String>, AllocError> {
 fn check_pointers<R: Abort + Threads + Wait + Sync>(
     rt: &R,
     alloc: Global,
+    text: &[u8],
+    spelt: [&str; 2],
+    count: u8,
+    want: (&str, Exit),
+) -> Result<(), Fail> {
+    let pointers = match pointers(alloc, spelt) {
+        Ok(pointers) => pointers,
+        Err(_) => pointers(alloc, spelt)?,
+    };
+    let settings = plain(FrontMark::Refused);
+    check(rt, alloc, Task::At(pointers), settings, text, count, want)
+}
+
+// Rows and pointers of the other texts by that many workers.
+fn check_others<R: Abort + Threads + Wait + Sync>(
+    rt: &R,
+    alloc: Global,
     count: u8,
 ) -> Result<(), Fail> {
-    let pointers = match pointers(alloc) {
-        Ok(pointers) => pointers,
-        Err(_) => pointers(alloc)?,
-    };
-    check(
-        rt,
-        alloc,
-        Task::At(pointers),
-        FrontMark::Refused,
-        FIVE_ROWS,
-        count,
-        FOUND,
-    )
+    let settings = plain(FrontMark::Refused);
+    let rows = (
+        "accepted\n0 array 0..6 - 0 -\n1 array 1..5 0 0 -\n2 array 2..4 1 0 -\n",
+        Exit::Good,
+    );
+    check(rt, alloc, Task::Index, settings, NESTED, count, rows)?;
+    let found = ("name repeated at token 0\nfound object 0..18\n", Exit::Bad);
+    check_pointers(rt, alloc, REPEATED, ["/a", ""], count, found)?;
+    let found = ("found number 11..12\nname repeated at token 0\n", Exit::Bad);
+    check_pointers(rt, alloc, UNSORTED, ["/a", "/b"], count, found)
+}
+
+#[test]
+fn reports_on_other_texts_by_one_worker_under_a_refused_growth(
+    rt: HostRuntime,
+) -> Result<(), Fail> {
+    check_others(&rt, rt.alloc(), 1)
+}
+
+#[test]
+fn reports_on_other_texts_by_two_workers_under_a_refused_growth(
+    rt: HostRuntime,
+) -> Result<(), Fail> {
+    check_others(&rt, rt.alloc(), 2)
+}
+
+#[test]
+fn a_check_by_one_worker_under_a_refused_growth(rt: HostRuntime) -> Result<(), Fail> {
+    let want = ("accepted\n", Exit::Good);
+    let settings = plain(FrontMark::Refused);
+    check(&rt, rt.alloc(), Task::Check, settings, FIVE_ROWS, 1, want)
 }
 
 #[test]
@@ -121,7 +164,7 @@ fn a_check_by_two_workers_under_a_refused_growth(rt: HostRuntime) -> Result<(), 
         &rt,
         rt.alloc(),
         Task::Check,
-        FrontMark::Refused,
+        plain(FrontMark::Refused),
         FIVE_ROWS,
         2,
         want,
@@ -134,7 +177,7 @@ fn rows_by_one_worker_under_a_refused_growth(rt: HostRuntime) -> Result<(), Fail
         &rt,
         rt.alloc(),
         Task::Index,
-        FrontMark::Refused,
+        plain(FrontMark::Refused),
         FIVE_ROWS,
         1,
         ROWS,
@@ -147,7 +190,7 @@ fn rows_by_two_workers_under_a_refused_growth(rt: HostRuntime) -> Result<(), Fai
         &rt,
         rt.alloc(),
         Task::Index,
-        FrontMark::Refused,
+        plain(FrontMark::Refused),
         FIVE_ROWS,
         2,
         ROWS,
@@ -156,12 +199,12 @@ fn rows_by_two_workers_under_a_refused_growth(rt: HostRuntime) -> Result<(), Fai
 
 #[test]
 fn pointers_by_one_worker_under_a_refused_growth(rt: HostRuntime) -> Result<(), Fail> {
-    check_pointers(&rt, rt.alloc(), 1)
+    check_pointers(&rt, rt.alloc(), FIVE_ROWS, ["/a/1/b", "/a/2"], 1, FOUND)
 }
 
 #[test]
 fn pointers_by_two_workers_under_a_refused_growth(rt: HostRuntime) -> Result<(), Fail> {
-    check_pointers(&rt, rt.alloc(), 2)
+    check_pointers(&rt, rt.alloc(), FIVE_ROWS, ["/a/1/b", "/a/2"], 2, FOUND)
 }
 
 #[test]
@@ -170,7 +213,7 @@ fn elements_by_one_worker_under_a_refused_growth(rt: HostRuntime) -> Result<(), 
         &rt,
         rt.alloc(),
         Task::Seq,
-        FrontMark::Refused,
+        plain(FrontMark::Refused),
         SEQUENCE,
         1,
         ELEMENTS,
@@ -183,7 +226,7 @@ fn elements_by_two_workers_under_a_refused_growth(rt: HostRuntime) -> Result<(),
         &rt,
         rt.alloc(),
         Task::Seq,
-        FrontMark::Refused,
+        plain(FrontMark::Refused),
         SEQUENCE,
         2,
         ELEMENTS,
@@ -200,7 +243,7 @@ fn a_marked_text_by_one_worker_under_a_refused_growth(rt: HostRuntime) -> Result
         &rt,
         rt.alloc(),
         Task::Index,
-        FrontMark::Ignored,
+        plain(FrontMark::Ignored),
         MARKED,
         1,
         want,
@@ -214,9 +257,30 @@ fn a_marked_text_by_two_workers_under_a_refused_growth(rt: HostRuntime) -> Resul
         &rt,
         rt.alloc(),
         Task::Check,
-        FrontMark::Ignored,
+        plain(FrontMark::Ignored),
         MARKED,
         2,
         want,
     )
+}
+
+#[test]
+fn unique_names_by_one_worker_under_a_refused_growth(rt: HostRuntime) -> Result<(), Fail> {
+    let want = ("repeated name at 7\n", Exit::Bad);
+    check(&rt, rt.alloc(), Task::Check, unique(), REPEATED, 1, want)
+}
+
+#[test]
+fn unique_names_by_two_workers_under_a_refused_growth(rt: HostRuntime) -> Result<(), Fail> {
+    let want = ("repeated name at 7\n", Exit::Bad);
+    check(&rt, rt.alloc(), Task::Index, unique(), REPEATED, 2, want)
+}
+
+#[test]
+fn unique_names_of_elements_by_two_workers_under_a_refused_growth(
+    rt: HostRuntime,
+) -> Result<(), Fail> {
+    let want = ("1..20 repeated name at 8\n", Exit::Bad);
+    let (task, text) = (Task::Seq, REPEATED_SEQUENCE);
+    check(&rt, rt.alloc(), task, unique(), text, 2, want)
 }

@@ -3,6 +3,7 @@ ghost use Rattle.std.specs.Prelude.{◌≡◌, ◌≤◌, IfOk, IfSome, length};
 ghost use Rattle.jx_run.specs.OutcomeRun.{place_of};
 
 use crate::tests::inputs::{FIVE_ROWS, NESTED, REPEATED, SEQUENCE, UNSORTED};
+use crate::tests::likeness::{Likeness, is_as_read};
 use jx_lex::{Depth, JoinFault, Span};
 use jx_run::{OutcomeRun, Reader, Refusal, SeqRun, Shape, Summary, TextRun, Verdict};
 use std::alloc::{AllocError, Global};
@@ -21,8 +22,8 @@ fn run_of<S: Summary>(alloc: Global, text: &[u8], start: usize, end: usize) -> R
     }
 }
 
-// The join of two runs. Where it is refused, both sides have their spans as before, and are joined again.
-fn joined<S: Summary>(left: S, right: S) -> Option<S>
+// The join of two runs over a text. Where it is refused, both sides have to be as they were, and are joined again.
+fn joined<S: Likeness>(alloc: Global, text: &[u8], left: S, right: S) -> Option<S>
     requires neighbours { (S.place left).end ≡ (S.place right).start }
     requires depth { S.limit left ≡ S.limit right }
 {
@@ -30,7 +31,10 @@ fn joined<S: Summary>(left: S, right: S) -> Option<S>
     match left.join(right) {
         Ok(run) => Some(run),
         Err(JoinFault { left, right }) => {
-            if (left.span(), right.span()) != spans {
+            if (left.span(), right.span()) != spans
+                || !is_as_read(alloc, text, &left)
+                || !is_as_read(alloc, text, &right)
+            {
                 return None;
             }
             left.join(right).ok()
@@ -43,7 +47,8 @@ fn check_text<R: Abort>(rt: &R, alloc: Global, text: &[u8]) -> Result<(), Fail> 
     for cut in 0..text.len() {
         let left = run_of::<TextRun>(alloc, text, 0, cut)?;
         let right = run_of::<TextRun>(alloc, text, cut, text.len())?;
-        let run = joined(left, right).ok_or("a join")?;
+        let run = joined(alloc, text, left, right).ok_or("two sides as they were, and a join")?;
+        assert!(rt; is_as_read(alloc, text, &run), "{text:?} cut at {cut}");
         assert_eq!(rt; run.verdict(), Verdict::Accepted, "{text:?} cut at {cut}");
         let started = match run.started() {
             Ok(started) => started,
@@ -59,7 +64,8 @@ fn check_outcomes<R: Abort>(rt: &R, alloc: Global, text: &[u8]) -> Result<(), Fa
     for cut in 0..text.len() {
         let left = run_of::<OutcomeRun>(alloc, text, 0, cut)?;
         let right = run_of::<OutcomeRun>(alloc, text, cut, text.len())?;
-        let run = joined(left, right).ok_or("a join")?;
+        let run = joined(alloc, text, left, right).ok_or("two sides as they were, and a join")?;
+        assert!(rt; is_as_read(alloc, text, &run), "{text:?} cut at {cut}");
         assert_eq!(rt; run.verdict(), Verdict::Accepted, "{text:?} cut at {cut}");
     }
     Ok(())
@@ -111,7 +117,8 @@ fn sequence_runs_under_a_refused_growth(rt: HostRuntime) -> Result<(), Fail> {
     for cut in 0..SEQUENCE.len() {
         let left = run_of::<SeqRun>(alloc, SEQUENCE, 0, cut)?;
         let right = run_of::<SeqRun>(alloc, SEQUENCE, cut, SEQUENCE.len())?;
-        let run = joined(left, right).ok_or("a join")?;
+        let run = joined(alloc, SEQUENCE, left, right).ok_or("two sides as they were, and a join")?;
+        assert!(rt; is_as_read(alloc, SEQUENCE, &run), "cut at {cut}");
         let Shape::Marked {
             before,
             done,

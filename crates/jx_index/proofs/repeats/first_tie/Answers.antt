@@ -5,7 +5,7 @@ use Rattle.jx_index.proofs.Ties.{Leads, at_last, tie_step, no_more_ties}
 use Rattle.jx_index.proofs.repeats.first_tie.Goals as goal
 
 pub loop-at-preserved : goal.loop-at-preserved
-loop-at-preserved c =
+loop-at-preserved g c =
     let text = c.args.text.now in
     let rows = c.args.rows.now in
     let names : List ℕ = c.args.names.now in
@@ -21,10 +21,10 @@ loop-at-preserved c =
     let a_is : a ≡ get_or names at 0 = c.index-names-at.is ∙ get_or_default names at a 0 first in
     let b_is : b ≡ get_or names (suc at) 0 = c.index-names-at-in-loop-at.is ∙ get_or_default names (at + 1) b 0 second ∙ ap (λ (n : ℕ). get_or names n 0) next in
     subst (λ (o : Option ℕ). Leads text rows (IsTie text rows names) (IsTie text rows (drop (at + 1) names)) o) (sym c.earlier-first.ensures)
-    (tie_step text rows names at (at + 1) a b c.loop-at.first c.start_of_tie.result low next a_is b_is c.start_of_tie.ensures c.loop-at.invariant)
+    (tie_step text rows names at (at + 1) a b c.loop-at.first c.start_of_tie-tie.result low next a_is b_is c.start_of_tie-tie.ensures c.loop-at.invariant)
 
 pub returns : goal.returns
-returns c =
+returns g c =
     let text = c.args.text.now in
     let rows = c.args.rows.now in
     let names : List ℕ = c.args.names.now in

@@ -9,7 +9,7 @@ use Rattle.jx_lex.proofs.scanner.scan.Goals as goal
 pub loop-i-init : goal.loop-i-init
 loop-i-init g c =
     let b = c.requires in
-    record { low = omega arith; high = b.0; sound = c.nothing-ahead.ensures.sound c.args.text.now; read = goes-none c.args.text.now c.args.from c.args.state (g.K.Keeper.has_seen c.args.keeper.now) }
+    record { low = omega arith; high = b.0; sound = c.known_ahead-ahead.ensures.sound c.args.text.now; read = goes-none c.args.text.now c.args.from c.args.state (g.K.Keeper.has_seen c.args.keeper.now) }
 
 pub returns-then-is_done-clause-seen : goal.returns-then-is_done-clause-seen
 returns-then-is_done-clause-seen g c =

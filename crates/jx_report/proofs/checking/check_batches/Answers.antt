@@ -1,6 +1,7 @@
 use Rattle.std.proofs.Common.{◌≤◌, [], length, take, ap, inl, refl, rules, arith}
 use Rattle.std.proofs.KnownBytes.{Consumes-nil}
 use Rattle.std.proofs.lemmas.List.{places}
+use Rattle.jx_report.specs.Batches.{IsTaken}
 use Rattle.jx_report.proofs.BatchSteps.{checked, length_front, taken_more, fewer}
 use Rattle.jx_report.proofs.checking.check_batches.Goals as goal
 
@@ -18,7 +19,7 @@ loop-check-preserved g c =
       c.in_ok-filled.ensures.within,
       c.in_ok-filled.ensures.going,
       least,
-      taken_more _ so_far.0 _ (take filled items) filled _ _ _ _ (c.in_ok-take_in.ensures.taken so_far.0 so_far.1.0 so_far.1.1.0) (ap (take filled) c.deref.ensures.value)
+      taken_more (λ text. IsTaken c.args.command.now.settings text c.take_in.new.self) so_far.0 _ (take filled items) filled _ _ _ (c.in_ok-take_in.ensures.taken so_far.0 so_far.1.0 so_far.1.1.0) (ap (take filled) c.deref.ensures.value)
           (length_front filled items room) (omega (arith, least, full)) so_far.1.1.1 c.in_ok-filled.ensures.ok,
     )
 

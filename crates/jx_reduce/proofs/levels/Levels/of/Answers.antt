@@ -1,60 +1,12 @@
-use Rattle.std.proofs.Common.{◌≡◌, ◌+◌, ℕ, List, take, sym, ◌∙◌, ap, subst, arith, length-drop}
-use Rattle.std.proofs.lemmas.List.{take_all, take_rest}
+use Rattle.std.proofs.Common.{sym, subst}
 use Rattle.jx_reduce.specs.Fits.{Fits}
-use Rattle.jx_reduce.specs.Form.{Form}
-use Rattle.jx_reduce.specs.Levels.{form_of}
-use Rattle.jx_reduce.specs.Marks.{of_marks, of_nothing}
 use Rattle.jx_reduce.specs.Quiet.{GoesOn}
-use Rattle.jx_reduce.specs.declared.entry.Entry.{Entry}
-use Rattle.jx_lex.specs.declared.mark.Mark.{Mark}
-use Rattle.jx_reduce.proofs.Exits.{GoesOn-of_marks, GoesOn-of_nothing}
-use Rattle.jx_reduce.proofs.Readings.{Fits-of_marks, Fits-of_nothing, none_of, of_more, of_one_more, of_no_more}
+use Rattle.jx_reduce.proofs.Exits.{GoesOn-of_nothing}
+use Rattle.jx_reduce.proofs.Readings.{Fits-of_nothing}
 use Rattle.jx_reduce.proofs.levels.Levels.of.Goals as goal
-use Rattle.jx_reduce.proofs.levels.Levels.of.Goals.{then-loop-done-test+else-is_some, else-loop-done-test}
 
--- the form of marks is within the depth, and goes on for some holder
-fits_so : (d : ℕ) (x : Entry) (ms : List Mark) (f : Form) → f ≡ of_marks d (of_nothing x) ms → Fits d f
-fits_so d x ms f e = subst (Fits d) (sym e) (Fits-of_marks d (of_nothing x) ms (Fits-of_nothing d x))
+pub go_on-requires-clause-fits : goal.go_on-requires-clause-fits
+go_on-requires-clause-fits c = subst (Fits c.args.depth) (sym c.new.ensures) (Fits-of_nothing c.args.depth c.args.entry)
 
-goes_on_so : (d : ℕ) (x : Entry) (ms : List Mark) (f : Form) → f ≡ of_marks d (of_nothing x) ms → GoesOn f
-goes_on_so d x ms f e = subst GoesOn (sym e) (GoesOn-of_marks d (of_nothing x) ms (GoesOn-of_nothing x))
-
-pub run-done-requires-clause-fits : goal.run-done-requires-clause-fits
-run-done-requires-clause-fits c = fits_so c.args.depth c.args.entry (take c.loop-done.done c.args.marks.now) (form_of c.loop-done.levels) c.loop-done.invariant.same
-
-pub run-done-requires-clause-goes_on : goal.run-done-requires-clause-goes_on
-run-done-requires-clause-goes_on c = goes_on_so c.args.depth c.args.entry (take c.loop-done.done c.args.marks.now) (form_of c.loop-done.levels) c.loop-done.invariant.same
-
-pub push-requires-clause-fits : goal.push-requires-clause-fits
-push-requires-clause-fits c =
-    fits_so c.args.depth c.args.entry (take (c.loop-done.done + c.run-done.result) c.args.marks.now) (form_of c.run-done.new.self)
-    (of_more c.args.depth (of_nothing c.args.entry) c.args.marks.now c.loop-done.done c.run-done.result (form_of c.loop-done.levels) (form_of c.run-done.new.self) c.loop-done.invariant.same c.run-done.ensures.form)
-
-pub loop-done-preserved-then-done-marks : goal.loop-done-preserved-then-done-marks
-loop-done-preserved-then-done-marks c =
-    record {
-      within = omega (arith, c.if-done-marks.true);
-      same =
-          of_one_more c.args.depth (of_nothing c.args.entry) c.args.marks.now (c.loop-done.done + c.run-done.result) _ c.if-done-marks.true (form_of c.run-done.new.self) (form_of c.push.new.self)
-          (of_more c.args.depth (of_nothing c.args.entry) c.args.marks.now c.loop-done.done c.run-done.result (form_of c.loop-done.levels) (form_of c.run-done.new.self) c.loop-done.invariant.same c.run-done.ensures.form)
-          c.in_ok-push.ensures.ok;
-    }
-
-pub loop-done-preserved : goal.loop-done-preserved
-loop-done-preserved c =
-    let few = rw take_rest at c.run-done.ensures.within in
-    record {
-      within = omega (arith, few, c.loop-done.invariant.within, length-drop c.loop-done.done c.args.marks.now);
-      same = of_more c.args.depth (of_nothing c.args.entry) c.args.marks.now c.loop-done.done c.run-done.result (form_of c.loop-done.levels) (form_of c.run-done.new.self) c.loop-done.invariant.same c.run-done.ensures.form;
-    }
-
-pub returns-clause-form : goal.returns-clause-form
-returns-clause-form c = elim c.loop-done-test.branch [
-  | then-loop-done-test+else-is_some w ↦
-      of_no_more c.args.depth (of_nothing c.args.entry) c.args.marks.now c.loop-done.done (form_of c.loop-done.levels) c.loop-done.invariant.same
-      (none_of c.loop-done.levels.exit (sym w.is_some.ensures ∙ w.if-is_some.false))
-  | else-loop-done-test w ↦ c.loop-done.invariant.same ∙ ap (of_marks c.args.depth (of_nothing c.args.entry)) (take_all c.loop-done.done c.args.marks.now w.loop-done-test.false)
-]
-
-pub returns-clause-fits : goal.returns-clause-fits
-returns-clause-fits c = fits_so c.args.depth c.args.entry (take c.loop-done.done c.args.marks.now) (form_of c.loop-done.levels) c.loop-done.invariant.same
+pub go_on-requires-clause-goes_on : goal.go_on-requires-clause-goes_on
+go_on-requires-clause-goes_on c = subst GoesOn (sym c.new.ensures) (GoesOn-of_nothing c.args.entry)

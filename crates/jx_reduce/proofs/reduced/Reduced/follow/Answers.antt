@@ -7,7 +7,9 @@ use Rattle.jx_reduce.specs.Join.{joined, all_faulted}
 use Rattle.jx_reduce.specs.Levels.{form_of, part_form, HasRoom, HasRoomOf}
 use Rattle.jx_reduce.specs.declared.levels.Levels.{Levels}
 use Rattle.jx_reduce.specs.declared.part.Part.{Part}
+use Rattle.jx_reduce.specs.Quiet.{GoesOn}
 use Rattle.jx_reduce.proofs.Bounds.{Fits-joined}
+use Rattle.jx_reduce.proofs.Exits.{GoesOn-joined}
 use Rattle.jx_reduce.proofs.reduced.Reduced.follow.Goals as goal
 
 on_ok : {T E : Type 0} (r : Result T E) (P : Type 0) → OnOk r P → IsOk r → P
@@ -26,4 +28,5 @@ invariant_of-self c =
       fits = subst (Fits c.args.self.now.depth) (sym (is ∙ ap (λ d. joined d (form_of c.args.self.now.levels) (part_form c.part.result)) c.containers.ensures.value ∙ ap (joined c.args.self.now.depth (form_of c.args.self.now.levels)) c.part.ensures))
           (Fits-joined c.args.self.now.depth (form_of c.args.self.now.levels) (form_of c.args.right.now.levels) c.args.self.now.fits c.args.right.now.fits.risen
           (subst (λ d. (form_of c.args.right.now.levels).exit ≡ None → all_faulted (form_of c.args.right.now.levels).last ≡ false → d < length (form_of c.args.right.now.levels).ended + length (form_of c.args.right.now.levels).heights) (sym c.requires.depth) c.args.right.now.fits.decided));
+      goes_on = subst GoesOn (sym is) (GoesOn-joined c.containers.result (form_of c.args.self.now.levels) (part_form c.part.result));
     }

@@ -6,6 +6,6 @@ use Rattle.jx_reduce.proofs.tests.reducers.reduced_of.Given as goal
 abbrev pub invariant-loop-mark : goal.invariant-loop-mark
 invariant-loop-mark l =
     record {
-      depth : l.reducer.reduced.depth ≡ l.fn.depth;
+      depth : l.reducer.depth ≡ l.fn.depth;
       given : HasReduced (take l.mark-index l.marks) l.reducer;
     }

@@ -1,6 +1,6 @@
 use Rattle.std.proofs.Common.{◌++◌, ap, sym, subst, arith}
 use Rattle.jx_run.specs.OutcomeRun.{OutcomeRunValue, IsOutcomeRun, IsWhole}
-use Rattle.jx_run.proofs.RunJoin.{joined_is_of, joined_seen, joined_whole}
+use Rattle.jx_run.proofs.RunJoin.{any_rest, joined_seen, joined_whole, rest_is_of}
 use Rattle.jx_run.proofs.outcome_run.OutcomeRun.joined.Goals as goal
 
 pub invariant_of-result : goal.invariant_of-result
@@ -26,4 +26,13 @@ returns-clause-of c xs ys h k =
     let ws = c.in_ok-ways.ways.items in
     let fs = c.in_ok-ways.structures.items in
     subst (IsOutcomeRun (xs ++ ys)) (sym (joined_seen _ l _ r ws fs c.self.view_is c.right.view_is))
-    (joined_is_of l r ws fs (subst IsWhole c.self.view_is c.self.invariant) c.in_ok-ways.ensures.joined c.requires.depth c.requires.neighbours xs ys h k)
+    (rest_is_of l r ws fs (subst IsWhole c.self.view_is c.self.invariant) c.in_ok-ways.ensures.joined c.requires.depth c.requires.neighbours xs ys h (any_rest l r ys k))
+
+pub returns-clause-rest : goal.returns-clause-rest
+returns-clause-rest c xs ys h k =
+    let l = c.args.self.now in
+    let r = c.args.right.now in
+    let ws = c.in_ok-ways.ways.items in
+    let fs = c.in_ok-ways.structures.items in
+    subst (IsOutcomeRun (xs ++ ys)) (sym (joined_seen _ l _ r ws fs c.self.view_is c.right.view_is))
+    (rest_is_of l r ws fs (subst IsWhole c.self.view_is c.self.invariant) c.in_ok-ways.ensures.joined c.requires.depth c.requires.neighbours xs ys h k)

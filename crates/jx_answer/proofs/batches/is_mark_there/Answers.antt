@@ -1,0 +1,10 @@
+use Rattle.std.proofs.Common.{length, sym, ◌∙◌}
+use Rattle.jx_run.specs.Front.{agreed}
+use Rattle.jx_run.specs.Settings.{byte_order_mark}
+use Rattle.jx_answer.proofs.MarksAlone.{alone_here, refuses}
+use Rattle.jx_answer.proofs.batches.is_mark_there.Goals as goal
+
+pub returns-in-Refused : goal.returns-in-Refused
+returns-in-Refused c = λ text seen within.
+    let k = agreed text byte_order_mark in
+    sym (alone_here text c.args.span within c.if-span-ne0.false c.if-span-ne3.false ∙ refuses k (length text) c.in-Refused.field-0 (sym seen ∙ c.in-Refused.is))

@@ -1,0 +1,101 @@
+-- What the rule on names makes of judged elements.
+use Rattle.std.proofs.Common.{◌≡◌, ℕ, suc, ◌≤◌, List, [], ◌∷◌, length, Option, None, refl, sym, ap, subst, arith}
+use Rattle.std.specs.Prelude.{All}
+use Rattle.std.specs.List.{AllZip}
+use Rattle.std.proofs.lemmas.List.Elements.{All-head, All-tail}
+use Rattle.jx_lex.specs.declared.span.Span.{Span}
+use Rattle.jx_run.specs.declared.element_verdict.ElementVerdict.{ElementVerdict}
+use Rattle.jx_run.specs.declared.element_verdict.ElementVerdict.TheVariants as verdict
+use Rattle.jx_run.specs.declared.element_verdict.JudgedElement.{JudgedElement}
+use Rattle.jx_run.specs.declared.settings.FrontMark.{FrontMark}
+use Rattle.jx_run.specs.declared.settings.NameRule.{NameRule}
+use Rattle.jx_run.specs.declared.settings.NameRule.TheVariants.{Any, Unique}
+use Rattle.jx_run.specs.declared.settings.Settings.{Settings}
+use Rattle.jx_run.specs.Elements.{Part, span_of}
+use Rattle.jx_run.specs.ElementVerdict.{IsVerdictOn, IsJudgedElement}
+use Rattle.jx_run.specs.Text.{IsDocument, IsText}
+use Rattle.jx_run.specs.Tree.{Tree}
+use Rattle.jx_run.specs.Unclosed.{IsAccepted}
+use Rattle.jx_index.specs.Repeats.{IsLeast, IsRepeat}
+use Rattle.jx_index.specs.Rows.{rows}
+use Rattle.jx_c.specs.ByNames.{RefusesName, RefusesNameIn, IsJudgedBy, judged_unless}
+use Rattle.jx_c.specs.Placed.{IsJudgedIn}
+use Rattle.jx_c.specs.Settled.{elements_by}
+use Rattle.jx_c.proofs.Readable.{LiesIn, lie_in}
+
+-- ---- with where each element lies
+
+placed : (input : List ℕ) (limit : ℕ) (ps : List Part) (js : List JudgedElement) → AllZip (IsJudgedElement limit) ps js → All (LiesIn input) ps → AllZip (IsJudgedIn input limit) ps js
+placed input limit [] [] z l = tt
+placed input limit [] (j ∷ js) z l = absurd z
+placed input limit (p ∷ ps) [] z l = absurd z
+placed input limit (p ∷ ps) (j ∷ js) z l =
+    let lies = All-head (LiesIn input) p ps l in
+    (record { judged = z.0; bytes = lies.bytes; within = lies.within }, placed input limit ps js z.1 (All-tail (LiesIn input) p ps l))
+
+pub judged_in : (mark : FrontMark) (input : List ℕ) (limit : ℕ) (js : List JudgedElement) → AllZip (IsJudgedElement limit) (elements_by mark input) js
+    → AllZip (IsJudgedIn input limit) (elements_by mark input) js
+judged_in mark input limit js h = placed input limit (elements_by mark input) js h (lie_in mark input)
+
+-- as many verdicts as elements
+pub as_many_by : (settings : Settings) (input : List ℕ) (ps : List Part) (js : List JudgedElement) → AllZip (IsJudgedBy settings input) ps js → length js ≡ length ps
+as_many_by settings input [] [] h = refl
+as_many_by settings input [] (j ∷ js) h = absurd h
+as_many_by settings input (p ∷ ps) [] h = absurd h
+as_many_by settings input (p ∷ ps) (j ∷ js) h = ap suc (as_many_by settings input ps js h.1)
+
+-- ---- by the rule on names
+
+module _ (settings : Settings) (input : List ℕ) (p : Part) (j : JudgedElement) (h : IsJudgedIn input settings.depth p j) where
+  span_here : j.span ≡ span_of p
+  span_here = h.judged.span_is
+
+  pub span_ordered : j.span.start ≤ j.span.end
+  span_ordered = subst (λ (s : Span). s.start ≤ s.end) (sym span_here) (omega arith)
+
+  pub span_within : j.span.end ≤ length input
+  span_within = subst (λ (s : Span). s.end ≤ length input) (sym span_here) h.within
+
+  there : (tree : Tree) → IsAccepted p settings.depth tree → IsText input j.span.start j.span.end settings.depth tree
+  there tree a =
+      subst (λ (s : Span). IsText input s.start s.end settings.depth tree) (sym span_here)
+      (subst (λ (b : List ℕ). IsDocument p.at b settings.depth tree) (sym h.bytes) a.is_text)
+
+  -- what is accepted has a tree
+  accepted_tree : j.verdict ≡ verdict.Accepted → (tree : Tree) × IsAccepted p settings.depth tree
+  accepted_tree e = let k = subst (IsVerdictOn p settings.depth) e h.judged.verdict_is in ((k.1).tree, (k.1).accepted)
+
+  pub has_text : j.verdict ≡ verdict.Accepted → (tree : Tree) × IsText input j.span.start j.span.end settings.depth tree
+  has_text e = let t = accepted_tree e in (t.0, there t.0 t.1)
+
+  none_named : RefusesNameIn settings input p j.verdict None → IsJudgedBy settings input p j
+  none_named f = record { told = j; judged = h.judged; name = None; refused = f; by_names = refl }
+
+  none_in : (v : ElementVerdict) → (v ≡ verdict.Accepted → (tree : Tree) × IsAccepted p settings.depth tree × RefusesName settings.names input (rows tree) None) → RefusesNameIn settings input p v None
+  none_in verdict.Accepted f = f refl
+  none_in (verdict.Refused r) f = refl
+  none_in verdict.MayBeCut f = refl
+  none_in verdict.Unmarked f = refl
+
+  -- the rule refuses nothing in what is not accepted, and nothing at all where any names are allowed
+  pub left_so : ((settings.names ≡ Unique) × (j.verdict ≡ verdict.Accepted) → ⊥) → IsJudgedBy settings input p j
+  left_so other = none_named (none_in j.verdict (λ e. pick settings.names refl e))
+    where
+      pick : (rule : NameRule) → settings.names ≡ rule → j.verdict ≡ verdict.Accepted → (tree : Tree) × IsAccepted p settings.depth tree × RefusesName settings.names input (rows tree) None
+      pick Any is e = let t = accepted_tree e in (t.0, t.1, subst (λ (rule : NameRule). RefusesName rule input (rows t.0) None) (sym is) refl)
+      pick Unique is e = absurd (other (is, e))
+
+  pub judged_unless_named : j.verdict ≡ verdict.Accepted → settings.names ≡ Unique → (name : Option ℕ)
+      → ((tree : Tree) → IsText input j.span.start j.span.end settings.depth tree → IsLeast (IsRepeat input (rows tree)) name)
+      → (after : JudgedElement) → after ≡ judged_unless name j → IsJudgedBy settings input p after
+  judged_unless_named accepted is name least after same =
+      let t = accepted_tree accepted in
+      let refused : RefusesName settings.names input (rows t.0) name = subst (λ (rule : NameRule). RefusesName rule input (rows t.0) name) (sym is) (least t.0 (there t.0 t.1)) in
+      let all : RefusesNameIn settings input p verdict.Accepted name = (t.0, t.1, refused) in
+      record {
+        told = j;
+        judged = h.judged;
+        name = name;
+        refused = subst (λ (v : ElementVerdict). RefusesNameIn settings input p v name) (sym accepted) all;
+        by_names = same;
+      }

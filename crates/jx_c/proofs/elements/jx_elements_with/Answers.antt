@@ -1,0 +1,26 @@
+use Rattle.std.proofs.Common.{◌≡◌, List, length, rules, subst, ◌∙◌}
+use Rattle.std.specs.List.{AllZip}
+use Rattle.jx_run.specs.declared.element_verdict.JudgedElement.{JudgedElement}
+use Rattle.jx_run.specs.declared.settings.Settings.{Settings}
+use Rattle.jx_c.specs.Buffers.{IsFilled}
+use Rattle.jx_c.specs.ByNames.{IsJudgedBy}
+use Rattle.jx_c.specs.Elements.{shown_element}
+use Rattle.jx_c.specs.Settings.{settings_in}
+use Rattle.jx_c.specs.Settled.{elements_by}
+use Rattle.jx_c.proofs.Verdicts.{as_many_by}
+use Rattle.jx_c.proofs.elements.jx_elements_with.Goals as goal
+
+pub returns-in-Ok-judge_with-clause-elements : goal.returns-in-Ok-judge_with-clause-elements
+returns-in-Ok-judge_with-clause-elements c = λ ok.
+    let sequence = c.args.sequence.now in
+    let settings : Settings = settings_in c.args.settings.now in
+    let all = c.in-Ok-judge_with.all.items in
+    let are : AllZip (IsJudgedBy settings sequence) (elements_by settings.mark sequence) all =
+    subst (λ (s : Settings). AllZip (IsJudgedBy s sequence) (elements_by s.mark sequence) all) c.in-Ok.ensures.settings c.in-Ok-judge_with.ensures in
+    let long : c.len.result ≡ length all = search rules in
+    record {
+      count_is = long ∙ as_many_by settings sequence (elements_by settings.mark sequence) all are;
+      judged = all;
+      are = are;
+      filled = subst (λ (js : List JudgedElement). IsFilled shown_element c.args.elements.now c.fill.new.elements js) c.deref.ensures.value c.fill.ensures;
+    }

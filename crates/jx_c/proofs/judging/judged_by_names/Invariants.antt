@@ -1,0 +1,13 @@
+use Rattle.std.proofs.Common.{◌≡◌, length}
+use Rattle.jx_c.specs.ByNames.{IsJudgedBy}
+use Rattle.jx_c.specs.Placed.{IsJudgedIn}
+use Rattle.jx_c.specs.Settled.{elements_by}
+use Rattle.jx_c.proofs.InPlace.{Passed}
+use Rattle.jx_c.proofs.judging.judged_by_names.Given as goal
+
+-- the elements before this one had their turn
+abbrev pub invariant-loop-at : goal.invariant-loop-at
+invariant-loop-at l = record {
+  long : length l.elements.items ≡ length l.initial.elements.items;
+  passed : Passed (IsJudgedIn l.sequence l.settings.depth) (IsJudgedBy l.settings l.sequence) l.at (elements_by l.settings.mark l.sequence) l.elements.items;
+}

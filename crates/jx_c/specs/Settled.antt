@@ -1,0 +1,107 @@
+-- What calls with settings tell.
+use Rattle.std.specs.Prelude.{◌≡◌, ◌==◌, ◌&&◌, ℕ, Bool, List, [], ◌∷◌, length, None, if◌then◌else◌}
+use Rattle.std.specs.List.{AllZip}
+use Rattle.jx_run.specs.declared.element_verdict.JudgedElement.{JudgedElement}
+use Rattle.jx_run.specs.declared.settings.FrontMark.{FrontMark}
+use Rattle.jx_run.specs.declared.settings.FrontMark.TheVariants as on_mark
+use Rattle.jx_run.specs.declared.settings.Settings.{Settings}
+use Rattle.jx_run.specs.declared.verdict.Verdict.{Verdict}
+use Rattle.jx_run.specs.declared.verdict.Verdict.TheVariants as verdict
+use Rattle.jx_run.specs.Elements.{Part, elements}
+use Rattle.jx_run.specs.Front.{agreed}
+use Rattle.jx_run.specs.Settings.{byte_order_mark, IsDocumentBy, JudgedBy}
+use Rattle.jx_run.specs.Tree.{Tree, span}
+use Rattle.jx_index.specs.Indexed.{IndexedValue}
+use Rattle.jx_index.specs.Rows.{rows}
+use Rattle.jx_c.specs.Buffers.{IsFilled}
+use Rattle.jx_c.specs.ByNames.{IsJudgedBy, IsVerdictBy, RefusesName}
+use Rattle.jx_c.specs.Elements.{shown_element}
+use Rattle.jx_c.specs.LookUps.{IsLed, IsLookUp, shown_look_up}
+use Rattle.jx_c.specs.Rows.{shown_row}
+use Rattle.jx_c.specs.Verdict.{shown}
+use Rattle.jx_c.specs.declared.elements.JxElement.{JxElement}
+use Rattle.jx_c.specs.declared.look_up.JxAnswer.{JxAnswer}
+use Rattle.jx_c.specs.declared.look_up.LookUp.{LookUp}
+use Rattle.jx_c.specs.declared.look_up.LookUp.TheVariants.{Found, Lost, BadPointer, NotUtf8, NoText}
+use Rattle.jx_c.specs.declared.places.JxRow.{JxRow}
+use Rattle.jx_c.specs.declared.texts.TextAnswer.{TextAnswer}
+use Rattle.jx_c.specs.declared.texts.TextAnswer.TheVariants.{Accepted, Refused}
+use Rattle.jx_c.specs.declared.verdict.JxVerdict.{JxVerdict}
+
+-- ---- a text
+
+-- it shows the verdict by settings on these bytes
+abbrev pub IsVerdictWith : Settings → List ℕ → JxVerdict → Type 0
+IsVerdictWith settings bytes v = (verdict : Verdict) × (IsVerdictBy settings bytes verdict × (v ≡ shown verdict))
+
+-- the index is over what stands behind the front, at its offsets in all bytes, and its rows are those of the tree
+pub record IsIndexBy (settings : Settings) (bytes : List ℕ) (index : IndexedValue) : Type 0 where
+  pub text : index.text ≡ bytes
+  pub tree : Tree
+  pub is_text : IsDocumentBy settings 0 bytes tree
+  pub place : index.place ≡ span (length is_text.front) (length bytes)
+  pub rows_are : index.rows ≡ rows tree
+
+-- such an index, and no name is refused
+pub record IsIndexByNames (settings : Settings) (bytes : List ℕ) (index : IndexedValue) : Type 0 where
+  pub is_index : IsIndexBy settings bytes index
+  pub no_name : RefusesName settings.names bytes (rows is_index.tree) None
+
+-- accepted with the rows of the tree, or refused, whatever names the objects have
+abbrev pub IsReadBy : Settings → List ℕ → TextAnswer → Type 0
+IsReadBy settings bytes (Accepted index) = IsIndexBy settings bytes index
+IsReadBy settings bytes (Refused refusal) = JudgedBy settings 0 bytes (verdict.Refused refusal)
+
+-- the same where the names are looked at
+abbrev pub IsAnswerBy : Settings → List ℕ → TextAnswer → Type 0
+IsAnswerBy settings bytes (Accepted index) = IsIndexByNames settings bytes index
+IsAnswerBy settings bytes (Refused refusal) = IsVerdictBy settings bytes (verdict.Refused refusal)
+
+-- by the verdict: the rows of the text's tree and how many they are, or none
+abbrev pub AreRowsBy : Settings → List ℕ → List JxRow → List JxRow → ℕ → Verdict → Type 0
+AreRowsBy settings bytes old new count verdict.Accepted = (tree : Tree) × IsDocumentBy settings 0 bytes tree × (count ≡ length (rows tree)) × IsFilled shown_row old new (rows tree)
+AreRowsBy settings bytes old new count (verdict.Refused refusal) = (count ≡ 0) × (new ≡ old)
+
+-- the verdict by settings on the bytes, and by it their rows
+abbrev pub AreRowsWith : Settings → List ℕ → List JxRow → List JxRow → ℕ → JxVerdict → Type 0
+AreRowsWith settings bytes old new count told = (verdict : Verdict) × IsVerdictBy settings bytes verdict × (told ≡ shown verdict) × AreRowsBy settings bytes old new count verdict
+
+-- ---- a pointer
+
+-- in a text by settings: what its tokens lead to, or why they lead nowhere
+abbrev pub IsLedBy : Settings → List ℕ → List ℕ → LookUp → Type 0
+IsLedBy settings text pointer look_up = (tree : Tree) × IsDocumentBy settings 0 text tree × RefusesName settings.names text (rows tree) None × IsLed text tree pointer look_up
+
+-- in any bytes: the same, or why there is no pointer or no text
+abbrev pub IsLookUpBy : Settings → List ℕ → List ℕ → LookUp → Type 0
+IsLookUpBy settings text pointer (Found kind place) = IsLedBy settings text pointer (Found kind place)
+IsLookUpBy settings text pointer (Lost fault) = IsLedBy settings text pointer (Lost fault)
+IsLookUpBy settings text pointer (BadPointer fault) = IsLookUp text settings.depth pointer (BadPointer fault)
+IsLookUpBy settings text pointer NotUtf8 = IsLookUp text settings.depth pointer NotUtf8
+IsLookUpBy settings text pointer (NoText refusal) = IsVerdictBy settings text (verdict.Refused refusal)
+
+-- it shows what the pointer comes to
+abbrev pub IsAnswerWith : Settings → List ℕ → List ℕ → JxAnswer → Type 0
+IsAnswerWith settings text pointer told_as = (look_up : LookUp) × (IsLookUpBy settings text pointer look_up × (told_as ≡ shown_look_up look_up))
+
+-- ---- a sequence
+
+-- the part stands at the start and is just the byte order mark
+abbrev pub is_mark_alone : Part → Bool
+is_mark_alone p = (p.at == 0) && ((length p.bytes == 3) && (agreed p.bytes byte_order_mark == 3))
+
+abbrev pub without_mark : List Part → List Part
+without_mark [] = []
+without_mark (p ∷ ps) = if is_mark_alone p then ps else p ∷ ps
+
+-- the elements of the input in order, without a mark that stands alone before the first separator where it is ignored
+abbrev pub elements_by : FrontMark → List ℕ → List Part
+elements_by on_mark.Refused input = elements 0 input
+elements_by on_mark.Ignored input = without_mark (elements 0 input)
+
+-- how many elements the sequence has, and in the buffer what each comes to by settings
+pub record AreElementsWith (settings : Settings) (sequence : List ℕ) (old new : List JxElement) (count : ℕ) : Type 0 where
+  pub count_is : count ≡ length (elements_by settings.mark sequence)
+  pub judged : List JudgedElement
+  pub are : AllZip (IsJudgedBy settings sequence) (elements_by settings.mark sequence) judged
+  pub filled : IsFilled shown_element old new judged

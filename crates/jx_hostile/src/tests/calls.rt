@@ -1,0 +1,161 @@
+// The calls that answer on a text or on a sequence, and whether what they answer is right.
+ghost use Rattle.std.specs.Prelude.{◌≡◌, length};
+
+use crate::tests::answers::{ToldElement, are_judged, are_told, is_worked, worked_verdict};
+use crate::tests::inputs::Worked;
+use jx_answer::{
+    Fault, TextAnswer, index_sequence_with, index_text_with, judge_sequence_with,
+    verdict_of_text_with,
+};
+use jx_book::{Gate, Held, read_whole};
+use jx_claim::{Cutting, Workers};
+use jx_index::Indexed;
+use jx_run::{Front, NameRule, Refusal, Settings, TextRun, Verdict, front};
+use std::alloc::{AllocError, Global};
+use std::sync::Wait;
+use std::thread::Threads;
+
+/// What answers on a text.
+#[derive(Clone, Copy, Debug)]
+pub enum TextCall {
+    /// `index_text_with`, by which one worker reads the text in one pass.
+    Index,
+    /// `verdict_of_text_with`, by which one worker puts the run of each piece into a book where any names may stand.
+    Verdict,
+    /// `read_whole`, by which one worker puts the run of each piece into a book, and `Indexed::of_run`.
+    Run,
+}
+
+/// All of them.
+pub const TEXT_CALLS: [TextCall; 3] = [TextCall::Index, TextCall::Verdict, TextCall::Run];
+
+/// The answer that a run over a text gives, whatever names its objects have.
+pub fn answer_of<'a>(
+    alloc: Global,
+    held: &Held<'a, TextRun>,
+) -> Result<TextAnswer<'a>, AllocError> {
+    let run = held.run();
+    match run.verdict() {
+        Verdict::Refused(refusal) => Ok(TextAnswer::Refused(refusal)),
+        Verdict::Accepted => {
+            let index = Indexed::of_run(alloc, held.text(), run)?;
+            Ok(TextAnswer::Accepted(index))
+        }
+    }
+}
+
+// The start of the name for which the rule refuses a text, if it refuses one.
+fn refused_name(names: NameRule, index: &Indexed<'_>) -> Option<usize> {
+    match names {
+        NameRule::Any => None,
+        NameRule::Unique => index.repeated(),
+    }
+}
+
+/// The answer by a rule for names, from that whatever names the objects have.
+pub fn by_names<'a>(names: NameRule, answer: TextAnswer<'a>) -> TextAnswer<'a> {
+    match answer {
+        TextAnswer::Refused(refusal) => TextAnswer::Refused(refusal),
+        TextAnswer::Accepted(index) => match refused_name(names, &index) {
+            None => TextAnswer::Accepted(index),
+            Some(at) => TextAnswer::Refused(Refusal::RepeatedName { at }),
+        },
+    }
+}
+
+/// The answer on a text by its run, which workers make piece by piece and join in a book. So does one worker, on the calling
+/// thread, where the cutting has two pieces or more behind the mark.
+pub fn answer_by_run<'a, R: Threads + Wait + Sync, G: Gate + Sync>(
+    rt: &R,
+    alloc: Global,
+    text: &'a [u8],
+    cutting: Cutting,
+    workers: Workers,
+    settings: &Settings,
+    gate: &G,
+) -> Result<TextAnswer<'a>, AllocError>
+    requires cutting { cutting.len ≡ length text.now }
+    requires front { cutting.front ≡ 0 }
+{
+    match front(text, settings.mark) {
+        Front::Refused(refusal) => Ok(TextAnswer::Refused(refusal)),
+        Front::Skip(count) => {
+            let rest = cutting.without_front(count.min(text.len()));
+            let depth = settings.depth;
+            let run = read_whole::<TextRun, R, G>(rt, alloc, text, &rest, workers, depth, gate)?;
+            let answer = answer_of(alloc, &run)?;
+            Ok(by_names(settings.names, answer))
+        }
+    }
+}
+
+/// Whether a call by these settings answers rightly on a worked text.
+pub fn is_right<R: Threads + Wait + Sync, G: Gate + Sync>(
+    rt: &R,
+    alloc: Global,
+    call: TextCall,
+    worked: &Worked,
+    cutting: Cutting,
+    workers: Workers,
+    settings: &Settings,
+    gate: &G,
+) -> Result<bool, Fault>
+    requires cutting { cutting.len ≡ length worked.now.text.now }
+    requires front { cutting.front ≡ 0 }
+{
+    let text = worked.text;
+    let names = settings.names;
+    match call {
+        TextCall::Index => {
+            let answer = index_text_with(rt, alloc, text, &cutting, workers, settings, gate)?;
+            Ok(is_worked(&answer, worked, names))
+        }
+        TextCall::Verdict => {
+            let verdict = verdict_of_text_with(rt, alloc, text, &cutting, workers, settings, gate)?;
+            Ok(verdict == worked_verdict(worked, names))
+        }
+        TextCall::Run => match answer_by_run(rt, alloc, text, cutting, workers, settings, gate) {
+            Ok(answer) => Ok(is_worked(&answer, worked, names)),
+            Err(AllocError) => Err(Fault::Memory),
+        },
+    }
+}
+
+/// What answers on a sequence.
+#[derive(Clone, Copy, Debug)]
+pub enum SequenceCall {
+    /// `index_sequence_with`.
+    Index,
+    /// `judge_sequence_with`.
+    Judge,
+}
+
+/// Both of them.
+pub const SEQUENCE_CALLS: [SequenceCall; 2] = [SequenceCall::Index, SequenceCall::Judge];
+
+/// Whether a call by these settings tells these elements, and if it has them, their rows.
+pub fn tells<R: Threads + Wait + Sync, G: Gate + Sync>(
+    rt: &R,
+    alloc: Global,
+    call: SequenceCall,
+    text: &[u8],
+    want: &[ToldElement],
+    cutting: &Cutting,
+    workers: Workers,
+    settings: &Settings,
+    gate: &G,
+) -> Result<bool, Fault>
+    requires cutting { cutting.now.len ≡ length text.now }
+    requires front { cutting.now.front ≡ 0 }
+{
+    match call {
+        SequenceCall::Index => {
+            let elements = index_sequence_with(rt, alloc, text, cutting, workers, settings, gate)?;
+            Ok(are_told(&elements, want))
+        }
+        SequenceCall::Judge => {
+            let elements = judge_sequence_with(rt, alloc, text, cutting, workers, settings, gate)?;
+            Ok(are_judged(&elements, want))
+        }
+    }
+}

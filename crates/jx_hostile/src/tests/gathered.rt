@@ -1,0 +1,297 @@
+// Workers on threads of the test's own, by public calls alone, and what `gather` makes of the runs that they left.
+ghost use Rattle.std.specs.Prelude.{◌≡◌, ◌+◌, ◌<◌, ◌≤◌, [], length, true, false, All, IfOk, IfSome};
+ghost use Rattle.jx_claim.specs.Cut.{drawn_len};
+ghost use Rattle.jx_book.specs.Shares.{share};
+
+use crate::tests::answers::is_worked;
+use crate::tests::calls::answer_of;
+use crate::tests::inputs::{FIVE, NESTED, NESTED_ARRAYS, TOO_DEEP, Worked, WorkedRow};
+use jx_answer::TextAnswer;
+use jx_book::{Book, FinishFault, Held, OpenGate, Put, Share, WorkerEnd, gather, work};
+use jx_claim::{ClaimSeat, Claims, Cutting, Workers};
+use jx_lex::{Depth, Kind, Span};
+use jx_run::{NameRule, OutcomeRun, Refusal, TextRun};
+use std::alloc::Global;
+use std::marker::Brand;
+use std::process::Abort;
+use std::sync::Wait;
+use std::sync::ledger::{Blank, Ledger};
+use std::test::Fail;
+use std::thread;
+use std::thread::Threads;
+
+// What a worker begins with.
+#[derive(Drop)]
+struct Hands<P: Ledger, T: Ledger> {
+    seat: ClaimSeat,
+    share: Share<P, T>,
+}
+
+// A seat and a share of those that are left.
+fn next_of<P: Ledger, T: Ledger>(
+    claims: &Claims,
+    seats: &mut Vec<ClaimSeat>,
+    shares: &mut Vec<Share<P, T>>,
+) -> Option<Hands<P, T>>
+    requires seats { All (λ s. (s.id ≡ claims.now.id) × (s.got ≡ []) × (s.spent ≡ false)) seats.old.items }
+    requires shares { All (λ s. s ≡ share 0 0) shares.old.items }
+    ensures seat { IfSome result (λ h. (h.seat.id ≡ claims.now.id) × (h.seat.got ≡ []) × (h.seat.spent ≡ false)) }
+    ensures share { IfSome result (λ h. h.share ≡ share 0 0) }
+    ensures seats { All (λ s. (s.id ≡ claims.now.id) × (s.got ≡ []) × (s.spent ≡ false)) seats.new.items }
+    ensures shares { All (λ s. s ≡ share 0 0) shares.new.items }
+{
+    let seat = seats.pop()?;
+    let share = shares.pop()?;
+    Some(Hands { seat, share })
+}
+
+// Lets one worker read until no piece is left.
+fn work_to_the_end<'a, P: Ledger, T: Ledger, R: Wait>(
+    rt: &R,
+    alloc: Global,
+    book: &Book<'a, TextRun, P, T>,
+    text: &'a [u8],
+    cutting: &Cutting,
+    claims: &Claims,
+    depth: Depth,
+    hands: Hands<P, T>,
+) -> Option<WorkerEnd<P, T>>
+    requires cutting { cutting.now.len ≡ length text.now }
+    requires claims { claims.now.pieces ≡ length cutting.now.pieces }
+    requires seat { (hands.seat.id ≡ claims.now.id) × (hands.seat.got ≡ []) × (hands.seat.spent ≡ false) }
+    requires share { hands.share ≡ share 0 0 }
+    ensures seat { IfSome result (λ e. (e.seat.id ≡ claims.now.id) × (e.seat.spent ≡ true)) }
+    ensures bytes { IfSome result (λ e. drawn_len cutting.now.pieces e.seat.got + e.share.taken ≡ e.share.put) }
+{
+    let Hands { seat, share } = hands;
+    match work(
+        rt, alloc, book, text, cutting, claims, seat, share, depth, &OpenGate,
+    ) {
+        Ok(end) => Some(end),
+        Err(_) => None,
+    }
+}
+
+// Lets two workers read, each on a thread of its own.
+fn both_work<'a, P: Ledger + Send + Sync, T: Ledger + Send + Sync, R: Threads + Wait + Sync>(
+    rt: &R,
+    alloc: Global,
+    book: &Book<'a, TextRun, P, T>,
+    text: &'a [u8],
+    cutting: &Cutting,
+    claims: &Claims,
+    depth: Depth,
+    first: Hands<P, T>,
+    second: Hands<P, T>,
+) -> (Option<WorkerEnd<P, T>>, Option<WorkerEnd<P, T>>)
+    requires cutting { cutting.now.len ≡ length text.now }
+    requires claims { claims.now.pieces ≡ length cutting.now.pieces }
+    requires first { (first.seat.id ≡ claims.now.id) × (first.seat.got ≡ []) × (first.seat.spent ≡ false) × (first.share ≡ share 0 0) }
+    requires second { (second.seat.id ≡ claims.now.id) × (second.seat.got ≡ []) × (second.seat.spent ≡ false) × (second.share ≡ share 0 0) }
+    ensures first { IfSome result.0 (λ e. (e.seat.id ≡ claims.now.id) × (e.seat.spent ≡ true) × (drawn_len cutting.now.pieces e.seat.got + e.share.taken ≡ e.share.put)) }
+    ensures second { IfSome result.1 (λ e. (e.seat.id ≡ claims.now.id) × (e.seat.spent ≡ true) × (drawn_len cutting.now.pieces e.seat.got + e.share.taken ≡ e.share.put)) }
+{
+    thread::join(
+        rt,
+        move || -> Option<WorkerEnd<P, T>>
+            requires { (cutting.now.len ≡ length text.now) × (claims.now.pieces ≡ length cutting.now.pieces) × (first.seat.id ≡ claims.now.id) × (first.seat.got ≡ []) × (first.seat.spent ≡ false) × (first.share ≡ share 0 0) }
+            ensures { IfSome result (λ e. (e.seat.id ≡ claims.entry.now.id) × (e.seat.spent ≡ true) × (drawn_len cutting.entry.now.pieces e.seat.got + e.share.taken ≡ e.share.put)) }
+        { work_to_the_end(rt, alloc, book, text, cutting, claims, depth, first) },
+        move || -> Option<WorkerEnd<P, T>>
+            requires { (cutting.now.len ≡ length text.now) × (claims.now.pieces ≡ length cutting.now.pieces) × (second.seat.id ≡ claims.now.id) × (second.seat.got ≡ []) × (second.seat.spent ≡ false) × (second.share ≡ share 0 0) }
+            ensures { IfSome result (λ e. (e.seat.id ≡ claims.entry.now.id) × (e.seat.spent ≡ true) × (drawn_len cutting.entry.now.pieces e.seat.got + e.share.taken ≡ e.share.put)) }
+        { work_to_the_end(rt, alloc, book, text, cutting, claims, depth, second) },
+    )
+}
+
+// The answer on a text by the one run that two workers leave.
+fn answer_by_two<'a, P: Ledger + Send + Sync, T: Ledger + Send + Sync, R: Threads + Wait + Sync>(
+    rt: &R,
+    alloc: Global,
+    text: &'a [u8],
+    cutting: &Cutting,
+    depth: Depth,
+    put: Blank,
+    taken: Blank,
+) -> Result<TextAnswer<'a>, Fail>
+    requires cutting { cutting.now.len ≡ length text.now }
+    requires put { (put.name ≡ P.name) × (put.parts ≡ P.parts) × (put.parts ≡ 2) }
+    requires taken { (taken.name ≡ T.name) × (taken.parts ≡ T.parts) × (taken.parts ≡ 2) }
+{
+    let workers = Workers::new(2).ok_or("two workers")?;
+    let (book, mut shares) = Book::<TextRun, P, T>::open(alloc, put, taken, workers)?;
+    let (claims, mut seats) = Claims::open(alloc, cutting.count(), workers)?;
+    let first = next_of(&claims, &mut seats, &mut shares).ok_or("a seat")?;
+    let second = next_of(&claims, &mut seats, &mut shares).ok_or("a seat")?;
+    let (first, second) = both_work(
+        rt, alloc, &book, text, cutting, &claims, depth, first, second,
+    );
+    let (Some(first), Some(second)) = (first, second) else {
+        return Err("two workers that end".into());
+    };
+    let seats = Vec::from_array(alloc, [first.seat, second.seat])?;
+    let shares = Vec::from_array(alloc, [first.share, second.share])?;
+    match gather(book, claims, text, cutting, depth, seats, shares) {
+        Ok(Some(run)) => {
+            let answer = answer_of(alloc, &run)?;
+            Ok(answer)
+        }
+        Ok(None) => Err("a piece".into()),
+        Err(_) => Err("a run of this text".into()),
+    }
+}
+
+// The same, with blanks for the ledgers of a book.
+fn answer_of_two<'a, R: Threads + Wait + Sync>(
+    rt: &R,
+    alloc: Global,
+    text: &'a [u8],
+    cutting: &Cutting,
+    depth: Depth,
+) -> Result<TextAnswer<'a>, Fail>
+    requires cutting { cutting.now.len ≡ length text.now }
+{
+    let put = Blank::new(2);
+    let taken = Blank::new(2);
+    answer_by_two::<Brand, Brand, R>(rt, alloc, text, cutting, depth, put, taken)
+}
+
+// The answer on a text that is cut there, with all its rows.
+fn check<R: Abort + Threads + Wait + Sync>(
+    rt: &R,
+    alloc: Global,
+    worked: &Worked,
+    cuts: &[usize],
+) -> Result<(), Fail> {
+    let depth = Depth::new(worked.containers).ok_or("a depth")?;
+    let cutting = Cutting::at(alloc, worked.text.len(), cuts)?;
+    let answer = answer_of_two(rt, alloc, worked.text, &cutting, depth)?;
+    assert!(rt;
+        is_worked(&answer, worked, NameRule::Any),
+        "{worked:?} cut at {cuts:?}"
+    );
+    Ok(())
+}
+
+const TWO_DIGITS: [WorkedRow; 1] = [(Kind::Number, (0, 2), None, 0, None)];
+
+const TWO_BYTES: [WorkedRow; 1] = [(Kind::String, (0, 4), None, 0, None)];
+
+const ESCAPE: [WorkedRow; 1] = [(Kind::String, (0, 8), None, 0, None)];
+
+// A text without a repeated name within the default depth.
+fn worked(text: &'static [u8], answer: Result<&'static [WorkedRow], Refusal>) -> Worked {
+    Worked {
+        text,
+        front: 0,
+        containers: 512,
+        answer,
+        repeated: None,
+    }
+}
+
+#[test]
+fn scalars_that_are_cut(rt: HostRuntime) -> Result<(), Fail> {
+    check(&rt, rt.alloc(), &worked(b"12", Ok(&TWO_DIGITS)), &[1])?;
+    let character = worked(b"\x22\xC3\xA9\x22", Ok(&TWO_BYTES));
+    check(&rt, rt.alloc(), &character, &[2])?;
+    check(&rt, rt.alloc(), &worked(b"\"\\u0041\"", Ok(&ESCAPE)), &[4])
+}
+
+#[test]
+fn containers_that_are_cut(rt: HostRuntime) -> Result<(), Fail> {
+    check(&rt, rt.alloc(), &TOO_DEEP, &[2, 3])?;
+    check(&rt, rt.alloc(), &NESTED_ARRAYS, &[2, 3])?;
+    let stopped = worked(b"{\"a\":1,2]", Err(Refusal::Stopped { at: 7 }));
+    check(&rt, rt.alloc(), &stopped, &[7])?;
+    let cuts = [1, 2, 3, 4, 5, 6, 7, 8, 9, 10, 11, 12, 13, 14, 15, 16];
+    check(&rt, rt.alloc(), &FIVE, &cuts)
+}
+
+// Draws a piece and puts as many bytes that begin one byte before it, and then meets the end of the pieces.
+fn put_before<'a, P: Ledger, T: Ledger, R: Wait>(
+    rt: &R,
+    alloc: Global,
+    book: &Book<'a, OutcomeRun, P, T>,
+    text: &'a [u8],
+    cutting: &Cutting,
+    claims: &Claims,
+    hands: Hands<P, T>,
+) -> Option<Hands<P, T>>
+    requires cutting { cutting.now.len ≡ length text.now }
+    requires front { cutting.now.front ≡ 1 }
+    requires claims { claims.now.pieces ≡ length cutting.now.pieces }
+    requires seat { (hands.seat.id ≡ claims.now.id) × (hands.seat.got ≡ []) × (hands.seat.spent ≡ false) }
+    requires share { hands.share ≡ share 0 0 }
+    ensures seat { IfSome result (λ e. (e.seat.id ≡ claims.now.id) × (e.seat.spent ≡ true)) }
+    ensures bytes { IfSome result (λ e. drawn_len cutting.now.pieces e.seat.got + e.share.taken ≡ e.share.put) }
+{
+    let Hands {
+        mut seat,
+        mut share,
+    } = hands;
+    let piece = claims.draw(&mut seat)?;
+    let place = cutting.piece(piece);
+    let (start, end) = (place.start - 1, place.end - 1);
+    let run = Held::read(alloc, text, start, end, Depth::default()).ok()?;
+    let Put::Stored = book.put(rt, &mut share, run) else {
+        return None;
+    };
+    match claims.draw(&mut seat) {
+        None => Some(Hands { seat, share }),
+        Some(_) => None,
+    }
+}
+
+// Whether a run that begins before the front of the cutting comes back.
+fn is_other<P: Ledger, T: Ledger, R: Wait>(
+    rt: &R,
+    alloc: Global,
+    text: &[u8],
+    cutting: &Cutting,
+    put: Blank,
+    taken: Blank,
+) -> Result<bool, Fail>
+    requires cutting { cutting.now.len ≡ length text.now }
+    requires front { cutting.now.front ≡ 1 }
+    requires put { (put.name ≡ P.name) × (put.parts ≡ P.parts) × (put.parts ≡ 1) }
+    requires taken { (taken.name ≡ T.name) × (taken.parts ≡ T.parts) × (taken.parts ≡ 1) }
+{
+    let workers = Workers::new(1).ok_or("one worker")?;
+    let (book, mut shares) = Book::<OutcomeRun, P, T>::open(alloc, put, taken, workers)?;
+    let (claims, mut seats) = Claims::open(alloc, cutting.count(), workers)?;
+    let hands = next_of(&claims, &mut seats, &mut shares).ok_or("a seat")?;
+    let hands = put_before(rt, alloc, &book, text, cutting, &claims, hands).ok_or("a run")?;
+    let seats = Vec::from_array(alloc, [hands.seat])?;
+    let shares = Vec::from_array(alloc, [hands.share])?;
+    match gather(book, claims, text, cutting, Depth::default(), seats, shares) {
+        Err(FinishFault::Other(run)) => Ok(run.span() == Span { start: 0, end: 5 }),
+        Ok(_) => Ok(false),
+    }
+}
+
+// The same, with blanks for the ledgers of a book.
+fn is_other_of_one<R: Wait>(
+    rt: &R,
+    alloc: Global,
+    text: &[u8],
+    cutting: &Cutting,
+) -> Result<bool, Fail>
+    requires cutting { cutting.now.len ≡ length text.now }
+    requires front { cutting.now.front ≡ 1 }
+{
+    let put = Blank::new(1);
+    let taken = Blank::new(1);
+    is_other::<Brand, Brand, R>(rt, alloc, text, cutting, put, taken)
+}
+
+#[test]
+fn a_run_that_begins_before_the_front(rt: HostRuntime) -> Result<(), Fail> {
+    let cutting = Cutting::every(NESTED.len(), 6)?;
+    if cutting.len() < 1 {
+        return Err("a text".into());
+    }
+    let cutting = cutting.without_front(1);
+    assert!(rt; is_other_of_one(&rt, rt.alloc(), NESTED, &cutting)?);
+    Ok(())
+}

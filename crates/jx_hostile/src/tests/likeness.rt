@@ -1,0 +1,113 @@
+// Whether two runs over the same bytes show the same, looked at without taking memory.
+use jx_lex::LexState;
+use jx_reduce::Expect;
+use jx_run::{OutcomeRun, SeqRun, Shape, Started, Summary, TextRun};
+use std::alloc::Global;
+
+/// A run that can be compared with another.
+pub trait Likeness: Summary {
+    /// Whether both have the same span and the same verdict, and for each state the same exit and from each expectation the
+    /// same end over no open container. A sequence's run has such runs of its first and its last bytes, and between them the
+    /// same readings from the start.
+    fn is_like(&self, other: &Self) -> bool;
+}
+
+const EXPECTS: [Expect; 6] = [
+    Expect::Value,
+    Expect::ArrayFirst,
+    Expect::ObjectFirst,
+    Expect::Name,
+    Expect::Colon,
+    Expect::After,
+];
+
+fn outcomes_are_alike_from(one: &OutcomeRun, other: &OutcomeRun, state: LexState) -> bool {
+    one.exit(state) == other.exit(state)
+        && EXPECTS.iter().all(|expect| {
+            one.entry(state, *expect).whole() == other.entry(state, *expect).whole()
+        })
+}
+
+impl Likeness for OutcomeRun {
+    fn is_like(&self, other: &Self) -> bool {
+        self.span() == other.span()
+            && self.verdict() == other.verdict()
+            && LexState::all()
+                .iter()
+                .all(|state| outcomes_are_alike_from(self, other, *state))
+    }
+}
+
+fn texts_are_alike_from(one: &TextRun, other: &TextRun, state: LexState) -> bool {
+    one.exit(state) == other.exit(state)
+        && EXPECTS.iter().all(|expect| {
+            one.entry(state, *expect).whole() == other.entry(state, *expect).whole()
+        })
+}
+
+impl Likeness for TextRun {
+    fn is_like(&self, other: &Self) -> bool {
+        self.span() == other.span()
+            && self.verdict() == other.verdict()
+            && LexState::all()
+                .iter()
+                .all(|state| texts_are_alike_from(self, other, *state))
+    }
+}
+
+fn started_are_alike(one: &Started, other: &Started) -> bool {
+    one.span() == other.span()
+        && one.verdict() == other.verdict()
+        && one.marks() == other.marks()
+        && one.ends() == other.ends()
+}
+
+fn all_are_alike(ones: &[Started], others: &[Started]) -> bool {
+    ones.len() == others.len()
+        && ones
+            .iter()
+            .zip(others)
+            .all(|(one, other)| started_are_alike(one, other))
+}
+
+impl Likeness for SeqRun {
+    fn is_like(&self, other: &Self) -> bool {
+        match (self.shape(), other.shape()) {
+            (Shape::Plain(one), Shape::Plain(other)) => one.is_like(other),
+            (
+                Shape::Marked {
+                    before,
+                    done,
+                    after,
+                },
+                Shape::Marked {
+                    before: other_before,
+                    done: other_done,
+                    after: other_after,
+                },
+            ) => {
+                before.is_like(other_before)
+                    && all_are_alike(done, other_done)
+                    && after.is_like(other_after)
+            }
+            _ => false,
+        }
+    }
+}
+
+/// Whether a run over part of a text is like the one that reading that part at once gives, which is asked for twice where memory
+/// is refused.
+pub fn is_as_read<S: Likeness>(alloc: Global, text: &[u8], run: &S) -> bool {
+    let span = run.span();
+    let depth = run.depth();
+    if span.end < span.start || text.len() < span.end {
+        return false;
+    }
+    match S::of(alloc, text, span.start, span.end, depth) {
+        Ok(read) => run.is_like(&read),
+        Err(_) => match S::of(alloc, text, span.start, span.end, depth) {
+            Ok(read) => run.is_like(&read),
+            Err(_) => false,
+        },
+    }
+}

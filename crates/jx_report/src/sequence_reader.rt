@@ -1,0 +1,188 @@
+// A text sequence that is read batch by batch.
+ghost use Rattle.std.specs.Prelude.{◌≡◌, ◌+◌, ◌<◌, ◌≤◌, ◌^◌, ◌++◌, ℕ, List, [], length, OnOk, IfOk};
+ghost use Rattle.std.specs.List.{AllZip};
+ghost use Rattle.jx_run.specs.Elements.{elements};
+ghost use Rattle.jx_run.specs.ElementVerdict.{IsJudgedElement};
+ghost use Rattle.jx_run.specs.SequenceRead.{EndsWithMark, IsUnmarked, StartsWithMark};
+ghost use Rattle.jx_report.specs.Sequences.{AreReadBy};
+
+use crate::text_check::TextReader;
+use jx_answer::judge_batch;
+use jx_book::Gate;
+use jx_claim::Cutting;
+use jx_command::Command;
+use jx_run::{
+    JudgedElement, ended_there, ends_open_behind, marked_part, sequences_are_read_part_by_part,
+};
+use std::alloc::{AllocError, Global};
+use std::sync::Wait;
+use std::thread::Threads;
+
+/// A text sequence that is read from its start. Of each element that ended it keeps its span and verdict.
+#[derive(Drop)]
+pub(crate) struct SequenceReader {
+    /// The elements that ended, in order.
+    judged: Vec<JudgedElement>,
+    /// Has read the element that goes on.
+    reader: TextReader,
+    /// Whether that one's last byte is open.
+    loose: bool,
+}
+
+/// How many bytes of so many a worker reads at a time. One worker reads them as one piece.
+fn piece_of(command: &Command, len: usize) -> usize
+    requires { 1 ≤ command.now.piece }
+    ensures { 1 ≤ result }
+{
+    if command.workers.count() == 1 {
+        len.max(1)
+    } else {
+        command.piece
+    }
+}
+
+/// The elements of a part of a sequence, which begins with a record separator and stands behind so many bytes.
+fn elements_of<R: Threads + Wait + Sync, G: Gate + Sync>(
+    rt: &R,
+    alloc: Global,
+    command: &Command,
+    part: &[u8],
+    before: usize,
+    gate: &G,
+) -> Result<Vec<JudgedElement>, AllocError>
+    requires piece { 1 ≤ command.now.piece }
+    requires few { length part.now < 2 ^ 32 }
+    requires fits { before + length part.now < 2 ^ 64 }
+    requires starts { StartsWithMark part.now }
+    ensures { IfOk result (λ es. AllZip (IsJudgedElement command.now.settings.depth) (elements before part.now) es.items) }
+{
+    let Ok(cutting) = Cutting::every(part.len(), piece_of(command, part.len())) else {
+        unreachable!()
+    };
+    let depth = command.settings.depth;
+    match judge_batch(
+        rt,
+        alloc,
+        part,
+        before,
+        &cutting,
+        command.workers,
+        depth,
+        gate,
+    ) {
+        Ok(elements) => Ok(elements),
+        Err(_) => Err(AllocError),
+    }
+}
+
+impl SequenceReader {
+    /// Before the first byte.
+    pub fn new(alloc: Global, command: &Command) -> SequenceReader
+        ensures { AreReadBy command.now.settings.depth [] result }
+    {
+        sequences_are_read_part_by_part();
+        let judged = Vec::new(alloc);
+        let reader = TextReader::new(alloc, command, 0);
+        SequenceReader {
+            judged,
+            reader,
+            loose: false,
+        }
+    }
+
+    /// Reads bytes without a record separator behind what was read.
+    fn go_on<R: Threads + Wait + Sync, G: Gate + Sync>(
+        &mut self,
+        rt: &R,
+        alloc: Global,
+        command: &Command,
+        bytes: &[u8],
+        gate: &G,
+    ) -> Result<(), AllocError>
+        requires piece { 1 ≤ command.now.piece }
+        requires few { length bytes.now < 2 ^ 32 }
+        requires fits { (limit : ℕ) × ((text : List ℕ) × (AreReadBy limit text self.old × (length text + length bytes.now < 2 ^ 64))) }
+        ensures reads { OnOk result ((limit : ℕ) (text : List ℕ) → AreReadBy limit text self.old → IsUnmarked bytes.now → AreReadBy limit (text ++ bytes.now) self.new) }
+    {
+        sequences_are_read_part_by_part();
+        self.reader.read(rt, alloc, command, bytes, gate)?;
+        self.loose = ends_open_behind(self.loose, bytes);
+        Ok(())
+    }
+
+    /// Puts the element that goes on behind the others, as one that ends here.
+    fn end(&mut self) -> Result<(), AllocError>
+        ensures { OnOk result ((limit : ℕ) (text : List ℕ) → AreReadBy limit text self.old → AllZip (IsJudgedElement limit) (elements 0 text) self.new.judged.items) }
+    {
+        sequences_are_read_part_by_part();
+        match ended_there(self.reader.span(), self.reader.verdict(), self.loose) {
+            None => Ok(()),
+            Some(element) => {
+                self.judged.push(element)?;
+                Ok(())
+            }
+        }
+    }
+
+    /// Reads bytes that begin and end with a record separator behind what was read.
+    fn pass<R: Threads + Wait + Sync, G: Gate + Sync>(
+        &mut self,
+        rt: &R,
+        alloc: Global,
+        command: &Command,
+        bytes: &[u8],
+        before: usize,
+        gate: &G,
+    ) -> Result<(), AllocError>
+        requires piece { 1 ≤ command.now.piece }
+        requires few { length bytes.now < 2 ^ 32 }
+        requires fits { before + length bytes.now < 2 ^ 64 }
+        requires starts { StartsWithMark bytes.now }
+        requires ends { EndsWithMark bytes.now }
+        ensures reads { OnOk result ((text : List ℕ) → before ≡ length text → AreReadBy command.now.settings.depth text self.old
+            → AreReadBy command.now.settings.depth (text ++ bytes.now) self.new) }
+    {
+        sequences_are_read_part_by_part();
+        self.end()?;
+        let mut more = elements_of(rt, alloc, command, bytes, before, gate)?;
+        self.judged.append(&mut more)?;
+        self.reader = TextReader::new(alloc, command, before + bytes.len());
+        self.loose = false;
+        Ok(())
+    }
+
+    /// Reads a batch behind what was read, which were so many bytes. What stands between its first and its last record separator is
+    /// judged as a sequence of its own, and moved to where it stands.
+    pub fn read<R: Threads + Wait + Sync, G: Gate + Sync>(
+        &mut self,
+        rt: &R,
+        alloc: Global,
+        command: &Command,
+        batch: &[u8],
+        before: usize,
+        gate: &G,
+    ) -> Result<(), AllocError>
+        requires piece { 1 ≤ command.now.piece }
+        requires few { length batch.now < 2 ^ 32 }
+        requires fits { before + length batch.now < 2 ^ 64 }
+        requires so_far { (text : List ℕ) × ((before ≡ length text) × AreReadBy command.now.settings.depth text self.old) }
+        ensures reads { OnOk result ((text : List ℕ) → before ≡ length text → AreReadBy command.now.settings.depth text self.old
+            → AreReadBy command.now.settings.depth (text ++ batch.now) self.new) }
+    {
+        let Some(marked) = marked_part(batch) else {
+            return self.go_on(rt, alloc, command, batch, gate);
+        };
+        self.go_on(rt, alloc, command, &batch[0..marked.start], gate)?;
+        let part = &batch[marked.start..marked.end];
+        self.pass(rt, alloc, command, part, before + marked.start, gate)?;
+        self.go_on(rt, alloc, command, &batch[marked.end..batch.len()], gate)
+    }
+
+    /// The elements of all that was read, in order.
+    pub fn into_elements(mut self) -> Result<Vec<JudgedElement>, AllocError>
+        ensures { IfOk result (λ es. (limit : ℕ) (text : List ℕ) → AreReadBy limit text self → AllZip (IsJudgedElement limit) (elements 0 text) es.items) }
+    {
+        self.end()?;
+        Ok(self.judged)
+    }
+}

@@ -1,0 +1,365 @@
+// Text sequences that come in several batches.
+ghost use Rattle.std.specs.Prelude.{◌≤◌, ◌<◌};
+
+use crate::end::End;
+use crate::exit::Exit;
+use crate::report_fault::ReportFault;
+use crate::reporting::report_by;
+use crate::sink::Sink;
+use crate::source::Source;
+use crate::tests::commands::{command, repeated};
+use crate::tests::ends::{FailingReader, TellingReader, Zeros};
+use crate::tests::gates::StopFrom;
+use jx_book::OpenGate;
+use jx_claim::Workers;
+use jx_command::{Command, Task};
+use jx_lex::Depth;
+use jx_run::{ElementsRun, FrontMark, Summary};
+use std::alloc::Global;
+use std::io;
+use std::process::Abort;
+use std::sync::Wait;
+use std::sync::atomic::AtomicBool;
+use std::test::Fail;
+use std::thread::Threads;
+
+/// An input, and what is written for it.
+type Judged = (&'static [u8], &'static [u8], Exit);
+
+/// More events than any of these runs has.
+const MANY: u64 = 1000;
+
+fn sequence(containers: u32, mark: FrontMark, workers: u8) -> Result<Command, Fail> {
+    let mut sequence = command(Task::Seq, containers);
+    sequence.settings.mark = mark;
+    sequence.workers = Workers::new(workers).ok_or("workers")?;
+    Ok(sequence)
+}
+
+// Compares what is written in batches of so many bytes.
+fn check_by<R: Abort + Threads + Wait + Sync>(
+    rt: &R,
+    alloc: Global,
+    command: &Command,
+    batch: usize,
+    text: &[u8],
+    output: &[u8],
+    exit: Exit,
+)
+    requires piece { 1 ≤ command.now.piece }
+    requires some { 1 ≤ batch }
+    requires few { batch < 4294967296 }
+{
+    let mut reader = End::new(text);
+    let mut writer = End::new(Vec::new(alloc));
+    let answer = report_by(
+        rt,
+        alloc,
+        &mut reader,
+        &mut writer,
+        command,
+        &OpenGate,
+        batch,
+    );
+    assert_eq!(rt; answer, Ok(exit), "at {text:?} in batches of {batch}");
+    assert_eq!(rt;
+        writer.inner.as_slice(),
+        output,
+        "at {text:?} in batches of {batch}"
+    );
+}
+
+// The same in batches of all these sizes, by one worker and by two.
+fn check_in_batches<R: Abort + Threads + Wait + Sync>(
+    rt: &R,
+    alloc: Global,
+    containers: u32,
+    mark: FrontMark,
+    judged: Judged,
+) -> Result<(), Fail> {
+    let (text, output, exit) = judged;
+    for batch in 1..=9usize {
+        for workers in [1u8, 2] {
+            let mut sequence = sequence(containers, mark, workers)?;
+            sequence.piece = 2;
+            check_by(rt, alloc, &sequence, batch, text, output, exit);
+        }
+    }
+    Ok(())
+}
+
+// Elements, strings, escapes and characters that go from one batch to the next.
+#[test]
+fn sequences_in_batches(rt: HostRuntime) -> Result<(), Fail> {
+    let inputs: [Judged; 10] = [
+        (
+            b"\x1E{\"a\":[1,\"\\u0041\"]}\n\x1E\"\xF0\x9F\x98\x80\xE6\x97\xA5\"\x1E-12.5e+1\n",
+            b"1..20 accepted\n21..30 accepted\n31..40 accepted\n",
+            Exit::Good,
+        ),
+        (
+            b"\x1Etrue\n\x1Etrue\x1E\x1E[1\n",
+            b"1..6 accepted\n7..11 may be cut\n13..16 truncated\n",
+            Exit::Bad,
+        ),
+        (
+            b"12345678901\x1E123456789012",
+            b"0..11 unmarked\n12..24 may be cut\n",
+            Exit::Bad,
+        ),
+        (
+            b"\x1E1111111111111\n\n\n\n",
+            b"1..18 accepted\n",
+            Exit::Good,
+        ),
+        (
+            b"\x1E\x1E\x1E\x1E\x1E\x1E\x1E\x1E\x1E\x1E\x1E\x1E\x1E1",
+            b"13..14 may be cut\n",
+            Exit::Bad,
+        ),
+        (
+            b"\x1E[[1]]\x1E[[[1]]]\x1E[]]\x1E[1,\x1E]",
+            b"1..6 accepted\n7..14 too deep at 9\n15..18 stopped at 17\n19..22 truncated\n23..24 stopped at 23\n",
+            Exit::Bad,
+        ),
+        (
+            b"\x1E\"aaaaaaaaaaaaaaaaaaaaaaaaaaaa",
+            b"1..30 truncated\n",
+            Exit::Bad,
+        ),
+        (
+            b"\xEF\xBB\xBF\x1E1\n",
+            b"0..3 unmarked\n4..6 accepted\n",
+            Exit::Bad,
+        ),
+        (b"", b"", Exit::Good),
+        (b"unmarked for long", b"0..17 unmarked\n", Exit::Bad),
+    ];
+    for judged in inputs {
+        check_in_batches(&rt, rt.alloc(), 2, FrontMark::Refused, judged)?;
+    }
+    Ok(())
+}
+
+// Byte order marks that are ignored, in first batches of a few bytes.
+#[test]
+fn ignored_marks_of_sequences_in_batches(rt: HostRuntime) -> Result<(), Fail> {
+    let inputs: [Judged; 8] = [
+        (
+            b"\xEF\xBB\xBF\x1E1\n\x1E[]",
+            b"4..6 accepted\n7..9 accepted\n",
+            Exit::Good,
+        ),
+        (b"\xEF\xBB\xBF", b"", Exit::Good),
+        (b"\xEF\xBB", b"0..2 unmarked\n", Exit::Bad),
+        (
+            b"\xEF\xBB\x1E1\n",
+            b"0..2 unmarked\n3..5 accepted\n",
+            Exit::Bad,
+        ),
+        (
+            b"\xEF\xBB\xBF1\x1E2\n",
+            b"0..4 unmarked\n5..7 accepted\n",
+            Exit::Bad,
+        ),
+        (
+            b"\x1E\xEF\xBB\xBF1\n\x1E\"\xEF\xBB\xBF\"",
+            b"1..6 stopped at 1\n7..12 accepted\n",
+            Exit::Bad,
+        ),
+        (b"abc\x1E1\n", b"0..3 unmarked\n4..6 accepted\n", Exit::Bad),
+        (
+            b"\xEF\xBB\xBF\x1Etrue\x1E[[[1",
+            b"4..8 may be cut\n9..13 too deep at 11\n",
+            Exit::Bad,
+        ),
+    ];
+    for judged in inputs {
+        check_in_batches(&rt, rt.alloc(), 2, FrontMark::Ignored, judged)?;
+    }
+    Ok(())
+}
+
+// What is written where the byte at an offset of the sequence below is one that is allowed nowhere.
+fn fault_at(alloc: Global, at: usize) -> Result<String, Fail> {
+    if at == 0 {
+        return Ok(format!(in alloc; "0..7 unmarked\n8..14 accepted\n15..21 accepted\n")?);
+    }
+    if at < 7 {
+        return Ok(format!(in alloc; "1..7 stopped at {at}\n8..14 accepted\n15..21 accepted\n")?);
+    }
+    if at == 7 {
+        return Ok(format!(in alloc; "1..14 stopped at 7\n15..21 accepted\n")?);
+    }
+    if at < 14 {
+        return Ok(format!(in alloc; "1..7 accepted\n8..14 stopped at {at}\n15..21 accepted\n")?);
+    }
+    if at == 14 {
+        return Ok(format!(in alloc; "1..7 accepted\n8..21 stopped at 14\n")?);
+    }
+    Ok(format!(in alloc; "1..7 accepted\n8..14 accepted\n15..21 stopped at {at}\n")?)
+}
+
+// A byte that is allowed nowhere, at each offset: in each batch, and on both sides of each border.
+#[test]
+fn a_fault_at_each_offset_of_a_sequence(rt: HostRuntime) -> Result<(), Fail> {
+    for at in 0..21usize {
+        let mut text = *b"\x1E[0,1]\n\x1E[2,3]\n\x1E[4,5]\n";
+        text[at] = b'x';
+        let lines = fault_at(rt.alloc(), at)?;
+        for batch in [3usize, 4, 5, 6] {
+            for workers in [1u8, 2] {
+                let mut sequence = sequence(2, FrontMark::Refused, workers)?;
+                sequence.piece = 2;
+                check_by(
+                    &rt,
+                    rt.alloc(),
+                    &sequence,
+                    batch,
+                    &text,
+                    lines.as_bytes(),
+                    Exit::Bad,
+                );
+            }
+        }
+    }
+    Ok(())
+}
+
+// Eight bytes, one a call, and the call that meets the end.
+#[test]
+fn a_reader_that_fails_in_each_batch_of_a_sequence(rt: HostRuntime) -> Result<(), Fail> {
+    for text in [b"\x1E1\n\x1E[2,3".as_slice(), b"x1\n\x1E]2,3".as_slice()] {
+        for fails_at in 1..=9u32 {
+            let mut sequence = sequence(1, FrontMark::Refused, 2)?;
+            sequence.piece = 1;
+            let mut reader = End::new(FailingReader {
+                text,
+                call: 0,
+                fails_at,
+                kind: io::ErrorKind::Other,
+            });
+            let mut writer = End::new(Vec::new(rt.alloc()));
+            let answer = report_by(
+                &rt,
+                rt.alloc(),
+                &mut reader,
+                &mut writer,
+                &sequence,
+                &OpenGate,
+                3,
+            );
+            assert_eq!(rt; answer, Err(ReportFault::Read), "at call {fails_at}");
+            assert!(rt; reader.failed());
+            assert!(rt; writer.inner.is_empty());
+            assert!(rt; !writer.failed());
+        }
+    }
+    Ok(())
+}
+
+// One byte more than there may be pieces.
+#[test]
+fn too_many_pieces_of_a_sequence(rt: HostRuntime) -> Result<(), Fail> {
+    let lengths = [
+        (
+            4_294_967_295usize,
+            Ok(Exit::Bad),
+            b"0..4294967295 unmarked\n".as_slice(),
+        ),
+        (4_294_967_296, Err(ReportFault::Pieces), b"".as_slice()),
+    ];
+    for (left, wanted, output) in lengths {
+        let sequence = command(Task::Seq, 1);
+        let mut reader = End::new(Zeros { left });
+        let mut writer = End::new(Vec::new(rt.alloc()));
+        let answer = report_by(
+            &rt,
+            rt.alloc(),
+            &mut reader,
+            &mut writer,
+            &sequence,
+            &OpenGate,
+            4096,
+        );
+        assert_eq!(rt; answer, wanted);
+        assert_eq!(rt; writer.inner.as_slice(), output);
+        assert_eq!(rt; reader.inner.left, 0);
+    }
+    Ok(())
+}
+
+// A report whose workers stop from each event on in turn, counted from behind so many bytes, until a run meets no stop.
+// Answers how many runs met one.
+fn stopped_from_each<R: Abort + Threads + Wait + Sync>(
+    rt: &R,
+    alloc: Global,
+    command: &Command,
+    first: usize,
+    judged: Judged,
+) -> Result<u64, Fail>
+    requires piece { 1 ≤ command.now.piece }
+{
+    let (text, output, exit) = judged;
+    for number in 0..MANY {
+        let begun = AtomicBool::new(first == 0);
+        let gate = StopFrom::new(number, &begun);
+        let mut reader = End::new(TellingReader {
+            text,
+            first,
+            begun: &begun,
+        });
+        let mut writer = End::new(Vec::new(alloc));
+        let answer = report_by(rt, alloc, &mut reader, &mut writer, command, &gate, 12);
+        assert_eq!(rt;
+            answer,
+            Ok(exit),
+            "{text:?}, stopped at {number} behind {first}"
+        );
+        assert_eq!(rt;
+            writer.inner.as_slice(),
+            output,
+            "{text:?}, stopped at {number} behind {first}"
+        );
+        if !gate.has_stopped() {
+            return Ok(number);
+        }
+    }
+    Err("a run that meets no stop".into())
+}
+
+// Workers who stop in the second batch, and in both.
+#[test]
+fn workers_who_stop_in_a_sequence(rt: HostRuntime) -> Result<(), Fail> {
+    let judged: Judged = (
+        b"\x1E[1]\n\x1E[2]\n\x1E{\"a\":[3]}\x1E4\n\x1E[5,6",
+        b"1..5 accepted\n6..10 accepted\n11..20 accepted\n21..23 accepted\n24..28 truncated\n",
+        Exit::Bad,
+    );
+    for workers in [2u8, 5] {
+        let mut sequence = sequence(2, FrontMark::Refused, workers)?;
+        sequence.piece = 1;
+        let second = stopped_from_each(&rt, rt.alloc(), &sequence, 12, judged)?;
+        let both = stopped_from_each(&rt, rt.alloc(), &sequence, 0, judged)?;
+        assert!(rt; second > 0 && both > second);
+    }
+    Ok(())
+}
+
+// The elements of a part that stands behind some bytes, read there and moved there.
+#[test]
+fn elements_further_on(rt: HostRuntime) -> Result<(), Fail> {
+    let alloc = rt.alloc();
+    let depth = Depth::default();
+    let part = b"\x1E[1\x1E1]\x1Etrue\x1E\x1E{}".as_slice();
+    for by in [1usize, 2, 7, 1000] {
+        let mut text = repeated(alloc, &[(b'x', by)])?;
+        text.extend_from_slice(part)?;
+        let there = ElementsRun::of(alloc, &text, 0, text.len(), depth)?.into_elements()?;
+        let moved = ElementsRun::of(alloc, part, 0, part.len(), depth)?.into_elements_behind(by)?;
+        assert_eq!(rt; moved.len(), 4);
+        assert_eq!(rt; there.len(), 5);
+        assert_eq!(rt; moved.as_slice(), &there[1..], "behind {by}");
+    }
+    Ok(())
+}

@@ -1,0 +1,155 @@
+// A reply is written through one buffer, which is taken before the first byte is written and does not grow.
+ghost use Rattle.std.specs.Prelude.{◌≡◌, ◌≢◌, ◌≤◌, ◌↔◌, ◌++◌, false, true, is_err, vec_capacity, IfErr, IsErrOf, OnErr, OnOk};
+ghost use Rattle.std.specs.Io.KnownBytes.{Appends};
+ghost use Rattle.jx_report.specs.Elements.{judged_lines};
+ghost use Rattle.jx_report.specs.Ends.{AppendsBeginning};
+ghost use Rattle.jx_report.specs.Replies.{pointer_lines, reply_output, verdict_line};
+ghost use Rattle.jx_report.specs.Room.{HasRoom, IsPut};
+ghost use Rattle.jx_report.specs.RowWords.{row_lines};
+
+use crate::element_words::{element_at, push_element};
+use crate::pointer_answer::{PointerAnswer, answer_at};
+use crate::pointer_words::push_pointer;
+use crate::reply::Reply;
+use crate::report_fault::ReportFault;
+use crate::row_words::push_row;
+use crate::sink::Sink;
+use crate::words::{push_bytes, push_refusal};
+use crate::write_all::write_all;
+use jx_index::Row;
+use jx_run::{JudgedElement, Verdict};
+use std::alloc::Global;
+
+/// How many bytes the longest line has: that of a row whose numbers have 20 digits each.
+pub(crate) const LONGEST_LINE: usize = 156;
+
+/// Writes what waits, unless there is room for a line behind it.
+fn make_room<W: Sink>(writer: &mut W, out: &mut Vec<u8>) -> Result<(), ReportFault>
+    requires unfailed { W.has_failed writer.old ≡ false }
+    requires large { LONGEST_LINE ≤ vec_capacity out.old }
+    ensures ok { OnOk result (IsPut (W.contents writer.old) (W.contents writer.new) out.new.items out.old.items) }
+    ensures room { OnOk result (HasRoom out.new LONGEST_LINE) }
+    ensures err { OnErr result (AppendsBeginning (W.contents writer.old) (W.contents writer.new) out.old.items) }
+    ensures fault { IfErr result (λ fault. fault ≡ ReportFault.Write) }
+    ensures failed { W.has_failed writer.new ≡ is_err result }
+{
+    if out.capacity() - out.len() < LONGEST_LINE {
+        write_all(writer, out)?;
+        out.clear();
+    }
+    Ok(())
+}
+
+/// The line of a verdict.
+fn push_verdict(out: &mut Vec<u8>, verdict: Verdict)
+    requires { HasRoom out.old LONGEST_LINE }
+    ensures { out.new.items ≡ out.old.items ++ verdict_line verdict }
+{
+    match verdict {
+        Verdict::Accepted => push_bytes(out, b"accepted"),
+        Verdict::Refused(refusal) => push_refusal(out, refusal),
+    }
+    push_bytes(out, b"\n");
+}
+
+/// Writes the lines of all rows, which are numbered from 0. The last of them may wait in the end.
+fn write_rows<W: Sink>(writer: &mut W, out: &mut Vec<u8>, rows: &[Row]) -> Result<(), ReportFault>
+    requires unfailed { W.has_failed writer.old ≡ false }
+    requires large { LONGEST_LINE ≤ vec_capacity out.old }
+    ensures ok { OnOk result (IsPut (W.contents writer.old) (W.contents writer.new) out.new.items (out.old.items ++ row_lines 0 rows.now)) }
+    ensures err { OnErr result (AppendsBeginning (W.contents writer.old) (W.contents writer.new) (out.old.items ++ row_lines 0 rows.now)) }
+    ensures fault { IfErr result (λ fault. fault ≡ ReportFault.Write) }
+    ensures failed { W.has_failed writer.new ≡ is_err result }
+{
+    for number in 0..rows.len() {
+        make_room(writer, out)?;
+        push_row(out, number, &rows[number]);
+    }
+    Ok(())
+}
+
+/// Writes a line for each pointer, in their order. The last of them may wait in the end.
+fn write_pointers<W: Sink>(
+    writer: &mut W,
+    out: &mut Vec<u8>,
+    answers: &[PointerAnswer],
+) -> Result<(), ReportFault>
+    requires unfailed { W.has_failed writer.old ≡ false }
+    requires large { LONGEST_LINE ≤ vec_capacity out.old }
+    ensures ok { OnOk result (IsPut (W.contents writer.old) (W.contents writer.new) out.new.items (out.old.items ++ pointer_lines answers.now)) }
+    ensures err { OnErr result (AppendsBeginning (W.contents writer.old) (W.contents writer.new) (out.old.items ++ pointer_lines answers.now)) }
+    ensures fault { IfErr result (λ fault. fault ≡ ReportFault.Write) }
+    ensures failed { W.has_failed writer.new ≡ is_err result }
+{
+    for number in 0..answers.len() {
+        make_room(writer, out)?;
+        push_pointer(out, answer_at(answers, number));
+    }
+    Ok(())
+}
+
+/// Writes a line for each element, in their order. The last of them may wait in the end.
+fn write_elements<W: Sink>(
+    writer: &mut W,
+    out: &mut Vec<u8>,
+    elements: &[JudgedElement],
+) -> Result<(), ReportFault>
+    requires unfailed { W.has_failed writer.old ≡ false }
+    requires large { LONGEST_LINE ≤ vec_capacity out.old }
+    ensures ok { OnOk result (IsPut (W.contents writer.old) (W.contents writer.new) out.new.items (out.old.items ++ judged_lines elements.now)) }
+    ensures err { OnErr result (AppendsBeginning (W.contents writer.old) (W.contents writer.new) (out.old.items ++ judged_lines elements.now)) }
+    ensures fault { IfErr result (λ fault. fault ≡ ReportFault.Write) }
+    ensures failed { W.has_failed writer.new ≡ is_err result }
+{
+    for number in 0..elements.len() {
+        make_room(writer, out)?;
+        push_element(out, element_at(elements, number));
+    }
+    Ok(())
+}
+
+/// Writes a reply behind what waits. Its last lines may wait in the end.
+fn write_lines<W: Sink>(writer: &mut W, out: &mut Vec<u8>, reply: &Reply) -> Result<(), ReportFault>
+    requires unfailed { W.has_failed writer.old ≡ false }
+    requires room { HasRoom out.old LONGEST_LINE }
+    ensures ok { OnOk result (IsPut (W.contents writer.old) (W.contents writer.new) out.new.items (out.old.items ++ reply_output reply.now)) }
+    ensures err { OnErr result (AppendsBeginning (W.contents writer.old) (W.contents writer.new) (out.old.items ++ reply_output reply.now)) }
+    ensures fault { IfErr result (λ fault. fault ≡ ReportFault.Write) }
+    ensures failed { W.has_failed writer.new ≡ is_err result }
+{
+    match reply {
+        Reply::Verdict(verdict) => {
+            push_verdict(out, *verdict);
+            Ok(())
+        }
+        Reply::Rows(rows) => {
+            push_bytes(out, b"accepted\n");
+            write_rows(writer, out, rows)
+        }
+        Reply::Pointers(answers) => write_pointers(writer, out, answers),
+        Reply::Elements(elements) => write_elements(writer, out, elements),
+    }
+}
+
+/// Writes a reply through a buffer of so many bytes, or of as many as the longest line has.
+pub(crate) fn write_reply<W: Sink>(
+    alloc: Global,
+    writer: &mut W,
+    reply: &Reply,
+    size: usize,
+) -> Result<(), ReportFault>
+    requires { W.has_failed writer.old ≡ false }
+    ensures ok { OnOk result (Appends (W.contents writer.old) (W.contents writer.new) (reply_output reply.now)) }
+    ensures write { IsErrOf result ReportFault.Write ↔ (W.has_failed writer.new ≡ true) }
+    ensures beginning { IsErrOf result ReportFault.Write → AppendsBeginning (W.contents writer.old) (W.contents writer.new) (reply_output reply.now) }
+    // Where the buffer is not to be had, the writer is as it was.
+    ensures unwritten { IfErr result (λ fault. fault ≢ ReportFault.Write → writer.new ≡ writer.old) }
+    ensures unread { IfErr result (λ fault. fault ≢ ReportFault.Read) }
+    ensures uncut { IfErr result (λ fault. fault ≢ ReportFault.Pieces) }
+{
+    let Ok(mut out) = Vec::with_capacity(alloc, size.max(LONGEST_LINE)) else {
+        return Err(ReportFault::Memory);
+    };
+    write_lines(writer, &mut out, reply)?;
+    write_all(writer, &out)
+}

@@ -1,0 +1,46 @@
+-- The rest of a piece, which is read only from the states in which ways of its beginning end.
+use Rattle.std.specs.Prelude.{◌≡◌, ℕ, ◌+◌, ◌<◌, ◌≤◌, List, ◌∷◌, length, HoldsAt, Some, slice_get}
+use Rattle.jx_lex.specs.declared.exit.Exit.TheVariants as exit
+use Rattle.jx_lex.specs.declared.mark.Mark.{Mark}
+use Rattle.jx_lex.specs.declared.state.LexState.{LexState}
+use Rattle.jx_lex.specs.Lex.{Exit}
+use Rattle.jx_lex.specs.Ordinal.{ordinal}
+use Rattle.jx_reduce.specs.declared.expect.Expect.{Expect}
+use Rattle.jx_reduce.specs.declared.holder.Holder.{Holder}
+use Rattle.jx_reduce.specs.Reducer.{ReducerValue, HasReduced}
+use Rattle.jx_reduce.specs.Reductions.{Forms}
+use Rattle.jx_run.specs.declared.way.Way.{Way}
+use Rattle.jx_run.specs.OutcomeRun.{OutcomeRunValue, exit_at, outcome, outcome_of}
+use Rattle.jx_run.specs.Reading.{Outcome, read}
+
+-- these are the outcomes of reading bytes, which stand from an offset on, from a state
+abbrev pub AreRead : ℕ → ℕ → List ℕ → LexState → (Expect → List Holder → Outcome) → Type 0
+AreRead limit start bytes s outcomes = (expect : Expect) (holders : List Holder) → length holders ≤ limit → outcomes expect holders ≡ read limit s expect holders start bytes
+
+-- the right has the outcomes of reading these bytes from each state in which a way of the left ends; from the other states,
+-- to which nothing leads, it may have any
+pub record IsRestOf (left : OutcomeRunValue) (bytes : List ℕ) (right : OutcomeRunValue) : Type 0 where
+  pub long : right.end ≡ right.start + length bytes
+  pub outcomes : (s t : LexState) → exit_at left s ≡ Exit.state t → AreRead right.limit right.start bytes t (outcome right t)
+
+-- one of the ways ends in this state
+abbrev pub Reaches : List Way → LexState → Type 0
+Reaches ways s = (k : ℕ) × (k < length ways) × HoldsAt (λ (w : Way). w.exit ≡ exit.State s) ways k
+
+-- the way has the outcomes of reading
+pub record IsReadWay (limit start : ℕ) (bytes : List ℕ) (structures : List Forms) (s : LexState) (w : Way) : Type 0 where
+  pub form : Forms
+  pub at : slice_get structures w.structure ≡ Some form
+  pub reads : AreRead limit start bytes s (outcome_of (record { exit = w.exit; marks = form }))
+
+-- so has the one of each state that was reached
+abbrev pub AreReadWays : ℕ → ℕ → List ℕ → List Way → List Forms → List Way → LexState → Type 0
+AreReadWays limit start bytes reached structures ways s = Reaches reached s
+    → (w : Way) × (slice_get ways (ordinal s) ≡ Some w) × IsReadWay limit start bytes structures s w
+
+-- what a reducer has seen of the tokens of a scan; the ends are of no account, but that they begin with the depth, which
+-- therefore stays
+pub record HasTaken (marks : List Mark) (ends : List ℕ) (reducer : ReducerValue) : Type 0 where
+  pub reduced : HasReduced marks reducer
+  pub rest : List ℕ
+  pub depth : ends ≡ reducer.depth ∷ rest

@@ -1,0 +1,180 @@
+// The rest of a piece, from the states that are left behind its beginning.
+ghost use Rattle.std.specs.Prelude.{◌≡◌, ◌≢◌, ◌≤◌, ◌<◌, ◌+◌, All, max, length, slice_range, IfOk, IsTrue, OnOk};
+ghost use Rattle.jx_lex.specs.declared.exit.Exit.TheVariants as exit;
+ghost use Rattle.jx_lex.specs.declared.state.LexState.{LexState};
+ghost use Rattle.jx_run.specs.Joins.{IsAbove};
+ghost use Rattle.jx_run.specs.OutcomeRun.{outcome_of, IsWithin};
+ghost use Rattle.jx_run.specs.Rest.{AreRead, AreReadWays, IsReadWay, Reaches};
+
+use crate::way::Way;
+use jx_lex::{Depth, Exit, Keeper, LexState, Mark, scan};
+use jx_reduce::{Reducer, Reductions};
+use std::alloc::{AllocError, Global};
+
+/// The reducer as a keeper. For the proof, the ends that it has seen begin with the depth: so a scan is known to leave the
+/// depth as it is.
+#[derive(Drop)]
+struct KeptMarks {
+    reducer: Reducer,
+}
+
+impl Keeper for KeptMarks {
+    ghost use Rattle.jx_run.specs.Rest.{HasTaken};
+
+    ghost has_seen = { λ kept marks ends. HasTaken marks ends kept.reducer };
+
+    #[inline(always)]
+    fn begin(&mut self, mark: Mark) -> Result<(), AllocError> {
+        self.reducer.push(mark)?;
+        Ok(())
+    }
+
+    #[inline(always)]
+    fn end(&mut self, _at: usize) -> Result<(), AllocError> {
+        Ok(())
+    }
+
+    #[inline(always)]
+    fn is_done(&self) -> bool {
+        false
+    }
+}
+
+/// Where reading the bytes from a state ends, and the structure of their marks.
+fn read_from(
+    alloc: Global,
+    text: &[u8],
+    state: LexState,
+    from: usize,
+    to: usize,
+    depth: Depth,
+) -> Result<(Exit, Reductions), AllocError>
+    requires { (from ≤ to) × (to ≤ length text.now) }
+    ensures reads { IfOk result (λ r. AreRead depth from (slice_range text.now from to) state (outcome_of (record { exit = r.0; marks = r.1 }))) }
+    ensures within { IfOk result (λ r. IsWithin depth from to r.1) }
+{
+    let mut kept = KeptMarks {
+        reducer: Reducer::new(alloc, depth),
+    };
+    let exit = scan(&mut kept, state, text, from, to)?;
+    let marks = kept.reducer.finish()?;
+    // A reducer always wants more. If it did not, its marks would come to a fault from everywhere, and it would not matter
+    // where the reading ends.
+    Ok((exit.unwrap_or(Exit::Fault(from)), marks))
+}
+
+/// Whether none of the ways ends in this state.
+fn avoid(ways: &[Way], state: LexState) -> bool
+    ensures { IsTrue result → All (λ w. w.exit ≢ exit.State state) ways.now }
+{
+    ways.iter().all(|way| way.exit != Exit::State(state))
+}
+
+/// The way from a state, whose structure is put behind the others.
+// Apart, since a structure is large: the states that are not read then cost nothing.
+#[inline(never)]
+fn read_way(
+    alloc: Global,
+    text: &[u8],
+    state: LexState,
+    from: usize,
+    to: usize,
+    depth: Depth,
+    structures: &mut Vec<Reductions>,
+) -> Result<Way, AllocError>
+    requires { (from ≤ to) × (to ≤ length text.now) }
+    ensures above { OnOk result (IsAbove structures.old.items structures.new.items) }
+    ensures few { OnOk result (length structures.new.items ≤ length structures.old.items + 1) }
+    ensures within { OnOk result (All (IsWithin depth from to) structures.old.items → All (IsWithin depth from to) structures.new.items) }
+    ensures there { IfOk result (λ w. w.structure < length structures.new.items) }
+    ensures reads { IfOk result (IsReadWay depth from (slice_range text.now from to) structures.new.items state) }
+{
+    let (exit, marks) = read_from(alloc, text, state, from, to, depth)?;
+    structures.push(marks)?;
+    Ok(Way {
+        exit,
+        structure: structures.len() - 1,
+    })
+}
+
+/// The way from a state. Only if a way of the beginning ends there are the bytes read, and have a structure then.
+fn way_from(
+    alloc: Global,
+    reached: &[Way],
+    text: &[u8],
+    state: LexState,
+    from: usize,
+    to: usize,
+    depth: Depth,
+    structures: &mut Vec<Reductions>,
+) -> Result<Way, AllocError>
+    requires { (from ≤ to) × (to ≤ length text.now) }
+    ensures above { OnOk result (IsAbove structures.old.items structures.new.items) }
+    ensures few { OnOk result (length structures.new.items ≤ length structures.old.items + 1) }
+    ensures within { OnOk result (All (IsWithin depth from to) structures.old.items → All (IsWithin depth from to) structures.new.items) }
+    ensures there { IfOk result (λ w. w.structure < max 1 (length structures.new.items)) }
+    ensures reads { IfOk result (λ w. Reaches reached.now state → IsReadWay depth from (slice_range text.now from to) structures.new.items state w) }
+{
+    if avoid(reached, state) {
+        return Ok(Way {
+            exit: Exit::Fault(from),
+            structure: 0,
+        });
+    }
+    read_way(alloc, text, state, from, to, depth, structures)
+}
+
+/// There is a structure at least, for ways that lead nowhere.
+fn fill(
+    alloc: Global,
+    structures: &mut Vec<Reductions>,
+    from: usize,
+    to: usize,
+    depth: Depth,
+) -> Result<(), AllocError>
+    ensures above { OnOk result (IsAbove structures.old.items structures.new.items) }
+    ensures many { OnOk result (length structures.new.items ≡ max 1 (length structures.old.items)) }
+    ensures within { OnOk result (All (IsWithin depth from to) structures.old.items → All (IsWithin depth from to) structures.new.items) }
+{
+    if structures.is_empty() {
+        structures.push(Reductions::new(alloc, depth))?;
+    }
+    Ok(())
+}
+
+/// The ways through the rest of a piece from all states, in order, and their structures. The bytes are read only from the
+/// states in which ways of the beginning end. Nothing leads to the others, and what their ways have is of no account.
+pub(crate) fn rest_ways(
+    alloc: Global,
+    reached: &[Way],
+    text: &[u8],
+    from: usize,
+    to: usize,
+    depth: Depth,
+) -> Result<(Vec<Way>, Vec<Reductions>), AllocError>
+    requires { (from ≤ to) × (to ≤ length text.now) }
+    ensures all { IfOk result (λ r. length r.0.items ≡ 32) }
+    ensures there { IfOk result (λ r. All (λ w. w.structure < length r.1.items) r.0.items) }
+    ensures few { IfOk result (λ r. length r.1.items ≤ 32) }
+    ensures within { IfOk result (λ r. All (IsWithin depth from to) r.1.items) }
+    ensures reads { IfOk result (λ r. (s : LexState) → AreReadWays depth from (slice_range text.now from to) reached.now r.1.items r.0.items s) }
+{
+    let states = LexState::all();
+    let mut ways = Vec::with_capacity(alloc, states.len())?;
+    let mut structures = Vec::new(alloc);
+    for place in 0..states.len() {
+        let way = way_from(
+            alloc,
+            reached,
+            text,
+            states[place],
+            from,
+            to,
+            depth,
+            &mut structures,
+        )?;
+        ways.push(way)?;
+    }
+    fill(alloc, &mut structures, from, to, depth)?;
+    Ok((ways, structures))
+}
