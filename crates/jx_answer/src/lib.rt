@@ -14,8 +14,6 @@ mod judging;
 mod laws;
 mod lookups;
 mod sequences;
-#[cfg(test)]
-mod tests;
 mod text_answer;
 mod texts;
 

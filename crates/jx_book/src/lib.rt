@@ -45,6 +45,3 @@ pub use state::BookState;
 pub use worker::work;
 pub use worker_end::WorkerEnd;
 pub use worker_stop::WorkerStop;
-
-#[cfg(test)]
-mod tests;

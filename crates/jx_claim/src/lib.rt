@@ -18,6 +18,3 @@ pub use drawn::Drawn;
 pub use piece_no::PieceNo;
 pub use seat::ClaimSeat;
 pub use workers::Workers;
-
-#[cfg(test)]
-mod tests;

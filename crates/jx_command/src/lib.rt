@@ -6,8 +6,6 @@ mod arguments;
 mod command;
 mod grammar;
 mod help;
-#[cfg(test)]
-mod tests;
 
 pub use arg_fault::ArgFault;
 pub use arguments::command_of;

@@ -43,10 +43,6 @@ mod depth;
 mod kind;
 
 // Tests.
-#[cfg(test)]
-mod scan_tests;
-#[cfg(test)]
-mod tests;
 
 pub use chunk_map::ChunkMap;
 pub use class::{Class, class_of};

@@ -7,8 +7,6 @@ mod entry;
 mod expect;
 mod holder;
 mod known_stack;
-#[cfg(test)]
-mod known_tests;
 mod laws;
 mod level;
 mod levels;
@@ -20,8 +18,6 @@ mod quiet;
 mod reduced;
 mod reducer;
 mod reductions;
-#[cfg(test)]
-mod tests;
 mod whole;
 
 pub use expect::Expect;

@@ -4,10 +4,6 @@
 mod byte_order_mark;
 mod element_verdict;
 mod elements_run;
-#[cfg(test)]
-mod elements_tests;
-#[cfg(test)]
-mod front_tests;
 mod joins;
 mod laws;
 mod marked;
@@ -18,22 +14,14 @@ mod open_end;
 mod outcome_run;
 mod part_run;
 mod reader;
-#[cfg(test)]
-mod reader_tests;
 mod reduce;
 mod rest;
-#[cfg(test)]
-mod rest_tests;
 mod run_reader;
 mod seq_run;
-#[cfg(test)]
-mod sequence_tests;
 mod settings;
 mod shape;
 mod started;
 mod summary;
-#[cfg(test)]
-mod tests;
 mod text_run;
 mod verdict;
 mod way;

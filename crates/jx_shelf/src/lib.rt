@@ -6,6 +6,3 @@ mod shelf_fault;
 
 pub use shelf::{Shelf, ShelfNote};
 pub use shelf_fault::ShelfFault;
-
-#[cfg(test)]
-mod tests;

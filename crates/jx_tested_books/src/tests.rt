@@ -1,0 +1,5 @@
+mod answer;
+mod book;
+mod claim;
+mod command;
+mod shelf;

@@ -1,0 +1,97 @@
+use jx_index::Indexed;
+use jx_lex::Depth;
+use jx_run::{Summary, TextRun, Verdict};
+use jx_shelf::{Shelf, ShelfFault};
+use std::alloc::{AllocError, Global};
+use std::test::Fail;
+use std::thread;
+use std::thread::Threads;
+
+fn index_of<'a>(alloc: Global, text: &'a [u8]) -> Result<Indexed<'a>, Fail> {
+    let run = TextRun::of(alloc, text, 0, text.len(), Depth::default())?;
+    let started = run.started()?;
+    if started.verdict() != Verdict::Accepted {
+        return Err("a text".into());
+    }
+    Ok(Indexed::build(alloc, text, &started)?)
+}
+
+#[test]
+fn the_note_that_published_sees_the_index(rt: HostRuntime) -> Result<(), Fail> {
+    let alloc = rt.alloc();
+    let shelf = Shelf::new(alloc);
+    let mut note = shelf.note();
+    assert!(rt; shelf.look(&mut note).is_none());
+    assert!(rt;
+        shelf
+            .publish(&mut note, index_of(alloc, b"[10,20]")?)
+            .is_ok()
+    );
+    let shown = shelf.look(&mut note);
+    assert!(rt; matches!(shown, Some(index) if index.rows().len() == 3));
+    let mut late = shelf.note();
+    let shown = shelf.look(&mut late);
+    assert!(rt; matches!(shown, Some(index) if index.rows().len() == 3));
+    note.agree(late);
+    Ok(())
+}
+
+#[test]
+fn a_second_index_is_handed_back(rt: HostRuntime) -> Result<(), Fail> {
+    let alloc = rt.alloc();
+    let shelf = Shelf::new(alloc);
+    let mut note = shelf.note();
+    assert!(rt;
+        shelf
+            .publish(&mut note, index_of(alloc, b"[10,20]")?)
+            .is_ok()
+    );
+    let again = shelf.publish(&mut note, index_of(alloc, b"[1]")?);
+    assert!(rt; matches!(&again, Err(ShelfFault::Taken(index)) if index.rows().len() == 2));
+    let mut other = shelf.note();
+    let again = shelf.publish(&mut other, index_of(alloc, b"1")?);
+    assert!(rt; matches!(&again, Err(ShelfFault::Taken(index)) if index.rows().len() == 1));
+    let shown = shelf.look(&mut other);
+    assert!(rt; matches!(shown, Some(index) if index.rows().len() == 3));
+    Ok(())
+}
+
+// Publishes on one thread, and then looks on another with a new note.
+fn rows_seen_there<'a, R: Threads + Sync>(
+    rt: &R,
+    shelf: &Shelf<'a>,
+    index: Indexed<'a>,
+) -> (bool, Option<usize>) {
+    let mut mine = shelf.note();
+    let mut theirs = shelf.note();
+    let (published, _) = thread::join(rt, move || shelf.publish(&mut mine, index).is_ok(), || ());
+    let (seen, _) = thread::join(
+        rt,
+        move || shelf.look(&mut theirs).map(|index| index.rows().len()),
+        || (),
+    );
+    (published, seen)
+}
+
+#[test]
+fn another_thread_sees_the_index(rt: HostRuntime) -> Result<(), Fail> {
+    let alloc = rt.alloc();
+    let shelf = Shelf::new(alloc);
+    let index = index_of(alloc, b"[10,20]")?;
+    let (published, seen) = rows_seen_there(&rt, &shelf, index);
+    assert!(rt; published);
+    assert_eq!(rt; seen, Some(3));
+    Ok(())
+}
+
+#[test]
+fn words_of_faults(rt: HostRuntime) -> Result<(), Fail> {
+    let alloc = rt.alloc();
+    let taken = ShelfFault::Taken(index_of(alloc, b"1")?);
+    let text = format!(in alloc; "{taken}")?;
+    assert_eq!(rt; text.as_str(), "another index is on the shelf");
+    let memory = ShelfFault::Memory(index_of(alloc, b"1")?);
+    let text = format!(in alloc; "{memory}")?;
+    assert_eq!(rt; text.as_str(), "out of memory");
+    Ok(())
+}

@@ -1,0 +1,3 @@
+mod lex;
+mod reduce;
+mod run;
