@@ -5,7 +5,7 @@ ghost use Rattle.jx_lex.specs.Ahead.{IsSound};
 // So many bytes are read one character after another before a stretch is tested.
 pub(crate) const LEAST: usize = 32;
 
-// A stretch is at most so long.
+// A stretch is at most so long, but for three bytes.
 const MOST: usize = 4096;
 
 /// A stretch of a text that is well-formed UTF-8 (RFC 3629, section 4): a reader of strings need not look at its
@@ -74,7 +74,14 @@ impl Ahead {
         } else {
             MOST
         };
-        let most = if to - from < long { to } else { from + long };
+        let block = end_of_block(from);
+        let most = if long == MOST && from <= block && block <= to {
+            block
+        } else if to - from < long {
+            to
+        } else {
+            from + long
+        };
         let end = whole_end(text, from, most);
         if simdutf8::is_utf8(&text[from..end]) {
             return Ahead {
@@ -119,6 +126,15 @@ impl Ahead {
     {
         self.from <= at && at < self.to && self.to <= to
     }
+}
+
+// Where the block of `MOST` bytes ends that this byte or the one three behind it stands in: a stretch that ended inside a
+// character leaves up to three bytes of the block before. Whole blocks are tested sooner than bytes across two.
+#[inline(always)]
+fn end_of_block(from: usize) -> usize {
+    (from.saturating_add(3) / MOST)
+        .saturating_add(1)
+        .saturating_mul(MOST)
 }
 
 // The end of the characters that are whole before `to`, if these bytes are UTF-8.

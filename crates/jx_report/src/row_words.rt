@@ -4,7 +4,7 @@ ghost use Rattle.jx_report.specs.Room.{HasRoom, TakesRoom};
 ghost use Rattle.jx_report.specs.Words.{line};
 ghost use Rattle.jx_report.specs.RowWords.{node_words, parent_words, name_words, place_words, row_words};
 
-use crate::words::{push_bytes, push_kind, push_number, push_span};
+use crate::words::{push_byte, push_kind, push_number, push_span};
 use jx_index::{NodeId, Row};
 use jx_lex::Span;
 
@@ -15,7 +15,7 @@ fn push_parent(out: &mut Vec<u8>, parent: Option<NodeId>)
 {
     match parent {
         Some(node) => push_number(out, node.number()),
-        None => push_bytes(out, b"-"),
+        None => push_byte(out, b'-'),
     }
 }
 
@@ -26,7 +26,7 @@ fn push_name(out: &mut Vec<u8>, name: Option<Span>)
 {
     match name {
         Some(span) => push_span(out, span),
-        None => push_bytes(out, b"-"),
+        None => push_byte(out, b'-'),
     }
 }
 
@@ -37,9 +37,9 @@ fn push_node(out: &mut Vec<u8>, number: usize, row: &Row)
     ensures room { TakesRoom out.old out.new 70 }
 {
     push_number(out, number);
-    push_bytes(out, b" ");
+    push_byte(out, b' ');
     push_kind(out, row.kind);
-    push_bytes(out, b" ");
+    push_byte(out, b' ');
     push_span(out, row.span);
 }
 
@@ -50,9 +50,9 @@ fn push_place(out: &mut Vec<u8>, row: &Row)
     ensures room { TakesRoom out.old out.new 84 }
 {
     push_parent(out, row.parent);
-    push_bytes(out, b" ");
+    push_byte(out, b' ');
     push_number(out, row.place);
-    push_bytes(out, b" ");
+    push_byte(out, b' ');
     push_name(out, row.name);
 }
 
@@ -63,7 +63,7 @@ pub fn push_row(out: &mut Vec<u8>, number: usize, row: &Row)
     ensures room { TakesRoom out.old out.new 156 }
 {
     push_node(out, number, row);
-    push_bytes(out, b" ");
+    push_byte(out, b' ');
     push_place(out, row);
-    push_bytes(out, b"\n");
+    push_byte(out, b'\n');
 }

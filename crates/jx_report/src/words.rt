@@ -1,5 +1,5 @@
 // The words of the output. Each is put into room that is there, so that none takes memory.
-ghost use Rattle.std.specs.Prelude.{◌≡◌, ◌+◌, ◌≤◌, ◌++◌, codes, decimal, length};
+ghost use Rattle.std.specs.Prelude.{◌≡◌, ◌+◌, ◌≤◌, [], ◌∷◌, ◌++◌, codes, decimal, length};
 ghost use Rattle.jx_report.specs.Room.{HasRoom, TakesRoom};
 ghost use Rattle.jx_report.specs.Words.{refusal_words, kind_words, span_words};
 
@@ -18,12 +18,28 @@ pub fn push_bytes(out: &mut Vec<u8>, bytes: &[u8])
     }
 }
 
+/// Appends a byte where there is room for it.
+pub fn push_byte(out: &mut Vec<u8>, byte: u8)
+    requires { HasRoom out.old 1 }
+    ensures words { out.new.items ≡ out.old.items ++ (byte ∷ []) }
+    ensures room { TakesRoom out.old out.new 1 }
+{
+    if out.push(byte).is_err() {
+        unreachable!();
+    }
+}
+
 /// Appends a number in plain decimal, at most 20 digits.
 pub fn push_number(out: &mut Vec<u8>, number: usize)
     requires { HasRoom out.old 20 }
     ensures words { out.new.items ≡ out.old.items ++ decimal number }
     ensures room { TakesRoom out.old out.new 20 }
 {
+    // Most places of a value are below ten.
+    if number < 10 {
+        push_byte(out, b'0' + number as u8);
+        return;
+    }
     let mut buffer = Buffer::new();
     push_bytes(out, buffer.format(number).as_bytes());
 }
