@@ -5,7 +5,7 @@ use std::sync::atomic::{AtomicBool, AtomicU64, Ordering};
 const NOBODY: u64 = u64::MAX;
 
 /// How often the worker that is held looks whether it may go on.
-const TURNS: u32 = 200_000_000;
+const TURNS: u32 = 1_000_000_000;
 
 /// What another worker has to have done before the first one goes on.
 #[derive(Clone, Copy, PartialEq, Eq)]
