@@ -45,3 +45,6 @@ pub use state::BookState;
 pub use worker::work;
 pub use worker_end::WorkerEnd;
 pub use worker_stop::WorkerStop;
+
+#[cfg(test)]
+mod tests;

@@ -8,4 +8,3 @@ mod readings;
 mod scarce;
 mod states;
 mod stops;
-mod verdicts;

@@ -19,7 +19,7 @@ impl Gate for StopAt {
 }
 
 #[test]
-fn every_worker_reads_its_pieces(rt: HostRuntime) -> Result<(), Fail> {
+fn a_text_is_read_whole_by_any_number_of_workers(rt: HostRuntime) -> Result<(), Fail> {
     let alloc = rt.alloc();
     let text: &[u8] = b"{\"a\":[1,{\"b\":2}]}";
     for count in [1, 2, 5] {

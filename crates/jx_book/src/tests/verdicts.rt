@@ -1,5 +1,5 @@
-// The verdicts of worked examples, from the run that workers leave, or the calling thread where they stopped.
-use jx_book::{Held, OpenGate, read_whole};
+// The verdicts of worked examples, from the run that workers leave.
+use crate::tests::gathered::gathered;
 use jx_claim::{Cutting, Workers};
 use jx_lex::Depth;
 use jx_run::{Refusal, TextRun, Verdict};
@@ -22,9 +22,8 @@ fn check<R: Abort + Threads + Wait + Sync>(
     let cutting = Cutting::at(alloc, text.len(), cuts)?;
     for count in [1, 2, 5] {
         let workers = Workers::new(count).ok_or("workers")?;
-        let run: Held<'_, TextRun> = read_whole(
-            rt, alloc, text, &cutting, workers, depth, &OpenGate,
-        )?;
+        let run = gathered::<TextRun, R>(rt, alloc, text, &cutting, workers, depth)?;
+        let run = run.ok_or("one run")?;
         assert_eq!(rt; run.run().verdict(), want, "{text:?} with {count} workers");
     }
     Ok(())
