@@ -10,12 +10,12 @@ use Rattle.jx_run.specs.declared.settings.Front.TheVariants as seen
 use Rattle.jx_run.specs.declared.settings.FrontMark.TheVariants as on_mark
 use Rattle.jx_run.specs.declared.verdict.Refusal.{Refusal}
 use Rattle.jx_run.specs.declared.verdict.Refusal.TheVariants as refusal
-use Rattle.jx_run.specs.Elements.{Part, part, before_mark, after_marks, parts, has_bytes, filled, elements}
+use Rattle.jx_run.specs.Elements.{Part, part, before_separator, after_separators, parts, has_bytes, filled, elements}
 use Rattle.jx_run.specs.Front.{agreed, front_by}
 use Rattle.jx_run.specs.Settings.{byte_order_mark}
 use Rattle.jx_run.specs.Tree.{span}
 use Rattle.jx_answer.specs.declared.element.Element.{Element}
-use Rattle.jx_answer.specs.Pushed.{part_of}
+use Rattle.jx_answer.specs.inside.Pushed.{part_of}
 use Rattle.jx_answer.specs.Sequence.{AreElements, IsElement}
 use Rattle.jx_answer.specs.Settled.{elements_by, is_mark_alone, without_mark}
 use Rattle.jx_answer.proofs.Readable.{LiesIn, first_lies, parts_lie}
@@ -38,7 +38,7 @@ kept input (p ∷ ps) h = pick (has_bytes p) (kept input ps (All-tail (LiesIn in
 pub elements_lie : (input : List ℕ) → All (LiesIn input) (elements 0 input)
 elements_lie input =
     kept input (parts 0 input)
-    (All-cons (LiesIn input) (part 0 (before_mark input)) (after_marks 0 input) (first_lies input 0 input refl (omega arith)) (parts_lie input 0 input refl (omega arith)))
+    (All-cons (LiesIn input) (part 0 (before_separator input)) (after_separators 0 input) (first_lies input 0 input refl (omega arith)) (parts_lie input 0 input refl (omega arith)))
 
 -- ---- whether a part is the mark alone, as its span and the first bytes of the input tell
 

@@ -7,7 +7,7 @@ use Rattle.jx_lex.specs.declared.span.Span.{Span}
 use Rattle.jx_run.specs.Elements.{part, span_of, filled}
 use Rattle.jx_answer.specs.declared.element.ElementAnswer.TheVariants as answer
 use Rattle.jx_answer.specs.Sequence.{IsElement}
-use Rattle.jx_answer.specs.Pushed.{unmarked}
+use Rattle.jx_answer.specs.inside.Pushed.{unmarked}
 
 -- what stands before the first separator, unless it is nothing
 pub unmarked_is : (input : List ℕ) (limit : ℕ) (bytes : List ℕ) (place : Span) → span_of (part 0 bytes) ≡ place

@@ -4,38 +4,38 @@ use Rattle.std.specs.Prelude.{slice_range, All}
 use Rattle.std.specs.List.{AllZip}
 use Rattle.std.proofs.lemmas.List.{drop-drop, length-drop}
 use Rattle.std.proofs.lemmas.List.Elements.{All-nil, All-cons, All-head, All-tail}
-use Rattle.jx_run.specs.Elements.{Part, part, is_mark, before_mark, after_marks}
+use Rattle.jx_run.specs.Elements.{Part, part, is_mark, before_separator, after_separators}
 use Rattle.jx_run.specs.SeqRun.{IsReading}
 use Rattle.jx_run.specs.Started.{StartedValue, IsStarted}
 use Rattle.jx_answer.specs.declared.element.Element.{Element}
 use Rattle.jx_answer.specs.Sequence.{IsElement}
-use Rattle.jx_answer.specs.Pushed.{part_of, IsReadable, IsOfReading}
+use Rattle.jx_answer.specs.inside.Pushed.{part_of, IsReadable, IsOfReading}
 
 -- these are the bytes of the text that the part says
 pub record LiesIn (text : List ℕ) (p : Part) : Type 0 where
   pub bytes : slice_range text p.at (p.at + length p.bytes) ≡ p.bytes
   pub within : p.at + length p.bytes ≤ length text
 
-before-is_front : (bytes : List ℕ) → take (length (before_mark bytes)) bytes ≡ before_mark bytes
+before-is_front : (bytes : List ℕ) → take (length (before_separator bytes)) bytes ≡ before_separator bytes
 before-is_front [] = refl
 before-is_front (b ∷ bytes) = pick (is_mark b) (before-is_front bytes)
   where
-    pick : (m : Bool) → take (length (before_mark bytes)) bytes ≡ before_mark bytes
-        → take (length (cond m [] (b ∷ before_mark bytes))) (b ∷ bytes) ≡ cond m [] (b ∷ before_mark bytes)
+    pick : (m : Bool) → take (length (before_separator bytes)) bytes ≡ before_separator bytes
+        → take (length (cond m [] (b ∷ before_separator bytes))) (b ∷ bytes) ≡ cond m [] (b ∷ before_separator bytes)
     pick true h = refl
     pick false h = ap (λ t. b ∷ t) h
 
-before-short : (bytes : List ℕ) → length (before_mark bytes) ≤ length bytes
+before-short : (bytes : List ℕ) → length (before_separator bytes) ≤ length bytes
 before-short [] = omega arith
 before-short (b ∷ bytes) = pick (is_mark b) (before-short bytes)
   where
-    pick : (m : Bool) → length (before_mark bytes) ≤ length bytes → length (cond m [] (b ∷ before_mark bytes)) ≤ suc (length bytes)
+    pick : (m : Bool) → length (before_separator bytes) ≤ length bytes → length (cond m [] (b ∷ before_separator bytes)) ≤ suc (length bytes)
     pick true h = omega arith
     pick false h = omega arith
 
-pub first_lies : (text : List ℕ) (at : ℕ) (bytes : List ℕ) → drop at text ≡ bytes → at ≤ length text → LiesIn text (part at (before_mark bytes))
+pub first_lies : (text : List ℕ) (at : ℕ) (bytes : List ℕ) → drop at text ≡ bytes → at ≤ length text → LiesIn text (part at (before_separator bytes))
 first_lies text at bytes h low =
-    let n = length (before_mark bytes) in
+    let n = length (before_separator bytes) in
     let same : (at + n) - at ≡ n = omega arith in
     let long : length (drop at text) ≡ length text - at = length-drop at text in
     let all : length (drop at text) ≡ length bytes = ap length h in
@@ -45,7 +45,7 @@ first_lies text at bytes h low =
       within = omega arith;
     }
 
-pub parts_lie : (text : List ℕ) (at : ℕ) (bytes : List ℕ) → drop at text ≡ bytes → at ≤ length text → All (LiesIn text) (after_marks at bytes)
+pub parts_lie : (text : List ℕ) (at : ℕ) (bytes : List ℕ) → drop at text ≡ bytes → at ≤ length text → All (LiesIn text) (after_separators at bytes)
 parts_lie text at [] h low = All-nil (LiesIn text)
 parts_lie text at (b ∷ bytes) h low =
     let next : drop (suc at) text ≡ bytes =
@@ -55,9 +55,9 @@ parts_lie text at (b ∷ bytes) h low =
     let more : suc at ≤ length text = omega arith in
     pick (is_mark b) (first_lies text (suc at) bytes next more) (parts_lie text (suc at) bytes next more)
   where
-    pick : (m : Bool) → LiesIn text (part (suc at) (before_mark bytes)) → All (LiesIn text) (after_marks (suc at) bytes)
-        → All (LiesIn text) (cond m (part (suc at) (before_mark bytes) ∷ after_marks (suc at) bytes) (after_marks (suc at) bytes))
-    pick true f more = All-cons (LiesIn text) (part (suc at) (before_mark bytes)) (after_marks (suc at) bytes) f more
+    pick : (m : Bool) → LiesIn text (part (suc at) (before_separator bytes)) → All (LiesIn text) (after_separators (suc at) bytes)
+        → All (LiesIn text) (cond m (part (suc at) (before_separator bytes) ∷ after_separators (suc at) bytes) (after_separators (suc at) bytes))
+    pick true f more = All-cons (LiesIn text) (part (suc at) (before_separator bytes)) (after_separators (suc at) bytes) f more
     pick false f more = more
 
 -- it stands behind a record separator of the input
@@ -72,13 +72,13 @@ wider at (p ∷ ps) h =
     let past : suc at < p.at = All-head (λ (p : Part). suc at < p.at) p ps h in
     All-cons (λ (p : Part). at < p.at) p ps (omega arith) (wider at ps (All-tail (λ (p : Part). suc at < p.at) p ps h))
 
-pub behind_marks : (at : ℕ) (bytes : List ℕ) → All (λ (p : Part). at < p.at) (after_marks at bytes)
+pub behind_marks : (at : ℕ) (bytes : List ℕ) → All (λ (p : Part). at < p.at) (after_separators at bytes)
 behind_marks at [] = All-nil (λ (p : Part). at < p.at)
-behind_marks at (b ∷ bytes) = pick (is_mark b) (wider at (after_marks (suc at) bytes) (behind_marks (suc at) bytes))
+behind_marks at (b ∷ bytes) = pick (is_mark b) (wider at (after_separators (suc at) bytes) (behind_marks (suc at) bytes))
   where
-    pick : (m : Bool) → All (λ (p : Part). at < p.at) (after_marks (suc at) bytes)
-        → All (λ (p : Part). at < p.at) (cond m (part (suc at) (before_mark bytes) ∷ after_marks (suc at) bytes) (after_marks (suc at) bytes))
-    pick true h = All-cons (λ (p : Part). at < p.at) (part (suc at) (before_mark bytes)) (after_marks (suc at) bytes) (omega arith) h
+    pick : (m : Bool) → All (λ (p : Part). at < p.at) (after_separators (suc at) bytes)
+        → All (λ (p : Part). at < p.at) (cond m (part (suc at) (before_separator bytes) ∷ after_separators (suc at) bytes) (after_separators (suc at) bytes))
+    pick true h = All-cons (λ (p : Part). at < p.at) (part (suc at) (before_separator bytes)) (after_separators (suc at) bytes) (omega arith) h
     pick false h = h
 
 both : (input : List ℕ) (ps : List Part) → All (LiesIn input) ps → All (λ (p : Part). 0 < p.at) ps → All (IsMarkedIn input) ps
@@ -87,8 +87,8 @@ both input (p ∷ ps) l m =
     All-cons (IsMarkedIn input) p ps (record { lies = All-head (LiesIn input) p ps l; behind = All-head (λ (p : Part). 0 < p.at) p ps m })
     (both input ps (All-tail (LiesIn input) p ps l) (All-tail (λ (p : Part). 0 < p.at) p ps m))
 
-pub marked_parts : (input : List ℕ) → All (IsMarkedIn input) (after_marks 0 input)
-marked_parts input = both input (after_marks 0 input) (parts_lie input 0 input refl (omega arith)) (behind_marks 0 input)
+pub marked_parts : (input : List ℕ) → All (IsMarkedIn input) (after_separators 0 input)
+marked_parts input = both input (after_separators 0 input) (parts_lie input 0 input refl (omega arith)) (behind_marks 0 input)
 
 pub all_front : (input : List ℕ) (ps : List Part) (q : Part) → All (IsMarkedIn input) (ps ++ q ∷ []) → All (IsMarkedIn input) ps
 all_front input [] q h = All-nil (IsMarkedIn input)

@@ -11,7 +11,7 @@ use Rattle.jx_run.specs.Verdict.{Judged, a_text}
 use Rattle.jx_index.specs.declared.row.Row.{Row}
 use Rattle.jx_index.specs.Indexed.{IndexedValue}
 use Rattle.jx_index.specs.Rows.{rows}
-use Rattle.jx_answer.specs.Pushed.{part_of, IsReadable}
+use Rattle.jx_answer.specs.inside.Pushed.{part_of, IsReadable}
 use Rattle.jx_run.specs.Unclosed.{EndsUnclosed, is_unclosed, end_of, IsAccepted}
 
 -- the root's own row

@@ -3,14 +3,14 @@ use Rattle.std.proofs.Common.{◌≡◌, ℕ, ◌+◌, ◌<◌, List, [], ◌∷
 use Rattle.std.specs.Prelude.{All, slice_range}
 use Rattle.std.specs.List.{AllZip}
 use Rattle.std.proofs.lemmas.List.Elements.{filter-append, All-filter}
-use Rattle.jx_run.specs.Elements.{Part, part, span_of, before_mark, after_marks, elements, filled, has_bytes}
+use Rattle.jx_run.specs.Elements.{Part, part, span_of, before_separator, after_separators, elements, filled, has_bytes}
 use Rattle.jx_run.specs.SeqRun.{IsMarked, MarkedValue}
 use Rattle.jx_run.specs.Started.{StartedValue}
 use Rattle.jx_run.specs.TextRun.{TextRunValue, IsTextRun, place_of}
 use Rattle.jx_run.specs.Tree.{span}
 use Rattle.jx_answer.specs.declared.element.Element.{Element}
 use Rattle.jx_answer.specs.Sequence.{IsElement, AreElements}
-use Rattle.jx_answer.specs.Pushed.{IsReadable, IsShown, PushesEach, PushesFilled, part_of, unmarked}
+use Rattle.jx_answer.specs.inside.Pushed.{IsReadable, IsShown, PushesEach, PushesFilled, part_of, unmarked}
 use Rattle.jx_answer.proofs.Pushing.{unmarked_is}
 use Rattle.jx_answer.proofs.Readable.{IsMarkedIn, marked_parts, all_front, all_last, all_readable, answered, AllZip-append}
 
@@ -18,8 +18,8 @@ module _ (input : List ℕ) (before : TextRunValue) (done : List StartedValue) (
   abbrev value : MarkedValue
   value = record { done = done; after = after }
 
-  is_marked : IsMarked before.limit (after_marks 0 input) value
-  is_marked = subst (λ n. IsMarked before.limit (after_marks n input) value) shown.start shown.summary.1
+  is_marked : IsMarked before.limit (after_separators 0 input) value
+  is_marked = subst (λ n. IsMarked before.limit (after_separators n input) value) shown.start shown.summary.1
 
   all_marked : All (IsMarkedIn input) (is_marked.between ++ is_marked.last ∷ [])
   all_marked = subst (All (IsMarkedIn input)) is_marked.parts (marked_parts input)
@@ -50,15 +50,15 @@ module _ (input : List ℕ) (before : TextRunValue) (done : List StartedValue) (
   pub last_read : IsTextRun (slice_range input after.map.start after.map.end) after
   last_read = subst (λ (b : List ℕ). IsTextRun b after) (sym (ap (λ (p : Part). p.bytes) last_is)) is_marked.after
 
-  first_place : span_of (part 0 (before_mark input)) ≡ place_of before
+  first_place : span_of (part 0 (before_separator input)) ≡ place_of before
   first_place =
-      ap (λ n. span n (n + length (before_mark input))) (sym shown.start) ∙ ap (span before.map.start) (sym shown.summary.0.long)
+      ap (λ n. span n (n + length (before_separator input))) (sym shown.start) ∙ ap (span before.map.start) (sym shown.summary.0.long)
 
   -- the elements of the input, those behind separators parted as the run parts them
-  parts_are : elements 0 input ≡ filled (part 0 (before_mark input) ∷ []) ++ (filled is_marked.between ++ filled (is_marked.last ∷ []))
+  parts_are : elements 0 input ≡ filled (part 0 (before_separator input) ∷ []) ++ (filled is_marked.between ++ filled (is_marked.last ∷ []))
   parts_are =
-      filter-append has_bytes (part 0 (before_mark input) ∷ []) (after_marks 0 input)
-      ∙ ap (λ ps. filled (part 0 (before_mark input) ∷ []) ++ ps) (ap filled is_marked.parts ∙ filter-append has_bytes is_marked.between (is_marked.last ∷ []))
+      filter-append has_bytes (part 0 (before_separator input) ∷ []) (after_separators 0 input)
+      ∙ ap (λ ps. filled (part 0 (before_separator input) ∷ []) ++ ps) (ap filled is_marked.parts ∙ filter-append has_bytes is_marked.between (is_marked.last ∷ []))
 
   pub shown_elements : (one two three : List Element) → one ≡ [] ++ unmarked (place_of before) → PushesEach input done one two
       → PushesFilled input after.limit (part_of input (place_of after)) two three → AreElements input before.limit three
@@ -67,11 +67,11 @@ module _ (input : List ℕ) (before : TextRunValue) (done : List StartedValue) (
       let middle = answered input before.limit (filled is_marked.between) done each.more is_marked.done between_marked each.each in
       let end = subst (λ (p : Part). AllZip R (filled (p ∷ [])) last.more) last_is
       (subst (λ (d : ℕ). AllZip (IsElement input d) (filled (part_of input (place_of after) ∷ [])) last.more) is_marked.depth last.each) in
-      let all = AllZip-append R (filled (part 0 (before_mark input) ∷ [])) (filled is_marked.between ++ filled (is_marked.last ∷ []))
-      (unmarked (place_of before)) (each.more ++ last.more) (unmarked_is input before.limit (before_mark input) (place_of before) first_place)
+      let all = AllZip-append R (filled (part 0 (before_separator input) ∷ [])) (filled is_marked.between ++ filled (is_marked.last ∷ []))
+      (unmarked (place_of before)) (each.more ++ last.more) (unmarked_is input before.limit (before_separator input) (place_of before) first_place)
       (AllZip-append R (filled is_marked.between) (filled (is_marked.last ∷ [])) each.more last.more middle end) in
       let items : three ≡ unmarked (place_of before) ++ (each.more ++ last.more) =
       (last.new_is ∙ ap (λ (xs : List Element). xs ++ last.more) (each.new_is ∙ ap (λ (xs : List Element). xs ++ each.more) h)
       ∙ append_assoc (unmarked (place_of before)) each.more last.more) in
       subst (λ (ps : List Part). AllZip R ps three) (sym parts_are)
-      (subst (λ (es : List Element). AllZip R (filled (part 0 (before_mark input) ∷ []) ++ (filled is_marked.between ++ filled (is_marked.last ∷ []))) es) (sym items) all)
+      (subst (λ (es : List Element). AllZip R (filled (part 0 (before_separator input) ∷ []) ++ (filled is_marked.between ++ filled (is_marked.last ∷ []))) es) (sym items) all)

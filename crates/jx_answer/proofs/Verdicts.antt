@@ -26,7 +26,7 @@ use Rattle.jx_answer.specs.declared.element.Element.{Element}
 use Rattle.jx_answer.specs.declared.element.ElementAnswer.{ElementAnswer}
 use Rattle.jx_answer.specs.declared.element.ElementAnswer.TheVariants as answer
 use Rattle.jx_answer.specs.ByNames.{IsByNames, RefusesName, RefusesNameIn, judged_unless, unless_refused}
-use Rattle.jx_answer.specs.Pushed.{IsJudgedIn, part_of}
+use Rattle.jx_answer.specs.inside.Pushed.{IsJudgedIn, part_of}
 use Rattle.jx_answer.specs.Sequence.{IsElementAnswer, IsElementIndex, IsElement, AreJudged, AreJudgedAs, judged, without_index}
 use Rattle.jx_answer.specs.Settled.{IsJudgedBy, elements_by, is_mark_alone, without_mark}
 use Rattle.jx_answer.proofs.ByNames.{stays_so}

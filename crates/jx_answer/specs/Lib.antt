@@ -1,6 +1,6 @@
 pub mod Answers
 pub mod ByNames
 pub mod Found
-pub mod Pushed
 pub mod Sequence
 pub mod Settled
+pub mod inside

@@ -6,8 +6,8 @@ ghost use Rattle.jx_run.specs.declared.settings.NameRule.TheVariants.{Any};
 ghost use Rattle.jx_run.specs.Elements.{elements};
 ghost use Rattle.jx_run.specs.ElementVerdict.{IsJudgedElement};
 ghost use Rattle.jx_run.specs.Front.{front_of};
-ghost use Rattle.jx_run.specs.SequenceRead.{StartsWithMark};
-ghost use Rattle.jx_answer.specs.Pushed.{part_of};
+ghost use Rattle.jx_run.specs.SequenceRead.{StartsWithSeparator};
+ghost use Rattle.jx_answer.specs.inside.Pushed.{part_of};
 ghost use Rattle.jx_answer.specs.Sequence.{AreJudged, AreJudgedAs};
 ghost use Rattle.jx_answer.specs.Settled.{AreJudgedBy, elements_by, is_mark_alone};
 
@@ -36,7 +36,7 @@ pub fn judge_batch<R: Threads + Wait + Sync, G: Gate + Sync>(
 ) -> Result<Vec<JudgedElement>, Fault>
     requires cutting { cutting.now.len ≡ length batch.now }
     requires front { cutting.now.front ≡ 0 }
-    requires starts { StartsWithMark batch.now }
+    requires starts { StartsWithSeparator batch.now }
     requires fits { before + length batch.now < 2 ^ 64 }
     // For every cutting, number of workers and gate, these are the verdicts on the elements of the batch.
     ensures elements { IfOk result (λ es. AllZip (IsJudgedElement depth) (elements before batch.now) es.items) }
@@ -48,7 +48,7 @@ pub fn judge_batch<R: Threads + Wait + Sync, G: Gate + Sync>(
     }
 }
 
-// Whether the bytes at a span are just the byte order mark, by what stands in front of the text.
+/// Whether the bytes at a span are just the byte order mark, by what stands in front of the text.
 pub(crate) fn is_mark_there(seen: Front, span: Span) -> bool
     ensures { (text : List ℕ) → seen ≡ front_of Ignored text → span.end ≤ length text → result ≡ is_mark_alone (part_of text span) }
 {
@@ -61,7 +61,7 @@ pub(crate) fn is_mark_there(seen: Front, span: Span) -> bool
     }
 }
 
-// The answers without that on a byte order mark alone, before the first record separator.
+/// The answers without that on a byte order mark alone, before the first record separator.
 pub(crate) fn without_mark(seen: Front, mut elements: Vec<JudgedElement>) -> Vec<JudgedElement>
     ensures { (text : List ℕ) (limit : ℕ) → seen ≡ front_of Ignored text → AreJudged text limit elements.items
         → AreJudgedAs (elements_by Ignored text) text limit result.items }

@@ -12,7 +12,7 @@ use crate::text_answer::TextAnswer;
 use jx_index::Indexed;
 use jx_run::{NameRule, Refusal};
 
-// The start of the name for which the rule refuses a text, if it refuses one.
+/// The start of the name for which the rule refuses a text, if it refuses one.
 fn refused_name(rule: NameRule, index: &Indexed<'_>) -> Option<usize>
     ensures { RefusesName rule index.now.text index.now.rows result }
 {
@@ -22,7 +22,7 @@ fn refused_name(rule: NameRule, index: &Indexed<'_>) -> Option<usize>
     }
 }
 
-// The answer on a text, from that whatever names its objects have.
+/// The answer on a text, from that whatever names its objects have.
 pub(crate) fn text_by_names<'a>(rule: NameRule, answer: TextAnswer<'a>) -> TextAnswer<'a>
     ensures { (settings : Settings) (text : List ℕ) → settings.names ≡ rule → IsReadBy settings text answer.entry → IsAnswerBy settings text result }
 {
@@ -35,7 +35,7 @@ pub(crate) fn text_by_names<'a>(rule: NameRule, answer: TextAnswer<'a>) -> TextA
     }
 }
 
-// The same of what has this answer.
+/// The same of what has this answer.
 fn refused_name_in(rule: NameRule, answer: &ElementAnswer<'_>) -> Option<usize>
     ensures { RefusesNameIn rule answer.now result }
 {
@@ -47,6 +47,7 @@ fn refused_name_in(rule: NameRule, answer: &ElementAnswer<'_>) -> Option<usize>
     }
 }
 
+/// Turns the answer on an element into a refusal where the rule refuses one of its names.
 fn element_by_names(rule: NameRule, answer: &mut ElementAnswer<'_>)
     ensures { IsByNames rule answer.old answer.new }
 {
@@ -55,7 +56,7 @@ fn element_by_names(rule: NameRule, answer: &mut ElementAnswer<'_>)
     }
 }
 
-// The answers on elements, from those whatever names their objects have.
+/// The answers on elements, from those whatever names their objects have.
 pub(crate) fn elements_by_names<'a>(
     rule: NameRule,
     mut elements: Vec<Element<'a>>,

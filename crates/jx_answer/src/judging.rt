@@ -7,7 +7,7 @@ ghost use Rattle.jx_run.specs.Tree.{Tree};
 ghost use Rattle.jx_index.specs.Repeats.{IsLeast, IsRepeat};
 ghost use Rattle.jx_index.specs.Rows.{rows};
 ghost use Rattle.jx_answer.specs.ByNames.{judged_unless};
-ghost use Rattle.jx_answer.specs.Pushed.{IsJudgedIn};
+ghost use Rattle.jx_answer.specs.inside.Pushed.{IsJudgedIn};
 ghost use Rattle.jx_answer.specs.Sequence.{AreJudged, AreJudgedAs};
 ghost use Rattle.jx_answer.specs.Settled.{AreJudgedBy, IsJudgedBy, elements_by};
 
@@ -70,7 +70,7 @@ pub fn judge_sequence_with<R: Threads + Wait + Sync, G: Gate + Sync>(
     }
 }
 
-// The same whatever names the objects have.
+/// The same whatever names the objects have.
 fn judge_by_mark<R: Threads + Wait + Sync, G: Gate + Sync>(
     rt: &R,
     alloc: Global,
@@ -91,7 +91,7 @@ fn judge_by_mark<R: Threads + Wait + Sync, G: Gate + Sync>(
     }
 }
 
-// The verdicts on the elements of a text, from those whatever names their objects have.
+/// The verdicts on the elements of a text, from those whatever names their objects have.
 fn judged_by_names(
     alloc: Global,
     text: &[u8],
@@ -107,7 +107,7 @@ fn judged_by_names(
     Ok(elements)
 }
 
-// Whether the rule can refuse a name in what has this verdict.
+/// Whether the rule can refuse a name in what has this verdict.
 fn may_be_refused(rule: NameRule, verdict: ElementVerdict) -> bool
     ensures { IsTrue result ↔ (rule ≡ Unique) × (verdict ≡ Accepted) }
 {
@@ -117,7 +117,7 @@ fn may_be_refused(rule: NameRule, verdict: ElementVerdict) -> bool
     )
 }
 
-// The verdict on one of them.
+/// The verdict on one of them.
 fn element_by_names(
     alloc: Global,
     text: &[u8],
@@ -134,7 +134,7 @@ fn element_by_names(
     Ok(judged_unless(name, element))
 }
 
-// The verdict, unless a name is refused.
+/// The verdict, unless a name is refused.
 fn judged_unless(name: Option<usize>, element: JudgedElement) -> JudgedElement
     ensures { result ≡ judged_unless name element }
 {
@@ -147,7 +147,7 @@ fn judged_unless(name: Option<usize>, element: JudgedElement) -> JudgedElement
     }
 }
 
-// The start of the first name that an object repeats in the text at a span.
+/// The start of the first name that an object repeats in the text at a span.
 fn repeated_name(
     alloc: Global,
     text: &[u8],

@@ -42,7 +42,7 @@ impl<'i> Lookups<'i> {
         self.in_order(alloc, &places)
     }
 
-    // What each worker found.
+    /// What each worker found.
     fn found<R: Threads + Sync, G: Gate + Sync>(
         &self,
         rt: &R,
@@ -60,7 +60,7 @@ impl<'i> Lookups<'i> {
         self.by_seats(rt, alloc, &cutting, &claims, seats, gate)
     }
 
-    // Lets each worker draw, in a thread of its own where one can be made.
+    /// Lets each worker draw, in a thread of its own where one can be made.
     fn by_seats<R: Threads + Sync, G: Gate + Sync>(
         &self,
         rt: &R,
@@ -86,7 +86,7 @@ impl<'i> Lookups<'i> {
         )
     }
 
-    // Draws pieces until none is left, the gate says stop or memory is refused, and answers the pointers in each.
+    /// Draws pieces until none is left, the gate says stop or memory is refused, and answers the pointers in each.
     fn by_seat<G: Gate>(
         &self,
         alloc: Global,
@@ -118,7 +118,7 @@ impl<'i> Lookups<'i> {
         found
     }
 
-    // Answers the pointers of one piece.
+    /// Answers the pointers of one piece.
     fn answer_piece(&self, piece: Span, found: &mut Vec<Answered>) -> Result<(), AllocError>
         requires within { piece.end ≤ length self.now.pointers.now }
         requires found { AreAnswered self.now.index.now self.now.pointers.now found.old.items }
@@ -131,7 +131,7 @@ impl<'i> Lookups<'i> {
         Ok(())
     }
 
-    // What `find` answers to the pointer at a place, with the row of its node.
+    /// What `find` answers to the pointer at a place, with the row of its node.
     fn answer(&self, at: usize) -> Answer
         requires { at < length self.now.pointers.now }
         ensures { IsAnswerAt self.now.index.now self.now.pointers.now at result }
@@ -139,7 +139,7 @@ impl<'i> Lookups<'i> {
         answer_to(self.index, &self.pointers[at])
     }
 
-    // Puts what the workers found at the pointers' places.
+    /// Puts what the workers found at the pointers' places.
     fn place_all(&self, places: &mut [Option<Answer>], found: &[Vec<Answered>])
         requires found { All (λ f. AreAnswered self.now.index.now self.now.pointers.now f.items) found.now }
         requires placed { ArePlaced self.now.index.now self.now.pointers.now places.old }
@@ -150,6 +150,7 @@ impl<'i> Lookups<'i> {
         }
     }
 
+    /// Puts what one worker found at the pointers' places.
     fn place(&self, places: &mut [Option<Answer>], found: &[Answered])
         requires found { AreAnswered self.now.index.now self.now.pointers.now found.now }
         requires placed { ArePlaced self.now.index.now self.now.pointers.now places.old }
@@ -162,6 +163,7 @@ impl<'i> Lookups<'i> {
         }
     }
 
+    /// The answers in the order of the pointers; a place without one is answered on this thread.
     fn in_order(&self, alloc: Global, places: &[Option<Answer>]) -> Result<Vec<Answer>, AllocError>
         requires len { length places.now ≡ length self.now.pointers.now }
         requires placed { ArePlaced self.now.index.now self.now.pointers.now places.now }
@@ -174,7 +176,7 @@ impl<'i> Lookups<'i> {
         Ok(answers)
     }
 
-    // The answer that stands at a place, or that of this thread.
+    /// The answer that stands at a place, or that of this thread.
     fn answer_of(&self, places: &[Option<Answer>], at: usize) -> Answer
         requires at { at < length places.now }
         requires len { length places.now ≡ length self.now.pointers.now }
@@ -188,7 +190,7 @@ impl<'i> Lookups<'i> {
     }
 }
 
-// What `find` answers to a pointer, with the row of its node.
+/// What `find` answers to a pointer, with the row of its node.
 fn answer_to(index: &Indexed<'_>, pointer: &Pointer<'_>) -> Answer
     ensures { IsAnswerTo index.now pointer.now result }
 {
@@ -205,7 +207,7 @@ fn answer_to(index: &Indexed<'_>, pointer: &Pointer<'_>) -> Answer
     }
 }
 
-// So many places with no answer.
+/// So many places with no answer.
 fn nothing(alloc: Global, len: usize) -> Result<Vec<Option<Answer>>, AllocError>
     ensures len { IfOk result (λ v. vec_len v ≡ len) }
     ensures nothing { IfOk result (λ v. All (λ place. place ≡ None) v.items) }

@@ -9,7 +9,7 @@ ghost use Rattle.jx_run.specs.Tree.{Tree, span};
 ghost use Rattle.jx_run.specs.Unclosed.{EndsUnclosed, is_unclosed};
 ghost use Rattle.jx_answer.specs.Sequence.{AreElements, IsElement, IsElementAnswer};
 ghost use Rattle.jx_answer.specs.Settled.{AreElementsBy, elements_by, is_mark_alone};
-ghost use Rattle.jx_answer.specs.Pushed.{IsReadable, IsShown, PushesEach, PushesFilled, part_of, unmarked};
+ghost use Rattle.jx_answer.specs.inside.Pushed.{IsReadable, IsShown, PushesEach, PushesFilled, part_of, unmarked};
 
 use crate::batches::is_mark_there;
 use crate::by_names::elements_by_names;
@@ -70,7 +70,7 @@ pub fn index_sequence_with<'a, R: Threads + Wait + Sync, G: Gate + Sync>(
     Ok(elements_by_names(settings.names, elements))
 }
 
-// The same whatever names the objects have.
+/// The same whatever names the objects have.
 fn index_by_mark<'a, R: Threads + Wait + Sync, G: Gate + Sync>(
     rt: &R,
     alloc: Global,
@@ -91,7 +91,7 @@ fn index_by_mark<'a, R: Threads + Wait + Sync, G: Gate + Sync>(
     }
 }
 
-// The answers without that on a byte order mark alone, before the first record separator.
+/// The answers without that on a byte order mark alone, before the first record separator.
 fn without_mark<'a>(text: &[u8], mut elements: Vec<Element<'a>>) -> Vec<Element<'a>>
     requires elements { (limit : ℕ) × AreElements text.now limit elements.items }
     ensures elements { (limit : ℕ) → AreElements text.now limit elements.entry.items → AllZip (IsElement text.now limit) (elements_by FrontMark.Ignored text.now) result.items }
@@ -106,7 +106,7 @@ fn without_mark<'a>(text: &[u8], mut elements: Vec<Element<'a>>) -> Vec<Element<
     elements
 }
 
-// Whether a part of the text stands at its start and is just the byte order mark.
+/// Whether a part of the text stands at its start and is just the byte order mark.
 fn is_mark_alone(text: &[u8], span: Span) -> bool
     requires within { span.end ≤ length text.now }
     ensures alone { result ≡ is_mark_alone (part_of text.now span) }
@@ -114,7 +114,7 @@ fn is_mark_alone(text: &[u8], span: Span) -> bool
     is_mark_there(front(text, FrontMark::Ignored), span)
 }
 
-// The answers that a run over the whole input gives.
+/// The answers that a run over the whole input gives.
 fn elements_of<'a>(
     alloc: Global,
     text: &'a [u8],
@@ -134,7 +134,7 @@ fn elements_of<'a>(
     }
 }
 
-// The answers on an input without a record separator.
+/// The answers on an input without a record separator.
 fn plain_elements<'a>(alloc: Global, before: &TextRun) -> Result<Vec<Element<'a>>, AllocError>
     ensures elements { IfOk result (λ elements. elements.items ≡ unmarked (place_of before.now)) }
 {
@@ -143,7 +143,7 @@ fn plain_elements<'a>(alloc: Global, before: &TextRun) -> Result<Vec<Element<'a>
     Ok(elements)
 }
 
-// The answers on an input with record separators.
+/// The answers on an input with record separators.
 fn marked_elements<'a>(
     alloc: Global,
     text: &'a [u8],
@@ -161,7 +161,7 @@ fn marked_elements<'a>(
     Ok(elements)
 }
 
-// The bytes before the first record separator, unless there are none.
+/// The bytes before the first record separator, unless there are none.
 fn push_unmarked<'a>(span: Span, elements: &mut Vec<Element<'a>>) -> Result<(), AllocError>
     ensures pushed { OnOk result (elements.new.items ≡ elements.old.items ++ unmarked span) }
 {
@@ -174,7 +174,7 @@ fn push_unmarked<'a>(span: Span, elements: &mut Vec<Element<'a>>) -> Result<(), 
     Ok(())
 }
 
-// The elements between record separators.
+/// The elements between record separators.
 fn push_done<'a>(
     alloc: Global,
     text: &'a [u8],
@@ -190,7 +190,7 @@ fn push_done<'a>(
     Ok(())
 }
 
-// The bytes behind the last record separator, unless there are none.
+/// The bytes behind the last record separator, unless there are none.
 fn push_last<'a>(
     alloc: Global,
     text: &'a [u8],
@@ -211,7 +211,7 @@ fn push_last<'a>(
     Ok(())
 }
 
-// An element that stands behind a record separator, with its answer.
+/// An element that stands behind a record separator, with its answer.
 fn element_of<'a>(
     alloc: Global,
     text: &'a [u8],
@@ -227,7 +227,7 @@ fn element_of<'a>(
     })
 }
 
-// What is answered on an element that stands behind a record separator.
+/// What is answered on an element that stands behind a record separator.
 fn answer_of<'a>(
     alloc: Global,
     text: &'a [u8],
@@ -246,7 +246,7 @@ fn answer_of<'a>(
     Ok(ElementAnswer::Accepted(index))
 }
 
-// Whether its end shows only in what follows a value.
+/// Whether its end shows only in what follows a value.
 fn is_unclosed(kind: Kind) -> bool
     ensures { result ≡ is_unclosed kind }
 {
@@ -256,7 +256,7 @@ fn is_unclosed(kind: Kind) -> bool
     }
 }
 
-// Whether nothing follows the root, whose end shows only in what follows it.
+/// Whether nothing follows the root, whose end shows only in what follows it.
 fn ends_unclosed(index: &Indexed<'_>) -> bool
     ensures { (limit : ℕ) (tree : Tree) → IsText index.now.text index.now.place.start index.now.place.end limit tree → IsTrue result ↔ EndsUnclosed tree index.now.place.end }
 {

@@ -69,7 +69,7 @@ pub fn index_text_with<'a, R: Threads + Wait + Sync, G: Gate + Sync>(
     Ok(text_by_names(settings.names, answer))
 }
 
-// The same whatever names the objects have.
+/// The same whatever names the objects have.
 fn index_behind_front<'a, R: Threads + Wait + Sync, G: Gate + Sync>(
     rt: &R,
     alloc: Global,
@@ -129,7 +129,7 @@ pub fn verdict_of_text_with<R: Threads + Wait + Sync, G: Gate + Sync>(
     }
 }
 
-// The same where objects may have any names.
+/// The same where objects may have any names.
 fn verdict_of_any<R: Threads + Wait + Sync, G: Gate + Sync>(
     rt: &R,
     alloc: Global,
@@ -149,7 +149,7 @@ fn verdict_of_any<R: Threads + Wait + Sync, G: Gate + Sync>(
     Ok(verdict)
 }
 
-// The same by an index that is let go.
+/// The same by an index that is let go.
 fn verdict_by_index<R: Threads + Wait + Sync, G: Gate + Sync>(
     rt: &R,
     alloc: Global,
@@ -167,7 +167,7 @@ fn verdict_by_index<R: Threads + Wait + Sync, G: Gate + Sync>(
     Ok(verdict_of(answer))
 }
 
-// An answer less the index.
+/// An answer less the index.
 fn verdict_of(answer: TextAnswer<'_>) -> Verdict
     ensures { (settings : Settings) (text : List ℕ) → IsAnswerBy settings text answer.entry → IsVerdictBy settings text result }
 {
@@ -177,7 +177,7 @@ fn verdict_of(answer: TextAnswer<'_>) -> Verdict
     }
 }
 
-// The verdict on the text behind its front, whatever names the objects have.
+/// The verdict on the text behind its front, whatever names the objects have.
 fn verdict_behind_front<R: Threads + Wait + Sync, G: Gate + Sync>(
     rt: &R,
     alloc: Global,
@@ -200,7 +200,7 @@ fn verdict_behind_front<R: Threads + Wait + Sync, G: Gate + Sync>(
     }
 }
 
-// The cutting without its first bytes.
+/// The cutting without its first bytes.
 fn behind(alloc: Global, cutting: &Cutting, front: usize) -> Result<Cutting, Fault>
     requires from { cutting.now.front ≡ 0 }
     requires within { front ≤ cutting.now.len }
@@ -213,7 +213,7 @@ fn behind(alloc: Global, cutting: &Cutting, front: usize) -> Result<Cutting, Fau
     }
 }
 
-// The answer on the text from the cutting's front on.
+/// The answer on the text from the cutting's front on.
 fn index_rest<'a, R: Threads + Wait + Sync, G: Gate + Sync>(
     rt: &R,
     alloc: Global,
@@ -239,7 +239,7 @@ fn index_rest<'a, R: Threads + Wait + Sync, G: Gate + Sync>(
     }
 }
 
-// The same by the calling thread alone, piece by piece.
+/// The same by the calling thread alone, piece by piece.
 fn index_alone<'a, G: Gate>(
     alloc: Global,
     text: &'a [u8],
@@ -255,7 +255,7 @@ fn index_alone<'a, G: Gate>(
     Ok(answer)
 }
 
-// The verdict on the text from the cutting's front on.
+/// The verdict on the text from the cutting's front on.
 fn verdict_of_rest<R: Threads + Wait + Sync, G: Gate + Sync>(
     rt: &R,
     alloc: Global,
@@ -275,7 +275,7 @@ fn verdict_of_rest<R: Threads + Wait + Sync, G: Gate + Sync>(
     Ok(run.run().verdict())
 }
 
-// The verdict on the text from an offset on, which is read on this thread. Up to 64 open containers take no memory.
+/// The verdict on the text from an offset on, which is read on this thread. Up to 64 open containers take no memory.
 fn verdict_from(alloc: Global, text: &[u8], start: usize, depth: Depth) -> Result<Verdict, Fault>
     requires within { start ≤ length text.now }
     ensures verdict { IfOk result (λ verdict. Judged start (rest_from start text.now) depth verdict) }
@@ -320,7 +320,7 @@ pub fn read_batch<R: Threads + Wait + Sync, G: Gate + Sync>(
     }
 }
 
-// The run over a text from the cutting's front on. A text of one piece, or of none, is read on this thread.
+/// The run over a text from the cutting's front on. A text of one piece, or of none, is read on this thread.
 pub(crate) fn read_text<'a, S: Summary + Send, R: Threads + Wait + Sync, G: Gate + Sync>(
     rt: &R,
     alloc: Global,
@@ -344,7 +344,7 @@ pub(crate) fn read_text<'a, S: Summary + Send, R: Threads + Wait + Sync, G: Gate
     }
 }
 
-// The answer that one pass over the text from an offset on gives, which one thread makes sooner than a run.
+/// The answer that one pass over the text from an offset on gives, which one thread makes sooner than a run.
 fn answer_in_one_pass<'a, P: Pace>(
     alloc: Global,
     text: &'a [u8],
@@ -363,7 +363,7 @@ fn answer_in_one_pass<'a, P: Pace>(
     }
 }
 
-// The answer that a run over the end of a text gives.
+/// The answer that a run over the end of a text gives.
 fn answer_from<'a>(
     alloc: Global,
     text: &'a [u8],

@@ -7,4 +7,4 @@ pub mod Gaps
 pub mod Shares
 pub mod Worked
 pub mod Gathered
-pub mod Balance
+pub mod inside

@@ -35,7 +35,7 @@ pub fn assemble<'a, S: Summary>(
     fill(alloc, text, depth, front, rest)
 }
 
-// Reads what stands between an offset and the rest, and joins it to that.
+/// Reads what stands between an offset and the rest, and joins it to that.
 fn fill<'a, S: Summary>(
     alloc: Global,
     text: &'a [u8],
@@ -55,7 +55,7 @@ fn fill<'a, S: Summary>(
     join_same(gap, rest)
 }
 
-// Joins two neighbours of one text and one depth.
+/// Joins two neighbours of one text and one depth.
 fn join_same<'a, S: Summary>(
     left: Held<'a, S>,
     right: Held<'a, S>,

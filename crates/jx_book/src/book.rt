@@ -91,7 +91,7 @@ impl<'a, S: Summary, P: Ledger, T: Ledger> Book<'a, S, P, T> {
     }
 }
 
-// A share for each worker.
+/// A share for each worker.
 fn deal<P: Ledger, T: Ledger>(
     alloc: Global,
     mut put: ledger::Share<P>,
@@ -111,7 +111,7 @@ fn deal<P: Ledger, T: Ledger>(
     Ok(shares)
 }
 
-// Lets each run carry this text.
+/// Lets each run carry this text.
 fn carry_all<'a, S: Summary>(
     mut runs: Vec<Held<'a, S>>,
     text: &'a [u8],

@@ -4,7 +4,7 @@ ghost use Rattle.jx_claim.specs.Claimed.{TableId, AreFresh};
 ghost use Rattle.jx_claim.specs.Cut.{drawn_len};
 ghost use Rattle.jx_book.specs.Shares.{share};
 ghost use Rattle.jx_book.specs.Gathered.{IsRest, IsOutcome};
-ghost use Rattle.jx_book.specs.Balance.{Balances, IsFresh, IsHandedBack};
+ghost use Rattle.jx_book.specs.inside.Balance.{Balances, IsFresh, IsHandedBack};
 
 use crate::assembling::assemble;
 use crate::book::Book;
@@ -50,7 +50,7 @@ pub fn read_whole<'a, S: Summary + Send, R: Threads + Wait + Sync, G: Gate + Syn
     read_with::<S, Brand, Brand, R, G>(rt, alloc, text, cutting, workers, depth, gate, put, taken)
 }
 
-// The same, with blanks for the ledgers of a book.
+/// The same, with blanks for the ledgers of a book.
 fn read_with<
     'a,
     S: Summary + Send,
@@ -83,7 +83,7 @@ fn read_with<
     }
 }
 
-// Lets all workers work, and gathers what they left.
+/// Lets all workers work, and gathers what they left.
 pub(crate) fn run_workers<
     'a,
     S: Summary + Send,
@@ -131,7 +131,7 @@ pub(crate) fn run_workers<
     }
 }
 
-// Reads the text from an offset on, on this thread.
+/// Reads the text from an offset on, on this thread.
 fn read_alone<'a, S: Summary>(
     alloc: Global,
     text: &'a [u8],
@@ -144,7 +144,7 @@ fn read_alone<'a, S: Summary>(
     Held::read(alloc, text, front, text.len(), depth)
 }
 
-// A seat and a share for each worker.
+/// A seat and a share for each worker.
 fn pair<P: Ledger, T: Ledger>(
     alloc: Global,
     claims: &Claims,
@@ -167,7 +167,7 @@ fn pair<P: Ledger, T: Ledger>(
     Ok(jobs)
 }
 
-// Lets each worker work, in a thread of its own where one can be made.
+/// Lets each worker work, in a thread of its own where one can be made.
 fn run_all<
     'a,
     S: Summary + Send,
@@ -202,7 +202,7 @@ fn run_all<
     )
 }
 
-// Lets one worker work.
+/// Lets one worker work.
 fn run_one<'a, S: Summary, P: Ledger, T: Ledger, R: Wait, G: Gate>(
     rt: &R,
     alloc: Global,
@@ -225,7 +225,7 @@ fn run_one<'a, S: Summary, P: Ledger, T: Ledger, R: Wait, G: Gate>(
     )
 }
 
-// The seats and shares of all workers, and whether each of them ended.
+/// The seats and shares of all workers, and whether each of them ended.
 fn collect<'a, S: Summary, P: Ledger, T: Ledger>(
     alloc: Global,
     cutting: &Cutting,
@@ -254,7 +254,7 @@ fn collect<'a, S: Summary, P: Ledger, T: Ledger>(
     })
 }
 
-// What a worker handed back, and whether it ended.
+/// What a worker handed back, and whether it ended.
 fn handed_back<'a, S: Summary, P: Ledger, T: Ledger>(
     end: Result<WorkerEnd<P, T>, WorkerStop<'a, S, P, T>>,
 ) -> (ClaimSeat, Share<P, T>, bool)

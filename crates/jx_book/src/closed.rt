@@ -26,6 +26,7 @@ impl<'a, S: Summary> Model for Closed<'a, S> {
 }
 
 impl<'a, S: Summary> Closed<'a, S> {
+    /// The runs of a finished book, given in rising order, no two overlapping or touching.
     pub(crate) fn new(runs: Vec<Held<'a, S>>) -> Closed<'a, S>
         requires { IsApart runs.items }
         ensures { result ≡ runs.entry.items }

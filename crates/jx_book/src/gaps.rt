@@ -33,6 +33,7 @@ impl<'r, 'a, S: Summary> Model for Gaps<'r, 'a, S> {
 }
 
 impl<'r, 'a, S: Summary> Gaps<'r, 'a, S> {
+    /// All parts of a span that none of these runs covers.
     pub(crate) fn new(runs: &'r [Held<'a, S>], part: Span) -> Gaps<'r, 'a, S>
         ensures { result ≡ gaps_from part.start (spans_of runs.entry.now) part.end }
     {
@@ -60,8 +61,8 @@ impl<'r, 'a, S: Summary> Iterator for Gaps<'r, 'a, S> {
     }
 }
 
-// The first gap from an offset on, with this run and later ones behind it; then the number and the offset from which
-// the other gaps are found.
+/// The first gap from an offset on, with this run and later ones behind it; then the number and the offset from which
+/// the other gaps are found.
 fn first_gap<S: Summary>(
     runs: &[Held<'_, S>],
     number: usize,

@@ -49,7 +49,7 @@ pub fn gather<'a, S: Summary, P: Ledger, T: Ledger>(
     Ok(only_run(runs, text, front, depth))
 }
 
-// Whether the first run begins before an offset. If not, none does.
+/// Whether the first run begins before an offset. If not, none does.
 fn begins_before<S: Summary>(runs: &[Held<'_, S>], front: usize) -> bool
     requires { IsApart runs.now }
     ensures yes { result ≡ true → (0 < length runs.now) × ((d : _) → (slice_index_or runs.now 0 d).span.start < front) }
@@ -61,7 +61,7 @@ fn begins_before<S: Summary>(runs: &[Held<'_, S>], front: usize) -> bool
     run_begins_before(&runs[0], front)
 }
 
-// Whether a run begins before an offset.
+/// Whether a run begins before an offset.
 fn run_begins_before<S: Summary>(run: &Held<'_, S>, front: usize) -> bool
     ensures yes { result ≡ true → run.now.span.start < front }
     ensures no { result ≡ false → front ≤ run.now.span.start }
@@ -69,7 +69,7 @@ fn run_begins_before<S: Summary>(run: &Held<'_, S>, front: usize) -> bool
     run.span().start < front
 }
 
-// The one run, where the runs fill the text from an offset on.
+/// The one run, where the runs fill the text from an offset on.
 fn only_run<'a, S: Summary>(
     mut runs: Vec<Held<'a, S>>,
     text: &'a [u8],

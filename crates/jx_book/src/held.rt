@@ -119,7 +119,7 @@ impl<'a, S: Summary> Held<'a, S> {
         }
     }
 
-    // Carries another text from now on, where that has the run's bytes at its span, and the depth is the run's.
+    /// Carries another text from now on, where that has the run's bytes at its span, and the depth is the run's.
     pub(crate) fn carry(&mut self, text: &'a [u8], depth: Depth) -> bool
         ensures yes { result ≡ true → (self.new ≡ held self.old.run text.entry.now self.old.span self.old.depth) × (self.old.depth ≡ depth) × (self.old.span.end ≤ length text.entry.now) }
         ensures no { result ≡ false → (self.new ≡ self.old) × IsOtherRun text.entry.now depth self.old }
@@ -132,7 +132,7 @@ impl<'a, S: Summary> Held<'a, S> {
     }
 }
 
-// The text of the longer of two neighbours, where the other's bytes stand in it too.
+/// The text of the longer of two neighbours, where the other's bytes stand in it too.
 fn common<'a>(text: &'a [u8], other: &'a [u8], place: Span, next: Span) -> Option<&'a [u8]>
     requires left { (place.start ≤ place.end) × (place.end ≤ length text.now) }
     requires right { (next.start ≤ next.end) × (next.end ≤ length other.now) }
@@ -153,7 +153,7 @@ fn common<'a>(text: &'a [u8], other: &'a [u8], place: Span, next: Span) -> Optio
     }
 }
 
-// Whether the other text has the same bytes there.
+/// Whether the other text has the same bytes there.
 fn agrees(text: &[u8], other: &[u8], place: Span) -> bool
     requires { (place.start ≤ place.end) × (place.end ≤ length text.now) }
     ensures yes { result ≡ true → (place.end ≤ length other.now) × (slice_range text.now place.start place.end ≡ slice_range other.now place.start place.end) }

@@ -23,7 +23,7 @@ pub struct Locked<'a, S: Summary, P: Ledger, T: Ledger> {
 }
 
 impl<'a, S: Summary, P: Ledger, T: Ledger> Locked<'a, S, P, T> {
-    // No runs, and empty ledgers.
+    /// No runs, and empty ledgers.
     pub fn new(alloc: Global, put: ledger::Book<P>, taken: ledger::Book<T>) -> Locked<'a, S, P, T>
         requires { (put.total ≡ 0) × (taken.total ≡ 0) }
     {
@@ -34,7 +34,7 @@ impl<'a, S: Summary, P: Ledger, T: Ledger> Locked<'a, S, P, T> {
         }
     }
 
-    // Puts a run, and writes the bytes put or taken into the ledgers.
+    /// Puts a run, and writes the bytes put or taken into the ledgers.
     pub fn put(&mut self, share: &mut Share<P, T>, run: Held<'a, S>) -> Put<'a, S>
         requires { run.span.start < run.span.end }
         ensures { IsShared share.old run.entry result share.new }
@@ -60,7 +60,7 @@ impl<'a, S: Summary, P: Ledger, T: Ledger> Locked<'a, S, P, T> {
         answer
     }
 
-    // Takes all shares, which tell what the runs cover together, and gives the runs.
+    /// Takes all shares, which tell what the runs cover together, and gives the runs.
     pub fn into_runs(self, mut shares: Vec<Share<P, T>>) -> Vec<Held<'a, S>>
         requires some { 0 < vec_len shares }
         requires put { vec_len shares ≡ P.parts }

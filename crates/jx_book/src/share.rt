@@ -26,7 +26,7 @@ impl<P: Ledger, T: Ledger> Model for Share<P, T> {
 }
 
 impl<P: Ledger, T: Ledger> Share<P, T> {
-    // Nothing put and nothing taken, with one part of each ledger.
+    /// Nothing put and nothing taken, with one part of each ledger.
     pub(crate) fn new(put: ledger::Share<P>, taken: ledger::Share<T>) -> Share<P, T>
         requires { (put.parts ≡ 1) × (taken.parts ≡ 1) × (put.amount ≡ 0) × (taken.amount ≡ 0) }
         ensures { result ≡ share 0 0 }
@@ -53,7 +53,7 @@ impl<P: Ledger, T: Ledger> Share<P, T> {
         self.total_taken
     }
 
-    // Adds to the bytes put, here and in the ledger, whose total is `total` then.
+    /// Adds to the bytes put, here and in the ledger, whose total is `total` then.
     pub(crate) fn add_put(&mut self, book: &mut ledger::Book<P>, amount: usize, total: u128)
         requires { book.old.total + amount ≡ total }
         ensures book { book.new.total ≡ total }
@@ -64,7 +64,7 @@ impl<P: Ledger, T: Ledger> Share<P, T> {
         self.total_put += amount as u128;
     }
 
-    // Adds to the bytes taken, here and in the ledger, whose total is `total` then.
+    /// Adds to the bytes taken, here and in the ledger, whose total is `total` then.
     pub(crate) fn add_taken(&mut self, book: &mut ledger::Book<T>, amount: usize, total: u128)
         requires { book.old.total + amount ≡ total }
         ensures book { book.new.total ≡ total }
@@ -75,7 +75,7 @@ impl<P: Ledger, T: Ledger> Share<P, T> {
         self.total_taken += amount as u128;
     }
 
-    // Its parts of the ledgers.
+    /// Its parts of the ledgers.
     pub(crate) fn into_parts(self) -> (ledger::Share<P>, ledger::Share<T>)
         ensures parts { (result.0.parts ≡ 1) × (result.1.parts ≡ 1) }
         ensures amounts { (result.0.amount ≡ self.put) × (result.1.amount ≡ self.taken) }

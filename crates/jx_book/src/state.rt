@@ -49,7 +49,7 @@ impl<'a, S: Summary> BookState<'a, S> {
         self.runs.as_slice()
     }
 
-    // The runs themselves.
+    /// The runs themselves.
     pub(crate) fn into_runs(self) -> Vec<Held<'a, S>>
         ensures runs { result.items ≡ self.entry.runs }
         ensures lawful { IsLawful self.entry }
@@ -76,7 +76,7 @@ impl<'a, S: Summary> BookState<'a, S> {
         self.taken
     }
 
-    // The number of the first run that ends at this offset or behind it, found by halving.
+    /// The number of the first run that ends at this offset or behind it, found by halving.
     fn first_from(&self, start: usize) -> usize
         ensures bound { result ≤ length self.now.runs }
         ensures below { (k : ℕ) (d : _) → k < result → (slice_index_or self.now.runs k d).span.end < start }
@@ -95,7 +95,7 @@ impl<'a, S: Summary> BookState<'a, S> {
         low
     }
 
-    // Where a run would go.
+    /// Where a run would go.
     fn position(&self, place: Span) -> Position
         requires { place.start < place.end }
         ensures { IsPosition self.now.runs place result }
@@ -116,7 +116,7 @@ impl<'a, S: Summary> BookState<'a, S> {
         }
     }
 
-    // Where it would go, with a neighbour on the left.
+    /// Where it would go, with a neighbour on the left.
     fn left_position(&self, at: usize, place: Span) -> Position
         requires place { place.start < place.end }
         requires bound { at < length self.now.runs }
@@ -149,7 +149,7 @@ impl<'a, S: Summary> BookState<'a, S> {
         }
     }
 
-    // Takes out a neighbour.
+    /// Takes out a neighbour.
     fn take(&mut self, at: usize, run: Held<'a, S>) -> Put<'a, S>
         requires bound { at < length self.old.runs }
         requires neighbour { (n : _) → slice_get self.old.runs at ≡ Some n → IsNeighbour self.old.runs run.span at n }
@@ -165,7 +165,7 @@ impl<'a, S: Summary> BookState<'a, S> {
         Put::Touches(run, neighbour)
     }
 
-    // Stores a run that stands apart.
+    /// Stores a run that stands apart.
     fn store(&mut self, at: usize, run: Held<'a, S>) -> Put<'a, S>
         requires filled { run.span.start < run.span.end }
         requires free { IsFree self.old.runs run.span at }

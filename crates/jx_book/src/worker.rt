@@ -30,6 +30,7 @@ struct Unfinished<'a, S: Summary> {
 }
 
 impl<'a, S: Summary> Unfinished<'a, S> {
+    /// What is left in the hand, and why it was not handed over.
     fn new(hand: Hand<'a, S>, cause: Cause) -> Unfinished<'a, S>
         ensures hand { result.hand ≡ hand.entry }
         ensures cause { result.cause ≡ cause }
@@ -89,7 +90,7 @@ pub fn work<'a, S: Summary, P: Ledger, T: Ledger, G: Gate, R: Wait>(
     unreachable!()
 }
 
-// Puts a run, joined with each neighbour that is handed over.
+/// Puts a run, joined with each neighbour that is handed over.
 fn hand_over<'a, S: Summary, P: Ledger, T: Ledger, G: Gate, R: Wait>(
     rt: &R,
     book: &Book<'a, S, P, T>,
@@ -127,7 +128,7 @@ fn hand_over<'a, S: Summary, P: Ledger, T: Ledger, G: Gate, R: Wait>(
     }
 }
 
-// Two neighbours, the left one first.
+/// Two neighbours, the left one first.
 fn in_order<'a, S: Summary>(run: Held<'a, S>, other: Held<'a, S>) -> (Held<'a, S>, Held<'a, S>)
     requires touch { Touch other.span run.span }
     requires filled { (run.span.start < run.span.end) × (other.span.start < other.span.end) }
@@ -143,7 +144,7 @@ fn in_order<'a, S: Summary>(run: Held<'a, S>, other: Held<'a, S>) -> (Held<'a, S
     }
 }
 
-// Two neighbours as one, or both in the hand.
+/// Two neighbours as one, or both in the hand.
 fn join_both<'a, S: Summary>(
     left: Held<'a, S>,
     right: Held<'a, S>,

@@ -17,6 +17,7 @@ pub struct WorkerStop<'a, S: Summary, P: Ledger, T: Ledger> {
 }
 
 impl<'a, S: Summary, P: Ledger, T: Ledger> WorkerStop<'a, S, P, T> {
+    /// A stopped worker with its seat, its share, what is in its hand and why it stopped.
     pub(crate) fn new(
         seat: ClaimSeat,
         share: Share<P, T>,

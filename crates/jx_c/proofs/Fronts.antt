@@ -19,7 +19,7 @@ use Rattle.jx_run.specs.Verdict.{Judged}
 use Rattle.jx_index.specs.Indexed.{IndexedValue}
 use Rattle.jx_c.specs.declared.texts.TextAnswer.{TextAnswer}
 use Rattle.jx_c.specs.declared.texts.TextAnswer.TheVariants as answer
-use Rattle.jx_c.specs.Answers.{IsAnswerFrom, rest_from}
+use Rattle.jx_c.specs.inside.Answers.{IsAnswerFrom, rest_from}
 use Rattle.jx_c.specs.Settled.{IsIndexBy, IsReadBy}
 
 pub rest_is : (n : ℕ) (text : List ℕ) → rest_from n text ≡ drop n text

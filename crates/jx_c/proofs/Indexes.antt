@@ -7,7 +7,7 @@ use Rattle.jx_run.specs.Text.{IsDocument, IsText}
 use Rattle.jx_run.specs.Verdict.{Judged, a_text}
 use Rattle.jx_index.specs.Indexed.{IndexedValue}
 use Rattle.jx_index.specs.Rows.{rows}
-use Rattle.jx_c.specs.Answers.{IsAnswer, IsAnswerFrom, IsIndexFrom, rest_from}
+use Rattle.jx_c.specs.inside.Answers.{IsAnswer, IsAnswerFrom, IsIndexFrom, rest_from}
 use Rattle.jx_c.specs.declared.texts.TextAnswer.{TextAnswer}
 use Rattle.jx_c.specs.declared.texts.TextAnswer.TheVariants.{Accepted, Refused}
 use Rattle.jx_c.proofs.Slices.{slice_range-all}

@@ -16,7 +16,7 @@ use Rattle.jx_run.specs.ElementVerdict.{IsJudgedElement}
 use Rattle.jx_run.specs.Front.{agreed, front_by}
 use Rattle.jx_run.specs.Settings.{byte_order_mark}
 use Rattle.jx_run.specs.Tree.{span}
-use Rattle.jx_c.specs.Placed.{part_of}
+use Rattle.jx_c.specs.inside.Placed.{part_of}
 use Rattle.jx_c.specs.Settled.{elements_by, is_mark_alone, without_mark}
 use Rattle.jx_c.proofs.Readable.{LiesIn, elements_lie}
 

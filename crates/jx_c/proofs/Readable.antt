@@ -5,7 +5,7 @@ use Rattle.std.proofs.lemmas.List.{drop-drop, length-drop}
 use Rattle.std.proofs.lemmas.List.Elements.{All-nil, All-cons, All-head, All-tail}
 use Rattle.jx_run.specs.declared.settings.FrontMark.{FrontMark}
 use Rattle.jx_run.specs.declared.settings.FrontMark.TheVariants as on_mark
-use Rattle.jx_run.specs.Elements.{Part, part, is_mark, before_mark, after_marks, parts, has_bytes, filled, elements}
+use Rattle.jx_run.specs.Elements.{Part, part, is_mark, before_separator, after_separators, parts, has_bytes, filled, elements}
 use Rattle.jx_c.specs.Settled.{elements_by, is_mark_alone, without_mark}
 
 -- these are the bytes of the text that the part says
@@ -13,26 +13,26 @@ pub record LiesIn (text : List ℕ) (p : Part) : Type 0 where
   pub bytes : slice_range text p.at (p.at + length p.bytes) ≡ p.bytes
   pub within : p.at + length p.bytes ≤ length text
 
-before-is_front : (bytes : List ℕ) → take (length (before_mark bytes)) bytes ≡ before_mark bytes
+before-is_front : (bytes : List ℕ) → take (length (before_separator bytes)) bytes ≡ before_separator bytes
 before-is_front [] = refl
 before-is_front (b ∷ bytes) = pick (is_mark b) (before-is_front bytes)
   where
-    pick : (m : Bool) → take (length (before_mark bytes)) bytes ≡ before_mark bytes
-        → take (length (cond m [] (b ∷ before_mark bytes))) (b ∷ bytes) ≡ cond m [] (b ∷ before_mark bytes)
+    pick : (m : Bool) → take (length (before_separator bytes)) bytes ≡ before_separator bytes
+        → take (length (cond m [] (b ∷ before_separator bytes))) (b ∷ bytes) ≡ cond m [] (b ∷ before_separator bytes)
     pick true h = refl
     pick false h = ap (λ t. b ∷ t) h
 
-before-short : (bytes : List ℕ) → length (before_mark bytes) ≤ length bytes
+before-short : (bytes : List ℕ) → length (before_separator bytes) ≤ length bytes
 before-short [] = omega arith
 before-short (b ∷ bytes) = pick (is_mark b) (before-short bytes)
   where
-    pick : (m : Bool) → length (before_mark bytes) ≤ length bytes → length (cond m [] (b ∷ before_mark bytes)) ≤ suc (length bytes)
+    pick : (m : Bool) → length (before_separator bytes) ≤ length bytes → length (cond m [] (b ∷ before_separator bytes)) ≤ suc (length bytes)
     pick true h = omega arith
     pick false h = omega arith
 
-first_lies : (text : List ℕ) (at : ℕ) (bytes : List ℕ) → drop at text ≡ bytes → at ≤ length text → LiesIn text (part at (before_mark bytes))
+first_lies : (text : List ℕ) (at : ℕ) (bytes : List ℕ) → drop at text ≡ bytes → at ≤ length text → LiesIn text (part at (before_separator bytes))
 first_lies text at bytes h low =
-    let n = length (before_mark bytes) in
+    let n = length (before_separator bytes) in
     let same : (at + n) - at ≡ n = omega arith in
     let long : length (drop at text) ≡ length text - at = length-drop at text in
     let all : length (drop at text) ≡ length bytes = ap length h in
@@ -42,7 +42,7 @@ first_lies text at bytes h low =
       within = omega arith;
     }
 
-parts_lie : (text : List ℕ) (at : ℕ) (bytes : List ℕ) → drop at text ≡ bytes → at ≤ length text → All (LiesIn text) (after_marks at bytes)
+parts_lie : (text : List ℕ) (at : ℕ) (bytes : List ℕ) → drop at text ≡ bytes → at ≤ length text → All (LiesIn text) (after_separators at bytes)
 parts_lie text at [] h low = All-nil (LiesIn text)
 parts_lie text at (b ∷ bytes) h low =
     let next : drop (suc at) text ≡ bytes =
@@ -52,9 +52,9 @@ parts_lie text at (b ∷ bytes) h low =
     let more : suc at ≤ length text = omega arith in
     pick (is_mark b) (first_lies text (suc at) bytes next more) (parts_lie text (suc at) bytes next more)
   where
-    pick : (m : Bool) → LiesIn text (part (suc at) (before_mark bytes)) → All (LiesIn text) (after_marks (suc at) bytes)
-        → All (LiesIn text) (cond m (part (suc at) (before_mark bytes) ∷ after_marks (suc at) bytes) (after_marks (suc at) bytes))
-    pick true f more = All-cons (LiesIn text) (part (suc at) (before_mark bytes)) (after_marks (suc at) bytes) f more
+    pick : (m : Bool) → LiesIn text (part (suc at) (before_separator bytes)) → All (LiesIn text) (after_separators (suc at) bytes)
+        → All (LiesIn text) (cond m (part (suc at) (before_separator bytes) ∷ after_separators (suc at) bytes) (after_separators (suc at) bytes))
+    pick true f more = All-cons (LiesIn text) (part (suc at) (before_separator bytes)) (after_separators (suc at) bytes) f more
     pick false f more = more
 
 kept : (input : List ℕ) (ps : List Part) → All (LiesIn input) ps → All (LiesIn input) (filled ps)
@@ -68,7 +68,7 @@ kept input (p ∷ ps) h = pick (has_bytes p) (kept input ps (All-tail (LiesIn in
 pub elements_lie : (input : List ℕ) → All (LiesIn input) (elements 0 input)
 elements_lie input =
     kept input (parts 0 input)
-    (All-cons (LiesIn input) (part 0 (before_mark input)) (after_marks 0 input) (first_lies input 0 input refl (omega arith)) (parts_lie input 0 input refl (omega arith)))
+    (All-cons (LiesIn input) (part 0 (before_separator input)) (after_separators 0 input) (first_lies input 0 input refl (omega arith)) (parts_lie input 0 input refl (omega arith)))
 
 pub lie_in : (mark : FrontMark) (input : List ℕ) → All (LiesIn input) (elements_by mark input)
 lie_in on_mark.Refused input = elements_lie input

@@ -3,7 +3,7 @@ use Rattle.std.proofs.Common.{ℕ, List, length, sym, subst, ◌-◌, arith}
 use Rattle.jx_run.specs.Text.{IsDocument, IsText}
 use Rattle.std.proofs.lemmas.List.{take_all}
 use Rattle.jx_index.specs.Indexed.{IndexedValue}
-use Rattle.jx_c.specs.Answers.{IsIndexOf}
+use Rattle.jx_c.specs.inside.Answers.{IsIndexOf}
 
 pub text_there : (bytes : List ℕ) (depth : ℕ) (index : IndexedValue) (x : IsIndexOf bytes depth index) → IsText index.text index.place.start index.place.end depth x.tree
 text_there bytes depth index x =

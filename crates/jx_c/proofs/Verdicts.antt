@@ -19,7 +19,7 @@ use Rattle.jx_run.specs.Unclosed.{IsAccepted}
 use Rattle.jx_index.specs.Repeats.{IsLeast, IsRepeat}
 use Rattle.jx_index.specs.Rows.{rows}
 use Rattle.jx_c.specs.ByNames.{RefusesName, RefusesNameIn, IsJudgedBy, judged_unless}
-use Rattle.jx_c.specs.Placed.{IsJudgedIn}
+use Rattle.jx_c.specs.inside.Placed.{IsJudgedIn}
 use Rattle.jx_c.specs.Settled.{elements_by}
 use Rattle.jx_c.proofs.Readable.{LiesIn, lie_in}
 

@@ -1,14 +1,13 @@
-pub mod Answers
 pub mod Buffers
 pub mod ByNames
 pub mod Containers
 pub mod Elements
 pub mod Front
 pub mod LookUps
-pub mod Placed
 pub mod Reader
 pub mod Rows
 pub mod Settings
 pub mod Settled
 pub mod Stack
 pub mod Verdict
+pub mod inside

@@ -68,6 +68,7 @@ fn verdict_of_any(text: &[u8], settings: &Settings) -> Result<Verdict, AllocErro
     Ok(verdict)
 }
 
+/// The verdict on a text by settings. It takes memory only where names have to be unique.
 fn verdict_by(alloc: Global, text: &[u8], settings: &Settings) -> Result<Verdict, AllocError>
     ensures { IfOk result (IsVerdictBy settings.now text.now) }
 {

@@ -30,6 +30,7 @@ pub struct JxElement {
     pub verdict: JxVerdict,
 }
 
+/// What an element comes to, as C sees it.
 fn shown_verdict(verdict: ElementVerdict) -> JxVerdict
     ensures { result ≡ shown_verdict verdict }
 {

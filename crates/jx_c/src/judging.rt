@@ -10,7 +10,7 @@ ghost use Rattle.jx_run.specs.Tree.{Tree};
 ghost use Rattle.jx_index.specs.Repeats.{IsLeast, IsRepeat};
 ghost use Rattle.jx_index.specs.Rows.{rows};
 ghost use Rattle.jx_c.specs.ByNames.{IsJudgedBy, judged_unless};
-ghost use Rattle.jx_c.specs.Placed.{IsJudgedIn, part_of};
+ghost use Rattle.jx_c.specs.inside.Placed.{IsJudgedIn, part_of};
 ghost use Rattle.jx_c.specs.Settled.{elements_by, is_mark_alone};
 
 use jx_index::Indexed;

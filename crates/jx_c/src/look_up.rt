@@ -1,6 +1,6 @@
 // What a pointer leads to in a text.
 ghost use Rattle.std.specs.Prelude.{◌≡◌, ◌<◌, ◌≤◌, ℕ, List, IfOk, IfErr};
-ghost use Rattle.jx_c.specs.Answers.{IsAnswer};
+ghost use Rattle.jx_c.specs.inside.Answers.{IsAnswer};
 ghost use Rattle.jx_run.specs.Text.{IsText};
 ghost use Rattle.jx_run.specs.Tree.{Tree};
 ghost use Rattle.jx_run.specs.declared.settings.Settings.{Settings};
@@ -74,6 +74,7 @@ pub enum LookUp {
     NoText(Refusal),
 }
 
+/// The answer that has this outcome and this token or offset, and no value.
 fn answer(outcome: u32, at: usize) -> JxAnswer
     ensures { result ≡ record { span = record { start = 0; end = 0 }; at = at; outcome = outcome; kind = 0 } }
 {

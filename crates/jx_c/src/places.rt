@@ -43,6 +43,7 @@ pub fn kind_in(kind: Kind) -> u32
     }
 }
 
+/// The span as C sees it.
 pub fn shown_span(span: Span) -> JxSpan
     ensures { result ≡ shown_span span }
 {
@@ -52,6 +53,7 @@ pub fn shown_span(span: Span) -> JxSpan
     }
 }
 
+/// Where a name stands, as C sees it; 0 and 0 where there is none.
 fn name_in(name: Option<Span>) -> JxSpan
     ensures { result ≡ name_in name }
 {
@@ -61,6 +63,7 @@ fn name_in(name: Option<Span>) -> JxSpan
     }
 }
 
+/// The number of the parent's row; the greatest number where there is no parent.
 fn parent_in(parent: Option<NodeId>) -> usize
     ensures { result ≡ parent_in parent }
 {

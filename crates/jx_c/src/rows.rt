@@ -1,7 +1,7 @@
 // The rows of a text.
 ghost use Rattle.std.specs.Prelude.{◌≡◌, ◌<◌, ◌≤◌, ℕ, List};
 ghost use Rattle.jx_run.specs.declared.settings.Settings.{Settings};
-ghost use Rattle.jx_c.specs.Answers.{IsAnswer};
+ghost use Rattle.jx_c.specs.inside.Answers.{IsAnswer};
 ghost use Rattle.jx_c.specs.Buffers.{IsFilled};
 ghost use Rattle.jx_c.specs.Rows.{AreRowsOf, shown_row};
 ghost use Rattle.jx_c.specs.Settings.{settings_in};

@@ -19,6 +19,7 @@ pub struct JxSettings {
     pub flags: u32,
 }
 
+/// What becomes of a byte order mark, by the sum of the flags: it is ignored where the sum is odd.
 fn mark_in(flags: u32) -> FrontMark
     ensures { result ≡ mark_in flags }
 {
@@ -29,6 +30,7 @@ fn mark_in(flags: u32) -> FrontMark
     }
 }
 
+/// The rule on names, by the sum of the flags: they have to be unique where it has the flag 2.
 fn names_in(flags: u32) -> NameRule
     ensures { result ≡ names_in flags }
 {

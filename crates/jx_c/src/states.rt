@@ -11,6 +11,7 @@ pub fn place_of(state: LexState) -> u32
     state.number() as u32
 }
 
+/// The state at a place of a slice; behind the last place, the one between tokens.
 fn state_or_gap(states: &[LexState], place: usize) -> LexState
     ensures { result ≡ slice_index_or states.now place LexState.Gap }
 {

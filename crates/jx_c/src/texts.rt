@@ -1,6 +1,6 @@
 // What reading a whole text comes to, with its index.
 ghost use Rattle.std.specs.Prelude.{◌≤◌, length, IfOk};
-ghost use Rattle.jx_c.specs.Answers.{IsAnswer, IsAnswerFrom};
+ghost use Rattle.jx_c.specs.inside.Answers.{IsAnswer, IsAnswerFrom};
 ghost use Rattle.jx_c.specs.Settled.{IsAnswerBy, IsReadBy};
 
 use crate::by_names::text_by_names;

@@ -14,7 +14,7 @@ use Rattle.atomic_table.proofs.Lists.{at_set, at_snoc, set_else}
 use Rattle.jx_claim.specs.declared.rule.View.{View}
 use Rattle.jx_claim.specs.declared.rule.Terms.{Terms}
 use Rattle.jx_claim.specs.Claimed.{times, once_below}
-use Rattle.jx_claim.specs.Dealt.{view, both, Fits, Dealt, IsDraw, DrawsFrom}
+use Rattle.jx_claim.specs.inside.Dealt.{view, both, Fits, Dealt, IsDraw, DrawsFrom}
 use Rattle.jx_claim.specs.Undrawn.{undrawn, Draws}
 
 abbrev St : Type 0

@@ -8,7 +8,7 @@ use Rattle.std.proofs.lemmas.Bool.Decides.{nat_tests}
 use Rattle.jx_lex.specs.declared.span.Span.{Span}
 use Rattle.jx_claim.specs.Cut.{Covers, OfSize, behind, span, span_len, no_span, meetings}
 use Rattle.jx_claim.specs.CutFaults.{AreSound}
-use Rattle.jx_claim.specs.Listed.{regular, between, AreEnded}
+use Rattle.jx_claim.specs.inside.Listed.{regular, between, AreEnded}
 
 -- pieces do not go back
 covers_le : (a : ℕ) (ps : List Span) (b : ℕ) → Covers a ps b → a ≤ b

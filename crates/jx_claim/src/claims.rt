@@ -1,6 +1,6 @@
 ghost use Rattle.std.specs.Prelude.{◌≡◌, ℕ, ◌+◌, ◌<◌, [], ◌∷◌, ◌++◌, true, false, IfOk, IfSome, MatchOption, length, vec_len, count_by};
 ghost use Rattle.jx_claim.specs.Claimed.{ClaimsValue, SeatValue, AreFresh, AllSeats, EachGotOnce};
-ghost use Rattle.jx_claim.specs.Dealt.{IsDraw, view};
+ghost use Rattle.jx_claim.specs.inside.Dealt.{IsDraw, view};
 ghost use Rattle.jx_claim.specs.Undrawn.{undrawn, Draws};
 
 use crate::drawn::Drawn;
@@ -59,7 +59,7 @@ impl Claims {
         Ok((claims, seats))
     }
 
-    // Cuts the first seat into one for each worker.
+    /// Cuts the first seat into one for each worker.
     fn seats(&self, alloc: Global, mut rest: Seat<(), View>) -> Result<Vec<ClaimSeat>, AllocError>
         requires { (rest.table_id ≡ self.now.id) × (rest.me ≡ (view self.now.workers [] 0, [])) }
         ensures len { IfOk result (λ v. vec_len v ≡ self.now.workers) }
@@ -75,7 +75,7 @@ impl Claims {
         Ok(seats)
     }
 
-    // One atomic step of a seat: the number that it finds, and one more in the word.
+    /// One atomic step of a seat: the number that it finds, and one more in the word.
     fn take<C: Count>(&self, seat: &mut Seat<(), View>) -> u64
         requires pieces { C.pieces ≡ self.now.pieces }
         requires seat { (seat.old.table_id ≡ self.now.id) × (seat.old.me.0.seats ≡ 1) × (seat.old.me.0.nones ≡ 0) }

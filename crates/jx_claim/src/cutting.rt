@@ -25,7 +25,7 @@ pub struct Cutting {
 impl Model for Cutting {
     ghost use Rattle.std.specs.Prelude.{◌<◌, ◌≤◌, length};
     ghost use Rattle.jx_claim.specs.Cut.{CuttingValue, Covers, behind};
-    ghost use Rattle.jx_claim.specs.Listed.{listed, IsRegular, AreEnded};
+    ghost use Rattle.jx_claim.specs.inside.Listed.{listed, IsRegular, AreEnded};
 
     ghost Value = { CuttingValue };
 
@@ -173,7 +173,7 @@ impl Cutting {
     }
 }
 
-// The first fault of the cuts, if they have one.
+/// The first fault of the cuts, if they have one.
 fn check(len: usize, cuts: &[usize]) -> Result<(), CutFault>
     ensures ok { IfOk result (λ _. AreSound len cuts.now (length cuts.now)) }
     ensures err { IfErr result (λ f. Refuses len cuts.now f) }
@@ -192,7 +192,7 @@ fn check(len: usize, cuts: &[usize]) -> Result<(), CutFault>
     Ok(())
 }
 
-// Where the pieces end that meet at these cuts.
+/// Where the pieces end that meet at these cuts.
 fn ends_at(alloc: Global, len: usize, cuts: &[usize]) -> Result<Vec<usize>, AllocError>
     ensures { IfOk result (λ v. v.items ≡ cuts.now ++ len ∷ []) }
 {

@@ -1,7 +1,7 @@
 // How a cutting keeps its pieces: regular ones by their size, others by where they end.
 ghost use Rattle.std.specs.Prelude.{◌≡◌, ℕ, ◌+◌, ◌*◌, ◌<◌, ◌≤◌, ◌∷◌, min, length, Some, IfOk, slice_get, slice_index};
 ghost use Rattle.jx_claim.specs.Cut.{span, Covers};
-ghost use Rattle.jx_claim.specs.Listed.{listed, between, IsRegular, AreEnded};
+ghost use Rattle.jx_claim.specs.inside.Listed.{listed, between, IsRegular, AreEnded};
 
 use jx_lex::Span;
 use std::alloc::{AllocError, Global};
@@ -15,7 +15,7 @@ pub enum Parts {
 }
 
 impl Parts {
-    // How many pieces there are.
+    /// How many pieces there are.
     pub fn count(&self) -> usize
         ensures { (len : ℕ) → result ≡ length (listed len self.now) }
     {
@@ -25,7 +25,7 @@ impl Parts {
         }
     }
 
-    // The piece of this number, of a text of this length.
+    /// The piece of this number, of a text of this length.
     pub fn piece(&self, len: usize, number: usize) -> Span
         requires low { number < length (listed len self.now) }
         requires regular { IsRegular len self.now }
@@ -37,7 +37,7 @@ impl Parts {
         }
     }
 
-    // The same parts once more.
+    /// The same parts once more.
     pub fn copy(&self, alloc: Global) -> Result<Parts, AllocError>
         ensures same { IfOk result (λ parts. (len : ℕ) → listed len parts ≡ listed len self.now) }
         ensures regular { IfOk result (λ parts. (len : ℕ) → IsRegular len self.now → IsRegular len parts) }
@@ -53,7 +53,7 @@ impl Parts {
         }
     }
 
-    // How many pieces of a text of this length end at an offset or before it.
+    /// How many pieces of a text of this length end at an offset or before it.
     pub fn ended(&self, len: usize, offset: usize) -> usize
         requires covers { Covers 0 (listed len self.now) len }
         requires regular { IsRegular len self.now }
@@ -73,7 +73,7 @@ impl Parts {
     }
 }
 
-// How many of the pieces that end at these offsets end at an offset or before it.
+/// How many of the pieces that end at these offsets end at an offset or before it.
 fn ended_between(ends: &[usize], offset: usize) -> usize
     requires { (len : ℕ) × Covers 0 (between 0 ends.now) len }
     ensures { AreEnded offset result (between 0 ends.now) }
@@ -85,7 +85,7 @@ fn ended_between(ends: &[usize], offset: usize) -> usize
     ended
 }
 
-// The piece of this number among those of `size` bytes.
+/// The piece of this number among those of `size` bytes.
 fn regular_piece(len: usize, size: usize, number: usize) -> Span
     requires { number * size < len }
     ensures { result ≡ span (number * size) (min (number * size + size) len) }
@@ -97,7 +97,7 @@ fn regular_piece(len: usize, size: usize, number: usize) -> Span
     }
 }
 
-// The piece of this number among those that end at these offsets.
+/// The piece of this number among those that end at these offsets.
 fn piece_between(ends: &[usize], number: usize) -> Span
     requires { number < length ends.now }
     ensures { result ≡ span (slice_index (0 ∷ ends.now) number) (slice_index ends.now number) }

@@ -21,7 +21,7 @@ pub struct View {
 pub struct ClaimRule;
 
 impl TableRule<(), View, Terms> for ClaimRule {
-    ghost use Rattle.jx_claim.specs.Dealt.{Dealt, view};
+    ghost use Rattle.jx_claim.specs.inside.Dealt.{Dealt, view};
     ghost use Rattle.std.specs.Prelude.{[]};
 
     ghost holds = { Dealt };
@@ -48,7 +48,7 @@ pub struct DrawStep<C> {
 }
 
 impl<C: Count> Play<(), View> for DrawStep<C> {
-    ghost use Rattle.jx_claim.specs.Dealt.{DrawsFrom};
+    ghost use Rattle.jx_claim.specs.inside.Dealt.{DrawsFrom};
 
     ghost then = { DrawsFrom C.pieces };
 }
@@ -58,7 +58,7 @@ pub struct CutSeat;
 
 impl Split<View> for CutSeat {
     ghost use Rattle.std.specs.Prelude.{◌-◌, []};
-    ghost use Rattle.jx_claim.specs.Dealt.{view};
+    ghost use Rattle.jx_claim.specs.inside.Dealt.{view};
 
     ghost left = { λ v. view (v.seats - 1) v.got v.nones };
 
@@ -70,7 +70,7 @@ pub struct JoinSeats;
 
 impl Join<View> for JoinSeats {
     ghost use Rattle.std.specs.Prelude.{◌+◌, ◌++◌, []};
-    ghost use Rattle.jx_claim.specs.Dealt.{view, both};
+    ghost use Rattle.jx_claim.specs.inside.Dealt.{view, both};
 
     ghost both = { both };
 

@@ -1,6 +1,6 @@
 ghost use Rattle.std.specs.Prelude.{◌≡◌, [], false};
 ghost use Rattle.jx_claim.specs.Claimed.{SeatValue, fresh_seat};
-ghost use Rattle.jx_claim.specs.Dealt.{view};
+ghost use Rattle.jx_claim.specs.inside.Dealt.{view};
 
 use crate::rule::View;
 use atomic_table::Seat;
@@ -28,7 +28,7 @@ impl Model for ClaimSeat {
 }
 
 impl ClaimSeat {
-    // A seat that has drawn nothing, at its place among the seats.
+    /// A seat that has drawn nothing, at its place among the seats.
     pub(crate) fn new(seat: Seat<(), View>, number: usize) -> ClaimSeat
         requires { seat.me ≡ (view 1 [] 0, []) }
         ensures { result ≡ fresh_seat seat.table_id number }

@@ -15,6 +15,7 @@ const DEFAULT_WORKERS: u8 = 4;
 
 const DEFAULT_PIECE: usize = 65536;
 
+/// What an error of clap's comes to: a refusal of memory is told apart, and any other is kept.
 fn refused(error: clap::Error) -> ArgFault {
     match error.kind() {
         ErrorKind::OutOfMemory => ArgFault::Memory,
@@ -22,10 +23,12 @@ fn refused(error: clap::Error) -> ArgFault {
     }
 }
 
+/// The depth that the options give, if they give one.
 fn depth_of(options: &ArgMatches<'_>) -> Option<Depth> {
     Depth::new(u32::from(options.get_one::<u16>("depth")?))
 }
 
+/// Whether a byte order mark is ignored or refused by the options.
 fn mark_of(options: &ArgMatches<'_>) -> FrontMark {
     if options.get_flag("ignore_bom") {
         FrontMark::Ignored
@@ -34,6 +37,7 @@ fn mark_of(options: &ArgMatches<'_>) -> FrontMark {
     }
 }
 
+/// Whether names have to be unique or may be any by the options.
 fn names_of(options: &ArgMatches<'_>) -> NameRule {
     if options.get_flag("unique_names") {
         NameRule::Unique
@@ -42,10 +46,12 @@ fn names_of(options: &ArgMatches<'_>) -> NameRule {
     }
 }
 
+/// How many workers the options ask for, if they tell.
 fn workers_of(options: &ArgMatches<'_>) -> Option<Workers> {
     Workers::new(options.get_one::<u8>("workers")?)
 }
 
+/// How many bytes a piece has by the options, if they tell and it is not 0.
 fn piece_of(options: &ArgMatches<'_>) -> Option<usize>
     ensures { IfSome result (λ piece. 1 ≤ piece) }
 {
@@ -65,6 +71,7 @@ fn pointers_of(alloc: Global, options: &ArgMatches<'_>) -> Result<Vec<String>, A
     Ok(pointers)
 }
 
+/// The task of a subcommand, with the pointers that its options have where it is `at`; a check for a name of no other.
 fn task_of(alloc: Global, name: &str, options: &ArgMatches<'_>) -> Result<Task, AllocError> {
     match name {
         "index" => Ok(Task::Index),

@@ -1,3 +1,3 @@
-pub mod Ended
 pub mod LookUps
 pub mod Wholes
+pub mod inside

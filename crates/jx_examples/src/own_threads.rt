@@ -2,7 +2,7 @@ ghost use Rattle.std.specs.Prelude.{◌≡◌, length, All, IfOk, IfSome};
 ghost use Rattle.jx_run.specs.Verdict.{Judged};
 ghost use Rattle.jx_book.specs.Gathered.{IsWhole};
 ghost use Rattle.jx_book.specs.Shares.{share};
-ghost use Rattle.jx_examples.specs.Ended.{AreNew, HasEnded, IsNewSeat};
+ghost use Rattle.jx_examples.specs.inside.Ended.{AreNew, HasEnded, IsNewSeat};
 
 use crate::example_fault::ExampleFault;
 use jx_book::{Book, Held, OpenGate, Share, WorkerEnd, gather, work};
@@ -36,6 +36,7 @@ pub fn check_on_own_threads<R: Threads + Wait + Sync>(
     check_by_two::<Brand, Brand, R>(rt, alloc, text, put, taken)
 }
 
+/// The verdict on a text by two workers on threads of their own. The blanks are for the ledgers of a book.
 fn check_by_two<P: Ledger + Send + Sync, T: Ledger + Send + Sync, R: Threads + Wait + Sync>(
     rt: &R,
     alloc: Global,
@@ -68,7 +69,7 @@ fn check_by_two<P: Ledger + Send + Sync, T: Ledger + Send + Sync, R: Threads + W
     }
 }
 
-// The verdict of the run over the whole text.
+/// The verdict of the run over the whole text.
 fn verdict_of(text: &[u8], run: &Held<'_, OutcomeRun>) -> Verdict
     requires { IsWhole text.now 512 run.now }
     ensures { Judged 0 text.now 512 result }
@@ -76,7 +77,7 @@ fn verdict_of(text: &[u8], run: &Held<'_, OutcomeRun>) -> Verdict
     run.run().verdict()
 }
 
-// A seat and a share of those that are left.
+/// A seat and a share of those that are left.
 fn next_of<P: Ledger, T: Ledger>(
     claims: &Claims,
     seats: &mut Vec<ClaimSeat>,
@@ -93,7 +94,7 @@ fn next_of<P: Ledger, T: Ledger>(
     Some(Hands { seat, share })
 }
 
-// Lets two workers read, each on a thread of its own.
+/// Lets two workers read, each on a thread of its own.
 fn both_work<'a, P: Ledger + Send + Sync, T: Ledger + Send + Sync, R: Threads + Wait + Sync>(
     rt: &R,
     alloc: Global,
@@ -126,7 +127,7 @@ fn both_work<'a, P: Ledger + Send + Sync, T: Ledger + Send + Sync, R: Threads + 
     )
 }
 
-// Lets one worker read until no piece is left.
+/// Lets one worker read until no piece is left.
 fn work_to_the_end<'a, P: Ledger, T: Ledger, R: Wait>(
     rt: &R,
     alloc: Global,

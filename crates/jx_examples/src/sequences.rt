@@ -28,6 +28,7 @@ pub fn whole_elements<R: Threads + Wait + Sync>(
     Ok(spans)
 }
 
+/// Where the accepted elements stand, in order.
 fn spans_of(alloc: Global, elements: &[Element]) -> Result<Vec<Span>, AllocError>
     ensures { IfOk result (λ spans. spans.items ≡ accepted_spans elements.now) }
 {
@@ -38,6 +39,7 @@ fn spans_of(alloc: Global, elements: &[Element]) -> Result<Vec<Span>, AllocError
     Ok(spans)
 }
 
+/// Appends where the element stands, if it is accepted.
 fn push_whole(spans: &mut Vec<Span>, element: &Element) -> Result<(), AllocError>
     ensures { OnOk result (spans.new.items ≡ spans.old.items ++ span_if element.now.answer element.now.span) }
 {

@@ -20,7 +20,7 @@ use Rattle.jx_index.specs.declared.row.Row.{Row}
 use Rattle.jx_index.specs.declared.builder.Opened.{Opened}
 use Rattle.jx_index.specs.Rows.{size, sizes, rows_from, rows_below, rows}
 use Rattle.jx_index.specs.Afters.{afters_from, afters_below, afters}
-use Rattle.jx_index.specs.Building.{Building, nothing_built, parent_in, place_in, counted, next_row, add_leaf, begin_container, with_end, set_end, is_name_next, on_mark, is_token, next_end, make, built_of}
+use Rattle.jx_index.specs.inside.Building.{Building, nothing_built, parent_in, place_in, counted, next_row, add_leaf, begin_container, with_end, set_end, is_name_next, on_mark, is_token, next_end, make, built_of}
 use Rattle.jx_index.proofs.Tokens.{Delimited, at_end, at_close_array, at_close_object, at_colon, at_comma, blanks_delimited, tokened, TokensAreRead}
 
 -- ---- numbers of rows

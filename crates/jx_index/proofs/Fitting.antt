@@ -9,8 +9,8 @@ use Rattle.jx_lex.specs.declared.mark.MarkKind.TheVariants as mark
 use Rattle.jx_run.specs.Tree.{span}
 use Rattle.jx_index.specs.declared.row.Row.{Row}
 use Rattle.jx_index.specs.declared.builder.Opened.{Opened}
-use Rattle.jx_index.specs.Building.{Building, place_in, counted, next_row, add_leaf, begin_container, with_end, set_end, end_container, is_name_next, on_mark}
-use Rattle.jx_index.specs.Built.{AllWithin, Fits}
+use Rattle.jx_index.specs.inside.Building.{Building, place_in, counted, next_row, add_leaf, begin_container, with_end, set_end, end_container, is_name_next, on_mark}
+use Rattle.jx_index.specs.inside.Built.{AllWithin, Fits}
 
 pub set_end-set : (rows : List Row) (n end : ℕ) (row : Row) → n < length rows → row ≡ get_or rows n row → slice_set rows n (with_end end row) ≡ set_end n end rows
 set_end-set [] n end row h e = absurd (omega arith)

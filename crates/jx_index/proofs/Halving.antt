@@ -7,7 +7,7 @@ use Rattle.std.specs.declared.cmp.Ordering.TheVariants.{Less, Equal, Greater}
 use Rattle.std.specs.Ordering.{is_eq, ordering_index}
 use Rattle.std.proofs.lemmas.Bool.{ltb-true, ltb-false}
 use Rattle.std.proofs.Math.Dec.{ltb}
-use Rattle.jx_index.specs.LookUp.{IsEqualAt}
+use Rattle.jx_index.specs.inside.LookUp.{IsEqualAt}
 
 le_or : (a b : ℕ) → (a ≤ b) ⊎ (b < a)
 le_or zero b = inl (omega arith)

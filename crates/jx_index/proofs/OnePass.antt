@@ -13,9 +13,9 @@ use Rattle.jx_run.specs.TextRun.{TextRunValue, IsTextRun, place_of}
 use Rattle.jx_run.specs.Tree.{Tree}
 use Rattle.jx_run.specs.Verdict.{Judged}
 use Rattle.jx_index.specs.declared.row.Row.{Row}
-use Rattle.jx_index.specs.Building.{Building, built_of}
+use Rattle.jx_index.specs.inside.Building.{Building, built_of}
 use Rattle.jx_index.specs.Indexed.{HasNodes}
-use Rattle.jx_index.specs.Low.{AllLow}
+use Rattle.jx_index.specs.inside.Low.{AllLow}
 use Rattle.jx_index.specs.Rows.{rows}
 use Rattle.jx_index.proofs.Builds.{IsBuilt, built_is}
 use Rattle.jx_index.proofs.Readings.{tree_of}

@@ -10,7 +10,7 @@ use Rattle.jx_run.specs.Started.{StartedValue, IsStarted}
 use Rattle.jx_run.specs.Text.{IsDocument, IsText}
 use Rattle.jx_run.specs.Tree.{Tree}
 use Rattle.jx_run.specs.Verdict.{Judged, a_text, cut_short, too_deep, stopped}
-use Rattle.jx_index.specs.Building.{built_of}
+use Rattle.jx_index.specs.inside.Building.{built_of}
 use Rattle.jx_index.proofs.Builds.{IsBuilt, built_is}
 use Rattle.jx_index.proofs.Tokens.{TokensAreRead}
 use Rattle.jx_index.proofs.Within.{marks_within}

@@ -4,10 +4,10 @@ use Rattle.std.proofs.lemmas.List.Elements.{All-nil, All-cons, All-head, All-tai
 use Rattle.jx_lex.specs.declared.mark.Mark.{Mark}
 use Rattle.jx_lex.specs.declared.mark.MarkKind.{MarkKind}
 use Rattle.jx_lex.specs.declared.mark.MarkKind.TheVariants as mark
-use Rattle.jx_index.specs.Building.{Building, nothing_built, is_token, next_end, ends_after, on_mark, make, built_of}
-use Rattle.jx_index.specs.Built.{Fits}
-use Rattle.jx_index.specs.Low.{AllLow}
-use Rattle.jx_index.specs.RowKeeper.{waiting, ComeTo}
+use Rattle.jx_index.specs.inside.Building.{Building, nothing_built, is_token, next_end, ends_after, on_mark, make, built_of}
+use Rattle.jx_index.specs.inside.Built.{Fits}
+use Rattle.jx_index.specs.inside.Low.{AllLow}
+use Rattle.jx_index.specs.inside.RowKeeper.{waiting, ComeTo}
 use Rattle.jx_index.proofs.Fitting.{mark_fits}
 
 abbrev pub IsLow : Mark → Type 0

@@ -10,7 +10,7 @@ use Rattle.std.proofs.lemmas.List.Sorted.{searchable_from_sorted}
 use Rattle.std.proofs.lemmas.Option.{slice_get_past}
 use Rattle.jx_lex.specs.declared.kind.Kind.TheVariants as kind
 use Rattle.jx_index.specs.declared.row.Row.{Row}
-use Rattle.jx_index.specs.LookUp.{rank_of}
+use Rattle.jx_index.specs.inside.LookUp.{rank_of}
 use Rattle.jx_index.specs.Names.{is_below, name_units}
 use Rattle.jx_index.specs.Nodes.{IsObjectAt, kind_at, kind_in, name_at, child_numbers}
 use Rattle.jx_index.specs.Repeats.{IsAmong, start_in, IsRepeatIn, IsRepeat, IsLeast, earlier_of, tie_start, IsTieBehind, IsTie, IsRepeatOf, IsRepeatFrom}

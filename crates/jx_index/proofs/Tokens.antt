@@ -12,7 +12,7 @@ use Rattle.jx_lex.specs.Moves.{move, as_gap, go, close, begin}
 use Rattle.jx_lex.specs.Token.{IsBlank, space, tab, line_feed, carriage_return, IsToken}
 use Rattle.jx_lex.specs.TokenStates.{Spells, here, goes, shuts, in_token, IsFinal, final_gap, final_zero, final_int, final_frac, final_exp, mark_of, IsRead}
 use Rattle.jx_run.specs.Grammar.{Blanks, no_blanks, blank, Scalar}
-use Rattle.jx_index.specs.Building.{next_end}
+use Rattle.jx_index.specs.inside.Building.{next_end}
 
 -- what the law of tokens says
 pub record TokensAreRead : Type 0 where

@@ -1,7 +1,7 @@
 ghost use Rattle.std.specs.Prelude.{◌≡◌, ◌<◌, ◌-◌, ◌^◌, reverse, slice_set, true, IfOk};
-ghost use Rattle.jx_index.specs.Building.{place_in, parent_in, counted, set_end, nothing_built, make, add_leaf, begin_container, ended, is_name_next, on_mark, is_token, next_end, ends_after, built_of};
-ghost use Rattle.jx_index.specs.Built.{built, Fits};
-ghost use Rattle.jx_index.specs.Low.{AllLow};
+ghost use Rattle.jx_index.specs.inside.Building.{place_in, parent_in, counted, set_end, nothing_built, make, add_leaf, begin_container, ended, is_name_next, on_mark, is_token, next_end, ends_after, built_of};
+ghost use Rattle.jx_index.specs.inside.Built.{built, Fits};
+ghost use Rattle.jx_index.specs.inside.Low.{AllLow};
 
 use crate::row::{NodeId, Row};
 use jx_lex::{Ends, Kind, Mark, MarkKind, Marks, Span};
@@ -24,6 +24,7 @@ pub struct Builder {
     name: Option<Span>,
 }
 
+/// Counts one child more in the innermost open container, if there is one; the count stops at the greatest `usize`.
 fn count_child(opened: &mut Vec<Opened>)
     ensures { place_in (reverse opened.old.items) < 2 ^ 64 - 1 → reverse opened.new.items ≡ counted (reverse opened.old.items) }
 {
@@ -35,6 +36,7 @@ fn count_child(opened: &mut Vec<Opened>)
     }
 }
 
+/// How many children the innermost open container has so far, the place of a next one; 0 where none is open.
 fn place_of(opened: &[Opened]) -> usize
     ensures { result ≡ place_in (reverse opened.now) }
 {
@@ -44,6 +46,7 @@ fn place_of(opened: &[Opened]) -> usize
     }
 }
 
+/// The innermost open container, the parent of a next value; none where none is open.
 fn parent_of(opened: &[Opened]) -> Option<NodeId>
     ensures { result ≡ parent_in (reverse opened.now) }
 {
@@ -53,6 +56,7 @@ fn parent_of(opened: &[Opened]) -> Option<NodeId>
     }
 }
 
+/// Sets where the span of the row with this number ends; without such a row nothing changes.
 fn close_row(rows: &mut Vec<Row>, number: usize, end: usize)
     ensures { rows.new.items ≡ set_end number end rows.old.items }
 {
@@ -62,6 +66,7 @@ fn close_row(rows: &mut Vec<Row>, number: usize, end: usize)
     }
 }
 
+/// Sets the number of the row behind all that stands in a row; without such a row nothing changes.
 fn set_after(after: &mut Vec<usize>, number: usize, next: usize)
     ensures { after.new.items ≡ slice_set after.old.items number next }
 {
@@ -71,6 +76,7 @@ fn set_after(after: &mut Vec<usize>, number: usize, next: usize)
 }
 
 impl Builder {
+    /// A builder that has no rows, no open container and no name yet.
     pub(crate) fn new(alloc: Global) -> Builder
         ensures { built result ≡ nothing_built }
     {
@@ -82,7 +88,7 @@ impl Builder {
         }
     }
 
-    // A value begins: it gets its row.
+    /// A value begins: it gets its row.
     fn add_row(&mut self, kind: Kind, span: Span) -> Result<(), AllocError>
         ensures { IfOk result (λ _. Fits (built self.old) → built self.new ≡ add_leaf kind span (built self.old)) }
     {
@@ -100,6 +106,7 @@ impl Builder {
         Ok(())
     }
 
+    /// A container begins: it gets its row, whose end is set later, and is the innermost open one.
     fn begin(&mut self, kind: Kind, is_object: bool, at: usize) -> Result<(), AllocError>
         ensures { IfOk result (λ _. Fits (built self.old) → at < 2 ^ 64 - 1 → built self.new ≡ begin_container kind is_object at (built self.old)) }
     {
@@ -119,6 +126,7 @@ impl Builder {
         Ok(())
     }
 
+    /// Closes the innermost open container, if there is one: its span ends at `end`, and the next row is behind it.
     fn end(&mut self, end: usize)
         ensures { built self.new ≡ ended (built self.old) end }
     {
@@ -128,6 +136,7 @@ impl Builder {
         }
     }
 
+    /// Whether a string that comes next is a name: the innermost open container is an object, and no name waits.
     fn is_name_next(&self) -> bool
         ensures { result ≡ is_name_next (reverse self.now.opened.items) self.now.name }
     {
@@ -166,6 +175,7 @@ impl Builder {
     }
 }
 
+/// Whether a mark of this kind begins a token, to which an end belongs.
 pub(crate) fn has_end(kind: MarkKind) -> bool
     ensures { result ≡ is_token kind }
 {
@@ -175,6 +185,7 @@ pub(crate) fn has_end(kind: MarkKind) -> bool
     )
 }
 
+/// The first of the ends, or `last` where none is left.
 pub(crate) fn first_end(ends: &[usize], last: usize) -> usize
     ensures { result ≡ next_end last ends.now }
 {
@@ -184,6 +195,7 @@ pub(crate) fn first_end(ends: &[usize], last: usize) -> usize
     }
 }
 
+/// The ends that a mark of this kind leaves: all but the first where it begins a token, else all.
 pub(crate) fn later_ends<'a>(kind: MarkKind, ends: &'a [usize]) -> &'a [usize]
     ensures { result.now ≡ ends_after kind ends.now }
 {

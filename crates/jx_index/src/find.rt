@@ -20,7 +20,7 @@ use crate::row::NodeId;
 use crate::units::{Spelling, Units, skip};
 use jx_lex::Kind;
 
-// How many bytes stand before the next slash, or before the end.
+/// How many bytes stand before the next slash, or before the end.
 fn token_len(bytes: &[u8]) -> usize
     ensures within { result ≤ length bytes.now }
     ensures slashless { NoSlash (take result bytes.now) }
@@ -34,6 +34,7 @@ fn token_len(bytes: &[u8]) -> usize
     bytes.len()
 }
 
+/// The node at this index of a list; none past its end.
 fn node_at(nodes: &[NodeId], at: usize) -> Option<NodeId>
     ensures { result ≡ slice_get nodes.now at }
 {
@@ -44,6 +45,7 @@ fn node_at(nodes: &[NodeId], at: usize) -> Option<NodeId>
 }
 
 impl<'a> Indexed<'a> {
+    /// The only member of an object with the name that a token spells; refused where no member has it, or several.
     fn member(&self, object: NodeId, name: &[u8], token: usize) -> Result<NodeId, FindFault>
         requires { IsObjectAt self.now.rows object }
         ensures { result ≡ only (filter (is_equal self.now.text self.now.rows (parts_units InToken 0 name.now)) (child_numbers self.now.rows object)) token }
@@ -51,6 +53,7 @@ impl<'a> Indexed<'a> {
         find_name(self.text(), self.rows(), self.names(object), name, token)
     }
 
+    /// The element of an array that a token names; refused where it names none.
     fn element(&self, array: NodeId, name: &[u8], token: usize) -> Result<NodeId, FindFault>
         requires { IsArrayAt self.now.rows array }
         ensures { result ≡ at_place (place_in (parts_units InToken 0 name.now) (length (child_numbers self.now.rows array))) (child_numbers self.now.rows array) token }
@@ -64,6 +67,7 @@ impl<'a> Indexed<'a> {
         }
     }
 
+    /// The child of a node of this kind to which a token leads, or why it leads nowhere.
     fn step(&self, kind: Kind, node: NodeId, name: &[u8], token: usize) -> Result<NodeId, FindFault>
         requires { kind ≡ kind_at self.now.rows node }
         ensures { result ≡ row_token self.now.text self.now.rows (parts_units InToken 0 name.now) node token }

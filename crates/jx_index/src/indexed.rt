@@ -214,7 +214,7 @@ impl<'a> Indexed<'a> {
         part_of(&self.parts.starts, &self.parts.children, object.number())
     }
 
-    // The elements of an array by place.
+    /// The elements of an array by place.
     pub(crate) fn elements(&self, array: NodeId) -> &[NodeId]
         requires { IsArrayAt self.now.rows array }
         ensures { result.now ≡ child_numbers self.now.rows array }

@@ -4,7 +4,7 @@ ghost use Rattle.std.specs.List.Sorted.{IsSortedBy};
 ghost use Rattle.jx_index.specs.declared.units.Spelling.TheVariants.{InToken};
 ghost use Rattle.jx_index.specs.Names.{is_below};
 ghost use Rattle.jx_index.specs.Leads.{only};
-ghost use Rattle.jx_index.specs.LookUp.{rank_of, IsEqualAt};
+ghost use Rattle.jx_index.specs.inside.LookUp.{rank_of, IsEqualAt};
 ghost use Rattle.jx_index.specs.RowsLead.{is_equal};
 ghost use Rattle.jx_index.specs.Units.{parts_units};
 
@@ -13,6 +13,7 @@ use crate::names::compare_to_token;
 use crate::row::{NodeId, Row};
 use std::cmp::Ordering;
 
+/// How a member's name compares with what a token spells: 0 where it is less, 1 where equal, 2 where greater.
 fn rank(text: &[u8], rows: &[Row], node: NodeId, name: &[u8]) -> u8
     ensures { result ≡ rank_of text.now rows.now (parts_units InToken 0 name.now) node }
 {
@@ -23,6 +24,7 @@ fn rank(text: &[u8], rows: &[Row], node: NodeId, name: &[u8]) -> u8
     }
 }
 
+/// Whether there is a member at this index whose name is what a token spells.
 fn is_equal_at(text: &[u8], rows: &[Row], names: &[NodeId], at: usize, name: &[u8]) -> bool
     ensures { IsTrue result ↔ IsEqualAt (rank_of text.now rows.now (parts_units InToken 0 name.now)) names.now at }
 {

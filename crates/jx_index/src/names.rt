@@ -6,7 +6,7 @@ ghost use Rattle.jx_index.specs.declared.units.Spelling.TheVariants.{InText, InT
 ghost use Rattle.jx_index.specs.Names.{name_units, IsInNameOrder};
 ghost use Rattle.jx_index.specs.Nodes.{IsObjectAt};
 ghost use Rattle.jx_index.specs.Units.{units_at, parts_units};
-ghost use Rattle.jx_index.specs.UnitsLeft.{units_left};
+ghost use Rattle.jx_index.specs.inside.UnitsLeft.{units_left};
 
 use crate::comparing::Comparing;
 use crate::row::{NodeId, Row};
@@ -38,6 +38,7 @@ pub fn compare(mut left: Units, mut right: Units) -> Ordering
     }
 }
 
+/// The first `count` bytes, or all where there are no more.
 pub(crate) fn keep(bytes: &[u8], count: usize) -> &[u8]
     ensures { result.now ≡ take count bytes.now }
 {
@@ -48,7 +49,7 @@ pub(crate) fn keep(bytes: &[u8], count: usize) -> &[u8]
     }
 }
 
-// The bytes between the quotation marks of the string at a span.
+/// The bytes between the quotation marks of the string at a span.
 #[tactic(auto, unfolding(crate::specs::Units::units_at))]
 fn string_bytes<'a>(text: &'a [u8], span: Span) -> &'a [u8]
     ensures { parts_units InText 0 result.now ≡ units_at text.now span }
@@ -57,6 +58,7 @@ fn string_bytes<'a>(text: &'a [u8], span: Span) -> &'a [u8]
     keep(skip(string, 1), string.len().saturating_sub(2))
 }
 
+/// No bytes, which spell no units.
 #[tactic(auto, unfolding(crate::specs::Units::parts_units))]
 fn no_bytes<'a>() -> &'a [u8]
     ensures { parts_units InText 0 result.now ≡ [] }
@@ -64,7 +66,7 @@ fn no_bytes<'a>() -> &'a [u8]
     &[]
 }
 
-// The bytes of a member's name; none where the row has no name.
+/// The bytes of a member's name; none where the row has no name.
 fn name_bytes<'a>(text: &'a [u8], rows: &[Row], node: NodeId) -> &'a [u8]
     ensures { parts_units InText 0 result.now ≡ name_units text.now rows.now node }
 {
@@ -77,8 +79,8 @@ fn name_bytes<'a>(text: &'a [u8], rows: &[Row], node: NodeId) -> &'a [u8]
     }
 }
 
-// How many bytes both begin with, each of which stands for one unit in a text and in a token. To compare the others
-// decides as to compare all.
+/// How many bytes both begin with, each of which stands for one unit in a text and in a token. To compare the others
+/// decides as to compare all.
 fn same_front(left: &[u8], right: &[u8], spelling: Spelling) -> usize
     ensures { slice_cmp nat_cmp (parts_units InText 0 left.now) (parts_units spelling 0 right.now) ≡ slice_cmp nat_cmp (parts_units InText 0 (drop result left.now)) (parts_units spelling 0 (drop result right.now)) }
 {
@@ -93,7 +95,7 @@ fn same_front(left: &[u8], right: &[u8], spelling: Spelling) -> usize
     at
 }
 
-// The first byte, where it stands for one unit of its own in a text and in a token.
+/// The first byte, where it stands for one unit of its own in a text and in a token.
 fn first_plain(bytes: &[u8], spelling: Spelling) -> Option<u8>
     ensures { IfSome result (λ unit. parts_units spelling 0 bytes.now ≡ unit ∷ parts_units spelling 0 (drop 1 bytes.now)) }
 {
@@ -103,7 +105,7 @@ fn first_plain(bytes: &[u8], spelling: Spelling) -> Option<u8>
     }
 }
 
-// What is left of two names behind the bytes with which both begin. The next bytes mostly decide.
+/// What is left of two names behind the bytes with which both begin. The next bytes mostly decide.
 #[tactic(auto, unfolding(crate::specs::Units::parts_units))]
 fn compare_rests(left: &[u8], right: &[u8], spelling: Spelling) -> Ordering
     ensures { result ≡ slice_cmp nat_cmp (parts_units InText 0 left.now) (parts_units spelling 0 right.now) }
@@ -124,7 +126,7 @@ fn compare_rests(left: &[u8], right: &[u8], spelling: Spelling) -> Ordering
     }
 }
 
-// A name against another name or a token, as they are spelt. Bytes decide as long as each of them stands for one unit.
+/// A name against another name or a token, as they are spelt. Bytes decide as long as each of them stands for one unit.
 fn compare_bytes(name: &[u8], other: &[u8], spelling: Spelling) -> Ordering
     ensures { result ≡ slice_cmp nat_cmp (parts_units InText 0 name.now) (parts_units spelling 0 other.now) }
 {
@@ -132,6 +134,7 @@ fn compare_bytes(name: &[u8], other: &[u8], spelling: Spelling) -> Ordering
     compare_rests(skip(name, same), skip(other, same), spelling)
 }
 
+/// The first member's name against the second's, by their units.
 pub(crate) fn compare_members(text: &[u8], rows: &[Row], first: NodeId, second: NodeId) -> Ordering
     ensures { result ≡ slice_cmp nat_cmp (name_units text.now rows.now first) (name_units text.now rows.now second) }
 {
@@ -163,6 +166,7 @@ pub(crate) fn sort_members<C: Comparing>(
     Ok(())
 }
 
+/// Whether the row with this number is that of an object.
 pub(crate) fn is_object(rows: &[Row], node: usize) -> bool
     requires { node < length rows.now }
     ensures { IsTrue result ↔ IsObjectAt rows.now node }

@@ -11,7 +11,7 @@ use crate::row::{NodeId, Row};
 use jx_lex::Kind;
 use std::alloc::{AllocError, Global};
 
-// Adds the children of a node to a list, by place.
+/// Adds the children of a node to a list, by place.
 fn add_children(after: &[usize], node: NodeId, list: &mut Vec<NodeId>) -> Result<(), AllocError>
     requires forward { IsForward after.now }
     requires bounded { IsBounded after.now }
@@ -24,7 +24,7 @@ fn add_children(after: &[usize], node: NodeId, list: &mut Vec<NodeId>) -> Result
     Ok(())
 }
 
-// The members of an object by rising names.
+/// The members of an object by rising names.
 fn collect_members(
     text: &[u8],
     rows: &[Row],
@@ -42,7 +42,7 @@ fn collect_members(
     Ok(())
 }
 
-// Adds the part of one row; a scalar has none.
+/// Adds the part of one row; a scalar has none.
 fn add_part(
     text: &[u8],
     rows: &[Row],
@@ -76,6 +76,7 @@ pub struct Parts {
 }
 
 impl Parts {
+    /// The parts of all rows, where `after` has for each row the number of the row behind all that stands in it.
     pub fn of(
         alloc: Global,
         text: &[u8],

@@ -65,7 +65,7 @@ fn refusals_of_one_pass(rt: HostRuntime) -> Result<(), Fail> {
     Ok(())
 }
 
-// The index of the text at a span, read in one pass.
+/// The index of the text at a span, read in one pass.
 fn index_of<'a>(alloc: Global, text: &'a [u8], span: Span) -> Result<Indexed<'a>, Fail>
     requires ordered { span.start ≤ span.end }
     requires within { span.end ≤ length text.now }

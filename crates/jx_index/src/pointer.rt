@@ -35,12 +35,14 @@ impl<'p> Model for Pointer<'p> {
     ghost invariant = { λ p. IsPointer p.text.now };
 }
 
+/// Whether a byte is `0` or `1`, which may follow a `~`.
 fn is_escape_digit(byte: u8) -> bool
     ensures { IsTrue result ↔ IsEscapeDigit byte }
 {
     byte == b'0' || byte == b'1'
 }
 
+/// Whether a `~` that neither `0` nor `1` follows stands at an offset.
 fn is_bad_escape(bytes: &[u8], at: usize) -> bool
     requires { at < length bytes.now }
     ensures { IsTrue result ↔ IsBadEscape bytes.now at }
@@ -68,6 +70,7 @@ impl<'p> Pointer<'p> {
         Ok(Pointer { text })
     }
 
+    /// The bytes of the pointer as it is spelt.
     pub(crate) fn bytes(&self) -> &'p [u8]
         ensures spelt { result.now ≡ self.now }
         ensures pointer { IsPointer self.now }

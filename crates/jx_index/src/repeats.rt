@@ -11,7 +11,7 @@ use crate::names::is_object;
 use crate::row::{NodeId, Row};
 use std::cmp::Ordering;
 
-// The lesser of two offsets, where there are any.
+/// The lesser of two offsets, where there are any.
 fn earlier(one: Option<usize>, other: Option<usize>) -> Option<usize>
     ensures { result ≡ earlier_of one other }
 {
@@ -24,6 +24,7 @@ fn earlier(one: Option<usize>, other: Option<usize>) -> Option<usize>
     }
 }
 
+/// Where the name of a node begins, if the node has a row and the row a name.
 fn start_of_name(rows: &[Row], node: NodeId) -> Option<usize>
     ensures { result ≡ start_in (name_at rows.now node) }
 {
@@ -36,7 +37,7 @@ fn start_of_name(rows: &[Row], node: NodeId) -> Option<usize>
     }
 }
 
-// Where the second name begins, if it has the units of the first.
+/// Where the second name begins, if it has the units of the first.
 fn start_of_tie<C: Comparing>(
     text: &[u8],
     rows: &[Row],
@@ -52,7 +53,7 @@ fn start_of_tie<C: Comparing>(
     }
 }
 
-// The least start of a name that has the units of the one before it.
+/// The least start of a name that has the units of the one before it.
 pub(crate) fn first_tie<C: Comparing>(
     text: &[u8],
     rows: &[Row],
@@ -69,7 +70,7 @@ pub(crate) fn first_tie<C: Comparing>(
     first
 }
 
-// The same, which is the first name that is not the first of its units, where the names rise.
+/// The same, which is the first name that is not the first of its units, where the names rise.
 fn first_repeat<C: Comparing>(
     text: &[u8],
     rows: &[Row],
@@ -83,7 +84,7 @@ fn first_repeat<C: Comparing>(
 }
 
 impl<'a> Indexed<'a> {
-    // The first name that an object repeats; none where the node is no object.
+    /// The first name that an object repeats; none where the node is no object.
     fn repeated_in(&self, node: usize) -> Option<usize>
         requires { node < length self.now.rows }
         ensures { IsLeast (IsRepeatOf self.now.text self.now.rows node) result }

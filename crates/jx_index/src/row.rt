@@ -20,6 +20,7 @@ impl Model for NodeId {
 }
 
 impl NodeId {
+    /// The node whose row has this number.
     pub(crate) fn new(number: usize) -> NodeId
         ensures { result ≡ number }
     {

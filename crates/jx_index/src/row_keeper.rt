@@ -1,7 +1,7 @@
 // Rows that are built as a scan finds the tokens of a text.
 ghost use Rattle.std.specs.Prelude.{◌≡◌, ◌++◌, ◌∷◌, [], ℕ, List, IsTrue, IfOk};
 ghost use Rattle.jx_lex.specs.declared.mark.Mark.{Mark};
-ghost use Rattle.jx_index.specs.Building.{built_of};
+ghost use Rattle.jx_index.specs.inside.Building.{built_of};
 
 use crate::builder::{Builder, Nodes, first_end, has_end, later_ends, nodes_of};
 use jx_lex::{Keeper, Mark};
@@ -19,9 +19,10 @@ pub struct RowKeeper {
 }
 
 impl RowKeeper {
-    ghost use Rattle.jx_index.specs.Low.{AllLow};
-    ghost use Rattle.jx_index.specs.RowKeeper.{HasSeen};
+    ghost use Rattle.jx_index.specs.inside.Low.{AllLow};
+    ghost use Rattle.jx_index.specs.inside.RowKeeper.{HasSeen};
 
+    /// A keeper that has been told no mark and no end yet.
     pub fn new(alloc: Global) -> RowKeeper
         ensures { HasSeen [] [] result }
     {
@@ -42,7 +43,7 @@ impl RowKeeper {
         self.marks.is_empty() && self.ends.is_empty()
     }
 
-    // A mark, where nothing waits.
+    /// A mark, where nothing waits.
     #[inline(always)]
     fn begin_in_order(&mut self, mark: Mark) -> Result<(), AllocError>
         requires begun { self.old.begun ≡ None }
@@ -58,7 +59,7 @@ impl RowKeeper {
         Ok(())
     }
 
-    // The end of the token that has begun, where nothing else waits.
+    /// The end of the token that has begun, where nothing else waits.
     #[inline(always)]
     fn end_in_order(&mut self, mark: Mark, at: usize) -> Result<(), AllocError>
         requires begun { self.old.begun ≡ Some mark }
@@ -92,7 +93,7 @@ impl RowKeeper {
 }
 
 impl Keeper for RowKeeper {
-    ghost use Rattle.jx_index.specs.RowKeeper.{HasSeen};
+    ghost use Rattle.jx_index.specs.inside.RowKeeper.{HasSeen};
 
     ghost has_seen = { λ keeper marks ends. HasSeen marks ends keeper };
 

@@ -12,11 +12,11 @@ use Rattle.jx_lex.specs.Moves.{move}
 use Rattle.jx_lex.specs.Lex.{Track, lex, with_mark, with_end, on_next}
 use Rattle.jx_lex.specs.Ordinal.{ordinal, all_states}
 use Rattle.jx_lex.specs.Follow.{Part, behind, follow, IsIn, AreIn, head, shifted, linked, linked_parts}
-use Rattle.jx_lex.specs.Closed.{IsClosed, AreClosed}
-use Rattle.jx_lex.specs.Step.{link_of, read_part, opening}
+use Rattle.jx_lex.specs.inside.Closed.{IsClosed, AreClosed}
+use Rattle.jx_lex.specs.inside.Step.{link_of, read_part, opening}
 use Rattle.jx_lex.specs.Map.{stored, MarksIn, ArePlaced, IsOf, IsWhole}
 use Rattle.jx_lex.specs.Shared.{has, held_after, begins, beginning, shared_from, after}
-use Rattle.jx_lex.specs.Bundle.{Bundle, is_live, LiveAt, AllLive, Within, Reads, Stands, with_segment, with_exit, with_byte, more_live, is_quiet}
+use Rattle.jx_lex.specs.inside.Bundle.{Bundle, is_live, LiveAt, AllLive, Within, Reads, Stands, with_segment, with_exit, with_byte, more_live, is_quiet}
 use Rattle.jx_lex.proofs.ClassTable.{all_below, all_below-at}
 use Rattle.jx_lex.proofs.Joined.{ordinal-low, follow-shifted, head-map}
 use Rattle.jx_lex.proofs.Meeting.{same_ordinal, state-at}

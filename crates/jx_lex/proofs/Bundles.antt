@@ -7,7 +7,7 @@ use Rattle.jx_lex.specs.declared.link.Link.TheVariants.{Ahead, State, Fault}
 use Rattle.jx_lex.specs.Lex.{Track, Exit, lex}
 use Rattle.jx_lex.specs.Follow.{Part, follow, IsIn, AreIn, head, shifted, linked, linked_parts}
 use Rattle.jx_lex.specs.Shared.{has, held_after, shared_from, after}
-use Rattle.jx_lex.specs.Bundle.{Bundle, is_live, LiveAt, AllLive, Reads, Stands, joined_bundle}
+use Rattle.jx_lex.specs.inside.Bundle.{Bundle, is_live, LiveAt, AllLive, Reads, Stands, joined_bundle}
 use Rattle.jx_lex.specs.TwoParts.{joined, right_of}
 use Rattle.jx_lex.proofs.LexJoin.{lex-append}
 use Rattle.jx_lex.proofs.Joined.{head-map, follow-linked, IsIn-linked, AreIn-linked, length-linked}

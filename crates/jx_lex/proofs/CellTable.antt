@@ -10,7 +10,7 @@ use Rattle.jx_lex.specs.declared.state.LexState.{LexState}
 use Rattle.jx_lex.specs.declared.state.LexState.TheVariants as state
 use Rattle.jx_lex.specs.declared.cell.Cell.{Cell}
 use Rattle.jx_lex.specs.declared.cells.TheConstants.{CELLS}
-use Rattle.jx_lex.specs.Cells.{step_of}
+use Rattle.jx_lex.specs.inside.Cells.{step_of}
 use Rattle.jx_lex.specs.Classes.{all_classes, class_at}
 use Rattle.jx_lex.specs.Moves.{row, move, as_gap}
 use Rattle.jx_lex.specs.Ordinal.{all_states}

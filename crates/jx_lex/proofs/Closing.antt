@@ -5,7 +5,7 @@ use Rattle.jx_lex.specs.declared.state.LexState.{LexState}
 use Rattle.jx_lex.specs.declared.link.Link.{Link}
 use Rattle.jx_lex.specs.declared.link.Link.TheVariants.{Ahead, State, Fault}
 use Rattle.jx_lex.specs.Follow.{Part, head, shifted, linked, linked_parts}
-use Rattle.jx_lex.specs.Closed.{IsClosed, ClosedTo, AreClosed}
+use Rattle.jx_lex.specs.inside.Closed.{IsClosed, ClosedTo, AreClosed}
 use Rattle.jx_lex.proofs.Joined.{head-map, length-linked}
 
 closed-same : (heads : List Link) (n : ℕ) (g : Link) → IsClosed g → linked heads n g ≡ g

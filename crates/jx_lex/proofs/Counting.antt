@@ -12,7 +12,7 @@ use Rattle.jx_lex.specs.declared.link.Link.TheVariants.{Ahead, State, Fault}
 use Rattle.jx_lex.specs.Ordinal.{ordinal, all_states}
 use Rattle.jx_lex.specs.Follow.{Part, shifted, linked, linked_parts}
 use Rattle.jx_lex.specs.Map.{Map, stored, joined_map}
-use Rattle.jx_lex.specs.Step.{link_of, read_from, read_part, opening, meeting_heads, met, held_by, state_is, stands_in}
+use Rattle.jx_lex.specs.inside.Step.{link_of, read_from, read_part, opening, meeting_heads, met, held_by, state_is, stands_in}
 use Rattle.jx_lex.specs.Shared.{held_after, add_next, has, begins, HeldAt, AllHeld}
 use Rattle.jx_lex.proofs.Joined.{ordinal-low}
 use Rattle.jx_lex.proofs.Meeting.{same_ordinal, head-meeting, state-at}

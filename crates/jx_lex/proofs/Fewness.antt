@@ -7,7 +7,7 @@ use Rattle.jx_lex.specs.Lex.{Track, Exit, lex}
 use Rattle.jx_lex.specs.Ordinal.{ordinal, all_states}
 use Rattle.jx_lex.specs.Follow.{head}
 use Rattle.jx_lex.specs.Map.{Map, IsOf, EndsInTwo}
-use Rattle.jx_lex.specs.Bundle.{Bundle, is_live, live_count, Reads, Stands}
+use Rattle.jx_lex.specs.inside.Bundle.{Bundle, is_live, live_count, Reads, Stands}
 use Rattle.jx_lex.specs.TwoParts.{right_of}
 use Rattle.jx_lex.proofs.LexJoin.{lex-append}
 use Rattle.jx_lex.proofs.Joined.{ordinal-low}

@@ -8,11 +8,11 @@ use Rattle.jx_lex.specs.declared.link.Link.{Link}
 use Rattle.jx_lex.specs.declared.link.Link.TheVariants.{Ahead, State, Fault}
 use Rattle.jx_lex.specs.Ordinal.{ordinal}
 use Rattle.jx_lex.specs.Follow.{Part, head}
-use Rattle.jx_lex.specs.Closed.{IsClosed}
-use Rattle.jx_lex.specs.Bundle.{Bundle, is_live, LiveAt, Reads, Stands, ReadsOn, StandIn, joined_bundle}
-use Rattle.jx_lex.specs.Passing.{KeptBy, AllKept}
+use Rattle.jx_lex.specs.inside.Closed.{IsClosed}
+use Rattle.jx_lex.specs.inside.Bundle.{Bundle, is_live, LiveAt, Reads, Stands, ReadsOn, StandIn, joined_bundle}
+use Rattle.jx_lex.specs.inside.Passing.{KeptBy, AllKept}
 use Rattle.jx_lex.specs.Shared.{has, after, HeldAt, AllHeld}
-use Rattle.jx_lex.specs.Step.{read_part, held_by, state_is}
+use Rattle.jx_lex.specs.inside.Step.{read_part, held_by, state_is}
 use Rattle.jx_lex.proofs.Building.{live-set, live-new, AllLive-more, AllLive-append}
 use Rattle.jx_lex.proofs.Bundles.{Reads-joined, Stands-joined}
 use Rattle.jx_lex.proofs.Counting.{held_by-cons}

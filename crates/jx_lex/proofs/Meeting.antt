@@ -10,7 +10,7 @@ use Rattle.jx_lex.specs.declared.link.Link.{Link}
 use Rattle.jx_lex.specs.declared.link.Link.TheVariants.{Ahead, State, Fault}
 use Rattle.jx_lex.specs.Ordinal.{ordinal, all_states}
 use Rattle.jx_lex.specs.Follow.{Part, done, follow, IsIn, AreIn, head}
-use Rattle.jx_lex.specs.Step.{opening, meeting_heads, met}
+use Rattle.jx_lex.specs.inside.Step.{opening, meeting_heads, met}
 use Rattle.jx_lex.proofs.Joined.{ordinal-low, follow-linked, joined-same}
 
 pub state-at : (s : LexState) → get_or all_states (ordinal s) state.Gap ≡ s

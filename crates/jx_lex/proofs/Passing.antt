@@ -7,9 +7,9 @@ use Rattle.jx_lex.specs.declared.mark.Mark.{Mark}
 use Rattle.jx_lex.specs.declared.link.Link.{Link}
 use Rattle.jx_lex.specs.declared.link.Link.TheVariants.{Ahead, State, Fault}
 use Rattle.jx_lex.specs.Follow.{Part}
-use Rattle.jx_lex.specs.Step.{read_part, read_from, link_of}
+use Rattle.jx_lex.specs.inside.Step.{read_part, read_from, link_of}
 use Rattle.jx_lex.specs.Lex.{with_mark, with_end}
-use Rattle.jx_lex.specs.Passing.{KeptBy, LedBy, read_bytes}
+use Rattle.jx_lex.specs.inside.Passing.{KeptBy, LedBy, read_bytes}
 use Rattle.jx_lex.specs.Runs.{Leads}
 use Rattle.jx_lex.proofs.Running.{AllKeep-leads}
 

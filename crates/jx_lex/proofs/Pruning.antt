@@ -8,10 +8,10 @@ use Rattle.jx_lex.specs.declared.state.LexState.TheVariants as state
 use Rattle.jx_lex.specs.Ordinal.{ordinal, all_states}
 use Rattle.jx_lex.specs.Follow.{Part, behind, follow, head, IsIn, AreIn}
 use Rattle.jx_lex.specs.Lex.{Track, Exit}
-use Rattle.jx_lex.specs.Closed.{IsClosed, ClosedTo, AreClosed}
-use Rattle.jx_lex.specs.Bundle.{LiveAt, AllLive, is_live}
+use Rattle.jx_lex.specs.inside.Closed.{IsClosed, ClosedTo, AreClosed}
+use Rattle.jx_lex.specs.inside.Bundle.{LiveAt, AllLive, is_live}
 use Rattle.jx_lex.specs.Map.{Map, IsWhole, joined_map, stored, track}
-use Rattle.jx_lex.specs.Pruned.{IsReached, with_reached, emptied, pruned, with_exit_of}
+use Rattle.jx_lex.specs.inside.Pruned.{IsReached, with_reached, emptied, pruned, with_exit_of}
 use Rattle.jx_lex.proofs.Building.{AllLive-append, AllLive-more, LiveAt-more, live-new, ordinal-at}
 use Rattle.jx_lex.proofs.Joined.{track-joined}
 use Rattle.jx_lex.specs.TwoParts.{joined, right_of}

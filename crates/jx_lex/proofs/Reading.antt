@@ -9,7 +9,7 @@ use Rattle.jx_lex.specs.TwoParts.{joined}
 use Rattle.jx_lex.specs.declared.link.Link.{Link}
 use Rattle.jx_lex.specs.declared.link.Link.TheVariants.{Ahead, State, Fault}
 use Rattle.jx_lex.specs.Follow.{Part, done, behind, follow, IsIn, AreIn}
-use Rattle.jx_lex.specs.Step.{link_of, read_from, read_part}
+use Rattle.jx_lex.specs.inside.Step.{link_of, read_from, read_part}
 use Rattle.jx_lex.proofs.Joined.{behind-joined}
 
 -- what a track does at one byte

@@ -13,12 +13,12 @@ use Rattle.jx_lex.specs.Moves.{move}
 use Rattle.jx_lex.specs.Lex.{Track, Exit, lex, with_mark}
 use Rattle.jx_lex.specs.Ordinal.{ordinal, all_states}
 use Rattle.jx_lex.specs.Follow.{Part, follow, IsIn, head, shifted, linked, linked_parts}
-use Rattle.jx_lex.specs.Closed.{IsClosed, AreClosed}
-use Rattle.jx_lex.specs.Step.{read_part, read_from, opening, state_is, held_by, met, meeting_heads}
-use Rattle.jx_lex.specs.Passing.{KeptBy, AllKept, read_bytes}
+use Rattle.jx_lex.specs.inside.Closed.{IsClosed, AreClosed}
+use Rattle.jx_lex.specs.inside.Step.{read_part, read_from, opening, state_is, held_by, met, meeting_heads}
+use Rattle.jx_lex.specs.inside.Passing.{KeptBy, AllKept, read_bytes}
 use Rattle.jx_lex.specs.Map.{MarksIn, ArePlaced}
 use Rattle.jx_lex.specs.Shared.{has, beginning, shared_from, after, HeldAt, AllHeld}
-use Rattle.jx_lex.specs.Bundle.{Bundle, LiveAt, AllLive, Within, Reads, Stands, ReadsOn, is_apart, joined_bundle}
+use Rattle.jx_lex.specs.inside.Bundle.{Bundle, LiveAt, AllLive, Within, Reads, Stands, ReadsOn, is_apart, joined_bundle}
 use Rattle.jx_lex.specs.TwoParts.{joined}
 use Rattle.jx_lex.proofs.LexJoin.{lex-append}
 use Rattle.jx_lex.proofs.Joined.{length-linked, AreIn-linked}

@@ -12,10 +12,10 @@ use Rattle.jx_lex.specs.declared.link.Link.TheVariants.{Ahead, State, Fault}
 use Rattle.jx_lex.specs.Moves.{move}
 use Rattle.jx_lex.specs.Lex.{Track, lex, with_mark, with_end, on_next}
 use Rattle.jx_lex.specs.Follow.{Part}
-use Rattle.jx_lex.specs.Step.{link_at, link_of, read_from, read_part}
-use Rattle.jx_lex.specs.Passing.{read_bytes}
+use Rattle.jx_lex.specs.inside.Step.{link_at, link_of, read_from, read_part}
+use Rattle.jx_lex.specs.inside.Passing.{read_bytes}
 use Rattle.jx_lex.specs.Seen.{WantsNoMore, TokenLists}
-use Rattle.jx_lex.specs.Bundle.{ReadsOn, is_apart}
+use Rattle.jx_lex.specs.inside.Bundle.{ReadsOn, is_apart}
 use Rattle.jx_lex.proofs.ReadingOn.{reads-none, reads-then, reads-apart, reads-two, kept-one}
 use Rattle.jx_lex.proofs.Passing.{closed-span}
 

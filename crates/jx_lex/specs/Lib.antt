@@ -1,18 +1,11 @@
-pub mod Ahead
-pub mod Bundle
-pub mod Cells
 pub mod Character
 pub mod Classes
-pub mod Closed
 pub mod Follow
 pub mod Lex
 pub mod Map
 pub mod Moves
 pub mod Ordinal
-pub mod Passing
-pub mod Pruned
 pub mod Shared
-pub mod Step
 pub mod Runs
 pub mod Seen
 pub mod Token
@@ -20,3 +13,4 @@ pub mod TokenStates
 pub mod TokenSteps
 pub mod TwoParts
 pub mod View
+pub mod inside

@@ -1,6 +1,6 @@
 // Stretches of a text that were tested for well-formed UTF-8 before they are read.
 ghost use Rattle.std.specs.Prelude.{◌≡◌, ◌≤◌, ◌&&◌, length, nat_le, nat_lt, ℕ, List};
-ghost use Rattle.jx_lex.specs.Ahead.{IsSound};
+ghost use Rattle.jx_lex.specs.inside.Ahead.{IsSound};
 
 // So many bytes are read one character after another before a stretch is tested.
 pub(crate) const LEAST: usize = 32;
@@ -99,7 +99,7 @@ impl Ahead {
         }
     }
 
-    // Whether the byte at this place was tested, and nothing past `to`.
+    /// Whether the byte at this place was tested, and nothing past `to`.
     #[inline(always)]
     fn was_tested(self, at: usize, to: usize) -> bool {
         self.from <= at && at < self.tested && self.tested <= to
@@ -128,8 +128,9 @@ impl Ahead {
     }
 }
 
-// Where the block of `MOST` bytes ends that this byte or the one three behind it stands in: a stretch that ended inside a
-// character leaves up to three bytes of the block before. Whole blocks are tested sooner than bytes across two.
+/// Where the block of `MOST` bytes ends that this byte or the one three behind it stands in: a stretch that ended
+/// inside a character leaves up to three bytes of the block before. Whole blocks are tested sooner than bytes across
+/// two.
 #[inline(always)]
 fn end_of_block(from: usize) -> usize {
     (from.saturating_add(3) / MOST)
@@ -137,7 +138,7 @@ fn end_of_block(from: usize) -> usize {
         .saturating_mul(MOST)
 }
 
-// The end of the characters that are whole before `to`, if these bytes are UTF-8.
+/// The end of the characters that are whole before `to`, if these bytes are UTF-8.
 #[inline(always)]
 fn whole_end(text: &[u8], from: usize, to: usize) -> usize
     requires { (from ≤ to) × (to ≤ length text.now) }

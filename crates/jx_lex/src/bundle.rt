@@ -1,10 +1,10 @@
 // The tracks of some bytes from several states at once.
 ghost use Rattle.std.specs.Prelude.{◌≡◌, ◌<◌, ◌≤◌, ◌+◌, ◌^◌, ◌∷◌, [], length, replicate, true, false, OnOk, IfOk, if◌then◌else◌, ◌⊎◌, slice_range, ℕ};
 ghost use Rattle.jx_lex.specs.declared.state.LexState.{LexState};
-ghost use Rattle.jx_lex.specs.Closed.{IsClosed};
+ghost use Rattle.jx_lex.specs.inside.Closed.{IsClosed};
 ghost use Rattle.jx_lex.specs.Follow.{IsIn, head};
-ghost use Rattle.jx_lex.specs.Step.{opening};
-ghost use Rattle.jx_lex.specs.Bundle.{Reads, Stands, ReadsOn, joined_bundle, live_count, is_live, with_byte, with_segment};
+ghost use Rattle.jx_lex.specs.inside.Step.{opening};
+ghost use Rattle.jx_lex.specs.inside.Bundle.{Reads, Stands, ReadsOn, joined_bundle, live_count, is_live, with_byte, with_segment};
 
 use crate::last_tracks::read_lanes;
 use crate::link::{Link, link_heads, same_heads};
@@ -24,13 +24,14 @@ pub(crate) struct Bundle {
 }
 
 impl Model for Bundle {
-    ghost use Rattle.jx_lex.specs.Bundle.{Bundle};
+    ghost use Rattle.jx_lex.specs.inside.Bundle.{Bundle};
 
     ghost Value = { Bundle };
 
     ghost view = { λ b. record { heads = b.heads; parts = b.segments.items; live = b.live } };
 }
 
+/// Whether this state is among the live ones.
 fn is_live(live: &[bool; 32], state: LexState) -> bool
     ensures { result ≡ is_live live.now state }
 {
@@ -74,6 +75,7 @@ impl Bundle {
         }
     }
 
+    /// Puts this segment behind the others; the track from this state begins with it.
     fn add_segment(&mut self, state: LexState, segment: Segment) -> Result<(), AllocError>
         ensures { OnOk result (self.new ≡ with_segment state segment self.old.live self.old) }
     {
@@ -100,6 +102,7 @@ impl Bundle {
         self.add_segment(state, segment)
     }
 
+    /// Adds the track of one byte from this state where the state is live, and nothing otherwise.
     fn add_live_byte(
         &mut self,
         live: &[bool; 32],
@@ -134,6 +137,7 @@ impl Bundle {
         Ok(bundle)
     }
 
+    /// Adds a segment from this state, with nothing read, where the state is live, and nothing otherwise.
     fn open_live(&mut self, live: &[bool; 32], state: LexState) -> Result<(), AllocError>
         ensures { OnOk result (self.new ≡ (if is_live live.now state then with_segment state (opening state) self.old.live self.old else self.old)) }
     {

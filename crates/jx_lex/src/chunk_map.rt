@@ -37,7 +37,7 @@ pub struct ChunkMap {
 
 impl Model for ChunkMap {
     ghost use Rattle.jx_lex.specs.Map.{Map, IsWhole};
-    ghost use Rattle.jx_lex.specs.Closed.{AreClosed};
+    ghost use Rattle.jx_lex.specs.inside.Closed.{AreClosed};
 
     ghost Value = { Map };
 

@@ -28,6 +28,7 @@ impl<'a> Model for Ends<'a> {
 }
 
 impl<'a> Ends<'a> {
+    /// Takes the first of the ends that are left, or gives none where none is left.
     fn take_next(&mut self) -> Option<usize>
         ensures first { self.old ≡ option_to_list result ++ self.new }
         ensures none { IsNone result → self.new ≡ [] }

@@ -1,7 +1,7 @@
 // Reading on where only one or two tracks are left.
 ghost use Rattle.std.specs.Prelude.{◌≡◌, ◌≤◌, ◌<◌, ◌+◌, ◌∷◌, [], ◌⊎◌, false, length, IfOk, IfSome, IsNone, IsTrue, slice_range};
 ghost use Rattle.jx_lex.specs.declared.link.Link.TheVariants.{State};
-ghost use Rattle.jx_lex.specs.Bundle.{ReadsOn, is_apart};
+ghost use Rattle.jx_lex.specs.inside.Bundle.{ReadsOn, is_apart};
 
 use crate::link::Link;
 use crate::passes::plain_end;

@@ -1,7 +1,7 @@
 // Where a track goes on.
 ghost use Rattle.std.specs.Prelude.{◌≡◌, ◌<◌, ◌+◌, ◌^◌, map};
 ghost use Rattle.jx_lex.specs.Follow.{IsIn, shifted, head, linked};
-ghost use Rattle.jx_lex.specs.Step.{link_at, link_of};
+ghost use Rattle.jx_lex.specs.inside.Step.{link_at, link_of};
 ghost use Rattle.jx_lex.specs.View.{exit_of};
 ghost use Rattle.jx_lex.specs.Ordinal.{all_states};
 ghost use Rattle.jx_lex.specs.declared.link.Link.TheVariants.{State};
@@ -51,6 +51,7 @@ impl Link {
         }
     }
 
+    /// Where the right begins in the state that this leads out in, so many segments on; any other link as it is.
     pub(crate) fn linked(self, heads: &[Link; 32], by: usize, count: usize) -> Link
         requires all { (s : LexState) → IsIn count (head heads.now s) }
         requires fits { by + count < 2 ^ 64 }

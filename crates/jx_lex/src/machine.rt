@@ -1,7 +1,7 @@
 // The lexical machine, one byte at a time.
 ghost use Rattle.std.specs.Prelude.{◌≡◌};
 ghost use Rattle.jx_lex.specs.Moves.{move};
-ghost use Rattle.jx_lex.specs.Cells.{step_of};
+ghost use Rattle.jx_lex.specs.inside.Cells.{step_of};
 
 use crate::cell::Cell;
 use crate::cells::CELLS;
@@ -23,6 +23,7 @@ pub fn step(state: LexState, byte: u8) -> Step
     step_of(cell_at(state, byte))
 }
 
+/// What a cell says of a byte: which token ends and which begins with it, and the state behind it.
 fn step_of(cell: Cell) -> Step
     ensures { result ≡ step_of cell }
 {

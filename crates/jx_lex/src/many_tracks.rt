@@ -2,10 +2,10 @@
 ghost use Rattle.std.specs.Prelude.{◌≡◌, ◌≤◌, ◌<◌, ◌+◌, ◌^◌, ℕ, List, IsTrue, length, map, OnOk, IfOk, slice_range};
 ghost use Rattle.jx_lex.specs.declared.state.LexState.{LexState};
 ghost use Rattle.jx_lex.specs.declared.state.LexState.TheVariants as state;
-ghost use Rattle.jx_lex.specs.Bundle.{Reads, Stands, ReadsOn, StandIn};
-ghost use Rattle.jx_lex.specs.Passing.{KeptBy, AllKept};
+ghost use Rattle.jx_lex.specs.inside.Bundle.{Reads, Stands, ReadsOn, StandIn};
+ghost use Rattle.jx_lex.specs.inside.Passing.{KeptBy, AllKept};
 ghost use Rattle.jx_lex.specs.Runs.{AllKeep};
-ghost use Rattle.jx_lex.specs.Step.{read_part, held_by};
+ghost use Rattle.jx_lex.specs.inside.Step.{read_part, held_by};
 
 use crate::bundle::Bundle;
 use crate::link::Link;
@@ -72,6 +72,7 @@ fn keeps_digits(next: Link) -> bool
     }
 }
 
+/// Whether digits change nothing for all of the segments.
 fn all_keep_digits(segments: &[Segment]) -> bool
     ensures { IsTrue result → (w : List ℕ) → AllKeep state.Str w → AllKeep state.Int w → AllKeep state.Frac w → AllKeep state.Exp w → AllKept w segments.now }
 {

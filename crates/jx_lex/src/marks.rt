@@ -30,6 +30,7 @@ impl<'a> Model for Marks<'a> {
 }
 
 impl<'a> Marks<'a> {
+    /// Takes the first of the marks that are left, or gives none where none is left.
     fn take_next(&mut self) -> Option<Mark>
         ensures first { self.old ≡ option_to_list result ++ self.new }
         ensures none { IsNone result → self.new ≡ [] }

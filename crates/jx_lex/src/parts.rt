@@ -1,12 +1,13 @@
 // Ends of runs of whole characters and escapes inside a string.
 ghost use Rattle.std.specs.Prelude.{◌≡◌, ◌≤◌, ◌<◌, ◌+◌, IsTrue, length, take, slice_range};
 ghost use Rattle.jx_lex.specs.declared.state.LexState.TheVariants as state;
-ghost use Rattle.jx_lex.specs.Ahead.{IsSound};
+ghost use Rattle.jx_lex.specs.inside.Ahead.{IsSound};
 ghost use Rattle.jx_lex.specs.Runs.{Leads, is_tail, is_two, is_three, is_four, is_escaped, is_escape, is_hex, is_unit};
 
 use crate::ahead::{Ahead, LEAST};
 use crate::passes::{plain_end, unescaped_end};
 
+/// Whether the byte is one of those behind the first of a character above 7F: 80 up to BF.
 #[inline(always)]
 fn is_tail(byte: u8) -> bool
     ensures { result ≡ is_tail byte }
@@ -14,6 +15,7 @@ fn is_tail(byte: u8) -> bool
     byte >= 0x80 && byte <= 0xbf
 }
 
+/// Whether these bytes are a whole character of two bytes in UTF-8.
 #[inline(always)]
 fn is_two(a: u8, b: u8) -> bool
     ensures { result ≡ is_two a b }
@@ -21,6 +23,7 @@ fn is_two(a: u8, b: u8) -> bool
     a >= 0xc2 && a <= 0xdf && is_tail(b)
 }
 
+/// Whether these bytes are a whole character of three bytes in UTF-8.
 #[inline(always)]
 fn is_three(a: u8, b: u8, c: u8) -> bool
     ensures { result ≡ is_three a b c }
@@ -33,6 +36,7 @@ fn is_three(a: u8, b: u8, c: u8) -> bool
         && (a != 0xed || b <= 0x9f)
 }
 
+/// Whether these bytes are a whole character of four bytes in UTF-8.
 #[inline(always)]
 fn is_four(a: u8, b: u8, c: u8, d: u8) -> bool
     ensures { result ≡ is_four a b c d }
@@ -46,6 +50,7 @@ fn is_four(a: u8, b: u8, c: u8, d: u8) -> bool
         && (a != 0xf4 || b <= 0x8f)
 }
 
+/// Whether a backslash and this byte are an escape of two bytes.
 #[inline(always)]
 fn is_escaped(byte: u8) -> bool
     ensures { result ≡ is_escaped byte }
@@ -60,6 +65,7 @@ fn is_escaped(byte: u8) -> bool
         || byte == b't'
 }
 
+/// Whether the byte is a hexadecimal digit.
 #[inline(always)]
 fn is_hex(byte: u8) -> bool
     ensures { result ≡ is_hex byte }
@@ -69,6 +75,7 @@ fn is_hex(byte: u8) -> bool
         || (byte >= b'a' && byte <= b'f')
 }
 
+/// Whether these bytes are an escape of two bytes.
 #[inline(always)]
 fn is_escape(a: u8, b: u8) -> bool
     ensures { result ≡ is_escape a b }
@@ -76,6 +83,7 @@ fn is_escape(a: u8, b: u8) -> bool
     a == b'\\' && is_escaped(b)
 }
 
+/// Whether these bytes are an escape of six bytes: a backslash, `u` and four hexadecimal digits.
 #[inline(always)]
 fn is_unit(a: u8, b: u8, c: u8, d: u8, e: u8, f: u8) -> bool
     ensures { result ≡ is_unit a b c d e f }
@@ -83,7 +91,7 @@ fn is_unit(a: u8, b: u8, c: u8, d: u8, e: u8, f: u8) -> bool
     a == b'\\' && b == b'u' && is_hex(c) && is_hex(d) && is_hex(e) && is_hex(f)
 }
 
-// How many bytes the escape has with which the bytes begin; 0 where none stands whole.
+/// How many bytes the escape has with which the bytes begin; 0 where none stands whole.
 #[inline(always)]
 fn escape_len(bytes: &[u8]) -> usize
     ensures within { result ≤ length bytes.now }
@@ -96,7 +104,7 @@ fn escape_len(bytes: &[u8]) -> usize
     }
 }
 
-// How many bytes the character above 7F has with which the bytes begin; 0 where none stands whole.
+/// How many bytes the character above 7F has with which the bytes begin; 0 where none stands whole.
 #[inline(always)]
 fn character_len(bytes: &[u8]) -> usize
     ensures within { result ≤ length bytes.now }
@@ -110,7 +118,7 @@ fn character_len(bytes: &[u8]) -> usize
     }
 }
 
-// The end of the escapes that follow one another, those of two bytes and those of six.
+/// The end of the escapes that follow one another, those of two bytes and those of six.
 #[inline(always)]
 fn escapes_end(text: &[u8], from: usize, to: usize) -> usize
     requires { (from ≤ to) × (to ≤ length text.now) }
@@ -128,7 +136,8 @@ fn escapes_end(text: &[u8], from: usize, to: usize) -> usize
     i
 }
 
-// Whether a character may begin with this byte, of those above 7F.
+/// Whether a character may begin with this byte, of those above 7F.
+/// It only tells them from tails: C0, C1 and those above F4, with which none begins, pass too.
 #[inline(always)]
 fn is_lead(byte: u8) -> bool
     ensures { IsTrue result → 0xc0 ≤ byte }
@@ -136,7 +145,7 @@ fn is_lead(byte: u8) -> bool
     byte >= 0xc0
 }
 
-// The end of the ordinary ASCII from a place on. Behind an escape or a character there is often none.
+/// The end of the ordinary ASCII from a place on. Behind an escape or a character there is often none.
 #[inline(always)]
 fn ascii_end(text: &[u8], from: usize, to: usize) -> usize
     requires { (from ≤ to) × (to ≤ length text.now) }
@@ -149,7 +158,7 @@ fn ascii_end(text: &[u8], from: usize, to: usize) -> usize
     plain_end(text, from, to)
 }
 
-// The end of escapes and of the ordinary ASCII between them and behind them.
+/// The end of escapes and of the ordinary ASCII between them and behind them.
 #[inline(never)]
 fn escaped_end(text: &[u8], from: usize, to: usize) -> usize
     requires { (from ≤ to) × (to ≤ length text.now) }
@@ -167,8 +176,8 @@ fn escaped_end(text: &[u8], from: usize, to: usize) -> usize
     i
 }
 
-// The end of characters above 7F, read one after another as long as they begin before `most`, and of the ordinary ASCII
-// between them.
+/// The end of characters above 7F, read one after another as long as they begin before `most`, and of the ordinary
+/// ASCII between them.
 #[inline(always)]
 fn sequences_end(text: &[u8], from: usize, most: usize, to: usize) -> usize
     requires { (from ≤ to) × (most ≤ to) × (to ≤ length text.now) }
@@ -186,8 +195,8 @@ fn sequences_end(text: &[u8], from: usize, most: usize, to: usize) -> usize
     i
 }
 
-// The end of characters from a byte above 7F on: of all that may stand for themselves in a stretch that is known to be
-// UTF-8, and else of a few; or `from` where none stands whole.
+/// The end of characters from a byte above 7F on: of all that may stand for themselves in a stretch that is known to be
+/// UTF-8, and else of a few; or `from` where none stands whole.
 #[inline(always)]
 fn characters_end(text: &[u8], from: usize, to: usize, ahead: Ahead) -> (usize, Ahead)
     requires bounds { (from < to) × (to ≤ length text.now) }
@@ -205,7 +214,7 @@ fn characters_end(text: &[u8], from: usize, to: usize, ahead: Ahead) -> (usize, 
     (end, ahead.past(end - from))
 }
 
-// The end of a run of escapes or of characters above 7F, and of the ordinary ASCII behind it, or `from`.
+/// The end of a run of escapes or of characters above 7F, and of the ordinary ASCII behind it, or `from`.
 #[inline(always)]
 fn part_end(text: &[u8], from: usize, to: usize, ahead: Ahead) -> (usize, Ahead)
     requires bounds { (from < to) × (to ≤ length text.now) }
@@ -221,7 +230,7 @@ fn part_end(text: &[u8], from: usize, to: usize, ahead: Ahead) -> (usize, Ahead)
     (ascii_end(text, end, to), known)
 }
 
-// `string_end_ahead`, from a byte above 7F on.
+/// `string_end_ahead`, from a byte above 7F on.
 #[inline(never)]
 fn parts_end(text: &[u8], from: usize, to: usize, ahead: Ahead) -> (usize, Ahead)
     requires bounds { (from ≤ to) × (to ≤ length text.now) }
@@ -243,7 +252,7 @@ fn parts_end(text: &[u8], from: usize, to: usize, ahead: Ahead) -> (usize, Ahead
     (i, ahead)
 }
 
-// The end of ordinary ASCII and of escapes.
+/// The end of ordinary ASCII and of escapes.
 #[inline(always)]
 fn ascii_string_end(text: &[u8], from: usize, to: usize) -> usize
     requires { (from ≤ to) × (to ≤ length text.now) }

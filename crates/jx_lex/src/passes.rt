@@ -125,6 +125,7 @@ impl Run for Blanks {
     }
 }
 
+/// Bit k says that the byte k places behind `i` is none of the run, for the 16 bytes from `i` on.
 #[inline(always)]
 fn marks<R: Run>(text: &[u8], i: usize) -> u64
     requires { i + 16 ≤ length text.now }
@@ -133,6 +134,7 @@ fn marks<R: Run>(text: &[u8], i: usize) -> u64
     R::others(u8x16::from_slice(&text[i..]))
 }
 
+/// Bit k says that the byte k places behind `i` is none of the run, for the 64 bytes from `i` on.
 #[inline(always)]
 fn marks_of_64<R: Run>(text: &[u8], i: usize) -> u64
     requires { i + 64 ≤ length text.now }
@@ -141,7 +143,7 @@ fn marks_of_64<R: Run>(text: &[u8], i: usize) -> u64
     R::others_of_64(u8x64::from_slice(&text[i..]))
 }
 
-// The first place from `from` on whose byte is none of the run, or `to`. Most runs end in their first 16 bytes.
+/// The first place from `from` on whose byte is none of the run, or `to`. Most runs end in their first 16 bytes.
 #[inline(always)]
 fn run_end<R: Run>(text: &[u8], from: usize, to: usize) -> usize
     requires { (from ≤ to) × (to ≤ length text.now) }
@@ -157,6 +159,7 @@ fn run_end<R: Run>(text: &[u8], from: usize, to: usize) -> usize
     long_run_end::<R>(text, from, from + 16, to)
 }
 
+/// `run_end`, where the bytes before `seen` are all of the run: it goes on 64 bytes at a time.
 fn long_run_end<R: Run>(text: &[u8], from: usize, seen: usize, to: usize) -> usize
     requires ordered { (from ≤ seen) × (seen ≤ to) × (to ≤ length text.now) }
     requires passed { HoldsNowhere (λ k. not (R.goes_on (slice_index text.now k))) from seen }
@@ -173,6 +176,7 @@ fn long_run_end<R: Run>(text: &[u8], from: usize, seen: usize, to: usize) -> usi
     run_end_by_16::<R>(text, from, i, to)
 }
 
+/// `run_end`, where the bytes before `seen` are all of the run: it goes on 16 bytes at a time.
 #[inline(always)]
 fn run_end_by_16<R: Run>(text: &[u8], from: usize, seen: usize, to: usize) -> usize
     requires ordered { (from ≤ seen) × (seen ≤ to) × (to ≤ length text.now) }
@@ -190,6 +194,7 @@ fn run_end_by_16<R: Run>(text: &[u8], from: usize, seen: usize, to: usize) -> us
     run_end_by_one::<R>(text, from, i, to)
 }
 
+/// `run_end`, where the bytes before `seen` are all of the run: it goes on one byte at a time.
 #[inline(always)]
 fn run_end_by_one<R: Run>(text: &[u8], from: usize, seen: usize, to: usize) -> usize
     requires ordered { (from ≤ seen) × (seen ≤ to) × (to ≤ length text.now) }

@@ -30,6 +30,7 @@ impl<'a> Model for Path<'a> {
 }
 
 impl<'a> Path<'a> {
+    /// Takes the first of the numbers that are left, or gives none where none is left.
     fn take_next(&mut self) -> Option<usize>
         ensures first { self.old ≡ option_to_list result ++ self.new }
         ensures none { IsNone result → self.new ≡ [] }

@@ -1,10 +1,10 @@
 // What of a map the tracks that come from the left reach.
 ghost use Rattle.std.specs.Prelude.{◌≡◌, ◌≤◌, true, length, IfOk, OnOk, OnErr, ◌++◌, ◌+◌, ◌<◌, ◌^◌};
 ghost use Rattle.jx_lex.specs.declared.state.LexState.{LexState};
-ghost use Rattle.jx_lex.specs.Bundle.{AllLive, LiveAt, is_live};
-ghost use Rattle.jx_lex.specs.Closed.{ClosedTo};
+ghost use Rattle.jx_lex.specs.inside.Bundle.{AllLive, LiveAt, is_live};
+ghost use Rattle.jx_lex.specs.inside.Closed.{ClosedTo};
 ghost use Rattle.jx_lex.specs.Follow.{AreIn, IsIn, head, linked_parts};
-ghost use Rattle.jx_lex.specs.Pruned.{IsReached, pruned, with_exit_of};
+ghost use Rattle.jx_lex.specs.inside.Pruned.{IsReached, pruned, with_exit_of};
 
 use crate::link::Link;
 use crate::segment::{Segment, link_segments};

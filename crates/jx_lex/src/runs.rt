@@ -8,7 +8,8 @@ ghost use Rattle.jx_lex.specs.Token.{IsE};
 use crate::passes::{blank_end, digit_end};
 use crate::state::LexState;
 
-// The end of the blanks that follow. They mostly stand alone, but for those after a line feed.
+/// The end of the blanks that follow. They mostly stand alone, but for those after a line feed.
+/// Where `byte` is no line feed and no space follows, it looks for none and gives `from`.
 #[inline(always)]
 pub(crate) fn gap_end(text: &[u8], byte: u8, from: usize, to: usize) -> usize
     requires { (from ≤ to) × (to ≤ length text.now) }
@@ -22,7 +23,8 @@ pub(crate) fn gap_end(text: &[u8], byte: u8, from: usize, to: usize) -> usize
     }
 }
 
-// After a minus sign, its first digit.
+/// After a minus sign, its first digit.
+/// Gives the place behind it, or `from` where none is read.
 #[inline(always)]
 fn first_digit(text: &[u8], state: &mut LexState, from: usize, to: usize) -> usize
     requires { (from ≤ to) × (to ≤ length text.now) }
@@ -46,7 +48,8 @@ fn first_digit(text: &[u8], state: &mut LexState, from: usize, to: usize) -> usi
     }
 }
 
-// The digits that follow.
+/// The digits that follow.
+/// Gives their end, or `from` in a state that is none of `Int`, `Frac` and `Exp`.
 #[inline(always)]
 pub(crate) fn more_digits(text: &[u8], state: LexState, from: usize, to: usize) -> usize
     requires { (from ≤ to) × (to ≤ length text.now) }
@@ -61,7 +64,8 @@ pub(crate) fn more_digits(text: &[u8], state: LexState, from: usize, to: usize) 
     }
 }
 
-// A decimal point and a digit behind an integer part.
+/// A decimal point and a digit behind an integer part.
+/// Gives the place behind them, or `from` where they are not read.
 #[inline(always)]
 fn point(text: &[u8], state: &mut LexState, from: usize, to: usize) -> usize
     requires { (from ≤ to) × (to ≤ length text.now) }
@@ -84,7 +88,8 @@ fn point(text: &[u8], state: &mut LexState, from: usize, to: usize) -> usize
     }
 }
 
-// The letter that begins an exponent, behind a digit.
+/// The letter that begins an exponent, behind a digit.
+/// Gives the place behind it, or `from` where none is read.
 #[inline(always)]
 fn letter(text: &[u8], state: &mut LexState, from: usize, to: usize) -> usize
     requires { (from ≤ to) × (to ≤ length text.now) }
@@ -111,6 +116,7 @@ fn letter(text: &[u8], state: &mut LexState, from: usize, to: usize) -> usize
     }
 }
 
+/// Whether the byte is `e` or `E`.
 #[inline(always)]
 fn is_letter(byte: u8) -> bool
     ensures { IsTrue result ↔ IsE byte }
@@ -118,7 +124,8 @@ fn is_letter(byte: u8) -> bool
     byte == b'e' || byte == b'E'
 }
 
-// The sign of an exponent, if it has one.
+/// The sign of an exponent, if it has one.
+/// Gives the place behind it, or `from` where none is read.
 #[inline(always)]
 fn sign(text: &[u8], state: &mut LexState, from: usize, to: usize) -> usize
     requires { (from ≤ to) × (to ≤ length text.now) }
@@ -142,7 +149,8 @@ fn sign(text: &[u8], state: &mut LexState, from: usize, to: usize) -> usize
     }
 }
 
-// The first digit of an exponent.
+/// The first digit of an exponent.
+/// Gives the place behind it, or `from` where none is read.
 #[inline(always)]
 fn exponent_digit(text: &[u8], state: &mut LexState, from: usize, to: usize) -> usize
     requires { (from ≤ to) × (to ≤ length text.now) }
@@ -165,7 +173,8 @@ fn exponent_digit(text: &[u8], state: &mut LexState, from: usize, to: usize) -> 
     }
 }
 
-// An exponent, if the number has one, as far as it stands there.
+/// An exponent, if the number has one, as far as it stands there.
+/// Gives the place behind what is read, or `from`.
 #[inline(always)]
 fn exponent(text: &[u8], state: &mut LexState, from: usize, to: usize) -> usize
     requires { (from ≤ to) × (to ≤ length text.now) }
@@ -181,7 +190,7 @@ fn exponent(text: &[u8], state: &mut LexState, from: usize, to: usize) -> usize
     more_digits(text, *state, behind_digit, to)
 }
 
-// The end of `rue`, or `from` where that doesn't stand there.
+/// The end of `rue`, or `from` where that doesn't stand there.
 #[inline(always)]
 fn true_end(text: &[u8], from: usize, to: usize) -> usize
     requires { (from ≤ to) × (to ≤ length text.now) }
@@ -194,7 +203,7 @@ fn true_end(text: &[u8], from: usize, to: usize) -> usize
     from
 }
 
-// The end of `alse`, or `from` where that doesn't stand there.
+/// The end of `alse`, or `from` where that doesn't stand there.
 #[inline(always)]
 fn false_end(text: &[u8], from: usize, to: usize) -> usize
     requires { (from ≤ to) × (to ≤ length text.now) }
@@ -212,7 +221,7 @@ fn false_end(text: &[u8], from: usize, to: usize) -> usize
     from
 }
 
-// The end of `ull`, or `from` where that doesn't stand there.
+/// The end of `ull`, or `from` where that doesn't stand there.
 #[inline(always)]
 fn null_end(text: &[u8], from: usize, to: usize) -> usize
     requires { (from ≤ to) × (to ≤ length text.now) }
@@ -225,7 +234,7 @@ fn null_end(text: &[u8], from: usize, to: usize) -> usize
     from
 }
 
-// The end of the literal that was begun, or `from` where it doesn't stand there whole.
+/// The end of the literal that was begun, or `from` where it doesn't stand there whole.
 #[inline(always)]
 pub(crate) fn literal_end(text: &[u8], begun: LexState, from: usize, to: usize) -> usize
     requires { (from ≤ to) × (to ≤ length text.now) }
@@ -240,7 +249,7 @@ pub(crate) fn literal_end(text: &[u8], begun: LexState, from: usize, to: usize) 
     }
 }
 
-// Whether no number goes on with this byte, and a value mostly ends before it.
+/// Whether no number goes on with this byte, and a value mostly ends before it.
 #[inline(always)]
 fn is_delimiter(byte: u8) -> bool
     ensures { result ≡ (byte == 0x2c || byte == 0x5d || byte == 0x7d || byte == 0x0a) }
@@ -248,7 +257,8 @@ fn is_delimiter(byte: u8) -> bool
     byte == b',' || byte == b']' || byte == b'}' || byte == b'\n'
 }
 
-// What follows of a number. Many have one digit.
+/// What follows of a number. Many have one digit.
+/// Gives the place behind what is read, or `from`.
 #[inline(always)]
 pub(crate) fn number_rest(text: &[u8], state: &mut LexState, from: usize, to: usize) -> usize
     requires { (from ≤ to) × (to ≤ length text.now) }

@@ -1,8 +1,8 @@
 // Reading bytes from a known lexical state, whatever is kept of the tokens.
 ghost use Rattle.std.specs.Prelude.{◌≡◌, ◌≤◌, ◌<◌, ◌+◌, ◌++◌, ◌∷◌, [], ◌^◌, ℕ, List, length, OnOk, IfOk, IfSome, IsNone, IsTrue, slice_range};
 ghost use Rattle.jx_lex.specs.declared.state.LexState.TheVariants as state;
-ghost use Rattle.jx_lex.specs.Ahead.{IsSound};
-ghost use Rattle.jx_lex.specs.Cells.{step_of};
+ghost use Rattle.jx_lex.specs.inside.Ahead.{IsSound};
+ghost use Rattle.jx_lex.specs.inside.Cells.{step_of};
 ghost use Rattle.jx_lex.specs.Lex.{lex, with_mark, with_end};
 ghost use Rattle.jx_lex.specs.Moves.{move};
 ghost use Rattle.jx_lex.specs.Seen.{EndsAtComma, Grows, SeesTrack, WantsNoMore, GoesTo};

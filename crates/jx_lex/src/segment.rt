@@ -1,10 +1,10 @@
 // A part of one or more tracks.
 ghost use Rattle.std.specs.Prelude.{◌≡◌, ◌≤◌, ◌<◌, ◌+◌, ◌++◌, [], ◌^◌, length, take, slice_range, OnOk, OnErr};
-ghost use Rattle.jx_lex.specs.Closed.{ClosedTo};
+ghost use Rattle.jx_lex.specs.inside.Closed.{ClosedTo};
 ghost use Rattle.jx_lex.specs.declared.state.LexState.{LexState};
 ghost use Rattle.jx_lex.specs.Follow.{IsIn, head, linked, linked_parts};
-ghost use Rattle.jx_lex.specs.Passing.{read_bytes};
-ghost use Rattle.jx_lex.specs.Step.{read_part};
+ghost use Rattle.jx_lex.specs.inside.Passing.{read_bytes};
+ghost use Rattle.jx_lex.specs.inside.Step.{read_part};
 
 use crate::keeper::Keeper;
 use crate::link::Link;
@@ -31,6 +31,7 @@ impl Model for Segment {
 }
 
 impl Segment {
+    /// A segment with no marks and no ends, which leads there.
     pub(crate) fn new(alloc: Global, next: Link) -> Segment
         ensures { result ≡ record { marks = []; ends = []; next = next } }
     {
@@ -113,6 +114,7 @@ impl Segment {
         self.next = next;
     }
 
+    /// Leads there; its marks and ends stay.
     pub(crate) fn set_next(&mut self, next: Link)
         ensures { self.new ≡ record self.old { next = next } }
     {
@@ -121,7 +123,7 @@ impl Segment {
 }
 
 /// Lets all that leads out go on where the right begins.
-// The first so many don't lead out in a state, and stay as they are.
+/// The first so many don't lead out in a state, and stay as they are.
 pub(crate) fn link_segments(
     segments: &mut [Segment],
     heads: &[Link; 32],

@@ -3,7 +3,7 @@ ghost use Rattle.std.specs.Prelude.{◌≡◌, ◌≤◌, ◌++◌, ◌∷◌, [
 ghost use Rattle.jx_lex.specs.declared.mark.Mark.{Mark};
 ghost use Rattle.jx_lex.specs.Lex.{lex};
 ghost use Rattle.jx_lex.specs.Seen.{with_tokens};
-ghost use Rattle.jx_lex.specs.Step.{link_at};
+ghost use Rattle.jx_lex.specs.inside.Step.{link_at};
 
 use crate::keeper::Keeper;
 use crate::link::Link;

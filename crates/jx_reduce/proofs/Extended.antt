@@ -2,8 +2,8 @@
 use Rattle.std.proofs.Common.{◌≡◌, ℕ, ap, subst, sym, ◌∙◌}
 use Rattle.jx_reduce.specs.Reduced.{depth_of, form_in}
 use Rattle.jx_reduce.specs.Reductions.{Forms, form_at, IsSound, IsBefore, IsJoin}
-use Rattle.jx_reduce.specs.Follow.{followed}
-use Rattle.jx_reduce.specs.View.{forms_of}
+use Rattle.jx_reduce.specs.inside.Follow.{followed}
+use Rattle.jx_reduce.specs.inside.View.{forms_of}
 use Rattle.jx_reduce.specs.declared.entry.Entry.{Entry}
 use Rattle.jx_reduce.specs.declared.reduced.Reduced.{Reduced}
 use Rattle.jx_reduce.specs.declared.reductions.Reductions.TheInside.{Inside}

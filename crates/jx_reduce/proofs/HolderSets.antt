@@ -4,7 +4,7 @@ use Rattle.std.specs.Int.Bits.{bit_and}
 use Rattle.jx_reduce.specs.Entries.{expect_at}
 use Rattle.jx_reduce.specs.Form.{fault_of}
 use Rattle.jx_reduce.specs.Marks.{fault_unless, fault_at}
-use Rattle.jx_reduce.specs.Quiet.{set_of, bit_of, is_fault, fault_bits, unfaulted}
+use Rattle.jx_reduce.specs.inside.Quiet.{set_of, bit_of, is_fault, fault_bits, unfaulted}
 use Rattle.jx_reduce.specs.Table.{next_of}
 use Rattle.jx_reduce.specs.declared.holder.Holder.{Holder}
 use Rattle.jx_reduce.specs.declared.holder.Holder.TheVariants.{Array, Object, Bottom}

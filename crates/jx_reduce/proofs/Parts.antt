@@ -5,7 +5,7 @@ use Rattle.std.proofs.lemmas.List.{take_all, take-append-drop, take-append-le, d
 use Rattle.std.proofs.lemmas.Option.{same_Some}
 use Rattle.std.proofs.Math.Seq.{take-append_seam, drop-append_seam}
 use Rattle.jx_reduce.specs.Entries.{leads_to, string_leads}
-use Rattle.jx_reduce.specs.Follow.{followed_by, followed}
+use Rattle.jx_reduce.specs.inside.Follow.{followed_by, followed}
 use Rattle.jx_reduce.specs.Form.{Form, fault_of, end_fault_of}
 use Rattle.jx_reduce.specs.Join.{Tail, closed, filled_end, tail_of, halted, stop_or, with_tail, with_level, passes, absorbed, over, cut_short, joined}
 use Rattle.jx_reduce.specs.Marks.{of_change, of_mark, of_nothing, pushed_from, pushed, of_marks}

@@ -10,7 +10,7 @@ use Rattle.jx_reduce.specs.Form.{Form, fault_of}
 use Rattle.jx_reduce.specs.Join.{Tail, first_of, merged, no_faults, stop_or, with_tail, absorbed, joined_heights, all_faulted, cut, cut_short, base_at, joined}
 use Rattle.jx_reduce.specs.Levels.{with_opens}
 use Rattle.jx_reduce.specs.Marks.{faults_at, end_at, of_change, pushed, of_marks}
-use Rattle.jx_reduce.specs.Quiet.{bit_of, fault_bits, unfaulted, standing, IsAt}
+use Rattle.jx_reduce.specs.inside.Quiet.{bit_of, fault_bits, unfaulted, standing, IsAt}
 use Rattle.jx_reduce.specs.Table.{change_of, same, added, removed}
 use Rattle.jx_reduce.specs.declared.holder.Holder.{Holder}
 use Rattle.jx_reduce.specs.declared.holder.Holder.TheVariants.{Array, Object, Bottom}

@@ -7,7 +7,7 @@ use Rattle.jx_reduce.specs.Marks.{of_nothing, of_marks}
 use Rattle.jx_reduce.specs.Fits.{Fits}
 use Rattle.jx_reduce.specs.Offsets.{EachIn, OffsetsIn, RisingFrom}
 use Rattle.jx_reduce.specs.Reductions.{Forms, form_at, entry_of, answer, IsSound, IsBefore, IsJoin, IsOf}
-use Rattle.jx_reduce.specs.Follow.{followed_by, followed}
+use Rattle.jx_reduce.specs.inside.Follow.{followed_by, followed}
 use Rattle.jx_reduce.proofs.Joined.{acts-joined, acts_over}
 use Rattle.jx_reduce.proofs.Bounds.{Fits-joined, OffsetsIn-joined, apart}
 use Rattle.jx_reduce.proofs.Readings.{then_by_same, acts-of_marks, acts-of_nothing, Fits-of_marks, Fits-of_nothing, OffsetsIn-of_marks, OffsetsIn-of_nothing}

@@ -7,16 +7,12 @@ pub mod Marks
 pub mod Fits
 pub mod Offsets
 pub mod Levels
-pub mod Quiet
 pub mod Reduced
 pub mod Reducer
 pub mod Reductions
-pub mod Follow
 pub mod Parts
-pub mod View
 pub mod Outcome
 pub mod Whole
 pub mod Bits
-pub mod OpenContainers
 pub mod KnownStack
-pub mod KnownInside
+pub mod inside

@@ -13,6 +13,7 @@ use crate::levels::Levels;
 use crate::outcome::Outcome;
 use std::alloc::AllocError;
 
+/// The innermost of these containers, which is the last, or the bottom where there are none.
 pub(crate) fn top_of(holders: &[Holder]) -> Holder
     ensures { result ≡ top (reverse holders.now) }
 {
@@ -43,12 +44,14 @@ impl Levels {
         }
     }
 
+    /// The offset at this index of the heights, if there are so many.
     pub(crate) fn height_at(&self, index: usize) -> Option<usize>
         ensures { result ≡ slice_get self.now.heights.items index }
     {
         self.heights.get(index).copied()
     }
 
+    /// What the reading comes to in these open containers: where it goes on, its fault, or where it is too deep.
     pub(crate) fn act(&self, depth: usize, holders: &[Holder]) -> Result<Outcome, AllocError>
         requires depth { length holders.now ≤ depth }
         requires fits { Fits depth (form_of self.now) }

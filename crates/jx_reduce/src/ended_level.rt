@@ -15,6 +15,7 @@ pub(crate) struct EndedLevel {
 }
 
 impl EndedLevel {
+    /// The first fault of this holder, if it has one.
     pub fn fault(self, holder: Holder) -> Option<usize>
         ensures { result ≡ end_fault_of self holder }
     {

@@ -66,6 +66,7 @@ impl Entry {
         }
     }
 
+    /// The offset of the mark where it is a fault of this holder, or none.
     fn fault_at(self, mark: Mark, holder: Holder) -> Option<usize>
         ensures { result ≡ fault_at self mark holder }
     {

@@ -37,7 +37,7 @@ impl Model for KnownStack {
 
     ghost Value = { Known };
 
-    ghost use Rattle.jx_reduce.specs.KnownInside.{known_of, IsLawful};
+    ghost use Rattle.jx_reduce.specs.inside.KnownInside.{known_of, IsLawful};
 
     ghost view = { known_of };
 
@@ -45,7 +45,7 @@ impl Model for KnownStack {
 }
 
 impl KnownStack {
-    ghost use Rattle.jx_reduce.specs.KnownInside.{fault_reading};
+    ghost use Rattle.jx_reduce.specs.inside.KnownInside.{fault_reading};
 
     /// At the start of a text. It takes no memory.
     pub fn new(alloc: Global, depth: Depth) -> KnownStack
@@ -167,6 +167,7 @@ impl KnownStack {
         Ok(())
     }
 
+    /// Takes one mark after another, and stops once the reading is done: the reading is that of all of them.
     fn run(&mut self, marks: &[Mark]) -> Result<(), AllocError>
         ensures depth { self.new.depth ≡ self.old.depth }
         ensures reads { OnOk result (self.new.reading ≡ read self.old.depth marks.now self.old.reading) }

@@ -1,7 +1,7 @@
 ghost use Rattle.std.specs.Prelude.{◌≡◌};
 ghost use Rattle.jx_reduce.specs.Form.{fault_of};
 ghost use Rattle.jx_reduce.specs.Join.{all_faulted, merged, filled, closed, first_of};
-ghost use Rattle.jx_reduce.specs.Quiet.{unfaulted};
+ghost use Rattle.jx_reduce.specs.inside.Quiet.{unfaulted};
 
 use crate::ended_level::EndedLevel;
 use crate::holder::Holder;
@@ -85,6 +85,7 @@ impl Level {
     }
 }
 
+/// `a`, or `b` where there is no `a`.
 fn first(a: Option<usize>, b: Option<usize>) -> Option<usize>
     ensures { result ≡ first_of a b }
 {

@@ -5,7 +5,7 @@ ghost use Rattle.jx_reduce.specs.Join.{halted, joined, joined_heights};
 ghost use Rattle.jx_reduce.specs.Marks.{pushed, of_change, of_marks, of_nothing};
 ghost use Rattle.jx_reduce.specs.Table.{same, added, removed};
 ghost use Rattle.jx_reduce.specs.Fits.{Fits};
-ghost use Rattle.jx_reduce.specs.Quiet.{GoesOn};
+ghost use Rattle.jx_reduce.specs.inside.Quiet.{GoesOn};
 ghost use Rattle.jx_reduce.specs.Levels.{form_of, part_form, head_of, taken_in, ended_in, IsSameBut, HasRoom};
 
 use crate::ended_level::EndedLevel;
@@ -26,6 +26,7 @@ pub(crate) struct Levels {
     pub heights: Vec<usize>,
 }
 
+/// The innermost of these containers, which is the last, if there is one.
 fn innermost(opens: &[Holder]) -> Option<Holder>
     ensures { result ≡ head_of (reverse opens.now) }
 {
@@ -137,6 +138,7 @@ impl Levels {
         self.take_in(depth, part)
     }
 
+    /// The same form, lent.
     pub fn part(&self) -> Part<'_>
         ensures { part_form result ≡ form_of self.now }
     {

@@ -28,7 +28,7 @@ impl Model for OpenContainers {
 
     ghost Value = { List Holder };
 
-    ghost use Rattle.jx_reduce.specs.OpenContainers.{holders_in, IsPacked};
+    ghost use Rattle.jx_reduce.specs.inside.OpenContainers.{holders_in, IsPacked};
 
     ghost view = { holders_in };
 

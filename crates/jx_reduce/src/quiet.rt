@@ -5,7 +5,7 @@ ghost use Rattle.jx_reduce.specs.Entries.{leads_to};
 ghost use Rattle.jx_reduce.specs.Form.{Form};
 ghost use Rattle.jx_reduce.specs.Levels.{with_opens};
 ghost use Rattle.jx_reduce.specs.Marks.{of_marks};
-ghost use Rattle.jx_reduce.specs.Quiet.{fault_bits, bit_of, standing, IsAt};
+ghost use Rattle.jx_reduce.specs.inside.Quiet.{fault_bits, bit_of, standing, IsAt};
 
 use crate::entry::Entry;
 use crate::holder::Holder;
@@ -120,6 +120,7 @@ fn lead(kind: MarkKind, entry: Entry) -> Entry
     LEADS[kind as usize][entry as usize]
 }
 
+/// The bit of this holder in a set of holders.
 #[inline(always)]
 fn bit(holder: Holder) -> u8
     ensures { result ≡ bit_of holder }

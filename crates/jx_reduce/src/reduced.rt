@@ -7,7 +7,7 @@ ghost use Rattle.jx_reduce.specs.Marks.{of_marks, of_nothing};
 ghost use Rattle.jx_reduce.specs.Fits.{Fits};
 ghost use Rattle.jx_reduce.specs.Levels.{form_of, HasRoomOf};
 ghost use Rattle.jx_reduce.specs.Outcome.{reading_of};
-ghost use Rattle.jx_reduce.specs.Quiet.{GoesOn};
+ghost use Rattle.jx_reduce.specs.inside.Quiet.{GoesOn};
 ghost use Rattle.jx_reduce.specs.Whole.{whole_of};
 
 use crate::act::top_of;
@@ -107,6 +107,7 @@ impl Reduced {
         Ok(())
     }
 
+    /// Where its memory comes from.
     fn allocator(&self) -> Global {
         *self.levels.opens.allocator()
     }

@@ -5,7 +5,7 @@ ghost use Rattle.jx_reduce.specs.Offsets.{RisingFrom, EachIn};
 ghost use Rattle.jx_reduce.specs.Fits.{IsOfSize};
 ghost use Rattle.jx_reduce.specs.Reduced.{depth_of, form_in};
 ghost use Rattle.jx_reduce.specs.Reductions.{form_at, entry_of, IsJoin, IsBefore, IsOf, SpansIn};
-ghost use Rattle.jx_reduce.specs.Follow.{followed, IsReady};
+ghost use Rattle.jx_reduce.specs.inside.Follow.{followed, IsReady};
 ghost use Rattle.jx_reduce.specs.Parts.{EndsWith, AreParts};
 ghost use Rattle.jx_lex.specs.declared.mark.Mark.{Mark};
 
@@ -52,7 +52,7 @@ impl Model for Reductions {
 
     ghost Value = { Forms };
 
-    ghost use Rattle.jx_reduce.specs.View.{forms_of, AreOfDepth};
+    ghost use Rattle.jx_reduce.specs.inside.View.{forms_of, AreOfDepth};
 
     ghost view = { forms_of };
 
@@ -145,6 +145,7 @@ impl Reductions {
         }
     }
 
+    /// What the marks come to from this entry.
     fn at(&self, entry: Entry) -> &Reduced
         ensures depth { depth_of result.now ≡ self.now.depth }
         ensures form { form_in result.now ≡ form_at self.now entry }

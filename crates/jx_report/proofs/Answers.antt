@@ -23,7 +23,7 @@ use Rattle.jx_report.specs.declared.exit.Exit.TheVariants.{Good}
 use Rattle.jx_report.specs.Elements.{element_lines, exit_past, exit_past_all, exit_past_judged, judged_line, judged_lines}
 use Rattle.jx_report.specs.Output.{ByVerdict, Output, SaysAccepted, SaysRows}
 use Rattle.jx_report.specs.Pointers.{PointerLines}
-use Rattle.jx_report.specs.Replies.{verdict_exit, verdict_line}
+use Rattle.jx_report.specs.inside.Replies.{verdict_exit, verdict_line}
 
 -- what is written for a verdict alone, whatever is written for a text that is accepted
 pub says_verdict : (verdict : Verdict) → ByVerdict SaysAccepted verdict (verdict_line verdict) (verdict_exit verdict)

@@ -9,9 +9,9 @@ use Rattle.jx_run.specs.Reader.{ReaderValue, HasRead}
 use Rattle.jx_run.specs.declared.settings.Settings.{Settings}
 use Rattle.jx_report.specs.declared.text_check.TextCheck.{TextCheck}
 use Rattle.jx_report.specs.declared.sequence_check.SequenceCheck.{SequenceCheck}
-use Rattle.jx_report.specs.Batches.{GoesOn, IsChecked, IsTaken, ShowsFront}
+use Rattle.jx_report.specs.inside.Batches.{GoesOn, IsChecked, IsTaken, ShowsFront}
 use Rattle.jx_report.specs.Ends.{ReadsToEnd}
-use Rattle.jx_report.specs.Sequences.{AreTaken, IsSequenceTaken}
+use Rattle.jx_report.specs.inside.Sequences.{AreTaken, IsSequenceTaken}
 
 -- the part up to an offset, and what stands from there up to another
 pub up_to : (bytes text : List ℕ) (done end : ℕ) → done ≤ end → (bytes ++ take done text) ++ take (end - done) (drop done text) ≡ bytes ++ take end text

@@ -10,7 +10,7 @@ use Rattle.jx_run.specs.declared.settings.FrontMark.TheVariants as on_mark
 use Rattle.jx_run.specs.declared.verdict.Refusal.TheVariants as refusal
 use Rattle.jx_run.specs.Front.{agreed, front_by, front_of}
 use Rattle.jx_run.specs.Settings.{byte_order_mark}
-use Rattle.jx_report.specs.Batches.{ShowsFront}
+use Rattle.jx_report.specs.inside.Batches.{ShowsFront}
 
 none_more : (xs ys : List ℕ) → agreed xs [] ≡ agreed ys []
 none_more [] [] = refl

@@ -4,7 +4,7 @@ use Rattle.std.proofs.Math.ListN.{drop_of_length-le}
 use Rattle.jx_report.specs.declared.exit.Exit.{Exit}
 use Rattle.jx_report.specs.declared.pointer_answer.PointerAnswer.{PointerAnswer}
 use Rattle.jx_report.specs.Pointers.{answer_words, exit_after}
-use Rattle.jx_report.specs.Replies.{exit_past_lines, pointer_lines}
+use Rattle.jx_report.specs.inside.Replies.{exit_past_lines, pointer_lines}
 use Rattle.jx_report.specs.Words.{line}
 
 -- ---- behind a list of lines

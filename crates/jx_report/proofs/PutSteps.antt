@@ -6,7 +6,7 @@ use Rattle.std.proofs.KnownBytes.{Appends-nil, Appends-trans}
 use Rattle.std.proofs.Math.Seq.{take-append-add}
 use Rattle.std.proofs.lemmas.List.{take-append-le}
 use Rattle.jx_report.specs.Ends.{AppendsBeginning}
-use Rattle.jx_report.specs.Room.{IsPut}
+use Rattle.jx_report.specs.inside.Room.{IsPut}
 
 -- what waits may wait on
 pub put_nothing : (a : Option (List ℕ)) (waiting : List ℕ) → IsPut a a waiting waiting

@@ -12,7 +12,7 @@ use Rattle.jx_run.specs.declared.verdict.Verdict.{Verdict}
 use Rattle.jx_run.specs.Elements.{Part}
 use Rattle.jx_run.specs.Front.{front_of}
 use Rattle.jx_run.specs.SequenceRead.{ended_there, listed}
-use Rattle.jx_report.specs.Batches.{ShowsFront}
+use Rattle.jx_report.specs.inside.Batches.{ShowsFront}
 use Rattle.jx_report.proofs.BatchSteps.{up_to}
 use Rattle.jx_report.proofs.FrontSteps.{front_stays}
 

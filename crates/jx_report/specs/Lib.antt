@@ -1,11 +1,8 @@
-pub mod Batches
 pub mod Elements
 pub mod Ends
 pub mod Output
 pub mod Pointers
-pub mod Replies
 pub mod Reports
-pub mod Room
 pub mod RowWords
-pub mod Sequences
 pub mod Words
+pub mod inside

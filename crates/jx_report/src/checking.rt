@@ -2,9 +2,9 @@
 ghost use Rattle.std.specs.Prelude.{◌≡◌, ◌≢◌, ◌<◌, ◌≤◌, ◌^◌, ◌↔◌, ℕ, List, false, true, IfOk, IfErr, IsErrOf};
 ghost use Rattle.jx_run.specs.declared.settings.NameRule.TheVariants.{Any};
 ghost use Rattle.jx_run.specs.declared.settings.Settings.{Settings};
-ghost use Rattle.jx_report.specs.Batches.{IsChecked, IsTaken};
+ghost use Rattle.jx_report.specs.inside.Batches.{IsChecked, IsTaken};
 ghost use Rattle.jx_report.specs.Output.{TextOutput, SaysAccepted};
-ghost use Rattle.jx_report.specs.Replies.{reply_exit, reply_output};
+ghost use Rattle.jx_report.specs.inside.Replies.{reply_exit, reply_output};
 ghost use Rattle.jx_report.specs.Reports.{IsAnswered, HasTooManyPieces};
 
 use crate::batch::fill;
@@ -53,6 +53,7 @@ fn check_batches<R: Threads + Wait + Sync, S: Source, G: Gate + Sync>(
     Ok(check)
 }
 
+/// The reply that tells the verdict of a check, unless memory was refused.
 fn reply_of_check(check: &TextCheck) -> Result<Reply, AllocError>
     ensures { IfOk result (λ reply. (settings : Settings) (text : List ℕ) → settings.names ≡ Any → IsTaken settings text check.now
         → TextOutput SaysAccepted settings text (reply_output reply) (reply_exit reply)) }

@@ -1,13 +1,14 @@
 // The lines that stand for the elements of a text sequence.
 ghost use Rattle.std.specs.Prelude.{◌≡◌, ◌<◌, ◌++◌, Some, codes, length, slice_get};
 ghost use Rattle.jx_report.specs.Elements.{exit_past_judged, exit_past_verdict, judged_line, verdict_words};
-ghost use Rattle.jx_report.specs.Room.{HasRoom, TakesRoom};
+ghost use Rattle.jx_report.specs.inside.Room.{HasRoom, TakesRoom};
 ghost use Rattle.jx_report.specs.declared.exit.Exit.TheVariants.{Good};
 
 use crate::exit::Exit;
 use crate::words::{push_bytes, push_refusal, push_span};
 use jx_run::{ElementVerdict, JudgedElement};
 
+/// Appends what an element comes to.
 fn push_word(out: &mut Vec<u8>, verdict: ElementVerdict)
     requires { HasRoom out.old 37 }
     ensures words { out.new.items ≡ out.old.items ++ verdict_words verdict }
@@ -33,6 +34,7 @@ pub fn push_element(out: &mut Vec<u8>, element: JudgedElement)
     push_bytes(out, b"\n");
 }
 
+/// Bad where the element is not accepted, and otherwise the exit that there was before it.
 fn exit_past(exit: Exit, verdict: ElementVerdict) -> Exit
     ensures { result ≡ exit_past_verdict exit verdict }
 {
@@ -42,6 +44,7 @@ fn exit_past(exit: Exit, verdict: ElementVerdict) -> Exit
     }
 }
 
+/// The element with this number, counted from 0.
 pub fn element_at(elements: &[JudgedElement], number: usize) -> JudgedElement
     requires { number < length elements.now }
     ensures { slice_get elements.now number ≡ Some result }

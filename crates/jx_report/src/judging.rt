@@ -3,9 +3,9 @@ ghost use Rattle.std.specs.Prelude.{◌≡◌, ◌≢◌, ◌<◌, ◌≤◌, �
 ghost use Rattle.jx_command.specs.declared.command.Task.TheVariants.{Seq};
 ghost use Rattle.jx_run.specs.declared.settings.NameRule.TheVariants.{Any};
 ghost use Rattle.jx_report.specs.Output.{Output};
-ghost use Rattle.jx_report.specs.Replies.{reply_exit, reply_output};
+ghost use Rattle.jx_report.specs.inside.Replies.{reply_exit, reply_output};
 ghost use Rattle.jx_report.specs.Reports.{IsAnswered, HasTooManyPieces};
-ghost use Rattle.jx_report.specs.Sequences.{AreTaken, IsSequenceTaken};
+ghost use Rattle.jx_report.specs.inside.Sequences.{AreTaken, IsSequenceTaken};
 
 use crate::batch::fill;
 use crate::reply::Reply;

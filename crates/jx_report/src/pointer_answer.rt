@@ -7,7 +7,7 @@ ghost use Rattle.jx_index.specs.Indexed.{IndexedValue};
 ghost use Rattle.jx_index.specs.Pointers.{IsPointer};
 ghost use Rattle.jx_index.specs.Rows.{rows};
 ghost use Rattle.jx_report.specs.Pointers.{exit_after, ArePointersOf, IsAnswerTo, IsFoundFor, PointerLines};
-ghost use Rattle.jx_report.specs.Replies.{exit_past_lines, pointer_lines};
+ghost use Rattle.jx_report.specs.inside.Replies.{exit_past_lines, pointer_lines};
 ghost use Rattle.jx_report.specs.declared.exit.Exit.TheVariants.{Good};
 
 use crate::exit::Exit;
@@ -86,6 +86,7 @@ pub fn answers_of(
     Ok(answers)
 }
 
+/// Bad where the pointer is not found, and otherwise the exit that there was before it.
 fn exit_after(exit: Exit, answer: PointerAnswer) -> Exit
     ensures { result ≡ exit_after exit answer }
 {
@@ -95,6 +96,7 @@ fn exit_after(exit: Exit, answer: PointerAnswer) -> Exit
     }
 }
 
+/// The answer with this number, counted from 0.
 pub fn answer_at(answers: &[PointerAnswer], number: usize) -> PointerAnswer
     requires { number < length answers.now }
     ensures { slice_get answers.now number ≡ Some result }

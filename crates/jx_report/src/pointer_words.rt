@@ -1,7 +1,7 @@
 // The words that stand for what pointers come to.
 ghost use Rattle.std.specs.Prelude.{◌≡◌, ◌++◌, codes, decimal, length};
 ghost use Rattle.jx_report.specs.Pointers.{answer_words};
-ghost use Rattle.jx_report.specs.Room.{HasRoom, TakesRoom};
+ghost use Rattle.jx_report.specs.inside.Room.{HasRoom, TakesRoom};
 ghost use Rattle.jx_report.specs.Words.{line};
 
 use crate::pointer_answer::PointerAnswer;
@@ -9,6 +9,7 @@ use crate::words::{push_bytes, push_kind, push_numbered, push_span};
 use jx_index::{FindFault, PointerFault};
 use jx_lex::{Kind, Span};
 
+/// Appends why what is spelt is no pointer.
 fn push_unread(out: &mut Vec<u8>, fault: PointerFault)
     requires { HasRoom out.old 45 }
     ensures words { out.new.items ≡ out.old.items ++ answer_words (PointerAnswer.Unread fault) }
@@ -20,6 +21,7 @@ fn push_unread(out: &mut Vec<u8>, fault: PointerFault)
     }
 }
 
+/// Appends why a pointer leads nowhere, and at which of its tokens.
 fn push_lost(out: &mut Vec<u8>, fault: FindFault)
     requires { HasRoom out.old 45 }
     ensures words { out.new.items ≡ out.old.items ++ answer_words (PointerAnswer.Lost fault) }
@@ -37,6 +39,7 @@ fn push_lost(out: &mut Vec<u8>, fault: FindFault)
     }
 }
 
+/// Appends the kind of the value that is found and where it stands.
 fn push_found(out: &mut Vec<u8>, kind: Kind, span: Span)
     requires { HasRoom out.old 55 }
     ensures words { out.new.items ≡ out.old.items ++ answer_words (PointerAnswer.Found kind span) }

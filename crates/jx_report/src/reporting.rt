@@ -1,7 +1,7 @@
 ghost use Rattle.std.specs.Prelude.{◌≡◌, ◌≢◌, ◌<◌, ◌≤◌, ◌^◌, ◌↔◌, true, false, IfOk, IfErr, IsErrOf};
 ghost use Rattle.jx_report.specs.Output.{Output};
 ghost use Rattle.jx_report.specs.Reports.{IsAnswered, Reports, ReportsInPart, HasTooManyPieces};
-ghost use Rattle.jx_report.specs.Replies.{reply_exit, reply_output};
+ghost use Rattle.jx_report.specs.inside.Replies.{reply_exit, reply_output};
 
 use crate::checking::check_input;
 use crate::exit::Exit;

@@ -1,6 +1,6 @@
 // The lines that stand for the rows of a text.
 ghost use Rattle.std.specs.Prelude.{◌≡◌, ◌++◌, codes, decimal, length};
-ghost use Rattle.jx_report.specs.Room.{HasRoom, TakesRoom};
+ghost use Rattle.jx_report.specs.inside.Room.{HasRoom, TakesRoom};
 ghost use Rattle.jx_report.specs.Words.{line};
 ghost use Rattle.jx_report.specs.RowWords.{node_words, parent_words, name_words, place_words, row_words};
 
@@ -8,6 +8,7 @@ use crate::words::{push_byte, push_kind, push_number, push_span};
 use jx_index::{NodeId, Row};
 use jx_lex::Span;
 
+/// Appends the number of the parent's row, or `-` where there is no parent.
 fn push_parent(out: &mut Vec<u8>, parent: Option<NodeId>)
     requires { HasRoom out.old 20 }
     ensures words { out.new.items ≡ out.old.items ++ parent_words parent }
@@ -19,6 +20,7 @@ fn push_parent(out: &mut Vec<u8>, parent: Option<NodeId>)
     }
 }
 
+/// Appends where the name stands, or `-` where there is none.
 fn push_name(out: &mut Vec<u8>, name: Option<Span>)
     requires { HasRoom out.old 42 }
     ensures words { out.new.items ≡ out.old.items ++ name_words name }

@@ -5,8 +5,8 @@ ghost use Rattle.jx_run.specs.declared.settings.FrontMark.TheVariants.{Ignored};
 ghost use Rattle.jx_run.specs.declared.settings.NameRule.TheVariants.{Any};
 ghost use Rattle.jx_run.specs.declared.settings.Settings.{Settings};
 ghost use Rattle.jx_run.specs.Front.{front_of};
-ghost use Rattle.jx_report.specs.Batches.{ShowsFront};
-ghost use Rattle.jx_report.specs.Sequences.{AreReadBy, IsSequenceTaken};
+ghost use Rattle.jx_report.specs.inside.Batches.{ShowsFront};
+ghost use Rattle.jx_report.specs.inside.Sequences.{AreReadBy, IsSequenceTaken};
 
 use crate::report_fault::ReportFault;
 use crate::sequence_reader::SequenceReader;

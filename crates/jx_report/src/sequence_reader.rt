@@ -3,8 +3,8 @@ ghost use Rattle.std.specs.Prelude.{◌≡◌, ◌+◌, ◌<◌, ◌≤◌, ◌^
 ghost use Rattle.std.specs.List.{AllZip};
 ghost use Rattle.jx_run.specs.Elements.{elements};
 ghost use Rattle.jx_run.specs.ElementVerdict.{IsJudgedElement};
-ghost use Rattle.jx_run.specs.SequenceRead.{EndsWithMark, IsUnmarked, StartsWithMark};
-ghost use Rattle.jx_report.specs.Sequences.{AreReadBy};
+ghost use Rattle.jx_run.specs.SequenceRead.{EndsWithSeparator, HasNoSeparator, StartsWithSeparator};
+ghost use Rattle.jx_report.specs.inside.Sequences.{AreReadBy};
 
 use crate::text_check::TextReader;
 use jx_answer::judge_batch;
@@ -12,7 +12,7 @@ use jx_book::Gate;
 use jx_claim::Cutting;
 use jx_command::Command;
 use jx_run::{
-    JudgedElement, ended_there, ends_open_behind, marked_part, sequences_are_read_part_by_part,
+    JudgedElement, ended_there, ends_open_behind, separated_part, sequences_are_read_part_by_part,
 };
 use std::alloc::{AllocError, Global};
 use std::sync::Wait;
@@ -53,7 +53,7 @@ fn elements_of<R: Threads + Wait + Sync, G: Gate + Sync>(
     requires piece { 1 ≤ command.now.piece }
     requires few { length part.now < 2 ^ 32 }
     requires fits { before + length part.now < 2 ^ 64 }
-    requires starts { StartsWithMark part.now }
+    requires starts { StartsWithSeparator part.now }
     ensures { IfOk result (λ es. AllZip (IsJudgedElement command.now.settings.depth) (elements before part.now) es.items) }
 {
     let Ok(cutting) = Cutting::every(part.len(), piece_of(command, part.len())) else {
@@ -102,7 +102,7 @@ impl SequenceReader {
         requires piece { 1 ≤ command.now.piece }
         requires few { length bytes.now < 2 ^ 32 }
         requires fits { (limit : ℕ) × ((text : List ℕ) × (AreReadBy limit text self.old × (length text + length bytes.now < 2 ^ 64))) }
-        ensures reads { OnOk result ((limit : ℕ) (text : List ℕ) → AreReadBy limit text self.old → IsUnmarked bytes.now → AreReadBy limit (text ++ bytes.now) self.new) }
+        ensures reads { OnOk result ((limit : ℕ) (text : List ℕ) → AreReadBy limit text self.old → HasNoSeparator bytes.now → AreReadBy limit (text ++ bytes.now) self.new) }
     {
         sequences_are_read_part_by_part();
         self.reader.read(rt, alloc, command, bytes, gate)?;
@@ -137,8 +137,8 @@ impl SequenceReader {
         requires piece { 1 ≤ command.now.piece }
         requires few { length bytes.now < 2 ^ 32 }
         requires fits { before + length bytes.now < 2 ^ 64 }
-        requires starts { StartsWithMark bytes.now }
-        requires ends { EndsWithMark bytes.now }
+        requires starts { StartsWithSeparator bytes.now }
+        requires ends { EndsWithSeparator bytes.now }
         ensures reads { OnOk result ((text : List ℕ) → before ≡ length text → AreReadBy command.now.settings.depth text self.old
             → AreReadBy command.now.settings.depth (text ++ bytes.now) self.new) }
     {
@@ -169,7 +169,7 @@ impl SequenceReader {
         ensures reads { OnOk result ((text : List ℕ) → before ≡ length text → AreReadBy command.now.settings.depth text self.old
             → AreReadBy command.now.settings.depth (text ++ batch.now) self.new) }
     {
-        let Some(marked) = marked_part(batch) else {
+        let Some(marked) = separated_part(batch) else {
             return self.go_on(rt, alloc, command, batch, gate);
         };
         self.go_on(rt, alloc, command, &batch[0..marked.start], gate)?;

@@ -7,7 +7,7 @@ ghost use Rattle.jx_run.specs.Tree.{span};
 ghost use Rattle.jx_run.specs.Verdict.{Judged};
 ghost use Rattle.jx_run.specs.declared.settings.Front.TheVariants.{Refused, Skip};
 ghost use Rattle.jx_run.specs.declared.settings.Settings.{Settings};
-ghost use Rattle.jx_report.specs.Batches.{seen, IsTaken, ShowsFront};
+ghost use Rattle.jx_report.specs.inside.Batches.{seen, IsTaken, ShowsFront};
 
 use crate::pieces::feed_pieces;
 use crate::report_fault::ReportFault;

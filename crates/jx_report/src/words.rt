@@ -1,6 +1,6 @@
 // The words of the output. Each is put into room that is there, so that none takes memory.
 ghost use Rattle.std.specs.Prelude.{◌≡◌, ◌+◌, ◌≤◌, [], ◌∷◌, ◌++◌, codes, decimal, length};
-ghost use Rattle.jx_report.specs.Room.{HasRoom, TakesRoom};
+ghost use Rattle.jx_report.specs.inside.Room.{HasRoom, TakesRoom};
 ghost use Rattle.jx_report.specs.Words.{refusal_words, kind_words, span_words};
 
 use itoa::Buffer;
@@ -68,6 +68,7 @@ pub fn push_refusal(out: &mut Vec<u8>, refusal: Refusal)
     }
 }
 
+/// The word that is written for a kind.
 fn word_of_kind(kind: Kind) -> &'static str
     ensures word { result.now ≡ kind_words kind }
     ensures short { length result.now ≤ 6 }
@@ -83,6 +84,7 @@ fn word_of_kind(kind: Kind) -> &'static str
     }
 }
 
+/// Appends the word for a kind.
 pub fn push_kind(out: &mut Vec<u8>, kind: Kind)
     requires { HasRoom out.old 6 }
     ensures words { out.new.items ≡ out.old.items ++ kind_words kind }

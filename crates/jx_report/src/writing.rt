@@ -3,8 +3,8 @@ ghost use Rattle.std.specs.Prelude.{◌≡◌, ◌≢◌, ◌≤◌, ◌↔◌, 
 ghost use Rattle.std.specs.Io.KnownBytes.{Appends};
 ghost use Rattle.jx_report.specs.Elements.{judged_lines};
 ghost use Rattle.jx_report.specs.Ends.{AppendsBeginning};
-ghost use Rattle.jx_report.specs.Replies.{pointer_lines, reply_output, verdict_line};
-ghost use Rattle.jx_report.specs.Room.{HasRoom, IsPut};
+ghost use Rattle.jx_report.specs.inside.Replies.{pointer_lines, reply_output, verdict_line};
+ghost use Rattle.jx_report.specs.inside.Room.{HasRoom, IsPut};
 ghost use Rattle.jx_report.specs.RowWords.{row_lines};
 
 use crate::element_words::{element_at, push_element};

@@ -13,7 +13,7 @@ use Rattle.jx_reduce.specs.declared.expect.Expect.TheVariants as expect
 use Rattle.jx_reduce.specs.declared.holder.Holder.{Holder}
 use Rattle.jx_reduce.specs.declared.holder.Holder.TheVariants as holder
 use Rattle.jx_reduce.specs.Read.{top}
-use Rattle.jx_run.specs.Turns.{Turn, wrong, on, enter, leave, turn}
+use Rattle.jx_run.specs.inside.Turns.{Turn, wrong, on, enter, leave, turn}
 use Rattle.jx_run.specs.Reading.{Outcome, went, stopped, too_deep, and_then}
 use Rattle.jx_run.proofs.Fused.{after_turn, run, after_mark, in_next}
 use Rattle.jx_run.proofs.FromGrammar.{Inside, stays, step, run-inside}

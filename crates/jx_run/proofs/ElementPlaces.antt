@@ -6,7 +6,7 @@ use Rattle.std.proofs.lemmas.Bool.Decides.{nat_tests}
 use Rattle.std.proofs.lemmas.List.{map-append}
 use Rattle.std.proofs.lemmas.List.Elements.{filter-append}
 use Rattle.jx_lex.specs.declared.span.Span.{Span}
-use Rattle.jx_run.specs.Elements.{Part, part, span_of, before_mark, after_marks, filled, has_bytes, elements}
+use Rattle.jx_run.specs.Elements.{Part, part, span_of, before_separator, after_separators, filled, has_bytes, elements}
 use Rattle.jx_run.specs.SeqRun.{MarkedValue, IsReading, IsSummary, filled_span, element_places}
 use Rattle.jx_run.specs.Started.{StartedValue}
 use Rattle.jx_run.specs.TextRun.{TextRunValue, IsTextRun, place_of}
@@ -16,15 +16,15 @@ use Rattle.jx_run.proofs.SeqReading.{these}
 
 -- ---- the elements of the bytes of a run
 
-elements_plain : (at : ℕ) (bytes : List ℕ) → after_marks at bytes ≡ [] → elements at bytes ≡ filled (part at bytes ∷ [])
+elements_plain : (at : ℕ) (bytes : List ℕ) → after_separators at bytes ≡ [] → elements at bytes ≡ filled (part at bytes ∷ [])
 elements_plain at bytes h =
-    ap (λ ps. filled (part at (before_mark bytes) ∷ ps)) h ∙ ap (λ t. filled (part at t ∷ [])) (unmarked-before bytes at h)
+    ap (λ ps. filled (part at (before_separator bytes) ∷ ps)) h ∙ ap (λ t. filled (part at t ∷ [])) (unmarked-before bytes at h)
 
-elements_marked : (at : ℕ) (bytes : List ℕ) (between : List Part) (last : Part) → after_marks at bytes ≡ between ++ last ∷ []
-    → elements at bytes ≡ filled (part at (before_mark bytes) ∷ []) ++ (filled between ++ filled (last ∷ []))
+elements_marked : (at : ℕ) (bytes : List ℕ) (between : List Part) (last : Part) → after_separators at bytes ≡ between ++ last ∷ []
+    → elements at bytes ≡ filled (part at (before_separator bytes) ∷ []) ++ (filled between ++ filled (last ∷ []))
 elements_marked at bytes between last h =
-    filter-append has_bytes (part at (before_mark bytes) ∷ []) (after_marks at bytes)
-    ∙ ap (λ ps. filled (part at (before_mark bytes) ∷ []) ++ ps) (ap filled h ∙ filter-append has_bytes between (last ∷ []))
+    filter-append has_bytes (part at (before_separator bytes) ∷ []) (after_separators at bytes)
+    ∙ ap (λ ps. filled (part at (before_separator bytes) ∷ []) ++ ps) (ap filled h ∙ filter-append has_bytes between (last ∷ []))
 
 -- ---- their spans
 
@@ -72,11 +72,11 @@ places_are bytes before None h =
     ∙ ap filled_span (run_span before before.map.start bytes refl h.1)
 places_are bytes before (Some m) h =
     let k = h.1 in
-    let first = filled (part before.map.start (before_mark bytes) ∷ []) in
+    let first = filled (part before.map.start (before_separator bytes) ∷ []) in
     ap (map span_of) (elements_marked before.map.start bytes k.between k.last k.parts)
     ∙ map-append span_of first (filled k.between ++ filled (k.last ∷ []))
     ∙ ap (λ xs. xs ++ map span_of (filled k.between ++ filled (k.last ∷ [])))
-    (one_span (part before.map.start (before_mark bytes)) ∙ ap filled_span (run_span before before.map.start (before_mark bytes) refl h.0))
+    (one_span (part before.map.start (before_separator bytes)) ∙ ap filled_span (run_span before before.map.start (before_separator bytes) refl h.0))
     ∙ ap (λ xs. filled_span (place_of before) ++ xs)
     (map-append span_of (filled k.between) (filled (k.last ∷ []))
     ∙ ap (λ xs. xs ++ map span_of (filled (k.last ∷ []))) (started_spans before.limit (filled k.between) m.done k.done)

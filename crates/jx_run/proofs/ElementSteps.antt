@@ -9,7 +9,7 @@ use Rattle.jx_run.specs.declared.element_verdict.ElementVerdict.TheVariants as e
 use Rattle.jx_run.specs.declared.element_verdict.JudgedElement.{JudgedElement}
 use Rattle.jx_run.specs.declared.verdict.Verdict.{Verdict}
 use Rattle.jx_run.specs.declared.verdict.Verdict.TheVariants.{Accepted, Refused}
-use Rattle.jx_run.specs.Elements.{Part, part, before_mark, after_marks, filled, has_bytes, elements}
+use Rattle.jx_run.specs.Elements.{Part, part, before_separator, after_separators, filled, has_bytes, elements}
 use Rattle.jx_run.specs.ElementVerdict.{IsVerdictOn, IsJudgedElement, told}
 use Rattle.jx_run.specs.ElementsRun.{PartRunValue, MarkedElementsValue, IsPartRun, AreMarked, IsSummaryOf}
 use Rattle.jx_run.specs.OutcomeRun.{place_of}
@@ -89,14 +89,14 @@ loose_left xs ys l r place e low h k =
 
 -- ---- what stands behind a mark
 
-pub behind_read : (limit : ℕ) (text : List ℕ) (start from end : ℕ) (done : List JudgedElement) (after : PartRunValue) → 0 < from → after_marks from (slice_range text from end) ≡ []
+pub behind_read : (limit : ℕ) (text : List ℕ) (start from end : ℕ) (done : List JudgedElement) (after : PartRunValue) → 0 < from → after_separators from (slice_range text from end) ≡ []
     → after.outcomes.start ≡ from → after.outcomes.limit ≡ limit → IsPartRun (slice_range text from end) after
     → IsReadTo (IsJudgedElement limit) (rest_at text start end) (rest_at text from end) done → AreMarked limit (rest_at text start end) (record { done = done; after = after })
 behind_read limit text start from end done after low none here deep of so_far =
     record {
       between = so_far.between;
-      last = part from (before_mark (slice_range text from end));
-      parts = so_far.are ∙ ap (λ ps. so_far.between ++ part from (before_mark (slice_range text from end)) ∷ ps) none;
+      last = part from (before_separator (slice_range text from end));
+      parts = so_far.are ∙ ap (λ ps. so_far.between ++ part from (before_separator (slice_range text from end)) ∷ ps) none;
       done = so_far.readings;
       marked = low;
       start = here;
@@ -135,45 +135,45 @@ last_empty limit behind m h place is low =
 
 -- ---- the elements of a whole sequence
 
-pub unmarked_rest : (bytes : List ℕ) (before : PartRunValue) (m : Option MarkedElementsValue) → m ≡ None → IsSummaryOf bytes before m → after_marks before.outcomes.start bytes ≡ []
+pub unmarked_rest : (bytes : List ℕ) (before : PartRunValue) (m : Option MarkedElementsValue) → m ≡ None → IsSummaryOf bytes before m → after_separators before.outcomes.start bytes ≡ []
 unmarked_rest bytes before m e h = (subst (IsSummaryOf bytes before) e h).0
 
 pub marked_rest : (bytes : List ℕ) (before : PartRunValue) (m : Option MarkedElementsValue) (x : MarkedElementsValue) → m ≡ Some x → IsSummaryOf bytes before m
-    → AreMarked before.outcomes.limit (after_marks before.outcomes.start bytes) x
+    → AreMarked before.outcomes.limit (after_separators before.outcomes.start bytes) x
 marked_rest bytes before m x e h = (subst (IsSummaryOf bytes before) e h).1
 
-first_part : (bytes : List ℕ) (before : PartRunValue) (m : Option MarkedElementsValue) → IsSummaryOf bytes before m → IsPartRun (before_mark bytes) before
+first_part : (bytes : List ℕ) (before : PartRunValue) (m : Option MarkedElementsValue) → IsSummaryOf bytes before m → IsPartRun (before_separator bytes) before
 first_part bytes before None h = subst (λ t. IsPartRun t before) (sym (unmarked-before bytes before.outcomes.start h.0)) h.1
 first_part bytes before (Some m) h = h.0
 
 first_long : (bytes : List ℕ) (before : PartRunValue) (m : Option MarkedElementsValue) (place : Span) → place ≡ place_of before.outcomes → before.outcomes.start ≡ 0
-    → IsSummaryOf bytes before m → place ≡ span 0 (length (before_mark bytes))
+    → IsSummaryOf bytes before m → place ≡ span 0 (length (before_separator bytes))
 first_long bytes before m place is zero h =
     let long = (first_part bytes before m h).outcomes.long in
-    is ∙ ap (λ n. span n before.outcomes.end) zero ∙ ap (span 0) (let e : before.outcomes.end ≡ length (before_mark bytes) = omega (arith, long, zero) in e)
+    is ∙ ap (λ n. span n before.outcomes.end) zero ∙ ap (span 0) (let e : before.outcomes.end ≡ length (before_separator bytes) = omega (arith, long, zero) in e)
 
 module _ (bytes : List ℕ) (before : PartRunValue) (m : Option MarkedElementsValue) (place : Span) (is : place ≡ place_of before.outcomes) (starts : before.outcomes.start ≡ 0)
-    (h : IsSummaryOf bytes before m) (limit : ℕ) (rest : List JudgedElement) (z : AllZip (IsJudgedElement limit) (filled (after_marks before.outcomes.start bytes)) rest) where
+    (h : IsSummaryOf bytes before m) (limit : ℕ) (rest : List JudgedElement) (z : AllZip (IsJudgedElement limit) (filled (after_separators before.outcomes.start bytes)) rest) where
   abbrev first : Part
-  first = part 0 (before_mark bytes)
+  first = part 0 (before_separator bytes)
 
-  place_is : place ≡ span 0 (length (before_mark bytes))
+  place_is : place ≡ span 0 (length (before_separator bytes))
   place_is = first_long bytes before m place is starts h
 
-  behind : AllZip (IsJudgedElement limit) (filled (after_marks 0 bytes)) rest
-  behind = subst (λ n. AllZip (IsJudgedElement limit) (filled (after_marks n bytes)) rest) starts z
+  behind : AllZip (IsJudgedElement limit) (filled (after_separators 0 bytes)) rest
+  behind = subst (λ n. AllZip (IsJudgedElement limit) (filled (after_separators n bytes)) rest) starts z
 
   pub with_first : place.start < place.end → AllZip (IsJudgedElement limit) (elements 0 bytes) (record { span = place; verdict = element.Unmarked } ∷ rest)
   with_first low =
       let start : place.start ≡ 0 = ap (λ (s : Span). s.start) place_is in
-      let end : place.end ≡ length (before_mark bytes) = ap (λ (s : Span). s.end) place_is in
-      subst (λ b. AllZip (IsJudgedElement limit) (cond b (first ∷ filled (after_marks 0 bytes)) (filled (after_marks 0 bytes))) (record { span = place; verdict = element.Unmarked } ∷ rest))
+      let end : place.end ≡ length (before_separator bytes) = ap (λ (s : Span). s.end) place_is in
+      subst (λ b. AllZip (IsJudgedElement limit) (cond b (first ∷ filled (after_separators 0 bytes)) (filled (after_separators 0 bytes))) (record { span = place; verdict = element.Unmarked } ∷ rest))
       (sym (has first (omega (arith, start, end, low))))
-      (record { span_is = place_is ∙ ap (span 0) (let e : length (before_mark bytes) ≡ 0 + length (before_mark bytes) = omega arith in e); verdict_is = refl }, behind)
+      (record { span_is = place_is ∙ ap (span 0) (let e : length (before_separator bytes) ≡ 0 + length (before_separator bytes) = omega arith in e); verdict_is = refl }, behind)
 
   pub without_first : place.end ≤ place.start → AllZip (IsJudgedElement limit) (elements 0 bytes) rest
   without_first low =
       let start : place.start ≡ 0 = ap (λ (s : Span). s.start) place_is in
-      let end : place.end ≡ length (before_mark bytes) = ap (λ (s : Span). s.end) place_is in
-      subst (λ b. AllZip (IsJudgedElement limit) (cond b (first ∷ filled (after_marks 0 bytes)) (filled (after_marks 0 bytes))) rest)
+      let end : place.end ≡ length (before_separator bytes) = ap (λ (s : Span). s.end) place_is in
+      subst (λ b. AllZip (IsJudgedElement limit) (cond b (first ∷ filled (after_separators 0 bytes)) (filled (after_separators 0 bytes))) rest)
       (sym (has_not first (omega (arith, start, end, low)))) behind

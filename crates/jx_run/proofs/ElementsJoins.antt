@@ -4,7 +4,7 @@ use Rattle.std.specs.List.{AllZip}
 use Rattle.std.proofs.lemmas.List.{append_assoc}
 use Rattle.jx_lex.specs.declared.span.Span.{Span}
 use Rattle.jx_run.specs.declared.element_verdict.JudgedElement.{JudgedElement}
-use Rattle.jx_run.specs.Elements.{Part, part, before_mark, after_marks, filled}
+use Rattle.jx_run.specs.Elements.{Part, part, before_separator, after_separators, filled}
 use Rattle.jx_run.specs.ElementVerdict.{IsJudgedElement}
 use Rattle.jx_run.specs.ElementsRun.{PartRunValue, MarkedElementsValue, ElementsRunValue, IsPartRun, AreMarked, IsSummaryOf, AreClosed, IsElementsJoin, last_part}
 use Rattle.jx_run.specs.OutcomeRun.{place_of}
@@ -20,7 +20,7 @@ Joins l r j = (xs ys : List ℕ) → IsPartRun xs l → IsPartRun ys r → IsPar
 plain_place : (l r : PartRunValue) (xs : List ℕ) → IsPartRun xs l → l.outcomes.end ≡ r.outcomes.start → l.outcomes.start + length xs ≡ r.outcomes.start
 plain_place l r xs h e = sym h.outcomes.long ∙ e
 
-marked_place : (b : PartRunValue) (m : MarkedElementsValue) (r : PartRunValue) (xs : List ℕ) → AreMarked b.outcomes.limit (after_marks b.outcomes.start xs) m
+marked_place : (b : PartRunValue) (m : MarkedElementsValue) (r : PartRunValue) (xs : List ℕ) → AreMarked b.outcomes.limit (after_separators b.outcomes.start xs) m
     → m.after.outcomes.end ≡ r.outcomes.start → b.outcomes.start + length xs ≡ r.outcomes.start
 marked_place b m r xs h e =
     sym (last-ends xs b.outcomes.start h.between h.last h.parts) ∙ ap (λ n. n + length h.last.bytes) (sym h.start) ∙ sym (h.after.outcomes.long) ∙ e
@@ -31,17 +31,17 @@ pub joined_plain : (l r j : PartRunValue) (m : Option MarkedElementsValue) → l
     → Joins l r j → (xs ys : List ℕ) → IsSummaryOf xs l None → IsSummaryOf ys r m → IsSummaryOf (xs ++ ys) j m
 joined_plain l r j m mid start jl lr of xs ys h k = pick m k
   where
-    after : after_marks j.outcomes.start (xs ++ ys) ≡ after_marks r.outcomes.start ys
+    after : after_separators j.outcomes.start (xs ++ ys) ≡ after_separators r.outcomes.start ys
     after =
-        ap (λ n. after_marks n (xs ++ ys)) start
+        ap (λ n. after_separators n (xs ++ ys)) start
         ∙ unmarked-after-append xs ys l.outcomes.start h.0
-        ∙ ap (λ n. after_marks n ys) (plain_place l r xs h.1 mid)
+        ∙ ap (λ n. after_separators n ys) (plain_place l r xs h.1 mid)
 
     pick : (m : Option MarkedElementsValue) → IsSummaryOf ys r m → IsSummaryOf (xs ++ ys) j m
     pick None k = (after ∙ k.0, of xs ys h.1 k.1)
     pick (Some m) k = (
-      subst (λ t. IsPartRun t j) (sym (unmarked-before-append xs ys l.outcomes.start h.0)) (of xs (before_mark ys) h.1 k.0),
-      subst (λ n. AreMarked n (after_marks j.outcomes.start (xs ++ ys)) m) (sym (jl ∙ lr)) (subst (λ ps. AreMarked r.outcomes.limit ps m) (sym after) k.1),
+      subst (λ t. IsPartRun t j) (sym (unmarked-before-append xs ys l.outcomes.start h.0)) (of xs (before_separator ys) h.1 k.0),
+      subst (λ n. AreMarked n (after_separators j.outcomes.start (xs ++ ys)) m) (sym (jl ∙ lr)) (subst (λ ps. AreMarked r.outcomes.limit ps m) (sym after) k.1),
     )
 
 -- ---- a right side without marks
@@ -54,15 +54,15 @@ joined_last b m r j mid start jl of xs ys h k =
       subst (λ t. IsPartRun t b) (sym (last-before-append xs ys b.outcomes.start hm.between hm.last hm.parts)) h.0,
       record {
         between = hm.between;
-        last = longer hm.last (before_mark ys);
+        last = longer hm.last (before_separator ys);
         parts =
             marked-after-append xs ys b.outcomes.start hm.between hm.last hm.parts
-            ∙ ap (λ ps. hm.between ++ longer hm.last (before_mark ys) ∷ ps) (ap (λ n. after_marks n ys) (marked_place b m r xs hm mid) ∙ k.0);
+            ∙ ap (λ ps. hm.between ++ longer hm.last (before_separator ys) ∷ ps) (ap (λ n. after_separators n ys) (marked_place b m r xs hm mid) ∙ k.0);
         done = hm.done;
         marked = hm.marked;
         start = start ∙ hm.start;
         depth = jl ∙ hm.depth;
-        after = of hm.last.bytes (before_mark ys) hm.after (subst (λ t. IsPartRun t r) (sym (unmarked-before ys r.outcomes.start k.0)) k.1);
+        after = of hm.last.bytes (before_separator ys) hm.after (subst (λ t. IsPartRun t r) (sym (unmarked-before ys r.outcomes.start k.0)) k.1);
       },
     )
 
@@ -74,20 +74,20 @@ pub joined_marked : (b : PartRunValue) (l : MarkedElementsValue) (mid : PartRunV
 joined_marked b l mid r done meet lb lm closed xs ys h k =
     let hm = h.1 in
     let km = k.1 in
-    let p : Part = longer hm.last (before_mark ys) in
+    let p : Part = longer hm.last (before_separator ys) in
     let deep : mid.outcomes.limit ≡ b.outcomes.limit = sym lm ∙ lb in
     let right : AllZip (IsJudgedElement b.outcomes.limit) (filled km.between) r.done = subst (λ n. AllZip (IsJudgedElement n) (filled km.between) r.done) deep km.done in
     let middle : AllZip (IsJudgedElement b.outcomes.limit) (filled (p ∷ [])) closed.middle =
     subst (λ n. AllZip (IsJudgedElement n) (filled (p ∷ [])) closed.middle) lb
-    (subst (λ n. AllZip (IsJudgedElement l.after.outcomes.limit) (filled (part n (hm.last.bytes ++ before_mark ys) ∷ [])) closed.middle) hm.start
-    (closed.of hm.last.bytes (before_mark ys) (subst (λ n. 0 < n) (sym hm.start) hm.marked) hm.after k.0)) in (
+    (subst (λ n. AllZip (IsJudgedElement l.after.outcomes.limit) (filled (part n (hm.last.bytes ++ before_separator ys) ∷ [])) closed.middle) hm.start
+    (closed.of hm.last.bytes (before_separator ys) (subst (λ n. 0 < n) (sym hm.start) hm.marked) hm.after k.0)) in (
       subst (λ t. IsPartRun t b) (sym (last-before-append xs ys b.outcomes.start hm.between hm.last hm.parts)) h.0,
       record {
         between = hm.between ++ p ∷ km.between;
         last = km.last;
         parts =
             marked-after-append xs ys b.outcomes.start hm.between hm.last hm.parts
-            ∙ ap (λ ps. hm.between ++ p ∷ ps) (ap (λ n. after_marks n ys) (marked_place b l mid xs hm meet) ∙ km.parts)
+            ∙ ap (λ ps. hm.between ++ p ∷ ps) (ap (λ n. after_separators n ys) (marked_place b l mid xs hm meet) ∙ km.parts)
             ∙ sym (append_assoc hm.between (p ∷ km.between) (km.last ∷ []));
         done =
             subst (λ ps. AllZip (IsJudgedElement b.outcomes.limit) ps done) (sym (filled-middle hm.between p km.between))

@@ -13,7 +13,7 @@ use Rattle.jx_lex.specs.TokenSteps.{TokenStep, goes_on as token_goes_on, ends, e
 use Rattle.jx_reduce.specs.declared.expect.Expect.{Expect}
 use Rattle.jx_reduce.specs.declared.holder.Holder.{Holder}
 use Rattle.jx_reduce.specs.Read.{top}
-use Rattle.jx_run.specs.Turns.{Turn, wrong, on, enter, leave, turn}
+use Rattle.jx_run.specs.inside.Turns.{Turn, wrong, on, enter, leave, turn}
 use Rattle.jx_run.specs.Reading.{Outcome, went, stopped, too_deep}
 use Rattle.jx_run.proofs.Fused.{after_turn, run, on_step}
 use Rattle.jx_run.proofs.Lexical.{TokensAreRead, gap_of}

@@ -16,7 +16,7 @@ use Rattle.jx_reduce.specs.declared.expect.Expect.TheVariants as expect
 use Rattle.jx_reduce.specs.declared.holder.Holder.{Holder}
 use Rattle.jx_reduce.specs.declared.holder.Holder.TheVariants as holder
 use Rattle.jx_reduce.specs.Read.{top}
-use Rattle.jx_run.specs.Turns.{on, enter, turn}
+use Rattle.jx_run.specs.inside.Turns.{on, enter, turn}
 use Rattle.jx_run.specs.Reading.{Outcome}
 use Rattle.jx_run.specs.Tree.{Tree, Children, depth, deepest}
 use Rattle.jx_run.specs.Grammar.{Blanks, no_blanks, blank, Scalar, Value, leaf, empty_array, array, empty_object, object, Items, last_item, item, Members, last_member, member}

@@ -11,7 +11,7 @@ use Rattle.jx_reduce.specs.declared.expect.Expect.{Expect}
 use Rattle.jx_reduce.specs.declared.holder.Holder.{Holder}
 use Rattle.jx_reduce.specs.Table.{next_of, Change, same, added, removed, change_of}
 use Rattle.jx_reduce.specs.Read.{Reading, top, without_top, read as read_marks, step, moved}
-use Rattle.jx_run.specs.Turns.{Turn, wrong, on, enter, leave, turn, turned}
+use Rattle.jx_run.specs.inside.Turns.{Turn, wrong, on, enter, leave, turn, turned}
 use Rattle.jx_run.specs.Reading.{Outcome, went, stopped, too_deep, at_exit, read}
 
 -- goes on as a mark's turn says, at most so many containers being open

@@ -12,10 +12,10 @@ use Rattle.jx_run.specs.declared.verdict.Refusal.{Refusal}
 use Rattle.jx_run.specs.declared.verdict.Refusal.TheVariants as refusal
 use Rattle.jx_run.specs.declared.verdict.Verdict.{Verdict}
 use Rattle.jx_run.specs.declared.verdict.Verdict.TheVariants.{Accepted, Refused}
-use Rattle.jx_run.specs.Elements.{Part, part, span_of, is_mark, before_mark, after_marks, filled, has_bytes, elements}
+use Rattle.jx_run.specs.Elements.{Part, part, span_of, is_mark, before_separator, after_separators, filled, has_bytes, elements}
 use Rattle.jx_run.specs.ElementVerdict.{IsClosedText, IsUnclosedText, IsVerdictOn, IsJudgedElement}
 use Rattle.jx_run.specs.Laws.{is_end, verdict_of}
-use Rattle.jx_run.specs.Moved.{moved, moved_refusal, moved_verdict}
+use Rattle.jx_run.specs.inside.Moved.{moved, moved_refusal, moved_verdict}
 use Rattle.jx_run.specs.Reading.{Outcome, went, stopped, too_deep, read, read_text}
 use Rattle.jx_run.specs.ReaderInside.{offset_at, shifted}
 use Rattle.jx_run.specs.Text.{IsDocument}
@@ -134,55 +134,55 @@ element_moved law limit more p e marked low h =
 
 -- ---- the elements behind marks
 
-before-short : (xs : List ℕ) → length (before_mark xs) ≤ length xs
+before-short : (xs : List ℕ) → length (before_separator xs) ≤ length xs
 before-short [] = omega arith
 before-short (b ∷ xs) = pick (is_mark b) (before-short xs)
   where
-    pick : (m : Bool) → length (before_mark xs) ≤ length xs → length (cond m [] (b ∷ before_mark xs)) ≤ length (b ∷ xs)
+    pick : (m : Bool) → length (before_separator xs) ≤ length xs → length (cond m [] (b ∷ before_separator xs)) ≤ length (b ∷ xs)
     pick true h = omega arith
     pick false h = omega (arith, h)
 
-pub parts_moved : (more at : ℕ) (xs : List ℕ) → after_marks (more + at) xs ≡ map (moved_part more) (after_marks at xs)
+pub parts_moved : (more at : ℕ) (xs : List ℕ) → after_separators (more + at) xs ≡ map (moved_part more) (after_separators at xs)
 parts_moved more at [] = refl
 parts_moved more at (b ∷ xs) =
-    ap (λ (i : ℕ). cond (is_mark b) (part i (before_mark xs) ∷ after_marks i xs) (after_marks i xs)) (sym (add-suc more at)) ∙ pick (is_mark b) (parts_moved more (suc at) xs)
+    ap (λ (i : ℕ). cond (is_mark b) (part i (before_separator xs) ∷ after_separators i xs) (after_separators i xs)) (sym (add-suc more at)) ∙ pick (is_mark b) (parts_moved more (suc at) xs)
   where
-    pick : (m : Bool) → after_marks (more + suc at) xs ≡ map (moved_part more) (after_marks (suc at) xs)
-        → cond m (part (more + suc at) (before_mark xs) ∷ after_marks (more + suc at) xs) (after_marks (more + suc at) xs)
-        ≡ map (moved_part more) (cond m (part (suc at) (before_mark xs) ∷ after_marks (suc at) xs) (after_marks (suc at) xs))
-    pick true h = ap (λ ps. part (more + suc at) (before_mark xs) ∷ ps) h
+    pick : (m : Bool) → after_separators (more + suc at) xs ≡ map (moved_part more) (after_separators (suc at) xs)
+        → cond m (part (more + suc at) (before_separator xs) ∷ after_separators (more + suc at) xs) (after_separators (more + suc at) xs)
+        ≡ map (moved_part more) (cond m (part (suc at) (before_separator xs) ∷ after_separators (suc at) xs) (after_separators (suc at) xs))
+    pick true h = ap (λ ps. part (more + suc at) (before_separator xs) ∷ ps) h
     pick false h = h
 
 -- each element behind a mark is moved
 pub moved_elements : Verdicts → (limit more at : ℕ) (xs : List ℕ) (es : List JudgedElement) → more + (at + length xs) < 2 ^ 64
-    → AllZip (IsJudgedElement limit) (filled (after_marks at xs)) es → AllZip (IsJudgedElement limit) (filled (map (moved_part more) (after_marks at xs))) (map (moved more) es)
+    → AllZip (IsJudgedElement limit) (filled (after_separators at xs)) es → AllZip (IsJudgedElement limit) (filled (map (moved_part more) (after_separators at xs))) (map (moved more) es)
 moved_elements law limit more at [] [] low z = tt
 moved_elements law limit more at [] (e ∷ es) low z = absurd z
 moved_elements law limit more at (b ∷ xs) es low z =
     pick (is_mark b) (λ es z. moved_elements law limit more (suc at) xs es (omega (arith, low)) z) (let h = before-short xs in omega (arith, h, low)) z
   where
-    with_first : (f : Bool) (es : List JudgedElement) → ((es : List JudgedElement) → AllZip (IsJudgedElement limit) (filled (after_marks (suc at) xs)) es
-        → AllZip (IsJudgedElement limit) (filled (map (moved_part more) (after_marks (suc at) xs))) (map (moved more) es)) → more + (suc at + length (before_mark xs)) < 2 ^ 64
-        → AllZip (IsJudgedElement limit) (cond f (part (suc at) (before_mark xs) ∷ filled (after_marks (suc at) xs)) (filled (after_marks (suc at) xs))) es
+    with_first : (f : Bool) (es : List JudgedElement) → ((es : List JudgedElement) → AllZip (IsJudgedElement limit) (filled (after_separators (suc at) xs)) es
+        → AllZip (IsJudgedElement limit) (filled (map (moved_part more) (after_separators (suc at) xs))) (map (moved more) es)) → more + (suc at + length (before_separator xs)) < 2 ^ 64
+        → AllZip (IsJudgedElement limit) (cond f (part (suc at) (before_separator xs) ∷ filled (after_separators (suc at) xs)) (filled (after_separators (suc at) xs))) es
         → AllZip (IsJudgedElement limit)
-        (cond f (part (more + suc at) (before_mark xs) ∷ filled (map (moved_part more) (after_marks (suc at) xs))) (filled (map (moved_part more) (after_marks (suc at) xs)))) (map (moved more) es)
+        (cond f (part (more + suc at) (before_separator xs) ∷ filled (map (moved_part more) (after_separators (suc at) xs))) (filled (map (moved_part more) (after_separators (suc at) xs)))) (map (moved more) es)
     with_first true [] rest fit z = absurd z
-    with_first true (e ∷ es) rest fit z = (element_moved law limit more (part (suc at) (before_mark xs)) e (omega arith) fit z.0, rest es z.1)
+    with_first true (e ∷ es) rest fit z = (element_moved law limit more (part (suc at) (before_separator xs)) e (omega arith) fit z.0, rest es z.1)
     with_first false es rest fit z = rest es z
 
-    pick : (m : Bool) → ((es : List JudgedElement) → AllZip (IsJudgedElement limit) (filled (after_marks (suc at) xs)) es
-        → AllZip (IsJudgedElement limit) (filled (map (moved_part more) (after_marks (suc at) xs))) (map (moved more) es)) → more + (suc at + length (before_mark xs)) < 2 ^ 64
-        → AllZip (IsJudgedElement limit) (filled (cond m (part (suc at) (before_mark xs) ∷ after_marks (suc at) xs) (after_marks (suc at) xs))) es
-        → AllZip (IsJudgedElement limit) (filled (map (moved_part more) (cond m (part (suc at) (before_mark xs) ∷ after_marks (suc at) xs) (after_marks (suc at) xs)))) (map (moved more) es)
-    pick true rest fit z = with_first (has_bytes (part (suc at) (before_mark xs))) es rest fit z
+    pick : (m : Bool) → ((es : List JudgedElement) → AllZip (IsJudgedElement limit) (filled (after_separators (suc at) xs)) es
+        → AllZip (IsJudgedElement limit) (filled (map (moved_part more) (after_separators (suc at) xs))) (map (moved more) es)) → more + (suc at + length (before_separator xs)) < 2 ^ 64
+        → AllZip (IsJudgedElement limit) (filled (cond m (part (suc at) (before_separator xs) ∷ after_separators (suc at) xs) (after_separators (suc at) xs))) es
+        → AllZip (IsJudgedElement limit) (filled (map (moved_part more) (cond m (part (suc at) (before_separator xs) ∷ after_separators (suc at) xs) (after_separators (suc at) xs)))) (map (moved more) es)
+    pick true rest fit z = with_first (has_bytes (part (suc at) (before_separator xs))) es rest fit z
     pick false rest fit z = rest es z
 
 -- the elements of what begins with a mark
-pub behind_moved : Verdicts → (limit more : ℕ) (bytes : List ℕ) (es : List JudgedElement) → before_mark bytes ≡ [] → more + length bytes < 2 ^ 64
+pub behind_moved : Verdicts → (limit more : ℕ) (bytes : List ℕ) (es : List JudgedElement) → before_separator bytes ≡ [] → more + length bytes < 2 ^ 64
     → AllZip (IsJudgedElement limit) (elements 0 bytes) es → AllZip (IsJudgedElement limit) (elements more bytes) (map (moved more) es)
 behind_moved law limit more bytes es starts low z =
     let R = IsJudgedElement limit in
     let at : more + 0 ≡ more = omega arith in
-    let none : (n : ℕ) → elements n bytes ≡ filled (after_marks n bytes) = λ n. ap (λ (t : List ℕ). filled (part n t ∷ after_marks n bytes)) starts in
-    subst (λ ps. AllZip R ps (map (moved more) es)) (ap filled (sym (parts_moved more 0 bytes) ∙ ap (λ (n : ℕ). after_marks n bytes) at) ∙ sym (none more))
+    let none : (n : ℕ) → elements n bytes ≡ filled (after_separators n bytes) = λ n. ap (λ (t : List ℕ). filled (part n t ∷ after_separators n bytes)) starts in
+    subst (λ ps. AllZip R ps (map (moved more) es)) (ap filled (sym (parts_moved more 0 bytes) ∙ ap (λ (n : ℕ). after_separators n bytes) at) ∙ sym (none more))
     (moved_elements law limit more 0 bytes es (omega (arith, low)) (subst (λ ps. AllZip R ps es) (none 0) z))

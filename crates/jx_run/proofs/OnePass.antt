@@ -14,7 +14,7 @@ use Rattle.jx_reduce.specs.declared.whole.Whole.{Whole}
 use Rattle.jx_reduce.specs.KnownStack.{Known, IsFault, HasRead as StackHasRead, start as stack_start}
 use Rattle.jx_reduce.specs.Read.{Reading, step, read as read_marks}
 use Rattle.jx_reduce.specs.Whole.{whole_of}
-use Rattle.jx_run.specs.Beside.{BothHaveSeen}
+use Rattle.jx_run.specs.inside.Beside.{BothHaveSeen}
 use Rattle.jx_run.specs.Kept.{HasSeen}
 use Rattle.jx_run.specs.Laws.{verdict_of}
 use Rattle.jx_run.specs.Reading.{at_exit, read, read_text}

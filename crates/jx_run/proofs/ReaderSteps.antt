@@ -37,7 +37,7 @@ use Rattle.jx_run.specs.declared.reader.Progress.TheVariants.{Going, Stopped, To
 use Rattle.jx_run.specs.declared.verdict.Verdict.{Verdict}
 use Rattle.jx_run.specs.declared.verdict.Verdict.TheVariants as verdict
 use Rattle.jx_run.specs.declared.verdict.Refusal.TheVariants as refusal
-use Rattle.jx_run.specs.Turns.{Turn, wrong, on, enter, leave, turn}
+use Rattle.jx_run.specs.inside.Turns.{Turn, wrong, on, enter, leave, turn}
 use Rattle.jx_run.proofs.Fused.{after_turn, after_mark, in_next, run, read-run}
 use Rattle.jx_run.proofs.LawProofs.{FirstFaults, Verdicts}
 use Rattle.jx_run.proofs.RunJoin.{read-append}

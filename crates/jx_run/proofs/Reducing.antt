@@ -27,8 +27,8 @@ use Rattle.jx_reduce.specs.Read.{read as read_marks, Reading}
 use Rattle.jx_reduce.specs.Reductions.{Forms, IsBefore, IsOf, SpansIn, answer}
 use Rattle.jx_run.specs.declared.way.Way.{Way}
 use Rattle.jx_run.specs.Reading.{at_exit, read}
-use Rattle.jx_run.specs.Reduced.{AreInside, AreNumbered, AreReduced, AreRising, AreWaysOf, IsAt, IsReduced, IsWayOf, path_at}
-use Rattle.jx_run.specs.Joins.{IsAbove}
+use Rattle.jx_run.specs.inside.Reduced.{AreInside, AreNumbered, AreReduced, AreRising, AreWaysOf, IsAt, IsReduced, IsWayOf, path_at}
+use Rattle.jx_run.specs.inside.Joins.{IsAbove}
 use Rattle.jx_run.specs.OutcomeRun.{OutcomeRunValue, IsOutcomeRun, IsWithin, outcome_in}
 use Rattle.jx_run.proofs.StateOrder.{state-at}
 use Rattle.jx_run.proofs.Ways.{all_at, at_end, entries_are}

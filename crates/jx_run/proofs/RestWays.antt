@@ -25,11 +25,11 @@ use Rattle.jx_reduce.specs.Read.{Reading, step, read as read_marks}
 use Rattle.jx_reduce.specs.Reducer.{ReducerValue, HasReduced}
 use Rattle.jx_reduce.specs.Reductions.{Forms, IsOf, SpansIn, answer}
 use Rattle.jx_run.specs.declared.way.Way.{Way}
-use Rattle.jx_run.specs.Joins.{IsAbove}
+use Rattle.jx_run.specs.inside.Joins.{IsAbove}
 use Rattle.jx_run.specs.OutcomeRun.{OutcomeRunValue, exit_at, outcome_in, outcome_of, IsOutcomeRun, IsWhole, IsWithin}
 use Rattle.jx_run.specs.Reading.{at_exit, read}
-use Rattle.jx_run.specs.Reduced.{IsReduced}
-use Rattle.jx_run.specs.Rest.{AreRead, AreReadWays, HasTaken, IsReadWay, IsRestOf, Reaches}
+use Rattle.jx_run.specs.inside.Reduced.{IsReduced}
+use Rattle.jx_run.specs.inside.Rest.{AreRead, AreReadWays, HasTaken, IsReadWay, IsRestOf, Reaches}
 use Rattle.jx_run.proofs.ReaderSteps.{stuck}
 use Rattle.jx_run.proofs.Reducing.{all_push, lex-in, lex_rises, reduced_within, rises-then, stays_there}
 use Rattle.jx_run.proofs.StateOrder.{ordinal-low, state-at}

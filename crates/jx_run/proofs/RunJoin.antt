@@ -20,11 +20,11 @@ use Rattle.jx_reduce.specs.Read.{Reading, top, then_by}
 use Rattle.jx_reduce.specs.Reductions.{Forms, answer, IsJoin, SpansIn}
 use Rattle.jx_run.specs.declared.joins.Pair.{Pair}
 use Rattle.jx_run.specs.declared.way.Way.{Way}
-use Rattle.jx_run.specs.Turns.{Turn, wrong, on, enter, leave, turn}
+use Rattle.jx_run.specs.inside.Turns.{Turn, wrong, on, enter, leave, turn}
 use Rattle.jx_run.specs.Reading.{Outcome, went, stopped, too_deep, at_exit, and_then, read}
-use Rattle.jx_run.specs.Joins.{AreJoined, AreJoinedWays, AreMade, GoesOnWith, GoesThrough, IsAbove, IsJoinedWay, IsMade, IsMadeAt, IsOnward}
+use Rattle.jx_run.specs.inside.Joins.{AreJoined, AreJoinedWays, AreMade, GoesOnWith, GoesThrough, IsAbove, IsJoinedWay, IsMade, IsMadeAt, IsOnward}
 use Rattle.jx_run.specs.OutcomeRun.{OutcomeRunValue, Entries, entries_at, exit_at, exit_in, outcome_in, outcome, GoesOn, IsOutcomeRun, IsWhole, IsWithin}
-use Rattle.jx_run.specs.Rest.{IsRestOf}
+use Rattle.jx_run.specs.inside.Rest.{IsRestOf}
 use Rattle.jx_run.proofs.Completion.{run-append}
 use Rattle.jx_run.proofs.Reducing.{push_above, states-many}
 use Rattle.jx_run.proofs.StateOrder.{state-at}

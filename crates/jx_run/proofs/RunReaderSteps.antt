@@ -17,7 +17,7 @@ use Rattle.jx_run.specs.Laws.{verdict_of}
 use Rattle.jx_run.specs.Reading.{Outcome, went, stopped, too_deep, at_exit, and_then, read, read_text}
 use Rattle.jx_run.specs.Reader.{ReaderValue, HasRead, is_fault}
 use Rattle.jx_run.specs.ReaderInside.{offset_at, shifted, IsLow}
-use Rattle.jx_run.specs.RunReaderInside.{outcome_on, IsWithin, arrived, LeadsTo}
+use Rattle.jx_run.specs.inside.RunReaderInside.{outcome_on, IsWithin, arrived, LeadsTo}
 use Rattle.jx_run.specs.Verdict.{Judged}
 use Rattle.jx_run.specs.Whole.{verdict_from}
 use Rattle.jx_run.specs.declared.run_reader.Course.{Course}

@@ -4,7 +4,7 @@ use Rattle.std.specs.List.{AllZip}
 use Rattle.std.proofs.lemmas.List.{append_assoc}
 use Rattle.std.proofs.lemmas.List.Elements.{filter-append}
 use Rattle.jx_lex.specs.declared.span.Span.{Span}
-use Rattle.jx_run.specs.Elements.{Part, part, before_mark, after_marks, filled, has_bytes}
+use Rattle.jx_run.specs.Elements.{Part, part, before_separator, after_separators, filled, has_bytes}
 use Rattle.jx_run.specs.SeqRun.{MarkedValue, SeqRunValue, IsReading, IsMarked, IsSummary, IsClosed, IsSeqJoin, last_run}
 use Rattle.jx_run.specs.Started.{StartedValue}
 use Rattle.jx_run.specs.TextRun.{TextRunValue, IsTextRun, place_of}
@@ -25,7 +25,7 @@ Joins l r j = (xs ys : List ℕ) → IsTextRun xs l → IsTextRun ys r → IsTex
 plain_place : (l r : TextRunValue) (xs : List ℕ) → IsTextRun xs l → l.map.end ≡ r.map.start → l.map.start + length xs ≡ r.map.start
 plain_place l r xs h e = sym h.long ∙ e
 
-marked_place : (b : TextRunValue) (m : MarkedValue) (r : TextRunValue) (xs : List ℕ) → IsMarked b.limit (after_marks b.map.start xs) m
+marked_place : (b : TextRunValue) (m : MarkedValue) (r : TextRunValue) (xs : List ℕ) → IsMarked b.limit (after_separators b.map.start xs) m
     → m.after.map.end ≡ r.map.start → b.map.start + length xs ≡ r.map.start
 marked_place b m r xs h e =
     sym (last-ends xs b.map.start h.between h.last h.parts) ∙ ap (λ n. n + length h.last.bytes) (sym h.start) ∙ sym (h.after.long) ∙ e
@@ -36,17 +36,17 @@ pub joined_plain : (l r j : TextRunValue) (m : Option MarkedValue) → l.map.end
     → Joins l r j → (xs ys : List ℕ) → IsSummary xs l None → IsSummary ys r m → IsSummary (xs ++ ys) j m
 joined_plain l r j m mid start jl lr of xs ys h k = pick m k
   where
-    after : after_marks j.map.start (xs ++ ys) ≡ after_marks r.map.start ys
+    after : after_separators j.map.start (xs ++ ys) ≡ after_separators r.map.start ys
     after =
-        ap (λ n. after_marks n (xs ++ ys)) start
+        ap (λ n. after_separators n (xs ++ ys)) start
         ∙ unmarked-after-append xs ys l.map.start h.0
-        ∙ ap (λ n. after_marks n ys) (plain_place l r xs h.1 mid)
+        ∙ ap (λ n. after_separators n ys) (plain_place l r xs h.1 mid)
 
     pick : (m : Option MarkedValue) → IsSummary ys r m → IsSummary (xs ++ ys) j m
     pick None k = (after ∙ k.0, of xs ys h.1 k.1)
     pick (Some m) k = (
-      subst (λ t. IsTextRun t j) (sym (unmarked-before-append xs ys l.map.start h.0)) (of xs (before_mark ys) h.1 k.0),
-      subst (λ n. IsMarked n (after_marks j.map.start (xs ++ ys)) m) (sym (jl ∙ lr)) (subst (λ ps. IsMarked r.limit ps m) (sym after) k.1),
+      subst (λ t. IsTextRun t j) (sym (unmarked-before-append xs ys l.map.start h.0)) (of xs (before_separator ys) h.1 k.0),
+      subst (λ n. IsMarked n (after_separators j.map.start (xs ++ ys)) m) (sym (jl ∙ lr)) (subst (λ ps. IsMarked r.limit ps m) (sym after) k.1),
     )
 
 -- ---- a right side without marks
@@ -59,14 +59,14 @@ joined_last b m r j mid start jl of xs ys h k =
       subst (λ t. IsTextRun t b) (sym (last-before-append xs ys b.map.start hm.between hm.last hm.parts)) h.0,
       record {
         between = hm.between;
-        last = longer hm.last (before_mark ys);
+        last = longer hm.last (before_separator ys);
         parts =
             marked-after-append xs ys b.map.start hm.between hm.last hm.parts
-            ∙ ap (λ ps. hm.between ++ longer hm.last (before_mark ys) ∷ ps) (ap (λ n. after_marks n ys) (marked_place b m r xs hm mid) ∙ k.0);
+            ∙ ap (λ ps. hm.between ++ longer hm.last (before_separator ys) ∷ ps) (ap (λ n. after_separators n ys) (marked_place b m r xs hm mid) ∙ k.0);
         done = hm.done;
         start = start ∙ hm.start;
         depth = jl ∙ hm.depth;
-        after = of hm.last.bytes (before_mark ys) hm.after (subst (λ t. IsTextRun t r) (sym (unmarked-before ys r.map.start k.0)) k.1);
+        after = of hm.last.bytes (before_separator ys) hm.after (subst (λ t. IsTextRun t r) (sym (unmarked-before ys r.map.start k.0)) k.1);
       },
     )
 
@@ -83,20 +83,20 @@ pub joined_marked : (b : TextRunValue) (l : MarkedValue) (mid : TextRunValue) (r
 joined_marked b l mid r done meet lb lm closed xs ys h k =
     let hm = h.1 in
     let km = k.1 in
-    let p : Part = longer hm.last (before_mark ys) in
+    let p : Part = longer hm.last (before_separator ys) in
     let deep : mid.limit ≡ b.limit = sym lm ∙ lb in
     let right : AllZip (IsReading b.limit) (filled km.between) r.done = subst (λ n. AllZip (IsReading n) (filled km.between) r.done) deep km.done in
     let middle : AllZip (IsReading b.limit) (filled (p ∷ [])) closed.middle =
     subst (λ n. AllZip (IsReading n) (filled (p ∷ [])) closed.middle) lb
-    (subst (λ n. AllZip (IsReading l.after.limit) (filled (part n (hm.last.bytes ++ before_mark ys) ∷ [])) closed.middle) hm.start
-    (closed.of hm.last.bytes (before_mark ys) hm.after k.0)) in (
+    (subst (λ n. AllZip (IsReading l.after.limit) (filled (part n (hm.last.bytes ++ before_separator ys) ∷ [])) closed.middle) hm.start
+    (closed.of hm.last.bytes (before_separator ys) hm.after k.0)) in (
       subst (λ t. IsTextRun t b) (sym (last-before-append xs ys b.map.start hm.between hm.last hm.parts)) h.0,
       record {
         between = hm.between ++ p ∷ km.between;
         last = km.last;
         parts =
             marked-after-append xs ys b.map.start hm.between hm.last hm.parts
-            ∙ ap (λ ps. hm.between ++ p ∷ ps) (ap (λ n. after_marks n ys) (marked_place b l mid xs hm meet) ∙ km.parts)
+            ∙ ap (λ ps. hm.between ++ p ∷ ps) (ap (λ n. after_separators n ys) (marked_place b l mid xs hm meet) ∙ km.parts)
             ∙ sym (append_assoc hm.between (p ∷ km.between) (km.last ∷ []));
         done =
             subst (λ ps. AllZip (IsReading b.limit) ps done) (sym (filled-middle hm.between p km.between))

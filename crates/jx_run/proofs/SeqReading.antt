@@ -6,7 +6,7 @@ use Rattle.std.proofs.lemmas.Bool.Decides.{nat_tests}
 use Rattle.std.proofs.lemmas.List.{append_assoc, append-nil, take-take, drop-take, drop-drop}
 use Rattle.std.proofs.lemmas.List.Edits.{length-between}
 use Rattle.std.proofs.lemmas.List.Elements.{filter-append}
-use Rattle.jx_run.specs.Elements.{Part, part, is_mark, before_mark, after_marks, parts, filled, has_bytes}
+use Rattle.jx_run.specs.Elements.{Part, part, is_mark, before_separator, after_separators, parts, filled, has_bytes}
 use Rattle.jx_run.specs.SeqRun.{IsReading, IsMarked}
 use Rattle.jx_run.specs.Started.{StartedValue}
 use Rattle.jx_run.specs.TextRun.{TextRunValue, IsTextRun}
@@ -21,36 +21,36 @@ HasNone xs n = (k : ℕ) → k < n → is_mark (get_or xs k 0) ≡ true → ⊥
 none_in_rest : (b : ℕ) (xs : List ℕ) (n : ℕ) → HasNone (b ∷ xs) (suc n) → HasNone xs n
 none_in_rest b xs n h k low = h (suc k) (omega arith)
 
-pub none-after : (xs : List ℕ) (at : ℕ) → HasNone xs (length xs) → after_marks at xs ≡ []
+pub none-after : (xs : List ℕ) (at : ℕ) → HasNone xs (length xs) → after_separators at xs ≡ []
 none-after [] at h = refl
 none-after (b ∷ xs) at h = pick (is_mark b) (h 0 (omega arith)) (none-after xs (suc at) (none_in_rest b xs (length xs) h))
   where
-    pick : (m : Bool) → (m ≡ true → ⊥) → after_marks (suc at) xs ≡ []
-        → cond m (part (suc at) (before_mark xs) ∷ after_marks (suc at) xs) (after_marks (suc at) xs) ≡ []
+    pick : (m : Bool) → (m ≡ true → ⊥) → after_separators (suc at) xs ≡ []
+        → cond m (part (suc at) (before_separator xs) ∷ after_separators (suc at) xs) (after_separators (suc at) xs) ≡ []
     pick true away more = absurd (away refl)
     pick false away more = more
 
-pub first-before : (xs : List ℕ) (k : ℕ) → k < length xs → HasNone xs k → is_mark (get_or xs k 0) ≡ true → before_mark xs ≡ take k xs
+pub first-before : (xs : List ℕ) (k : ℕ) → k < length xs → HasNone xs k → is_mark (get_or xs k 0) ≡ true → before_separator xs ≡ take k xs
 first-before [] k low h m = absurd (omega arith)
-first-before (b ∷ xs) zero low h m = ap (λ t. cond t [] (b ∷ before_mark xs)) m
+first-before (b ∷ xs) zero low h m = ap (λ t. cond t [] (b ∷ before_separator xs)) m
 first-before (b ∷ xs) (suc k) low h m = pick (is_mark b) (h 0 (omega arith)) (first-before xs k (omega arith) (none_in_rest b xs k h) m)
   where
-    pick : (t : Bool) → (t ≡ true → ⊥) → before_mark xs ≡ take k xs → cond t [] (b ∷ before_mark xs) ≡ b ∷ take k xs
+    pick : (t : Bool) → (t ≡ true → ⊥) → before_separator xs ≡ take k xs → cond t [] (b ∷ before_separator xs) ≡ b ∷ take k xs
     pick true away more = absurd (away refl)
     pick false away more = ap (λ ys. b ∷ ys) more
 
 pub first-after : (xs : List ℕ) (k at : ℕ) → k < length xs → HasNone xs k → is_mark (get_or xs k 0) ≡ true
-    → after_marks at xs ≡ parts (at + k + 1) (drop (suc k) xs)
+    → after_separators at xs ≡ parts (at + k + 1) (drop (suc k) xs)
 first-after [] k at low h m = absurd (omega arith)
 first-after (b ∷ xs) zero at low h m =
     let e : suc at ≡ at + 0 + 1 = omega arith in
-    ap (λ t. cond t (parts (suc at) xs) (after_marks (suc at) xs)) m ∙ ap (λ n. parts n xs) e
+    ap (λ t. cond t (parts (suc at) xs) (after_separators (suc at) xs)) m ∙ ap (λ n. parts n xs) e
 first-after (b ∷ xs) (suc k) at low h m =
     let e : suc at + k + 1 ≡ at + suc k + 1 = omega arith in
     pick (is_mark b) (h 0 (omega arith)) (first-after xs k (suc at) (omega arith) (none_in_rest b xs k h) m) ∙ ap (λ n. parts n (drop (suc k) xs)) e
   where
-    pick : (t : Bool) → (t ≡ true → ⊥) → after_marks (suc at) xs ≡ parts (suc at + k + 1) (drop (suc k) xs)
-        → cond t (part (suc at) (before_mark xs) ∷ after_marks (suc at) xs) (after_marks (suc at) xs) ≡ parts (suc at + k + 1) (drop (suc k) xs)
+    pick : (t : Bool) → (t ≡ true → ⊥) → after_separators (suc at) xs ≡ parts (suc at + k + 1) (drop (suc k) xs)
+        → cond t (part (suc at) (before_separator xs) ∷ after_separators (suc at) xs) (after_separators (suc at) xs) ≡ parts (suc at + k + 1) (drop (suc k) xs)
     pick true away more = absurd (away refl)
     pick false away more = more
 
@@ -113,13 +113,13 @@ no_reading R p h = subst (λ b. AllZip R (these b p) []) (sym (has_not p h)) tt
 abbrev pub rest_at : List ℕ → ℕ → ℕ → List Part
 rest_at text from end = parts from (slice_range text from end)
 
-next_parts : (text : List ℕ) (from at end : ℕ) → before_mark (slice_range text from end) ≡ slice_range text from at
-    → after_marks from (slice_range text from end) ≡ rest_at text (at + 1) end → rest_at text from end ≡ part from (slice_range text from at) ∷ rest_at text (at + 1) end
-next_parts text from at end h k = ap (λ t. part from t ∷ after_marks from (slice_range text from end)) h ∙ ap (λ ps. part from (slice_range text from at) ∷ ps) k
+next_parts : (text : List ℕ) (from at end : ℕ) → before_separator (slice_range text from end) ≡ slice_range text from at
+    → after_separators from (slice_range text from end) ≡ rest_at text (at + 1) end → rest_at text from end ≡ part from (slice_range text from at) ∷ rest_at text (at + 1) end
+next_parts text from at end h k = ap (λ t. part from t ∷ after_separators from (slice_range text from end)) h ∙ ap (λ ps. part from (slice_range text from at) ∷ ps) k
 
 module _ {D : Type 0} (R : Part → D → Type 0) (text : List ℕ) (start from at end : ℕ) (done : List D) where
-  pub read_one : (s : D) → from < at → at ≤ length text → before_mark (slice_range text from end) ≡ slice_range text from at
-      → after_marks from (slice_range text from end) ≡ rest_at text (at + 1) end → R (part from (slice_range text from at)) s
+  pub read_one : (s : D) → from < at → at ≤ length text → before_separator (slice_range text from end) ≡ slice_range text from at
+      → after_separators from (slice_range text from end) ≡ rest_at text (at + 1) end → R (part from (slice_range text from at)) s
       → IsReadTo R (rest_at text start end) (rest_at text from end) done → IsReadTo R (rest_at text start end) (rest_at text (at + 1) end) (done ++ s ∷ [])
   read_one s low high h k r so_far =
       let long : length (slice_range text from at) ≡ at - from = length-between text from at high in
@@ -127,8 +127,8 @@ module _ {D : Type 0} (R : Part → D → Type 0) (text : List ℕ) (start from 
       (subst (λ ps. IsReadTo R (rest_at text start end) ps done) (next_parts text from at end h k) so_far)
       (one_reading R (part from (slice_range text from at)) s (omega arith) r)
 
-  pub read_none : at ≤ from → at ≤ length text → before_mark (slice_range text from end) ≡ slice_range text from at
-      → after_marks from (slice_range text from end) ≡ rest_at text (at + 1) end
+  pub read_none : at ≤ from → at ≤ length text → before_separator (slice_range text from end) ≡ slice_range text from at
+      → after_separators from (slice_range text from end) ≡ rest_at text (at + 1) end
       → IsReadTo R (rest_at text start end) (rest_at text from end) done → IsReadTo R (rest_at text start end) (rest_at text (at + 1) end) done
   read_none low high h k so_far =
       let long : length (slice_range text from at) ≡ at - from = length-between text from at high in
@@ -138,14 +138,14 @@ module _ {D : Type 0} (R : Part → D → Type 0) (text : List ℕ) (start from 
       (subst (λ ps. IsReadTo R (rest_at text start end) ps done) (next_parts text from at end h k) so_far)
       (no_reading R (part from (slice_range text from at)) none))
 
-pub read_all : (limit : ℕ) (text : List ℕ) (start from end : ℕ) (done : List StartedValue) (after : TextRunValue) → after_marks from (slice_range text from end) ≡ [] → after.map.start ≡ from → after.limit ≡ limit
+pub read_all : (limit : ℕ) (text : List ℕ) (start from end : ℕ) (done : List StartedValue) (after : TextRunValue) → after_separators from (slice_range text from end) ≡ [] → after.map.start ≡ from → after.limit ≡ limit
     → IsTextRun (slice_range text from end) after → IsReadTo (IsReading limit) (rest_at text start end) (rest_at text from end) done
     → IsMarked limit (rest_at text start end) (record { done = done; after = after })
 read_all limit text start from end done after none here deep of so_far =
     record {
       between = so_far.between;
-      last = part from (before_mark (slice_range text from end));
-      parts = so_far.are ∙ ap (λ ps. so_far.between ++ part from (before_mark (slice_range text from end)) ∷ ps) none;
+      last = part from (before_separator (slice_range text from end));
+      parts = so_far.are ∙ ap (λ ps. so_far.between ++ part from (before_separator (slice_range text from end)) ∷ ps) none;
       done = so_far.readings;
       start = here;
       depth = deep;

@@ -9,10 +9,10 @@ use Rattle.jx_lex.specs.declared.span.Span.{Span}
 use Rattle.jx_run.specs.declared.element_verdict.ElementVerdict.TheVariants as element
 use Rattle.jx_run.specs.declared.element_verdict.JudgedElement.{JudgedElement}
 use Rattle.jx_run.specs.declared.verdict.Verdict.{Verdict}
-use Rattle.jx_run.specs.Elements.{Part, part, is_mark, before_mark, after_marks, parts, filled, has_bytes, elements}
+use Rattle.jx_run.specs.Elements.{Part, part, is_mark, before_separator, after_separators, parts, filled, has_bytes, elements}
 use Rattle.jx_run.specs.ElementVerdict.{IsJudgedElement, told}
 use Rattle.jx_run.specs.Reader.{ReaderValue, HasRead}
-use Rattle.jx_run.specs.SequenceRead.{AreRead, EndsWithMark, IsUnmarked, StartsWithMark, ended_there, listed}
+use Rattle.jx_run.specs.SequenceRead.{AreRead, EndsWithSeparator, HasNoSeparator, StartsWithSeparator, ended_there, listed}
 use Rattle.jx_run.specs.Tree.{span}
 use Rattle.jx_run.specs.Unclosed.{ends_open, last_open}
 use Rattle.jx_run.specs.Verdict.{Judged}
@@ -24,46 +24,46 @@ use Rattle.jx_run.proofs.SeqReading.{one_reading, no_reading}
 
 -- ---- bytes without a mark
 
-unmarked_rest : (b : ℕ) (xs : List ℕ) → IsUnmarked (b ∷ xs) → (is_mark b ≡ false) × IsUnmarked xs
+unmarked_rest : (b : ℕ) (xs : List ℕ) → HasNoSeparator (b ∷ xs) → (is_mark b ≡ false) × HasNoSeparator xs
 unmarked_rest b xs h = pick (is_mark b) h
   where
-    pick : (m : Bool) → cond m [] (b ∷ before_mark xs) ≡ b ∷ xs → (m ≡ false) × IsUnmarked xs
+    pick : (m : Bool) → cond m [] (b ∷ before_separator xs) ≡ b ∷ xs → (m ≡ false) × HasNoSeparator xs
     pick true h = absurd cc
     pick false h = (refl, cc)
 
-pub unmarked-after : (xs : List ℕ) (at : ℕ) → IsUnmarked xs → after_marks at xs ≡ []
+pub unmarked-after : (xs : List ℕ) (at : ℕ) → HasNoSeparator xs → after_separators at xs ≡ []
 unmarked-after [] at h = refl
 unmarked-after (b ∷ xs) at h =
     let r = unmarked_rest b xs h in
-    ap (λ (m : Bool). cond m (part (suc at) (before_mark xs) ∷ after_marks (suc at) xs) (after_marks (suc at) xs)) r.0 ∙ unmarked-after xs (suc at) r.1
+    ap (λ (m : Bool). cond m (part (suc at) (before_separator xs) ∷ after_separators (suc at) xs) (after_separators (suc at) xs)) r.0 ∙ unmarked-after xs (suc at) r.1
 
 -- ---- bytes that begin with a mark, behind others
 
-before-stays : (xs ys : List ℕ) → StartsWithMark ys → before_mark (xs ++ ys) ≡ before_mark xs
+before-stays : (xs ys : List ℕ) → StartsWithSeparator ys → before_separator (xs ++ ys) ≡ before_separator xs
 before-stays [] ys h = h
 before-stays (b ∷ xs) ys h = ap (λ (t : List ℕ). cond (is_mark b) [] (b ∷ t)) (before-stays xs ys h)
 
-after-append : (xs ys : List ℕ) (at : ℕ) → StartsWithMark ys → after_marks at (xs ++ ys) ≡ after_marks at xs ++ after_marks (at + length xs) ys
-after-append [] ys at h = let e : at ≡ at + 0 = omega arith in ap (λ (n : ℕ). after_marks n ys) e
+after-append : (xs ys : List ℕ) (at : ℕ) → StartsWithSeparator ys → after_separators at (xs ++ ys) ≡ after_separators at xs ++ after_separators (at + length xs) ys
+after-append [] ys at h = let e : at ≡ at + 0 = omega arith in ap (λ (n : ℕ). after_separators n ys) e
 after-append (b ∷ xs) ys at h =
     let e : suc at + length xs ≡ at + length (b ∷ xs) = omega arith in
-    pick (is_mark b) (after-append xs ys (suc at) h) (before-stays xs ys h) ∙ ap (λ (n : ℕ). after_marks at (b ∷ xs) ++ after_marks n ys) e
+    pick (is_mark b) (after-append xs ys (suc at) h) (before-stays xs ys h) ∙ ap (λ (n : ℕ). after_separators at (b ∷ xs) ++ after_separators n ys) e
   where
-    pick : (m : Bool) → after_marks (suc at) (xs ++ ys) ≡ after_marks (suc at) xs ++ after_marks (suc at + length xs) ys → before_mark (xs ++ ys) ≡ before_mark xs
-        → cond m (part (suc at) (before_mark (xs ++ ys)) ∷ after_marks (suc at) (xs ++ ys)) (after_marks (suc at) (xs ++ ys))
-        ≡ cond m (part (suc at) (before_mark xs) ∷ after_marks (suc at) xs) (after_marks (suc at) xs) ++ after_marks (suc at + length xs) ys
-    pick true more same = ap (λ (t : List ℕ). part (suc at) t ∷ after_marks (suc at) (xs ++ ys)) same ∙ ap (λ ps. part (suc at) (before_mark xs) ∷ ps) more
+    pick : (m : Bool) → after_separators (suc at) (xs ++ ys) ≡ after_separators (suc at) xs ++ after_separators (suc at + length xs) ys → before_separator (xs ++ ys) ≡ before_separator xs
+        → cond m (part (suc at) (before_separator (xs ++ ys)) ∷ after_separators (suc at) (xs ++ ys)) (after_separators (suc at) (xs ++ ys))
+        ≡ cond m (part (suc at) (before_separator xs) ∷ after_separators (suc at) xs) (after_separators (suc at) xs) ++ after_separators (suc at + length xs) ys
+    pick true more same = ap (λ (t : List ℕ). part (suc at) t ∷ after_separators (suc at) (xs ++ ys)) same ∙ ap (λ ps. part (suc at) (before_separator xs) ∷ ps) more
     pick false more same = more
 
-parts-behind : (xs ys : List ℕ) (at : ℕ) → StartsWithMark ys → parts at (xs ++ ys) ≡ parts at xs ++ after_marks (at + length xs) ys
-parts-behind xs ys at h = ap (λ (t : List ℕ). part at t ∷ after_marks at (xs ++ ys)) (before-stays xs ys h) ∙ ap (λ ps. part at (before_mark xs) ∷ ps) (after-append xs ys at h)
+parts-behind : (xs ys : List ℕ) (at : ℕ) → StartsWithSeparator ys → parts at (xs ++ ys) ≡ parts at xs ++ after_separators (at + length xs) ys
+parts-behind xs ys at h = ap (λ (t : List ℕ). part at t ∷ after_separators at (xs ++ ys)) (before-stays xs ys h) ∙ ap (λ ps. part at (before_separator xs) ∷ ps) (after-append xs ys at h)
 
 -- a mark at the end ends all elements before it
-ends-empty : (front bytes : List ℕ) (at : ℕ) → bytes ≡ front ++ 30 ∷ [] → after_marks at bytes ≡ after_marks at front ++ part (at + length bytes) [] ∷ []
+ends-empty : (front bytes : List ℕ) (at : ℕ) → bytes ≡ front ++ 30 ∷ [] → after_separators at bytes ≡ after_separators at front ++ part (at + length bytes) [] ∷ []
 ends-empty front bytes at h =
     let long : length bytes ≡ length front + 1 = ap length h ∙ length-one front in
     let e : suc (at + length front) ≡ at + length bytes = omega (arith, long) in
-    ap (after_marks at) h ∙ after-append front (30 ∷ []) at refl ∙ ap (λ (n : ℕ). after_marks at front ++ part n [] ∷ []) e
+    ap (after_separators at) h ∙ after-append front (30 ∷ []) at refl ∙ ap (λ (n : ℕ). after_separators at front ++ part n [] ∷ []) e
   where
     length-one : (xs : List ℕ) → length (xs ++ 30 ∷ []) ≡ length xs + 1
     length-one [] = refl
@@ -72,11 +72,11 @@ ends-empty front bytes at h =
 -- the last part ends where all bytes do
 ends_there_all : (bytes : List ℕ) (ended : List Part) (last : Part) → parts 0 bytes ≡ ended ++ last ∷ [] → last.at + length last.bytes ≡ length bytes
 ends_there_all bytes [] last h =
-    let same : part 0 (before_mark bytes) ≡ last = cc in
-    let rest : after_marks 0 bytes ≡ [] = cc in
+    let same : part 0 (before_separator bytes) ≡ last = cc in
+    let rest : after_separators 0 bytes ≡ [] = cc in
     sym (ap (λ (p : Part). p.at + length p.bytes) same) ∙ ap (λ (t : List ℕ). 0 + length t) (unmarked-before bytes 0 rest) ∙ (let e : 0 + length bytes ≡ length bytes = omega arith in e)
 ends_there_all bytes (p ∷ ps) last h =
-    let rest : after_marks 0 bytes ≡ ps ++ last ∷ [] = cc in
+    let rest : after_separators 0 bytes ≡ ps ++ last ∷ [] = cc in
     last-ends bytes 0 ps last rest ∙ (let e : 0 + length bytes ≡ length bytes = omega arith in e)
 
 -- ---- what was read goes on
@@ -88,7 +88,7 @@ module _ (limit : ℕ) where
   pub begun : (reader : ReaderValue) → reader.limit ≡ limit → reader.start ≡ 0 → HasRead [] reader → AreRead limit [] [] reader false
   begun reader deep start read = record { ended = []; last = part 0 []; parts = refl; done = tt; depth = deep; start = start; read = read; opens = refl }
 
-  pub gone_on : (bytes more : List ℕ) (done : List JudgedElement) (old new : ReaderValue) (loose next : Bool) → AreRead limit bytes done old loose → IsUnmarked more → new.limit ≡ old.limit
+  pub gone_on : (bytes more : List ℕ) (done : List JudgedElement) (old new : ReaderValue) (loose next : Bool) → AreRead limit bytes done old loose → HasNoSeparator more → new.limit ≡ old.limit
       → new.start ≡ old.start → ((xs : List ℕ) → HasRead xs old → HasRead (xs ++ more) new) → next ≡ last_open loose more → AreRead limit (bytes ++ more) done new next
   gone_on bytes more done old new loose next h none deep start reads is =
       record {
@@ -96,7 +96,7 @@ module _ (limit : ℕ) where
         last = longer h.last more;
         parts =
             parts-append bytes more 0 h.ended h.last h.parts
-            ∙ ap (λ (t : List ℕ). h.ended ++ longer h.last t ∷ after_marks (0 + length bytes) more) none
+            ∙ ap (λ (t : List ℕ). h.ended ++ longer h.last t ∷ after_separators (0 + length bytes) more) none
             ∙ ap (λ ps. h.ended ++ longer h.last more ∷ ps) (unmarked-after more (0 + length bytes) none);
         done = h.done;
         depth = deep ∙ h.depth;
@@ -154,23 +154,23 @@ module _ (limit : ℕ) where
       subst (λ ps. AllZip R ps (done ++ listed (ended_there (span reader.start (reader.start + reader.count)) v loose))) (sym (ap filled h.parts ∙ filter-append has_bytes h.ended (h.last ∷ [])))
       (AllZip-append R (filled h.ended) (filled (h.last ∷ [])) done _ h.done (last_one h.last reader loose v h.depth h.start h.read h.opens judged))
 
-  pub marked : (bytes more : List ℕ) (done behind : List JudgedElement) (reader : ReaderValue) → AllZip R (elements 0 bytes) done → StartsWithMark more → EndsWithMark more
+  pub marked : (bytes more : List ℕ) (done behind : List JudgedElement) (reader : ReaderValue) → AllZip R (elements 0 bytes) done → StartsWithSeparator more → EndsWithSeparator more
       → AllZip R (elements (length bytes) more) behind → reader.limit ≡ limit → reader.start ≡ length bytes + length more → HasRead [] reader
       → AreRead limit (bytes ++ more) (done ++ behind) reader false
   marked bytes more done behind reader h starts ends k deep start read =
       let n = length bytes in
-      let front = after_marks n ends.0 in
-      let here : after_marks n more ≡ front ++ part (n + length more) [] ∷ [] = ends-empty ends.0 more n ends.1 in
+      let front = after_separators n ends.0 in
+      let here : after_separators n more ≡ front ++ part (n + length more) [] ∷ [] = ends-empty ends.0 more n ends.1 in
       let zero_at : 0 + n ≡ n = omega arith in
-      let first : filled (parts n more) ≡ filled (after_marks n more) = ap (λ (t : List ℕ). filled (part n t ∷ after_marks n more)) starts in
-      let last : filled (after_marks n more) ≡ filled front =
+      let first : filled (parts n more) ≡ filled (after_separators n more) = ap (λ (t : List ℕ). filled (part n t ∷ after_separators n more)) starts in
+      let last : filled (after_separators n more) ≡ filled front =
       ap filled here ∙ filter-append has_bytes front (part (n + length more) [] ∷ []) ∙ append-nil (filled front) in
       record {
         ended = parts 0 bytes ++ front;
         last = part (n + length more) [];
         parts =
             parts-behind bytes more 0 starts
-            ∙ ap (λ (i : ℕ). parts 0 bytes ++ after_marks i more) zero_at
+            ∙ ap (λ (i : ℕ). parts 0 bytes ++ after_separators i more) zero_at
             ∙ ap (λ ps. parts 0 bytes ++ ps) here
             ∙ sym (append_assoc (parts 0 bytes) front (part (n + length more) [] ∷ []));
         done =
@@ -184,27 +184,27 @@ module _ (limit : ℕ) where
 
 -- ---- from the first mark up to behind the last one
 
-pub no_mark : (xs : List ℕ) → ((k : ℕ) → k < length xs → is_mark (get_or xs k 0) ≡ true → ⊥) → IsUnmarked xs
+pub no_mark : (xs : List ℕ) → ((k : ℕ) → k < length xs → is_mark (get_or xs k 0) ≡ true → ⊥) → HasNoSeparator xs
 no_mark [] h = refl
 no_mark (b ∷ xs) h = pick (is_mark b) (h 0 (omega arith)) (no_mark xs (λ k low. h (suc k) (omega (arith, low))))
   where
-    pick : (m : Bool) → (m ≡ true → ⊥) → IsUnmarked xs → cond m [] (b ∷ before_mark xs) ≡ b ∷ xs
+    pick : (m : Bool) → (m ≡ true → ⊥) → HasNoSeparator xs → cond m [] (b ∷ before_separator xs) ≡ b ∷ xs
     pick true away more = absurd (away refl)
     pick false away more = ap (λ ys. b ∷ ys) more
 
-pub starts_there : (xs : List ℕ) (i j : ℕ) → i < j → i < length xs → is_mark (get_or xs i 0) ≡ true → StartsWithMark (slice_range xs i j)
+pub starts_there : (xs : List ℕ) (i j : ℕ) → i < j → i < length xs → is_mark (get_or xs i 0) ≡ true → StartsWithSeparator (slice_range xs i j)
 starts_there xs i j low within is =
     let long : j - i ≡ suc (j - i - 1) = omega (arith, low) in
-    ap (λ (n : ℕ). before_mark (take n (drop i xs))) long
-    ∙ ap (λ (ys : List ℕ). before_mark (take (suc (j - i - 1)) ys)) (drop-cons xs i 0 within)
-    ∙ ap (λ (m : Bool). cond m [] (get_or xs i 0 ∷ before_mark (take (j - i - 1) (drop (suc i) xs)))) is
+    ap (λ (n : ℕ). before_separator (take n (drop i xs))) long
+    ∙ ap (λ (ys : List ℕ). before_separator (take (suc (j - i - 1)) ys)) (drop-cons xs i 0 within)
+    ∙ ap (λ (m : Bool). cond m [] (get_or xs i 0 ∷ before_separator (take (j - i - 1) (drop (suc i) xs)))) is
 
 take-snoc : (xs : List ℕ) (n : ℕ) → n < length xs → take (suc n) xs ≡ take n xs ++ get_or xs n 0 ∷ []
 take-snoc [] n h = absurd (omega (arith, h))
 take-snoc (x ∷ xs) zero h = refl
 take-snoc (x ∷ xs) (suc n) h = ap (λ ys. x ∷ ys) (take-snoc xs n (omega (arith, h)))
 
-pub ends_there : (xs : List ℕ) (i j : ℕ) → i ≤ j → j < length xs → is_mark (get_or xs j 0) ≡ true → EndsWithMark (slice_range xs i (j + 1))
+pub ends_there : (xs : List ℕ) (i j : ℕ) → i ≤ j → j < length xs → is_mark (get_or xs j 0) ≡ true → EndsWithSeparator (slice_range xs i (j + 1))
 ends_there xs i j low within is =
     let rest : length (drop i xs) ≡ length xs - i = length-drop i xs in
     let long : j + 1 - i ≡ suc (j - i) = omega (arith, low) in
@@ -216,16 +216,16 @@ ends_there xs i j low within is =
           ∙ ap (λ (b : ℕ). take (j - i) (drop i xs) ++ b ∷ []) there,
     )
 
-pub unmarked_front : (xs : List ℕ) (k : ℕ) → k ≤ length xs → ((j : ℕ) → j < k → is_mark (get_or xs j 0) ≡ true → ⊥) → IsUnmarked (take k xs)
+pub unmarked_front : (xs : List ℕ) (k : ℕ) → k ≤ length xs → ((j : ℕ) → j < k → is_mark (get_or xs j 0) ≡ true → ⊥) → HasNoSeparator (take k xs)
 unmarked_front xs zero within h = refl
 unmarked_front [] (suc k) within h = refl
 unmarked_front (b ∷ xs) (suc k) within h = pick (is_mark b) (h 0 (omega arith)) (unmarked_front xs k (omega (arith, within)) (λ j low. h (suc j) (omega (arith, low))))
   where
-    pick : (m : Bool) → (m ≡ true → ⊥) → IsUnmarked (take k xs) → cond m [] (b ∷ before_mark (take k xs)) ≡ b ∷ take k xs
+    pick : (m : Bool) → (m ≡ true → ⊥) → HasNoSeparator (take k xs) → cond m [] (b ∷ before_separator (take k xs)) ≡ b ∷ take k xs
     pick true away more = absurd (away refl)
     pick false away more = ap (λ ys. b ∷ ys) more
 
-pub unmarked_rest_of : (xs : List ℕ) (k : ℕ) → k ≤ length xs → ((j : ℕ) → k ≤ j → j < length xs → is_mark (get_or xs j 0) ≡ true → ⊥) → IsUnmarked (drop k xs)
+pub unmarked_rest_of : (xs : List ℕ) (k : ℕ) → k ≤ length xs → ((j : ℕ) → k ≤ j → j < length xs → is_mark (get_or xs j 0) ≡ true → ⊥) → HasNoSeparator (drop k xs)
 unmarked_rest_of xs k within h =
     let rest : length (drop k xs) ≡ length xs - k = length-drop k xs in
     no_mark (drop k xs) (λ j low m. h (k + j) (omega arith) (omega (arith, rest, low)) (sym (ap is_mark (get_or-drop k xs j 0)) ∙ m))

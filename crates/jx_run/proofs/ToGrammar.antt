@@ -20,7 +20,7 @@ use Rattle.jx_reduce.specs.declared.expect.Expect.TheVariants as expect
 use Rattle.jx_reduce.specs.declared.holder.Holder.{Holder}
 use Rattle.jx_reduce.specs.declared.holder.Holder.TheVariants as holder
 use Rattle.jx_reduce.specs.Read.{top}
-use Rattle.jx_run.specs.Turns.{at_scalar, at_string, at_open_array, at_open_object, at_close_array, at_close_object, at_colon, at_comma}
+use Rattle.jx_run.specs.inside.Turns.{at_scalar, at_string, at_open_array, at_open_object, at_close_array, at_close_object, at_colon, at_comma}
 use Rattle.jx_run.specs.Reading.{Outcome, went}
 use Rattle.jx_run.specs.Tree.{Tree, Children, no_children, depth, deepest, depth_over}
 use Rattle.jx_run.specs.Grammar.{Blanks, no_blanks, blank, Scalar, Value, leaf, empty_array, array, empty_object, object, Items, last_item, item, Members, last_member, member}

@@ -4,7 +4,7 @@ use Rattle.std.specs.Prelude.{◌≡◌, ◌<◌, ℕ, Bool, List, [], ◌∷◌
 use Rattle.std.specs.List.{AllZip}
 use Rattle.jx_lex.specs.declared.span.Span.{Span}
 use Rattle.jx_run.specs.declared.element_verdict.JudgedElement.{JudgedElement}
-use Rattle.jx_run.specs.Elements.{Part, part, before_mark, after_marks, filled}
+use Rattle.jx_run.specs.Elements.{Part, part, before_separator, after_separators, filled}
 use Rattle.jx_run.specs.ElementVerdict.{IsJudgedElement}
 use Rattle.jx_run.specs.OutcomeRun.{OutcomeRunValue, IsOutcomeRun}
 use Rattle.jx_run.specs.Tree.{span}
@@ -19,7 +19,7 @@ pub record IsPartRun (bytes : List ℕ) (run : PartRunValue) : Type 0 where
   pub outcomes : IsOutcomeRun bytes run.outcomes
   pub loose : run.loose ≡ ends_open bytes
 
--- what stands behind the first mark: the parts that a further mark ends, and the run of what stands behind the last mark
+-- what stands behind the first separator: the parts that a further separator ends, and the run of what stands behind the last separator
 pub record MarkedElementsValue : Type 0 where
   pub done : List JudgedElement
   pub after : PartRunValue
@@ -35,7 +35,7 @@ last_part before (Some m) = m.after
 abbrev pub place_of_elements : ElementsRunValue → Span
 place_of_elements run = span run.before.outcomes.start (last_part run.before run.marked).outcomes.end
 
--- each part between two neighbouring marks that is not empty is judged, in order; the last part goes on to the end
+-- each part between two neighbouring separators that is not empty is judged, in order; the last part goes on to the end
 pub record AreMarked (limit : ℕ) (behind : List Part) (m : MarkedElementsValue) : Type 0 where
   pub between : List Part
   pub last : Part
@@ -46,10 +46,10 @@ pub record AreMarked (limit : ℕ) (behind : List Part) (m : MarkedElementsValue
   pub depth : m.after.outcomes.limit ≡ limit
   pub after : IsPartRun last.bytes m.after
 
--- without a mark the run of all bytes, else the run of those before the first mark, and what stands behind it
+-- without a separator the run of all bytes, else the run of those before the first separator, and what stands behind it
 abbrev pub IsSummaryOf : List ℕ → PartRunValue → Option MarkedElementsValue → Type 0
-IsSummaryOf bytes before None = (after_marks before.outcomes.start bytes ≡ []) × IsPartRun bytes before
-IsSummaryOf bytes before (Some m) = IsPartRun (before_mark bytes) before × AreMarked before.outcomes.limit (after_marks before.outcomes.start bytes) m
+IsSummaryOf bytes before None = (after_separators before.outcomes.start bytes ≡ []) × IsPartRun bytes before
+IsSummaryOf bytes before (Some m) = IsPartRun (before_separator bytes) before × AreMarked before.outcomes.limit (after_separators before.outcomes.start bytes) m
 
 abbrev pub IsElementsRun : List ℕ → ElementsRunValue → Type 0
 IsElementsRun bytes run = IsSummaryOf bytes run.before run.marked

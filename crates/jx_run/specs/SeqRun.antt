@@ -2,12 +2,12 @@
 use Rattle.std.specs.Prelude.{◌≡◌, ℕ, List, [], ◌∷◌, ◌++◌, Option, None, Some, map, nat_lt, if◌then◌else◌}
 use Rattle.std.specs.List.{AllZip}
 use Rattle.jx_lex.specs.declared.span.Span.{Span}
-use Rattle.jx_run.specs.Elements.{Part, part, before_mark, after_marks, filled}
+use Rattle.jx_run.specs.Elements.{Part, part, before_separator, after_separators, filled}
 use Rattle.jx_run.specs.Started.{StartedValue, IsStarted}
 use Rattle.jx_run.specs.TextRun.{TextRunValue, IsTextRun, place_of}
 use Rattle.jx_run.specs.Tree.{span}
 
--- what stands behind the first mark: the parts that a further mark ends, and the run of what stands behind the last mark
+-- what stands behind the first separator: the parts that a further separator ends, and the run of what stands behind the last separator
 pub record MarkedValue : Type 0 where
   pub done : List StartedValue
   pub after : TextRunValue
@@ -29,7 +29,7 @@ pub record IsReading (limit : ℕ) (p : Part) (s : StartedValue) : Type 0 where
   pub depth : s.limit ≡ limit
   pub of : IsStarted p.bytes s
 
--- so it is with each part between two neighbouring marks that is not empty, in order; the last part goes on to the end
+-- so it is with each part between two neighbouring separators that is not empty, in order; the last part goes on to the end
 pub record IsMarked (limit : ℕ) (behind : List Part) (m : MarkedValue) : Type 0 where
   pub between : List Part
   pub last : Part
@@ -39,10 +39,10 @@ pub record IsMarked (limit : ℕ) (behind : List Part) (m : MarkedValue) : Type 
   pub depth : m.after.limit ≡ limit
   pub after : IsTextRun last.bytes m.after
 
--- without a mark the run of all bytes, else the run of those before the first mark, and what stands behind it
+-- without a separator the run of all bytes, else the run of those before the first separator, and what stands behind it
 abbrev pub IsSummary : List ℕ → TextRunValue → Option MarkedValue → Type 0
-IsSummary bytes before None = (after_marks before.map.start bytes ≡ []) × IsTextRun bytes before
-IsSummary bytes before (Some m) = IsTextRun (before_mark bytes) before × IsMarked before.limit (after_marks before.map.start bytes) m
+IsSummary bytes before None = (after_separators before.map.start bytes ≡ []) × IsTextRun bytes before
+IsSummary bytes before (Some m) = IsTextRun (before_separator bytes) before × IsMarked before.limit (after_separators before.map.start bytes) m
 
 abbrev pub IsSeqRun : List ℕ → SeqRunValue → Type 0
 IsSeqRun bytes run = IsSummary bytes run.before run.marked

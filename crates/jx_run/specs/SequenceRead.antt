@@ -1,28 +1,28 @@
--- A text sequence that is read part by part, cut at some of its record marks.
+-- A text sequence that is read part by part, cut at some of its record separators.
 use Rattle.std.specs.Prelude.{◌≡◌, ◌==◌, ℕ, ◌+◌, List, [], ◌∷◌, ◌++◌, Bool, Option, Some, None, if◌then◌else◌}
 use Rattle.std.specs.List.{AllZip}
 use Rattle.jx_lex.specs.declared.span.Span.{Span}
 use Rattle.jx_run.specs.declared.element_verdict.ElementVerdict.TheVariants as element
 use Rattle.jx_run.specs.declared.element_verdict.JudgedElement.{JudgedElement}
 use Rattle.jx_run.specs.declared.verdict.Verdict.{Verdict}
-use Rattle.jx_run.specs.Elements.{Part, before_mark, parts, filled}
+use Rattle.jx_run.specs.Elements.{Part, before_separator, parts, filled}
 use Rattle.jx_run.specs.ElementVerdict.{IsJudgedElement, told}
 use Rattle.jx_run.specs.Reader.{ReaderValue, HasRead}
 use Rattle.jx_run.specs.Unclosed.{ends_open}
 
--- no byte is a mark
-abbrev pub IsUnmarked : List ℕ → Type 0
-IsUnmarked bytes = before_mark bytes ≡ bytes
+-- no byte is a separator
+abbrev pub HasNoSeparator : List ℕ → Type 0
+HasNoSeparator bytes = before_separator bytes ≡ bytes
 
--- nothing stands before the first mark
-abbrev pub StartsWithMark : List ℕ → Type 0
-StartsWithMark bytes = before_mark bytes ≡ []
+-- nothing stands before the first separator
+abbrev pub StartsWithSeparator : List ℕ → Type 0
+StartsWithSeparator bytes = before_separator bytes ≡ []
 
--- the last byte is a mark
-abbrev pub EndsWithMark : List ℕ → Type 0
-EndsWithMark bytes = (front : List ℕ) × (bytes ≡ front ++ 30 ∷ [])
+-- the last byte is a separator
+abbrev pub EndsWithSeparator : List ℕ → Type 0
+EndsWithSeparator bytes = (front : List ℕ) × (bytes ≡ front ++ 30 ∷ [])
 
--- what these bytes of a sequence come to: the elements that a mark ends, and of the one that goes on what a reader has read
+-- what these bytes of a sequence come to: the elements that a separator ends, and of the one that goes on what a reader has read
 -- of it, and whether its last byte is open
 pub record AreRead (limit : ℕ) (bytes : List ℕ) (judged : List JudgedElement) (reader : ReaderValue) (loose : Bool) : Type 0 where
   pub ended : List Part
@@ -34,7 +34,7 @@ pub record AreRead (limit : ℕ) (bytes : List ℕ) (judged : List JudgedElement
   pub read : HasRead last.bytes reader
   pub opens : loose ≡ ends_open last.bytes
 
--- the element that has this span, unless it is empty; what stands at the start has no mark before it
+-- the element that has this span, unless it is empty; what stands at the start has no separator before it
 abbrev pub ended_there : Span → Verdict → Bool → Option JudgedElement
 ended_there s verdict loose =
     if s.start == s.end then None else

@@ -24,7 +24,7 @@ fn count_agreed(text: &[u8]) -> usize
     3
 }
 
-// The same as `front`.
+/// The same as `front`.
 fn seen(text: &[u8], mark: FrontMark) -> Front
     ensures { result ≡ front_of mark text.now }
 {

@@ -1,6 +1,6 @@
 // What elements of a JSON text sequence come to.
 ghost use Rattle.std.specs.Prelude.{◌≡◌, map};
-ghost use Rattle.jx_run.specs.Moved.{moved, moved_refusal, moved_verdict};
+ghost use Rattle.jx_run.specs.inside.Moved.{moved, moved_refusal, moved_verdict};
 ghost use Rattle.jx_run.specs.SequenceRead.{ended_there};
 
 use crate::open_end::told;
@@ -47,6 +47,7 @@ fn moved_refusal(by: usize, refusal: Refusal) -> Refusal
     }
 }
 
+/// The same verdict on bytes that stand so much further on.
 fn moved_verdict(by: usize, verdict: ElementVerdict) -> ElementVerdict
     ensures { result ≡ moved_verdict by verdict }
 {

@@ -4,13 +4,13 @@ ghost use Rattle.std.specs.List.{AllZip};
 ghost use Rattle.jx_run.specs.Elements.{elements};
 ghost use Rattle.jx_run.specs.ElementsRun.{AreClosed, IsElementsJoin, IsElementsRun, last_part, place_of_elements};
 ghost use Rattle.jx_run.specs.ElementVerdict.{IsJudgedElement};
-ghost use Rattle.jx_run.specs.SequenceRead.{StartsWithMark};
+ghost use Rattle.jx_run.specs.SequenceRead.{StartsWithSeparator};
 
 use crate::element_verdict::{ElementVerdict, JudgedElement, all_moved};
 use crate::laws::reader_is_grammar;
 use crate::marked_elements::MarkedElements;
-use crate::marks::next_mark;
 use crate::part_run::PartRun;
+use crate::separators::next_separator;
 use crate::summary::Summary;
 use jx_lex::{Depth, JoinFault, Span};
 use std::alloc::{AllocError, Global};
@@ -22,7 +22,7 @@ use std::marker::Model;
 #[derive(Drop)]
 pub struct ElementsRun {
     before: PartRun,
-    // none where the bytes hold no mark
+    // none where the bytes hold no separator
     marked: Option<MarkedElements>,
 }
 
@@ -60,7 +60,7 @@ impl ElementsRun {
     /// own, and stands behind so many bytes: each is moved to where it stands.
     pub fn into_elements_behind(self, by: usize) -> Result<Vec<JudgedElement>, AllocError>
         requires whole { (place_of_elements self).start ≡ 0 }
-        ensures elements { (bytes : List ℕ) → IsElementsRun bytes self → StartsWithMark bytes → by + length bytes < 2 ^ 64
+        ensures elements { (bytes : List ℕ) → IsElementsRun bytes self → StartsWithSeparator bytes → by + length bytes < 2 ^ 64
             → IfOk result (λ es. AllZip (IsJudgedElement self.before.outcomes.limit) (elements by bytes) es.items) }
     {
         reader_is_grammar();
@@ -95,7 +95,7 @@ fn close(
     }
 }
 
-/// Joins a left side without marks.
+/// Joins a left side without separators.
 fn join_plain(left: PartRun, right: ElementsRun) -> Result<ElementsRun, JoinFault<ElementsRun>>
     requires neighbours { left.outcomes.end ≡ right.before.outcomes.start }
     requires depth { left.outcomes.limit ≡ right.before.outcomes.limit }
@@ -120,7 +120,7 @@ fn join_plain(left: PartRun, right: ElementsRun) -> Result<ElementsRun, JoinFaul
     }
 }
 
-/// Joins a right side without marks.
+/// Joins a right side without separators.
 fn join_last(
     before: PartRun,
     marked: MarkedElements,
@@ -156,7 +156,7 @@ fn join_last(
     }
 }
 
-/// Joins two sides with marks.
+/// Joins two sides with separators.
 fn join_marked(
     before: PartRun,
     marked: MarkedElements,
@@ -210,7 +210,7 @@ impl Summary for ElementsRun {
         end: usize,
         depth: Depth,
     ) -> Result<Self, AllocError> {
-        let Some(mark) = next_mark(text, start, end) else {
+        let Some(mark) = next_separator(text, start, end) else {
             let before = PartRun::of(alloc, text, start, end, depth)?;
             return Ok(ElementsRun {
                 before,

@@ -21,7 +21,7 @@ ghost use Rattle.jx_run.specs.Kept.{HasSeen};
 ghost use Rattle.jx_run.specs.Reader.{is_fault, HasRead as HasReadText, ReaderValue};
 ghost use Rattle.jx_run.specs.Elements.{elements};
 ghost use Rattle.jx_run.specs.ElementVerdict.{IsJudgedElement};
-ghost use Rattle.jx_run.specs.SequenceRead.{AreRead, EndsWithMark, IsUnmarked, StartsWithMark, ended_there, listed};
+ghost use Rattle.jx_run.specs.SequenceRead.{AreRead, EndsWithSeparator, HasNoSeparator, StartsWithSeparator, ended_there, listed};
 ghost use Rattle.jx_run.specs.Unclosed.{last_open};
 ghost use Rattle.jx_run.specs.declared.element_verdict.JudgedElement.{JudgedElement};
 ghost use Rattle.jx_run.specs.ReaderInside.{GoesOn, outcome_at, settled};
@@ -137,7 +137,7 @@ pub fn readings_go_on()
 pub fn sequences_are_read_part_by_part()
     ensures begun { (limit : ℕ) (reader : ReaderValue) → reader.limit ≡ limit → reader.start ≡ 0 → HasReadText [] reader → AreRead limit [] [] reader false }
     ensures gone_on { (limit : ℕ) (bytes more : List ℕ) (done : List JudgedElement) (old new : ReaderValue) (loose next : Bool) → AreRead limit bytes done old loose
-        → IsUnmarked more → new.limit ≡ old.limit → new.start ≡ old.start → ((xs : List ℕ) → HasReadText xs old → HasReadText (xs ++ more) new)
+        → HasNoSeparator more → new.limit ≡ old.limit → new.start ≡ old.start → ((xs : List ℕ) → HasReadText xs old → HasReadText (xs ++ more) new)
         → next ≡ last_open loose more → AreRead limit (bytes ++ more) done new next }
     ensures reached { (limit : ℕ) (bytes : List ℕ) (done : List JudgedElement) (reader : ReaderValue) (loose : Bool) → AreRead limit bytes done reader loose
         → reader.start + reader.count ≡ length bytes }
@@ -145,6 +145,6 @@ pub fn sequences_are_read_part_by_part()
         → ((xs : List ℕ) → HasReadText xs reader → Judged reader.start xs reader.limit verdict)
         → AllZip (IsJudgedElement limit) (elements 0 bytes) (done ++ listed (ended_there (span reader.start (reader.start + reader.count)) verdict loose)) }
     ensures marked { (limit : ℕ) (bytes more : List ℕ) (done behind : List JudgedElement) (reader : ReaderValue) → AllZip (IsJudgedElement limit) (elements 0 bytes) done
-        → StartsWithMark more → EndsWithMark more → AllZip (IsJudgedElement limit) (elements (length bytes) more) behind
+        → StartsWithSeparator more → EndsWithSeparator more → AllZip (IsJudgedElement limit) (elements (length bytes) more) behind
         → reader.limit ≡ limit → reader.start ≡ length bytes + length more → HasReadText [] reader → AreRead limit (bytes ++ more) (done ++ behind) reader false }
 {}

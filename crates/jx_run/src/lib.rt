@@ -8,7 +8,6 @@ mod joins;
 mod laws;
 mod marked;
 mod marked_elements;
-mod marks;
 mod one_pass;
 mod open_end;
 mod outcome_run;
@@ -17,6 +16,7 @@ mod reader;
 mod reduce;
 mod rest;
 mod run_reader;
+mod separators;
 mod seq_run;
 mod settings;
 mod shape;
@@ -35,12 +35,12 @@ pub use laws::{
     sequences_are_read_part_by_part, text_by_settings_has_one_tree, text_has_one_tree,
     values_fill_their_spans, verdict_by_settings_is_one, verdict_is_one,
 };
-pub use marks::marked_part;
 pub use one_pass::{NoPause, Pace, Told, read_into};
 pub use open_end::ends_open_behind;
 pub use outcome_run::OutcomeRun;
 pub use reader::Reader;
 pub use run_reader::RunReader;
+pub use separators::separated_part;
 pub use seq_run::SeqRun;
 pub use settings::{Front, FrontMark, NameRule, Settings};
 pub use shape::Shape;

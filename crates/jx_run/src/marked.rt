@@ -3,7 +3,7 @@ ghost use Rattle.std.specs.Prelude.{◌≡◌, ◌≤◌, ◌<◌, length, slice
 ghost use Rattle.jx_run.specs.Elements.{part, parts};
 ghost use Rattle.jx_run.specs.SeqRun.{IsMarked, IsReading};
 
-use crate::marks::next_mark;
+use crate::separators::next_separator;
 use crate::started::Started;
 use crate::summary::Summary;
 use crate::text_run::TextRun;
@@ -11,8 +11,8 @@ use jx_lex::Depth;
 use std::alloc::{AllocError, Global};
 use std::marker::Model;
 
-/// The readings of the parts that a further mark ends, where they aren't empty, and the run of what stands behind the last
-/// mark.
+/// The readings of the parts that a further separator ends, where they aren't empty, and the run of what stands behind the last
+/// separator.
 #[derive(Drop)]
 pub(crate) struct Marked {
     pub(crate) done: Vec<Started>,
@@ -27,7 +27,7 @@ impl Model for Marked {
     ghost view = { λ m. record { done = m.done.items; after = m.after } };
 }
 
-/// The reading of a part that two marks enclose.
+/// The reading of a part that two separators enclose.
 fn read_part(
     alloc: Global,
     text: &[u8],
@@ -44,7 +44,7 @@ fn read_part(
 }
 
 impl Marked {
-    /// Reads from behind a mark up to `end`.
+    /// Reads from behind a separator up to `end`.
     pub(crate) fn of(
         alloc: Global,
         text: &[u8],
@@ -60,7 +60,7 @@ impl Marked {
     {
         let mut done = Vec::new(alloc);
         let mut from = start;
-        while let Some(at) = next_mark(text, from, end) {
+        while let Some(at) = next_separator(text, from, end) {
             if from < at {
                 done.push(read_part(alloc, text, from, at, depth)?)?;
             }

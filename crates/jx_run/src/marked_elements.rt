@@ -6,16 +6,16 @@ ghost use Rattle.jx_run.specs.ElementsRun.{AreMarked};
 ghost use Rattle.jx_run.specs.ElementVerdict.{IsJudgedElement};
 
 use crate::element_verdict::JudgedElement;
-use crate::marks::next_mark;
 use crate::open_end::{ends_open, told};
 use crate::part_run::PartRun;
 use crate::reader::Reader;
+use crate::separators::next_separator;
 use jx_lex::{Depth, Span};
 use std::alloc::{AllocError, Global};
 use std::marker::Model;
 
-/// The verdicts on the parts that a further mark ends, where they aren't empty, and the run of what stands behind the last
-/// mark.
+/// The verdicts on the parts that a further separator ends, where they aren't empty, and the run of what stands behind the last
+/// separator.
 #[derive(Drop)]
 pub(crate) struct MarkedElements {
     pub(crate) done: Vec<JudgedElement>,
@@ -30,7 +30,7 @@ impl Model for MarkedElements {
     ghost view = { λ m. record { done = m.done.items; after = m.after } };
 }
 
-/// The verdict on an element that two marks enclose. The reader begins anew.
+/// The verdict on an element that two separators enclose. The reader begins anew.
 fn read_element(
     reader: &mut Reader,
     text: &[u8],
@@ -53,7 +53,7 @@ fn read_element(
 }
 
 impl MarkedElements {
-    /// Reads from behind a mark up to `end`. One reader serves every element.
+    /// Reads from behind a separator up to `end`. One reader serves every element.
     pub(crate) fn of(
         alloc: Global,
         text: &[u8],
@@ -71,7 +71,7 @@ impl MarkedElements {
         let mut reader = Reader::new(alloc, depth, start);
         let mut done = Vec::new(alloc);
         let mut from = start;
-        while let Some(at) = next_mark(text, from, end) {
+        while let Some(at) = next_separator(text, from, end) {
             if from < at {
                 done.push(read_element(&mut reader, text, from, at)?)?;
             }

@@ -22,7 +22,7 @@ struct Beside<K: Drop> {
 }
 
 impl<K: Keeper + Drop> Keeper for Beside<K> {
-    ghost use Rattle.jx_run.specs.Beside.{BothHaveSeen};
+    ghost use Rattle.jx_run.specs.inside.Beside.{BothHaveSeen};
 
     ghost has_seen = { λ both marks ends. BothHaveSeen (K.has_seen both.other) marks ends both.stack };
 
@@ -62,6 +62,7 @@ impl Pace for NoPause {
     }
 }
 
+/// The stop where it is behind `at` and not past `end`, and otherwise `end`.
 fn stop_within(stop: usize, at: usize, end: usize) -> usize
     requires { at < end }
     ensures { (at < result) × (result ≤ end) }

@@ -9,10 +9,10 @@ ghost use Rattle.jx_reduce.specs.Reductions.{answer, entry_of, form_at};
 ghost use Rattle.jx_reduce.specs.Whole.{whole_of};
 ghost use Rattle.jx_reduce.specs.declared.expect.Expect.TheVariants.{Value};
 ghost use Rattle.jx_reduce.specs.declared.holder.Holder.{Holder};
-ghost use Rattle.jx_run.specs.Joins.{AreJoined, GoesThrough, IsMade, IsThere};
+ghost use Rattle.jx_run.specs.inside.Joins.{AreJoined, GoesThrough, IsMade, IsThere};
 ghost use Rattle.jx_run.specs.OutcomeRun.{entries_at, exit_at, place_of, Entries, IsOutcomeRun, IsWithin};
 ghost use Rattle.jx_run.specs.Reading.{at_exit, read};
-ghost use Rattle.jx_run.specs.Rest.{IsRestOf};
+ghost use Rattle.jx_run.specs.inside.Rest.{IsRestOf};
 ghost use Rattle.jx_run.specs.Verdict.{Judged};
 ghost use Rattle.jx_run.specs.Whole.{ends_text, verdict_from};
 
@@ -208,6 +208,7 @@ impl OutcomeRun {
         *self.ways.allocator()
     }
 
+    /// The way from this state, whose number is that of one of the structures.
     fn way_from(&self, state: LexState) -> Way
         ensures way { slice_get self.now.ways (ordinal state) ≡ Some result }
         ensures there { result.structure < length self.now.structures }
@@ -217,6 +218,7 @@ impl OutcomeRun {
         self.ways[state.number()]
     }
 
+    /// The structure with this number.
     fn structure(&self, number: usize) -> &Reductions
         requires number { number < length self.now.structures }
         ensures structure { slice_get self.now.structures number ≡ Some result.now }

@@ -32,6 +32,7 @@ impl Model for PartRun {
 }
 
 impl PartRun {
+    /// Reads the bytes from `start` up to `end` as a part of an element, or as all of it.
     pub(crate) fn of(
         alloc: Global,
         text: &[u8],
@@ -50,18 +51,21 @@ impl PartRun {
         Ok(PartRun { outcomes, loose })
     }
 
+    /// Where its bytes stand.
     pub(crate) fn span(&self) -> Span
         ensures { result ≡ place_of self.now.outcomes }
     {
         self.outcomes.span()
     }
 
+    /// The depth that it was read with.
     pub(crate) fn depth(&self) -> Depth
         ensures { result ≡ self.now.outcomes.limit }
     {
         self.outcomes.depth()
     }
 
+    /// Where its memory comes from.
     pub(crate) fn allocator(&self) -> Global {
         self.outcomes.allocator()
     }

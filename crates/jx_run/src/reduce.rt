@@ -5,9 +5,9 @@ ghost use Rattle.jx_lex.specs.Ordinal.{all_states};
 ghost use Rattle.jx_lex.specs.View.{marks_at, view_track};
 ghost use Rattle.jx_lex.specs.declared.mark.Mark.{Mark};
 ghost use Rattle.jx_reduce.specs.Offsets.{EachIn, RisingFrom};
-ghost use Rattle.jx_run.specs.Joins.{IsAbove};
+ghost use Rattle.jx_run.specs.inside.Joins.{IsAbove};
 ghost use Rattle.jx_run.specs.OutcomeRun.{IsWithin};
-ghost use Rattle.jx_run.specs.Reduced.{path_at, AreInside, ArePaths, AreReduced, AreRising, AreWaysOf, IsAt, IsReduced};
+ghost use Rattle.jx_run.specs.inside.Reduced.{path_at, AreInside, ArePaths, AreReduced, AreRising, AreWaysOf, IsAt, IsReduced};
 
 use crate::way::Way;
 use jx_lex::{ChunkMap, Depth, LexState, Path, Segment, TrackView};

@@ -2,9 +2,9 @@
 ghost use Rattle.std.specs.Prelude.{◌≡◌, ◌≢◌, ◌≤◌, ◌<◌, ◌+◌, All, max, length, slice_range, IfOk, IsTrue, OnOk};
 ghost use Rattle.jx_lex.specs.declared.exit.Exit.TheVariants as exit;
 ghost use Rattle.jx_lex.specs.declared.state.LexState.{LexState};
-ghost use Rattle.jx_run.specs.Joins.{IsAbove};
+ghost use Rattle.jx_run.specs.inside.Joins.{IsAbove};
 ghost use Rattle.jx_run.specs.OutcomeRun.{outcome_of, IsWithin};
-ghost use Rattle.jx_run.specs.Rest.{AreRead, AreReadWays, IsReadWay, Reaches};
+ghost use Rattle.jx_run.specs.inside.Rest.{AreRead, AreReadWays, IsReadWay, Reaches};
 
 use crate::way::Way;
 use jx_lex::{Depth, Exit, Keeper, LexState, Mark, scan};
@@ -19,7 +19,7 @@ struct KeptMarks {
 }
 
 impl Keeper for KeptMarks {
-    ghost use Rattle.jx_run.specs.Rest.{HasTaken};
+    ghost use Rattle.jx_run.specs.inside.Rest.{HasTaken};
 
     ghost has_seen = { λ kept marks ends. HasTaken marks ends kept.reducer };
 

@@ -4,7 +4,7 @@ ghost use Rattle.std.specs.Prelude.{◌≡◌, ◌+◌, ◌<◌, ◌≤◌, ◌^
 ghost use Rattle.jx_run.specs.OutcomeRun.{IsOutcomeRun};
 ghost use Rattle.jx_run.specs.Reader.{HasRead, HasFailed, is_fault};
 ghost use Rattle.jx_run.specs.Reading.{read};
-ghost use Rattle.jx_run.specs.RunReaderInside.{arrived, LeadsTo};
+ghost use Rattle.jx_run.specs.inside.RunReaderInside.{arrived, LeadsTo};
 ghost use Rattle.jx_run.specs.Verdict.{Judged};
 
 use crate::laws::reader_is_grammar;
@@ -46,7 +46,7 @@ impl Model for RunReader {
 
     ghost Value = { ReaderValue };
 
-    ghost use Rattle.jx_run.specs.RunReaderInside.{reader_of, IsLawful};
+    ghost use Rattle.jx_run.specs.inside.RunReaderInside.{reader_of, IsLawful};
 
     ghost view = { reader_of };
 

@@ -5,7 +5,7 @@ ghost use Rattle.jx_run.specs.SeqRun.{IsClosed, IsSeqJoin, IsSeqRun, element_pla
 ghost use Rattle.jx_run.specs.Shape.{shown};
 
 use crate::marked::Marked;
-use crate::marks::next_mark;
+use crate::separators::next_separator;
 use crate::shape::Shape;
 use crate::started::Started;
 use crate::summary::Summary;
@@ -19,7 +19,7 @@ use std::marker::Model;
 #[derive(Drop)]
 pub struct SeqRun {
     before: TextRun,
-    // none where the bytes hold no mark
+    // none where the bytes hold no separator
     marked: Option<Marked>,
 }
 
@@ -78,7 +78,7 @@ fn close(
     }
 }
 
-/// Joins a left side without marks.
+/// Joins a left side without separators.
 fn join_plain(left: TextRun, right: SeqRun) -> Result<SeqRun, JoinFault<SeqRun>>
     requires neighbours { left.map.end ≡ right.before.map.start }
     requires depth { left.limit ≡ right.before.limit }
@@ -103,7 +103,7 @@ fn join_plain(left: TextRun, right: SeqRun) -> Result<SeqRun, JoinFault<SeqRun>>
     }
 }
 
-/// Joins a right side without marks.
+/// Joins a right side without separators.
 fn join_last(before: TextRun, marked: Marked, right: TextRun) -> Result<SeqRun, JoinFault<SeqRun>>
     requires whole { marked.after.limit ≡ before.limit }
     requires neighbours { marked.after.map.end ≡ right.map.start }
@@ -135,7 +135,7 @@ fn join_last(before: TextRun, marked: Marked, right: TextRun) -> Result<SeqRun, 
     }
 }
 
-/// Joins two sides with marks.
+/// Joins two sides with separators.
 fn join_marked(
     before: TextRun,
     marked: Marked,
@@ -189,7 +189,7 @@ impl Summary for SeqRun {
         end: usize,
         depth: Depth,
     ) -> Result<Self, AllocError> {
-        let Some(mark) = next_mark(text, start, end) else {
+        let Some(mark) = next_separator(text, start, end) else {
             let before = TextRun::of(alloc, text, start, end, depth)?;
             return Ok(SeqRun {
                 before,

@@ -25,6 +25,7 @@ impl Model for Started {
 }
 
 impl Started {
+    /// The reading of these bytes with this depth, which gave these marks and ends and this verdict.
     pub(crate) fn new(
         span: Span,
         depth: Depth,

@@ -14,6 +14,7 @@ use std::test::Fail;
 use std::thread::Threads;
 use std::{env, fs, process};
 
+/// A check within the default depth, for two workers who read pieces of 65,536 bytes.
 fn check() -> Command
     ensures { result.piece ≡ 65536 }
 {

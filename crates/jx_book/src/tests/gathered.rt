@@ -13,7 +13,7 @@ use std::sync::Wait;
 use std::sync::ledger::{Blank, Ledger};
 use std::thread::Threads;
 
-// Lets that many workers read the text on threads. None where a worker stopped or no run was gathered.
+/// Lets that many workers read the text on threads. None where a worker stopped or no run was gathered.
 pub fn gathered<'a, S: Summary + Send, R: Threads + Wait + Sync>(
     rt: &R,
     alloc: Global,
@@ -29,7 +29,7 @@ pub fn gathered<'a, S: Summary + Send, R: Threads + Wait + Sync>(
     gathered_with::<S, Brand, Brand, R>(rt, alloc, text, cutting, workers, depth, put, taken)
 }
 
-// The same, with blanks for the ledgers of a book.
+/// The same, with blanks for the ledgers of a book.
 fn gathered_with<
     'a,
     S: Summary + Send,

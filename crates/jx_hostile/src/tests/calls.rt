@@ -44,7 +44,7 @@ pub fn answer_of<'a>(
     }
 }
 
-// The start of the name for which the rule refuses a text, if it refuses one.
+/// The start of the name for which the rule refuses a text, if it refuses one.
 fn refused_name(names: NameRule, index: &Indexed<'_>) -> Option<usize> {
     match names {
         NameRule::Any => None,

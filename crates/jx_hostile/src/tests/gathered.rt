@@ -27,7 +27,7 @@ struct Hands<P: Ledger, T: Ledger> {
     share: Share<P, T>,
 }
 
-// A seat and a share of those that are left.
+/// A seat and a share of those that are left.
 fn next_of<P: Ledger, T: Ledger>(
     claims: &Claims,
     seats: &mut Vec<ClaimSeat>,
@@ -45,7 +45,7 @@ fn next_of<P: Ledger, T: Ledger>(
     Some(Hands { seat, share })
 }
 
-// Lets one worker read until no piece is left.
+/// Lets one worker read until no piece is left.
 fn work_to_the_end<'a, P: Ledger, T: Ledger, R: Wait>(
     rt: &R,
     alloc: Global,
@@ -72,7 +72,7 @@ fn work_to_the_end<'a, P: Ledger, T: Ledger, R: Wait>(
     }
 }
 
-// Lets two workers read, each on a thread of its own.
+/// Lets two workers read, each on a thread of its own.
 fn both_work<'a, P: Ledger + Send + Sync, T: Ledger + Send + Sync, R: Threads + Wait + Sync>(
     rt: &R,
     alloc: Global,
@@ -104,7 +104,7 @@ fn both_work<'a, P: Ledger + Send + Sync, T: Ledger + Send + Sync, R: Threads + 
     )
 }
 
-// The answer on a text by the one run that two workers leave.
+/// The answer on a text by the one run that two workers leave.
 fn answer_by_two<'a, P: Ledger + Send + Sync, T: Ledger + Send + Sync, R: Threads + Wait + Sync>(
     rt: &R,
     alloc: Global,
@@ -141,7 +141,7 @@ fn answer_by_two<'a, P: Ledger + Send + Sync, T: Ledger + Send + Sync, R: Thread
     }
 }
 
-// The same, with blanks for the ledgers of a book.
+/// The same, with blanks for the ledgers of a book.
 fn answer_of_two<'a, R: Threads + Wait + Sync>(
     rt: &R,
     alloc: Global,
@@ -208,7 +208,7 @@ fn containers_that_are_cut(rt: HostRuntime) -> Result<(), Fail> {
     check(&rt, rt.alloc(), &FIVE, &cuts)
 }
 
-// Draws a piece and puts as many bytes that begin one byte before it, and then meets the end of the pieces.
+/// Draws a piece and puts as many bytes that begin one byte before it, and then meets the end of the pieces.
 fn put_before<'a, P: Ledger, T: Ledger, R: Wait>(
     rt: &R,
     alloc: Global,
@@ -243,7 +243,7 @@ fn put_before<'a, P: Ledger, T: Ledger, R: Wait>(
     }
 }
 
-// Whether a run that begins before the front of the cutting comes back.
+/// Whether a run that begins before the front of the cutting comes back.
 fn is_other<P: Ledger, T: Ledger, R: Wait>(
     rt: &R,
     alloc: Global,
@@ -270,7 +270,7 @@ fn is_other<P: Ledger, T: Ledger, R: Wait>(
     }
 }
 
-// The same, with blanks for the ledgers of a book.
+/// The same, with blanks for the ledgers of a book.
 fn is_other_of_one<R: Wait>(
     rt: &R,
     alloc: Global,

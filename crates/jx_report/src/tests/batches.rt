@@ -21,7 +21,7 @@ use std::sync::Wait;
 use std::test::Fail;
 use std::thread::Threads;
 
-// What a report in batches of so many bytes answers.
+/// What a report in batches of so many bytes answers.
 fn reported_by<R: Threads + Wait + Sync>(
     rt: &R,
     alloc: Global,

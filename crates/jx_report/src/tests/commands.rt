@@ -31,6 +31,7 @@ pub fn command(task: Task, containers: u32) -> Command
     }
 }
 
+/// A check within a depth, for five workers who read a byte at a time.
 pub fn check_within(containers: u32) -> Command
     ensures { result.piece ≡ 1 }
 {
@@ -44,6 +45,7 @@ pub struct Outcome {
     pub output: Vec<u8>,
 }
 
+/// What a report on these bytes answers, and what it writes into memory.
 pub fn reported<R: Threads + Wait + Sync>(
     rt: &R,
     alloc: Global,

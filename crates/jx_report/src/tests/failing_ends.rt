@@ -32,7 +32,7 @@ const SETTINGS: [(FrontMark, NameRule); 4] = [
 /// An input, what is written for it, and the exit.
 type Want = (&'static [u8], &'static [u8], Exit);
 
-// What a report over a reader that gives a byte a call answers. It fails at this call.
+/// What a report over a reader that gives a byte a call answers. It fails at this call.
 fn check_reader<R: Abort + Threads + Wait + Sync>(
     rt: &R,
     alloc: Global,
@@ -58,7 +58,7 @@ fn check_reader<R: Abort + Threads + Wait + Sync>(
     Ok(())
 }
 
-// The reader fails at each of its calls, up to the one that meets the end.
+/// The reader fails at each of its calls, up to the one that meets the end.
 fn check_readers<R: Abort + Threads + Wait + Sync>(
     rt: &R,
     alloc: Global,
@@ -77,7 +77,7 @@ fn check_readers<R: Abort + Threads + Wait + Sync>(
     Ok(())
 }
 
-// What a report into a writer that takes a few bytes a call answers. It fails at this call, or at none.
+/// What a report into a writer that takes a few bytes a call answers. It fails at this call, or at none.
 fn check_writer<R: Abort + Threads + Wait + Sync>(
     rt: &R,
     alloc: Global,
@@ -106,7 +106,7 @@ fn check_writer<R: Abort + Threads + Wait + Sync>(
     Ok(())
 }
 
-// The writer fails, or takes no byte, at none of its calls, and at each.
+/// The writer fails, or takes no byte, at none of its calls, and at each.
 fn check_writers<R: Abort + Threads + Wait + Sync>(
     rt: &R,
     alloc: Global,

@@ -36,7 +36,7 @@ fn sequence(containers: u32, mark: FrontMark, workers: u8) -> Result<Command, Fa
     Ok(sequence)
 }
 
-// Compares what is written in batches of so many bytes.
+/// Compares what is written in batches of so many bytes.
 fn check_by<R: Abort + Threads + Wait + Sync>(
     rt: &R,
     alloc: Global,
@@ -289,8 +289,8 @@ fn too_many_pieces_of_a_sequence(rt: HostRuntime) -> Result<(), Fail> {
     Ok(())
 }
 
-// A report whose workers stop from each event on in turn, counted from behind so many bytes, until a run meets no stop.
-// Answers how many runs met one.
+/// A report whose workers stop from each event on in turn, counted from behind so many bytes, until a run meets no
+/// stop. Answers how many runs met one.
 fn stopped_from_each<R: Abort + Threads + Wait + Sync>(
     rt: &R,
     alloc: Global,

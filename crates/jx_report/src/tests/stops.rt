@@ -54,8 +54,8 @@ const MARK_IGNORED: [Checked; 5] = [
     (b"[1,\"a\",\xEF\xBB\xBF2]", b"stopped at 7\n", Exit::Bad),
 ];
 
-// A check whose workers stop from each event on in turn, counted from behind so many bytes, until a run meets no stop.
-// Answers how many runs met one.
+/// A check whose workers stop from each event on in turn, counted from behind so many bytes, until a run meets no stop.
+/// Answers how many runs met one.
 fn stopped_from_each<R: Abort + Threads + Wait + Sync>(
     rt: &R,
     alloc: Global,

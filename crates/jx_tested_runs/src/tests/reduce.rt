@@ -10,19 +10,21 @@ use jx_reduce::{Expect, Holder, KnownStack, Level, Outcome, Reductions, Whole, n
 use std::alloc::{AllocError, Global};
 use std::test::Fail;
 
+/// The mark of this kind at an offset.
 fn mark(kind: MarkKind, at: usize) -> Mark
     ensures { result ≡ record { kind = kind; at = at } }
 {
     Mark { kind, at }
 }
 
+/// The depth of so many containers, or the default one where there is none such.
 fn depth_of(containers: u32) -> Depth
     ensures { containers ≤ 65535 → result ≡ containers }
 {
     Depth::new(containers).unwrap_or_default()
 }
 
-// The kind of mark that this byte stands for.
+/// The kind of mark that this byte stands for.
 fn kind_of(byte: u8) -> MarkKind {
     match byte {
         b'[' => MarkKind::OpenArray,
@@ -36,7 +38,7 @@ fn kind_of(byte: u8) -> MarkKind {
     }
 }
 
-// The marks that these bytes stand for, each at the place of its byte.
+/// The marks that these bytes stand for, each at the place of its byte.
 fn marks_of(alloc: Global, text: &[u8]) -> Result<Vec<Mark>, AllocError>
     ensures { IfOk result (λ marks. RisingFrom 0 marks.items) }
 {
@@ -48,7 +50,7 @@ fn marks_of(alloc: Global, text: &[u8]) -> Result<Vec<Mark>, AllocError>
     Ok(marks)
 }
 
-// The structure of marks, asked for twice where it is refused.
+/// The structure of marks, asked for twice where it is refused.
 fn structure_of(alloc: Global, marks: &[Mark], depth: Depth) -> Result<Reductions, AllocError>
     requires rising { RisingFrom 0 marks.now }
     ensures depth { IfOk result (λ f. f.depth ≡ depth) }
@@ -60,7 +62,7 @@ fn structure_of(alloc: Global, marks: &[Mark], depth: Depth) -> Result<Reduction
     }
 }
 
-// The structures of both parts of a list, joined; where the join is refused, the sides that it handed back are joined.
+/// The structures of both parts of a list, joined; where the join is refused, the sides that it handed back are joined.
 fn joined_at(
     alloc: Global,
     marks: &[Mark],
@@ -327,6 +329,7 @@ struct Chance {
 }
 
 impl Chance {
+    /// The next number by chance, below `count`.
     fn below(&mut self, count: usize) -> usize
         requires { 0 < count }
         ensures { result < count }
@@ -489,7 +492,7 @@ fn more_containers_than_the_depth_are_read_as_by_the_table(rt: HostRuntime) -> R
     Ok(())
 }
 
-// The marks of a text, asked for twice where they are refused.
+/// The marks of a text, asked for twice where they are refused.
 fn marks_again(alloc: Global, text: &[u8]) -> Result<Vec<Mark>, AllocError>
     ensures { IfOk result (λ marks. RisingFrom 0 marks.items) }
 {

@@ -17,6 +17,7 @@ use std::process::Abort;
 
 /// A summary that gives the verdict on its bytes.
 trait Judge: Summary {
+    /// The verdict on its bytes.
     fn judge(&self) -> Verdict;
 }
 

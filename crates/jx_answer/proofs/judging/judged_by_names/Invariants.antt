@@ -1,5 +1,5 @@
 use Rattle.std.proofs.Common.{◌≡◌, length}
-use Rattle.jx_answer.specs.Pushed.{IsJudgedIn}
+use Rattle.jx_answer.specs.inside.Pushed.{IsJudgedIn}
 use Rattle.jx_answer.specs.Settled.{IsJudgedBy, elements_by}
 use Rattle.jx_answer.proofs.InPlace.{Passed}
 use Rattle.jx_answer.proofs.judging.judged_by_names.Given as goal

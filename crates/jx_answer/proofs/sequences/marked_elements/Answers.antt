@@ -1,5 +1,5 @@
 use Rattle.std.proofs.Common.{[], ◌++◌, ◌∙◌, ap}
-use Rattle.jx_answer.specs.Pushed.{unmarked}
+use Rattle.jx_answer.specs.inside.Pushed.{unmarked}
 use Rattle.jx_answer.proofs.Shown.{done_readable, last_behind, last_read, shown_elements}
 use Rattle.jx_answer.proofs.sequences.marked_elements.Goals as goal
 

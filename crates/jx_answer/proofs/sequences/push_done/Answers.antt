@@ -2,7 +2,7 @@ use Rattle.std.proofs.Common.{rules, ◌≡◌, suc, ◌+◌, ◌<◌, List, [],
 use Rattle.std.specs.List.{AllZip}
 use Rattle.std.proofs.Math.Seq.{take-suc}
 use Rattle.jx_run.specs.Started.{StartedValue}
-use Rattle.jx_answer.specs.Pushed.{IsOfReading}
+use Rattle.jx_answer.specs.inside.Pushed.{IsOfReading}
 use Rattle.jx_answer.proofs.Readable.{AllZip-append}
 use Rattle.jx_answer.proofs.sequences.push_done.Goals as goal
 

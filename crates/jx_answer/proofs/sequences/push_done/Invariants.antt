@@ -1,5 +1,5 @@
 use Rattle.std.proofs.Common.{take}
-use Rattle.jx_answer.specs.Pushed.{PushesEach}
+use Rattle.jx_answer.specs.inside.Pushed.{PushesEach}
 use Rattle.jx_answer.proofs.sequences.push_done.Given as goal
 
 abbrev pub invariant-loop-number : goal.invariant-loop-number

@@ -1,7 +1,7 @@
 use Rattle.std.proofs.Common.{◌≡◌, ℕ, ◌<◌, ◌≤◌, List, length, true, false, rules, sym, ap, subst, ◌∙◌}
 use Rattle.std.specs.Prelude.{slice_index_or}
 use Rattle.jx_answer.specs.declared.element.Element.{Element}
-use Rattle.jx_answer.specs.Pushed.{part_of}
+use Rattle.jx_answer.specs.inside.Pushed.{part_of}
 use Rattle.jx_answer.specs.Settled.{is_mark_alone}
 use Rattle.jx_answer.proofs.MarksAlone.{within_input, mark_stays, mark_goes}
 use Rattle.jx_answer.proofs.sequences.without_mark.Goals as goal

@@ -8,7 +8,7 @@ use Rattle.jx_claim.specs.Cut.{drawn_len}
 use Rattle.jx_book.specs.declared.worker_end.WorkerEnd.{WorkerEnd}
 use Rattle.jx_book.specs.declared.worker_stop.WorkerStop.{WorkerStop}
 use Rattle.jx_book.specs.Shares.{ShareValue}
-use Rattle.jx_book.specs.Balance.{Balances, IsHandedBack}
+use Rattle.jx_book.specs.inside.Balance.{Balances, IsHandedBack}
 use Rattle.jx_book.proofs.Alls.{front_of, last_of}
 use Rattle.jx_book.proofs.caller.collect.Goals as goal
 

@@ -1,7 +1,7 @@
 use Rattle.std.proofs.Common.{◌≡◌, ◌+◌, true, vec_len}
 use Rattle.std.specs.Prelude.{All, sum_by}
 use Rattle.jx_claim.specs.Cut.{drawn_len}
-use Rattle.jx_book.specs.Balance.{Balances}
+use Rattle.jx_book.specs.inside.Balance.{Balances}
 use Rattle.jx_book.proofs.caller.collect.Given as goal
 
 abbrev pub invariant-loop-end : goal.invariant-loop-end

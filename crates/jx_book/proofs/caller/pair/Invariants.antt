@@ -1,7 +1,7 @@
 use Rattle.std.proofs.Common.{◌≡◌, ◌+◌, [], false, vec_len}
 use Rattle.std.specs.Prelude.{All}
 use Rattle.jx_book.specs.Shares.{share}
-use Rattle.jx_book.specs.Balance.{IsFresh}
+use Rattle.jx_book.specs.inside.Balance.{IsFresh}
 use Rattle.jx_book.proofs.caller.pair.Given as goal
 
 abbrev pub invariant-loop-seat : goal.invariant-loop-seat

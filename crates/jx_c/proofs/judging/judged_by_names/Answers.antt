@@ -4,7 +4,7 @@ use Rattle.std.proofs.lemmas.List.{length-set}
 use Rattle.jx_run.specs.declared.element_verdict.JudgedElement.{JudgedElement}
 use Rattle.jx_run.specs.Elements.{Part}
 use Rattle.jx_c.specs.ByNames.{IsJudgedBy}
-use Rattle.jx_c.specs.Placed.{IsJudgedIn}
+use Rattle.jx_c.specs.inside.Placed.{IsJudgedIn}
 use Rattle.jx_c.specs.Settled.{elements_by}
 use Rattle.jx_c.proofs.InPlace.{Passed, all_passed, next_of, pass_one}
 use Rattle.jx_c.proofs.Verdicts.{judged_in}

@@ -1,6 +1,6 @@
 use Rattle.std.proofs.Common.{◌≡◌, length}
 use Rattle.jx_c.specs.ByNames.{IsJudgedBy}
-use Rattle.jx_c.specs.Placed.{IsJudgedIn}
+use Rattle.jx_c.specs.inside.Placed.{IsJudgedIn}
 use Rattle.jx_c.specs.Settled.{elements_by}
 use Rattle.jx_c.proofs.InPlace.{Passed}
 use Rattle.jx_c.proofs.judging.judged_by_names.Given as goal

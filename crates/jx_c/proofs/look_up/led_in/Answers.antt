@@ -1,5 +1,5 @@
 use Rattle.std.proofs.Common.{List, ℕ, subst}
-use Rattle.jx_c.specs.Answers.{IsAnswer}
+use Rattle.jx_c.specs.inside.Answers.{IsAnswer}
 use Rattle.jx_c.specs.Settled.{IsAnswerBy}
 use Rattle.jx_c.specs.declared.texts.TextAnswer.{TextAnswer}
 use Rattle.jx_c.specs.declared.texts.TextAnswer.TheVariants.{Accepted}

@@ -1,5 +1,5 @@
 use Rattle.std.proofs.Common.{ℕ, subst}
-use Rattle.jx_c.specs.Answers.{IsAnswer}
+use Rattle.jx_c.specs.inside.Answers.{IsAnswer}
 use Rattle.jx_c.proofs.rows.jx_rows.Goals as goal
 
 pub returns-in-Ok-clause-rows : goal.returns-in-Ok-clause-rows

@@ -2,7 +2,7 @@ use Rattle.std.proofs.Common.{◌≡◌, List, length, ap, subst, ◌∙◌}
 use Rattle.jx_run.specs.declared.verdict.Verdict.TheVariants as verdict
 use Rattle.jx_index.specs.Rows.{rows}
 use Rattle.jx_index.specs.declared.row.Row.{Row}
-use Rattle.jx_c.specs.Answers.{IsAnswer}
+use Rattle.jx_c.specs.inside.Answers.{IsAnswer}
 use Rattle.jx_c.specs.Buffers.{IsFilled}
 use Rattle.jx_c.specs.ByNames.{a_text}
 use Rattle.jx_c.specs.Rows.{shown_row}

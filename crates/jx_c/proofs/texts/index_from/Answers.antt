@@ -6,7 +6,7 @@ use Rattle.jx_run.specs.Tree.{Tree, span}
 use Rattle.jx_run.specs.Verdict.{Judged}
 use Rattle.jx_index.specs.Indexed.{IndexedValue}
 use Rattle.jx_index.specs.Rows.{rows}
-use Rattle.jx_c.specs.Answers.{rest_from}
+use Rattle.jx_c.specs.inside.Answers.{rest_from}
 use Rattle.jx_c.proofs.Indexes.{read_rest, ok_at, err_at}
 use Rattle.jx_c.proofs.texts.index_from.Goals as goal
 

@@ -1,6 +1,6 @@
 use Rattle.std.proofs.Common.{ap, arith}
 use Rattle.jx_lex.specs.declared.span.Span.{Span}
-use Rattle.jx_claim.specs.Listed.{between}
+use Rattle.jx_claim.specs.inside.Listed.{between}
 use Rattle.jx_claim.proofs.Pieces.{length-between, between_at, ended_at}
 use Rattle.jx_claim.proofs.parts.ended_between.Goals as goal
 

@@ -17,7 +17,7 @@ use std::sync::Wait;
 use std::sync::ledger::{Blank, Ledger};
 use std::test::Fail;
 
-// The run of a part, asked for twice where it is refused.
+/// The run of a part, asked for twice where it is refused.
 fn run_of<S: Likeness>(
     alloc: Global,
     text: &[u8],
@@ -33,12 +33,12 @@ fn run_of<S: Likeness>(
     }
 }
 
-// Whether a run is the one that its span gives in the text that it carries.
+/// Whether a run is the one that its span gives in the text that it carries.
 fn is_as_held<S: Likeness>(alloc: Global, run: &Held<'_, S>) -> bool {
     is_as_read(alloc, run.text(), run.run())
 }
 
-// The join of two neighbours. Where it is refused, both sides have to be as they were, and are joined again.
+/// The join of two neighbours. Where it is refused, both sides have to be as they were, and are joined again.
 fn joined<'a, S: Likeness>(
     alloc: Global,
     left: Held<'a, S>,
@@ -108,8 +108,8 @@ fn are_every_second<S: Likeness>(alloc: Global, runs: &[Held<'_, S>], count: usi
         })
 }
 
-// Whether the run stands in the state then, in which so many stood. Where it is refused, the state is as it was, and the same
-// run is put again.
+/// Whether the run stands in the state then, in which so many stood. Where it is refused, the state is as it was, and
+/// the same run is put again.
 fn is_stored<'a, S: Likeness>(
     alloc: Global,
     state: &mut BookState<'a, S>,
@@ -163,7 +163,7 @@ fn states_of_a_sequence_under_a_refused_growth(rt: HostRuntime) -> Result<(), Fa
     check_state::<SeqRun, _>(&rt, rt.alloc(), SEQUENCE)
 }
 
-// The join of two neighbours, where it is one that is not empty.
+/// The join of two neighbours, where it is one that is not empty.
 fn both_of<'a, S: Likeness>(
     alloc: Global,
     left: Held<'a, S>,
@@ -182,8 +182,8 @@ fn both_of<'a, S: Likeness>(
     }
 }
 
-// Whether the run stands in the book then. Where it is refused, it comes back as it was, the share is as it was, and the same run
-// is put again.
+/// Whether the run stands in the book then. Where it is refused, it comes back as it was, the share is as it was, and
+/// the same run is put again.
 fn is_put<'a, S: Likeness, P: Ledger, T: Ledger, R: Wait>(
     rt: &R,
     alloc: Global,
@@ -208,7 +208,7 @@ fn is_put<'a, S: Likeness, P: Ledger, T: Ledger, R: Wait>(
     }
 }
 
-// Whether every second byte of a text stands in a book at its end, each put for itself.
+/// Whether every second byte of a text stands in a book at its end, each put for itself.
 fn are_put<'a, S: Likeness, P: Ledger, T: Ledger, R: Wait>(
     rt: &R,
     alloc: Global,
@@ -242,7 +242,7 @@ fn are_put<'a, S: Likeness, P: Ledger, T: Ledger, R: Wait>(
     }
 }
 
-// The same, with blanks for the ledgers of a book.
+/// The same, with blanks for the ledgers of a book.
 fn are_put_by_one<S: Likeness, R: Wait>(
     rt: &R,
     alloc: Global,
@@ -284,7 +284,7 @@ fn puts_of_a_sequence_under_a_refused_growth(rt: HostRuntime) -> Result<(), Fail
     check_puts::<SeqRun, _>(&rt, rt.alloc(), SEQUENCE)
 }
 
-// The same, where its left neighbour may stand there: then both are joined first.
+/// Whether the run stands in the book then. Where its left neighbour may stand there, both are joined first.
 fn is_handed_over<'a, S: Likeness, P: Ledger, T: Ledger, R: Wait>(
     rt: &R,
     alloc: Global,
@@ -304,7 +304,7 @@ fn is_handed_over<'a, S: Likeness, P: Ledger, T: Ledger, R: Wait>(
     }
 }
 
-// The run of all that a stopped worker holds, if it holds something, and that as it was read.
+/// The run of all that a stopped worker holds, if it holds something, and that as it was read.
 fn run_in<'a, S: Likeness>(
     alloc: Global,
     text: &'a [u8],
@@ -340,7 +340,7 @@ fn run_in<'a, S: Likeness>(
     }
 }
 
-// Whether the book has one run then, over the whole of the text, like the one that reading it at once gives.
+/// Whether the book has one run then, over the whole of the text, like the one that reading it at once gives.
 fn is_whole<'a, S: Likeness, P: Ledger, T: Ledger>(
     alloc: Global,
     book: Book<'a, S, P, T>,
@@ -363,7 +363,8 @@ fn is_whole<'a, S: Likeness, P: Ledger, T: Ledger>(
             .all(|run| run.span() == whole && is_as_held(alloc, run))
 }
 
-// What is in the hand of a worker that stopped for want of memory is put, and the worker goes on to its end: its share.
+/// What is in the hand of a worker that stopped for want of memory is put, and the worker goes on to its end: its
+/// share.
 fn share_of_stopped<'a, S: Likeness, P: Ledger, T: Ledger, R: Wait>(
     rt: &R,
     alloc: Global,
@@ -399,7 +400,7 @@ fn share_of_stopped<'a, S: Likeness, P: Ledger, T: Ledger, R: Wait>(
     }
 }
 
-// Lets one worker read to its end: its share.
+/// Lets one worker read to its end: its share.
 fn share_of_worker<'a, S: Likeness, P: Ledger, T: Ledger, R: Wait>(
     rt: &R,
     alloc: Global,
@@ -423,7 +424,7 @@ fn share_of_worker<'a, S: Likeness, P: Ledger, T: Ledger, R: Wait>(
     }
 }
 
-// Whether one worker reads the whole text.
+/// Whether one worker reads the whole text.
 fn is_read<'a, S: Likeness, P: Ledger, T: Ledger, R: Wait>(
     rt: &R,
     alloc: Global,
@@ -455,7 +456,7 @@ fn is_read<'a, S: Likeness, P: Ledger, T: Ledger, R: Wait>(
     }
 }
 
-// The same, with blanks for the ledgers of a book.
+/// The same, with blanks for the ledgers of a book.
 fn is_read_by_one<S: Likeness, R: Wait>(
     rt: &R,
     alloc: Global,

@@ -48,7 +48,7 @@ fn is_right(map: &ChunkMap, text: &[u8]) -> bool {
     LexState::all().iter().all(|state| is_plain(&map.entry(*state), *state, bytes, span.start))
 }
 
-// The map of a part, asked for twice where it is refused.
+/// The map of a part, asked for twice where it is refused.
 fn map_of(alloc: Global, text: &[u8], start: usize, end: usize) -> Result<ChunkMap, AllocError>
     requires { (start ≤ end) × (end ≤ length text.now) }
     ensures start { IfOk result (λ m. m.start ≡ start) }
@@ -60,7 +60,7 @@ fn map_of(alloc: Global, text: &[u8], start: usize, end: usize) -> Result<ChunkM
     }
 }
 
-// The join of two maps. Where it is refused, both sides have to be right, and are joined again.
+/// The join of two maps. Where it is refused, both sides have to be right, and are joined again.
 fn joined(left: ChunkMap, right: ChunkMap, text: &[u8]) -> Option<ChunkMap>
     requires { left.end ≡ right.start }
 {

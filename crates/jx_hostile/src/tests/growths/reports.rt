@@ -16,7 +16,7 @@ use std::sync::Wait;
 use std::test::Fail;
 use std::thread::Threads;
 
-// Room for what these reports write, so that a write takes no memory.
+/// Room for what these reports write, so that a write takes no memory.
 fn room(alloc: Global) -> Result<Vec<u8>, AllocError> {
     match Vec::with_capacity(alloc, 256) {
         Ok(bytes) => Ok(bytes),
@@ -24,6 +24,7 @@ fn room(alloc: Global) -> Result<Vec<u8>, AllocError> {
     }
 }
 
+/// A command for these workers, who read a byte at a time.
 fn command(task: Task, settings: Settings, workers: Workers) -> Command
     ensures { result.piece ≡ 1 }
 {

@@ -10,7 +10,7 @@ use std::alloc::{AllocError, Global};
 use std::process::Abort;
 use std::test::Fail;
 
-// The run of a part, asked for twice where it is refused.
+/// The run of a part, asked for twice where it is refused.
 fn run_of<S: Summary>(alloc: Global, text: &[u8], start: usize, end: usize) -> Result<S, AllocError>
     requires { (start ≤ end) × (end ≤ length text.now) }
     ensures place { IfOk result (λ r. S.place r ≡ record { start = start; end = end }) }
@@ -22,7 +22,7 @@ fn run_of<S: Summary>(alloc: Global, text: &[u8], start: usize, end: usize) -> R
     }
 }
 
-// The join of two runs over a text. Where it is refused, both sides have to be as they were, and are joined again.
+/// The join of two runs over a text. Where it is refused, both sides have to be as they were, and are joined again.
 fn joined<S: Likeness>(alloc: Global, text: &[u8], left: S, right: S) -> Option<S>
     requires neighbours { (S.place left).end ≡ (S.place right).start }
     requires depth { S.limit left ≡ S.limit right }

@@ -1,7 +1,7 @@
 use Rattle.std.proofs.Common.{sym, subst, ap, ◌∙◌, refl}
 use Rattle.std.proofs.lemmas.List.Elements.{All-get_or}
-use Rattle.jx_index.specs.Building.{Building}
-use Rattle.jx_index.specs.Built.{built, Fits}
+use Rattle.jx_index.specs.inside.Building.{Building}
+use Rattle.jx_index.specs.inside.Built.{built, Fits}
 use Rattle.jx_index.proofs.Fitting.{mark_fits}
 use Rattle.jx_index.proofs.RowKeeping.{IsLow}
 use Rattle.jx_index.proofs.Steps.{make_step, make_done}

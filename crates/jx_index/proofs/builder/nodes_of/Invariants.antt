@@ -1,7 +1,7 @@
 use Rattle.std.proofs.Common.{◌≡◌, drop}
-use Rattle.jx_index.specs.Building.{make}
-use Rattle.jx_index.specs.Built.{built, Fits}
-use Rattle.jx_index.specs.Low.{AllLow}
+use Rattle.jx_index.specs.inside.Building.{make}
+use Rattle.jx_index.specs.inside.Built.{built, Fits}
+use Rattle.jx_index.specs.inside.Low.{AllLow}
 use Rattle.jx_index.proofs.builder.nodes_of.Given as goal
 
 abbrev pub invariant-loop-mark : goal.invariant-loop-mark

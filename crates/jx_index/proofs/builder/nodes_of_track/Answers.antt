@@ -1,6 +1,6 @@
 use Rattle.std.proofs.Common.{ap, sym, subst}
-use Rattle.jx_index.specs.Building.{Building, make}
-use Rattle.jx_index.specs.Built.{built, Fits}
+use Rattle.jx_index.specs.inside.Building.{Building, make}
+use Rattle.jx_index.specs.inside.Built.{built, Fits}
 use Rattle.jx_index.proofs.RowKeeping.{one_further, all_further}
 use Rattle.jx_index.proofs.builder.nodes_of_track.Goals as goal
 

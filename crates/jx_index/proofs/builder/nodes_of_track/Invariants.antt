@@ -1,6 +1,6 @@
 use Rattle.std.proofs.Common.{length}
-use Rattle.jx_index.specs.Built.{built}
-use Rattle.jx_index.specs.Low.{AllLow}
+use Rattle.jx_index.specs.inside.Built.{built}
+use Rattle.jx_index.specs.inside.Low.{AllLow}
 use Rattle.jx_index.proofs.RowKeeping.{Halfway}
 use Rattle.jx_index.proofs.builder.nodes_of_track.Given as goal
 

@@ -9,7 +9,7 @@ use Rattle.jx_index.specs.declared.find_fault.FindFault.{FindFault}
 use Rattle.jx_index.specs.declared.row.Row.{Row}
 use Rattle.jx_index.specs.declared.units.Spelling.TheVariants.{InToken}
 use Rattle.jx_index.specs.Leads.{only}
-use Rattle.jx_index.specs.LookUp.{rank_of, IsEqualAt}
+use Rattle.jx_index.specs.inside.LookUp.{rank_of, IsEqualAt}
 use Rattle.jx_index.specs.Names.{is_below, name_units}
 use Rattle.jx_index.specs.RowsLead.{is_equal}
 use Rattle.jx_index.specs.Units.{parts_units}

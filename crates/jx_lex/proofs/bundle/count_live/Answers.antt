@@ -1,7 +1,7 @@
 use Rattle.std.proofs.Common.{◌<◌, length, arith, subst, sym, ◌∙◌}
 use Rattle.std.proofs.lemmas.List.Sums.{count_by_more_yes, count_by_more_no}
 use Rattle.jx_lex.specs.declared.state.LexState.TheVariants as state
-use Rattle.jx_lex.specs.Bundle.{is_live}
+use Rattle.jx_lex.specs.inside.Bundle.{is_live}
 use Rattle.jx_lex.proofs.bundle.count_live.Goals as goal
 use Rattle.jx_lex.proofs.bundle.count_live.Goals.{then-is_live, else-is_live}
 

@@ -1,5 +1,5 @@
 use Rattle.std.proofs.Common.{◌≡◌, ◌≤◌, take, count_by}
-use Rattle.jx_lex.specs.Bundle.{is_live}
+use Rattle.jx_lex.specs.inside.Bundle.{is_live}
 use Rattle.jx_lex.proofs.bundle.count_live.Given as goal
 
 abbrev pub invariant-loop-state : goal.invariant-loop-state

@@ -1,5 +1,5 @@
 use Rattle.std.proofs.Common.{◌≡◌, ◌∷◌, [], arith, true, sym, ◌∙◌}
-use Rattle.jx_lex.specs.Bundle.{is_apart}
+use Rattle.jx_lex.specs.inside.Bundle.{is_apart}
 use Rattle.jx_lex.proofs.ReadingOn.{reads-none, reads-step}
 use Rattle.jx_lex.proofs.Slices.{slice-none}
 use Rattle.jx_lex.proofs.last_tracks.read_pair.Goals as goal

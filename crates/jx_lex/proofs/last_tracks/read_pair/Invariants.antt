@@ -1,6 +1,6 @@
 use Rattle.std.proofs.Common.{◌≤◌, ◌-◌, ◌∷◌, []}
 use Rattle.std.specs.Prelude.{slice_range}
-use Rattle.jx_lex.specs.Bundle.{ReadsOn}
+use Rattle.jx_lex.specs.inside.Bundle.{ReadsOn}
 use Rattle.jx_lex.proofs.last_tracks.read_pair.Given as goal
 
 -- both have read the bytes up to here

@@ -2,7 +2,7 @@ use Rattle.std.proofs.Common.{◌≡◌, subst, sym, ap, ◌∙◌}
 use Rattle.std.specs.Prelude.{slice_range}
 use Rattle.jx_lex.specs.declared.link.Link.TheVariants.{State}
 use Rattle.jx_lex.specs.declared.state.LexState.TheVariants as state
-use Rattle.jx_lex.specs.Passing.{KeptBy}
+use Rattle.jx_lex.specs.inside.Passing.{KeptBy}
 use Rattle.jx_lex.proofs.ReadingOn.{reads-first, reads-second}
 use Rattle.jx_lex.proofs.last_tracks.read_plain.Goals as goal
 

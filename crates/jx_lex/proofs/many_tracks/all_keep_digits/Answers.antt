@@ -1,6 +1,6 @@
 use Rattle.std.proofs.Common.{List, take, refl, subst, sym}
 use Rattle.jx_lex.specs.Follow.{Part}
-use Rattle.jx_lex.specs.Passing.{KeptBy, AllKept}
+use Rattle.jx_lex.specs.inside.Passing.{KeptBy, AllKept}
 use Rattle.jx_lex.proofs.Many.{AllKept-more, take-next}
 use Rattle.jx_lex.proofs.many_tracks.all_keep_digits.Goals as goal
 

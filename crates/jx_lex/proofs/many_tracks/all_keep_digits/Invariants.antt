@@ -1,6 +1,6 @@
 use Rattle.std.proofs.Common.{ℕ, List, take}
 use Rattle.jx_lex.specs.declared.state.LexState.TheVariants as state
-use Rattle.jx_lex.specs.Passing.{AllKept}
+use Rattle.jx_lex.specs.inside.Passing.{AllKept}
 use Rattle.jx_lex.specs.Runs.{AllKeep}
 use Rattle.jx_lex.proofs.many_tracks.all_keep_digits.Given as goal
 

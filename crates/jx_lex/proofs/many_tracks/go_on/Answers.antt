@@ -1,6 +1,6 @@
 use Rattle.std.proofs.Common.{List, length, ap, sym, subst, ◌∙◌}
 use Rattle.std.specs.Prelude.{slice_range}
-use Rattle.jx_lex.specs.Bundle.{Bundle, ReadsOn, StandIn}
+use Rattle.jx_lex.specs.inside.Bundle.{Bundle, ReadsOn, StandIn}
 use Rattle.jx_lex.specs.Follow.{Part}
 use Rattle.jx_lex.proofs.Many.{written}
 use Rattle.jx_lex.proofs.many_tracks.go_on.Goals as goal

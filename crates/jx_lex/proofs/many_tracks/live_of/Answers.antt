@@ -1,7 +1,7 @@
 use Rattle.std.proofs.Common.{◌∷◌, [], ◌++◌, take, set, true, List, Bool, subst, sym, ap, ◌∙◌}
 use Rattle.std.proofs.lemmas.List.{take_all}
 use Rattle.jx_lex.specs.Follow.{Part}
-use Rattle.jx_lex.specs.Bundle.{StandIn}
+use Rattle.jx_lex.specs.inside.Bundle.{StandIn}
 use Rattle.jx_lex.proofs.Many.{StandIn-none, StandIn-state, StandIn-out, take-next}
 use Rattle.jx_lex.proofs.many_tracks.live_of.Goals as goal
 use Rattle.jx_lex.proofs.many_tracks.live_of.Goals.{in-State, in_default}

@@ -1,5 +1,5 @@
 use Rattle.std.proofs.Common.{take}
-use Rattle.jx_lex.specs.Bundle.{StandIn}
+use Rattle.jx_lex.specs.inside.Bundle.{StandIn}
 use Rattle.jx_lex.proofs.many_tracks.live_of.Given as goal
 
 -- the states of the first segments

@@ -1,7 +1,7 @@
 use Rattle.std.proofs.Common.{◌<◌, length, set, ap, sym, arith, ◌∙◌}
 use Rattle.std.proofs.lemmas.List.Edits.{map_over_more}
 use Rattle.jx_lex.specs.Follow.{Part}
-use Rattle.jx_lex.specs.Step.{read_part}
+use Rattle.jx_lex.specs.inside.Step.{read_part}
 use Rattle.jx_lex.proofs.many_tracks.read_each.Goals as goal
 
 pub loop-i-preserved : goal.loop-i-preserved

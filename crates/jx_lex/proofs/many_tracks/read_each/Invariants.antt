@@ -1,5 +1,5 @@
 use Rattle.std.proofs.Common.{◌≡◌, ◌++◌, take, drop, map}
-use Rattle.jx_lex.specs.Step.{read_part}
+use Rattle.jx_lex.specs.inside.Step.{read_part}
 use Rattle.jx_lex.proofs.many_tracks.read_each.Given as goal
 
 -- the first segments have taken the byte in

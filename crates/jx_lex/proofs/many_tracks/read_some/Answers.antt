@@ -1,7 +1,7 @@
 use Rattle.std.proofs.Common.{[], ℕ, ◌+◌, List, length, subst, sym, ap, ◌∙◌, arith}
 use Rattle.std.specs.Prelude.{slice_range}
 use Rattle.jx_lex.specs.declared.link.Link.{Link}
-use Rattle.jx_lex.specs.Bundle.{Bundle, Reads, Stands, joined_bundle}
+use Rattle.jx_lex.specs.inside.Bundle.{Bundle, Reads, Stands, joined_bundle}
 use Rattle.jx_lex.specs.Follow.{IsIn, head}
 use Rattle.jx_lex.proofs.Many.{some-read, Reads-open_on}
 use Rattle.jx_lex.proofs.many_tracks.read_some.Goals as goal

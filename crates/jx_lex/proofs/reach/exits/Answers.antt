@@ -1,6 +1,6 @@
 use Rattle.std.proofs.Common.{◌<◌, false, replicate, List, refl, subst, arith, length}
 use Rattle.std.proofs.lemmas.List.{take_all, get_or_default}
-use Rattle.jx_lex.specs.Bundle.{AllLive}
+use Rattle.jx_lex.specs.inside.Bundle.{AllLive}
 use Rattle.jx_lex.specs.Follow.{Part}
 use Rattle.jx_lex.proofs.Joined.{ordinal-low}
 use Rattle.jx_lex.proofs.Pruning.{closed-live, noted-next, noted-heads, noted-parts}

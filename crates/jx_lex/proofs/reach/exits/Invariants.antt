@@ -1,6 +1,6 @@
 use Rattle.std.proofs.Common.{◌≡◌, ◌<◌, length, take}
 use Rattle.jx_lex.specs.declared.state.LexState.{LexState}
-use Rattle.jx_lex.specs.Bundle.{AllLive, LiveAt}
+use Rattle.jx_lex.specs.inside.Bundle.{AllLive, LiveAt}
 use Rattle.jx_lex.specs.Follow.{head}
 use Rattle.jx_lex.specs.Ordinal.{ordinal}
 use Rattle.jx_lex.proofs.reach.exits.Given as goal

@@ -2,7 +2,7 @@ use Rattle.std.proofs.Common.{◌≡◌, set, ◌+◌, ◌-◌, ◌<◌, rules, 
 use Rattle.jx_lex.specs.declared.link.Link.{Link}
 use Rattle.jx_lex.specs.declared.link.Link.TheVariants.{Ahead}
 use Rattle.jx_lex.specs.Follow.{Part, IsIn}
-use Rattle.jx_lex.specs.Pruned.{emptied}
+use Rattle.jx_lex.specs.inside.Pruned.{emptied}
 use Rattle.jx_lex.proofs.Pruning.{Pruning-start, Pruning-same, Pruning-kept, Pruning-emptied, Pruning-in, Pruning-done, reached_behind, behind-none}
 use Rattle.jx_lex.proofs.reach.prune.Goals as goal
 use Rattle.jx_lex.proofs.reach.prune.Goals.{In-Ahead, then-not-reached-i, else-not-reached-i+in-Ahead, else-not-reached-i+in_default}

@@ -1,7 +1,7 @@
 use Rattle.std.proofs.Common.{◌≡◌, length, set, true, sym, subst, ap, ◌∙◌, arith, length-set}
 use Rattle.std.proofs.lemmas.List.{get_or_default}
 use Rattle.jx_lex.specs.declared.link.Link.TheVariants.{Fault}
-use Rattle.jx_lex.specs.Pruned.{IsReached}
+use Rattle.jx_lex.specs.inside.Pruned.{IsReached}
 use Rattle.jx_lex.proofs.Joined.{ordinal-low}
 use Rattle.jx_lex.proofs.Pruning.{reached-heads, reached-none, reached-set, IsReached-set, head-in}
 use Rattle.jx_lex.proofs.reach.reached_from.Goals as goal

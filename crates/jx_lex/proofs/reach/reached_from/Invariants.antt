@@ -1,9 +1,9 @@
 use Rattle.std.proofs.Common.{◌≡◌, ◌<◌, length, true}
 use Rattle.jx_lex.specs.declared.state.LexState.{LexState}
-use Rattle.jx_lex.specs.Bundle.{is_live}
+use Rattle.jx_lex.specs.inside.Bundle.{is_live}
 use Rattle.jx_lex.specs.Follow.{head}
 use Rattle.jx_lex.specs.Ordinal.{ordinal}
-use Rattle.jx_lex.specs.Pruned.{IsReached}
+use Rattle.jx_lex.specs.inside.Pruned.{IsReached}
 use Rattle.jx_lex.proofs.reach.reached_from.Given as goal
 
 -- where the first heads lead is noted

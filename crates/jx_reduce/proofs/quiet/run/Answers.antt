@@ -4,7 +4,7 @@ use Rattle.std.specs.Option.{option_to_list}
 use Rattle.std.proofs.lemmas.List.{reverse-append, length-reverse}
 use Rattle.jx_reduce.specs.Form.{Form}
 use Rattle.jx_reduce.specs.Levels.{with_opens}
-use Rattle.jx_reduce.specs.Quiet.{standing}
+use Rattle.jx_reduce.specs.inside.Quiet.{standing}
 use Rattle.jx_reduce.specs.Table.{change_of}
 use Rattle.jx_reduce.specs.declared.entry.Entry.{Entry}
 use Rattle.jx_reduce.specs.declared.holder.Holder.{Holder}

@@ -3,7 +3,7 @@ use Rattle.std.specs.Prelude.{reverse}
 use Rattle.jx_reduce.specs.Form.{Form}
 use Rattle.jx_reduce.specs.Levels.{with_opens}
 use Rattle.jx_reduce.specs.Marks.{of_marks}
-use Rattle.jx_reduce.specs.Quiet.{standing, IsAt}
+use Rattle.jx_reduce.specs.inside.Quiet.{standing, IsAt}
 use Rattle.jx_reduce.proofs.quiet.run.Given as goal
 
 -- the marks that were taken lead to the form with these containers, at this entry

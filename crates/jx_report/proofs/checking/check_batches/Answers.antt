@@ -1,7 +1,7 @@
 use Rattle.std.proofs.Common.{◌≤◌, [], length, take, ap, inl, refl, rules, arith}
 use Rattle.std.proofs.KnownBytes.{Consumes-nil}
 use Rattle.std.proofs.lemmas.List.{places}
-use Rattle.jx_report.specs.Batches.{IsTaken}
+use Rattle.jx_report.specs.inside.Batches.{IsTaken}
 use Rattle.jx_report.proofs.BatchSteps.{checked, length_front, taken_more, fewer}
 use Rattle.jx_report.proofs.checking.check_batches.Goals as goal
 

@@ -1,7 +1,7 @@
 -- What was read so far was taken in.
 use Rattle.std.proofs.Common.{◌≡◌, ℕ, List, ◌-◌, ◌^◌, ◌≤◌, false, vec_len}
 use Rattle.std.specs.Io.KnownBytes.{Consumes}
-use Rattle.jx_report.specs.Batches.{IsTaken, ShowsFront}
+use Rattle.jx_report.specs.inside.Batches.{IsTaken, ShowsFront}
 use Rattle.jx_report.proofs.checking.check_batches.Given as goal
 
 abbrev pub invariant-loop-check : goal.invariant-loop-check

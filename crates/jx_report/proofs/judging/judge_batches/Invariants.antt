@@ -1,8 +1,8 @@
 -- What was read so far was taken in.
 use Rattle.std.proofs.Common.{◌≡◌, ℕ, List, ◌-◌, ◌^◌, ◌≤◌, false, vec_len}
 use Rattle.std.specs.Io.KnownBytes.{Consumes}
-use Rattle.jx_report.specs.Batches.{ShowsFront}
-use Rattle.jx_report.specs.Sequences.{IsSequenceTaken}
+use Rattle.jx_report.specs.inside.Batches.{ShowsFront}
+use Rattle.jx_report.specs.inside.Sequences.{IsSequenceTaken}
 use Rattle.jx_report.proofs.judging.judge_batches.Given as goal
 
 abbrev pub invariant-loop-check : goal.invariant-loop-check

@@ -1,5 +1,5 @@
 -- The reader went on with the text up to what is done.
-use Rattle.jx_report.specs.Batches.{GoesOn}
+use Rattle.jx_report.specs.inside.Batches.{GoesOn}
 use Rattle.jx_report.proofs.pieces.feed_pieces.Given as goal
 
 abbrev pub invariant-loop-number : goal.invariant-loop-number

@@ -5,7 +5,7 @@ use Rattle.jx_run.specs.Text.{IsText}
 use Rattle.jx_run.specs.Tree.{Tree}
 use Rattle.jx_report.specs.declared.exit.Exit.TheVariants.{Good}
 use Rattle.jx_report.specs.Pointers.{PointerLines}
-use Rattle.jx_report.specs.Replies.{exit_past_lines, pointer_lines}
+use Rattle.jx_report.specs.inside.Replies.{exit_past_lines, pointer_lines}
 use Rattle.jx_report.proofs.pointer_answer.answers_of.Given as goal
 
 abbrev pub invariant-loop-at : goal.invariant-loop-at

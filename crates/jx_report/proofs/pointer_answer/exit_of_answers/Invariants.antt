@@ -1,6 +1,6 @@
 -- The exit so far, past the rest.
 use Rattle.std.proofs.Common.{◌≡◌, drop}
-use Rattle.jx_report.specs.Replies.{exit_past_lines}
+use Rattle.jx_report.specs.inside.Replies.{exit_past_lines}
 use Rattle.jx_report.specs.declared.exit.Exit.TheVariants.{Good}
 use Rattle.jx_report.proofs.pointer_answer.exit_of_answers.Given as goal
 

@@ -12,7 +12,7 @@ use Rattle.jx_command.specs.declared.command.Task.{Task}
 use Rattle.jx_report.specs.declared.reply.Reply.{Reply}
 use Rattle.jx_report.specs.Output.{Output}
 use Rattle.jx_report.specs.Pointers.{PointerLines}
-use Rattle.jx_report.specs.Replies.{reply_exit, reply_output}
+use Rattle.jx_report.specs.inside.Replies.{reply_exit, reply_output}
 use Rattle.jx_report.proofs.Answers.{pointers_output}
 use Rattle.jx_report.proofs.reply.reply_to.Goals as goal
 

@@ -3,7 +3,7 @@ use Rattle.std.specs.Prelude.{OnErr, codes}
 use Rattle.jx_index.specs.declared.row.Row.{Row}
 use Rattle.jx_report.specs.declared.reply.Reply.{Reply}
 use Rattle.jx_report.specs.Ends.{AppendsBeginning}
-use Rattle.jx_report.specs.Replies.{reply_output}
+use Rattle.jx_report.specs.inside.Replies.{reply_output}
 use Rattle.jx_report.specs.RowWords.{row_lines}
 use Rattle.jx_report.specs.Words.{line}
 use Rattle.jx_report.proofs.writing.write_lines.Goals as goal

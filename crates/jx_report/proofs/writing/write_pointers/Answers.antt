@@ -2,7 +2,7 @@ use Rattle.std.proofs.Common.{◌≡◌, ◌+◌, ◌++◌, arith, drop, get_or,
 use Rattle.std.proofs.lemmas.Option.{get_or_from_slice_get}
 use Rattle.jx_report.specs.Ends.{AppendsBeginning}
 use Rattle.jx_report.specs.Pointers.{answer_words}
-use Rattle.jx_report.specs.Replies.{pointer_lines}
+use Rattle.jx_report.specs.inside.Replies.{pointer_lines}
 use Rattle.jx_report.specs.Words.{line}
 use Rattle.jx_report.proofs.PutSteps.{one_line_more, fails_between_lines, after_lines}
 use Rattle.jx_report.proofs.LineSteps.{pointers_step, pointers_done}

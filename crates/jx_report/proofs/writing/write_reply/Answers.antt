@@ -1,7 +1,7 @@
 use Rattle.std.proofs.Common.{ℕ, List, ◌++◌, ap, subst}
 use Rattle.std.specs.Prelude.{OnErr}
 use Rattle.jx_report.specs.Ends.{AppendsBeginning}
-use Rattle.jx_report.specs.Replies.{reply_output}
+use Rattle.jx_report.specs.inside.Replies.{reply_output}
 use Rattle.jx_report.proofs.PutSteps.{put_in_part}
 use Rattle.jx_report.proofs.writing.write_reply.Goals as goal
 

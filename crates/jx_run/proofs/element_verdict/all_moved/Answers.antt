@@ -3,7 +3,7 @@ use Rattle.std.proofs.lemmas.List.{length-set, take_all}
 use Rattle.std.proofs.lemmas.List.Edits.{map_over_more}
 use Rattle.std.proofs.Math.ListN.{drop_of_length-le}
 use Rattle.jx_run.specs.declared.element_verdict.JudgedElement.{JudgedElement}
-use Rattle.jx_run.specs.Moved.{moved}
+use Rattle.jx_run.specs.inside.Moved.{moved}
 use Rattle.jx_run.proofs.element_verdict.all_moved.Goals as goal
 
 pub loop-at-init : goal.loop-at-init

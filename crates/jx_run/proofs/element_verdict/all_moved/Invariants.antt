@@ -1,6 +1,6 @@
 -- The elements before this one are moved.
 use Rattle.std.proofs.Common.{◌≡◌, ◌++◌, length, map, take, drop}
-use Rattle.jx_run.specs.Moved.{moved}
+use Rattle.jx_run.specs.inside.Moved.{moved}
 use Rattle.jx_run.proofs.element_verdict.all_moved.Given as goal
 
 abbrev pub invariant-loop-at : goal.invariant-loop-at

@@ -2,7 +2,7 @@ use Rattle.std.proofs.Common.{◌+◌, take, ap, sym, subst, ◌∙◌, arith}
 use Rattle.jx_lex.specs.Lex.{Track}
 use Rattle.jx_lex.specs.Ordinal.{all_states}
 use Rattle.jx_run.specs.declared.way.Way.{Way}
-use Rattle.jx_run.specs.Reduced.{AreWaysOf}
+use Rattle.jx_run.specs.inside.Reduced.{AreWaysOf}
 use Rattle.jx_run.proofs.Reducing.{each_next}
 use Rattle.jx_run.proofs.reduce.all_ways.Goals as goal
 

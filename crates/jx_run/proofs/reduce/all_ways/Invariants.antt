@@ -1,6 +1,6 @@
 use Rattle.std.proofs.Common.{◌≤◌, length, take}
 use Rattle.jx_lex.specs.Ordinal.{all_states}
-use Rattle.jx_run.specs.Reduced.{ArePaths, AreWaysOf}
+use Rattle.jx_run.specs.inside.Reduced.{ArePaths, AreWaysOf}
 use Rattle.jx_run.proofs.reduce.all_ways.Given as goal
 
 abbrev pub invariant-loop-place : goal.invariant-loop-place

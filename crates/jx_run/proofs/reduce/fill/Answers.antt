@@ -1,5 +1,5 @@
 use Rattle.std.proofs.Common.{subst}
-use Rattle.jx_run.specs.Reduced.{IsReduced}
+use Rattle.jx_run.specs.inside.Reduced.{IsReduced}
 use Rattle.jx_run.proofs.reduce.fill.Goals as goal
 
 pub returns : goal.returns

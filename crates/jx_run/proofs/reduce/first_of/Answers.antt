@@ -1,6 +1,6 @@
 use Rattle.std.proofs.Common.{flat_map, ap, sym, ◌∙◌}
 use Rattle.jx_lex.specs.View.{marks_at}
-use Rattle.jx_run.specs.Reduced.{path_at}
+use Rattle.jx_run.specs.inside.Reduced.{path_at}
 use Rattle.jx_run.proofs.Reducing.{path-first, path-none}
 use Rattle.jx_run.proofs.reduce.first_of.Goals as goal
 

@@ -2,7 +2,7 @@ use Rattle.std.proofs.Common.{◌++◌, length, flat_map, sym, subst, refl, [], 
 use Rattle.std.specs.Prelude.{IsSomeAnd}
 use Rattle.jx_lex.specs.View.{marks_at}
 use Rattle.jx_reduce.specs.Offsets.{RisingFrom}
-use Rattle.jx_run.specs.Reduced.{IsReduced}
+use Rattle.jx_run.specs.inside.Reduced.{IsReduced}
 use Rattle.jx_run.proofs.Reducing.{first_within, rest_within, front_rises, marks_same, next_flat, part_if, set_reduced}
 use Rattle.jx_run.proofs.reduce.reduce_path.Goals as goal
 

@@ -1,7 +1,7 @@
 use Rattle.std.proofs.Common.{◌≡◌, ◌<◌, ◌++◌, List, All, length, flat_map}
 use Rattle.jx_lex.specs.declared.mark.Mark.{Mark}
 use Rattle.jx_lex.specs.View.{marks_at}
-use Rattle.jx_run.specs.Reduced.{AreReduced, IsReduced}
+use Rattle.jx_run.specs.inside.Reduced.{AreReduced, IsReduced}
 use Rattle.jx_run.proofs.reduce.reduce_path.Given as goal
 
 -- the marks so far, and those of the segments that are left

@@ -1,6 +1,6 @@
 use Rattle.std.proofs.Common.{sym, subst}
 use Rattle.std.specs.Prelude.{OnOk}
-use Rattle.jx_run.specs.Reduced.{AreReduced}
+use Rattle.jx_run.specs.inside.Reduced.{AreReduced}
 use Rattle.jx_run.proofs.reduce.structure_from.Goals as goal
 
 pub reduce_path-requires-clause-parts : goal.reduce_path-requires-clause-parts

@@ -1,6 +1,6 @@
 use Rattle.std.proofs.Common.{subst}
 use Rattle.std.specs.Prelude.{IsSomeAnd}
-use Rattle.jx_run.specs.Reduced.{IsReduced}
+use Rattle.jx_run.specs.inside.Reduced.{IsReduced}
 use Rattle.jx_run.proofs.Reducing.{both_ok, reduced_before, reduced_more, segment_rises}
 use Rattle.jx_run.proofs.reduce.take_in.Goals as goal
 

@@ -3,7 +3,7 @@ use Rattle.std.specs.Prelude.{is_some, slice_range}
 use Rattle.std.proofs.lemmas.List.Edits.{length-between}
 use Rattle.jx_lex.specs.declared.exit.Exit.{Exit}
 use Rattle.jx_run.specs.OutcomeRun.{outcome_of}
-use Rattle.jx_run.specs.Rest.{AreRead}
+use Rattle.jx_run.specs.inside.Rest.{AreRead}
 use Rattle.jx_run.proofs.RestWays.{Scanned, scanned_reads, scanned_within}
 use Rattle.jx_run.proofs.rest.read_from.Goals as goal
 

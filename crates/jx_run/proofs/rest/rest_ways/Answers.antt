@@ -3,7 +3,7 @@ use Rattle.std.proofs.lemmas.List.{length-append}
 use Rattle.std.specs.Prelude.{slice_range}
 use Rattle.jx_lex.specs.declared.state.LexState.{LexState}
 use Rattle.jx_lex.specs.Ordinal.{ordinal}
-use Rattle.jx_run.specs.Rest.{AreReadWays}
+use Rattle.jx_run.specs.inside.Rest.{AreReadWays}
 use Rattle.jx_run.proofs.Reducing.{states-many}
 use Rattle.jx_run.proofs.RestWays.{IsThere, read_above, read_next, there_next}
 use Rattle.jx_run.proofs.StateOrder.{ordinal-low}

@@ -3,7 +3,7 @@ use Rattle.std.specs.Prelude.{slice_range}
 use Rattle.jx_lex.specs.declared.state.LexState.{LexState}
 use Rattle.jx_lex.specs.Ordinal.{ordinal}
 use Rattle.jx_run.specs.OutcomeRun.{IsWithin}
-use Rattle.jx_run.specs.Rest.{AreReadWays}
+use Rattle.jx_run.specs.inside.Rest.{AreReadWays}
 use Rattle.jx_run.proofs.RestWays.{IsThere}
 use Rattle.jx_run.proofs.rest.rest_ways.Given as goal
 

@@ -5,7 +5,7 @@ use jx_claim::Cutting;
 use std::alloc::Global;
 use std::test::Fail;
 
-// A cutting of a text at these offsets.
+/// A cutting of a text at these offsets.
 pub fn cut(alloc: Global, len: usize, cuts: &[usize]) -> Result<Cutting, Fail>
     ensures len { IfOk result (λ c. c.len ≡ len) }
     ensures front { IfOk result (λ c. c.front ≡ 0) }

@@ -29,7 +29,7 @@ pub fn answer_of(put: &Put<'_, Copied>) -> Answer {
     }
 }
 
-// A run at the default depth.
+/// A run at the default depth.
 pub fn read(
     alloc: Global,
     text: &[u8],
@@ -43,7 +43,7 @@ pub fn read(
     Held::read(alloc, text, start, end, Depth::default())
 }
 
-// The run that came back from a put and the neighbour that it touches, as one.
+/// The run that came back from a put and the neighbour that it touches, as one.
 pub fn joined<'a>(put: Put<'a, Copied>) -> Option<Held<'a, Copied>>
     ensures { IfSome result (λ h. h.span.start < h.span.end) }
 {
@@ -59,7 +59,7 @@ pub fn joined<'a>(put: Put<'a, Copied>) -> Option<Held<'a, Copied>>
     filled(neighbour.join(run).ok()?)
 }
 
-// The run, if it isn't empty.
+/// The run, if it isn't empty.
 fn filled<'a>(run: Held<'a, Copied>) -> Option<Held<'a, Copied>>
     ensures { IfSome result (λ h. h.span.start < h.span.end) }
 {

@@ -21,6 +21,7 @@ struct Told {
     gaps: Vec<Span>,
 }
 
+/// What puts of parts of a text of five bytes are answered, the share's totals, and the book's gaps from 3 up to 7.
 fn puts<P: Ledger, T: Ledger, R: Wait>(
     rt: &R,
     alloc: Global,
@@ -92,8 +93,8 @@ fn one_workers_puts(rt: HostRuntime) -> Result<(), Fail> {
     Ok(())
 }
 
-// Puts the bytes 1..2 and 3..4 of a text of five bytes, and finishes the book with another text and depth: the parts of a
-// span without a run, or none where a run is handed back.
+/// Puts the bytes 1..2 and 3..4 of a text of five bytes, and finishes the book with another text and depth: the parts
+/// of a span without a run, or none where a run is handed back.
 fn finished<P: Ledger, T: Ledger, R: Wait>(
     rt: &R,
     alloc: Global,

@@ -15,7 +15,7 @@ struct Cut {
     end: usize,
 }
 
-// The join of a part of one text up to the cut and a part of another from there, with these depths.
+/// The join of a part of one text up to the cut and a part of another from there, with these depths.
 fn join<'a>(
     alloc: Global,
     left: (&'a [u8], Depth),

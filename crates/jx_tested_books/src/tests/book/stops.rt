@@ -43,6 +43,7 @@ enum Holding {
     Two(Span, Span),
 }
 
+/// What a hand holds, in a form that can be compared.
 fn held_in<S: Summary>(hand: &Hand<'_, S>) -> Holding {
     match hand {
         Hand::Nothing => Holding::Nothing,
@@ -52,8 +53,8 @@ fn held_in<S: Summary>(hand: &Hand<'_, S>) -> Holding {
     }
 }
 
-// Lets the worker of the last seat read a text alone: why it stopped, and what it held. A run of another text may stand
-// in the book before; an empty span is none.
+/// Lets the worker of the last seat read a text alone: why it stopped, and what it held. A run of another text may
+/// stand in the book before; an empty span is none.
 fn stop<'a, S: Summary, P: Ledger, T: Ledger, G: Gate, R: Wait>(
     rt: &R,
     alloc: Global,
@@ -99,7 +100,7 @@ fn stop<'a, S: Summary, P: Ledger, T: Ledger, G: Gate, R: Wait>(
     }
 }
 
-// The same on the text `[1,2]`, in pieces of this size, with so many seats.
+/// The same on the text `[1,2]`, in pieces of this size, with so many seats.
 fn stopped<'a, S: Summary, G: Gate, R: Wait>(
     rt: &R,
     alloc: Global,

@@ -12,7 +12,7 @@ const A: usize = 0;
 
 const B: usize = 1;
 
-// What the seats of these places draw, one after another; a seat that got `None` is passed over.
+/// What the seats of these places draw, one after another; a seat that got `None` is passed over.
 fn draws(
     alloc: Global,
     claims: &Claims,
@@ -92,7 +92,7 @@ fn seats_are_numbered_in_order(rt: HostRuntime) -> Result<(), Fail> {
     Ok(())
 }
 
-// Draws until there is no piece, at most 2,000 times.
+/// Draws until there is no piece, at most 2,000 times.
 fn drain(
     alloc: Global,
     claims: &Claims,

@@ -7,6 +7,7 @@ use jx_reduce::{Expect, Holder, KnownStack, Reductions, Whole, next};
 use std::alloc::{AllocError, Global};
 use std::test::Fail;
 
+/// The kind of mark that this byte stands for.
 fn kind_of(byte: u8) -> MarkKind {
     match byte {
         b'[' => MarkKind::OpenArray,
@@ -20,7 +21,7 @@ fn kind_of(byte: u8) -> MarkKind {
     }
 }
 
-// The marks that these bytes stand for, each at the place of its byte.
+/// The marks that these bytes stand for, each at the place of its byte.
 fn marks_of(alloc: Global, text: &[u8]) -> Result<Vec<Mark>, AllocError>
     ensures { IfOk result (λ marks. RisingFrom 0 marks.items) }
 {

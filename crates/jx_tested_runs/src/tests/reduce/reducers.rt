@@ -9,7 +9,7 @@ use jx_reduce::{Expect, Holder, Outcome, Reducer, Reductions, next};
 use std::alloc::{AllocError, Global};
 use std::test::Fail;
 
-// The structure of marks that a reducer is given one by one.
+/// The structure of marks that a reducer is given one by one.
 fn reduced_of(alloc: Global, marks: &[Mark], depth: Depth) -> Result<Reductions, AllocError>
     requires rising { RisingFrom 0 marks.now }
     ensures depth { IfOk result (λ f. f.depth ≡ depth) }
@@ -22,7 +22,7 @@ fn reduced_of(alloc: Global, marks: &[Mark], depth: Depth) -> Result<Reductions,
     reducer.finish()
 }
 
-// The structures that two reducers make of both parts of a list, joined.
+/// The structures that two reducers make of both parts of a list, joined.
 fn joined_of_reducers(
     alloc: Global,
     marks: &[Mark],
@@ -54,8 +54,8 @@ fn fitting(chance: &mut Chance, expect: Expect, top: Holder, open: usize, most: 
     b','
 }
 
-// Marks that may stand where they do from this expectation on, but once in so many any mark. At a fault the list goes on as
-// if the mark were not there, so that it has many more behind the first one.
+/// Marks that may stand where they do from this expectation on, but once in so many any mark. At a fault the list goes
+/// on as if the mark were not there, so that it has many more behind the first one.
 fn long_by_chance(
     alloc: Global,
     chance: &mut Chance,

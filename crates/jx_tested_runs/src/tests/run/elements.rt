@@ -16,6 +16,7 @@ fn element(start: usize, end: usize, verdict: ElementVerdict) -> JudgedElement {
 
 const TRUNCATED: ElementVerdict = ElementVerdict::Refused(Refusal::Truncated);
 
+/// The verdict on an element that can't go on with the byte at this offset.
 fn stopped(at: usize) -> ElementVerdict {
     ElementVerdict::Refused(Refusal::Stopped { at })
 }

@@ -1,7 +1,7 @@
 use Rattle.std.proofs.Common.{◌≡◌, ℕ, ◌+◌, ◌<◌, ◌≤◌, Bool, false, [], ◌∷◌, ◌++◌, cond, refl, ap, ◌∙◌, arith}
 use Rattle.jx_claim.specs.declared.rule.View.{View}
 use Rattle.jx_claim.specs.Claimed.{ClaimsValue, SeatValue}
-use Rattle.jx_claim.specs.Dealt.{view}
+use Rattle.jx_claim.specs.inside.Dealt.{view}
 use Rattle.jx_claim.proofs.Deals.{got_piece, got_none, first_drawn, none_undrawn}
 use Rattle.jx_claim.proofs.claims.Claims.draw.Goals as goal
 

@@ -1,6 +1,6 @@
 use Rattle.std.proofs.Common.{rules, ◌≡◌, ◌-◌, [], ap, arith}
 use Rattle.jx_claim.specs.declared.rule.View.{View}
-use Rattle.jx_claim.specs.Dealt.{view}
+use Rattle.jx_claim.specs.inside.Dealt.{view}
 use Rattle.jx_claim.proofs.Deals.{cuts}
 use Rattle.jx_claim.proofs.claims.Claims.seats.Goals as goal
 

@@ -1,5 +1,5 @@
 use Rattle.std.proofs.Common.{◌≡◌, ◌-◌, [], vec_len}
-use Rattle.jx_claim.specs.Dealt.{view}
+use Rattle.jx_claim.specs.inside.Dealt.{view}
 use Rattle.jx_claim.specs.Claimed.{AreFresh}
 use Rattle.jx_claim.proofs.claims.Claims.seats.Given as goal
 

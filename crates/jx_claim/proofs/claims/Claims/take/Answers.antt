@@ -1,7 +1,7 @@
 use Rattle.std.proofs.Common.{rules, ◌≡◌, ℕ, ◌+◌, ◌%◌, ◌^◌, subst}
 use mathlib.Core.Option.{none}
 use Rattle.atomic_table.specs.Table.{step, Allows}
-use Rattle.jx_claim.specs.Dealt.{Dealt, DrawsFrom}
+use Rattle.jx_claim.specs.inside.Dealt.{Dealt, DrawsFrom}
 use Rattle.jx_claim.proofs.Deals.{draws}
 use Rattle.jx_claim.proofs.claims.Claims.take.Goals as goal
 

@@ -1,6 +1,6 @@
 use Rattle.std.proofs.Common.{◌≡◌, ℕ, List, [], ◌∷◌, length, length-append, sym, ap, ◌∙◌, subst, arith}
 use Rattle.jx_claim.specs.Cut.{Covers, behind, meetings}
-use Rattle.jx_claim.specs.Listed.{between}
+use Rattle.jx_claim.specs.inside.Listed.{between}
 use Rattle.jx_claim.proofs.Pieces.{cuts_cover, cuts_meet, length-between, behind_start, none_ended}
 use Rattle.jx_claim.proofs.cutting.Cutting.at.Goals as goal
 

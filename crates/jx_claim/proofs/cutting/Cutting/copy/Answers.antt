@@ -1,7 +1,7 @@
 use Rattle.std.proofs.Common.{◌≡◌, ◌<◌, List, length, sym, subst}
 use Rattle.jx_lex.specs.declared.span.Span.{Span}
 use Rattle.jx_claim.specs.Cut.{Covers}
-use Rattle.jx_claim.specs.Listed.{listed, AreEnded}
+use Rattle.jx_claim.specs.inside.Listed.{listed, AreEnded}
 use Rattle.jx_claim.proofs.cutting.Cutting.copy.Goals as goal
 
 pub invariant_of-result : goal.invariant_of-result

@@ -1,6 +1,6 @@
 use Rattle.std.proofs.Common.{◌≡◌, ◌+◌, length, ap, arith}
 use Rattle.jx_claim.specs.Cut.{CuttingValue, behind}
-use Rattle.jx_claim.specs.Listed.{listed}
+use Rattle.jx_claim.specs.inside.Listed.{listed}
 use Rattle.jx_claim.proofs.Pieces.{behind_len, behind_covers, covers_none}
 use Rattle.jx_claim.proofs.cutting.Cutting.count.Goals as goal
 

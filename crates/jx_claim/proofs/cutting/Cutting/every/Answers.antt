@@ -2,7 +2,7 @@ use Rattle.std.proofs.Common.{◌≡◌, ◌+◌, ◌*◌, ◌<◌, ◌≤◌, L
 use Rattle.std.proofs.lemmas.Grind.{div_ceil_times}
 use Rattle.jx_lex.specs.declared.span.Span.{Span}
 use Rattle.jx_claim.specs.Cut.{Covers, OfSize, behind}
-use Rattle.jx_claim.specs.Listed.{regular}
+use Rattle.jx_claim.specs.inside.Listed.{regular}
 use Rattle.jx_claim.proofs.Pieces.{regular_covers, length-regular, regular_of_size, few_enough, behind_start, none_ended}
 use Rattle.jx_claim.proofs.cutting.Cutting.every.Goals as goal
 

@@ -1,6 +1,6 @@
 use Rattle.std.proofs.Common.{subst, arith}
 use Rattle.jx_claim.specs.Cut.{CuttingValue, Covers}
-use Rattle.jx_claim.specs.Listed.{listed}
+use Rattle.jx_claim.specs.inside.Listed.{listed}
 use Rattle.jx_claim.proofs.Pieces.{behind_covers}
 use Rattle.jx_claim.proofs.cutting.Cutting.len.Goals as goal
 

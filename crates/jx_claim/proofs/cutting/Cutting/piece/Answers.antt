@@ -3,7 +3,7 @@ use Rattle.std.specs.Prelude.{max}
 use Rattle.std.proofs.lemmas.Option.{slice_get_read, get_or_from_slice_get}
 use Rattle.jx_lex.specs.declared.span.Span.{Span}
 use Rattle.jx_claim.specs.Cut.{CuttingValue, Covers, span}
-use Rattle.jx_claim.specs.Listed.{listed}
+use Rattle.jx_claim.specs.inside.Listed.{listed}
 use Rattle.jx_claim.proofs.Pieces.{behind_len, behind_at, behind_covers, piece_covered}
 use Rattle.jx_claim.proofs.cutting.Cutting.piece.Goals as goal
 use Rattle.jx_claim.proofs.cutting.Cutting.piece.Goals.{After-max}

@@ -1,6 +1,6 @@
 use Rattle.std.proofs.Common.{◌≡◌, ◌≤◌, sym, ap, ◌∙◌, subst, arith}
 use Rattle.jx_claim.specs.Cut.{CuttingValue, Covers, behind}
-use Rattle.jx_claim.specs.Listed.{listed}
+use Rattle.jx_claim.specs.inside.Listed.{listed}
 use Rattle.jx_claim.proofs.Pieces.{behind_again, behind_covers}
 use Rattle.jx_claim.proofs.cutting.Cutting.without_front.Goals as goal
 use Rattle.jx_claim.proofs.cutting.Cutting.without_front.Goals.{After-ended-skipped}

@@ -1,6 +1,6 @@
 use Rattle.std.proofs.Common.{rules, ◌≡◌, length, sym, ap, ◌∙◌}
 use Rattle.std.specs.Vec.{vec_len}
-use Rattle.jx_claim.specs.Listed.{listed}
+use Rattle.jx_claim.specs.inside.Listed.{listed}
 use Rattle.jx_claim.proofs.Pieces.{length-regular, length-between}
 use Rattle.jx_claim.proofs.parts.Parts.count.Goals as goal
 

@@ -5,7 +5,7 @@ use Rattle.std.proofs.Math.Nat.{suc-mul, div-mul-le_self}
 use Rattle.std.proofs.lemmas.Nat.{le-div}
 use Rattle.jx_claim.specs.declared.parts.Parts.{Parts}
 use Rattle.jx_claim.specs.Cut.{Covers}
-use Rattle.jx_claim.specs.Listed.{listed, between, IsRegular, AreEnded}
+use Rattle.jx_claim.specs.inside.Listed.{listed, between, IsRegular, AreEnded}
 use Rattle.jx_claim.proofs.Pieces.{length-regular, regular_ended, all_ended}
 use Rattle.jx_claim.proofs.parts.Parts.ended.Goals as goal
 

@@ -2,7 +2,7 @@ use Rattle.std.proofs.Common.{◌≡◌, ℕ, ◌<◌, List, ◌∷◌, length, 
 use Rattle.std.proofs.lemmas.Option.{slice_get_read}
 use Rattle.std.specs.Prelude.{slice_index}
 use Rattle.jx_claim.specs.Cut.{span}
-use Rattle.jx_claim.specs.Listed.{listed, IsRegular}
+use Rattle.jx_claim.specs.inside.Listed.{listed, IsRegular}
 use Rattle.jx_claim.proofs.Pieces.{length-regular, regular_is, regular_begins, length-between, between_at}
 use Rattle.jx_claim.proofs.parts.Parts.piece.Goals as goal
 

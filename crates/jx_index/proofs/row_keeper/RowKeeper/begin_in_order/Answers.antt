@@ -1,7 +1,7 @@
 use Rattle.std.proofs.Common.{◌∷◌, [], ◌++◌, None, refl, sym, subst, ◌∙◌}
-use Rattle.jx_index.specs.Building.{Building}
-use Rattle.jx_index.specs.Built.{built}
-use Rattle.jx_index.specs.RowKeeper.{ComeTo}
+use Rattle.jx_index.specs.inside.Building.{Building}
+use Rattle.jx_index.specs.inside.Built.{built}
+use Rattle.jx_index.specs.inside.RowKeeper.{ComeTo}
 use Rattle.jx_index.proofs.RowKeeping.{front_low, last_low, begins, takes, stands_as}
 use Rattle.jx_index.proofs.row_keeper.RowKeeper.begin_in_order.Goals as goal
 

@@ -1,8 +1,8 @@
 use Rattle.std.proofs.Common.{◌∷◌, [], ◌++◌, None, refl, sym, subst}
 use Rattle.std.proofs.lemmas.List.Elements.{All-head}
-use Rattle.jx_index.specs.Building.{Building}
-use Rattle.jx_index.specs.Built.{built}
-use Rattle.jx_index.specs.RowKeeper.{ComeTo}
+use Rattle.jx_index.specs.inside.Building.{Building}
+use Rattle.jx_index.specs.inside.Built.{built}
+use Rattle.jx_index.specs.inside.RowKeeper.{ComeTo}
 use Rattle.jx_index.proofs.RowKeeping.{IsLow, ends_token, stands_as}
 use Rattle.jx_index.proofs.row_keeper.RowKeeper.end_in_order.Goals as goal
 

@@ -1,8 +1,8 @@
 use Rattle.std.proofs.Common.{sym, subst, ap, ◌∙◌}
 use Rattle.std.proofs.lemmas.List.Elements.{All-head, All-tail}
 use Rattle.std.proofs.lemmas.Result.{IfOk-weaker}
-use Rattle.jx_index.specs.Building.{Building, next_end}
-use Rattle.jx_index.specs.Built.{built, Fits}
+use Rattle.jx_index.specs.inside.Building.{Building, next_end}
+use Rattle.jx_index.specs.inside.Built.{built, Fits}
 use Rattle.jx_index.proofs.Fitting.{mark_fits}
 use Rattle.jx_index.proofs.RowKeeping.{IsLow, stands_as, all_made, begun_made}
 use Rattle.jx_index.proofs.row_keeper.RowKeeper.into_nodes.Goals as goal

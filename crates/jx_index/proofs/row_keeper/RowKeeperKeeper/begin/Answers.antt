@@ -1,5 +1,5 @@
 use Rattle.std.proofs.Common.{◌∷◌, [], refl, sym}
-use Rattle.jx_index.specs.Built.{built}
+use Rattle.jx_index.specs.inside.Built.{built}
 use Rattle.jx_index.proofs.RowKeeping.{front_low, last_low, waits, stands_as}
 use Rattle.jx_index.proofs.row_keeper.RowKeeperKeeper.begin.Goals as goal
 

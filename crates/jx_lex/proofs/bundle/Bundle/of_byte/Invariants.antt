@@ -1,5 +1,5 @@
 use Rattle.std.proofs.Common.{[], ◌∷◌}
-use Rattle.jx_lex.specs.Bundle.{Stands}
+use Rattle.jx_lex.specs.inside.Bundle.{Stands}
 use Rattle.jx_lex.proofs.Building.{Built}
 use Rattle.jx_lex.proofs.bundle.Bundle.of_byte.Given as goal
 

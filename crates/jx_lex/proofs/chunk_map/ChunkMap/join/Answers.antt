@@ -1,5 +1,5 @@
 use Rattle.std.proofs.Common.{◌≡◌, List, length, sym, subst, ap, ◌∙◌, arith}
-use Rattle.jx_lex.specs.Bundle.{AllLive}
+use Rattle.jx_lex.specs.inside.Bundle.{AllLive}
 use Rattle.jx_lex.specs.Follow.{Part}
 use Rattle.jx_lex.specs.Map.{Map}
 use Rattle.jx_lex.proofs.Joined.{IsWhole-joined, IsOf-joined}

@@ -1,7 +1,7 @@
 use Rattle.std.proofs.Common.{◌≤◌, [], arith, inl, inr, length, replicate, true, subst, sym, ◌∙◌}
 use Rattle.std.specs.Prelude.{slice_range}
-use Rattle.jx_lex.specs.Bundle.{Bundle, Reads, Stands, live_count}
-use Rattle.jx_lex.specs.Closed.{AreClosed}
+use Rattle.jx_lex.specs.inside.Bundle.{Bundle, Reads, Stands, live_count}
+use Rattle.jx_lex.specs.inside.Closed.{AreClosed}
 use Rattle.jx_lex.specs.Map.{ArePlaced}
 use Rattle.jx_lex.specs.Ordinal.{all_states}
 use Rattle.jx_lex.proofs.Building.{IsOf-reads, IsWhole-reads, shared-all}

@@ -1,6 +1,6 @@
 use Rattle.std.proofs.Common.{◌≤◌, ◌-◌, replicate, true}
 use Rattle.std.specs.Prelude.{slice_range}
-use Rattle.jx_lex.specs.Bundle.{Reads, Stands}
+use Rattle.jx_lex.specs.inside.Bundle.{Reads, Stands}
 use Rattle.jx_lex.proofs.chunk_map.ChunkMap.up_to.Given as goal
 
 -- the tracks of what is read so far, from every state

@@ -3,9 +3,9 @@ use Rattle.std.specs.Prelude.{slice_range}
 use Rattle.jx_lex.specs.declared.link.Link.{Link}
 use Rattle.jx_lex.specs.Follow.{Part}
 use Rattle.jx_lex.specs.Lex.{lex}
-use Rattle.jx_lex.specs.Passing.{read_bytes}
+use Rattle.jx_lex.specs.inside.Passing.{read_bytes}
 use Rattle.jx_lex.specs.Seen.{TokenLists}
-use Rattle.jx_lex.specs.Step.{link_at}
+use Rattle.jx_lex.specs.inside.Step.{link_at}
 use Rattle.jx_lex.proofs.Passing.{closed-span}
 use Rattle.jx_lex.proofs.Spans.{read-lex}
 use Rattle.jx_lex.proofs.segment.Segment.read_span.Goals as goal

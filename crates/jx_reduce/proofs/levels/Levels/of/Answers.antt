@@ -1,6 +1,6 @@
 use Rattle.std.proofs.Common.{sym, subst}
 use Rattle.jx_reduce.specs.Fits.{Fits}
-use Rattle.jx_reduce.specs.Quiet.{GoesOn}
+use Rattle.jx_reduce.specs.inside.Quiet.{GoesOn}
 use Rattle.jx_reduce.proofs.Exits.{GoesOn-of_nothing}
 use Rattle.jx_reduce.proofs.Readings.{Fits-of_nothing}
 use Rattle.jx_reduce.proofs.levels.Levels.of.Goals as goal

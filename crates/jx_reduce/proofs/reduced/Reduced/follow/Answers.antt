@@ -7,7 +7,7 @@ use Rattle.jx_reduce.specs.Join.{joined, all_faulted}
 use Rattle.jx_reduce.specs.Levels.{form_of, part_form, HasRoom, HasRoomOf}
 use Rattle.jx_reduce.specs.declared.levels.Levels.{Levels}
 use Rattle.jx_reduce.specs.declared.part.Part.{Part}
-use Rattle.jx_reduce.specs.Quiet.{GoesOn}
+use Rattle.jx_reduce.specs.inside.Quiet.{GoesOn}
 use Rattle.jx_reduce.proofs.Bounds.{Fits-joined}
 use Rattle.jx_reduce.proofs.Exits.{GoesOn-joined}
 use Rattle.jx_reduce.proofs.reduced.Reduced.follow.Goals as goal

@@ -3,7 +3,7 @@ use Rattle.jx_run.specs.declared.element_verdict.JudgedElement.{JudgedElement}
 use Rattle.jx_run.specs.Elements.{elements}
 use Rattle.jx_run.specs.ElementVerdict.{IsJudgedElement}
 use Rattle.jx_run.specs.Tree.{span}
-use Rattle.jx_report.specs.Batches.{seen}
+use Rattle.jx_report.specs.inside.Batches.{seen}
 use Rattle.jx_report.proofs.SequenceSteps.{with_ended}
 use Rattle.jx_report.proofs.sequence_reader.SequenceReader.end.Goals as goal
 

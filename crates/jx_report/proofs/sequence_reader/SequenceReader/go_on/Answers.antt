@@ -1,5 +1,5 @@
 use Rattle.std.proofs.Common.{arith}
-use Rattle.jx_report.specs.Batches.{seen}
+use Rattle.jx_report.specs.inside.Batches.{seen}
 use Rattle.jx_report.proofs.sequence_reader.SequenceReader.go_on.Goals as goal
 
 pub read-requires-clause-fits : goal.read-requires-clause-fits

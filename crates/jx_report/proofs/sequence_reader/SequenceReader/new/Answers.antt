@@ -1,7 +1,7 @@
 use Rattle.std.proofs.Common.{List, [], false, sym, subst}
 use Rattle.jx_run.specs.declared.element_verdict.JudgedElement.{JudgedElement}
 use Rattle.jx_run.specs.SequenceRead.{AreRead}
-use Rattle.jx_report.specs.Batches.{seen}
+use Rattle.jx_report.specs.inside.Batches.{seen}
 use Rattle.jx_report.proofs.sequence_reader.SequenceReader.new.Goals as goal
 
 pub returns : goal.returns

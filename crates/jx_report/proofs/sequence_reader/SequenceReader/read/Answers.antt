@@ -1,7 +1,7 @@
 use Rattle.std.proofs.Common.{◌≡◌, ℕ, ◌+◌, ◌<◌, ◌≤◌, List, ◌++◌, length, subst, arith}
 use Rattle.std.specs.Prelude.{slice_range}
-use Rattle.jx_run.specs.SequenceRead.{IsUnmarked}
-use Rattle.jx_report.specs.Sequences.{AreReadBy}
+use Rattle.jx_run.specs.SequenceRead.{HasNoSeparator}
+use Rattle.jx_report.specs.inside.Sequences.{AreReadBy}
 use Rattle.jx_report.proofs.BatchSteps.{on_ok}
 use Rattle.jx_report.proofs.SequenceSteps.{first_long, parts_long, three_parts}
 use Rattle.jx_report.proofs.sequence_reader.SequenceReader.read.Goals as goal
@@ -46,7 +46,7 @@ returns g c =
     let low : i < j = c.in-Some.ensures.ordered in
     let high : j ≤ length batch = c.in-Some.ensures.within in
     record {
-      reads = on_ok c.go_on-3.result ((limit : ℕ) (text : List ℕ) → AreReadBy limit text mid → IsUnmarked e → AreReadBy limit (text ++ e) new)
+      reads = on_ok c.go_on-3.result ((limit : ℕ) (text : List ℕ) → AreReadBy limit text mid → HasNoSeparator e → AreReadBy limit (text ++ e) new)
           ((text : List ℕ) → before ≡ length text → AreReadBy depth text old → AreReadBy depth (text ++ batch) new) c.go_on-3.ensures.reads
           (λ reads text here h.
           let first : length (text ++ a) ≡ length text + i = first_long text batch i (omega (arith, low, high)) in

@@ -2,7 +2,7 @@ use Rattle.std.proofs.Common.{◌≡◌, ◌≤◌, ◌-◌, ℕ, List, ◌++◌
 use Rattle.std.proofs.lemmas.List.{length-drop}
 use Rattle.jx_run.specs.declared.settings.Front.TheVariants.{Skip}
 use Rattle.jx_run.specs.Front.{front_of}
-use Rattle.jx_report.specs.Batches.{IsTaken}
+use Rattle.jx_report.specs.inside.Batches.{IsTaken}
 use Rattle.jx_report.proofs.BatchSteps.{length_front}
 use Rattle.jx_report.proofs.FrontSteps.{front_alone, first_is}
 use Rattle.jx_report.proofs.text_check.TextCheck.begin.Goals as goal

@@ -1,6 +1,6 @@
 use Rattle.std.proofs.Common.{◌≡◌, [], ◌∷◌, sym, subst, ap, ◌∙◌}
 use Rattle.std.specs.List.{AllZip}
-use Rattle.jx_run.specs.Elements.{after_marks, elements, filled}
+use Rattle.jx_run.specs.Elements.{after_separators, elements, filled}
 use Rattle.jx_run.specs.ElementsRun.{ElementsRunValue, AreMarked, IsSummaryOf}
 use Rattle.jx_run.specs.ElementVerdict.{IsJudgedElement}
 use Rattle.jx_run.specs.OutcomeRun.{place_of}
@@ -16,11 +16,11 @@ returns c = record {
       let limit = before.outcomes.limit in
       let k : IsSummaryOf bytes before marked = subst (λ (v : ElementsRunValue). IsSummaryOf bytes v.before v.marked) (sym c.self.view_is) h in
       let starts : before.outcomes.start ≡ 0 = ap (λ (v : ElementsRunValue). v.before.outcomes.start) c.self.view_is ∙ c.requires.whole in
-      let rest : AllZip (IsJudgedElement limit) (filled (after_marks before.outcomes.start bytes)) c.match-marked.elements.items =
+      let rest : AllZip (IsJudgedElement limit) (filled (after_separators before.outcomes.start bytes)) c.match-marked.elements.items =
       elim c.match-marked.branch [
         | in-None w ↦ rw (w.elements-is, w.new-elements.ensures.items, unmarked_rest bytes before marked w.in-None.is k) tt
         | in-Some+in_ok-elements-in-Some w ↦ rw (w.elements-is)
-            (w.in_ok-elements-in-Some.ensures limit (after_marks before.outcomes.start bytes) (marked_rest bytes before marked w.in-Some.marked w.in-Some.is k))
+            (w.in_ok-elements-in-Some.ensures limit (after_separators before.outcomes.start bytes) (marked_rest bytes before marked w.in-Some.marked w.in-Some.is k))
       ] in
       let all : AllZip (IsJudgedElement limit) (elements 0 bytes) c.if-span.elements.items =
       elim c.if-span.branch [

@@ -1,7 +1,7 @@
 use Rattle.std.proofs.Common.{◌≡◌, ◌+◌, ◌-◌, [], ◌∷◌, ◌++◌, length, All, ap, sym, subst, ◌∙◌, arith}
 use Rattle.std.specs.Prelude.{slice_get}
 use Rattle.std.proofs.lemmas.List.{length-append}
-use Rattle.jx_run.specs.Joins.{AreMade, IsAbove}
+use Rattle.jx_run.specs.inside.Joins.{AreMade, IsAbove}
 use Rattle.jx_run.specs.OutcomeRun.{IsWithin}
 use Rattle.jx_run.proofs.Reducing.{all_push, push_above}
 use Rattle.jx_run.proofs.RunJoin.{push_made}

@@ -1,6 +1,6 @@
 use Rattle.std.proofs.Common.{◌+◌, take, sym, subst, arith}
 use Rattle.jx_lex.specs.Ordinal.{all_states}
-use Rattle.jx_run.specs.Joins.{AreJoinedWays}
+use Rattle.jx_run.specs.inside.Joins.{AreJoinedWays}
 use Rattle.jx_run.proofs.RunJoin.{joined_next}
 use Rattle.jx_run.proofs.outcome_run.OutcomeRun.all_onward.Goals as goal
 

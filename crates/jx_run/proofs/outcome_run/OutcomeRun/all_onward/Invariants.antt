@@ -1,6 +1,6 @@
 use Rattle.std.proofs.Common.{◌≤◌, length, take, All}
 use Rattle.jx_lex.specs.Ordinal.{all_states}
-use Rattle.jx_run.specs.Joins.{AreJoinedWays, AreMade}
+use Rattle.jx_run.specs.inside.Joins.{AreJoinedWays, AreMade}
 use Rattle.jx_run.specs.OutcomeRun.{IsWithin}
 use Rattle.jx_run.proofs.outcome_run.OutcomeRun.all_onward.Given as goal
 

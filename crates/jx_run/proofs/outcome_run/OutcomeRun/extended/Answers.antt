@@ -1,6 +1,6 @@
 use Rattle.std.proofs.Common.{ap, sym, subst, ◌∙◌, arith}
 use Rattle.jx_reduce.specs.Reductions.{IsBefore, SpansIn}
-use Rattle.jx_run.specs.Joins.{GoesOnWith, IsOnward}
+use Rattle.jx_run.specs.inside.Joins.{GoesOnWith, IsOnward}
 use Rattle.jx_run.specs.OutcomeRun.{OutcomeRunValue, IsWithin}
 use Rattle.jx_run.proofs.RunJoin.{joined_within, made_of, right_within, stays_within}
 use Rattle.jx_run.proofs.Ways.{one_of}

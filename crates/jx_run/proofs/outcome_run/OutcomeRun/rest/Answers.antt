@@ -3,7 +3,7 @@ use Rattle.std.specs.Prelude.{slice_range}
 use Rattle.std.proofs.lemmas.List.Edits.{length-between}
 use Rattle.jx_lex.specs.declared.state.LexState.{LexState}
 use Rattle.jx_run.specs.OutcomeRun.{OutcomeRunValue}
-use Rattle.jx_run.specs.Rest.{AreReadWays, IsRestOf}
+use Rattle.jx_run.specs.inside.Rest.{AreReadWays, IsRestOf}
 use Rattle.jx_run.proofs.RestWays.{ways_of_rest}
 use Rattle.jx_run.proofs.outcome_run.OutcomeRun.rest.Goals as goal
 

@@ -1,7 +1,7 @@
 use Rattle.std.proofs.Common.{◌≡◌, ◌≤◌, length, flat_map, ap, sym, subst, ◌∙◌}
 use Rattle.jx_lex.specs.Lex.{Track}
 use Rattle.jx_lex.specs.View.{marks_at, view_track}
-use Rattle.jx_run.specs.Reduced.{path_at}
+use Rattle.jx_run.specs.inside.Reduced.{path_at}
 use Rattle.jx_run.proofs.reduce.Paths.number_of.Goals as goal
 
 pub add-requires-clause-path : goal.add-requires-clause-path

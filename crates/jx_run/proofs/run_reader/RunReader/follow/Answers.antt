@@ -5,7 +5,7 @@ use Rattle.jx_lex.specs.declared.span.Span.{Span}
 use Rattle.jx_reduce.specs.declared.holder.Holder.{Holder}
 use Rattle.jx_run.specs.Reader.{ReaderValue, HasRead, is_fault}
 use Rattle.jx_run.specs.Reading.{went}
-use Rattle.jx_run.specs.RunReaderInside.{reader_of, outcome_on}
+use Rattle.jx_run.specs.inside.RunReaderInside.{reader_of, outcome_on}
 use Rattle.jx_run.proofs.RunReaderSteps.{followed, passed}
 use Rattle.jx_run.proofs.run_reader.RunReader.follow.Goals as goal
 

@@ -1,7 +1,7 @@
 use Rattle.std.proofs.Common.{◌≡◌, ◌+◌, ◌++◌, length, sym, ap, subst, ◌∙◌, arith, true}
 use Rattle.std.proofs.lemmas.List.{length-append}
 use Rattle.jx_run.specs.Reader.{ReaderValue, HasRead, is_fault}
-use Rattle.jx_run.specs.RunReaderInside.{reader_of, outcome_on}
+use Rattle.jx_run.specs.inside.RunReaderInside.{reader_of, outcome_on}
 use Rattle.jx_run.proofs.RunReaderSteps.{passed}
 use Rattle.jx_run.proofs.run_reader.RunReader.pass.Goals as goal
 

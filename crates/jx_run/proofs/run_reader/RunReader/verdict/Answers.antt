@@ -2,7 +2,7 @@ use Rattle.std.proofs.Common.{◌≡◌, ℕ, length, refl, sym, ap, ◌∙◌, 
 use Rattle.jx_lex.specs.declared.exit.Exit.TheVariants as exit
 use Rattle.jx_reduce.specs.declared.whole.Whole.TheVariants as whole
 use Rattle.jx_run.specs.Reader.{ReaderValue}
-use Rattle.jx_run.specs.RunReaderInside.{outcome_on}
+use Rattle.jx_run.specs.inside.RunReaderInside.{outcome_on}
 use Rattle.jx_run.specs.Whole.{verdict_from}
 use Rattle.jx_run.proofs.RunReaderSteps.{judged_going, judged_stopped, judged_too_deep}
 use Rattle.jx_run.proofs.run_reader.RunReader.verdict.Goals as goal

@@ -6,7 +6,7 @@ use Rattle.jx_run.specs.Front.{front_of}
 use Rattle.jx_run.specs.SequenceRead.{AreRead}
 use Rattle.jx_report.specs.declared.sequence_check.SequenceCheck.{SequenceCheck}
 use Rattle.jx_report.specs.declared.sequence_reader.SequenceReader.{SequenceReader}
-use Rattle.jx_report.specs.Batches.{seen}
+use Rattle.jx_report.specs.inside.Batches.{seen}
 use Rattle.jx_report.specs.Ends.{ReadsToEnd}
 
 -- the reader has read the elements of these bytes

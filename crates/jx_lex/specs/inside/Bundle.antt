@@ -8,7 +8,7 @@ use Rattle.jx_lex.specs.Moves.{move}
 use Rattle.jx_lex.specs.Lex.{lex}
 use Rattle.jx_lex.specs.Ordinal.{ordinal, all_states}
 use Rattle.jx_lex.specs.Follow.{Part, follow, head, IsIn, AreIn, linked, linked_parts}
-use Rattle.jx_lex.specs.Step.{link_of, read_part, opening}
+use Rattle.jx_lex.specs.inside.Step.{link_of, read_part, opening}
 use Rattle.jx_lex.specs.Map.{stored, ArePlaced}
 use Rattle.jx_lex.specs.Shared.{has, after, shared_from, AllHeld}
 

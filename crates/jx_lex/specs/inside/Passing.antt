@@ -3,7 +3,7 @@ use Rattle.std.specs.Prelude.{ℕ, suc, List, [], ◌∷◌}
 use Rattle.jx_lex.specs.declared.link.Link.{Link}
 use Rattle.jx_lex.specs.declared.link.Link.TheVariants.{Ahead, State, Fault}
 use Rattle.jx_lex.specs.Follow.{Part}
-use Rattle.jx_lex.specs.Step.{read_part}
+use Rattle.jx_lex.specs.inside.Step.{read_part}
 use Rattle.jx_lex.specs.Runs.{AllKeep, Leads}
 
 -- a segment after these bytes

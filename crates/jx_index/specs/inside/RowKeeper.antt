@@ -2,9 +2,9 @@
 use Rattle.std.specs.Prelude.{◌≡◌, ℕ, List, ◌∷◌, ◌++◌, Option, None, Some, true}
 use Rattle.jx_lex.specs.declared.mark.Mark.{Mark}
 use Rattle.jx_index.specs.declared.row_keeper.RowKeeper.{RowKeeper}
-use Rattle.jx_index.specs.Building.{Building, nothing_built, is_token, make}
-use Rattle.jx_index.specs.Built.{built, Fits}
-use Rattle.jx_index.specs.Low.{AllLow}
+use Rattle.jx_index.specs.inside.Building.{Building, nothing_built, is_token, make}
+use Rattle.jx_index.specs.inside.Built.{built, Fits}
+use Rattle.jx_index.specs.inside.Low.{AllLow}
 
 -- the marks that have no rows yet, of which the first may have begun a token
 abbrev pub waiting : Option Mark → List Mark → List Mark

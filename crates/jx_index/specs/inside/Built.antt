@@ -5,7 +5,7 @@ use Rattle.jx_lex.specs.declared.span.Span.{Span}
 use Rattle.jx_index.specs.declared.row.Row.{Row}
 use Rattle.jx_index.specs.declared.builder.Opened.{Opened}
 use Rattle.jx_index.specs.declared.builder.Builder.{Builder}
-use Rattle.jx_index.specs.Building.{Building, next_row}
+use Rattle.jx_index.specs.inside.Building.{Building, next_row}
 
 abbrev pub built : Builder → Building
 built b = record { rows = b.rows.items; after = b.after.items; opened = reverse b.opened.items; name = b.name }

@@ -2,9 +2,9 @@ use Rattle.std.proofs.Common.{◌≡◌, ℕ, ◌+◌, ◌-◌, ◌<◌, List, l
 use Rattle.std.specs.Prelude.{IfNone}
 use Rattle.std.proofs.lemmas.List.{take_all, length-drop}
 use Rattle.jx_run.specs.Elements.{is_mark}
-use Rattle.jx_run.specs.SequenceRead.{IsUnmarked}
+use Rattle.jx_run.specs.SequenceRead.{HasNoSeparator}
 use Rattle.jx_run.proofs.SequenceSteps.{no_mark, starts_there, ends_there, unmarked_front, unmarked_rest_of}
-use Rattle.jx_run.proofs.marks.marked_part.Goals as goal
+use Rattle.jx_run.proofs.separators.separated_part.Goals as goal
 
 if_none : {X : Type 0} (o : Option X) (P : Type 0) → P → IfNone o P
 if_none None P h = h
@@ -25,7 +25,7 @@ returns-clause-before c =
     let first = c.in_ok-first.ensures in
     let high : c.in_ok-first.first < length c.args.bytes.now = first.0.high in
     let same : c.in_ok-first.first ≡ c.in_ok-first.first - 0 = omega arith in
-    subst (λ (n : ℕ). IsUnmarked (take n c.args.bytes.now)) same
+    subst (λ (n : ℕ). HasNoSeparator (take n c.args.bytes.now)) same
     (unmarked_front c.args.bytes.now c.in_ok-first.first (omega (arith, high)) (λ j low m. first.0.before j (omega arith) low m))
 
 pub returns-clause-starts : goal.returns-clause-starts
@@ -48,5 +48,5 @@ returns-clause-behind c =
     let high : c.in_ok-last.last < length c.args.bytes.now = last.0.high in
     let rest = drop (c.in_ok-last.last + 1) c.args.bytes.now in
     let long : length rest ≡ length c.args.bytes.now - (c.in_ok-last.last + 1) = length-drop (c.in_ok-last.last + 1) c.args.bytes.now in
-    subst (λ (xs : List ℕ). IsUnmarked xs) (sym (take_all (length c.args.bytes.now - (c.in_ok-last.last + 1)) rest (omega (arith, long))))
+    subst (λ (xs : List ℕ). HasNoSeparator xs) (sym (take_all (length c.args.bytes.now - (c.in_ok-last.last + 1)) rest (omega (arith, long))))
     (unmarked_rest_of c.args.bytes.now (c.in_ok-last.last + 1) (omega (arith, high)) (λ j low within m. last.0.after j low within m))

@@ -3,7 +3,7 @@ use Rattle.std.specs.Prelude.{slice_range, IfNone}
 use Rattle.std.proofs.lemmas.List.Edits.{length-between}
 use Rattle.jx_run.specs.Elements.{parts}
 use Rattle.jx_run.proofs.SeqReading.{none-after, first-before, first-after, slice-take, slice-drop}
-use Rattle.jx_run.proofs.marks.next_mark.Goals as goal
+use Rattle.jx_run.proofs.separators.next_separator.Goals as goal
 
 if_none : {X : Type 0} (o : Option X) (P : Type 0) → P → IfNone o P
 if_none None P h = h

@@ -1,0 +1,8 @@
+-- What the contracts of this crate's own functions cite, and no public one.
+pub mod ArrayDigits
+pub mod Building
+pub mod Built
+pub mod LookUp
+pub mod Low
+pub mod RowKeeper
+pub mod UnitsLeft

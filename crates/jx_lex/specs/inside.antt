@@ -1,0 +1,8 @@
+-- What the contracts of this crate's own functions cite, and no public one.
+pub mod Ahead
+pub mod Bundle
+pub mod Cells
+pub mod Closed
+pub mod Passing
+pub mod Pruned
+pub mod Step

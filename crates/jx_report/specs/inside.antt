@@ -1,0 +1,5 @@
+-- What the contracts of this crate's own functions cite, and no public one.
+pub mod Batches
+pub mod Replies
+pub mod Room
+pub mod Sequences

@@ -1,0 +1,8 @@
+-- What the contracts of this crate's own functions cite, and no public one.
+pub mod Beside
+pub mod Joins
+pub mod Moved
+pub mod Reduced
+pub mod Rest
+pub mod RunReaderInside
+pub mod Turns
