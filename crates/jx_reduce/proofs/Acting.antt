@@ -45,7 +45,7 @@ pub act_halts : (d : ℕ) (l : Form) (hs : List Holder) (p : ℕ) → ((k : List
 act_halts d l hs p h = rw (h (at_end l.exit), length-reverse)
 
 -- where a list reaches the end, not all holders have faulted
-not_all : (l : Form) (s t : List Holder) → ((k : List Holder → Plain) → leading l k s ≡ k t) → all_faulted l.last ≡ true → ⊥
+pub not_all : (l : Form) (s t : List Holder) → ((k : List Holder → Plain) → leading l k s ≡ k t) → all_faulted l.last ≡ true → ⊥
 not_all l s t h e =
     let same : leading l (λ _. beyond) s ≡ leading l (λ _. halt 0) s = along_same l.ended s _ _ (λ u _. faulted_same l.last (top u) beyond (halt 0) e) in
     let a : leading l (λ _. beyond) s ≡ beyond = h (λ _. beyond) in

@@ -19,3 +19,4 @@ pub mod Cuts
 mod KnownWords
 mod KnownMoves
 mod Windows
+mod Shifts

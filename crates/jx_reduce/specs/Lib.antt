@@ -13,6 +13,7 @@ pub mod Reductions
 pub mod Parts
 pub mod Outcome
 pub mod Whole
+pub mod Shift
 pub mod Bits
 pub mod KnownStack
 pub mod inside

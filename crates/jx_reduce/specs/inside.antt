@@ -3,4 +3,5 @@ pub mod Follow
 pub mod KnownInside
 pub mod OpenContainers
 pub mod Quiet
+pub mod Shifted
 pub mod View

@@ -2,6 +2,7 @@ ghost use Rattle.std.specs.Prelude.{◌≡◌};
 ghost use Rattle.jx_reduce.specs.Form.{fault_of};
 ghost use Rattle.jx_reduce.specs.Join.{all_faulted, merged, filled, closed, first_of};
 ghost use Rattle.jx_reduce.specs.inside.Quiet.{unfaulted};
+ghost use Rattle.jx_reduce.specs.inside.Shifted.{shifted_level, shifted_fault};
 
 use crate::ended_level::EndedLevel;
 use crate::holder::Holder;
@@ -82,6 +83,27 @@ impl Level {
             object: first(self.object, end.object),
             bottom: self.bottom.unwrap_or(end.bottom),
         }
+    }
+
+    /// The same faults so many bytes further on.
+    pub(crate) fn shifted(self, by: usize) -> Level
+        ensures { result ≡ shifted_level by self }
+    {
+        Level {
+            array: shifted(self.array, by),
+            object: shifted(self.object, by),
+            bottom: shifted(self.bottom, by),
+        }
+    }
+}
+
+/// The same fault, if there is one, so many bytes further on.
+pub(crate) fn shifted(fault: Option<usize>, by: usize) -> Option<usize>
+    ensures { result ≡ shifted_fault by fault }
+{
+    match fault {
+        Some(at) => Some(by.saturating_add(at)),
+        None => None,
     }
 }
 

@@ -1,11 +1,12 @@
 // Levels that are not known to begin in any container.
 
-ghost use Rattle.std.specs.Prelude.{◌≡◌, ◌≤◌, ◌<◌, ◌+◌, ◌^◌, OnOk, IfOk, IsOk, length, reverse, take, vec_len, vec_capacity};
+ghost use Rattle.std.specs.Prelude.{◌≡◌, ◌≤◌, ◌<◌, ◌+◌, ◌^◌, OnOk, IfOk, IsOk, length, map, reverse, take, vec_len, vec_capacity};
 ghost use Rattle.jx_reduce.specs.Join.{halted, joined, joined_heights};
 ghost use Rattle.jx_reduce.specs.Marks.{pushed, of_change, of_marks, of_nothing};
 ghost use Rattle.jx_reduce.specs.Table.{same, added, removed};
 ghost use Rattle.jx_reduce.specs.Fits.{Fits};
 ghost use Rattle.jx_reduce.specs.inside.Quiet.{GoesOn};
+ghost use Rattle.jx_reduce.specs.inside.Shifted.{shifted_end, shifted_form, shifted_offset};
 ghost use Rattle.jx_reduce.specs.Levels.{form_of, part_form, head_of, taken_in, ended_in, IsSameBut, HasRoom};
 
 use crate::ended_level::EndedLevel;
@@ -33,7 +34,40 @@ fn innermost(opens: &[Holder]) -> Option<Holder>
     opens.last().copied()
 }
 
+/// The same levels so many bytes further on.
+fn shifted_ends(mut ended: Vec<EndedLevel>, by: usize) -> Vec<EndedLevel>
+    ensures { result.items ≡ map (shifted_end by) ended.items }
+{
+    for at in 0..ended.len() {
+        ended[at] = ended[at].shifted(by);
+    }
+    ended
+}
+
+/// The same offsets so many bytes further on.
+fn shifted_heights(mut heights: Vec<usize>, by: usize) -> Vec<usize>
+    ensures { result.items ≡ map (shifted_offset by) heights.items }
+{
+    for at in 0..heights.len() {
+        heights[at] = by.saturating_add(heights[at]);
+    }
+    heights
+}
+
 impl Levels {
+    /// The form of the same marks so many bytes further on.
+    pub fn shifted(self, by: usize) -> Levels
+        ensures { form_of result ≡ shifted_form by (form_of self) }
+    {
+        Levels {
+            ended: shifted_ends(self.ended, by),
+            last: self.last.shifted(by),
+            opens: self.opens,
+            exit: self.exit,
+            heights: shifted_heights(self.heights, by),
+        }
+    }
+
     /// No holder of the last level goes on.
     fn halt(&mut self, faults: Level)
         ensures { form_of self.new ≡ halted (form_of self.old) faults }

@@ -8,6 +8,7 @@ ghost use Rattle.jx_reduce.specs.Fits.{Fits};
 ghost use Rattle.jx_reduce.specs.Levels.{form_of, HasRoomOf};
 ghost use Rattle.jx_reduce.specs.Outcome.{reading_of};
 ghost use Rattle.jx_reduce.specs.inside.Quiet.{GoesOn};
+ghost use Rattle.jx_reduce.specs.inside.Shifted.{shifted_form};
 ghost use Rattle.jx_reduce.specs.Whole.{whole_of};
 
 use crate::act::top_of;
@@ -258,5 +259,17 @@ impl Reduced {
                 heights,
             },
         })
+    }
+
+    /// The form of the same marks so many bytes further on.
+    pub(crate) fn shifted(self, by: usize) -> Reduced
+        ensures depth { depth_of result ≡ depth_of self }
+        ensures form { form_in result ≡ shifted_form by (form_in self) }
+    {
+        let Reduced { depth, levels } = self;
+        Reduced {
+            depth,
+            levels: levels.shifted(by),
+        }
     }
 }

@@ -1,12 +1,15 @@
 // The structure of a list of marks, from each expectation.
 
-ghost use Rattle.std.specs.Prelude.{◌≡◌, ◌≤◌, ◌<◌, ◌++◌, ℕ, List, [], length, take, OnOk, OnErr, IfOk, IfErr, IfSome};
+ghost use Rattle.std.specs.Prelude.{◌≡◌, ◌≤◌, ◌<◌, ◌++◌, ◌+◌, ◌-◌, ◌^◌, ℕ, List, [], length, take, OnOk, OnErr, IfOk, IfErr, IfSome};
 ghost use Rattle.jx_reduce.specs.Offsets.{RisingFrom, EachIn};
 ghost use Rattle.jx_reduce.specs.Fits.{IsOfSize};
 ghost use Rattle.jx_reduce.specs.Reduced.{depth_of, form_in};
-ghost use Rattle.jx_reduce.specs.Reductions.{form_at, entry_of, IsJoin, IsBefore, IsOf, SpansIn};
+ghost use Rattle.jx_reduce.specs.Reductions.{answer, form_at, entry_of, IsJoin, IsBefore, IsOf, SpansIn};
 ghost use Rattle.jx_reduce.specs.inside.Follow.{followed, IsReady};
 ghost use Rattle.jx_reduce.specs.Parts.{EndsWith, AreParts};
+ghost use Rattle.jx_reduce.specs.Shift.{shifted};
+ghost use Rattle.jx_reduce.specs.declared.expect.Expect.{Expect};
+ghost use Rattle.jx_reduce.specs.declared.holder.Holder.{Holder};
 ghost use Rattle.jx_lex.specs.declared.mark.Mark.{Mark};
 
 use crate::entry::Entry;
@@ -251,6 +254,26 @@ impl Reductions {
         match left.extend(&right) {
             Ok(()) => Ok(left),
             Err(AllocError) => Err(JoinFault { left, right }),
+        }
+    }
+
+    /// The structure of the same marks so many bytes further on. It takes no memory.
+    pub fn shifted(self, by: usize) -> Reductions
+        requires fits { SpansIn 0 (2 ^ 64 - by) self }
+        ensures depth { result.depth ≡ self.depth }
+        ensures answers { (expect : Expect) (holders : List Holder) → length holders ≤ self.depth → answer result expect holders ≡ shifted by (answer self expect holders) }
+        ensures offsets { (low high : ℕ) → SpansIn low high self → SpansIn (by + low) (by + high) result }
+    {
+        Reductions {
+            depth: self.depth,
+            value: self.value.shifted(by),
+            array_first: self.array_first.shifted(by),
+            object_first: self.object_first.shifted(by),
+            name: self.name.shifted(by),
+            colon: self.colon.shifted(by),
+            after: self.after.shifted(by),
+            value_or_name: self.value_or_name.shifted(by),
+            after_or_colon: self.after_or_colon.shifted(by),
         }
     }
 }
