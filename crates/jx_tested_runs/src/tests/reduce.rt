@@ -4,6 +4,7 @@ ghost use Rattle.jx_reduce.specs.Reductions.{SpansIn};
 
 mod known;
 mod reducers;
+mod shifts;
 
 use jx_lex::{Depth, JoinFault, Mark, MarkKind};
 use jx_reduce::{Expect, Holder, KnownStack, Level, Outcome, Reductions, Whole, next};
