@@ -6,6 +6,7 @@ pub mod ElementSteps
 pub mod ElementsJoins
 pub mod Endings
 pub mod FromGrammar
+pub mod FaultPlaces
 pub mod Fronts
 pub mod Fused
 pub mod LawProofs
