@@ -25,6 +25,7 @@ pub mod RunReaderSteps
 pub mod SeqJoins
 pub mod SeqReading
 pub mod SequenceSteps
+pub mod Shifts
 pub mod Spans
 pub mod StateOrder
 pub mod TextRuns

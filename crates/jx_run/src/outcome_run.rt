@@ -1,15 +1,16 @@
 // Runs over parts of a JSON text that keep no marks.
-ghost use Rattle.std.specs.Prelude.{◌≡◌, ◌<◌, ◌≤◌, ℕ, List, [], ◌++◌, length, Some, slice_get, slice_range, IfOk, IfErr};
+ghost use Rattle.std.specs.Prelude.{◌≡◌, ◌<◌, ◌≤◌, ◌+◌, ◌-◌, ◌^◌, ℕ, All, List, [], ◌++◌, length, Some, slice_get, slice_range, IfOk, IfErr};
 ghost use Rattle.jx_lex.specs.Map.{IsOf};
 ghost use Rattle.jx_lex.specs.Ordinal.{ordinal};
 ghost use Rattle.jx_lex.specs.View.{exit_of};
 ghost use Rattle.jx_reduce.specs.Fits.{IsOfSize};
 ghost use Rattle.jx_reduce.specs.Reduced.{answer_of, depth_of, form_in};
-ghost use Rattle.jx_reduce.specs.Reductions.{answer, entry_of, form_at};
+ghost use Rattle.jx_reduce.specs.Reductions.{answer, entry_of, form_at, SpansIn};
 ghost use Rattle.jx_reduce.specs.Whole.{whole_of};
 ghost use Rattle.jx_reduce.specs.declared.expect.Expect.TheVariants.{Value};
 ghost use Rattle.jx_reduce.specs.declared.holder.Holder.{Holder};
 ghost use Rattle.jx_run.specs.inside.Joins.{AreJoined, GoesThrough, IsMade, IsThere};
+ghost use Rattle.jx_run.specs.inside.Moved.{AreMoved};
 ghost use Rattle.jx_run.specs.OutcomeRun.{entries_at, exit_at, place_of, Entries, IsOutcomeRun, IsWithin};
 ghost use Rattle.jx_run.specs.Reading.{at_exit, read};
 ghost use Rattle.jx_run.specs.inside.Rest.{IsRestOf};
@@ -22,11 +23,12 @@ use crate::reduce::all_ways;
 use crate::rest::rest_ways;
 use crate::summary::Summary;
 use crate::verdict::{Refusal, Verdict};
-use crate::way::Way;
+use crate::way::{Way, ways_shifted};
 use jx_lex::{ChunkMap, Depth, Exit, JoinFault, LexState, Span};
 use jx_reduce::{Expect, Reduced, Reductions, Whole, offsets_lie_in_spans};
 use std::alloc::{AllocError, Global};
 use std::marker::Model;
+use std::mem;
 
 /// What reading part of a text comes to from each of the 32 lexical states and each of the six expectations, for every list
 /// of open containers that is no longer than the depth, without its marks. It keeps at most 32 structures, whose size the
@@ -90,6 +92,22 @@ fn verdict_of(exit: Exit, structure: &Reductions) -> Verdict
     ensures { result ≡ verdict_from exit (whole_of (answer structure.now Value [])) }
 {
     verdict_from(exit, structure.entry(Expect::Value).whole())
+}
+
+/// The structures of the same marks so many bytes further on. It takes no memory.
+fn structures_shifted(by: usize, depth: Depth, mut structures: Vec<Reductions>) -> Vec<Reductions>
+    requires fits { All (SpansIn 0 (2 ^ 64 - by)) structures.items }
+    ensures long { length result.items ≡ length structures.items }
+    ensures moved { AreMoved by structures.items result.items }
+{
+    let alloc = *structures.allocator();
+    for at in 0..structures.len() {
+        // Stands in the place of the structure while that is moved.
+        let empty = Reductions::new(alloc, depth);
+        let structure = mem::replace(&mut structures[at], empty);
+        structures[at] = structure.shifted(by);
+    }
+    structures
 }
 
 impl OutcomeRun {
@@ -206,6 +224,26 @@ impl OutcomeRun {
     /// Where its memory comes from.
     pub(crate) fn allocator(&self) -> Global {
         *self.ways.allocator()
+    }
+
+    /// The same run with its bytes standing so much further on. It takes no memory.
+    pub fn shifted(self, by: usize) -> OutcomeRun
+        requires fits { self.end + by < 2 ^ 64 }
+        ensures start { result.start ≡ by + self.start }
+        ensures end { result.end ≡ by + self.end }
+        ensures limit { result.limit ≡ self.limit }
+        ensures of { (bytes : List ℕ) → IsOutcomeRun bytes self → IsOutcomeRun bytes result }
+    {
+        offsets_lie_in_spans();
+        OutcomeRun {
+            depth: self.depth,
+            span: Span {
+                start: by + self.span.start,
+                end: by + self.span.end,
+            },
+            ways: ways_shifted(by, self.ways),
+            structures: structures_shifted(by, self.depth, self.structures),
+        }
     }
 
     /// The way from this state, whose number is that of one of the structures.

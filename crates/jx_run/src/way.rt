@@ -1,3 +1,7 @@
+// Where reading part of a text comes to from the lexical states.
+ghost use Rattle.std.specs.Prelude.{◌≡◌, map};
+ghost use Rattle.jx_run.specs.inside.Moved.{moved_way};
+
 use jx_lex::Exit;
 
 /// What reading comes to from one lexical state: where it ends, and the number of the structure that its marks have.
@@ -5,4 +9,30 @@ use jx_lex::Exit;
 pub struct Way {
     pub(crate) exit: Exit,
     pub(crate) structure: usize,
+}
+
+impl Way {
+    /// The same way over bytes that stand so much further on.
+    fn shifted(self, by: usize) -> Way
+        ensures { result ≡ moved_way by self }
+    {
+        let exit = match self.exit {
+            Exit::State(last) => Exit::State(last),
+            Exit::Fault(at) => Exit::Fault(by.saturating_add(at)),
+        };
+        Way {
+            exit,
+            structure: self.structure,
+        }
+    }
+}
+
+/// The same ways over bytes that stand so much further on.
+pub(crate) fn ways_shifted(by: usize, mut ways: Vec<Way>) -> Vec<Way>
+    ensures { result.items ≡ map (moved_way by) ways.items }
+{
+    for at in 0..ways.len() {
+        ways[at] = ways[at].shifted(by);
+    }
+    ways
 }

@@ -1,5 +1,12 @@
--- An element of a text sequence whose bytes stand further on.
-use Rattle.std.specs.Prelude.{ℕ}
+-- Elements of a text sequence, and the parts of a run, whose bytes stand further on.
+use Rattle.std.specs.Prelude.{◌≡◌, ℕ, ◌+◌, ◌≤◌, List, length, Some, slice_get}
+use Rattle.jx_lex.specs.declared.exit.Exit.{Exit}
+use Rattle.jx_lex.specs.declared.exit.Exit.TheVariants as exit
+use Rattle.jx_reduce.specs.declared.expect.Expect.{Expect}
+use Rattle.jx_reduce.specs.declared.holder.Holder.{Holder}
+use Rattle.jx_reduce.specs.Reductions.{Forms, answer, SpansIn}
+use Rattle.jx_reduce.specs.Shift.{shifted}
+use Rattle.jx_run.specs.declared.way.Way.{Way}
 use Rattle.jx_run.specs.declared.element_verdict.ElementVerdict.{ElementVerdict}
 use Rattle.jx_run.specs.declared.element_verdict.ElementVerdict.TheVariants as element
 use Rattle.jx_run.specs.declared.element_verdict.JudgedElement.{JudgedElement}
@@ -24,3 +31,26 @@ moved_verdict by element.Unmarked = element.Unmarked
 
 abbrev pub moved : ℕ → JudgedElement → JudgedElement
 moved by e = record { span = span (offset_at by e.span.start) (offset_at by e.span.end); verdict = moved_verdict by e.verdict }
+
+abbrev pub moved_exit : ℕ → Exit → Exit
+moved_exit by (exit.State s) = exit.State s
+moved_exit by (exit.Fault at) = exit.Fault (offset_at by at)
+
+abbrev pub moved_way : ℕ → Way → Way
+moved_way by w = record { exit = moved_exit by w.exit; structure = w.structure }
+
+-- the structure of the same marks so many bytes further on
+pub record IsMoved (by : ℕ) (old new : Forms) : Type 0 where
+  pub depth : new.depth ≡ old.depth
+  pub answers : (expect : Expect) (holders : List Holder) → length holders ≤ old.depth → answer new expect holders ≡ shifted by (answer old expect holders)
+  pub offsets : (low high : ℕ) → SpansIn low high old → SpansIn (by + low) (by + high) new
+
+-- it stands in this place
+pub record IsMovedAt (by : ℕ) (news : List Forms) (at : ℕ) (old : Forms) : Type 0 where
+  pub form : Forms
+  pub there : slice_get news at ≡ Some form
+  pub moved : IsMoved by old form
+
+-- each structure is moved, and stands where it stood
+abbrev pub AreMoved : ℕ → List Forms → List Forms → Type 0
+AreMoved by olds news = (at : ℕ) (old : Forms) → slice_get olds at ≡ Some old → IsMovedAt by news at old
