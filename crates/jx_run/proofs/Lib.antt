@@ -2,6 +2,7 @@ pub mod Across
 pub mod Bytes
 pub mod Completion
 pub mod ElementPlaces
+pub mod ElementShifts
 pub mod ElementSteps
 pub mod ElementsJoins
 pub mod Endings

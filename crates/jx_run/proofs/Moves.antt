@@ -12,7 +12,7 @@ use Rattle.jx_run.specs.declared.verdict.Refusal.{Refusal}
 use Rattle.jx_run.specs.declared.verdict.Refusal.TheVariants as refusal
 use Rattle.jx_run.specs.declared.verdict.Verdict.{Verdict}
 use Rattle.jx_run.specs.declared.verdict.Verdict.TheVariants.{Accepted, Refused}
-use Rattle.jx_run.specs.Elements.{Part, part, span_of, is_mark, before_separator, after_separators, filled, has_bytes, elements}
+use Rattle.jx_run.specs.Elements.{Part, part, is_mark, before_separator, after_separators, filled, has_bytes, elements}
 use Rattle.jx_run.specs.ElementVerdict.{IsClosedText, IsUnclosedText, IsVerdictOn, IsJudgedElement}
 use Rattle.jx_run.specs.Laws.{is_end, verdict_of}
 use Rattle.jx_run.specs.inside.Moved.{moved, moved_refusal, moved_verdict}
@@ -20,7 +20,6 @@ use Rattle.jx_run.specs.Reading.{Outcome, went, stopped, too_deep, read, read_te
 use Rattle.jx_run.specs.ReaderInside.{offset_at, shifted}
 use Rattle.jx_run.specs.Text.{IsDocument}
 use Rattle.jx_run.specs.Tree.{Tree, span}
-use Rattle.jx_run.specs.Unclosed.{EndsUnclosed, end_of, ends_open}
 use Rattle.jx_run.specs.Verdict as by
 use Rattle.jx_run.specs.Verdict.{Judged, a_text, cut_short}
 use Rattle.jx_run.proofs.LawProofs.{Verdicts}
@@ -30,7 +29,7 @@ use Rattle.jx_run.proofs.VerdictLaws.{one_verdict}
 
 -- ---- readings and verdicts
 
-shifted-twice : (a b : ℕ) (r : Outcome) → shifted (a + b) r ≡ shifted a (shifted b r)
+pub shifted-twice : (a b : ℕ) (r : Outcome) → shifted (a + b) r ≡ shifted a (shifted b r)
 shifted-twice a b (went s e o) = refl
 shifted-twice a b (stopped at) = ap (λ (k : ℕ). stopped k) (let e : a + b + at ≡ a + (b + at) = omega arith in e)
 shifted-twice a b (too_deep at) = ap (λ (k : ℕ). too_deep k) (let e : a + b + at ≡ a + (b + at) = omega arith in e)
@@ -121,7 +120,7 @@ verdict_moved law limit more p (element.Refused r) marked low h = (
 verdict_moved law limit more p element.MayBeCut marked low h = (omega (arith, marked), unclosed_moved law limit more p h.1)
 verdict_moved law limit more p element.Accepted marked low h = (omega (arith, marked), closed_moved law limit more p h.1)
 
-element_moved : Verdicts → (limit more : ℕ) (p : Part) (e : JudgedElement) → 0 < p.at → more + (p.at + length p.bytes) < 2 ^ 64 → IsJudgedElement limit p e
+pub element_moved : Verdicts → (limit more : ℕ) (p : Part) (e : JudgedElement) → 0 < p.at → more + (p.at + length p.bytes) < 2 ^ 64 → IsJudgedElement limit p e
     → IsJudgedElement limit (moved_part more p) (moved more e)
 element_moved law limit more p e marked low h =
     let start : e.span.start ≡ p.at = ap (λ (s : Span). s.start) h.span_is in
@@ -134,7 +133,7 @@ element_moved law limit more p e marked low h =
 
 -- ---- the elements behind marks
 
-before-short : (xs : List ℕ) → length (before_separator xs) ≤ length xs
+pub before-short : (xs : List ℕ) → length (before_separator xs) ≤ length xs
 before-short [] = omega arith
 before-short (b ∷ xs) = pick (is_mark b) (before-short xs)
   where

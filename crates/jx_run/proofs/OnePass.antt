@@ -1,5 +1,5 @@
 -- A known stack, and another keeper beside it, over the whole of a text.
-use Rattle.std.proofs.Common.{◌≡◌, ℕ, List, [], ◌∷◌, ◌++◌, refl, sym, ◌∙◌, ap, subst, Option, Some, None, append_assoc}
+use Rattle.std.proofs.Common.{◌≡◌, ℕ, List, [], ◌∷◌, ◌++◌, refl, sym, ◌∙◌, ap, subst, Option, Some, None}
 use Rattle.std.specs.Prelude.{IfSome, unwrap_or}
 use Rattle.std.proofs.lemmas.List.Sums.{fold-append}
 use Rattle.jx_lex.specs.declared.exit.Exit.{Exit}
@@ -15,12 +15,10 @@ use Rattle.jx_reduce.specs.KnownStack.{Known, IsFault, HasRead as StackHasRead, 
 use Rattle.jx_reduce.specs.Read.{Reading, step, read as read_marks}
 use Rattle.jx_reduce.specs.Whole.{whole_of}
 use Rattle.jx_run.specs.inside.Beside.{BothHaveSeen}
-use Rattle.jx_run.specs.Kept.{HasSeen}
 use Rattle.jx_run.specs.Laws.{verdict_of}
 use Rattle.jx_run.specs.Reading.{at_exit, read, read_text}
 use Rattle.jx_run.specs.Verdict.{Judged}
 use Rattle.jx_run.specs.Whole.{verdict_from}
-use Rattle.jx_run.specs.declared.verdict.Verdict.{Verdict}
 use Rattle.jx_run.specs.declared.verdict.Verdict.TheVariants as verdict
 use Rattle.jx_run.proofs.LawProofs.{Verdicts}
 use Rattle.jx_lex.specs.declared.mark.MarkKind.TheVariants as kind

@@ -1,16 +1,16 @@
 -- The last byte of a text shows whether its end shows only in what follows.
-use Rattle.std.proofs.Common.{◌≡◌, ◌≢◌, ◌⊎◌, inl, inr, ℕ, suc, ◌+◌, ◌<◌, ◌≤◌, List, [], ◌∷◌, ◌++◌, length, Bool, true, false, cond, refl, sym, ap, subst, ◌∙◌, append-nil, arith}
+use Rattle.std.proofs.Common.{◌≡◌, ℕ, ◌+◌, ◌<◌, List, [], ◌∷◌, ◌++◌, length, Bool, true, false, refl, sym, ap, subst, ◌∙◌, append-nil, arith}
 use Rattle.std.proofs.lemmas.Bool.Decides.{nat_tests}
 use Rattle.jx_lex.specs.declared.kind.Kind.{Kind}
 use Rattle.jx_lex.specs.declared.kind.Kind.TheVariants.{Object, Array, String, Number, True, False, Null}
 use Rattle.jx_lex.specs.Character.{IsWithin}
 use Rattle.jx_lex.specs.Token.{IsBlank, space, tab, line_feed, carriage_return, IsDigit, Digits, no_digits, digit, IsInt, zero_alone, leading, IsFrac, no_frac, frac, IsExp, no_exp, exp, IsNumber, number, IsString, quoted, IsToken}
 use Rattle.jx_run.specs.Elements.{Part}
-use Rattle.jx_run.specs.Grammar.{Blanks, no_blanks, blank, Scalar, Value, leaf, empty_array, array, empty_object, object}
+use Rattle.jx_run.specs.Grammar.{Blanks, no_blanks, blank, Value, leaf, empty_array, array, empty_object, object}
 use Rattle.jx_run.specs.Text.{Document, document, IsDocument}
 use Rattle.jx_run.specs.Tree.{Tree, node, Children, no_children, span}
 use Rattle.jx_run.specs.Unclosed.{is_unclosed, EndsUnclosed, end_of, is_open, last_open, ends_open}
-use Rattle.jx_run.proofs.Spans.{IsPart, next_part, blanks_part, value_part, items_part, members_part}
+use Rattle.jx_run.proofs.Spans.{next_part, blanks_part, value_part, items_part, members_part}
 
 -- ---- lists
 

@@ -1,5 +1,5 @@
 -- The reading of a text goes on, run by run.
-use Rattle.std.proofs.Common.{◌≡◌, ℕ, ◌+◌, ◌^◌, ◌<◌, ◌≤◌, List, [], ◌++◌, length, refl, sym, ◌∙◌, ap, subst, arith, Option, Some, None, Bool, true, false}
+use Rattle.std.proofs.Common.{◌≡◌, ℕ, ◌+◌, ◌^◌, ◌<◌, ◌≤◌, List, ◌++◌, length, refl, sym, ◌∙◌, ap, subst, arith, Option, Some, true}
 use Rattle.std.specs.Prelude.{reverse}
 use Rattle.std.proofs.lemmas.List.{length-append, length-reverse}
 use Rattle.jx_lex.specs.declared.exit.Exit.{Exit}
@@ -16,8 +16,8 @@ use Rattle.jx_reduce.specs.Read.{Reading}
 use Rattle.jx_run.specs.Laws.{verdict_of}
 use Rattle.jx_run.specs.Reading.{Outcome, went, stopped, too_deep, at_exit, and_then, read, read_text}
 use Rattle.jx_run.specs.Reader.{ReaderValue, HasRead, is_fault}
-use Rattle.jx_run.specs.ReaderInside.{offset_at, shifted, IsLow}
-use Rattle.jx_run.specs.inside.RunReaderInside.{outcome_on, IsWithin, arrived, LeadsTo}
+use Rattle.jx_run.specs.ReaderInside.{offset_at, shifted}
+use Rattle.jx_run.specs.inside.RunReaderInside.{outcome_on, arrived, LeadsTo}
 use Rattle.jx_run.specs.Verdict.{Judged}
 use Rattle.jx_run.specs.Whole.{verdict_from}
 use Rattle.jx_run.specs.declared.run_reader.Course.{Course}

@@ -17,9 +17,10 @@ use Rattle.jx_reduce.specs.Shift as marks
 use Rattle.jx_run.specs.declared.way.Way.{Way}
 use Rattle.jx_run.specs.inside.Moved.{moved_exit, moved_way, AreMoved, IsMoved, IsMovedAt}
 use Rattle.jx_run.specs.OutcomeRun.{OutcomeRunValue, outcome_in, outcome, IsOutcomeRun, IsWhole, IsWithin}
-use Rattle.jx_run.specs.Reading.{Outcome, went, stopped, too_deep, at_exit, read}
+use Rattle.jx_run.specs.Reading.{stopped, at_exit, read}
 use Rattle.jx_run.specs.ReaderInside.{offset_at, shifted}
 use Rattle.jx_run.proofs.FaultPlaces.{Below, read-below}
+use Rattle.jx_run.proofs.Moves.{shifted-twice}
 use Rattle.jx_run.proofs.ReaderSteps.{read-shift}
 use Rattle.jx_run.proofs.StateOrder.{ordinal-low}
 use Rattle.jx_run.proofs.Ways.{all_at, entries_are, one_of, some_of}
@@ -40,15 +41,10 @@ put_apart (y ∷ xs) (suc n) (suc k) x apart = put_apart xs n k x (λ e. apart (
 
 -- ---- readings
 
-twice : (a b : ℕ) (r : Outcome) → shifted (a + b) r ≡ shifted a (shifted b r)
-twice a b (went s e o) = refl
-twice a b (stopped at) = ap (λ (k : ℕ). stopped k) (let e : a + b + at ≡ a + (b + at) = omega arith in e)
-twice a b (too_deep at) = ap (λ (k : ℕ). too_deep k) (let e : a + b + at ≡ a + (b + at) = omega arith in e)
-
 read-moved : (limit by at : ℕ) (s : LexState) (e : Expect) (o : List Holder) (bytes : List ℕ) → read limit s e o (by + at) bytes ≡ shifted by (read limit s e o at bytes)
 read-moved limit by at s e o bytes =
     read-shift limit (by + at) s e o bytes
-    ∙ twice by at (read limit s e o 0 bytes)
+    ∙ shifted-twice by at (read limit s e o 0 bytes)
     ∙ ap (shifted by) (sym (read-shift limit at s e o bytes))
 
 fits : (by at end : ℕ) → at < end → end + by < 2 ^ 64 → offset_at by at ≡ by + at

@@ -67,6 +67,29 @@ impl ElementsRun {
         let elements = self.into_elements()?;
         Ok(all_moved(by, elements))
     }
+
+    /// The same run, whose bytes stand so much further on. It takes no memory.
+    pub fn shifted(self, by: usize) -> ElementsRun
+        requires of { (bytes : List ℕ) × IsElementsRun bytes self }
+        requires fits { (place_of_elements self).end + by < 2 ^ 64 }
+        ensures start { (place_of_elements result).start ≡ by + (place_of_elements self).start }
+        ensures end { (place_of_elements result).end ≡ by + (place_of_elements self).end }
+        ensures limit { result.before.outcomes.limit ≡ self.before.outcomes.limit }
+        ensures of { (bytes : List ℕ) → IsElementsRun bytes self → IsElementsRun bytes result }
+    {
+        reader_is_grammar();
+        let before = self.before.shifted(by);
+        match self.marked {
+            None => ElementsRun {
+                before,
+                marked: None,
+            },
+            Some(marked) => ElementsRun {
+                before,
+                marked: Some(marked.shifted(by)),
+            },
+        }
+    }
 }
 
 /// Puts behind the elements of the left that of its last bytes with the first ones of the right, unless these are none, and

@@ -1,11 +1,12 @@
 // What stands behind the first record separator of a part of a JSON text sequence, of which verdicts alone are kept.
-ghost use Rattle.std.specs.Prelude.{◌≡◌, ◌≤◌, ◌<◌, ℕ, List, length, slice_range, IfOk};
+ghost use Rattle.std.specs.Prelude.{◌≡◌, ◌≤◌, ◌<◌, ◌+◌, ◌^◌, ℕ, List, length, map, slice_range, IfOk};
 ghost use Rattle.std.specs.List.{AllZip};
 ghost use Rattle.jx_run.specs.Elements.{Part, filled, part, parts};
-ghost use Rattle.jx_run.specs.ElementsRun.{AreMarked};
+ghost use Rattle.jx_run.specs.ElementsRun.{AreMarked, IsPartRun};
+ghost use Rattle.jx_run.specs.inside.Moved.{moved};
 ghost use Rattle.jx_run.specs.ElementVerdict.{IsJudgedElement};
 
-use crate::element_verdict::JudgedElement;
+use crate::element_verdict::{JudgedElement, all_moved};
 use crate::open_end::{ends_open, told};
 use crate::part_run::PartRun;
 use crate::reader::Reader;
@@ -94,5 +95,20 @@ impl MarkedElements {
             elements.push(after.judged())?;
         }
         Ok(elements)
+    }
+
+    /// The same elements, and the same run behind them, so much further on. It takes no memory.
+    pub(crate) fn shifted(self, by: usize) -> MarkedElements
+        requires fits { self.after.outcomes.end + by < 2 ^ 64 }
+        ensures done { result.done ≡ map (moved by) self.done }
+        ensures start { result.after.outcomes.start ≡ by + self.after.outcomes.start }
+        ensures end { result.after.outcomes.end ≡ by + self.after.outcomes.end }
+        ensures limit { result.after.outcomes.limit ≡ self.after.outcomes.limit }
+        ensures after { (bytes : List ℕ) → IsPartRun bytes self.after → IsPartRun bytes result.after }
+    {
+        MarkedElements {
+            done: all_moved(by, self.done),
+            after: self.after.shifted(by),
+        }
     }
 }

@@ -1,5 +1,5 @@
 // Runs over parts of the elements of a JSON text sequence.
-ghost use Rattle.std.specs.Prelude.{◌≡◌, ◌≤◌, ◌<◌, ℕ, List, ◌++◌, length, slice_range, IfOk, IfErr};
+ghost use Rattle.std.specs.Prelude.{◌≡◌, ◌≤◌, ◌<◌, ◌+◌, ◌^◌, ℕ, List, ◌++◌, length, slice_range, IfOk, IfErr};
 ghost use Rattle.jx_run.specs.Elements.{part};
 ghost use Rattle.jx_run.specs.ElementsRun.{IsPartRun};
 ghost use Rattle.jx_run.specs.ElementVerdict.{IsJudgedElement};
@@ -96,6 +96,20 @@ impl PartRun {
         match self.outcomes.joined(&right.outcomes) {
             Ok(outcomes) => Ok(PartRun { outcomes, loose }),
             Err(AllocError) => Err(JoinFault { left: self, right }),
+        }
+    }
+
+    /// The same part, whose bytes stand so much further on. It takes no memory.
+    pub(crate) fn shifted(self, by: usize) -> PartRun
+        requires fits { self.outcomes.end + by < 2 ^ 64 }
+        ensures start { result.outcomes.start ≡ by + self.outcomes.start }
+        ensures end { result.outcomes.end ≡ by + self.outcomes.end }
+        ensures limit { result.outcomes.limit ≡ self.outcomes.limit }
+        ensures of { (bytes : List ℕ) → IsPartRun bytes self → IsPartRun bytes result }
+    {
+        PartRun {
+            outcomes: self.outcomes.shifted(by),
+            loose: self.loose,
         }
     }
 

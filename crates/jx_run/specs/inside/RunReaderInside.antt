@@ -1,5 +1,5 @@
 -- The reading in a reader of runs.
-use Rattle.std.specs.Prelude.{◌≡◌, ℕ, ◌+◌, ◌^◌, ◌<◌, ◌≤◌, List, length, reverse, Option, Some, None}
+use Rattle.std.specs.Prelude.{◌≡◌, ℕ, ◌+◌, ◌^◌, ◌<◌, ◌≤◌, length, reverse, Option, Some, None}
 use Rattle.jx_lex.specs.declared.exit.Exit.{Exit}
 use Rattle.jx_lex.specs.declared.exit.Exit.TheVariants as exit
 use Rattle.jx_reduce.specs.declared.outcome.Outcome as declared_outcome

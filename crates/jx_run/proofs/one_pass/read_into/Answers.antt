@@ -1,8 +1,6 @@
-use Rattle.std.proofs.Common.{◌≡◌, List, ℕ, subst, sym, ap, ◌∙◌, refl}
-use Rattle.std.specs.Prelude.{is_some, slice_range, unwrap_or}
+use Rattle.std.proofs.Common.{subst, sym, ap, ◌∙◌}
+use Rattle.std.specs.Prelude.{is_some, slice_range}
 use Rattle.jx_lex.specs.declared.exit.Exit.{Exit}
-use Rattle.jx_lex.specs.declared.exit.Exit.TheVariants as exit
-use Rattle.jx_lex.specs.declared.state.LexState.TheVariants as state
 use Rattle.jx_run.specs.Verdict.{Judged}
 use Rattle.jx_run.specs.Whole.{verdict_from}
 use Rattle.jx_run.proofs.OnePass.{Scanned, both_judged, other_seen}

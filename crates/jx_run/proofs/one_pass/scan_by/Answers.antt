@@ -1,4 +1,4 @@
-use Rattle.std.proofs.Common.{◌≡◌, ℕ, arith, refl, sym, subst, ap, ◌∙◌, Option, Some}
+use Rattle.std.proofs.Common.{◌≡◌, ℕ, arith, sym, subst, ap, ◌∙◌, Option}
 use Rattle.std.specs.Prelude.{slice_range, IfSome, is_some}
 use Rattle.jx_lex.specs.declared.exit.Exit.{Exit}
 use Rattle.jx_lex.specs.declared.state.LexState.TheVariants.{Gap}

@@ -1,9 +1,8 @@
-use Rattle.std.proofs.Common.{◌≤◌, ℕ, List, length, sym, ◌∙◌, ap, subst}
+use Rattle.std.proofs.Common.{◌≤◌, ℕ, length, sym, ◌∙◌, ap, subst}
 use Rattle.std.specs.Prelude.{reverse}
 use Rattle.std.proofs.lemmas.List.{length-reverse}
 use Rattle.jx_lex.specs.Lex as lexical
 use Rattle.jx_reduce.specs.Outcome.{reading_of}
-use Rattle.jx_reduce.specs.Read.{Reading}
 use Rattle.jx_run.specs.OutcomeRun.{exit_at}
 use Rattle.jx_run.specs.Reading.{at_exit, read}
 use Rattle.jx_run.proofs.RunJoin.{read-within}

@@ -1,8 +1,5 @@
-use Rattle.std.proofs.Common.{◌∙◌, sym, subst, ap}
-use Rattle.std.specs.List.{AllZip}
-use Rattle.jx_run.specs.Elements.{filled}
+use Rattle.std.proofs.Common.{sym, subst}
 use Rattle.jx_run.specs.ElementsRun.{AreMarked, MarkedElementsValue}
-use Rattle.jx_run.specs.ElementVerdict.{IsJudgedElement}
 use Rattle.jx_run.proofs.ElementSteps.{last_judged, last_empty}
 use Rattle.jx_run.proofs.marked_elements.MarkedElements.into_elements.Goals.{then-span+in_ok-push, else-span}
 use Rattle.jx_run.proofs.marked_elements.MarkedElements.into_elements.Goals as goal

@@ -1,4 +1,4 @@
-use Rattle.std.proofs.Common.{sym, subst, ap, ◌∙◌}
+use Rattle.std.proofs.Common.{sym, subst}
 use Rattle.jx_run.specs.ElementsRun.{IsPartRun, PartRunValue}
 use Rattle.jx_run.proofs.ElementSteps.{loose_left, loose_right}
 use Rattle.jx_run.proofs.part_run.PartRun.loose_with.Goals as goal

@@ -1,11 +1,9 @@
-use Rattle.std.proofs.Common.{◌≡◌, ◌-◌, ◌<◌, [], ◌∷◌, length, flat_map, All, Some, ap, sym, subst, ◌∙◌, arith}
+use Rattle.std.proofs.Common.{◌≡◌, ◌-◌, ◌<◌, [], ◌∷◌, length, All, Some, ap, sym, subst, ◌∙◌, arith}
 use Rattle.std.proofs.lemmas.List.{length-append, length-set, with_items_is}
-use Rattle.jx_lex.specs.Lex.{Track}
 use Rattle.jx_lex.specs.Map.{track}
-use Rattle.jx_lex.specs.View.{marks_at, view_track}
 use Rattle.jx_run.specs.inside.Joins.{IsAbove}
 use Rattle.jx_run.specs.OutcomeRun.{IsWithin}
-use Rattle.jx_run.specs.inside.Reduced.{AreReduced, IsAt, path_at}
+use Rattle.jx_run.specs.inside.Reduced.{AreReduced, IsAt}
 use Rattle.jx_run.proofs.Reducing.{all_push, push_above, pushed_at, reduced_within, set_numbered}
 use Rattle.jx_run.proofs.reduce.Paths.add.Goals as goal
 

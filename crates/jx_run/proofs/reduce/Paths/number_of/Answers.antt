@@ -1,4 +1,4 @@
-use Rattle.std.proofs.Common.{◌≡◌, ◌≤◌, length, flat_map, ap, sym, subst, ◌∙◌}
+use Rattle.std.proofs.Common.{◌≡◌, flat_map, ap, subst, ◌∙◌}
 use Rattle.jx_lex.specs.Lex.{Track}
 use Rattle.jx_lex.specs.View.{marks_at, view_track}
 use Rattle.jx_run.specs.inside.Reduced.{path_at}
