@@ -8,6 +8,7 @@ mod fronts;
 mod readers;
 mod rests;
 mod sequences;
+mod shifts;
 
 use jx_lex::{Depth, Exit, LexState};
 use jx_reduce::{Expect, Holder, Outcome, Reduced};
