@@ -1,6 +1,6 @@
 -- The ways that are made of a chunk map, and their structures.
 use Rattle.std.proofs.Common.{◌≡◌, ◌≢◌, ℕ, zero, suc, ◌+◌, ◌<◌, ◌≤◌, List, [], ◌∷◌, ◌++◌, length, get_or, take, Option, Some, None, Bool, true, false, Result, Ok, Err, set, flat_map, append_assoc, refl, sym, ap, subst, ◌∙◌, inl, inr, ◌⊎◌, arith, All}
-use Rattle.std.specs.Prelude.{◌==◌, slice_get, IfSome, IsSomeAnd, OnOk}
+use Rattle.std.specs.Prelude.{◌==◌, slice_get, IfOk, IfSome, IsSomeAnd, OnOk}
 use Rattle.std.proofs.lemmas.Bool.Decides.{Decides-eqb, nat_tests, not_from_Decides}
 use Rattle.std.proofs.lemmas.List.{get_or_append_left, get_or_default, get_or-set_same, get_or-set_other, length-append, length-set}
 use Rattle.std.proofs.Math.Seq.{take-suc}
@@ -155,6 +155,11 @@ reduced_more limit xs ys f g j a b deep reads spans =
       offsets = λ low high h. let r = each-append _ xs ys h in spans low high (a.offsets low high r.0) (b.offsets low high r.1);
     }
 
+pub reduced_ok : {E : Type 0} (limit : ℕ) (ms : List Mark) (r : Result Forms E) → IfOk r (λ f. f.depth ≡ limit) → IfOk r (λ f. IsOf ms f)
+    → IfOk r (λ f. (low high : ℕ) → EachIn (λ (m : Mark). (low ≤ m.at) × (m.at < high)) ms → SpansIn low high f) → IfOk r (IsReduced limit ms)
+reduced_ok limit ms (Ok f) deep reads offsets = record { depth = deep; reads = reads; offsets = offsets }
+reduced_ok limit ms (Err e) deep reads offsets = tt
+
 -- ---- the structures of segments
 
 pub none_reduced : (limit : ℕ) (ps : List Part) (parts : List (Option Forms)) → All (λ part. part ≡ None) parts → AreReduced limit ps parts
@@ -258,6 +263,10 @@ path-first ps (Ahead k) n rest h = pick (begins 0 ps k)
 
 pub path-none : (ps : List Part) (link : Link) → path_from 0 ps link ≡ [] → path_at ps (length ps) ≡ path_from 0 ps link
 path-none ps link h = none-behind 0 ps ∙ sym h
+
+-- the path of none has the marks of a track that has no marks
+pub path-bare : (ps : List Part) (count : ℕ) (marks : List Mark) → count ≡ length ps → marks ≡ [] → flat_map (marks_at ps) (path_at ps count) ≡ marks
+path-bare ps count marks all bare = ap (λ n. flat_map (marks_at ps) (path_at ps n)) all ∙ ap (flat_map (marks_at ps)) (none-behind 0 ps) ∙ sym bare
 
 pub none_numbered : (limit : ℕ) (ps : List Part) (numbers : List (Option ℕ)) (fs : List Forms) → All (λ number. number ≡ None) numbers → AreNumbered limit ps numbers fs
 none_numbered limit ps numbers fs h n i e = let none : Some i ≡ None = all_at (λ number. number ≡ None) numbers n (Some i) h e in absurd cc

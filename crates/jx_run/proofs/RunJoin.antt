@@ -4,7 +4,7 @@ use Rattle.std.specs.Prelude.{nat_lt, slice_get}
 use Rattle.std.proofs.Math.Seq.{take-suc}
 use Rattle.std.proofs.lemmas.Bool.Decides.{nat_tests}
 use Rattle.std.proofs.lemmas.List.{length-append}
-use Rattle.std.proofs.lemmas.List.Elements.{All-cons, All-nil}
+use Rattle.std.proofs.lemmas.List.Elements.{All-append, All-cons, All-nil}
 use Rattle.std.proofs.lemmas.Option.{slice_get_within}
 use Rattle.jx_lex.specs.declared.state.LexState.{LexState}
 use Rattle.jx_lex.specs.declared.mark.MarkKind.{MarkKind}
@@ -246,19 +246,75 @@ module _ (left right : OutcomeRunValue) where
   joined-at fs (t ∷ ss) (x ∷ ws) h zero s g = let e : t ≡ s = cc in subst (JoinedAt fs (x ∷ ws) 0) e (x, refl, h.0)
   joined-at fs (t ∷ ss) (x ∷ ws) h (suc i) s g = joined-at fs ss ws h.1 i s g
 
-  -- the way from the next state, by the structure of its pair
-  pub joined_next : (states : List LexState) (i : ℕ) (olds news : List Forms) (pairs : List Pair) (ws : List Way) (d : LexState) (out : declared_exit.Exit) (pair : Pair) (n : ℕ)
-      → i < 32 → states ≡ all_states → AreJoinedWays left right olds (take i all_states) ws → IsAbove olds news → AreMade left right pairs news
-      → All (IsWithin left.limit left.start right.end) news → slice_get pairs n ≡ Some pair → GoesThrough left right (get_or states i d) out pair
+  -- the way from the next state, by what is made of its pair
+  pub joined_by : (states : List LexState) (i : ℕ) (olds news : List Forms) (ws : List Way) (d : LexState) (out : declared_exit.Exit) (pair : Pair) (n : ℕ)
+      → i < 32 → states ≡ all_states → AreJoinedWays left right olds (take i all_states) ws → IsAbove olds news → IsMadeAt left right news pair n
+      → All (IsWithin left.limit left.start right.end) news → GoesThrough left right (get_or states i d) out pair
       → AreJoinedWays left right news (take (i + 1) all_states) (ws ++ record { exit = out; structure = n } ∷ [])
-  joined_next states i olds news pairs ws d out pair n low is h up made within at goes =
+  joined_by states i olds news ws d out pair n low is h up m within goes =
       let w : Way = record { exit = out; structure = n } in
-      let m = made.each n pair at in
       let in_span : IsWithin left.limit left.start right.end m.form = all_at (IsWithin left.limit left.start right.end) news n m.form within m.at in
       let it : IsJoinedWay left right news (get_or states i d) w = record { form = m.form; at = m.at; goes = λ e is. goes e m.form is in_span.depth m.made } in
       subst (λ ss. AreJoinedWays left right news ss (ws ++ w ∷ []))
       (ap (λ ss. take i all_states ++ get_or ss i d ∷ []) is ∙ sym (take-suc all_states i d low) ∙ ap (λ n. take n all_states) (let n : suc i ≡ i + 1 = omega arith in n))
       (each-more news (take i all_states) ws (get_or states i d) w (each-above olds news up (take i all_states) ws h) it)
+
+  -- and by the structure of its pair
+  pub joined_next : (states : List LexState) (i : ℕ) (olds news : List Forms) (pairs : List Pair) (ws : List Way) (d : LexState) (out : declared_exit.Exit) (pair : Pair) (n : ℕ)
+      → i < 32 → states ≡ all_states → AreJoinedWays left right olds (take i all_states) ws → IsAbove olds news → AreMade left right pairs news
+      → All (IsWithin left.limit left.start right.end) news → slice_get pairs n ≡ Some pair → GoesThrough left right (get_or states i d) out pair
+      → AreJoinedWays left right news (take (i + 1) all_states) (ws ++ record { exit = out; structure = n } ∷ [])
+  joined_next states i olds news pairs ws d out pair n low is h up made within at goes =
+      joined_by states i olds news ws d out pair n low is h up (made.each n pair at) within goes
+
+-- ---- structures behind those of the left
+
+front-at : (ls fs : List Forms) (n : ℕ) (f : Forms) → slice_get ls n ≡ Some f → slice_get (ls ++ fs) n ≡ Some f
+front-at [] fs n f h = let low = slice_get_within [] n f h in absurd (omega (arith, low))
+front-at (x ∷ ls) fs zero f h = h
+front-at (x ∷ ls) fs (suc n) f h = front-at ls fs n f h
+
+behind-at : (ls fs : List Forms) (n : ℕ) (f : Forms) → slice_get fs n ≡ Some f → slice_get (ls ++ fs) (length ls + n) ≡ Some f
+behind-at [] fs n f h = let e : 0 + n ≡ n = omega arith in ap (slice_get fs) e ∙ h
+behind-at (x ∷ ls) fs n f h =
+    let e : suc (length ls) + n ≡ suc (length ls + n) = omega arith in
+    ap (slice_get ((x ∷ ls) ++ fs)) e ∙ behind-at ls fs n f h
+
+-- what stands behind others stays where more is put behind it
+pub behind_above : (ls olds news : List Forms) → IsAbove olds news → IsAbove (ls ++ olds) (ls ++ news)
+behind_above [] olds news up = up
+behind_above (x ∷ ls) olds news up = above (behind_above ls olds news up)
+  where
+    above : IsAbove (ls ++ olds) (ls ++ news) → (i : ℕ) (f : Forms) → slice_get (x ∷ (ls ++ olds)) i ≡ Some f → slice_get (x ∷ (ls ++ news)) i ≡ Some f
+    above rest zero f h = h
+    above rest (suc n) f h = rest n f h
+
+-- what is made of the left alone stands among the structures of the left
+pub made_in_front : (left right : OutcomeRunValue) (fs : List Forms) (pair : Pair) → pair.right ≡ None → pair.left < length left.structures
+    → IsMadeAt left right (left.structures ++ fs) pair pair.left
+made_in_front left right fs pair alone low =
+    let a = some_of left.structures pair.left low in
+    record {
+      form = a.0;
+      at = front-at left.structures fs pair.left a.0 a.1;
+      made = λ x h. subst (λ o. IsOnward right.structures o x a.0) (sym alone) (one_of left.structures pair.left a.0 x a.1 h);
+    }
+
+pub made_behind : (left right : OutcomeRunValue) (pairs : List Pair) (fs : List Forms) (pair : Pair) (n k : ℕ) → k ≡ length left.structures → AreMade left right pairs fs
+    → slice_get pairs n ≡ Some pair → IsMadeAt left right (left.structures ++ fs) pair (k + n)
+made_behind left right pairs fs pair n k count made at =
+    let m = made.each n pair at in
+    record {
+      form = m.form;
+      at = ap (λ k. slice_get (left.structures ++ fs) (k + n)) count ∙ behind-at left.structures fs n m.form m.at;
+      made = m.made;
+    }
+
+pub all_within : Wider → (left right : OutcomeRunValue) (fs : List Forms) → IsWhole left → left.end ≡ right.start → right.start ≤ right.end
+    → All (IsWithin left.limit left.start right.end) fs → All (IsWithin left.limit left.start right.end) (left.structures ++ fs)
+all_within wider left right fs whole mid order within =
+    All-append (IsWithin left.limit left.start right.end) left.structures fs
+    (λ k d low. stays_within wider left.limit left.start left.end right.end (get_or left.structures k d) (whole.within k d low) (omega (arith, mid, order))) within
 
 -- ---- runs
 

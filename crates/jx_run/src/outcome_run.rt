@@ -1,7 +1,7 @@
 // Runs over parts of a JSON text that keep no marks.
-ghost use Rattle.std.specs.Prelude.{◌≡◌, ◌<◌, ◌≤◌, ◌+◌, ◌-◌, ◌^◌, ℕ, All, List, [], ◌++◌, length, Some, slice_get, slice_range, IfOk, IfErr};
+ghost use Rattle.std.specs.Prelude.{◌≡◌, ◌<◌, ◌≤◌, ◌+◌, ◌-◌, ◌^◌, ℕ, All, List, [], ◌++◌, length, Some, slice_get, slice_range, IfOk, IfErr, OnOk, OnErr};
 ghost use Rattle.jx_lex.specs.Map.{IsOf};
-ghost use Rattle.jx_lex.specs.Ordinal.{ordinal};
+ghost use Rattle.jx_lex.specs.Ordinal.{all_states, ordinal};
 ghost use Rattle.jx_lex.specs.View.{exit_of};
 ghost use Rattle.jx_reduce.specs.Fits.{IsOfSize};
 ghost use Rattle.jx_reduce.specs.Reduced.{answer_of, depth_of, form_in};
@@ -9,7 +9,7 @@ ghost use Rattle.jx_reduce.specs.Reductions.{answer, entry_of, form_at, SpansIn}
 ghost use Rattle.jx_reduce.specs.Whole.{whole_of};
 ghost use Rattle.jx_reduce.specs.declared.expect.Expect.TheVariants.{Value};
 ghost use Rattle.jx_reduce.specs.declared.holder.Holder.{Holder};
-ghost use Rattle.jx_run.specs.inside.Joins.{AreJoined, GoesThrough, IsMade, IsThere};
+ghost use Rattle.jx_run.specs.inside.Joins.{AreJoined, AreJoinedWays, AreMade, GoesThrough, IsAbove, IsMade, IsMadeAt, IsThere};
 ghost use Rattle.jx_run.specs.inside.Moved.{AreMoved};
 ghost use Rattle.jx_run.specs.OutcomeRun.{entries_at, exit_at, place_of, Entries, IsOutcomeRun, IsWithin};
 ghost use Rattle.jx_run.specs.Reading.{at_exit, read};
@@ -29,6 +29,9 @@ use jx_reduce::{Expect, Reduced, Reductions, Whole, offsets_lie_in_spans};
 use std::alloc::{AllocError, Global};
 use std::marker::Model;
 use std::mem;
+
+/// So many structures has a run at most.
+const MOST: usize = 32;
 
 /// What reading part of a text comes to from each of the 32 lexical states and each of the six expectations, for every list
 /// of open containers that is no longer than the depth, without its marks. It keeps at most 32 structures, whose size the
@@ -108,6 +111,15 @@ fn structures_shifted(by: usize, depth: Depth, mut structures: Vec<Reductions>) 
         structures[at] = structure.shifted(by);
     }
     structures
+}
+
+/// Puts structures behind others. Where memory is refused the others stay as they were.
+fn put_behind(structures: &mut Vec<Reductions>, more: Vec<Reductions>) -> Result<(), AllocError>
+    ensures ok { OnOk result (structures.new.items ≡ structures.old.items ++ more.items) }
+    ensures err { OnErr result (structures.new.items ≡ structures.old.items) }
+{
+    let mut more = more;
+    structures.append(&mut more)
 }
 
 impl OutcomeRun {
@@ -337,6 +349,122 @@ impl OutcomeRun {
         })
     }
 
+    /// The run over the joined bytes. The structures of this run stay where they are, and those that go on are put behind
+    /// them: so what ended on the left costs nothing. Where they would be too many, each is made anew. Where memory is
+    /// refused this run is handed back as it was.
+    pub(crate) fn joined_onto(self, right: &OutcomeRun) -> Result<OutcomeRun, OutcomeRun>
+        requires neighbours { self.end ≡ right.now.start }
+        requires depth { self.limit ≡ right.now.limit }
+        ensures start { IfOk result (λ j. j.start ≡ self.start) }
+        ensures end { IfOk result (λ j. j.end ≡ right.now.end) }
+        ensures limit { IfOk result (λ j. j.limit ≡ self.limit) }
+        ensures of { IfOk result (λ j. (xs ys : List ℕ) → IsOutcomeRun xs self → IsOutcomeRun ys right.now → IsOutcomeRun (xs ++ ys) j) }
+        ensures rest { IfOk result (λ j. (xs ys : List ℕ) → IsOutcomeRun xs self → IsRestOf self ys right.now → IsOutcomeRun (xs ++ ys) j) }
+        ensures err { IfErr result (λ left. left ≡ self) }
+    {
+        let (ways, more) = match self.further(right) {
+            Ok(further) => further,
+            Err(AllocError) => return Err(self),
+        };
+        if self.count() + more.len() <= MOST {
+            return self.added(right, ways, more);
+        }
+        match self.joined(right) {
+            Ok(joined) => Ok(joined),
+            Err(AllocError) => Err(self),
+        }
+    }
+
+    /// The run over the joined bytes, that has these ways, and these structures behind its own.
+    fn added(
+        self,
+        right: &OutcomeRun,
+        ways: Vec<Way>,
+        more: Vec<Reductions>,
+    ) -> Result<OutcomeRun, OutcomeRun>
+        requires neighbours { self.end ≡ right.now.start }
+        requires depth { self.limit ≡ right.now.limit }
+        requires joined { AreJoined self right.now ways.items (self.structures ++ more.items) }
+        ensures start { IfOk result (λ j. j.start ≡ self.start) }
+        ensures end { IfOk result (λ j. j.end ≡ right.now.end) }
+        ensures limit { IfOk result (λ j. j.limit ≡ self.limit) }
+        ensures of { IfOk result (λ j. (xs ys : List ℕ) → IsOutcomeRun xs self → IsOutcomeRun ys right.now → IsOutcomeRun (xs ++ ys) j) }
+        ensures rest { IfOk result (λ j. (xs ys : List ℕ) → IsOutcomeRun xs self → IsRestOf self ys right.now → IsOutcomeRun (xs ++ ys) j) }
+        ensures err { IfErr result (λ left. left ≡ self) }
+    {
+        let end = right.span.end;
+        let mut left = self;
+        match put_behind(&mut left.structures, more) {
+            Ok(()) => {
+                left.ways = ways;
+                left.span.end = end;
+                Ok(left)
+            }
+            Err(AllocError) => Err(left),
+        }
+    }
+
+    /// The ways of the joined bytes, where the structures of this run keep their numbers, and those behind them.
+    fn further(&self, right: &OutcomeRun) -> Result<(Vec<Way>, Vec<Reductions>), AllocError>
+        requires neighbours { self.now.end ≡ right.now.start }
+        requires depth { self.now.limit ≡ right.now.limit }
+        ensures few { IfOk result (λ j. length j.1.items ≤ 32) }
+        ensures within { IfOk result (λ j. All (IsWithin self.now.limit self.now.start right.now.end) (self.now.structures ++ j.1.items)) }
+        ensures each { IfOk result (λ j. AreJoinedWays self.now right.now (self.now.structures ++ j.1.items) all_states j.0.items) }
+    {
+        // Shows the proof what both runs keep.
+        let _ = &self.depth;
+        let _ = &right.depth;
+        offsets_lie_in_spans();
+        let states = LexState::all();
+        let mut joins = Joins::new(self.allocator());
+        let mut ways = Vec::with_capacity(self.allocator(), states.len())?;
+        for place in 0..states.len() {
+            let state = states[place];
+            let (exit, pair) = self.onward(state, right);
+            let structure = self.place_of_pair(right, &mut joins, pair)?;
+            ways.push(Way { exit, structure })?;
+        }
+        Ok((ways, joins.structures))
+    }
+
+    /// How many structures there are.
+    fn count(&self) -> usize
+        ensures count { result ≡ length self.now.structures }
+        ensures few { result ≤ 32 }
+    {
+        self.structures.len()
+    }
+
+    /// The number of the structure of a pair, among those of this run and of the joins behind them. That of the left alone
+    /// is there; another is made unless it was before.
+    fn place_of_pair(
+        &self,
+        right: &OutcomeRun,
+        joins: &mut Joins,
+        pair: Pair,
+    ) -> Result<usize, AllocError>
+        requires there { IsThere self.now right.now pair }
+        requires neighbours { self.now.end ≡ right.now.start }
+        requires depth { self.now.limit ≡ right.now.limit }
+        requires made { AreMade self.now right.now joins.old.pairs.items joins.old.structures.items }
+        requires within { All (IsWithin self.now.limit self.now.start right.now.end) joins.old.structures.items }
+        requires few { length joins.old.structures.items ≤ 32 }
+        ensures made { OnOk result (AreMade self.now right.now joins.new.pairs.items joins.new.structures.items) }
+        ensures within { OnOk result (All (IsWithin self.now.limit self.now.start right.now.end) joins.new.structures.items) }
+        ensures few { OnOk result (length joins.new.structures.items ≤ length joins.old.structures.items + 1) }
+        ensures above { OnOk result (IsAbove joins.old.structures.items joins.new.structures.items) }
+        ensures place { IfOk result (IsMadeAt self.now right.now (self.now.structures ++ joins.new.structures.items) pair) }
+    {
+        match pair.right {
+            None => Ok(pair.left),
+            Some(_) => {
+                let number = joins.number_of(self, right, pair)?;
+                Ok(self.count() + number)
+            }
+        }
+    }
+
     /// The ways of the joined bytes, and their structures.
     fn all_onward(&self, right: &OutcomeRun) -> Result<(Vec<Way>, Vec<Reductions>), AllocError>
         requires neighbours { self.now.end ≡ right.now.start }
@@ -378,9 +506,9 @@ impl Summary for OutcomeRun {
     }
 
     fn join(self, right: Self) -> Result<Self, JoinFault<Self>> {
-        match self.joined(&right) {
+        match self.joined_onto(&right) {
             Ok(joined) => Ok(joined),
-            Err(AllocError) => Err(JoinFault { left: self, right }),
+            Err(left) => Err(JoinFault { left, right }),
         }
     }
 

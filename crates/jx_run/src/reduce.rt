@@ -1,5 +1,5 @@
 // The ways of a chunk map and their structures. The marks of each segment are reduced once, and those of each path.
-ghost use Rattle.std.specs.Prelude.{◌≡◌, ◌<◌, ◌≤◌, ◌+◌, ◌++◌, List, All, None, length, flat_map, IfOk, IfSome, IsSomeAnd, OnOk};
+ghost use Rattle.std.specs.Prelude.{◌≡◌, ◌<◌, ◌≤◌, ◌+◌, ◌++◌, [], ◌∷◌, List, All, None, Some, length, flat_map, IfOk, IfSome, IsSomeAnd, IsTrue, OnOk};
 ghost use Rattle.jx_lex.specs.Map.{track};
 ghost use Rattle.jx_lex.specs.Ordinal.{all_states};
 ghost use Rattle.jx_lex.specs.View.{marks_at, view_track};
@@ -7,10 +7,10 @@ ghost use Rattle.jx_lex.specs.declared.mark.Mark.{Mark};
 ghost use Rattle.jx_reduce.specs.Offsets.{EachIn, RisingFrom};
 ghost use Rattle.jx_run.specs.inside.Joins.{IsAbove};
 ghost use Rattle.jx_run.specs.OutcomeRun.{IsWithin};
-ghost use Rattle.jx_run.specs.inside.Reduced.{path_at, AreInside, ArePaths, AreReduced, AreRising, AreWaysOf, IsAt, IsReduced};
+ghost use Rattle.jx_run.specs.inside.Reduced.{path_at, AreInside, ArePaths, AreReduced, AreRising, AreWaysOf, IsAt, IsLoneIn, IsReduced};
 
 use crate::way::Way;
-use jx_lex::{ChunkMap, Depth, LexState, Path, Segment, TrackView};
+use jx_lex::{ChunkMap, Depth, LexState, Mark, Path, Segment, TrackView};
 use jx_reduce::{Reductions, offsets_lie_in_spans};
 use std::alloc::{AllocError, Global};
 
@@ -89,12 +89,22 @@ fn none<T: Drop>(alloc: Global, count: usize) -> Result<Vec<Option<T>>, AllocErr
     Ok(places)
 }
 
-/// The number with which the path of a track begins, or the count of the segments where it has none.
+/// Whether a track has no marks.
+fn is_bare(track: &TrackView<'_>) -> bool
+    ensures { IsTrue result → (view_track track.now).marks ≡ [] }
+{
+    track.marks().next().is_none()
+}
+
+/// The number with which the path of a track begins, or the count of the segments where it has none, or no marks.
 fn first_of(track: &TrackView<'_>, count: usize) -> usize
     requires { count ≡ length track.now.parts }
     ensures low { result ≤ count }
     ensures marks { flat_map (marks_at track.now.parts) (path_at track.now.parts result) ≡ (view_track track.now).marks }
 {
+    if is_bare(track) {
+        return count;
+    }
     let mut path = track.path();
     match path.next() {
         Some(number) => number,
@@ -102,7 +112,19 @@ fn first_of(track: &TrackView<'_>, count: usize) -> usize
     }
 }
 
-/// The structure of the marks of the track from a state.
+/// The mark of a track that has no other.
+fn lone_mark(track: &TrackView<'_>) -> Option<Mark>
+    ensures { IfSome result (λ mark. (view_track track.now).marks ≡ mark ∷ []) }
+{
+    let mut marks = track.marks();
+    let first = marks.next()?;
+    match marks.next() {
+        None => Some(first),
+        Some(_) => None,
+    }
+}
+
+/// The structure of the marks of the track from a state. That of a mark alone, or of none, is made of no segment's.
 fn structure_from(
     alloc: Global,
     map: &ChunkMap,
@@ -117,11 +139,36 @@ fn structure_from(
     ensures marks { IfOk result (IsReduced depth (track map.now state).marks) }
 {
     let track = map.entry(state);
+    if is_bare(&track) {
+        return Ok(Reductions::new(alloc, depth));
+    }
+    if let Some(mark) = lone_mark(&track) {
+        return Reductions::of(alloc, &[mark], depth);
+    }
     reduce_path(alloc, map.segments(), parts, track.path(), depth)
 }
 
+/// A mark that is all that a track has, and the number of its structure.
+#[derive(Clone, Copy)]
+struct Lone {
+    mark: Mark,
+    number: usize,
+}
+
+/// The number of the structure of this mark alone, if it is the known one.
+fn number_of_lone(known: Option<Lone>, mark: Option<Mark>) -> Option<usize>
+    ensures { IfSome result (λ number. (m : Mark) × (mark ≡ Some m) × (known ≡ Some (record { mark = m; number = number }))) }
+{
+    let known = known?;
+    if known.mark == mark? {
+        Some(known.number)
+    } else {
+        None
+    }
+}
+
 /// The structures of paths. A path is known by the segment with which it begins, so states that take one path share its
-/// structure.
+/// structure. So do those whose tracks have no marks, and those whose tracks have one mark, and the same.
 #[derive(Drop)]
 struct Paths {
     // those of the segments
@@ -129,6 +176,7 @@ struct Paths {
     // for each segment the number of the structure of the path that begins with it, and last that of the path of none
     numbers: Vec<Option<usize>>,
     structures: Vec<Reductions>,
+    lone: Option<Lone>,
 }
 
 impl Paths {
@@ -143,7 +191,9 @@ impl Paths {
         requires rising { RisingFrom 0 (track map.now state).marks }
         requires inside { EachIn (λ m. (map.now.start ≤ m.at) × (m.at < map.now.end)) (track map.now state).marks }
         requires made { ArePaths depth map.now self.old.parts.items self.old.numbers.items self.old.structures.items }
+        requires lone { IfSome self.old.lone (IsLoneIn depth self.old.structures.items) }
         ensures made { OnOk result (ArePaths depth map.now self.new.parts.items self.new.numbers.items self.new.structures.items) }
+        ensures lone { OnOk result (IfSome self.new.lone (IsLoneIn depth self.new.structures.items)) }
         ensures few { OnOk result (length self.new.structures.items ≤ length self.old.structures.items + 1) }
         ensures above { OnOk result (IsAbove self.old.structures.items self.new.structures.items) }
         ensures number { IfOk result (IsAt depth (track map.now state).marks self.new.structures.items) }
@@ -152,7 +202,15 @@ impl Paths {
         if let Some(number) = self.numbers[first] {
             return Ok(number);
         }
-        self.add(alloc, map, state, first, depth)
+        let mark = lone_mark(&map.entry(state));
+        if let Some(number) = number_of_lone(self.lone, mark) {
+            return Ok(number);
+        }
+        let number = self.add(alloc, map, state, first, depth)?;
+        if let Some(mark) = mark {
+            self.lone = Some(Lone { mark, number });
+        }
+        Ok(number)
     }
 
     /// The number of the structure of the path from a state, which is made. The path begins with this number.
@@ -172,6 +230,7 @@ impl Paths {
         requires inside { EachIn (λ m. (map.now.start ≤ m.at) × (m.at < map.now.end)) (track map.now state).marks }
         requires made { ArePaths depth map.now self.old.parts.items self.old.numbers.items self.old.structures.items }
         ensures made { OnOk result (ArePaths depth map.now self.new.parts.items self.new.numbers.items self.new.structures.items) }
+        ensures lone { self.new.lone ≡ self.old.lone }
         ensures few { OnOk result (length self.new.structures.items ≤ length self.old.structures.items + 1) }
         ensures above { OnOk result (IsAbove self.old.structures.items self.new.structures.items) }
         ensures number { IfOk result (IsAt depth (track map.now state).marks self.new.structures.items) }
@@ -201,6 +260,7 @@ pub(crate) fn all_ways(
         parts: none(alloc, count)?,
         numbers: none(alloc, count + 1)?,
         structures: Vec::new(alloc),
+        lone: None,
     };
     let states = LexState::all();
     let mut ways = Vec::with_capacity(alloc, states.len())?;

@@ -9,6 +9,7 @@ use Rattle.jx_lex.specs.Map.{Map, track}
 use Rattle.jx_lex.specs.View.{exit_of, marks_at, path_from}
 use Rattle.jx_reduce.specs.Offsets.{EachIn, RisingFrom}
 use Rattle.jx_reduce.specs.Reductions.{Forms, IsOf, SpansIn}
+use Rattle.jx_run.specs.declared.reduce.Lone.{Lone}
 use Rattle.jx_run.specs.declared.way.Way.{Way}
 use Rattle.jx_run.specs.OutcomeRun.{IsWithin}
 
@@ -27,6 +28,10 @@ pub record IsAt (limit : ℕ) (marks : List Mark) (structures : List Forms) (i :
   pub form : Forms
   pub at : slice_get structures i ≡ Some form
   pub of : IsReduced limit marks form
+
+-- what stands in this place is the structure of this mark alone
+abbrev pub IsLoneIn : ℕ → List Forms → Lone → Type 0
+IsLoneIn limit structures lone = IsAt limit (lone.mark ∷ []) structures lone.number
 
 -- the way of a track
 pub record IsWayOf (limit : ℕ) (structures : List Forms) (t : Track) (w : Way) : Type 0 where

@@ -17,6 +17,7 @@ loop-place-preserved c =
     let now = n.few in
     record {
       paths = n.made;
+      lone = n.lone;
       few = omega (arith, before, now);
       ways = subst (AreWaysOf c.args.depth m news (take (l.place + 1) all_states)) (sym c.in_ok-push.ensures.items)
           (each_next c.args.depth m c.all-states.result l.place l.paths.structures.items news l.ways.items _ w

@@ -1,11 +1,13 @@
 use Rattle.std.proofs.Common.{◌≤◌, length, take}
+use Rattle.std.specs.Prelude.{IfSome}
 use Rattle.jx_lex.specs.Ordinal.{all_states}
-use Rattle.jx_run.specs.inside.Reduced.{ArePaths, AreWaysOf}
+use Rattle.jx_run.specs.inside.Reduced.{ArePaths, AreWaysOf, IsLoneIn}
 use Rattle.jx_run.proofs.reduce.all_ways.Given as goal
 
 abbrev pub invariant-loop-place : goal.invariant-loop-place
 invariant-loop-place l = record {
   paths : ArePaths l.depth l.map l.paths.parts.items l.paths.numbers.items l.paths.structures.items;
+  lone : IfSome l.paths.lone (IsLoneIn l.depth l.paths.structures.items);
   few : length l.paths.structures.items ≤ l.place;
   ways : AreWaysOf l.depth l.map l.paths.structures.items (take l.place all_states) l.ways.items;
 }

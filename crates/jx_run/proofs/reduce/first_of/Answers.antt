@@ -1,7 +1,7 @@
 use Rattle.std.proofs.Common.{flat_map, ap, sym, ◌∙◌}
-use Rattle.jx_lex.specs.View.{marks_at}
+use Rattle.jx_lex.specs.View.{marks_at, view_track}
 use Rattle.jx_run.specs.inside.Reduced.{path_at}
-use Rattle.jx_run.proofs.Reducing.{path-first, path-none}
+use Rattle.jx_run.proofs.Reducing.{path-bare, path-first, path-none}
 use Rattle.jx_run.proofs.reduce.first_of.Goals as goal
 
 pub returns-in-Some-clause-marks : goal.returns-in-Some-clause-marks
@@ -16,3 +16,8 @@ returns-in-None-clause-marks c =
     let path = c.path-path.ensures in
     ap (λ n. flat_map (marks_at v.parts) (path_at v.parts n)) c.requires
     ∙ ap (flat_map (marks_at v.parts)) (path-none v.parts v.first (sym path.all ∙ c.in-None.ensures.steps.0) ∙ sym path.all) ∙ path.marks
+
+pub returns-then-is_bare-clause-marks : goal.returns-then-is_bare-clause-marks
+returns-then-is_bare-clause-marks c =
+    let v = c.args.track.now in
+    path-bare v.parts c.args.count (view_track v).marks c.requires (c.is_bare.ensures c.if-is_bare.true)
