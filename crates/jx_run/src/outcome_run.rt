@@ -43,7 +43,7 @@ pub struct OutcomeRun {
     span: Span,
     // those of all states, in their order
     ways: Vec<Way>,
-    // those of the ways, each once
+    // those of the ways, and perhaps some that no way has any more
     structures: Vec<Reductions>,
 }
 

@@ -1,6 +1,6 @@
 use Rattle.std.proofs.Common.{◌++◌, ap, sym, subst, ◌∙◌, arith}
 use Rattle.jx_run.specs.OutcomeRun.{OutcomeRunValue, IsOutcomeRun, IsWhole}
-use Rattle.jx_run.proofs.RunJoin.{any_rest, joined_run, joined_seen, joined_whole, rest_is_of}
+use Rattle.jx_run.proofs.RunJoin.{any_rest, joined_seen, joined_whole, rest_is_of}
 use Rattle.jx_run.proofs.outcome_run.OutcomeRun.added.Goals as goal
 
 pub invariant_of-left : goal.invariant_of-left
