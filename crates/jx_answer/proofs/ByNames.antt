@@ -12,45 +12,15 @@ use Rattle.jx_run.specs.declared.verdict.Verdict.TheVariants.{Accepted, Refused}
 use Rattle.jx_run.specs.Elements.{Part}
 use Rattle.jx_run.specs.Settings.{IsDocumentBy, JudgedBy, a_text as judged_text}
 use Rattle.jx_run.specs.Tree.{Tree}
-use Rattle.jx_index.specs.Indexed.{IndexedValue}
 use Rattle.jx_index.specs.Repeats.{IsLeast, IsRepeat}
 use Rattle.jx_index.specs.Rows.{rows}
 use Rattle.jx_index.specs.declared.row.Row.{Row}
 use Rattle.jx_answer.specs.declared.element.Element.{Element}
 use Rattle.jx_answer.specs.declared.element.ElementAnswer.{ElementAnswer}
 use Rattle.jx_answer.specs.declared.element.ElementAnswer.TheVariants as element
-use Rattle.jx_answer.specs.declared.text_answer.TextAnswer.TheVariants as answer
 use Rattle.jx_answer.specs.ByNames.{RefusesName, RefusesNameIn, IsVerdictBy, a_text, repeated_name, no_text, unless_refused, IsByNames}
 use Rattle.jx_answer.specs.Sequence.{IsElement, IsElementAnswer}
-use Rattle.jx_answer.specs.Settled.{IsAnswerBy, IsElementBy, IsIndexBy}
-
--- ---- a text
-
-module _ (settings : Settings) (text : List ℕ) where
-  of_tree : (index : IndexedValue) (x : IsIndexBy settings text index) (name : Option ℕ) → RefusesName settings.names index.text index.rows name → RefusesName settings.names text (rows x.tree) name
-  of_tree index x name h =
-      subst (λ (t : List ℕ). RefusesName settings.names t (rows x.tree) name) x.text
-      (subst (λ (table : List Row). RefusesName settings.names index.text table name) x.rows_are h)
-
-  pub no_name : (index : IndexedValue) → IsIndexBy settings text index → RefusesName settings.names index.text index.rows None → IsAnswerBy settings text (answer.Accepted index)
-  no_name index x h = (a_text x.is_text (of_tree index x None h), x)
-
-  pub one_name : (index : IndexedValue) (at : ℕ) → IsIndexBy settings text index → RefusesName settings.names index.text index.rows (Some at)
-      → IsAnswerBy settings text (answer.Refused (RepeatedName at))
-  one_name index at x h = repeated_name x.is_text (of_tree index x (Some at) h)
-
-  -- where any names are allowed
-  pub any_names : (v : Verdict) → settings.names ≡ Any → JudgedBy settings 0 text v → IsVerdictBy settings text v
-  any_names Accepted is (judged_text {tree = tree} document) = a_text document (subst (λ (rule : NameRule). RefusesName rule text (rows tree) None) (sym is) refl)
-  any_names (Refused r) is h = no_text h
-
-  none_refused : {A : Type 0} (table : List Row) (at : ℕ) → settings.names ≡ Any → RefusesName settings.names text table (Some at) → A
-  none_refused table at is h = let none : Some at ≡ None = subst (λ (rule : NameRule). RefusesName rule text table (Some at)) is h in absurd (cc)
-
-  pub judged_anyhow : (v : Verdict) → settings.names ≡ Any → IsVerdictBy settings text v → JudgedBy settings 0 text v
-  judged_anyhow _ is (a_text document h) = judged_text document
-  judged_anyhow _ is (repeated_name {tree = tree} {at = at} document h) = none_refused (rows tree) at is h
-  judged_anyhow _ is (no_text h) = h
+use Rattle.jx_answer.specs.Settled.{IsElementBy}
 
 -- ---- one choice
 

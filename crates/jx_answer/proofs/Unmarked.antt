@@ -16,20 +16,22 @@ use Rattle.jx_answer.specs.declared.element.Element.{Element}
 use Rattle.jx_answer.specs.declared.text_answer.TextAnswer.{TextAnswer}
 use Rattle.jx_answer.specs.declared.text_answer.TextAnswer.TheVariants as answer
 use Rattle.jx_answer.specs.Answers.{IsAnswer}
+use Rattle.jx_answer.specs.ByNames.{IsVerdictBy}
 use Rattle.jx_answer.specs.Sequence.{AreElements, IsElement}
 use Rattle.jx_answer.specs.Settled.{AreElementsBy, IsAnswerBy, IsElementBy, elements_by}
-use Rattle.jx_answer.proofs.ByNames.{any_element, any_names, judged_anyhow, zip_more}
+use Rattle.jx_answer.proofs.ByNames.{any_element, zip_more}
 
 module _ (texts : (settings : Settings) (at : ℕ) (bytes : List ℕ) (tree : Tree) → settings.mark ≡ on_mark.Refused → IsDocumentBy settings at bytes tree ↔ IsDocument at bytes settings.depth tree)
     (verdicts : (settings : Settings) (at : ℕ) (bytes : List ℕ) (v : Verdict) → settings.mark ≡ on_mark.Refused → JudgedBy settings at bytes v ↔ Judged at bytes settings.depth v)
+    (by_names : (settings : Settings) (bytes : List ℕ) (v : Verdict) → settings.names ≡ Any → IsVerdictBy settings bytes v ↔ JudgedBy settings 0 bytes v)
     (settings : Settings) (is : settings.mark ≡ on_mark.Refused) (any : settings.names ≡ Any) where
   no_front : (front : List ℕ) → IsFront settings.mark front → length front ≡ 0
   no_front front h = let none : front ≡ [] = subst (λ (m : FrontMark). IsFront m front) is h in ap length none
 
   unsettled : (text : List ℕ) (a : TextAnswer) → IsAnswerBy settings text a → IsAnswer text settings.depth a
-  unsettled text (answer.Refused r) h = (verdicts settings 0 text (Refused r) is).0 (judged_anyhow settings text (Refused r) any h)
+  unsettled text (answer.Refused r) h = (verdicts settings 0 text (Refused r) is).0 ((by_names settings text (Refused r) any).0 h)
   unsettled text (answer.Accepted index) h = (
-    (verdicts settings 0 text Accepted is).0 (judged_anyhow settings text Accepted any h.0),
+    (verdicts settings 0 text Accepted is).0 ((by_names settings text Accepted any).0 h.0),
     record {
       text = h.1.text;
       place = h.1.place ∙ ap (λ (n : ℕ). span n (length text)) (no_front h.1.is_text.front h.1.is_text.is_front);
@@ -40,9 +42,9 @@ module _ (texts : (settings : Settings) (at : ℕ) (bytes : List ℕ) (tree : Tr
   )
 
   settled : (text : List ℕ) (a : TextAnswer) → IsAnswer text settings.depth a → IsAnswerBy settings text a
-  settled text (answer.Refused r) h = any_names settings text (Refused r) any ((verdicts settings 0 text (Refused r) is).1 h)
+  settled text (answer.Refused r) h = (by_names settings text (Refused r) any).1 ((verdicts settings 0 text (Refused r) is).1 h)
   settled text (answer.Accepted index) h = (
-    any_names settings text Accepted any ((verdicts settings 0 text Accepted is).1 h.0),
+    (by_names settings text Accepted any).1 ((verdicts settings 0 text Accepted is).1 h.0),
     record {
       text = h.1.text;
       tree = h.1.tree;

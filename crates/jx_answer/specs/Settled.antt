@@ -1,6 +1,6 @@
 -- The answers by settings: where a byte order mark is ignored, one may stand in front of a text, or alone before the first
 -- record separator of a sequence; where names have to be unique, what repeats one is refused.
-use Rattle.std.specs.Prelude.{◌≡◌, ◌==◌, ◌&&◌, ℕ, Bool, List, [], ◌∷◌, length, if◌then◌else◌, slice_range}
+use Rattle.std.specs.Prelude.{◌≡◌, ◌==◌, ◌&&◌, ℕ, Bool, List, [], ◌∷◌, length, if◌then◌else◌}
 use Rattle.std.specs.List.{AllZip}
 use Rattle.jx_run.specs.declared.element_verdict.JudgedElement.{JudgedElement}
 use Rattle.jx_run.specs.declared.settings.FrontMark.{FrontMark}
@@ -9,12 +9,9 @@ use Rattle.jx_run.specs.declared.settings.Settings.{Settings}
 use Rattle.jx_run.specs.declared.verdict.Verdict.TheVariants.{Accepted, Refused}
 use Rattle.jx_run.specs.Elements.{Part, span_of, elements}
 use Rattle.jx_run.specs.Front.{agreed}
-use Rattle.jx_run.specs.Settings.{byte_order_mark, IsDocumentBy, JudgedBy}
-use Rattle.jx_run.specs.Text.{IsText}
-use Rattle.jx_run.specs.Tree.{Tree, span}
+use Rattle.jx_run.specs.Settings.{byte_order_mark, JudgedBy}
 use Rattle.jx_run.specs.Verdict.{Judged}
-use Rattle.jx_index.specs.Indexed.{IndexedValue}
-use Rattle.jx_index.specs.Rows.{rows}
+pub use Rattle.jx_index.specs.Settled.{IsIndexBy, IsIndexFrom, rest_from}
 use Rattle.jx_answer.specs.declared.element.Element.{Element}
 use Rattle.jx_answer.specs.declared.element.ElementAnswer.{ElementAnswer}
 use Rattle.jx_answer.specs.declared.text_answer.TextAnswer.{TextAnswer}
@@ -23,14 +20,6 @@ use Rattle.jx_answer.specs.ByNames.{IsByNames, IsVerdictBy}
 use Rattle.jx_answer.specs.Sequence.{IsElementAnswer, judged}
 
 -- ---- a text
-
--- the index is over what stands behind the front, at its offsets in all bytes, and its rows are those of the tree
-pub record IsIndexBy (settings : Settings) (bytes : List ℕ) (index : IndexedValue) : Type 0 where
-  pub text : index.text ≡ bytes
-  pub tree : Tree
-  pub is_text : IsDocumentBy settings 0 bytes tree
-  pub place : index.place ≡ span (length is_text.front) (length bytes)
-  pub rows_are : index.rows ≡ rows tree
 
 -- accepted with the rows of the tree, or refused by the verdict
 abbrev pub IsAnswerBy : Settings → List ℕ → TextAnswer → Type 0
@@ -43,18 +32,6 @@ IsReadBy settings bytes (answer.Accepted index) = JudgedBy settings 0 bytes Acce
 IsReadBy settings bytes (answer.Refused refusal) = JudgedBy settings 0 bytes (Refused refusal)
 
 -- ---- what stands from an offset on
-
--- the bytes from an offset on
-abbrev pub rest_from : ℕ → List ℕ → List ℕ
-rest_from start bytes = slice_range bytes start (length bytes)
-
--- the index is over the bytes from an offset on, and its rows are those of their tree
-pub record IsIndexFrom (start : ℕ) (bytes : List ℕ) (limit : ℕ) (index : IndexedValue) : Type 0 where
-  pub text : index.text ≡ bytes
-  pub place : index.place ≡ span start (length bytes)
-  pub tree : Tree
-  pub is_text : IsText bytes start (length bytes) limit tree
-  pub rows_are : index.rows ≡ rows tree
 
 -- the RFC 8259 reading of the bytes from an offset on
 abbrev pub IsAnswerFrom : ℕ → List ℕ → ℕ → TextAnswer → Type 0

@@ -13,6 +13,7 @@ ghost use Rattle.jx_answer.specs.Settled.{AreElementsBy, AreJudgedBy, IsAnswerBy
 ghost use Rattle.jx_answer.specs.declared.element.Element.{Element};
 ghost use Rattle.jx_answer.specs.declared.text_answer.TextAnswer.{TextAnswer};
 
+use jx_index::names_are_refused_by_rows;
 use jx_run::{
     a_refused_mark_changes_nothing, text_by_settings_has_one_tree, text_has_one_tree,
     verdict_by_settings_is_one, verdict_is_one,
@@ -65,7 +66,9 @@ pub fn verdicts_by_settings_are_one()
 pub fn any_names_change_nothing()
     ensures verdict { (settings : Settings) (bytes : List ℕ) (verdict : Verdict) → settings.names ≡ Any → IsVerdictBy settings bytes verdict ↔ JudgedBy settings 0 bytes verdict }
     ensures element { (settings : Settings) (input : List ℕ) (p : Part) (element : Element) → settings.names ≡ Any → IsElementBy settings input p element ↔ IsElement input settings.depth p element }
-{}
+{
+    names_are_refused_by_rows();
+}
 
 /// Where a byte order mark is refused and objects may have any names, the answers by settings are those within the depth.
 pub fn settings_that_are_off_change_no_answer()

@@ -2,6 +2,7 @@ ghost use Rattle.std.specs.Prelude.{◌≡◌, ◌+◌, ◌<◌, ◌≤◌, ◌^
 ghost use Rattle.jx_run.specs.Reader.{HasRead};
 ghost use Rattle.jx_run.specs.TextRun.{IsTextRun};
 ghost use Rattle.jx_run.specs.Settings.{JudgedBy};
+ghost use Rattle.jx_run.specs.declared.settings.FrontMark.TheVariants.{Refused};
 ghost use Rattle.jx_run.specs.declared.settings.NameRule.TheVariants.{Any};
 ghost use Rattle.jx_run.specs.declared.settings.Settings.{Settings};
 ghost use Rattle.jx_run.specs.Verdict.{Judged};
@@ -13,15 +14,15 @@ ghost use Rattle.jx_answer.specs.Settled.{IsAnswerBy, IsAnswerFrom, IsReadBy, re
 use crate::asking::Asking;
 use crate::by_names::text_by_names;
 use crate::fault::Fault;
-use crate::laws::any_names_change_nothing;
+use crate::laws::{any_names_change_nothing, settings_that_are_off_change_no_answer};
 use crate::text_answer::TextAnswer;
 use jx_book::{Gate, Held, read_whole};
 use jx_claim::{Cutting, Workers};
-use jx_index::Indexed;
+use jx_index::{Indexed, indexes_stand_behind_fronts};
 use jx_lex::{Depth, Span};
 use jx_run::{
-    Front, NameRule, OutcomeRun, Pace, Reader, RunReader, Settings, Summary, TextRun, Verdict,
-    front,
+    Front, FrontMark, NameRule, OutcomeRun, Pace, Reader, RunReader, Settings, Summary, TextRun,
+    Verdict, a_refused_mark_changes_nothing, front,
 };
 use std::alloc::{AllocError, Global};
 use std::sync::Wait;
@@ -46,7 +47,9 @@ pub fn index_text<'a, R: Threads + Wait + Sync, G: Gate + Sync>(
     // For every cutting, number of workers and gate, it is the answer that the standard gives for the bytes.
     ensures answer { IfOk result (λ answer. IsAnswer text.entry.now depth answer) }
 {
-    index_rest(rt, alloc, text, cutting, workers, depth, gate)
+    settings_that_are_off_change_no_answer();
+    let settings = plain(depth);
+    index_text_with(rt, alloc, text, cutting, workers, &settings, gate)
 }
 
 /// The same by settings. Where a byte order mark is ignored, one may stand in front of the text. It is skipped here, so
@@ -83,6 +86,7 @@ fn index_behind_front<'a, R: Threads + Wait + Sync, G: Gate + Sync>(
     requires front { cutting.now.front ≡ 0 }
     ensures answer { IfOk result (λ answer. IsReadBy settings.now text.entry.now answer) }
 {
+    indexes_stand_behind_fronts();
     match front(text, settings.mark) {
         Front::Refused(refusal) => Ok(TextAnswer::Refused(refusal)),
         Front::Skip(count) => {
@@ -106,7 +110,10 @@ pub fn verdict_of_text<R: Threads + Wait + Sync, G: Gate + Sync>(
     requires front { cutting.now.front ≡ 0 }
     ensures verdict { IfOk result (λ verdict. Judged 0 text.now depth verdict) }
 {
-    verdict_of_rest(rt, alloc, text, cutting, workers, depth, gate)
+    a_refused_mark_changes_nothing();
+    any_names_change_nothing();
+    let settings = plain(depth);
+    verdict_of_text_with(rt, alloc, text, cutting, workers, &settings, gate)
 }
 
 /// The verdict that `index_text_with` comes to, without the index, which is made only where names have to be unique.
@@ -123,48 +130,27 @@ pub fn verdict_of_text_with<R: Threads + Wait + Sync, G: Gate + Sync>(
     requires front { cutting.now.front ≡ 0 }
     ensures verdict { IfOk result (λ verdict. IsVerdictBy settings.now text.now verdict) }
 {
+    any_names_change_nothing();
     match settings.names {
-        NameRule::Any => verdict_of_any(rt, alloc, text, cutting, workers, settings, gate),
-        NameRule::Unique => verdict_by_index(rt, alloc, text, cutting, workers, settings, gate),
+        NameRule::Any => verdict_behind_front(rt, alloc, text, cutting, workers, settings, gate),
+        NameRule::Unique => {
+            let answer = index_text_with(rt, alloc, text, cutting, workers, settings, gate)?;
+            Ok(verdict_of(answer))
+        }
     }
 }
 
-/// The same where objects may have any names.
-fn verdict_of_any<R: Threads + Wait + Sync, G: Gate + Sync>(
-    rt: &R,
-    alloc: Global,
-    text: &[u8],
-    cutting: &Cutting,
-    workers: Workers,
-    settings: &Settings,
-    gate: &G,
-) -> Result<Verdict, Fault>
-    requires cutting { cutting.now.len ≡ length text.now }
-    requires front { cutting.now.front ≡ 0 }
-    requires names { settings.now.names ≡ Any }
-    ensures verdict { IfOk result (λ verdict. IsVerdictBy settings.now text.now verdict) }
+/// The settings within this depth that are off but for it: a byte order mark is refused, and objects may have any names.
+fn plain(depth: Depth) -> Settings
+    ensures depth { result.depth ≡ depth }
+    ensures mark { result.mark ≡ Refused }
+    ensures names { result.names ≡ Any }
 {
-    any_names_change_nothing();
-    let verdict = verdict_behind_front(rt, alloc, text, cutting, workers, settings, gate)?;
-    Ok(verdict)
-}
-
-/// The same by an index that is let go.
-fn verdict_by_index<R: Threads + Wait + Sync, G: Gate + Sync>(
-    rt: &R,
-    alloc: Global,
-    text: &[u8],
-    cutting: &Cutting,
-    workers: Workers,
-    settings: &Settings,
-    gate: &G,
-) -> Result<Verdict, Fault>
-    requires cutting { cutting.now.len ≡ length text.now }
-    requires front { cutting.now.front ≡ 0 }
-    ensures verdict { IfOk result (λ verdict. IsVerdictBy settings.now text.now verdict) }
-{
-    let answer = index_text_with(rt, alloc, text, cutting, workers, settings, gate)?;
-    Ok(verdict_of(answer))
+    Settings {
+        depth,
+        mark: FrontMark::Refused,
+        names: NameRule::Any,
+    }
 }
 
 /// An answer less the index.
@@ -227,7 +213,8 @@ fn index_rest<'a, R: Threads + Wait + Sync, G: Gate + Sync>(
     ensures answer { IfOk result (λ answer. IsAnswerFrom cutting.now.front text.entry.now depth answer) }
 {
     if cutting.count() <= 1 || workers.count() == 1 {
-        return match index_alone(alloc, text, cutting, depth, gate) {
+        let mut asking = Asking::new(cutting, gate);
+        return match answer_in_one_pass(alloc, text, cutting.front(), depth, &mut asking) {
             Ok(answer) => Ok(answer),
             Err(AllocError) => Err(Fault::Memory),
         };
@@ -237,22 +224,6 @@ fn index_rest<'a, R: Threads + Wait + Sync, G: Gate + Sync>(
         Ok(answer) => Ok(answer),
         Err(AllocError) => Err(Fault::Memory),
     }
-}
-
-/// The same by the calling thread alone, piece by piece.
-fn index_alone<'a, G: Gate>(
-    alloc: Global,
-    text: &'a [u8],
-    cutting: &Cutting,
-    depth: Depth,
-    gate: &G,
-) -> Result<TextAnswer<'a>, AllocError>
-    requires cutting { cutting.now.len ≡ length text.now }
-    ensures answer { IfOk result (λ answer. IsAnswerFrom cutting.now.front text.entry.now depth answer) }
-{
-    let mut asking = Asking::new(cutting, gate);
-    let answer = answer_in_one_pass(alloc, text, cutting.front(), depth, &mut asking)?;
-    Ok(answer)
 }
 
 /// The verdict on the text from the cutting's front on.
@@ -355,6 +326,7 @@ fn answer_in_one_pass<'a, P: Pace>(
     requires within { start ≤ length text.now }
     ensures answer { IfOk result (λ answer. IsAnswerFrom start text.entry.now depth answer) }
 {
+    indexes_stand_behind_fronts();
     let end = text.len();
     let read = Indexed::read(alloc, text, Span { start, end }, depth, pace)?;
     match read {
@@ -374,6 +346,7 @@ fn answer_from<'a>(
     requires of { IsTextRun (rest_from run.now.map.start text.now) run.now }
     ensures answer { IfOk result (λ answer. IsAnswerFrom run.now.map.start text.entry.now run.now.limit answer) }
 {
+    indexes_stand_behind_fronts();
     match run.verdict() {
         Verdict::Refused(refusal) => Ok(TextAnswer::Refused(refusal)),
         Verdict::Accepted => {

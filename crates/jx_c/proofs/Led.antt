@@ -1,7 +1,6 @@
 -- The row that a look-up ends at shows the kind and span of the node that the tokens lead to.
 use Rattle.std.proofs.Common.{◌≡◌, ℕ, List, Some, None, Result, Ok, Err, refl, sym, ap, ◌∙◌}
 use Rattle.std.specs.Prelude.{slice_get}
-use Rattle.jx_run.specs.Text.{IsDocument}
 use Rattle.jx_run.specs.Tree.{Tree}
 use Rattle.jx_index.specs.declared.find_fault.FindFault.{FindFault}
 use Rattle.jx_index.specs.declared.row.Row.{Row}
@@ -11,7 +10,7 @@ use Rattle.jx_index.specs.Rows.{rows}
 use Rattle.jx_run.specs.declared.settings.Settings.{Settings}
 use Rattle.jx_run.specs.Settings.{IsDocumentBy}
 use Rattle.jx_c.specs.ByNames.{RefusesName}
-use Rattle.jx_c.specs.LookUps.{IsFoundIn, IsLed, IsLookUp}
+use Rattle.jx_c.specs.LookUps.{IsFoundIn, IsLed}
 use Rattle.jx_c.specs.Settled.{IsLookUpBy}
 use Rattle.jx_c.specs.declared.look_up.LookUp.{LookUp}
 use Rattle.jx_c.specs.declared.look_up.LookUp.TheVariants.{Found, Lost, BadPointer, NotUtf8, NoText}
@@ -38,16 +37,9 @@ module _ (text : List ℕ) (tree : Tree) (pointer : List ℕ) where
   pub lost_at : (fault : FindFault) → Err fault ≡ leads text tree (tokens pointer) → led text tree (tokens pointer) ≡ Err fault
   lost_at fault e = lost_by fault (led text tree (tokens pointer)) e
 
-  pub in_bytes : (depth : ℕ) → IsDocument 0 text depth tree → (l : LookUp) → IsLed text tree pointer l → IsLookUp text depth pointer l
-  in_bytes depth d (Found kind place) h = (tree, d, h)
-  in_bytes depth d (Lost fault) h = (tree, d, h)
-  in_bytes depth d (BadPointer fault) h = absurd h
-  in_bytes depth d NotUtf8 h = absurd h
-  in_bytes depth d (NoText refused) h = absurd h
-
-  pub in_bytes_by : (settings : Settings) → IsDocumentBy settings 0 text tree → RefusesName settings.names text (rows tree) None → (l : LookUp) → IsLed text tree pointer l → IsLookUpBy settings text pointer l
-  in_bytes_by settings d n (Found kind place) h = (tree, d, n, h)
-  in_bytes_by settings d n (Lost fault) h = (tree, d, n, h)
-  in_bytes_by settings d n (BadPointer fault) h = absurd h
-  in_bytes_by settings d n NotUtf8 h = absurd h
-  in_bytes_by settings d n (NoText refused) h = absurd h
+  pub in_bytes : (settings : Settings) → IsDocumentBy settings 0 text tree → RefusesName settings.names text (rows tree) None → (l : LookUp) → IsLed text tree pointer l → IsLookUpBy settings text pointer l
+  in_bytes settings d n (Found kind place) h = (tree, d, n, h)
+  in_bytes settings d n (Lost fault) h = (tree, d, n, h)
+  in_bytes settings d n (BadPointer fault) h = absurd h
+  in_bytes settings d n NotUtf8 h = absurd h
+  in_bytes settings d n (NoText refused) h = absurd h

@@ -3,11 +3,8 @@ pub mod Moves
 pub mod Reading
 pub mod Feeds
 pub mod Filled
-pub mod Indexes
 pub mod Led
-pub mod Parts
 pub mod Slices
-pub mod There
 pub mod ByRules
 pub mod Deciding
 pub mod Fronts
@@ -15,3 +12,4 @@ pub mod InPlace
 pub mod Verdicts
 pub mod MarksAlone
 pub mod Readable
+pub mod Plain

@@ -1,5 +1,5 @@
 -- What the rule on names makes of judged elements.
-use Rattle.std.proofs.Common.{◌≡◌, ℕ, suc, ◌≤◌, List, [], ◌∷◌, length, Option, None, refl, sym, ap, subst, arith}
+use Rattle.std.proofs.Common.{◌≡◌, ℕ, ◌≤◌, List, [], ◌∷◌, length, Option, None, refl, sym, subst, arith}
 use Rattle.std.specs.Prelude.{All}
 use Rattle.std.specs.List.{AllZip}
 use Rattle.std.proofs.lemmas.List.Elements.{All-head, All-tail}
@@ -36,13 +36,6 @@ placed input limit (p ∷ ps) (j ∷ js) z l =
 pub judged_in : (mark : FrontMark) (input : List ℕ) (limit : ℕ) (js : List JudgedElement) → AllZip (IsJudgedElement limit) (elements_by mark input) js
     → AllZip (IsJudgedIn input limit) (elements_by mark input) js
 judged_in mark input limit js h = placed input limit (elements_by mark input) js h (lie_in mark input)
-
--- as many verdicts as elements
-pub as_many_by : (settings : Settings) (input : List ℕ) (ps : List Part) (js : List JudgedElement) → AllZip (IsJudgedBy settings input) ps js → length js ≡ length ps
-as_many_by settings input [] [] h = refl
-as_many_by settings input [] (j ∷ js) h = absurd h
-as_many_by settings input (p ∷ ps) [] h = absurd h
-as_many_by settings input (p ∷ ps) (j ∷ js) h = ap suc (as_many_by settings input ps js h.1)
 
 -- ---- by the rule on names
 

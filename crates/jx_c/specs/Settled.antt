@@ -10,9 +10,10 @@ use Rattle.jx_run.specs.declared.verdict.Verdict.TheVariants as verdict
 use Rattle.jx_run.specs.Elements.{Part, elements}
 use Rattle.jx_run.specs.Front.{agreed}
 use Rattle.jx_run.specs.Settings.{byte_order_mark, IsDocumentBy, JudgedBy}
-use Rattle.jx_run.specs.Tree.{Tree, span}
+use Rattle.jx_run.specs.Tree.{Tree}
 use Rattle.jx_index.specs.Indexed.{IndexedValue}
 use Rattle.jx_index.specs.Rows.{rows}
+pub use Rattle.jx_index.specs.Settled.{IsIndexBy}
 use Rattle.jx_c.specs.Buffers.{IsFilled}
 use Rattle.jx_c.specs.ByNames.{IsJudgedBy, IsVerdictBy, RefusesName}
 use Rattle.jx_c.specs.Elements.{shown_element}
@@ -34,15 +35,7 @@ use Rattle.jx_c.specs.declared.verdict.JxVerdict.{JxVerdict}
 abbrev pub IsVerdictWith : Settings → List ℕ → JxVerdict → Type 0
 IsVerdictWith settings bytes v = (verdict : Verdict) × (IsVerdictBy settings bytes verdict × (v ≡ shown verdict))
 
--- the index is over what stands behind the front, at its offsets in all bytes, and its rows are those of the tree
-pub record IsIndexBy (settings : Settings) (bytes : List ℕ) (index : IndexedValue) : Type 0 where
-  pub text : index.text ≡ bytes
-  pub tree : Tree
-  pub is_text : IsDocumentBy settings 0 bytes tree
-  pub place : index.place ≡ span (length is_text.front) (length bytes)
-  pub rows_are : index.rows ≡ rows tree
-
--- such an index, and no name is refused
+-- the index is over what stands behind the front, and no name is refused
 pub record IsIndexByNames (settings : Settings) (bytes : List ℕ) (index : IndexedValue) : Type 0 where
   pub is_index : IsIndexBy settings bytes index
   pub no_name : RefusesName settings.names bytes (rows is_index.tree) None

@@ -5,7 +5,7 @@ ghost use Rattle.jx_c.specs.ByNames.{IsVerdictBy, RefusesName};
 ghost use Rattle.jx_c.specs.Settled.{IsAnswerBy, IsReadBy};
 
 use crate::texts::TextAnswer;
-use jx_index::Indexed;
+use jx_index::{Indexed, names_are_refused_by_rows};
 use jx_run::{NameRule, Refusal, Verdict};
 
 /// The start of the name for which the rule refuses a text, if it refuses one.
@@ -22,6 +22,7 @@ fn refused_name(rule: NameRule, index: &Indexed<'_>) -> Option<usize>
 pub fn text_by_names<'a>(rule: NameRule, answer: TextAnswer<'a>) -> TextAnswer<'a>
     ensures { (settings : Settings) (text : List ℕ) → settings.names ≡ rule → IsReadBy settings text answer.entry → IsAnswerBy settings text result }
 {
+    names_are_refused_by_rows();
     match answer {
         TextAnswer::Refused(refusal) => TextAnswer::Refused(refusal),
         TextAnswer::Accepted(index) => match refused_name(rule, &index) {

@@ -1,7 +1,6 @@
 // Checks of whole texts.
 ghost use Rattle.std.specs.Prelude.{◌≡◌, ◌<◌, ◌≤◌, IfOk};
 ghost use Rattle.jx_run.specs.Settings.{JudgedBy};
-ghost use Rattle.jx_run.specs.declared.settings.NameRule.TheVariants.{Any};
 ghost use Rattle.jx_c.specs.ByNames.{IsVerdictBy};
 ghost use Rattle.jx_c.specs.Settings.{settings_in};
 ghost use Rattle.jx_c.specs.Settled.{IsVerdictWith};
@@ -11,8 +10,9 @@ use crate::by_names::verdict_of;
 use crate::reader::JxReader;
 use crate::settings::{JxSettings, settings_in};
 use crate::status::{DEPTH_TOO_GREAT, NO_MEMORY, OK, UNKNOWN_FLAG};
-use crate::texts::index_text_with;
+use crate::texts::index_text;
 use crate::verdict::{JxVerdict, shown};
+use jx_index::names_are_refused_by_rows;
 use jx_run::{Front, NameRule, Settings, Verdict, front};
 use std::alloc::{AllocError, Global};
 
@@ -51,30 +51,17 @@ fn verdict_behind_front(text: &[u8], settings: &Settings) -> Result<Verdict, All
     }
 }
 
-/// The same where names have to be unique, by an index that is let go.
-fn verdict_by_index(alloc: Global, text: &[u8], settings: &Settings) -> Result<Verdict, AllocError>
-    ensures { IfOk result (IsVerdictBy settings.now text.now) }
-{
-    let answer = index_text_with(alloc, text, settings)?;
-    Ok(verdict_of(answer))
-}
-
-/// The same where objects may have any names.
-fn verdict_of_any(text: &[u8], settings: &Settings) -> Result<Verdict, AllocError>
-    requires { settings.now.names ≡ Any }
-    ensures { IfOk result (IsVerdictBy settings.now text.now) }
-{
-    let verdict = verdict_behind_front(text, settings)?;
-    Ok(verdict)
-}
-
 /// The verdict on a text by settings. It takes memory only where names have to be unique.
 fn verdict_by(alloc: Global, text: &[u8], settings: &Settings) -> Result<Verdict, AllocError>
     ensures { IfOk result (IsVerdictBy settings.now text.now) }
 {
+    names_are_refused_by_rows();
     match settings.names {
-        NameRule::Any => verdict_of_any(text, settings),
-        NameRule::Unique => verdict_by_index(alloc, text, settings),
+        NameRule::Any => verdict_behind_front(text, settings),
+        NameRule::Unique => {
+            let answer = index_text(alloc, text, settings)?;
+            Ok(verdict_of(answer))
+        }
     }
 }
 

@@ -5,12 +5,11 @@ ghost use Rattle.jx_c.specs.Elements.{AreElementsOf, shown_element, shown_verdic
 ghost use Rattle.jx_c.specs.Settings.{settings_in};
 ghost use Rattle.jx_c.specs.Settled.{AreElementsWith};
 
-use crate::judging::{judge, judge_with};
+use crate::judging::judge_with;
 use crate::places::{JxSpan, shown_span};
 use crate::settings::{JxSettings, settings_in};
 use crate::status::{DEPTH_TOO_GREAT, NO_MEMORY, OK, UNKNOWN_FLAG};
 use crate::verdict::{JxVerdict, shown};
-use jx_lex::Depth;
 use jx_run::{ElementVerdict, JudgedElement, Verdict};
 use std::alloc::{AllocError, Global};
 
@@ -83,17 +82,8 @@ pub extern "C" fn jx_elements(
     ensures unchanged_elements { (result ≡ OK → ⊥) → elements.new ≡ elements.old }
     ensures unchanged_count { (result ≡ OK → ⊥) → count.new ≡ count.old }
 {
-    let Some(limit) = Depth::new(depth) else {
-        return DEPTH_TOO_GREAT;
-    };
-    match judge(alloc, sequence, limit) {
-        Ok(judged) => {
-            *count = judged.len();
-            fill(elements, &judged);
-            OK
-        }
-        Err(AllocError) => NO_MEMORY,
-    }
+    let settings = JxSettings { depth, flags: 0 };
+    jx_elements_with(alloc, sequence, &settings, elements, count)
 }
 
 /// The same by settings: a byte order mark that stands alone before the first record separator may be ignored, and is no

@@ -14,6 +14,7 @@ use crate::status::{
     DEPTH_TOO_GREAT, NO_MEMORY, NO_UNIQUE_NAMES, NOT_STARTED, OK, TOO_MANY_BYTES, UNKNOWN_FLAG,
 };
 use crate::verdict::{JxVerdict, shown};
+use jx_index::names_are_refused_by_rows;
 use jx_run::NameRule;
 use std::alloc::AllocError;
 
@@ -84,6 +85,7 @@ pub extern "C" fn jx_reader_verdict(reader: &JxReader, verdict: &mut JxVerdict) 
     if reader.started != STARTED {
         return NOT_STARTED;
     }
+    names_are_refused_by_rows();
     *verdict = shown(reader.verdict());
     OK
 }

@@ -22,7 +22,7 @@ use jx_run::{
 use std::alloc::{AllocError, Global};
 
 /// Reads a sequence on the calling thread, and judges its elements.
-pub fn judge(alloc: Global, sequence: &[u8], depth: Depth) -> Result<Vec<JudgedElement>, AllocError>
+fn judge(alloc: Global, sequence: &[u8], depth: Depth) -> Result<Vec<JudgedElement>, AllocError>
     ensures { IfOk result (λ judged. AllZip (IsJudgedElement depth) (elements_of 0 sequence.now) judged.items) }
 {
     let run = ElementsRun::of(alloc, sequence, 0, sequence.len(), depth)?;

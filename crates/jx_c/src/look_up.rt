@@ -1,20 +1,22 @@
 // What a pointer leads to in a text.
 ghost use Rattle.std.specs.Prelude.{◌≡◌, ◌<◌, ◌≤◌, ℕ, List, IfOk, IfErr};
-ghost use Rattle.jx_c.specs.inside.Answers.{IsAnswer};
 ghost use Rattle.jx_run.specs.Text.{IsText};
 ghost use Rattle.jx_run.specs.Tree.{Tree};
 ghost use Rattle.jx_run.specs.declared.settings.Settings.{Settings};
-ghost use Rattle.jx_c.specs.LookUps.{IsAnswerOf, IsLookUp, IsLed, shown_look_up};
+ghost use Rattle.jx_c.specs.LookUps.{IsAnswerOf, IsLed, shown_look_up};
 ghost use Rattle.jx_c.specs.Settings.{settings_in};
 ghost use Rattle.jx_c.specs.Settled.{IsAnswerBy, IsAnswerWith, IsLookUpBy};
 
 use crate::places::{JxSpan, kind_in, shown_span};
 use crate::settings::{JxSettings, settings_in};
 use crate::status::{DEPTH_TOO_GREAT, NO_MEMORY, OK, UNKNOWN_FLAG};
-use crate::texts::{TextAnswer, index_text, index_text_with};
-use jx_index::{FindFault, Indexed, Pointer, PointerFault, look_ups_end_at_rows};
-use jx_lex::{Depth, Kind, Span};
-use jx_run::{Refusal, Settings};
+use crate::texts::{TextAnswer, index_text};
+use jx_index::{
+    FindFault, Indexed, Pointer, PointerFault, indexes_stand_behind_fronts, look_ups_end_at_rows,
+    names_are_refused_by_rows,
+};
+use jx_lex::{Kind, Span};
+use jx_run::{Refusal, Settings, a_refused_mark_changes_nothing};
 use std::alloc::{AllocError, Global};
 use std::str;
 
@@ -133,9 +135,9 @@ fn led(index: &Indexed, pointer: &Pointer) -> LookUp
 
 /// What a pointer comes to in what was answered on a text.
 fn led_in(answer: TextAnswer, pointer: &Pointer) -> LookUp
-    ensures plain { (text : List ℕ) (depth : ℕ) → IsAnswer text depth answer.entry → IsLookUp text depth pointer.now result }
-    ensures settled { (settings : Settings) (text : List ℕ) → IsAnswerBy settings text answer.entry → IsLookUpBy settings text pointer.now result }
+    ensures { (settings : Settings) (text : List ℕ) → IsAnswerBy settings text answer.entry → IsLookUpBy settings text pointer.now result }
 {
+    indexes_stand_behind_fronts();
     match answer {
         TextAnswer::Accepted(index) => led(&index, pointer),
         TextAnswer::Refused(refusal) => LookUp::NoText(refusal),
@@ -145,8 +147,7 @@ fn led_in(answer: TextAnswer, pointer: &Pointer) -> LookUp
 /// The pointer that bytes spell, or what they come to where they spell none.
 fn spelt(pointer: &[u8]) -> Result<Pointer<'_>, LookUp>
     ensures pointer { IfOk result (λ p. p ≡ pointer.now) }
-    ensures none { IfErr result (λ l. (text : List ℕ) (depth : ℕ) → IsLookUp text depth pointer.now l) }
-    ensures none_settled { IfErr result (λ l. (settings : Settings) (text : List ℕ) → IsLookUpBy settings text pointer.now l) }
+    ensures none { IfErr result (λ l. (settings : Settings) (text : List ℕ) → IsLookUpBy settings text pointer.now l) }
 {
     let Ok(text) = str::from_utf8(pointer) else {
         return Err(LookUp::NotUtf8);
@@ -157,21 +158,8 @@ fn spelt(pointer: &[u8]) -> Result<Pointer<'_>, LookUp>
     }
 }
 
-/// What the bytes of a pointer come to in a text.
-fn look_up(alloc: Global, text: &[u8], pointer: &[u8], depth: Depth) -> Result<LookUp, AllocError>
-    ensures { IfOk result (IsLookUp text.now depth pointer.now) }
-{
-    match spelt(pointer) {
-        Ok(read) => {
-            let answer = index_text(alloc, text, depth)?;
-            Ok(led_in(answer, &read))
-        }
-        Err(none) => Ok(none),
-    }
-}
-
-/// The same by settings.
-fn look_up_with(
+/// What the bytes of a pointer come to in a text by settings.
+fn look_up(
     alloc: Global,
     text: &[u8],
     pointer: &[u8],
@@ -181,7 +169,7 @@ fn look_up_with(
 {
     match spelt(pointer) {
         Ok(read) => {
-            let answer = index_text_with(alloc, text, settings)?;
+            let answer = index_text(alloc, text, settings)?;
             Ok(led_in(answer, &read))
         }
         Err(none) => Ok(none),
@@ -201,16 +189,10 @@ pub extern "C" fn jx_at(
     ensures depth { 65535 < depth → result ≡ DEPTH_TOO_GREAT }
     ensures unchanged { (result ≡ OK → ⊥) → answer.new ≡ answer.old }
 {
-    let Some(limit) = Depth::new(depth) else {
-        return DEPTH_TOO_GREAT;
-    };
-    match look_up(alloc, text, pointer, limit) {
-        Ok(found) => {
-            *answer = shown_look_up(found);
-            OK
-        }
-        Err(AllocError) => NO_MEMORY,
-    }
+    a_refused_mark_changes_nothing();
+    names_are_refused_by_rows();
+    let settings = JxSettings { depth, flags: 0 };
+    jx_at_with(alloc, text, pointer, &settings, answer)
 }
 
 /// The same by settings: a byte order mark may be ignored (RFC 8259, section 8.1), and names may have to be unique
@@ -232,7 +214,7 @@ pub extern "C" fn jx_at_with(
         Ok(asked) => asked,
         Err(status) => return status,
     };
-    match look_up_with(alloc, text, pointer, &asked) {
+    match look_up(alloc, text, pointer, &asked) {
         Ok(look_up) => {
             *answer = shown_look_up(look_up);
             OK

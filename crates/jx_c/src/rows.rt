@@ -1,7 +1,6 @@
 // The rows of a text.
 ghost use Rattle.std.specs.Prelude.{◌≡◌, ◌<◌, ◌≤◌, ℕ, List};
 ghost use Rattle.jx_run.specs.declared.settings.Settings.{Settings};
-ghost use Rattle.jx_c.specs.inside.Answers.{IsAnswer};
 ghost use Rattle.jx_c.specs.Buffers.{IsFilled};
 ghost use Rattle.jx_c.specs.Rows.{AreRowsOf, shown_row};
 ghost use Rattle.jx_c.specs.Settings.{settings_in};
@@ -10,11 +9,10 @@ ghost use Rattle.jx_c.specs.Settled.{AreRowsWith, IsAnswerBy};
 use crate::places::{JxRow, shown_row};
 use crate::settings::{JxSettings, settings_in};
 use crate::status::{DEPTH_TOO_GREAT, NO_MEMORY, OK, UNKNOWN_FLAG};
-use crate::texts::{TextAnswer, index_text, index_text_with};
+use crate::texts::{TextAnswer, index_text};
 use crate::verdict::{JxVerdict, shown};
-use jx_index::Row;
-use jx_lex::Depth;
-use jx_run::Verdict;
+use jx_index::{Row, names_are_refused_by_rows};
+use jx_run::{Verdict, a_refused_mark_changes_nothing};
 use std::alloc::{AllocError, Global};
 
 /// Puts the rows into the buffer, as many as it has room for.
@@ -29,8 +27,7 @@ fn fill(rows: &mut [JxRow], from: &[Row])
 
 /// Tells the answer on a text: the verdict, how many rows there are, and in the buffer the rows.
 fn tell(answer: TextAnswer, rows: &mut [JxRow], count: &mut usize, verdict: &mut JxVerdict)
-    ensures plain { (bytes : List ℕ) (depth : ℕ) → IsAnswer bytes depth answer.entry → AreRowsOf bytes depth rows.old rows.new count.new verdict.new }
-    ensures settled { (settings : Settings) (bytes : List ℕ) → IsAnswerBy settings bytes answer.entry → AreRowsWith settings bytes rows.old rows.new count.new verdict.new }
+    ensures { (settings : Settings) (bytes : List ℕ) → IsAnswerBy settings bytes answer.entry → AreRowsWith settings bytes rows.old rows.new count.new verdict.new }
 {
     match answer {
         TextAnswer::Accepted(index) => {
@@ -63,16 +60,10 @@ pub extern "C" fn jx_rows(
     ensures unchanged_count { (result ≡ OK → ⊥) → count.new ≡ count.old }
     ensures unchanged_verdict { (result ≡ OK → ⊥) → verdict.new ≡ verdict.old }
 {
-    let Some(limit) = Depth::new(depth) else {
-        return DEPTH_TOO_GREAT;
-    };
-    match index_text(alloc, text, limit) {
-        Ok(answer) => {
-            tell(answer, rows, count, verdict);
-            OK
-        }
-        Err(AllocError) => NO_MEMORY,
-    }
+    a_refused_mark_changes_nothing();
+    names_are_refused_by_rows();
+    let settings = JxSettings { depth, flags: 0 };
+    jx_rows_with(alloc, text, &settings, rows, count, verdict)
 }
 
 /// The same by settings: a byte order mark may be ignored (RFC 8259, section 8.1), and names may have to be unique
@@ -97,7 +88,7 @@ pub extern "C" fn jx_rows_with(
         Ok(asked) => asked,
         Err(status) => return status,
     };
-    match index_text_with(alloc, text, &asked) {
+    match index_text(alloc, text, &asked) {
         Ok(answer) => {
             tell(answer, rows, count, verdict);
             OK

@@ -1,10 +1,10 @@
 // What reading a whole text comes to, with its index.
 ghost use Rattle.std.specs.Prelude.{◌≤◌, length, IfOk};
-ghost use Rattle.jx_c.specs.inside.Answers.{IsAnswer, IsAnswerFrom};
+ghost use Rattle.jx_c.specs.inside.Answers.{IsAnswerFrom};
 ghost use Rattle.jx_c.specs.Settled.{IsAnswerBy, IsReadBy};
 
 use crate::by_names::text_by_names;
-use jx_index::Indexed;
+use jx_index::{Indexed, indexes_stand_behind_fronts};
 use jx_lex::{Depth, Span};
 use jx_run::{Front, NoPause, Refusal, Settings, front};
 use std::alloc::{AllocError, Global};
@@ -28,6 +28,7 @@ fn index_from<'a>(
     requires { start ≤ length text.now }
     ensures { IfOk result (IsAnswerFrom start text.entry.now depth) }
 {
+    indexes_stand_behind_fronts();
     let end = text.len();
     let read = Indexed::read(alloc, text, Span { start, end }, depth, &mut NoPause)?;
     match read {
@@ -36,19 +37,7 @@ fn index_from<'a>(
     }
 }
 
-/// Reads a JSON text (RFC 8259) on the calling thread in one pass, and indexes it where it is accepted.
-pub fn index_text<'a>(
-    alloc: Global,
-    text: &'a [u8],
-    depth: Depth,
-) -> Result<TextAnswer<'a>, AllocError>
-    ensures { IfOk result (IsAnswer text.entry.now depth) }
-{
-    let answer = index_from(alloc, text, 0, depth)?;
-    Ok(answer)
-}
-
-/// The same by settings, whatever names the objects have: behind a byte order mark where one is ignored.
+/// Reads a text by settings, whatever names the objects have: behind a byte order mark where one is ignored.
 fn index_behind_front<'a>(
     alloc: Global,
     text: &'a [u8],
@@ -56,18 +45,16 @@ fn index_behind_front<'a>(
 ) -> Result<TextAnswer<'a>, AllocError>
     ensures { IfOk result (IsReadBy settings.now text.entry.now) }
 {
+    indexes_stand_behind_fronts();
     match front(text, settings.mark) {
         Front::Refused(refusal) => Ok(TextAnswer::Refused(refusal)),
-        Front::Skip(count) => {
-            let answer = index_from(alloc, text, count, settings.depth)?;
-            Ok(answer)
-        }
+        Front::Skip(count) => index_from(alloc, text, count, settings.depth),
     }
 }
 
-/// The same by settings. Where names have to be unique, what is otherwise accepted is refused for the first name that an
-/// object repeats.
-pub fn index_text_with<'a>(
+/// Reads a JSON text (RFC 8259) by settings on the calling thread in one pass, and indexes it where it is accepted. Where names
+/// have to be unique, what is otherwise accepted is refused for the first name that an object repeats.
+pub fn index_text<'a>(
     alloc: Global,
     text: &'a [u8],
     settings: &Settings,

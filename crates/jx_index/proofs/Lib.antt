@@ -31,3 +31,5 @@ pub mod Spelt
 pub mod Ties
 pub mod Leasts
 pub mod Uniques
+pub mod ByNames
+pub mod Settled

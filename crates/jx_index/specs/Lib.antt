@@ -1,5 +1,6 @@
 pub mod Afters
 pub mod ArrayTokens
+pub mod ByNames
 pub mod Indexed
 pub mod Leads
 pub mod Names
@@ -11,6 +12,7 @@ pub mod Pointers
 pub mod Repeats
 pub mod Rows
 pub mod RowsLead
+pub mod Settled
 pub mod Standing
 pub mod Units
 pub mod Walk

@@ -1,22 +1,34 @@
-ghost use Rattle.std.specs.Prelude.{◌≡◌, ◌<◌, ℕ, suc, List, None, Ok, Err, length, map};
+ghost use Rattle.std.specs.Prelude.{◌≡◌, ◌<◌, ◌↔◌, ℕ, suc, List, None, Option, Ok, Err, length, map};
 ghost use Rattle.std.specs.List.Sorted.{IsStrictlyIncreasing};
 ghost use Rattle.std.specs.Str.{IsUtf8};
 ghost use Rattle.jx_lex.specs.Token.{IsString};
+ghost use Rattle.jx_run.specs.declared.settings.Front.TheVariants.{Skip};
+ghost use Rattle.jx_run.specs.declared.settings.NameRule.TheVariants.{Any};
+ghost use Rattle.jx_run.specs.declared.settings.Settings.{Settings};
+ghost use Rattle.jx_run.specs.declared.verdict.Verdict.{Verdict};
+ghost use Rattle.jx_run.specs.declared.verdict.Verdict.TheVariants.{Accepted};
+ghost use Rattle.jx_run.specs.Front.{front_of};
+ghost use Rattle.jx_run.specs.Settings.{JudgedBy};
 ghost use Rattle.jx_run.specs.Text.{IsDocument, IsText};
-ghost use Rattle.jx_run.specs.Tree.{Tree};
+ghost use Rattle.jx_run.specs.Tree.{Tree, span};
+ghost use Rattle.jx_run.specs.Verdict.{Judged};
 ghost use Rattle.jx_index.specs.declared.find_fault.FindFault.TheVariants.{NameRepeated};
 ghost use Rattle.jx_index.specs.declared.units.Spelling.TheVariants.{InText};
 ghost use Rattle.jx_index.specs.declared.row.Row.{Row};
+ghost use Rattle.jx_index.specs.ByNames.{IsVerdictBy, RefusesName};
+ghost use Rattle.jx_index.specs.Indexed.{IndexedValue};
 ghost use Rattle.jx_index.specs.Leads.{HasRow, Numbered, children_of, leads, led, numbered};
 ghost use Rattle.jx_index.specs.Nodes.{child_numbers};
 ghost use Rattle.jx_index.specs.PointerForm.{IsPointerOf};
 ghost use Rattle.jx_index.specs.Pointers.{IsPointer, tokens};
 ghost use Rattle.jx_index.specs.Repeats.{IsLeast, IsRepeat};
 ghost use Rattle.jx_index.specs.Rows.{rows};
+ghost use Rattle.jx_index.specs.Settled.{IsIndexBy, IsIndexFrom, rest_from};
 ghost use Rattle.jx_index.specs.Standing.{HasNode, Standing, Stands, root_standing};
 ghost use Rattle.jx_index.specs.Units.{parts_units, between_marks};
 
 use jx_lex::tokens_are_read;
+use jx_run::fronts_decide_where_texts_begin;
 
 /// What is read off a string is its value; the texts that are read as pointers are exactly those that have the form of one,
 /// and what is read off them are that form's tokens; the rows of a text stand in rising order of their starts, and those whose parent is a node
@@ -45,4 +57,28 @@ pub fn look_ups_end_at_rows()
 pub fn unique_names_are_met_once()
     ensures { (text : List ℕ) (start end limit : ℕ) (tree : Tree) → IsText text start end limit tree → IsLeast (IsRepeat text (rows tree)) None
         → (tokens : List (List ℕ)) (token : ℕ) → leads text tree tokens ≡ Err (NameRepeated token) → ⊥ }
+{}
+
+/// An index over an accepted text from an offset on has the rows of its tree; and where that offset is just behind the front of
+/// the bytes, what is told of the text there is told by settings of all bytes.
+pub fn indexes_stand_behind_fronts()
+    ensures over { (text : List ℕ) (start limit : ℕ) (index : IndexedValue) → Judged start (rest_from start text) limit Accepted → index.text ≡ text
+        → index.place ≡ span start (length text) → ((d : ℕ) (tree : Tree) → IsText text start (length text) d tree → index.rows ≡ rows tree)
+        → IsIndexFrom start text limit index }
+    ensures index { (settings : Settings) (text : List ℕ) (count : ℕ) (index : IndexedValue) → front_of settings.mark text ≡ Skip count
+        → IsIndexFrom count text settings.depth index → IsIndexBy settings text index }
+    ensures verdict { (settings : Settings) (text : List ℕ) (count : ℕ) (verdict : Verdict) → front_of settings.mark text ≡ Skip count
+        → Judged count (rest_from count text) settings.depth verdict → JudgedBy settings 0 text verdict }
+    ensures text { (settings : Settings) (text : List ℕ) (index : IndexedValue) (x : IsIndexBy settings text index)
+        → IsText index.text index.place.start index.place.end settings.depth x.tree }
+{
+    fronts_decide_where_texts_begin();
+}
+
+/// A rule on names refuses a text for the name for which it refuses the text's rows. Where objects may have any names, the
+/// verdict is that of the grammar and the byte order mark alone.
+pub fn names_are_refused_by_rows()
+    ensures name { (settings : Settings) (text : List ℕ) (index : IndexedValue) (name : Option ℕ) (x : IsIndexBy settings text index)
+        → RefusesName settings.names index.text index.rows name → RefusesName settings.names text (rows x.tree) name }
+    ensures any { (settings : Settings) (bytes : List ℕ) (verdict : Verdict) → settings.names ≡ Any → IsVerdictBy settings bytes verdict ↔ JudgedBy settings 0 bytes verdict }
 {}

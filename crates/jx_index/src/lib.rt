@@ -21,7 +21,10 @@ mod units;
 pub use children::Children;
 pub use find_fault::FindFault;
 pub use indexed::Indexed;
-pub use laws::{look_ups_end_at_rows, readings_are_forms, unique_names_are_met_once};
+pub use laws::{
+    indexes_stand_behind_fronts, look_ups_end_at_rows, names_are_refused_by_rows,
+    readings_are_forms, unique_names_are_met_once,
+};
 pub use pointer::{Pointer, PointerFault};
 pub use row::{NodeId, Row};
 

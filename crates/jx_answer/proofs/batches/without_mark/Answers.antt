@@ -1,4 +1,4 @@
-use Rattle.std.proofs.Common.{◌≡◌, ◌<◌, ◌≤◌, List, length, true, false, rules, sym, ◌∙◌}
+use Rattle.std.proofs.Common.{◌≡◌, ◌<◌, List, length, true, false, rules, sym, ◌∙◌}
 use Rattle.jx_run.specs.declared.element_verdict.JudgedElement.{JudgedElement}
 use Rattle.jx_answer.proofs.Verdicts.{judged_none, judged_within, judged_stays, judged_goes}
 use Rattle.jx_answer.proofs.batches.without_mark.Goals as goal

@@ -6,7 +6,6 @@ use Rattle.jx_run.specs.TextRun.{IsTextRun}
 use Rattle.jx_run.specs.Tree.{span}
 use Rattle.jx_run.specs.Verdict.{Judged}
 use Rattle.jx_answer.specs.Settled.{rest_from}
-use Rattle.jx_answer.proofs.Whole.{read_rest}
 use Rattle.jx_answer.proofs.texts.answer_from.Goals as goal
 
 pub of_run-requires-clause-of : goal.of_run-requires-clause-of
@@ -38,7 +37,7 @@ returns-in_ok-index-in-Accepted c =
     record {
       answer = (
         judged,
-        read_rest text start run.limit index judged e.text (e.place ∙ ap (λ (n : ℕ). span start n) c.requires.end)
+        c.indexes_stand_behind_fronts.ensures.over text start run.limit index judged e.text (e.place ∙ ap (λ (n : ℕ). span start n) c.requires.end)
             (λ limit tree t. e.rows limit tree (subst (λ (n : ℕ). IsText text start n limit tree) (sym c.requires.end) t)),
       );
     }

@@ -1,4 +1,5 @@
 use Rattle.std.proofs.Common.{◌≡◌, ℕ, length}
+use Rattle.std.proofs.lemmas.Result.{IfErr-at_err, IfOk-at_ok}
 use Rattle.jx_run.specs.declared.verdict.Verdict.TheVariants.{Accepted, Refused}
 use Rattle.jx_run.specs.declared.verdict.Refusal.{Refusal}
 use Rattle.jx_run.specs.Text.{IsText}
@@ -7,7 +8,6 @@ use Rattle.jx_run.specs.Verdict.{Judged}
 use Rattle.jx_index.specs.Indexed.{IndexedValue}
 use Rattle.jx_index.specs.Rows.{rows}
 use Rattle.jx_answer.specs.Settled.{rest_from}
-use Rattle.jx_answer.proofs.Whole.{read_rest, ok_at, err_at}
 use Rattle.jx_answer.proofs.texts.answer_in_one_pass.Goals as goal
 
 pub returns-in-Ok : goal.returns-in-Ok
@@ -16,17 +16,16 @@ returns-in-Ok g c =
     let start = c.args.start in
     let depth = c.args.depth in
     let end = length text in
-    let read = c.in_ok-read.read in
     let e = c.in_ok-read.ensures in
     let index = c.in-Ok.index in
-    let judged = ok_at (λ (i : IndexedValue). Judged start (rest_from start text) depth Accepted) read index c.in-Ok.is e.accepted in
+    let judged = IfOk-at_ok (λ (i : IndexedValue). Judged start (rest_from start text) depth Accepted) c.in-Ok.is e.accepted in
     record {
       answer = (
         judged,
-        read_rest text start depth index judged
-            (ok_at (λ (i : IndexedValue). i.text ≡ text) read index c.in-Ok.is e.text)
-            (ok_at (λ (i : IndexedValue). i.place ≡ span start end) read index c.in-Ok.is e.place)
-            (ok_at (λ (i : IndexedValue). (limit : ℕ) (tree : Tree) → IsText text start end limit tree → i.rows ≡ rows tree) read index c.in-Ok.is e.rows),
+        c.indexes_stand_behind_fronts.ensures.over text start depth index judged
+            (IfOk-at_ok (λ (i : IndexedValue). i.text ≡ text) c.in-Ok.is e.text)
+            (IfOk-at_ok (λ (i : IndexedValue). i.place ≡ span start end) c.in-Ok.is e.place)
+            (IfOk-at_ok (λ (i : IndexedValue). (limit : ℕ) (tree : Tree) → IsText text start end limit tree → i.rows ≡ rows tree) c.in-Ok.is e.rows),
       );
     }
 
@@ -35,5 +34,5 @@ returns-in-Err g c =
     let text = c.args.text.now in
     let start = c.args.start in
     record {
-      answer = err_at (λ (f : Refusal). Judged start (rest_from start text) c.args.depth (Refused f)) c.in_ok-read.read c.in-Err.refusal c.in-Err.is c.in_ok-read.ensures.refused;
+      answer = IfErr-at_err (λ (f : Refusal). Judged start (rest_from start text) c.args.depth (Refused f)) c.in-Err.is c.in_ok-read.ensures.refused;
     }

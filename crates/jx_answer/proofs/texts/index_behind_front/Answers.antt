@@ -10,10 +10,11 @@ returns-in_ok-rest-in-Skip g c =
     let text = c.args.text.now in
     let settings = c.args.settings.now in
     let rest = c.in_ok-rest-in-Skip in
-    let skip = c.in-Skip in
+    let count = c.in-Skip.count in
+    let law = c.indexes_stand_behind_fronts.ensures in
     record {
       answer = IfOk-weaker c.index_rest.result (λ (a : TextAnswer). IsAnswerFrom rest.rest.front text settings.depth a) (λ (a : TextAnswer). IsReadBy settings text a)
-          (λ a h. behind_answer settings text skip.count a (sym skip.ensures.value) skip.ensures.verdict
+          (λ a h. behind_answer settings text count (λ i k. law.index settings text count i (sym c.in-Skip.ensures.value) k) (λ v k. law.verdict settings text count v (sym c.in-Skip.ensures.value) k) a
           (subst (λ (n : ℕ). IsAnswerFrom n text settings.depth a) rest.ensures.front h))
           c.index_rest.ensures.answer;
     }

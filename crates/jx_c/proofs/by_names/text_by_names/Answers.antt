@@ -1,11 +1,10 @@
 use Rattle.std.proofs.Common.{ℕ, Option, None, Some, sym, subst}
 use Rattle.jx_run.specs.declared.settings.NameRule.{NameRule}
 use Rattle.jx_index.specs.Indexed.{IndexedValue}
-use Rattle.jx_c.specs.ByNames.{RefusesName, no_text}
+use Rattle.jx_c.specs.ByNames.{RefusesName, repeated_name, no_text}
 use Rattle.jx_c.specs.Settled.{IsReadBy}
 use Rattle.jx_c.specs.declared.texts.TextAnswer.{TextAnswer}
 use Rattle.jx_c.specs.declared.texts.TextAnswer.TheVariants as answer
-use Rattle.jx_c.proofs.ByRules.{no_name, one_name}
 use Rattle.jx_c.proofs.by_names.text_by_names.Goals as goal
 
 pub returns-in-Refused : goal.returns-in-Refused
@@ -17,14 +16,17 @@ pub returns-in-None : goal.returns-in-None
 returns-in-None c = λ settings text is h.
     let index : IndexedValue = c.in-Accepted.index in
     let k : IsReadBy settings text (answer.Accepted index) = subst (λ (a : TextAnswer). IsReadBy settings text a) c.in-Accepted.is h in
-    no_name settings text index k
-    (subst (λ (rule : NameRule). RefusesName rule index.text index.rows None) (sym is)
-    (subst (λ (name : Option ℕ). RefusesName c.args.rule index.text index.rows name) c.in-None.is c.refused_name.ensures))
+    let refused : RefusesName settings.names index.text index.rows None =
+    subst (λ (rule : NameRule). RefusesName rule index.text index.rows None) (sym is)
+    (subst (λ (name : Option ℕ). RefusesName c.args.rule index.text index.rows name) c.in-None.is c.refused_name.ensures) in
+    record { is_index = k; no_name = c.names_are_refused_by_rows.ensures.name settings text index None k refused }
 
 pub returns : goal.returns
 returns c = λ settings text is h.
     let index : IndexedValue = c.in-Accepted.index in
     let k : IsReadBy settings text (answer.Accepted index) = subst (λ (a : TextAnswer). IsReadBy settings text a) c.in-Accepted.is h in
-    one_name settings text index c.in-Some.at k
-    (subst (λ (rule : NameRule). RefusesName rule index.text index.rows (Some c.in-Some.at)) (sym is)
-    (subst (λ (name : Option ℕ). RefusesName c.args.rule index.text index.rows name) c.in-Some.is c.refused_name.ensures))
+    let at = c.in-Some.at in
+    let refused : RefusesName settings.names index.text index.rows (Some at) =
+    subst (λ (rule : NameRule). RefusesName rule index.text index.rows (Some at)) (sym is)
+    (subst (λ (name : Option ℕ). RefusesName c.args.rule index.text index.rows name) c.in-Some.is c.refused_name.ensures) in
+    repeated_name k.is_text (c.names_are_refused_by_rows.ensures.name settings text index (Some at) k refused)

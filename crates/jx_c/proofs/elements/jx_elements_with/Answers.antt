@@ -1,5 +1,6 @@
 use Rattle.std.proofs.Common.{◌≡◌, List, length, rules, subst, ◌∙◌}
 use Rattle.std.specs.List.{AllZip}
+use Rattle.std.proofs.lemmas.Slice.Zip.{AllZip-long}
 use Rattle.jx_run.specs.declared.element_verdict.JudgedElement.{JudgedElement}
 use Rattle.jx_run.specs.declared.settings.Settings.{Settings}
 use Rattle.jx_c.specs.Buffers.{IsFilled}
@@ -7,7 +8,6 @@ use Rattle.jx_c.specs.ByNames.{IsJudgedBy}
 use Rattle.jx_c.specs.Elements.{shown_element}
 use Rattle.jx_c.specs.Settings.{settings_in}
 use Rattle.jx_c.specs.Settled.{elements_by}
-use Rattle.jx_c.proofs.Verdicts.{as_many_by}
 use Rattle.jx_c.proofs.elements.jx_elements_with.Goals as goal
 
 pub returns-in-Ok-judge_with-clause-elements : goal.returns-in-Ok-judge_with-clause-elements
@@ -19,7 +19,7 @@ returns-in-Ok-judge_with-clause-elements c = λ ok.
     subst (λ (s : Settings). AllZip (IsJudgedBy s sequence) (elements_by s.mark sequence) all) c.in-Ok.ensures.settings c.in-Ok-judge_with.ensures in
     let long : c.len.result ≡ length all = search rules in
     record {
-      count_is = long ∙ as_many_by settings sequence (elements_by settings.mark sequence) all are;
+      count_is = long ∙ AllZip-long (IsJudgedBy settings sequence) (elements_by settings.mark sequence) all are;
       judged = all;
       are = are;
       filled = subst (λ (js : List JudgedElement). IsFilled shown_element c.args.elements.now c.fill.new.elements js) c.deref.ensures.value c.fill.ensures;

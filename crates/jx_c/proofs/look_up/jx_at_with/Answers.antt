@@ -3,11 +3,11 @@ use Rattle.jx_run.specs.declared.settings.Settings.{Settings}
 use Rattle.jx_c.specs.Settled.{IsLookUpBy}
 use Rattle.jx_c.proofs.look_up.jx_at_with.Goals as goal
 
-pub returns-in-Ok-look_up_with-clause-answer : goal.returns-in-Ok-look_up_with-clause-answer
-returns-in-Ok-look_up_with-clause-answer c = λ ok. (
-  c.in-Ok-look_up_with.look_up,
+pub returns-in-Ok-look_up-clause-answer : goal.returns-in-Ok-look_up-clause-answer
+returns-in-Ok-look_up-clause-answer c = λ ok. (
+  c.in-Ok-look_up.look_up,
   (
-    subst (λ (s : Settings). IsLookUpBy s c.args.text.now c.args.pointer.now c.in-Ok-look_up_with.look_up) c.in-Ok.ensures.settings c.in-Ok-look_up_with.ensures,
+    subst (λ (s : Settings). IsLookUpBy s c.args.text.now c.args.pointer.now c.in-Ok-look_up.look_up) c.in-Ok.ensures.settings c.in-Ok-look_up.ensures,
     c.shown_look_up.ensures,
   ),
 )

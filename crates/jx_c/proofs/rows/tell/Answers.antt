@@ -2,7 +2,6 @@ use Rattle.std.proofs.Common.{◌≡◌, List, length, ap, subst, ◌∙◌}
 use Rattle.jx_run.specs.declared.verdict.Verdict.TheVariants as verdict
 use Rattle.jx_index.specs.Rows.{rows}
 use Rattle.jx_index.specs.declared.row.Row.{Row}
-use Rattle.jx_c.specs.inside.Answers.{IsAnswer}
 use Rattle.jx_c.specs.Buffers.{IsFilled}
 use Rattle.jx_c.specs.ByNames.{a_text}
 use Rattle.jx_c.specs.Rows.{shown_row}
@@ -11,23 +10,8 @@ use Rattle.jx_c.specs.declared.texts.TextAnswer.{TextAnswer}
 use Rattle.jx_c.specs.declared.texts.TextAnswer.TheVariants.{Accepted}
 use Rattle.jx_c.proofs.rows.tell.Goals as goal
 
-pub returns-in-Accepted-clause-plain : goal.returns-in-Accepted-clause-plain
-returns-in-Accepted-clause-plain c = λ bytes depth told.
-    let h : IsAnswer bytes depth (Accepted c.in-Accepted.index) = subst (λ (a : TextAnswer). IsAnswer bytes depth a) c.in-Accepted.is told in
-    let all : c.rows-all.result.now ≡ rows h.1.tree = c.rows-all.ensures.same ∙ h.1.rows_are in (
-      verdict.Accepted,
-      h.0,
-      c.shown.ensures,
-      (
-        h.1.tree,
-        h.1.is_text,
-        ap length all,
-        subst (λ (xs : List Row). IsFilled shown_row c.args.rows.now c.fill.new.rows xs) all c.fill.ensures,
-      ),
-    )
-
-pub returns-in-Accepted-clause-settled : goal.returns-in-Accepted-clause-settled
-returns-in-Accepted-clause-settled c = λ settings bytes told.
+pub returns-in-Accepted : goal.returns-in-Accepted
+returns-in-Accepted c = λ settings bytes told.
     let h : IsAnswerBy settings bytes (Accepted c.in-Accepted.index) = subst (λ (a : TextAnswer). IsAnswerBy settings bytes a) c.in-Accepted.is told in
     let x = h.is_index in
     let all : c.rows-all.result.now ≡ rows x.tree = c.rows-all.ensures.same ∙ x.rows_are in (

@@ -1,5 +1,5 @@
-use Rattle.jx_c.proofs.Indexes.{whole_answer}
+use Rattle.std.proofs.Common.{refl}
 use Rattle.jx_c.proofs.texts.index_text.Goals as goal
 
 pub returns : goal.returns
-returns c = whole_answer c.args.text.now c.args.depth c.in_ok-answer.answer c.in_ok-answer.ensures
+returns c = c.text_by_names.ensures c.args.settings.now c.args.text.now refl c.in_ok-answer.ensures

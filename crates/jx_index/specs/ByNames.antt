@@ -1,0 +1,37 @@
+-- What a rule on the names of objects makes of texts that are otherwise accepted.
+use Rattle.std.specs.Prelude.{◌≡◌, ℕ, List, Option, None, Some}
+use Rattle.jx_run.specs.declared.element_verdict.ElementVerdict.TheVariants as verdict
+use Rattle.jx_run.specs.declared.element_verdict.JudgedElement.{JudgedElement}
+use Rattle.jx_run.specs.declared.settings.NameRule.{NameRule}
+use Rattle.jx_run.specs.declared.settings.NameRule.TheVariants.{Any, Unique}
+use Rattle.jx_run.specs.declared.settings.Settings.{Settings}
+use Rattle.jx_run.specs.declared.verdict.Refusal.{Refusal}
+use Rattle.jx_run.specs.declared.verdict.Refusal.TheVariants.{RepeatedName}
+use Rattle.jx_run.specs.declared.verdict.Verdict.{Verdict}
+use Rattle.jx_run.specs.declared.verdict.Verdict.TheVariants.{Accepted, Refused}
+use Rattle.jx_run.specs.Settings.{IsDocumentBy, JudgedBy}
+use Rattle.jx_run.specs.Tree.{Tree}
+use Rattle.jx_index.specs.declared.row.Row.{Row}
+use Rattle.jx_index.specs.Repeats.{IsLeast, IsRepeat}
+use Rattle.jx_index.specs.Rows.{rows}
+
+-- the start of the name for which the rule refuses a text with these rows: the first that an object repeats, where names
+-- have to be unique
+abbrev pub RefusesName : NameRule → List ℕ → List Row → Option ℕ → Type 0
+RefusesName Any text table name = name ≡ None
+RefusesName Unique text table name = IsLeast (IsRepeat text table) name
+
+-- by cases, the verdict by settings on bytes that stand from 0 on
+pub data IsVerdictBy (settings : Settings) (bytes : List ℕ) : Verdict → Type 0 where
+  -- a text in which no name is refused
+  a_text : {tree : Tree} → IsDocumentBy settings 0 bytes tree → RefusesName settings.names bytes (rows tree) None → IsVerdictBy settings bytes Accepted
+  -- a text in which one is
+  repeated_name : {tree : Tree} {at : ℕ} → IsDocumentBy settings 0 bytes tree → RefusesName settings.names bytes (rows tree) (Some at)
+      → IsVerdictBy settings bytes (Refused (RepeatedName at))
+  -- no text, whatever names its objects have
+  no_text : {refusal : Refusal} → JudgedBy settings 0 bytes (Refused refusal) → IsVerdictBy settings bytes (Refused refusal)
+
+-- the verdict on an element, unless a name is refused
+abbrev pub judged_unless : Option ℕ → JudgedElement → JudgedElement
+judged_unless None e = e
+judged_unless (Some at) e = record e { verdict = verdict.Refused (RepeatedName at) }
