@@ -36,7 +36,7 @@ pub(crate) fn text_by_names<'a>(rule: NameRule, answer: TextAnswer<'a>) -> TextA
     }
 }
 
-/// The same of what has this answer.
+/// The start of the name for which the rule refuses an element with this answer, if it refuses one.
 fn refused_name_in(rule: NameRule, answer: &ElementAnswer<'_>) -> Option<usize>
     ensures { RefusesNameIn rule answer.now result }
 {

@@ -117,7 +117,7 @@ fn may_be_refused(rule: NameRule, verdict: ElementVerdict) -> bool
     )
 }
 
-/// The verdict on one of them.
+/// The verdict on an element, from that whatever names its objects have. Only what is accepted is indexed.
 fn element_by_names(
     alloc: Global,
     text: &[u8],

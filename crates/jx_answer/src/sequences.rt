@@ -1,6 +1,7 @@
-ghost use Rattle.std.specs.Prelude.{◌≡◌, ◌<◌, ◌≤◌, ◌↔◌, ◌++◌, ℕ, IsTrue, All, length, slice_range, IfOk, OnOk};
+ghost use Rattle.std.specs.Prelude.{◌≡◌, ◌<◌, ◌≤◌, ◌↔◌, ◌++◌, ℕ, List, IsTrue, All, length, slice_range, IfOk, OnOk};
 ghost use Rattle.std.specs.List.{AllZip};
 ghost use Rattle.jx_run.specs.Elements.{Part, filled};
+ghost use Rattle.jx_run.specs.Front.{front_of};
 ghost use Rattle.jx_run.specs.SeqRun.{IsSeqRun, place_of_seq};
 ghost use Rattle.jx_run.specs.Started.{IsStarted};
 ghost use Rattle.jx_run.specs.Text.{IsText};
@@ -8,7 +9,7 @@ ghost use Rattle.jx_run.specs.TextRun.{IsTextRun, place_of};
 ghost use Rattle.jx_run.specs.Tree.{Tree, span};
 ghost use Rattle.jx_run.specs.Unclosed.{EndsUnclosed, is_unclosed};
 ghost use Rattle.jx_answer.specs.Sequence.{AreElements, IsElement, IsElementAnswer};
-ghost use Rattle.jx_answer.specs.Settled.{AreElementsBy, elements_by, is_mark_alone};
+ghost use Rattle.jx_answer.specs.Settled.{AreElementsBy, elements_by};
 ghost use Rattle.jx_answer.specs.inside.Pushed.{IsReadable, IsShown, PushesEach, PushesFilled, part_of, unmarked};
 
 use crate::batches::is_mark_there;
@@ -20,15 +21,16 @@ use jx_book::Gate;
 use jx_claim::{Cutting, Workers};
 use jx_index::Indexed;
 use jx_lex::{Depth, Kind, Span};
-use jx_run::{FrontMark, SeqRun, Settings, Shape, Started, Summary, TextRun, Verdict, front};
+use jx_run::{
+    Front, FrontMark, SeqRun, Settings, Shape, Started, Summary, TextRun, Verdict, front,
+};
 use std::alloc::{AllocError, Global};
 use std::sync::Wait;
 use std::thread::Threads;
 
 /// Reads a JSON text sequence (RFC 7464) by that many workers, who draw the pieces of the cutting, and answers on each
 /// of its elements in order; a refused one does not stop the rest. It may wait for the workers. The gate is asked after
-/// each step of a worker; what workers that it stopped left is read by the calling thread. Only want of memory is a
-/// fault.
+/// each step of a worker and may stop the worker; the calling thread reads what is left. Only want of memory is a fault.
 pub fn index_sequence<'a, R: Threads + Wait + Sync, G: Gate + Sync>(
     rt: &R,
     alloc: Global,
@@ -87,31 +89,23 @@ fn index_by_mark<'a, R: Threads + Wait + Sync, G: Gate + Sync>(
     let elements = index_sequence(rt, alloc, text, cutting, workers, settings.depth, gate)?;
     match settings.mark {
         FrontMark::Refused => Ok(elements),
-        FrontMark::Ignored => Ok(without_mark(text, elements)),
+        FrontMark::Ignored => Ok(without_mark(front(text, FrontMark::Ignored), elements)),
     }
 }
 
 /// The answers without that on a byte order mark alone, before the first record separator.
-fn without_mark<'a>(text: &[u8], mut elements: Vec<Element<'a>>) -> Vec<Element<'a>>
-    requires elements { (limit : ℕ) × AreElements text.now limit elements.items }
-    ensures elements { (limit : ℕ) → AreElements text.now limit elements.entry.items → AllZip (IsElement text.now limit) (elements_by FrontMark.Ignored text.now) result.items }
+fn without_mark<'a>(seen: Front, mut elements: Vec<Element<'a>>) -> Vec<Element<'a>>
+    ensures { (text : List ℕ) (limit : ℕ) → seen ≡ front_of FrontMark.Ignored text → AreElements text limit elements.entry.items
+        → AllZip (IsElement text limit) (elements_by FrontMark.Ignored text) result.items }
 {
     if elements.is_empty() {
         return elements;
     }
-    if !is_mark_alone(text, elements[0].span) {
+    if !is_mark_there(seen, elements[0].span) {
         return elements;
     }
     elements.remove(0);
     elements
-}
-
-/// Whether a part of the text stands at its start and is just the byte order mark.
-fn is_mark_alone(text: &[u8], span: Span) -> bool
-    requires within { span.end ≤ length text.now }
-    ensures alone { result ≡ is_mark_alone (part_of text.now span) }
-{
-    is_mark_there(front(text, FrontMark::Ignored), span)
 }
 
 /// The answers that a run over the whole input gives.

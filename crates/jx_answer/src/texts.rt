@@ -29,8 +29,8 @@ use std::sync::Wait;
 use std::thread::Threads;
 
 /// Reads a JSON text (RFC 8259) by that many workers, who draw the pieces of the cutting, and indexes it where it is
-/// accepted. It may wait for the workers. The gate is asked after each step of a worker; what workers that it stopped
-/// left is read by the calling thread. One worker alone starts no thread: the calling thread reads piece by piece, and asks
+/// accepted. It may wait for the workers. The gate is asked after each step of a worker and may stop the worker; the
+/// calling thread reads what is left. One worker alone starts no thread: the calling thread reads piece by piece, and asks
 /// the gate as each begins, until it says stop. A cutting of at most one piece starts no worker and asks no gate. Only want
 /// of memory is a fault.
 pub fn index_text<'a, R: Threads + Wait + Sync, G: Gate + Sync>(
@@ -116,7 +116,7 @@ pub fn verdict_of_text<R: Threads + Wait + Sync, G: Gate + Sync>(
     verdict_of_text_with(rt, alloc, text, cutting, workers, &settings, gate)
 }
 
-/// The verdict that `index_text_with` comes to, without the index, which is made only where names have to be unique.
+/// The verdict that `index_text_with` comes to. An index is made only where names have to be unique, and is let go.
 pub fn verdict_of_text_with<R: Threads + Wait + Sync, G: Gate + Sync>(
     rt: &R,
     alloc: Global,
@@ -140,7 +140,7 @@ pub fn verdict_of_text_with<R: Threads + Wait + Sync, G: Gate + Sync>(
     }
 }
 
-/// The settings within this depth that are off but for it: a byte order mark is refused, and objects may have any names.
+/// The settings that a depth alone stands for: a byte order mark is refused, and objects may have any names.
 fn plain(depth: Depth) -> Settings
     ensures depth { result.depth ≡ depth }
     ensures mark { result.mark ≡ Refused }

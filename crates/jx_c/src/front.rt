@@ -12,7 +12,7 @@ use std::alloc::AllocError;
 /// U+FEFF in UTF-8.
 const BYTE_ORDER_MARK: [u8; 3] = [0xEF, 0xBB, 0xBF];
 
-/// How many bytes of the mark there are with those of the slice, behind so many before it.
+/// With how many bytes of the mark the text begins: so many in the slices before, and then those of this slice.
 fn count_agreed(slice: &[u8], before: usize) -> usize
     requires { before < 3 }
     ensures bounds { (before ≤ result) × (result ≤ 3) }

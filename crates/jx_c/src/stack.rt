@@ -43,7 +43,7 @@ pub struct JxStack {
     pub bits: u64,
     /// The offset of the fault.
     pub at: usize,
-    /// What may stand next, from 0 to 5; 6 behind a mark that may not stand there, above behind one that is too deep.
+    /// What may stand next, from 0 to 5; 6 behind a mark that may not stand there, and more behind one that is too deep.
     pub stage: u32,
     /// How many containers may stand open at once.
     pub depth: u16,
@@ -183,7 +183,7 @@ impl JxStack {
         }
     }
 
-    /// A container more is open. The word stands among the full ones from its last container on.
+    /// Opens a container. The word that is being filled is written to its place among the full ones each time.
     #[inline(always)]
     fn open(&mut self, holder: Holder)
         requires holder { holder ≡ Holder.Bottom → ⊥ }
@@ -198,7 +198,7 @@ impl JxStack {
         self.count += 1;
     }
 
-    /// The innermost container is closed.
+    /// Closes the innermost container, if there is one.
     #[inline(always)]
     fn close(&mut self)
         ensures depth { self.new.depth ≡ self.old.depth }
@@ -236,7 +236,7 @@ impl JxStack {
         }
     }
 
-    /// A container more is open, within the depth.
+    /// Opens a container where the depth allows it; else the mark is too deep.
     #[inline(always)]
     fn enter(&mut self, holder: Holder, expect: Expect, at: usize)
         requires { holder ≡ Holder.Bottom → ⊥ }

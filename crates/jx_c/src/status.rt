@@ -12,10 +12,10 @@ pub const DEPTH_TOO_GREAT: u32 = 2;
 /// The reader was not started.
 pub const NOT_STARTED: u32 = 3;
 
-/// With these bytes the reader would have been fed more than a number of 64 bits counts.
+/// With these bytes the reader would have been fed more bytes than 64 bits can count.
 pub const TOO_MANY_BYTES: u32 = 4;
 
-/// The settings have a flag that there is not.
+/// The settings have an unknown flag.
 pub const UNKNOWN_FLAG: u32 = 5;
 
 /// The settings ask for unique names, and a reader keeps none.

@@ -12,7 +12,7 @@ const STOPPED: u32 = 1;
 const TRUNCATED: u32 = 2;
 /// Only a greater depth would let the text go on with the byte at the offset.
 const TOO_DEEP: u32 = 3;
-/// The name at the offset is that of an earlier member of its object, and names have to be unique. Elements have 4 and 5.
+/// The name at the offset is that of an earlier member of its object, and names have to be unique. The numbers 4 and 5 are for elements.
 const REPEATED_NAME: u32 = 6;
 
 /// What reading a text comes to.
