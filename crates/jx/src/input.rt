@@ -3,7 +3,7 @@ ghost use Rattle.std.specs.Prelude.{◌≡◌, ◌≤◌, false};
 
 use crate::fault::Fault;
 use jx_book::OpenGate;
-use jx_command::Command;
+use jx_task::Command;
 use jx_report::{End, Exit, Sink, report};
 use std::fs::File;
 use std::sync::Wait;

@@ -2,7 +2,7 @@
 ghost use Rattle.std.specs.Prelude.{◌≡◌};
 
 use crate::fault::Fault;
-use jx_command::Command;
+use jx_task::Command;
 use std::fs::File;
 use std::io::Read;
 

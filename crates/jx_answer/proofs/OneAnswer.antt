@@ -91,7 +91,7 @@ module _ (one_tree : (settings : Settings) (at : ℕ) (bytes : List ℕ) (x y : 
       let same : h.tree ≡ k.tree = one_tree settings 0 bytes h.tree k.tree h.is_text k.is_text in
       let from : length h.is_text.front ≡ length k.is_text.front = one_front settings bytes h.tree k.tree same h.is_text k.is_text in
       same_index i j (h.text ∙ sym k.text)
-      (h.place ∙ ap (λ (n : ℕ). span n (length bytes)) from ∙ sym k.place)
+      (h.span ∙ ap (λ (n : ℕ). span n (length bytes)) from ∙ sym k.span)
       (h.rows_are ∙ ap rows same ∙ sym k.rows_are)
 
   pub one_answer_by : (x y : TextAnswer) → IsAnswerBy settings bytes x → IsAnswerBy settings bytes y → x ≡ y

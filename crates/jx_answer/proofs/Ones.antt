@@ -1,7 +1,7 @@
 -- The definitions of the answers leave no choice, where a text has one tree and one verdict.
 use Rattle.std.proofs.Common.{◌≡◌, ℕ, List, [], ◌∷◌, map, refl, sym, ap, subst, ◌∙◌, arith}
 use Rattle.std.specs.List.{AllZip}
-use Rattle.jx_lex.specs.declared.span.Span.{Span}
+use Rattle.jx_summary.specs.declared.span.Span.{Span}
 use Rattle.jx_run.specs.declared.verdict.Verdict.{Verdict}
 use Rattle.jx_run.specs.declared.verdict.Verdict.TheVariants.{Accepted, Refused}
 use Rattle.jx_run.specs.declared.verdict.Refusal.{Refusal}
@@ -25,9 +25,9 @@ use Rattle.jx_answer.specs.Sequence.{IsElementAnswer, IsElementIndex, IsElement,
 use Rattle.jx_answer.specs.Settled.{AreElementsBy, AreJudgedBy, IsElementBy, IsJudgedBy, elements_by}
 use Rattle.jx_answer.proofs.ByNames.{one_by_names}
 
-pub same_index : (x y : IndexedValue) → x.text ≡ y.text → x.place ≡ y.place → x.rows ≡ y.rows → x ≡ y
+pub same_index : (x y : IndexedValue) → x.text ≡ y.text → x.span ≡ y.span → x.rows ≡ y.rows → x ≡ y
 same_index x y e f g =
-    ap (λ t. record x { text = t }) e ∙ ap (λ p. record x { text = y.text; place = p }) f ∙ ap (λ r. record y { rows = r }) g
+    ap (λ t. record x { text = t }) e ∙ ap (λ p. record x { text = y.text; span = p }) f ∙ ap (λ r. record y { rows = r }) g
 
 pub same_refusal : (r s : Refusal) → Refused r ≡ Refused s → r ≡ s
 same_refusal r s e = cc
@@ -48,7 +48,7 @@ module _ (one_tree : (at limit : ℕ) (bytes : List ℕ) (x y : Tree) → IsDocu
   pub one_answer : (text : List ℕ) (limit : ℕ) (x y : TextAnswer) → IsAnswer text limit x → IsAnswer text limit y → x ≡ y
   one_answer text limit (answer.Accepted i) (answer.Accepted j) h k =
       ap (λ (v : IndexedValue). answer.Accepted v)
-      (same_index i j (h.1.text ∙ sym k.1.text) (h.1.place ∙ sym k.1.place) (h.1.rows_are ∙ ap rows (one_tree 0 limit text h.1.tree k.1.tree h.1.is_text k.1.is_text) ∙ sym k.1.rows_are))
+      (same_index i j (h.1.text ∙ sym k.1.text) (h.1.span ∙ sym k.1.span) (h.1.rows_are ∙ ap rows (one_tree 0 limit text h.1.tree k.1.tree h.1.is_text k.1.is_text) ∙ sym k.1.rows_are))
   one_answer text limit (answer.Accepted i) (answer.Refused s) h k = not_both s (one_verdict 0 limit text Accepted (Refused s) h.0 k)
   one_answer text limit (answer.Refused r) (answer.Accepted j) h k = not_both r (one_verdict 0 limit text Accepted (Refused r) k.0 h)
   one_answer text limit (answer.Refused r) (answer.Refused s) h k =
@@ -57,7 +57,7 @@ module _ (one_tree : (at limit : ℕ) (bytes : List ℕ) (x y : Tree) → IsDocu
   module _ (input : List ℕ) (limit : ℕ) where
     one_index : (p : Part) (i j : IndexedValue) → IsElementIndex input p limit i → IsElementIndex input p limit j → i ≡ j
     one_index p i j h k =
-        same_index i j (h.text ∙ sym k.text) (h.place ∙ sym k.place)
+        same_index i j (h.text ∙ sym k.text) (h.span ∙ sym k.span)
         (h.rows_are ∙ ap rows (one_tree p.at limit p.bytes h.tree k.tree h.accepted.is_text k.accepted.is_text) ∙ sym k.rows_are)
 
     -- an index is of a text whose end shows

@@ -100,19 +100,19 @@ all_last input [] q h = All-head (IsMarkedIn input) q [] h
 all_last input (p ∷ ps) q h = all_last input ps q (All-tail (IsMarkedIn input) p (ps ++ q ∷ []) h)
 
 -- the part at a reading's span is the part that it is a reading of
-pub part_is : (input : List ℕ) (limit : ℕ) (p : Part) (s : StartedValue) → IsReading limit p s → LiesIn input p → part_of input s.place ≡ p
+pub part_is : (input : List ℕ) (limit : ℕ) (p : Part) (s : StartedValue) → IsReading limit p s → LiesIn input p → part_of input s.span ≡ p
 part_is input limit p s r lies =
-    let at : s.place.start ≡ p.at = r.start in
-    let end : s.place.end ≡ p.at + length p.bytes = r.of.long ∙ ap (λ n. n + length p.bytes) at in
-    ap (λ n. part n (slice_range input n s.place.end)) at ∙ ap (λ n. part p.at (slice_range input p.at n)) end ∙ ap (part p.at) lies.bytes
+    let at : s.span.start ≡ p.at = r.start in
+    let end : s.span.end ≡ p.at + length p.bytes = r.of.long ∙ ap (λ n. n + length p.bytes) at in
+    ap (λ n. part n (slice_range input n s.span.end)) at ∙ ap (λ n. part p.at (slice_range input p.at n)) end ∙ ap (part p.at) lies.bytes
 
 pub readable : (input : List ℕ) (limit : ℕ) (p : Part) (s : StartedValue) → IsReading limit p s → IsMarkedIn input p → IsReadable input s
 readable input limit p s r m =
-    let at : s.place.start ≡ p.at = r.start in
-    let long : s.place.end ≡ s.place.start + length p.bytes = r.of.long in
+    let at : s.span.start ≡ p.at = r.start in
+    let long : s.span.end ≡ s.span.start + length p.bytes = r.of.long in
     let within : p.at + length p.bytes ≤ length input = m.lies.within in
     let behind : 0 < p.at = m.behind in
-    let same : part_of input s.place ≡ p = part_is input limit p s r m.lies in
+    let same : part_of input s.span ≡ p = part_is input limit p s r m.lies in
     record {
       marked = omega arith;
       ordered = omega arith;
@@ -139,7 +139,7 @@ answered input limit (p ∷ ps) [] es z m a = absurd z
 answered input limit (p ∷ ps) (s ∷ ss) [] z m a = absurd a
 answered input limit (p ∷ ps) (s ∷ ss) (e ∷ es) z m a =
     let lies = (All-head (IsMarkedIn input) p ps m).lies in (
-      subst (λ (q : Part). IsElement input limit q e) (part_is input limit p s z.0 lies) (subst (λ (d : ℕ). IsElement input d (part_of input s.place) e) (z.0).depth a.0),
+      subst (λ (q : Part). IsElement input limit q e) (part_is input limit p s z.0 lies) (subst (λ (d : ℕ). IsElement input d (part_of input s.span) e) (z.0).depth a.0),
       answered input limit ps ss es z.1 (All-tail (IsMarkedIn input) p ps m) a.1,
     )
 

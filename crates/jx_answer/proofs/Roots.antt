@@ -1,9 +1,9 @@
 -- What the first row of a text says of its root, and what a reading that accepts is answered by.
 use Rattle.std.proofs.Common.{◌≡◌, ℕ, List, Some, None, true, sym, subst, ap, ◌∙◌}
 use Rattle.std.specs.Prelude.{slice_get, slice_range}
-use Rattle.jx_lex.specs.declared.span.Span.{Span}
+use Rattle.jx_summary.specs.declared.span.Span.{Span}
 use Rattle.jx_run.specs.declared.verdict.Verdict.TheVariants.{Accepted}
-use Rattle.jx_run.specs.Elements.{span_of}
+use Rattle.jx_run.specs.Elements.{part_span}
 use Rattle.jx_run.specs.Started.{StartedValue}
 use Rattle.jx_run.specs.Text.{IsDocument, IsText}
 use Rattle.jx_run.specs.Tree.{Tree, node, span}
@@ -40,20 +40,20 @@ tree_of start limit bytes (a_text {tree = tree} document) = (tree, document)
 -- ---- an element that is a text
 
 pub accepted_as : (input : List ℕ) (s : StartedValue) → s.verdict ≡ Accepted → IsReadable input s
-    → (tree : Tree) × IsAccepted (part_of input s.place) s.limit tree
+    → (tree : Tree) × IsAccepted (part_of input s.span) s.depth tree
 accepted_as input s v r =
-    let judged = subst (λ x. Judged s.place.start (slice_range input s.place.start s.place.end) s.limit x) v r.reading.judged in
-    let t = tree_of s.place.start s.limit (slice_range input s.place.start s.place.end) judged in
+    let judged = subst (λ x. Judged s.span.start (slice_range input s.span.start s.span.end) s.depth x) v r.reading.judged in
+    let t = tree_of s.span.start s.depth (slice_range input s.span.start s.span.end) judged in
     (t.0, record { judged = judged; is_text = t.1 })
 
-pub text_in : (input : List ℕ) (s : StartedValue) (index : IndexedValue) (tree : Tree) → index.text ≡ input → index.place ≡ s.place
-    → IsAccepted (part_of input s.place) s.limit tree → IsText index.text index.place.start index.place.end s.limit tree
+pub text_in : (input : List ℕ) (s : StartedValue) (index : IndexedValue) (tree : Tree) → index.text ≡ input → index.span ≡ s.span
+    → IsAccepted (part_of input s.span) s.depth tree → IsText index.text index.span.start index.span.end s.depth tree
 text_in input s index tree t p a =
-    subst (λ (b : List ℕ). IsText b index.place.start index.place.end s.limit tree) (sym t)
-    (subst (λ (x : Span). IsText input x.start x.end s.limit tree) (sym p) a.is_text)
+    subst (λ (b : List ℕ). IsText b index.span.start index.span.end s.depth tree) (sym t)
+    (subst (λ (x : Span). IsText input x.start x.end s.depth tree) (sym p) a.is_text)
 
-pub ends_at : (input : List ℕ) (s : StartedValue) → IsReadable input s → end_of (part_of input s.place) ≡ s.place.end
+pub ends_at : (input : List ℕ) (s : StartedValue) → IsReadable input s → end_of (part_of input s.span) ≡ s.span.end
 ends_at input s r = sym r.reading.long
 
-pub spans_at : (input : List ℕ) (s : StartedValue) → IsReadable input s → span_of (part_of input s.place) ≡ s.place
-spans_at input s r = ap (span s.place.start) (sym r.reading.long)
+pub spans_at : (input : List ℕ) (s : StartedValue) → IsReadable input s → part_span (part_of input s.span) ≡ s.span
+spans_at input s r = ap (span s.span.start) (sym r.reading.long)

@@ -3,10 +3,10 @@ use Rattle.std.proofs.Common.{◌≡◌, ℕ, ◌+◌, ◌<◌, List, [], ◌∷
 use Rattle.std.specs.Prelude.{All, slice_range}
 use Rattle.std.specs.List.{AllZip}
 use Rattle.std.proofs.lemmas.List.Elements.{filter-append, All-filter}
-use Rattle.jx_run.specs.Elements.{Part, part, span_of, before_separator, after_separators, elements, filled, has_bytes}
+use Rattle.jx_run.specs.Elements.{Part, part, part_span, before_separator, after_separators, elements, filled, has_bytes}
 use Rattle.jx_run.specs.SeqRun.{IsMarked, MarkedValue}
 use Rattle.jx_run.specs.Started.{StartedValue}
-use Rattle.jx_run.specs.TextRun.{TextRunValue, IsTextRun, place_of}
+use Rattle.jx_run.specs.TextRun.{TextRunValue, IsTextRun, text_span}
 use Rattle.jx_run.specs.Tree.{span}
 use Rattle.jx_answer.specs.declared.element.Element.{Element}
 use Rattle.jx_answer.specs.Sequence.{IsElement, AreElements}
@@ -18,8 +18,8 @@ module _ (input : List ℕ) (before : TextRunValue) (done : List StartedValue) (
   abbrev value : MarkedValue
   value = record { done = done; after = after }
 
-  is_marked : IsMarked before.limit (after_separators 0 input) value
-  is_marked = subst (λ n. IsMarked before.limit (after_separators n input) value) shown.start shown.summary.1
+  is_marked : IsMarked before.depth (after_separators 0 input) value
+  is_marked = subst (λ n. IsMarked before.depth (after_separators n input) value) shown.start shown.summary.1
 
   all_marked : All (IsMarkedIn input) (is_marked.between ++ is_marked.last ∷ [])
   all_marked = subst (All (IsMarkedIn input)) is_marked.parts (marked_parts input)
@@ -31,7 +31,7 @@ module _ (input : List ℕ) (before : TextRunValue) (done : List StartedValue) (
   between_marked = All-filter has_bytes (IsMarkedIn input) is_marked.between (all_front input is_marked.between is_marked.last all_marked)
 
   pub done_readable : All (IsReadable input) done
-  done_readable = all_readable input before.limit (filled is_marked.between) done is_marked.done between_marked
+  done_readable = all_readable input before.depth (filled is_marked.between) done is_marked.done between_marked
 
   pub last_behind : 0 < after.map.start
   last_behind =
@@ -40,7 +40,7 @@ module _ (input : List ℕ) (before : TextRunValue) (done : List StartedValue) (
       omega (arith, at, behind)
 
   -- the part at the place of the last run is the last part
-  last_is : part_of input (place_of after) ≡ is_marked.last
+  last_is : part_of input (text_span after) ≡ is_marked.last
   last_is =
       let at = is_marked.start in
       let end : after.map.end ≡ is_marked.last.at + length is_marked.last.bytes = is_marked.after.long ∙ ap (λ n. n + length is_marked.last.bytes) at in
@@ -50,7 +50,7 @@ module _ (input : List ℕ) (before : TextRunValue) (done : List StartedValue) (
   pub last_read : IsTextRun (slice_range input after.map.start after.map.end) after
   last_read = subst (λ (b : List ℕ). IsTextRun b after) (sym (ap (λ (p : Part). p.bytes) last_is)) is_marked.after
 
-  first_place : span_of (part 0 (before_separator input)) ≡ place_of before
+  first_place : part_span (part 0 (before_separator input)) ≡ text_span before
   first_place =
       ap (λ n. span n (n + length (before_separator input))) (sym shown.start) ∙ ap (span before.map.start) (sym shown.summary.0.long)
 
@@ -60,18 +60,18 @@ module _ (input : List ℕ) (before : TextRunValue) (done : List StartedValue) (
       filter-append has_bytes (part 0 (before_separator input) ∷ []) (after_separators 0 input)
       ∙ ap (λ ps. filled (part 0 (before_separator input) ∷ []) ++ ps) (ap filled is_marked.parts ∙ filter-append has_bytes is_marked.between (is_marked.last ∷ []))
 
-  pub shown_elements : (one two three : List Element) → one ≡ [] ++ unmarked (place_of before) → PushesEach input done one two
-      → PushesFilled input after.limit (part_of input (place_of after)) two three → AreElements input before.limit three
+  pub shown_elements : (one two three : List Element) → one ≡ [] ++ unmarked (text_span before) → PushesEach input done one two
+      → PushesFilled input after.depth (part_of input (text_span after)) two three → AreElements input before.depth three
   shown_elements one two three h each last =
-      let R = IsElement input before.limit in
-      let middle = answered input before.limit (filled is_marked.between) done each.more is_marked.done between_marked each.each in
+      let R = IsElement input before.depth in
+      let middle = answered input before.depth (filled is_marked.between) done each.more is_marked.done between_marked each.each in
       let end = subst (λ (p : Part). AllZip R (filled (p ∷ [])) last.more) last_is
-      (subst (λ (d : ℕ). AllZip (IsElement input d) (filled (part_of input (place_of after) ∷ [])) last.more) is_marked.depth last.each) in
+      (subst (λ (d : ℕ). AllZip (IsElement input d) (filled (part_of input (text_span after) ∷ [])) last.more) is_marked.depth last.each) in
       let all = AllZip-append R (filled (part 0 (before_separator input) ∷ [])) (filled is_marked.between ++ filled (is_marked.last ∷ []))
-      (unmarked (place_of before)) (each.more ++ last.more) (unmarked_is input before.limit (before_separator input) (place_of before) first_place)
+      (unmarked (text_span before)) (each.more ++ last.more) (unmarked_is input before.depth (before_separator input) (text_span before) first_place)
       (AllZip-append R (filled is_marked.between) (filled (is_marked.last ∷ [])) each.more last.more middle end) in
-      let items : three ≡ unmarked (place_of before) ++ (each.more ++ last.more) =
+      let items : three ≡ unmarked (text_span before) ++ (each.more ++ last.more) =
       (last.new_is ∙ ap (λ (xs : List Element). xs ++ last.more) (each.new_is ∙ ap (λ (xs : List Element). xs ++ each.more) h)
-      ∙ append_assoc (unmarked (place_of before)) each.more last.more) in
+      ∙ append_assoc (unmarked (text_span before)) each.more last.more) in
       subst (λ (ps : List Part). AllZip R ps three) (sym parts_are)
       (subst (λ (es : List Element). AllZip R (filled (part 0 (before_separator input) ∷ []) ++ (filled is_marked.between ++ filled (is_marked.last ∷ []))) es) (sym items) all)

@@ -34,7 +34,7 @@ module _ (texts : (settings : Settings) (at : ℕ) (bytes : List ℕ) (tree : Tr
     (verdicts settings 0 text Accepted is).0 ((by_names settings text Accepted any).0 h.0),
     record {
       text = h.1.text;
-      place = h.1.place ∙ ap (λ (n : ℕ). span n (length text)) (no_front h.1.is_text.front h.1.is_text.is_front);
+      span = h.1.span ∙ ap (λ (n : ℕ). span n (length text)) (no_front h.1.is_text.front h.1.is_text.is_front);
       tree = h.1.tree;
       is_text = (texts settings 0 text h.1.tree is).0 h.1.is_text;
       rows_are = h.1.rows_are;
@@ -49,7 +49,7 @@ module _ (texts : (settings : Settings) (at : ℕ) (bytes : List ℕ) (tree : Tr
       text = h.1.text;
       tree = h.1.tree;
       is_text = record { front = []; rest = text; is_front = subst (λ (m : FrontMark). IsFront m []) (sym is) refl; whole = refl; text = h.1.is_text };
-      place = h.1.place;
+      span = h.1.span;
       rows_are = h.1.rows_are;
     },
   )

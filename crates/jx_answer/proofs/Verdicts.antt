@@ -3,7 +3,7 @@ use Rattle.std.proofs.Common.{◌≡◌, ℕ, ◌<◌, ◌≤◌, List, [], ◌�
 use Rattle.std.specs.Prelude.{All, slice_index_or}
 use Rattle.std.proofs.lemmas.List.{length-map}
 use Rattle.std.proofs.lemmas.List.Elements.{All-head, All-tail}
-use Rattle.jx_lex.specs.declared.span.Span.{Span}
+use Rattle.jx_summary.specs.declared.span.Span.{Span}
 use Rattle.jx_run.specs.declared.settings.FrontMark.{FrontMark}
 use Rattle.jx_run.specs.declared.settings.FrontMark.TheVariants as on_mark
 use Rattle.jx_run.specs.declared.settings.NameRule.{NameRule}
@@ -13,7 +13,7 @@ use Rattle.std.specs.List.{AllZip}
 use Rattle.jx_run.specs.declared.element_verdict.ElementVerdict.{ElementVerdict}
 use Rattle.jx_run.specs.declared.element_verdict.ElementVerdict.TheVariants as verdict
 use Rattle.jx_run.specs.declared.element_verdict.JudgedElement.{JudgedElement}
-use Rattle.jx_run.specs.Elements.{Part, span_of, elements}
+use Rattle.jx_run.specs.Elements.{Part, part_span, elements}
 use Rattle.jx_run.specs.ElementVerdict.{IsVerdictOn, IsJudgedElement}
 use Rattle.jx_run.specs.Text.{IsDocument, IsText}
 use Rattle.jx_run.specs.Tree.{Tree}
@@ -45,10 +45,10 @@ answered input p limit (verdict.Refused r) h = record { told = answer.Refused r;
 answered input p limit verdict.MayBeCut h =
     record { told = answer.MayBeCut; is = (h.0, ((h.1).tree, (h.1).accepted, (h.1).unclosed)); less = refl }
 answered input p limit verdict.Accepted h =
-    let index : IndexedValue = record { text = input; place = span_of p; rows = rows (h.1).tree } in
+    let index : IndexedValue = record { text = input; span = part_span p; rows = rows (h.1).tree } in
     record {
       told = answer.Accepted index;
-      is = (h.0, record { tree = (h.1).tree; accepted = (h.1).accepted; closed = (h.1).closed; text = refl; place = refl; rows_are = refl });
+      is = (h.0, record { tree = (h.1).tree; accepted = (h.1).accepted; closed = (h.1).closed; text = refl; span = refl; rows_are = refl });
       less = refl;
     }
 
@@ -161,7 +161,7 @@ judged_in mark input limit js h = paired input limit (elements_by mark input) h.
 -- ---- by the rule on names
 
 module _ (settings : Settings) (input : List ℕ) (p : Part) (j : JudgedElement) (h : IsJudgedIn input settings.depth p j) where
-  span_here : j.span ≡ span_of p
+  span_here : j.span ≡ part_span p
   span_here = ap (λ (x : JudgedElement). x.span) (sym h.less) ∙ h.is.span_is
 
   pub span_ordered : j.span.start ≤ j.span.end

@@ -12,7 +12,7 @@ use Rattle.jx_answer.specs.declared.text_answer.TextAnswer.TheVariants as answer
 -- the index is over the whole of these bytes, and its rows are those of their tree
 pub record IsIndexOf (bytes : List ℕ) (limit : ℕ) (index : IndexedValue) : Type 0 where
   pub text : index.text ≡ bytes
-  pub place : index.place ≡ span 0 (length bytes)
+  pub span : index.span ≡ span 0 (length bytes)
   pub tree : Tree
   pub is_text : IsDocument 0 bytes limit tree
   pub rows_are : index.rows ≡ rows tree

@@ -1,7 +1,7 @@
 -- What pointers come to in an index.
 use Rattle.std.specs.Prelude.{◌≡◌, ℕ, List, Option, Some, Result, Ok, Err, All, slice_get}
 use Rattle.jx_lex.specs.declared.kind.Kind.{Kind}
-use Rattle.jx_lex.specs.declared.span.Span.{Span}
+use Rattle.jx_summary.specs.declared.span.Span.{Span}
 use Rattle.jx_run.specs.Text.{IsText}
 use Rattle.jx_run.specs.Tree.{Tree}
 use Rattle.jx_index.specs.declared.find_fault.FindFault.{FindFault}
@@ -16,7 +16,7 @@ use Rattle.jx_answer.specs.declared.answered.Answered.{Answered}
 -- what `find` answers to the pointer on this index
 abbrev pub Finds : IndexedValue → List ℕ → Result ℕ FindFault → Type 0
 Finds index pointer found = (limit : ℕ) (tree : Tree)
-    → IsText index.text index.place.start index.place.end limit tree → found ≡ leads index.text tree (tokens pointer)
+    → IsText index.text index.span.start index.span.end limit tree → found ≡ leads index.text tree (tokens pointer)
 
 -- the row of this node has this kind and this span
 pub record HasRowAt (rows : List Row) (node : ℕ) (kind : Kind) (span : Span) : Type 0 where

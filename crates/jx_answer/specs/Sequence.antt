@@ -2,7 +2,7 @@
 use Rattle.std.specs.Prelude.{◌≡◌, ℕ, ◌<◌, List, map}
 use Rattle.std.specs.List.{AllZip}
 use Rattle.jx_run.specs.declared.verdict.Verdict.TheVariants.{Refused}
-use Rattle.jx_run.specs.Elements.{Part, span_of, elements}
+use Rattle.jx_run.specs.Elements.{Part, part_span, elements}
 use Rattle.jx_run.specs.declared.element_verdict.ElementVerdict.{ElementVerdict}
 use Rattle.jx_run.specs.declared.element_verdict.ElementVerdict.TheVariants as verdict
 use Rattle.jx_run.specs.declared.element_verdict.JudgedElement.{JudgedElement}
@@ -21,7 +21,7 @@ pub record IsElementIndex (input : List ℕ) (p : Part) (limit : ℕ) (index : I
   pub accepted : IsAccepted p limit tree
   pub closed : EndsUnclosed tree (end_of p) → ⊥
   pub text : index.text ≡ input
-  pub place : index.place ≡ span_of p
+  pub span : index.span ≡ part_span p
   pub rows_are : index.rows ≡ rows tree
 
 -- what is answered on an element
@@ -32,7 +32,7 @@ IsElementAnswer input p limit answer.MayBeCut = (0 < p.at) × ((tree : Tree) × 
 IsElementAnswer input p limit (answer.Accepted index) = (0 < p.at) × IsElementIndex input p limit index
 
 pub record IsElement (input : List ℕ) (limit : ℕ) (p : Part) (e : Element) : Type 0 where
-  pub span_is : e.span ≡ span_of p
+  pub span_is : e.span ≡ part_span p
   pub answer_is : IsElementAnswer input p limit e.answer
 
 -- one for each element of the input, in order

@@ -7,7 +7,7 @@ use Rattle.jx_run.specs.declared.settings.FrontMark.{FrontMark}
 use Rattle.jx_run.specs.declared.settings.FrontMark.TheVariants as on_mark
 use Rattle.jx_run.specs.declared.settings.Settings.{Settings}
 use Rattle.jx_run.specs.declared.verdict.Verdict.TheVariants.{Accepted, Refused}
-use Rattle.jx_run.specs.Elements.{Part, span_of, elements}
+use Rattle.jx_run.specs.Elements.{Part, part_span, elements}
 use Rattle.jx_run.specs.Front.{agreed}
 use Rattle.jx_run.specs.Settings.{byte_order_mark, JudgedBy}
 use Rattle.jx_run.specs.Verdict.{Judged}
@@ -56,7 +56,7 @@ elements_by on_mark.Ignored input = without_mark (elements 0 input)
 -- what is answered on an element within the depth, and what the rule on names makes of that
 pub record IsElementBy (settings : Settings) (input : List ℕ) (p : Part) (e : Element) : Type 0 where
   pub told : ElementAnswer
-  pub span_is : e.span ≡ span_of p
+  pub span_is : e.span ≡ part_span p
   pub answer_is : IsElementAnswer input p settings.depth told
   pub by_names : IsByNames settings.names told e.answer
 

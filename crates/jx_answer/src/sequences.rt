@@ -2,10 +2,10 @@ ghost use Rattle.std.specs.Prelude.{◌≡◌, ◌<◌, ◌≤◌, ◌↔◌, �
 ghost use Rattle.std.specs.List.{AllZip};
 ghost use Rattle.jx_run.specs.Elements.{Part, filled};
 ghost use Rattle.jx_run.specs.Front.{front_of};
-ghost use Rattle.jx_run.specs.SeqRun.{IsSeqRun, place_of_seq};
+ghost use Rattle.jx_run.specs.SeqRun.{IsSeqRun, sequence_span};
 ghost use Rattle.jx_run.specs.Started.{IsStarted};
 ghost use Rattle.jx_run.specs.Text.{IsText};
-ghost use Rattle.jx_run.specs.TextRun.{IsTextRun, place_of};
+ghost use Rattle.jx_run.specs.TextRun.{IsTextRun, text_span};
 ghost use Rattle.jx_run.specs.Tree.{Tree, span};
 ghost use Rattle.jx_run.specs.Unclosed.{EndsUnclosed, is_unclosed};
 ghost use Rattle.jx_answer.specs.Sequence.{AreElements, IsElement, IsElementAnswer};
@@ -114,9 +114,9 @@ fn elements_of<'a>(
     text: &'a [u8],
     run: &SeqRun,
 ) -> Result<Vec<Element<'a>>, AllocError>
-    requires place { place_of_seq run.now ≡ span 0 (length text.now) }
+    requires span { sequence_span run.now ≡ span 0 (length text.now) }
     requires of { IsSeqRun text.now run.now }
-    ensures elements { IfOk result (λ elements. AreElements text.entry.now run.now.before.limit elements.items) }
+    ensures elements { IfOk result (λ elements. AreElements text.entry.now run.now.before.depth elements.items) }
 {
     match run.shape() {
         Shape::Plain(before) => plain_elements(alloc, before),
@@ -130,7 +130,7 @@ fn elements_of<'a>(
 
 /// The answers on an input without a record separator.
 fn plain_elements<'a>(alloc: Global, before: &TextRun) -> Result<Vec<Element<'a>>, AllocError>
-    ensures elements { IfOk result (λ elements. elements.items ≡ unmarked (place_of before.now)) }
+    ensures elements { IfOk result (λ elements. elements.items ≡ unmarked (text_span before.now)) }
 {
     let mut elements = Vec::new(alloc);
     push_unmarked(before.span(), &mut elements)?;
@@ -146,7 +146,7 @@ fn marked_elements<'a>(
     after: &TextRun,
 ) -> Result<Vec<Element<'a>>, AllocError>
     requires shown { IsShown text.now before.now done.now after.now }
-    ensures elements { IfOk result (λ elements. AreElements text.entry.now before.now.limit elements.items) }
+    ensures elements { IfOk result (λ elements. AreElements text.entry.now before.now.depth elements.items) }
 {
     let mut elements = Vec::new(alloc);
     push_unmarked(before.span(), &mut elements)?;
@@ -195,7 +195,7 @@ fn push_last<'a>(
     requires ordered { after.now.map.start ≤ after.now.map.end }
     requires within { after.now.map.end ≤ length text.now }
     requires of { IsTextRun (slice_range text.now after.now.map.start after.now.map.end) after.now }
-    ensures pushed { OnOk result (PushesFilled text.entry.now after.now.limit (part_of text.entry.now (place_of after.now)) elements.old.items elements.new.items) }
+    ensures pushed { OnOk result (PushesFilled text.entry.now after.now.depth (part_of text.entry.now (text_span after.now)) elements.old.items elements.new.items) }
 {
     let span = after.span();
     if span.start < span.end {
@@ -212,7 +212,7 @@ fn element_of<'a>(
     started: &Started,
 ) -> Result<Element<'a>, AllocError>
     requires readable { IsReadable text.now started.now }
-    ensures element { IfOk result (IsElement text.entry.now started.now.limit (part_of text.entry.now started.now.place)) }
+    ensures element { IfOk result (IsElement text.entry.now started.now.depth (part_of text.entry.now started.now.span)) }
 {
     let answer = answer_of(alloc, text, started)?;
     Ok(Element {
@@ -228,7 +228,7 @@ fn answer_of<'a>(
     started: &Started,
 ) -> Result<ElementAnswer<'a>, AllocError>
     requires readable { IsReadable text.now started.now }
-    ensures answer { IfOk result (IsElementAnswer text.entry.now (part_of text.entry.now started.now.place) started.now.limit) }
+    ensures answer { IfOk result (IsElementAnswer text.entry.now (part_of text.entry.now started.now.span) started.now.depth) }
 {
     if let Verdict::Refused(refusal) = started.verdict() {
         return Ok(ElementAnswer::Refused(refusal));
@@ -252,7 +252,7 @@ fn is_unclosed(kind: Kind) -> bool
 
 /// Whether nothing follows the root, whose end shows only in what follows it.
 fn ends_unclosed(index: &Indexed<'_>) -> bool
-    ensures { (limit : ℕ) (tree : Tree) → IsText index.now.text index.now.place.start index.now.place.end limit tree → IsTrue result ↔ EndsUnclosed tree index.now.place.end }
+    ensures { (limit : ℕ) (tree : Tree) → IsText index.now.text index.now.span.start index.now.span.end limit tree → IsTrue result ↔ EndsUnclosed tree index.now.span.end }
 {
     let root = index.row(index.root());
     is_unclosed(root.kind) && root.span.end == index.span().end

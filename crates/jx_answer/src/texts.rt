@@ -273,7 +273,7 @@ pub fn read_batch<R: Threads + Wait + Sync, G: Gate + Sync>(
     requires cutting { cutting.now.len ≡ length batch.now }
     requires front { cutting.now.front ≡ 0 }
     requires fits { reader.old.start + reader.old.count + length batch.now < 2 ^ 64 }
-    ensures limit { reader.new.limit ≡ reader.old.limit }
+    ensures depth { reader.new.depth ≡ reader.old.depth }
     ensures start { reader.new.start ≡ reader.old.start }
     // For every cutting, number of workers and gate, the reader goes on with the bytes of the batch.
     ensures reads { OnOk result ((bytes : List ℕ) → HasRead bytes reader.old → HasRead (bytes ++ batch.now) reader.new) }
@@ -344,7 +344,7 @@ fn answer_from<'a>(
     requires ordered { run.now.map.start ≤ length text.now }
     requires end { run.now.map.end ≡ length text.now }
     requires of { IsTextRun (rest_from run.now.map.start text.now) run.now }
-    ensures answer { IfOk result (λ answer. IsAnswerFrom run.now.map.start text.entry.now run.now.limit answer) }
+    ensures answer { IfOk result (λ answer. IsAnswerFrom run.now.map.start text.entry.now run.now.depth answer) }
 {
     indexes_stand_behind_fronts();
     match run.verdict() {

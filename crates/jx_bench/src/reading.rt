@@ -88,7 +88,7 @@ pub fn marks_reduced(alloc: Global, started: &Started) -> Result<u64, AllocError
 
 /// The reading of the whole text as one run.
 pub fn reading_of(alloc: Global, text: &[u8]) -> Result<Started, AllocError>
-    ensures place { IfOk result (λ s. s.place ≡ span 0 (length text.now)) }
+    ensures span { IfOk result (λ s. s.span ≡ span 0 (length text.now)) }
     ensures reading { IfOk result (λ s. IsStarted (slice_range text.now 0 (length text.now)) s) }
 {
     let run = TextRun::of(alloc, text, 0, text.len(), Depth::default())?;
@@ -97,7 +97,7 @@ pub fn reading_of(alloc: Global, text: &[u8]) -> Result<Started, AllocError>
 
 /// How many rows the text has; none where it is refused.
 pub fn rows_of(alloc: Global, text: &[u8], started: &Started) -> Result<u64, AllocError>
-    requires place { started.now.place ≡ span 0 (length text.now) }
+    requires span { started.now.span ≡ span 0 (length text.now) }
     requires reading { IsStarted (slice_range text.now 0 (length text.now)) started.now }
 {
     match started.verdict() {

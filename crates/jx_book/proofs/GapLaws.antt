@@ -6,7 +6,7 @@ use native.Mathlib.Decide.{dec_lt}
 use Rattle.std.proofs.lemmas.Bool.Decides.{nat_tests}
 use Rattle.std.proofs.lemmas.List.Elements.{All-cons, All-nil}
 use Rattle.std.proofs.lemmas.List.Kept.{AllPairs-cons}
-use Rattle.jx_lex.specs.declared.span.Span.{Span}
+use Rattle.jx_summary.specs.declared.span.Span.{Span}
 use Rattle.jx_book.specs.Spans.{span, Before}
 use Rattle.jx_book.specs.Runs.{HeldValue, IsApart, spans_of}
 use Rattle.jx_book.specs.Gaps.{Covers, AreGaps, gaps_from}

@@ -5,7 +5,7 @@ use mathlib.Core.Logic.{dite}
 use native.Mathlib.Decide.{dec_lt}
 use Rattle.std.proofs.Math.Seq.{drop-cons}
 use Rattle.std.proofs.lemmas.List.{map-append, take-append-drop}
-use Rattle.jx_lex.specs.declared.span.Span.{Span}
+use Rattle.jx_summary.specs.declared.span.Span.{Span}
 use Rattle.jx_book.specs.Spans.{Touch, Before}
 use Rattle.jx_book.specs.Runs.{HeldValue, spans_of}
 use Rattle.jx_book.specs.HandOver.{NoneTouch, Stores, Takes}

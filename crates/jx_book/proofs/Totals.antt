@@ -7,8 +7,8 @@ use Rattle.std.proofs.lemmas.List.Sums.{sum_by-cons, sum_by-append}
 use Rattle.std.proofs.lemmas.Bool.Decides.{nat_tests}
 use Rattle.jx_claim.specs.Claimed.{times, once_below, EachGotOnce}
 use Rattle.jx_claim.specs.Claimed.{SeatValue}
-use Rattle.jx_lex.specs.declared.span.Span.{Span}
-use Rattle.jx_claim.specs.Cut.{Covers, piece_len, drawn_len}
+use Rattle.jx_summary.specs.declared.span.Span.{Span}
+use Rattle.jx_claim.specs.Cut.{Tiles, piece_len, drawn_len}
 
 -- f 0 + .. + f (n - 1)
 abbrev sum_to : (ℕ → ℕ) → ℕ → ℕ
@@ -74,12 +74,12 @@ sum_all : (f : ℕ → ℕ) (ss : List SeatValue) → sum_by f (all_got ss) ≡ 
 sum_all f [] = refl
 sum_all f (s ∷ ss) = omega (arith, sum_by-append f s.got (all_got ss), sum_by-cons (λ (t : SeatValue). sum_by f t.got) s ss, sum_all f ss)
 
-covered : (a : ℕ) (ps : List Span) (b : ℕ) → Covers a ps b → a + sum_to (piece_len ps) (length ps) ≡ b
+covered : (a : ℕ) (ps : List Span) (b : ℕ) → Tiles a ps b → a + sum_to (piece_len ps) (length ps) ≡ b
 covered a [] b c = omega (arith, c)
 covered a (p ∷ ps) b c = omega (arith, sum_to_shift (piece_len (p ∷ ps)) (length ps), c.0, c.1, covered p.end ps b c.2)
 
 -- where each piece was drawn once, the seats drew all bytes
-pub all_bytes : (a : ℕ) (ps : List Span) (len : ℕ) (ss : List SeatValue) → Covers a ps len → EachGotOnce ss (length ps) → a + sum_by (λ (s : SeatValue). drawn_len ps s.got) ss ≡ len
+pub all_bytes : (a : ℕ) (ps : List Span) (len : ℕ) (ss : List SeatValue) → Tiles a ps len → EachGotOnce ss (length ps) → a + sum_by (λ (s : SeatValue). drawn_len ps s.got) ss ≡ len
 all_bytes a ps len ss c h =
     let once = counted (piece_len ps) (length ps) (all_got ss) (λ x. sum_all (λ z. cond (nat_eq z x) 1 0) ss ∙ h x) in
     omega (arith, sum_all (piece_len ps) ss, once, covered a ps len c)

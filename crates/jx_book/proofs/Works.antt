@@ -4,12 +4,12 @@ use Rattle.std.specs.Prelude.{slice_get, slice_index_or}
 use Rattle.std.proofs.lemmas.List.Sums.{sum_by_push}
 use Rattle.std.proofs.lemmas.Option.{get_or_from_slice_get}
 use Rattle.jx_claim.specs.Claimed.{SeatValue}
-use Rattle.jx_lex.specs.declared.span.Span.{Span}
+use Rattle.jx_summary.specs.declared.span.Span.{Span}
 use Rattle.jx_book.specs.Spans.{span, span_len}
 use Rattle.jx_book.specs.Shares.{ShareValue}
 use Rattle.jx_claim.specs.Cut.{drawn_len, piece_len, no_span}
-use Rattle.jx_book.specs.declared.hand.Hand.{Hand}
-use Rattle.jx_book.specs.declared.hand.Hand.TheVariants.{Nothing, Piece, One, Two}
+use Rattle.jx_book.specs.declared.workers.hand.Hand.{Hand}
+use Rattle.jx_book.specs.declared.workers.hand.Hand.TheVariants.{Nothing, Piece, One, Two}
 use Rattle.jx_book.specs.Worked.{HandedOver, HasSpan, IsLeft, Within, Worked}
 
 -- the piece that was read

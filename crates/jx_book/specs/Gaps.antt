@@ -1,6 +1,6 @@
 -- The parts of a text that no run covers.
 use Rattle.std.specs.Prelude.{ℕ, ◌<◌, ◌≤◌, ◌↔◌, List, [], ◌∷◌, min, max, nat_lt, if◌then◌else◌, All, AllPairs, Any}
-use Rattle.jx_lex.specs.declared.span.Span.{Span}
+use Rattle.jx_summary.specs.declared.span.Span.{Span}
 use Rattle.jx_book.specs.Spans.{span, Before}
 
 abbrev pub Covers : Span → ℕ → Type 0

@@ -1,8 +1,8 @@
 -- A run over a text from an offset on, or over all of it.
 use Rattle.std.specs.Prelude.{◌≡◌, ℕ, ◌<◌, List, length, All, Option, None, Some}
-use Rattle.jx_lex.specs.declared.span.Span.{Span}
-use Rattle.jx_book.specs.declared.outcome.Outcome.{Outcome}
-use Rattle.jx_book.specs.declared.outcome.Outcome.TheVariants.{Gathered, Empty, Stopped, Other}
+use Rattle.jx_summary.specs.declared.span.Span.{Span}
+use Rattle.jx_book.specs.declared.workers.book_end.BookEnd.{BookEnd}
+use Rattle.jx_book.specs.declared.workers.book_end.BookEnd.TheVariants.{Gathered, Empty, Stopped, Other}
 use Rattle.jx_book.specs.Runs.{HeldValue}
 use Rattle.jx_book.specs.Shares.{IsOf}
 
@@ -22,8 +22,8 @@ IsGathered ps text depth front None = length ps ≡ 0
 IsGathered ps text depth front (Some h) = (0 < length ps) × IsRest text depth front h
 
 -- what workers left of this text from the front on, and of this depth
-abbrev pub IsOutcome : {S : Type 0} → List ℕ → ℕ → ℕ → Outcome S → Type 0
-IsOutcome text depth front (Gathered h) = IsRest text depth front h
-IsOutcome text depth front Empty = Unit {0}
-IsOutcome text depth front (Stopped c) = All (λ r. IsOf text depth r) c
-IsOutcome text depth front Other = Unit {0}
+abbrev pub IsBookEnd : {S : Type 0} → List ℕ → ℕ → ℕ → BookEnd S → Type 0
+IsBookEnd text depth front (Gathered h) = IsRest text depth front h
+IsBookEnd text depth front Empty = Unit {0}
+IsBookEnd text depth front (Stopped c) = All (λ r. IsOf text depth r) c
+IsBookEnd text depth front Other = Unit {0}

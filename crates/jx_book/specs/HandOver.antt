@@ -2,7 +2,7 @@
 use Rattle.std.specs.Prelude.{◌≡◌, ℕ, zero, suc, ◌+◌, Bool, true, false, List, [], ◌∷◌, sum_by, nat_lt, nat_le, ◌&&◌, if◌then◌else◌}
 use mathlib.Core.Option.{some}
 use lib.ListN.{get_elem?, set}
-use Rattle.jx_lex.specs.declared.span.Span.{Span}
+use Rattle.jx_summary.specs.declared.span.Span.{Span}
 use Rattle.jx_claim.specs.Claimed.{times, once_below}
 use Rattle.jx_claim.specs.Undrawn.{With, undrawn, Draws}
 use Rattle.jx_book.specs.Spans.{span, Touch}

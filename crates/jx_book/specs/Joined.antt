@@ -1,8 +1,8 @@
 -- What a join of two runs gives.
 use Rattle.std.specs.Prelude.{◌≡◌, ◌≢◌, ◌⊎◌, ℕ, ◌-◌, ◌<◌, ◌≤◌, List, length, slice_range, if◌then◌else◌, nat_lt}
-use Rattle.jx_book.specs.declared.held_fault.HeldFault.{HeldFault}
-use Rattle.jx_book.specs.declared.held_fault.HeldFault.TheVariants.{Memory, Other}
-use Rattle.jx_lex.specs.declared.span.Span.{Span}
+use Rattle.jx_book.specs.declared.stored.held_fault.HeldFault.{HeldFault}
+use Rattle.jx_book.specs.declared.stored.held_fault.HeldFault.TheVariants.{Memory, Other}
+use Rattle.jx_summary.specs.declared.span.Span.{Span}
 use Rattle.jx_book.specs.Runs.{HeldValue, run_len}
 
 -- t is the text of the longer side, of the right one where both have one length, and has the bytes of both sides

@@ -1,6 +1,6 @@
 -- What contracts see of a run with its text, and of the runs in a book.
 use Rattle.std.specs.Prelude.{◌≡◌, ℕ, ◌+◌, ◌<◌, List, map, sum_by, All, AllPairs}
-use Rattle.jx_lex.specs.declared.span.Span.{Span}
+use Rattle.jx_summary.specs.declared.span.Span.{Span}
 use Rattle.jx_book.specs.Spans.{span_len, Before}
 
 -- a run, the bytes of the text that it carries, its span in that text, and its depth

@@ -1,6 +1,6 @@
 -- How parts of a text lie to one another.
 use Rattle.std.specs.Prelude.{◌≡◌, ◌⊎◌, ◌<◌}
-use Rattle.jx_lex.specs.declared.span.Span.{Span}
+use Rattle.jx_summary.specs.declared.span.Span.{Span}
 pub use Rattle.jx_claim.specs.Cut.{span, span_len}
 
 -- the two have a byte in common

@@ -1,12 +1,12 @@
 -- What a worker has done.
 use Rattle.std.specs.Prelude.{◌≡◌, ℕ, ◌+◌, ◌<◌, ◌≤◌, List, [], ◌∷◌, ◌++◌, slice_index_or}
-use Rattle.jx_lex.specs.declared.span.Span.{Span}
+use Rattle.jx_summary.specs.declared.span.Span.{Span}
 use Rattle.jx_claim.specs.Claimed.{SeatValue}
 use Rattle.jx_claim.specs.Cut.{drawn_len, piece_len, span, no_span}
-use Rattle.jx_book.specs.declared.cause.Cause.{Cause}
-use Rattle.jx_book.specs.declared.cause.Cause.TheVariants.{Gate, Memory, Overlap, Other, Full}
-use Rattle.jx_book.specs.declared.hand.Hand.{Hand}
-use Rattle.jx_book.specs.declared.hand.Hand.TheVariants.{Nothing, Piece, One, Two}
+use Rattle.jx_book.specs.declared.workers.cause.Cause.{Cause}
+use Rattle.jx_book.specs.declared.workers.cause.Cause.TheVariants.{Gate, Memory, Overlap, Other, Full}
+use Rattle.jx_book.specs.declared.workers.hand.Hand.{Hand}
+use Rattle.jx_book.specs.declared.workers.hand.Hand.TheVariants.{Nothing, Piece, One, Two}
 use Rattle.jx_book.specs.Runs.{run_len}
 use Rattle.jx_book.specs.Shares.{ShareValue}
 

@@ -1,50 +1,29 @@
 //! Runs with their text, the book that threads share, and the workers that fill it.
 #![tactic(auto)]
 
-mod assembling;
-mod book;
-mod caller;
-mod cause;
-mod closed;
-mod event;
-mod finish_fault;
-mod gaps;
-mod gate;
-mod gathering;
-mod hand;
-mod held;
-mod held_fault;
-mod job;
-mod locked;
-mod outcome;
-mod position;
-mod put;
-mod returned;
-mod share;
-mod state;
-mod worker;
-mod worker_end;
-mod worker_stop;
+mod lock;
+mod stored;
+mod workers;
 
-pub use assembling::assemble;
-pub use book::Book;
-pub use caller::read_whole;
-pub use cause::Cause;
-pub use closed::Closed;
-pub use event::Event;
-pub use finish_fault::FinishFault;
-pub use gaps::Gaps;
-pub use gate::{Gate, Go, OpenGate};
-pub use gathering::gather;
-pub use hand::Hand;
-pub use held::Held;
-pub use held_fault::HeldFault;
-pub use put::Put;
-pub use share::Share;
-pub use state::BookState;
-pub use worker::work;
-pub use worker_end::WorkerEnd;
-pub use worker_stop::WorkerStop;
+pub use lock::book::Book;
+pub use lock::finish_fault::FinishFault;
+pub use lock::gathering::gather;
+pub use lock::share::Share;
+pub use stored::assembling::assemble;
+pub use stored::closed::Closed;
+pub use stored::gaps::Gaps;
+pub use stored::held::Held;
+pub use stored::held_fault::HeldFault;
+pub use stored::put::Put;
+pub use stored::state::BookState;
+pub use workers::cause::Cause;
+pub use workers::event::Event;
+pub use workers::gate::{Gate, Go, OpenGate};
+pub use workers::hand::Hand;
+pub use workers::reading::read_whole;
+pub use workers::worker::work;
+pub use workers::worker_end::WorkerEnd;
+pub use workers::worker_stop::WorkerStop;
 
 #[cfg(test)]
 mod tests;

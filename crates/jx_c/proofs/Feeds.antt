@@ -2,9 +2,9 @@
 use Rattle.std.proofs.Common.{◌≡◌, ℕ, zero, suc, ◌+◌, ◌^◌, ◌<◌, List, [], ◌++◌, length, sym, ◌∙◌, ap, subst, arith, Option, Some, None, ◌-◌}
 use Rattle.std.specs.Prelude.{IfSome, slice_range}
 use Rattle.std.proofs.lemmas.List.{length-append, take_all}
-use Rattle.jx_lex.specs.declared.exit.Exit.{Exit}
-use Rattle.jx_lex.specs.declared.state.LexState.{LexState}
-use Rattle.jx_lex.specs.declared.state.LexState.TheVariants.{Gap}
+use Rattle.jx_lex.specs.declared.alphabet.lex_exit.LexExit.{LexExit}
+use Rattle.jx_lex.specs.declared.alphabet.state.LexState.{LexState}
+use Rattle.jx_lex.specs.declared.alphabet.state.LexState.TheVariants.{Gap}
 use Rattle.jx_lex.specs.Lex.{lex}
 use Rattle.jx_lex.specs.Seen.{SeesTrack, WantsNoMore}
 use Rattle.jx_lex.specs.View.{exit_of}
@@ -42,7 +42,7 @@ begun depth start r started none going gap deep reads =
     }
 
 -- a slice more
-pub fed_more : Scanned → Fed → (start depth : ℕ) (text slice : List ℕ) (s : LexState) (before after : JxReader) (stack : JxStack) (x : Option Exit) (w : Whole)
+pub fed_more : Scanned → Fed → (start depth : ℕ) (text slice : List ℕ) (s : LexState) (before after : JxReader) (stack : JxStack) (x : Option LexExit) (w : Whole)
     → before.progress ≡ 0 → s ≡ state_in before.state → before.count + length slice < 2 ^ 64
     → SeesTrack (λ marks ends. HasSeen marks ends (known_of before.stack)) (λ marks ends. HasSeen marks ends (known_of stack)) (lex s 0 (slice_range slice 0 (length slice)))
     → IfSome x (λ e. exit_of e ≡ (lex s 0 (slice_range slice 0 (length slice))).exit) → (x ≡ None → WantsNoMore (λ marks ends. HasSeen marks ends (known_of stack)))

@@ -1,11 +1,11 @@
 -- The reading of a text goes on, slice by slice.
 use Rattle.std.proofs.Common.{◌≡◌, ℕ, zero, suc, ◌+◌, ◌^◌, ◌<◌, List, ◌++◌, length, true, refl, sym, ◌∙◌, ap, subst, arith, Option, Some, None}
 use Rattle.std.specs.Prelude.{IfSome}
-use Rattle.jx_lex.specs.declared.exit.Exit.{Exit}
-use Rattle.jx_lex.specs.declared.exit.Exit.TheVariants as exit
-use Rattle.jx_lex.specs.declared.state.LexState.{LexState}
-use Rattle.jx_lex.specs.declared.state.LexState.TheVariants as state
-use Rattle.jx_lex.specs.declared.mark.Mark.{Mark}
+use Rattle.jx_lex.specs.declared.alphabet.lex_exit.LexExit.{LexExit}
+use Rattle.jx_lex.specs.declared.alphabet.lex_exit.LexExit.TheVariants as exit
+use Rattle.jx_lex.specs.declared.alphabet.state.LexState.{LexState}
+use Rattle.jx_lex.specs.declared.alphabet.state.LexState.TheVariants as state
+use Rattle.jx_lex.specs.declared.alphabet.mark.Mark.{Mark}
 use Rattle.jx_lex.specs.Lex as lexical
 use Rattle.jx_lex.specs.Lex.{lex}
 use Rattle.jx_lex.specs.Ordinal.{ordinal}
@@ -18,7 +18,7 @@ use Rattle.jx_reduce.specs.declared.whole.Whole.{Whole}
 use Rattle.jx_run.specs.Kept.{HasSeen}
 use Rattle.jx_run.specs.Laws.{verdict_of}
 use Rattle.jx_run.specs.Reader.{is_fault}
-use Rattle.jx_run.specs.Reading.{Outcome, stopped, too_deep, at_exit, read_text}
+use Rattle.jx_run.specs.Reading.{TextReading, stopped, too_deep, at_exit, read_text}
 use Rattle.jx_run.specs.ReaderInside.{outcome_at, IsOfUse, settled, GoesOn}
 use Rattle.jx_run.specs.Verdict.{Judged}
 use Rattle.jx_run.specs.Whole.{verdict_from}
@@ -65,7 +65,7 @@ state_in-place state.Nu = refl
 state_in-place state.Nul = refl
 
 -- the depth stays, unless memory was refused
-pub depth_stays : (p : Progress) (d : ℕ) (k : Known) (o : Outcome) → IsOfUse p d k → outcome_at p k.reading ≡ Some o → k.depth ≡ d
+pub depth_stays : (p : Progress) (d : ℕ) (k : Known) (o : TextReading) → IsOfUse p d k → outcome_at p k.reading ≡ Some o → k.depth ≡ d
 depth_stays (Going s) d k o usable h = usable.0.depth_is
 depth_stays (Stopped at) d k o usable h = usable.depth_is
 depth_stays (TooDeep at) d k o usable h = usable.depth_is
@@ -74,7 +74,7 @@ depth_stays Failed d k o usable h = cc
 -- what the law of readings says
 
 abbrev pub Scanned : Type 0
-Scanned = (old new : Known) (marks : List Mark) (track : lexical.Track) (base : ℕ) (x : Option Exit) (w : Whole) → StackHasRead marks old
+Scanned = (old new : Known) (marks : List Mark) (track : lexical.Track) (base : ℕ) (x : Option LexExit) (w : Whole) → StackHasRead marks old
     → SeesTrack (λ marks ends. HasSeen marks ends old) (λ marks ends. HasSeen marks ends new) track
     → IfSome x (λ e. exit_of e ≡ track.exit) → (x ≡ None → WantsNoMore (λ marks ends. HasSeen marks ends new)) → w ≡ whole_of new.reading
     → GoesOn old track (read_marks old.depth track.marks old.reading) base (settled base x w) new
@@ -85,15 +85,15 @@ Fed = (limit from count : ℕ) (bytes slice : List ℕ) (s : LexState) (old new 
     → outcome_at (Going s) old.reading ≡ Some (read_text limit from bytes) → outcome_at p new.reading ≡ Some (read_text limit from (bytes ++ slice))
 
 abbrev pub Passed : Type 0
-Passed = (limit from : ℕ) (bytes more : List ℕ) (z : Option Outcome) → is_fault z ≡ true → z ≡ Some (read_text limit from bytes) → z ≡ Some (read_text limit from (bytes ++ more))
+Passed = (limit from : ℕ) (bytes more : List ℕ) (z : Option TextReading) → is_fault z ≡ true → z ≡ Some (read_text limit from bytes) → z ≡ Some (read_text limit from (bytes ++ more))
 
 -- the verdict that a reading comes to, and how it is told
 pub record Verdicts : Type 0 where
   pub judged : (limit at : ℕ) (bytes : List ℕ) → Judged at bytes limit (verdict_of (read_text limit at bytes))
-  pub told : (x : Exit) (r : Reading) → verdict_of (at_exit (exit_of x) r) ≡ verdict_from x (whole_of r)
+  pub told : (x : LexExit) (r : Reading) → verdict_of (at_exit (exit_of x) r) ≡ verdict_from x (whole_of r)
 
 -- what a scan of a slice came to
-pub scanned : Scanned → Fed → (limit start count : ℕ) (text slice : List ℕ) (s : LexState) (old new : Known) (x : Option Exit) → old.depth ≡ limit → count ≡ start + length text → count + length slice < 2 ^ 64
+pub scanned : Scanned → Fed → (limit start count : ℕ) (text slice : List ℕ) (s : LexState) (old new : Known) (x : Option LexExit) → old.depth ≡ limit → count ≡ start + length text → count + length slice < 2 ^ 64
     → IsOfUse (Going s) limit old → outcome_at (Going s) old.reading ≡ Some (read_text limit start text)
     → SeesTrack (λ marks ends. HasSeen marks ends old) (λ marks ends. HasSeen marks ends new) (lex s 0 slice)
     → IfSome x (λ e. exit_of e ≡ (lex s 0 slice).exit) → (x ≡ None → WantsNoMore (λ marks ends. HasSeen marks ends new))
@@ -115,7 +115,7 @@ passed law limit start (suc (suc zero)) at s text slice r over h = law limit sta
 passed law limit start (suc (suc (suc n))) at s text slice r over h = cc
 
 -- the verdict is that of the outcome
-judged_outcome : Verdicts → (limit start : ℕ) (text : List ℕ) (o : Outcome) → Some o ≡ Some (read_text limit start text) → Judged start text limit (verdict_of o)
+judged_outcome : Verdicts → (limit start : ℕ) (text : List ℕ) (o : TextReading) → Some o ≡ Some (read_text limit start text) → Judged start text limit (verdict_of o)
 judged_outcome law limit start text o h = let f : read_text limit start text ≡ o = sym cc in subst (Judged start text limit) (ap verdict_of f) (law.judged limit start text)
 
 pub judged_at : Verdicts → (limit start at n : ℕ) (s t : LexState) (r : Reading) (w : Whole) (text : List ℕ) (v : Verdict) → n ≡ 0 → t ≡ s → w ≡ whole_of r → v ≡ verdict_from (exit.State t) w

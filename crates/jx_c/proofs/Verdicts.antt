@@ -3,7 +3,7 @@ use Rattle.std.proofs.Common.{◌≡◌, ℕ, ◌≤◌, List, [], ◌∷◌, le
 use Rattle.std.specs.Prelude.{All}
 use Rattle.std.specs.List.{AllZip}
 use Rattle.std.proofs.lemmas.List.Elements.{All-head, All-tail}
-use Rattle.jx_lex.specs.declared.span.Span.{Span}
+use Rattle.jx_summary.specs.declared.span.Span.{Span}
 use Rattle.jx_run.specs.declared.element_verdict.ElementVerdict.{ElementVerdict}
 use Rattle.jx_run.specs.declared.element_verdict.ElementVerdict.TheVariants as verdict
 use Rattle.jx_run.specs.declared.element_verdict.JudgedElement.{JudgedElement}
@@ -11,7 +11,7 @@ use Rattle.jx_run.specs.declared.settings.FrontMark.{FrontMark}
 use Rattle.jx_run.specs.declared.settings.NameRule.{NameRule}
 use Rattle.jx_run.specs.declared.settings.NameRule.TheVariants.{Any, Unique}
 use Rattle.jx_run.specs.declared.settings.Settings.{Settings}
-use Rattle.jx_run.specs.Elements.{Part, span_of}
+use Rattle.jx_run.specs.Elements.{Part, part_span}
 use Rattle.jx_run.specs.ElementVerdict.{IsVerdictOn, IsJudgedElement}
 use Rattle.jx_run.specs.Text.{IsDocument, IsText}
 use Rattle.jx_run.specs.Tree.{Tree}
@@ -40,7 +40,7 @@ judged_in mark input limit js h = placed input limit (elements_by mark input) js
 -- ---- by the rule on names
 
 module _ (settings : Settings) (input : List ℕ) (p : Part) (j : JudgedElement) (h : IsJudgedIn input settings.depth p j) where
-  span_here : j.span ≡ span_of p
+  span_here : j.span ≡ part_span p
   span_here = h.judged.span_is
 
   pub span_ordered : j.span.start ≤ j.span.end

@@ -1,8 +1,8 @@
 -- What the fields of a reader mean, whatever stands in them, and the bytes that it was fed.
 use Rattle.std.specs.Prelude.{◌≡◌, ℕ, zero, suc, ◌+◌, List, length, Some, slice_index_or}
 use Rattle.jx_lex.specs.Ordinal.{all_states}
-use Rattle.jx_lex.specs.declared.state.LexState.{LexState}
-use Rattle.jx_lex.specs.declared.state.LexState.TheVariants.{Gap}
+use Rattle.jx_lex.specs.declared.alphabet.state.LexState.{LexState}
+use Rattle.jx_lex.specs.declared.alphabet.state.LexState.TheVariants.{Gap}
 use Rattle.jx_run.specs.Reading.{read_text}
 use Rattle.jx_run.specs.ReaderInside.{outcome_at, IsOfUse}
 use Rattle.jx_run.specs.declared.reader.Progress.{Progress}

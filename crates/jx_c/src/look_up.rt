@@ -117,7 +117,7 @@ fn shown_look_up(look_up: LookUp) -> JxAnswer
 
 /// What a pointer leads to in an index.
 fn led(index: &Indexed, pointer: &Pointer) -> LookUp
-    ensures { (limit : ℕ) (tree : Tree) → IsText index.now.text index.now.place.start index.now.place.end limit tree
+    ensures { (limit : ℕ) (tree : Tree) → IsText index.now.text index.now.span.start index.now.span.end limit tree
         → IsLed index.now.text tree pointer.now result }
 {
     look_ups_end_at_rows();

@@ -1,6 +1,6 @@
 // A text that C feeds slice by slice.
 ghost use Rattle.std.specs.Prelude.{◌≡◌, ◌+◌, ◌<◌, ◌≤◌, ◌^◌, ◌++◌, ℕ, List, [], OnOk, length};
-ghost use Rattle.jx_lex.specs.declared.exit.Exit.TheVariants as exit;
+ghost use Rattle.jx_lex.specs.declared.alphabet.lex_exit.LexExit.TheVariants as exit;
 ghost use Rattle.jx_run.specs.ReaderInside.{settled};
 ghost use Rattle.jx_run.specs.Settings.{JudgedBy};
 ghost use Rattle.jx_run.specs.Verdict.{Judged};
@@ -11,7 +11,7 @@ ghost use Rattle.jx_c.specs.Reader.{HasRead, HasReadFrom, progress_in};
 
 use crate::stack::JxStack;
 use crate::states::{place_of, state_at};
-use jx_lex::{Exit, LexState, scan};
+use jx_lex::{LexExit, LexState, scan};
 use jx_reduce::{Expect, Whole};
 use jx_run::{
     Refusal, Verdict, fronts_decide_where_texts_begin, reader_is_grammar, readings_go_on,
@@ -116,7 +116,7 @@ impl JxReader {
     }
 
     /// Takes in where a scan of a slice came to that stands from `base` on.
-    fn settle(&mut self, base: usize, exit: Option<Exit>, whole: Whole)
+    fn settle(&mut self, base: usize, exit: Option<LexExit>, whole: Whole)
         ensures progress { progress_in self.new ≡ settled base exit whole }
         ensures stack { self.new.stack ≡ self.old.stack }
         ensures started { self.new.started ≡ self.old.started }
@@ -132,11 +132,11 @@ impl JxReader {
                 self.at = base.saturating_add(at);
             }
             Whole::Went { .. } => match exit {
-                Some(Exit::State(state)) => {
+                Some(LexExit::State(state)) => {
                     self.progress = GOING;
                     self.state = place_of(state);
                 }
-                Some(Exit::Fault(at)) => {
+                Some(LexExit::Fault(at)) => {
                     self.progress = STOPPED;
                     self.at = base.saturating_add(at);
                 }

@@ -2,7 +2,7 @@
 //
 // Each of its fields may hold any number, since C may hand anything over: what they mean is said for all of them.
 ghost use Rattle.std.specs.Prelude.{◌≡◌, ◌-◌, ◌/◌, ◌%◌, ◌<◌, ◌↔◌, ◌++◌, ◌∷◌, [], List, IsTrue, length};
-ghost use Rattle.jx_lex.specs.declared.mark.Mark.{Mark};
+ghost use Rattle.jx_lex.specs.declared.alphabet.mark.Mark.{Mark};
 ghost use Rattle.jx_reduce.specs.Bits.{holder_of};
 ghost use Rattle.jx_reduce.specs.KnownStack.{HasRead, IsFault};
 ghost use Rattle.jx_reduce.specs.Read.{changed, step, top, without_top};

@@ -5,30 +5,30 @@ use Rattle.std.specs.Prelude.{map, max, nat_lt, slice_index}
 use mathlib.Core.Logic.{dite}
 use native.Mathlib.Decide.{dec_lt}
 use Rattle.std.proofs.lemmas.Bool.Decides.{nat_tests}
-use Rattle.jx_lex.specs.declared.span.Span.{Span}
-use Rattle.jx_claim.specs.Cut.{Covers, OfSize, behind, span, span_len, no_span, meetings}
+use Rattle.jx_summary.specs.declared.span.Span.{Span}
+use Rattle.jx_claim.specs.Cut.{Tiles, OfSize, behind, span, span_len, no_span, meetings}
 use Rattle.jx_claim.specs.CutFaults.{AreSound}
 use Rattle.jx_claim.specs.inside.Listed.{regular, between, AreEnded}
 
 -- pieces do not go back
-covers_le : (a : ℕ) (ps : List Span) (b : ℕ) → Covers a ps b → a ≤ b
+covers_le : (a : ℕ) (ps : List Span) (b : ℕ) → Tiles a ps b → a ≤ b
 covers_le a [] b e = omega (arith, e)
 covers_le a (p ∷ ps) b c = omega (arith, c.1, covers_le p.end ps b c.2)
 
 -- each piece is not empty and lies within what the pieces cover
-pub covers_at : (a : ℕ) (ps : List Span) (b : ℕ) → Covers a ps b → (k : ℕ) (d : Span) → k < length ps → ((get_or ps k d).start < (get_or ps k d).end) × ((get_or ps k d).end ≤ b)
+pub covers_at : (a : ℕ) (ps : List Span) (b : ℕ) → Tiles a ps b → (k : ℕ) (d : Span) → k < length ps → ((get_or ps k d).start < (get_or ps k d).end) × ((get_or ps k d).end ≤ b)
 covers_at a [] b c k d low = absurd (omega arith)
 covers_at a (p ∷ ps) b c zero d low = (omega (arith, c.0, c.1), covers_le p.end ps b c.2)
 covers_at a (p ∷ ps) b c (suc k) d low = covers_at p.end ps b c.2 k d (omega arith)
 
 -- each piece ends behind where they begin
-ends_behind : (a : ℕ) (ps : List Span) (b : ℕ) → Covers a ps b → (i : ℕ) (d : Span) → i < length ps → a < (get_or ps i d).end
+ends_behind : (a : ℕ) (ps : List Span) (b : ℕ) → Tiles a ps b → (i : ℕ) (d : Span) → i < length ps → a < (get_or ps i d).end
 ends_behind a [] b c i d low = absurd (omega arith)
 ends_behind a (p ∷ ps) b c zero d low = c.1
 ends_behind a (p ∷ ps) b c (suc i) d low = omega (arith, c.1, ends_behind p.end ps b c.2 i d (omega arith))
 
 -- later pieces end later
-covers_rise : (a : ℕ) (ps : List Span) (b : ℕ) → Covers a ps b → (i j : ℕ) (d : Span) → i ≤ j → j < length ps → (get_or ps i d).end ≤ (get_or ps j d).end
+covers_rise : (a : ℕ) (ps : List Span) (b : ℕ) → Tiles a ps b → (i j : ℕ) (d : Span) → i ≤ j → j < length ps → (get_or ps i d).end ≤ (get_or ps j d).end
 covers_rise a [] b c i j d le low = absurd (omega arith)
 covers_rise a (p ∷ ps) b c zero zero d le low = omega arith
 covers_rise a (p ∷ ps) b c zero (suc j) d le low = omega (arith, ends_behind p.end ps b c.2 j d (omega arith))
@@ -36,11 +36,11 @@ covers_rise a (p ∷ ps) b c (suc i) zero d le low = absurd (omega arith)
 covers_rise a (p ∷ ps) b c (suc i) (suc j) d le low = covers_rise p.end ps b c.2 i j d (omega arith) (omega arith)
 
 -- so is the one that was read
-pub piece_covered : (a : ℕ) (ps : List Span) (len k : ℕ) (r : Span) → Covers a ps len → k < length ps → get_or ps k r ≡ r → (r.start < r.end) × (r.end ≤ len)
+pub piece_covered : (a : ℕ) (ps : List Span) (len k : ℕ) (r : Span) → Tiles a ps len → k < length ps → get_or ps k r ≡ r → (r.start < r.end) × (r.end ≤ len)
 piece_covered a ps len k r c low e = subst (λ (p : Span). (p.start < p.end) × (p.end ≤ len)) e (covers_at a ps len c k r low)
 
 -- no bytes have no piece
-pub covers_none : (a : ℕ) (ps : List Span) (b : ℕ) → Covers a ps b → b ≤ a → length ps ≡ 0
+pub covers_none : (a : ℕ) (ps : List Span) (b : ℕ) → Tiles a ps b → b ≤ a → length ps ≡ 0
 covers_none a [] b c e = refl
 covers_none a (p ∷ ps) b c e = absurd (omega (arith, c.1, covers_le p.end ps b c.2, e))
 
@@ -52,19 +52,19 @@ not_behind : (n e : ℕ) → e ≤ n → nat_lt n e ≡ false
 not_behind n e h = grind (arith, nat_tests)
 
 -- pieces that begin at an offset or behind it stay
-pub behind_start : (a : ℕ) (ps : List Span) (b n : ℕ) → Covers a ps b → n ≤ a → behind n ps ≡ ps
+pub behind_start : (a : ℕ) (ps : List Span) (b n : ℕ) → Tiles a ps b → n ≤ a → behind n ps ≡ ps
 behind_start a [] b n c le = refl
 behind_start a (p ∷ ps) b n c le =
     let m : max n p.start ≡ p.start = omega (arith, c.0, le) in
     rw (is_behind n p.end (omega (arith, c.1, le))) (λ i. span (m i) p.end ∷ behind_start p.end ps b n c.2 (omega (arith, c.1, le)) i)
 
 -- the others cover what lies behind it
-pub behind_covers : (a : ℕ) (ps : List Span) (b n : ℕ) → Covers a ps b → a ≤ n → n ≤ b → Covers n (behind n ps) b
+pub behind_covers : (a : ℕ) (ps : List Span) (b n : ℕ) → Tiles a ps b → a ≤ n → n ≤ b → Tiles n (behind n ps) b
 behind_covers a [] b n c from to = omega (arith, c)
 behind_covers a (p ∷ ps) b n c from to = dite (dec_lt n p.end)
     (λ l.
     let rest = behind_start p.end ps b n c.2 (omega arith) in
-    let tail : Covers p.end (behind n ps) b = subst (λ qs. Covers p.end qs b) (sym rest) c.2 in
+    let tail : Tiles p.end (behind n ps) b = subst (λ qs. Tiles p.end qs b) (sym rest) c.2 in
     rw (is_behind n p.end l) (omega (arith, c.0), l, tail))
     (λ h. rw (not_behind n p.end (omega arith)) (behind_covers p.end ps b n c.2 (omega arith) to))
 
@@ -117,7 +117,7 @@ behind_at n (suc k) (p ∷ ps) h i d low =
     rw (not_behind n p.end (h.before 0 p (omega arith)), e) (behind_at n k ps (ended_later n k p ps h) i d (omega arith))
 
 -- no piece ends at the start
-pub none_ended : (ps : List Span) (b : ℕ) → Covers 0 ps b → AreEnded 0 0 ps
+pub none_ended : (ps : List Span) (b : ℕ) → Tiles 0 ps b → AreEnded 0 0 ps
 none_ended ps b c = record {
   bound = omega arith;
   before = λ i d low. absurd (omega arith);
@@ -125,7 +125,7 @@ none_ended ps b c = record {
 }
 
 -- where all before a place end at an offset or before it, and the one there behind it
-pub ended_at : (ps : List Span) (b n k : ℕ) → Covers 0 ps b → k ≤ length ps → ((i : ℕ) (d : Span) → i < k → (get_or ps i d).end ≤ n)
+pub ended_at : (ps : List Span) (b n k : ℕ) → Tiles 0 ps b → k ≤ length ps → ((i : ℕ) (d : Span) → i < k → (get_or ps i d).end ≤ n)
     → ((d : Span) → k < length ps → n < (get_or ps k d).end) → AreEnded n k ps
 ended_at ps b n k c bound before here = record {
   bound = bound;
@@ -134,7 +134,7 @@ ended_at ps b n k c bound before here = record {
 }
 
 -- all pieces end at the length or before it
-pub all_ended : (ps : List Span) (b : ℕ) → Covers 0 ps b → AreEnded b (length ps) ps
+pub all_ended : (ps : List Span) (b : ℕ) → Tiles 0 ps b → AreEnded b (length ps) ps
 all_ended ps b c = record {
   bound = omega arith;
   before = λ i d low. (covers_at 0 ps b c i d low).1;
@@ -142,7 +142,7 @@ all_ended ps b c = record {
 }
 
 -- n regular pieces from a on, of which the last ends at len, cover the bytes from a to len
-pub regular_covers : (len size n a : ℕ) → 0 < size → a ≤ len → len ≤ a + n * size → a + n * size < len + size → Covers a (regular len size n a) len
+pub regular_covers : (len size n a : ℕ) → 0 < size → a ≤ len → len ≤ a + n * size → a + n * size < len + size → Tiles a (regular len size n a) len
 regular_covers len size zero a some low enough few = omega arith
 regular_covers len size (suc zero) a some low enough few =
     let e : min (a + size) len ≡ len = omega arith in
@@ -152,7 +152,7 @@ regular_covers len size (suc (suc n)) a some low enough few =
     let two = suc-mul (suc n) size in
     let e : min (a + size) len ≡ a + size = omega (arith, one, two) in
     let rest = regular_covers len size (suc n) (a + size) some (omega (arith, one, two)) (omega (arith, two)) (omega (arith, two)) in
-    (refl, omega (arith, e), subst (λ m. Covers m (regular len size (suc n) m) len) (sym e) rest)
+    (refl, omega (arith, e), subst (λ m. Tiles m (regular len size (suc n) m) len) (sym e) rest)
 
 pub length-regular : (len size n a : ℕ) → length (regular len size n a) ≡ n
 length-regular len size zero a = refl
@@ -247,12 +247,12 @@ sound_rises : (len : ℕ) (cs : List ℕ) → 0 < len → AreSound len cs (lengt
 sound_rises len cs some sound = rises 0 cs len some (λ l. (sound 0 l).0.0) (λ i l. (sound i l).0.1)
     (λ i l. let e : suc i - 1 ≡ i = omega arith in subst (λ k. slice_index cs k < slice_index cs (suc i)) e ((sound (suc i) l).1 (omega arith)))
 
-rises_cover : (a : ℕ) (cs : List ℕ) (len : ℕ) → Rises a cs len → Covers a (between a (cs ++ len ∷ [])) len
+rises_cover : (a : ℕ) (cs : List ℕ) (len : ℕ) → Rises a cs len → Tiles a (between a (cs ++ len ∷ [])) len
 rises_cover a [] len h = (refl, h, refl)
 rises_cover a (c ∷ cs) len h = (refl, h.0, rises_cover c cs len h.1)
 
 -- pieces that meet at sound cuts cover the text
-pub cuts_cover : (len : ℕ) (cs : List ℕ) → 0 < len → AreSound len cs (length cs) → Covers 0 (between 0 (cs ++ len ∷ [])) len
+pub cuts_cover : (len : ℕ) (cs : List ℕ) → 0 < len → AreSound len cs (length cs) → Tiles 0 (between 0 (cs ++ len ∷ [])) len
 cuts_cover len cs some sound = rises_cover 0 cs len (sound_rises len cs some sound)
 
 starts : (a : ℕ) (cs : List ℕ) (len : ℕ) → map (λ (q : Span). q.start) (between a (cs ++ len ∷ [])) ≡ a ∷ cs

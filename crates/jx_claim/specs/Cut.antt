@@ -1,6 +1,6 @@
 -- A text cut into pieces.
 use Rattle.std.specs.Prelude.{◌≡◌, ℕ, suc, ◌-◌, ◌<◌, ◌≤◌, List, [], ◌∷◌, max, nat_lt, if◌then◌else◌, map, length, sum_by, slice_index_or}
-use Rattle.jx_lex.specs.declared.span.Span.{Span}
+use Rattle.jx_summary.specs.declared.span.Span.{Span}
 
 -- the length of the text in bytes, where its first piece begins, and the spans of its pieces in order
 pub record CuttingValue : Type 0 where
@@ -16,9 +16,9 @@ abbrev pub span_len : Span → ℕ
 span_len a = a.end - a.start
 
 -- pieces that are not empty, one right after another, from a to b
-abbrev pub Covers : ℕ → List Span → ℕ → Type 0
-Covers a [] b = a ≡ b
-Covers a (p ∷ ps) b = (p.start ≡ a) × (a < p.end) × Covers p.end ps b
+abbrev pub Tiles : ℕ → List Span → ℕ → Type 0
+Tiles a [] b = a ≡ b
+Tiles a (p ∷ ps) b = (p.start ≡ a) × (a < p.end) × Tiles p.end ps b
 
 -- the pieces cut to what lies from an offset on, those that end there or before it left out
 abbrev pub behind : ℕ → List Span → List Span

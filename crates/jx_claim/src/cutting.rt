@@ -1,12 +1,12 @@
 ghost use Rattle.std.specs.Prelude.{◌≡◌, ◌*◌, ◌<◌, ◌≤◌, ◌↔◌, [], ◌∷◌, ◌++◌, length, Some, slice_get, IsOk, IfOk, IfErr};
 ghost use Rattle.std.specs.Int.{div_ceil};
-ghost use Rattle.jx_claim.specs.Cut.{CuttingValue, Covers, OfSize, behind, meetings};
+ghost use Rattle.jx_claim.specs.Cut.{CuttingValue, Tiles, OfSize, behind, meetings};
 ghost use Rattle.jx_claim.specs.CutFaults.{AreSound, Refuses};
 
 use crate::cut_fault::CutFault;
-use crate::parts::Parts;
+use crate::piece_list::PieceList;
 use crate::piece_no::PieceNo;
-use jx_lex::Span;
+use jx_summary::Span;
 use std::alloc::{AllocError, Global};
 use std::marker::Model;
 
@@ -19,19 +19,19 @@ pub struct Cutting {
     front: usize,
     // How many parts end at the front or before it.
     skipped: usize,
-    parts: Parts,
+    parts: PieceList,
 }
 
 impl Model for Cutting {
     ghost use Rattle.std.specs.Prelude.{◌<◌, ◌≤◌, length};
-    ghost use Rattle.jx_claim.specs.Cut.{CuttingValue, Covers, behind};
+    ghost use Rattle.jx_claim.specs.Cut.{CuttingValue, Tiles, behind};
     ghost use Rattle.jx_claim.specs.inside.Listed.{listed, IsRegular, AreEnded};
 
     ghost Value = { CuttingValue };
 
     ghost view = { λ c. record { len = c.len; front = c.front; pieces = behind c.front (listed c.len c.parts) } };
 
-    ghost invariant = { λ c. Covers 0 (listed c.len c.parts) c.len × (length (listed c.len c.parts) < 4294967296) × IsRegular c.len c.parts × (c.front ≤ c.len) × AreEnded c.front c.skipped (listed c.len c.parts) };
+    ghost invariant = { λ c. Tiles 0 (listed c.len c.parts) c.len × (length (listed c.len c.parts) < 4294967296) × IsRegular c.len c.parts × (c.front ≤ c.len) × AreEnded c.front c.skipped (listed c.len c.parts) };
 }
 
 impl Cutting {
@@ -41,7 +41,7 @@ impl Cutting {
         requires { 1 ≤ size }
         ensures len { IfOk result (λ c. c.len ≡ len) }
         ensures front { IfOk result (λ c. c.front ≡ 0) }
-        ensures covers { IfOk result (λ c. Covers 0 c.pieces len) }
+        ensures covers { IfOk result (λ c. Tiles 0 c.pieces len) }
         ensures sizes { IfOk result (λ c. OfSize size c.pieces) }
         ensures count { IfOk result (λ c. length c.pieces ≡ div_ceil len size) }
         ensures few { IsOk result ↔ (len ≤ 4294967295 * size) }
@@ -56,7 +56,7 @@ impl Cutting {
             len,
             front: 0,
             skipped: 0,
-            parts: Parts::Every { size, count },
+            parts: PieceList::Every { size, count },
         })
     }
 
@@ -66,7 +66,7 @@ impl Cutting {
     pub fn at(alloc: Global, len: usize, cuts: &[usize]) -> Result<Cutting, CutFault>
         ensures len { IfOk result (λ c. c.len ≡ len) }
         ensures front { IfOk result (λ c. c.front ≡ 0) }
-        ensures covers { IfOk result (λ c. Covers 0 c.pieces len) }
+        ensures covers { IfOk result (λ c. Tiles 0 c.pieces len) }
         ensures meet { IfOk result (λ c. meetings c.pieces ≡ cuts.now) }
         ensures fault { IfErr result (λ f. Refuses len cuts.now f) }
     {
@@ -79,7 +79,7 @@ impl Cutting {
                 len,
                 front: 0,
                 skipped: 0,
-                parts: Parts::At {
+                parts: PieceList::At {
                     ends: Vec::new(alloc),
                 },
             });
@@ -91,7 +91,7 @@ impl Cutting {
             len,
             front: 0,
             skipped: 0,
-            parts: Parts::At { ends },
+            parts: PieceList::At { ends },
         })
     }
 
@@ -116,7 +116,7 @@ impl Cutting {
         ensures len { result.len ≡ self.len }
         ensures front { result.front ≡ front }
         ensures pieces { result.pieces ≡ behind front self.pieces }
-        ensures covers { Covers front result.pieces self.len }
+        ensures covers { Tiles front result.pieces self.len }
     {
         let Cutting {
             len,
@@ -136,7 +136,7 @@ impl Cutting {
     /// The length of the text, in bytes.
     pub fn len(&self) -> usize
         ensures len { result ≡ self.now.len }
-        ensures covers { Covers self.now.front self.now.pieces self.now.len }
+        ensures covers { Tiles self.now.front self.now.pieces self.now.len }
     {
         self.len
     }

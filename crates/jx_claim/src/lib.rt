@@ -5,7 +5,7 @@ mod claims;
 mod cut_fault;
 mod cutting;
 mod drawn;
-mod parts;
+mod piece_list;
 mod piece_no;
 mod rule;
 mod seat;

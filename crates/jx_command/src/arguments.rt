@@ -2,18 +2,16 @@
 ghost use Rattle.std.specs.Prelude.{◌≤◌, IfOk, IfSome};
 
 use crate::arg_fault::ArgFault;
-use crate::command::{Command, Request, Task};
 use crate::grammar::grammar;
+use crate::request::Request;
+use crate::subcommand::Subcommand;
 use clap::ArgMatches;
 use clap::error::ErrorKind;
 use jx_claim::Workers;
 use jx_lex::Depth;
 use jx_run::{FrontMark, NameRule, Settings};
+use jx_task::{Command, Task};
 use std::alloc::{AllocError, Global};
-
-const DEFAULT_WORKERS: u8 = 4;
-
-const DEFAULT_PIECE: usize = 65536;
 
 /// What an error of clap's comes to: a refusal of memory is told apart, and any other is kept.
 fn refused(error: clap::Error) -> ArgFault {
@@ -71,32 +69,49 @@ fn pointers_of(alloc: Global, options: &ArgMatches<'_>) -> Result<Vec<String>, A
     Ok(pointers)
 }
 
-/// The task of a subcommand, with the pointers that its options have where it is `at`; a check for a name of no other.
-fn task_of(alloc: Global, name: &str, options: &ArgMatches<'_>) -> Result<Task, AllocError> {
-    match name {
-        "index" => Ok(Task::Index),
-        "at" => Ok(Task::At(pointers_of(alloc, options)?)),
-        "seq" => Ok(Task::Seq),
-        _ => Ok(Task::Check),
+/// The task of a subcommand, with the pointers that its options have where it is `at`.
+fn task_of(
+    alloc: Global,
+    called: Subcommand,
+    options: &ArgMatches<'_>,
+) -> Result<Task, AllocError> {
+    match called {
+        Subcommand::Check => Ok(Task::Check),
+        Subcommand::Index => Ok(Task::Index),
+        Subcommand::At => Ok(Task::At(pointers_of(alloc, options)?)),
+        Subcommand::Seq => Ok(Task::Seq),
     }
 }
 
-/// The command of a subcommand and its options.
-fn command_from(alloc: Global, name: &str, options: &ArgMatches<'_>) -> Result<Command, AllocError>
+/// The command of a subcommand and its options. The grammar has a number for each option that the words leave out, so that
+/// what stands here where there is none is never met.
+fn command_from(
+    alloc: Global,
+    called: Subcommand,
+    options: &ArgMatches<'_>,
+) -> Result<Command, AllocError>
     ensures { IfOk result (λ command. 1 ≤ command.piece) }
 {
-    let default_workers = Workers::new(DEFAULT_WORKERS).unwrap();
+    let one_worker = Workers::new(1).unwrap();
     Ok(Command {
-        task: task_of(alloc, name, options)?,
+        task: task_of(alloc, called, options)?,
         settings: Settings {
             depth: depth_of(options).unwrap_or_default(),
             mark: mark_of(options),
             names: names_of(options),
         },
-        workers: workers_of(options).unwrap_or(default_workers),
-        piece: piece_of(options).unwrap_or(DEFAULT_PIECE),
+        workers: workers_of(options).unwrap_or(one_worker),
+        piece: piece_of(options).unwrap_or(1),
         quiet: options.get_flag("quiet"),
     })
+}
+
+/// The file of pointers that a subcommand is given, if it takes one.
+fn pointers_file_of<'a>(called: Subcommand, options: &ArgMatches<'a>) -> Option<&'a str> {
+    match called {
+        Subcommand::At => options.get_str("pointers_file"),
+        Subcommand::Check | Subcommand::Index | Subcommand::Seq => None,
+    }
 }
 
 /// What the words ask for, the first of which is the program's name. Each FILE and each POINTER are taken as they stand:
@@ -107,14 +122,13 @@ pub fn command_of<'a>(alloc: Global, words: &'a [&'a str]) -> Result<Request<'a>
 {
     let grammar = grammar(alloc).map_err(|_| ArgFault::Memory)?;
     let matches = grammar.try_get_matches_from(words).map_err(refused)?;
-    let (name, options) = matches.subcommand().unwrap_or(("check", &matches));
-    let command = command_from(alloc, name, options).map_err(|_| ArgFault::Memory)?;
+    let check = Subcommand::Check;
+    let (name, options) = matches.subcommand().unwrap_or((check.name(), &matches));
+    let called = Subcommand::named(name).unwrap_or(check);
+    let command = command_from(alloc, called, options).map_err(|_| ArgFault::Memory)?;
     Ok(Request {
         command,
         file: options.get_str("file"),
-        pointers: match name {
-            "at" => options.get_str("pointers_file"),
-            _ => None,
-        },
+        pointers: pointers_file_of(called, options),
     })
 }

@@ -1,5 +1,6 @@
 // The commands and options that the words of the command line are read by.
 use crate::help;
+use crate::subcommand::Subcommand;
 use clap::builder::ValueParser;
 use clap::{Arg, ArgAction, Command, value_parser};
 use std::alloc::{AllocError, Global};
@@ -89,11 +90,11 @@ fn pointers_file<'a>(alloc: Global) -> Arg<'a> {
 /// A subcommand with the options that each of them takes.
 fn subcommand<'a>(
     alloc: Global,
-    name: &'a str,
+    called: Subcommand,
     about: &'a str,
     after: &'a str,
 ) -> Result<Command<'a>, AllocError> {
-    Command::new(alloc, name)
+    Command::new(alloc, called.name())
         .about(about)
         .after_long_help(after)
         .arg(file(alloc))?
@@ -106,12 +107,12 @@ fn subcommand<'a>(
 
 /// The program with its four commands.
 pub fn grammar<'a>(alloc: Global) -> Result<Command<'a>, AllocError> {
-    let check = subcommand(alloc, "check", help::CHECK, help::AFTER_CHECK)?.arg(quiet(alloc))?;
-    let index = subcommand(alloc, "index", help::INDEX, help::AFTER_INDEX)?;
-    let at = subcommand(alloc, "at", help::AT, help::AFTER_AT)?
+    let check = subcommand(alloc, Subcommand::Check, help::CHECK, help::AFTER_CHECK)?.arg(quiet(alloc))?;
+    let index = subcommand(alloc, Subcommand::Index, help::INDEX, help::AFTER_INDEX)?;
+    let at = subcommand(alloc, Subcommand::At, help::AT, help::AFTER_AT)?
         .arg(pointers(alloc)?)?
         .arg(pointers_file(alloc))?;
-    let seq = subcommand(alloc, "seq", help::SEQ, help::AFTER_SEQ)?.arg(quiet(alloc))?;
+    let seq = subcommand(alloc, Subcommand::Seq, help::SEQ, help::AFTER_SEQ)?.arg(quiet(alloc))?;
     Command::new(alloc, "jx")
         .version(help::VERSION)
         .about(help::ABOUT)

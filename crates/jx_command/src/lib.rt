@@ -3,10 +3,11 @@
 
 mod arg_fault;
 mod arguments;
-mod command;
 mod grammar;
 mod help;
+mod request;
+mod subcommand;
 
 pub use arg_fault::ArgFault;
 pub use arguments::command_of;
-pub use command::{Command, Request, Task};
+pub use request::Request;

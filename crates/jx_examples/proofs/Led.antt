@@ -43,9 +43,9 @@ module _ (text : List ℕ) (tree : Tree) (pointer : List ℕ) where
   in_bytes limit d (Refused refusal) h = absurd h
 
 -- what stands at the place of an index over all bytes is their text
-pub text_there : (bytes : List ℕ) (limit : ℕ) (index : IndexedValue) (x : IsIndexOf bytes limit index) → IsText index.text index.place.start index.place.end limit x.tree
+pub text_there : (bytes : List ℕ) (limit : ℕ) (index : IndexedValue) (x : IsIndexOf bytes limit index) → IsText index.text index.span.start index.span.end limit x.tree
 text_there bytes limit index x =
     let whole : slice_range bytes 0 (length bytes) ≡ bytes = take_all (length bytes - 0) bytes (omega arith) in
-    subst (λ p. IsText index.text p.start p.end limit x.tree) (sym x.place)
+    subst (λ p. IsText index.text p.start p.end limit x.tree) (sym x.span)
     (subst (λ t. IsText t 0 (length bytes) limit x.tree) (sym x.text)
     (subst (λ b. IsDocument 0 b limit x.tree) (sym whole) x.is_text))

@@ -46,7 +46,7 @@ pub fn look_up<R: Threads + Wait + Sync>(
 /// Where the value stands to which a pointer leads in an indexed text, or why it leads nowhere.
 fn span_of(index: &Indexed, pointer: &Pointer) -> LookUp
     ensures { (limit : ℕ) (tree : Tree)
-        → IsText index.now.text index.now.place.start index.now.place.end limit tree
+        → IsText index.now.text index.now.span.start index.now.span.end limit tree
         → IsSpan index.now.text tree pointer.now result }
 {
     look_ups_end_at_rows();

@@ -1,5 +1,5 @@
 ghost use Rattle.std.specs.Prelude.{IfOk};
-ghost use Rattle.jx_command.specs.declared.command.Task.{Task};
+ghost use Rattle.jx_task.specs.declared.task.Task.{Task};
 ghost use Rattle.jx_run.specs.declared.settings.FrontMark.{FrontMark};
 ghost use Rattle.jx_run.specs.declared.settings.NameRule.{NameRule};
 ghost use Rattle.jx_report.specs.declared.exit.Exit.{Exit};
@@ -8,7 +8,7 @@ ghost use Rattle.jx_report.specs.Output.{Output};
 use crate::example_fault::ExampleFault;
 use jx_book::OpenGate;
 use jx_claim::Workers;
-use jx_command::{Command, Task};
+use jx_task::{Command, Task};
 use jx_lex::Depth;
 use jx_report::{End, report};
 use jx_run::{FrontMark, NameRule, Settings};

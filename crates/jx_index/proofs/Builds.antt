@@ -4,11 +4,11 @@ use Rattle.std.proofs.lemmas.List.{length-append, append-nil}
 use Rattle.std.proofs.Math.Seq.{set-append_seam}
 use Rattle.jx_lex.specs.declared.kind.Kind.{Kind}
 use Rattle.jx_lex.specs.declared.kind.Kind.TheVariants as kind
-use Rattle.jx_lex.specs.declared.mark.Mark.{Mark}
-use Rattle.jx_lex.specs.declared.span.Span.{Span}
-use Rattle.jx_lex.specs.declared.state.LexState.TheVariants as state
-use Rattle.jx_lex.specs.declared.mark.MarkKind.{MarkKind}
-use Rattle.jx_lex.specs.declared.mark.MarkKind.TheVariants as mark
+use Rattle.jx_lex.specs.declared.alphabet.mark.Mark.{Mark}
+use Rattle.jx_summary.specs.declared.span.Span.{Span}
+use Rattle.jx_lex.specs.declared.alphabet.state.LexState.TheVariants as state
+use Rattle.jx_lex.specs.declared.alphabet.mark.MarkKind.{MarkKind}
+use Rattle.jx_lex.specs.declared.alphabet.mark.MarkKind.TheVariants as mark
 use Rattle.jx_lex.specs.Classes.{class_at}
 use Rattle.jx_lex.specs.Lex.{lex}
 use Rattle.jx_lex.specs.Token.{IsBlank, space, tab, line_feed, carriage_return, IsToken}
@@ -20,7 +20,7 @@ use Rattle.jx_index.specs.declared.row.Row.{Row}
 use Rattle.jx_index.specs.declared.builder.Opened.{Opened}
 use Rattle.jx_index.specs.Rows.{size, sizes, rows_from, rows_below, rows}
 use Rattle.jx_index.specs.Afters.{afters_from, afters_below, afters}
-use Rattle.jx_index.specs.inside.Building.{Building, nothing_built, parent_in, place_in, counted, next_row, add_leaf, begin_container, with_end, set_end, is_name_next, on_mark, is_token, next_end, make, built_of}
+use Rattle.jx_index.specs.inside.Building.{Building, nothing_built, parent_in, child_place, counted, next_row, add_leaf, begin_container, with_end, set_end, is_name_next, on_mark, is_token, next_end, make, built_of}
 use Rattle.jx_index.proofs.Tokens.{Delimited, at_end, at_close_array, at_close_object, at_colon, at_comma, blanks_delimited, tokened, TokensAreRead}
 
 -- ---- numbers of rows
@@ -210,7 +210,7 @@ past x opened = record { rows = x.rows; after = x.after; opened = opened; name =
 
 -- with the rows of a value
 abbrev pub with_value : Tree → Building → Building
-with_value tree b = past (with_tree tree (parent_in b.opened) (place_in b.opened) b.name (laid b)) (counted b.opened)
+with_value tree b = past (with_tree tree (parent_in b.opened) (child_place b.opened) b.name (laid b)) (counted b.opened)
 
 leaf_marks : (k : Kind) (w : List ℕ) → IsToken k w → (i j : ℕ) (b : Building) → is_name_next b.opened b.name ≡ false
     → on_mark (mark_of k) i j b ≡ with_value (node k (span i j) no_children) b
@@ -254,11 +254,11 @@ even_opening k i b h =
     omega (arith, length-append b.rows (next_row k (span i (suc i)) b ∷ []), length-append b.after ((length b.rows + 1) ∷ []))
 
 -- a container without children, whose two lists end in its own entries
-empty_over : (k : Kind) (i j : ℕ) (b : Building) → Even (laid b) → over (length b.rows) (suc j) (opening k i b) ≡ with_tree (node k (span i (suc j)) no_children) (parent_in b.opened) (place_in b.opened) b.name (laid b)
+empty_over : (k : Kind) (i j : ℕ) (b : Building) → Even (laid b) → over (length b.rows) (suc j) (opening k i b) ≡ with_tree (node k (span i (suc j)) no_children) (parent_in b.opened) (child_place b.opened) b.name (laid b)
 empty_over k i j b h =
     ap (λ (r : List Row). over (length b.rows) (suc j) (two (r) ((opening k i b).after))) (sym (append-nil (opening k i b).rows))
     ∙ ap (λ (a : List ℕ). over (length b.rows) (suc j) (two ((opening k i b).rows ++ []) (a))) (sym (append-nil (opening k i b).after))
-    ∙ over_is k i j no_children (parent_in b.opened) (place_in b.opened) b.name (laid b) h
+    ∙ over_is k i j no_children (parent_in b.opened) (child_place b.opened) b.name (laid b) h
 
 -- ---- lengths
 
@@ -302,7 +302,7 @@ mutual
       structural_reads last open_array i t b
       ∙ items_read law last xs at_close_array (omega arith) (opening kind.Array i b) (length b.rows) 0 (counted b.opened) (even_opening kind.Array i b even)
       ∙ structural_reads last close_array j rest (with_children children (opening kind.Array i b) (length b.rows) false 0 (counted b.opened))
-      ∙ ap (λ (x : Laid). reads last (suc j) rest (past x (counted b.opened))) (over_is kind.Array i j children (parent_in b.opened) (place_in b.opened) b.name (laid b) even)
+      ∙ ap (λ (x : Laid). reads last (suc j) rest (past x (counted b.opened))) (over_is kind.Array i j children (parent_in b.opened) (child_place b.opened) b.name (laid b) even)
   value_reads law last (empty_object {i = i} {j = j} {bytes = t} {rest = rest} bs) d h b n even =
       structural_reads last open_object i t b
       ∙ blanks_read last bs (begin_container kind.Object true i b)
@@ -312,7 +312,7 @@ mutual
       structural_reads last open_object i t b
       ∙ members_read law last xs at_close_object (omega arith) (opening kind.Object i b) (length b.rows) 0 (counted b.opened) (even_opening kind.Object i b even)
       ∙ structural_reads last close_object j rest (with_children children (opening kind.Object i b) (length b.rows) true 0 (counted b.opened))
-      ∙ ap (λ (x : Laid). reads last (suc j) rest (past x (counted b.opened))) (over_is kind.Object i j children (parent_in b.opened) (place_in b.opened) b.name (laid b) even)
+      ∙ ap (λ (x : Laid). reads last (suc j) rest (past x (counted b.opened))) (over_is kind.Object i j children (parent_in b.opened) (child_place b.opened) b.name (laid b) even)
 
   pub items_read : TokensAreRead → (last : ℕ) {i j : ℕ} {t rest : List ℕ} {children : Children} → Items i t j rest children → Delimited rest → j + length rest ≡ last
       → (x : Laid) (row count : ℕ) (outer : List Opened) → Even x → reads last i t (inside x row false count outer) ≡ reads last j rest (with_children children x row false count outer)

@@ -5,7 +5,7 @@ use Rattle.jx_index.specs.declared.row.Row.{Row}
 use Rattle.jx_index.specs.declared.units.Spelling.TheVariants.{InToken}
 use Rattle.jx_index.specs.Leads.{and_then}
 use Rattle.jx_index.specs.Nodes.{kind_at, child_numbers}
-use Rattle.jx_index.specs.Pointers.{HasSlash, NoSlash, tokens}
+use Rattle.jx_index.specs.Pointers.{HasSlash, HasNoSlash, tokens}
 use Rattle.jx_index.specs.RowsLead.{is_equal, row_token, rows_lead}
 use Rattle.jx_index.specs.Units.{parts_units}
 use Rattle.jx_index.proofs.Bridge.{children_within}
@@ -22,7 +22,7 @@ module _ (text : List ℕ) (rows : List Row) where
   no_token rest node k h = ap (λ x. rows_lead text rows x node k) (tokens_end rest h)
 
   module _ (rest bytes token later : List ℕ) (n node k : ℕ) (here : 0 < length rest) (slash : HasSlash rest) (from : bytes ≡ drop 1 rest)
-      (slashless : NoSlash (take n bytes)) (next : HasSlash (drop n bytes)) (token_is : token ≡ take n bytes) (later_is : later ≡ drop n bytes) (units : List ℕ) (units_are : units ≡ parts_units InToken 0 token) where
+      (slashless : HasNoSlash (take n bytes)) (next : HasSlash (drop n bytes)) (token_is : token ≡ take n bytes) (later_is : later ≡ drop n bytes) (units : List ℕ) (units_are : units ≡ parts_units InToken 0 token) where
     one_token_more : rows_lead text rows (tokens rest) node k ≡ and_then (row_token text rows units node k) (λ m. rows_lead text rows (tokens later) m (suc k))
     one_token_more =
         ap (λ x. rows_lead text rows x node k) (tokens_next rest bytes n here slash from slashless next)

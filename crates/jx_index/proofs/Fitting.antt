@@ -3,13 +3,13 @@ use Rattle.std.proofs.Common.{◌≡◌, ℕ, zero, suc, ◌<◌, ◌≤◌, Lis
 use Rattle.std.proofs.lemmas.List.{length-append}
 use Rattle.jx_lex.specs.declared.kind.Kind.{Kind}
 use Rattle.jx_lex.specs.declared.kind.Kind.TheVariants as kind
-use Rattle.jx_lex.specs.declared.span.Span.{Span}
-use Rattle.jx_lex.specs.declared.mark.MarkKind.{MarkKind}
-use Rattle.jx_lex.specs.declared.mark.MarkKind.TheVariants as mark
+use Rattle.jx_summary.specs.declared.span.Span.{Span}
+use Rattle.jx_lex.specs.declared.alphabet.mark.MarkKind.{MarkKind}
+use Rattle.jx_lex.specs.declared.alphabet.mark.MarkKind.TheVariants as mark
 use Rattle.jx_run.specs.Tree.{span}
 use Rattle.jx_index.specs.declared.row.Row.{Row}
 use Rattle.jx_index.specs.declared.builder.Opened.{Opened}
-use Rattle.jx_index.specs.inside.Building.{Building, place_in, counted, next_row, add_leaf, begin_container, with_end, set_end, end_container, is_name_next, on_mark}
+use Rattle.jx_index.specs.inside.Building.{Building, child_place, counted, next_row, add_leaf, begin_container, with_end, set_end, end_container, is_name_next, on_mark}
 use Rattle.jx_index.specs.inside.Built.{AllWithin, Fits}
 
 pub set_end-set : (rows : List Row) (n end : ℕ) (row : Row) → n < length rows → row ≡ get_or rows n row → slice_set rows n (with_end end row) ≡ set_end n end rows
@@ -68,6 +68,6 @@ mark_fits mark.False at end b h = leaf_fits kind.False (span at end) b h
 mark_fits mark.Null at end b h = leaf_fits kind.Null (span at end) b h
 
 -- so no count is as great as the number of rows
-pub place_few : (n : ℕ) (opened : List Opened) → AllWithin n opened → place_in opened ≤ n
+pub place_few : (n : ℕ) (opened : List Opened) → AllWithin n opened → child_place opened ≤ n
 place_few n [] h = omega arith
 place_few n (top ∷ outer) h = h.0

@@ -1,7 +1,7 @@
 -- What the fields of an index say of its rows.
 use Rattle.std.proofs.Common.{◌≡◌, ℕ, ◌+◌, ◌<◌, ◌≤◌, max, List, length, sym, ap, subst, ◌∙◌, arith, None}
 use Rattle.std.specs.Prelude.{slice_index}
-use Rattle.jx_lex.specs.declared.span.Span.{Span}
+use Rattle.jx_summary.specs.declared.span.Span.{Span}
 use Rattle.jx_run.specs.Text.{IsDocument, IsText}
 use Rattle.jx_run.specs.Tree.{Tree}
 use Rattle.jx_index.specs.declared.row.Row.{Row}
@@ -62,7 +62,7 @@ module _ (text : List ℕ) (place : Span) (table : List Row) (after starts child
   elements_are node h = (x.parts node (array_row table node h)).by_place h ∙ walk_is node
 
   -- the same where the value of an index is at hand, and its lists come from elsewhere
-  pub names_shown : (v : IndexedValue) → record { text = text; place = place; rows = table } ≡ v → (node : ℕ) → IsObjectAt v.rows node
+  pub names_shown : (v : IndexedValue) → record { text = text; span = place; rows = table } ≡ v → (node : ℕ) → IsObjectAt v.rows node
       → (s m names : List ℕ) → s ≡ starts → m ≡ children → names ≡ part_at s m node → IsInNameOrder v.text v.rows (child_numbers v.rows node) names
   names_shown v e node h s m names es em en =
       subst (IsInNameOrder v.text v.rows (child_numbers v.rows node))
@@ -70,7 +70,7 @@ module _ (text : List ℕ) (place : Span) (table : List Row) (after starts child
       (subst (λ (w : IndexedValue). IsInNameOrder w.text w.rows (child_numbers w.rows node) (part_at starts children node)) e
       (names_are node (subst (λ (w : IndexedValue). IsObjectAt w.rows node) (sym e) h)))
 
-  pub elements_shown : (v : IndexedValue) → record { text = text; place = place; rows = table } ≡ v → (node : ℕ) → IsArrayAt v.rows node
+  pub elements_shown : (v : IndexedValue) → record { text = text; span = place; rows = table } ≡ v → (node : ℕ) → IsArrayAt v.rows node
       → (s m elements : List ℕ) → s ≡ starts → m ≡ children → elements ≡ part_at s m node → elements ≡ child_numbers v.rows node
   elements_shown v e node h s m elements es em en =
       en

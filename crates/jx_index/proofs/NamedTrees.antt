@@ -2,7 +2,7 @@
 use Rattle.std.proofs.Common.{ℕ, List, Option, None, Some}
 use Rattle.jx_lex.specs.declared.kind.Kind.{Kind}
 use Rattle.jx_lex.specs.declared.kind.Kind.TheVariants as kind
-use Rattle.jx_lex.specs.declared.span.Span.{Span}
+use Rattle.jx_summary.specs.declared.span.Span.{Span}
 use Rattle.jx_run.specs.Grammar.{Value, leaf, empty_array, array, empty_object, object, Items, last_item, item, Members, last_member, member}
 use Rattle.jx_run.specs.Text.{Document, document}
 use Rattle.jx_run.specs.Tree.{Tree, node, Children, no_children, child}

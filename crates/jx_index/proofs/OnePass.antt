@@ -1,15 +1,15 @@
 -- What is built in one pass over a text is its tree's.
 use Rattle.std.proofs.Common.{◌≡◌, ℕ, ◌≤◌, ◌<◌, ◌-◌, ◌^◌, List, refl, ap, sym, subst, ◌∙◌, arith}
 use Rattle.std.specs.Prelude.{slice_range, length}
-use Rattle.jx_lex.specs.declared.mark.Mark.{Mark}
-use Rattle.jx_lex.specs.declared.span.Span.{Span}
-use Rattle.jx_lex.specs.declared.state.LexState.TheVariants as state
+use Rattle.jx_lex.specs.declared.alphabet.mark.Mark.{Mark}
+use Rattle.jx_summary.specs.declared.span.Span.{Span}
+use Rattle.jx_lex.specs.declared.alphabet.state.LexState.TheVariants as state
 use Rattle.jx_lex.specs.Lex.{lex, Track}
 use Rattle.jx_lex.specs.Map.{track}
 use Rattle.jx_run.specs.declared.verdict.Verdict.{Verdict}
 use Rattle.jx_run.specs.declared.verdict.Verdict.TheVariants.{Accepted}
 use Rattle.jx_run.specs.Text.{IsText}
-use Rattle.jx_run.specs.TextRun.{TextRunValue, IsTextRun, place_of}
+use Rattle.jx_run.specs.TextRun.{TextRunValue, IsTextRun, text_span}
 use Rattle.jx_run.specs.Tree.{Tree}
 use Rattle.jx_run.specs.Verdict.{Judged}
 use Rattle.jx_index.specs.declared.row.Row.{Row}
@@ -24,7 +24,7 @@ use Rattle.jx_index.proofs.Within.{marks_within, part_end}
 
 -- what is built of a run's marks and ends
 pub record RunNodes (run : TextRunValue) (place : Span) (marks : List Mark) (ends : List ℕ) (told : List Row) (after : List ℕ) : Type 0 where
-  pub place_is : place ≡ place_of run
+  pub place_is : place ≡ text_span run
   pub marks_are : marks ≡ (track run.map state.Gap).marks
   pub ends_are : ends ≡ (track run.map state.Gap).ends
   pub rows_are : AllLow marks → told ≡ (built_of place.end marks ends).rows
@@ -85,11 +85,11 @@ module _ (text : List ℕ) (run : TextRunValue) (ordered : run.map.start ≤ run
 
     pub run_rows : TokensAreRead → (limit : ℕ) (tree : Tree) → IsText text run.map.start run.map.end limit tree → told ≡ rows tree
     run_rows law limit tree t =
-        rows_told text (place_of run) ordered within law limit tree told fits (λ low. nodes.rows_are (low_too low) ∙ ap (λ (b : Building). b.rows) same_building) t
+        rows_told text (text_span run) ordered within law limit tree told fits (λ low. nodes.rows_are (low_too low) ∙ ap (λ (b : Building). b.rows) same_building) t
 
-    pub run_nodes : TokensAreRead → Judged run.map.start (slice_range text run.map.start run.map.end) run.limit Accepted → HasNodes text place told after
+    pub run_nodes : TokensAreRead → Judged run.map.start (slice_range text run.map.start run.map.end) run.depth Accepted → HasNodes text place told after
     run_nodes law judged =
         subst (λ (s : Span). HasNodes text s told after) (sym nodes.place_is)
-        (nodes_told text (place_of run) ordered within law run.limit Accepted told after fits judged refl
+        (nodes_told text (text_span run) ordered within law run.depth Accepted told after fits judged refl
         (λ low. nodes.rows_are (low_too low) ∙ ap (λ (b : Building). b.rows) same_building)
         (λ low. nodes.after_are (low_too low) ∙ ap (λ (b : Building). b.after) same_building))

@@ -4,7 +4,7 @@ use Rattle.std.specs.Prelude.{◌==◌}
 use Rattle.std.proofs.lemmas.Bool.Decides.{nat_tests}
 use Rattle.std.proofs.lemmas.List.{append-nil}
 use Rattle.jx_lex.specs.declared.kind.Kind.{Kind}
-use Rattle.jx_lex.specs.declared.span.Span.{Span}
+use Rattle.jx_summary.specs.declared.span.Span.{Span}
 use Rattle.jx_run.specs.Tree.{Tree, node, Children, no_children, child}
 use Rattle.jx_index.specs.declared.row.Row.{Row}
 use Rattle.jx_index.specs.Rows.{size, sizes, rows_from, rows_below, rows}

@@ -1,8 +1,8 @@
 -- What is built of an accepted reading is the tree's.
 use Rattle.std.proofs.Common.{◌≡◌, ℕ, ◌<◌, ◌≤◌, List, sym, ap, subst, ◌∙◌, arith}
 use Rattle.std.specs.Prelude.{All, slice_range}
-use Rattle.jx_lex.specs.declared.mark.Mark.{Mark}
-use Rattle.jx_lex.specs.declared.state.LexState.TheVariants as state
+use Rattle.jx_lex.specs.declared.alphabet.mark.Mark.{Mark}
+use Rattle.jx_lex.specs.declared.alphabet.state.LexState.TheVariants as state
 use Rattle.jx_lex.specs.Lex.{lex}
 use Rattle.jx_run.specs.declared.verdict.Verdict.{Verdict}
 use Rattle.jx_run.specs.declared.verdict.Verdict.TheVariants.{Accepted}
@@ -25,21 +25,21 @@ tree_of v (cut_short n l) e = absurd (cc)
 tree_of v (too_deep n l h b) e = absurd (cc)
 tree_of v (stopped n l h b) e = absurd (cc)
 
-module _ (text : List ℕ) (s : StartedValue) (reading : IsStarted (slice_range text s.place.start s.place.end) s) where
-  pub accepted_tree : s.verdict ≡ Accepted → HasTree s.place.start (slice_range text s.place.start s.place.end) s.limit
+module _ (text : List ℕ) (s : StartedValue) (reading : IsStarted (slice_range text s.span.start s.span.end) s) where
+  pub accepted_tree : s.verdict ≡ Accepted → HasTree s.span.start (slice_range text s.span.start s.span.end) s.depth
   accepted_tree e = tree_of s.verdict reading.judged e
 
-  pub built_here : TokensAreRead → (marks : List Mark) (ends : List ℕ) (last limit : ℕ) (tree : Tree) → marks ≡ s.marks → ends ≡ s.ends → last ≡ s.place.end
-      → IsText text s.place.start s.place.end limit tree → IsBuilt tree (built_of last marks ends)
+  pub built_here : TokensAreRead → (marks : List Mark) (ends : List ℕ) (last limit : ℕ) (tree : Tree) → marks ≡ s.marks → ends ≡ s.ends → last ≡ s.span.end
+      → IsText text s.span.start s.span.end limit tree → IsBuilt tree (built_of last marks ends)
   built_here law marks ends last limit tree em ee el t =
-      let bytes = slice_range text s.place.start s.place.end in
+      let bytes = slice_range text s.span.start s.span.end in
       subst (IsBuilt tree)
-      (ap (λ n. built_of n (lex state.Gap s.place.start bytes).marks (lex state.Gap s.place.start bytes).ends) (sym reading.long ∙ sym el)
-      ∙ ap (λ x. built_of last x (lex state.Gap s.place.start bytes).ends) (sym (em ∙ reading.marks))
+      (ap (λ n. built_of n (lex state.Gap s.span.start bytes).marks (lex state.Gap s.span.start bytes).ends) (sym reading.long ∙ sym el)
+      ∙ ap (λ x. built_of last x (lex state.Gap s.span.start bytes).ends) (sym (em ∙ reading.marks))
       ∙ ap (λ x. built_of last marks x) (sym (ee ∙ reading.ends)))
-      (built_is law s.place.start limit bytes tree t)
+      (built_is law s.span.start limit bytes tree t)
 
-  pub marks_small : (marks : List Mark) (limit : ℕ) → marks ≡ s.marks → s.place.end ≤ limit → All (λ (m : Mark). m.at < limit) marks
+  pub marks_small : (marks : List Mark) (limit : ℕ) → marks ≡ s.marks → s.span.end ≤ limit → All (λ (m : Mark). m.at < limit) marks
   marks_small marks limit em h =
       subst (All (λ (m : Mark). m.at < limit)) (sym (em ∙ reading.marks))
-      (marks_within state.Gap s.place.start (slice_range text s.place.start s.place.end) limit (omega (arith, reading.long)))
+      (marks_within state.Gap s.span.start (slice_range text s.span.start s.span.end) limit (omega (arith, reading.long)))

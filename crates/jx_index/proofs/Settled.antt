@@ -29,11 +29,11 @@ tree_of : (start limit : ℕ) (bytes : List ℕ) → Judged start bytes limit Ac
 tree_of start limit bytes (a_text {tree = tree} document) = (tree, document)
 
 pub over_rest : (text : List ℕ) (start limit : ℕ) (index : IndexedValue) → Judged start (rest_from start text) limit Accepted → index.text ≡ text
-    → index.place ≡ span start (length text) → ((d : ℕ) (tree : Tree) → IsText text start (length text) d tree → index.rows ≡ rows tree)
+    → index.span ≡ span start (length text) → ((d : ℕ) (tree : Tree) → IsText text start (length text) d tree → index.rows ≡ rows tree)
     → IsIndexFrom start text limit index
 over_rest text start limit index judged is_text is_place is_rows =
     let t = tree_of start limit (rest_from start text) judged in
-    record { text = is_text; place = is_place; tree = t.0; is_text = t.1; rows_are = is_rows limit t.0 t.1 }
+    record { text = is_text; span = is_place; tree = t.0; is_text = t.1; rows_are = is_rows limit t.0 t.1 }
 
 -- ---- what stands in front
 
@@ -104,17 +104,17 @@ index_behind settings text n index is h =
         whole = s.whole;
         text = subst (λ (i : ℕ). IsDocument i (drop n text) settings.depth h.tree) from there;
       };
-      place = h.place ∙ ap (λ (i : ℕ). span i (length text)) (sym s.long);
+      span = h.span ∙ ap (λ (i : ℕ). span i (length text)) (sym s.long);
       rows_are = h.rows_are;
     }
 
 -- what stands at the place of such an index is the text
-pub text_behind : (settings : Settings) (text : List ℕ) (index : IndexedValue) (x : IsIndexBy settings text index) → IsText index.text index.place.start index.place.end settings.depth x.tree
+pub text_behind : (settings : Settings) (text : List ℕ) (index : IndexedValue) (x : IsIndexBy settings text index) → IsText index.text index.span.start index.span.end settings.depth x.tree
 text_behind settings text index x =
     let d = x.is_text in
     let none : 0 + length d.front ≡ length d.front = omega arith in
     let rest : rest_from (length d.front) text ≡ d.rest = rest_is (length d.front) text ∙ ap (drop (length d.front)) d.whole ∙ drop-append_seam d.front d.rest in
-    subst (λ p. IsText index.text p.start p.end settings.depth x.tree) (sym x.place)
+    subst (λ p. IsText index.text p.start p.end settings.depth x.tree) (sym x.span)
     (subst (λ t. IsText t (length d.front) (length text) settings.depth x.tree) (sym x.text)
     (subst (λ b. IsDocument (length d.front) b settings.depth x.tree) (sym rest)
     (subst (λ (i : ℕ). IsDocument i d.rest settings.depth x.tree) none d.text)))

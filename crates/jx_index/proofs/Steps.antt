@@ -1,7 +1,7 @@
 -- One mark more.
 use Rattle.std.proofs.Common.{◌≡◌, ℕ, suc, ◌+◌, ◌<◌, ◌≤◌, List, length, drop, sym, ap, ◌∙◌, arith, get_or, drop-cons}
 use Rattle.std.proofs.Math.ListN.{drop_of_length-le}
-use Rattle.jx_lex.specs.declared.mark.Mark.{Mark}
+use Rattle.jx_lex.specs.declared.alphabet.mark.Mark.{Mark}
 use Rattle.jx_index.specs.inside.Building.{Building, make, on_mark, ends_after, next_end}
 
 pub make_step : (last i : ℕ) (marks : List Mark) (left after : List ℕ) (end : ℕ) (b next : Building) (d : Mark) → i < length marks

@@ -6,11 +6,11 @@ use Rattle.std.specs.Char.Escape.{encode_utf16}
 use Rattle.jx_lex.specs.Character.{IsTail, Utf8, one, two, three_e0, three_low, three_ed, three_high, four_f0, four_mid, four_f4, tail_bits, two_tails, three_tails}
 use Rattle.jx_index.specs.declared.units.Spelling.TheVariants.{InToken}
 use Rattle.jx_index.specs.Units.{part_units, part_more, parts_units}
-use Rattle.jx_index.specs.Pointers.{NoSlash, onto_first, parted, tokens}
+use Rattle.jx_index.specs.Pointers.{HasNoSlash, onto_first, parted, tokens}
 use Rattle.jx_index.specs.PointerForm.{IsTokenPart, plain, tilde, slash, IsToken, no_part, one_part, IsPointerOf, root, below}
 use Rattle.jx_index.proofs.UnitLaws.{passed}
 
-no_slash-append : (u v : List ℕ) → NoSlash u → NoSlash v → NoSlash (u ++ v)
+no_slash-append : (u v : List ℕ) → HasNoSlash u → HasNoSlash v → HasNoSlash (u ++ v)
 no_slash-append [] v h k = k
 no_slash-append (b ∷ u) v h k = (h.0, no_slash-append u v h.1 k)
 
@@ -20,7 +20,7 @@ record TokenPart (w us rest : List ℕ) : Type 0 where
   whole : w ≡ first ∷ bytes
   units : part_units InToken first (bytes ++ rest) ≡ us
   more : part_more InToken first (bytes ++ rest) ≡ length bytes
-  slashless : NoSlash w
+  slashless : HasNoSlash w
 
 one_byte : (a : ℕ) (rest : List ℕ) → a ≤ 0x7f → a ≢ 0x7e → a ≢ 0x2f → TokenPart (a ∷ []) (encode_utf16 a) rest
 one_byte a rest h n s =
@@ -83,12 +83,12 @@ unfolding parts_units
 token_is no_part = refl
 token_is (one_part {w = w} {v = v} {us = us} p ps) = part_first w us v (part_of p v) ∙ ap (λ x. us ++ x) (token_is ps)
 
-no_slash_in : {w us : List ℕ} → IsToken w us → NoSlash w
+no_slash_in : {w us : List ℕ} → IsToken w us → HasNoSlash w
 no_slash_in no_part = tt
 no_slash_in (one_part {w = w} {v = v} p ps) = no_slash-append w v (part_of p []).slashless (no_slash_in ps)
 
 -- a token's bytes up to the next slash or the end
-pub parted-token : (w rest : List ℕ) → NoSlash w → parted rest ≡ [] ∷ drop 1 (parted rest) → parted (w ++ rest) ≡ w ∷ drop 1 (parted rest)
+pub parted-token : (w rest : List ℕ) → HasNoSlash w → parted rest ≡ [] ∷ drop 1 (parted rest) → parted (w ++ rest) ≡ w ∷ drop 1 (parted rest)
 unfolding parted
 parted-token [] rest h e = e
 parted-token (b ∷ w) rest h e =

@@ -2,17 +2,17 @@
 use Rattle.std.proofs.Common.{◌≡◌, ◌≢◌, ℕ, zero, suc, ◌+◌, ◌<◌, ◌≤◌, List, [], ◌∷◌, length, take, drop, map, refl, sym, ap, subst, ◌∙◌, arith, get_or}
 use Rattle.std.proofs.lemmas.List.{take-append-drop}
 use Rattle.jx_index.specs.declared.units.Spelling.TheVariants.{InToken}
-use Rattle.jx_index.specs.Pointers.{HasSlash, NoSlash, parted, tokens}
+use Rattle.jx_index.specs.Pointers.{HasSlash, HasNoSlash, parted, tokens}
 use Rattle.jx_index.specs.Units.{parts_units}
 use Rattle.jx_index.proofs.TokenLaws.{parted-token}
 
-no_slash_suc : (bytes : List ℕ) (at : ℕ) → at < length bytes → NoSlash (take at bytes) → get_or bytes at 0 ≢ 0x2f → NoSlash (take (suc at) bytes)
+no_slash_suc : (bytes : List ℕ) (at : ℕ) → at < length bytes → HasNoSlash (take at bytes) → get_or bytes at 0 ≢ 0x2f → HasNoSlash (take (suc at) bytes)
 no_slash_suc [] at h n d = absurd (omega arith)
 no_slash_suc (b ∷ bytes) zero h n d = (d, tt)
 no_slash_suc (b ∷ bytes) (suc at) h n d = (n.0, no_slash_suc bytes at (omega arith) n.1 d)
 
-pub no_slash_more : (bytes : List ℕ) (at : ℕ) → at < length bytes → NoSlash (take at bytes) → get_or bytes at 0 ≢ 0x2f → NoSlash (take (at + 1) bytes)
-no_slash_more bytes at h n d = let e : suc at ≡ at + 1 = omega arith in subst (λ k. NoSlash (take k bytes)) e (no_slash_suc bytes at h n d)
+pub no_slash_more : (bytes : List ℕ) (at : ℕ) → at < length bytes → HasNoSlash (take at bytes) → get_or bytes at 0 ≢ 0x2f → HasNoSlash (take (at + 1) bytes)
+no_slash_more bytes at h n d = let e : suc at ≡ at + 1 = omega arith in subst (λ k. HasNoSlash (take k bytes)) e (no_slash_suc bytes at h n d)
 
 parted_slash : (bytes : List ℕ) → HasSlash bytes → parted bytes ≡ [] ∷ drop 1 (parted bytes)
 unfolding parted
@@ -20,7 +20,7 @@ parted_slash [] h = refl
 parted_slash (b ∷ bytes) h = ap (λ x. parted (x ∷ bytes)) (h (omega arith)) ∙ sym (ap (λ x. [] ∷ drop 1 (parted (x ∷ bytes))) (h (omega arith)))
 
 -- what follows the first slash: a token up to the next one, and the rest
-pub tokens_next : (rest bytes : List ℕ) (n : ℕ) → 0 < length rest → HasSlash rest → bytes ≡ drop 1 rest → NoSlash (take n bytes) → HasSlash (drop n bytes)
+pub tokens_next : (rest bytes : List ℕ) (n : ℕ) → 0 < length rest → HasSlash rest → bytes ≡ drop 1 rest → HasNoSlash (take n bytes) → HasSlash (drop n bytes)
     → tokens rest ≡ parts_units InToken 0 (take n bytes) ∷ tokens (drop n bytes)
 unfolding parted
 tokens_next [] bytes n l h e t s = absurd (omega arith)

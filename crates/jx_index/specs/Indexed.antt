@@ -1,6 +1,6 @@
 -- An index: a text, where it stands, and its rows.
 use Rattle.std.specs.Prelude.{◌≡◌, ℕ, ◌+◌, List, length}
-use Rattle.jx_lex.specs.declared.span.Span.{Span}
+use Rattle.jx_summary.specs.declared.span.Span.{Span}
 use Rattle.jx_run.specs.Tree.{Tree}
 use Rattle.jx_run.specs.Text.{IsText}
 use Rattle.jx_index.specs.declared.row.Row.{Row}
@@ -10,14 +10,14 @@ use Rattle.jx_index.specs.Parts.{HaveParts}
 
 pub record IndexedValue : Type 0 where
   pub text : List ℕ
-  pub place : Span
+  pub span : Span
   pub rows : List Row
 
 -- what stands at the index's place is a text
 pub record HasTree (index : IndexedValue) : Type 0 where
   pub limit : ℕ
   pub tree : Tree
-  pub is_text : IsText index.text index.place.start index.place.end limit tree
+  pub is_text : IsText index.text index.span.start index.span.end limit tree
 
 -- the rows and the numbers behind them are those of the text's tree
 pub record HasNodes (text : List ℕ) (place : Span) (table : List Row) (after : List ℕ) : Type 0 where

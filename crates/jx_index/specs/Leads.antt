@@ -2,7 +2,7 @@
 use Rattle.std.specs.Prelude.{◌≡◌, ℕ, suc, zero, ◌+◌, List, [], ◌∷◌, Option, None, Some, Bool, filter, length, slice_get, Result, Ok, Err}
 use Rattle.jx_lex.specs.declared.kind.Kind.{Kind}
 use Rattle.jx_lex.specs.declared.kind.Kind.TheVariants as kind
-use Rattle.jx_lex.specs.declared.span.Span.{Span}
+use Rattle.jx_summary.specs.declared.span.Span.{Span}
 use Rattle.jx_run.specs.Laws.{span_of}
 use Rattle.jx_run.specs.Tree.{Tree, node, Children, no_children, child}
 use Rattle.jx_index.specs.declared.array_token.Place.{Place}

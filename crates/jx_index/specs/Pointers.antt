@@ -32,9 +32,9 @@ pub record IsFirstBadEscape (pointer : List ℕ) (at : ℕ) : Type 0 where
 -- ---- the tokens
 
 -- no slash among the bytes
-abbrev pub NoSlash : List ℕ → Type 0
-NoSlash [] = Unit {0}
-NoSlash (b ∷ bs) = (b ≢ 0x2f) × NoSlash bs
+abbrev pub HasNoSlash : List ℕ → Type 0
+HasNoSlash [] = Unit {0}
+HasNoSlash (b ∷ bs) = (b ≢ 0x2f) × HasNoSlash bs
 
 -- a list parted at its slashes
 abbrev pub onto_first : ℕ → List (List ℕ) → List (List ℕ)

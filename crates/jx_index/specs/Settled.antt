@@ -12,7 +12,7 @@ pub record IsIndexBy (settings : Settings) (bytes : List ℕ) (index : IndexedVa
   pub text : index.text ≡ bytes
   pub tree : Tree
   pub is_text : IsDocumentBy settings 0 bytes tree
-  pub place : index.place ≡ span (length is_text.front) (length bytes)
+  pub span : index.span ≡ span (length is_text.front) (length bytes)
   pub rows_are : index.rows ≡ rows tree
 
 -- the bytes from an offset on
@@ -22,7 +22,7 @@ rest_from start bytes = slice_range bytes start (length bytes)
 -- the index is over the bytes from an offset on, and its rows are those of their tree
 pub record IsIndexFrom (start : ℕ) (bytes : List ℕ) (limit : ℕ) (index : IndexedValue) : Type 0 where
   pub text : index.text ≡ bytes
-  pub place : index.place ≡ span start (length bytes)
+  pub span : index.span ≡ span start (length bytes)
   pub tree : Tree
   pub is_text : IsText bytes start (length bytes) limit tree
   pub rows_are : index.rows ≡ rows tree

@@ -1,7 +1,7 @@
 -- Where a node stands in a tree: its number, its parent, its place among its siblings and its name.
 use Rattle.std.specs.Prelude.{◌≡◌, ℕ, suc, ◌+◌, Option, Some, None, slice_get}
 use Rattle.jx_lex.specs.declared.kind.Kind.{Kind}
-use Rattle.jx_lex.specs.declared.span.Span.{Span}
+use Rattle.jx_summary.specs.declared.span.Span.{Span}
 use Rattle.jx_run.specs.Tree.{Tree, node, Children, child}
 use Rattle.jx_index.specs.declared.row.Row.{Row}
 use Rattle.jx_index.specs.Rows.{size, rows}

@@ -1,7 +1,7 @@
 -- The UTF-16 units of a string, read off its bytes a part at a time.
 use Rattle.std.specs.Prelude.{ℕ, zero, suc, ◌+◌, ◌-◌, ◌*◌, ◌==◌, nat_lt, if◌then◌else◌, List, [], ◌∷◌, ◌++◌, length, take, drop, slice_index, slice_range}
 use Rattle.std.specs.Char.Escape.{encode_utf16}
-use Rattle.jx_lex.specs.declared.span.Span.{Span}
+use Rattle.jx_summary.specs.declared.span.Span.{Span}
 use Rattle.jx_index.specs.declared.units.Spelling.{Spelling}
 use Rattle.jx_index.specs.declared.units.Spelling.TheVariants.{InText, InToken}
 use Rattle.jx_lex.specs.Character.{tail_bits, two_tails, three_tails}

@@ -1,5 +1,5 @@
 ghost use Rattle.std.specs.Prelude.{◌≡◌, ◌<◌, ◌-◌, ◌^◌, reverse, slice_set, true, IfOk};
-ghost use Rattle.jx_index.specs.inside.Building.{place_in, parent_in, counted, set_end, nothing_built, make, add_leaf, begin_container, ended, is_name_next, on_mark, is_token, next_end, ends_after, built_of};
+ghost use Rattle.jx_index.specs.inside.Building.{child_place, parent_in, counted, set_end, nothing_built, make, add_leaf, begin_container, ended, is_name_next, on_mark, is_token, next_end, ends_after, built_of};
 ghost use Rattle.jx_index.specs.inside.Built.{built, Fits};
 ghost use Rattle.jx_index.specs.inside.Low.{AllLow};
 
@@ -26,7 +26,7 @@ pub struct Builder {
 
 /// Counts one child more in the innermost open container, if there is one; the count stops at the greatest `usize`.
 fn count_child(opened: &mut Vec<Opened>)
-    ensures { place_in (reverse opened.old.items) < 2 ^ 64 - 1 → reverse opened.new.items ≡ counted (reverse opened.old.items) }
+    ensures { child_place (reverse opened.old.items) < 2 ^ 64 - 1 → reverse opened.new.items ≡ counted (reverse opened.old.items) }
 {
     let depth = opened.len();
     if depth > 0 {
@@ -38,7 +38,7 @@ fn count_child(opened: &mut Vec<Opened>)
 
 /// How many children the innermost open container has so far, the place of a next one; 0 where none is open.
 fn place_of(opened: &[Opened]) -> usize
-    ensures { result ≡ place_in (reverse opened.now) }
+    ensures { result ≡ child_place (reverse opened.now) }
 {
     match opened.last() {
         Some(top) => top.count,

@@ -6,7 +6,7 @@ ghost use Rattle.jx_index.specs.declared.units.Spelling.TheVariants.{InToken};
 ghost use Rattle.jx_index.specs.ArrayTokens.{place_in};
 ghost use Rattle.jx_index.specs.Leads.{only, at_place, leads};
 ghost use Rattle.jx_index.specs.Nodes.{IsArrayAt, IsObjectAt, kind_at, child_numbers};
-ghost use Rattle.jx_index.specs.Pointers.{HasSlash, tokens, NoSlash};
+ghost use Rattle.jx_index.specs.Pointers.{HasSlash, tokens, HasNoSlash};
 ghost use Rattle.jx_index.specs.RowsLead.{is_equal, row_token};
 ghost use Rattle.jx_index.specs.Units.{parts_units};
 
@@ -23,7 +23,7 @@ use jx_lex::Kind;
 /// How many bytes stand before the next slash, or before the end.
 fn token_len(bytes: &[u8]) -> usize
     ensures within { result ≤ length bytes.now }
-    ensures slashless { NoSlash (take result bytes.now) }
+    ensures slashless { HasNoSlash (take result bytes.now) }
     ensures next { HasSlash (drop result bytes.now) }
 {
     for at in 0..bytes.len() {
@@ -84,7 +84,7 @@ impl<'a> Indexed<'a> {
     pub fn find(&self, pointer: &Pointer) -> Result<NodeId, FindFault>
         ensures row { IfOk result (λ node. node < length self.now.rows) }
         ensures leads { (limit : ℕ) (tree : Tree)
-            → IsText self.now.text self.now.place.start self.now.place.end limit tree → result ≡ leads self.now.text tree (tokens pointer.now) }
+            → IsText self.now.text self.now.span.start self.now.span.end limit tree → result ≡ leads self.now.text tree (tokens pointer.now) }
     {
         let rows = self.rows();
         let mut node = self.root();

@@ -3,7 +3,7 @@ ghost use Rattle.std.specs.List.Sorted.{IsPermutation, IsSortedBy, IsStableBy};
 ghost use Rattle.jx_run.specs.declared.verdict.Verdict.TheVariants.{Accepted, Refused};
 ghost use Rattle.jx_run.specs.Started.{IsStarted};
 ghost use Rattle.jx_run.specs.Text.{IsText};
-ghost use Rattle.jx_run.specs.TextRun.{IsTextRun, place_of};
+ghost use Rattle.jx_run.specs.TextRun.{IsTextRun, text_span};
 ghost use Rattle.jx_run.specs.Tree.{Tree};
 ghost use Rattle.jx_run.specs.Verdict.{Judged};
 ghost use Rattle.jx_index.specs.Indexed.{HasNodes, HasTree};
@@ -35,7 +35,7 @@ impl<'a> Model for Indexed<'a> {
 
     ghost Value = { IndexedValue };
 
-    ghost view = { λ i. record { text = i.text.now; place = i.span; rows = i.nodes.rows.items } };
+    ghost view = { λ i. record { text = i.text.now; span = i.span; rows = i.nodes.rows.items } };
 
     ghost invariant = { λ i. IsIndexed i.text.now i.span i.nodes.rows.items i.nodes.after.items i.parts.starts.items i.parts.children.items };
 }
@@ -48,14 +48,14 @@ impl<'a> Indexed<'a> {
         text: &'a [u8],
         started: &Started,
     ) -> Result<Indexed<'a>, AllocError>
-        requires ordered { started.now.place.start ≤ started.now.place.end }
-        requires within { started.now.place.end ≤ length text.now }
-        requires reading { IsStarted (slice_range text.now started.now.place.start started.now.place.end) started.now }
+        requires ordered { started.now.span.start ≤ started.now.span.end }
+        requires within { started.now.span.end ≤ length text.now }
+        requires reading { IsStarted (slice_range text.now started.now.span.start started.now.span.end) started.now }
         requires accepted { started.now.verdict ≡ Accepted }
         ensures text { IfOk result (λ index. index.text ≡ text.now) }
-        ensures place { IfOk result (λ index. index.place ≡ started.now.place) }
+        ensures span { IfOk result (λ index. index.span ≡ started.now.span) }
         ensures rows { IfOk result (λ index. (limit : ℕ) (tree : Tree)
-            → IsText text.now started.now.place.start started.now.place.end limit tree → index.rows ≡ rows_of tree) }
+            → IsText text.now started.now.span.start started.now.span.end limit tree → index.rows ≡ rows_of tree) }
     {
         tokens_are_read();
         let span = started.span();
@@ -79,7 +79,7 @@ impl<'a> Indexed<'a> {
         ensures accepted { IfOk result (λ read. IfOk read (λ _. Judged span.start (slice_range text.now span.start span.end) depth Accepted)) }
         ensures refused { IfOk result (λ read. IfErr read (λ refusal. Judged span.start (slice_range text.now span.start span.end) depth (Refused refusal))) }
         ensures text { IfOk result (λ read. IfOk read (λ index. index.text ≡ text.now)) }
-        ensures place { IfOk result (λ read. IfOk read (λ index. index.place ≡ span)) }
+        ensures span { IfOk result (λ read. IfOk read (λ index. index.span ≡ span)) }
         ensures rows { IfOk result (λ read. IfOk read (λ index. (limit : ℕ) (tree : Tree)
             → IsText text.now span.start span.end limit tree → index.rows ≡ rows_of tree)) }
     {
@@ -109,9 +109,9 @@ impl<'a> Indexed<'a> {
         requires ordered { run.now.map.start ≤ run.now.map.end }
         requires within { run.now.map.end ≤ length text.now }
         requires of { IsTextRun (slice_range text.now run.now.map.start run.now.map.end) run.now }
-        requires accepted { Judged run.now.map.start (slice_range text.now run.now.map.start run.now.map.end) run.now.limit Accepted }
+        requires accepted { Judged run.now.map.start (slice_range text.now run.now.map.start run.now.map.end) run.now.depth Accepted }
         ensures text { IfOk result (λ index. index.text ≡ text.now) }
-        ensures place { IfOk result (λ index. index.place ≡ place_of run.now) }
+        ensures span { IfOk result (λ index. index.span ≡ text_span run.now) }
         ensures rows { IfOk result (λ index. (limit : ℕ) (tree : Tree)
             → IsText text.now run.now.map.start run.now.map.end limit tree → index.rows ≡ rows_of tree) }
     {
@@ -131,7 +131,7 @@ impl<'a> Indexed<'a> {
     ) -> Result<Indexed<'a>, AllocError>
         requires { HasNodes text.now span nodes.rows.items nodes.after.items }
         ensures text { IfOk result (λ index. index.text ≡ text.now) }
-        ensures place { IfOk result (λ index. index.place ≡ span) }
+        ensures span { IfOk result (λ index. index.span ≡ span) }
         ensures rows { IfOk result (λ index. index.rows ≡ nodes.rows.items) }
     {
         text_has_one_tree();
@@ -153,7 +153,7 @@ impl<'a> Indexed<'a> {
 
     /// Where the text stands in the whole input, with the blanks before and after its value.
     pub fn span(&self) -> Span
-        ensures { result ≡ self.now.place }
+        ensures { result ≡ self.now.span }
     {
         self.span
     }
@@ -163,7 +163,7 @@ impl<'a> Indexed<'a> {
         ensures same { result.now ≡ self.now.rows }
         ensures has_tree { HasTree self.now }
         ensures tree { (limit : ℕ) (tree : Tree)
-            → IsText self.now.text self.now.place.start self.now.place.end limit tree → result.now ≡ rows_of tree }
+            → IsText self.now.text self.now.span.start self.now.span.end limit tree → result.now ≡ rows_of tree }
     {
         self.nodes.rows.as_slice()
     }
@@ -181,7 +181,7 @@ impl<'a> Indexed<'a> {
         requires { node < length self.now.rows }
         ensures same { slice_get self.now.rows node ≡ Some result.now }
         ensures tree { (limit : ℕ) (tree : Tree)
-            → IsText self.now.text self.now.place.start self.now.place.end limit tree → slice_get (rows_of tree) node ≡ Some result.now }
+            → IsText self.now.text self.now.span.start self.now.span.end limit tree → slice_get (rows_of tree) node ≡ Some result.now }
     {
         &self.nodes.rows[node.number()]
     }

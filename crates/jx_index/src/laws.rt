@@ -63,14 +63,14 @@ pub fn unique_names_are_met_once()
 /// the bytes, what is told of the text there is told by settings of all bytes.
 pub fn indexes_stand_behind_fronts()
     ensures over { (text : List ℕ) (start limit : ℕ) (index : IndexedValue) → Judged start (rest_from start text) limit Accepted → index.text ≡ text
-        → index.place ≡ span start (length text) → ((d : ℕ) (tree : Tree) → IsText text start (length text) d tree → index.rows ≡ rows tree)
+        → index.span ≡ span start (length text) → ((d : ℕ) (tree : Tree) → IsText text start (length text) d tree → index.rows ≡ rows tree)
         → IsIndexFrom start text limit index }
     ensures index { (settings : Settings) (text : List ℕ) (count : ℕ) (index : IndexedValue) → front_of settings.mark text ≡ Skip count
         → IsIndexFrom count text settings.depth index → IsIndexBy settings text index }
     ensures verdict { (settings : Settings) (text : List ℕ) (count : ℕ) (verdict : Verdict) → front_of settings.mark text ≡ Skip count
         → Judged count (rest_from count text) settings.depth verdict → JudgedBy settings 0 text verdict }
     ensures text { (settings : Settings) (text : List ℕ) (index : IndexedValue) (x : IsIndexBy settings text index)
-        → IsText index.text index.place.start index.place.end settings.depth x.tree }
+        → IsText index.text index.span.start index.span.end settings.depth x.tree }
 {
     fronts_decide_where_texts_begin();
 }

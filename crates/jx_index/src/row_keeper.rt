@@ -1,6 +1,6 @@
 // Rows that are built as a scan finds the tokens of a text.
 ghost use Rattle.std.specs.Prelude.{◌≡◌, ◌++◌, ◌∷◌, [], ℕ, List, IsTrue, IfOk};
-ghost use Rattle.jx_lex.specs.declared.mark.Mark.{Mark};
+ghost use Rattle.jx_lex.specs.declared.alphabet.mark.Mark.{Mark};
 ghost use Rattle.jx_index.specs.inside.Building.{built_of};
 
 use crate::builder::{Builder, Nodes, first_end, has_end, later_ends, nodes_of};

@@ -2,21 +2,21 @@
 use Rattle.std.proofs.Common.{◌≡◌, ◌≢◌, ℕ, zero, suc, ◌+◌, ◌<◌, ◌≤◌, List, [], ◌∷◌, ◌++◌, length, get_or, set, take, refl, ap, sym, subst, ◌∙◌, arith, length-append, length-set, map, Bool, true, false, cond, ◌==◌, ◌&&◌, sum_by, count_by, replicate, Option, Some, None, is_some, is_none, if◌then◌else◌}
 use Rattle.std.proofs.lemmas.List.{get_or-set_same, get_or-set_other, get_or-replicate, get_or-map}
 use Rattle.std.proofs.lemmas.List.Sums.{sum_by_more, sum_by-le-sum_by, count_by_more_yes, count_by_more_no}
-use Rattle.jx_lex.specs.declared.state.LexState.{LexState}
-use Rattle.jx_lex.specs.declared.state.LexState.TheVariants as state
-use Rattle.jx_lex.specs.declared.mark.MarkKind.{MarkKind}
-use Rattle.jx_lex.specs.declared.state.TokenEnd.{TokenEnd}
-use Rattle.jx_lex.specs.declared.link.Link.{Link}
-use Rattle.jx_lex.specs.declared.link.Link.TheVariants.{Ahead, State, Fault}
+use Rattle.jx_lex.specs.declared.alphabet.state.LexState.{LexState}
+use Rattle.jx_lex.specs.declared.alphabet.state.LexState.TheVariants as state
+use Rattle.jx_lex.specs.declared.alphabet.mark.MarkKind.{MarkKind}
+use Rattle.jx_lex.specs.declared.alphabet.state.TokenEnd.{TokenEnd}
+use Rattle.jx_lex.specs.declared.map.link.Link.{Link}
+use Rattle.jx_lex.specs.declared.map.link.Link.TheVariants.{Ahead, State, Fault}
 use Rattle.jx_lex.specs.Moves.{move}
 use Rattle.jx_lex.specs.Lex.{Track, lex, with_mark, with_end, on_next}
 use Rattle.jx_lex.specs.Ordinal.{ordinal, all_states}
 use Rattle.jx_lex.specs.Follow.{Part, behind, follow, IsIn, AreIn, head, shifted, linked, linked_parts}
 use Rattle.jx_lex.specs.inside.Closed.{IsClosed, AreClosed}
 use Rattle.jx_lex.specs.inside.Step.{link_of, read_part, opening}
-use Rattle.jx_lex.specs.Map.{stored, MarksIn, ArePlaced, IsOf, IsWhole}
+use Rattle.jx_lex.specs.Map.{stored, MarksIn, ArePlaced, IsOf, IsLinked}
 use Rattle.jx_lex.specs.Shared.{has, held_after, begins, beginning, shared_from, after}
-use Rattle.jx_lex.specs.inside.Bundle.{Bundle, is_live, LiveAt, AllLive, Within, Reads, Stands, with_segment, with_exit, with_byte, more_live, is_quiet}
+use Rattle.jx_lex.specs.inside.Bundle.{Bundle, is_live, LiveAt, AllLive, Within, IsBundleOf, Stands, with_segment, with_exit, with_byte, more_live, is_quiet}
 use Rattle.jx_lex.proofs.ClassTable.{all_below, all_below-at}
 use Rattle.jx_lex.proofs.Joined.{ordinal-low, follow-shifted, head-map}
 use Rattle.jx_lex.proofs.Meeting.{same_ordinal, state-at}
@@ -220,7 +220,7 @@ own-le at byte live held w s = go (is_live live s) refl
     go false e = omega arith
     go true e = rw (marks, w s e) (let z : cond (begins byte s) 1 0 ≤ cond (true && begins byte s) 1 0 = omega arith in z)
 
-pub Reads-built : (at byte : ℕ) (live : List Bool) (b : Bundle) → Built at (byte ∷ []) live 32 b → Reads at (byte ∷ []) live b
+pub Reads-built : (at byte : ℕ) (live : List Bool) (b : Bundle) → Built at (byte ∷ []) live 32 b → IsBundleOf at (byte ∷ []) live b
 unfolding shared_from
 Reads-built at byte live b h =
     record {
@@ -255,7 +255,7 @@ own-none at live s = go (is_live live s)
     go true = omega arith
     go false = omega arith
 
-pub Reads-open : (at : ℕ) (live : List Bool) (b : Bundle) → Built at [] live 32 b → Reads at [] live b
+pub Reads-open : (at : ℕ) (live : List Bool) (b : Bundle) → Built at [] live 32 b → IsBundleOf at [] live b
 unfolding shared_from
 Reads-open at live b h =
     record {
@@ -454,7 +454,7 @@ head-exit s = get_or-map State all_states (ordinal s) state.Gap (Fault 0) (ordin
 pub every-live : (s : LexState) → is_live (replicate 32 true) s ≡ true
 every-live s = get_or-replicate 32 (ordinal s) true false (ordinal-low s)
 
-pub Reads-unread : (at : ℕ) → Reads at [] (replicate 32 true) (record { heads = map State all_states; parts = []; live = replicate 32 true })
+pub Reads-unread : (at : ℕ) → IsBundleOf at [] (replicate 32 true) (record { heads = map State all_states; parts = []; live = replicate 32 true })
 unfolding shared_from follow lex
 Reads-unread at =
     record {
@@ -480,11 +480,11 @@ Stands-unread =
 pub shared-all : (bytes : List ℕ) → Within (replicate 32 true) all_states
 shared-all bytes s l = has-all s
 
-pub IsOf-reads : (start end : ℕ) (bytes : List ℕ) (b : Bundle) → end ≡ start + length bytes → Reads start bytes (replicate 32 true) b
+pub IsOf-reads : (start end : ℕ) (bytes : List ℕ) (b : Bundle) → end ≡ start + length bytes → IsBundleOf start bytes (replicate 32 true) b
     → IsOf bytes (record { start = start; end = end; heads = b.heads; parts = b.parts })
 IsOf-reads start end bytes b long r = record { long = long; tracks = λ s. r.tracks s (every-live s) }
 
-pub IsWhole-reads : (start end : ℕ) (bytes : List ℕ) (live : List Bool) (b : Bundle) → Reads start bytes live b → IsWhole (record { start = start; end = end; heads = b.heads; parts = b.parts })
+pub IsWhole-reads : (start end : ℕ) (bytes : List ℕ) (live : List Bool) (b : Bundle) → IsBundleOf start bytes live b → IsLinked (record { start = start; end = end; heads = b.heads; parts = b.parts })
 IsWhole-reads start end bytes live b r = record { all = r.all; heads = r.heads; parts = r.parts }
 
 closed-link : (heads : List Link) (n : ℕ) (g : Link) → ((s : LexState) → IsClosed (head heads s)) → IsClosed (linked heads n g)

@@ -1,13 +1,13 @@
 -- One bundle of tracks behind another.
 use Rattle.std.proofs.Common.{◌≡◌, ℕ, zero, suc, ◌+◌, List, [], ◌∷◌, ◌++◌, length, refl, ap, sym, subst, ◌∙◌, arith, length-append, Bool, true}
 use Rattle.std.proofs.lemmas.List.{length-map}
-use Rattle.jx_lex.specs.declared.state.LexState.{LexState}
-use Rattle.jx_lex.specs.declared.link.Link.{Link}
-use Rattle.jx_lex.specs.declared.link.Link.TheVariants.{Ahead, State, Fault}
-use Rattle.jx_lex.specs.Lex.{Track, Exit, lex}
+use Rattle.jx_lex.specs.declared.alphabet.state.LexState.{LexState}
+use Rattle.jx_lex.specs.declared.map.link.Link.{Link}
+use Rattle.jx_lex.specs.declared.map.link.Link.TheVariants.{Ahead, State, Fault}
+use Rattle.jx_lex.specs.Lex.{Track, LexExit, lex}
 use Rattle.jx_lex.specs.Follow.{Part, follow, IsIn, AreIn, head, shifted, linked, linked_parts}
 use Rattle.jx_lex.specs.Shared.{has, held_after, shared_from, after}
-use Rattle.jx_lex.specs.inside.Bundle.{Bundle, is_live, LiveAt, AllLive, Reads, Stands, joined_bundle}
+use Rattle.jx_lex.specs.inside.Bundle.{Bundle, is_live, LiveAt, AllLive, IsBundleOf, Stands, joined_bundle}
 use Rattle.jx_lex.specs.TwoParts.{joined, right_of}
 use Rattle.jx_lex.proofs.LexJoin.{lex-append}
 use Rattle.jx_lex.proofs.Joined.{head-map, follow-linked, IsIn-linked, AreIn-linked, length-linked}
@@ -16,7 +16,7 @@ use Rattle.jx_lex.proofs.Placing.{ArePlaced-wider, ArePlaced-append, ArePlaced-l
 
 -- a track that ends in a state ends in a live one
 pub exit-live : (live : List Bool) (ps : List Part) (g : Link) → LiveAt live g → AllLive live ps → IsIn (length ps) g → AreIn ps
-    → (s : LexState) → (follow ps g).exit ≡ Exit.state s → is_live live s ≡ true
+    → (s : LexState) → (follow ps g).exit ≡ LexExit.state s → is_live live s ≡ true
 unfolding follow
 exit-live live ps (State t) l ls h w s e = let i : t ≡ s = cc in subst (λ x. is_live live x ≡ true) i l
 exit-live live ps (Fault at) l ls h w s e = absurd cc
@@ -24,12 +24,12 @@ exit-live live [] (Ahead k) l ls h w s e = absurd (omega (arith, h))
 exit-live live (p ∷ ps) (Ahead zero) l ls h w s e = exit-live live ps p.next ls.0 ls.1 w.0 w.1 s e
 exit-live live (p ∷ ps) (Ahead (suc k)) l ls h w s e = exit-live live ps (Ahead k) tt ls.1 (omega (arith, h)) w.1 s e
 
-right-at-exit : (e : Exit) (f g : LexState → Track) → ((s : LexState) → e ≡ Exit.state s → f s ≡ g s) → right_of e f ≡ right_of e g
-right-at-exit (Exit.state s) f g h = h s refl
-right-at-exit (Exit.fault at) f g h = refl
+right-at-exit : (e : LexExit) (f g : LexState → Track) → ((s : LexState) → e ≡ LexExit.state s → f s ≡ g s) → right_of e f ≡ right_of e g
+right-at-exit (LexExit.state s) f g h = h s refl
+right-at-exit (LexExit.fault at) f g h = refl
 
 -- what follows is asked only at the exit
-joined-at-exit : (t : Track) (f g : LexState → Track) → ((s : LexState) → t.exit ≡ Exit.state s → f s ≡ g s) → joined t f ≡ joined t g
+joined-at-exit : (t : Track) (f g : LexState → Track) → ((s : LexState) → t.exit ≡ LexExit.state s → f s ≡ g s) → joined t f ≡ joined t g
 joined-at-exit t f g h = ap (λ (r : Track). record { marks = t.marks ++ r.marks; ends = t.ends ++ r.ends; exit = r.exit }) (right-at-exit t.exit f g h)
 
 pub shared-join : (held : List LexState) (u w : List ℕ) → shared_from held (u ++ w) ≡ shared_from held u + shared_from (after held u) w
@@ -42,7 +42,7 @@ after-join held [] w = refl
 after-join held (b ∷ u) w = after-join (held_after b held) u w
 
 pub Reads-joined : (at from : ℕ) (u w : List ℕ) (live : List Bool) (l r : Bundle) → from ≡ at + length u
-    → Reads at u live l → Stands u live l → Reads from w l.live r → Reads at (u ++ w) live (joined_bundle l r)
+    → IsBundleOf at u live l → Stands u live l → IsBundleOf from w l.live r → IsBundleOf at (u ++ w) live (joined_bundle l r)
 Reads-joined at from u w live l r here rl sl rr =
     record {
       all = length-map l.heads (linked r.heads (length l.parts)) ∙ rl.all;

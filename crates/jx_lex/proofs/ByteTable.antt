@@ -3,9 +3,9 @@ use Rattle.std.proofs.Common.{◌≡◌, ℕ, ◌<◌, ◌/◌, ◌%◌, true, e
 use Rattle.std.specs.Prelude.{◌==◌}
 use Rattle.std.proofs.lemmas.Bool.Decides.{nat_tests}
 use Rattle.std.proofs.lemmas.List.{get_or_default}
-use Rattle.jx_lex.specs.declared.class.Class.{Class}
-use Rattle.jx_lex.specs.declared.class.Class.TheVariants.{Bad}
-use Rattle.jx_lex.specs.declared.classes.TheConstants.{CLASSES}
+use Rattle.jx_lex.specs.declared.alphabet.class.Class.{Class}
+use Rattle.jx_lex.specs.declared.alphabet.class.Class.TheVariants.{Bad}
+use Rattle.jx_lex.specs.declared.alphabet.classes.TheConstants.{CLASSES}
 use Rattle.jx_lex.specs.Classes.{all_classes, first_with, class_at, is_in}
 use Rattle.jx_lex.proofs.ClassTable.{all_below, all_below-at, code, same_code}
 

@@ -2,14 +2,14 @@
 use Rattle.std.proofs.Common.{◌≡◌, ℕ, List, map, get_or, refl, sym, ap, ◌∙◌}
 use Rattle.std.proofs.Math.ListN.{get_or-map}
 use denote.Enum.Declared.{tag_of}
-use Rattle.jx_lex.specs.contracts.class.Class as class_type
-use Rattle.jx_lex.specs.contracts.state.LexState as state_type
-use Rattle.jx_lex.specs.declared.class.Class.{Class}
-use Rattle.jx_lex.specs.declared.class.Class.TheVariants as class
-use Rattle.jx_lex.specs.declared.state.LexState.{LexState}
-use Rattle.jx_lex.specs.declared.state.LexState.TheVariants as state
-use Rattle.jx_lex.specs.declared.cell.Cell.{Cell}
-use Rattle.jx_lex.specs.declared.cells.TheConstants.{CELLS}
+use Rattle.jx_lex.specs.contracts.alphabet.class.Class as class_type
+use Rattle.jx_lex.specs.contracts.alphabet.state.LexState as state_type
+use Rattle.jx_lex.specs.declared.alphabet.class.Class.{Class}
+use Rattle.jx_lex.specs.declared.alphabet.class.Class.TheVariants as class
+use Rattle.jx_lex.specs.declared.alphabet.state.LexState.{LexState}
+use Rattle.jx_lex.specs.declared.alphabet.state.LexState.TheVariants as state
+use Rattle.jx_lex.specs.declared.alphabet.cell.Cell.{Cell}
+use Rattle.jx_lex.specs.declared.alphabet.cells.TheConstants.{CELLS}
 use Rattle.jx_lex.specs.inside.Cells.{step_of}
 use Rattle.jx_lex.specs.Classes.{all_classes, class_at}
 use Rattle.jx_lex.specs.Moves.{row, move, as_gap}

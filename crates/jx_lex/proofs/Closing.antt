@@ -1,9 +1,9 @@
 -- A segment that does not lead out in a state stays as it is in a join, and after a join so are all of the left.
 use Rattle.std.proofs.Common.{◌≡◌, ℕ, zero, suc, ◌+◌, List, [], ◌∷◌, ◌++◌, length, refl, ap, sym, subst, ◌∙◌, arith, take, drop, map, length-append}
 use Rattle.std.proofs.lemmas.List.{take-append-drop}
-use Rattle.jx_lex.specs.declared.state.LexState.{LexState}
-use Rattle.jx_lex.specs.declared.link.Link.{Link}
-use Rattle.jx_lex.specs.declared.link.Link.TheVariants.{Ahead, State, Fault}
+use Rattle.jx_lex.specs.declared.alphabet.state.LexState.{LexState}
+use Rattle.jx_lex.specs.declared.map.link.Link.{Link}
+use Rattle.jx_lex.specs.declared.map.link.Link.TheVariants.{Ahead, State, Fault}
 use Rattle.jx_lex.specs.Follow.{Part, head, shifted, linked, linked_parts}
 use Rattle.jx_lex.specs.inside.Closed.{IsClosed, ClosedTo, AreClosed}
 use Rattle.jx_lex.proofs.Joined.{head-map, length-linked}

@@ -1,13 +1,13 @@
 -- Where at most two states are live, all that is read on ends in at most two.
 use Rattle.std.proofs.Common.{◌≡◌, ◌⊎◌, inl, inr, ℕ, zero, suc, ◌+◌, ◌<◌, ◌≤◌, List, [], ◌∷◌, ◌++◌, length, get_or, refl, ap, sym, subst, ◌∙◌, arith, Bool, true, false, cond, count_by, replicate}
 use Rattle.std.proofs.lemmas.List.Sums.{sum_by-cons}
-use Rattle.jx_lex.specs.declared.state.LexState.{LexState}
-use Rattle.jx_lex.specs.declared.state.LexState.TheVariants as state
-use Rattle.jx_lex.specs.Lex.{Track, Exit, lex}
+use Rattle.jx_lex.specs.declared.alphabet.state.LexState.{LexState}
+use Rattle.jx_lex.specs.declared.alphabet.state.LexState.TheVariants as state
+use Rattle.jx_lex.specs.Lex.{Track, LexExit, lex}
 use Rattle.jx_lex.specs.Ordinal.{ordinal, all_states}
 use Rattle.jx_lex.specs.Follow.{head}
 use Rattle.jx_lex.specs.Map.{Map, IsOf, EndsInTwo}
-use Rattle.jx_lex.specs.inside.Bundle.{Bundle, is_live, live_count, Reads, Stands}
+use Rattle.jx_lex.specs.inside.Bundle.{Bundle, is_live, live_count, IsBundleOf, Stands}
 use Rattle.jx_lex.specs.TwoParts.{right_of}
 use Rattle.jx_lex.proofs.LexJoin.{lex-append}
 use Rattle.jx_lex.proofs.Joined.{ordinal-low}
@@ -97,16 +97,16 @@ two-pass p (s ∷ ss) few = go (p s) refl (two-pass p ss (count-rest p s ss 2 fe
 pub record LeaveTwo (start : ℕ) (bytes : List ℕ) : Type 0 where
   pub one : LexState
   pub other : LexState
-  pub all : (s t : LexState) → (lex s start bytes).exit ≡ Exit.state t → (t ≡ one) ⊎ (t ≡ other)
+  pub all : (s t : LexState) → (lex s start bytes).exit ≡ LexExit.state t → (t ≡ one) ⊎ (t ≡ other)
 
 -- where at most two states are live
-pub live-two : (start : ℕ) (u : List ℕ) (b : Bundle) → Reads start u (replicate 32 true) b → Stands u (replicate 32 true) b → live_count b.live ≤ 2 → LeaveTwo start u
+pub live-two : (start : ℕ) (u : List ℕ) (b : Bundle) → IsBundleOf start u (replicate 32 true) b → Stands u (replicate 32 true) b → live_count b.live ≤ 2 → LeaveTwo start u
 live-two start u b reads stands few = record { one = two.one; other = two.other; all = at }
   where
     two : AllAmong (is_live b.live) all_states
     two = two-pass (is_live b.live) all_states few
 
-    at : (s t : LexState) → (lex s start u).exit ≡ Exit.state t → (t ≡ two.one) ⊎ (t ≡ two.other)
+    at : (s t : LexState) → (lex s start u).exit ≡ LexExit.state t → (t ≡ two.one) ⊎ (t ≡ two.other)
     at s t e =
         let track = reads.tracks s (every-live s) in
         let lives : is_live b.live t ≡ true = exit-live b.live b.parts (head b.heads s) (stands.heads s) stands.parts (reads.heads s) reads.parts t (ap (λ (t : Track). t.exit) track ∙ e) in
@@ -114,9 +114,9 @@ live-two start u b reads stands few = record { one = two.one; other = two.other;
         (two.all (ordinal t) (ordinal-low t) (subst (λ (x : LexState). is_live b.live x ≡ true) (sym (state-at t)) lives))
 
 -- the state in which a reading ends, where it ends in one
-abbrev end_of : Exit → LexState
-end_of (Exit.state s) = s
-end_of (Exit.fault at) = state.Gap
+abbrev end_of : LexExit → LexState
+end_of (LexExit.state s) = s
+end_of (LexExit.fault at) = state.Gap
 
 -- more bytes lead two states to at most two
 pub two-read_on : (start : ℕ) (u w : List ℕ) → LeaveTwo start u → LeaveTwo start (u ++ w)
@@ -125,9 +125,9 @@ two-read_on start u w h = record { one = behind h.one; other = behind h.other; a
     behind : LexState → LexState
     behind n = end_of ((lex n (start + length u) w).exit)
 
-    go : (s t : LexState) (x : Exit) → (lex s start u).exit ≡ x → (right_of x (λ n. lex n (start + length u) w)).exit ≡ Exit.state t → (t ≡ behind h.one) ⊎ (t ≡ behind h.other)
-    go s t (Exit.fault k) q r = absurd cc
-    go s t (Exit.state n) q r =
+    go : (s t : LexState) (x : LexExit) → (lex s start u).exit ≡ x → (right_of x (λ n. lex n (start + length u) w)).exit ≡ LexExit.state t → (t ≡ behind h.one) ⊎ (t ≡ behind h.other)
+    go s t (LexExit.fault k) q r = absurd cc
+    go s t (LexExit.state n) q r =
         let ends : t ≡ behind n = sym (ap end_of r) in
         pick (h.all s n q) ends
       where
@@ -135,7 +135,7 @@ two-read_on start u w h = record { one = behind h.one; other = behind h.other; a
         pick (inl a) e = inl (e ∙ ap behind a)
         pick (inr a) e = inr (e ∙ ap behind a)
 
-    at : (s t : LexState) → (lex s start (u ++ w)).exit ≡ Exit.state t → (t ≡ behind h.one) ⊎ (t ≡ behind h.other)
+    at : (s t : LexState) → (lex s start (u ++ w)).exit ≡ LexExit.state t → (t ≡ behind h.one) ⊎ (t ≡ behind h.other)
     at s t e = go s t ((lex s start u).exit) refl (sym (ap (λ (t : Track). t.exit) (lex-append u w s start)) ∙ e)
 
 -- the tracks of a map of such bytes

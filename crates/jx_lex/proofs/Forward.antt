@@ -2,11 +2,11 @@
 use Rattle.std.proofs.Common.{◌≡◌, ◌≢◌, ℕ, ◌≤◌, Bool, true, false, ◌&&◌, ◌||◌, eqb, List, [], ◌∷◌, refl, ap, subst, ◌∙◌, inl, inr, ◌⊎◌, arith}
 use Rattle.std.specs.Prelude.{◌==◌, nat_le, not}
 use Rattle.std.proofs.lemmas.Bool.Decides.{nat_tests, eqb_tells}
-use Rattle.jx_lex.specs.declared.class.Class.{Class}
-use Rattle.jx_lex.specs.declared.class.Class.TheVariants as class
-use Rattle.jx_lex.specs.declared.state.LexState.{LexState}
-use Rattle.jx_lex.specs.declared.state.LexState.TheVariants as state
-use Rattle.jx_lex.specs.declared.state.Step.{Step}
+use Rattle.jx_lex.specs.declared.alphabet.class.Class.{Class}
+use Rattle.jx_lex.specs.declared.alphabet.class.Class.TheVariants as class
+use Rattle.jx_lex.specs.declared.alphabet.state.LexState.{LexState}
+use Rattle.jx_lex.specs.declared.alphabet.state.LexState.TheVariants as state
+use Rattle.jx_lex.specs.declared.alphabet.state.Step.{Step}
 use Rattle.jx_lex.specs.Classes.{all_classes, first_with, class_at}
 use Rattle.jx_lex.specs.Character.{IsWithin, IsTail}
 use Rattle.jx_lex.specs.Moves.{move, row, go}

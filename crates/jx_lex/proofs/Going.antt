@@ -1,13 +1,13 @@
 -- Going on over the rest of a token: bytes with no event.
 use Rattle.std.proofs.Common.{◌≡◌, ℕ, ◌+◌, ◌≤◌, ◌<◌, List, [], ◌∷◌, ◌++◌, length, get_or, refl, ap, sym, subst, ◌∙◌, arith}
 use Rattle.std.specs.Prelude.{slice_range}
-use Rattle.jx_lex.specs.declared.class.Class.TheVariants as class
-use Rattle.jx_lex.specs.declared.state.LexState.{LexState}
-use Rattle.jx_lex.specs.declared.state.LexState.TheVariants as state
+use Rattle.jx_lex.specs.declared.alphabet.class.Class.TheVariants as class
+use Rattle.jx_lex.specs.declared.alphabet.state.LexState.{LexState}
+use Rattle.jx_lex.specs.declared.alphabet.state.LexState.TheVariants as state
 use Rattle.jx_lex.specs.Character.{IsWithin}
 use Rattle.jx_lex.specs.Classes.{class_at}
 use Rattle.jx_lex.specs.Moves.{move, row, go}
-use Rattle.jx_lex.specs.Runs.{AllKeep, Leads}
+use Rattle.jx_lex.specs.Uneventful.{AllKeep, Leads}
 use Rattle.jx_lex.specs.Token.{IsE}
 use Rattle.jx_lex.proofs.Forward.{move-range, move-digit, move-e}
 use Rattle.jx_lex.proofs.Running.{AllKeep-leads, Leads-append}

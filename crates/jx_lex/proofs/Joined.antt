@@ -1,15 +1,15 @@
 -- Two maps one behind the other.
 use Rattle.std.proofs.Common.{◌≡◌, ℕ, zero, suc, ◌+◌, ◌-◌, ◌<◌, List, [], ◌∷◌, ◌++◌, length, get_or, refl, ap, sym, subst, ◌∙◌, arith, add-one, append_assoc, length-append, take, drop, set, map}
 use Rattle.std.proofs.lemmas.List.{length-map, get_or-map}
-use Rattle.jx_lex.specs.declared.state.LexState.{LexState}
-use Rattle.jx_lex.specs.declared.mark.Mark.{Mark}
-use Rattle.jx_lex.specs.Lex.{Track, Exit, lex}
+use Rattle.jx_lex.specs.declared.alphabet.state.LexState.{LexState}
+use Rattle.jx_lex.specs.declared.alphabet.mark.Mark.{Mark}
+use Rattle.jx_lex.specs.Lex.{Track, LexExit, lex}
 use Rattle.jx_lex.specs.TwoParts.{joined, right_of}
 use Rattle.jx_lex.proofs.LexJoin.{lex-append}
-use Rattle.jx_lex.specs.declared.state.LexState.TheVariants as state
-use Rattle.jx_lex.specs.Map.{Map, IsWhole, IsOf, joined_map, track}
-use Rattle.jx_lex.specs.declared.link.Link.{Link}
-use Rattle.jx_lex.specs.declared.link.Link.TheVariants.{Ahead, State, Fault}
+use Rattle.jx_lex.specs.declared.alphabet.state.LexState.TheVariants as state
+use Rattle.jx_lex.specs.Map.{Map, IsLinked, IsOf, joined_map, track}
+use Rattle.jx_lex.specs.declared.map.link.Link.{Link}
+use Rattle.jx_lex.specs.declared.map.link.Link.TheVariants.{Ahead, State, Fault}
 use Rattle.jx_lex.specs.Ordinal.{ordinal}
 use Rattle.jx_lex.specs.Follow.{Part, behind, follow, IsIn, AreIn, shifted, head, linked, linked_parts}
 
@@ -121,7 +121,7 @@ ordinal-low state.Nul = omega arith
 pub head-map : (f : Link → Link) (heads : List Link) (s : LexState) → length heads ≡ 32 → head (map f heads) s ≡ f (head heads s)
 head-map f heads s all = get_or-map f heads (ordinal s) (Fault 0) (Fault 0) (rw all (ordinal-low s))
 
-pub IsWhole-joined : (l r : Map) → IsWhole l → IsWhole r → IsWhole (joined_map l r)
+pub IsWhole-joined : (l r : Map) → IsLinked l → IsLinked r → IsLinked (joined_map l r)
 IsWhole-joined l r wl wr =
     record {
       all = length-map l.heads (linked r.heads (length l.parts)) ∙ wl.all;
@@ -132,21 +132,21 @@ IsWhole-joined l r wl wr =
     }
 
 -- the tracks of the joined map are those of the left, with those of the right behind them
-pub track-joined : (l r : Map) (s : LexState) → IsWhole l → track (joined_map l r) s ≡ joined (track l s) (track r)
+pub track-joined : (l r : Map) (s : LexState) → IsLinked l → track (joined_map l r) s ≡ joined (track l s) (track r)
 track-joined l r s w =
     ap (follow (linked_parts r.heads l.parts ++ r.parts)) (head-map (linked r.heads (length l.parts)) l.heads s w.all)
     ∙ follow-linked r.heads r.parts l.parts (head l.heads s) (w.heads s) w.parts
 
-right_of-same : (e : Exit) (f g : LexState → Track) → ((s : LexState) → f s ≡ g s) → right_of e f ≡ right_of e g
-right_of-same (Exit.state s) f g h = h s
-right_of-same (Exit.fault at) f g h = refl
+right_of-same : (e : LexExit) (f g : LexState → Track) → ((s : LexState) → f s ≡ g s) → right_of e f ≡ right_of e g
+right_of-same (LexExit.state s) f g h = h s
+right_of-same (LexExit.fault at) f g h = refl
 
 -- what follows is asked only at the exit
 pub joined-same : (t : Track) (f g : LexState → Track) → ((s : LexState) → f s ≡ g s) → joined t f ≡ joined t g
 joined-same t f g h = ap (λ (r : Track). record { marks = t.marks ++ r.marks; ends = t.ends ++ r.ends; exit = r.exit }) (right_of-same t.exit f g h)
 
 -- the join of neighbours is of their joined bytes
-pub IsOf-joined : (l r : Map) (xs ys : List ℕ) → IsWhole l → l.end ≡ r.start → IsOf xs l → IsOf ys r → IsOf (xs ++ ys) (joined_map l r)
+pub IsOf-joined : (l r : Map) (xs ys : List ℕ) → IsLinked l → l.end ≡ r.start → IsOf xs l → IsOf ys r → IsOf (xs ++ ys) (joined_map l r)
 IsOf-joined l r xs ys w meet hl hr =
     record {
       long = let a = hl.long in let b = hr.long in let c = length-append xs ys in omega (arith, a, b, c, meet);

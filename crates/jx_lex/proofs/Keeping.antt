@@ -1,18 +1,18 @@
 -- What a keeper has seen grows as the reading of a stretch goes on.
 use Rattle.std.proofs.Common.{◌≡◌, ℕ, suc, ◌+◌, ◌≤◌, ◌<◌, List, [], ◌∷◌, ◌++◌, length, get_or, refl, ap, sym, subst, ◌∙◌, arith, append-nil, append_assoc, Option, Some, None}
 use Rattle.std.specs.Prelude.{slice_range}
-use Rattle.jx_lex.specs.declared.state.LexState.{LexState}
-use Rattle.jx_lex.specs.declared.state.LexState.TheVariants as state
-use Rattle.jx_lex.specs.declared.state.Step.{Step}
-use Rattle.jx_lex.specs.declared.mark.Mark.{Mark}
+use Rattle.jx_lex.specs.declared.alphabet.state.LexState.{LexState}
+use Rattle.jx_lex.specs.declared.alphabet.state.LexState.TheVariants as state
+use Rattle.jx_lex.specs.declared.alphabet.state.Step.{Step}
+use Rattle.jx_lex.specs.declared.alphabet.mark.Mark.{Mark}
 use Rattle.jx_lex.specs.Classes.{class_at}
-use Rattle.jx_lex.specs.Lex.{Track, Exit, lex, with_mark, with_end, on_next, after_step}
+use Rattle.jx_lex.specs.Lex.{Track, LexExit, lex, with_mark, with_end, on_next, after_step}
 use Rattle.jx_lex.specs.Lex as reading
 use Rattle.jx_lex.specs.Moves.{move, as_gap}
-use Rattle.jx_lex.specs.Runs.{Leads}
+use Rattle.jx_lex.specs.Uneventful.{Leads}
 use Rattle.jx_lex.specs.Seen.{Seen, Grows, SeesTrack, GoesTo, EndsAtComma, Shuts}
-use Rattle.jx_lex.specs.declared.mark.MarkKind.TheVariants.{Colon, Comma}
-use Rattle.jx_lex.specs.declared.state.TokenEnd.TheVariants.{Before}
+use Rattle.jx_lex.specs.declared.alphabet.mark.MarkKind.TheVariants.{Colon, Comma}
+use Rattle.jx_lex.specs.declared.alphabet.state.TokenEnd.TheVariants.{Before}
 use Rattle.jx_lex.specs.TwoParts.{joined, right_of}
 use Rattle.jx_lex.proofs.LexJoin.{lex-append}
 use Rattle.jx_lex.proofs.Reading.{one-is}
@@ -41,8 +41,8 @@ goes-same old new t u s e h = subst (λ (x : Track). GoesTo old new x s) (sym e)
 abbrev pub then : Track → Track → Track
 then t u = record { marks = t.marks ++ u.marks; ends = t.ends ++ u.ends; exit = u.exit }
 
-right-at : (e : Exit) (s : LexState) (right : LexState → Track) → e ≡ reading.state s → right_of e right ≡ right s
-right-at e s right h = ap (λ (x : Exit). right_of x right) h
+right-at : (e : LexExit) (s : LexState) (right : LexState → Track) → e ≡ reading.state s → right_of e right ≡ right s
+right-at e s right h = ap (λ (x : LexExit). right_of x right) h
 
 -- a stretch is read in two parts
 pub in_two : (xs : List ℕ) (a b c : ℕ) (s : LexState) → a ≤ b → b ≤ c → b ≤ length xs

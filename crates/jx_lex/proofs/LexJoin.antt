@@ -1,11 +1,11 @@
 -- Reading two lists one after another is reading them joined.
 use Rattle.std.proofs.Common.{◌≡◌, ℕ, suc, ◌+◌, List, [], ◌∷◌, ◌++◌, length, Option, Some, None, refl, ap, ◌∙◌, arith}
-use Rattle.jx_lex.specs.declared.state.LexState.{LexState}
-use Rattle.jx_lex.specs.declared.mark.MarkKind.{MarkKind}
-use Rattle.jx_lex.specs.declared.state.TokenEnd.{TokenEnd}
-use Rattle.jx_lex.specs.declared.state.TokenEnd.TheVariants.{Before, After}
-use Rattle.jx_lex.specs.declared.state.Step.{Step}
-use Rattle.jx_lex.specs.declared.mark.Mark.{Mark}
+use Rattle.jx_lex.specs.declared.alphabet.state.LexState.{LexState}
+use Rattle.jx_lex.specs.declared.alphabet.mark.MarkKind.{MarkKind}
+use Rattle.jx_lex.specs.declared.alphabet.state.TokenEnd.{TokenEnd}
+use Rattle.jx_lex.specs.declared.alphabet.state.TokenEnd.TheVariants.{Before, After}
+use Rattle.jx_lex.specs.declared.alphabet.state.Step.{Step}
+use Rattle.jx_lex.specs.declared.alphabet.mark.Mark.{Mark}
 use Rattle.jx_lex.specs.Moves.{move}
 use Rattle.jx_lex.specs.Lex.{lex, Track, with_mark, with_end, after_step, on_next}
 use Rattle.jx_lex.specs.TwoParts.{joined, right_of}

@@ -3,13 +3,13 @@ use Rattle.std.proofs.Common.{◌≡◌, ◌≢◌, ℕ, ◌+◌, ◌<◌, ◌�
 use Rattle.std.proofs.lemmas.List.{get_or-replicate, take_more, length-replicate, take_all, drop_all}
 use Rattle.std.specs.Prelude.{slice_range}
 use Rattle.std.proofs.Common.{length-set}
-use Rattle.jx_lex.specs.declared.state.LexState.{LexState}
-use Rattle.jx_lex.specs.declared.link.Link.{Link}
-use Rattle.jx_lex.specs.declared.link.Link.TheVariants.{Ahead, State, Fault}
+use Rattle.jx_lex.specs.declared.alphabet.state.LexState.{LexState}
+use Rattle.jx_lex.specs.declared.map.link.Link.{Link}
+use Rattle.jx_lex.specs.declared.map.link.Link.TheVariants.{Ahead, State, Fault}
 use Rattle.jx_lex.specs.Ordinal.{ordinal}
 use Rattle.jx_lex.specs.Follow.{Part, head}
 use Rattle.jx_lex.specs.inside.Closed.{IsClosed}
-use Rattle.jx_lex.specs.inside.Bundle.{Bundle, is_live, LiveAt, Reads, Stands, ReadsOn, StandIn, joined_bundle}
+use Rattle.jx_lex.specs.inside.Bundle.{Bundle, is_live, LiveAt, IsBundleOf, Stands, ReadsOn, StandIn, joined_bundle}
 use Rattle.jx_lex.specs.inside.Passing.{KeptBy, AllKept}
 use Rattle.jx_lex.specs.Shared.{has, after, HeldAt, AllHeld}
 use Rattle.jx_lex.specs.inside.Step.{read_part, held_by, state_is}
@@ -156,8 +156,8 @@ StandIn-out live ps p h out =
 
 -- ---- open tracks that were read on
 
-pub Reads-open_on : (at : ℕ) (w : List ℕ) (live now : List Bool) (o : Bundle) (new : List Part) → Reads at [] live o → Stands [] live o
-    → ((s : LexState) → IsClosed (head o.heads s)) → ReadsOn at w o.parts new → Reads at w live (record { heads = o.heads; parts = new; live = now })
+pub Reads-open_on : (at : ℕ) (w : List ℕ) (live now : List Bool) (o : Bundle) (new : List Part) → IsBundleOf at [] live o → Stands [] live o
+    → ((s : LexState) → IsClosed (head o.heads s)) → ReadsOn at w o.parts new → IsBundleOf at w live (record { heads = o.heads; parts = new; live = now })
 Reads-open_on at w live now o new r st closed on =
     let b = Reads-on at w live o new r st closed on in
     record { all = b.all; heads = b.heads; parts = b.parts; tracks = b.tracks; counted = b.counted; placed = b.placed }
@@ -186,11 +186,11 @@ written xs ys n e f =
 
 -- one byte, and then the open tracks on their own
 pub some-read : (xs : List ℕ) (at j : ℕ) (live now : List Bool) (l o b : Bundle) (new : List Part) → at < j → j ≤ length xs
-    → Reads at (get_or xs at 0 ∷ []) live l → Stands (get_or xs at 0 ∷ []) live l
-    → ((k : ℕ) → Reads k [] l.live o) → Stands [] l.live o → ((s : LexState) → IsClosed (head o.heads s))
+    → IsBundleOf at (get_or xs at 0 ∷ []) live l → Stands (get_or xs at 0 ∷ []) live l
+    → ((k : ℕ) → IsBundleOf k [] l.live o) → Stands [] l.live o → ((s : LexState) → IsClosed (head o.heads s))
     → ReadsOn (at + 1) (slice_range xs (at + 1) j) o.parts new → StandIn now new
     → b ≡ joined_bundle l (record { heads = o.heads; parts = new; live = now })
-    → Reads at (slice_range xs at j) live b × Stands (slice_range xs at j) live b
+    → IsBundleOf at (slice_range xs at j) live b × Stands (slice_range xs at j) live b
 some-read xs at j live now l o b new low high rl sl ro so closed on stand same =
     let w = slice_range xs (at + 1) j in
     let r : Bundle = record { heads = o.heads; parts = new; live = now } in
@@ -203,8 +203,8 @@ some-read xs at j live now l o b new low high rl sl ro so closed on stand same =
     )
 
 pub some-none : (xs : List ℕ) (at : ℕ) (live : List Bool) (l : Bundle) → at < length xs
-    → Reads at (get_or xs at 0 ∷ []) live l → Stands (get_or xs at 0 ∷ []) live l
-    → Reads at (slice_range xs at (at + 1)) live l × Stands (slice_range xs at (at + 1)) live l
+    → IsBundleOf at (get_or xs at 0 ∷ []) live l → Stands (get_or xs at 0 ∷ []) live l
+    → IsBundleOf at (slice_range xs at (at + 1)) live l × Stands (slice_range xs at (at + 1)) live l
 some-none xs at live l low r s =
     let cut : slice_range xs at (at + 1) ≡ get_or xs at 0 ∷ [] = slice-more xs at at 0 (omega arith) low ∙ ap (λ ys. ys ++ get_or xs at 0 ∷ []) (slice-none xs at) in
     (rw cut r, rw cut s)

@@ -1,13 +1,13 @@
 -- Segments that stand in one state go on in one segment: no track changes.
 use Rattle.std.proofs.Common.{◌≡◌, ◌≢◌, ℕ, ◌<◌, List, [], ◌∷◌, ◌++◌, length, get_or, refl, ap, sym, subst, ◌∙◌, arith, append-nil, map, Bool, true, false, ◌==◌}
 use Rattle.std.proofs.lemmas.List.{get_or-map, get_or-set_same, get_or-set_other}
-use Rattle.jx_lex.specs.declared.state.LexState.{LexState}
-use Rattle.jx_lex.specs.declared.state.LexState.TheVariants as state
-use Rattle.jx_lex.specs.declared.mark.Mark.{Mark}
-use Rattle.jx_lex.specs.Lex.{Track, Exit}
+use Rattle.jx_lex.specs.declared.alphabet.state.LexState.{LexState}
+use Rattle.jx_lex.specs.declared.alphabet.state.LexState.TheVariants as state
+use Rattle.jx_lex.specs.declared.alphabet.mark.Mark.{Mark}
+use Rattle.jx_lex.specs.Lex.{Track, LexExit}
 use Rattle.jx_lex.specs.TwoParts.{joined, right_of}
-use Rattle.jx_lex.specs.declared.link.Link.{Link}
-use Rattle.jx_lex.specs.declared.link.Link.TheVariants.{Ahead, State, Fault}
+use Rattle.jx_lex.specs.declared.map.link.Link.{Link}
+use Rattle.jx_lex.specs.declared.map.link.Link.TheVariants.{Ahead, State, Fault}
 use Rattle.jx_lex.specs.Ordinal.{ordinal, all_states}
 use Rattle.jx_lex.specs.Follow.{Part, done, follow, IsIn, AreIn, head}
 use Rattle.jx_lex.specs.inside.Step.{opening, meeting_heads, met}
@@ -67,15 +67,15 @@ head-meeting P s u here there = go (ordinal u == ordinal s) refl
 pub IsIn-meeting : (s u : LexState) → IsIn 1 (head (meeting_heads s) u)
 IsIn-meeting s u = head-meeting (IsIn 1) s u (λ e. omega arith) (λ e. tt)
 
-follow-opening : (s u : LexState) → follow (opening s ∷ []) (head (meeting_heads s) u) ≡ done (Exit.state u)
+follow-opening : (s u : LexState) → follow (opening s ∷ []) (head (meeting_heads s) u) ≡ done (LexExit.state u)
 unfolding follow
-follow-opening s u = head-meeting (λ g. follow (opening s ∷ []) g ≡ done (Exit.state u)) s u (λ e. ap (λ t. done (Exit.state t)) (sym e)) (λ e. refl)
+follow-opening s u = head-meeting (λ g. follow (opening s ∷ []) g ≡ done (LexExit.state u)) s u (λ e. ap (λ t. done (LexExit.state t)) (sym e)) (λ e. refl)
 
-right-done : (e : Exit) → right_of e (λ u. done (Exit.state u)) ≡ done e
-right-done (Exit.state s) = refl
-right-done (Exit.fault at) = refl
+right-done : (e : LexExit) → right_of e (λ u. done (LexExit.state u)) ≡ done e
+right-done (LexExit.state s) = refl
+right-done (LexExit.fault at) = refl
 
-joined-done : (t : Track) → joined t (λ u. done (Exit.state u)) ≡ t
+joined-done : (t : Track) → joined t (λ u. done (LexExit.state u)) ≡ t
 joined-done t =
     ap (λ (r : Track). record { marks = t.marks ++ r.marks; ends = t.ends ++ r.ends; exit = r.exit }) (right-done t.exit)
     ∙ ap (λ (m : List Mark). record { marks = m; ends = t.ends ++ []; exit = t.exit }) (append-nil t.marks)
@@ -84,5 +84,5 @@ joined-done t =
 pub follow-met : (s : LexState) (ps : List Part) (k : ℕ) → k < length ps → AreIn ps → follow (met s ps) (Ahead k) ≡ follow ps (Ahead k)
 follow-met s ps k low w =
     follow-linked (meeting_heads s) (opening s ∷ []) ps (Ahead k) low w
-    ∙ joined-same (follow ps (Ahead k)) (λ u. follow (opening s ∷ []) (head (meeting_heads s) u)) (λ u. done (Exit.state u)) (follow-opening s)
+    ∙ joined-same (follow ps (Ahead k)) (λ u. follow (opening s ∷ []) (head (meeting_heads s) u)) (λ u. done (LexExit.state u)) (follow-opening s)
     ∙ joined-done (follow ps (Ahead k))

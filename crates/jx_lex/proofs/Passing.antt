@@ -1,16 +1,16 @@
 -- Bytes that keep the state and have no event may be passed over.
 use Rattle.std.proofs.Common.{◌≡◌, ℕ, suc, ◌+◌, List, [], ◌∷◌, ◌++◌, length, refl, ap, sym, ◌∙◌, arith, append-nil}
-use Rattle.jx_lex.specs.declared.state.LexState.{LexState}
-use Rattle.jx_lex.specs.declared.state.Step.{Step}
+use Rattle.jx_lex.specs.declared.alphabet.state.LexState.{LexState}
+use Rattle.jx_lex.specs.declared.alphabet.state.Step.{Step}
 use Rattle.jx_lex.specs.Moves.{move, go}
-use Rattle.jx_lex.specs.declared.mark.Mark.{Mark}
-use Rattle.jx_lex.specs.declared.link.Link.{Link}
-use Rattle.jx_lex.specs.declared.link.Link.TheVariants.{Ahead, State, Fault}
+use Rattle.jx_lex.specs.declared.alphabet.mark.Mark.{Mark}
+use Rattle.jx_lex.specs.declared.map.link.Link.{Link}
+use Rattle.jx_lex.specs.declared.map.link.Link.TheVariants.{Ahead, State, Fault}
 use Rattle.jx_lex.specs.Follow.{Part}
 use Rattle.jx_lex.specs.inside.Step.{read_part, read_from, link_of}
 use Rattle.jx_lex.specs.Lex.{with_mark, with_end}
 use Rattle.jx_lex.specs.inside.Passing.{KeptBy, LedBy, read_bytes}
-use Rattle.jx_lex.specs.Runs.{Leads}
+use Rattle.jx_lex.specs.Uneventful.{Leads}
 use Rattle.jx_lex.proofs.Running.{AllKeep-leads}
 
 pub keep-part : (at b : ℕ) (s : LexState) (p : Part) → p.next ≡ State s → move s b ≡ go s → read_part at b p ≡ p

@@ -1,16 +1,16 @@
 -- What the tracks from the left reach stays as it is where the rest is emptied.
 use Rattle.std.proofs.Common.{◌≡◌, ℕ, zero, suc, ◌+◌, ◌-◌, ◌<◌, ◌≤◌, List, [], ◌∷◌, ◌++◌, length, get_or, set, take, drop, refl, ap, sym, subst, ◌∙◌, arith, append-nil, append_assoc, ◌==◌, ◌≢◌, Bool, true, false, length-set, Some}
 use Rattle.std.proofs.lemmas.List.{get_or-set_same, get_or_default, take_all, drop_all}
-use Rattle.jx_lex.specs.declared.state.LexState.{LexState}
-use Rattle.jx_lex.specs.declared.link.Link.{Link}
-use Rattle.jx_lex.specs.declared.link.Link.TheVariants.{Ahead, State, Fault}
-use Rattle.jx_lex.specs.declared.state.LexState.TheVariants as state
+use Rattle.jx_lex.specs.declared.alphabet.state.LexState.{LexState}
+use Rattle.jx_lex.specs.declared.map.link.Link.{Link}
+use Rattle.jx_lex.specs.declared.map.link.Link.TheVariants.{Ahead, State, Fault}
+use Rattle.jx_lex.specs.declared.alphabet.state.LexState.TheVariants as state
 use Rattle.jx_lex.specs.Ordinal.{ordinal, all_states}
 use Rattle.jx_lex.specs.Follow.{Part, behind, follow, head, IsIn, AreIn}
-use Rattle.jx_lex.specs.Lex.{Track, Exit}
+use Rattle.jx_lex.specs.Lex.{Track, LexExit}
 use Rattle.jx_lex.specs.inside.Closed.{IsClosed, ClosedTo, AreClosed}
 use Rattle.jx_lex.specs.inside.Bundle.{LiveAt, AllLive, is_live}
-use Rattle.jx_lex.specs.Map.{Map, IsWhole, joined_map, stored, track}
+use Rattle.jx_lex.specs.Map.{Map, IsLinked, joined_map, stored, track}
 use Rattle.jx_lex.specs.inside.Pruned.{IsReached, with_reached, emptied, pruned, with_exit_of}
 use Rattle.jx_lex.proofs.Building.{AllLive-append, AllLive-more, LiveAt-more, live-new, ordinal-at}
 use Rattle.jx_lex.proofs.Joined.{track-joined}
@@ -94,7 +94,7 @@ stored-pruned (false ∷ rs) (p ∷ ps) = let a = stored-pruned rs ps in omega (
 abbrev pub pruned_map : List Bool → Map → Map
 pruned_map rs m = record m { parts = pruned rs m.parts }
 
-pub IsWhole-pruned : (rs : List Bool) (m : Map) → IsWhole m → IsWhole (pruned_map rs m)
+pub IsWhole-pruned : (rs : List Bool) (m : Map) → IsLinked m → IsLinked (pruned_map rs m)
 IsWhole-pruned rs m w =
     record {
       all = w.all;
@@ -111,7 +111,7 @@ AreClosed-pruned k rs heads ps h =
     }
 
 -- a track that leads out does so in one of the states that were noted
-exit-live : (live : List Bool) (ps : List Part) (g : Link) → LiveAt live g → AllLive live ps → (s : LexState) → (follow ps g).exit ≡ Exit.state s → is_live live s ≡ true
+exit-live : (live : List Bool) (ps : List Part) (g : Link) → LiveAt live g → AllLive live ps → (s : LexState) → (follow ps g).exit ≡ LexExit.state s → is_live live s ≡ true
 unfolding follow
 exit-live live ps (State t) l a s e = let same : t ≡ s = cc in subst (λ u. is_live live u ≡ true) same l
 exit-live live ps (Fault at) l a s e = absurd cc
@@ -119,15 +119,15 @@ exit-live live [] (Ahead k) l a s e = absurd cc
 exit-live live (p ∷ ps) (Ahead zero) l a s e = exit-live live ps p.next a.0 a.1 s e
 exit-live live (p ∷ ps) (Ahead (suc k)) l a s e = exit-live live ps (Ahead k) tt a.1 s e
 
-right-where : (e : Exit) (f g : LexState → Track) → ((s : LexState) → e ≡ Exit.state s → f s ≡ g s) → right_of e f ≡ right_of e g
-right-where (Exit.state s) f g h = h s refl
-right-where (Exit.fault at) f g h = refl
+right-where : (e : LexExit) (f g : LexState → Track) → ((s : LexState) → e ≡ LexExit.state s → f s ≡ g s) → right_of e f ≡ right_of e g
+right-where (LexExit.state s) f g h = h s refl
+right-where (LexExit.fault at) f g h = refl
 
 -- what follows is asked only in the state of the exit
-joined-where : (t : Track) (f g : LexState → Track) → ((s : LexState) → t.exit ≡ Exit.state s → f s ≡ g s) → joined t f ≡ joined t g
+joined-where : (t : Track) (f g : LexState → Track) → ((s : LexState) → t.exit ≡ LexExit.state s → f s ≡ g s) → joined t f ≡ joined t g
 joined-where t f g h = ap (λ (r : Track). record { marks = t.marks ++ r.marks; ends = t.ends ++ r.ends; exit = r.exit }) (right-where t.exit f g h)
 
-pub track-pruned : (l r : Map) (rs live : List Bool) → IsWhole l → IsWhole r → length rs ≡ length r.parts
+pub track-pruned : (l r : Map) (rs live : List Bool) → IsLinked l → IsLinked r → length rs ≡ length r.parts
     → ((s : LexState) → LiveAt live (head l.heads s)) → AllLive live l.parts
     → ((s : LexState) → is_live live s ≡ true → IsReached rs (head r.heads s))
     → (s : LexState) → track (joined_map l (pruned_map rs r)) s ≡ track (joined_map l r) s

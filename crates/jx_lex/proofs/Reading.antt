@@ -1,13 +1,13 @@
 -- One more byte takes each track one step on.
 use Rattle.std.proofs.Common.{◌≡◌, ℕ, zero, suc, ◌<◌, List, [], ◌∷◌, ◌++◌, length, refl, ap, sym, subst, ◌∙◌, arith, append-nil, map, Option, Some, None}
 use Rattle.std.proofs.lemmas.List.{length-map}
-use Rattle.jx_lex.specs.declared.state.LexState.{LexState}
-use Rattle.jx_lex.specs.declared.mark.Mark.{Mark}
+use Rattle.jx_lex.specs.declared.alphabet.state.LexState.{LexState}
+use Rattle.jx_lex.specs.declared.alphabet.mark.Mark.{Mark}
 use Rattle.jx_lex.specs.Moves.{move}
-use Rattle.jx_lex.specs.Lex.{Track, Exit, state, fault, lex, with_mark, with_end, after_step, on_next}
+use Rattle.jx_lex.specs.Lex.{Track, LexExit, state, fault, lex, with_mark, with_end, after_step, on_next}
 use Rattle.jx_lex.specs.TwoParts.{joined}
-use Rattle.jx_lex.specs.declared.link.Link.{Link}
-use Rattle.jx_lex.specs.declared.link.Link.TheVariants.{Ahead, State, Fault}
+use Rattle.jx_lex.specs.declared.map.link.Link.{Link}
+use Rattle.jx_lex.specs.declared.map.link.Link.TheVariants.{Ahead, State, Fault}
 use Rattle.jx_lex.specs.Follow.{Part, done, behind, follow, IsIn, AreIn}
 use Rattle.jx_lex.specs.inside.Step.{link_of, read_from, read_part}
 use Rattle.jx_lex.proofs.Joined.{behind-joined}
@@ -16,7 +16,7 @@ use Rattle.jx_lex.proofs.Joined.{behind-joined}
 abbrev pub one : ℕ → ℕ → LexState → Track
 one at byte s = lex s at (byte ∷ [])
 
-exit_at : ℕ → Option LexState → Exit
+exit_at : ℕ → Option LexState → LexExit
 exit_at at None = fault at
 exit_at at (Some n) = state n
 

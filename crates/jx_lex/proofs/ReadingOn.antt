@@ -4,13 +4,13 @@ use Rattle.std.proofs.lemmas.List.{length-map}
 use Rattle.std.proofs.lemmas.List.Sums.{sum_by-le-sum_by}
 use Rattle.std.proofs.lemmas.Bool.Decides.{nat_tests}
 use Rattle.std.specs.Prelude.{slice_range}
-use Rattle.jx_lex.specs.declared.state.LexState.{LexState}
-use Rattle.jx_lex.specs.declared.mark.Mark.{Mark}
-use Rattle.jx_lex.specs.declared.mark.MarkKind.{MarkKind}
-use Rattle.jx_lex.specs.declared.link.Link.{Link}
-use Rattle.jx_lex.specs.declared.link.Link.TheVariants.{Ahead, State, Fault}
+use Rattle.jx_lex.specs.declared.alphabet.state.LexState.{LexState}
+use Rattle.jx_lex.specs.declared.alphabet.mark.Mark.{Mark}
+use Rattle.jx_lex.specs.declared.alphabet.mark.MarkKind.{MarkKind}
+use Rattle.jx_lex.specs.declared.map.link.Link.{Link}
+use Rattle.jx_lex.specs.declared.map.link.Link.TheVariants.{Ahead, State, Fault}
 use Rattle.jx_lex.specs.Moves.{move}
-use Rattle.jx_lex.specs.Lex.{Track, Exit, lex, with_mark}
+use Rattle.jx_lex.specs.Lex.{Track, LexExit, lex, with_mark}
 use Rattle.jx_lex.specs.Ordinal.{ordinal, all_states}
 use Rattle.jx_lex.specs.Follow.{Part, follow, IsIn, head, shifted, linked, linked_parts}
 use Rattle.jx_lex.specs.inside.Closed.{IsClosed, AreClosed}
@@ -18,7 +18,7 @@ use Rattle.jx_lex.specs.inside.Step.{read_part, read_from, opening, state_is, he
 use Rattle.jx_lex.specs.inside.Passing.{KeptBy, AllKept, read_bytes}
 use Rattle.jx_lex.specs.Map.{MarksIn, ArePlaced}
 use Rattle.jx_lex.specs.Shared.{has, beginning, shared_from, after, HeldAt, AllHeld}
-use Rattle.jx_lex.specs.inside.Bundle.{Bundle, LiveAt, AllLive, Within, Reads, Stands, ReadsOn, is_apart, joined_bundle}
+use Rattle.jx_lex.specs.inside.Bundle.{Bundle, LiveAt, AllLive, Within, IsBundleOf, Stands, ReadsOn, is_apart, joined_bundle}
 use Rattle.jx_lex.specs.TwoParts.{joined}
 use Rattle.jx_lex.proofs.LexJoin.{lex-append}
 use Rattle.jx_lex.proofs.Joined.{length-linked, AreIn-linked}
@@ -299,8 +299,8 @@ IsIn-longer n m (State s) le h = tt
 IsIn-longer n m (Fault at) le h = tt
 
 pub Reads-on : (at : ℕ) (w : List ℕ) (live : List Bool) (b : Bundle) (new : List Part)
-    → Reads at [] live b → Stands [] live b → ((s : LexState) → IsClosed (head b.heads s)) → ReadsOn at w b.parts new
-    → Reads at w live (record { heads = b.heads; parts = new; live = b.live })
+    → IsBundleOf at [] live b → Stands [] live b → ((s : LexState) → IsClosed (head b.heads s)) → ReadsOn at w b.parts new
+    → IsBundleOf at w live (record { heads = b.heads; parts = new; live = b.live })
 unfolding follow lex shared_from
 Reads-on at w live b new r st closed on =
     record {
@@ -322,7 +322,7 @@ Reads-on at w live b new r st closed on =
     go : (s : LexState) (g : Link) → IsClosed g → IsIn (length b.parts) g → follow b.parts g ≡ lex s at [] → follow new g ≡ lex s at w
     go s (State t) c i e = absurd c
     go s (Ahead k) c i e = on.all r.parts k at s [] i (let z : at ≡ at + 0 = omega arith in z) e
-    go s (Fault f) c i e = let x : Exit.fault f ≡ Exit.state s = ap (λ (t : Track). t.exit) e in absurd cc
+    go s (Fault f) c i e = let x : LexExit.fault f ≡ LexExit.state s = ap (λ (t : Track). t.exit) e in absurd cc
 
 -- ---- parts of a text
 
@@ -407,19 +407,19 @@ reads-end xs i to ps e = subst (λ n. ReadsOn i (slice_range xs i n) ps ps) e (r
 
 -- ---- a span from every state
 
-pub Reads-rest : (at : ℕ) (w : List ℕ) (live : List Bool) (o r : Bundle) → Reads at [] live o → Stands [] live o → ((s : LexState) → IsClosed (head o.heads s))
-    → r.heads ≡ o.heads → r.live ≡ o.live → ReadsOn at w o.parts r.parts → Reads at w live r
+pub Reads-rest : (at : ℕ) (w : List ℕ) (live : List Bool) (o r : Bundle) → IsBundleOf at [] live o → Stands [] live o → ((s : LexState) → IsClosed (head o.heads s))
+    → r.heads ≡ o.heads → r.live ≡ o.live → ReadsOn at w o.parts r.parts → IsBundleOf at w live r
 Reads-rest at w live o r ro so closed e f on =
-    subst (λ (ls : List Bool). Reads at w live (record { heads = r.heads; parts = r.parts; live = ls })) (sym f)
-    (subst (λ (hs : List Link). Reads at w live (record { heads = hs; parts = r.parts; live = o.live })) (sym e) (Reads-on at w live o r.parts ro so closed on))
+    subst (λ (ls : List Bool). IsBundleOf at w live (record { heads = r.heads; parts = r.parts; live = ls })) (sym f)
+    (subst (λ (hs : List Link). IsBundleOf at w live (record { heads = hs; parts = r.parts; live = o.live })) (sym e) (Reads-on at w live o r.parts ro so closed on))
 
 -- what was read up to some byte, and then the open tracks alone to the end
-pub span-read : (start at : ℕ) (u w : List ℕ) (live : List Bool) (l o r b : Bundle) → at ≡ start + length u → Reads start u live l → Stands u live l
-    → Reads at [] l.live o → Stands [] l.live o → ((s : LexState) → IsClosed (head o.heads s))
+pub span-read : (start at : ℕ) (u w : List ℕ) (live : List Bool) (l o r b : Bundle) → at ≡ start + length u → IsBundleOf start u live l → Stands u live l
+    → IsBundleOf at [] l.live o → Stands [] l.live o → ((s : LexState) → IsClosed (head o.heads s))
     → r.heads ≡ o.heads → r.live ≡ o.live → ReadsOn at w o.parts r.parts → b ≡ joined_bundle l r
-    → Reads start (u ++ w) live b × AreClosed 0 b.heads b.parts
+    → IsBundleOf start (u ++ w) live b × AreClosed 0 b.heads b.parts
 span-read start at u w live l o r b here rl sl ro so closed e f on same =
-    subst (λ (x : Bundle). Reads start (u ++ w) live x × AreClosed 0 x.heads x.parts) (sym same) (
+    subst (λ (x : Bundle). IsBundleOf start (u ++ w) live x × AreClosed 0 x.heads x.parts) (sym same) (
       Reads-joined start at u w live l r here rl sl (Reads-rest at w l.live o r ro so closed e f on),
       AreClosed-bundle l r rl.all (subst (λ (hs : List Link). (s : LexState) → IsClosed (head hs s)) (sym e) closed),
     )

@@ -1,13 +1,13 @@
 -- What the lexical machine reads as one token is a token, and what a byte may do, in a token and between tokens.
 use Rattle.std.proofs.Common.{◌≡◌, ℕ, true, List, [], ◌∷◌, Some, refl, sym, ap, subst}
-use Rattle.jx_lex.specs.declared.class.Class.{Class}
+use Rattle.jx_lex.specs.declared.alphabet.class.Class.{Class}
 use Rattle.jx_lex.specs.declared.kind.Kind.{Kind}
 use Rattle.jx_lex.specs.declared.kind.Kind.TheVariants as kind
-use Rattle.jx_lex.specs.declared.mark.MarkKind.{MarkKind}
-use Rattle.jx_lex.specs.declared.mark.MarkKind.TheVariants as mark
-use Rattle.jx_lex.specs.declared.state.LexState.{LexState}
-use Rattle.jx_lex.specs.declared.state.LexState.TheVariants as state
-use Rattle.jx_lex.specs.declared.state.Step.{Step}
+use Rattle.jx_lex.specs.declared.alphabet.mark.MarkKind.{MarkKind}
+use Rattle.jx_lex.specs.declared.alphabet.mark.MarkKind.TheVariants as mark
+use Rattle.jx_lex.specs.declared.alphabet.state.LexState.{LexState}
+use Rattle.jx_lex.specs.declared.alphabet.state.LexState.TheVariants as state
+use Rattle.jx_lex.specs.declared.alphabet.state.Step.{Step}
 use Rattle.jx_lex.specs.Classes.{class_at}
 use Rattle.jx_lex.specs.Moves.{move, go, begin, close, structural, fault, as_gap}
 use Rattle.jx_lex.specs.Token

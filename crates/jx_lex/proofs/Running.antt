@@ -6,15 +6,15 @@ use Rattle.std.proofs.lemmas.List.{get_or-drop, drop-drop}
 use Rattle.std.proofs.Math.Seq.{take-add}
 use Rattle.std.proofs.lemmas.Bool.{not-false}
 use Rattle.std.proofs.lemmas.Bool.Decides.{nat_tests}
-use Rattle.jx_lex.specs.declared.class.Class.{Class}
-use Rattle.jx_lex.specs.declared.class.Class.TheVariants as class
-use Rattle.jx_lex.specs.declared.state.LexState.{LexState}
-use Rattle.jx_lex.specs.declared.state.LexState.TheVariants as state
-use Rattle.jx_lex.specs.declared.state.Step.{Step}
+use Rattle.jx_lex.specs.declared.alphabet.class.Class.{Class}
+use Rattle.jx_lex.specs.declared.alphabet.class.Class.TheVariants as class
+use Rattle.jx_lex.specs.declared.alphabet.state.LexState.{LexState}
+use Rattle.jx_lex.specs.declared.alphabet.state.LexState.TheVariants as state
+use Rattle.jx_lex.specs.declared.alphabet.state.Step.{Step}
 use Rattle.jx_lex.specs.Classes.{class_at, all_classes, first_with}
 use Rattle.jx_lex.specs.Moves.{move, go}
 use Rattle.jx_lex.specs.Lex.{Track, lex, after_step, on_next}
-use Rattle.jx_lex.specs.Runs.{AllKeep, Leads, is_plain, is_digit, is_blank}
+use Rattle.jx_lex.specs.Uneventful.{AllKeep, Leads, is_plain, is_digit, is_blank}
 use Rattle.jx_lex.proofs.ClassTable.{all_below, all_below-at, implies, implies-use}
 use Rattle.jx_lex.proofs.Forward.{AllStep, is_one_of, row-one_of, ordinary_classes, all_ordinary}
 

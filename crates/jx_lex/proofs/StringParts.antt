@@ -3,14 +3,14 @@ use Rattle.std.proofs.Common.{◌≡◌, ◌≢◌, ℕ, ◌<◌, ◌≤◌, ◌
 use Rattle.std.specs.Prelude.{◌==◌}
 use Rattle.std.proofs.lemmas.Bool.{cases_lt}
 use Rattle.std.proofs.lemmas.Bool.Decides.{nat_tests, eqb_tells}
-use Rattle.jx_lex.specs.declared.class.Class.{Class}
-use Rattle.jx_lex.specs.declared.class.Class.TheVariants as class
-use Rattle.jx_lex.specs.declared.state.LexState.{LexState}
-use Rattle.jx_lex.specs.declared.state.LexState.TheVariants as state
+use Rattle.jx_lex.specs.declared.alphabet.class.Class.{Class}
+use Rattle.jx_lex.specs.declared.alphabet.class.Class.TheVariants as class
+use Rattle.jx_lex.specs.declared.alphabet.state.LexState.{LexState}
+use Rattle.jx_lex.specs.declared.alphabet.state.LexState.TheVariants as state
 use Rattle.jx_lex.specs.Character.{IsWithin, IsTail}
 use Rattle.jx_lex.specs.Classes.{class_at, all_classes, first_with}
 use Rattle.jx_lex.specs.Moves.{move, go}
-use Rattle.jx_lex.specs.Runs.{Leads, is_two, is_three, is_four, is_escaped, is_escape, is_hex, is_unit}
+use Rattle.jx_lex.specs.Uneventful.{Leads, is_two, is_three, is_four, is_escaped, is_escape, is_hex, is_unit}
 use Rattle.jx_lex.proofs.ClassTable.{and_left, and_right, all_below-at, implies, implies-use}
 use Rattle.jx_lex.proofs.Forward.{move-range, move-tail, AllStep, is_one_of, row-one_of}
 

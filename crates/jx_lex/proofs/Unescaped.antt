@@ -9,9 +9,9 @@ use Rattle.std.proofs.lemmas.List.{get_or-drop, drop-drop, drop-take}
 use Rattle.std.proofs.lemmas.Simd.{get_or-chunk}
 use Rattle.std.proofs.lemmas.Str.{encode_ascii, IsUtf8-between}
 use lib.Utf8.{scalar, scalars, encode, encodes, next, scalar_cases}
-use Rattle.jx_lex.specs.declared.state.LexState.TheVariants as state
+use Rattle.jx_lex.specs.declared.alphabet.state.LexState.TheVariants as state
 use Rattle.jx_lex.specs.Character.{IsWithin, IsTail}
-use Rattle.jx_lex.specs.Runs.{Leads, is_unescaped}
+use Rattle.jx_lex.specs.Uneventful.{Leads, is_unescaped}
 use Rattle.jx_lex.proofs.ByteFacts.{IsOrdinary}
 use Rattle.jx_lex.proofs.Forward.{Str-ordinary}
 use Rattle.jx_lex.proofs.Running.{Leads-append, take-again}

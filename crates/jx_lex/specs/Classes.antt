@@ -3,8 +3,8 @@
 -- believed: every search for a class that has the byte gives this one, in whatever order it goes.
 use Rattle.std.specs.Prelude.{ℕ, Bool, ◌&&◌, List, [], ◌∷◌, if◌then◌else◌, nat_le}
 use Rattle.std.specs.List.{list_any}
-use Rattle.jx_lex.specs.declared.class.Class.{Class}
-use Rattle.jx_lex.specs.declared.class.Class.TheVariants.{Ctl, Blank, Space, Quote, Plus, Comma, Minus, Dot, Slash, Zero, Digit, Colon, UpHex, UpE, OpenArray, Backslash, CloseArray, LowA, LowB, LowCD, LowE, LowF, LowL, LowN, LowR, LowS, LowT, LowU, OpenObject, CloseObject, TailA, TailB, TailC, Lead2, LeadE0, Lead3, LeadEd, LeadF0, Lead4, LeadF4, Bad, Plain}
+use Rattle.jx_lex.specs.declared.alphabet.class.Class.{Class}
+use Rattle.jx_lex.specs.declared.alphabet.class.Class.TheVariants.{Ctl, Blank, Space, Quote, Plus, Comma, Minus, Dot, Slash, Zero, Digit, Colon, UpHex, UpE, OpenArray, Backslash, CloseArray, LowA, LowB, LowCD, LowE, LowF, LowL, LowN, LowR, LowS, LowT, LowU, OpenObject, CloseObject, TailA, TailB, TailC, Lead2, LeadE0, Lead3, LeadEd, LeadF0, Lead4, LeadF4, Bad, Plain}
 
 -- the bytes of a class, from a first byte to a last one; Plain has all the others from 21 to 7F
 abbrev pub ranges_of : Class → List (ℕ × ℕ)

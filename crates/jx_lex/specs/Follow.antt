@@ -1,10 +1,10 @@
 -- Segments, each followed by another further on or by an exit, and the track that they give.
 use Rattle.std.specs.Prelude.{ℕ, zero, suc, ◌+◌, ◌<◌, List, [], ◌∷◌, ◌++◌, length, get_or}
-use Rattle.jx_lex.specs.declared.state.LexState.{LexState}
-use Rattle.jx_lex.specs.declared.mark.Mark.{Mark}
-use Rattle.jx_lex.specs.Lex.{Track, Exit, state, fault}
-use Rattle.jx_lex.specs.declared.link.Link.{Link}
-use Rattle.jx_lex.specs.declared.link.Link.TheVariants.{Ahead, State, Fault}
+use Rattle.jx_lex.specs.declared.alphabet.state.LexState.{LexState}
+use Rattle.jx_lex.specs.declared.alphabet.mark.Mark.{Mark}
+use Rattle.jx_lex.specs.Lex.{Track, LexExit, state, fault}
+use Rattle.jx_lex.specs.declared.map.link.Link.{Link}
+use Rattle.jx_lex.specs.declared.map.link.Link.TheVariants.{Ahead, State, Fault}
 use Rattle.jx_lex.specs.Ordinal.{ordinal}
 
 -- what a contract sees of a segment
@@ -13,7 +13,7 @@ pub record Part : Type 0 where
   pub ends : List ℕ
   pub next : Link
 
-abbrev pub done : Exit → Track
+abbrev pub done : LexExit → Track
 done e = record { marks = []; ends = []; exit = e }
 
 abbrev pub behind : Part → Track → Track

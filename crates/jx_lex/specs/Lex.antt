@@ -1,23 +1,23 @@
 -- The plain reading of a list of bytes by the lexical machine.
 use Rattle.std.specs.Prelude.{ℕ, suc, List, [], ◌∷◌, Option, Some, None}
-use Rattle.jx_lex.specs.declared.state.LexState.{LexState}
-use Rattle.jx_lex.specs.declared.mark.MarkKind.{MarkKind}
-use Rattle.jx_lex.specs.declared.state.TokenEnd.{TokenEnd}
-use Rattle.jx_lex.specs.declared.state.TokenEnd.TheVariants.{Before, After}
-use Rattle.jx_lex.specs.declared.state.Step.{Step}
-use Rattle.jx_lex.specs.declared.mark.Mark.{Mark}
+use Rattle.jx_lex.specs.declared.alphabet.state.LexState.{LexState}
+use Rattle.jx_lex.specs.declared.alphabet.mark.MarkKind.{MarkKind}
+use Rattle.jx_lex.specs.declared.alphabet.state.TokenEnd.{TokenEnd}
+use Rattle.jx_lex.specs.declared.alphabet.state.TokenEnd.TheVariants.{Before, After}
+use Rattle.jx_lex.specs.declared.alphabet.state.Step.{Step}
+use Rattle.jx_lex.specs.declared.alphabet.mark.Mark.{Mark}
 use Rattle.jx_lex.specs.Moves.{move}
 
 -- the state at the end, or the offset of the first fault
-pub data Exit : Type 0 where
-  state : LexState → Exit
-  fault : ℕ → Exit
+pub data LexExit : Type 0 where
+  state : LexState → LexExit
+  fault : ℕ → LexExit
 
 -- what reading gives: the marks, the ends of tokens and the exit
 pub record Track : Type 0 where
   pub marks : List Mark
   pub ends : List ℕ
-  pub exit : Exit
+  pub exit : LexExit
 
 -- the mark of a step, if it has one, in front of the others
 abbrev pub with_mark : Option MarkKind → ℕ → List Mark → List Mark

@@ -6,7 +6,7 @@ pub mod Map
 pub mod Moves
 pub mod Ordinal
 pub mod Shared
-pub mod Runs
+pub mod Uneventful
 pub mod Seen
 pub mod Token
 pub mod TokenStates

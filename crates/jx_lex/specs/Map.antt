@@ -1,9 +1,9 @@
 -- What a contract sees of a chunk map.
 use Rattle.std.specs.Prelude.{◌≡◌, ◌⊎◌, ℕ, ◌+◌, ◌≤◌, ◌<◌, List, [], ◌∷◌, ◌++◌, length, map}
-use Rattle.jx_lex.specs.declared.state.LexState.{LexState}
-use Rattle.jx_lex.specs.Lex.{Exit, Track, lex}
-use Rattle.jx_lex.specs.declared.mark.Mark.{Mark}
-use Rattle.jx_lex.specs.declared.link.Link.{Link}
+use Rattle.jx_lex.specs.declared.alphabet.state.LexState.{LexState}
+use Rattle.jx_lex.specs.Lex.{LexExit, Track, lex}
+use Rattle.jx_lex.specs.declared.alphabet.mark.Mark.{Mark}
+use Rattle.jx_lex.specs.declared.map.link.Link.{Link}
 use Rattle.jx_lex.specs.Follow.{Part, follow, head, IsIn, AreIn, linked, linked_parts}
 
 pub record Map : Type 0 where
@@ -17,7 +17,7 @@ abbrev pub track : Map → LexState → Track
 track m s = follow m.parts (head m.heads s)
 
 -- all that the map leads to is there
-pub record IsWhole (m : Map) : Type 0 where
+pub record IsLinked (m : Map) : Type 0 where
   pub all : length m.heads ≡ 32
   pub heads : (s : LexState) → IsIn (length m.parts) (head m.heads s)
   pub parts : AreIn m.parts
@@ -31,7 +31,7 @@ pub record IsOf (bytes : List ℕ) (m : Map) : Type 0 where
 pub record EndsInTwo (m : Map) : Type 0 where
   pub one : LexState
   pub other : LexState
-  pub all : (s t : LexState) → (track m s).exit ≡ Exit.state t → (t ≡ one) ⊎ (t ≡ other)
+  pub all : (s t : LexState) → (track m s).exit ≡ LexExit.state t → (t ≡ one) ⊎ (t ≡ other)
 
 abbrev pub stored : List Part → ℕ
 stored [] = 0

@@ -1,14 +1,14 @@
 -- The lexical machine: what each state does with each class of bytes (RFC 8259, sections 2, 3, 6 and 7; inside strings
 -- RFC 3629, section 4). What no line names is a fault.
 use Rattle.std.specs.Prelude.{ℕ, Some, None}
-use Rattle.jx_lex.specs.declared.class.Class.{Class}
-use Rattle.jx_lex.specs.declared.class.Class.TheVariants as class
-use Rattle.jx_lex.specs.declared.state.LexState.{LexState}
-use Rattle.jx_lex.specs.declared.state.LexState.TheVariants as state
-use Rattle.jx_lex.specs.declared.mark.MarkKind.{MarkKind}
-use Rattle.jx_lex.specs.declared.mark.MarkKind.TheVariants as mark
-use Rattle.jx_lex.specs.declared.state.TokenEnd.TheVariants.{Before, After}
-use Rattle.jx_lex.specs.declared.state.Step.{Step}
+use Rattle.jx_lex.specs.declared.alphabet.class.Class.{Class}
+use Rattle.jx_lex.specs.declared.alphabet.class.Class.TheVariants as class
+use Rattle.jx_lex.specs.declared.alphabet.state.LexState.{LexState}
+use Rattle.jx_lex.specs.declared.alphabet.state.LexState.TheVariants as state
+use Rattle.jx_lex.specs.declared.alphabet.mark.MarkKind.{MarkKind}
+use Rattle.jx_lex.specs.declared.alphabet.mark.MarkKind.TheVariants as mark
+use Rattle.jx_lex.specs.declared.alphabet.state.TokenEnd.TheVariants.{Before, After}
+use Rattle.jx_lex.specs.declared.alphabet.state.Step.{Step}
 use Rattle.jx_lex.specs.Classes.{class_at}
 
 -- the byte stands nowhere in a text from here

@@ -1,10 +1,10 @@
 -- What a keeper of tokens has seen, and how it grows.
 use Rattle.std.specs.Prelude.{◌≡◌, ℕ, ◌+◌, List, [], ◌∷◌, ◌++◌, length, Some}
-use Rattle.jx_lex.specs.declared.state.LexState.{LexState}
-use Rattle.jx_lex.specs.declared.mark.Mark.{Mark}
-use Rattle.jx_lex.specs.declared.mark.MarkKind.TheVariants.{Comma}
-use Rattle.jx_lex.specs.declared.state.LexState.TheVariants as state
-use Rattle.jx_lex.specs.declared.state.TokenEnd.TheVariants.{Before}
+use Rattle.jx_lex.specs.declared.alphabet.state.LexState.{LexState}
+use Rattle.jx_lex.specs.declared.alphabet.mark.Mark.{Mark}
+use Rattle.jx_lex.specs.declared.alphabet.mark.MarkKind.TheVariants.{Comma}
+use Rattle.jx_lex.specs.declared.alphabet.state.LexState.TheVariants as state
+use Rattle.jx_lex.specs.declared.alphabet.state.TokenEnd.TheVariants.{Before}
 use Rattle.jx_lex.specs.Lex as reading
 use Rattle.jx_lex.specs.Lex.{Track, lex}
 use Rattle.jx_lex.specs.Moves.{move}

@@ -1,10 +1,10 @@
 -- The shared count of a span.
 use Rattle.std.specs.Prelude.{◌≡◌, ℕ, ◌+◌, true, List, [], ◌∷◌, Bool, ◌&&◌, Option, Some, None, is_some, count_by, ◌==◌}
 use Rattle.std.specs.List.{list_any}
-use Rattle.jx_lex.specs.declared.state.LexState.{LexState}
+use Rattle.jx_lex.specs.declared.alphabet.state.LexState.{LexState}
 use Rattle.jx_lex.specs.Moves.{move}
-use Rattle.jx_lex.specs.declared.link.Link.{Link}
-use Rattle.jx_lex.specs.declared.link.Link.TheVariants.{Ahead, State, Fault}
+use Rattle.jx_lex.specs.declared.map.link.Link.{Link}
+use Rattle.jx_lex.specs.declared.map.link.Link.TheVariants.{Ahead, State, Fault}
 use Rattle.jx_lex.specs.Follow.{Part}
 use Rattle.jx_lex.specs.Ordinal.{ordinal, all_states}
 

@@ -1,12 +1,12 @@
 -- What reading gives where a first part is read, and then the rest.
 use Rattle.std.specs.Prelude.{◌++◌}
-use Rattle.jx_lex.specs.declared.state.LexState.{LexState}
-use Rattle.jx_lex.specs.Lex.{Exit, Track, stops_at}
+use Rattle.jx_lex.specs.declared.alphabet.state.LexState.{LexState}
+use Rattle.jx_lex.specs.Lex.{LexExit, Track, stops_at}
 
 -- the rest goes on in the state that the first part leads to; behind a fault nothing is read
-abbrev pub right_of : Exit → (LexState → Track) → Track
-right_of (Exit.state s) right = right s
-right_of (Exit.fault at) right = stops_at at
+abbrev pub right_of : LexExit → (LexState → Track) → Track
+right_of (LexExit.state s) right = right s
+right_of (LexExit.fault at) right = stops_at at
 
 -- what the first part gives, and behind it what the rest gives
 abbrev pub joined : Track → (LexState → Track) → Track

@@ -1,11 +1,11 @@
 -- What a contract sees of a view of a track.
 use Rattle.std.specs.Prelude.{ℕ, zero, suc, List, [], ◌∷◌, get_or}
 use Rattle.jx_lex.specs.Lex as lex
-use Rattle.jx_lex.specs.declared.mark.Mark.{Mark}
-use Rattle.jx_lex.specs.declared.link.Link.{Link}
-use Rattle.jx_lex.specs.declared.link.Link.TheVariants as link
-use Rattle.jx_lex.specs.declared.exit.Exit.{Exit}
-use Rattle.jx_lex.specs.declared.exit.Exit.TheVariants as exit
+use Rattle.jx_lex.specs.declared.alphabet.mark.Mark.{Mark}
+use Rattle.jx_lex.specs.declared.map.link.Link.{Link}
+use Rattle.jx_lex.specs.declared.map.link.Link.TheVariants as link
+use Rattle.jx_lex.specs.declared.alphabet.lex_exit.LexExit.{LexExit}
+use Rattle.jx_lex.specs.declared.alphabet.lex_exit.LexExit.TheVariants as exit
 use Rattle.jx_lex.specs.Follow.{Part, follow}
 
 -- the segments of a map, and where in them the track begins
@@ -16,9 +16,9 @@ pub record View : Type 0 where
 abbrev pub view_track : View → lex.Track
 view_track v = follow v.parts v.first
 
-abbrev pub exit_of : Exit → lex.Exit
-exit_of (exit.State s) = lex.Exit.state s
-exit_of (exit.Fault at) = lex.Exit.fault at
+abbrev pub exit_of : LexExit → lex.LexExit
+exit_of (exit.State s) = lex.LexExit.state s
+exit_of (exit.Fault at) = lex.LexExit.fault at
 
 -- the numbers of the segments that a track goes through, where the first of these segments has the number n
 unfoldable pub path_from : ℕ → List Part → Link → List ℕ

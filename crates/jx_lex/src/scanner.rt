@@ -1,6 +1,6 @@
 // Reading bytes from a known lexical state, whatever is kept of the tokens.
 ghost use Rattle.std.specs.Prelude.{◌≡◌, ◌≤◌, ◌<◌, ◌+◌, ◌++◌, ◌∷◌, [], ◌^◌, ℕ, List, length, OnOk, IfOk, IfSome, IsNone, IsTrue, slice_range};
-ghost use Rattle.jx_lex.specs.declared.state.LexState.TheVariants as state;
+ghost use Rattle.jx_lex.specs.declared.alphabet.state.LexState.TheVariants as state;
 ghost use Rattle.jx_lex.specs.inside.Ahead.{IsSound};
 ghost use Rattle.jx_lex.specs.inside.Cells.{step_of};
 ghost use Rattle.jx_lex.specs.Lex.{lex, with_mark, with_end};
@@ -8,16 +8,23 @@ ghost use Rattle.jx_lex.specs.Moves.{move};
 ghost use Rattle.jx_lex.specs.Seen.{EndsAtComma, Grows, SeesTrack, WantsNoMore, GoesTo};
 ghost use Rattle.jx_lex.specs.View.{exit_of};
 
-use crate::ahead::Ahead;
-use crate::cell::Cell;
-use crate::class::{Class, class_of};
-use crate::exit::Exit;
-use crate::keeper::Keeper;
-use crate::machine::cell_at;
-use crate::mark::{Mark, MarkKind};
-use crate::parts::string_end_ahead;
-use crate::runs::{gap_end, literal_end, more_digits, number_rest};
-use crate::state::LexState;
+pub(crate) mod ahead;
+pub(crate) mod byte_sets;
+pub(crate) mod keeper;
+pub(crate) mod string_parts;
+pub(crate) mod token_rest;
+pub(crate) mod tokens;
+
+use crate::scanner::ahead::Ahead;
+use crate::alphabet::cell::Cell;
+use crate::alphabet::class::{Class, class_of};
+use crate::alphabet::lex_exit::LexExit;
+use crate::scanner::keeper::Keeper;
+use crate::alphabet::machine::cell_at;
+use crate::alphabet::mark::{Mark, MarkKind};
+use crate::scanner::string_parts::string_end_ahead;
+use crate::scanner::token_rest::{gap_end, literal_end, more_digits, number_rest};
+use crate::alphabet::state::LexState;
 use std::alloc::AllocError;
 
 /// Takes in what one byte does: its mark and its end are seen. Gives the next state, or none at a fault.
@@ -294,7 +301,7 @@ pub fn scan<K: Keeper>(
     text: &[u8],
     from: usize,
     to: usize,
-) -> Result<Option<Exit>, AllocError>
+) -> Result<Option<LexExit>, AllocError>
     requires { (from ≤ to) × (to ≤ length text.now) }
     ensures seen { OnOk result (SeesTrack (K.has_seen keeper.old) (K.has_seen keeper.new) (lex state from (slice_range text.now from to))) }
     ensures exit { IfOk result (λ exit. IfSome exit (λ e. exit_of e ≡ (lex state from (slice_range text.now from to)).exit)) }
@@ -309,11 +316,11 @@ pub fn scan<K: Keeper>(
         }
         let byte = text[i];
         let Some(next) = take_byte(keeper, state, byte, i)? else {
-            return Ok(Some(Exit::Fault(i)));
+            return Ok(Some(LexExit::Fault(i)));
         };
         state = next;
         let end = run_on(keeper, &mut state, text, byte, i + 1, to, &mut ahead)?;
         i = end;
     }
-    Ok(Some(Exit::State(state)))
+    Ok(Some(LexExit::State(state)))
 }

@@ -3,7 +3,7 @@ use Rattle.std.proofs.Common.{ℕ, zero, suc, ◌+◌, ◌<◌, ◌≤◌, List,
 use Rattle.jx_reduce.specs.Offsets.{EachIn, RisingFrom}
 use Rattle.jx_reduce.specs.Reductions.{Forms, IsBefore, SpansIn}
 use Rattle.jx_reduce.proofs.Spans.{before_of_spans}
-use Rattle.jx_lex.specs.declared.mark.Mark.{Mark}
+use Rattle.jx_lex.specs.declared.alphabet.mark.Mark.{Mark}
 
 pub RisingFrom-less : (b c : ℕ) (ms : List Mark) → c ≤ b → RisingFrom b ms → RisingFrom c ms
 RisingFrom-less b c [] h r = tt

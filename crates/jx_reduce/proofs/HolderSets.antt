@@ -11,7 +11,7 @@ use Rattle.jx_reduce.specs.declared.holder.Holder.TheVariants.{Array, Object, Bo
 use Rattle.jx_reduce.specs.declared.entry.Entry.{Entry}
 use Rattle.jx_reduce.specs.declared.expect.Expect.{Expect}
 use Rattle.jx_reduce.specs.declared.level.Level.{Level}
-use Rattle.jx_lex.specs.declared.mark.Mark.{Mark}
+use Rattle.jx_lex.specs.declared.alphabet.mark.Mark.{Mark}
 
 lone_array : (b c y z : Bool) → bit_and (set_of true b c) (set_of true y z) ≡ 0 → ⊥
 lone_array true true true true h = cc

@@ -5,7 +5,7 @@ use Rattle.std.proofs.lemmas.List.{take-append-drop}
 use Rattle.jx_reduce.specs.Read.{Reading, went, stopped, too_deep, step, read}
 use Rattle.jx_reduce.specs.KnownStack.{Known, start, HasRead, IsFault}
 use Rattle.jx_reduce.proofs.Readings.{read-append}
-use Rattle.jx_lex.specs.declared.mark.Mark.{Mark}
+use Rattle.jx_lex.specs.declared.alphabet.mark.Mark.{Mark}
 
 -- behind a fault nothing changes
 pub read-fault : (d : ℕ) (ms : List Mark) (r : Reading) → IsFault r → read d ms r ≡ r

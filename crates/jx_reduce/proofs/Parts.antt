@@ -19,9 +19,9 @@ use Rattle.jx_reduce.specs.declared.entry.Entry.{Entry}
 use Rattle.jx_reduce.specs.declared.entry.Entry.TheVariants.{ValueOrName, AfterOrColon, Value as AnyValue, ArrayFirst as AnyArrayFirst, ObjectFirst as AnyObjectFirst, Name as AnyName, Colon as AnyColon, After as AnyAfter}
 use Rattle.jx_reduce.specs.declared.holder.Holder.{Holder}
 use Rattle.jx_reduce.specs.declared.reduced.Reduced.{Reduced}
-use Rattle.jx_lex.specs.declared.mark.Mark.{Mark}
-use Rattle.jx_lex.specs.declared.mark.MarkKind.{MarkKind}
-use Rattle.jx_lex.specs.declared.mark.MarkKind.TheVariants.{OpenArray, CloseArray, OpenObject, CloseObject, Comma, String, Number, True, False, Null, Colon}
+use Rattle.jx_lex.specs.declared.alphabet.mark.Mark.{Mark}
+use Rattle.jx_lex.specs.declared.alphabet.mark.MarkKind.{MarkKind}
+use Rattle.jx_lex.specs.declared.alphabet.mark.MarkKind.TheVariants.{OpenArray, CloseArray, OpenObject, CloseObject, Comma, String, Number, True, False, Null, Colon}
 use Rattle.jx_reduce.proofs.Bounds.{EachIn-take, EachIn-drop}
 use Rattle.jx_reduce.proofs.Cuts.{RisingFrom-take, RisingFrom-drop, before_of_parts}
 use Rattle.jx_reduce.proofs.Joined.{base_of, uncut}

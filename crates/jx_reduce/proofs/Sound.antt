@@ -12,7 +12,7 @@ use Rattle.jx_reduce.proofs.Joined.{acts-joined, acts_over}
 use Rattle.jx_reduce.proofs.Bounds.{Fits-joined, OffsetsIn-joined, apart}
 use Rattle.jx_reduce.proofs.Readings.{then_by_same, acts-of_marks, acts-of_nothing, Fits-of_marks, Fits-of_nothing, OffsetsIn-of_marks, OffsetsIn-of_nothing}
 use Rattle.jx_reduce.specs.declared.holder.Holder.{Holder}
-use Rattle.jx_lex.specs.declared.mark.Mark.{Mark}
+use Rattle.jx_lex.specs.declared.alphabet.mark.Mark.{Mark}
 use Rattle.jx_reduce.specs.declared.expect.Expect.{Expect}
 use Rattle.jx_reduce.specs.declared.expect.Expect.TheVariants.{Value, ArrayFirst, ObjectFirst, Name, Colon, After}
 use Rattle.jx_reduce.specs.declared.entry.Entry.{Entry}

@@ -10,8 +10,8 @@ use Rattle.jx_reduce.specs.declared.entry.Entry.TheVariants.{ValueOrName, AfterO
 use Rattle.jx_reduce.specs.declared.holder.Holder.{Holder}
 use Rattle.jx_reduce.specs.declared.holder.Holder.TheVariants.{Array, Object, Bottom}
 use Rattle.jx_reduce.specs.declared.level.Level.{Level}
-use Rattle.jx_lex.specs.declared.mark.Mark.{Mark}
-use Rattle.jx_lex.specs.declared.mark.MarkKind.TheVariants.{String}
+use Rattle.jx_lex.specs.declared.alphabet.mark.Mark.{Mark}
+use Rattle.jx_lex.specs.declared.alphabet.mark.MarkKind.TheVariants.{String}
 use Rattle.jx_reduce.proofs.Bounds.{all_merged}
 use Rattle.jx_reduce.proofs.Joined.{base_of, halts_all}
 

@@ -5,7 +5,7 @@ use Rattle.jx_reduce.specs.Offsets.{RisingFrom}
 use Rattle.jx_reduce.specs.Parts.{AreParts}
 use Rattle.jx_reduce.specs.Reducer.{ReducerValue, IsFront, HasReduced, past}
 use Rattle.jx_reduce.proofs.Parts.{parts_all}
-use Rattle.jx_lex.specs.declared.mark.Mark.{Mark}
+use Rattle.jx_lex.specs.declared.alphabet.mark.Mark.{Mark}
 
 -- just past the last of the marks, or where none is, this
 abbrev pub end_of : ℕ → List Mark → ℕ

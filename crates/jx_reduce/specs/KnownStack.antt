@@ -2,7 +2,7 @@
 use Rattle.std.specs.Prelude.{◌≡◌, ℕ, ◌≤◌, List, [], length, take}
 use Rattle.jx_reduce.specs.Read.{Reading, went, stopped, too_deep, read}
 use Rattle.jx_reduce.specs.declared.expect.Expect.TheVariants.{Value}
-use Rattle.jx_lex.specs.declared.mark.Mark.{Mark}
+use Rattle.jx_lex.specs.declared.alphabet.mark.Mark.{Mark}
 
 pub record Known : Type 0 where
   pub depth : ℕ

@@ -10,7 +10,7 @@ use Rattle.jx_reduce.specs.declared.expect.Expect.{Expect}
 use Rattle.jx_reduce.specs.declared.entry.Entry.{Entry}
 use Rattle.jx_reduce.specs.declared.level.Level.{Level}
 use Rattle.jx_reduce.specs.declared.ended_level.EndedLevel.{EndedLevel}
-use Rattle.jx_lex.specs.declared.mark.Mark.{Mark}
+use Rattle.jx_lex.specs.declared.alphabet.mark.Mark.{Mark}
 
 -- a mark that leads nowhere is a fault
 abbrev pub fault_unless : Option Expect → ℕ → Option ℕ

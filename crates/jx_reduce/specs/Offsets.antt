@@ -4,7 +4,7 @@ use Rattle.jx_reduce.specs.Form.{Form, fault_of, end_fault_of}
 use Rattle.jx_reduce.specs.declared.holder.Holder.{Holder}
 use Rattle.jx_reduce.specs.declared.level.Level.{Level}
 use Rattle.jx_reduce.specs.declared.ended_level.EndedLevel.{EndedLevel}
-use Rattle.jx_lex.specs.declared.mark.Mark.{Mark}
+use Rattle.jx_lex.specs.declared.alphabet.mark.Mark.{Mark}
 
 abbrev pub FaultsIn : (ℕ → Type 0) → Level → Type 0
 FaultsIn Q f = (h : Holder) (p : ℕ) → fault_of f h ≡ Some p → Q p

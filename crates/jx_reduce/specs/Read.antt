@@ -4,7 +4,7 @@ use Rattle.jx_reduce.specs.Table.{next_of, change_of, Change, same, added, remov
 use Rattle.jx_reduce.specs.declared.holder.Holder.{Holder}
 use Rattle.jx_reduce.specs.declared.holder.Holder.TheVariants.{Bottom}
 use Rattle.jx_reduce.specs.declared.expect.Expect.{Expect}
-use Rattle.jx_lex.specs.declared.mark.Mark.{Mark}
+use Rattle.jx_lex.specs.declared.alphabet.mark.Mark.{Mark}
 
 -- what a reading comes to; open containers stand innermost first
 pub data Reading : Type 0 where

@@ -3,7 +3,7 @@ use Rattle.std.specs.Prelude.{◌≡◌, ◌↔◌, ℕ, ◌+◌, List, ◌++◌
 use Rattle.jx_reduce.specs.Offsets.{RisingFrom}
 use Rattle.jx_reduce.specs.Parts.{AreParts}
 use Rattle.jx_reduce.specs.declared.reduced.Reduced.{Reduced}
-use Rattle.jx_lex.specs.declared.mark.Mark.{Mark}
+use Rattle.jx_lex.specs.declared.alphabet.mark.Mark.{Mark}
 
 pub record ReducerValue : Type 0 where
   pub depth : ℕ

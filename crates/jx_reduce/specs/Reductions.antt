@@ -6,7 +6,7 @@ use Rattle.jx_reduce.specs.Form.{Form, acts}
 use Rattle.jx_reduce.specs.Fits.{Fits}
 use Rattle.jx_reduce.specs.Offsets.{OffsetsIn}
 use Rattle.jx_reduce.specs.declared.holder.Holder.{Holder}
-use Rattle.jx_lex.specs.declared.mark.Mark.{Mark}
+use Rattle.jx_lex.specs.declared.alphabet.mark.Mark.{Mark}
 use Rattle.jx_reduce.specs.declared.expect.Expect.{Expect}
 use Rattle.jx_reduce.specs.declared.expect.Expect.TheVariants.{Value, ArrayFirst, ObjectFirst, Name, Colon, After}
 use Rattle.jx_reduce.specs.declared.entry.Entry.{Entry}

@@ -5,7 +5,7 @@ ghost use Rattle.jx_reduce.specs.Table.{added};
 ghost use Rattle.jx_reduce.specs.Read.{changed, then_by, step, read};
 ghost use Rattle.jx_reduce.specs.Whole.{whole_of};
 ghost use Rattle.jx_reduce.specs.KnownStack.{start, HasRead, IsFault, IsPartRead};
-ghost use Rattle.jx_lex.specs.declared.mark.Mark.{Mark};
+ghost use Rattle.jx_lex.specs.declared.alphabet.mark.Mark.{Mark};
 
 use crate::expect::Expect;
 use crate::holder::Holder;

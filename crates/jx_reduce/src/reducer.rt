@@ -5,7 +5,7 @@ ghost use Rattle.jx_reduce.specs.Offsets.{RisingFrom, EachIn};
 ghost use Rattle.jx_reduce.specs.Parts.{AreParts};
 ghost use Rattle.jx_reduce.specs.Reducer.{ReducerValue, HasReduced, IsFront, past};
 ghost use Rattle.jx_reduce.specs.Reductions.{IsOf, SpansIn};
-ghost use Rattle.jx_lex.specs.declared.mark.Mark.{Mark};
+ghost use Rattle.jx_lex.specs.declared.alphabet.mark.Mark.{Mark};
 
 use crate::entry::Entry;
 use crate::reduced::Reduced;

@@ -10,7 +10,7 @@ ghost use Rattle.jx_reduce.specs.Parts.{EndsWith, AreParts};
 ghost use Rattle.jx_reduce.specs.Shift.{shifted};
 ghost use Rattle.jx_reduce.specs.declared.expect.Expect.{Expect};
 ghost use Rattle.jx_reduce.specs.declared.holder.Holder.{Holder};
-ghost use Rattle.jx_lex.specs.declared.mark.Mark.{Mark};
+ghost use Rattle.jx_lex.specs.declared.alphabet.mark.Mark.{Mark};
 
 use crate::entry::Entry;
 use crate::expect::Expect;

@@ -17,7 +17,7 @@ use Rattle.jx_answer.specs.Settled.{AreJudgedBy, IsElementBy, IsIndexBy, IsJudge
 use Rattle.jx_answer.specs.declared.element.Element.{Element}
 use Rattle.jx_answer.specs.Sequence.{judged}
 use Rattle.jx_run.specs.declared.element_verdict.JudgedElement.{JudgedElement}
-use Rattle.jx_command.specs.declared.command.Task.TheVariants.{Index, At, Seq}
+use Rattle.jx_task.specs.declared.task.Task.TheVariants.{Index, At, Seq}
 use Rattle.jx_report.specs.declared.exit.Exit.{Exit}
 use Rattle.jx_report.specs.declared.exit.Exit.TheVariants.{Good}
 use Rattle.jx_report.specs.Elements.{element_lines, exit_past, exit_past_all, exit_past_judged, judged_line, judged_lines}
@@ -49,9 +49,9 @@ module _ (text : List ℕ) (settings : Settings) (index : IndexedValue) (judged 
       let at : 0 + length x.is_text.front ≡ length x.is_text.front = omega arith in
       subst (λ (i : ℕ). IsDocument i x.is_text.rest settings.depth x.tree) at x.is_text.text
 
-  text_there : IsText index.text index.place.start index.place.end settings.depth x.tree
+  text_there : IsText index.text index.span.start index.span.end settings.depth x.tree
   text_there =
-      subst (λ p. IsText index.text p.start p.end settings.depth x.tree) (sym x.place)
+      subst (λ p. IsText index.text p.start p.end settings.depth x.tree) (sym x.span)
       (subst (λ t. IsText t (length x.is_text.front) (length text) settings.depth x.tree) (sym x.text)
       (subst (λ b. IsDocument (length x.is_text.front) b settings.depth x.tree) (sym rest) text_behind))
 
@@ -59,7 +59,7 @@ module _ (text : List ℕ) (settings : Settings) (index : IndexedValue) (judged 
   rows_output output exit h = (Accepted, judged, (x.tree, x.is_text, subst (λ (r : List Row). SaysRows r output exit) x.rows_are h))
 
   pub pointers_output : (pointers : Vec (String Global) Global) (output : List ℕ) (exit : Exit)
-      → ((d : ℕ) (tree : Tree) → IsText index.text index.place.start index.place.end d tree → PointerLines index.text tree (map string_bytes pointers.items) output exit)
+      → ((d : ℕ) (tree : Tree) → IsText index.text index.span.start index.span.end d tree → PointerLines index.text tree (map string_bytes pointers.items) output exit)
       → Output (At pointers) settings text output exit
   pointers_output pointers output exit lines =
       (Accepted, judged, (x.tree, x.is_text, subst (λ t. PointerLines t x.tree (map string_bytes pointers.items) output exit) x.text (lines settings.depth x.tree text_there)))

@@ -6,12 +6,8 @@ use Rattle.std.proofs.KnownBytes.{Consumes-trans}
 use lib.Seq.{take-add}
 use Rattle.std.proofs.lemmas.List.{take_all, length-append}
 use Rattle.jx_run.specs.Reader.{ReaderValue, HasRead}
-use Rattle.jx_run.specs.declared.settings.Settings.{Settings}
-use Rattle.jx_report.specs.declared.text_check.TextCheck.{TextCheck}
-use Rattle.jx_report.specs.declared.sequence_check.SequenceCheck.{SequenceCheck}
-use Rattle.jx_report.specs.inside.Batches.{GoesOn, IsChecked, IsTaken, ShowsFront}
+use Rattle.jx_report.specs.inside.Batches.{AllTaken, GoesOn, ShowsFront}
 use Rattle.jx_report.specs.Ends.{ReadsToEnd}
-use Rattle.jx_report.specs.inside.Sequences.{AreTaken, IsSequenceTaken}
 
 -- the part up to an offset, and what stands from there up to another
 pub up_to : (bytes text : List ℕ) (done end : ℕ) → done ≤ end → (bytes ++ take done text) ++ take (end - done) (drop done text) ≡ bytes ++ take end text
@@ -23,19 +19,19 @@ up_to bytes text done end h =
 pub begun : (text : List ℕ) (v : ReaderValue) → GoesOn text 0 v v
 begun text v = record {
   within = omega arith;
-  limit = refl;
+  depth = refl;
   start = refl;
   count = omega arith;
   reads = λ bytes h. subst (λ (xs : List ℕ). HasRead xs v) (sym (append-nil bytes)) h;
 }
 
-pub gone_on : (text : List ℕ) (done end : ℕ) (old mid new : ReaderValue) → GoesOn text done old mid → end ≤ length text → new.limit ≡ mid.limit → new.start ≡ mid.start
+pub gone_on : (text : List ℕ) (done end : ℕ) (old mid new : ReaderValue) → GoesOn text done old mid → end ≤ length text → new.depth ≡ mid.depth → new.start ≡ mid.start
     → new.count + done ≡ mid.count + end → ((bytes : List ℕ) → HasRead (bytes ++ take done text) mid → HasRead (bytes ++ take end text) new) → GoesOn text end old new
 gone_on text done end old mid new g within limit start count reads =
     let before = g.count in
     record {
       within = within;
-      limit = limit ∙ g.limit;
+      depth = limit ∙ g.depth;
       start = start ∙ g.start;
       count = omega (arith, before, count);
       reads = λ bytes h. reads bytes (g.reads bytes h);
@@ -66,15 +62,9 @@ taken_more P text slice part n a b c taken same long least before more =
 pub read_to_end : (text slice part : List ℕ) (a b c : Option (List ℕ)) → slice ≡ part → Consumes a b text → Consumes b c part → IsAtEnd c → ReadsToEnd a c (text ++ slice)
 read_to_end text slice part a b c same before more end = (subst (λ (xs : List ℕ). Consumes a c (text ++ xs)) (sym same) (Consumes-trans a b c text part before more), end)
 
-pub checked : (settings : Settings) (text slice part : List ℕ) (a b c : Option (List ℕ)) (check : TextCheck) → IsTaken settings (text ++ slice) check → slice ≡ part
-    → Consumes a b text → Consumes b c part → IsAtEnd c → IsChecked settings a c check
-checked settings text slice part a b c check taken same before more end =
-    record { text = text ++ slice; read = read_to_end text slice part a b c same before more end; taken = taken }
-
-pub all_taken : (settings : Settings) (text slice part : List ℕ) (a b c : Option (List ℕ)) (check : SequenceCheck) → IsSequenceTaken settings (text ++ slice) check → slice ≡ part
-    → Consumes a b text → Consumes b c part → IsAtEnd c → AreTaken settings a c check
-all_taken settings text slice part a b c check taken same before more end =
-    record { text = text ++ slice; read = read_to_end text slice part a b c same before more end; taken = taken }
+pub all_taken : (P : List ℕ → Type 0) (text slice part : List ℕ) (a b c : Option (List ℕ)) → P (text ++ slice) → slice ≡ part → Consumes a b text → Consumes b c part → IsAtEnd c
+    → AllTaken P a c
+all_taken P text slice part a b c taken same before more end = record { text = text ++ slice; read = read_to_end text slice part a b c same before more end; taken = taken }
 
 -- a full batch leaves fewer bytes that can be counted
 pub fewer : (old new filled batch : ℕ) (slice part : List ℕ) → new ≡ old + length slice → slice ≡ part → length part ≡ filled → new < 2 ^ 64 → 1 ≤ batch → batch ≤ filled

@@ -3,7 +3,7 @@ use Rattle.std.proofs.Common.{◌≡◌, ℕ, ◌<◌, List, [], ◌∷◌, ◌+
 use Rattle.std.specs.Prelude.{codes, slice_get, string_bytes}
 use Rattle.std.proofs.lemmas.List.{length-append}
 use Rattle.jx_lex.specs.declared.kind.Kind.{Kind}
-use Rattle.jx_lex.specs.declared.span.Span.{Span}
+use Rattle.jx_summary.specs.declared.span.Span.{Span}
 use Rattle.jx_run.specs.declared.verdict.Verdict.{Verdict}
 use Rattle.jx_run.specs.declared.verdict.Verdict.TheVariants.{Accepted, Refused}
 use Rattle.jx_run.specs.declared.verdict.Refusal.{Refusal}
@@ -21,8 +21,8 @@ use Rattle.jx_index.specs.Rows.{rows}
 use Rattle.jx_answer.specs.declared.element.Element.{Element}
 use Rattle.jx_answer.specs.ByNames.{IsVerdictBy}
 use Rattle.jx_answer.specs.Settled.{AreElementsBy}
-use Rattle.jx_command.specs.declared.command.Task.{Task}
-use Rattle.jx_command.specs.declared.command.Task.TheVariants.{Check, Index, At, Seq}
+use Rattle.jx_task.specs.declared.task.Task.{Task}
+use Rattle.jx_task.specs.declared.task.Task.TheVariants.{Check, Index, At, Seq}
 use Rattle.jx_report.specs.declared.exit.Exit.{Exit}
 use Rattle.jx_report.specs.declared.exit.Exit.TheVariants.{Good}
 use Rattle.jx_report.specs.declared.pointer_answer.PointerAnswer.{PointerAnswer}

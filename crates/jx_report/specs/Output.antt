@@ -11,8 +11,8 @@ use Rattle.jx_index.specs.Rows.{rows}
 use Rattle.jx_answer.specs.declared.element.Element.{Element}
 use Rattle.jx_answer.specs.ByNames.{IsVerdictBy}
 use Rattle.jx_answer.specs.Settled.{AreElementsBy}
-use Rattle.jx_command.specs.declared.command.Task.{Task}
-use Rattle.jx_command.specs.declared.command.Task.TheVariants.{Check, Index, At, Seq}
+use Rattle.jx_task.specs.declared.task.Task.{Task}
+use Rattle.jx_task.specs.declared.task.Task.TheVariants.{Check, Index, At, Seq}
 use Rattle.jx_report.specs.declared.exit.Exit.{Exit}
 use Rattle.jx_report.specs.declared.exit.Exit.TheVariants.{Good, Bad}
 use Rattle.jx_report.specs.Elements.{element_lines, exit_past_all}

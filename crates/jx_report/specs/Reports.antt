@@ -1,7 +1,7 @@
 -- What a report does to the bytes of its ends.
 use Rattle.std.specs.Prelude.{ℕ, ◌*◌, ◌<◌, ◌≤◌, List, [], length, Option, Bool, true, false}
 use Rattle.std.specs.Io.KnownBytes.{Appends}
-use Rattle.jx_command.specs.declared.command.Command.{Command}
+use Rattle.jx_task.specs.declared.command.Command.{Command}
 use Rattle.jx_report.specs.declared.exit.Exit.{Exit}
 use Rattle.jx_report.specs.Ends.{ReadsToEnd, AppendsBeginning}
 use Rattle.jx_report.specs.Output.{Output}

@@ -1,6 +1,6 @@
 -- The lines that are written for the rows of a text.
 use Rattle.std.specs.Prelude.{ℕ, suc, List, [], ◌∷◌, ◌++◌, Option, None, Some, codes, decimal}
-use Rattle.jx_lex.specs.declared.span.Span.{Span}
+use Rattle.jx_summary.specs.declared.span.Span.{Span}
 use Rattle.jx_index.specs.declared.row.Row.{Row}
 use Rattle.jx_report.specs.Words.{line, kind_words, span_words}
 

@@ -2,11 +2,10 @@
 #![tactic(auto)]
 
 mod batch;
-mod checking;
+mod batch_check;
 mod element_words;
 mod end;
 mod exit;
-mod judging;
 mod laws;
 mod pieces;
 mod pointer_answer;

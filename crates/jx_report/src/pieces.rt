@@ -16,7 +16,7 @@ fn feed_up_to(reader: &mut Reader, text: &[u8], done: usize, end: usize) -> Resu
     requires ordered { done ≤ end }
     requires within { end ≤ length text.now }
     requires fits { reader.old.start + reader.old.count + length text.now < 2 ^ 64 + done }
-    ensures limit { reader.new.limit ≡ reader.old.limit }
+    ensures depth { reader.new.depth ≡ reader.old.depth }
     ensures start { reader.new.start ≡ reader.old.start }
     ensures count { OnOk result (reader.new.count + done ≡ reader.old.count + end) }
     ensures reads { OnOk result ((bytes : List ℕ) → HasRead (bytes ++ take done text.now) reader.old → HasRead (bytes ++ take end text.now) reader.new) }
@@ -34,7 +34,7 @@ pub(crate) fn feed_pieces<G: Gate>(
 ) -> Result<(), AllocError>
     requires cutting { cutting.now.len ≡ length text.now }
     requires fits { reader.old.start + reader.old.count + length text.now < 2 ^ 64 }
-    ensures limit { reader.new.limit ≡ reader.old.limit }
+    ensures depth { reader.new.depth ≡ reader.old.depth }
     ensures start { reader.new.start ≡ reader.old.start }
     ensures reads { OnOk result ((bytes : List ℕ) → HasRead bytes reader.old → HasRead (bytes ++ text.now) reader.new) }
 {

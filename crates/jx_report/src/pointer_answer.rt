@@ -54,7 +54,7 @@ pub fn pointers_of<'p>(alloc: Global, spelt: &'p [String]) -> Result<Vec<Pointer
 /// What a pointer, as it is spelt, comes to in an indexed text, where this was found for it if it is a pointer.
 fn answer_to(spelt: &str, found: Answer) -> PointerAnswer
     ensures { (index : IndexedValue) (limit : ℕ) (tree : Tree) → IsFoundFor index spelt.now found → index.rows ≡ rows tree
-        → IsText index.text index.place.start index.place.end limit tree → IsAnswerTo index.text tree spelt.now result }
+        → IsText index.text index.span.start index.span.end limit tree → IsAnswerTo index.text tree spelt.now result }
 {
     match Pointer::read(spelt) {
         Err(fault) => PointerAnswer::Unread(fault),
@@ -74,7 +74,7 @@ pub fn answers_of(
 ) -> Result<Vec<PointerAnswer>, AllocError>
     requires found { AllZip (IsFoundFor index.now) (map string_bytes pointers.now) found.now }
     ensures { IfOk result (λ answers. (limit : ℕ) (tree : Tree)
-        → IsText index.now.text index.now.place.start index.now.place.end limit tree
+        → IsText index.now.text index.now.span.start index.now.span.end limit tree
         → PointerLines index.now.text tree (map string_bytes pointers.now) (pointer_lines answers.items) (exit_past_lines Good answers.items)) }
 {
     // Shows the proof that the index has the rows of the text's tree.

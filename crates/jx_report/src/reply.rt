@@ -1,6 +1,6 @@
 ghost use Rattle.std.specs.Prelude.{◌≡◌, ℕ, length, map, string_bytes, IfOk};
 ghost use Rattle.std.specs.List.{AllZip};
-ghost use Rattle.jx_command.specs.declared.command.Task.TheVariants.{Seq};
+ghost use Rattle.jx_task.specs.declared.task.Task.TheVariants.{Seq};
 ghost use Rattle.jx_run.specs.Text.{IsText};
 ghost use Rattle.jx_run.specs.Tree.{Tree};
 ghost use Rattle.jx_report.specs.Output.{Output};
@@ -16,7 +16,7 @@ use jx_answer::{
 };
 use jx_book::Gate;
 use jx_claim::{Cutting, Workers};
-use jx_command::{Command, Task};
+use jx_task::{Command, Task};
 use jx_index::{Indexed, Row};
 use jx_run::{JudgedElement, Verdict};
 use std::alloc::{AllocError, Global};
@@ -88,7 +88,7 @@ fn pointers_reply<R: Threads + Sync, G: Gate + Sync>(
     gate: &G,
 ) -> Result<Reply, AllocError>
     ensures { IfOk result (λ reply. (limit : ℕ) (tree : Tree)
-        → IsText index.now.text index.now.place.start index.now.place.end limit tree
+        → IsText index.now.text index.now.span.start index.now.span.end limit tree
         → PointerLines index.now.text tree (map string_bytes pointers.now) (reply_output reply) (reply_exit reply)) }
 {
     let found = found_for(rt, alloc, index, pointers, workers, gate)?;

@@ -3,9 +3,8 @@ ghost use Rattle.jx_report.specs.Output.{Output};
 ghost use Rattle.jx_report.specs.Reports.{IsAnswered, Reports, ReportsInPart, HasTooManyPieces};
 ghost use Rattle.jx_report.specs.inside.Replies.{reply_exit, reply_output};
 
-use crate::checking::check_input;
+use crate::batch_check::{BatchCheck, answer_by_batches};
 use crate::exit::Exit;
-use crate::judging::judge_input;
 use crate::read_all::read_all;
 use crate::reply::{Reply, reply_to};
 use crate::report_fault::ReportFault;
@@ -14,7 +13,7 @@ use crate::source::Source;
 use crate::writing::write_reply;
 use jx_book::Gate;
 use jx_claim::Cutting;
-use jx_command::{Command, Task};
+use jx_task::Command;
 use jx_run::NameRule;
 use std::alloc::{AllocError, Global};
 use std::sync::Wait;
@@ -50,10 +49,9 @@ fn answer_to_input<R: Threads + Wait + Sync, S: Source, G: Gate + Sync>(
 {
     match command.settings.names {
         NameRule::Unique => answer_to_all(rt, alloc, reader, command, gate),
-        NameRule::Any => match &command.task {
-            Task::Check => check_input(rt, alloc, reader, command, gate, batch),
-            Task::Seq => judge_input(rt, alloc, reader, command, gate, batch),
-            _ => answer_to_all(rt, alloc, reader, command, gate),
+        NameRule::Any => match BatchCheck::of(alloc, command) {
+            Some(check) => answer_by_batches(rt, alloc, reader, command, gate, batch, check),
+            None => answer_to_all(rt, alloc, reader, command, gate),
         },
     }
 }

@@ -12,7 +12,7 @@ use crate::report_fault::ReportFault;
 use crate::sequence_reader::SequenceReader;
 use jx_answer::judged_by_mark;
 use jx_book::Gate;
-use jx_command::Command;
+use jx_task::Command;
 use jx_run::{Front, FrontMark, JudgedElement, Settings, front};
 use std::alloc::{AllocError, Global};
 use std::sync::Wait;

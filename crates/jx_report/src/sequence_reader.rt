@@ -10,7 +10,7 @@ use crate::text_check::TextReader;
 use jx_answer::judge_batch;
 use jx_book::Gate;
 use jx_claim::Cutting;
-use jx_command::Command;
+use jx_task::Command;
 use jx_run::{
     JudgedElement, ended_there, ends_open_behind, separated_part, sequences_are_read_part_by_part,
 };

@@ -14,7 +14,7 @@ use crate::report_fault::ReportFault;
 use jx_answer::read_batch;
 use jx_book::Gate;
 use jx_claim::Cutting;
-use jx_command::Command;
+use jx_task::Command;
 use jx_lex::{Depth, Span};
 use jx_run::{Front, Reader, Refusal, RunReader, Verdict, front, fronts_decide_where_texts_begin};
 use std::alloc::{AllocError, Global};
@@ -33,7 +33,7 @@ pub(crate) enum TextReader {
 impl TextReader {
     /// Before the first byte of a text, which has this offset. Where there are several workers, they read it.
     pub fn new(alloc: Global, command: &Command, start: usize) -> TextReader
-        ensures limit { (seen result).limit ≡ command.now.settings.depth }
+        ensures depth { (seen result).depth ≡ command.now.settings.depth }
         ensures start { (seen result).start ≡ start }
         ensures reads { HasRead [] (seen result) }
     {
@@ -68,7 +68,7 @@ impl TextReader {
         requires piece { 1 ≤ command.now.piece }
         requires few { length batch.now < 2 ^ 32 }
         requires fits { (seen self.old).start + (seen self.old).count + length batch.now < 2 ^ 64 }
-        ensures limit { (seen self.new).limit ≡ (seen self.old).limit }
+        ensures depth { (seen self.new).depth ≡ (seen self.old).depth }
         ensures start { (seen self.new).start ≡ (seen self.old).start }
         ensures reads { OnOk result ((bytes : List ℕ) → HasRead bytes (seen self.old) → HasRead (bytes ++ batch.now) (seen self.new)) }
     {
@@ -80,7 +80,7 @@ impl TextReader {
 
     /// The verdict on all bytes that were read.
     pub fn verdict(&self) -> Verdict
-        ensures verdict { (bytes : List ℕ) → HasRead bytes (seen self.now) → Judged (seen self.now).start bytes (seen self.now).limit result }
+        ensures verdict { (bytes : List ℕ) → HasRead bytes (seen self.now) → Judged (seen self.now).start bytes (seen self.now).depth result }
     {
         match self {
             TextReader::Alone(reader) => reader.verdict(),
@@ -99,7 +99,7 @@ fn read_alone<G: Gate>(
     requires piece { 1 ≤ command.now.piece }
     requires few { length batch.now < 2 ^ 32 }
     requires fits { reader.old.start + reader.old.count + length batch.now < 2 ^ 64 }
-    ensures limit { reader.new.limit ≡ reader.old.limit }
+    ensures depth { reader.new.depth ≡ reader.old.depth }
     ensures start { reader.new.start ≡ reader.old.start }
     ensures reads { OnOk result ((bytes : List ℕ) → HasRead bytes reader.old → HasRead (bytes ++ batch.now) reader.new) }
 {
@@ -124,7 +124,7 @@ fn read_shared<R: Threads + Wait + Sync, G: Gate + Sync>(
     requires piece { 1 ≤ command.now.piece }
     requires few { length batch.now < 2 ^ 32 }
     requires fits { reader.old.start + reader.old.count + length batch.now < 2 ^ 64 }
-    ensures limit { reader.new.limit ≡ reader.old.limit }
+    ensures depth { reader.new.depth ≡ reader.old.depth }
     ensures start { reader.new.start ≡ reader.old.start }
     ensures reads { OnOk result ((bytes : List ℕ) → HasRead bytes reader.old → HasRead (bytes ++ batch.now) reader.new) }
 {

@@ -1,10 +1,10 @@
 -- Whatever was read without a fault can be completed to a text, and no container need be opened for it.
 use Rattle.std.proofs.Common.{◌≡◌, ℕ, suc, ◌+◌, List, [], ◌∷◌, ◌++◌, length, Option, Some, None, Bool, true, false, cond, drop, refl, sym, ap, subst, ◌∙◌, arith}
 use Rattle.std.specs.Prelude.{nat_lt}
-use Rattle.jx_lex.specs.declared.state.LexState.{LexState}
-use Rattle.jx_lex.specs.declared.state.LexState.TheVariants as state
-use Rattle.jx_lex.specs.declared.mark.MarkKind.{MarkKind}
-use Rattle.jx_lex.specs.declared.mark.MarkKind.TheVariants as mark
+use Rattle.jx_lex.specs.declared.alphabet.state.LexState.{LexState}
+use Rattle.jx_lex.specs.declared.alphabet.state.LexState.TheVariants as state
+use Rattle.jx_lex.specs.declared.alphabet.mark.MarkKind.{MarkKind}
+use Rattle.jx_lex.specs.declared.alphabet.mark.MarkKind.TheVariants as mark
 use Rattle.jx_lex.specs.Classes.{class_at}
 use Rattle.jx_lex.specs.Moves.{move, as_gap}
 use Rattle.jx_lex.specs.TokenStates.{final_gap}
@@ -14,7 +14,7 @@ use Rattle.jx_reduce.specs.declared.holder.Holder.{Holder}
 use Rattle.jx_reduce.specs.declared.holder.Holder.TheVariants as holder
 use Rattle.jx_reduce.specs.Read.{top}
 use Rattle.jx_run.specs.inside.Turns.{Turn, wrong, on, enter, leave, turn}
-use Rattle.jx_run.specs.Reading.{Outcome, went, stopped, too_deep, and_then}
+use Rattle.jx_run.specs.Reading.{TextReading, went, stopped, too_deep, and_then}
 use Rattle.jx_run.proofs.Fused.{after_turn, run, after_mark, in_next}
 use Rattle.jx_run.proofs.FromGrammar.{Inside, stays, step, run-inside}
 use Rattle.jx_run.proofs.ToGrammar.{Accepted, accepted}
@@ -69,7 +69,7 @@ turn_proper mark.Null expect.Value top = tt
 turn_proper mark.Null expect.ArrayFirst top = tt
 turn_proper mark.Null _ top = tt
 
-abbrev pub ProperOutcome : Outcome → Type 0
+abbrev pub ProperOutcome : TextReading → Type 0
 ProperOutcome (went s e o) = Proper o
 ProperOutcome (stopped at) = Unit {0}
 ProperOutcome (too_deep at) = Unit {0}
@@ -174,7 +174,7 @@ abbrev pub completion : LexState → Expect → List Holder → List ℕ
 completion s e o = finish s ++ (fill e ++ shut o)
 
 module _ (limit : ℕ) where
-  after_turn-then : (at : ℕ) (o : List Holder) (t : Turn) (f g : Expect → List Holder → Outcome) (k : LexState → Expect → List Holder → Outcome)
+  after_turn-then : (at : ℕ) (o : List Holder) (t : Turn) (f g : Expect → List Holder → TextReading) (k : LexState → Expect → List Holder → TextReading)
       → ((e : Expect) (o : List Holder) → g e o ≡ and_then (f e o) k) → after_turn limit at o t g ≡ and_then (after_turn limit at o t f) k
   after_turn-then at o wrong f g k h = refl
   after_turn-then at o (on e) f g k h = h e o
@@ -185,12 +185,12 @@ module _ (limit : ℕ) where
       pick false = refl
   after_turn-then at o (leave e) f g k h = h e _
 
-  after_mark-then : (at : ℕ) (e : Expect) (o : List Holder) (m : Option MarkKind) (f g : Expect → List Holder → Outcome) (k : LexState → Expect → List Holder → Outcome)
+  after_mark-then : (at : ℕ) (e : Expect) (o : List Holder) (m : Option MarkKind) (f g : Expect → List Holder → TextReading) (k : LexState → Expect → List Holder → TextReading)
       → ((e : Expect) (o : List Holder) → g e o ≡ and_then (f e o) k) → after_mark limit at e o m g ≡ and_then (after_mark limit at e o m f) k
   after_mark-then at e o None f g k h = h e o
   after_mark-then at e o (Some m) f g k h = after_turn-then at o (turn m e (top o)) f g k h
 
-  in_next-then : (at : ℕ) (n : Option LexState) (f g : LexState → Outcome) (k : LexState → Expect → List Holder → Outcome)
+  in_next-then : (at : ℕ) (n : Option LexState) (f g : LexState → TextReading) (k : LexState → Expect → List Holder → TextReading)
       → ((s : LexState) → g s ≡ and_then (f s) k) → in_next at n g ≡ and_then (in_next at n f) k
   in_next-then at None f g k h = refl
   in_next-then at (Some s) f g k h = h s
@@ -204,7 +204,7 @@ module _ (limit : ℕ) where
       (λ e' o'. in_next-then at ((move s b).next) _ _ _
       (λ s'. run-append p q s' e' o' (suc at) ∙ ap (λ n. and_then (run limit s' e' o' (suc at) p) (λ s e o. run limit s e o n q)) (let x : suc at + length p ≡ at + suc (length p) = omega arith in x)))
 
-  after_turn-proper : (at : ℕ) (o : List Holder) (t : Turn) (f : Expect → List Holder → Outcome) → ProperTurn t → Proper o
+  after_turn-proper : (at : ℕ) (o : List Holder) (t : Turn) (f : Expect → List Holder → TextReading) → ProperTurn t → Proper o
       → ((e : Expect) (o : List Holder) → Proper o → ProperOutcome (f e o)) → ProperOutcome (after_turn limit at o t f)
   after_turn-proper at o wrong f q p h = tt
   after_turn-proper at o (on e) f q p h = h e o p
@@ -215,12 +215,12 @@ module _ (limit : ℕ) where
       pick false = tt
   after_turn-proper at o (leave e) f q p h = h e _ (outer_proper o p)
 
-  after_mark-proper : (at : ℕ) (e : Expect) (o : List Holder) (m : Option MarkKind) (f : Expect → List Holder → Outcome) → Proper o
+  after_mark-proper : (at : ℕ) (e : Expect) (o : List Holder) (m : Option MarkKind) (f : Expect → List Holder → TextReading) → Proper o
       → ((e : Expect) (o : List Holder) → Proper o → ProperOutcome (f e o)) → ProperOutcome (after_mark limit at e o m f)
   after_mark-proper at e o None f p h = h e o p
   after_mark-proper at e o (Some k) f p h = after_turn-proper at o (turn k e (top o)) f (turn_proper k e (top o)) p h
 
-  in_next-proper : (at : ℕ) (n : Option LexState) (f : LexState → Outcome) → ((s : LexState) → ProperOutcome (f s)) → ProperOutcome (in_next at n f)
+  in_next-proper : (at : ℕ) (n : Option LexState) (f : LexState → TextReading) → ((s : LexState) → ProperOutcome (f s)) → ProperOutcome (in_next at n f)
   in_next-proper at None f h = tt
   in_next-proper at (Some s) f h = h s
 

@@ -5,11 +5,11 @@ use Rattle.std.specs.Prelude.{nat_lt}
 use Rattle.std.proofs.lemmas.Bool.Decides.{nat_tests}
 use Rattle.std.proofs.lemmas.List.{map-append}
 use Rattle.std.proofs.lemmas.List.Elements.{filter-append}
-use Rattle.jx_lex.specs.declared.span.Span.{Span}
-use Rattle.jx_run.specs.Elements.{Part, part, span_of, before_separator, after_separators, filled, has_bytes, elements}
-use Rattle.jx_run.specs.SeqRun.{MarkedValue, IsReading, IsSummary, filled_span, element_places}
+use Rattle.jx_summary.specs.declared.span.Span.{Span}
+use Rattle.jx_run.specs.Elements.{Part, part, part_span, before_separator, after_separators, filled, has_bytes, elements}
+use Rattle.jx_run.specs.SeqRun.{MarkedValue, IsReading, IsSummary, filled_span, element_spans}
 use Rattle.jx_run.specs.Started.{StartedValue}
-use Rattle.jx_run.specs.TextRun.{TextRunValue, IsTextRun, place_of}
+use Rattle.jx_run.specs.TextRun.{TextRunValue, IsTextRun, text_span}
 use Rattle.jx_run.specs.Tree.{span}
 use Rattle.jx_run.proofs.Parts.{unmarked-before}
 use Rattle.jx_run.proofs.SeqReading.{these}
@@ -28,7 +28,7 @@ elements_marked at bytes between last h =
 
 -- ---- their spans
 
-this_span : (b : Bool) (p : Part) → map span_of (these b p) ≡ cond b (span_of p ∷ []) []
+this_span : (b : Bool) (p : Part) → map part_span (these b p) ≡ cond b (part_span p ∷ []) []
 this_span true p = refl
 this_span false p = refl
 
@@ -47,37 +47,37 @@ same_test at n = pick (nat_lt 0 n) (nat_lt at (at + n)) refl refl
         absurd (omega arith)
     pick false false h k = refl
 
-one_span : (p : Part) → map span_of (filled (p ∷ [])) ≡ filled_span (span_of p)
+one_span : (p : Part) → map part_span (filled (p ∷ [])) ≡ filled_span (part_span p)
 one_span p =
-    this_span (has_bytes p) p ∙ ap (λ b. cond b (span_of p ∷ []) []) (same_test p.at (length p.bytes))
+    this_span (has_bytes p) p ∙ ap (λ b. cond b (part_span p ∷ []) []) (same_test p.at (length p.bytes))
 
-run_span : (run : TextRunValue) (at : ℕ) (bytes : List ℕ) → run.map.start ≡ at → IsTextRun bytes run → span_of (part at bytes) ≡ place_of run
+run_span : (run : TextRunValue) (at : ℕ) (bytes : List ℕ) → run.map.start ≡ at → IsTextRun bytes run → part_span (part at bytes) ≡ text_span run
 run_span run at bytes e h =
     ap (λ n. span n (n + length bytes)) (sym e) ∙ ap (span run.map.start) (sym h.long)
 
-started_spans : (limit : ℕ) (ps : List Part) (ss : List StartedValue) → AllZip (IsReading limit) ps ss → map span_of ps ≡ map (λ (s : StartedValue). s.place) ss
+started_spans : (limit : ℕ) (ps : List Part) (ss : List StartedValue) → AllZip (IsReading limit) ps ss → map part_span ps ≡ map (λ (s : StartedValue). s.span) ss
 started_spans limit [] [] h = refl
 started_spans limit [] (s ∷ ss) h = absurd h
 started_spans limit (p ∷ ps) [] h = absurd h
 started_spans limit (p ∷ ps) (s ∷ ss) h =
-    let here : span_of p ≡ s.place = ap (λ n. span n (n + length p.bytes)) (sym (h.0).start) ∙ ap (span s.place.start) (sym (h.0).of.long) in
-    let rest : map span_of ps ≡ map (λ (s : StartedValue). s.place) ss = started_spans limit ps ss h.1 in
-    ap (λ (x : Span). x ∷ map span_of ps) here ∙ ap (λ xs. s.place ∷ xs) rest
+    let here : part_span p ≡ s.span = ap (λ n. span n (n + length p.bytes)) (sym (h.0).start) ∙ ap (span s.span.start) (sym (h.0).of.long) in
+    let rest : map part_span ps ≡ map (λ (s : StartedValue). s.span) ss = started_spans limit ps ss h.1 in
+    ap (λ (x : Span). x ∷ map part_span ps) here ∙ ap (λ xs. s.span ∷ xs) rest
 
 pub places_are : (bytes : List ℕ) (before : TextRunValue) (m : Option MarkedValue) → IsSummary bytes before m
-    → map span_of (elements before.map.start bytes) ≡ element_places before m
+    → map part_span (elements before.map.start bytes) ≡ element_spans before m
 places_are bytes before None h =
-    ap (map span_of) (elements_plain before.map.start bytes h.0)
+    ap (map part_span) (elements_plain before.map.start bytes h.0)
     ∙ one_span (part before.map.start bytes)
     ∙ ap filled_span (run_span before before.map.start bytes refl h.1)
 places_are bytes before (Some m) h =
     let k = h.1 in
     let first = filled (part before.map.start (before_separator bytes) ∷ []) in
-    ap (map span_of) (elements_marked before.map.start bytes k.between k.last k.parts)
-    ∙ map-append span_of first (filled k.between ++ filled (k.last ∷ []))
-    ∙ ap (λ xs. xs ++ map span_of (filled k.between ++ filled (k.last ∷ [])))
+    ap (map part_span) (elements_marked before.map.start bytes k.between k.last k.parts)
+    ∙ map-append part_span first (filled k.between ++ filled (k.last ∷ []))
+    ∙ ap (λ xs. xs ++ map part_span (filled k.between ++ filled (k.last ∷ [])))
     (one_span (part before.map.start (before_separator bytes)) ∙ ap filled_span (run_span before before.map.start (before_separator bytes) refl h.0))
-    ∙ ap (λ xs. filled_span (place_of before) ++ xs)
-    (map-append span_of (filled k.between) (filled (k.last ∷ []))
-    ∙ ap (λ xs. xs ++ map span_of (filled (k.last ∷ []))) (started_spans before.limit (filled k.between) m.done k.done)
-    ∙ ap (λ xs. map (λ (s : StartedValue). s.place) m.done ++ xs) (one_span k.last ∙ ap filled_span (run_span m.after k.last.at k.last.bytes k.start k.after)))
+    ∙ ap (λ xs. filled_span (text_span before) ++ xs)
+    (map-append part_span (filled k.between) (filled (k.last ∷ []))
+    ∙ ap (λ xs. xs ++ map part_span (filled (k.last ∷ []))) (started_spans before.depth (filled k.between) m.done k.done)
+    ∙ ap (λ xs. map (λ (s : StartedValue). s.span) m.done ++ xs) (one_span k.last ∙ ap filled_span (run_span m.after k.last.at k.last.bytes k.start k.after)))

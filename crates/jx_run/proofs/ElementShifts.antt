@@ -50,7 +50,7 @@ moved_between law limit by n (p ∷ ps) es low q z = pick (has_bytes p) es (λ e
 
 -- what stands behind the first separator
 pub marked_shifts : Verdicts → (limit by start at : ℕ) (xs : List ℕ) (m new : MarkedElementsValue) → by + (start + length xs) < 2 ^ 64 → at ≡ by + start → AreMarked limit (after_separators start xs) m
-    → new.done ≡ map (moved by) m.done → new.after.outcomes.start ≡ by + m.after.outcomes.start → new.after.outcomes.limit ≡ m.after.outcomes.limit
+    → new.done ≡ map (moved by) m.done → new.after.outcomes.start ≡ by + m.after.outcomes.start → new.after.outcomes.depth ≡ m.after.outcomes.depth
     → ((bytes : List ℕ) → IsPartRun bytes m.after → IsPartRun bytes new.after) → AreMarked limit (after_separators at xs) new
 marked_shifts law limit by start at xs m new low there h done place deep of =
     let marked = h.marked in

@@ -3,7 +3,7 @@ use Rattle.std.proofs.Common.{◌≡◌, ℕ, ◌+◌, ◌-◌, ◌<◌, ◌≤�
 use Rattle.std.proofs.lemmas.List.Elements.{filter-append}
 use Rattle.std.specs.List.{AllZip}
 use Rattle.std.specs.Prelude.{slice_get, slice_range}
-use Rattle.jx_lex.specs.declared.span.Span.{Span}
+use Rattle.jx_summary.specs.declared.span.Span.{Span}
 use Rattle.jx_run.specs.declared.element_verdict.ElementVerdict.{ElementVerdict}
 use Rattle.jx_run.specs.declared.element_verdict.ElementVerdict.TheVariants as element
 use Rattle.jx_run.specs.declared.element_verdict.JudgedElement.{JudgedElement}
@@ -12,7 +12,7 @@ use Rattle.jx_run.specs.declared.verdict.Verdict.TheVariants.{Accepted, Refused}
 use Rattle.jx_run.specs.Elements.{Part, part, before_separator, after_separators, filled, has_bytes, elements}
 use Rattle.jx_run.specs.ElementVerdict.{IsVerdictOn, IsJudgedElement, told}
 use Rattle.jx_run.specs.ElementsRun.{PartRunValue, MarkedElementsValue, IsPartRun, AreMarked, IsSummaryOf}
-use Rattle.jx_run.specs.OutcomeRun.{place_of}
+use Rattle.jx_run.specs.OutcomeRun.{outcome_span}
 use Rattle.jx_run.specs.Text.{IsDocument}
 use Rattle.jx_run.specs.Tree.{Tree, span}
 use Rattle.jx_run.specs.Unclosed.{is_open, last_open, ends_open}
@@ -72,14 +72,14 @@ judged_element limit at bytes start end v loose t s e low j is h =
 
 -- ---- two neighbouring parts
 
-pub loose_right : (xs ys : List ℕ) (r : PartRunValue) (place : Span) → place ≡ place_of r.outcomes → place.start < place.end → IsPartRun ys r → r.loose ≡ ends_open (xs ++ ys)
+pub loose_right : (xs ys : List ℕ) (r : PartRunValue) (place : Span) → place ≡ outcome_span r.outcomes → place.start < place.end → IsPartRun ys r → r.loose ≡ ends_open (xs ++ ys)
 loose_right xs ys r place e low k =
     let start : place.start ≡ r.outcomes.start = ap (λ (s : Span). s.start) e in
     let end : place.end ≡ r.outcomes.end = ap (λ (s : Span). s.end) e in
     let long = k.outcomes.long in
     k.loose ∙ sym (ends-right xs ys (omega (arith, start, end, long, low)))
 
-pub loose_left : (xs ys : List ℕ) (l r : PartRunValue) (place : Span) → place ≡ place_of r.outcomes → place.end ≤ place.start → IsPartRun xs l → IsPartRun ys r
+pub loose_left : (xs ys : List ℕ) (l r : PartRunValue) (place : Span) → place ≡ outcome_span r.outcomes → place.end ≤ place.start → IsPartRun xs l → IsPartRun ys r
     → l.loose ≡ ends_open (xs ++ ys)
 loose_left xs ys l r place e low h k =
     let start : place.start ≡ r.outcomes.start = ap (λ (s : Span). s.start) e in
@@ -90,7 +90,7 @@ loose_left xs ys l r place e low h k =
 -- ---- what stands behind a mark
 
 pub behind_read : (limit : ℕ) (text : List ℕ) (start from end : ℕ) (done : List JudgedElement) (after : PartRunValue) → 0 < from → after_separators from (slice_range text from end) ≡ []
-    → after.outcomes.start ≡ from → after.outcomes.limit ≡ limit → IsPartRun (slice_range text from end) after
+    → after.outcomes.start ≡ from → after.outcomes.depth ≡ limit → IsPartRun (slice_range text from end) after
     → IsReadTo (IsJudgedElement limit) (rest_at text start end) (rest_at text from end) done → AreMarked limit (rest_at text start end) (record { done = done; after = after })
 behind_read limit text start from end done after low none here deep of so_far =
     record {
@@ -112,8 +112,8 @@ with_last limit behind m h more z =
     (AllZip-append R (filled h.between) (filled (h.last ∷ [])) m.done more h.done z)
 
 -- the last part, where it is not empty
-pub last_judged : (limit : ℕ) (behind : List Part) (m : MarkedElementsValue) (h : AreMarked limit behind m) (place : Span) (e : JudgedElement) → place ≡ place_of m.after.outcomes
-    → place.start < place.end → ((bytes : List ℕ) → 0 < m.after.outcomes.start → IsPartRun bytes m.after → IsJudgedElement m.after.outcomes.limit (part m.after.outcomes.start bytes) e)
+pub last_judged : (limit : ℕ) (behind : List Part) (m : MarkedElementsValue) (h : AreMarked limit behind m) (place : Span) (e : JudgedElement) → place ≡ outcome_span m.after.outcomes
+    → place.start < place.end → ((bytes : List ℕ) → 0 < m.after.outcomes.start → IsPartRun bytes m.after → IsJudgedElement m.after.outcomes.depth (part m.after.outcomes.start bytes) e)
     → AllZip (IsJudgedElement limit) (filled behind) (m.done ++ e ∷ [])
 last_judged limit behind m h place e is low judged =
     let start : place.start ≡ m.after.outcomes.start = ap (λ (s : Span). s.start) is in
@@ -124,7 +124,7 @@ last_judged limit behind m h place e is low judged =
     (one_reading (IsJudgedElement limit) h.last e (omega (arith, start, end, long, low))
     (subst (λ n. IsJudgedElement limit (part n h.last.bytes) e) h.start (subst (λ n. IsJudgedElement n (part m.after.outcomes.start h.last.bytes) e) h.depth one)))
 
-pub last_empty : (limit : ℕ) (behind : List Part) (m : MarkedElementsValue) (h : AreMarked limit behind m) (place : Span) → place ≡ place_of m.after.outcomes
+pub last_empty : (limit : ℕ) (behind : List Part) (m : MarkedElementsValue) (h : AreMarked limit behind m) (place : Span) → place ≡ outcome_span m.after.outcomes
     → place.end ≤ place.start → AllZip (IsJudgedElement limit) (filled behind) m.done
 last_empty limit behind m h place is low =
     let start : place.start ≡ m.after.outcomes.start = ap (λ (s : Span). s.start) is in
@@ -139,20 +139,20 @@ pub unmarked_rest : (bytes : List ℕ) (before : PartRunValue) (m : Option Marke
 unmarked_rest bytes before m e h = (subst (IsSummaryOf bytes before) e h).0
 
 pub marked_rest : (bytes : List ℕ) (before : PartRunValue) (m : Option MarkedElementsValue) (x : MarkedElementsValue) → m ≡ Some x → IsSummaryOf bytes before m
-    → AreMarked before.outcomes.limit (after_separators before.outcomes.start bytes) x
+    → AreMarked before.outcomes.depth (after_separators before.outcomes.start bytes) x
 marked_rest bytes before m x e h = (subst (IsSummaryOf bytes before) e h).1
 
 first_part : (bytes : List ℕ) (before : PartRunValue) (m : Option MarkedElementsValue) → IsSummaryOf bytes before m → IsPartRun (before_separator bytes) before
 first_part bytes before None h = subst (λ t. IsPartRun t before) (sym (unmarked-before bytes before.outcomes.start h.0)) h.1
 first_part bytes before (Some m) h = h.0
 
-first_long : (bytes : List ℕ) (before : PartRunValue) (m : Option MarkedElementsValue) (place : Span) → place ≡ place_of before.outcomes → before.outcomes.start ≡ 0
+first_long : (bytes : List ℕ) (before : PartRunValue) (m : Option MarkedElementsValue) (place : Span) → place ≡ outcome_span before.outcomes → before.outcomes.start ≡ 0
     → IsSummaryOf bytes before m → place ≡ span 0 (length (before_separator bytes))
 first_long bytes before m place is zero h =
     let long = (first_part bytes before m h).outcomes.long in
     is ∙ ap (λ n. span n before.outcomes.end) zero ∙ ap (span 0) (let e : before.outcomes.end ≡ length (before_separator bytes) = omega (arith, long, zero) in e)
 
-module _ (bytes : List ℕ) (before : PartRunValue) (m : Option MarkedElementsValue) (place : Span) (is : place ≡ place_of before.outcomes) (starts : before.outcomes.start ≡ 0)
+module _ (bytes : List ℕ) (before : PartRunValue) (m : Option MarkedElementsValue) (place : Span) (is : place ≡ outcome_span before.outcomes) (starts : before.outcomes.start ≡ 0)
     (h : IsSummaryOf bytes before m) (limit : ℕ) (rest : List JudgedElement) (z : AllZip (IsJudgedElement limit) (filled (after_separators before.outcomes.start bytes)) rest) where
   abbrev first : Part
   first = part 0 (before_separator bytes)

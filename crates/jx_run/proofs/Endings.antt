@@ -2,10 +2,10 @@
 use Rattle.std.proofs.Common.{◌≡◌, ℕ, suc, ◌+◌, ◌≤◌, ◌<◌, List, [], ◌∷◌, length, take, Option, Some, None, Bool, true, false, cond, drop, refl, sym, ap, subst, ◌∙◌, arith}
 use Rattle.std.specs.Prelude.{nat_lt}
 use Rattle.std.proofs.lemmas.Bool.Decides.{nat_tests}
-use Rattle.jx_lex.specs.declared.state.LexState.{LexState}
-use Rattle.jx_lex.specs.declared.state.LexState.TheVariants as state
-use Rattle.jx_lex.specs.declared.mark.MarkKind.{MarkKind}
-use Rattle.jx_lex.specs.declared.state.Step.{Step}
+use Rattle.jx_lex.specs.declared.alphabet.state.LexState.{LexState}
+use Rattle.jx_lex.specs.declared.alphabet.state.LexState.TheVariants as state
+use Rattle.jx_lex.specs.declared.alphabet.mark.MarkKind.{MarkKind}
+use Rattle.jx_lex.specs.declared.alphabet.state.Step.{Step}
 use Rattle.jx_lex.specs.Moves.{move, as_gap}
 use Rattle.jx_lex.specs.Classes.{class_at}
 use Rattle.jx_lex.specs.TokenStates.{in_token}
@@ -14,7 +14,7 @@ use Rattle.jx_reduce.specs.declared.expect.Expect.{Expect}
 use Rattle.jx_reduce.specs.declared.holder.Holder.{Holder}
 use Rattle.jx_reduce.specs.Read.{top}
 use Rattle.jx_run.specs.inside.Turns.{Turn, wrong, on, enter, leave, turn}
-use Rattle.jx_run.specs.Reading.{Outcome, went, stopped, too_deep}
+use Rattle.jx_run.specs.Reading.{TextReading, went, stopped, too_deep}
 use Rattle.jx_run.proofs.Fused.{after_turn, run, on_step}
 use Rattle.jx_run.proofs.Lexical.{TokensAreRead, gap_of}
 
@@ -57,7 +57,7 @@ moves_ok law s b = pick (in_token s) refl
     pick false h = subst (λ (x : LexState). BeginOk (move x b)) (sym (gap_of s h)) (gap_ok law b)
 
 abbrev More : Type 0
-More = LexState → Expect → List Holder → Outcome
+More = LexState → Expect → List Holder → TextReading
 
 -- at this depth the byte goes on, and so it does at any greater one; or it is a fault at each depth; or it opens one container too many
 data StepKind (limit : ℕ) (e : Expect) (o : List Holder) (st : Step) : Type 0 where
@@ -66,10 +66,10 @@ data StepKind (limit : ℕ) (e : Expect) (o : List Holder) (st : Step) : Type 0 
   deepens : (s' : LexState) (e' : Expect) (o' : List Holder) → limit ≤ length o → ((at : ℕ) (more : More) → on_step limit at e o st more ≡ too_deep at)
       → ((d at : ℕ) (more : More) → length o < d → on_step d at e o st more ≡ more s' e' o') → StepKind limit e o st
 
-entered : (d m : ℕ) (x y : Outcome) → m < d → cond (nat_lt m d) x y ≡ x
+entered : (d m : ℕ) (x y : TextReading) → m < d → cond (nat_lt m d) x y ≡ x
 entered d m x y lt = grind (arith, nat_tests)
 
-refused : (d m : ℕ) (x y : Outcome) → d ≤ m → cond (nat_lt m d) x y ≡ y
+refused : (d m : ℕ) (x y : TextReading) → d ≤ m → cond (nat_lt m d) x y ≡ y
 refused d m x y le = grind (arith, nat_tests)
 
 turn_kind : (limit : ℕ) (e : Expect) (o : List Holder) (end : _) (k : MarkKind) (s' : LexState) (t : Turn) → turn k e (top o) ≡ t
@@ -106,7 +106,7 @@ pub data Ending (limit : ℕ) (s : LexState) (e : Expect) (o : List Holder) (t :
       → ((at : ℕ) → run limit s e o at (take (suc k) t) ≡ too_deep (at + k))
       → (d : ℕ) (s'' : LexState) (e'' : Expect) (o'' : List Holder) → limit ≤ d → ((at : ℕ) → run d s e o at (take (suc k) t) ≡ went s'' e'' o'') → Ending limit s e o t
 
-later : (f : ℕ → Outcome) (at k : ℕ) → f (suc at + k) ≡ f (at + suc k)
+later : (f : ℕ → TextReading) (at k : ℕ) → f (suc at + k) ≡ f (at + suc k)
 later f at k = ap f (omega arith)
 
 pub ending : TokensAreRead → (limit : ℕ) (t : List ℕ) (s : LexState) (e : Expect) (o : List Holder) → Ending limit s e o t
@@ -123,7 +123,7 @@ ending law limit (b ∷ t) s e o = by_kind (step_kind limit e o (move s b) (move
         is_deep (suc k) (omega arith) s1 e1 o1 (λ at. h limit at _ (omega arith) ∙ f (suc at) ∙ later too_deep at k) (λ d at le. h d at _ le ∙ g d (suc at) le) (λ at. h limit at _ (omega arith) ∙ p (suc at) ∙ later too_deep at k)
         d s2 e2 o2 le (λ at. h d at _ le ∙ q (suc at))
 
-    here : (f : ℕ → Outcome) (at : ℕ) → f at ≡ f (at + 0)
+    here : (f : ℕ → TextReading) (at : ℕ) → f at ≡ f (at + 0)
     here f at = ap f (omega arith)
 
     by_kind : StepKind limit e o (move s b) → ((s' : LexState) (e' : Expect) (o' : List Holder) → Ending limit s' e' o' t) → Ending limit s e o (b ∷ t)

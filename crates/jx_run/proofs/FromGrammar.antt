@@ -3,10 +3,10 @@ use Rattle.std.proofs.Common.{◌≡◌, ℕ, suc, ◌+◌, ◌≤◌, ◌<◌, 
 use Rattle.std.proofs.lemmas.Bool.Decides.{nat_tests}
 use Rattle.jx_lex.specs.declared.kind.Kind.{Kind}
 use Rattle.jx_lex.specs.declared.kind.Kind.TheVariants as kind
-use Rattle.jx_lex.specs.declared.state.LexState.{LexState}
-use Rattle.jx_lex.specs.declared.state.LexState.TheVariants as state
-use Rattle.jx_lex.specs.declared.mark.MarkKind.{MarkKind}
-use Rattle.jx_lex.specs.declared.mark.MarkKind.TheVariants as mark
+use Rattle.jx_lex.specs.declared.alphabet.state.LexState.{LexState}
+use Rattle.jx_lex.specs.declared.alphabet.state.LexState.TheVariants as state
+use Rattle.jx_lex.specs.declared.alphabet.mark.MarkKind.{MarkKind}
+use Rattle.jx_lex.specs.declared.alphabet.mark.MarkKind.TheVariants as mark
 use Rattle.jx_lex.specs.Classes.{class_at}
 use Rattle.jx_lex.specs.Moves.{move, as_gap}
 use Rattle.jx_lex.specs.Token.{IsBlank, space, tab, line_feed, carriage_return, IsToken}
@@ -17,7 +17,7 @@ use Rattle.jx_reduce.specs.declared.holder.Holder.{Holder}
 use Rattle.jx_reduce.specs.declared.holder.Holder.TheVariants as holder
 use Rattle.jx_reduce.specs.Read.{top}
 use Rattle.jx_run.specs.inside.Turns.{on, enter, turn}
-use Rattle.jx_run.specs.Reading.{Outcome}
+use Rattle.jx_run.specs.Reading.{TextReading}
 use Rattle.jx_run.specs.Tree.{Tree, Children, depth, deepest}
 use Rattle.jx_run.specs.Grammar.{Blanks, no_blanks, blank, Scalar, Value, leaf, empty_array, array, empty_object, object, Items, last_item, item, Members, last_member, member}
 use Rattle.jx_run.proofs.Fused.{after_turn, run, on_step, after_mark, in_next}
@@ -56,7 +56,7 @@ module _ (limit : ℕ) where
       ∙ ap (λ n. run limit last e o n rest) (let x : suc at + length bs ≡ at + suc (length bs) = omega arith in x)
 
   -- where a reading goes on: in a state between tokens or at a number's end
-  pub record Goes (start : Outcome) (e : Expect) (o : List Holder) (at : ℕ) (rest : List ℕ) : Type 0 where
+  pub record Goes (start : TextReading) (e : Expect) (o : List Holder) (at : ℕ) (rest : List ℕ) : Type 0 where
     pub last : LexState
     pub final : IsFinal last
     pub same : start ≡ run limit last e o at rest
@@ -143,15 +143,15 @@ module _ (limit : ℕ) where
             ∙ ap (λ n. run limit r.last next o n rest) (let x : suc i + length r.bytes ≡ j = omega (arith, scalar.end, ap length r.whole) in x);
       }
 
-  pub from : {a b : Outcome} {e : Expect} {o : List Holder} {at : ℕ} {rest : List ℕ} → a ≡ b → Goes b e o at rest → Goes a e o at rest
+  pub from : {a b : TextReading} {e : Expect} {o : List Holder} {at : ℕ} {rest : List ℕ} → a ≡ b → Goes b e o at rest → Goes a e o at rest
   from h g = record { last = g.last; final = g.final; same = h ∙ g.same }
 
   -- goes on from whatever state was reached
-  pub next : {a : Outcome} {e e' : Expect} {o o' : List Holder} {i j : ℕ} {t rest : List ℕ} → Goes a e o i t
+  pub next : {a : TextReading} {e e' : Expect} {o o' : List Holder} {i j : ℕ} {t rest : List ℕ} → Goes a e o i t
       → ((s : LexState) → IsFinal s → Goes (run limit s e o i t) e' o' j rest) → Goes a e' o' j rest
   next g f = from g.same (f g.last g.final)
 
-  opened : (at : ℕ) (o : List Holder) (h : Holder) (first : Expect) (more : Expect → List Holder → Outcome)
+  opened : (at : ℕ) (o : List Holder) (h : Holder) (first : Expect) (more : Expect → List Holder → TextReading)
       → length o < limit → after_turn limit at o (enter h first) more ≡ more first (h ∷ o)
   opened at o h first more lt = grind (arith, nat_tests)
 

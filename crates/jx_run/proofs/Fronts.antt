@@ -3,7 +3,7 @@ use Rattle.std.proofs.Common.{◌≡◌, ◌≢◌, ℕ, zero, suc, ◌+◌, ◌
 use Rattle.std.specs.Prelude.{◌==◌}
 use Rattle.std.proofs.lemmas.Bool.Decides.{Decides-eqb, nat_tests, not_from_Decides}
 use Rattle.jx_lex.specs.Classes.{class_at}
-use Rattle.jx_lex.specs.declared.state.LexState.TheVariants as state
+use Rattle.jx_lex.specs.declared.alphabet.state.LexState.TheVariants as state
 use Rattle.jx_reduce.specs.declared.expect.Expect.TheVariants as expect
 use Rattle.jx_run.specs.declared.settings.Front.TheVariants as seen
 use Rattle.jx_run.specs.declared.settings.FrontMark.{FrontMark}
@@ -14,7 +14,7 @@ use Rattle.jx_run.specs.declared.verdict.Verdict.TheVariants as verdict
 use Rattle.jx_run.specs.declared.verdict.Refusal.TheVariants as refusal
 use Rattle.jx_run.specs.Front.{agreed, front_by, front_of, IsTold}
 use Rattle.jx_run.specs.Laws.{IsAccepting, IsNoFault, verdict_of}
-use Rattle.jx_run.specs.Reading.{Outcome, went, read_text}
+use Rattle.jx_run.specs.Reading.{TextReading, went, read_text}
 use Rattle.jx_run.specs.Reading as reading
 use Rattle.jx_run.specs.Settings.{at_depth, byte_order_mark, BeginsBy, IsDocumentBy, IsFront, IsLongestBeginningBy, JudgedBy}
 use Rattle.jx_run.specs.Settings as by
@@ -38,10 +38,10 @@ begins_none : TokensAreRead → (limit : ℕ) → Begins [] limit
 unfolding run
 begins_none law limit = went→begins law limit 0 [] state.Gap expect.Value [] refl
 
-accepting_no_fault : (r : Outcome) → IsAccepting r → IsNoFault r
+accepting_no_fault : (r : TextReading) → IsAccepting r → IsNoFault r
 accepting_no_fault (went s e o) h = tt
-accepting_no_fault (reading.Outcome.stopped at) h = h
-accepting_no_fault (reading.Outcome.too_deep at) h = h
+accepting_no_fault (reading.TextReading.stopped at) h = h
+accepting_no_fault (reading.TextReading.too_deep at) h = h
 
 document_begins : TokensAreRead → (limit at : ℕ) (t : List ℕ) (tree : Tree) → IsDocument at t limit tree → Begins t limit
 document_begins law limit at t tree d = (begins_law law limit at t).0 (accepting_no_fault (read_text limit at t) (complete_law law limit at t tree d))

@@ -1,8 +1,8 @@
 -- The laws of the reader, at the plain reading.
 use Rattle.std.proofs.Common.{◌≡◌, ℕ, suc, ◌+◌, max, List, [], ◌++◌, take, drop, refl, sym, subst, arith}
-use Rattle.jx_lex.specs.declared.state.LexState.TheVariants as state
+use Rattle.jx_lex.specs.declared.alphabet.state.LexState.TheVariants as state
 use Rattle.jx_reduce.specs.declared.expect.Expect.TheVariants as expect
-use Rattle.jx_run.specs.Reading.{Outcome, went, stopped, too_deep, read_text}
+use Rattle.jx_run.specs.Reading.{TextReading, went, stopped, too_deep, read_text}
 use Rattle.jx_run.specs.Tree.{Tree, span}
 use Rattle.jx_run.specs.Grammar.{Value, leaf, empty_array, array, empty_object, object}
 use Rattle.jx_run.specs.Text.{Begins, IsDocument}
@@ -22,12 +22,12 @@ read_start limit at t = read-run limit state.Gap expect.Value [] at t
 
 -- ---- where the bytes stand changes no reading but its offsets
 
-no_fault : (r : Outcome) → NoFault r → IsNoFault r
+no_fault : (r : TextReading) → NoFault r → IsNoFault r
 no_fault (went s e o) h = tt
 no_fault (stopped at) h = h
 no_fault (too_deep at) h = h
 
-by_no_fault : (r : Outcome) → IsNoFault r → NoFault r
+by_no_fault : (r : TextReading) → IsNoFault r → NoFault r
 by_no_fault (went s e o) h = tt
 by_no_fault (stopped at) h = h
 by_no_fault (too_deep at) h = h
@@ -42,7 +42,7 @@ moved_no_fault law limit a b t n = by_ending (ending law limit t state.Gap expec
 
 -- ---- beginnings
 
-went_begins : TokensAreRead → (limit : ℕ) (t : List ℕ) (r : Outcome) → start_run limit 0 t ≡ r → NoFault r → Begins t limit
+went_begins : TokensAreRead → (limit : ℕ) (t : List ℕ) (r : TextReading) → start_run limit 0 t ≡ r → NoFault r → Begins t limit
 went_begins law limit t (went s e o) h n = went→begins law limit 0 t s e o h
 went_begins law limit t (stopped at) h n = absurd n
 went_begins law limit t (too_deep at) h n = absurd n
@@ -55,12 +55,12 @@ begins_law law limit at t = (
 
 -- ---- texts
 
-accepted_of : (r : Outcome) → IsAccepting r → Accepted r
+accepted_of : (r : TextReading) → IsAccepting r → Accepted r
 accepted_of (went s e o) h = end_accepts s e o (h)
 accepted_of (stopped at) h = absurd h
 accepted_of (too_deep at) h = absurd h
 
-accepting_of : (r : Outcome) → Accepted r → IsAccepting r
+accepting_of : (r : TextReading) → Accepted r → IsAccepting r
 accepting_of (went s e o) h = accepts_end h
 accepting_of (stopped at) h = elim h [ ]
 accepting_of (too_deep at) h = elim h [ ]
@@ -98,7 +98,7 @@ first_fault_law law limit at i t h = by_ending (ending law limit t state.Gap exp
         let is : at + k ≡ i = subst (λ r. IsFaultAt r i) (f at) n in
         (k, sym is, up_to law limit at t k lt s e o (g limit 0 (omega arith)) (λ m. subst NoFault (p 0) m))
 
-abbrev DeepLaw : ℕ → ℕ → ℕ → List ℕ → Outcome → Type 0
+abbrev DeepLaw : ℕ → ℕ → ℕ → List ℕ → TextReading → Type 0
 DeepLaw limit at k t r = (IsTooDeep r → BeginsAtSomeDepth (take (suc k) t)) × (BeginsAtSomeDepth (take (suc k) t) → IsTooDeep r)
 
 pub too_deep_law : TokensAreRead → (limit at k : ℕ) (t : List ℕ) → FaultsAt limit at t (at + k) → DeepLaw limit at k t (read_text limit at t)
@@ -128,7 +128,7 @@ verdict_law law limit at t = subst (λ r. Judged at t limit (verdict_of r)) (sym
 abbrev Completed : ℕ → ℕ → List ℕ → Type 0
 Completed at limit t = (more : List ℕ) × (tree : Tree) × AreBytes more × IsDocument at (t ++ more) limit tree
 
-went_completed : TokensAreRead → (at limit : ℕ) (t : List ℕ) (r : Outcome) → start_run limit at t ≡ r → NoFault r → Completed at limit t
+went_completed : TokensAreRead → (at limit : ℕ) (t : List ℕ) (r : TextReading) → start_run limit at t ≡ r → NoFault r → Completed at limit t
 went_completed law at limit t (went s e o) h n =
     let x = accepts→text law limit at (t ++ completion s e o) (went-accepted limit t state.Gap s expect.Value e [] o at tt h) in
     (completion s e o, x.0, completion-bytes s e o, x.1)

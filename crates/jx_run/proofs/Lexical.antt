@@ -1,8 +1,8 @@
 -- What the law of tokens says.
 use Rattle.std.proofs.Common.{◌≡◌, ℕ, List, true, false, refl}
 use Rattle.jx_lex.specs.declared.kind.Kind.{Kind}
-use Rattle.jx_lex.specs.declared.state.LexState.{LexState}
-use Rattle.jx_lex.specs.declared.state.LexState.TheVariants as state
+use Rattle.jx_lex.specs.declared.alphabet.state.LexState.{LexState}
+use Rattle.jx_lex.specs.declared.alphabet.state.LexState.TheVariants as state
 use Rattle.jx_lex.specs.Moves.{move, go}
 use Rattle.jx_lex.specs.Token.{IsToken}
 use Rattle.jx_lex.specs.TokenStates.{in_token, mark_of, IsRead}

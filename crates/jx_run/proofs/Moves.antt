@@ -2,8 +2,8 @@
 use Rattle.std.proofs.Common.{◌≡◌, ℕ, suc, ◌+◌, ◌^◌, ◌<◌, ◌≤◌, List, [], ◌∷◌, length, map, Bool, true, false, cond, refl, sym, ap, subst, ◌∙◌, arith}
 use Rattle.std.proofs.Math.Nat.{add-suc}
 use Rattle.std.specs.List.{AllZip}
-use Rattle.jx_lex.specs.declared.span.Span.{Span}
-use Rattle.jx_lex.specs.declared.state.LexState.TheVariants as state
+use Rattle.jx_summary.specs.declared.span.Span.{Span}
+use Rattle.jx_lex.specs.declared.alphabet.state.LexState.TheVariants as state
 use Rattle.jx_reduce.specs.declared.expect.Expect.TheVariants as expect
 use Rattle.jx_run.specs.declared.element_verdict.ElementVerdict.{ElementVerdict}
 use Rattle.jx_run.specs.declared.element_verdict.ElementVerdict.TheVariants as element
@@ -16,7 +16,7 @@ use Rattle.jx_run.specs.Elements.{Part, part, is_mark, before_separator, after_s
 use Rattle.jx_run.specs.ElementVerdict.{IsClosedText, IsUnclosedText, IsVerdictOn, IsJudgedElement}
 use Rattle.jx_run.specs.Laws.{is_end, verdict_of}
 use Rattle.jx_run.specs.inside.Moved.{moved, moved_refusal, moved_verdict}
-use Rattle.jx_run.specs.Reading.{Outcome, went, stopped, too_deep, read, read_text}
+use Rattle.jx_run.specs.Reading.{TextReading, went, stopped, too_deep, read, read_text}
 use Rattle.jx_run.specs.ReaderInside.{offset_at, shifted}
 use Rattle.jx_run.specs.Text.{IsDocument}
 use Rattle.jx_run.specs.Tree.{Tree, span}
@@ -29,7 +29,7 @@ use Rattle.jx_run.proofs.VerdictLaws.{one_verdict}
 
 -- ---- readings and verdicts
 
-pub shifted-twice : (a b : ℕ) (r : Outcome) → shifted (a + b) r ≡ shifted a (shifted b r)
+pub shifted-twice : (a b : ℕ) (r : TextReading) → shifted (a + b) r ≡ shifted a (shifted b r)
 shifted-twice a b (went s e o) = refl
 shifted-twice a b (stopped at) = ap (λ (k : ℕ). stopped k) (let e : a + b + at ≡ a + (b + at) = omega arith in e)
 shifted-twice a b (too_deep at) = ap (λ (k : ℕ). too_deep k) (let e : a + b + at ≡ a + (b + at) = omega arith in e)
@@ -48,7 +48,7 @@ grown more (Refused refusal.Truncated) = Refused refusal.Truncated
 grown more (Refused (refusal.TooDeep at)) = Refused (refusal.TooDeep (more + at))
 grown more (Refused (refusal.RepeatedName at)) = Refused (refusal.RepeatedName (more + at))
 
-verdict-shifted : (more : ℕ) (r : Outcome) → verdict_of (shifted more r) ≡ grown more (verdict_of r)
+verdict-shifted : (more : ℕ) (r : TextReading) → verdict_of (shifted more r) ≡ grown more (verdict_of r)
 verdict-shifted more (went s e o) = pick (is_end s e o)
   where
     pick : (b : Bool) → cond b Accepted (Refused refusal.Truncated) ≡ grown more (cond b Accepted (Refused refusal.Truncated))

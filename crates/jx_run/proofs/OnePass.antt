@@ -2,10 +2,10 @@
 use Rattle.std.proofs.Common.{◌≡◌, ℕ, List, [], ◌∷◌, ◌++◌, refl, sym, ◌∙◌, ap, subst, Option, Some, None}
 use Rattle.std.specs.Prelude.{IfSome, unwrap_or}
 use Rattle.std.proofs.lemmas.List.Sums.{fold-append}
-use Rattle.jx_lex.specs.declared.exit.Exit.{Exit}
-use Rattle.jx_lex.specs.declared.exit.Exit.TheVariants as exit
-use Rattle.jx_lex.specs.declared.mark.Mark.{Mark}
-use Rattle.jx_lex.specs.declared.state.LexState.TheVariants as state
+use Rattle.jx_lex.specs.declared.alphabet.lex_exit.LexExit.{LexExit}
+use Rattle.jx_lex.specs.declared.alphabet.lex_exit.LexExit.TheVariants as exit
+use Rattle.jx_lex.specs.declared.alphabet.mark.Mark.{Mark}
+use Rattle.jx_lex.specs.declared.alphabet.state.LexState.TheVariants as state
 use Rattle.jx_lex.specs.Lex as lexical
 use Rattle.jx_lex.specs.Lex.{lex}
 use Rattle.jx_lex.specs.Seen.{Seen, SeesTrack, WantsNoMore}
@@ -21,7 +21,7 @@ use Rattle.jx_run.specs.Verdict.{Judged}
 use Rattle.jx_run.specs.Whole.{verdict_from}
 use Rattle.jx_run.specs.declared.verdict.Verdict.TheVariants as verdict
 use Rattle.jx_run.proofs.LawProofs.{Verdicts}
-use Rattle.jx_lex.specs.declared.mark.MarkKind.TheVariants as kind
+use Rattle.jx_lex.specs.declared.alphabet.mark.MarkKind.TheVariants as kind
 use Rattle.jx_run.proofs.ReaderSteps.{seen_done, stuck}
 use Rattle.jx_run.proofs.RunVerdict.{same_verdict}
 
@@ -56,9 +56,9 @@ both_done stack other fault marks more ends others h = record {
 -- ---- the whole text
 
 -- where the scan ended early the stack met a fault, and no exit matters
-unwrapped : (x : Option Exit) (t : lexical.Exit) (r : Reading) → IfSome x (λ e. exit_of e ≡ t) → (x ≡ None → IsFault r)
+unwrapped : (x : Option LexExit) (t : lexical.LexExit) (r : Reading) → IfSome x (λ e. exit_of e ≡ t) → (x ≡ None → IsFault r)
     → verdict_of (at_exit t r) ≡ verdict_from (unwrap_or x (exit.State state.Gap)) (whole_of r)
-unwrapped (Some e) t r is none = ap (λ (z : lexical.Exit). verdict_of (at_exit z r)) (sym is) ∙ same_verdict e r
+unwrapped (Some e) t r is none = ap (λ (z : lexical.LexExit). verdict_of (at_exit z r)) (sym is) ∙ same_verdict e r
 unwrapped None (lexical.state s) (Reading.went e o) is none = absurd (none refl)
 unwrapped None (lexical.fault i) (Reading.went e o) is none = absurd (none refl)
 unwrapped None (lexical.state s) (Reading.stopped at) is none = refl
@@ -66,7 +66,7 @@ unwrapped None (lexical.fault i) (Reading.stopped at) is none = refl
 unwrapped None (lexical.state s) (Reading.too_deep at) is none = refl
 unwrapped None (lexical.fault i) (Reading.too_deep at) is none = refl
 
-accepted_goes : (x : Exit) (r : Reading) → verdict_from x (whole_of r) ≡ verdict.Accepted → IsFault r → ⊥
+accepted_goes : (x : LexExit) (r : Reading) → verdict_from x (whole_of r) ≡ verdict.Accepted → IsFault r → ⊥
 accepted_goes x (Reading.went e o) h f = f
 accepted_goes (exit.State s) (Reading.stopped at) h f = cc
 accepted_goes (exit.Fault i) (Reading.stopped at) h f = cc
@@ -74,7 +74,7 @@ accepted_goes (exit.State s) (Reading.too_deep at) h f = cc
 accepted_goes (exit.Fault i) (Reading.too_deep at) h f = cc
 
 -- the keepers, once all was scanned
-pub record Scanned (limit from : ℕ) (bytes : List ℕ) (before after : Seen) (old new : Known) (x : Option Exit) (w : Whole) : Type 0 where
+pub record Scanned (limit from : ℕ) (bytes : List ℕ) (before after : Seen) (old new : Known) (x : Option LexExit) (w : Whole) : Type 0 where
   pub depth : old.depth ≡ limit
   pub start : StackHasRead [] old
   pub sees : SeesTrack (λ marks ends. BothHaveSeen before marks ends old) (λ marks ends. BothHaveSeen after marks ends new) (lex state.Gap from bytes)
@@ -90,7 +90,7 @@ both_fault k other ms es seen done =
     let here : k.reading ≡ read_marks k.depth ms stack_start = seen.stack_has.read in
     stuck k.depth 0 0 k.reading (then ∙ fold-append (λ reading mark. step k.depth mark reading) stack_start ms two ∙ ap (read_marks k.depth two) (sym here))
 
-both_seen : (limit from : ℕ) (bytes : List ℕ) (before after : Seen) (old new : Known) (x : Option Exit) (w : Whole) → Scanned limit from bytes before after old new x w → before [] []
+both_seen : (limit from : ℕ) (bytes : List ℕ) (before after : Seen) (old new : Known) (x : Option LexExit) (w : Whole) → Scanned limit from bytes before after old new x w → before [] []
     → BothHaveSeen after (lex state.Gap from bytes).marks (old.depth ∷ (lex state.Gap from bytes).ends) new
 both_seen limit from bytes before after old new x w s none =
     s.sees [] (old.depth ∷ []) (record { stack_has = record { read = s.start; rest = []; depth = refl }; other_has = λ sound. none })
@@ -99,7 +99,7 @@ text_is : (limit from : ℕ) (bytes : List ℕ) → read_text limit from bytes �
 unfolding read
 text_is limit from bytes = refl
 
-pub both_judged : Verdicts → (limit from : ℕ) (bytes : List ℕ) (before after : Seen) (old new : Known) (x : Option Exit) (w : Whole) → Scanned limit from bytes before after old new x w → before [] []
+pub both_judged : Verdicts → (limit from : ℕ) (bytes : List ℕ) (before after : Seen) (old new : Known) (x : Option LexExit) (w : Whole) → Scanned limit from bytes before after old new x w → before [] []
     → Judged from bytes limit (verdict_from (unwrap_or x (exit.State state.Gap)) w)
 both_judged verdict_law limit from bytes before after old new x w s none =
     let track = lex state.Gap from bytes in
@@ -114,7 +114,7 @@ both_judged verdict_law limit from bytes before after old new x w s none =
     ∙ ap (verdict_from (unwrap_or x (exit.State state.Gap))) (sym s.whole))
     (verdict_law limit from bytes)
 
-pub other_seen : (limit from : ℕ) (bytes : List ℕ) (before after : Seen) (old new : Known) (x : Option Exit) (w : Whole) (e : Exit) → Scanned limit from bytes before after old new x w → before [] []
+pub other_seen : (limit from : ℕ) (bytes : List ℕ) (before after : Seen) (old new : Known) (x : Option LexExit) (w : Whole) (e : LexExit) → Scanned limit from bytes before after old new x w → before [] []
     → verdict_from e w ≡ verdict.Accepted → after (lex state.Gap from bytes).marks (lex state.Gap from bytes).ends
 other_seen limit from bytes before after old new x w e s none accepted =
     let track = lex state.Gap from bytes in

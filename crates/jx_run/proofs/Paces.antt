@@ -1,10 +1,10 @@
 -- A scan that pauses is one scan.
 use Rattle.std.proofs.Common.{◌≡◌, ℕ, ◌-◌, ◌≤◌, List, [], ◌++◌, length, drop, take, refl, sym, ap, subst, ◌∙◌, append_assoc, append-nil, arith}
 use Rattle.std.specs.Prelude.{slice_range}
-use Rattle.jx_lex.specs.declared.mark.Mark.{Mark}
-use Rattle.jx_lex.specs.declared.state.LexState.{LexState}
+use Rattle.jx_lex.specs.declared.alphabet.mark.Mark.{Mark}
+use Rattle.jx_lex.specs.declared.alphabet.state.LexState.{LexState}
 use Rattle.jx_lex.specs.Lex as reading
-use Rattle.jx_lex.specs.Lex.{lex, Track, Exit}
+use Rattle.jx_lex.specs.Lex.{lex, Track, LexExit}
 use Rattle.jx_lex.specs.Seen.{GoesTo, Seen, SeesTrack, WantsNoMore}
 use Rattle.jx_lex.specs.TwoParts.{joined, right_of}
 
@@ -15,10 +15,10 @@ InTwo = (text : List ℕ) (a b c : ℕ) (s : LexState) → a ≤ b → b ≤ c �
 
 faulted : (t : Track) (i : ℕ) (right : LexState → Track) → t.exit ≡ reading.fault i → joined t right ≡ t
 faulted t i right h =
-    ap (λ (e : Exit). let r = right_of e right in record { marks = t.marks ++ r.marks; ends = t.ends ++ r.ends; exit = r.exit }) h
+    ap (λ (e : LexExit). let r = right_of e right in record { marks = t.marks ++ r.marks; ends = t.ends ++ r.ends; exit = r.exit }) h
     ∙ ap (λ (ms : List Mark). record { marks = ms; ends = t.ends ++ []; exit = reading.fault i }) (append-nil t.marks)
     ∙ ap (λ (es : List ℕ). record { marks = t.marks; ends = es; exit = reading.fault i }) (append-nil t.ends)
-    ∙ ap (λ (e : Exit). record { marks = t.marks; ends = t.ends; exit = e }) (sym h)
+    ∙ ap (λ (e : LexExit). record { marks = t.marks; ends = t.ends; exit = e }) (sym h)
 
 -- nothing is read of nothing
 pub goes_none : (xs : List ℕ) (a : ℕ) (s : LexState) (seen : Seen) → GoesTo seen seen (lex s a (slice_range xs a a)) s
@@ -54,7 +54,7 @@ module _ (in_two : InTwo) (xs : List ℕ) (a b c : ℕ) (s : LexState) (low : a 
     both_parts : lex s a (slice_range xs a c) ≡ joined (record (lex s a (slice_range xs a b)) { exit = reading.state t }) (λ next. lex next b (slice_range xs b c))
     both_parts =
         in_two xs a b c s low high fits
-        ∙ ap (λ (e : Exit). joined (record (lex s a (slice_range xs a b)) { exit = e }) (λ next. lex next b (slice_range xs b c))) goes
+        ∙ ap (λ (e : LexExit). joined (record (lex s a (slice_range xs a b)) { exit = e }) (λ next. lex next b (slice_range xs b c))) goes
 
     pub exit_then : (lex s a (slice_range xs a c)).exit ≡ (lex t b (slice_range xs b c)).exit
     exit_then = ap (λ (x : Track). x.exit) both_parts

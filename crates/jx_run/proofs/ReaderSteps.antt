@@ -5,13 +5,13 @@ use Rattle.std.specs.Prelude.{slice_range}
 use Rattle.std.proofs.Math.Nat.{add-suc}
 use Rattle.std.proofs.lemmas.List.{length-append, take_all}
 use Rattle.std.proofs.lemmas.List.Sums.{fold-append}
-use Rattle.jx_lex.specs.declared.exit.Exit.{Exit}
-use Rattle.jx_lex.specs.declared.exit.Exit.TheVariants as exit
-use Rattle.jx_lex.specs.declared.mark.Mark.{Mark}
-use Rattle.jx_lex.specs.declared.mark.MarkKind.{MarkKind}
-use Rattle.jx_lex.specs.declared.mark.MarkKind.TheVariants as kind
-use Rattle.jx_lex.specs.declared.state.LexState.{LexState}
-use Rattle.jx_lex.specs.declared.state.LexState.TheVariants as state
+use Rattle.jx_lex.specs.declared.alphabet.lex_exit.LexExit.{LexExit}
+use Rattle.jx_lex.specs.declared.alphabet.lex_exit.LexExit.TheVariants as exit
+use Rattle.jx_lex.specs.declared.alphabet.mark.Mark.{Mark}
+use Rattle.jx_lex.specs.declared.alphabet.mark.MarkKind.{MarkKind}
+use Rattle.jx_lex.specs.declared.alphabet.mark.MarkKind.TheVariants as kind
+use Rattle.jx_lex.specs.declared.alphabet.state.LexState.{LexState}
+use Rattle.jx_lex.specs.declared.alphabet.state.LexState.TheVariants as state
 use Rattle.jx_lex.specs.Lex as lexical
 use Rattle.jx_lex.specs.Lex.{lex}
 use Rattle.jx_lex.specs.Moves.{move}
@@ -27,7 +27,7 @@ use Rattle.jx_reduce.specs.Read.{Reading, top, read as read_marks, step as mark_
 use Rattle.jx_reduce.specs.Whole.{whole_of}
 use Rattle.jx_run.specs.Kept.{HasSeen}
 use Rattle.jx_run.specs.Laws.{IsFaultAt, verdict_of}
-use Rattle.jx_run.specs.Reading.{Outcome, went, stopped, too_deep, at_exit, and_then, read, read_text}
+use Rattle.jx_run.specs.Reading.{TextReading, went, stopped, too_deep, at_exit, and_then, read, read_text}
 use Rattle.jx_run.specs.ReaderInside.{outcome_at, HasMarks, IsOfUse, offset_at, settled, shifted, IsLow, GoesOn}
 use Rattle.jx_run.specs.Reader.{ReaderValue, HasRead}
 use Rattle.jx_run.specs.Verdict.{Judged}
@@ -45,7 +45,7 @@ use Rattle.jx_run.proofs.RunVerdict.{same_verdict}
 
 -- ---- the same bytes further on
 
-turn-shift : (limit b at : ℕ) (o : List Holder) (t : Turn) (g h : Expect → List Holder → Outcome) → ((e : Expect) (p : List Holder) → g e p ≡ shifted b (h e p))
+turn-shift : (limit b at : ℕ) (o : List Holder) (t : Turn) (g h : Expect → List Holder → TextReading) → ((e : Expect) (p : List Holder) → g e p ≡ shifted b (h e p))
     → after_turn limit (b + at) o t g ≡ shifted b (after_turn limit at o t h)
 turn-shift limit b at o wrong g h q = refl
 turn-shift limit b at o (on e) g h q = q e o
@@ -56,12 +56,12 @@ turn-shift limit b at o (enter k e) g h q = pick (nat_lt (length o) limit)
     pick false = refl
 turn-shift limit b at o (leave e) g h q = q e (drop 1 o)
 
-mark-shift : (limit b at : ℕ) (e : Expect) (o : List Holder) (k : Option MarkKind) (g h : Expect → List Holder → Outcome) → ((e : Expect) (p : List Holder) → g e p ≡ shifted b (h e p))
+mark-shift : (limit b at : ℕ) (e : Expect) (o : List Holder) (k : Option MarkKind) (g h : Expect → List Holder → TextReading) → ((e : Expect) (p : List Holder) → g e p ≡ shifted b (h e p))
     → after_mark limit (b + at) e o k g ≡ shifted b (after_mark limit at e o k h)
 mark-shift limit b at e o None g h q = q e o
 mark-shift limit b at e o (Some k) g h q = turn-shift limit b at o (turn k e (top o)) g h q
 
-next-shift : (b at : ℕ) (n : Option LexState) (g h : LexState → Outcome) → ((s : LexState) → g s ≡ shifted b (h s)) → in_next (b + at) n g ≡ shifted b (in_next at n h)
+next-shift : (b at : ℕ) (n : Option LexState) (g h : LexState → TextReading) → ((s : LexState) → g s ≡ shifted b (h s)) → in_next (b + at) n g ≡ shifted b (in_next at n h)
 next-shift b at None g h q = refl
 next-shift b at (Some s) g h q = q s
 
@@ -79,7 +79,7 @@ read-shift limit b s e o xs =
 
 -- ---- a slice behind the bytes that were read
 
-went_of : (x : lexical.Exit) (r : Reading) (s : LexState) (e : Expect) (o : List Holder) → at_exit x r ≡ went s e o → (x ≡ lexical.state s) × (r ≡ Reading.went e o)
+went_of : (x : lexical.LexExit) (r : Reading) (s : LexState) (e : Expect) (o : List Holder) → at_exit x r ≡ went s e o → (x ≡ lexical.state s) × (r ≡ Reading.went e o)
 went_of (lexical.state t) (Reading.went f p) s e o h = (cc, cc)
 went_of (lexical.fault i) (Reading.went f p) s e o h = cc
 went_of (lexical.state t) (Reading.stopped at) s e o h = cc
@@ -91,26 +91,26 @@ pub fed_went : (limit from : ℕ) (bytes slice : List ℕ) (s : LexState) (e : E
     → read_text limit from (bytes ++ slice) ≡ shifted (from + length bytes) (read limit s e o 0 slice)
 fed_went limit from bytes slice s e o h =
     read-append limit bytes slice state.Gap expect.Value [] from (omega arith)
-    ∙ ap (λ (r : Outcome). and_then r (λ s e o. read limit s e o (from + length bytes) slice)) h
+    ∙ ap (λ (r : TextReading). and_then r (λ s e o. read limit s e o (from + length bytes) slice)) h
     ∙ read-shift limit (from + length bytes) s e o slice
 
-pub fed_over : (limit from : ℕ) (bytes slice : List ℕ) (r : Outcome) → ((more : LexState → Expect → List Holder → Outcome) → and_then r more ≡ r) → read_text limit from bytes ≡ r
+pub fed_over : (limit from : ℕ) (bytes slice : List ℕ) (r : TextReading) → ((more : LexState → Expect → List Holder → TextReading) → and_then r more ≡ r) → read_text limit from bytes ≡ r
     → read_text limit from (bytes ++ slice) ≡ r
 fed_over limit from bytes slice r over h =
     read-append limit bytes slice state.Gap expect.Value [] from (omega arith)
-    ∙ ap (λ (r : Outcome). and_then r (λ s e o. read limit s e o (from + length bytes) slice)) h
+    ∙ ap (λ (r : TextReading). and_then r (λ s e o. read limit s e o (from + length bytes) slice)) h
     ∙ over _
 
 -- no fault lies past the bytes
-pub low : FirstFaults → (limit from b : ℕ) (bytes : List ℕ) (r : Outcome) → read_text limit from bytes ≡ shifted b r → from + length bytes < 2 ^ 64 → IsLow b r
+pub low : FirstFaults → (limit from b : ℕ) (bytes : List ℕ) (r : TextReading) → read_text limit from bytes ≡ shifted b r → from + length bytes < 2 ^ 64 → IsLow b r
 low first_fault_law limit from b bytes (went s e o) h fits = tt
 low first_fault_law limit from b bytes (stopped at) h fits =
-    let f = first_fault_law limit from (b + at) bytes (subst (λ (z : Outcome). IsFaultAt z (b + at)) (sym h) refl) in
+    let f = first_fault_law limit from (b + at) bytes (subst (λ (z : TextReading). IsFaultAt z (b + at)) (sym h) refl) in
     let same = f.1 in
     let within = f.2.within in
     omega (arith, same, within)
 low first_fault_law limit from b bytes (too_deep at) h fits =
-    let f = first_fault_law limit from (b + at) bytes (subst (λ (z : Outcome). IsFaultAt z (b + at)) (sym h) refl) in
+    let f = first_fault_law limit from (b + at) bytes (subst (λ (z : TextReading). IsFaultAt z (b + at)) (sym h) refl) in
     let same = f.1 in
     let within = f.2.within in
     omega (arith, same, within)
@@ -120,12 +120,12 @@ low first_fault_law limit from b bytes (too_deep at) h fits =
 fits : (b at : ℕ) → b + at < 2 ^ 64 → offset_at b at ≡ b + at
 fits b at h = omega arith
 
-settle_at : (b : ℕ) (x : Option Exit) (r : Reading) (t : lexical.Exit) → IfSome x (λ e. exit_of e ≡ t) → (x ≡ None → IsFault r) → IsLow b (at_exit t r)
+settle_at : (b : ℕ) (x : Option LexExit) (r : Reading) (t : lexical.LexExit) → IfSome x (λ e. exit_of e ≡ t) → (x ≡ None → IsFault r) → IsLow b (at_exit t r)
     → outcome_at (settled b x (whole_of r)) r ≡ Some (shifted b (at_exit t r))
-settle_at b (Some (exit.State s)) (Reading.went e o) t is none l = ap (λ (z : lexical.Exit). Some (shifted b (at_exit z (Reading.went e o)))) is
+settle_at b (Some (exit.State s)) (Reading.went e o) t is none l = ap (λ (z : lexical.LexExit). Some (shifted b (at_exit z (Reading.went e o)))) is
 settle_at b (Some (exit.Fault at)) (Reading.went e o) t is none l =
-    let m : b + at < 2 ^ 64 = subst (λ (z : lexical.Exit). IsLow b (at_exit z (Reading.went e o))) (sym is) l in
-    ap (λ (k : ℕ). Some (stopped k)) (fits b at m) ∙ ap (λ (z : lexical.Exit). Some (shifted b (at_exit z (Reading.went e o)))) is
+    let m : b + at < 2 ^ 64 = subst (λ (z : lexical.LexExit). IsLow b (at_exit z (Reading.went e o))) (sym is) l in
+    ap (λ (k : ℕ). Some (stopped k)) (fits b at m) ∙ ap (λ (z : lexical.LexExit). Some (shifted b (at_exit z (Reading.went e o)))) is
 settle_at b None (Reading.went e o) t is none l = absurd (none refl)
 settle_at b x (Reading.stopped at) (lexical.state s) is none l = ap (λ (k : ℕ). Some (stopped k)) (fits b at l)
 settle_at b x (Reading.stopped at) (lexical.fault i) is none l = ap (λ (k : ℕ). Some (stopped k)) (fits b at l)
@@ -154,14 +154,14 @@ no_fault (Reading.went f o) e n h i = i
 no_fault (Reading.stopped at) e n h i = cc
 no_fault (Reading.too_deep at) e n h i = cc
 
-use_of : (b : ℕ) (x : Option Exit) (w : Whole) (d : ℕ) (k : Known) → w ≡ whole_of k.reading → HasMarks d k → IsOfUse (settled b x w) d k
+use_of : (b : ℕ) (x : Option LexExit) (w : Whole) (d : ℕ) (k : Known) → w ≡ whole_of k.reading → HasMarks d k → IsOfUse (settled b x w) d k
 use_of b x (whole.Stopped at) d k h m = m
 use_of b x (whole.TooDeep at) d k h m = m
 use_of b (Some (exit.State s)) (whole.Went e n) d k h m = (m, no_fault k.reading e n h)
 use_of b (Some (exit.Fault at)) (whole.Went e n) d k h m = m
 use_of b None (whole.Went e n) d k h m = tt
 
-pub goes_on : (old new : Known) (ms : List Mark) (track : lexical.Track) (b : ℕ) (x : Option Exit) (w : Whole) → StackHasRead ms old
+pub goes_on : (old new : Known) (ms : List Mark) (track : lexical.Track) (b : ℕ) (x : Option LexExit) (w : Whole) → StackHasRead ms old
     → SeesTrack (λ marks ends. HasSeen marks ends old) (λ marks ends. HasSeen marks ends new) track
     → IfSome x (λ e. exit_of e ≡ track.exit) → (x ≡ None → WantsNoMore (λ marks ends. HasSeen marks ends new)) → w ≡ whole_of new.reading
     → GoesOn old track (read_marks old.depth track.marks old.reading) b (settled b x w) new
@@ -209,21 +209,21 @@ fed_slice first_fault_law limit from count bytes slice s old new p deep going go
     ∙ ap (shifted (from + count)) (read_is limit old.depth s a.0 a.1 slice old.reading deep a.2) in
     let all : length (bytes ++ slice) ≡ length bytes + length slice = length-append bytes slice in
     let fits_all : from + length (bytes ++ slice) < 2 ^ 64 = omega arith in
-    goes.outcome (low first_fault_law limit from (from + count) (bytes ++ slice) _ text fits_all) ∙ ap (λ (o : Outcome). Some o) (sym text)
+    goes.outcome (low first_fault_law limit from (from + count) (bytes ++ slice) _ text fits_all) ∙ ap (λ (o : TextReading). Some o) (sym text)
 
 pub fed_stopped : (limit from at : ℕ) (bytes slice : List ℕ) (r : Reading) (p : Progress) → p ≡ Stopped at → outcome_at p r ≡ Some (read_text limit from bytes)
     → outcome_at p r ≡ Some (read_text limit from (bytes ++ slice))
 fed_stopped limit from at bytes slice r p is h =
     let e : Some (stopped at) ≡ Some (read_text limit from bytes) = ap (λ (q : Progress). outcome_at q r) (sym is) ∙ h in
     let f : read_text limit from bytes ≡ stopped at = cc in
-    h ∙ ap (λ (o : Outcome). Some o) (f ∙ sym (fed_over limit from bytes slice (stopped at) (λ more. refl) f))
+    h ∙ ap (λ (o : TextReading). Some o) (f ∙ sym (fed_over limit from bytes slice (stopped at) (λ more. refl) f))
 
 pub fed_too_deep : (limit from at : ℕ) (bytes slice : List ℕ) (r : Reading) (p : Progress) → p ≡ TooDeep at → outcome_at p r ≡ Some (read_text limit from bytes)
     → outcome_at p r ≡ Some (read_text limit from (bytes ++ slice))
 fed_too_deep limit from at bytes slice r p is h =
     let e : Some (too_deep at) ≡ Some (read_text limit from bytes) = ap (λ (q : Progress). outcome_at q r) (sym is) ∙ h in
     let f : read_text limit from bytes ≡ too_deep at = cc in
-    h ∙ ap (λ (o : Outcome). Some o) (f ∙ sym (fed_over limit from bytes slice (too_deep at) (λ more. refl) f))
+    h ∙ ap (λ (o : TextReading). Some o) (f ∙ sym (fed_over limit from bytes slice (too_deep at) (λ more. refl) f))
 
 -- at the start nothing is read
 pub at_start : (limit from : ℕ) (r : Reading) → r ≡ stack_start → outcome_at (Going state.Gap) r ≡ Some (read_text limit from [])
@@ -252,22 +252,22 @@ seen_done k f marks more ends others seen =
 -- ---- verdicts
 
 pub judged_going : Verdicts → (v : ReaderValue) (p : Progress) (s : LexState) (r : Reading) (w : Whole) (bytes : List ℕ) (x : Verdict) → p ≡ Going s → outcome_at p r ≡ v.outcome → w ≡ whole_of r
-    → x ≡ verdict_from (exit.State s) w → HasRead bytes v → Judged v.start bytes v.limit x
+    → x ≡ verdict_from (exit.State s) w → HasRead bytes v → Judged v.start bytes v.depth x
 judged_going verdict_law v p s r w bytes x is same all from h =
-    let e : Some (at_exit (lexical.state s) r) ≡ Some (read_text v.limit v.start bytes) = ap (λ (q : Progress). outcome_at q r) (sym is) ∙ same ∙ h.outcome in
-    let f : read_text v.limit v.start bytes ≡ at_exit (lexical.state s) r = cc in
-    subst (Judged v.start bytes v.limit) (ap verdict_of f ∙ same_verdict (exit.State s) r ∙ ap (verdict_from (exit.State s)) (sym all) ∙ sym from) (verdict_law v.limit v.start bytes)
+    let e : Some (at_exit (lexical.state s) r) ≡ Some (read_text v.depth v.start bytes) = ap (λ (q : Progress). outcome_at q r) (sym is) ∙ same ∙ h.outcome in
+    let f : read_text v.depth v.start bytes ≡ at_exit (lexical.state s) r = cc in
+    subst (Judged v.start bytes v.depth) (ap verdict_of f ∙ same_verdict (exit.State s) r ∙ ap (verdict_from (exit.State s)) (sym all) ∙ sym from) (verdict_law v.depth v.start bytes)
 
 pub judged_stopped : Verdicts → (v : ReaderValue) (p : Progress) (at : ℕ) (r : Reading) (bytes : List ℕ) → p ≡ Stopped at → outcome_at p r ≡ v.outcome → HasRead bytes v
-    → Judged v.start bytes v.limit (verdict.Refused (refusal.Stopped at))
+    → Judged v.start bytes v.depth (verdict.Refused (refusal.Stopped at))
 judged_stopped verdict_law v p at r bytes is same h =
-    let e : Some (stopped at) ≡ Some (read_text v.limit v.start bytes) = ap (λ (q : Progress). outcome_at q r) (sym is) ∙ same ∙ h.outcome in
-    let f : read_text v.limit v.start bytes ≡ stopped at = cc in
-    subst (Judged v.start bytes v.limit) (ap verdict_of f) (verdict_law v.limit v.start bytes)
+    let e : Some (stopped at) ≡ Some (read_text v.depth v.start bytes) = ap (λ (q : Progress). outcome_at q r) (sym is) ∙ same ∙ h.outcome in
+    let f : read_text v.depth v.start bytes ≡ stopped at = cc in
+    subst (Judged v.start bytes v.depth) (ap verdict_of f) (verdict_law v.depth v.start bytes)
 
 pub judged_too_deep : Verdicts → (v : ReaderValue) (p : Progress) (at : ℕ) (r : Reading) (bytes : List ℕ) → p ≡ TooDeep at → outcome_at p r ≡ v.outcome → HasRead bytes v
-    → Judged v.start bytes v.limit (verdict.Refused (refusal.TooDeep at))
+    → Judged v.start bytes v.depth (verdict.Refused (refusal.TooDeep at))
 judged_too_deep verdict_law v p at r bytes is same h =
-    let e : Some (too_deep at) ≡ Some (read_text v.limit v.start bytes) = ap (λ (q : Progress). outcome_at q r) (sym is) ∙ same ∙ h.outcome in
-    let f : read_text v.limit v.start bytes ≡ too_deep at = cc in
-    subst (Judged v.start bytes v.limit) (ap verdict_of f) (verdict_law v.limit v.start bytes)
+    let e : Some (too_deep at) ≡ Some (read_text v.depth v.start bytes) = ap (λ (q : Progress). outcome_at q r) (sym is) ∙ same ∙ h.outcome in
+    let f : read_text v.depth v.start bytes ≡ too_deep at = cc in
+    subst (Judged v.start bytes v.depth) (ap verdict_of f) (verdict_law v.depth v.start bytes)

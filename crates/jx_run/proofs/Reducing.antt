@@ -5,13 +5,13 @@ use Rattle.std.proofs.lemmas.Bool.Decides.{Decides-eqb, nat_tests, not_from_Deci
 use Rattle.std.proofs.lemmas.List.{get_or_append_left, get_or_default, get_or-set_same, get_or-set_other, length-append, length-set}
 use Rattle.std.proofs.Math.Seq.{take-suc}
 use Rattle.std.proofs.lemmas.List.Concat.{flat_map-cons}
-use Rattle.jx_lex.specs.declared.exit.Exit.{Exit}
-use Rattle.jx_lex.specs.declared.link.Link.{Link}
-use Rattle.jx_lex.specs.declared.link.Link.TheVariants.{Ahead, State, Fault}
+use Rattle.jx_lex.specs.declared.alphabet.lex_exit.LexExit.{LexExit}
+use Rattle.jx_lex.specs.declared.map.link.Link.{Link}
+use Rattle.jx_lex.specs.declared.map.link.Link.TheVariants.{Ahead, State, Fault}
 use Rattle.std.proofs.lemmas.List.Elements.{All-append, All-cons, All-nil}
-use Rattle.jx_lex.specs.declared.mark.Mark.{Mark}
-use Rattle.jx_lex.specs.declared.mark.MarkKind.{MarkKind}
-use Rattle.jx_lex.specs.declared.state.LexState.{LexState}
+use Rattle.jx_lex.specs.declared.alphabet.mark.Mark.{Mark}
+use Rattle.jx_lex.specs.declared.alphabet.mark.MarkKind.{MarkKind}
+use Rattle.jx_lex.specs.declared.alphabet.state.LexState.{LexState}
 use Rattle.std.proofs.lemmas.Option.{get_or_from_slice_get, slice_get_within, slice_get-get_or}
 use Rattle.jx_lex.specs.Follow.{Part}
 use Rattle.jx_lex.specs.Lex.{lex, on_next, with_mark, Track}
@@ -29,7 +29,7 @@ use Rattle.jx_run.specs.declared.way.Way.{Way}
 use Rattle.jx_run.specs.Reading.{at_exit, read}
 use Rattle.jx_run.specs.inside.Reduced.{AreInside, AreNumbered, AreReduced, AreRising, AreWaysOf, IsAt, IsReduced, IsWayOf, path_at}
 use Rattle.jx_run.specs.inside.Joins.{IsAbove}
-use Rattle.jx_run.specs.OutcomeRun.{OutcomeRunValue, IsOutcomeRun, IsWithin, outcome_in}
+use Rattle.jx_run.specs.OutcomeRun.{OutcomeRunValue, IsOutcomeRun, IsFormWithin, outcome_in}
 use Rattle.jx_run.proofs.StateOrder.{state-at}
 use Rattle.jx_run.proofs.Ways.{all_at, at_end, entries_are}
 
@@ -309,7 +309,7 @@ set_numbered limit ps numbers olds news k j low h up new n i e = pick (n == k) r
         at_above limit (flat_map (marks_at ps) (path_at ps n)) olds news i up
         (h n i (slice_get-get_or numbers n None low' ∙ ap Some (sym (get_or-set_other numbers k n (Some j) None other) ∙ is)))
 
-pub reduced_within : (limit low high : ℕ) (marks : List Mark) (f : Forms) → IsReduced limit marks f → EachIn (λ (m : Mark). (low ≤ m.at) × (m.at < high)) marks → IsWithin limit low high f
+pub reduced_within : (limit low high : ℕ) (marks : List Mark) (f : Forms) → IsReduced limit marks f → EachIn (λ (m : Mark). (low ≤ m.at) × (m.at < high)) marks → IsFormWithin limit low high f
 reduced_within limit low high marks f h inside = record { depth = h.depth; offsets = h.offsets low high inside }
 
 pub all_push : {X : Type 0} (P : X → Type 0) (xs : List X) (x : X) → All P xs → P x → All P (xs ++ x ∷ [])
@@ -367,7 +367,7 @@ module _ (limit : ℕ) (m : Map) where
 
 -- ---- the run of the bytes
 
-outcome_is : (limit : ℕ) (s : LexState) (start : ℕ) (bytes : List ℕ) (t : Track) (x : Exit) (f : Forms) → t ≡ lex s start bytes → exit_of x ≡ t.exit → IsReduced limit t.marks f
+outcome_is : (limit : ℕ) (s : LexState) (start : ℕ) (bytes : List ℕ) (t : Track) (x : LexExit) (f : Forms) → t ≡ lex s start bytes → exit_of x ≡ t.exit → IsReduced limit t.marks f
     → (e : Expect) (o : List Holder) → length o ≤ limit → at_exit (exit_of x) (answer f e o) ≡ read limit s e o start bytes
 unfolding read
 outcome_is limit s start bytes t x f same ends a e o h =
@@ -377,14 +377,14 @@ outcome_is limit s start bytes t x f same ends a e o h =
     ∙ ap (λ (t : Track). at_exit t.exit (read_marks limit t.marks (Reading.went e o))) same
 
 pub outcomes_are_of : (run : OutcomeRunValue) (map : Map) (bytes : List ℕ) → run.start ≡ map.start → run.end ≡ map.end → Map.IsOf bytes map
-    → AreWaysOf run.limit map run.structures all_states run.ways → IsOutcomeRun bytes run
+    → AreWaysOf run.depth map run.structures all_states run.ways → IsOutcomeRun bytes run
 outcomes_are_of run map bytes start end h a =
     record {
       long = end ∙ h.long ∙ ap (λ n. n + length bytes) (sym start);
       outcomes = λ s e o short.
-          let w = each-at run.limit map run.structures all_states run.ways a (ordinal s) s (state-at s) in
+          let w = each-at run.depth map run.structures all_states run.ways a (ordinal s) s (state-at s) in
           let k = (w.2).marks in
           ap (λ z. outcome_in z e o) (entries_are run s w.0 k.form w.1 k.at)
-          ∙ outcome_is run.limit s map.start bytes (track map s) (w.0).exit k.form (h.tracks s) (w.2).exit k.of e o short
-          ∙ ap (λ n. read run.limit s e o n bytes) (sym start);
+          ∙ outcome_is run.depth s map.start bytes (track map s) (w.0).exit k.form (h.tracks s) (w.2).exit k.of e o short
+          ∙ ap (λ n. read run.depth s e o n bytes) (sym start);
     }

@@ -7,11 +7,11 @@ use Rattle.std.proofs.lemmas.Bool.Decides.{nat_tests}
 use Rattle.std.proofs.lemmas.List.Sums.{fold-append}
 use Rattle.std.proofs.lemmas.Result.{IfOk-weaker}
 use Rattle.std.proofs.lemmas.Option.{get_or_from_slice_get, slice_get_within}
-use Rattle.jx_lex.specs.declared.exit.Exit.{Exit}
-use Rattle.jx_lex.specs.declared.exit.Exit.TheVariants as exit
-use Rattle.jx_lex.specs.declared.mark.Mark.{Mark}
-use Rattle.jx_lex.specs.declared.mark.MarkKind.TheVariants as kind
-use Rattle.jx_lex.specs.declared.state.LexState.{LexState}
+use Rattle.jx_lex.specs.declared.alphabet.lex_exit.LexExit.{LexExit}
+use Rattle.jx_lex.specs.declared.alphabet.lex_exit.LexExit.TheVariants as exit
+use Rattle.jx_lex.specs.declared.alphabet.mark.Mark.{Mark}
+use Rattle.jx_lex.specs.declared.alphabet.mark.MarkKind.TheVariants as kind
+use Rattle.jx_lex.specs.declared.alphabet.state.LexState.{LexState}
 use Rattle.jx_lex.specs.Lex as lexical
 use Rattle.jx_lex.specs.Lex.{lex}
 use Rattle.jx_lex.specs.Ordinal.{all_states, ordinal}
@@ -26,7 +26,7 @@ use Rattle.jx_reduce.specs.Reducer.{ReducerValue, HasReduced}
 use Rattle.jx_reduce.specs.Reductions.{Forms, IsOf, SpansIn, answer}
 use Rattle.jx_run.specs.declared.way.Way.{Way}
 use Rattle.jx_run.specs.inside.Joins.{IsAbove}
-use Rattle.jx_run.specs.OutcomeRun.{OutcomeRunValue, exit_at, outcome_in, outcome_of, IsOutcomeRun, IsWhole, IsWithin}
+use Rattle.jx_run.specs.OutcomeRun.{OutcomeRunValue, exit_at, outcome_in, outcome_of, IsOutcomeRun, IsWellFormed, IsFormWithin}
 use Rattle.jx_run.specs.Reading.{at_exit, read}
 use Rattle.jx_run.specs.inside.Reduced.{IsReduced}
 use Rattle.jx_run.specs.inside.Rest.{AreRead, AreReadWays, HasTaken, IsReadWay, IsRestOf, Reaches}
@@ -38,7 +38,7 @@ use Rattle.jx_run.proofs.Ways.{all_at, at_end, entries_are, exit_is, some_of}
 -- ---- a scan into a reducer
 
 -- what reading comes to from where a scan ended, or wherever if it did not tell, and from the structure of the marks
-pub record Scanned (limit from : ℕ) (bytes : List ℕ) (s : LexState) (old new : ReducerValue) (x : Option Exit) (f : Forms) : Type 0 where
+pub record Scanned (limit from : ℕ) (bytes : List ℕ) (s : LexState) (old new : ReducerValue) (x : Option LexExit) (f : Forms) : Type 0 where
   pub depth : old.depth ≡ limit
   pub none : HasReduced [] old
   pub sees : SeesTrack (λ marks ends. HasTaken marks ends old) (λ marks ends. HasTaken marks ends new) (lex s from bytes)
@@ -49,7 +49,7 @@ pub record Scanned (limit from : ℕ) (bytes : List ℕ) (s : LexState) (old new
   pub offsets : (marks : List Mark) → HasReduced marks new → RisingFrom 0 marks → (low high : ℕ) → EachIn (λ m. (low ≤ m.at) × (m.at < high)) marks → SpansIn low high f
 
 -- behind a fault no exit matters
-same_stop : (t u : lexical.Exit) (r : Reading) → IsFault r → at_exit t r ≡ at_exit u r
+same_stop : (t u : lexical.LexExit) (r : Reading) → IsFault r → at_exit t r ≡ at_exit u r
 same_stop t u (Reading.went e o) h = absurd h
 same_stop (lexical.state s) (lexical.state v) (Reading.stopped at) h = refl
 same_stop (lexical.state s) (lexical.fault i) (Reading.stopped at) h = refl
@@ -60,8 +60,8 @@ same_stop (lexical.state s) (lexical.fault i) (Reading.too_deep at) h = refl
 same_stop (lexical.fault i) (lexical.state s) (Reading.too_deep at) h = refl
 same_stop (lexical.fault i) (lexical.fault j) (Reading.too_deep at) h = refl
 
-told_exit : (x : Option Exit) (d : Exit) (t : lexical.Exit) (r : Reading) → IfSome x (λ e. exit_of e ≡ t) → (x ≡ None → IsFault r) → at_exit (exit_of (unwrap_or x d)) r ≡ at_exit t r
-told_exit (Some e) d t r is none = ap (λ (z : lexical.Exit). at_exit z r) is
+told_exit : (x : Option LexExit) (d : LexExit) (t : lexical.LexExit) (r : Reading) → IfSome x (λ e. exit_of e ≡ t) → (x ≡ None → IsFault r) → at_exit (exit_of (unwrap_or x d)) r ≡ at_exit t r
+told_exit (Some e) d t r is none = ap (λ (z : lexical.LexExit). at_exit z r) is
 told_exit None d t r is none = same_stop (exit_of d) t r (none refl)
 
 read_is : (limit : ℕ) (s : LexState) (e : Expect) (o : List Holder) (from : ℕ) (bytes : List ℕ)
@@ -69,7 +69,7 @@ read_is : (limit : ℕ) (s : LexState) (e : Expect) (o : List Holder) (from : �
 unfolding read
 read_is limit s e o from bytes = refl
 
-module _ (limit from : ℕ) (bytes : List ℕ) (s : LexState) (old new : ReducerValue) (x : Option Exit) (f : Forms) (h : Scanned limit from bytes s old new x f) where
+module _ (limit from : ℕ) (bytes : List ℕ) (s : LexState) (old new : ReducerValue) (x : Option LexExit) (f : Forms) (h : Scanned limit from bytes s old new x f) where
   abbrev marks : List Mark
   marks = (lex s from bytes).marks
 
@@ -97,15 +97,15 @@ module _ (limit from : ℕ) (bytes : List ℕ) (s : LexState) (old new : Reducer
       ∙ fold-append (λ reading mark. step f.depth mark reading) (Reading.went e o) marks two
       ∙ ap (read_marks f.depth two) (sym (h.reads marks taken.reduced (lex_rises s from bytes) e o short)))
 
-  pub scanned_reads : (d : Exit) → AreRead limit from bytes s (outcome_of (record { exit = unwrap_or x d; marks = f }))
+  pub scanned_reads : (d : LexExit) → AreRead limit from bytes s (outcome_of (record { exit = unwrap_or x d; marks = f }))
   scanned_reads d e o short =
       let less : length o ≤ f.depth = subst (λ n. length o ≤ n) (sym deep) short in
       told_exit x d (lex s from bytes).exit (answer f e o) h.exit (λ none. no_more none e o less)
       ∙ ap (at_exit (lex s from bytes).exit) (h.reads marks taken.reduced (lex_rises s from bytes) e o less ∙ ap (λ n. read_marks n marks (Reading.went e o)) deep)
       ∙ sym (read_is limit s e o from bytes)
 
-  pub scanned_within : (to : ℕ) → from + length bytes ≡ to → IsWithin limit from to f
-  scanned_within to e = subst (λ n. IsWithin limit from n f) e (reduced_within limit from (from + length bytes) marks f reduced (lex-in s from bytes))
+  pub scanned_within : (to : ℕ) → from + length bytes ≡ to → IsFormWithin limit from to f
+  scanned_within to e = subst (λ n. IsFormWithin limit from n f) e (reduced_within limit from (from + length bytes) marks f reduced (lex-in s from bytes))
 
 -- ---- the ways from all states
 
@@ -156,11 +156,11 @@ module _ (limit start : ℕ) (bytes : List ℕ) (reached : List Way) where
 
 -- ---- the run of the rest
 
-of_state : (x : Exit) (t : LexState) → exit_of x ≡ lexical.state t → x ≡ exit.State t
+of_state : (x : LexExit) (t : LexState) → exit_of x ≡ lexical.state t → x ≡ exit.State t
 of_state (exit.State s) t h = cc
 of_state (exit.Fault i) t h = cc
 
-reaches : (left : OutcomeRunValue) → IsWhole left → (s t : LexState) → exit_at left s ≡ lexical.state t → Reaches left.ways t
+reaches : (left : OutcomeRunValue) → IsWellFormed left → (s t : LexState) → exit_at left s ≡ lexical.state t → Reaches left.ways t
 reaches left whole s t ends =
     let all = whole.all in
     let few = ordinal-low s in
@@ -169,8 +169,8 @@ reaches left whole s t ends =
     let there = all_at (λ (w : Way). w.structure < length left.structures) left.ways (ordinal s) w.0 whole.there w.1 in
     (ordinal s, low, λ d. ap (λ (w : Way). w.exit) (get_or_from_slice_get left.ways (ordinal s) w.0 d w.1) ∙ of_state (w.0).exit t (exit_is left s w.0 w.1 there ∙ ends))
 
-pub ways_of_rest : (left run : OutcomeRunValue) (bytes : List ℕ) → IsWhole left → run.end ≡ run.start + length bytes
-    → ((s : LexState) → AreReadWays run.limit run.start bytes left.ways run.structures run.ways s) → IsRestOf left bytes run
+pub ways_of_rest : (left run : OutcomeRunValue) (bytes : List ℕ) → IsWellFormed left → run.end ≡ run.start + length bytes
+    → ((s : LexState) → AreReadWays run.depth run.start bytes left.ways run.structures run.ways s) → IsRestOf left bytes run
 ways_of_rest left run bytes whole long h =
     record {
       long = long;

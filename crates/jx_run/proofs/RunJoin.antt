@@ -6,11 +6,11 @@ use Rattle.std.proofs.lemmas.Bool.Decides.{nat_tests}
 use Rattle.std.proofs.lemmas.List.{length-append}
 use Rattle.std.proofs.lemmas.List.Elements.{All-append, All-cons, All-nil}
 use Rattle.std.proofs.lemmas.Option.{slice_get_within}
-use Rattle.jx_lex.specs.declared.state.LexState.{LexState}
-use Rattle.jx_lex.specs.declared.mark.MarkKind.{MarkKind}
-use Rattle.jx_lex.specs.declared.exit.Exit as declared_exit
-use Rattle.jx_lex.specs.declared.exit.Exit.TheVariants as exit
-use Rattle.jx_lex.specs.Lex.{Exit}
+use Rattle.jx_lex.specs.declared.alphabet.state.LexState.{LexState}
+use Rattle.jx_lex.specs.declared.alphabet.mark.MarkKind.{MarkKind}
+use Rattle.jx_lex.specs.declared.alphabet.lex_exit.LexExit as declared_exit
+use Rattle.jx_lex.specs.declared.alphabet.lex_exit.LexExit.TheVariants as exit
+use Rattle.jx_lex.specs.Lex.{LexExit}
 use Rattle.jx_lex.specs.Moves.{move}
 use Rattle.jx_lex.specs.Ordinal.{all_states, ordinal}
 use Rattle.jx_lex.specs.View.{exit_of}
@@ -21,9 +21,9 @@ use Rattle.jx_reduce.specs.Reductions.{Forms, answer, IsJoin, SpansIn}
 use Rattle.jx_run.specs.declared.joins.Pair.{Pair}
 use Rattle.jx_run.specs.declared.way.Way.{Way}
 use Rattle.jx_run.specs.inside.Turns.{Turn, wrong, on, enter, leave, turn}
-use Rattle.jx_run.specs.Reading.{Outcome, went, stopped, too_deep, at_exit, and_then, read}
+use Rattle.jx_run.specs.Reading.{TextReading, went, stopped, too_deep, at_exit, and_then, read}
 use Rattle.jx_run.specs.inside.Joins.{AreJoined, AreJoinedWays, AreMade, GoesOnWith, GoesThrough, IsAbove, IsJoinedWay, IsMade, IsMadeAt, IsOnward}
-use Rattle.jx_run.specs.OutcomeRun.{OutcomeRunValue, Entries, entries_at, exit_at, exit_in, outcome_in, outcome, GoesOn, IsOutcomeRun, IsWhole, IsWithin}
+use Rattle.jx_run.specs.OutcomeRun.{OutcomeRunValue, Entries, entries_at, exit_at, exit_in, outcome_in, outcome, GoesOn, IsOutcomeRun, IsWellFormed, IsFormWithin}
 use Rattle.jx_run.specs.inside.Rest.{IsRestOf}
 use Rattle.jx_run.proofs.Completion.{run-append}
 use Rattle.jx_run.proofs.Reducing.{push_above, states-many}
@@ -33,7 +33,7 @@ use Rattle.jx_run.proofs.Fused.{after_turn, after_mark, in_next, run, read-run}
 
 -- ---- no reading comes to more open containers than the depth
 
-abbrev pub Within : ℕ → Outcome → Type 0
+abbrev pub Within : ℕ → TextReading → Type 0
 Within limit (went s e o) = length o ≤ limit
 Within limit (stopped at) = Unit {0}
 Within limit (too_deep at) = Unit {0}
@@ -43,7 +43,7 @@ fewer limit [] h = h
 fewer limit (x ∷ o) h = omega (arith, h)
 
 module _ (limit : ℕ) where
-  after_turn-within : (at : ℕ) (o : List Holder) (t : Turn) (f : Expect → List Holder → Outcome) → length o ≤ limit
+  after_turn-within : (at : ℕ) (o : List Holder) (t : Turn) (f : Expect → List Holder → TextReading) → length o ≤ limit
       → ((e : Expect) (o : List Holder) → length o ≤ limit → Within limit (f e o)) → Within limit (after_turn limit at o t f)
   after_turn-within at o wrong f p h = tt
   after_turn-within at o (on e) f p h = h e o p
@@ -54,12 +54,12 @@ module _ (limit : ℕ) where
       pick false q = tt
   after_turn-within at o (leave e) f p h = h e _ (fewer limit o p)
 
-  after_mark-within : (at : ℕ) (e : Expect) (o : List Holder) (m : Option MarkKind) (f : Expect → List Holder → Outcome) → length o ≤ limit
+  after_mark-within : (at : ℕ) (e : Expect) (o : List Holder) (m : Option MarkKind) (f : Expect → List Holder → TextReading) → length o ≤ limit
       → ((e : Expect) (o : List Holder) → length o ≤ limit → Within limit (f e o)) → Within limit (after_mark limit at e o m f)
   after_mark-within at e o None f p h = h e o p
   after_mark-within at e o (Some k) f p h = after_turn-within at o (turn k e (top o)) f p h
 
-  in_next-within : (at : ℕ) (n : Option LexState) (f : LexState → Outcome) → ((s : LexState) → Within limit (f s)) → Within limit (in_next at n f)
+  in_next-within : (at : ℕ) (n : Option LexState) (f : LexState → TextReading) → ((s : LexState) → Within limit (f s)) → Within limit (in_next at n f)
   in_next-within at None f h = tt
   in_next-within at (Some s) f h = h s
 
@@ -74,7 +74,7 @@ read-within limit t s e o at p = subst (Within limit) (sym (read-run limit s e o
 
 -- ---- reading one list of bytes and then another
 
-pub and_then-same : (limit : ℕ) (r : Outcome) (f g : LexState → Expect → List Holder → Outcome) → Within limit r
+pub and_then-same : (limit : ℕ) (r : TextReading) (f g : LexState → Expect → List Holder → TextReading) → Within limit r
     → ((s : LexState) (e : Expect) (o : List Holder) → length o ≤ limit → f s e o ≡ g s e o) → and_then r f ≡ and_then r g
 and_then-same limit (went s e o) f g w h = h s e o w
 and_then-same limit (stopped at) f g w h = refl
@@ -91,14 +91,14 @@ read-append limit p q s e o at w =
 -- ---- entries
 
 -- from where the left's track ends in a state, the right's entries of that state go on
-state_goes : (t : LexState) (x : Exit) (f : Forms) (r : Reading) (more : LexState → Expect → List Holder → Outcome)
+state_goes : (t : LexState) (x : LexExit) (f : Forms) (r : Reading) (more : LexState → Expect → List Holder → TextReading)
     → ((e : Expect) (o : List Holder) → more t e o ≡ at_exit x (answer f e o))
-    → at_exit x (then_by (answer f) r) ≡ and_then (at_exit (Exit.state t) r) more
+    → at_exit x (then_by (answer f) r) ≡ and_then (at_exit (LexExit.state t) r) more
 state_goes t x f (Reading.went e o) more h = sym (h e o)
-state_goes t (Exit.state s) f (Reading.stopped at) more h = refl
-state_goes t (Exit.fault i) f (Reading.stopped at) more h = refl
-state_goes t (Exit.state s) f (Reading.too_deep at) more h = refl
-state_goes t (Exit.fault i) f (Reading.too_deep at) more h = refl
+state_goes t (LexExit.state s) f (Reading.stopped at) more h = refl
+state_goes t (LexExit.fault i) f (Reading.stopped at) more h = refl
+state_goes t (LexExit.state s) f (Reading.too_deep at) more h = refl
+state_goes t (LexExit.fault i) f (Reading.too_deep at) more h = refl
 
 pub goes_on_state : (limit : ℕ) (l r j : Entries) (right : OutcomeRunValue) (t : LexState) → l.exit ≡ exit.State t → entries_at right t ≡ Some r
     → l.marks.depth ≡ limit → j.exit ≡ r.exit → IsJoin l.marks r.marks j.marks → GoesOn limit l right j
@@ -108,7 +108,7 @@ goes_on_state limit l r j right t ends is deep same joined e o w =
     ∙ state_goes t (exit_of r.exit) r.marks (answer l.marks e o) (outcome right) (λ e o. ap (λ x. outcome_in x e o) is)
     ∙ ap (λ x. and_then (at_exit (exit_of x) (answer l.marks e o)) (outcome right)) (sym ends)
 
-fault_stays : (i : ℕ) (r : Reading) (more : LexState → Expect → List Holder → Outcome) → at_exit (Exit.fault i) r ≡ and_then (at_exit (Exit.fault i) r) more
+fault_stays : (i : ℕ) (r : Reading) (more : LexState → Expect → List Holder → TextReading) → at_exit (LexExit.fault i) r ≡ and_then (at_exit (LexExit.fault i) r) more
 fault_stays i (Reading.went e o) more = refl
 fault_stays i (Reading.stopped at) more = refl
 fault_stays i (Reading.too_deep at) more = refl
@@ -125,12 +125,12 @@ goes_on_fault limit l right i ends e o w =
 abbrev pub Wider : Type 0
 Wider = (low high less more : ℕ) (f : Forms) → less ≤ low → high ≤ more → SpansIn low high f → SpansIn less more f
 
-pub stays_within : Wider → (limit low between high : ℕ) (f : Forms) → IsWithin limit low between f → between ≤ high → IsWithin limit low high f
+pub stays_within : Wider → (limit low between high : ℕ) (f : Forms) → IsFormWithin limit low between f → between ≤ high → IsFormWithin limit low high f
 stays_within wider limit low between high f w above =
     record { depth = w.depth; offsets = wider low between low high f (omega arith) above w.offsets }
 
-pub joined_within : Wider → (limit low between high : ℕ) (a b f : Forms) → IsWithin limit low between a → IsWithin limit between high b → low ≤ between → between ≤ high
-    → GoesOnWith a b f → IsWithin limit low high f
+pub joined_within : Wider → (limit low between high : ℕ) (a b f : Forms) → IsFormWithin limit low between a → IsFormWithin limit between high b → low ≤ between → between ≤ high
+    → GoesOnWith a b f → IsFormWithin limit low high f
 joined_within wider limit low between high a b f w v below above goes =
     record {
       depth = goes.depth ∙ w.depth;
@@ -138,7 +138,7 @@ joined_within wider limit low between high a b f w v below above goes =
     }
 
 -- the right's structure, by the left's depth and end
-pub right_within : (limit limit' between start high : ℕ) (f : Forms) → limit ≡ limit' → between ≡ start → IsWithin limit' start high f → IsWithin limit between high f
+pub right_within : (limit limit' between start high : ℕ) (f : Forms) → limit ≡ limit' → between ≡ start → IsFormWithin limit' start high f → IsFormWithin limit between high f
 right_within limit limit' between start high f e i w = record { depth = w.depth ∙ sym e; offsets = subst (λ m. SpansIn m high f) (sym i) w.offsets }
 
 -- ---- ways that go on
@@ -150,8 +150,8 @@ through_fault left right s w i h low ends e f is deep made =
     let entries : Entries = record { exit = w.exit; marks = a.0 } in
     let it : Some entries ≡ Some e = sym (entries_are left s w a.0 h a.1) ∙ is in
     let same : entries ≡ e = cc in
-    subst (λ g. GoesOn left.limit e right (record { exit = w.exit; marks = g })) (sym (made a.0 a.1))
-    (subst (λ x. GoesOn left.limit x right entries) same (goes_on_fault left.limit entries right i ends))
+    subst (λ g. GoesOn left.depth e right (record { exit = w.exit; marks = g })) (sym (made a.0 a.1))
+    (subst (λ x. GoesOn left.depth x right entries) same (goes_on_fault left.depth entries right i ends))
 
 pub through_state : (left right : OutcomeRunValue) (s t : LexState) (w u : Way) → slice_get left.ways (ordinal s) ≡ Some w → w.structure < length left.structures
     → w.exit ≡ exit.State t → slice_get right.ways (ordinal t) ≡ Some u → u.structure < length right.structures
@@ -164,8 +164,8 @@ through_state left right s t w u h low ends k below e f is deep made =
     let next : Entries = record { exit = u.exit; marks = b.0 } in
     let it : Some entries ≡ Some e = sym (entries_are left s w a.0 h a.1) ∙ is in
     let same : entries ≡ e = cc in
-    subst (λ x. GoesOn left.limit x right (record { exit = u.exit; marks = f })) same
-    (goes_on_state left.limit entries next (record { exit = u.exit; marks = f }) right t ends (entries_are right t u b.0 k b.1) (sym goes.depth ∙ deep) refl goes.joined)
+    subst (λ x. GoesOn left.depth x right (record { exit = u.exit; marks = f })) same
+    (goes_on_state left.depth entries next (record { exit = u.exit; marks = f }) right t ends (entries_are right t u b.0 k b.1) (sym goes.depth ∙ deep) refl goes.joined)
 
 pub from_there : (left : OutcomeRunValue) (s : LexState) (w : Way) → slice_get left.ways (ordinal s) ≡ Some w → w.structure < length left.structures
     → (e : Entries) × (entries_at left s ≡ Some e)
@@ -247,22 +247,22 @@ module _ (left right : OutcomeRunValue) where
   joined-at fs (t ∷ ss) (x ∷ ws) h (suc i) s g = joined-at fs ss ws h.1 i s g
 
   -- the way from the next state, by what is made of its pair
-  pub joined_by : (states : List LexState) (i : ℕ) (olds news : List Forms) (ws : List Way) (d : LexState) (out : declared_exit.Exit) (pair : Pair) (n : ℕ)
+  pub joined_by : (states : List LexState) (i : ℕ) (olds news : List Forms) (ws : List Way) (d : LexState) (out : declared_exit.LexExit) (pair : Pair) (n : ℕ)
       → i < 32 → states ≡ all_states → AreJoinedWays left right olds (take i all_states) ws → IsAbove olds news → IsMadeAt left right news pair n
-      → All (IsWithin left.limit left.start right.end) news → GoesThrough left right (get_or states i d) out pair
+      → All (IsFormWithin left.depth left.start right.end) news → GoesThrough left right (get_or states i d) out pair
       → AreJoinedWays left right news (take (i + 1) all_states) (ws ++ record { exit = out; structure = n } ∷ [])
   joined_by states i olds news ws d out pair n low is h up m within goes =
       let w : Way = record { exit = out; structure = n } in
-      let in_span : IsWithin left.limit left.start right.end m.form = all_at (IsWithin left.limit left.start right.end) news n m.form within m.at in
+      let in_span : IsFormWithin left.depth left.start right.end m.form = all_at (IsFormWithin left.depth left.start right.end) news n m.form within m.at in
       let it : IsJoinedWay left right news (get_or states i d) w = record { form = m.form; at = m.at; goes = λ e is. goes e m.form is in_span.depth m.made } in
       subst (λ ss. AreJoinedWays left right news ss (ws ++ w ∷ []))
       (ap (λ ss. take i all_states ++ get_or ss i d ∷ []) is ∙ sym (take-suc all_states i d low) ∙ ap (λ n. take n all_states) (let n : suc i ≡ i + 1 = omega arith in n))
       (each-more news (take i all_states) ws (get_or states i d) w (each-above olds news up (take i all_states) ws h) it)
 
   -- and by the structure of its pair
-  pub joined_next : (states : List LexState) (i : ℕ) (olds news : List Forms) (pairs : List Pair) (ws : List Way) (d : LexState) (out : declared_exit.Exit) (pair : Pair) (n : ℕ)
+  pub joined_next : (states : List LexState) (i : ℕ) (olds news : List Forms) (pairs : List Pair) (ws : List Way) (d : LexState) (out : declared_exit.LexExit) (pair : Pair) (n : ℕ)
       → i < 32 → states ≡ all_states → AreJoinedWays left right olds (take i all_states) ws → IsAbove olds news → AreMade left right pairs news
-      → All (IsWithin left.limit left.start right.end) news → slice_get pairs n ≡ Some pair → GoesThrough left right (get_or states i d) out pair
+      → All (IsFormWithin left.depth left.start right.end) news → slice_get pairs n ≡ Some pair → GoesThrough left right (get_or states i d) out pair
       → AreJoinedWays left right news (take (i + 1) all_states) (ws ++ record { exit = out; structure = n } ∷ [])
   joined_next states i olds news pairs ws d out pair n low is h up made within at goes =
       joined_by states i olds news ws d out pair n low is h up (made.each n pair at) within goes
@@ -310,22 +310,22 @@ made_behind left right pairs fs pair n k count made at =
       made = m.made;
     }
 
-pub all_within : Wider → (left right : OutcomeRunValue) (fs : List Forms) → IsWhole left → left.end ≡ right.start → right.start ≤ right.end
-    → All (IsWithin left.limit left.start right.end) fs → All (IsWithin left.limit left.start right.end) (left.structures ++ fs)
+pub all_within : Wider → (left right : OutcomeRunValue) (fs : List Forms) → IsWellFormed left → left.end ≡ right.start → right.start ≤ right.end
+    → All (IsFormWithin left.depth left.start right.end) fs → All (IsFormWithin left.depth left.start right.end) (left.structures ++ fs)
 all_within wider left right fs whole mid order within =
-    All-append (IsWithin left.limit left.start right.end) left.structures fs
-    (λ k d low. stays_within wider left.limit left.start left.end right.end (get_or left.structures k d) (whole.within k d low) (omega (arith, mid, order))) within
+    All-append (IsFormWithin left.depth left.start right.end) left.structures fs
+    (λ k d low. stays_within wider left.depth left.start left.end right.end (get_or left.structures k d) (whole.within k d low) (omega (arith, mid, order))) within
 
 -- ---- runs
 
 abbrev pub joined_run : OutcomeRunValue → OutcomeRunValue → List Way → List Forms → OutcomeRunValue
-joined_run left right ws fs = record { limit = left.limit; start = left.start; end = right.end; ways = ws; structures = fs }
+joined_run left right ws fs = record { depth = left.depth; start = left.start; end = right.end; ways = ws; structures = fs }
 
 -- by what two runs show
 pub joined_seen : (l k r q : OutcomeRunValue) (ws : List Way) (fs : List Forms) → l ≡ k → r ≡ q → joined_run l r ws fs ≡ joined_run k q ws fs
 joined_seen l k r q ws fs e f = ap (λ (x : OutcomeRunValue). joined_run x r ws fs) e ∙ ap (λ (x : OutcomeRunValue). joined_run k x ws fs) f
 
-pub joined_whole : (left right : OutcomeRunValue) (ws : List Way) (fs : List Forms) → left.start ≤ right.end → AreJoined left right ws fs → IsWhole (joined_run left right ws fs)
+pub joined_whole : (left right : OutcomeRunValue) (ws : List Way) (fs : List Forms) → left.start ≤ right.end → AreJoined left right ws fs → IsWellFormed (joined_run left right ws fs)
 joined_whole left right ws fs order a =
     record {
       order = order;
@@ -335,8 +335,8 @@ joined_whole left right ws fs order a =
       within = a.within;
     }
 
-outcome_goes : (l r : OutcomeRunValue) (ws : List Way) (fs : List Forms) → IsWhole l → AreJoined l r ws fs → (s : LexState) (e : Expect) (o : List Holder)
-    → length o ≤ l.limit → outcome (joined_run l r ws fs) s e o ≡ and_then (outcome l s e o) (outcome r)
+outcome_goes : (l r : OutcomeRunValue) (ws : List Way) (fs : List Forms) → IsWellFormed l → AreJoined l r ws fs → (s : LexState) (e : Expect) (o : List Holder)
+    → length o ≤ l.depth → outcome (joined_run l r ws fs) s e o ≡ and_then (outcome l s e o) (outcome r)
 outcome_goes l r ws fs whole a s e o h =
     let x = has_entries l whole s in
     let w = joined-at l r fs all_states ws a.each (ordinal s) s (state-at s) in
@@ -346,21 +346,21 @@ outcome_goes l r ws fs whole a s e o h =
     ∙ ap (λ z. and_then (outcome_in z e o) (outcome r)) (sym x.1)
 
 -- an outcome that goes on does so from the state in which its way ends
-went-ends : (x : Exit) (r : Reading) (t : LexState) (e : Expect) (o : List Holder) → at_exit x r ≡ went t e o → x ≡ Exit.state t
-went-ends (Exit.state s) (Reading.went e' o') t e o h = cc
-went-ends (Exit.fault i) (Reading.went e' o') t e o h = cc
-went-ends (Exit.state s) (Reading.stopped at) t e o h = cc
-went-ends (Exit.fault i) (Reading.stopped at) t e o h = cc
-went-ends (Exit.state s) (Reading.too_deep at) t e o h = cc
-went-ends (Exit.fault i) (Reading.too_deep at) t e o h = cc
+went-ends : (x : LexExit) (r : Reading) (t : LexState) (e : Expect) (o : List Holder) → at_exit x r ≡ went t e o → x ≡ LexExit.state t
+went-ends (LexExit.state s) (Reading.went e' o') t e o h = cc
+went-ends (LexExit.fault i) (Reading.went e' o') t e o h = cc
+went-ends (LexExit.state s) (Reading.stopped at) t e o h = cc
+went-ends (LexExit.fault i) (Reading.stopped at) t e o h = cc
+went-ends (LexExit.state s) (Reading.too_deep at) t e o h = cc
+went-ends (LexExit.fault i) (Reading.too_deep at) t e o h = cc
 
-run_ends : (l : OutcomeRunValue) → IsWhole l → (s t : LexState) (e d : Expect) (o p : List Holder) → outcome l s e o ≡ went t d p → exit_at l s ≡ Exit.state t
+run_ends : (l : OutcomeRunValue) → IsWellFormed l → (s t : LexState) (e d : Expect) (o p : List Holder) → outcome l s e o ≡ went t d p → exit_at l s ≡ LexExit.state t
 run_ends l whole s t e d o p h =
     let x = has_entries l whole s in
     ap exit_in x.1 ∙ went-ends (exit_of (x.0).exit) (answer (x.0).marks e o) t d p (sym (ap (λ z. outcome_in z e o) x.1) ∙ h)
 
 -- what reading goes on to is asked only of where it goes on
-and_then-there : (r : Outcome) (f g : LexState → Expect → List Holder → Outcome) → ((s : LexState) (e : Expect) (o : List Holder) → r ≡ went s e o → f s e o ≡ g s e o)
+and_then-there : (r : TextReading) (f g : LexState → Expect → List Holder → TextReading) → ((s : LexState) (e : Expect) (o : List Holder) → r ≡ went s e o → f s e o ≡ g s e o)
     → and_then r f ≡ and_then r g
 and_then-there (went s e o) f g h = h s e o refl
 and_then-there (stopped at) f g h = refl
@@ -370,19 +370,19 @@ and_then-there (too_deep at) f g h = refl
 pub any_rest : (l r : OutcomeRunValue) (ys : List ℕ) → IsOutcomeRun ys r → IsRestOf l ys r
 any_rest l r ys y = record { long = y.long; outcomes = λ s t ends. y.outcomes t }
 
-pub rest_is_of : (l r : OutcomeRunValue) (ws : List Way) (fs : List Forms) → IsWhole l → AreJoined l r ws fs → l.limit ≡ r.limit → l.end ≡ r.start
+pub rest_is_of : (l r : OutcomeRunValue) (ws : List Way) (fs : List Forms) → IsWellFormed l → AreJoined l r ws fs → l.depth ≡ r.depth → l.end ≡ r.start
     → (xs ys : List ℕ) → IsOutcomeRun xs l → IsRestOf l ys r → IsOutcomeRun (xs ++ ys) (joined_run l r ws fs)
 rest_is_of l r ws fs whole a lr mid xs ys x y =
     record {
       long = (let n = length-append xs ys in let p = x.long in let q = y.long in omega (arith, n, p, q, mid));
       outcomes = λ s e o h.
           outcome_goes l r ws fs whole a s e o h
-          ∙ and_then-there (outcome l s e o) (outcome r) (λ s e o. read l.limit s e o (l.start + length xs) ys)
+          ∙ and_then-there (outcome l s e o) (outcome r) (λ s e o. read l.depth s e o (l.start + length xs) ys)
           (λ t d p is.
           y.outcomes s t (run_ends l whole s t e d o p is) d p
-          (subst (λ n. length p ≤ n) lr (subst (Within l.limit) (sym (x.outcomes s e o h) ∙ is) (read-within l.limit xs s e o l.start h)))
+          (subst (λ n. length p ≤ n) lr (subst (Within l.depth) (sym (x.outcomes s e o h) ∙ is) (read-within l.depth xs s e o l.start h)))
           ∙ ap (λ n. read n t d p r.start ys) (sym lr)
-          ∙ ap (λ i. read l.limit t d p i ys) (sym mid ∙ x.long))
-          ∙ ap (λ z. and_then z (λ s e o. read l.limit s e o (l.start + length xs) ys)) (x.outcomes s e o h)
-          ∙ sym (read-append l.limit xs ys s e o l.start h);
+          ∙ ap (λ i. read l.depth t d p i ys) (sym mid ∙ x.long))
+          ∙ ap (λ z. and_then z (λ s e o. read l.depth s e o (l.start + length xs) ys)) (x.outcomes s e o h)
+          ∙ sym (read-append l.depth xs ys s e o l.start h);
     }

@@ -138,7 +138,7 @@ module _ {D : Type 0} (R : Part → D → Type 0) (text : List ℕ) (start from 
       (subst (λ ps. IsReadTo R (rest_at text start end) ps done) (next_parts text from at end h k) so_far)
       (no_reading R (part from (slice_range text from at)) none))
 
-pub read_all : (limit : ℕ) (text : List ℕ) (start from end : ℕ) (done : List StartedValue) (after : TextRunValue) → after_separators from (slice_range text from end) ≡ [] → after.map.start ≡ from → after.limit ≡ limit
+pub read_all : (limit : ℕ) (text : List ℕ) (start from end : ℕ) (done : List StartedValue) (after : TextRunValue) → after_separators from (slice_range text from end) ≡ [] → after.map.start ≡ from → after.depth ≡ limit
     → IsTextRun (slice_range text from end) after → IsReadTo (IsReading limit) (rest_at text start end) (rest_at text from end) done
     → IsMarked limit (rest_at text start end) (record { done = done; after = after })
 read_all limit text start from end done after none here deep of so_far =

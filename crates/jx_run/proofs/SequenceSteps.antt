@@ -84,10 +84,10 @@ module _ (limit : ℕ) where
   abbrev R : Part → JudgedElement → Type 0
   R = IsJudgedElement limit
 
-  pub begun : (reader : ReaderValue) → reader.limit ≡ limit → reader.start ≡ 0 → HasRead [] reader → AreRead limit [] [] reader false
+  pub begun : (reader : ReaderValue) → reader.depth ≡ limit → reader.start ≡ 0 → HasRead [] reader → AreRead limit [] [] reader false
   begun reader deep start read = record { ended = []; last = part 0 []; parts = refl; done = tt; depth = deep; start = start; read = read; opens = refl }
 
-  pub gone_on : (bytes more : List ℕ) (done : List JudgedElement) (old new : ReaderValue) (loose next : Bool) → AreRead limit bytes done old loose → HasNoSeparator more → new.limit ≡ old.limit
+  pub gone_on : (bytes more : List ℕ) (done : List JudgedElement) (old new : ReaderValue) (loose next : Bool) → AreRead limit bytes done old loose → HasNoSeparator more → new.depth ≡ old.depth
       → new.start ≡ old.start → ((xs : List ℕ) → HasRead xs old → HasRead (xs ++ more) new) → next ≡ last_open loose more → AreRead limit (bytes ++ more) done new next
   gone_on bytes more done old new loose next h none deep start reads is =
       record {
@@ -112,8 +112,8 @@ module _ (limit : ℕ) where
       omega (arith, end, start, long)
 
   -- the last element, where it ends
-  last_one : (p : Part) (reader : ReaderValue) (loose : Bool) (v : Verdict) → reader.limit ≡ limit → reader.start ≡ p.at → HasRead p.bytes reader → loose ≡ ends_open p.bytes
-      → ((xs : List ℕ) → HasRead xs reader → Judged reader.start xs reader.limit v) → AllZip R (filled (p ∷ [])) (listed (ended_there (span reader.start (reader.start + reader.count)) v loose))
+  last_one : (p : Part) (reader : ReaderValue) (loose : Bool) (v : Verdict) → reader.depth ≡ limit → reader.start ≡ p.at → HasRead p.bytes reader → loose ≡ ends_open p.bytes
+      → ((xs : List ℕ) → HasRead xs reader → Judged reader.start xs reader.depth v) → AllZip R (filled (p ∷ [])) (listed (ended_there (span reader.start (reader.start + reader.count)) v loose))
   last_one p reader loose v deep start read is judged =
       pick (reader.start == reader.start + reader.count) (reader.start == 0) refl refl
     where
@@ -124,7 +124,7 @@ module _ (limit : ℕ) where
       here e same marked =
           subst (λ (x : JudgedElement). IsJudgedElement limit p x) (sym same)
           (judged_element limit p.at p.bytes reader.start (reader.start + reader.count) v loose (told v loose) start (omega (arith, start, long)) marked
-          (subst (λ (d : ℕ). Judged p.at p.bytes d v) deep (subst (λ (n : ℕ). Judged n p.bytes reader.limit v) start (judged p.bytes read))) is refl)
+          (subst (λ (d : ℕ). Judged p.at p.bytes d v) deep (subst (λ (n : ℕ). Judged n p.bytes reader.depth v) start (judged p.bytes read))) is refl)
 
       pick : (x y : Bool) → (reader.start == reader.start + reader.count) ≡ x → (reader.start == 0) ≡ y
           → AllZip R (filled (p ∷ []))
@@ -147,14 +147,14 @@ module _ (limit : ℕ) where
           one_reading R p _ (omega (arith, other, long)) (here _ refl (omega (arith, marked, start)))
 
   pub ended : (bytes : List ℕ) (done : List JudgedElement) (reader : ReaderValue) (loose : Bool) (v : Verdict) → AreRead limit bytes done reader loose
-      → ((xs : List ℕ) → HasRead xs reader → Judged reader.start xs reader.limit v)
+      → ((xs : List ℕ) → HasRead xs reader → Judged reader.start xs reader.depth v)
       → AllZip R (elements 0 bytes) (done ++ listed (ended_there (span reader.start (reader.start + reader.count)) v loose))
   ended bytes done reader loose v h judged =
       subst (λ ps. AllZip R ps (done ++ listed (ended_there (span reader.start (reader.start + reader.count)) v loose))) (sym (ap filled h.parts ∙ filter-append has_bytes h.ended (h.last ∷ [])))
       (AllZip-append R (filled h.ended) (filled (h.last ∷ [])) done _ h.done (last_one h.last reader loose v h.depth h.start h.read h.opens judged))
 
   pub marked : (bytes more : List ℕ) (done behind : List JudgedElement) (reader : ReaderValue) → AllZip R (elements 0 bytes) done → StartsWithSeparator more → EndsWithSeparator more
-      → AllZip R (elements (length bytes) more) behind → reader.limit ≡ limit → reader.start ≡ length bytes + length more → HasRead [] reader
+      → AllZip R (elements (length bytes) more) behind → reader.depth ≡ limit → reader.start ≡ length bytes + length more → HasRead [] reader
       → AreRead limit (bytes ++ more) (done ++ behind) reader false
   marked bytes more done behind reader h starts ends k deep start read =
       let n = length bytes in

@@ -4,9 +4,9 @@ use Rattle.std.specs.Prelude.{slice_get}
 use Rattle.std.proofs.Math.ListN.{length-map}
 use Rattle.std.proofs.lemmas.List.{length-set}
 use Rattle.std.proofs.lemmas.Option.{get_or_from_slice_get, slice_get_within}
-use Rattle.jx_lex.specs.declared.exit.Exit.{Exit}
-use Rattle.jx_lex.specs.declared.exit.Exit.TheVariants as exit
-use Rattle.jx_lex.specs.declared.state.LexState.{LexState}
+use Rattle.jx_lex.specs.declared.alphabet.lex_exit.LexExit.{LexExit}
+use Rattle.jx_lex.specs.declared.alphabet.lex_exit.LexExit.TheVariants as exit
+use Rattle.jx_lex.specs.declared.alphabet.state.LexState.{LexState}
 use Rattle.jx_lex.specs.Ordinal.{ordinal}
 use Rattle.jx_lex.specs.View.{exit_of}
 use Rattle.jx_reduce.specs.declared.expect.Expect.{Expect}
@@ -16,7 +16,7 @@ use Rattle.jx_reduce.specs.Reductions.{Forms, answer}
 use Rattle.jx_reduce.specs.Shift as marks
 use Rattle.jx_run.specs.declared.way.Way.{Way}
 use Rattle.jx_run.specs.inside.Moved.{moved_exit, moved_way, AreMoved, IsMoved, IsMovedAt}
-use Rattle.jx_run.specs.OutcomeRun.{OutcomeRunValue, outcome_in, outcome, IsOutcomeRun, IsWhole, IsWithin}
+use Rattle.jx_run.specs.OutcomeRun.{OutcomeRunValue, outcome_in, outcome, IsOutcomeRun, IsWellFormed, IsFormWithin}
 use Rattle.jx_run.specs.Reading.{stopped, at_exit, read}
 use Rattle.jx_run.specs.ReaderInside.{offset_at, shifted}
 use Rattle.jx_run.proofs.FaultPlaces.{Below, read-below}
@@ -51,7 +51,7 @@ fits : (by at end : ℕ) → at < end → end + by < 2 ^ 64 → offset_at by at 
 fits by at end low high = omega (arith, low, high)
 
 -- an offset that shows in the outcome lies below the end
-exit-moved : (by end : ℕ) (x : Exit) (r : Reading) → Below end (at_exit (exit_of x) r) → end + by < 2 ^ 64
+exit-moved : (by end : ℕ) (x : LexExit) (r : Reading) → Below end (at_exit (exit_of x) r) → end + by < 2 ^ 64
     → at_exit (exit_of (moved_exit by x)) (marks.shifted by r) ≡ shifted by (at_exit (exit_of x) r)
 exit-moved by end (exit.State s) (Reading.went e o) low high = refl
 exit-moved by end (exit.Fault at) (Reading.went e o) low high = ap (λ (k : ℕ). stopped k) (fits by at end low high)
@@ -63,14 +63,14 @@ exit-moved by end (exit.Fault i) (Reading.too_deep at) low high = refl
 -- ---- runs
 
 abbrev pub moved_run : ℕ → OutcomeRunValue → List Forms → OutcomeRunValue
-moved_run by run news = record { limit = run.limit; start = by + run.start; end = by + run.end; ways = map (moved_way by) run.ways; structures = news }
+moved_run by run news = record { depth = run.depth; start = by + run.start; end = by + run.end; ways = map (moved_way by) run.ways; structures = news }
 
 ways-moved : (by : ℕ) (ws : List Way) (k : ℕ) (w : Way) → slice_get ws k ≡ Some w → slice_get (map (moved_way by) ws) k ≡ Some (moved_way by w)
 ways-moved by [] k w h = absurd (let l = slice_get_within [] k w h in omega (arith, l))
 ways-moved by (v ∷ ws) zero w h = let e : v ≡ w = cc in ap (λ (u : Way). Some (moved_way by u)) e
 ways-moved by (v ∷ ws) (suc k) w h = ways-moved by ws k w h
 
-pub shifted_whole : (by : ℕ) (run : OutcomeRunValue) (news : List Forms) → IsWhole run → length news ≡ length run.structures → AreMoved by run.structures news → IsWhole (moved_run by run news)
+pub shifted_whole : (by : ℕ) (run : OutcomeRunValue) (news : List Forms) → IsWellFormed run → length news ≡ length run.structures → AreMoved by run.structures news → IsWellFormed (moved_run by run news)
 shifted_whole by run news whole long moved =
     let order = whole.order in
     let few = whole.few in
@@ -86,13 +86,13 @@ shifted_whole by run news whole long moved =
           (let m : (w.0).structure < length news = omega (arith, there, long) in m);
       within = λ k d low.
           let f = some_of run.structures k (omega (arith, low, long)) in
-          let here = all_at (IsWithin run.limit run.start run.end) run.structures k f.0 whole.within f.1 in
+          let here = all_at (IsFormWithin run.depth run.start run.end) run.structures k f.0 whole.within f.1 in
           let m = moved k f.0 f.1 in
-          subst (IsWithin run.limit (by + run.start) (by + run.end)) (sym (get_or_from_slice_get news k m.form d m.there))
+          subst (IsFormWithin run.depth (by + run.start) (by + run.end)) (sym (get_or_from_slice_get news k m.form d m.there))
           (record { depth = m.moved.depth ∙ here.depth; offsets = m.moved.offsets run.start run.end here.offsets });
     }
 
-pub shifted_reads : (by : ℕ) (run : OutcomeRunValue) (news : List Forms) → IsWhole run → AreMoved by run.structures news → run.end + by < 2 ^ 64
+pub shifted_reads : (by : ℕ) (run : OutcomeRunValue) (news : List Forms) → IsWellFormed run → AreMoved by run.structures news → run.end + by < 2 ^ 64
     → (bytes : List ℕ) → IsOutcomeRun bytes run → IsOutcomeRun bytes (moved_run by run news)
 shifted_reads by run news whole moved high bytes h =
     let long = h.long in
@@ -101,17 +101,17 @@ shifted_reads by run news whole moved high bytes h =
       outcomes = λ s e o short.
           let w = some_of run.ways (ordinal s) (let n = whole.all in let m = ordinal-low s in omega (arith, n, m)) in
           let f = some_of run.structures (w.0).structure (all_at (λ (w : Way). w.structure < length run.structures) run.ways (ordinal s) w.0 whole.there w.1) in
-          let here = all_at (IsWithin run.limit run.start run.end) run.structures (w.0).structure f.0 whole.within f.1 in
+          let here = all_at (IsFormWithin run.depth run.start run.end) run.structures (w.0).structure f.0 whole.within f.1 in
           let m = moved (w.0).structure f.0 f.1 in
           let old : outcome run s e o ≡ at_exit (exit_of (w.0).exit) (answer f.0 e o) = ap (λ x. outcome_in x e o) (entries_are run s w.0 f.0 w.1 f.1) in
-          let reads : at_exit (exit_of (w.0).exit) (answer f.0 e o) ≡ read run.limit s e o run.start bytes = sym old ∙ h.outcomes s e o short in
+          let reads : at_exit (exit_of (w.0).exit) (answer f.0 e o) ≡ read run.depth s e o run.start bytes = sym old ∙ h.outcomes s e o short in
           let low : Below run.end (at_exit (exit_of (w.0).exit) (answer f.0 e o)) =
-          subst (Below run.end) (sym reads) (subst (λ n. Below n (read run.limit s e o run.start bytes)) (sym long) (read-below run.limit s e o run.start bytes)) in
+          subst (Below run.end) (sym reads) (subst (λ n. Below n (read run.depth s e o run.start bytes)) (sym long) (read-below run.depth s e o run.start bytes)) in
           ap (λ x. outcome_in x e o) (entries_are (moved_run by run news) s (moved_way by w.0) m.form (ways-moved by run.ways (ordinal s) w.0 w.1) m.there)
           ∙ ap (at_exit (exit_of (moved_exit by (w.0).exit))) (m.moved.answers e o (subst (λ d. length o ≤ d) (sym here.depth) short))
           ∙ exit-moved by run.end (w.0).exit (answer f.0 e o) low high
           ∙ ap (shifted by) reads
-          ∙ sym (read-moved run.limit by run.start s e o bytes);
+          ∙ sym (read-moved run.depth by run.start s e o bytes);
     }
 
 -- ---- structures that are moved one after the other

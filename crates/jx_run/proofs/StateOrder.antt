@@ -1,8 +1,8 @@
 -- Each lexical state stands in its place among all of them.
 use Rattle.std.proofs.Common.{◌≡◌, ◌<◌, Some, refl, arith}
 use Rattle.std.specs.Prelude.{slice_get}
-use Rattle.jx_lex.specs.declared.state.LexState.{LexState}
-use Rattle.jx_lex.specs.declared.state.LexState.TheVariants as state
+use Rattle.jx_lex.specs.declared.alphabet.state.LexState.{LexState}
+use Rattle.jx_lex.specs.declared.alphabet.state.LexState.TheVariants as state
 use Rattle.jx_lex.specs.Ordinal.{all_states, ordinal}
 
 pub ordinal-low : (s : LexState) → ordinal s < 32

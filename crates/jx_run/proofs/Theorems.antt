@@ -1,15 +1,15 @@
 -- The reader is the grammar.
 use Rattle.std.proofs.Common.{◌≡◌, ℕ, suc, ◌≤◌, ◌<◌, max, List, [], ◌++◌, length, take, Bool, true, false, cond, drop, refl, sym, ap, subst, ◌∙◌, append_assoc, arith}
 use Rattle.std.proofs.lemmas.List.{take-take, take-append-drop, take_all}
-use Rattle.jx_lex.specs.declared.state.LexState.{LexState}
-use Rattle.jx_lex.specs.declared.state.LexState.TheVariants as state
+use Rattle.jx_lex.specs.declared.alphabet.state.LexState.{LexState}
+use Rattle.jx_lex.specs.declared.alphabet.state.LexState.TheVariants as state
 use Rattle.jx_lex.specs.TokenStates.{IsFinal, final_gap, final_zero, final_int, final_frac, final_exp}
 use Rattle.jx_reduce.specs.declared.expect.Expect.{Expect}
 use Rattle.jx_reduce.specs.declared.expect.Expect.TheVariants as expect
 use Rattle.jx_reduce.specs.declared.holder.Holder.{Holder}
 use Rattle.jx_run.specs.declared.verdict.Verdict.TheVariants as verdict
 use Rattle.jx_run.specs.declared.verdict.Refusal.TheVariants as refusal
-use Rattle.jx_run.specs.Reading.{Outcome, went, stopped, too_deep, and_then, is_final}
+use Rattle.jx_run.specs.Reading.{TextReading, went, stopped, too_deep, and_then, is_final}
 use Rattle.jx_run.specs.Tree.{Tree, depth}
 use Rattle.jx_run.specs.Text.{Document, document, IsDocument, Begins}
 use Rattle.jx_run.specs.Verdict.{IsLongestBeginning, IsNoText, Judged}
@@ -23,7 +23,7 @@ use Rattle.jx_run.proofs.Lexical.{TokensAreRead}
 use Rattle.jx_run.proofs.Endings.{Ending, goes_on, is_stopped, is_deep, ending}
 
 -- a whole text starts between tokens, with a value expected and nothing open
-abbrev pub start_run : ℕ → ℕ → List ℕ → Outcome
+abbrev pub start_run : ℕ → ℕ → List ℕ → TextReading
 start_run limit at t = run limit state.Gap expect.Value [] at t
 
 -- ---- acceptance
@@ -34,7 +34,7 @@ document_of limit at t (a_value {tree = tree} bs v le (at_bottom cs)) = (tree, r
 pub accepts→text : TokensAreRead → (limit at : ℕ) (t : List ℕ) → Accepted (start_run limit at t) → (tree : Tree) × IsDocument at t limit tree
 accepts→text law limit at t acc = document_of limit at t (rest_of limit law t state.Gap expect.Value [] at acc (omega arith))
 
-at_end : (limit : ℕ) (a : Outcome) (l : ℕ) → Goes limit a expect.After [] l [] → Accepted a
+at_end : (limit : ℕ) (a : TextReading) (l : ℕ) → Goes limit a expect.After [] l [] → Accepted a
 unfolding run
 at_end limit a l g = subst Accepted (sym g.same) (accepted g.final)
 
@@ -58,12 +58,12 @@ begins-front limit p q b = record { more = q ++ b.more; tree = b.tree; text = su
 pub begins-deeper : (d e : ℕ) (p : List ℕ) → d ≤ e → Begins p d → Begins p e
 begins-deeper d e p le b = record { more = b.more; tree = b.tree; text = record { reads = b.text.reads; within = let w = b.text.within in omega (arith, w) } }
 
-abbrev pub NoFault : Outcome → Type 0
+abbrev pub NoFault : TextReading → Type 0
 NoFault (went s e o) = Unit {0}
 NoFault (stopped at) = ⊥
 NoFault (too_deep at) = ⊥
 
-no_fault_then : (r : Outcome) (k : LexState → Expect → List Holder → Outcome) → Accepted (and_then r k) → NoFault r
+no_fault_then : (r : TextReading) (k : LexState → Expect → List Holder → TextReading) → Accepted (and_then r k) → NoFault r
 no_fault_then (went s e o) k acc = tt
 no_fault_then (stopped at) k acc = elim acc [ ]
 no_fault_then (too_deep at) k acc = elim acc [ ]
@@ -99,7 +99,7 @@ accepts_end (accepted final_frac) = refl
 accepts_end (accepted final_exp) = refl
 
 module _ (law : TokensAreRead) (limit at : ℕ) (t : List ℕ) where
-  no_text : (r : Outcome) → start_run limit at t ≡ r → (Accepted r → ⊥) → IsNoText at t limit
+  no_text : (r : TextReading) → start_run limit at t ≡ r → (Accepted r → ⊥) → IsNoText at t limit
   no_text r h never tree x = never (subst Accepted h (text→accepts law limit at t tree x))
 
   whole : (s : LexState) (e : Expect) (o : List Holder) → start_run limit 0 t ≡ went s e o → IsLongestBeginning t limit (length t)

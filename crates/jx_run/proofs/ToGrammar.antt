@@ -4,13 +4,13 @@ use Rattle.std.specs.Prelude.{nat_lt}
 use Rattle.std.proofs.lemmas.Bool.Decides.{nat_tests}
 use Rattle.jx_lex.specs.declared.kind.Kind.{Kind}
 use Rattle.jx_lex.specs.declared.kind.Kind.TheVariants as kind
-use Rattle.jx_lex.specs.declared.state.LexState.{LexState}
-use Rattle.jx_lex.specs.declared.state.LexState.TheVariants as state
+use Rattle.jx_lex.specs.declared.alphabet.state.LexState.{LexState}
+use Rattle.jx_lex.specs.declared.alphabet.state.LexState.TheVariants as state
 use Rattle.jx_lex.specs.Classes.{class_at}
 use Rattle.jx_lex.specs.Moves.{move, begin, structural, as_gap}
-use Rattle.jx_lex.specs.declared.mark.MarkKind.{MarkKind}
-use Rattle.jx_lex.specs.declared.mark.MarkKind.TheVariants as mark
-use Rattle.jx_lex.specs.declared.state.Step.{Step}
+use Rattle.jx_lex.specs.declared.alphabet.mark.MarkKind.{MarkKind}
+use Rattle.jx_lex.specs.declared.alphabet.mark.MarkKind.TheVariants as mark
+use Rattle.jx_lex.specs.declared.alphabet.state.Step.{Step}
 use Rattle.jx_lex.specs.Token.{IsBlank, IsToken}
 use Rattle.jx_lex.specs.TokenStates.{in_token, Spells, here, goes, shuts, IsFinal, final_gap, final_zero, final_int, final_frac, final_exp, mark_of}
 use Rattle.jx_lex.specs.TokenSteps as byte
@@ -21,14 +21,14 @@ use Rattle.jx_reduce.specs.declared.holder.Holder.{Holder}
 use Rattle.jx_reduce.specs.declared.holder.Holder.TheVariants as holder
 use Rattle.jx_reduce.specs.Read.{top}
 use Rattle.jx_run.specs.inside.Turns.{at_scalar, at_string, at_open_array, at_open_object, at_close_array, at_close_object, at_colon, at_comma}
-use Rattle.jx_run.specs.Reading.{Outcome, went}
+use Rattle.jx_run.specs.Reading.{TextReading, went}
 use Rattle.jx_run.specs.Tree.{Tree, Children, no_children, depth, deepest, depth_over}
 use Rattle.jx_run.specs.Grammar.{Blanks, no_blanks, blank, Scalar, Value, leaf, empty_array, array, empty_object, object, Items, last_item, item, Members, last_member, member}
 use Rattle.jx_run.proofs.Fused.{after_turn, run, on_step}
 use Rattle.jx_run.proofs.Lexical.{TokensAreRead, gap_of}
 
 -- the end of a whole text
-pub data Accepted : Outcome → Type 0 where
+pub data Accepted : TextReading → Type 0 where
   accepted : {s : LexState} → IsFinal s → Accepted (went s expect.After [])
 
 -- after an item, up to the array's end
@@ -186,7 +186,7 @@ module _ (limit : ℕ) where
 
   -- ---- one byte between tokens
 
-  module _ (law : TokensAreRead) (i : ℕ) (t : List ℕ) (more : LexState → Expect → List Holder → Outcome)
+  module _ (law : TokensAreRead) (i : ℕ) (t : List ℕ) (more : LexState → Expect → List Holder → TextReading)
       (ih : (s : LexState) (e : Expect) (o : List Holder) → Accepted (more s e o) → length o ≤ limit → Rest s e o (suc i) t) where
     -- a scalar that begins with this byte
     scalar_rest : (k : Kind) (b : ℕ) (w after : List ℕ) (end : ℕ) (o : List Holder) → depth_over k 0 ≡ 0 → IsToken k (b ∷ w) → t ≡ w ++ after → end ≡ suc i + length w
@@ -195,7 +195,7 @@ module _ (limit : ℕ) where
         a_value no_blanks (leaf {kind = k} (record { token = b ∷ w; is_token = h; whole = ap (λ x. b ∷ x) whole; end = let x : end ≡ i + suc (length w) = omega (arith, is_end) in x }))
         (omega (arith, flat, le)) r
 
-    scalar_turns : (e : Expect) (o : List Holder) (b : ℕ) (f : Expect → List Holder → Outcome) → Accepted (after_turn limit i o (at_scalar e) f)
+    scalar_turns : (e : Expect) (o : List Holder) (b : ℕ) (f : Expect → List Holder → TextReading) → Accepted (after_turn limit i o (at_scalar e) f)
         → (Accepted (f expect.After o) → RestValue o i (b ∷ t)) → RestGap e o i (b ∷ t)
     scalar_turns expect.Value o b f acc k = k acc
     scalar_turns expect.ArrayFirst o b f acc k = some (k acc)
@@ -204,7 +204,7 @@ module _ (limit : ℕ) where
     scalar_turns expect.Colon o b f acc k = elim acc [ ]
     scalar_turns expect.After o b f acc k = elim acc [ ]
 
-    string_turns : (e : Expect) (o : List Holder) (b : ℕ) (f : Expect → List Holder → Outcome) → Accepted (after_turn limit i o (at_string e) f)
+    string_turns : (e : Expect) (o : List Holder) (b : ℕ) (f : Expect → List Holder → TextReading) → Accepted (after_turn limit i o (at_string e) f)
         → (Accepted (f expect.After o) → RestValue o i (b ∷ t)) → (Accepted (f expect.Colon o) → RestName o i (b ∷ t)) → RestGap e o i (b ∷ t)
     string_turns expect.Value o b f acc k n = k acc
     string_turns expect.ArrayFirst o b f acc k n = some (k acc)
@@ -213,14 +213,14 @@ module _ (limit : ℕ) where
     string_turns expect.Colon o b f acc k n = elim acc [ ]
     string_turns expect.After o b f acc k n = elim acc [ ]
 
-    below : (m : ℕ) (x y : Outcome) → Accepted (cond (nat_lt m limit) x y) → (Accepted y → ⊥) → (m < limit) × Accepted x
+    below : (m : ℕ) (x y : TextReading) → Accepted (cond (nat_lt m limit) x y) → (Accepted y → ⊥) → (m < limit) × Accepted x
     below m x y acc never = pick (nat_lt m limit) refl acc
       where
         pick : (c : Bool) → nat_lt m limit ≡ c → Accepted (cond c x y) → (m < limit) × Accepted x
         pick true e a = ((let r : m < limit = grind (arith, nat_tests) in r), a)
         pick false e a = absurd (never a)
 
-    open_array_turns : (e : Expect) (o : List Holder) (f : Expect → List Holder → Outcome)
+    open_array_turns : (e : Expect) (o : List Holder) (f : Expect → List Holder → TextReading)
         → Accepted (after_turn limit i o (at_open_array e) f)
         → (length o < limit → Accepted (f expect.ArrayFirst (holder.Array ∷ o)) → RestValue o i (0x5b ∷ t)) → RestGap e o i (0x5b ∷ t)
     open_array_turns expect.Value o f acc k = let p = below (length o) _ _ acc (λ a. elim a [ ]) in k p.0 p.1
@@ -230,7 +230,7 @@ module _ (limit : ℕ) where
     open_array_turns expect.Colon o f acc k = elim acc [ ]
     open_array_turns expect.After o f acc k = elim acc [ ]
 
-    open_object_turns : (e : Expect) (o : List Holder) (f : Expect → List Holder → Outcome)
+    open_object_turns : (e : Expect) (o : List Holder) (f : Expect → List Holder → TextReading)
         → Accepted (after_turn limit i o (at_open_object e) f)
         → (length o < limit → Accepted (f expect.ObjectFirst (holder.Object ∷ o)) → RestValue o i (0x7b ∷ t)) → RestGap e o i (0x7b ∷ t)
     open_object_turns expect.Value o f acc k = let p = below (length o) _ _ acc (λ a. elim a [ ]) in k p.0 p.1

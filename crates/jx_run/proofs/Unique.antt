@@ -4,18 +4,18 @@ use Rattle.std.specs.Prelude.{◌==◌, ◌||◌}
 use Rattle.std.proofs.lemmas.Bool.Decides.{eqb_tells}
 use Rattle.jx_lex.specs.declared.kind.Kind.{Kind}
 use Rattle.jx_lex.specs.declared.kind.Kind.TheVariants as kind
-use Rattle.jx_lex.specs.declared.state.LexState.{LexState}
-use Rattle.jx_lex.specs.declared.state.LexState.TheVariants as state
-use Rattle.jx_lex.specs.declared.mark.MarkKind.{MarkKind}
-use Rattle.jx_lex.specs.declared.mark.MarkKind.TheVariants as mark
-use Rattle.jx_lex.specs.declared.state.TokenEnd.{TokenEnd}
-use Rattle.jx_lex.specs.declared.state.TokenEnd.TheVariants.{Before, After}
+use Rattle.jx_lex.specs.declared.alphabet.state.LexState.{LexState}
+use Rattle.jx_lex.specs.declared.alphabet.state.LexState.TheVariants as state
+use Rattle.jx_lex.specs.declared.alphabet.mark.MarkKind.{MarkKind}
+use Rattle.jx_lex.specs.declared.alphabet.mark.MarkKind.TheVariants as mark
+use Rattle.jx_lex.specs.declared.alphabet.state.TokenEnd.{TokenEnd}
+use Rattle.jx_lex.specs.declared.alphabet.state.TokenEnd.TheVariants.{Before, After}
 use Rattle.jx_lex.specs.Classes.{class_at}
 use Rattle.jx_lex.specs.Moves.{move, as_gap}
 use Rattle.jx_lex.specs.Token.{IsBlank, space, tab, line_feed, carriage_return, IsToken}
 use Rattle.jx_lex.specs.TokenStates.{Spells, here, goes, shuts, IsFinal, final_gap, final_zero, final_int, final_frac, final_exp, mark_of, in_token}
 use Rattle.jx_run.specs.Tree.{Tree, node, Children, no_children, child, span}
-use Rattle.jx_lex.specs.declared.span.Span.{Span}
+use Rattle.jx_summary.specs.declared.span.Span.{Span}
 use Rattle.jx_run.specs.Grammar.{Blanks, no_blanks, blank, Scalar, Value, leaf, empty_array, array, empty_object, object, Items, last_item, item, Members, last_member, member}
 use Rattle.jx_run.specs.Text.{Document, document}
 use Rattle.jx_run.proofs.Lexical.{TokensAreRead}

@@ -2,11 +2,11 @@
 use Rattle.std.proofs.Common.{◌≡◌, ℕ, zero, suc, ◌<◌, ◌≤◌, List, [], ◌∷◌, ◌++◌, length, get_or, Some, None, refl, sym, ap, subst, ◌∙◌, inl, inr, ◌⊎◌, arith, All}
 use Rattle.std.specs.Prelude.{slice_get}
 use Rattle.std.proofs.lemmas.Option.{get_or_from_slice_get, slice_get_cases, slice_get_past, slice_get_within}
-use Rattle.jx_lex.specs.declared.state.LexState.{LexState}
+use Rattle.jx_lex.specs.declared.alphabet.state.LexState.{LexState}
 use Rattle.jx_lex.specs.Ordinal.{ordinal}
 use Rattle.jx_reduce.specs.Reductions.{Forms}
 use Rattle.jx_run.specs.declared.way.Way.{Way}
-use Rattle.jx_run.specs.OutcomeRun.{OutcomeRunValue, Entries, entries_at, entries_of, exit_at, exit_in, with_exit, IsWhole}
+use Rattle.jx_run.specs.OutcomeRun.{OutcomeRunValue, Entries, entries_at, entries_of, exit_at, exit_in, with_exit, IsWellFormed}
 use Rattle.jx_lex.specs.View.{exit_of}
 use Rattle.jx_run.proofs.StateOrder.{ordinal-low}
 
@@ -48,7 +48,7 @@ pub exit_is : (run : OutcomeRunValue) (s : LexState) (w : Way) → slice_get run
     → exit_of w.exit ≡ exit_at run s
 exit_is run s w h low = let f = some_of run.structures w.structure low in sym (ap exit_in (entries_are run s w f.0 h f.1))
 
-pub has_entries : (run : OutcomeRunValue) → IsWhole run → (s : LexState) → (e : Entries) × (entries_at run s ≡ Some e)
+pub has_entries : (run : OutcomeRunValue) → IsWellFormed run → (s : LexState) → (e : Entries) × (entries_at run s ≡ Some e)
 has_entries run whole s =
     let low : ordinal s < length run.ways = let n = whole.all in let m = ordinal-low s in omega (arith, n, m) in
     let w = some_of run.ways (ordinal s) low in

@@ -5,7 +5,7 @@ use Rattle.jx_run.specs.declared.element_verdict.ElementVerdict.TheVariants as e
 use Rattle.jx_run.specs.declared.element_verdict.JudgedElement.{JudgedElement}
 use Rattle.jx_run.specs.declared.verdict.Verdict.{Verdict}
 use Rattle.jx_run.specs.declared.verdict.Verdict.TheVariants.{Accepted, Refused}
-use Rattle.jx_run.specs.Elements.{Part, span_of}
+use Rattle.jx_run.specs.Elements.{Part, part_span}
 use Rattle.jx_run.specs.Tree.{Tree}
 use Rattle.jx_run.specs.Unclosed.{EndsUnclosed, IsAccepted, end_of}
 use Rattle.jx_run.specs.Verdict.{Judged}
@@ -30,7 +30,7 @@ IsVerdictOn p limit element.MayBeCut = (0 < p.at) × IsUnclosedText p limit
 IsVerdictOn p limit element.Accepted = (0 < p.at) × IsClosedText p limit
 
 pub record IsJudgedElement (limit : ℕ) (p : Part) (e : JudgedElement) : Type 0 where
-  pub span_is : e.span ≡ span_of p
+  pub span_is : e.span ≡ part_span p
   pub verdict_is : IsVerdictOn p limit e.verdict
 
 -- the verdict on an element behind a separator, by that on its bytes and by whether their last one is open

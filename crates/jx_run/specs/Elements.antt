@@ -1,7 +1,7 @@
 -- JSON text sequences (RFC 7464, section 2): bytes in which each element stands behind a record separator.
 use Rattle.std.specs.Prelude.{ℕ, suc, ◌+◌, ◌==◌, nat_lt, Bool, List, [], ◌∷◌, length, if◌then◌else◌}
 use Rattle.std.specs.List.{filter}
-use Rattle.jx_lex.specs.declared.span.Span.{Span}
+use Rattle.jx_summary.specs.declared.span.Span.{Span}
 
 -- the record separator of section 2.2, hexadecimal 1E
 abbrev pub is_mark : ℕ → Bool
@@ -15,8 +15,8 @@ pub record Part : Type 0 where
 abbrev pub part : ℕ → List ℕ → Part
 part at bytes = record { at = at; bytes = bytes }
 
-abbrev pub span_of : Part → Span
-span_of p = record { start = p.at; end = p.at + length p.bytes }
+abbrev pub part_span : Part → Span
+part_span p = record { start = p.at; end = p.at + length p.bytes }
 
 -- what stands before the first separator, or all where there is none
 abbrev pub before_separator : List ℕ → List ℕ

@@ -2,7 +2,7 @@
 -- is the summary of bytes.
 use Rattle.std.specs.Prelude.{◌≡◌, ◌<◌, ℕ, Bool, List, [], ◌∷◌, ◌++◌, Option, None, Some}
 use Rattle.std.specs.List.{AllZip}
-use Rattle.jx_lex.specs.declared.span.Span.{Span}
+use Rattle.jx_summary.specs.declared.span.Span.{Span}
 use Rattle.jx_run.specs.declared.element_verdict.JudgedElement.{JudgedElement}
 use Rattle.jx_run.specs.Elements.{Part, part, before_separator, after_separators, filled}
 use Rattle.jx_run.specs.ElementVerdict.{IsJudgedElement}
@@ -32,8 +32,8 @@ abbrev pub last_part : PartRunValue → Option MarkedElementsValue → PartRunVa
 last_part before None = before
 last_part before (Some m) = m.after
 
-abbrev pub place_of_elements : ElementsRunValue → Span
-place_of_elements run = span run.before.outcomes.start (last_part run.before run.marked).outcomes.end
+abbrev pub elements_span : ElementsRunValue → Span
+elements_span run = span run.before.outcomes.start (last_part run.before run.marked).outcomes.end
 
 -- each part between two neighbouring separators that is not empty is judged, in order; the last part goes on to the end
 pub record AreMarked (limit : ℕ) (behind : List Part) (m : MarkedElementsValue) : Type 0 where
@@ -43,13 +43,13 @@ pub record AreMarked (limit : ℕ) (behind : List Part) (m : MarkedElementsValue
   pub done : AllZip (IsJudgedElement limit) (filled between) m.done
   pub marked : 0 < last.at
   pub start : m.after.outcomes.start ≡ last.at
-  pub depth : m.after.outcomes.limit ≡ limit
+  pub depth : m.after.outcomes.depth ≡ limit
   pub after : IsPartRun last.bytes m.after
 
 -- without a separator the run of all bytes, else the run of those before the first separator, and what stands behind it
 abbrev pub IsSummaryOf : List ℕ → PartRunValue → Option MarkedElementsValue → Type 0
 IsSummaryOf bytes before None = (after_separators before.outcomes.start bytes ≡ []) × IsPartRun bytes before
-IsSummaryOf bytes before (Some m) = IsPartRun (before_separator bytes) before × AreMarked before.outcomes.limit (after_separators before.outcomes.start bytes) m
+IsSummaryOf bytes before (Some m) = IsPartRun (before_separator bytes) before × AreMarked before.outcomes.depth (after_separators before.outcomes.start bytes) m
 
 abbrev pub IsElementsRun : List ℕ → ElementsRunValue → Type 0
 IsElementsRun bytes run = IsSummaryOf bytes run.before run.marked
@@ -60,10 +60,10 @@ pub record AreClosed (done : List JudgedElement) (after before : PartRunValue) (
   pub middle : List JudgedElement
   pub joined_are : joined ≡ done ++ (middle ++ more)
   pub of : (xs ys : List ℕ) → 0 < after.outcomes.start → IsPartRun xs after → IsPartRun ys before
-      → AllZip (IsJudgedElement after.outcomes.limit) (filled (part after.outcomes.start (xs ++ ys) ∷ [])) middle
+      → AllZip (IsJudgedElement after.outcomes.depth) (filled (part after.outcomes.start (xs ++ ys) ∷ [])) middle
 
 -- the right run goes on where the left one ends, and their joined bytes have the joined run as summary
 pub record IsElementsJoin (left right joined : ElementsRunValue) : Type 0 where
-  pub place : place_of_elements joined ≡ span left.before.outcomes.start (place_of_elements right).end
-  pub limit : joined.before.outcomes.limit ≡ left.before.outcomes.limit
+  pub span : elements_span joined ≡ span left.before.outcomes.start (elements_span right).end
+  pub depth : joined.before.outcomes.depth ≡ left.before.outcomes.depth
   pub of : (xs ys : List ℕ) → IsElementsRun xs left → IsElementsRun ys right → IsElementsRun (xs ++ ys) joined

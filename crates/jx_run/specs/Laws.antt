@@ -1,18 +1,18 @@
 -- What the laws of the reader say of the outcome of reading a text from its start.
 use Rattle.std.specs.Prelude.{◌≡◌, ℕ, List, [], Bool, true, false, if◌then◌else◌}
-use Rattle.jx_lex.specs.declared.span.Span.{Span}
-use Rattle.jx_lex.specs.declared.state.LexState.{LexState}
+use Rattle.jx_summary.specs.declared.span.Span.{Span}
+use Rattle.jx_lex.specs.declared.alphabet.state.LexState.{LexState}
 use Rattle.jx_reduce.specs.declared.expect.Expect.{Expect}
 use Rattle.jx_reduce.specs.declared.expect.Expect.TheVariants as expect
 use Rattle.jx_reduce.specs.declared.holder.Holder.{Holder}
 use Rattle.jx_run.specs.declared.verdict.Verdict.{Verdict}
 use Rattle.jx_run.specs.declared.verdict.Verdict.TheVariants.{Accepted, Refused}
 use Rattle.jx_run.specs.declared.verdict.Refusal.TheVariants.{Stopped, Truncated, TooDeep}
-use Rattle.jx_run.specs.Reading.{Outcome, went, stopped, too_deep, read_text, is_final}
+use Rattle.jx_run.specs.Reading.{TextReading, went, stopped, too_deep, read_text, is_final}
 use Rattle.jx_run.specs.Text.{Begins}
 use Rattle.jx_run.specs.Tree.{Tree, node}
 
-abbrev pub IsNoFault : Outcome → Type 0
+abbrev pub IsNoFault : TextReading → Type 0
 IsNoFault (went s e o) = Unit {0}
 IsNoFault (stopped at) = ⊥
 IsNoFault (too_deep at) = ⊥
@@ -22,24 +22,24 @@ abbrev pub is_end : LexState → Expect → List Holder → Bool
 is_end s expect.After [] = is_final s
 is_end s _ _ = false
 
-abbrev pub IsAccepting : Outcome → Type 0
+abbrev pub IsAccepting : TextReading → Type 0
 IsAccepting (went s e o) = is_end s e o ≡ true
 IsAccepting (stopped at) = ⊥
 IsAccepting (too_deep at) = ⊥
 
 -- the first fault is at this offset
-abbrev pub IsFaultAt : Outcome → ℕ → Type 0
+abbrev pub IsFaultAt : TextReading → ℕ → Type 0
 IsFaultAt (went s e o) i = ⊥
 IsFaultAt (stopped at) i = at ≡ i
 IsFaultAt (too_deep at) i = at ≡ i
 
-abbrev pub IsTooDeep : Outcome → Type 0
+abbrev pub IsTooDeep : TextReading → Type 0
 IsTooDeep (went s e o) = ⊥
 IsTooDeep (stopped at) = ⊥
 IsTooDeep (too_deep at) = Unit {0}
 
 -- the verdict that an outcome comes to
-abbrev pub verdict_of : Outcome → Verdict
+abbrev pub verdict_of : TextReading → Verdict
 verdict_of (went s e o) = if is_end s e o then Accepted else Refused Truncated
 verdict_of (stopped at) = Refused (Stopped at)
 verdict_of (too_deep at) = Refused (TooDeep at)

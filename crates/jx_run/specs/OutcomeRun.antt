@@ -1,8 +1,8 @@
 -- What a contract sees of a run that keeps outcomes alone, and what it means that a run is the summary of bytes.
 use Rattle.std.specs.Prelude.{◌≡◌, ℕ, ◌+◌, ◌<◌, ◌≤◌, List, length, Option, None, Some, All, slice_get}
-use Rattle.jx_lex.specs.declared.state.LexState.{LexState}
-use Rattle.jx_lex.specs.declared.span.Span.{Span}
-use Rattle.jx_lex.specs.declared.exit.Exit.{Exit}
+use Rattle.jx_lex.specs.declared.alphabet.state.LexState.{LexState}
+use Rattle.jx_summary.specs.declared.span.Span.{Span}
+use Rattle.jx_lex.specs.declared.alphabet.lex_exit.LexExit.{LexExit}
 use Rattle.jx_lex.specs.Lex as lex
 use Rattle.jx_lex.specs.Ordinal.{ordinal}
 use Rattle.jx_lex.specs.View.{exit_of}
@@ -10,12 +10,12 @@ use Rattle.jx_reduce.specs.declared.expect.Expect.{Expect}
 use Rattle.jx_reduce.specs.declared.holder.Holder.{Holder}
 use Rattle.jx_reduce.specs.Reductions.{Forms, answer, SpansIn}
 use Rattle.jx_run.specs.declared.way.Way.{Way}
-use Rattle.jx_run.specs.Reading.{Outcome, stopped, at_exit, and_then, read}
+use Rattle.jx_run.specs.Reading.{TextReading, stopped, at_exit, and_then, read}
 use Rattle.jx_run.specs.Tree.{span}
 
 -- one way for each state, in the order of the states, and the structures of their marks; ways may have one structure
 pub record OutcomeRunValue : Type 0 where
-  pub limit : ℕ
+  pub depth : ℕ
   pub start : ℕ
   pub end : ℕ
   pub ways : List Way
@@ -23,13 +23,13 @@ pub record OutcomeRunValue : Type 0 where
 
 -- what reading comes to from one state: where it ends, and what its marks come to
 pub record Entries : Type 0 where
-  pub exit : Exit
+  pub exit : LexExit
   pub marks : Forms
 
-abbrev pub place_of : OutcomeRunValue → Span
-place_of run = span run.start run.end
+abbrev pub outcome_span : OutcomeRunValue → Span
+outcome_span run = span run.start run.end
 
-abbrev pub with_exit : Exit → Option Forms → Option Entries
+abbrev pub with_exit : LexExit → Option Forms → Option Entries
 with_exit exit None = None
 with_exit exit (Some f) = Some (record { exit = exit; marks = f })
 
@@ -42,43 +42,43 @@ abbrev pub entries_at : OutcomeRunValue → LexState → Option Entries
 entries_at run s = entries_of run.structures (slice_get run.ways (ordinal s))
 
 -- what reading from an expectation comes to, over open containers, innermost first
-abbrev pub outcome_of : Entries → Expect → List Holder → Outcome
+abbrev pub outcome_of : Entries → Expect → List Holder → TextReading
 outcome_of e expect holders = at_exit (exit_of e.exit) (answer e.marks expect holders)
 
-abbrev pub outcome_in : Option Entries → Expect → List Holder → Outcome
+abbrev pub outcome_in : Option Entries → Expect → List Holder → TextReading
 outcome_in None expect holders = stopped 0
 outcome_in (Some e) expect holders = outcome_of e expect holders
 
 -- where reading from a state ends
-abbrev pub exit_in : Option Entries → lex.Exit
-exit_in None = lex.Exit.fault 0
+abbrev pub exit_in : Option Entries → lex.LexExit
+exit_in None = lex.LexExit.fault 0
 exit_in (Some e) = exit_of e.exit
 
-abbrev pub exit_at : OutcomeRunValue → LexState → lex.Exit
+abbrev pub exit_at : OutcomeRunValue → LexState → lex.LexExit
 exit_at run s = exit_in (entries_at run s)
 
-abbrev pub outcome : OutcomeRunValue → LexState → Expect → List Holder → Outcome
+abbrev pub outcome : OutcomeRunValue → LexState → Expect → List Holder → TextReading
 outcome run s = outcome_in (entries_at run s)
 
 -- the run is the summary of these bytes: from each state, each expectation and every list of open containers within the
 -- depth the outcome is that of reading
 pub record IsOutcomeRun (bytes : List ℕ) (run : OutcomeRunValue) : Type 0 where
   pub long : run.end ≡ run.start + length bytes
-  pub outcomes : (s : LexState) (expect : Expect) (holders : List Holder) → length holders ≤ run.limit
-      → outcome run s expect holders ≡ read run.limit s expect holders run.start bytes
+  pub outcomes : (s : LexState) (expect : Expect) (holders : List Holder) → length holders ≤ run.depth
+      → outcome run s expect holders ≡ read run.depth s expect holders run.start bytes
 
 -- the depth of a structure, and the span in which its offsets lie
-pub record IsWithin (limit start end : ℕ) (f : Forms) : Type 0 where
+pub record IsFormWithin (limit start end : ℕ) (f : Forms) : Type 0 where
   pub depth : f.depth ≡ limit
   pub offsets : SpansIn start end f
 
 -- what every run keeps
-pub record IsWhole (run : OutcomeRunValue) : Type 0 where
+pub record IsWellFormed (run : OutcomeRunValue) : Type 0 where
   pub order : run.start ≤ run.end
   pub all : length run.ways ≡ 32
   pub few : length run.structures ≤ 32
   pub there : All (λ (w : Way). w.structure < length run.structures) run.ways
-  pub within : All (IsWithin run.limit run.start run.end) run.structures
+  pub within : All (IsFormWithin run.depth run.start run.end) run.structures
 
 -- the outcomes are those of the left, and from where it went those of the right
 abbrev pub GoesOn : ℕ → Entries → OutcomeRunValue → Entries → Type 0

@@ -1,27 +1,27 @@
 -- The reading in a reader.
 use Rattle.std.specs.Prelude.{◌≡◌, ℕ, ◌+◌, ◌-◌, ◌^◌, ◌<◌, min, List, Option, Some, None}
-use Rattle.jx_lex.specs.declared.exit.Exit.{Exit}
-use Rattle.jx_lex.specs.declared.exit.Exit.TheVariants as exit
-use Rattle.jx_lex.specs.declared.mark.Mark.{Mark}
+use Rattle.jx_lex.specs.declared.alphabet.lex_exit.LexExit.{LexExit}
+use Rattle.jx_lex.specs.declared.alphabet.lex_exit.LexExit.TheVariants as exit
+use Rattle.jx_lex.specs.declared.alphabet.mark.Mark.{Mark}
 use Rattle.jx_lex.specs.Lex as lexical
 use Rattle.jx_reduce.specs.KnownStack.{Known, IsFault, HasRead}
 use Rattle.jx_reduce.specs.Read.{Reading}
 use Rattle.jx_reduce.specs.declared.whole.Whole.{Whole}
 use Rattle.jx_reduce.specs.declared.whole.Whole.TheVariants as whole
-use Rattle.jx_run.specs.Reading.{Outcome, stopped, too_deep, at_exit}
+use Rattle.jx_run.specs.Reading.{TextReading, stopped, too_deep, at_exit}
 use Rattle.jx_run.specs.Reader.{ReaderValue}
 use Rattle.jx_run.specs.declared.reader.Progress.{Progress}
 use Rattle.jx_run.specs.declared.reader.Progress.TheVariants.{Going, Stopped, TooDeep, Failed}
 use Rattle.jx_run.specs.declared.reader.Reader.TheInside.{Inside}
 
-abbrev pub outcome_at : Progress → Reading → Option Outcome
+abbrev pub outcome_at : Progress → Reading → Option TextReading
 outcome_at (Going s) r = Some (at_exit (lexical.state s) r)
 outcome_at (Stopped at) r = Some (stopped at)
 outcome_at (TooDeep at) r = Some (too_deep at)
 outcome_at Failed r = None
 
 abbrev pub reader_of : Inside → ReaderValue
-reader_of a = record { limit = a.depth; start = a.start; count = a.count; outcome = outcome_at a.progress a.kept.stack.reading }
+reader_of a = record { depth = a.depth; start = a.start; count = a.count; outcome = outcome_at a.progress a.kept.stack.reading }
 
 -- the stack has read some marks within the depth
 pub record HasMarks (depth : ℕ) (stack : Known) : Type 0 where
@@ -45,7 +45,7 @@ abbrev pub offset_at : ℕ → ℕ → ℕ
 offset_at base at = min (base + at) (2 ^ 64 - 1)
 
 -- where a scan of a slice came to
-abbrev pub settled : ℕ → Option Exit → Whole → Progress
+abbrev pub settled : ℕ → Option LexExit → Whole → Progress
 settled base x (whole.Stopped at) = Stopped (offset_at base at)
 settled base x (whole.TooDeep at) = TooDeep (offset_at base at)
 settled base (Some (exit.State s)) (whole.Went expect n) = Going s
@@ -53,14 +53,14 @@ settled base (Some (exit.Fault at)) (whole.Went expect n) = Stopped (offset_at b
 settled base None (whole.Went expect n) = Failed
 
 -- the same reading of bytes that stand further on
-abbrev pub shifted : ℕ → Outcome → Outcome
-shifted base (Outcome.went s expect holders) = Outcome.went s expect holders
+abbrev pub shifted : ℕ → TextReading → TextReading
+shifted base (TextReading.went s expect holders) = TextReading.went s expect holders
 shifted base (stopped at) = stopped (base + at)
 shifted base (too_deep at) = too_deep (base + at)
 
 -- every fault is at an offset that fits
-abbrev pub IsLow : ℕ → Outcome → Type 0
-IsLow base (Outcome.went s expect holders) = Unit {0}
+abbrev pub IsLow : ℕ → TextReading → Type 0
+IsLow base (TextReading.went s expect holders) = Unit {0}
 IsLow base (stopped at) = base + at < 2 ^ 64
 IsLow base (too_deep at) = base + at < 2 ^ 64
 

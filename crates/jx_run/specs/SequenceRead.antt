@@ -1,7 +1,7 @@
 -- A text sequence that is read part by part, cut at some of its record separators.
 use Rattle.std.specs.Prelude.{◌≡◌, ◌==◌, ℕ, List, [], ◌∷◌, ◌++◌, Bool, Option, Some, None, if◌then◌else◌}
 use Rattle.std.specs.List.{AllZip}
-use Rattle.jx_lex.specs.declared.span.Span.{Span}
+use Rattle.jx_summary.specs.declared.span.Span.{Span}
 use Rattle.jx_run.specs.declared.element_verdict.ElementVerdict.TheVariants as element
 use Rattle.jx_run.specs.declared.element_verdict.JudgedElement.{JudgedElement}
 use Rattle.jx_run.specs.declared.verdict.Verdict.{Verdict}
@@ -29,7 +29,7 @@ pub record AreRead (limit : ℕ) (bytes : List ℕ) (judged : List JudgedElement
   pub last : Part
   pub parts : parts 0 bytes ≡ ended ++ last ∷ []
   pub done : AllZip (IsJudgedElement limit) (filled ended) judged
-  pub depth : reader.limit ≡ limit
+  pub depth : reader.depth ≡ limit
   pub start : reader.start ≡ last.at
   pub read : HasRead last.bytes reader
   pub opens : loose ≡ ends_open last.bytes

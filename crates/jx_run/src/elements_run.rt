@@ -2,7 +2,7 @@
 ghost use Rattle.std.specs.Prelude.{◌≡◌, ◌++◌, ◌+◌, ◌<◌, ◌^◌, ℕ, List, None, Some, IfOk, IfErr, OnOk, OnErr, length};
 ghost use Rattle.std.specs.List.{AllZip};
 ghost use Rattle.jx_run.specs.Elements.{elements};
-ghost use Rattle.jx_run.specs.ElementsRun.{AreClosed, IsElementsJoin, IsElementsRun, last_part, place_of_elements};
+ghost use Rattle.jx_run.specs.ElementsRun.{AreClosed, IsElementsJoin, IsElementsRun, last_part, elements_span};
 ghost use Rattle.jx_run.specs.ElementVerdict.{IsJudgedElement};
 ghost use Rattle.jx_run.specs.SequenceRead.{StartsWithSeparator};
 
@@ -11,7 +11,7 @@ use crate::laws::reader_is_grammar;
 use crate::marked_elements::MarkedElements;
 use crate::part_run::PartRun;
 use crate::separators::next_separator;
-use crate::summary::Summary;
+use jx_summary::Summary;
 use jx_lex::{Depth, JoinFault, Span};
 use std::alloc::{AllocError, Global};
 use std::marker::Model;
@@ -34,14 +34,14 @@ impl Model for ElementsRun {
 
     ghost view = { λ r. record { before = r.before; marked = r.marked } };
 
-    ghost invariant = { λ r. (last_part r.before r.marked).outcomes.limit ≡ r.before.outcomes.limit };
+    ghost invariant = { λ r. (last_part r.before r.marked).outcomes.depth ≡ r.before.outcomes.depth };
 }
 
 impl ElementsRun {
     /// The elements of a whole sequence, in order.
     pub fn into_elements(self) -> Result<Vec<JudgedElement>, AllocError>
-        requires whole { (place_of_elements self).start ≡ 0 }
-        ensures elements { (bytes : List ℕ) → IsElementsRun bytes self → IfOk result (λ es. AllZip (IsJudgedElement self.before.outcomes.limit) (elements 0 bytes) es.items) }
+        requires whole { (elements_span self).start ≡ 0 }
+        ensures elements { (bytes : List ℕ) → IsElementsRun bytes self → IfOk result (λ es. AllZip (IsJudgedElement self.before.outcomes.depth) (elements 0 bytes) es.items) }
     {
         let ElementsRun { before, marked } = self;
         let mut elements = match marked {
@@ -59,9 +59,9 @@ impl ElementsRun {
     /// The elements of a part of a sequence, in order, where the part begins with a record separator, was read as a sequence of its
     /// own, and stands behind so many bytes: each is moved to where it stands.
     pub fn into_elements_behind(self, by: usize) -> Result<Vec<JudgedElement>, AllocError>
-        requires whole { (place_of_elements self).start ≡ 0 }
+        requires whole { (elements_span self).start ≡ 0 }
         ensures elements { (bytes : List ℕ) → IsElementsRun bytes self → StartsWithSeparator bytes → by + length bytes < 2 ^ 64
-            → IfOk result (λ es. AllZip (IsJudgedElement self.before.outcomes.limit) (elements by bytes) es.items) }
+            → IfOk result (λ es. AllZip (IsJudgedElement self.before.outcomes.depth) (elements by bytes) es.items) }
     {
         reader_is_grammar();
         let elements = self.into_elements()?;
@@ -71,10 +71,10 @@ impl ElementsRun {
     /// The same run, whose bytes stand so much further on. It takes no memory.
     pub fn shifted(self, by: usize) -> ElementsRun
         requires of { (bytes : List ℕ) × IsElementsRun bytes self }
-        requires fits { (place_of_elements self).end + by < 2 ^ 64 }
-        ensures start { (place_of_elements result).start ≡ by + (place_of_elements self).start }
-        ensures end { (place_of_elements result).end ≡ by + (place_of_elements self).end }
-        ensures limit { result.before.outcomes.limit ≡ self.before.outcomes.limit }
+        requires fits { (elements_span self).end + by < 2 ^ 64 }
+        ensures start { (elements_span result).start ≡ by + (elements_span self).start }
+        ensures end { (elements_span result).end ≡ by + (elements_span self).end }
+        ensures depth { result.before.outcomes.depth ≡ self.before.outcomes.depth }
         ensures of { (bytes : List ℕ) → IsElementsRun bytes self → IsElementsRun bytes result }
     {
         reader_is_grammar();
@@ -101,7 +101,7 @@ fn close(
     more: &mut Vec<JudgedElement>,
 ) -> Result<(), AllocError>
     requires neighbours { after.now.outcomes.end ≡ before.now.outcomes.start }
-    requires depth { after.now.outcomes.limit ≡ before.now.outcomes.limit }
+    requires depth { after.now.outcomes.depth ≡ before.now.outcomes.depth }
     ensures ok { OnOk result (AreClosed done.old.items after.now before.now more.old.items done.new.items) }
     ensures err { OnErr result ((done.new.items ≡ done.old.items) × (more.new.items ≡ more.old.items)) }
 {
@@ -121,7 +121,7 @@ fn close(
 /// Joins a left side without separators.
 fn join_plain(left: PartRun, right: ElementsRun) -> Result<ElementsRun, JoinFault<ElementsRun>>
     requires neighbours { left.outcomes.end ≡ right.before.outcomes.start }
-    requires depth { left.outcomes.limit ≡ right.before.outcomes.limit }
+    requires depth { left.outcomes.depth ≡ right.before.outcomes.depth }
     ensures joined { IfOk result (IsElementsJoin (record { before = left; marked = None }) right) }
     ensures refused { IfErr result (λ f. (f.left ≡ record { before = left; marked = None }) × (f.right ≡ right)) }
 {
@@ -149,9 +149,9 @@ fn join_last(
     marked: MarkedElements,
     right: PartRun,
 ) -> Result<ElementsRun, JoinFault<ElementsRun>>
-    requires whole { marked.after.outcomes.limit ≡ before.outcomes.limit }
+    requires whole { marked.after.outcomes.depth ≡ before.outcomes.depth }
     requires neighbours { marked.after.outcomes.end ≡ right.outcomes.start }
-    requires depth { marked.after.outcomes.limit ≡ right.outcomes.limit }
+    requires depth { marked.after.outcomes.depth ≡ right.outcomes.depth }
     ensures joined { IfOk result (IsElementsJoin (record { before = before; marked = Some marked }) (record { before = right; marked = None })) }
     ensures refused { IfErr result (λ f. (f.left ≡ record { before = before; marked = Some marked }) × (f.right ≡ record { before = right; marked = None })) }
 {
@@ -186,10 +186,10 @@ fn join_marked(
     middle: PartRun,
     right: MarkedElements,
 ) -> Result<ElementsRun, JoinFault<ElementsRun>>
-    requires left { marked.after.outcomes.limit ≡ before.outcomes.limit }
-    requires right { right.after.outcomes.limit ≡ middle.outcomes.limit }
+    requires left { marked.after.outcomes.depth ≡ before.outcomes.depth }
+    requires right { right.after.outcomes.depth ≡ middle.outcomes.depth }
     requires neighbours { marked.after.outcomes.end ≡ middle.outcomes.start }
-    requires depth { marked.after.outcomes.limit ≡ middle.outcomes.limit }
+    requires depth { marked.after.outcomes.depth ≡ middle.outcomes.depth }
     ensures joined { IfOk result (IsElementsJoin (record { before = before; marked = Some marked }) (record { before = middle; marked = Some right })) }
     ensures refused { IfErr result (λ f. (f.left ≡ record { before = before; marked = Some marked }) × (f.right ≡ record { before = middle; marked = Some right })) }
 {
@@ -220,9 +220,9 @@ fn join_marked(
 }
 
 impl Summary for ElementsRun {
-    ghost place = { place_of_elements };
+    ghost span = { elements_span };
 
-    ghost limit = { λ r. r.before.outcomes.limit };
+    ghost depth = { λ r. r.before.outcomes.depth };
 
     ghost is_of = { λ r bytes. IsElementsRun bytes r };
 

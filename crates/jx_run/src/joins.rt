@@ -1,7 +1,7 @@
 // The structures of the joined bytes of two runs. Ways that go through the same two structures share what is made of them.
 ghost use Rattle.std.specs.Prelude.{◌≡◌, ◌<◌, ◌≤◌, ◌+◌, ℕ, All, Some, length, slice_get, IfOk, IfSome, OnOk};
 ghost use Rattle.jx_run.specs.inside.Joins.{AreMade, IsAbove, IsMade, IsThere};
-ghost use Rattle.jx_run.specs.OutcomeRun.{IsWithin};
+ghost use Rattle.jx_run.specs.OutcomeRun.{IsFormWithin};
 
 use crate::outcome_run::OutcomeRun;
 use jx_reduce::Reductions;
@@ -49,11 +49,11 @@ impl Joins {
     ) -> Result<usize, AllocError>
         requires there { IsThere left.now right.now pair }
         requires neighbours { left.now.end ≡ right.now.start }
-        requires depth { left.now.limit ≡ right.now.limit }
+        requires depth { left.now.depth ≡ right.now.depth }
         requires made { AreMade left.now right.now self.old.pairs.items self.old.structures.items }
-        requires within { All (IsWithin left.now.limit left.now.start right.now.end) self.old.structures.items }
+        requires within { All (IsFormWithin left.now.depth left.now.start right.now.end) self.old.structures.items }
         ensures made { OnOk result (AreMade left.now right.now self.new.pairs.items self.new.structures.items) }
-        ensures within { OnOk result (All (IsWithin left.now.limit left.now.start right.now.end) self.new.structures.items) }
+        ensures within { OnOk result (All (IsFormWithin left.now.depth left.now.start right.now.end) self.new.structures.items) }
         ensures few { OnOk result (length self.new.structures.items ≤ length self.old.structures.items + 1) }
         ensures above { OnOk result (IsAbove self.old.structures.items self.new.structures.items) }
         ensures number { IfOk result (λ number. slice_get self.new.pairs.items number ≡ Some pair) }
@@ -75,11 +75,11 @@ impl Joins {
     ) -> Result<usize, AllocError>
         requires there { IsThere left.now right.now pair }
         requires neighbours { left.now.end ≡ right.now.start }
-        requires depth { left.now.limit ≡ right.now.limit }
+        requires depth { left.now.depth ≡ right.now.depth }
         requires made { AreMade left.now right.now self.old.pairs.items self.old.structures.items }
-        requires within { All (IsWithin left.now.limit left.now.start right.now.end) self.old.structures.items }
+        requires within { All (IsFormWithin left.now.depth left.now.start right.now.end) self.old.structures.items }
         ensures made { OnOk result (AreMade left.now right.now self.new.pairs.items self.new.structures.items) }
-        ensures within { OnOk result (All (IsWithin left.now.limit left.now.start right.now.end) self.new.structures.items) }
+        ensures within { OnOk result (All (IsFormWithin left.now.depth left.now.start right.now.end) self.new.structures.items) }
         ensures few { OnOk result (length self.new.structures.items ≤ length self.old.structures.items + 1) }
         ensures above { OnOk result (IsAbove self.old.structures.items self.new.structures.items) }
         ensures number { IfOk result (λ number. slice_get self.new.pairs.items number ≡ Some pair) }

@@ -3,9 +3,9 @@
 
 ghost use Rattle.std.specs.Prelude.{◌≡◌, ◌<◌, ◌+◌, ◌^◌, ◌++◌, ◌↔◌, ℕ, suc, Bool, List, [], All, IfSome, None, Option, Some, drop, false, length, take, true};
 ghost use Rattle.std.specs.List.{AllZip};
-ghost use Rattle.jx_lex.specs.declared.exit.Exit.{Exit};
-ghost use Rattle.jx_lex.specs.declared.mark.Mark.{Mark};
-ghost use Rattle.jx_lex.specs.declared.state.LexState.{LexState};
+ghost use Rattle.jx_lex.specs.declared.alphabet.lex_exit.LexExit.{LexExit};
+ghost use Rattle.jx_lex.specs.declared.alphabet.mark.Mark.{Mark};
+ghost use Rattle.jx_lex.specs.declared.alphabet.state.LexState.{LexState};
 ghost use Rattle.jx_lex.specs.Lex.{Track, lex};
 ghost use Rattle.jx_lex.specs.Seen.{SeesTrack, WantsNoMore};
 ghost use Rattle.jx_lex.specs.View.{exit_of};
@@ -16,7 +16,7 @@ ghost use Rattle.jx_reduce.specs.Whole.{whole_of};
 ghost use Rattle.jx_run.specs.Tree.{Tree, span};
 ghost use Rattle.jx_run.specs.Grammar.{Value};
 ghost use Rattle.jx_run.specs.Text.{Begins, IsDocument, Reads};
-ghost use Rattle.jx_run.specs.Reading.{Outcome, at_exit, read_text};
+ghost use Rattle.jx_run.specs.Reading.{TextReading, at_exit, read_text};
 ghost use Rattle.jx_run.specs.Kept.{HasSeen};
 ghost use Rattle.jx_run.specs.Reader.{is_fault, HasRead as HasReadText, ReaderValue};
 ghost use Rattle.jx_run.specs.Elements.{elements};
@@ -77,7 +77,7 @@ pub fn beginnings_are_completed_by_bytes()
 /// A value that stands in a text from `i` up to `j` has the span `i..j`, and what is left behind it is what stands in the
 /// text from `j` on.
 pub fn values_fill_their_spans()
-    ensures place { (text : List ℕ) (i j : ℕ) (rest : List ℕ) (tree : Tree) → Value i (drop i text) j rest tree → span_of tree ≡ span i j }
+    ensures span { (text : List ℕ) (i j : ℕ) (rest : List ℕ) (tree : Tree) → Value i (drop i text) j rest tree → span_of tree ≡ span i j }
     ensures reads { (text : List ℕ) (i j : ℕ) (rest : List ℕ) (tree : Tree) → Value i (drop i text) j rest tree → Reads text i j tree }
 {}
 
@@ -115,17 +115,17 @@ pub fn fronts_decide_where_texts_begin()
 /// byte behind a fault changes the outcome; a stack that met a fault wants no more; and where the bytes led, with what the
 /// stack came to, tells the verdict.
 pub fn readings_go_on()
-    ensures scanned { (old new : Known) (marks : List Mark) (track : Track) (base : ℕ) (exit : Option Exit) (whole : Whole) → HasRead marks old
+    ensures scanned { (old new : Known) (marks : List Mark) (track : Track) (base : ℕ) (exit : Option LexExit) (whole : Whole) → HasRead marks old
         → SeesTrack (λ marks ends. HasSeen marks ends old) (λ marks ends. HasSeen marks ends new) track
         → IfSome exit (λ e. exit_of e ≡ track.exit) → (exit ≡ None → WantsNoMore (λ marks ends. HasSeen marks ends new)) → whole ≡ whole_of new.reading
         → GoesOn old track (read old.depth track.marks old.reading) base (settled base exit whole) new }
     ensures fed { (limit from count : ℕ) (bytes slice : List ℕ) (s : LexState) (old new : Known) (progress : Progress) → old.depth ≡ limit → (IsFault old.reading → ⊥)
         → GoesOn old (lex s 0 slice) (read old.depth (lex s 0 slice).marks old.reading) (from + count) progress new → count ≡ length bytes → from + count + length slice < 2 ^ 64
         → outcome_at (Going s) old.reading ≡ Some (read_text limit from bytes) → outcome_at progress new.reading ≡ Some (read_text limit from (bytes ++ slice)) }
-    ensures passed { (limit from : ℕ) (bytes more : List ℕ) (outcome : Option Outcome) → is_fault outcome ≡ true
+    ensures passed { (limit from : ℕ) (bytes more : List ℕ) (outcome : Option TextReading) → is_fault outcome ≡ true
         → outcome ≡ Some (read_text limit from bytes) → outcome ≡ Some (read_text limit from (bytes ++ more)) }
     ensures done { (stack : Known) → IsFault stack.reading → WantsNoMore (λ marks ends. HasSeen marks ends stack) }
-    ensures verdict { (exit : Exit) (reading : Reading) → verdict_of (at_exit (exit_of exit) reading) ≡ verdict_from exit (whole_of reading) }
+    ensures verdict { (exit : LexExit) (reading : Reading) → verdict_of (at_exit (exit_of exit) reading) ≡ verdict_from exit (whole_of reading) }
 {
     reader_is_grammar();
 }
@@ -135,16 +135,16 @@ pub fn readings_go_on()
 /// The element that goes on is read further by bytes without a mark; where it ends, it comes behind those that ended; and
 /// what begins and ends with a mark brings its own elements, and a new one that has no byte yet.
 pub fn sequences_are_read_part_by_part()
-    ensures begun { (limit : ℕ) (reader : ReaderValue) → reader.limit ≡ limit → reader.start ≡ 0 → HasReadText [] reader → AreRead limit [] [] reader false }
+    ensures begun { (limit : ℕ) (reader : ReaderValue) → reader.depth ≡ limit → reader.start ≡ 0 → HasReadText [] reader → AreRead limit [] [] reader false }
     ensures gone_on { (limit : ℕ) (bytes more : List ℕ) (done : List JudgedElement) (old new : ReaderValue) (loose next : Bool) → AreRead limit bytes done old loose
-        → HasNoSeparator more → new.limit ≡ old.limit → new.start ≡ old.start → ((xs : List ℕ) → HasReadText xs old → HasReadText (xs ++ more) new)
+        → HasNoSeparator more → new.depth ≡ old.depth → new.start ≡ old.start → ((xs : List ℕ) → HasReadText xs old → HasReadText (xs ++ more) new)
         → next ≡ last_open loose more → AreRead limit (bytes ++ more) done new next }
     ensures reached { (limit : ℕ) (bytes : List ℕ) (done : List JudgedElement) (reader : ReaderValue) (loose : Bool) → AreRead limit bytes done reader loose
         → reader.start + reader.count ≡ length bytes }
     ensures ended { (limit : ℕ) (bytes : List ℕ) (done : List JudgedElement) (reader : ReaderValue) (loose : Bool) (verdict : Verdict) → AreRead limit bytes done reader loose
-        → ((xs : List ℕ) → HasReadText xs reader → Judged reader.start xs reader.limit verdict)
+        → ((xs : List ℕ) → HasReadText xs reader → Judged reader.start xs reader.depth verdict)
         → AllZip (IsJudgedElement limit) (elements 0 bytes) (done ++ listed (ended_there (span reader.start (reader.start + reader.count)) verdict loose)) }
     ensures marked { (limit : ℕ) (bytes more : List ℕ) (done behind : List JudgedElement) (reader : ReaderValue) → AllZip (IsJudgedElement limit) (elements 0 bytes) done
         → StartsWithSeparator more → EndsWithSeparator more → AllZip (IsJudgedElement limit) (elements (length bytes) more) behind
-        → reader.limit ≡ limit → reader.start ≡ length bytes + length more → HasReadText [] reader → AreRead limit (bytes ++ more) (done ++ behind) reader false }
+        → reader.depth ≡ limit → reader.start ≡ length bytes + length more → HasReadText [] reader → AreRead limit (bytes ++ more) (done ++ behind) reader false }
 {}

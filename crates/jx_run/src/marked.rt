@@ -5,7 +5,7 @@ ghost use Rattle.jx_run.specs.SeqRun.{IsMarked, IsReading};
 
 use crate::separators::next_separator;
 use crate::started::Started;
-use crate::summary::Summary;
+use jx_summary::Summary;
 use crate::text_run::TextRun;
 use jx_lex::Depth;
 use std::alloc::{AllocError, Global};
@@ -55,7 +55,7 @@ impl Marked {
         requires ordered { start ≤ end }
         requires within { end ≤ length text.now }
         ensures end { IfOk result (λ m. m.after.map.end ≡ end) }
-        ensures depth { IfOk result (λ m. m.after.limit ≡ depth) }
+        ensures depth { IfOk result (λ m. m.after.depth ≡ depth) }
         ensures of { IfOk result (IsMarked depth (parts start (slice_range text.now start end))) }
     {
         let mut done = Vec::new(alloc);

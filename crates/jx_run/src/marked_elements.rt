@@ -41,8 +41,8 @@ fn read_element(
     requires marked { 0 < start }
     requires ordered { start ≤ end }
     requires within { end ≤ length text.now }
-    ensures depth { reader.new.limit ≡ reader.old.limit }
-    ensures judged { IfOk result (IsJudgedElement reader.old.limit (part start (slice_range text.now start end))) }
+    ensures depth { reader.new.depth ≡ reader.old.depth }
+    ensures judged { IfOk result (IsJudgedElement reader.old.depth (part start (slice_range text.now start end))) }
 {
     let bytes = &text[start..end];
     reader.reset(start);
@@ -66,7 +66,7 @@ impl MarkedElements {
         requires ordered { start ≤ end }
         requires within { end ≤ length text.now }
         ensures end { IfOk result (λ m. m.after.outcomes.end ≡ end) }
-        ensures depth { IfOk result (λ m. m.after.outcomes.limit ≡ depth) }
+        ensures depth { IfOk result (λ m. m.after.outcomes.depth ≡ depth) }
         ensures of { IfOk result (AreMarked depth (parts start (slice_range text.now start end))) }
     {
         let mut reader = Reader::new(alloc, depth, start);
@@ -103,7 +103,7 @@ impl MarkedElements {
         ensures done { result.done ≡ map (moved by) self.done }
         ensures start { result.after.outcomes.start ≡ by + self.after.outcomes.start }
         ensures end { result.after.outcomes.end ≡ by + self.after.outcomes.end }
-        ensures limit { result.after.outcomes.limit ≡ self.after.outcomes.limit }
+        ensures depth { result.after.outcomes.depth ≡ self.after.outcomes.depth }
         ensures after { (bytes : List ℕ) → IsPartRun bytes self.after → IsPartRun bytes result.after }
     {
         MarkedElements {

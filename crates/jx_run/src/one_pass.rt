@@ -1,6 +1,6 @@
 // A text that is read once, from its start to its end, while something else is kept of its tokens.
 ghost use Rattle.std.specs.Prelude.{◌≡◌, ◌≤◌, ◌<◌, [], length, slice_range, IfOk, IfSome, IsNone, OnOk};
-ghost use Rattle.jx_lex.specs.declared.state.LexState.TheVariants.{Gap};
+ghost use Rattle.jx_lex.specs.declared.alphabet.state.LexState.TheVariants.{Gap};
 ghost use Rattle.jx_lex.specs.Lex.{lex};
 ghost use Rattle.jx_lex.specs.Seen.{SeesTrack, WantsNoMore};
 ghost use Rattle.jx_lex.specs.View.{exit_of};
@@ -10,7 +10,7 @@ ghost use Rattle.jx_run.specs.declared.verdict.Verdict.TheVariants.{Accepted};
 use crate::laws::reader_is_grammar;
 use crate::outcome_run::verdict_from;
 use crate::verdict::Verdict;
-use jx_lex::{Depth, Exit, Keeper, LexState, Mark, parts_are_read_in_turn, scan};
+use jx_lex::{Depth, LexExit, Keeper, LexState, Mark, parts_are_read_in_turn, scan};
 use jx_reduce::KnownStack;
 use std::alloc::{AllocError, Global};
 
@@ -77,7 +77,7 @@ fn scan_by<K: Keeper, P: Pace>(
     text: &[u8],
     from: usize,
     to: usize,
-) -> Result<Option<Exit>, AllocError>
+) -> Result<Option<LexExit>, AllocError>
     requires { (from ≤ to) × (to ≤ length text.now) }
     ensures seen { OnOk result (SeesTrack (K.has_seen keeper.old) (K.has_seen keeper.new) (lex Gap from (slice_range text.now from to))) }
     ensures exit { IfOk result (λ exit. IfSome exit (λ e. exit_of e ≡ (lex Gap from (slice_range text.now from to)).exit)) }
@@ -92,12 +92,12 @@ fn scan_by<K: Keeper, P: Pace>(
             return Ok(None);
         };
         match exit {
-            Exit::State(next) => state = next,
-            Exit::Fault(fault) => return Ok(Some(Exit::Fault(fault))),
+            LexExit::State(next) => state = next,
+            LexExit::Fault(fault) => return Ok(Some(LexExit::Fault(fault))),
         }
         at = stop;
     }
-    Ok(Some(Exit::State(state)))
+    Ok(Some(LexExit::State(state)))
 }
 
 /// A text's verdict, and what was kept of its tokens.
@@ -134,7 +134,7 @@ pub fn read_into<K: Keeper + Drop, P: Pace>(
     // The scan ends early only at a fault of the stack, and then it does not matter where.
     let exit = scan_by(&mut both, pace, text, from, to)?;
     let verdict = verdict_from(
-        exit.unwrap_or(Exit::State(LexState::Gap)),
+        exit.unwrap_or(LexExit::State(LexState::Gap)),
         both.stack.whole(),
     );
     Ok(Told {

@@ -11,7 +11,7 @@ ghost use Rattle.jx_reduce.specs.declared.expect.Expect.TheVariants.{Value};
 ghost use Rattle.jx_reduce.specs.declared.holder.Holder.{Holder};
 ghost use Rattle.jx_run.specs.inside.Joins.{AreJoined, AreJoinedWays, AreMade, GoesThrough, IsAbove, IsMade, IsMadeAt, IsThere};
 ghost use Rattle.jx_run.specs.inside.Moved.{AreMoved};
-ghost use Rattle.jx_run.specs.OutcomeRun.{entries_at, exit_at, place_of, Entries, IsOutcomeRun, IsWithin};
+ghost use Rattle.jx_run.specs.OutcomeRun.{entries_at, exit_at, outcome_span, Entries, IsOutcomeRun, IsFormWithin};
 ghost use Rattle.jx_run.specs.Reading.{at_exit, read};
 ghost use Rattle.jx_run.specs.inside.Rest.{IsRestOf};
 ghost use Rattle.jx_run.specs.Verdict.{Judged};
@@ -21,10 +21,10 @@ use crate::joins::{Joins, Pair};
 use crate::laws::reader_is_grammar;
 use crate::reduce::all_ways;
 use crate::rest::rest_ways;
-use crate::summary::Summary;
+use jx_summary::Summary;
 use crate::verdict::{Refusal, Verdict};
 use crate::way::{Way, ways_shifted};
-use jx_lex::{ChunkMap, Depth, Exit, JoinFault, LexState, Span};
+use jx_lex::{ChunkMap, Depth, LexExit, JoinFault, LexState, Span};
 use jx_reduce::{Expect, Reduced, Reductions, Whole, offsets_lie_in_spans};
 use std::alloc::{AllocError, Global};
 use std::marker::Model;
@@ -48,13 +48,13 @@ pub struct OutcomeRun {
 }
 
 impl Model for OutcomeRun {
-    ghost use Rattle.jx_run.specs.OutcomeRun.{OutcomeRunValue, IsWhole};
+    ghost use Rattle.jx_run.specs.OutcomeRun.{OutcomeRunValue, IsWellFormed};
 
     ghost Value = { OutcomeRunValue };
 
-    ghost view = { λ r. record { limit = r.depth; start = r.span.start; end = r.span.end; ways = r.ways.items; structures = r.structures.items } };
+    ghost view = { λ r. record { depth = r.depth; start = r.span.start; end = r.span.end; ways = r.ways.items; structures = r.structures.items } };
 
-    ghost invariant = { λ r. IsWhole (record { limit = r.depth; start = r.span.start; end = r.span.end; ways = r.ways.items; structures = r.structures.items }) };
+    ghost invariant = { λ r. IsWellFormed (record { depth = r.depth; start = r.span.start; end = r.span.end; ways = r.ways.items; structures = r.structures.items }) };
 }
 
 /// Whether a whole text may end in this state, with this expectation and so many open containers.
@@ -72,15 +72,15 @@ fn ends_text(state: LexState, expect: Expect, containers: usize) -> bool
 }
 
 /// The verdict on a whole text, from where its track ends and from what its marks come to.
-pub(crate) fn verdict_from(exit: Exit, whole: Whole) -> Verdict
+pub(crate) fn verdict_from(exit: LexExit, whole: Whole) -> Verdict
     ensures { result ≡ verdict_from exit whole }
 {
     match (whole, exit) {
-        (Whole::Stopped(at), _) | (Whole::Went { .. }, Exit::Fault(at)) => {
+        (Whole::Stopped(at), _) | (Whole::Went { .. }, LexExit::Fault(at)) => {
             Verdict::Refused(Refusal::Stopped { at })
         }
         (Whole::TooDeep(at), _) => Verdict::Refused(Refusal::TooDeep { at }),
-        (Whole::Went { expect, open }, Exit::State(state)) => {
+        (Whole::Went { expect, open }, LexExit::State(state)) => {
             if ends_text(state, expect, open) {
                 Verdict::Accepted
             } else {
@@ -91,7 +91,7 @@ pub(crate) fn verdict_from(exit: Exit, whole: Whole) -> Verdict
 }
 
 /// The verdict on a whole text, from where its track ends and from the structure of its marks.
-fn verdict_of(exit: Exit, structure: &Reductions) -> Verdict
+fn verdict_of(exit: LexExit, structure: &Reductions) -> Verdict
     ensures { result ≡ verdict_from exit (whole_of (answer structure.now Value [])) }
 {
     verdict_from(exit, structure.entry(Expect::Value).whole())
@@ -132,7 +132,7 @@ impl OutcomeRun {
         requires of { (bytes : List ℕ) × IsOf bytes map.now }
         ensures start { IfOk result (λ r. r.start ≡ map.now.start) }
         ensures end { IfOk result (λ r. r.end ≡ map.now.end) }
-        ensures limit { IfOk result (λ r. r.limit ≡ depth) }
+        ensures depth { IfOk result (λ r. r.depth ≡ depth) }
         ensures of { IfOk result (λ r. (bytes : List ℕ) → IsOf bytes map.now → IsOutcomeRun bytes r) }
     {
         let (ways, structures) = all_ways(alloc, map, depth)?;
@@ -156,7 +156,7 @@ impl OutcomeRun {
         requires { (start ≤ end) × (end ≤ length text.now) }
         ensures start { IfOk result (λ r. r.start ≡ start) }
         ensures end { IfOk result (λ r. (start ≤ r.end) × (r.end ≤ end)) }
-        ensures limit { IfOk result (λ r. r.limit ≡ depth) }
+        ensures depth { IfOk result (λ r. r.depth ≡ depth) }
         ensures of { IfOk result (λ r. IsOutcomeRun (slice_range text.now start r.end) r) }
     {
         let map = ChunkMap::of_beginning(alloc, text, start, end)?;
@@ -168,7 +168,7 @@ impl OutcomeRun {
         requires { (self.now.end ≤ end) × (end ≤ length text.now) }
         ensures start { IfOk result (λ r. r.start ≡ self.now.end) }
         ensures end { IfOk result (λ r. r.end ≡ end) }
-        ensures limit { IfOk result (λ r. r.limit ≡ self.now.limit) }
+        ensures depth { IfOk result (λ r. r.depth ≡ self.now.depth) }
         ensures rest { IfOk result (λ r. IsRestOf self.now (slice_range text.now self.now.end end) r) }
     {
         let start = self.span.end;
@@ -191,7 +191,7 @@ impl OutcomeRun {
     /// The verdict on the bytes as a whole text: read from between tokens, with a value expected and no container open
     /// (RFC 8259, section 2). It takes no memory.
     pub fn verdict(&self) -> Verdict
-        ensures verdict { (bytes : List ℕ) → IsOutcomeRun bytes self.now → Judged self.now.start bytes self.now.limit result }
+        ensures verdict { (bytes : List ℕ) → IsOutcomeRun bytes self.now → Judged self.now.start bytes self.now.depth result }
     {
         reader_is_grammar();
         let way = self.way_from(LexState::Gap);
@@ -200,7 +200,7 @@ impl OutcomeRun {
     }
 
     /// Where reading from a state ends, or the offset at which the lexical machine faults.
-    pub fn exit(&self, state: LexState) -> Exit
+    pub fn exit(&self, state: LexState) -> LexExit
         ensures exit { exit_of result ≡ exit_at self.now state }
     {
         self.way_from(state).exit
@@ -209,12 +209,12 @@ impl OutcomeRun {
     /// What the marks come to from a state and an expectation. With where reading from that state ends, it tells what the
     /// bytes come to over open containers, as many as the depth at most.
     pub fn entry(&self, state: LexState, expect: Expect) -> &Reduced
-        ensures depth { depth_of result.now ≡ self.now.limit }
+        ensures depth { depth_of result.now ≡ self.now.depth }
         ensures all { length self.now.ways ≡ 32 }
         ensures few { length self.now.structures ≤ 32 }
         ensures form { (e : Entries) → entries_at self.now state ≡ Some e → form_in result.now ≡ form_at e.marks (entry_of expect) }
-        ensures size { IsOfSize self.now.limit (form_in result.now) }
-        ensures reads { (bytes : List ℕ) → IsOutcomeRun bytes self.now → (holders : List Holder) → length holders ≤ self.now.limit → at_exit (exit_at self.now state) (answer_of result.now holders) ≡ read self.now.limit state expect holders self.now.start bytes }
+        ensures size { IsOfSize self.now.depth (form_in result.now) }
+        ensures reads { (bytes : List ℕ) → IsOutcomeRun bytes self.now → (holders : List Holder) → length holders ≤ self.now.depth → at_exit (exit_at self.now state) (answer_of result.now holders) ≡ read self.now.depth state expect holders self.now.start bytes }
     {
         let way = self.way_from(state);
         let structure = self.structure(way.structure);
@@ -224,8 +224,8 @@ impl OutcomeRun {
     /// The verdict on the joined bytes as a whole text; neither run changes, and no structure but that of its start is joined.
     pub(crate) fn verdict_with(&self, right: &OutcomeRun) -> Result<Verdict, AllocError>
         requires neighbours { self.now.end ≡ right.now.start }
-        requires depth { self.now.limit ≡ right.now.limit }
-        ensures verdict { (xs ys : List ℕ) → IsOutcomeRun xs self.now → IsOutcomeRun ys right.now → IfOk result (Judged self.now.start (xs ++ ys) self.now.limit) }
+        requires depth { self.now.depth ≡ right.now.depth }
+        ensures verdict { (xs ys : List ℕ) → IsOutcomeRun xs self.now → IsOutcomeRun ys right.now → IfOk result (Judged self.now.start (xs ++ ys) self.now.depth) }
     {
         reader_is_grammar();
         let (exit, pair) = self.onward(LexState::Gap, right);
@@ -243,7 +243,7 @@ impl OutcomeRun {
         requires fits { self.end + by < 2 ^ 64 }
         ensures start { result.start ≡ by + self.start }
         ensures end { result.end ≡ by + self.end }
-        ensures limit { result.limit ≡ self.limit }
+        ensures depth { result.depth ≡ self.depth }
         ensures of { (bytes : List ℕ) → IsOutcomeRun bytes self → IsOutcomeRun bytes result }
     {
         offsets_lie_in_spans();
@@ -272,7 +272,7 @@ impl OutcomeRun {
     fn structure(&self, number: usize) -> &Reductions
         requires number { number < length self.now.structures }
         ensures structure { slice_get self.now.structures number ≡ Some result.now }
-        ensures within { IsWithin self.now.limit self.now.start self.now.end result.now }
+        ensures within { IsFormWithin self.now.depth self.now.start self.now.end result.now }
         ensures order { self.now.start ≤ self.now.end }
     {
         &self.structures[number]
@@ -280,9 +280,9 @@ impl OutcomeRun {
 
     /// Where the way from a state ends in the joined bytes, and the structures that it goes through: those of the left alone
     /// where it ends at a fault there.
-    fn onward(&self, state: LexState, right: &OutcomeRun) -> (Exit, Pair)
+    fn onward(&self, state: LexState, right: &OutcomeRun) -> (LexExit, Pair)
         requires neighbours { self.now.end ≡ right.now.start }
-        requires depth { self.now.limit ≡ right.now.limit }
+        requires depth { self.now.depth ≡ right.now.depth }
         ensures from { (e : Entries) × (entries_at self.now state ≡ Some e) }
         ensures there { IsThere self.now right.now result.1 }
         ensures goes { GoesThrough self.now right.now state result.0 result.1 }
@@ -290,8 +290,8 @@ impl OutcomeRun {
         let way = self.way_from(state);
         let left = way.structure;
         match way.exit {
-            Exit::Fault(_) => (way.exit, Pair { left, right: None }),
-            Exit::State(last) => {
+            LexExit::Fault(_) => (way.exit, Pair { left, right: None }),
+            LexExit::State(last) => {
                 let next = right.way_from(last);
                 let pair = Pair {
                     left,
@@ -306,9 +306,9 @@ impl OutcomeRun {
     pub(crate) fn extended(&self, pair: Pair, right: &OutcomeRun) -> Result<Reductions, AllocError>
         requires there { IsThere self.now right.now pair }
         requires neighbours { self.now.end ≡ right.now.start }
-        requires depth { self.now.limit ≡ right.now.limit }
+        requires depth { self.now.depth ≡ right.now.depth }
         ensures made { IfOk result (IsMade self.now right.now pair) }
-        ensures within { IfOk result (IsWithin self.now.limit self.now.start right.now.end) }
+        ensures within { IfOk result (IsFormWithin self.now.depth self.now.start right.now.end) }
     {
         // Shows the proof what the right keeps.
         let _ = &right.depth;
@@ -327,10 +327,10 @@ impl OutcomeRun {
     /// changes. The right need not be of use from states to which nothing leads.
     pub(crate) fn joined(&self, right: &OutcomeRun) -> Result<OutcomeRun, AllocError>
         requires neighbours { self.now.end ≡ right.now.start }
-        requires depth { self.now.limit ≡ right.now.limit }
+        requires depth { self.now.depth ≡ right.now.depth }
         ensures start { IfOk result (λ j. j.start ≡ self.now.start) }
         ensures end { IfOk result (λ j. j.end ≡ right.now.end) }
-        ensures limit { IfOk result (λ j. j.limit ≡ self.now.limit) }
+        ensures depth { IfOk result (λ j. j.depth ≡ self.now.depth) }
         ensures of { IfOk result (λ j. (xs ys : List ℕ) → IsOutcomeRun xs self.now → IsOutcomeRun ys right.now → IsOutcomeRun (xs ++ ys) j) }
         ensures rest { IfOk result (λ j. (xs ys : List ℕ) → IsOutcomeRun xs self.now → IsRestOf self.now ys right.now → IsOutcomeRun (xs ++ ys) j) }
     {
@@ -354,10 +354,10 @@ impl OutcomeRun {
     /// refused this run is handed back as it was.
     pub(crate) fn joined_onto(self, right: &OutcomeRun) -> Result<OutcomeRun, OutcomeRun>
         requires neighbours { self.end ≡ right.now.start }
-        requires depth { self.limit ≡ right.now.limit }
+        requires depth { self.depth ≡ right.now.depth }
         ensures start { IfOk result (λ j. j.start ≡ self.start) }
         ensures end { IfOk result (λ j. j.end ≡ right.now.end) }
-        ensures limit { IfOk result (λ j. j.limit ≡ self.limit) }
+        ensures depth { IfOk result (λ j. j.depth ≡ self.depth) }
         ensures of { IfOk result (λ j. (xs ys : List ℕ) → IsOutcomeRun xs self → IsOutcomeRun ys right.now → IsOutcomeRun (xs ++ ys) j) }
         ensures rest { IfOk result (λ j. (xs ys : List ℕ) → IsOutcomeRun xs self → IsRestOf self ys right.now → IsOutcomeRun (xs ++ ys) j) }
         ensures err { IfErr result (λ left. left ≡ self) }
@@ -383,11 +383,11 @@ impl OutcomeRun {
         more: Vec<Reductions>,
     ) -> Result<OutcomeRun, OutcomeRun>
         requires neighbours { self.end ≡ right.now.start }
-        requires depth { self.limit ≡ right.now.limit }
+        requires depth { self.depth ≡ right.now.depth }
         requires joined { AreJoined self right.now ways.items (self.structures ++ more.items) }
         ensures start { IfOk result (λ j. j.start ≡ self.start) }
         ensures end { IfOk result (λ j. j.end ≡ right.now.end) }
-        ensures limit { IfOk result (λ j. j.limit ≡ self.limit) }
+        ensures depth { IfOk result (λ j. j.depth ≡ self.depth) }
         ensures of { IfOk result (λ j. (xs ys : List ℕ) → IsOutcomeRun xs self → IsOutcomeRun ys right.now → IsOutcomeRun (xs ++ ys) j) }
         ensures rest { IfOk result (λ j. (xs ys : List ℕ) → IsOutcomeRun xs self → IsRestOf self ys right.now → IsOutcomeRun (xs ++ ys) j) }
         ensures err { IfErr result (λ left. left ≡ self) }
@@ -407,9 +407,9 @@ impl OutcomeRun {
     /// The ways of the joined bytes, where the structures of this run keep their numbers, and those behind them.
     fn further(&self, right: &OutcomeRun) -> Result<(Vec<Way>, Vec<Reductions>), AllocError>
         requires neighbours { self.now.end ≡ right.now.start }
-        requires depth { self.now.limit ≡ right.now.limit }
+        requires depth { self.now.depth ≡ right.now.depth }
         ensures few { IfOk result (λ j. length j.1.items ≤ 32) }
-        ensures within { IfOk result (λ j. All (IsWithin self.now.limit self.now.start right.now.end) (self.now.structures ++ j.1.items)) }
+        ensures within { IfOk result (λ j. All (IsFormWithin self.now.depth self.now.start right.now.end) (self.now.structures ++ j.1.items)) }
         ensures each { IfOk result (λ j. AreJoinedWays self.now right.now (self.now.structures ++ j.1.items) all_states j.0.items) }
     {
         // Shows the proof what both runs keep.
@@ -422,7 +422,7 @@ impl OutcomeRun {
         for place in 0..states.len() {
             let state = states[place];
             let (exit, pair) = self.onward(state, right);
-            let structure = self.place_of_pair(right, &mut joins, pair)?;
+            let structure = self.index_of_pair(right, &mut joins, pair)?;
             ways.push(Way { exit, structure })?;
         }
         Ok((ways, joins.structures))
@@ -438,7 +438,7 @@ impl OutcomeRun {
 
     /// The number of the structure of a pair, among those of this run and of the joins behind them. That of the left alone
     /// is there; another is made unless it was before.
-    fn place_of_pair(
+    fn index_of_pair(
         &self,
         right: &OutcomeRun,
         joins: &mut Joins,
@@ -446,15 +446,15 @@ impl OutcomeRun {
     ) -> Result<usize, AllocError>
         requires there { IsThere self.now right.now pair }
         requires neighbours { self.now.end ≡ right.now.start }
-        requires depth { self.now.limit ≡ right.now.limit }
+        requires depth { self.now.depth ≡ right.now.depth }
         requires made { AreMade self.now right.now joins.old.pairs.items joins.old.structures.items }
-        requires within { All (IsWithin self.now.limit self.now.start right.now.end) joins.old.structures.items }
+        requires within { All (IsFormWithin self.now.depth self.now.start right.now.end) joins.old.structures.items }
         requires few { length joins.old.structures.items ≤ 32 }
         ensures made { OnOk result (AreMade self.now right.now joins.new.pairs.items joins.new.structures.items) }
-        ensures within { OnOk result (All (IsWithin self.now.limit self.now.start right.now.end) joins.new.structures.items) }
+        ensures within { OnOk result (All (IsFormWithin self.now.depth self.now.start right.now.end) joins.new.structures.items) }
         ensures few { OnOk result (length joins.new.structures.items ≤ length joins.old.structures.items + 1) }
         ensures above { OnOk result (IsAbove joins.old.structures.items joins.new.structures.items) }
-        ensures place { IfOk result (IsMadeAt self.now right.now (self.now.structures ++ joins.new.structures.items) pair) }
+        ensures made_at { IfOk result (IsMadeAt self.now right.now (self.now.structures ++ joins.new.structures.items) pair) }
     {
         match pair.right {
             None => Ok(pair.left),
@@ -468,7 +468,7 @@ impl OutcomeRun {
     /// The ways of the joined bytes, and their structures.
     fn all_onward(&self, right: &OutcomeRun) -> Result<(Vec<Way>, Vec<Reductions>), AllocError>
         requires neighbours { self.now.end ≡ right.now.start }
-        requires depth { self.now.limit ≡ right.now.limit }
+        requires depth { self.now.depth ≡ right.now.depth }
         ensures joined { IfOk result (λ j. AreJoined self.now right.now j.0.items j.1.items) }
     {
         let states = LexState::all();
@@ -484,9 +484,9 @@ impl OutcomeRun {
 }
 
 impl Summary for OutcomeRun {
-    ghost place = { place_of };
+    ghost span = { outcome_span };
 
-    ghost limit = { λ r. r.limit };
+    ghost depth = { λ r. r.depth };
 
     ghost is_of = { λ r bytes. IsOutcomeRun bytes r };
 

@@ -3,14 +3,14 @@ ghost use Rattle.std.specs.Prelude.{◌≡◌, ◌≤◌, ◌<◌, ◌+◌, ◌^
 ghost use Rattle.jx_run.specs.Elements.{part};
 ghost use Rattle.jx_run.specs.ElementsRun.{IsPartRun};
 ghost use Rattle.jx_run.specs.ElementVerdict.{IsJudgedElement};
-ghost use Rattle.jx_run.specs.OutcomeRun.{place_of};
+ghost use Rattle.jx_run.specs.OutcomeRun.{outcome_span};
 ghost use Rattle.jx_run.specs.Tree.{span};
 ghost use Rattle.jx_run.specs.Unclosed.{ends_open};
 
 use crate::element_verdict::JudgedElement;
 use crate::open_end::{ends_open, told};
 use crate::outcome_run::OutcomeRun;
-use crate::summary::Summary;
+use jx_summary::Summary;
 use jx_lex::{Depth, JoinFault, Span};
 use std::alloc::{AllocError, Global};
 use std::marker::Model;
@@ -42,8 +42,8 @@ impl PartRun {
     ) -> Result<PartRun, AllocError>
         requires ordered { start ≤ end }
         requires within { end ≤ length text.now }
-        ensures place { IfOk result (λ r. place_of r.outcomes ≡ span start end) }
-        ensures limit { IfOk result (λ r. r.outcomes.limit ≡ depth) }
+        ensures span { IfOk result (λ r. outcome_span r.outcomes ≡ span start end) }
+        ensures depth { IfOk result (λ r. r.outcomes.depth ≡ depth) }
         ensures of { IfOk result (λ r. IsPartRun (slice_range text.now start end) r) }
     {
         let outcomes = OutcomeRun::of(alloc, text, start, end, depth)?;
@@ -53,14 +53,14 @@ impl PartRun {
 
     /// Where its bytes stand.
     pub(crate) fn span(&self) -> Span
-        ensures { result ≡ place_of self.now.outcomes }
+        ensures { result ≡ outcome_span self.now.outcomes }
     {
         self.outcomes.span()
     }
 
     /// The depth that it was read with.
     pub(crate) fn depth(&self) -> Depth
-        ensures { result ≡ self.now.outcomes.limit }
+        ensures { result ≡ self.now.outcomes.depth }
     {
         self.outcomes.depth()
     }
@@ -86,9 +86,9 @@ impl PartRun {
     /// Joins with the part to the right; where memory is refused, both are handed back as they were.
     pub(crate) fn join(self, right: PartRun) -> Result<PartRun, JoinFault<PartRun>>
         requires neighbours { self.outcomes.end ≡ right.outcomes.start }
-        requires depth { self.outcomes.limit ≡ right.outcomes.limit }
-        ensures place { IfOk result (λ r. place_of r.outcomes ≡ span self.outcomes.start right.outcomes.end) }
-        ensures limit { IfOk result (λ r. r.outcomes.limit ≡ self.outcomes.limit) }
+        requires depth { self.outcomes.depth ≡ right.outcomes.depth }
+        ensures span { IfOk result (λ r. outcome_span r.outcomes ≡ span self.outcomes.start right.outcomes.end) }
+        ensures depth { IfOk result (λ r. r.outcomes.depth ≡ self.outcomes.depth) }
         ensures of { IfOk result (λ r. (xs ys : List ℕ) → IsPartRun xs self → IsPartRun ys right → IsPartRun (xs ++ ys) r) }
         ensures refused { IfErr result (λ f. (f.left ≡ self) × (f.right ≡ right)) }
     {
@@ -104,7 +104,7 @@ impl PartRun {
         requires fits { self.outcomes.end + by < 2 ^ 64 }
         ensures start { result.outcomes.start ≡ by + self.outcomes.start }
         ensures end { result.outcomes.end ≡ by + self.outcomes.end }
-        ensures limit { result.outcomes.limit ≡ self.outcomes.limit }
+        ensures depth { result.outcomes.depth ≡ self.outcomes.depth }
         ensures of { (bytes : List ℕ) → IsPartRun bytes self → IsPartRun bytes result }
     {
         PartRun {
@@ -116,7 +116,7 @@ impl PartRun {
     /// The element that has these bytes and stands behind a record separator. It takes no memory.
     pub(crate) fn judged(&self) -> JudgedElement
         ensures { (bytes : List ℕ) → 0 < self.now.outcomes.start → IsPartRun bytes self.now
-            → IsJudgedElement self.now.outcomes.limit (part self.now.outcomes.start bytes) result }
+            → IsJudgedElement self.now.outcomes.depth (part self.now.outcomes.start bytes) result }
     {
         JudgedElement {
             span: self.outcomes.span(),
@@ -127,9 +127,9 @@ impl PartRun {
     /// The element that has the joined bytes and stands behind a record separator; neither part changes.
     pub(crate) fn judged_with(&self, right: &PartRun) -> Result<JudgedElement, AllocError>
         requires neighbours { self.now.outcomes.end ≡ right.now.outcomes.start }
-        requires depth { self.now.outcomes.limit ≡ right.now.outcomes.limit }
+        requires depth { self.now.outcomes.depth ≡ right.now.outcomes.depth }
         ensures { (xs ys : List ℕ) → 0 < self.now.outcomes.start → IsPartRun xs self.now → IsPartRun ys right.now
-            → IfOk result (IsJudgedElement self.now.outcomes.limit (part self.now.outcomes.start (xs ++ ys))) }
+            → IfOk result (IsJudgedElement self.now.outcomes.depth (part self.now.outcomes.start (xs ++ ys))) }
     {
         let verdict = self.outcomes.verdict_with(&right.outcomes)?;
         let span = Span {

@@ -1,8 +1,8 @@
 // A text that is read from its start, slice by slice.
 
 ghost use Rattle.std.specs.Prelude.{◌≡◌, ◌+◌, ◌<◌, ◌^◌, ◌++◌, ℕ, List, [], OnOk, OnErr, IfOk, IsErr, length};
-ghost use Rattle.jx_lex.specs.declared.exit.Exit.TheVariants as exit;
-ghost use Rattle.jx_lex.specs.declared.mark.Mark.{Mark};
+ghost use Rattle.jx_lex.specs.declared.alphabet.lex_exit.LexExit.TheVariants as exit;
+ghost use Rattle.jx_lex.specs.declared.alphabet.mark.Mark.{Mark};
 ghost use Rattle.jx_lex.specs.Lex.{lex};
 ghost use Rattle.jx_reduce.specs.KnownStack.{HasRead as StackHasRead};
 ghost use Rattle.jx_reduce.specs.Read.{read as read_marks};
@@ -12,7 +12,7 @@ ghost use Rattle.jx_run.specs.Whole.{ends_text, verdict_from};
 
 use crate::laws::reader_is_grammar;
 use crate::verdict::{Refusal, Verdict};
-use jx_lex::{Depth, Exit, Keeper, LexState, Mark, scan};
+use jx_lex::{Depth, LexExit, Keeper, LexState, Mark, scan};
 use jx_reduce::{Expect, KnownStack, Whole};
 use std::alloc::{AllocError, Global};
 use std::marker::Model;
@@ -115,15 +115,15 @@ impl Reader {
     ghost use Rattle.jx_run.specs.ReaderInside.{settled, GoesOn};
 
     /// Where a scan came to, over a slice that stands from `base` on.
-    fn settled(base: usize, exit: Option<Exit>, whole: Whole) -> Progress
+    fn settled(base: usize, exit: Option<LexExit>, whole: Whole) -> Progress
         ensures { result ≡ settled base exit whole }
     {
         match whole {
             Whole::Stopped(at) => Progress::Stopped(base.saturating_add(at)),
             Whole::TooDeep(at) => Progress::TooDeep(base.saturating_add(at)),
             Whole::Went { .. } => match exit {
-                Some(Exit::State(state)) => Progress::Going(state),
-                Some(Exit::Fault(at)) => Progress::Stopped(base.saturating_add(at)),
+                Some(LexExit::State(state)) => Progress::Going(state),
+                Some(LexExit::Fault(at)) => Progress::Stopped(base.saturating_add(at)),
                 None => Progress::Failed,
             },
         }
@@ -146,7 +146,7 @@ impl Reader {
 
     /// A reader of a text whose first byte has this offset. Nothing is allocated.
     pub fn new(alloc: Global, depth: Depth, start: usize) -> Reader
-        ensures limit { result.limit ≡ depth }
+        ensures depth { result.depth ≡ depth }
         ensures start { result.start ≡ start }
         ensures reads { HasRead [] result }
     {
@@ -164,7 +164,7 @@ impl Reader {
 
     /// How many containers may stand open at once.
     pub fn depth(&self) -> Depth
-        ensures { result ≡ self.now.limit }
+        ensures { result ≡ self.now.depth }
     {
         self.depth
     }
@@ -185,7 +185,7 @@ impl Reader {
 
     /// Begins another text, whose first byte has this offset. The memory stays, unless some was refused.
     pub fn reset(&mut self, start: usize)
-        ensures limit { self.new.limit ≡ self.old.limit }
+        ensures depth { self.new.depth ≡ self.old.depth }
         ensures start { self.new.start ≡ start }
         ensures reads { HasRead [] self.new }
     {
@@ -204,7 +204,7 @@ impl Reader {
     /// refused, and from then on every slice is.
     pub fn feed(&mut self, slice: &[u8]) -> Result<(), AllocError>
         requires { self.old.start + self.old.count + length slice.now < 2 ^ 64 }
-        ensures limit { self.new.limit ≡ self.old.limit }
+        ensures depth { self.new.depth ≡ self.old.depth }
         ensures start { self.new.start ≡ self.old.start }
         ensures reads { OnOk result ((bytes : List ℕ) → HasRead bytes self.old → HasRead (bytes ++ slice.now) self.new) }
         ensures count { OnOk result (self.new.count ≡ self.old.count + length slice.now) }
@@ -231,7 +231,7 @@ impl Reader {
     /// The verdict on the bytes that it was fed, as a whole text. Where memory was refused there is no verdict, and this
     /// says that the text is cut short.
     pub fn verdict(&self) -> Verdict
-        ensures verdict { (bytes : List ℕ) → HasRead bytes self.now → Judged self.now.start bytes self.now.limit result }
+        ensures verdict { (bytes : List ℕ) → HasRead bytes self.now → Judged self.now.start bytes self.now.depth result }
     {
         reader_is_grammar();
         match self.progress {

@@ -3,10 +3,10 @@ ghost use Rattle.std.specs.Prelude.{◌≡◌, ◌<◌, ◌≤◌, ◌+◌, ◌+
 ghost use Rattle.jx_lex.specs.Map.{track};
 ghost use Rattle.jx_lex.specs.Ordinal.{all_states};
 ghost use Rattle.jx_lex.specs.View.{marks_at, view_track};
-ghost use Rattle.jx_lex.specs.declared.mark.Mark.{Mark};
+ghost use Rattle.jx_lex.specs.declared.alphabet.mark.Mark.{Mark};
 ghost use Rattle.jx_reduce.specs.Offsets.{EachIn, RisingFrom};
 ghost use Rattle.jx_run.specs.inside.Joins.{IsAbove};
-ghost use Rattle.jx_run.specs.OutcomeRun.{IsWithin};
+ghost use Rattle.jx_run.specs.OutcomeRun.{IsFormWithin};
 ghost use Rattle.jx_run.specs.inside.Reduced.{path_at, AreInside, ArePaths, AreReduced, AreRising, AreWaysOf, IsAt, IsLoneIn, IsReduced};
 
 use crate::way::Way;
@@ -253,7 +253,7 @@ pub(crate) fn all_ways(
     requires inside { AreInside map.now }
     ensures ways { IfOk result (λ r. AreWaysOf depth map.now r.1.items all_states r.0.items) }
     ensures few { IfOk result (λ r. length r.1.items ≤ 32) }
-    ensures within { IfOk result (λ r. All (IsWithin depth map.now.start map.now.end) r.1.items) }
+    ensures within { IfOk result (λ r. All (IsFormWithin depth map.now.start map.now.end) r.1.items) }
 {
     let count = map.segments().len();
     let mut paths = Paths {

@@ -1,13 +1,13 @@
 // The rest of a piece, from the states that are left behind its beginning.
 ghost use Rattle.std.specs.Prelude.{◌≡◌, ◌≢◌, ◌≤◌, ◌<◌, ◌+◌, All, max, length, slice_range, IfOk, IsTrue, OnOk};
-ghost use Rattle.jx_lex.specs.declared.exit.Exit.TheVariants as exit;
-ghost use Rattle.jx_lex.specs.declared.state.LexState.{LexState};
+ghost use Rattle.jx_lex.specs.declared.alphabet.lex_exit.LexExit.TheVariants as exit;
+ghost use Rattle.jx_lex.specs.declared.alphabet.state.LexState.{LexState};
 ghost use Rattle.jx_run.specs.inside.Joins.{IsAbove};
-ghost use Rattle.jx_run.specs.OutcomeRun.{outcome_of, IsWithin};
+ghost use Rattle.jx_run.specs.OutcomeRun.{outcome_of, IsFormWithin};
 ghost use Rattle.jx_run.specs.inside.Rest.{AreRead, AreReadWays, IsReadWay, Reaches};
 
 use crate::way::Way;
-use jx_lex::{Depth, Exit, Keeper, LexState, Mark, scan};
+use jx_lex::{Depth, LexExit, Keeper, LexState, Mark, scan};
 use jx_reduce::{Reducer, Reductions};
 use std::alloc::{AllocError, Global};
 
@@ -48,10 +48,10 @@ fn read_from(
     from: usize,
     to: usize,
     depth: Depth,
-) -> Result<(Exit, Reductions), AllocError>
+) -> Result<(LexExit, Reductions), AllocError>
     requires { (from ≤ to) × (to ≤ length text.now) }
     ensures reads { IfOk result (λ r. AreRead depth from (slice_range text.now from to) state (outcome_of (record { exit = r.0; marks = r.1 }))) }
-    ensures within { IfOk result (λ r. IsWithin depth from to r.1) }
+    ensures within { IfOk result (λ r. IsFormWithin depth from to r.1) }
 {
     let mut kept = KeptMarks {
         reducer: Reducer::new(alloc, depth),
@@ -60,14 +60,14 @@ fn read_from(
     let marks = kept.reducer.finish()?;
     // A reducer always wants more. If it did not, its marks would come to a fault from everywhere, and it would not matter
     // where the reading ends.
-    Ok((exit.unwrap_or(Exit::Fault(from)), marks))
+    Ok((exit.unwrap_or(LexExit::Fault(from)), marks))
 }
 
 /// Whether none of the ways ends in this state.
 fn avoid(ways: &[Way], state: LexState) -> bool
     ensures { IsTrue result → All (λ w. w.exit ≢ exit.State state) ways.now }
 {
-    ways.iter().all(|way| way.exit != Exit::State(state))
+    ways.iter().all(|way| way.exit != LexExit::State(state))
 }
 
 /// The way from a state, whose structure is put behind the others.
@@ -85,7 +85,7 @@ fn read_way(
     requires { (from ≤ to) × (to ≤ length text.now) }
     ensures above { OnOk result (IsAbove structures.old.items structures.new.items) }
     ensures few { OnOk result (length structures.new.items ≤ length structures.old.items + 1) }
-    ensures within { OnOk result (All (IsWithin depth from to) structures.old.items → All (IsWithin depth from to) structures.new.items) }
+    ensures within { OnOk result (All (IsFormWithin depth from to) structures.old.items → All (IsFormWithin depth from to) structures.new.items) }
     ensures there { IfOk result (λ w. w.structure < length structures.new.items) }
     ensures reads { IfOk result (IsReadWay depth from (slice_range text.now from to) structures.new.items state) }
 {
@@ -111,13 +111,13 @@ fn way_from(
     requires { (from ≤ to) × (to ≤ length text.now) }
     ensures above { OnOk result (IsAbove structures.old.items structures.new.items) }
     ensures few { OnOk result (length structures.new.items ≤ length structures.old.items + 1) }
-    ensures within { OnOk result (All (IsWithin depth from to) structures.old.items → All (IsWithin depth from to) structures.new.items) }
+    ensures within { OnOk result (All (IsFormWithin depth from to) structures.old.items → All (IsFormWithin depth from to) structures.new.items) }
     ensures there { IfOk result (λ w. w.structure < max 1 (length structures.new.items)) }
     ensures reads { IfOk result (λ w. Reaches reached.now state → IsReadWay depth from (slice_range text.now from to) structures.new.items state w) }
 {
     if avoid(reached, state) {
         return Ok(Way {
-            exit: Exit::Fault(from),
+            exit: LexExit::Fault(from),
             structure: 0,
         });
     }
@@ -134,7 +134,7 @@ fn fill(
 ) -> Result<(), AllocError>
     ensures above { OnOk result (IsAbove structures.old.items structures.new.items) }
     ensures many { OnOk result (length structures.new.items ≡ max 1 (length structures.old.items)) }
-    ensures within { OnOk result (All (IsWithin depth from to) structures.old.items → All (IsWithin depth from to) structures.new.items) }
+    ensures within { OnOk result (All (IsFormWithin depth from to) structures.old.items → All (IsFormWithin depth from to) structures.new.items) }
 {
     if structures.is_empty() {
         structures.push(Reductions::new(alloc, depth))?;
@@ -156,7 +156,7 @@ pub(crate) fn rest_ways(
     ensures all { IfOk result (λ r. length r.0.items ≡ 32) }
     ensures there { IfOk result (λ r. All (λ w. w.structure < length r.1.items) r.0.items) }
     ensures few { IfOk result (λ r. length r.1.items ≤ 32) }
-    ensures within { IfOk result (λ r. All (IsWithin depth from to) r.1.items) }
+    ensures within { IfOk result (λ r. All (IsFormWithin depth from to) r.1.items) }
     ensures reads { IfOk result (λ r. (s : LexState) → AreReadWays depth from (slice_range text.now from to) reached.now r.1.items r.0.items s) }
 {
     let states = LexState::all();

@@ -9,9 +9,9 @@ ghost use Rattle.jx_run.specs.Verdict.{Judged};
 
 use crate::laws::reader_is_grammar;
 use crate::outcome_run::{OutcomeRun, verdict_from};
-use crate::summary::Summary;
+use jx_summary::Summary;
 use crate::verdict::{Refusal, Verdict};
-use jx_lex::{Depth, Exit, LexState};
+use jx_lex::{Depth, LexExit, LexState};
 use jx_reduce::{Expect, Holder, Outcome, Whole};
 use std::alloc::{AllocError, Global};
 use std::marker::Model;
@@ -54,19 +54,19 @@ impl Model for RunReader {
 }
 
 /// Where a run leads whose bytes stand from `base` on: where its track ends, and what its marks come to.
-fn arrived(base: usize, exit: Exit, outcome: Outcome) -> Course
+fn arrived(base: usize, exit: LexExit, outcome: Outcome) -> Course
     ensures { result ≡ arrived base exit outcome }
 {
     match outcome {
         Outcome::Stopped(at) => Course::Stopped(base.saturating_add(at)),
         Outcome::TooDeep(at) => Course::TooDeep(base.saturating_add(at)),
         Outcome::Went { expect, holders } => match exit {
-            Exit::State(state) => Course::Going {
+            LexExit::State(state) => Course::Going {
                 state,
                 expect,
                 holders,
             },
-            Exit::Fault(at) => Course::Stopped(base.saturating_add(at)),
+            LexExit::Fault(at) => Course::Stopped(base.saturating_add(at)),
         },
     }
 }
@@ -79,9 +79,9 @@ fn led(
     expect: Expect,
     holders: &[Holder],
 ) -> Result<Course, AllocError>
-    requires within { length holders.now ≤ run.now.limit }
+    requires within { length holders.now ≤ run.now.depth }
     ensures leads { IfOk result (λ course. (more : List ℕ) → IsOutcomeRun more run.now
-        → LeadsTo base run.now.limit (read run.now.limit state expect (reverse holders.now) run.now.start more) course) }
+        → LeadsTo base run.now.depth (read run.now.depth state expect (reverse holders.now) run.now.start more) course) }
 {
     let reduced = run.entry(state, expect);
     let outcome = reduced.act(holders)?;
@@ -92,7 +92,7 @@ fn led(
 impl RunReader {
     /// A reader of a text whose first byte has this offset. Nothing is allocated.
     pub fn new(alloc: Global, depth: Depth, start: usize) -> RunReader
-        ensures limit { result.limit ≡ depth }
+        ensures depth { result.depth ≡ depth }
         ensures start { result.start ≡ start }
         ensures reads { HasRead [] result }
     {
@@ -110,7 +110,7 @@ impl RunReader {
 
     /// How many containers may stand open at once.
     pub fn depth(&self) -> Depth
-        ensures { result ≡ self.now.limit }
+        ensures { result ≡ self.now.depth }
     {
         self.depth
     }
@@ -139,11 +139,11 @@ impl RunReader {
     /// Reads the bytes of a run behind all bytes that it has read. The run is over a text of its own, and its offsets are
     /// moved to where its bytes stand here. Only want of memory is refused, and from then on every run is.
     pub fn follow(&mut self, run: &OutcomeRun) -> Result<(), AllocError>
-        requires limit { run.now.limit ≡ self.old.limit }
+        requires depth { run.now.depth ≡ self.old.depth }
         requires start { run.now.start ≡ 0 }
         requires fits { self.old.start + self.old.count + run.now.end < 2 ^ 64 }
         requires of { (more : List ℕ) × IsOutcomeRun more run.now }
-        ensures limit { self.new.limit ≡ self.old.limit }
+        ensures depth { self.new.depth ≡ self.old.depth }
         ensures start { self.new.start ≡ self.old.start }
         ensures reads { OnOk result ((bytes more : List ℕ) → HasRead bytes self.old → IsOutcomeRun more run.now → HasRead (bytes ++ more) self.new) }
         ensures count { OnOk result (self.new.count ≡ self.old.count + run.now.end) }
@@ -179,7 +179,7 @@ impl RunReader {
     pub fn pass(&mut self, slice: &[u8])
         requires done { is_fault self.old.outcome ≡ true }
         requires fits { self.old.start + self.old.count + length slice.now < 2 ^ 64 }
-        ensures limit { self.new.limit ≡ self.old.limit }
+        ensures depth { self.new.depth ≡ self.old.depth }
         ensures start { self.new.start ≡ self.old.start }
         ensures reads { (bytes : List ℕ) → HasRead bytes self.old → HasRead (bytes ++ slice.now) self.new }
         ensures count { self.new.count ≡ self.old.count + length slice.now }
@@ -190,7 +190,7 @@ impl RunReader {
     /// The verdict on the bytes that it has read, as a whole text. Where memory was refused there is no verdict, and this
     /// says that the text is cut short.
     pub fn verdict(&self) -> Verdict
-        ensures verdict { (bytes : List ℕ) → HasRead bytes self.now → Judged self.now.start bytes self.now.limit result }
+        ensures verdict { (bytes : List ℕ) → HasRead bytes self.now → Judged self.now.start bytes self.now.depth result }
     {
         reader_is_grammar();
         match &self.course {
@@ -203,7 +203,7 @@ impl RunReader {
                     expect: *expect,
                     open: holders.len(),
                 };
-                verdict_from(Exit::State(*state), whole)
+                verdict_from(LexExit::State(*state), whole)
             }
             Course::Stopped(at) => Verdict::Refused(Refusal::Stopped { at: *at }),
             Course::TooDeep(at) => Verdict::Refused(Refusal::TooDeep { at: *at }),

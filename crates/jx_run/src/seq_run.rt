@@ -1,14 +1,14 @@
 // Runs over parts of a JSON text sequence.
 ghost use Rattle.std.specs.Prelude.{◌≡◌, ℕ, List, None, map, IfOk, IfErr, OnOk, OnErr};
-ghost use Rattle.jx_run.specs.Elements.{elements, span_of};
-ghost use Rattle.jx_run.specs.SeqRun.{IsClosed, IsSeqJoin, IsSeqRun, element_places, last_run, place_of_seq};
+ghost use Rattle.jx_run.specs.Elements.{elements, part_span};
+ghost use Rattle.jx_run.specs.SeqRun.{IsClosed, IsSeqJoin, IsSeqRun, element_spans, last_run, sequence_span};
 ghost use Rattle.jx_run.specs.Shape.{shown};
 
 use crate::marked::Marked;
 use crate::separators::next_separator;
 use crate::shape::Shape;
 use crate::started::Started;
-use crate::summary::Summary;
+use jx_summary::Summary;
 use crate::text_run::TextRun;
 use jx_lex::{Depth, JoinFault, Span};
 use std::alloc::{AllocError, Global};
@@ -31,15 +31,15 @@ impl Model for SeqRun {
 
     ghost view = { λ r. record { before = r.before; marked = r.marked } };
 
-    ghost invariant = { λ r. (last_run r.before r.marked).limit ≡ r.before.limit };
+    ghost invariant = { λ r. (last_run r.before r.marked).depth ≡ r.before.depth };
 }
 
 impl SeqRun {
     /// The parts of the bytes between the record separators.
     pub fn shape(&self) -> Shape<'_>
         ensures shape { shown result ≡ self.now }
-        ensures elements { (bytes : List ℕ) → IsSeqRun bytes self.now → map span_of (elements self.now.before.map.start bytes) ≡ element_places self.now.before self.now.marked }
-        ensures depth { (last_run self.now.before self.now.marked).limit ≡ self.now.before.limit }
+        ensures elements { (bytes : List ℕ) → IsSeqRun bytes self.now → map part_span (elements self.now.before.map.start bytes) ≡ element_spans self.now.before self.now.marked }
+        ensures depth { (last_run self.now.before self.now.marked).depth ≡ self.now.before.depth }
     {
         match &self.marked {
             None => Shape::Plain(&self.before),
@@ -61,7 +61,7 @@ fn close(
     more: &mut Vec<Started>,
 ) -> Result<(), AllocError>
     requires neighbours { after.now.map.end ≡ before.now.map.start }
-    requires depth { after.now.limit ≡ before.now.limit }
+    requires depth { after.now.depth ≡ before.now.depth }
     ensures ok { OnOk result (IsClosed done.old.items after.now before.now more.old.items done.new.items) }
     ensures err { OnErr result ((done.new.items ≡ done.old.items) × (more.new.items ≡ more.old.items)) }
 {
@@ -81,7 +81,7 @@ fn close(
 /// Joins a left side without separators.
 fn join_plain(left: TextRun, right: SeqRun) -> Result<SeqRun, JoinFault<SeqRun>>
     requires neighbours { left.map.end ≡ right.before.map.start }
-    requires depth { left.limit ≡ right.before.limit }
+    requires depth { left.depth ≡ right.before.depth }
     ensures joined { IfOk result (IsSeqJoin (record { before = left; marked = None }) right) }
     ensures refused { IfErr result (λ f. (f.left ≡ record { before = left; marked = None }) × (f.right ≡ right)) }
 {
@@ -105,9 +105,9 @@ fn join_plain(left: TextRun, right: SeqRun) -> Result<SeqRun, JoinFault<SeqRun>>
 
 /// Joins a right side without separators.
 fn join_last(before: TextRun, marked: Marked, right: TextRun) -> Result<SeqRun, JoinFault<SeqRun>>
-    requires whole { marked.after.limit ≡ before.limit }
+    requires whole { marked.after.depth ≡ before.depth }
     requires neighbours { marked.after.map.end ≡ right.map.start }
-    requires depth { marked.after.limit ≡ right.limit }
+    requires depth { marked.after.depth ≡ right.depth }
     ensures joined { IfOk result (IsSeqJoin (record { before = before; marked = Some marked }) (record { before = right; marked = None })) }
     ensures refused { IfErr result (λ f. (f.left ≡ record { before = before; marked = Some marked }) × (f.right ≡ record { before = right; marked = None })) }
 {
@@ -142,10 +142,10 @@ fn join_marked(
     middle: TextRun,
     right: Marked,
 ) -> Result<SeqRun, JoinFault<SeqRun>>
-    requires left { marked.after.limit ≡ before.limit }
-    requires right { right.after.limit ≡ middle.limit }
+    requires left { marked.after.depth ≡ before.depth }
+    requires right { right.after.depth ≡ middle.depth }
     requires neighbours { marked.after.map.end ≡ middle.map.start }
-    requires depth { marked.after.limit ≡ middle.limit }
+    requires depth { marked.after.depth ≡ middle.depth }
     ensures joined { IfOk result (IsSeqJoin (record { before = before; marked = Some marked }) (record { before = middle; marked = Some right })) }
     ensures refused { IfErr result (λ f. (f.left ≡ record { before = before; marked = Some marked }) × (f.right ≡ record { before = middle; marked = Some right })) }
 {
@@ -176,9 +176,9 @@ fn join_marked(
 }
 
 impl Summary for SeqRun {
-    ghost place = { place_of_seq };
+    ghost span = { sequence_span };
 
-    ghost limit = { λ r. r.before.limit };
+    ghost depth = { λ r. r.before.depth };
 
     ghost is_of = { λ r bytes. IsSeqRun bytes r };
 

@@ -19,7 +19,7 @@ impl Model for Started {
 
     ghost Value = { StartedValue };
 
-    ghost view = { λ s. record { place = s.span; limit = s.depth; marks = s.marks.items; ends = s.ends.items; verdict = s.verdict } };
+    ghost view = { λ s. record { span = s.span; depth = s.depth; marks = s.marks.items; ends = s.ends.items; verdict = s.verdict } };
 
     ghost invariant = { λ s. Unit {0} };
 }
@@ -33,7 +33,7 @@ impl Started {
         ends: Vec<usize>,
         verdict: Verdict,
     ) -> Started
-        ensures { result ≡ record { place = span; limit = depth; marks = marks.items; ends = ends.items; verdict = verdict } }
+        ensures { result ≡ record { span = span; depth = depth; marks = marks.items; ends = ends.items; verdict = verdict } }
     {
         Started {
             span,
@@ -46,14 +46,14 @@ impl Started {
 
     /// Where its bytes stand, as offsets in the whole input.
     pub fn span(&self) -> Span
-        ensures span { result ≡ self.now.place }
+        ensures span { result ≡ self.now.span }
     {
         self.span
     }
 
     /// The depth that it was read with.
     pub fn depth(&self) -> Depth
-        ensures depth { result ≡ self.now.limit }
+        ensures depth { result ≡ self.now.depth }
     {
         self.depth
     }

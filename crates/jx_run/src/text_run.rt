@@ -1,6 +1,6 @@
 // Runs over parts of a JSON text.
 ghost use Rattle.std.specs.Prelude.{◌≡◌, ◌≤◌, ℕ, List, ◌++◌, length, Some, slice_range, IfOk, IfErr};
-ghost use Rattle.jx_lex.specs.declared.state.LexState.TheVariants.{Gap};
+ghost use Rattle.jx_lex.specs.declared.alphabet.state.LexState.TheVariants.{Gap};
 ghost use Rattle.jx_lex.specs.Map.{track};
 ghost use Rattle.jx_lex.specs.View.{exit_of};
 ghost use Rattle.jx_reduce.specs.Fits.{IsOfSize};
@@ -10,14 +10,14 @@ ghost use Rattle.jx_reduce.specs.declared.holder.Holder.{Holder};
 ghost use Rattle.jx_run.specs.OutcomeRun.{entries_at, exit_at, Entries, IsOutcomeRun};
 ghost use Rattle.jx_run.specs.Reading.{at_exit, read};
 ghost use Rattle.jx_run.specs.Started.{IsStarted};
-ghost use Rattle.jx_run.specs.TextRun.{outcomes_of, place_of, IsTextRun};
+ghost use Rattle.jx_run.specs.TextRun.{outcomes_of, text_span, IsTextRun};
 ghost use Rattle.jx_run.specs.Verdict.{Judged};
 
 use crate::outcome_run::OutcomeRun;
 use crate::started::Started;
-use crate::summary::Summary;
+use jx_summary::Summary;
 use crate::verdict::Verdict;
-use jx_lex::{ChunkMap, Depth, Ends, Exit, JoinFault, LexState, Mark, Marks, Span};
+use jx_lex::{ChunkMap, Depth, Ends, LexExit, JoinFault, LexState, Mark, Marks, Span};
 use jx_reduce::{Expect, Reduced};
 use std::alloc::{AllocError, Global};
 use std::marker::Model;
@@ -38,7 +38,7 @@ impl Model for TextRun {
 
     ghost Value = { TextRunValue };
 
-    ghost view = { λ r. record { limit = r.outcomes.limit; map = r.map; ways = r.outcomes.ways; structures = r.outcomes.structures } };
+    ghost view = { λ r. record { depth = r.outcomes.depth; map = r.map; ways = r.outcomes.ways; structures = r.outcomes.structures } };
 
     ghost invariant = { λ r. (r.outcomes.start ≡ r.map.start) × (r.outcomes.end ≡ r.map.end) };
 }
@@ -47,7 +47,7 @@ impl TextRun {
     /// The verdict on the bytes as a whole text: read from between tokens, with a value expected and no container open
     /// (RFC 8259, section 2). It takes no memory.
     pub fn verdict(&self) -> Verdict
-        ensures verdict { (bytes : List ℕ) → IsTextRun bytes self.now → Judged self.now.map.start bytes self.now.limit result }
+        ensures verdict { (bytes : List ℕ) → IsTextRun bytes self.now → Judged self.now.map.start bytes self.now.depth result }
     {
         self.outcomes.verdict()
     }
@@ -55,8 +55,8 @@ impl TextRun {
     /// The reading of the bytes from the start of a text. Only want of memory is refused.
     pub fn started(&self) -> Result<Started, AllocError>
         ensures started { (bytes : List ℕ) → IsTextRun bytes self.now → IfOk result (λ s. IsStarted bytes s) }
-        ensures place { IfOk result (λ s. s.place ≡ place_of self.now) }
-        ensures limit { IfOk result (λ s. s.limit ≡ self.now.limit) }
+        ensures span { IfOk result (λ s. s.span ≡ text_span self.now) }
+        ensures depth { IfOk result (λ s. s.depth ≡ self.now.depth) }
     {
         let (marks, ends) = self.copy_track(LexState::Gap)?;
         Ok(Started::new(self.map.span(), self.depth(), marks, ends, self.verdict()))
@@ -78,7 +78,7 @@ impl TextRun {
     }
 
     /// Where reading from a state ends, or the offset at which the lexical machine faults.
-    pub fn exit(&self, state: LexState) -> Exit
+    pub fn exit(&self, state: LexState) -> LexExit
         ensures exit { exit_of result ≡ exit_at (outcomes_of self.now) state }
     {
         self.outcomes.exit(state)
@@ -87,12 +87,12 @@ impl TextRun {
     /// What the marks come to from a state and an expectation. With where reading from that state ends, it tells what the
     /// bytes come to over open containers, as many as the depth at most.
     pub fn entry(&self, state: LexState, expect: Expect) -> &Reduced
-        ensures depth { depth_of result.now ≡ self.now.limit }
+        ensures depth { depth_of result.now ≡ self.now.depth }
         ensures all { length self.now.ways ≡ 32 }
         ensures few { length self.now.structures ≤ 32 }
         ensures form { (e : Entries) → entries_at (outcomes_of self.now) state ≡ Some e → form_in result.now ≡ form_at e.marks (entry_of expect) }
-        ensures size { IsOfSize self.now.limit (form_in result.now) }
-        ensures reads { (bytes : List ℕ) → IsTextRun bytes self.now → (holders : List Holder) → length holders ≤ self.now.limit → at_exit (exit_at (outcomes_of self.now) state) (answer_of result.now holders) ≡ read self.now.limit state expect holders self.now.map.start bytes }
+        ensures size { IsOfSize self.now.depth (form_in result.now) }
+        ensures reads { (bytes : List ℕ) → IsTextRun bytes self.now → (holders : List Holder) → length holders ≤ self.now.depth → at_exit (exit_at (outcomes_of self.now) state) (answer_of result.now holders) ≡ read self.now.depth state expect holders self.now.map.start bytes }
     {
         self.outcomes.entry(state, expect)
     }
@@ -117,9 +117,9 @@ impl TextRun {
 }
 
 impl Summary for TextRun {
-    ghost place = { place_of };
+    ghost span = { text_span };
 
-    ghost limit = { λ r. r.limit };
+    ghost depth = { λ r. r.depth };
 
     ghost is_of = { λ r bytes. IsTextRun bytes r };
 

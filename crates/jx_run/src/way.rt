@@ -2,12 +2,12 @@
 ghost use Rattle.std.specs.Prelude.{◌≡◌, map};
 ghost use Rattle.jx_run.specs.inside.Moved.{moved_way};
 
-use jx_lex::Exit;
+use jx_lex::LexExit;
 
 /// What reading comes to from one lexical state: where it ends, and the number of the structure that its marks have.
 #[derive(Clone, Copy)]
 pub struct Way {
-    pub(crate) exit: Exit,
+    pub(crate) exit: LexExit,
     pub(crate) structure: usize,
 }
 
@@ -17,8 +17,8 @@ impl Way {
         ensures { result ≡ moved_way by self }
     {
         let exit = match self.exit {
-            Exit::State(last) => Exit::State(last),
-            Exit::Fault(at) => Exit::Fault(by.saturating_add(at)),
+            LexExit::State(last) => LexExit::State(last),
+            LexExit::Fault(at) => LexExit::Fault(by.saturating_add(at)),
         };
         Way {
             exit,

@@ -5,7 +5,7 @@ use crate::fault::Fault;
 use crate::input::report_on;
 use crate::lines::text_of;
 use jx_claim::Workers;
-use jx_command::{Command, Task};
+use jx_task::{Command, Task};
 use jx_lex::Depth;
 use jx_report::{End, Exit, ReportFault};
 use jx_run::{FrontMark, NameRule, Settings};

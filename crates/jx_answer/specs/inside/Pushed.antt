@@ -1,7 +1,7 @@
 -- What the steps of answering on a sequence do to the list of elements.
 use Rattle.std.specs.Prelude.{◌≡◌, ℕ, ◌+◌, ◌<◌, ◌≤◌, List, [], ◌∷◌, ◌++◌, length, nat_lt, if◌then◌else◌, slice_range, Some}
 use Rattle.std.specs.List.{AllZip}
-use Rattle.jx_lex.specs.declared.span.Span.{Span}
+use Rattle.jx_summary.specs.declared.span.Span.{Span}
 use Rattle.jx_run.specs.declared.element_verdict.JudgedElement.{JudgedElement}
 use Rattle.jx_run.specs.Elements.{Part, part, filled}
 use Rattle.jx_run.specs.SeqRun.{IsSummary}
@@ -17,10 +17,10 @@ part_of input s = part s.start (slice_range input s.start s.end)
 
 -- the reading of bytes of the input behind a record separator
 pub record IsReadable (input : List ℕ) (s : StartedValue) : Type 0 where
-  pub marked : 0 < s.place.start
-  pub ordered : s.place.start ≤ s.place.end
-  pub within : s.place.end ≤ length input
-  pub reading : IsStarted (slice_range input s.place.start s.place.end) s
+  pub marked : 0 < s.span.start
+  pub ordered : s.span.start ≤ s.span.end
+  pub within : s.span.end ≤ length input
+  pub reading : IsStarted (slice_range input s.span.start s.span.end) s
 
 -- the bytes before the first record separator, unless there are none
 abbrev pub unmarked : Span → List Element
@@ -28,7 +28,7 @@ unmarked s = if nat_lt s.start s.end then record { span = s; answer = answer.Unm
 
 -- the element that a reading is of
 abbrev pub IsOfReading : List ℕ → StartedValue → Element → Type 0
-IsOfReading input s e = IsElement input s.limit (part_of input s.place) e
+IsOfReading input s e = IsElement input s.depth (part_of input s.span) e
 
 -- one element more for each reading
 pub record PushesEach (input : List ℕ) (done : List StartedValue) (old new : List Element) : Type 0 where

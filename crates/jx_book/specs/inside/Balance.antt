@@ -1,12 +1,12 @@
 -- What workers begin and end with.
 use Rattle.std.specs.Prelude.{◌≡◌, ◌+◌, List, [], Bool, true, false, Ok, Err}
 use Rattle.std.specs.declared.result.Result.{Result}
-use Rattle.jx_lex.specs.declared.span.Span.{Span}
+use Rattle.jx_summary.specs.declared.span.Span.{Span}
 use Rattle.jx_claim.specs.Claimed.{TableId, SeatValue}
 use Rattle.jx_claim.specs.Cut.{drawn_len}
-use Rattle.jx_book.specs.declared.worker_end.WorkerEnd.{WorkerEnd}
-use Rattle.jx_book.specs.declared.worker_stop.WorkerStop.{WorkerStop}
-use Rattle.jx_book.specs.declared.job.Job.{Job}
+use Rattle.jx_book.specs.declared.workers.worker_end.WorkerEnd.{WorkerEnd}
+use Rattle.jx_book.specs.declared.workers.worker_stop.WorkerStop.{WorkerStop}
+use Rattle.jx_book.specs.declared.workers.job.Job.{Job}
 use Rattle.jx_book.specs.Shares.{ShareValue, share}
 use Rattle.jx_book.specs.Worked.{hand_len}
 

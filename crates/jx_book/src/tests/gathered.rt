@@ -1,12 +1,12 @@
 // The run that workers leave where each of them ends.
 ghost use Rattle.std.specs.Prelude.{◌≡◌, length};
 
-use crate::caller::run_workers;
-use crate::outcome::Outcome;
+use crate::workers::reading::run_workers;
+use crate::workers::book_end::BookEnd;
 use crate::{Held, OpenGate};
 use jx_claim::{Cutting, Workers};
-use jx_lex::Depth;
-use jx_run::Summary;
+use jx_summary::Depth;
+use jx_summary::Summary;
 use std::alloc::{AllocError, Global};
 use std::marker::Brand;
 use std::sync::Wait;
@@ -54,7 +54,7 @@ fn gathered_with<
         rt, alloc, text, cutting, workers, depth, &OpenGate, put, taken,
     )?;
     match outcome {
-        Outcome::Gathered(run) => Ok(Some(run)),
+        BookEnd::Gathered(run) => Ok(Some(run)),
         _ => Ok(None),
     }
 }

@@ -1,8 +1,8 @@
 -- The pieces that the parts of a cutting stand for, before its front is left out.
 use Rattle.std.specs.Prelude.{ℕ, zero, suc, ◌+◌, ◌*◌, ◌<◌, ◌≤◌, ⊤, min, List, [], ◌∷◌, length, slice_index_or}
-use Rattle.jx_lex.specs.declared.span.Span.{Span}
-use Rattle.jx_claim.specs.declared.parts.Parts.{Parts}
-use Rattle.jx_claim.specs.declared.parts.Parts.TheVariants.{Every, At}
+use Rattle.jx_summary.specs.declared.span.Span.{Span}
+use Rattle.jx_claim.specs.declared.piece_list.PieceList.{PieceList}
+use Rattle.jx_claim.specs.declared.piece_list.PieceList.TheVariants.{Every, At}
 use Rattle.jx_claim.specs.Cut.{span}
 
 -- so many pieces of `size` bytes from `start` on, none beyond `len`
@@ -15,12 +15,12 @@ abbrev pub between : ℕ → List ℕ → List Span
 between start [] = []
 between start (e ∷ es) = span start e ∷ between e es
 
-abbrev pub listed : ℕ → Parts → List Span
+abbrev pub listed : ℕ → PieceList → List Span
 listed len (Every size count) = regular len size count 0
 listed len (At ends) = between 0 ends.items
 
 -- a count of regular pieces is the number of those that begin before `len`
-abbrev pub IsRegular : ℕ → Parts → Type 0
+abbrev pub IsRegular : ℕ → PieceList → Type 0
 IsRegular len (Every size count) = (0 < size) × (len ≤ count * size) × (count * size < len + size)
 IsRegular len (At ends) = ⊤
 

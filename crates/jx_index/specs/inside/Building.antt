@@ -2,10 +2,10 @@
 use Rattle.std.specs.Prelude.{ℕ, zero, suc, ◌+◌, List, [], ◌∷◌, ◌++◌, length, drop, slice_set, Option, None, Some, Bool, true, false, cond}
 use Rattle.jx_lex.specs.declared.kind.Kind.{Kind}
 use Rattle.jx_lex.specs.declared.kind.Kind.TheVariants as kind
-use Rattle.jx_lex.specs.declared.mark.Mark.{Mark}
-use Rattle.jx_lex.specs.declared.span.Span.{Span}
-use Rattle.jx_lex.specs.declared.mark.MarkKind.{MarkKind}
-use Rattle.jx_lex.specs.declared.mark.MarkKind.TheVariants as mark
+use Rattle.jx_lex.specs.declared.alphabet.mark.Mark.{Mark}
+use Rattle.jx_summary.specs.declared.span.Span.{Span}
+use Rattle.jx_lex.specs.declared.alphabet.mark.MarkKind.{MarkKind}
+use Rattle.jx_lex.specs.declared.alphabet.mark.MarkKind.TheVariants as mark
 use Rattle.jx_run.specs.Tree.{span}
 use Rattle.jx_index.specs.declared.row.Row.{Row}
 use Rattle.jx_index.specs.declared.builder.Opened.{Opened}
@@ -26,9 +26,9 @@ abbrev pub parent_in : List Opened → Option ℕ
 parent_in [] = None
 parent_in (top ∷ outer) = Some top.row
 
-abbrev pub place_in : List Opened → ℕ
-place_in [] = 0
-place_in (top ∷ outer) = top.count
+abbrev pub child_place : List Opened → ℕ
+child_place [] = 0
+child_place (top ∷ outer) = top.count
 
 -- with one more child in the innermost open container
 abbrev pub counted : List Opened → List Opened
@@ -36,7 +36,7 @@ counted [] = []
 counted (top ∷ outer) = record top { count = suc top.count } ∷ outer
 
 abbrev pub next_row : Kind → Span → Building → Row
-next_row kind place b = record { kind = kind; span = place; parent = parent_in b.opened; place = place_in b.opened; name = b.name }
+next_row kind place b = record { kind = kind; span = place; parent = parent_in b.opened; place = child_place b.opened; name = b.name }
 
 abbrev pub one_after : Building → List ℕ
 one_after b = b.after ++ ((length b.rows + 1) ∷ [])

@@ -1,6 +1,6 @@
 -- Marks at offsets of bytes.
 use Rattle.std.specs.Prelude.{◌<◌, ◌-◌, ◌^◌, List, All}
-use Rattle.jx_lex.specs.declared.mark.Mark.{Mark}
+use Rattle.jx_lex.specs.declared.alphabet.mark.Mark.{Mark}
 
 -- each stands before the greatest offset
 abbrev pub AllLow : List Mark → Type 0

@@ -1,6 +1,6 @@
 -- What a builder of rows has seen of the tokens of a scan.
 use Rattle.std.specs.Prelude.{◌≡◌, ℕ, List, ◌∷◌, ◌++◌, Option, None, Some, true}
-use Rattle.jx_lex.specs.declared.mark.Mark.{Mark}
+use Rattle.jx_lex.specs.declared.alphabet.mark.Mark.{Mark}
 use Rattle.jx_index.specs.declared.row_keeper.RowKeeper.{RowKeeper}
 use Rattle.jx_index.specs.inside.Building.{Building, nothing_built, is_token, make}
 use Rattle.jx_index.specs.inside.Built.{built, Fits}

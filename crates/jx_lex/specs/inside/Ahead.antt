@@ -1,6 +1,6 @@
 -- What a tested stretch of a text says.
 use Rattle.std.specs.Prelude.{ℕ, ◌≤◌, ◌<◌, List, length, slice_range, IsUtf8}
-use Rattle.jx_lex.specs.declared.ahead.Ahead.{Ahead}
+use Rattle.jx_lex.specs.declared.scanner.ahead.Ahead.{Ahead}
 
 -- the stretch lies in the text, and is well-formed UTF-8
 pub record IsSound (text : List ℕ) (ahead : Ahead) : Type 0 where

@@ -1,9 +1,9 @@
 -- Tracks of some bytes from some states, where more bytes may follow.
 use Rattle.std.specs.Prelude.{◌≡◌, not, ◌==◌, ℕ, ◌+◌, ◌≤◌, ◌<◌, true, false, Bool, List, [], ◌∷◌, ◌++◌, length, map, get_or, count_by, slice_set as set, Option, Some, None, is_none, ◌&&◌, if◌then◌else◌}
-use Rattle.jx_lex.specs.declared.state.LexState.{LexState}
-use Rattle.jx_lex.specs.declared.link.Link.{Link}
-use Rattle.jx_lex.specs.declared.link.Link.TheVariants.{Ahead, State, Fault}
-use Rattle.jx_lex.specs.declared.state.Step.{Step}
+use Rattle.jx_lex.specs.declared.alphabet.state.LexState.{LexState}
+use Rattle.jx_lex.specs.declared.map.link.Link.{Link}
+use Rattle.jx_lex.specs.declared.map.link.Link.TheVariants.{Ahead, State, Fault}
+use Rattle.jx_lex.specs.declared.alphabet.state.Step.{Step}
 use Rattle.jx_lex.specs.Moves.{move}
 use Rattle.jx_lex.specs.Lex.{lex}
 use Rattle.jx_lex.specs.Ordinal.{ordinal, all_states}
@@ -39,7 +39,7 @@ abbrev pub Within : List Bool → List LexState → Type 0
 Within live held = (s : LexState) → is_live live s ≡ true → has s held ≡ true
 
 -- the tracks of the bytes, which stand from an offset on, from each of the states in live
-pub record Reads (at : ℕ) (bytes : List ℕ) (live : List Bool) (b : Bundle) : Type 0 where
+pub record IsBundleOf (at : ℕ) (bytes : List ℕ) (live : List Bool) (b : Bundle) : Type 0 where
   pub all : length b.heads ≡ 32
   pub heads : (s : LexState) → IsIn (length b.parts) (head b.heads s)
   pub parts : AreIn b.parts

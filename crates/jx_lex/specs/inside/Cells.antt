@@ -1,9 +1,9 @@
 -- The cells of the machine's table: what each says.
 use Rattle.std.specs.Prelude.{Some}
-use Rattle.jx_lex.specs.declared.cell.Cell.{Cell}
-use Rattle.jx_lex.specs.declared.cell.Cell.TheVariants.{Go, Begin, Close, End, EndThenBegin, Fault, EndThenFault}
-use Rattle.jx_lex.specs.declared.state.Step.{Step}
-use Rattle.jx_lex.specs.declared.state.TokenEnd.TheVariants.{Before}
+use Rattle.jx_lex.specs.declared.alphabet.cell.Cell.{Cell}
+use Rattle.jx_lex.specs.declared.alphabet.cell.Cell.TheVariants.{Go, Begin, Close, End, EndThenBegin, Fault, EndThenFault}
+use Rattle.jx_lex.specs.declared.alphabet.state.Step.{Step}
+use Rattle.jx_lex.specs.declared.alphabet.state.TokenEnd.TheVariants.{Before}
 use Rattle.jx_lex.specs.Moves.{go, begin, close, fault}
 
 -- the step that a cell stands for

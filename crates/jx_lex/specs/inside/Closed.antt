@@ -1,8 +1,8 @@
 -- Segments that don't lead out in a state: a join leaves them as they are.
 use Rattle.std.specs.Prelude.{ℕ, zero, suc, ◌≤◌, List, [], ◌∷◌, length}
-use Rattle.jx_lex.specs.declared.state.LexState.{LexState}
-use Rattle.jx_lex.specs.declared.link.Link.{Link}
-use Rattle.jx_lex.specs.declared.link.Link.TheVariants.{Ahead, State, Fault}
+use Rattle.jx_lex.specs.declared.alphabet.state.LexState.{LexState}
+use Rattle.jx_lex.specs.declared.map.link.Link.{Link}
+use Rattle.jx_lex.specs.declared.map.link.Link.TheVariants.{Ahead, State, Fault}
 use Rattle.jx_lex.specs.Follow.{Part, head}
 
 abbrev pub IsClosed : Link → Type 0

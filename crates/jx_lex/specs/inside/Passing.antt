@@ -1,10 +1,10 @@
 -- A segment reads on, and bytes that change nothing for it.
 use Rattle.std.specs.Prelude.{ℕ, suc, List, [], ◌∷◌}
-use Rattle.jx_lex.specs.declared.link.Link.{Link}
-use Rattle.jx_lex.specs.declared.link.Link.TheVariants.{Ahead, State, Fault}
+use Rattle.jx_lex.specs.declared.map.link.Link.{Link}
+use Rattle.jx_lex.specs.declared.map.link.Link.TheVariants.{Ahead, State, Fault}
 use Rattle.jx_lex.specs.Follow.{Part}
 use Rattle.jx_lex.specs.inside.Step.{read_part}
-use Rattle.jx_lex.specs.Runs.{AllKeep, Leads}
+use Rattle.jx_lex.specs.Uneventful.{AllKeep, Leads}
 
 -- a segment after these bytes
 abbrev pub read_bytes : ℕ → List ℕ → Part → Part

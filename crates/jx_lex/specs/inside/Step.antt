@@ -1,10 +1,10 @@
 -- One more byte.
 use Rattle.std.specs.Prelude.{ℕ, List, [], ◌∷◌, ◌++◌, Option, Some, None, map, slice_set as set, Bool, false, count_by, ◌==◌}
-use Rattle.jx_lex.specs.declared.state.LexState.{LexState}
-use Rattle.jx_lex.specs.Lex.{Exit, with_mark, with_end}
+use Rattle.jx_lex.specs.declared.alphabet.state.LexState.{LexState}
+use Rattle.jx_lex.specs.Lex.{LexExit, with_mark, with_end}
 use Rattle.jx_lex.specs.Moves.{move}
-use Rattle.jx_lex.specs.declared.link.Link.{Link}
-use Rattle.jx_lex.specs.declared.link.Link.TheVariants.{Ahead, State, Fault}
+use Rattle.jx_lex.specs.declared.map.link.Link.{Link}
+use Rattle.jx_lex.specs.declared.map.link.Link.TheVariants.{Ahead, State, Fault}
 use Rattle.jx_lex.specs.Ordinal.{ordinal, all_states}
 use Rattle.jx_lex.specs.Follow.{Part, linked_parts}
 
@@ -13,9 +13,9 @@ link_of at None = Fault at
 link_of at (Some next) = State next
 
 -- where a reading ends
-abbrev pub link_at : Exit → Link
-link_at (Exit.state s) = State s
-link_at (Exit.fault at) = Fault at
+abbrev pub link_at : LexExit → Link
+link_at (LexExit.state s) = State s
+link_at (LexExit.fault at) = Fault at
 
 abbrev pub read_from : ℕ → ℕ → Part → Link → Part
 read_from at byte p (State s) =

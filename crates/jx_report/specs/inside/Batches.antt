@@ -17,7 +17,7 @@ seen (Shared r) = r
 -- these bytes were taken in from the start of an input, and the text behind what stands in front was read unless memory was refused
 pub record IsTaken (settings : Settings) (text : List ℕ) (check : TextCheck) : Type 0 where
   pub total : check.total ≡ length text
-  pub limit : (seen check.reader).limit ≡ settings.depth
+  pub depth : (seen check.reader).depth ≡ settings.depth
   pub start : (seen check.reader).start ≡ check.front
   pub within : check.front ≤ length text
   pub refused : (refusal : Refusal) → check.refused ≡ Some refusal → front_of settings.mark text ≡ Refused refusal
@@ -29,15 +29,15 @@ abbrev pub ShowsFront : List ℕ → Type 0
 ShowsFront text = (length text ≡ 0) ⊎ (3 ≤ length text)
 
 -- the reader gave all that it had, and that was taken in
-pub record IsChecked (settings : Settings) (unread left : Option (List ℕ)) (check : TextCheck) : Type 0 where
+pub record AllTaken (HasTaken : List ℕ → Type 0) (unread left : Option (List ℕ)) : Type 0 where
   pub text : List ℕ
   pub read : ReadsToEnd unread left text
-  pub taken : IsTaken settings text check
+  pub taken : HasTaken text
 
 -- the reader went on with the text up to this offset
 pub record GoesOn (text : List ℕ) (done : ℕ) (old new : ReaderValue) : Type 0 where
   pub within : done ≤ length text
-  pub limit : new.limit ≡ old.limit
+  pub depth : new.depth ≡ old.depth
   pub start : new.start ≡ old.start
   pub count : new.count ≡ old.count + done
   pub reads : (bytes : List ℕ) → HasRead bytes old → HasRead (bytes ++ take done text) new

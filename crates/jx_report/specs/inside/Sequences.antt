@@ -1,13 +1,16 @@
 -- A text sequence that is read batch by batch.
-use Rattle.std.specs.Prelude.{◌≡◌, ℕ, List, length, Option, false}
+use Rattle.std.specs.Prelude.{◌≡◌, ℕ, List, length, false}
 use Rattle.jx_run.specs.declared.settings.FrontMark.TheVariants.{Ignored}
 use Rattle.jx_run.specs.declared.settings.Settings.{Settings}
 use Rattle.jx_run.specs.Front.{front_of}
 use Rattle.jx_run.specs.SequenceRead.{AreRead}
 use Rattle.jx_report.specs.declared.sequence_check.SequenceCheck.{SequenceCheck}
 use Rattle.jx_report.specs.declared.sequence_reader.SequenceReader.{SequenceReader}
-use Rattle.jx_report.specs.inside.Batches.{seen}
-use Rattle.jx_report.specs.Ends.{ReadsToEnd}
+use Rattle.jx_report.specs.declared.batch_check.BatchCheck.{BatchCheck}
+use Rattle.jx_report.specs.declared.batch_check.BatchCheck.TheVariants.{Text, Elements}
+use Rattle.jx_report.specs.inside.Batches.{seen, IsTaken}
+use Rattle.jx_task.specs.declared.task.Task.{Task}
+use Rattle.jx_task.specs.declared.task.Task.TheVariants.{Check, Seq}
 
 -- the reader has read the elements of these bytes
 abbrev pub AreReadBy : ℕ → List ℕ → SequenceReader → Type 0
@@ -19,8 +22,12 @@ pub record IsSequenceTaken (settings : Settings) (text : List ℕ) (check : Sequ
   pub front : check.front ≡ front_of Ignored text
   pub read : check.failed ≡ false → AreReadBy settings.depth text check.reader
 
--- the reader gave all that it had, and that was taken in
-pub record AreTaken (settings : Settings) (unread left : Option (List ℕ)) (check : SequenceCheck) : Type 0 where
-  pub text : List ℕ
-  pub read : ReadsToEnd unread left text
-  pub taken : IsSequenceTaken settings text check
+-- what a check took in is what its task is about
+abbrev pub HasTaken : Task → Settings → List ℕ → BatchCheck → Type 0
+HasTaken task settings text (Text check) = (task ≡ Check) × IsTaken settings text check
+HasTaken task settings text (Elements check) = (task ≡ Seq) × IsSequenceTaken settings text check
+
+-- how many bytes it took in
+abbrev pub total_of : BatchCheck → ℕ
+total_of (Text check) = check.total
+total_of (Elements check) = check.total

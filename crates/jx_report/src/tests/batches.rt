@@ -12,7 +12,7 @@ use crate::tests::ends::{FailingReader, Zeros};
 use crate::tests::gates::Meeting;
 use jx_book::OpenGate;
 use jx_claim::Workers;
-use jx_command::{Command, Task};
+use jx_task::{Command, Task};
 use jx_run::FrontMark;
 use std::alloc::Global;
 use std::io;
@@ -50,10 +50,12 @@ fn reported_by<R: Threads + Wait + Sync>(
     }
 }
 
-// Elements, strings, escapes and characters that go from one batch to the next.
+// A text, a depth, what is written and how the program then ends.
+type Case = (&'static [u8], u32, &'static [u8], Exit);
+
 #[test]
-fn texts_in_batches(rt: HostRuntime) -> Result<(), Fail> {
-    let texts: [(&[u8], u32, &[u8], Exit); 12] = [
+fn tokens_go_on_from_one_batch_to_the_next(rt: HostRuntime) -> Result<(), Fail> {
+    let cases: [Case; 6] = [
         (
             b"[1,22,333,{\"a\":\"bcd\"}]",
             512,
@@ -74,24 +76,40 @@ fn texts_in_batches(rt: HostRuntime) -> Result<(), Fail> {
             Exit::Bad,
         ),
         (b"  [ true , false ]  ", 1, b"accepted\n", Exit::Good),
+        (b"-12.5e+10", 0, b"accepted\n", Exit::Good),
+    ];
+    check_in_batches(&rt, rt.alloc(), &cases)
+}
+
+#[test]
+fn containers_go_on_from_one_batch_to_the_next(rt: HostRuntime) -> Result<(), Fail> {
+    let cases: [Case; 6] = [
         (b"[[[[]]]]", 3, b"too deep at 3\n", Exit::Bad),
         (b"[[[[]]]]", 4, b"accepted\n", Exit::Good),
         (b"[1,[2,[3,[4]]]]x", 4, b"stopped at 15\n", Exit::Bad),
         (b"[1,[2,[3,[4]]]", 4, b"truncated\n", Exit::Bad),
         (b"{\"a\":{\"b\":[1,2]]}", 4, b"stopped at 15\n", Exit::Bad),
-        (b"-12.5e+10", 0, b"accepted\n", Exit::Good),
         (b"", 0, b"truncated\n", Exit::Bad),
     ];
-    for (text, depth, output, exit) in texts {
+    check_in_batches(&rt, rt.alloc(), &cases)
+}
+
+/// Checks each text in batches of a few bytes, by one, two and five workers.
+fn check_in_batches<R: Abort + Threads + Wait + Sync>(
+    rt: &R,
+    alloc: Global,
+    cases: &[Case],
+) -> Result<(), Fail> {
+    for (text, depth, output, exit) in cases {
         for batch in 1..=7usize {
             for workers in [1u8, 2, 5] {
-                let mut check = check_within(depth);
+                let mut check = check_within(*depth);
                 check.workers = Workers::new(workers).ok_or("workers")?;
-                let ran = reported_by(&rt, rt.alloc(), text, &check, batch);
-                assert_eq!(rt; ran.answer, Ok(exit), "at {text:?} in batches of {batch}");
+                let ran = reported_by(rt, alloc, text, &check, batch);
+                assert_eq!(rt; ran.answer, Ok(*exit), "at {text:?} in batches of {batch}");
                 assert_eq!(rt;
                     ran.output.as_slice(),
-                    output,
+                    *output,
                     "at {text:?} in batches of {batch}"
                 );
             }
@@ -128,7 +146,7 @@ fn check_mark<R: Abort + Threads + Wait + Sync>(
 
 // Byte order marks in first batches of a few bytes: what is told where a mark is ignored, and where it is refused.
 #[test]
-fn marks_in_batches(rt: HostRuntime) -> Result<(), Fail> {
+fn a_byte_order_mark_is_not_cut_by_a_batch(rt: HostRuntime) -> Result<(), Fail> {
     let texts: [(&[u8], &[u8], &[u8]); 13] = [
         (b"\xEF\xBB\xBF1", b"accepted\n", b"stopped at 0\n"),
         (b"\xEF\xBB\xBF[1,22]", b"accepted\n", b"stopped at 0\n"),
@@ -167,7 +185,7 @@ fn marks_in_batches(rt: HostRuntime) -> Result<(), Fail> {
 
 // A byte that is allowed nowhere, at each offset: in each batch, and on both sides of each border.
 #[test]
-fn a_fault_at_each_offset(rt: HostRuntime) -> Result<(), Fail> {
+fn a_fault_at_each_offset_is_told_there(rt: HostRuntime) -> Result<(), Fail> {
     for at in 0..17usize {
         let mut text = *b"[0,1,2,3,4,5,6,7]";
         text[at] = b'x';
@@ -187,7 +205,7 @@ fn a_fault_at_each_offset(rt: HostRuntime) -> Result<(), Fail> {
 
 // Seven bytes, one a call, and the call that meets the end; behind a fault the reader is asked all the same.
 #[test]
-fn a_reader_that_fails_in_each_batch(rt: HostRuntime) -> Result<(), Fail> {
+fn a_reader_that_fails_in_any_batch_is_told(rt: HostRuntime) -> Result<(), Fail> {
     for text in [b"[1,2,3]".as_slice(), b"x1,2,3]".as_slice()] {
         for fails_at in 1..=8u32 {
             let check = check_within(1);
@@ -218,7 +236,7 @@ fn a_reader_that_fails_in_each_batch(rt: HostRuntime) -> Result<(), Fail> {
 
 // One byte more than there may be pieces, behind a fault in the first batch.
 #[test]
-fn too_many_pieces(rt: HostRuntime) -> Result<(), Fail> {
+fn too_many_pieces_are_told_when_all_is_read(rt: HostRuntime) -> Result<(), Fail> {
     let lengths = [
         (
             4_294_967_295usize,
@@ -249,7 +267,7 @@ fn too_many_pieces(rt: HostRuntime) -> Result<(), Fail> {
 
 // In the second batch one worker draws and is held until the other has put a run into the book.
 #[test]
-fn two_workers_in_the_second_batch(rt: HostRuntime) -> Result<(), Fail> {
+fn two_workers_read_the_second_batch_too(rt: HostRuntime) -> Result<(), Fail> {
     let mut check = command(Task::Check, 512);
     check.workers = Workers::new(2).ok_or("workers")?;
     let gate = Meeting::behind(3);

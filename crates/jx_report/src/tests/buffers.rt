@@ -9,7 +9,7 @@ use crate::tests::ends::{FailingWriter, Refusal};
 use crate::writing::write_reply;
 use jx_book::OpenGate;
 use jx_claim::Cutting;
-use jx_command::Task;
+use jx_task::Task;
 use std::alloc::{AllocError, Global};
 use std::sync::Wait;
 use std::test::Fail;
@@ -108,7 +108,7 @@ fn reply_for<R: Threads + Wait + Sync>(
 }
 
 #[test]
-fn any_buffer_and_any_writer(rt: HostRuntime) -> Result<(), Fail> {
+fn any_buffer_and_any_writer_give_the_same_bytes(rt: HostRuntime) -> Result<(), Fail> {
     for case in cases(rt.alloc())? {
         let Case { task, text, output } = case;
         let reply = reply_for(&rt, rt.alloc(), task, &text)?;
@@ -133,7 +133,7 @@ fn any_buffer_and_any_writer(rt: HostRuntime) -> Result<(), Fail> {
 
 // The buffer is written where a line more might not go into it, and not before.
 #[test]
-fn as_few_calls_as_the_buffer_allows(rt: HostRuntime) -> Result<(), Fail> {
+fn the_writer_is_called_no_more_than_the_buffer_asks(rt: HostRuntime) -> Result<(), Fail> {
     for case in cases(rt.alloc())? {
         let Case { task, text, output } = case;
         let reply = reply_for(&rt, rt.alloc(), task, &text)?;
@@ -160,7 +160,7 @@ fn as_few_calls_as_the_buffer_allows(rt: HostRuntime) -> Result<(), Fail> {
 }
 
 #[test]
-fn a_writer_that_fails_at_any_call(rt: HostRuntime) -> Result<(), Fail> {
+fn a_writer_that_fails_at_any_call_got_a_beginning(rt: HostRuntime) -> Result<(), Fail> {
     for case in cases(rt.alloc())? {
         let Case { task, text, output } = case;
         let reply = reply_for(&rt, rt.alloc(), task, &text)?;

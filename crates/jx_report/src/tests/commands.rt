@@ -7,7 +7,7 @@ use crate::report_fault::ReportFault;
 use crate::reporting::report;
 use jx_book::OpenGate;
 use jx_claim::Workers;
-use jx_command::{Command, Task};
+use jx_task::{Command, Task};
 use jx_lex::Depth;
 use jx_run::{FrontMark, NameRule, Settings};
 use std::alloc::{AllocError, Global};

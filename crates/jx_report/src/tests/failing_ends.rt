@@ -11,7 +11,7 @@ use crate::source::Source;
 use crate::tests::commands::command;
 use crate::tests::ends::{FailingReader, FailingWriter, Refusal};
 use jx_book::OpenGate;
-use jx_command::{Command, Task};
+use jx_task::{Command, Task};
 use jx_run::{FrontMark, NameRule};
 use std::alloc::{AllocError, Global};
 use std::io;
@@ -145,7 +145,7 @@ fn check<R: Abort + Threads + Wait + Sync>(
 }
 
 #[test]
-fn checks(rt: HostRuntime) -> Result<(), Fail> {
+fn the_ends_of_a_check_may_fail_at_any_call(rt: HostRuntime) -> Result<(), Fail> {
     for settings in SETTINGS {
         let want: Want = (b"[1,}", b"stopped at 3\n", Exit::Bad);
         check(&rt, rt.alloc(), Task::Check, settings, want)?;
@@ -154,7 +154,7 @@ fn checks(rt: HostRuntime) -> Result<(), Fail> {
 }
 
 #[test]
-fn rows(rt: HostRuntime) -> Result<(), Fail> {
+fn the_ends_of_an_index_may_fail_at_any_call(rt: HostRuntime) -> Result<(), Fail> {
     for settings in SETTINGS {
         let want: Want = (
             b"{\"a\":[1]}",
@@ -175,7 +175,7 @@ fn two_pointers(alloc: Global) -> Result<Task, AllocError> {
 }
 
 #[test]
-fn pointers(rt: HostRuntime) -> Result<(), Fail> {
+fn the_ends_of_a_look_up_may_fail_at_any_call(rt: HostRuntime) -> Result<(), Fail> {
     for settings in SETTINGS {
         let want: Want = (
             b"{\"a\":[1,{\"b\":2}]}",
@@ -189,7 +189,7 @@ fn pointers(rt: HostRuntime) -> Result<(), Fail> {
 }
 
 #[test]
-fn elements(rt: HostRuntime) -> Result<(), Fail> {
+fn the_ends_of_a_sequence_may_fail_at_any_call(rt: HostRuntime) -> Result<(), Fail> {
     for settings in SETTINGS {
         let want: Want = (
             b"\x1Etrue\n\x1Etrue\x1E\x1E[1\n",

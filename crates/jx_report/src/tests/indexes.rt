@@ -2,12 +2,15 @@
 use crate::exit::Exit;
 use crate::tests::commands::{command, repeated, reported};
 use jx_claim::Workers;
-use jx_command::Task;
+use jx_task::Task;
 use std::alloc::{AllocError, Global};
+use std::process::Abort;
+use std::sync::Wait;
 use std::test::Fail;
+use std::thread::Threads;
 
 #[test]
-fn rows(rt: HostRuntime) -> Result<(), Fail> {
+fn each_value_gets_a_line(rt: HostRuntime) -> Result<(), Fail> {
     let texts: [(&[u8], u32, &[u8]); 5] = [
         (b"null", 0, b"accepted\n0 null 0..4 - 0 -\n"),
         (b"12", 512, b"accepted\n0 number 0..2 - 0 -\n"),
@@ -37,7 +40,7 @@ fn rows(rt: HostRuntime) -> Result<(), Fail> {
 }
 
 #[test]
-fn kinds(rt: HostRuntime) -> Result<(), Fail> {
+fn each_kind_has_its_word(rt: HostRuntime) -> Result<(), Fail> {
     let index = command(Task::Index, 512);
     let ran = reported(&rt, rt.alloc(), b"[true,false,null,\"\"]", &index);
     let output =
@@ -48,7 +51,7 @@ fn kinds(rt: HostRuntime) -> Result<(), Fail> {
 }
 
 #[test]
-fn six_hundred_rows(rt: HostRuntime) -> Result<(), Fail> {
+fn six_hundred_rows_are_written(rt: HostRuntime) -> Result<(), Fail> {
     let text = repeated(rt.alloc(), &[(b'[', 600), (b']', 600)])?;
     let mut index = command(Task::Index, 600);
     index.piece = 7;
@@ -73,9 +76,17 @@ fn at(alloc: Global, pointers: &[&str]) -> Result<Task, AllocError> {
     Ok(Task::At(owned))
 }
 
+// A text, pointers into it, what is written and how the program then ends.
+type Pointed = (
+    &'static [u8],
+    &'static [&'static str],
+    &'static [u8],
+    Exit,
+);
+
 #[test]
-fn pointers(rt: HostRuntime) -> Result<(), Fail> {
-    let texts: [(&[u8], &[&str], &[u8], Exit); 6] = [
+fn each_pointer_gets_a_line(rt: HostRuntime) -> Result<(), Fail> {
+    let cases: [Pointed; 4] = [
         (
             b"[10,20]",
             &["/1", "/2", "x"],
@@ -100,6 +111,13 @@ fn pointers(rt: HostRuntime) -> Result<(), Fail> {
             b"bad escape at 1\nbad escape at 1\nbad escape at 2\nno such member at token 0\n",
             Exit::Bad,
         ),
+    ];
+    check_pointers(&rt, rt.alloc(), &cases)
+}
+
+#[test]
+fn names_are_looked_up_by_their_values(rt: HostRuntime) -> Result<(), Fail> {
+    let cases: [Pointed; 2] = [
         (
             b"{\"a\":1,\"\\u0061\":2}",
             &["/a"],
@@ -113,17 +131,25 @@ fn pointers(rt: HostRuntime) -> Result<(), Fail> {
             Exit::Good,
         ),
     ];
-    for (text, words, output, exit) in texts {
-        let at = command(at(rt.alloc(), words)?, 512);
-        let ran = reported(&rt, rt.alloc(), text, &at);
-        assert_eq!(rt; ran.answer, Ok(exit), "at {text:?}");
-        assert_eq!(rt; ran.output.as_slice(), output, "at {text:?}");
+    check_pointers(&rt, rt.alloc(), &cases)
+}
+
+fn check_pointers<R: Abort + Threads + Wait + Sync>(
+    rt: &R,
+    alloc: Global,
+    cases: &[Pointed],
+) -> Result<(), Fail> {
+    for (text, words, output, exit) in cases {
+        let at = command(at(alloc, words)?, 512);
+        let ran = reported(rt, alloc, text, &at);
+        assert_eq!(rt; ran.answer, Ok(*exit), "at {text:?}");
+        assert_eq!(rt; ran.output.as_slice(), *output, "at {text:?}");
     }
     Ok(())
 }
 
 #[test]
-fn one_line_for_a_refused_text(rt: HostRuntime) -> Result<(), Fail> {
+fn a_refused_text_gets_one_line(rt: HostRuntime) -> Result<(), Fail> {
     let texts: [(&[u8], u32, &[u8]); 3] = [
         (b"{\"a\":1,2]", 512, b"stopped at 7\n"),
         (b"[1,{\"a\":[]}]", 2, b"too deep at 8\n"),
@@ -143,7 +169,7 @@ fn one_line_for_a_refused_text(rt: HostRuntime) -> Result<(), Fail> {
 }
 
 #[test]
-fn any_pieces_and_workers(rt: HostRuntime) -> Result<(), Fail> {
+fn pieces_and_workers_change_no_line(rt: HostRuntime) -> Result<(), Fail> {
     let text: &[u8] = b"{\"a\":[1,{\"b\":2}]}";
     let output: &[u8] = b"found number 13..14\nno such member at token 2\n";
     for piece in 1..19 {

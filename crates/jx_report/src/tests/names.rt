@@ -1,12 +1,12 @@
 // What is printed where names have to be unique.
 use crate::exit::Exit;
 use crate::tests::commands::{command, reported};
-use jx_command::Task;
+use jx_task::Task;
 use jx_run::{FrontMark, NameRule};
 use std::test::Fail;
 
 #[test]
-fn texts(rt: HostRuntime) -> Result<(), Fail> {
+fn a_repeated_name_refuses_a_text(rt: HostRuntime) -> Result<(), Fail> {
     let texts: [(&[u8], &[u8], Exit); 7] = [
         (
             b"{\"a\":1,\"\\u0061\":2}",
@@ -47,7 +47,7 @@ fn texts(rt: HostRuntime) -> Result<(), Fail> {
 }
 
 #[test]
-fn rows_and_pointers(rt: HostRuntime) -> Result<(), Fail> {
+fn a_repeated_name_refuses_rows_and_pointers(rt: HostRuntime) -> Result<(), Fail> {
     let text: &[u8] = b"{\"a\":1,\"a\":2}";
     let refused: &[u8] = b"repeated name at 7\n";
     let mut index = command(Task::Index, 512);
@@ -71,7 +71,7 @@ fn rows_and_pointers(rt: HostRuntime) -> Result<(), Fail> {
 }
 
 #[test]
-fn sequences(rt: HostRuntime) -> Result<(), Fail> {
+fn a_repeated_name_refuses_its_element(rt: HostRuntime) -> Result<(), Fail> {
     let input: &[u8] = b"\x1E{\"a\":1,\"\\u0061\":2}\n\x1E{\"a\":[],\"b\":2}\n\x1E1";
     let rows: [(NameRule, &[u8]); 2] = [
         (

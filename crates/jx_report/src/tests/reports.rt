@@ -10,14 +10,14 @@ use crate::tests::ends::{FailingReader, FailingWriter, Refusal};
 use crate::tests::gates::Meeting;
 use jx_book::OpenGate;
 use jx_claim::Workers;
-use jx_command::Task;
+use jx_task::Task;
 use std::io;
 use std::test::Fail;
 
 const NO_CALL: u32 = 0;
 
 #[test]
-fn verdicts(rt: HostRuntime) -> Result<(), Fail> {
+fn each_verdict_has_its_line(rt: HostRuntime) -> Result<(), Fail> {
     let texts: [(&[u8], &[u8], Exit); 20] = [
         (b"null", b"accepted\n", Exit::Good),
         (b"nulx", b"stopped at 3\n", Exit::Bad),
@@ -49,7 +49,7 @@ fn verdicts(rt: HostRuntime) -> Result<(), Fail> {
 }
 
 #[test]
-fn verdicts_within_a_depth(rt: HostRuntime) -> Result<(), Fail> {
+fn the_depth_decides_what_is_too_deep(rt: HostRuntime) -> Result<(), Fail> {
     let texts: [(&[u8], u32, &[u8], Exit); 18] = [
         (b"{trx", 512, b"stopped at 1\n", Exit::Bad),
         (b"{tr", 512, b"stopped at 1\n", Exit::Bad),
@@ -79,7 +79,7 @@ fn verdicts_within_a_depth(rt: HostRuntime) -> Result<(), Fail> {
 }
 
 #[test]
-fn long_texts(rt: HostRuntime) -> Result<(), Fail> {
+fn long_texts_are_judged_by_all_workers(rt: HostRuntime) -> Result<(), Fail> {
     let texts: [(&[(u8, usize)], u32, &[u8], Exit); 10] = [
         (&[(b'[', 512)], 512, b"truncated\n", Exit::Bad),
         (&[(b'[', 513)], 512, b"too deep at 512\n", Exit::Bad),
@@ -119,7 +119,7 @@ fn long_texts(rt: HostRuntime) -> Result<(), Fail> {
 }
 
 #[test]
-fn a_text_of_many_steps(rt: HostRuntime) -> Result<(), Fail> {
+fn a_text_of_many_steps_is_accepted(rt: HostRuntime) -> Result<(), Fail> {
     let mut text = vec![in rt.alloc(); b' '; 3_000_000]?;
     text.extend_from_slice(b"1 x")?;
     let mut check = check_within(0);
@@ -132,7 +132,7 @@ fn a_text_of_many_steps(rt: HostRuntime) -> Result<(), Fail> {
 
 // Four bytes, one a call, and the call that meets the end: the sixth call is never made.
 #[test]
-fn a_reader_that_fails(rt: HostRuntime) -> Result<(), Fail> {
+fn a_reader_that_fails_leaves_nothing_written(rt: HostRuntime) -> Result<(), Fail> {
     for kind in [io::ErrorKind::Other, io::ErrorKind::Interrupted] {
         for fails_at in 1..=5u32 {
             let check = check_within(0);
@@ -154,7 +154,7 @@ fn a_reader_that_fails(rt: HostRuntime) -> Result<(), Fail> {
 }
 
 #[test]
-fn a_reader_that_gives_one_byte_a_call(rt: HostRuntime) -> Result<(), Fail> {
+fn a_reader_may_give_one_byte_a_call(rt: HostRuntime) -> Result<(), Fail> {
     let check = check_within(0);
     let mut reader = End::new(FailingReader {
         text: b"nulx",
@@ -171,7 +171,7 @@ fn a_reader_that_gives_one_byte_a_call(rt: HostRuntime) -> Result<(), Fail> {
 }
 
 #[test]
-fn a_writer_that_fails(rt: HostRuntime) -> Result<(), Fail> {
+fn a_writer_that_fails_is_told(rt: HostRuntime) -> Result<(), Fail> {
     let output = b"stopped at 3\n";
     for refusal in [Refusal::Error, Refusal::TakesNone] {
         for taken in 0..output.len() {
@@ -190,7 +190,7 @@ fn a_writer_that_fails(rt: HostRuntime) -> Result<(), Fail> {
 }
 
 #[test]
-fn a_writer_that_takes_one_byte_a_call(rt: HostRuntime) -> Result<(), Fail> {
+fn a_writer_may_take_one_byte_a_call(rt: HostRuntime) -> Result<(), Fail> {
     let check = check_within(0);
     let mut reader = End::new(b"null".as_slice());
     let mut writer = End::new(FailingWriter::new(rt.alloc(), 1, NO_CALL, Refusal::Error));
@@ -203,7 +203,7 @@ fn a_writer_that_takes_one_byte_a_call(rt: HostRuntime) -> Result<(), Fail> {
 
 // Nothing is written, and the exit is the same; a writer that would fail is not asked.
 #[test]
-fn quiet(rt: HostRuntime) -> Result<(), Fail> {
+fn a_quiet_check_writes_nothing(rt: HostRuntime) -> Result<(), Fail> {
     let texts: [(&[u8], Exit); 4] = [
         (b"null", Exit::Good),
         (b"nulx", Exit::Bad),
@@ -225,7 +225,7 @@ fn quiet(rt: HostRuntime) -> Result<(), Fail> {
 }
 
 #[test]
-fn the_words_of_faults(rt: HostRuntime) -> Result<(), Fail> {
+fn each_fault_has_its_words(rt: HostRuntime) -> Result<(), Fail> {
     let words = [
         (ReportFault::Read, "jx: read failed"),
         (ReportFault::Write, "jx: write failed"),
@@ -241,7 +241,7 @@ fn the_words_of_faults(rt: HostRuntime) -> Result<(), Fail> {
 
 // One worker draws and is held until the other has put a run into the book.
 #[test]
-fn two_workers(rt: HostRuntime) -> Result<(), Fail> {
+fn two_workers_give_the_answer_of_one(rt: HostRuntime) -> Result<(), Fail> {
     let mut check = command(Task::Check, 512);
     check.piece = 2;
     check.workers = Workers::new(2).ok_or("workers")?;
@@ -257,7 +257,7 @@ fn two_workers(rt: HostRuntime) -> Result<(), Fail> {
 
 // `accepted` and LF are the first 9 bytes, three a call; the whole output has 29.
 #[test]
-fn a_writer_that_fails_in_mid_output(rt: HostRuntime) -> Result<(), Fail> {
+fn a_writer_that_fails_in_mid_output_got_a_beginning(rt: HostRuntime) -> Result<(), Fail> {
     let index = command(Task::Index, 512);
     let mut reader = End::new(b"12".as_slice());
     let mut writer = End::new(FailingWriter::new(rt.alloc(), 3, 4, Refusal::Error));

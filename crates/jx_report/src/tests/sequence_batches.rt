@@ -12,7 +12,7 @@ use crate::tests::ends::{FailingReader, TellingReader, Zeros};
 use crate::tests::gates::StopFrom;
 use jx_book::OpenGate;
 use jx_claim::Workers;
-use jx_command::{Command, Task};
+use jx_task::{Command, Task};
 use jx_lex::Depth;
 use jx_run::{ElementsRun, FrontMark, Summary};
 use std::alloc::Global;
@@ -90,8 +90,8 @@ fn check_in_batches<R: Abort + Threads + Wait + Sync>(
 
 // Elements, strings, escapes and characters that go from one batch to the next.
 #[test]
-fn sequences_in_batches(rt: HostRuntime) -> Result<(), Fail> {
-    let inputs: [Judged; 10] = [
+fn elements_go_on_from_one_batch_to_the_next(rt: HostRuntime) -> Result<(), Fail> {
+    let inputs: [Judged; 5] = [
         (
             b"\x1E{\"a\":[1,\"\\u0041\"]}\n\x1E\"\xF0\x9F\x98\x80\xE6\x97\xA5\"\x1E-12.5e+1\n",
             b"1..20 accepted\n21..30 accepted\n31..40 accepted\n",
@@ -117,6 +117,16 @@ fn sequences_in_batches(rt: HostRuntime) -> Result<(), Fail> {
             b"13..14 may be cut\n",
             Exit::Bad,
         ),
+    ];
+    for judged in inputs {
+        check_in_batches(&rt, rt.alloc(), 2, FrontMark::Refused, judged)?;
+    }
+    Ok(())
+}
+
+#[test]
+fn elements_are_judged_alike_in_batches(rt: HostRuntime) -> Result<(), Fail> {
+    let inputs: [Judged; 5] = [
         (
             b"\x1E[[1]]\x1E[[[1]]]\x1E[]]\x1E[1,\x1E]",
             b"1..6 accepted\n7..14 too deep at 9\n15..18 stopped at 17\n19..22 truncated\n23..24 stopped at 23\n",
@@ -143,7 +153,7 @@ fn sequences_in_batches(rt: HostRuntime) -> Result<(), Fail> {
 
 // Byte order marks that are ignored, in first batches of a few bytes.
 #[test]
-fn ignored_marks_of_sequences_in_batches(rt: HostRuntime) -> Result<(), Fail> {
+fn an_ignored_mark_of_a_sequence_is_not_cut_by_a_batch(rt: HostRuntime) -> Result<(), Fail> {
     let inputs: [Judged; 8] = [
         (
             b"\xEF\xBB\xBF\x1E1\n\x1E[]",
@@ -202,7 +212,7 @@ fn fault_at(alloc: Global, at: usize) -> Result<String, Fail> {
 
 // A byte that is allowed nowhere, at each offset: in each batch, and on both sides of each border.
 #[test]
-fn a_fault_at_each_offset_of_a_sequence(rt: HostRuntime) -> Result<(), Fail> {
+fn a_fault_at_each_offset_of_a_sequence_is_told_there(rt: HostRuntime) -> Result<(), Fail> {
     for at in 0..21usize {
         let mut text = *b"\x1E[0,1]\n\x1E[2,3]\n\x1E[4,5]\n";
         text[at] = b'x';
@@ -228,7 +238,7 @@ fn a_fault_at_each_offset_of_a_sequence(rt: HostRuntime) -> Result<(), Fail> {
 
 // Eight bytes, one a call, and the call that meets the end.
 #[test]
-fn a_reader_that_fails_in_each_batch_of_a_sequence(rt: HostRuntime) -> Result<(), Fail> {
+fn a_reader_that_fails_in_any_batch_of_a_sequence_is_told(rt: HostRuntime) -> Result<(), Fail> {
     for text in [b"\x1E1\n\x1E[2,3".as_slice(), b"x1\n\x1E]2,3".as_slice()] {
         for fails_at in 1..=9u32 {
             let mut sequence = sequence(1, FrontMark::Refused, 2)?;
@@ -260,7 +270,7 @@ fn a_reader_that_fails_in_each_batch_of_a_sequence(rt: HostRuntime) -> Result<()
 
 // One byte more than there may be pieces.
 #[test]
-fn too_many_pieces_of_a_sequence(rt: HostRuntime) -> Result<(), Fail> {
+fn too_many_pieces_of_a_sequence_are_told_when_all_is_read(rt: HostRuntime) -> Result<(), Fail> {
     let lengths = [
         (
             4_294_967_295usize,
@@ -330,7 +340,7 @@ fn stopped_from_each<R: Abort + Threads + Wait + Sync>(
 
 // Workers who stop in the second batch, and in both.
 #[test]
-fn workers_who_stop_in_a_sequence(rt: HostRuntime) -> Result<(), Fail> {
+fn workers_who_stop_in_a_sequence_change_no_answer(rt: HostRuntime) -> Result<(), Fail> {
     let judged: Judged = (
         b"\x1E[1]\n\x1E[2]\n\x1E{\"a\":[3]}\x1E4\n\x1E[5,6",
         b"1..5 accepted\n6..10 accepted\n11..20 accepted\n21..23 accepted\n24..28 truncated\n",
@@ -348,7 +358,7 @@ fn workers_who_stop_in_a_sequence(rt: HostRuntime) -> Result<(), Fail> {
 
 // The elements of a part that stands behind some bytes, read there and moved there.
 #[test]
-fn elements_further_on(rt: HostRuntime) -> Result<(), Fail> {
+fn elements_further_on_have_their_own_offsets(rt: HostRuntime) -> Result<(), Fail> {
     let alloc = rt.alloc();
     let depth = Depth::default();
     let part = b"\x1E[1\x1E1]\x1Etrue\x1E\x1E{}".as_slice();

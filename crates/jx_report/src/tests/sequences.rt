@@ -2,11 +2,11 @@
 use crate::exit::Exit;
 use crate::tests::commands::{command, reported};
 use jx_claim::Workers;
-use jx_command::Task;
+use jx_task::Task;
 use std::test::Fail;
 
 #[test]
-fn elements(rt: HostRuntime) -> Result<(), Fail> {
+fn each_element_gets_a_line(rt: HostRuntime) -> Result<(), Fail> {
     let inputs: [(&[u8], &[u8], Exit); 9] = [
         (
             b"\x1Etrue\n\x1Etrue\x1E\x1E[1\n",
@@ -48,7 +48,7 @@ fn elements(rt: HostRuntime) -> Result<(), Fail> {
 }
 
 #[test]
-fn quiet(rt: HostRuntime) -> Result<(), Fail> {
+fn a_quiet_sequence_writes_nothing(rt: HostRuntime) -> Result<(), Fail> {
     let inputs: [(&[u8], Exit); 3] = [
         (b"\x1E[]\n", Exit::Good),
         (b"", Exit::Good),
@@ -65,7 +65,7 @@ fn quiet(rt: HostRuntime) -> Result<(), Fail> {
 }
 
 #[test]
-fn elements_within_a_depth(rt: HostRuntime) -> Result<(), Fail> {
+fn the_depth_decides_which_element_is_too_deep(rt: HostRuntime) -> Result<(), Fail> {
     let seq = command(Task::Seq, 1);
     let ran = reported(&rt, rt.alloc(), b"\x1E[]\x1E[[]]\x1E{}", &seq);
     let output = b"1..3 accepted\n4..8 too deep at 5\n9..11 accepted\n";

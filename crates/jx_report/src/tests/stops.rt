@@ -9,7 +9,7 @@ use crate::tests::commands::check_within;
 use crate::tests::ends::TellingReader;
 use crate::tests::gates::StopFrom;
 use jx_claim::Workers;
-use jx_command::Command;
+use jx_task::Command;
 use jx_run::{FrontMark, NameRule};
 use std::alloc::Global;
 use std::process::Abort;
@@ -129,11 +129,11 @@ fn check_all<R: Abort + Threads + Wait + Sync>(
 }
 
 #[test]
-fn workers_who_stop_where_a_mark_is_refused(rt: HostRuntime) -> Result<(), Fail> {
+fn workers_who_stop_change_no_answer_where_a_mark_is_refused(rt: HostRuntime) -> Result<(), Fail> {
     check_all(&rt, rt.alloc(), FrontMark::Refused, &MARK_REFUSED)
 }
 
 #[test]
-fn workers_who_stop_where_a_mark_is_ignored(rt: HostRuntime) -> Result<(), Fail> {
+fn workers_who_stop_change_no_answer_where_a_mark_is_ignored(rt: HostRuntime) -> Result<(), Fail> {
     check_all(&rt, rt.alloc(), FrontMark::Ignored, &MARK_IGNORED)
 }

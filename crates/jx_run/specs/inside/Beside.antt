@@ -1,6 +1,6 @@
 -- What a known stack and another keeper beside it have seen of the tokens of a scan.
 use Rattle.std.specs.Prelude.{ℕ, List}
-use Rattle.jx_lex.specs.declared.mark.Mark.{Mark}
+use Rattle.jx_lex.specs.declared.alphabet.mark.Mark.{Mark}
 use Rattle.jx_lex.specs.Seen.{Seen}
 use Rattle.jx_reduce.specs.KnownStack.{Known, IsFault}
 use Rattle.jx_run.specs.Kept.{HasSeen}

@@ -1,12 +1,12 @@
 -- The structures of the joined bytes of two runs, each made of one of the left and perhaps one of the right.
 use Rattle.std.specs.Prelude.{◌≡◌, ℕ, ◌<◌, ◌≤◌, All, List, [], ◌∷◌, length, Option, None, Some, slice_get}
-use Rattle.jx_lex.specs.declared.exit.Exit.{Exit}
-use Rattle.jx_lex.specs.declared.state.LexState.{LexState}
+use Rattle.jx_lex.specs.declared.alphabet.lex_exit.LexExit.{LexExit}
+use Rattle.jx_lex.specs.declared.alphabet.state.LexState.{LexState}
 use Rattle.jx_lex.specs.Ordinal.{all_states}
 use Rattle.jx_reduce.specs.Reductions.{Forms, IsJoin, SpansIn}
 use Rattle.jx_run.specs.declared.joins.Pair.{Pair}
 use Rattle.jx_run.specs.declared.way.Way.{Way}
-use Rattle.jx_run.specs.OutcomeRun.{OutcomeRunValue, Entries, entries_at, GoesOn, IsWithin}
+use Rattle.jx_run.specs.OutcomeRun.{OutcomeRunValue, Entries, entries_at, GoesOn, IsFormWithin}
 
 -- the marks of one go on with those of the other
 pub record GoesOnWith (a b f : Forms) : Type 0 where
@@ -46,15 +46,15 @@ abbrev pub IsAbove : List Forms → List Forms → Type 0
 IsAbove olds news = (i : ℕ) (f : Forms) → slice_get olds i ≡ Some f → slice_get news i ≡ Some f
 
 -- from this state reading goes on to this exit through the structures of the pair
-abbrev pub GoesThrough : OutcomeRunValue → OutcomeRunValue → LexState → Exit → Pair → Type 0
-GoesThrough left right s exit pair = (e : Entries) (f : Forms) → entries_at left s ≡ Some e → f.depth ≡ left.limit → IsMade left right pair f
-    → GoesOn left.limit e right (record { exit = exit; marks = f })
+abbrev pub GoesThrough : OutcomeRunValue → OutcomeRunValue → LexState → LexExit → Pair → Type 0
+GoesThrough left right s exit pair = (e : Entries) (f : Forms) → entries_at left s ≡ Some e → f.depth ≡ left.depth → IsMade left right pair f
+    → GoesOn left.depth e right (record { exit = exit; marks = f })
 
 -- the way has what reading from this state comes to in the joined bytes
 pub record IsJoinedWay (left right : OutcomeRunValue) (structures : List Forms) (s : LexState) (w : Way) : Type 0 where
   pub form : Forms
   pub at : slice_get structures w.structure ≡ Some form
-  pub goes : (e : Entries) → entries_at left s ≡ Some e → GoesOn left.limit e right (record { exit = w.exit; marks = form })
+  pub goes : (e : Entries) → entries_at left s ≡ Some e → GoesOn left.depth e right (record { exit = w.exit; marks = form })
 
 -- so it is with those from these states, in order
 abbrev pub AreJoinedWays : OutcomeRunValue → OutcomeRunValue → List Forms → List LexState → List Way → Type 0
@@ -67,4 +67,4 @@ AreJoinedWays left right fs (s ∷ ss) (w ∷ ws) = IsJoinedWay left right fs s 
 pub record AreJoined (left right : OutcomeRunValue) (ways : List Way) (structures : List Forms) : Type 0 where
   pub each : AreJoinedWays left right structures all_states ways
   pub few : length structures ≤ 32
-  pub within : All (IsWithin left.limit left.start right.end) structures
+  pub within : All (IsFormWithin left.depth left.start right.end) structures

@@ -1,7 +1,7 @@
 -- Elements of a text sequence, and the parts of a run, whose bytes stand further on.
 use Rattle.std.specs.Prelude.{◌≡◌, ℕ, ◌+◌, ◌≤◌, List, length, Some, slice_get}
-use Rattle.jx_lex.specs.declared.exit.Exit.{Exit}
-use Rattle.jx_lex.specs.declared.exit.Exit.TheVariants as exit
+use Rattle.jx_lex.specs.declared.alphabet.lex_exit.LexExit.{LexExit}
+use Rattle.jx_lex.specs.declared.alphabet.lex_exit.LexExit.TheVariants as exit
 use Rattle.jx_reduce.specs.declared.expect.Expect.{Expect}
 use Rattle.jx_reduce.specs.declared.holder.Holder.{Holder}
 use Rattle.jx_reduce.specs.Reductions.{Forms, answer, SpansIn}
@@ -32,7 +32,7 @@ moved_verdict by element.Unmarked = element.Unmarked
 abbrev pub moved : ℕ → JudgedElement → JudgedElement
 moved by e = record { span = span (offset_at by e.span.start) (offset_at by e.span.end); verdict = moved_verdict by e.verdict }
 
-abbrev pub moved_exit : ℕ → Exit → Exit
+abbrev pub moved_exit : ℕ → LexExit → LexExit
 moved_exit by (exit.State s) = exit.State s
 moved_exit by (exit.Fault at) = exit.Fault (offset_at by at)
 

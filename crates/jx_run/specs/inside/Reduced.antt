@@ -1,8 +1,8 @@
 -- Structures of the marks of tracks.
 use Rattle.std.specs.Prelude.{◌≡◌, ℕ, ◌≤◌, ◌<◌, ◌+◌, List, [], ◌∷◌, All, Option, Some, length, flat_map, slice_get}
-use Rattle.jx_lex.specs.declared.link.Link.TheVariants.{Ahead}
-use Rattle.jx_lex.specs.declared.mark.Mark.{Mark}
-use Rattle.jx_lex.specs.declared.state.LexState.{LexState}
+use Rattle.jx_lex.specs.declared.map.link.Link.TheVariants.{Ahead}
+use Rattle.jx_lex.specs.declared.alphabet.mark.Mark.{Mark}
+use Rattle.jx_lex.specs.declared.alphabet.state.LexState.{LexState}
 use Rattle.jx_lex.specs.Follow.{Part}
 use Rattle.jx_lex.specs.Lex.{Track}
 use Rattle.jx_lex.specs.Map.{Map, track}
@@ -11,7 +11,7 @@ use Rattle.jx_reduce.specs.Offsets.{EachIn, RisingFrom}
 use Rattle.jx_reduce.specs.Reductions.{Forms, IsOf, SpansIn}
 use Rattle.jx_run.specs.declared.reduce.Lone.{Lone}
 use Rattle.jx_run.specs.declared.way.Way.{Way}
-use Rattle.jx_run.specs.OutcomeRun.{IsWithin}
+use Rattle.jx_run.specs.OutcomeRun.{IsFormWithin}
 
 -- the structure of these marks, which keeps no offset but theirs
 pub record IsReduced (limit : ℕ) (marks : List Mark) (f : Forms) : Type 0 where
@@ -59,7 +59,7 @@ pub record ArePaths (limit : ℕ) (m : Map) (parts : List (Option Forms)) (numbe
   pub numbers_all : length numbers ≡ length m.parts + 1
   pub parts_are : AreReduced limit m.parts parts
   pub numbers_are : AreNumbered limit m.parts numbers structures
-  pub within : All (IsWithin limit m.start m.end) structures
+  pub within : All (IsFormWithin limit m.start m.end) structures
 
 -- the marks of each track rise
 abbrev pub AreRising : Map → Type 0

@@ -1,9 +1,9 @@
 -- The rest of a piece, which is read only from the states in which ways of its beginning end.
 use Rattle.std.specs.Prelude.{◌≡◌, ℕ, ◌+◌, ◌<◌, ◌≤◌, List, ◌∷◌, length, HoldsAt, Some, slice_get}
-use Rattle.jx_lex.specs.declared.exit.Exit.TheVariants as exit
-use Rattle.jx_lex.specs.declared.mark.Mark.{Mark}
-use Rattle.jx_lex.specs.declared.state.LexState.{LexState}
-use Rattle.jx_lex.specs.Lex.{Exit}
+use Rattle.jx_lex.specs.declared.alphabet.lex_exit.LexExit.TheVariants as exit
+use Rattle.jx_lex.specs.declared.alphabet.mark.Mark.{Mark}
+use Rattle.jx_lex.specs.declared.alphabet.state.LexState.{LexState}
+use Rattle.jx_lex.specs.Lex.{LexExit}
 use Rattle.jx_lex.specs.Ordinal.{ordinal}
 use Rattle.jx_reduce.specs.declared.expect.Expect.{Expect}
 use Rattle.jx_reduce.specs.declared.holder.Holder.{Holder}
@@ -11,17 +11,17 @@ use Rattle.jx_reduce.specs.Reducer.{ReducerValue, HasReduced}
 use Rattle.jx_reduce.specs.Reductions.{Forms}
 use Rattle.jx_run.specs.declared.way.Way.{Way}
 use Rattle.jx_run.specs.OutcomeRun.{OutcomeRunValue, exit_at, outcome, outcome_of}
-use Rattle.jx_run.specs.Reading.{Outcome, read}
+use Rattle.jx_run.specs.Reading.{TextReading, read}
 
 -- these are the outcomes of reading bytes, which stand from an offset on, from a state
-abbrev pub AreRead : ℕ → ℕ → List ℕ → LexState → (Expect → List Holder → Outcome) → Type 0
+abbrev pub AreRead : ℕ → ℕ → List ℕ → LexState → (Expect → List Holder → TextReading) → Type 0
 AreRead limit start bytes s outcomes = (expect : Expect) (holders : List Holder) → length holders ≤ limit → outcomes expect holders ≡ read limit s expect holders start bytes
 
 -- the right has the outcomes of reading these bytes from each state in which a way of the left ends; from the other states,
 -- to which nothing leads, it may have any
 pub record IsRestOf (left : OutcomeRunValue) (bytes : List ℕ) (right : OutcomeRunValue) : Type 0 where
   pub long : right.end ≡ right.start + length bytes
-  pub outcomes : (s t : LexState) → exit_at left s ≡ Exit.state t → AreRead right.limit right.start bytes t (outcome right t)
+  pub outcomes : (s t : LexState) → exit_at left s ≡ LexExit.state t → AreRead right.depth right.start bytes t (outcome right t)
 
 -- one of the ways ends in this state
 abbrev pub Reaches : List Way → LexState → Type 0

@@ -1,6 +1,6 @@
 -- What a mark does, read off the table of moves in one word.
 use Rattle.std.specs.Prelude.{Option, Some, None}
-use Rattle.jx_lex.specs.declared.mark.MarkKind.{MarkKind}
+use Rattle.jx_lex.specs.declared.alphabet.mark.MarkKind.{MarkKind}
 use Rattle.jx_reduce.specs.declared.expect.Expect.{Expect}
 use Rattle.jx_reduce.specs.declared.expect.Expect.TheVariants.{After, ArrayFirst, ObjectFirst}
 use Rattle.jx_reduce.specs.declared.holder.Holder.{Holder}

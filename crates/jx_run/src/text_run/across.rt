@@ -1,25 +1,25 @@
 // The reading of an element from its start, where it stands in two neighbouring runs.
 ghost use Rattle.std.specs.Prelude.{◌≡◌, ◌++◌, List, ℕ, IfOk};
-ghost use Rattle.jx_lex.specs.declared.state.LexState.TheVariants.{Gap};
+ghost use Rattle.jx_lex.specs.declared.alphabet.state.LexState.TheVariants.{Gap};
 ghost use Rattle.jx_lex.specs.Lex.{lex};
 ghost use Rattle.jx_run.specs.Started.{IsStarted};
 ghost use Rattle.jx_run.specs.TextRun.{IsTextRun};
 ghost use Rattle.jx_run.specs.Tree.{span};
 
 use crate::started::Started;
-use crate::summary::Summary;
+use jx_summary::Summary;
 use crate::text_run::TextRun;
-use jx_lex::{Exit, LexState, Mark, Span, parts_are_read_in_turn};
+use jx_lex::{LexExit, LexState, Mark, Span, parts_are_read_in_turn};
 use std::alloc::AllocError;
 
 impl TextRun {
     /// The reading of the joined bytes from the start of a text; neither run changes, and no other track is joined.
     pub(crate) fn started_with(&self, right: &TextRun) -> Result<Started, AllocError>
         requires neighbours { self.now.map.end ≡ right.now.map.start }
-        requires depth { self.now.limit ≡ right.now.limit }
+        requires depth { self.now.depth ≡ right.now.depth }
         ensures started { (xs ys : List ℕ) → IsTextRun xs self.now → IsTextRun ys right.now → IfOk result (λ s. IsStarted (xs ++ ys) s) }
-        ensures place { IfOk result (λ s. s.place ≡ span self.now.map.start right.now.map.end) }
-        ensures limit { IfOk result (λ s. s.limit ≡ self.now.limit) }
+        ensures span { IfOk result (λ s. s.span ≡ span self.now.map.start right.now.map.end) }
+        ensures depth { IfOk result (λ s. s.depth ≡ self.now.depth) }
     {
         let place = Span {
             start: self.map.span().start,
@@ -39,8 +39,8 @@ impl TextRun {
         parts_are_read_in_turn();
         let (mut marks, mut ends) = self.copy_track(LexState::Gap)?;
         match self.map.entry(LexState::Gap).exit() {
-            Exit::Fault(_) => Ok((marks, ends)),
-            Exit::State(state) => {
+            LexExit::Fault(_) => Ok((marks, ends)),
+            LexExit::State(state) => {
                 let (more_marks, more_ends) = right.copy_track(state)?;
                 marks.extend_from_slice(&more_marks)?;
                 ends.extend_from_slice(&more_ends)?;

@@ -8,3 +8,4 @@ mod readings;
 mod scarce;
 mod states;
 mod stops;
+mod verdicts;

@@ -6,7 +6,7 @@ mod steps;
 mod strings;
 mod words;
 
-use jx_lex::{ChunkMap, Exit, LexState, Mark, MarkKind, TokenEnd, TrackView, step};
+use jx_lex::{ChunkMap, LexExit, LexState, Mark, MarkKind, TokenEnd, TrackView, step};
 use std::alloc::{AllocError, Global};
 use std::test::Fail;
 
@@ -15,7 +15,7 @@ fn mark(kind: MarkKind, at: usize) -> Mark {
 }
 
 /// Whether a view shows these marks, these ends and this exit.
-fn shows(view: &TrackView, marks: &[Mark], ends: &[usize], exit: Exit) -> bool {
+fn shows(view: &TrackView, marks: &[Mark], ends: &[usize], exit: LexExit) -> bool {
     view.marks().eq(marks.iter().copied())
         && view.ends().eq(ends.iter().copied())
         && view.exit() == exit
@@ -40,15 +40,15 @@ fn goes_along(map: &ChunkMap, state: LexState) -> bool {
 struct Track {
     marks: Vec<Mark>,
     ends: Vec<usize>,
-    exit: Exit,
+    exit: LexExit,
 }
 
 fn plain(alloc: Global, state: LexState, text: &[u8], start: usize) -> Result<Track, AllocError> {
     let mut marks = Vec::new(alloc);
     let mut ends = Vec::new(alloc);
-    let mut exit = Exit::State(state);
+    let mut exit = LexExit::State(state);
     for (place, byte) in text.iter().enumerate() {
-        let Exit::State(now) = exit else {
+        let LexExit::State(now) = exit else {
             break;
         };
         let at = start.wrapping_add(place);
@@ -62,8 +62,8 @@ fn plain(alloc: Global, state: LexState, text: &[u8], start: usize) -> Result<Tr
             marks.push(mark(kind, at))?;
         }
         exit = match step.next {
-            Some(next) => Exit::State(next),
-            None => Exit::Fault(at),
+            Some(next) => LexExit::State(next),
+            None => LexExit::Fault(at),
         };
     }
     Ok(Track { marks, ends, exit })
@@ -87,7 +87,7 @@ fn the_end_of_an_array_from_every_state(rt: HostRuntime) -> Result<(), Fail> {
     let map = ChunkMap::of(rt.alloc(), b"{\"a\":1,2]", 7, 9)?;
     let number = mark(MarkKind::Number, 7);
     let close = mark(MarkKind::CloseArray, 8);
-    let gap = Exit::State(LexState::Gap);
+    let gap = LexExit::State(LexState::Gap);
     assert!(rt; shows(&map.entry(LexState::Gap), &[number, close], &[8], gap));
     assert!(rt; shows(&map.entry(LexState::Int), &[close], &[8], gap));
     assert!(rt;
@@ -95,11 +95,11 @@ fn the_end_of_an_array_from_every_state(rt: HostRuntime) -> Result<(), Fail> {
             &map.entry(LexState::Str),
             &[],
             &[],
-            Exit::State(LexState::Str)
+            LexExit::State(LexState::Str)
         )
     );
-    assert!(rt; shows(&map.entry(LexState::Esc), &[], &[], Exit::Fault(7)));
-    assert!(rt; shows(&map.entry(LexState::T), &[], &[], Exit::Fault(7)));
+    assert!(rt; shows(&map.entry(LexState::Esc), &[], &[], LexExit::Fault(7)));
+    assert!(rt; shows(&map.entry(LexState::T), &[], &[], LexExit::Fault(7)));
 
     // Gap and Zero begin a number, and Int, Frac and Exp then come to the bracket.
     assert!(rt; map.stored() <= 5);
@@ -119,8 +119,8 @@ fn a_string_that_is_cut_in_an_escape(rt: HostRuntime) -> Result<(), Fail> {
     let left = ChunkMap::of(rt.alloc(), text, 0, 4)?;
     let right = ChunkMap::of(rt.alloc(), text, 4, 8)?;
     let string = mark(MarkKind::String, 0);
-    let hex = Exit::State(LexState::Hex3);
-    let gap = Exit::State(LexState::Gap);
+    let hex = LexExit::State(LexState::Hex3);
+    let gap = LexExit::State(LexState::Gap);
     assert!(rt; shows(&left.entry(LexState::Gap), &[string], &[], hex));
     assert!(rt; shows(&right.entry(LexState::Hex3), &[], &[8], gap));
     let marks = [
@@ -133,7 +133,7 @@ fn a_string_that_is_cut_in_an_escape(rt: HostRuntime) -> Result<(), Fail> {
             &right.entry(LexState::Gap),
             &marks,
             &[5, 7],
-            Exit::State(LexState::Str)
+            LexExit::State(LexState::Str)
         )
     );
 
@@ -153,8 +153,8 @@ fn a_string_that_is_cut_in_an_escape(rt: HostRuntime) -> Result<(), Fail> {
 fn a_number_that_a_fault_ends(rt: HostRuntime) -> Result<(), Fail> {
     let map = ChunkMap::of(rt.alloc(), b"1x", 0, 2)?;
     let number = mark(MarkKind::Number, 0);
-    assert!(rt; shows(&map.entry(LexState::Gap), &[number], &[1], Exit::Fault(1)));
-    assert!(rt; shows(&map.entry(LexState::Int), &[], &[1], Exit::Fault(1)));
+    assert!(rt; shows(&map.entry(LexState::Gap), &[number], &[1], LexExit::Fault(1)));
+    assert!(rt; shows(&map.entry(LexState::Int), &[], &[1], LexExit::Fault(1)));
     Ok(())
 }
 

@@ -10,7 +10,7 @@ mod rests;
 mod sequences;
 mod shifts;
 
-use jx_lex::{Depth, Exit, LexState};
+use jx_lex::{Depth, LexExit, LexState};
 use jx_reduce::{Expect, Holder, Outcome, Reduced};
 use jx_run::{OutcomeRun, Refusal, Summary, TextRun, Verdict};
 use std::alloc::{AllocError, Global};
@@ -57,8 +57,8 @@ pub(crate) fn from_left<S: Summary>(
     text: &[u8],
     depth: Depth,
 ) -> Result<S, AllocError>
-    ensures place { IfOk result (λ r. S.place r ≡ span 0 (length text.now)) }
-    ensures depth { IfOk result (λ r. S.limit r ≡ depth) }
+    ensures span { IfOk result (λ r. S.span r ≡ span 0 (length text.now)) }
+    ensures depth { IfOk result (λ r. S.depth r ≡ depth) }
 {
     let mut run = S::of(alloc, text, 0, 0, depth)?;
     for i in 0..text.len() {
@@ -73,8 +73,8 @@ pub(crate) fn from_left<S: Summary>(
 
 /// Runs of single bytes, joined from the right.
 fn from_right<J: Judge>(alloc: Global, text: &[u8], depth: Depth) -> Result<J, AllocError>
-    ensures place { IfOk result (λ r. J.place r ≡ span 0 (length text.now)) }
-    ensures depth { IfOk result (λ r. J.limit r ≡ depth) }
+    ensures span { IfOk result (λ r. J.span r ≡ span 0 (length text.now)) }
+    ensures depth { IfOk result (λ r. J.depth r ≡ depth) }
 {
     let len = text.len();
     let mut run = J::of(alloc, text, len, len, depth)?;
@@ -98,8 +98,8 @@ fn by_halves<J: Judge>(
 ) -> Result<J, AllocError>
     requires ordered { start ≤ end }
     requires within { end ≤ length text.now }
-    ensures place { IfOk result (λ r. J.place r ≡ span start end) }
-    ensures depth { IfOk result (λ r. J.limit r ≡ depth) }
+    ensures span { IfOk result (λ r. J.span r ≡ span start end) }
+    ensures depth { IfOk result (λ r. J.depth r ≡ depth) }
 {
     if end - start < 2 {
         return J::of(alloc, text, start, end, depth);
@@ -309,16 +309,16 @@ fn went_on(alloc: Global) -> Outcome {
 #[test]
 fn exits(rt: HostRuntime) -> Result<(), AllocError> {
     let run = from_left::<TextRun>(rt.alloc(), b"1]", Depth::default())?;
-    assert_eq!(rt; run.exit(LexState::Gap), Exit::State(LexState::Gap));
-    assert_eq!(rt; run.exit(LexState::Esc), Exit::Fault(0));
+    assert_eq!(rt; run.exit(LexState::Gap), LexExit::State(LexState::Gap));
+    assert_eq!(rt; run.exit(LexState::Esc), LexExit::Fault(0));
     Ok(())
 }
 
 #[test]
 fn exits_of_outcomes(rt: HostRuntime) -> Result<(), AllocError> {
     let run = from_left::<OutcomeRun>(rt.alloc(), b"1]", Depth::default())?;
-    assert_eq!(rt; run.exit(LexState::Gap), Exit::State(LexState::Gap));
-    assert_eq!(rt; run.exit(LexState::Esc), Exit::Fault(0));
+    assert_eq!(rt; run.exit(LexState::Gap), LexExit::State(LexState::Gap));
+    assert_eq!(rt; run.exit(LexState::Esc), LexExit::Fault(0));
     Ok(())
 }
 

@@ -16,7 +16,7 @@ returns-then-is_unclosed c limit tree is_text =
     let index = c.args.index.now in
     let row = c.row-root.result.now in
     let r = root_row tree (rows tree) row refl (ap (slice_get (rows tree)) (sym c.root.ensures.first) ∙ c.row-root.ensures.tree limit tree is_text) in
-    let u = unclosed_root tree row index.place.end r in
+    let u = unclosed_root tree row index.span.end r in
     let end = ap (λ p. p.end) c.span.ensures in (
       (λ h. u.0 (sym c.is_unclosed.ensures ∙ c.if-is_unclosed.true, same_of row.span.end c.span.result.end h ∙ end)),
       (λ h. of_same row.span.end c.span.result.end ((u.1 h).1 ∙ sym end)),
@@ -27,5 +27,5 @@ returns-else-is_unclosed c limit tree is_text =
     let index = c.args.index.now in
     let row = c.row-root.result.now in
     let r = root_row tree (rows tree) row refl (ap (slice_get (rows tree)) (sym c.root.ensures.first) ∙ c.row-root.ensures.tree limit tree is_text) in
-    let u = unclosed_root tree row index.place.end r in
+    let u = unclosed_root tree row index.span.end r in
     ((λ h. absurd (cc (h, c.if-is_unclosed.false))), (λ h. c.is_unclosed.ensures ∙ (u.1 h).0))

@@ -17,14 +17,14 @@ pub of_run-requires-clause-accepted : goal.of_run-requires-clause-accepted
 of_run-requires-clause-accepted c =
     let text = c.args.text.now in
     let run = c.args.run.now in
-    subst (λ (n : ℕ). Judged run.map.start (slice_range text run.map.start n) run.limit Accepted) (sym c.requires.end)
-    (subst (Judged run.map.start (rest_from run.map.start text) run.limit) c.in-Accepted.is (c.verdict.ensures.verdict (rest_from run.map.start text) c.requires.of))
+    subst (λ (n : ℕ). Judged run.map.start (slice_range text run.map.start n) run.depth Accepted) (sym c.requires.end)
+    (subst (Judged run.map.start (rest_from run.map.start text) run.depth) c.in-Accepted.is (c.verdict.ensures.verdict (rest_from run.map.start text) c.requires.of))
 
 pub returns-in-Refused : goal.returns-in-Refused
 returns-in-Refused c =
     let text = c.args.text.now in
     let run = c.args.run.now in
-    record { answer = subst (Judged run.map.start (rest_from run.map.start text) run.limit) c.in-Refused.is (c.verdict.ensures.verdict (rest_from run.map.start text) c.requires.of) }
+    record { answer = subst (Judged run.map.start (rest_from run.map.start text) run.depth) c.in-Refused.is (c.verdict.ensures.verdict (rest_from run.map.start text) c.requires.of) }
 
 pub returns-in_ok-index-in-Accepted : goal.returns-in_ok-index-in-Accepted
 returns-in_ok-index-in-Accepted c =
@@ -33,11 +33,11 @@ returns-in_ok-index-in-Accepted c =
     let start = run.map.start in
     let index = c.in_ok-index-in-Accepted.index in
     let e = c.in_ok-index-in-Accepted.ensures in
-    let judged = subst (Judged start (rest_from start text) run.limit) c.in-Accepted.is (c.verdict.ensures.verdict (rest_from start text) c.requires.of) in
+    let judged = subst (Judged start (rest_from start text) run.depth) c.in-Accepted.is (c.verdict.ensures.verdict (rest_from start text) c.requires.of) in
     record {
       answer = (
         judged,
-        c.indexes_stand_behind_fronts.ensures.over text start run.limit index judged e.text (e.place ∙ ap (λ (n : ℕ). span start n) c.requires.end)
+        c.indexes_stand_behind_fronts.ensures.over text start run.depth index judged e.text (e.span ∙ ap (λ (n : ℕ). span start n) c.requires.end)
             (λ limit tree t. e.rows limit tree (subst (λ (n : ℕ). IsText text start n limit tree) (sym c.requires.end) t)),
       );
     }

@@ -11,4 +11,4 @@ returns c =
     let text = c.args.sequence.now in
     let run = c.in_ok-run.run' in
     let of : IsElementsRun text run = subst (λ (b : List ℕ). IsElementsRun b run) (slice_range-all text) c.in_ok-run.ensures.of in
-    subst (λ (d : ℕ). AllZip (IsJudgedElement d) (elements 0 text) c.in_ok-judged.judged.items) c.in_ok-run.ensures.limit (c.in_ok-judged.ensures.elements text of)
+    subst (λ (d : ℕ). AllZip (IsJudgedElement d) (elements 0 text) c.in_ok-judged.judged.items) c.in_ok-run.ensures.depth (c.in_ok-judged.ensures.elements text of)

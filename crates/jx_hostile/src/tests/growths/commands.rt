@@ -1,6 +1,7 @@
 // Commands under refused growths.
 use crate::tests::inputs::settings;
-use jx_command::{ArgFault, Command, Request, Task, command_of};
+use jx_command::{ArgFault, Request, command_of};
+use jx_task::{Command, Task};
 use jx_lex::Depth;
 use jx_run::{FrontMark, NameRule};
 use std::alloc::Global;

@@ -2,7 +2,7 @@
 ghost use Rattle.std.specs.Prelude.{◌≡◌, ◌≤◌, IfOk, length};
 
 use crate::tests::inputs::{FIVE_ROWS, NESTED, REPEATED, SEQUENCE, UNSORTED};
-use jx_lex::{ChunkMap, Exit, JoinFault, LexState, TokenEnd, TrackView, step};
+use jx_lex::{ChunkMap, LexExit, JoinFault, LexState, TokenEnd, TrackView, step};
 use std::alloc::{AllocError, Global};
 use std::process::Abort;
 use std::test::Fail;
@@ -30,13 +30,13 @@ fn is_plain(view: &TrackView<'_>, from: LexState, bytes: &[u8], start: usize) ->
             }
         }
         let Some(next) = step.next else {
-            return view.exit() == Exit::Fault(at)
+            return view.exit() == LexExit::Fault(at)
                 && marks.next().is_none()
                 && ends.next().is_none();
         };
         state = next;
     }
-    view.exit() == Exit::State(state) && marks.next().is_none() && ends.next().is_none()
+    view.exit() == LexExit::State(state) && marks.next().is_none() && ends.next().is_none()
 }
 
 // Whether a map shows so much from each of the states.

@@ -6,7 +6,7 @@ use crate::tests::inputs::{
 };
 use jx_book::OpenGate;
 use jx_claim::Workers;
-use jx_command::{Command, Task};
+use jx_task::{Command, Task};
 use jx_lex::Depth;
 use jx_report::{End, Exit, ReportFault, report};
 use jx_run::{FrontMark, NameRule, Settings};

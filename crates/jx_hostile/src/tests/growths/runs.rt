@@ -1,6 +1,6 @@
 // Runs of texts and of sequences under refused growths.
 ghost use Rattle.std.specs.Prelude.{◌≡◌, ◌≤◌, IfOk, IfSome, length};
-ghost use Rattle.jx_run.specs.OutcomeRun.{place_of};
+ghost use Rattle.jx_run.specs.OutcomeRun.{outcome_span};
 
 use crate::tests::inputs::{FIVE_ROWS, NESTED, REPEATED, SEQUENCE, UNSORTED};
 use crate::tests::likeness::{Likeness, is_as_read};
@@ -13,8 +13,8 @@ use std::test::Fail;
 /// The run of a part, asked for twice where it is refused.
 fn run_of<S: Summary>(alloc: Global, text: &[u8], start: usize, end: usize) -> Result<S, AllocError>
     requires { (start ≤ end) × (end ≤ length text.now) }
-    ensures place { IfOk result (λ r. S.place r ≡ record { start = start; end = end }) }
-    ensures limit { IfOk result (λ r. S.limit r ≡ 512) }
+    ensures span { IfOk result (λ r. S.span r ≡ record { start = start; end = end }) }
+    ensures depth { IfOk result (λ r. S.depth r ≡ 512) }
 {
     match S::of(alloc, text, start, end, Depth::default()) {
         Ok(run) => Ok(run),
@@ -24,8 +24,8 @@ fn run_of<S: Summary>(alloc: Global, text: &[u8], start: usize, end: usize) -> R
 
 /// The join of two runs over a text. Where it is refused, both sides have to be as they were, and are joined again.
 fn joined<S: Likeness>(alloc: Global, text: &[u8], left: S, right: S) -> Option<S>
-    requires neighbours { (S.place left).end ≡ (S.place right).start }
-    requires depth { S.limit left ≡ S.limit right }
+    requires neighbours { (S.span left).end ≡ (S.span right).start }
+    requires depth { S.depth left ≡ S.depth right }
 {
     let spans = (left.span(), right.span());
     match left.join(right) {

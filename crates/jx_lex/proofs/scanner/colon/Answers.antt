@@ -1,6 +1,6 @@
 use Rattle.std.proofs.Common.{◌++◌, ◌∷◌, [], List, ℕ, arith, subst, sym, append-nil}
-use Rattle.jx_lex.specs.declared.mark.MarkKind.TheVariants.{Colon}
-use Rattle.jx_lex.specs.declared.state.LexState.TheVariants as state
+use Rattle.jx_lex.specs.declared.alphabet.mark.MarkKind.TheVariants.{Colon}
+use Rattle.jx_lex.specs.declared.alphabet.state.LexState.TheVariants as state
 use Rattle.jx_lex.proofs.Keeping.{goes-none, goes-colon}
 use Rattle.jx_lex.proofs.scanner.colon.Goals as goal
 

@@ -9,5 +9,5 @@ use Rattle.jx_report.specs.inside.Replies.{exit_past_lines, pointer_lines}
 use Rattle.jx_report.proofs.pointer_answer.answers_of.Given as goal
 
 abbrev pub invariant-loop-at : goal.invariant-loop-at
-invariant-loop-at l = (limit : ℕ) (tree : Tree) → IsText l.index.text l.index.place.start l.index.place.end limit tree
+invariant-loop-at l = (limit : ℕ) (tree : Tree) → IsText l.index.text l.index.span.start l.index.span.end limit tree
     → PointerLines l.index.text tree (map string_bytes (take l.at l.pointers)) (pointer_lines l.answers.items) (exit_past_lines Good l.answers.items)

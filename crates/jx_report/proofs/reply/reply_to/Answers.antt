@@ -8,7 +8,7 @@ use Rattle.jx_run.specs.Tree.{Tree}
 use Rattle.jx_index.specs.Indexed.{IndexedValue}
 use Rattle.jx_answer.specs.declared.text_answer.TextAnswer.TheVariants.{Accepted}
 use Rattle.jx_answer.specs.Settled.{IsAnswerBy}
-use Rattle.jx_command.specs.declared.command.Task.{Task}
+use Rattle.jx_task.specs.declared.task.Task.{Task}
 use Rattle.jx_report.specs.declared.reply.Reply.{Reply}
 use Rattle.jx_report.specs.Output.{Output}
 use Rattle.jx_report.specs.Pointers.{PointerLines}
@@ -23,7 +23,7 @@ returns-in-Ok-Accepted-index_text_with g c =
     let text : List ℕ = c.args.text.now in
     let read : IsAnswerBy settings text (Accepted index) = subst (λ a. IsAnswerBy settings text a) c.in-Ok-Accepted-index_text_with.field-0-is c.in-Ok-Accepted-index_text_with.ensures.answer in
     let lines : List (String Global) → Reply → Type 0 = λ pointers r. (limit : ℕ) (tree : Tree)
-    → IsText index.text index.place.start index.place.end limit tree → PointerLines index.text tree (map string_bytes pointers) (reply_output r) (reply_exit r) in
+    → IsText index.text index.span.start index.span.end limit tree → PointerLines index.text tree (map string_bytes pointers) (reply_output r) (reply_exit r) in
     IfOk-weaker c.pointers_reply.result (lines c.deref.result.now) (λ (r : Reply). Output c.args.command.now.task settings text (reply_output r) (reply_exit r))
     (λ r h.
     subst (λ (t : Task). Output t settings text (reply_output r) (reply_exit r)) (sym c.in-At.is)

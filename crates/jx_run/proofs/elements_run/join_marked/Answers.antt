@@ -12,6 +12,6 @@ returns-in-Ok-clause-joined c =
     (subst (λ l. IsElementsJoin (record { before = c.args.before; marked = Some l }) (record { before = c.args.middle; marked = Some right }) joined) c.marked.view_is
     (marked_joins c.args.before left c.args.middle right c.close.new.done.items
     (ap (λ (m : MarkedElementsValue). m.after.outcomes.end) c.marked.view_is ∙ c.requires.neighbours)
-    (ap (λ (m : MarkedElementsValue). m.after.outcomes.limit) c.marked.view_is ∙ c.requires.left)
-    (ap (λ (m : MarkedElementsValue). m.after.outcomes.limit) c.marked.view_is ∙ c.requires.depth)
+    (ap (λ (m : MarkedElementsValue). m.after.outcomes.depth) c.marked.view_is ∙ c.requires.left)
+    (ap (λ (m : MarkedElementsValue). m.after.outcomes.depth) c.marked.view_is ∙ c.requires.depth)
     c.in-Ok.ensures.ok))

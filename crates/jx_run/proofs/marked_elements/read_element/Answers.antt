@@ -10,11 +10,11 @@ returns-clause-judged c =
     let start = c.args.start in
     let end = c.args.end in
     let bytes = slice_range c.args.text.now start end in
-    let limit = c.args.reader.now.limit in
+    let limit = c.args.reader.now.depth in
     let long : length bytes ≡ end - start = length-between c.args.text.now start end c.requires.within in
     let ordered = c.requires.ordered in
     let read = c.verdict.ensures.verdict bytes (c.in_ok-feed.ensures.reads [] c.reset.ensures.reads) in
     judged_element limit start bytes start end c.verdict.result c.ends_open.result c.told.result refl (omega (arith, long, ordered)) c.requires.marked
-    (subst (λ n. Judged start bytes n c.verdict.result) (c.in_ok-feed.ensures.limit ∙ c.reset.ensures.limit)
-    (subst (λ n. Judged n bytes c.feed.new.self.limit c.verdict.result) (c.in_ok-feed.ensures.start ∙ c.reset.ensures.start) read))
+    (subst (λ n. Judged start bytes n c.verdict.result) (c.in_ok-feed.ensures.depth ∙ c.reset.ensures.depth)
+    (subst (λ n. Judged n bytes c.feed.new.self.depth c.verdict.result) (c.in_ok-feed.ensures.start ∙ c.reset.ensures.start) read))
     c.ends_open.ensures c.told.ensures

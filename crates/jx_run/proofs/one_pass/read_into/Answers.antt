@@ -1,6 +1,6 @@
 use Rattle.std.proofs.Common.{subst, sym, ap, ◌∙◌}
 use Rattle.std.specs.Prelude.{is_some, slice_range}
-use Rattle.jx_lex.specs.declared.exit.Exit.{Exit}
+use Rattle.jx_lex.specs.declared.alphabet.lex_exit.LexExit.{LexExit}
 use Rattle.jx_run.specs.Verdict.{Judged}
 use Rattle.jx_run.specs.Whole.{verdict_from}
 use Rattle.jx_run.proofs.OnePass.{Scanned, both_judged, other_seen}
@@ -18,7 +18,7 @@ returns-clause-verdict g c =
       whole = c.whole.ensures;
     } in
     subst (Judged c.args.from bytes c.args.depth)
-    (ap (λ (e : Exit). verdict_from e c.whole.result) (sym c.unwrap_or.ensures) ∙ sym c.verdict_from-verdict.ensures)
+    (ap (λ (e : LexExit). verdict_from e c.whole.result) (sym c.unwrap_or.ensures) ∙ sym c.verdict_from-verdict.ensures)
     (both_judged c.reader_is_grammar.ensures.verdict _ _ _ _ _ _ _ _ _ s c.requires.empty)
 
 pub returns-clause-seen : goal.returns-clause-seen

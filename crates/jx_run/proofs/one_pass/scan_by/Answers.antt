@@ -1,7 +1,7 @@
 use Rattle.std.proofs.Common.{◌≡◌, ℕ, arith, sym, subst, ap, ◌∙◌, Option}
 use Rattle.std.specs.Prelude.{slice_range, IfSome, is_some}
-use Rattle.jx_lex.specs.declared.exit.Exit.{Exit}
-use Rattle.jx_lex.specs.declared.state.LexState.TheVariants.{Gap}
+use Rattle.jx_lex.specs.declared.alphabet.lex_exit.LexExit.{LexExit}
+use Rattle.jx_lex.specs.declared.alphabet.state.LexState.TheVariants.{Gap}
 use Rattle.jx_lex.specs.Lex as reading
 use Rattle.jx_lex.specs.Lex.{lex, Track}
 use Rattle.jx_lex.specs.Seen.{GoesTo, SeesTrack}
@@ -38,7 +38,7 @@ returns-in-Fault-clause-seen g c =
     let old = g.K.Keeper.has_seen c.loop-at.keeper in
     let new = g.K.Keeper.has_seen c.scan.new.keeper in
     let track = lex c.loop-at.state at (slice_range xs at stop) in
-    let e : exit_of c.in-Some.exit ≡ track.exit = subst (λ (o : Option Exit). IfSome o (λ e. exit_of e ≡ track.exit)) c.in-Some.is c.in_ok-exit.ensures.exit in
+    let e : exit_of c.in-Some.exit ≡ track.exit = subst (λ (o : Option LexExit). IfSome o (λ e. exit_of e ≡ track.exit)) c.in-Some.is c.in_ok-exit.ensures.exit in
     let f : track.exit ≡ reading.fault c.in-Fault.fault = sym e ∙ ap exit_of c.in-Fault.is in
     sees_then c.parts_are_read_in_turn.ensures.stretch xs c.args.from at c.args.to Gap v.low v.high (let h = v.high in omega (arith, fits, h)) c.loop-at.state v.read.exit (g.K.Keeper.has_seen c.args.keeper.now) old new v.read.seen
     (subst (λ (x : Track). SeesTrack old new x) (sym (fault_ends c.parts_are_read_in_turn.ensures.stretch xs at stop c.args.to c.loop-at.state (omega (arith, b)) b.1 (let h = b.1 in omega (arith, fits, h)) c.in-Fault.fault f)) c.in_ok-exit.ensures.seen)
@@ -52,7 +52,7 @@ returns-in-Fault-clause-exit g c =
     let b = c.stop_within-stop.ensures in
     let fits = c.requires.1 in
     let track = lex c.loop-at.state at (slice_range xs at stop) in
-    let e : exit_of c.in-Some.exit ≡ track.exit = subst (λ (o : Option Exit). IfSome o (λ e. exit_of e ≡ track.exit)) c.in-Some.is c.in_ok-exit.ensures.exit in
+    let e : exit_of c.in-Some.exit ≡ track.exit = subst (λ (o : Option LexExit). IfSome o (λ e. exit_of e ≡ track.exit)) c.in-Some.is c.in_ok-exit.ensures.exit in
     let f : track.exit ≡ reading.fault c.in-Fault.fault = sym e ∙ ap exit_of c.in-Fault.is in
     sym (
     exit_then c.parts_are_read_in_turn.ensures.stretch xs c.args.from at c.args.to Gap v.low v.high (let h = v.high in omega (arith, fits, h)) c.loop-at.state v.read.exit
@@ -71,7 +71,7 @@ loop-at-preserved g c =
     let old = g.K.Keeper.has_seen c.loop-at.keeper in
     let new = g.K.Keeper.has_seen c.scan.new.keeper in
     let track = lex c.loop-at.state at (slice_range xs at stop) in
-    let e : exit_of c.in-Some.exit ≡ track.exit = subst (λ (o : Option Exit). IfSome o (λ e. exit_of e ≡ track.exit)) c.in-Some.is c.in_ok-exit.ensures.exit in
+    let e : exit_of c.in-Some.exit ≡ track.exit = subst (λ (o : Option LexExit). IfSome o (λ e. exit_of e ≡ track.exit)) c.in-Some.is c.in_ok-exit.ensures.exit in
     let next : track.exit ≡ reading.state c.in-State.next = sym e ∙ ap exit_of c.in-State.is in
     let here : GoesTo old new track c.in-State.next = record { seen = c.in_ok-exit.ensures.seen; exit = next } in
     record {

@@ -1,7 +1,7 @@
 use Rattle.std.proofs.Common.{◌≡◌, ◌-◌, length, ap, sym, subst, arith}
 use Rattle.std.specs.Prelude.{is_some, slice_range}
 use Rattle.std.proofs.lemmas.List.Edits.{length-between}
-use Rattle.jx_lex.specs.declared.exit.Exit.{Exit}
+use Rattle.jx_lex.specs.declared.alphabet.lex_exit.LexExit.{LexExit}
 use Rattle.jx_run.specs.OutcomeRun.{outcome_of}
 use Rattle.jx_run.specs.inside.Rest.{AreRead}
 use Rattle.jx_run.proofs.RestWays.{Scanned, scanned_reads, scanned_within}
@@ -24,7 +24,7 @@ returns c =
     let long : length bytes ≡ c.args.to - c.args.from = length-between c.args.text.now c.args.from c.args.to c.requires.1 in
     let low = c.requires.0 in
     record {
-      reads = subst (λ (e : Exit). AreRead c.args.depth c.args.from bytes c.args.state (outcome_of (record { exit = e; marks = c.in_ok-marks.marks }))) (sym c.unwrap_or.ensures)
+      reads = subst (λ (e : LexExit). AreRead c.args.depth c.args.from bytes c.args.state (outcome_of (record { exit = e; marks = c.in_ok-marks.marks }))) (sym c.unwrap_or.ensures)
           (scanned_reads c.args.depth c.args.from bytes c.args.state c.new.result new c.in_ok-exit.exit c.in_ok-marks.marks s _);
       within = scanned_within c.args.depth c.args.from bytes c.args.state c.new.result new c.in_ok-exit.exit c.in_ok-marks.marks s c.args.to (omega (arith, long, low));
     }

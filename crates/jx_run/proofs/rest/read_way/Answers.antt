@@ -2,7 +2,7 @@ use Rattle.std.proofs.Common.{◌≡◌, ◌-◌, ◌∷◌, [], length, All, ap
 use Rattle.std.specs.Prelude.{slice_get}
 use Rattle.std.proofs.lemmas.List.{length-append}
 use Rattle.jx_run.specs.inside.Joins.{IsAbove}
-use Rattle.jx_run.specs.OutcomeRun.{IsWithin}
+use Rattle.jx_run.specs.OutcomeRun.{IsFormWithin}
 use Rattle.jx_run.proofs.Reducing.{all_push, push_above}
 use Rattle.jx_run.proofs.Ways.{at_end}
 use Rattle.jx_run.proofs.rest.read_way.Goals as goal
@@ -12,7 +12,7 @@ returns-clause-above c = subst (IsAbove c.args.structures.now.items) (sym c.in_o
 
 pub returns-clause-within : goal.returns-clause-within
 returns-clause-within c h =
-    let P = IsWithin c.args.depth c.args.from c.args.to in
+    let P = IsFormWithin c.args.depth c.args.from c.args.to in
     subst (All P) (sym c.in_ok-push.ensures.items) (all_push P c.args.structures.now.items c.in_ok-exit.marks h c.in_ok-exit.ensures.within)
 
 pub returns-clause-reads : goal.returns-clause-reads

@@ -1,7 +1,7 @@
 use Rattle.std.proofs.Common.{◌≡◌, ◌+◌, ◌<◌, ◌∷◌, [], ◌++◌, All, length, sym, subst, arith}
 use Rattle.std.proofs.lemmas.List.{length-append}
 use Rattle.std.specs.Prelude.{slice_range}
-use Rattle.jx_lex.specs.declared.state.LexState.{LexState}
+use Rattle.jx_lex.specs.declared.alphabet.state.LexState.{LexState}
 use Rattle.jx_lex.specs.Ordinal.{ordinal}
 use Rattle.jx_run.specs.inside.Rest.{AreReadWays}
 use Rattle.jx_run.proofs.Reducing.{states-many}

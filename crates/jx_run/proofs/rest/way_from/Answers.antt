@@ -1,4 +1,4 @@
-use Rattle.jx_lex.specs.declared.exit.Exit.TheVariants.{Fault}
+use Rattle.jx_lex.specs.declared.alphabet.lex_exit.LexExit.TheVariants.{Fault}
 use Rattle.jx_run.specs.declared.way.Way.{Way}
 use Rattle.jx_run.proofs.rest.way_from.Goals as goal
 

@@ -14,10 +14,10 @@ returns c = record {
   leads = λ more h.
       let run = c.args.run.now in
       let hs = reverse c.args.holders.now in
-      let short : length hs ≤ run.limit = subst (λ (n : ℕ). n ≤ run.limit) (sym (length-reverse c.args.holders.now)) c.requires.within in
-      leads c.args.base run.limit c.exit-exit.result c.in_ok-outcome.outcome c.arrived.result (read run.limit c.args.state c.args.expect hs run.start more) c.arrived.ensures
-      (ap (λ (z : lexical.Exit). at_exit z (reading_of c.in_ok-outcome.outcome)) c.exit-exit.ensures.exit
+      let short : length hs ≤ run.depth = subst (λ (n : ℕ). n ≤ run.depth) (sym (length-reverse c.args.holders.now)) c.requires.within in
+      leads c.args.base run.depth c.exit-exit.result c.in_ok-outcome.outcome c.arrived.result (read run.depth c.args.state c.args.expect hs run.start more) c.arrived.ensures
+      (ap (λ (z : lexical.LexExit). at_exit z (reading_of c.in_ok-outcome.outcome)) c.exit-exit.ensures.exit
       ∙ ap (at_exit (exit_at run c.args.state)) c.in_ok-outcome.ensures
       ∙ c.entry-reduced.ensures.reads more h hs short)
-      (read-within run.limit more c.args.state c.args.expect hs run.start short);
+      (read-within run.depth more c.args.state c.args.expect hs run.start short);
 }

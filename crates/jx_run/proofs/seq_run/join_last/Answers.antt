@@ -11,4 +11,4 @@ returns-in-Ok-clause-joined c =
     c.marked.view_is
     (last_joins c.args.before (record { done = c.marked.inside.done.items; after = c.marked.inside.after }) c.args.right c.in-Ok.after
     (ap (λ (m : MarkedValue). m.after.map.end) c.marked.view_is ∙ c.requires.neighbours)
-    c.in-Ok.ensures.place c.in-Ok.ensures.limit c.in-Ok.ensures.of)
+    c.in-Ok.ensures.span c.in-Ok.ensures.depth c.in-Ok.ensures.of)

@@ -8,5 +8,5 @@ returns-in-Ok-clause-joined c =
     subst (λ r. IsSeqJoin (record { before = c.args.left; marked = None }) r (record { before = c.in-Ok.before; marked = c.right.inside.marked })) c.right.view_is
     (plain_joins c.args.left (record { before = c.right.inside.before; marked = c.right.inside.marked }) c.in-Ok.before
     (c.requires.neighbours ∙ sym (ap (λ (v : SeqRunValue). v.before.map.start) c.right.view_is))
-    (c.requires.depth ∙ sym (ap (λ (v : SeqRunValue). v.before.limit) c.right.view_is))
-    c.in-Ok.ensures.place c.in-Ok.ensures.limit c.in-Ok.ensures.of)
+    (c.requires.depth ∙ sym (ap (λ (v : SeqRunValue). v.before.depth) c.right.view_is))
+    c.in-Ok.ensures.span c.in-Ok.ensures.depth c.in-Ok.ensures.of)

@@ -7,7 +7,7 @@ use std::marker::Model;
 #[derive(Debug, Drop)]
 pub struct Copied {
     bytes: Vec<u8>,
-    place: Span,
+    span: Span,
     depth: Depth,
 }
 
@@ -19,19 +19,19 @@ impl Copied {
 
 impl Model for Copied {
     ghost use Rattle.std.specs.Prelude.{ℕ, List};
-    ghost use Rattle.jx_lex.specs.declared.span.Span.{Span};
+    ghost use Rattle.jx_summary.specs.declared.span.Span.{Span};
 
     ghost Value = { List ℕ × (Span × ℕ) };
 
-    ghost view = { λ s. (s.bytes.items, (s.place, s.depth)) };
+    ghost view = { λ s. (s.bytes.items, (s.span, s.depth)) };
 }
 
 impl Summary for Copied {
     ghost use Rattle.std.specs.Prelude.{◌≡◌};
 
-    ghost place = { λ s. s.1.0 };
+    ghost span = { λ s. s.1.0 };
 
-    ghost limit = { λ s. s.1.1 };
+    ghost depth = { λ s. s.1.1 };
 
     ghost is_of = { λ s xs. s.0 ≡ xs };
 
@@ -45,7 +45,7 @@ impl Summary for Copied {
         let bytes = Vec::from_slice(alloc, &text[start..end])?;
         Ok(Copied {
             bytes,
-            place: Span { start, end },
+            span: Span { start, end },
             depth,
         })
     }
@@ -53,22 +53,22 @@ impl Summary for Copied {
     fn join(self, right: Copied) -> Result<Copied, JoinFault<Copied>> {
         let Copied {
             mut bytes,
-            place,
+            span,
             depth,
         } = self;
         match bytes.extend_from_slice(right.bytes.as_slice()) {
             Ok(()) => Ok(Copied {
                 bytes,
-                place: Span {
-                    start: place.start,
-                    end: right.place.end,
+                span: Span {
+                    start: span.start,
+                    end: right.span.end,
                 },
                 depth,
             }),
             Err(_) => Err(JoinFault {
                 left: Copied {
                     bytes,
-                    place,
+                    span,
                     depth,
                 },
                 right,
@@ -77,7 +77,7 @@ impl Summary for Copied {
     }
 
     fn span(&self) -> Span {
-        self.place
+        self.span
     }
 
     fn depth(&self) -> Depth {

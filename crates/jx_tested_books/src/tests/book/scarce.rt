@@ -6,25 +6,25 @@ use std::marker::Model;
 
 #[derive(Drop)]
 pub struct Scarce {
-    place: Span,
+    span: Span,
     depth: Depth,
 }
 
 impl Model for Scarce {
     ghost use Rattle.std.specs.Prelude.{ℕ};
-    ghost use Rattle.jx_lex.specs.declared.span.Span.{Span};
+    ghost use Rattle.jx_summary.specs.declared.span.Span.{Span};
 
     ghost Value = { Span × ℕ };
 
-    ghost view = { λ s. (s.place, s.depth) };
+    ghost view = { λ s. (s.span, s.depth) };
 }
 
 impl Summary for Scarce {
     ghost use Rattle.std.specs.Prelude.{⊤};
 
-    ghost place = { λ s. s.0 };
+    ghost span = { λ s. s.0 };
 
-    ghost limit = { λ s. s.1 };
+    ghost depth = { λ s. s.1 };
 
     ghost is_of = { λ s xs. ⊤ };
 
@@ -39,7 +39,7 @@ impl Summary for Scarce {
             return Err(AllocError);
         }
         Ok(Scarce {
-            place: Span { start, end },
+            span: Span { start, end },
             depth,
         })
     }
@@ -49,7 +49,7 @@ impl Summary for Scarce {
     }
 
     fn span(&self) -> Span {
-        self.place
+        self.span
     }
 
     fn depth(&self) -> Depth {

@@ -1,5 +1,6 @@
 // Which words are a command.
-use jx_command::{ArgFault, Request, Task, command_of};
+use jx_command::{ArgFault, Request, command_of};
+use jx_task::Task;
 use jx_run::{FrontMark, NameRule};
 use std::alloc::Global;
 use std::test::Fail;

@@ -1,7 +1,7 @@
 // Examples of texts that are cut inside a token.
 use crate::tests::lex::shows;
 use jx_lex::MarkKind::{CloseArray, Number, OpenArray, String, True};
-use jx_lex::{ChunkMap, Exit, LexState, Mark};
+use jx_lex::{ChunkMap, LexExit, LexState, Mark};
 use std::alloc::{AllocError, Global};
 use std::test::Fail;
 
@@ -11,10 +11,10 @@ struct Example {
     text: &'static [u8],
     marks: &'static [Mark],
     ends: &'static [usize],
-    exit: Exit,
+    exit: LexExit,
 }
 
-const GAP: Exit = Exit::State(LexState::Gap);
+const GAP: LexExit = LexExit::State(LexState::Gap);
 
 const EXAMPLES: [Example; 8] = [
     Example {
@@ -63,7 +63,7 @@ const EXAMPLES: [Example; 8] = [
             at: 0,
         }],
         ends: &[],
-        exit: Exit::State(LexState::Int),
+        exit: LexExit::State(LexState::Int),
     },
     Example {
         text: b"1e]",
@@ -72,7 +72,7 @@ const EXAMPLES: [Example; 8] = [
             at: 0,
         }],
         ends: &[],
-        exit: Exit::Fault(2),
+        exit: LexExit::Fault(2),
     },
     Example {
         text: b"1x",
@@ -81,7 +81,7 @@ const EXAMPLES: [Example; 8] = [
             at: 0,
         }],
         ends: &[1],
-        exit: Exit::Fault(1),
+        exit: LexExit::Fault(1),
     },
     Example {
         text: b"true]",

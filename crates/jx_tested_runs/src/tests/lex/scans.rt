@@ -1,7 +1,7 @@
 // Scans into keepers, one of which wants no more after some marks.
 ghost use Rattle.std.specs.Prelude.{◌≡◌, length, min};
 
-use jx_lex::{Exit, Keeper, LexState, Mark, MarkKind, Tokens, scan};
+use jx_lex::{LexExit, Keeper, LexState, Mark, MarkKind, Tokens, scan};
 use std::alloc::{AllocError, Global};
 use std::test::Fail;
 
@@ -37,7 +37,7 @@ fn keeps(
     text: &[u8],
     marks: &[(MarkKind, usize)],
     ends: &[usize],
-    exit: Exit,
+    exit: LexExit,
 ) -> Result<bool, AllocError> {
     let mut tokens = Tokens::new(alloc);
     let given = scan(&mut tokens, state, text, 0, text.len())?;
@@ -58,9 +58,9 @@ fn an_object_is_kept_as_marks_and_ends(rt: HostRuntime) -> Result<(), Fail> {
         (MarkKind::CloseArray, 20),
         (MarkKind::CloseObject, 21),
     ];
-    let gap = Exit::State(LexState::Gap);
+    let gap = LexExit::State(LexState::Gap);
     let text = b"{\"a\\n\": [-0.5e, true]}";
-    let fault = Exit::Fault(14);
+    let fault = LexExit::Fault(14);
     assert!(rt; keeps(rt.alloc(), LexState::Gap, text, &marks[..5], &[6], fault)?);
     let text = b"{\"a\\n\": [-0.5, true ]}";
     let marks = [
@@ -80,7 +80,7 @@ fn an_object_is_kept_as_marks_and_ends(rt: HostRuntime) -> Result<(), Fail> {
 
 #[test]
 fn a_scan_goes_on_from_inside_a_token(rt: HostRuntime) -> Result<(), Fail> {
-    let exit = Exit::State(LexState::Frac);
+    let exit = LexExit::State(LexState::Frac);
     let marks = [(MarkKind::Comma, 2), (MarkKind::Number, 3)];
     assert!(rt; keeps(rt.alloc(), LexState::Esc, b"n\",1.5", &marks, &[2], exit)?);
     assert!(rt;
@@ -90,7 +90,7 @@ fn a_scan_goes_on_from_inside_a_token(rt: HostRuntime) -> Result<(), Fail> {
             b"",
             &[],
             &[],
-            Exit::State(LexState::Int)
+            LexExit::State(LexState::Int)
         )?
     );
     Ok(())
@@ -105,10 +105,10 @@ fn literals_end_where_their_letters_do(rt: HostRuntime) -> Result<(), Fail> {
         (MarkKind::Comma, 10),
         (MarkKind::Null, 11),
     ];
-    let gap = Exit::State(LexState::Gap);
+    let gap = LexExit::State(LexState::Gap);
     let text = b"true,false,null";
     assert!(rt; keeps(rt.alloc(), LexState::Gap, text, &marks, &[4, 10, 15], gap)?);
-    let cut = Exit::State(LexState::Nul);
+    let cut = LexExit::State(LexState::Nul);
     assert!(rt;
         keeps(
             rt.alloc(),
@@ -119,7 +119,7 @@ fn literals_end_where_their_letters_do(rt: HostRuntime) -> Result<(), Fail> {
             cut
         )?
     );
-    let fault = Exit::Fault(3);
+    let fault = LexExit::Fault(3);
     assert!(rt;
         keeps(
             rt.alloc(),
@@ -141,7 +141,7 @@ fn a_keeper_that_wants_no_more_is_told_no_more(rt: HostRuntime) -> Result<(), Fa
     let mut first = FirstMarks { limit: 4, count: 0 };
     assert_eq!(rt;
         scan(&mut first, LexState::Gap, b"[[[\xff", 0, 4)?,
-        Some(Exit::Fault(3))
+        Some(LexExit::Fault(3))
     );
     assert_eq!(rt; first.count, 3);
     Ok(())

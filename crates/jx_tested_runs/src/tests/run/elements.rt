@@ -31,7 +31,7 @@ fn cut_at<S: Summary>(
 ) -> Result<S, AllocError>
     requires ordered { first ≤ second }
     requires within { second ≤ length text.now }
-    ensures place { IfOk result (λ r. S.place r ≡ span 0 (length text.now)) }
+    ensures span { IfOk result (λ r. S.span r ≡ span 0 (length text.now)) }
 {
     let left = S::of(alloc, text, 0, first, depth)?;
     let middle = S::of(alloc, text, first, second, depth)?;

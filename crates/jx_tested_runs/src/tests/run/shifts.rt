@@ -1,9 +1,9 @@
 // Runs that are moved, and what they come to where they stand then.
 ghost use Rattle.std.specs.Prelude.{◌≡◌, ◌≤◌, IfOk, length};
-ghost use Rattle.jx_run.specs.ElementsRun.{place_of_elements};
+ghost use Rattle.jx_run.specs.ElementsRun.{elements_span};
 ghost use Rattle.jx_run.specs.Tree.{span};
 
-use jx_lex::{Depth, Exit, LexState, Span};
+use jx_lex::{Depth, LexExit, LexState, Span};
 use jx_run::{ElementVerdict, ElementsRun, JudgedElement, OutcomeRun, Refusal, Summary, Verdict};
 use std::alloc::{AllocError, Global};
 use std::test::Fail;
@@ -20,7 +20,7 @@ fn ten_further_on(alloc: Global, text: &[u8]) -> Result<OutcomeRun, AllocError>
 fn a_fault_of_the_machine_stands_further_on(rt: HostRuntime) -> Result<(), Fail> {
     let run = ten_further_on(rt.alloc(), b"1x")?;
     assert_eq!(rt; run.span(), Span { start: 10, end: 12 });
-    assert_eq!(rt; run.exit(LexState::Gap), Exit::Fault(11));
+    assert_eq!(rt; run.exit(LexState::Gap), LexExit::Fault(11));
     assert_eq!(rt;
         run.verdict(),
         Verdict::Refused(Refusal::Stopped { at: 11 })

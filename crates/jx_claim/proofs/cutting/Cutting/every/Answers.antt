@@ -1,7 +1,7 @@
 use Rattle.std.proofs.Common.{◌≡◌, ◌+◌, ◌*◌, ◌<◌, ◌≤◌, List, length, ap, sym, ◌∙◌, refl, subst, arith}
 use Rattle.std.proofs.lemmas.Grind.{div_ceil_times}
-use Rattle.jx_lex.specs.declared.span.Span.{Span}
-use Rattle.jx_claim.specs.Cut.{Covers, OfSize, behind}
+use Rattle.jx_summary.specs.declared.span.Span.{Span}
+use Rattle.jx_claim.specs.Cut.{Tiles, OfSize, behind}
 use Rattle.jx_claim.specs.inside.Listed.{regular}
 use Rattle.jx_claim.proofs.Pieces.{regular_covers, length-regular, regular_of_size, few_enough, behind_start, none_ended}
 use Rattle.jx_claim.proofs.cutting.Cutting.every.Goals as goal
@@ -11,7 +11,7 @@ counted : (c : goal.Else-count) → (c.args.len ≤ c.div_ceil-count.result * c.
 counted c = subst (λ q. (c.args.len ≤ q * c.args.size) × (q * c.args.size < c.args.len + c.args.size)) (sym c.div_ceil-count.ensures)
     (div_ceil_times c.args.len c.args.size (omega arith))
 
-covered : (c : goal.Else-count) → Covers 0 (regular c.args.len c.args.size c.div_ceil-count.result 0) c.args.len
+covered : (c : goal.Else-count) → Tiles 0 (regular c.args.len c.args.size c.div_ceil-count.result 0) c.args.len
 covered c = let k = counted c in
     regular_covers c.args.len c.args.size c.div_ceil-count.result 0 (omega arith) (omega arith) (omega (arith, k.0)) (omega (arith, k.1))
 
@@ -29,7 +29,7 @@ invariant_of-result c = let k = counted c in (
 )
 
 pub returns-clause-covers : goal.returns-clause-covers
-returns-clause-covers c = subst (λ ps. Covers 0 ps c.args.len) (sym (all_of c)) (covered c)
+returns-clause-covers c = subst (λ ps. Tiles 0 ps c.args.len) (sym (all_of c)) (covered c)
 
 pub returns-clause-sizes : goal.returns-clause-sizes
 returns-clause-sizes c = subst (OfSize c.args.size) (sym (all_of c)) (regular_of_size c.args.len c.args.size c.div_ceil-count.result (omega arith) (counted c).1)

@@ -1,8 +1,8 @@
 use Rattle.std.proofs.Common.{◌≡◌, ◌+◌, ◌<◌, ◌≤◌, length, get_or, refl, sym, ap, ◌∙◌, subst, arith}
 use Rattle.std.specs.Prelude.{max}
 use Rattle.std.proofs.lemmas.Option.{slice_get_read, get_or_from_slice_get}
-use Rattle.jx_lex.specs.declared.span.Span.{Span}
-use Rattle.jx_claim.specs.Cut.{CuttingValue, Covers, span}
+use Rattle.jx_summary.specs.declared.span.Span.{Span}
+use Rattle.jx_claim.specs.Cut.{CuttingValue, Tiles, span}
 use Rattle.jx_claim.specs.inside.Listed.{listed}
 use Rattle.jx_claim.proofs.Pieces.{behind_len, behind_at, behind_covers, piece_covered}
 use Rattle.jx_claim.proofs.cutting.Cutting.piece.Goals as goal
@@ -40,7 +40,7 @@ read c =
 covered : (c : After-max) → (c.max.result < c.piece-place.result.end) × (c.piece-place.result.end ≤ c.args.self.now.len)
 covered c =
     let s = c.self.inside in
-    let covers : Covers c.args.self.now.front c.args.self.now.pieces c.args.self.now.len = subst (λ (v : CuttingValue). Covers v.front v.pieces v.len) c.self.view_is
+    let covers : Tiles c.args.self.now.front c.args.self.now.pieces c.args.self.now.len = subst (λ (v : CuttingValue). Tiles v.front v.pieces v.len) c.self.view_is
     (behind_covers 0 (listed s.len s.parts) s.len s.front c.self.invariant.0 (omega arith) c.self.invariant.3) in
     piece_covered c.args.self.now.front c.args.self.now.pieces c.args.self.now.len c.args.piece.0 (answer c) covers c.requires (read c)
 

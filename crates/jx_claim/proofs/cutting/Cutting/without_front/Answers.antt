@@ -1,5 +1,5 @@
 use Rattle.std.proofs.Common.{◌≡◌, ◌≤◌, sym, ap, ◌∙◌, subst, arith}
-use Rattle.jx_claim.specs.Cut.{CuttingValue, Covers, behind}
+use Rattle.jx_claim.specs.Cut.{CuttingValue, Tiles, behind}
 use Rattle.jx_claim.specs.inside.Listed.{listed}
 use Rattle.jx_claim.proofs.Pieces.{behind_again, behind_covers}
 use Rattle.jx_claim.proofs.cutting.Cutting.without_front.Goals as goal
@@ -17,5 +17,5 @@ pub returns-clause-covers : goal.returns-clause-covers
 returns-clause-covers c =
     let s = c.self.inside in
     let len : s.len ≡ c.args.self.len = ap (λ (v : CuttingValue). v.len) c.self.view_is in
-    subst (λ n. Covers c.args.front (behind c.args.front (listed s.len s.parts)) n) len
+    subst (λ n. Tiles c.args.front (behind c.args.front (listed s.len s.parts)) n) len
     (behind_covers 0 (listed s.len s.parts) s.len c.args.front c.self.invariant.0 (omega arith) (omega (arith, c.requires.within, len)))

@@ -39,7 +39,7 @@ returns-in_err-node-clause-leads c = λ limit tree t.
     ∙ i.same
     ∙ ap (λ n. rows_lead c.args.self.now.text c.args.self.now.rows (tokens c.bytes-rest.result.now) n 0) c.root-node.ensures.first
     ∙ ap (λ x. rows_lead c.args.self.now.text c.args.self.now.rows (tokens x) 0 0) c.bytes-rest.ensures.spelt
-    ∙ tree_leads c.args.self.now.text c.args.self.now.rows c.args.self.now.place.start c.args.self.now.place.end limit tree t (sym c.rows-rows.ensures.same ∙ c.rows-rows.ensures.tree limit tree t) (tokens c.args.pointer.now) in
+    ∙ tree_leads c.args.self.now.text c.args.self.now.rows c.args.self.now.span.start c.args.self.now.span.end limit tree t (sym c.rows-rows.ensures.same ∙ c.rows-rows.ensures.tree limit tree t) (tokens c.args.pointer.now) in
     rw (p.1, p.2) off
 
 pub returns-clause-leads : goal.returns-clause-leads
@@ -49,4 +49,4 @@ returns-clause-leads c = λ limit tree t.
     ∙ c.loop-rows.invariant.same
     ∙ ap (λ n. rows_lead c.args.self.now.text c.args.self.now.rows (tokens c.bytes-rest.result.now) n 0) c.root-node.ensures.first
     ∙ ap (λ x. rows_lead c.args.self.now.text c.args.self.now.rows (tokens x) 0 0) c.bytes-rest.ensures.spelt
-    ∙ tree_leads c.args.self.now.text c.args.self.now.rows c.args.self.now.place.start c.args.self.now.place.end limit tree t (sym c.rows-rows.ensures.same ∙ c.rows-rows.ensures.tree limit tree t) (tokens c.args.pointer.now)
+    ∙ tree_leads c.args.self.now.text c.args.self.now.rows c.args.self.now.span.start c.args.self.now.span.end limit tree t (sym c.rows-rows.ensures.same ∙ c.rows-rows.ensures.tree limit tree t) (tokens c.args.pointer.now)

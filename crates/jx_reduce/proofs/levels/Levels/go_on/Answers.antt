@@ -5,7 +5,7 @@ use Rattle.jx_reduce.specs.Form.{Form}
 use Rattle.jx_reduce.specs.Levels.{form_of}
 use Rattle.jx_reduce.specs.Marks.{of_marks}
 use Rattle.jx_reduce.specs.inside.Quiet.{GoesOn}
-use Rattle.jx_lex.specs.declared.mark.Mark.{Mark}
+use Rattle.jx_lex.specs.declared.alphabet.mark.Mark.{Mark}
 use Rattle.jx_reduce.proofs.Exits.{GoesOn-of_marks}
 use Rattle.jx_reduce.proofs.Readings.{Fits-of_marks, none_of, of_more, of_one_more, of_no_more}
 use Rattle.jx_reduce.proofs.levels.Levels.go_on.Goals as goal

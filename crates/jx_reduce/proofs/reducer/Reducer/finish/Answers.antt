@@ -1,6 +1,6 @@
 use Rattle.std.proofs.Common.{List, sym, subst}
 use Rattle.std.proofs.lemmas.Result.{IfOk-weaker}
-use Rattle.jx_lex.specs.declared.mark.Mark.{Mark}
+use Rattle.jx_lex.specs.declared.alphabet.mark.Mark.{Mark}
 use Rattle.jx_reduce.specs.Offsets.{RisingFrom}
 use Rattle.jx_reduce.specs.Parts.{AreParts}
 use Rattle.jx_reduce.specs.Reducer.{ReducerValue, HasReduced}

@@ -6,7 +6,7 @@ use Rattle.jx_reduce.specs.Reductions.{Forms, form_at}
 use Rattle.jx_reduce.specs.declared.entry.Entry.{Entry}
 use Rattle.jx_reduce.specs.declared.entry.Entry.TheVariants.{ValueOrName, AfterOrColon, Value as AnyValue, ArrayFirst as AnyArrayFirst, ObjectFirst as AnyObjectFirst, Name as AnyName, Colon as AnyColon, After as AnyAfter}
 use Rattle.jx_reduce.specs.declared.reduced.Reduced.{Reduced}
-use Rattle.jx_lex.specs.declared.mark.Mark.{Mark}
+use Rattle.jx_lex.specs.declared.alphabet.mark.Mark.{Mark}
 use Rattle.jx_reduce.proofs.Parts.{FromParts, parts_is_of, parts_sound, parts_in}
 use Rattle.jx_reduce.proofs.reductions.Reductions.of_parts.Goals as goal
 

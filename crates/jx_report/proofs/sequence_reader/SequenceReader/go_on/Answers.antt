@@ -16,6 +16,6 @@ returns g c =
     let law = c.sequences_are_read_part_by_part.ensures in
     record {
       reads = λ limit text h none.
-          law.gone_on limit text c.args.bytes.now old.judged.items (seen old.reader) (seen c.read.new.self) old.loose c.ends_open_behind-self.result h none c.in_ok-read.ensures.limit
+          law.gone_on limit text c.args.bytes.now old.judged.items (seen old.reader) (seen c.read.new.self) old.loose c.ends_open_behind-self.result h none c.in_ok-read.ensures.depth
           c.in_ok-read.ensures.start c.in_ok-read.ensures.reads c.ends_open_behind-self.ensures;
     }

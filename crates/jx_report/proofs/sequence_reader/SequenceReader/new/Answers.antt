@@ -9,4 +9,4 @@ returns c =
     let depth = c.args.command.now.settings.depth in
     let reader = c.new-reader.result in
     subst (λ (js : List JudgedElement). AreRead depth [] js (seen reader) false) (sym c.new-judged.ensures.items)
-    (c.sequences_are_read_part_by_part.ensures.begun depth (seen reader) c.new-reader.ensures.limit c.new-reader.ensures.start c.new-reader.ensures.reads)
+    (c.sequences_are_read_part_by_part.ensures.begun depth (seen reader) c.new-reader.ensures.depth c.new-reader.ensures.start c.new-reader.ensures.reads)

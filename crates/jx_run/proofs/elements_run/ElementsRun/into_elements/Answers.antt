@@ -12,7 +12,7 @@ returns c = record {
   elements = λ bytes h.
       let before = c.self.inside.before in
       let marked = c.self.inside.marked in
-      let limit = before.outcomes.limit in
+      let limit = before.outcomes.depth in
       let k : IsSummaryOf bytes before marked = subst (λ (v : ElementsRunValue). IsSummaryOf bytes v.before v.marked) (sym c.self.view_is) h in
       let starts : before.outcomes.start ≡ 0 = ap (λ (v : ElementsRunValue). v.before.outcomes.start) c.self.view_is ∙ c.requires.whole in
       let rest : AllZip (IsJudgedElement limit) (filled (after_separators before.outcomes.start bytes)) c.match-marked.elements.items =
@@ -28,5 +28,5 @@ returns c = record {
         | else-span w ↦ rw (w.elements-is)
             (without_first bytes before marked c.span-span.result c.span-span.ensures starts k limit c.match-marked.elements.items rest w.if-span.false)
       ] in
-      subst (λ (v : ElementsRunValue). AllZip (IsJudgedElement v.before.outcomes.limit) (elements 0 bytes) c.if-span.elements.items) c.self.view_is all;
+      subst (λ (v : ElementsRunValue). AllZip (IsJudgedElement v.before.outcomes.depth) (elements 0 bytes) c.if-span.elements.items) c.self.view_is all;
 }

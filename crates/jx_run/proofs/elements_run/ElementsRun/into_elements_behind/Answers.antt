@@ -9,7 +9,7 @@ use Rattle.jx_run.proofs.elements_run.ElementsRun.into_elements_behind.Goals as 
 pub returns : goal.returns
 returns c = record {
   elements = λ bytes h starts low.
-      let limit = c.args.self.before.outcomes.limit in
+      let limit = c.args.self.before.outcomes.depth in
       subst (λ (es : List JudgedElement). AllZip (IsJudgedElement limit) (elements c.args.by bytes) es) (sym c.all_moved.ensures)
       (behind_moved c.reader_is_grammar.ensures.verdict limit c.args.by bytes c.in_ok-elements.elements.items starts low (c.in_ok-elements.ensures.elements bytes h));
 }

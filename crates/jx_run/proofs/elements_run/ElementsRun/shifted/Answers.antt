@@ -27,7 +27,7 @@ returns-in-Some-clause-of c bytes h =
     let fits = c.requires.fits in
     let low : c.args.by + (c.self.inside.before.outcomes.start + length bytes) < 2 ^ 64 = omega (arith, start, last, fits) in (
       c.shifted-before.ensures.of _ k.0,
-      subst (λ (n : ℕ). AreMarked n (after_separators c.shifted-before.result.outcomes.start bytes) c.shifted.result) (sym c.shifted-before.ensures.limit)
-          (marked_shifts c.reader_is_grammar.ensures.verdict c.self.inside.before.outcomes.limit c.args.by c.self.inside.before.outcomes.start c.shifted-before.result.outcomes.start bytes _ c.shifted.result low
-          c.shifted-before.ensures.start (subst (AreMarked c.self.inside.before.outcomes.limit (after_separators c.self.inside.before.outcomes.start bytes)) (sym c.in-Some.marked-is) k.1) c.shifted.ensures.done c.shifted.ensures.start c.shifted.ensures.limit c.shifted.ensures.after),
+      subst (λ (n : ℕ). AreMarked n (after_separators c.shifted-before.result.outcomes.start bytes) c.shifted.result) (sym c.shifted-before.ensures.depth)
+          (marked_shifts c.reader_is_grammar.ensures.verdict c.self.inside.before.outcomes.depth c.args.by c.self.inside.before.outcomes.start c.shifted-before.result.outcomes.start bytes _ c.shifted.result low
+          c.shifted-before.ensures.start (subst (AreMarked c.self.inside.before.outcomes.depth (after_separators c.self.inside.before.outcomes.start bytes)) (sym c.in-Some.marked-is) k.1) c.shifted.ensures.done c.shifted.ensures.start c.shifted.ensures.depth c.shifted.ensures.after),
     )

@@ -2,7 +2,7 @@ use Rattle.std.proofs.Common.{◌≡◌, ◌-◌, [], ◌∷◌, ◌++◌, lengt
 use Rattle.std.specs.Prelude.{slice_get}
 use Rattle.std.proofs.lemmas.List.{length-append}
 use Rattle.jx_run.specs.inside.Joins.{AreMade, IsAbove}
-use Rattle.jx_run.specs.OutcomeRun.{IsWithin}
+use Rattle.jx_run.specs.OutcomeRun.{IsFormWithin}
 use Rattle.jx_run.proofs.Reducing.{all_push, push_above}
 use Rattle.jx_run.proofs.RunJoin.{push_made}
 use Rattle.jx_run.proofs.Ways.{at_end}
@@ -21,7 +21,7 @@ returns-clause-made c =
 pub returns-clause-within : goal.returns-clause-within
 returns-clause-within c =
     let l = c.args.left.now in
-    let P = IsWithin l.limit l.start c.args.right.now.end in
+    let P = IsFormWithin l.depth l.start c.args.right.now.end in
     subst (All P) (sym c.in_ok-push.ensures.items) (all_push P c.args.self.now.structures.items c.in_ok-extended.field-0 c.requires.within c.in_ok-extended.ensures.within)
 
 pub returns-clause-above : goal.returns-clause-above

@@ -1,5 +1,5 @@
 use Rattle.std.proofs.Common.{◌<◌, ◌≤◌, length, ap, arith}
-use Rattle.jx_lex.specs.declared.span.Span.{Span}
+use Rattle.jx_summary.specs.declared.span.Span.{Span}
 use Rattle.jx_run.specs.SeqRun.{IsReading}
 use Rattle.jx_run.proofs.SeqReading.{read_one, read_none, read_all}
 use Rattle.jx_run.proofs.marked.Marked.of.Goals.{then-from-at+in_ok-read_part+in_ok-push, else-from-at}
@@ -27,4 +27,4 @@ loop-at-preserved c =
 pub returns-clause-of : goal.returns-clause-of
 returns-clause-of c =
     read_all c.args.depth c.args.text.now c.args.start c.loop-at.from c.args.end c.loop-at.done.items c.in_ok-after.after c.in_default.ensures.none
-    (ap (λ (s : Span). s.start) c.in_ok-after.ensures.place) c.in_ok-after.ensures.limit c.in_ok-after.ensures.of c.loop-at.invariant.read
+    (ap (λ (s : Span). s.start) c.in_ok-after.ensures.span) c.in_ok-after.ensures.depth c.in_ok-after.ensures.of c.loop-at.invariant.read

@@ -1,7 +1,7 @@
 use Rattle.std.proofs.Common.{◌<◌, ◌≤◌, length, ap, subst, ◌∙◌, arith}
 use Rattle.std.specs.Prelude.{slice_range}
 use Rattle.jx_run.specs.Reader.{ReaderValue}
-use Rattle.jx_lex.specs.declared.span.Span.{Span}
+use Rattle.jx_summary.specs.declared.span.Span.{Span}
 use Rattle.jx_run.specs.ElementVerdict.{IsJudgedElement}
 use Rattle.jx_run.specs.Elements.{part}
 use Rattle.jx_run.proofs.ElementSteps.{behind_read}
@@ -21,8 +21,8 @@ loop-at-preserved c =
       within = omega arith;
       depth =
           elim c.if-from-at.branch [
-            | then-from-at+in_ok-read_element+in_ok-push w ↦ ap (λ (r : ReaderValue). r.limit) w.reader-is ∙ w.in_ok-read_element.ensures.depth ∙ l.invariant.depth
-            | else-from-at w ↦ ap (λ (r : ReaderValue). r.limit) w.reader-is ∙ l.invariant.depth
+            | then-from-at+in_ok-read_element+in_ok-push w ↦ ap (λ (r : ReaderValue). r.depth) w.reader-is ∙ w.in_ok-read_element.ensures.depth ∙ l.invariant.depth
+            | else-from-at w ↦ ap (λ (r : ReaderValue). r.depth) w.reader-is ∙ l.invariant.depth
           ];
       read =
           elim c.if-from-at.branch [
@@ -37,4 +37,4 @@ loop-at-preserved c =
 pub returns-clause-of : goal.returns-clause-of
 returns-clause-of c =
     behind_read c.args.depth c.args.text.now c.args.start c.loop-at.from c.args.end c.loop-at.done.items c.in_ok-after.after c.loop-at.invariant.marked c.in_default.ensures.none
-    (ap (λ (s : Span). s.start) c.in_ok-after.ensures.place) c.in_ok-after.ensures.limit c.in_ok-after.ensures.of c.loop-at.invariant.read
+    (ap (λ (s : Span). s.start) c.in_ok-after.ensures.span) c.in_ok-after.ensures.depth c.in_ok-after.ensures.of c.loop-at.invariant.read

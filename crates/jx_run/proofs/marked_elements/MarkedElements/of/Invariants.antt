@@ -7,7 +7,7 @@ abbrev pub invariant-loop-at : goal.invariant-loop-at
 invariant-loop-at l = record {
   marked : 0 < l.from;
   within : l.from ≤ l.end;
-  depth : l.reader.limit ≡ l.depth;
+  depth : l.reader.depth ≡ l.depth;
   read : IsReadTo (IsJudgedElement l.depth) (rest_at l.text l.fn.start l.end) (rest_at l.text l.from l.end) l.done.items;
 }
 

@@ -1,5 +1,5 @@
 use Rattle.std.proofs.Common.{◌++◌, ap, sym, subst, ◌∙◌, arith}
-use Rattle.jx_run.specs.OutcomeRun.{OutcomeRunValue, IsOutcomeRun, IsWhole}
+use Rattle.jx_run.specs.OutcomeRun.{OutcomeRunValue, IsOutcomeRun, IsWellFormed}
 use Rattle.jx_run.proofs.RunJoin.{any_rest, joined_seen, joined_whole, rest_is_of}
 use Rattle.jx_run.proofs.outcome_run.OutcomeRun.added.Goals as goal
 
@@ -17,8 +17,8 @@ invariant_of-left c =
     let last = ap (λ (v : OutcomeRunValue). v.end) c.right.view_is in
     let mid = c.requires.neighbours in
     let items = c.in-Ok.ensures.ok ∙ ap (λ (v : OutcomeRunValue). v.structures ++ c.args.more.items) c.left.view_is in
-    subst (λ xs. IsWhole (record { limit = c.left.inside.depth; start = c.left.inside.span.start; end = c.right.inside.span.end; ways = ws; structures = xs })) (sym items)
-    (subst IsWhole (sym (joined_seen _ l _ r ws fs c.left.view_is c.right.view_is)) (joined_whole l r ws fs (omega (arith, low, high, start, end, next, last, mid)) c.requires.joined))
+    subst (λ xs. IsWellFormed (record { depth = c.left.inside.depth; start = c.left.inside.span.start; end = c.right.inside.span.end; ways = ws; structures = xs })) (sym items)
+    (subst IsWellFormed (sym (joined_seen _ l _ r ws fs c.left.view_is c.right.view_is)) (joined_whole l r ws fs (omega (arith, low, high, start, end, next, last, mid)) c.requires.joined))
 
 pub returns-in-Ok-clause-of : goal.returns-in-Ok-clause-of
 returns-in-Ok-clause-of c xs ys h k =
@@ -27,9 +27,9 @@ returns-in-Ok-clause-of c xs ys h k =
     let ws = c.args.ways.items in
     let fs = l.structures ++ c.args.more.items in
     let items = c.in-Ok.ensures.ok ∙ ap (λ (v : OutcomeRunValue). v.structures ++ c.args.more.items) c.left.view_is in
-    subst (λ zs. IsOutcomeRun (xs ++ ys) (record { limit = c.left.inside.depth; start = c.left.inside.span.start; end = c.right.inside.span.end; ways = ws; structures = zs })) (sym items)
+    subst (λ zs. IsOutcomeRun (xs ++ ys) (record { depth = c.left.inside.depth; start = c.left.inside.span.start; end = c.right.inside.span.end; ways = ws; structures = zs })) (sym items)
     (subst (IsOutcomeRun (xs ++ ys)) (sym (joined_seen _ l _ r ws fs c.left.view_is c.right.view_is))
-    (rest_is_of l r ws fs (subst IsWhole c.left.view_is c.left.invariant) c.requires.joined c.requires.depth c.requires.neighbours xs ys h (any_rest l r ys k)))
+    (rest_is_of l r ws fs (subst IsWellFormed c.left.view_is c.left.invariant) c.requires.joined c.requires.depth c.requires.neighbours xs ys h (any_rest l r ys k)))
 
 pub returns-in-Ok-clause-rest : goal.returns-in-Ok-clause-rest
 returns-in-Ok-clause-rest c xs ys h k =
@@ -38,6 +38,6 @@ returns-in-Ok-clause-rest c xs ys h k =
     let ws = c.args.ways.items in
     let fs = l.structures ++ c.args.more.items in
     let items = c.in-Ok.ensures.ok ∙ ap (λ (v : OutcomeRunValue). v.structures ++ c.args.more.items) c.left.view_is in
-    subst (λ zs. IsOutcomeRun (xs ++ ys) (record { limit = c.left.inside.depth; start = c.left.inside.span.start; end = c.right.inside.span.end; ways = ws; structures = zs })) (sym items)
+    subst (λ zs. IsOutcomeRun (xs ++ ys) (record { depth = c.left.inside.depth; start = c.left.inside.span.start; end = c.right.inside.span.end; ways = ws; structures = zs })) (sym items)
     (subst (IsOutcomeRun (xs ++ ys)) (sym (joined_seen _ l _ r ws fs c.left.view_is c.right.view_is))
-    (rest_is_of l r ws fs (subst IsWhole c.left.view_is c.left.invariant) c.requires.joined c.requires.depth c.requires.neighbours xs ys h k))
+    (rest_is_of l r ws fs (subst IsWellFormed c.left.view_is c.left.invariant) c.requires.joined c.requires.depth c.requires.neighbours xs ys h k))

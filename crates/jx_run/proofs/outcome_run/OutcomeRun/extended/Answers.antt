@@ -1,7 +1,7 @@
 use Rattle.std.proofs.Common.{ap, sym, subst, ◌∙◌, arith}
 use Rattle.jx_reduce.specs.Reductions.{IsBefore, SpansIn}
 use Rattle.jx_run.specs.inside.Joins.{GoesOnWith, IsOnward}
-use Rattle.jx_run.specs.OutcomeRun.{OutcomeRunValue, IsWithin}
+use Rattle.jx_run.specs.OutcomeRun.{OutcomeRunValue, IsFormWithin}
 use Rattle.jx_run.proofs.RunJoin.{joined_within, made_of, right_within, stays_within}
 use Rattle.jx_run.proofs.Ways.{one_of}
 use Rattle.jx_run.proofs.outcome_run.OutcomeRun.extended.Goals as goal
@@ -19,7 +19,7 @@ returns-in-None-clause-within c =
     let start = ap (λ (v : OutcomeRunValue). v.start) c.right.view_is in
     let end = ap (λ (v : OutcomeRunValue). v.end) c.right.view_is in
     let mid = c.requires.neighbours in
-    subst (IsWithin l.limit l.start r.end) (sym c.in_ok-marks.ensures) (stays_within c.offsets_lie_in_spans.ensures.wider l.limit l.start l.end r.end c.structure.result.now c.structure.ensures.within (omega (arith, order, start, end, mid)))
+    subst (IsFormWithin l.depth l.start r.end) (sym c.in_ok-marks.ensures) (stays_within c.offsets_lie_in_spans.ensures.wider l.depth l.start l.end r.end c.structure.result.now c.structure.ensures.within (omega (arith, order, start, end, mid)))
 
 pub extend-requires-clause-before : goal.extend-requires-clause-before
 extend-requires-clause-before c =
@@ -50,6 +50,6 @@ returns-in_ok-extend-in-Some-clause-within c =
     let low = c.structure.ensures.order in
     let high = c.structure-in-Some.ensures.order in
     let mid = c.requires.neighbours in
-    joined_within c.offsets_lie_in_spans.ensures.wider l.limit l.start l.end r.end a b c.extend.new.self c.structure.ensures.within
-    (right_within l.limit r.limit l.end r.start r.end b c.requires.depth c.requires.neighbours c.structure-in-Some.ensures.within) low (omega (arith, high, mid))
+    joined_within c.offsets_lie_in_spans.ensures.wider l.depth l.start l.end r.end a b c.extend.new.self c.structure.ensures.within
+    (right_within l.depth r.depth l.end r.start r.end b c.requires.depth c.requires.neighbours c.structure-in-Some.ensures.within) low (omega (arith, high, mid))
     (subst (λ f. GoesOnWith f b c.extend.new.self) c.in_ok-marks.ensures goes)

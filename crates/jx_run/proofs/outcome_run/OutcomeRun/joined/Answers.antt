@@ -1,5 +1,5 @@
 use Rattle.std.proofs.Common.{◌++◌, ap, sym, subst, arith}
-use Rattle.jx_run.specs.OutcomeRun.{OutcomeRunValue, IsOutcomeRun, IsWhole}
+use Rattle.jx_run.specs.OutcomeRun.{OutcomeRunValue, IsOutcomeRun, IsWellFormed}
 use Rattle.jx_run.proofs.RunJoin.{any_rest, joined_seen, joined_whole, rest_is_of}
 use Rattle.jx_run.proofs.outcome_run.OutcomeRun.joined.Goals as goal
 
@@ -16,7 +16,7 @@ invariant_of-result c =
     let next = ap (λ (v : OutcomeRunValue). v.start) c.right.view_is in
     let last = ap (λ (v : OutcomeRunValue). v.end) c.right.view_is in
     let mid = c.requires.neighbours in
-    subst IsWhole (sym (joined_seen _ l _ r ws fs c.self.view_is c.right.view_is))
+    subst IsWellFormed (sym (joined_seen _ l _ r ws fs c.self.view_is c.right.view_is))
     (joined_whole l r ws fs (omega (arith, low, high, start, end, next, last, mid)) c.in_ok-ways.ensures.joined)
 
 pub returns-clause-of : goal.returns-clause-of
@@ -26,7 +26,7 @@ returns-clause-of c xs ys h k =
     let ws = c.in_ok-ways.ways.items in
     let fs = c.in_ok-ways.structures.items in
     subst (IsOutcomeRun (xs ++ ys)) (sym (joined_seen _ l _ r ws fs c.self.view_is c.right.view_is))
-    (rest_is_of l r ws fs (subst IsWhole c.self.view_is c.self.invariant) c.in_ok-ways.ensures.joined c.requires.depth c.requires.neighbours xs ys h (any_rest l r ys k))
+    (rest_is_of l r ws fs (subst IsWellFormed c.self.view_is c.self.invariant) c.in_ok-ways.ensures.joined c.requires.depth c.requires.neighbours xs ys h (any_rest l r ys k))
 
 pub returns-clause-rest : goal.returns-clause-rest
 returns-clause-rest c xs ys h k =
@@ -35,4 +35,4 @@ returns-clause-rest c xs ys h k =
     let ws = c.in_ok-ways.ways.items in
     let fs = c.in_ok-ways.structures.items in
     subst (IsOutcomeRun (xs ++ ys)) (sym (joined_seen _ l _ r ws fs c.self.view_is c.right.view_is))
-    (rest_is_of l r ws fs (subst IsWhole c.self.view_is c.self.invariant) c.in_ok-ways.ensures.joined c.requires.depth c.requires.neighbours xs ys h k)
+    (rest_is_of l r ws fs (subst IsWellFormed c.self.view_is c.self.invariant) c.in_ok-ways.ensures.joined c.requires.depth c.requires.neighbours xs ys h k)

@@ -1,7 +1,7 @@
 use Rattle.std.proofs.Common.{◌∙◌, ap, sym, subst, arith, All}
-use Rattle.jx_lex.specs.declared.span.Span.{Span}
+use Rattle.jx_summary.specs.declared.span.Span.{Span}
 use Rattle.jx_lex.specs.Ordinal.{all_states}
-use Rattle.jx_run.specs.OutcomeRun.{IsWithin}
+use Rattle.jx_run.specs.OutcomeRun.{IsFormWithin}
 use Rattle.jx_run.proofs.Reducing.{tracks_in, tracks_rise, each-length, each_there, states-many, outcomes_are_of}
 use Rattle.jx_run.proofs.outcome_run.OutcomeRun.of_map.Goals as goal
 
@@ -26,12 +26,12 @@ invariant_of-result c =
       all = each-length c.args.depth map fs all_states ws made.ways ∙ states-many;
       few = made.few;
       there = each_there c.args.depth map fs all_states ws made.ways;
-      within = subst (λ (s : Span). All (IsWithin c.args.depth s.start s.end) fs) (sym place) made.within;
+      within = subst (λ (s : Span). All (IsFormWithin c.args.depth s.start s.end) fs) (sym place) made.within;
     }
 
 pub returns-clause-of : goal.returns-clause-of
 returns-clause-of c bytes h =
     let place = c.span.ensures.value in
     outcomes_are_of
-    (record { limit = c.args.depth; start = c.span.result.start; end = c.span.result.end; ways = c.in_ok-ways.ways.items; structures = c.in_ok-ways.structures.items })
+    (record { depth = c.args.depth; start = c.span.result.start; end = c.span.result.end; ways = c.in_ok-ways.ways.items; structures = c.in_ok-ways.structures.items })
     c.args.map.now bytes (ap (λ (s : Span). s.start) place) (ap (λ (s : Span). s.end) place) h c.in_ok-ways.ensures.ways

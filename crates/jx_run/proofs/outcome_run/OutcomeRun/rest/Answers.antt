@@ -1,7 +1,7 @@
 use Rattle.std.proofs.Common.{◌≡◌, ◌-◌, length, ap, subst, arith}
 use Rattle.std.specs.Prelude.{slice_range}
 use Rattle.std.proofs.lemmas.List.Edits.{length-between}
-use Rattle.jx_lex.specs.declared.state.LexState.{LexState}
+use Rattle.jx_lex.specs.declared.alphabet.state.LexState.{LexState}
 use Rattle.jx_run.specs.OutcomeRun.{OutcomeRunValue}
 use Rattle.jx_run.specs.inside.Rest.{AreReadWays, IsRestOf}
 use Rattle.jx_run.proofs.RestWays.{ways_of_rest}
@@ -14,8 +14,8 @@ returns-clause-rest c =
     let bytes = slice_range text a.span.end c.args.end in
     let fs = c.in_ok-ways.structures.items in
     let ws = c.in_ok-ways.ways.items in
-    let left : OutcomeRunValue = record { limit = a.depth; start = a.span.start; end = a.span.end; ways = a.ways.items; structures = a.structures.items } in
-    let run : OutcomeRunValue = record { limit = a.depth; start = a.span.end; end = c.args.end; ways = ws; structures = fs } in
+    let left : OutcomeRunValue = record { depth = a.depth; start = a.span.start; end = a.span.end; ways = a.ways.items; structures = a.structures.items } in
+    let run : OutcomeRunValue = record { depth = a.depth; start = a.span.end; end = c.args.end; ways = ws; structures = fs } in
     let long : length bytes ≡ c.args.end - a.span.end = length-between text a.span.end c.args.end c.requires.1 in
     let low = c.requires.0 in
     let end = ap (λ (v : OutcomeRunValue). v.end) c.self.view_is in

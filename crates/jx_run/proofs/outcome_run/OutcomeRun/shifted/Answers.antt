@@ -1,6 +1,6 @@
 use Rattle.std.proofs.Common.{◌≡◌, ◌+◌, ◌-◌, ◌^◌, List, get_or, sym, ap, subst, arith}
 use Rattle.jx_run.specs.declared.way.Way.{Way}
-use Rattle.jx_run.specs.OutcomeRun.{OutcomeRunValue, IsOutcomeRun, IsWhole}
+use Rattle.jx_run.specs.OutcomeRun.{OutcomeRunValue, IsOutcomeRun, IsWellFormed}
 use Rattle.jx_run.proofs.Shifts.{shifted_reads, shifted_whole}
 use Rattle.jx_run.proofs.outcome_run.OutcomeRun.shifted.Goals as goal
 
@@ -13,16 +13,16 @@ structures_shifted-requires c =
 
 pub invariant_of-result : goal.invariant_of-result
 invariant_of-result c =
-    let run : OutcomeRunValue = record { limit = c.self.inside.depth; start = c.self.inside.span.start; end = c.self.inside.span.end; ways = c.self.inside.ways.items; structures = c.self.inside.structures.items } in
+    let run : OutcomeRunValue = record { depth = c.self.inside.depth; start = c.self.inside.span.start; end = c.self.inside.span.end; ways = c.self.inside.ways.items; structures = c.self.inside.structures.items } in
     let news = c.structures_shifted.result.items in
-    subst (λ (ws : List Way). IsWhole (record { limit = run.limit; start = c.args.by + run.start; end = c.args.by + run.end; ways = ws; structures = news })) (sym c.ways_shifted.ensures)
+    subst (λ (ws : List Way). IsWellFormed (record { depth = run.depth; start = c.args.by + run.start; end = c.args.by + run.end; ways = ws; structures = news })) (sym c.ways_shifted.ensures)
     (shifted_whole c.args.by run news c.self.invariant c.structures_shifted.ensures.long c.structures_shifted.ensures.moved)
 
 pub returns-clause-of : goal.returns-clause-of
 returns-clause-of c bytes h =
-    let run : OutcomeRunValue = record { limit = c.self.inside.depth; start = c.self.inside.span.start; end = c.self.inside.span.end; ways = c.self.inside.ways.items; structures = c.self.inside.structures.items } in
+    let run : OutcomeRunValue = record { depth = c.self.inside.depth; start = c.self.inside.span.start; end = c.self.inside.span.end; ways = c.self.inside.ways.items; structures = c.self.inside.structures.items } in
     let news = c.structures_shifted.result.items in
     let end : c.self.inside.span.end ≡ c.args.self.end = ap (λ (v : OutcomeRunValue). v.end) c.self.view_is in
     let high = c.requires.fits in
-    subst (λ (ws : List Way). IsOutcomeRun bytes (record { limit = run.limit; start = c.args.by + run.start; end = c.args.by + run.end; ways = ws; structures = news })) (sym c.ways_shifted.ensures)
+    subst (λ (ws : List Way). IsOutcomeRun bytes (record { depth = run.depth; start = c.args.by + run.start; end = c.args.by + run.end; ways = ws; structures = news })) (sym c.ways_shifted.ensures)
     (shifted_reads c.args.by run news c.self.invariant c.structures_shifted.ensures.moved (omega (arith, end, high)) bytes (subst (IsOutcomeRun bytes) (sym c.self.view_is) h))

@@ -1,5 +1,5 @@
 use Rattle.std.proofs.Common.{sym, subst}
-use Rattle.jx_lex.specs.declared.state.LexState.TheVariants.{Gap}
+use Rattle.jx_lex.specs.declared.alphabet.state.LexState.TheVariants.{Gap}
 use Rattle.jx_run.specs.OutcomeRun.{Entries}
 use Rattle.jx_run.specs.Verdict.{Judged}
 use Rattle.jx_run.proofs.RunVerdict.{run_judged}
@@ -12,6 +12,6 @@ returns c =
     let e : Entries = record { exit = w.exit; marks = c.structure-structure.result.now } in
     record {
       verdict = λ bytes h.
-          subst (Judged c.args.self.now.start bytes c.args.self.now.limit) (sym c.verdict_of.ensures)
+          subst (Judged c.args.self.now.start bytes c.args.self.now.depth) (sym c.verdict_of.ensures)
           (run_judged c.reader_is_grammar.ensures.verdict c.args.self.now e (entries_are c.args.self.now Gap w e.marks c.way_from-way.ensures.way c.structure-structure.ensures.structure) bytes h);
     }

@@ -1,6 +1,6 @@
 use Rattle.std.proofs.Common.{◌≡◌, ◌+◌, ◌<◌, ◌++◌, length, sym, subst, ap, ◌∙◌, arith}
 use Rattle.std.proofs.lemmas.List.{length-append}
-use Rattle.jx_lex.specs.declared.span.Span.{Span}
+use Rattle.jx_summary.specs.declared.span.Span.{Span}
 use Rattle.jx_run.specs.Elements.{part}
 use Rattle.jx_run.specs.ElementsRun.{IsPartRun, PartRunValue}
 use Rattle.jx_run.specs.ElementVerdict.{IsJudgedElement}
@@ -19,8 +19,8 @@ returns c xs ys low h k =
     let two = more.outcomes.long in
     let both : length (xs ++ ys) ≡ length xs + length ys = length-append xs ys in
     let here = ap (λ (s : Span). s.end) c.span-2.ensures.span in
-    subst (λ (r : PartRunValue). IsJudgedElement r.outcomes.limit (part r.outcomes.start (xs ++ ys)) (record { span = record { start = c.span.result.start; end = c.span-2.result.end }; verdict = c.told.result })) c.self.view_is
-    (judged_element left.outcomes.limit left.outcomes.start (xs ++ ys) c.span.result.start c.span-2.result.end c.in_ok-verdict.verdict c.loose_with.result c.told.result
+    subst (λ (r : PartRunValue). IsJudgedElement r.outcomes.depth (part r.outcomes.start (xs ++ ys)) (record { span = record { start = c.span.result.start; end = c.span-2.result.end }; verdict = c.told.result })) c.self.view_is
+    (judged_element left.outcomes.depth left.outcomes.start (xs ++ ys) c.span.result.start c.span-2.result.end c.in_ok-verdict.verdict c.loose_with.result c.told.result
     (ap (λ (s : Span). s.start) c.span.ensures.span)
     (here ∙ (let e : right.outcomes.end ≡ left.outcomes.start + length (xs ++ ys) = omega (arith, one, two, both, meet) in e))
     (subst (λ (r : PartRunValue). 0 < r.outcomes.start) (sym c.self.view_is) low) (c.in_ok-verdict.ensures.verdict xs ys of.outcomes more.outcomes) (c.loose_with.ensures xs ys h k) c.told.ensures)

@@ -2,7 +2,7 @@ use Rattle.std.proofs.Common.{◌≡◌, ◌-◌, ◌<◌, [], ◌∷◌, length
 use Rattle.std.proofs.lemmas.List.{length-append, length-set, with_items_is}
 use Rattle.jx_lex.specs.Map.{track}
 use Rattle.jx_run.specs.inside.Joins.{IsAbove}
-use Rattle.jx_run.specs.OutcomeRun.{IsWithin}
+use Rattle.jx_run.specs.OutcomeRun.{IsFormWithin}
 use Rattle.jx_run.specs.inside.Reduced.{AreReduced, IsAt}
 use Rattle.jx_run.proofs.Reducing.{all_push, push_above, pushed_at, reduced_within, set_numbered}
 use Rattle.jx_run.proofs.reduce.Paths.add.Goals as goal
@@ -42,7 +42,7 @@ returns-clause-made c =
     let numbers = c.requires.made.numbers_all in
     let low = c.requires.first in
     let within : first < length old.numbers.items = omega (arith, numbers, low) in
-    let P = IsWithin c.args.depth m.start m.end in
+    let P = IsFormWithin c.args.depth m.start m.end in
     record {
       parts_all = ap length parts ∙ c.structure_from.auto.parts ∙ ap length c.deref_mut.ensures.value ∙ c.requires.made.parts_all;
       numbers_all = length-set old.numbers.items first (Some (c.len-number.result - 1)) ∙ numbers;

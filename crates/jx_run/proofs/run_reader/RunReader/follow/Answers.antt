@@ -1,7 +1,7 @@
 use Rattle.std.proofs.Common.{◌≡◌, ◌+◌, ◌<◌, ◌^◌, ◌++◌, List, length, sym, ap, subst, ◌∙◌, arith, Some, true}
 use Rattle.std.specs.Prelude.{reverse}
 use Rattle.std.proofs.lemmas.List.{length-append}
-use Rattle.jx_lex.specs.declared.span.Span.{Span}
+use Rattle.jx_summary.specs.declared.span.Span.{Span}
 use Rattle.jx_reduce.specs.declared.holder.Holder.{Holder}
 use Rattle.jx_run.specs.Reader.{ReaderValue, HasRead, is_fault}
 use Rattle.jx_run.specs.Reading.{went}
@@ -53,7 +53,7 @@ returns-in-Ok-clause-reads c = λ bytes more h r.
     record {
       count = omega (arith, long, all, end, run_long, zero);
       outcome =
-          followed c.reader_is_grammar.ensures.first_fault a.depth a.start a.count c.args.run.now.limit c.args.run.now.start bytes more c.in-Going.state c.in-Going.expect (reverse c.deref.result.now) c.in-Ok.course
-          (c.requires.limit ∙ sym (ap (λ (v : ReaderValue). v.limit) c.self.view_is)) zero (c.in-Ok.ensures.leads more r) long fit_all
+          followed c.reader_is_grammar.ensures.first_fault a.depth a.start a.count c.args.run.now.depth c.args.run.now.start bytes more c.in-Going.state c.in-Going.expect (reverse c.deref.result.now) c.in-Ok.course
+          (c.requires.depth ∙ sym (ap (λ (v : ReaderValue). v.depth) c.self.view_is)) zero (c.in-Ok.ensures.leads more r) long fit_all
           (ap (λ (xs : List Holder). Some (went c.in-Going.state c.in-Going.expect (reverse xs))) c.deref.ensures.value ∙ sym (ap outcome_on c.in-Going.is) ∙ k.outcome);
     }

@@ -1,6 +1,6 @@
 use Rattle.std.proofs.Common.{refl, ap, ◌∙◌, Some}
 use Rattle.std.specs.Prelude.{reverse}
-use Rattle.jx_lex.specs.declared.state.LexState.TheVariants.{Gap}
+use Rattle.jx_lex.specs.declared.alphabet.state.LexState.TheVariants.{Gap}
 use Rattle.jx_reduce.specs.declared.expect.Expect.TheVariants.{Value}
 use Rattle.jx_reduce.specs.KnownStack.{start}
 use Rattle.jx_run.specs.Reading.{went}

@@ -1,5 +1,5 @@
 use Rattle.std.proofs.Common.{◌≡◌, ℕ, length, refl, sym, ap, ◌∙◌, rules}
-use Rattle.jx_lex.specs.declared.exit.Exit.TheVariants as exit
+use Rattle.jx_lex.specs.declared.alphabet.lex_exit.LexExit.TheVariants as exit
 use Rattle.jx_reduce.specs.declared.whole.Whole.TheVariants as whole
 use Rattle.jx_run.specs.Reader.{ReaderValue}
 use Rattle.jx_run.specs.inside.RunReaderInside.{outcome_on}

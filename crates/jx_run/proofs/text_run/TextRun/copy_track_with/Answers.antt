@@ -1,14 +1,14 @@
 use Rattle.std.proofs.Common.{◌≡◌, ◌++◌, List, ℕ, ap, sym, ◌∙◌}
 use Rattle.std.proofs.lemmas.List.{append-nil}
-use Rattle.jx_lex.specs.declared.mark.Mark.{Mark}
-use Rattle.jx_lex.specs.declared.state.LexState.TheVariants.{Gap}
-use Rattle.jx_lex.specs.Lex.{Exit, Track}
+use Rattle.jx_lex.specs.declared.alphabet.mark.Mark.{Mark}
+use Rattle.jx_lex.specs.declared.alphabet.state.LexState.TheVariants.{Gap}
+use Rattle.jx_lex.specs.Lex.{LexExit, Track}
 use Rattle.jx_lex.specs.Map.{track}
 use Rattle.jx_run.specs.TextRun.{TextRunValue}
 use Rattle.jx_run.proofs.Across.{marks_through, ends_through}
 use Rattle.jx_run.proofs.text_run.TextRun.copy_track_with.Goals as goal
 
-ends_in : (inside now : TextRunValue) (t : Track) (e : Exit) → inside ≡ now → t ≡ track inside.map Gap → e ≡ t.exit → (track now.map Gap).exit ≡ e
+ends_in : (inside now : TextRunValue) (t : Track) (e : LexExit) → inside ≡ now → t ≡ track inside.map Gap → e ≡ t.exit → (track now.map Gap).exit ≡ e
 ends_in inside now t e same is exit =
     sym (ap (λ (r : TextRunValue). (track r.map Gap).exit) same) ∙ sym (ap (λ (x : Track). x.exit) is) ∙ sym exit
 

@@ -1,7 +1,7 @@
 use Rattle.std.proofs.Common.{◌≡◌, ◌++◌, sym, subst, ap, ◌∙◌, arith}
 use Rattle.std.proofs.lemmas.List.{length-append}
-use Rattle.jx_lex.specs.declared.span.Span.{Span}
-use Rattle.jx_lex.specs.declared.state.LexState.TheVariants.{Gap}
+use Rattle.jx_summary.specs.declared.span.Span.{Span}
+use Rattle.jx_lex.specs.declared.alphabet.state.LexState.TheVariants.{Gap}
 use Rattle.jx_lex.specs.Lex.{lex}
 use Rattle.jx_run.specs.Started.{IsStarted}
 use Rattle.jx_run.specs.TextRun.{TextRunValue, IsTextRun}
@@ -30,8 +30,8 @@ returns-clause-started c xs ys h k =
       marks = c.in_ok-marks.ensures.marks xs ys h k ∙ ap (λ i. (lex Gap i (xs ++ ys)).marks) (sym mine);
       ends = c.in_ok-marks.ensures.ends xs ys h k ∙ ap (λ i. (lex Gap i (xs ++ ys)).ends) (sym mine);
       judged =
-          subst (λ d. Judged c.span.result.start (xs ++ ys) d c.in_ok-verdict.verdict) (sym (depth ∙ sym (ap (λ (v : TextRunValue). v.limit) c.self.view_is)))
-          (subst (λ i. Judged i (xs ++ ys) l.outcomes.limit c.in_ok-verdict.verdict) (c.self.invariant.0 ∙ sym here)
+          subst (λ d. Judged c.span.result.start (xs ++ ys) d c.in_ok-verdict.verdict) (sym (depth ∙ sym (ap (λ (v : TextRunValue). v.depth) c.self.view_is)))
+          (subst (λ i. Judged i (xs ++ ys) l.outcomes.depth c.in_ok-verdict.verdict) (c.self.invariant.0 ∙ sym here)
           (c.in_ok-verdict.ensures.verdict xs ys (outcomes_are_of l.map l.outcomes c.self.invariant.0 c.self.invariant.1 xs h')
           (outcomes_are_of r.map r.outcomes c.right.invariant.0 c.right.invariant.1 ys k')));
     })

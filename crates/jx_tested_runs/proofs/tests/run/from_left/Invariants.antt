@@ -3,4 +3,4 @@ use Rattle.jx_run.specs.Tree.{span}
 use Rattle.jx_tested_runs.proofs.tests.run.from_left.Given as goal
 
 abbrev pub invariant-loop-i : goal.invariant-loop-i
-invariant-loop-i g l = record { place : g.S.Summary.place l.run ≡ span 0 l.i; depth : g.S.Summary.limit l.run ≡ l.depth }
+invariant-loop-i g l = record { place : g.S.Summary.span l.run ≡ span 0 l.i; depth : g.S.Summary.depth l.run ≡ l.depth }

@@ -1,5 +1,5 @@
 use Rattle.std.proofs.Common.{◌+◌, arith}
-use Rattle.jx_lex.specs.declared.mark.Mark.{Mark}
+use Rattle.jx_lex.specs.declared.alphabet.mark.Mark.{Mark}
 use Rattle.jx_reduce.proofs.Cuts.{RisingFrom-push, below-push}
 use Rattle.jx_tested_runs.proofs.tests.reduce.known.marks_of.Goals as goal
 

@@ -1,5 +1,5 @@
 use Rattle.std.proofs.Common.{ap, arith}
-use Rattle.jx_lex.specs.declared.mark.Mark.{Mark}
+use Rattle.jx_lex.specs.declared.alphabet.mark.Mark.{Mark}
 use Rattle.jx_tested_runs.proofs.tests.reduce.shifts.ten_further_on.Goals as goal
 
 pub shifted-requires : goal.shifted-requires

@@ -1,0 +1,9 @@
+// Runs with the text that they were read from, what lies between them, and the runs that stand in the book.
+pub(crate) mod assembling;
+pub(crate) mod closed;
+pub(crate) mod gaps;
+pub(crate) mod held;
+pub(crate) mod held_fault;
+pub(crate) mod position;
+pub(crate) mod put;
+pub(crate) mod state;

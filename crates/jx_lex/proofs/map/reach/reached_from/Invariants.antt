@@ -1,0 +1,14 @@
+use Rattle.std.proofs.Common.{◌≡◌, ◌<◌, length, true}
+use Rattle.jx_lex.specs.declared.alphabet.state.LexState.{LexState}
+use Rattle.jx_lex.specs.inside.Bundle.{is_live}
+use Rattle.jx_lex.specs.Follow.{head}
+use Rattle.jx_lex.specs.Ordinal.{ordinal}
+use Rattle.jx_lex.specs.inside.Pruned.{IsReached}
+use Rattle.jx_lex.proofs.map.reach.reached_from.Given as goal
+
+-- where the first heads lead is noted
+abbrev pub invariant-loop-j : goal.invariant-loop-j
+invariant-loop-j l = record {
+  many : length l.reached.items ≡ l.count;
+  heads : (s : LexState) → ordinal s < l.j → is_live l.live s ≡ true → IsReached l.reached.items (head l.heads s);
+}

@@ -1,0 +1,100 @@
+// What of a map the tracks that come from the left reach.
+ghost use Rattle.std.specs.Prelude.{◌≡◌, ◌≤◌, true, length, IfOk, OnOk, OnErr, ◌++◌, ◌+◌, ◌<◌, ◌^◌};
+ghost use Rattle.jx_lex.specs.declared.alphabet.state.LexState.{LexState};
+ghost use Rattle.jx_lex.specs.inside.Bundle.{AllLive, LiveAt, is_live};
+ghost use Rattle.jx_lex.specs.inside.Closed.{ClosedTo};
+ghost use Rattle.jx_lex.specs.Follow.{AreIn, IsIn, head, linked_parts};
+ghost use Rattle.jx_lex.specs.inside.Pruned.{IsReached, pruned, with_exit_of};
+
+use crate::map::link::Link;
+use crate::map::segment::{Segment, link_segments};
+use std::alloc::{AllocError, Global};
+
+/// Notes the state where this leads out.
+fn note(live: &mut [bool; 32], link: Link)
+    ensures { live.new ≡ with_exit_of link live.old }
+{
+    if let Link::State(state) = link {
+        live[state.number()] = true;
+    }
+}
+
+/// The states where the tracks of a map lead out. The first so many segments don't.
+pub(crate) fn exits(heads: &[Link; 32], segments: &[Segment], closed: usize) -> [bool; 32]
+    requires within { closed ≤ length segments.now }
+    requires all_closed { ClosedTo closed segments.now }
+    ensures heads { (s : LexState) → LiveAt result (head heads.now s) }
+    ensures parts { AllLive result segments.now }
+{
+    let mut live = [false; 32];
+    for i in closed..segments.len() {
+        note(&mut live, segments[i].next());
+    }
+    for j in 0..32 {
+        note(&mut live, heads[j]);
+    }
+    live
+}
+
+/// Which of so many segments the heads of the live states lead to.
+pub(crate) fn reached_from(
+    alloc: Global,
+    heads: &[Link; 32],
+    live: &[bool; 32],
+    count: usize,
+) -> Result<Vec<bool>, AllocError>
+    requires { (s : LexState) → IsIn count (head heads.now s) }
+    ensures many { IfOk result (λ r. length r.items ≡ count) }
+    ensures heads { IfOk result (λ r. (s : LexState) → is_live live.now s ≡ true → IsReached r.items (head heads.now s)) }
+{
+    let mut reached = vec![in alloc; false; count]?;
+    for j in 0..32 {
+        if live[j] {
+            if let Link::Ahead(skip) = heads[j] {
+                reached[skip] = true;
+            }
+        }
+    }
+    Ok(reached)
+}
+
+/// Empties the segments that are not reached.
+fn prune(segments: &mut [Segment], reached: &mut [bool])
+    requires many { length reached.old ≡ length segments.old }
+    requires inside { AreIn segments.old }
+    ensures { segments.new ≡ pruned reached.old segments.old }
+{
+    for i in 0..segments.len() {
+        if !reached[i] {
+            segments[i].empty();
+        } else if let Link::Ahead(skip) = segments[i].next() {
+            reached[i + 1 + skip] = true;
+        }
+    }
+}
+
+/// Moves the right's segments behind the left's, and lets what leads out on the left go on in them. Those that nothing
+/// reaches are emptied.
+pub(crate) fn append_reached(
+    left: &mut Vec<Segment>,
+    right: &mut Vec<Segment>,
+    heads: &[Link; 32],
+    closed: usize,
+    reached: Vec<bool>,
+) -> Result<(), AllocError>
+    requires many { length reached.items ≡ length right.old.items }
+    requires parts { AreIn right.old.items }
+    requires inside { (s : LexState) → IsIn (length right.old.items) (head heads.now s) }
+    requires within { closed ≤ length left.old.items }
+    requires all_closed { ClosedTo closed left.old.items }
+    ensures ok { OnOk result (left.new.items ≡ linked_parts heads.now left.old.items ++ pruned reached.items right.old.items) }
+    ensures err { OnErr result ((left.new.items ≡ left.old.items) × (right.new.items ≡ right.old.items)) }
+    ensures fits { OnOk result (length left.old.items + length right.old.items < 2 ^ 64) }
+{
+    let mut reached = reached;
+    let count = right.len();
+    left.reserve(count)?;
+    prune(right, &mut reached);
+    link_segments(left, heads, closed, count);
+    left.append(right)
+}

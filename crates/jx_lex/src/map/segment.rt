@@ -1,0 +1,165 @@
+// A part of one or more tracks.
+ghost use Rattle.std.specs.Prelude.{◌≡◌, ◌≤◌, ◌<◌, ◌+◌, ◌++◌, [], ◌^◌, length, take, slice_range, OnOk, OnErr};
+ghost use Rattle.jx_lex.specs.inside.Closed.{ClosedTo};
+ghost use Rattle.jx_lex.specs.declared.alphabet.state.LexState.{LexState};
+ghost use Rattle.jx_lex.specs.Follow.{IsIn, head, linked, linked_parts};
+ghost use Rattle.jx_lex.specs.inside.Passing.{read_bytes};
+ghost use Rattle.jx_lex.specs.inside.Step.{read_part};
+
+use crate::scanner::keeper::Keeper;
+use crate::map::link::Link;
+use crate::alphabet::machine::step;
+use crate::alphabet::mark::Mark;
+use crate::alphabet::state::{LexState, TokenEnd};
+use crate::scanner::tokens::Tokens;
+use std::alloc::{AllocError, Global};
+use std::marker::Model;
+
+/// Marks and ends that stand one after another in each track that comes here.
+#[derive(Drop)]
+pub struct Segment {
+    tokens: Tokens,
+    next: Link,
+}
+
+impl Model for Segment {
+    ghost use Rattle.jx_lex.specs.Follow.{Part};
+
+    ghost Value = { Part };
+
+    ghost view = { λ s. record { marks = s.tokens.marks; ends = s.tokens.ends; next = s.next } };
+}
+
+impl Segment {
+    /// A segment with no marks and no ends, which leads there.
+    pub(crate) fn new(alloc: Global, next: Link) -> Segment
+        ensures { result ≡ record { marks = []; ends = []; next = next } }
+    {
+        Segment {
+            tokens: Tokens::new(alloc),
+            next,
+        }
+    }
+
+    /// Its marks, in order.
+    pub fn marks(&self) -> &[Mark]
+        ensures { result.now ≡ self.now.marks }
+    {
+        self.tokens.marks()
+    }
+
+    /// Its ends of strings, numbers and literals, in order, each just past the token's last byte.
+    pub fn ends(&self) -> &[usize]
+        ensures { result.now ≡ self.now.ends }
+    {
+        self.tokens.ends()
+    }
+
+    /// What follows it.
+    pub fn next(&self) -> Link
+        ensures { result ≡ self.now.next }
+    {
+        self.next
+    }
+
+    /// Lets go of its marks and ends.
+    pub(crate) fn empty(&mut self)
+        ensures { self.new ≡ record self.old { marks = []; ends = [] } }
+    {
+        self.tokens.empty();
+    }
+
+    /// Takes in one more byte, where this is the end of a track.
+    pub(crate) fn read(&mut self, at: usize, byte: u8) -> Result<(), AllocError>
+        requires { at + 1 < 2 ^ 64 }
+        ensures { OnOk result (self.new ≡ read_part at byte self.old) }
+    {
+        let Link::State(state) = self.next else {
+            return Ok(());
+        };
+        let step = step(state, byte);
+        match step.end {
+            Some(TokenEnd::Before) => self.tokens.end(at)?,
+            Some(TokenEnd::After) => self.tokens.end(at + 1)?,
+            None => {}
+        }
+        if let Some(kind) = step.begin {
+            self.tokens.begin(Mark { kind, at })?;
+        }
+        self.next = Link::after(step.next, at);
+        Ok(())
+    }
+
+    /// Takes in a stretch of text, where this is the end of a track.
+    pub(crate) fn read_span(
+        &mut self,
+        text: &[u8],
+        from: usize,
+        to: usize,
+    ) -> Result<(), AllocError>
+        requires { (from ≤ to) × (to ≤ length text.now) }
+        ensures { OnOk result (self.new ≡ read_bytes from (slice_range text.now from to) self.old) }
+    {
+        if let Link::State(state) = self.next {
+            self.next = self.tokens.read(state, text, from, to)?;
+        }
+        Ok(())
+    }
+
+    /// Keeps only its first so many marks and ends, and leads there.
+    pub(crate) fn go_back(&mut self, marks: usize, ends: usize, next: Link)
+        ensures { self.new ≡ record { marks = take marks self.old.marks; ends = take ends self.old.ends; next = next } }
+    {
+        self.tokens.cut_back(marks, ends);
+        self.next = next;
+    }
+
+    /// Leads there; its marks and ends stay.
+    pub(crate) fn set_next(&mut self, next: Link)
+        ensures { self.new ≡ record self.old { next = next } }
+    {
+        self.next = next;
+    }
+}
+
+/// Lets all that leads out go on where the right begins.
+/// The first so many don't lead out in a state, and stay as they are.
+pub(crate) fn link_segments(
+    segments: &mut [Segment],
+    heads: &[Link; 32],
+    closed: usize,
+    count: usize,
+)
+    requires all { (s : LexState) → IsIn count (head heads.now s) }
+    requires fits { length segments.old + count < 2 ^ 64 }
+    requires within { closed ≤ length segments.old }
+    requires all_closed { ClosedTo closed segments.old }
+    ensures { segments.new ≡ linked_parts heads.now segments.old }
+{
+    let len = segments.len();
+    for i in closed..len {
+        let segment = &mut segments[i];
+        let next = segment.next().linked(heads, len - i - 1, count);
+        segment.set_next(next);
+    }
+}
+
+/// Moves the right's segments behind the left's, and lets what leads out on the left go on in them.
+pub(crate) fn append_linked(
+    left: &mut Vec<Segment>,
+    right: &mut Vec<Segment>,
+    heads: &[Link; 32],
+    closed: usize,
+) -> Result<(), AllocError>
+    requires inside { (s : LexState) → IsIn (length right.old.items) (head heads.now s) }
+    requires within { closed ≤ length left.old.items }
+    requires all_closed { ClosedTo closed left.old.items }
+    ensures ok { OnOk result (left.new.items ≡ linked_parts heads.now left.old.items ++ right.old.items) }
+    ensures err { OnErr result ((left.new.items ≡ left.old.items) × (right.new.items ≡ right.old.items)) }
+    ensures fits { OnOk result (length left.old.items + length right.old.items < 2 ^ 64) }
+{
+    let count = right.len();
+    left.reserve(count)?;
+    link_segments(left, heads, closed, count);
+    left.append(right)
+}

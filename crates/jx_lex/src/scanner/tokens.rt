@@ -1,0 +1,136 @@
+// Marks and ends, each in a vector.
+ghost use Rattle.std.specs.Prelude.{◌≡◌, ◌≤◌, ◌++◌, ◌∷◌, [], ℕ, List, length, take, slice_range, OnOk, IfOk};
+ghost use Rattle.jx_lex.specs.declared.alphabet.mark.Mark.{Mark};
+ghost use Rattle.jx_lex.specs.Lex.{lex};
+ghost use Rattle.jx_lex.specs.Seen.{with_tokens};
+ghost use Rattle.jx_lex.specs.inside.Step.{link_at};
+
+use crate::scanner::keeper::Keeper;
+use crate::map::link::Link;
+use crate::alphabet::mark::Mark;
+use crate::scanner::scan;
+use crate::alphabet::state::LexState;
+use std::alloc::{AllocError, Global};
+use std::marker::Model;
+
+// A stretch of at least so many bytes has room reserved for a mark to each four bytes and an end to each eight, so that
+// its vectors need not grow. Memory that is never written to costs next to nothing.
+const BLOCK: usize = 64;
+
+/// All marks and ends that it is told of, in order.
+#[derive(Drop)]
+pub struct Tokens {
+    marks: Vec<Mark>,
+    ends: Vec<usize>,
+}
+
+impl Model for Tokens {
+    ghost use Rattle.jx_lex.specs.Seen.{TokenLists};
+
+    ghost Value = { TokenLists };
+
+    ghost view = { λ t. record { marks = t.marks.items; ends = t.ends.items } };
+}
+
+impl Tokens {
+    /// No mark and no end yet. Nothing is allocated.
+    pub fn new(alloc: Global) -> Tokens
+        ensures { result ≡ record { marks = []; ends = [] } }
+    {
+        Tokens {
+            marks: Vec::new(alloc),
+            ends: Vec::new(alloc),
+        }
+    }
+
+    /// The marks, in order.
+    #[inline(always)]
+    pub fn marks(&self) -> &[Mark]
+        ensures { result.now ≡ self.now.marks }
+    {
+        &self.marks
+    }
+
+    /// The ends of strings, numbers and literals, in order, each just past the token's last byte.
+    #[inline(always)]
+    pub fn ends(&self) -> &[usize]
+        ensures { result.now ≡ self.now.ends }
+    {
+        &self.ends
+    }
+
+    /// Reads a stretch of text from this state, and gives where the reading ends.
+    pub(crate) fn read(
+        &mut self,
+        state: LexState,
+        text: &[u8],
+        from: usize,
+        to: usize,
+    ) -> Result<Link, AllocError>
+        requires { (from ≤ to) × (to ≤ length text.now) }
+        ensures tokens { OnOk result (self.new ≡ with_tokens self.old (lex state from (slice_range text.now from to))) }
+        ensures next { IfOk result (λ next. next ≡ link_at ((lex state from (slice_range text.now from to)).exit)) }
+    {
+        let blocks = (to - from) / BLOCK;
+        self.reserve(blocks * BLOCK / 4, blocks * BLOCK / 8)?;
+        match scan(self, state, text, from, to)? {
+            Some(exit) => Ok(Link::of(exit)),
+            None => unreachable!(),
+        }
+    }
+
+    /// Makes room for so many more, so that they can be kept without a move.
+    pub(crate) fn reserve(&mut self, marks: usize, ends: usize) -> Result<(), AllocError>
+        ensures { OnOk result (self.new ≡ self.old) }
+    {
+        self.marks.reserve(marks)?;
+        self.ends.reserve(ends)?;
+        Ok(())
+    }
+
+    /// Keeps only the first so many.
+    pub(crate) fn cut_back(&mut self, marks: usize, ends: usize)
+        ensures { self.new ≡ record { marks = take marks self.old.marks; ends = take ends self.old.ends } }
+    {
+        self.marks.truncate(marks);
+        self.ends.truncate(ends);
+    }
+
+    /// Lets go of all of them, and of their memory.
+    pub(crate) fn empty(&mut self)
+        ensures { self.new ≡ record { marks = []; ends = [] } }
+    {
+        let alloc = *self.marks.allocator();
+        self.marks = Vec::new(alloc);
+        self.ends = Vec::new(alloc);
+    }
+}
+
+impl Keeper for Tokens {
+    ghost use Rattle.std.specs.Prelude.{◌≡◌};
+
+    ghost has_seen = { λ t marks ends. t ≡ record { marks = marks; ends = ends } };
+
+    #[inline(always)]
+    fn begin(&mut self, mark: Mark) -> Result<(), AllocError>
+        ensures seen { OnOk result ((marks : List Mark) (ends : List ℕ) → self.old ≡ record { marks = marks; ends = ends } → self.new ≡ record { marks = marks ++ mark ∷ []; ends = ends }) }
+        ensures kept { OnOk result (self.new ≡ record self.old { marks = self.old.marks ++ mark ∷ [] }) }
+    {
+        self.marks.push(mark)?;
+        Ok(())
+    }
+
+    #[inline(always)]
+    fn end(&mut self, at: usize) -> Result<(), AllocError>
+        ensures seen { OnOk result ((marks : List Mark) (ends : List ℕ) → self.old ≡ record { marks = marks; ends = ends } → self.new ≡ record { marks = marks; ends = ends ++ at ∷ [] }) }
+        ensures kept { OnOk result (self.new ≡ record self.old { ends = self.old.ends ++ at ∷ [] }) }
+    {
+        self.ends.push(at)?;
+        Ok(())
+    }
+
+    #[inline(always)]
+    fn is_done(&self) -> bool {
+        false
+    }
+}

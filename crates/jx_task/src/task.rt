@@ -1,0 +1,15 @@
+// What may be asked of an input.
+
+/// What is asked of an input.
+#[derive(Debug, Drop)]
+pub enum Task {
+    /// Whether the whole input is a JSON text (RFC 8259, section 2).
+    Check,
+    /// Whether it is one, and all its rows.
+    Index,
+    /// What each of these pointers leads to in it (RFC 6901, section 4). A pointer stands here as it was spelt, also where
+    /// it is none.
+    At(Vec<String>),
+    /// Which elements of a JSON text sequence are JSON texts (RFC 7464, section 2).
+    Seq,
+}
