@@ -2,9 +2,10 @@
 # The completions name what the help names, and no more, and bash takes its own.
 . "$(dirname "$0")/lib.sh"
 
-# The long options that the help on a command lists.
+# options_of COMMAND: the long options that the help on a command lists.
 options_of() { "$program" $1 --help 2>&1 | grep -oE '^ +(-[a-zA-Z], )?--[a-z-]+' | grep -oE -- '--[a-z-]+' | sort -u; }
 
+# offered WORD..: what bash offers for the last word.
 offered() {
     COMP_WORDS=("$@")
     COMP_CWORD=$(($# - 1))
@@ -13,34 +14,55 @@ offered() {
     printf '%s\n' "${COMPREPLY[@]}" | sort
 }
 
-bash -n "$root/completions/jx.bash" || same 'bash reads its file' yes no
-. "$root/completions/jx.bash"
-for command in check index at seq; do
-    same "bash: the options of $command" "$(options_of $command)" "$(offered jx $command --)"
-    has "bash: $command itself" "$command" "$(offered jx '')"
-    for option in $(options_of $command); do
-        has "zsh: $option" "$option" "$(cat "$root/completions/_jx")"
-        has "fish: $option" "-l ${option#--} " "$(cat "$root/completions/jx.fish") "
-    done
-    has "zsh: $command" "'${command}[" "$(cat "$root/completions/_jx")"
-    has "fish: $command" "-a $command " "$(cat "$root/completions/jx.fish")"
-done
-same 'bash: the options of jx' "$(options_of '')" "$(offered jx --)"
-same 'bash: a command that is begun' check "$(offered jx c)"
-same 'bash: an option that is begun' --depth "$(offered jx check --d)"
-printf x >text.json
-same 'bash: a file' text.json "$(offered jx check --file te)"
-same 'bash: a file of pointers' text.json "$(offered jx at --pointers te)"
-same 'bash: a number' '' "$(offered jx check --depth '')"
-for option in $(grep -oE -- "-l [a-z-]+" "$root/completions/jx.fish" | sort -u | sed 's/-l /--/'); do
-    has "fish: $option is one" "$option" "$(for command in '' check index at seq; do options_of "$command"; done)"
-done
-for shell in zsh fish; do
-    if command -v $shell >/dev/null; then
-        file=$root/completions/_jx
-        if [ $shell = fish ]; then file=$root/completions/jx.fish; fi
-        same "$shell reads its file" '' "$($shell -n "$file" 2>&1)"
-    fi
-done
+bash_reads_its_file() {
+    bash -n "$root/completions/jx.bash" || same 'bash reads its file' yes no
+    . "$root/completions/jx.bash"
+}
 
-finish
+the_commands_and_their_options_are_offered() {
+    local command option
+    for command in check index at seq; do
+        same "bash: the options of $command" "$(options_of $command)" "$(offered jx $command --)"
+        has "bash: $command itself" "$command" "$(offered jx '')"
+        for option in $(options_of $command); do
+            has "zsh: $option" "$option" "$(cat "$root/completions/_jx")"
+            has "fish: $option" "-l ${option#--} " "$(cat "$root/completions/jx.fish") "
+        done
+        has "zsh: $command" "'${command}[" "$(cat "$root/completions/_jx")"
+        has "fish: $command" "-a $command " "$(cat "$root/completions/jx.fish")"
+    done
+}
+
+bash_completes_what_is_begun() {
+    same 'bash: the options of jx' "$(options_of '')" "$(offered jx --)"
+    same 'bash: a command that is begun' check "$(offered jx c)"
+    same 'bash: an option that is begun' --depth "$(offered jx check --d)"
+    printf x >text.json
+    same 'bash: a file' text.json "$(offered jx check --file te)"
+    same 'bash: a file of pointers' text.json "$(offered jx at --pointers te)"
+    same 'bash: a number' '' "$(offered jx check --depth '')"
+}
+
+fish_offers_no_other_option() {
+    local option
+    for option in $(grep -oE -- "-l [a-z-]+" "$root/completions/jx.fish" | sort -u | sed 's/-l /--/'); do
+        has "fish: $option is one" "$option" "$(for command in '' check index at seq; do options_of "$command"; done)"
+    done
+}
+
+zsh_and_fish_read_their_files() {
+    local shell file
+    for shell in zsh fish; do
+        if command -v $shell >/dev/null; then
+            file=$root/completions/_jx
+            if [ $shell = fish ]; then file=$root/completions/jx.fish; fi
+            same "$shell reads its file" '' "$($shell -n "$file" 2>&1)"
+        fi
+    done
+}
+
+tests bash_reads_its_file \
+    the_commands_and_their_options_are_offered \
+    bash_completes_what_is_begun \
+    fish_offers_no_other_option \
+    zsh_and_fish_read_their_files

@@ -3,7 +3,9 @@
 # of its own, and stands in none.
 . "$(dirname "$0")/lib.sh"
 
-quoted=$(python3 - "$root" <<'PYTHON'
+# unlike: tells each function that is quoted and stands in no example, and each public one that is not quoted.
+unlike() {
+    python3 - "$root" <<'PYTHON'
 import pathlib
 import re
 import sys
@@ -29,6 +31,10 @@ for source in sources:
 if not functions:
     print("no function is quoted")
 PYTHON
-)
-same 'README: the examples that it quotes' '' "$quoted"
-finish
+}
+
+the_examples_are_quoted_as_they_stand() {
+    same 'README: the examples that it quotes' '' "$(unlike)"
+}
+
+tests the_examples_are_quoted_as_they_stand

@@ -1,17 +1,22 @@
 #!/usr/bin/env bash
-# What ./jx does where the program is not built yet, over a toolchain that only pretends.
+# What ./jx does where the program is not built yet, over a toolchain that only pretends to prove and build.
 . "$(dirname "$0")/lib.sh"
 
-# A repository of four crates, of which the program stands on three, and one on another.
 clone=$room/clone
-mkdir -p "$clone"/crates/{low,left,right,jx,other}/src
-cp -R "$root/jx" "$root/tools" "$clone"
-printf '%s\n' 'jx: left right' 'left: low' 'other: low' 'right may_wait=1: low kit' 'low: kit' >"$clone/crates.txt"
-for crate in low left right jx other; do touch "$clone/crates/$crate/src/lib.rt"; done
 
-# `rt lib` notes when it begins and ends, and leaves what a check leaves; `rt run` makes a program.
-mkdir bin
-cat >bin/rt <<'RT'
+# make_clone: a repository of four crates and the program, which stands on three of them; of these, two stand on the third.
+make_clone() {
+    local crate
+    mkdir -p "$clone"/crates/{low,left,right,jx,other}/src
+    cp -R "$root/jx" "$root/tools" "$clone"
+    printf '%s\n' 'jx: left right' 'left: low' 'other: low' 'right may_wait=1: low kit' 'low: kit' >"$clone/crates.txt"
+    for crate in low left right jx other; do touch "$clone/crates/$crate/src/lib.rt"; done
+}
+
+# make_rt: `rt lib` notes when it begins and ends, and leaves what a check leaves; `rt run` makes a program.
+make_rt() {
+    mkdir bin
+    cat >bin/rt <<'RT'
 #!/bin/sh
 name=${PWD##*/}
 echo "begin $name $*" >>"$LOG"
@@ -36,10 +41,8 @@ run)
 esac
 echo "end $name" >>"$LOG"
 RT
-chmod +x bin/rt
-export LOG=$room/log BROKEN=
-tools=$PATH
-PATH=$room/bin:$PATH
+    chmod +x bin/rt
+}
 
 # use WORD..: what ./jx prints, and its status
 use() {
@@ -49,78 +52,114 @@ use() {
     echo "status $status"
 }
 
-same 'the first use: the status is the program'\''s' 'status 1' "$(use check x)"
-same 'the first use: standard output is the program'\''s' 'ran check x' "$(cat out)"
-has 'the first use: it says at once that it builds' 'jx: proves and builds the program for the first time here' "$(head -1 err)"
-for crate in low left right; do
-    same "the first use: a line for $crate" 1 "$(grep -c "^jx: proved $crate in [0-9]* s$" err)"
-done
-same 'the first use: a line for jx' 1 "$(grep -c '^jx: proved and built jx in [0-9]* s$' err)"
-same 'the first use: no other line' 5 "$(wc -l <err)"
-same 'the first use: what the program does not stand on is not proved' 0 "$(grep -c other "$LOG")"
-same 'the first use: each is proved once' 4 "$(grep -c begin "$LOG")"
-same 'the first use: the lowest comes first' 'begin low lib' "$(head -1 "$LOG")"
-same 'the first use: neighbours side by side' 'begin begin end end' "$(grep -E 'left|right' "$LOG" | cut -d' ' -f1 | flat)"
-same 'the first use: what was proved is kept' yes "$([ -e "$clone/crates/left/out/rlib/stamp" ] && echo yes)"
-same 'the first use: nothing is left over' '' "$(ls -d "$clone/jx.rooms" 2>/dev/null)"
+the_first_use_tells_how_far_it_is() {
+    local crate
+    same 'the first use: the status is the program'\''s' 'status 1' "$(use check x)"
+    same 'the first use: standard output is the program'\''s' 'ran check x' "$(cat out)"
+    has 'the first use: it says at once that it builds' 'jx: proves and builds the program for the first time here' "$(head -1 err)"
+    for crate in low left right; do
+        same "the first use: a line for $crate" 1 "$(grep -c "^jx: proved $crate in [0-9]* s$" err)"
+    done
+    same 'the first use: a line for jx' 1 "$(grep -c '^jx: proved and built jx in [0-9]* s$' err)"
+    same 'the first use: no other line' 5 "$(wc -l <err)"
+}
 
-same 'a later use' 'status 1' "$(use seq)"
-same 'a later use: nothing is printed' '' "$(cat err)"
-same 'a later use: nothing is proved' '' "$(cat "$LOG")"
-ln -s clone/jx linked
-same 'a later use, by a link' 'ran check' "$("$room/linked" check)"
+the_first_use_proves_what_the_program_stands_on() {
+    same 'the first use: what the program does not stand on is not proved' 0 "$(grep -c other "$LOG")"
+    same 'the first use: each is proved once' 4 "$(grep -c begin "$LOG")"
+    same 'the first use: the lowest comes first' 'begin low lib' "$(head -1 "$LOG")"
+    same 'the first use: neighbours side by side' 'begin begin end end' "$(grep -E 'left|right' "$LOG" | cut -d' ' -f1 | flat)"
+    same 'the first use: what was proved is kept' yes "$([ -e "$clone/crates/left/out/rlib/stamp" ] && echo yes)"
+    same 'the first use: nothing is left over' '' "$(ls -d "$clone/jx.rooms" 2>/dev/null)"
+}
 
-sleep 1
-touch "$clone/crates/other/src/lib.rt"
-same 'a change of what the program does not stand on' 'status 1' "$(use check)"
-same 'that proves nothing' '' "$(cat "$LOG")"
+a_later_use_proves_nothing() {
+    same 'a later use' 'status 1' "$(use seq)"
+    same 'a later use: nothing is printed' '' "$(cat err)"
+    same 'a later use: nothing is proved' '' "$(cat "$LOG")"
+    ln -s clone/jx linked
+    same 'a later use, by a link' 'ran check' "$("$room/linked" check)"
+}
 
-touch "$clone/crates/right/src/lib.rt"
-same 'a change' 'status 1' "$(use check)"
-has 'a change: how long it took last' ' s for 4 crates on ' "$(head -1 err)"
-same 'a change: what changed is proved, and the program' 'begin right lib
+a_change_elsewhere_proves_nothing() {
+    sleep 1
+    touch "$clone/crates/other/src/lib.rt"
+    same 'a change of what the program does not stand on' 'status 1' "$(use check)"
+    same 'that proves nothing' '' "$(cat "$LOG")"
+}
+
+a_change_proves_what_changed_and_the_program() {
+    touch "$clone/crates/right/src/lib.rt"
+    same 'a change' 'status 1' "$(use check)"
+    has 'a change: how long it took last' ' s for 4 crates on ' "$(head -1 err)"
+    same 'a change: what changed is proved, and the program' 'begin right lib
 begin jx run -- check' "$(grep begin "$LOG")"
+}
 
-sleep 1
-touch "$clone/crates/low/src/lib.rt"
-: >"$LOG"
-"$clone/jx" check >out.1 2>err.1 &
-first=$!
-"$clone/jx" check >out.2 2>err.2 &
-second=$!
-wait $first
-wait $second
-same 'two calls at once: one builds' 4 "$(grep -c begin "$LOG")"
-same 'two calls at once: one waits' 1 "$(cat err.1 err.2 | grep -c 'another call is building the program')"
-same 'two calls at once: both run' 'ran check ran check' "$(cat out.1 out.2 | flat)"
+one_of_two_calls_builds_and_the_other_waits() {
+    local first second
+    sleep 1
+    touch "$clone/crates/low/src/lib.rt"
+    : >"$LOG"
+    "$clone/jx" check >out.1 2>err.1 &
+    first=$!
+    "$clone/jx" check >out.2 2>err.2 &
+    second=$!
+    wait $first
+    wait $second
+    same 'two calls at once: one builds' 4 "$(grep -c begin "$LOG")"
+    same 'two calls at once: one waits' 1 "$(cat err.1 err.2 | grep -c 'another call is building the program')"
+    same 'two calls at once: both run' 'ran check ran check' "$(cat out.1 out.2 | flat)"
+}
 
-sleep 1
-touch "$clone/crates/low/src/lib.rt"
-BROKEN=left
-same 'a crate that is not proved' 'status 2' "$(use check)"
-has 'a crate that is not proved: why' 'error: left is wrong' "$(cat err)"
-same 'a crate that is not proved: which' 'jx: cannot build: left is not proved' "$(tail -1 err)"
-same 'a crate that is not proved: no output' '' "$(cat out)"
-BROKEN=jx
-same 'a program that is not proved' 'status 2' "$(use check)"
-same 'a program that is not proved: which' 'jx: cannot build: jx is not proved' "$(tail -1 err)"
-BROKEN=
-same 'mended' 'status 1' "$(use check)"
+what_is_not_proved_is_told() {
+    sleep 1
+    touch "$clone/crates/low/src/lib.rt"
+    BROKEN=left
+    same 'a crate that is not proved' 'status 2' "$(use check)"
+    has 'a crate that is not proved: why' 'error: left is wrong' "$(cat err)"
+    same 'a crate that is not proved: which' 'jx: cannot build: left is not proved' "$(tail -1 err)"
+    same 'a crate that is not proved: no output' '' "$(cat out)"
+    BROKEN=jx
+    same 'a program that is not proved' 'status 2' "$(use check)"
+    same 'a program that is not proved: which' 'jx: cannot build: jx is not proved' "$(tail -1 err)"
+    BROKEN=
+    same 'mended' 'status 1' "$(use check)"
+}
 
-sleep 1
-touch "$clone/crates/low/src/lib.rt"
-mkdir -p kit/bin
-cp bin/rt kit/bin/rt
-touch kit/bin/rattle
-chmod +x kit/bin/rattle
-PATH=$room/kit/bin:$tools
-same 'no linker' 'status 2' "$(use check)"
-same 'no linker: one line' "jx: cannot build: there is no linker: $room/kit/bin/rattle-link is not there" "$(cat err)"
-mkdir plain
-for tool in sh dirname readlink flock cat; do ln -s "$(command -v $tool)" "plain/$tool"; done
-PATH=$room/plain
-same 'no rt' 'status 2' "$(use check)"
-PATH=$tools
-same 'no rt: one line' 'jx: cannot build: the command rt is not on the PATH (README.md, "Two commands")' "$(cat err)"
+a_missing_linker_is_told() {
+    sleep 1
+    touch "$clone/crates/low/src/lib.rt"
+    mkdir -p kit/bin
+    cp bin/rt kit/bin/rt
+    touch kit/bin/rattle
+    chmod +x kit/bin/rattle
+    PATH=$room/kit/bin:$tools
+    same 'no linker' 'status 2' "$(use check)"
+    same 'no linker: one line' "jx: cannot build: there is no linker: $room/kit/bin/rattle-link is not there" "$(cat err)"
+}
 
-finish
+a_missing_rt_is_told() {
+    local tool
+    mkdir plain
+    for tool in sh dirname readlink flock cat; do ln -s "$(command -v $tool)" "plain/$tool"; done
+    PATH=$room/plain
+    same 'no rt' 'status 2' "$(use check)"
+    PATH=$tools
+    same 'no rt: one line' 'jx: cannot build: the command rt is not on the PATH (README.md, "Two commands")' "$(cat err)"
+}
+
+make_clone
+make_rt
+export LOG=$room/log BROKEN=
+tools=$PATH
+PATH=$room/bin:$PATH
+tests the_first_use_tells_how_far_it_is \
+    the_first_use_proves_what_the_program_stands_on \
+    a_later_use_proves_nothing \
+    a_change_elsewhere_proves_nothing \
+    a_change_proves_what_changed_and_the_program \
+    one_of_two_calls_builds_and_the_other_waits \
+    what_is_not_proved_is_told \
+    a_missing_linker_is_told \
+    a_missing_rt_is_told

@@ -2,51 +2,64 @@
 # What the program says of itself, and of words that are no command.
 . "$(dirname "$0")/lib.sh"
 
-# The help on one command, -h or --help.
+# help_on COMMAND FLAG: the help on one command, by -h or --help.
 help_on() { "$program" $1 "$2" 2>&1; }
 
-for command in '' check index at seq; do
-    for flag in -h --help; do
-        text=$(help_on "$command" $flag)
-        same "jx $command $flag: no line has more than 79 columns" '' "$(printf '%s\n' "$text" | grep -E '.{80}')"
-        has "jx $command $flag: the usage" "Usage: jx${command:+ $command}" "$text"
-        has "jx $command $flag: on standard error, status 2" 'status 2
+the_help_on_each_command_fits_and_is_complete() {
+    local command flag text short long
+    for command in '' check index at seq; do
+        for flag in -h --help; do
+            text=$(help_on "$command" $flag)
+            same "jx $command $flag: no line has more than 79 columns" '' "$(printf '%s\n' "$text" | grep -E '.{80}')"
+            has "jx $command $flag: the usage" "Usage: jx${command:+ $command}" "$text"
+            has "jx $command $flag: on standard error, status 2" 'status 2
 err: ' "$(said '' $command $flag)"
-        same "jx $command $flag: nothing on standard output" '' "$(cat out)"
+            same "jx $command $flag: nothing on standard output" '' "$(cat out)"
+        done
+        short=$(help_on "$command" -h | wc -l)
+        long=$(help_on "$command" --help | wc -l)
+        same "jx $command: -h is shorter than --help" yes "$([ "$short" -lt "$long" ] && echo yes)"
+        has "jx $command --help: examples" 'Examples:' "$(help_on "$command" --help)"
+        has "jx $command --help: exit statuses" 'Exit status' "$(help_on "$command" --help)"
+        if [ -n "$command" ]; then
+            same "jx help $command" "$(help_on "$command" --help)" "$("$program" help "$command" 2>&1)"
+        fi
     done
-    short=$(help_on "$command" -h | wc -l)
-    long=$(help_on "$command" --help | wc -l)
-    same "jx $command: -h is shorter than --help" yes "$([ "$short" -lt "$long" ] && echo yes)"
-    has "jx $command --help: examples" 'Examples:' "$(help_on "$command" --help)"
-    has "jx $command --help: exit statuses" 'Exit status' "$(help_on "$command" --help)"
-    if [ -n "$command" ]; then
-        same "jx help $command" "$(help_on "$command" --help)" "$("$program" help "$command" 2>&1)"
-    fi
-done
+}
 
-# The examples that need no file of the user's run as they are printed.
-same 'an example of jx index' 'accepted
+# Those that need no file of the user's.
+the_examples_of_the_help_run_as_they_are_printed() {
+    same 'an example of jx index' 'accepted
 0 object 0..11 - 0 -
 1 array 5..10 0 0 1..4
 2 number 6..7 1 0 -
 3 number 8..9 1 1 -' "$(printf '{"a":[1,2]}' | "$program" index)"
-has 'that example' "printf '{\"a\":[1,2]}' | jx index" "$(help_on index --help)"
+    has 'that example' "printf '{\"a\":[1,2]}' | jx index" "$(help_on index --help)"
+}
 
-for flag in --version -V; do
-    has "jx $flag: on standard output, status 0" 'status 0
+the_version_is_one_line() {
+    local flag
+    for flag in --version -V; do
+        has "jx $flag: on standard output, status 0" 'status 0
 out: jx ' "$(said '' $flag)"
-    same "jx $flag: one line" 1 "$(wc -l <out)"
-    same "jx $flag: nothing on standard error" '' "$(cat err)"
-done
+        same "jx $flag: one line" 1 "$(wc -l <out)"
+        same "jx $flag: nothing on standard error" '' "$(cat err)"
+    done
+}
 
-has 'a wrong command' "tip: a similar subcommand exists: 'check'" "$(said '' chek)"
-has 'a wrong command' "tip: a similar subcommand exists: 'index'" "$(said '' indx)"
-has 'a wrong command' "tip: a similar subcommand exists: 'seq'" "$(said '' sequ)"
-has 'a wrong option' "tip: a similar argument exists: '--depth'" "$(said '' check --dpth 3)"
-has 'a wrong option' "tip: a similar argument exists: '--quiet'" "$(said '' seq --quite)"
-has 'an option before the command' "tip: 'check --depth' exists" "$(said '' --dpth 3 check)"
-has 'a pointer that begins with a hyphen' "tip: to pass '-1' as a value, use '-- -1'" "$(said '' at -1)"
-has 'quiet is for check and seq alone' "error: unexpected argument '-q' found" "$(said '' index -q)"
-has 'quiet is for check and seq alone' "error: unexpected argument '-q' found" "$(said '' at -q /a)"
+the_nearest_right_word_is_told() {
+    has 'a wrong command' "tip: a similar subcommand exists: 'check'" "$(said '' chek)"
+    has 'a wrong command' "tip: a similar subcommand exists: 'index'" "$(said '' indx)"
+    has 'a wrong command' "tip: a similar subcommand exists: 'seq'" "$(said '' sequ)"
+    has 'a wrong option' "tip: a similar argument exists: '--depth'" "$(said '' check --dpth 3)"
+    has 'a wrong option' "tip: a similar argument exists: '--quiet'" "$(said '' seq --quite)"
+    has 'an option before the command' "tip: 'check --depth' exists" "$(said '' --dpth 3 check)"
+    has 'a pointer that begins with a hyphen' "tip: to pass '-1' as a value, use '-- -1'" "$(said '' at -1)"
+    has 'quiet is for check and seq alone' "error: unexpected argument '-q' found" "$(said '' index -q)"
+    has 'quiet is for check and seq alone' "error: unexpected argument '-q' found" "$(said '' at -q /a)"
+}
 
-finish
+tests the_help_on_each_command_fits_and_is_complete \
+    the_examples_of_the_help_run_as_they_are_printed \
+    the_version_is_one_line \
+    the_nearest_right_word_is_told

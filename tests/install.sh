@@ -2,57 +2,78 @@
 # ./install puts the program, its manual page and its completions below a prefix, and takes them away again.
 . "$(dirname "$0")/lib.sh"
 
-# A copy of what ./install reads, built by now as it says itself.
 clone="$room/a clone"
-mkdir -p "$clone/crates/jx/src" "$clone/crates/jx/out"
-mkdir -p "$clone/crates/jx_c/src" "$clone/crates/jx_c/out"
-cp -R "$root/install" "$root/jx" "$root/tools" "$root/jx.1" "$root/completions" "$root/crates.txt" "$root/include" "$root/jx.pc" "$clone"
-cp "$program" "$clone/crates/jx/out/jx"
-if [ -e "$root/crates/jx_c/out/libjx.a" ]; then
-    cp "$root/crates/jx_c/out/libjx.a" "$clone/crates/jx_c/out/libjx.a"
-else
-    echo 'no library' >"$clone/crates/jx_c/out/libjx.a"
-fi
-touch "$clone/jx.stamp" "$clone/jx.library.stamp"
-places='lib/libjx.a include/jx.h lib/pkgconfig/jx.pc bin/jx share/man/man1/jx.1 share/bash-completion/completions/jx share/zsh/site-functions/_jx share/fish/vendor_completions.d/jx.fish'
+prefix=$room/home/.local
+places='lib/libjx.a include/jx.h lib/pkgconfig/jx.pc bin/jx
+share/man/man1/jx.1 share/bash-completion/completions/jx
+share/zsh/site-functions/_jx share/fish/vendor_completions.d/jx.fish'
 
-mkdir home
-prefix="$room/home/.local"
-said=$(HOME=$room/home "$clone/install" 2>&1)
-same 'it installs: status' 0 $?
-for place in $places; do
-    has "it says that it put $place" "put $prefix/$place" "$said"
-    same "$place is there" yes "$([ -s "$prefix/$place" ] && echo yes)"
-done
-has 'a folder that is not on the PATH' "$prefix/bin is not on the PATH" "$said"
-same 'nothing else is there' 8 "$(find home -type f | wc -l)"
+# copy_clone: a copy of what ./install reads, built by now as it says itself.
+copy_clone() {
+    mkdir -p "$clone/crates/jx/src" "$clone/crates/jx/out"
+    mkdir -p "$clone/crates/jx_c/src" "$clone/crates/jx_c/out"
+    cp -R "$root/install" "$root/jx" "$root/tools" "$root/jx.1" "$root/completions" "$root/crates.txt" "$root/include" "$root/jx.pc" "$clone"
+    cp "$program" "$clone/crates/jx/out/jx"
+    if [ -e "$root/crates/jx_c/out/libjx.a" ]; then
+        cp "$root/crates/jx_c/out/libjx.a" "$clone/crates/jx_c/out/libjx.a"
+    else
+        echo 'no library' >"$clone/crates/jx_c/out/libjx.a"
+    fi
+    touch "$clone/jx.stamp" "$clone/jx.library.stamp"
+}
 
-# Nothing of the clone is needed from here on.
-rm -rf "$clone.moved"
-mv "$clone" "$clone.moved"
-same 'the installed program runs' accepted "$(printf null | env -i "$prefix/bin/jx" check)"
-same 'the installed program needs the C library alone' 'libc.so.6' \
-    "$(readelf -d "$prefix/bin/jx" | sed -n 's/.*(NEEDED).*\[\(.*\)\]/\1/p')"
-if command -v man >/dev/null; then
-    has 'the installed page is found' 'jx at [OPTIONS] [POINTER]...' "$(MANPATH=$prefix/share/man MANWIDTH=79 man jx 2>&1 | col -bx)"
-fi
-mv "$clone.moved" "$clone"
+it_installs_all_that_it_says() {
+    local said place
+    mkdir home
+    said=$(HOME=$room/home "$clone/install" 2>&1)
+    same 'it installs: status' 0 $?
+    for place in $places; do
+        has "it says that it put $place" "put $prefix/$place" "$said"
+        same "$place is there" yes "$([ -s "$prefix/$place" ] && echo yes)"
+    done
+    has 'a folder that is not on the PATH' "$prefix/bin is not on the PATH" "$said"
+    same 'nothing else is there' 8 "$(find home -type f | wc -l)"
+}
 
-said=$(HOME=$room/home "$clone/install" --uninstall 2>&1)
-same 'it uninstalls: status' 0 $?
-for place in $places; do
-    has "it says that it removed $place" "removed $prefix/$place" "$said"
-done
-same 'nothing is left' 0 "$(find home -type f | wc -l)"
-same 'nothing to take away' '' "$(HOME=$room/home "$clone/install" --uninstall 2>&1)"
+the_installed_program_needs_nothing_of_the_clone() {
+    rm -rf "$clone.moved"
+    mv "$clone" "$clone.moved"
+    same 'the installed program runs' accepted "$(printf null | env -i "$prefix/bin/jx" check)"
+    same 'the installed program needs the C library alone' 'libc.so.6' \
+        "$(readelf -d "$prefix/bin/jx" | sed -n 's/.*(NEEDED).*\[\(.*\)\]/\1/p')"
+    if command -v man >/dev/null; then
+        has 'the installed page is found' 'jx at [OPTIONS] [POINTER]...' "$(MANPATH=$prefix/share/man MANWIDTH=79 man jx 2>&1 | col -bx)"
+    fi
+    mv "$clone.moved" "$clone"
+}
 
-"$clone/install" "$room/other place" >/dev/null
-same 'another prefix' accepted "$(printf null | "$room/other place/bin/jx" check)"
-"$clone/install" --uninstall "$room/other place" >/dev/null
-same 'another prefix, uninstalled' 0 "$(find "$room/other place" -type f | wc -l)"
+it_uninstalls_all_that_it_installed() {
+    local said place
+    said=$(HOME=$room/home "$clone/install" --uninstall 2>&1)
+    same 'it uninstalls: status' 0 $?
+    for place in $places; do
+        has "it says that it removed $place" "removed $prefix/$place" "$said"
+    done
+    same 'nothing is left' 0 "$(find home -type f | wc -l)"
+    same 'nothing to take away' '' "$(HOME=$room/home "$clone/install" --uninstall 2>&1)"
+}
 
-has 'a wrong word' 'usage: ./install' "$("$clone/install" --wrong 2>&1)"
-"$clone/install" --wrong 2>/dev/null
-same 'a wrong word: status' 2 $?
+another_prefix_may_be_named() {
+    "$clone/install" "$room/other place" >/dev/null
+    same 'another prefix' accepted "$(printf null | "$room/other place/bin/jx" check)"
+    "$clone/install" --uninstall "$room/other place" >/dev/null
+    same 'another prefix, uninstalled' 0 "$(find "$room/other place" -type f | wc -l)"
+}
 
-finish
+a_wrong_word_is_a_fault() {
+    has 'a wrong word' 'usage: ./install' "$("$clone/install" --wrong 2>&1)"
+    "$clone/install" --wrong 2>/dev/null
+    same 'a wrong word: status' 2 $?
+}
+
+copy_clone
+tests it_installs_all_that_it_says \
+    the_installed_program_needs_nothing_of_the_clone \
+    it_uninstalls_all_that_it_installed \
+    another_prefix_may_be_named \
+    a_wrong_word_is_a_fault

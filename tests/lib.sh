@@ -1,4 +1,5 @@
-# Read by the tests of the program as a whole. Each runs in a folder of its own, and ends by `finish`.
+# Read by the tests of the program as a whole. Each file of them runs in a folder of its own: it has the functions that help, then a function
+# for each thing that holds, and ends by `tests` with the names of these.
 root=$(cd "$(dirname "${BASH_SOURCE[0]}")/.." && pwd)
 program=${JX_PROGRAM:-$root/crates/jx/out/jx}
 room=$(mktemp -d)
@@ -7,7 +8,7 @@ cd "$room" || exit 1
 passed=0
 failed=0
 
-# same NAME WANTED GOT
+# same NAME WANTED GOT: counts whether what was got is what is wanted.
 same() {
     if [ "$2" = "$3" ]; then
         passed=$((passed + 1))
@@ -17,7 +18,7 @@ same() {
     fi
 }
 
-# has NAME PART WHOLE
+# has NAME PART WHOLE: counts whether the part stands in the whole.
 has() {
     case $3 in
     *"$2"*) passed=$((passed + 1)) ;;
@@ -28,7 +29,7 @@ has() {
     esac
 }
 
-# Words in a line, with one space between two.
+# flat: the words of the input in a line, with one space between two.
 flat() { tr -s ' \n' ' ' | sed 's/^ //; s/ $//'; }
 
 # said INPUT WORD..: runs the program on the input, and prints its status, its output and what it told on standard error.
@@ -41,7 +42,10 @@ said() {
     sed 's/^/err: /' err
 }
 
-finish() {
+# tests NAME..: calls each of these functions, and tells how much of what they looked at holds.
+tests() {
+    local each
+    for each in "$@"; do "$each"; done
     echo "${0##*/}: $passed passed, $failed failed"
     [ "$failed" = 0 ]
 }

@@ -3,21 +3,7 @@
 . "$(dirname "$0")/lib.sh"
 page=$root/jx.1
 
-if command -v man >/dev/null; then
-    LC_ALL=C.UTF-8 MANWIDTH=79 MAN_KEEP_FORMATTING= man --warnings -l "$page" >shown 2>warnings
-    same 'man -l ends with status' 0 $?
-    same 'man -l warns of nothing' '' "$(cat warnings)"
-else
-    echo 'manual.sh: there is no man here: the page is read as it stands'
-    sed -e '/^\.\\"/d; s/^\.\(SH\|SS\|B\|TH\) *//; /^\.[A-Za-z]/d; s/\\-/-/g; s/\\(aq/'"'"'/g' "$page" >shown
-fi
-text=$(col -bx <shown | sed "s/’/'/g; s/‘/'/g; s/−/-/g" | flat)
-for section in NAME SYNOPSIS DESCRIPTION COMMANDS OPTIONS 'EXIT STATUS' DIAGNOSTICS EXAMPLES STANDARDS; do
-    has "section $section" " $section " "$text"
-done
-has 'the version' "$("$program" --version)" "$text"
-
-# Each paragraph of a help text, on a line of its own.
+# paragraphs COMMAND: each paragraph of its help text, on a line of its own.
 paragraphs() {
     "$program" $1 --help 2>&1 | sed 's/<\([A-Z]*\)>/\1/g' | awk '
         BEGIN { RS = "" }
@@ -30,17 +16,47 @@ paragraphs() {
         }'
 }
 
-for command in '' check index at seq; do
-    count=0
-    while read -r paragraph; do
-        has "jx $command --help: a paragraph" "$paragraph" "$text"
-        count=$((count + 1))
-    done < <(paragraphs "$command")
-    same "jx $command --help has paragraphs" yes "$([ "$count" -gt 3 ] && echo yes)"
-done
+# Leaves the words of the page in `text`.
+the_page_is_laid_out_with_no_warning() {
+    if command -v man >/dev/null; then
+        LC_ALL=C.UTF-8 MANWIDTH=79 MAN_KEEP_FORMATTING= man --warnings -l "$page" >shown 2>warnings
+        same 'man -l ends with status' 0 $?
+        same 'man -l warns of nothing' '' "$(cat warnings)"
+    else
+        echo 'manual.sh: there is no man here: the page is read as it stands'
+        sed -e '/^\.\\"/d; s/^\.\(SH\|SS\|B\|TH\) *//; /^\.[A-Za-z]/d; s/\\-/-/g; s/\\(aq/'"'"'/g' "$page" >shown
+    fi
+    text=$(col -bx <shown | sed "s/’/'/g; s/‘/'/g; s/−/-/g" | flat)
+}
 
-for line in cannot\ open read\ failed write\ failed out\ of\ memory too\ many\ pieces; do
-    has "the fault $line" "jx: $line" "$text"
-done
+the_page_has_its_sections_and_the_version() {
+    local section
+    for section in NAME SYNOPSIS DESCRIPTION COMMANDS OPTIONS 'EXIT STATUS' DIAGNOSTICS EXAMPLES STANDARDS; do
+        has "section $section" " $section " "$text"
+    done
+    has 'the version' "$("$program" --version)" "$text"
+}
 
-finish
+each_paragraph_of_the_help_stands_there() {
+    local command count paragraph
+    for command in '' check index at seq; do
+        count=0
+        while read -r paragraph; do
+            has "jx $command --help: a paragraph" "$paragraph" "$text"
+            count=$((count + 1))
+        done < <(paragraphs "$command")
+        same "jx $command --help has paragraphs" yes "$([ "$count" -gt 3 ] && echo yes)"
+    done
+}
+
+each_fault_stands_there() {
+    local line
+    for line in cannot\ open read\ failed write\ failed out\ of\ memory too\ many\ pieces; do
+        has "the fault $line" "jx: $line" "$text"
+    done
+}
+
+tests the_page_is_laid_out_with_no_warning \
+    the_page_has_its_sections_and_the_version \
+    each_paragraph_of_the_help_stands_there \
+    each_fault_stands_there

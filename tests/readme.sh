@@ -2,19 +2,23 @@
 # Each session that README shows: the lines behind `$ ` and `> ` are run, and what they print is what stands below them.
 . "$(dirname "$0")/lib.sh"
 
-mkdir bin
-ln -s "$program" bin/jx
-if ! command -v zstd >/dev/null; then
-    # Where there is no zstd, another packer takes its place.
-    printf '#!/bin/sh\ncase $1 in -dc) exec gzip -dc "$2" ;; *) exec gzip -c ;; esac\n' >bin/zstd
-    chmod +x bin/zstd
-fi
-PATH=$room/bin:$PATH
-export HOME=$room GIT_CONFIG_NOSYSTEM=1 GIT_AUTHOR_NAME=a GIT_AUTHOR_EMAIL=a@example.org GIT_COMMITTER_NAME=a GIT_COMMITTER_EMAIL=a@example.org
+# put_tools_on_the_path: the program, and zstd or another packer in its place.
+put_tools_on_the_path() {
+    mkdir bin
+    ln -s "$program" bin/jx
+    if ! command -v zstd >/dev/null; then
+        # Where there is no zstd, another packer takes its place.
+        printf '#!/bin/sh\ncase $1 in -dc) exec gzip -dc "$2" ;; *) exec gzip -c ;; esac\n' >bin/zstd
+        chmod +x bin/zstd
+    fi
+    PATH=$room/bin:$PATH
+    export HOME=$room GIT_CONFIG_NOSYSTEM=1 GIT_AUTHOR_NAME=a GIT_AUTHOR_EMAIL=a@example.org GIT_COMMITTER_NAME=a GIT_COMMITTER_EMAIL=a@example.org
+}
 
-# A session is an indented part that begins with `$ `. Each is written as a script, which prints a line before each
+# write_sessions: a session is an indented part that begins with `$ `. Each is written as a script, which prints a line before each
 # command, and as what that is to print.
-awk '
+write_sessions() {
+    awk '
     function close_session() { inside = 0 }
     /^    \$ / {
         if (!inside) { inside = 1; session++; script = sprintf("script.%02d", session); wanted = sprintf("wanted.%02d", session); command = 0 }
@@ -27,19 +31,30 @@ awk '
     /^    / && inside { print substr($0, 5) > wanted; next }
     { close_session() }
 ' "$root/README.md"
+}
 
-sessions=0
-for script in script.*; do
-    number=${script#script.}
-    mkdir "session.$number"
-    ln -s "$program" "session.$number/jx"
-    got=$(cd "session.$number" && bash "../$script" 2>&1)
-    same "README: the session that begins $(sed -n 2p "$script")" "$(cat "wanted.$number")" "$got"
-    sessions=$((sessions + 1))
-done
-same 'README: there are sessions' yes "$([ "$sessions" -ge 8 ] && echo yes)"
-for recipe in 'tail -c +' 'head -c' 'pre-commit' 'jx seq' 'check -q' 'zstd -dc' 'case $? in'; do
-    has "README: a recipe with $recipe" "$recipe" "$(cat script.*)"
-done
+each_session_prints_what_stands_below_it() {
+    local script number got sessions
+    sessions=0
+    for script in script.*; do
+        number=${script#script.}
+        mkdir "session.$number"
+        ln -s "$program" "session.$number/jx"
+        got=$(cd "session.$number" && bash "../$script" 2>&1)
+        same "README: the session that begins $(sed -n 2p "$script")" "$(cat "wanted.$number")" "$got"
+        sessions=$((sessions + 1))
+    done
+    same 'README: there are sessions' yes "$([ "$sessions" -ge 8 ] && echo yes)"
+}
 
-finish
+the_recipes_are_among_the_sessions() {
+    local recipe
+    for recipe in 'tail -c +' 'head -c' 'pre-commit' 'jx seq' 'check -q' 'zstd -dc' 'case $? in'; do
+        has "README: a recipe with $recipe" "$recipe" "$(cat script.*)"
+    done
+}
+
+put_tools_on_the_path
+write_sessions
+tests each_session_prints_what_stands_below_it \
+    the_recipes_are_among_the_sessions

@@ -1,4 +1,4 @@
-/* Elements of JSON text sequences: a few by the standard, the worked texts and each beginning of them behind a mark, all of
+/* Elements of JSON text sequences: a few by the standard, the texts of the table and each beginning of them behind a mark, all of
  * them in one sequence, and each request for memory refused in turn: sequences FILE. Linked with --wrap=malloc and
  * --wrap=realloc. */
 #include "jx.h"
@@ -131,7 +131,7 @@ static void in_a_row(const uint8_t *sequence, size_t size, const jx_span *places
     }
 }
 
-static void worked(const char *file) {
+static void each_of_table(const char *file) {
     static char row[4096];
     static uint8_t bytes[4096];
     static uint8_t sequence[MOST * 128];
@@ -186,7 +186,7 @@ static void refusals(void) {
 int main(int count, char **words) {
     if (count != 2) return 2;
     few();
-    worked(words[1]);
+    each_of_table(words[1]);
     refusals();
     printf("sequences: %d passed, %d failed\n", passed, failed);
     return failed != 0;

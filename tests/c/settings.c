@@ -1,4 +1,4 @@
-/* Calls with settings: the worked texts and each beginning of them, with a byte order mark in front and without, at once and in
+/* Calls with settings: the texts of the table and each beginning of them, with a byte order mark in front and without, at once and in
  * slices of one byte; names that are repeated; and each request for memory refused in turn: settings FILE. Linked with
  * --wrap=malloc and --wrap=realloc. */
 #include "jx.h"
@@ -157,7 +157,7 @@ static void all_of(const uint8_t *text, size_t size, size_t front, uint32_t dept
     indexed(text, size, front, depth, line);
 }
 
-static void worked(const char *file) {
+static void each_of_table(const char *file) {
     static char row[MOST];
     static uint8_t text[MOST + 3];
     FILE *table = fopen(file, "r");
@@ -346,7 +346,7 @@ static void memory(void) {
 
 int main(int count, char **words) {
     if (count != 2) return 2;
-    worked(words[1]);
+    each_of_table(words[1]);
     marks();
     names();
     sequences();

@@ -1,7 +1,8 @@
+// What crosses crates: cuts, depths, stops and refused growths, and the inputs and answers that are compared.
 mod answers;
 mod calls;
 mod cuts;
-mod deep;
+mod deep_texts;
 mod gathered;
 mod growths;
 mod inputs;

@@ -29,12 +29,4 @@ pub use pointer::{Pointer, PointerFault};
 pub use row::{NodeId, Row};
 
 #[cfg(test)]
-mod counted;
-#[cfg(test)]
-mod pass_tests;
-#[cfg(test)]
-mod repeat_tests;
-#[cfg(test)]
 mod tests;
-#[cfg(test)]
-mod worked;

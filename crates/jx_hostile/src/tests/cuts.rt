@@ -1,7 +1,5 @@
 // Every single cut and every pair of cuts: the answer is that of one piece, with all its rows. One worker reads a text in one
 // pass over the pieces, and by runs of the pieces, which are joined in a book; a sequence it reads by such runs alone.
-ghost use Rattle.std.specs.Prelude.{◌≡◌, length};
-
 use crate::tests::answers::{ToldElement, are_equal, verdict_in};
 use crate::tests::calls::{SEQUENCE_CALLS, answer_by_run, by_names, tells};
 use crate::tests::inputs::{
@@ -19,7 +17,85 @@ use std::sync::Wait;
 use std::test::Fail;
 use std::thread::Threads;
 
+#[test]
+fn short_texts_are_answered_alike_at_every_pair_of_cuts(rt: HostRuntime) -> Result<(), Fail> {
+    check_short(&rt, rt.alloc(), FrontMark::Refused, NameRule::Any)
+}
+
+#[test]
+fn short_texts_of_unique_names_are_answered_alike_at_every_pair_of_cuts(
+    rt: HostRuntime,
+) -> Result<(), Fail> {
+    check_short(&rt, rt.alloc(), FrontMark::Refused, NameRule::Unique)
+}
+
+#[test]
+fn short_texts_behind_marks_are_answered_alike_at_every_pair_of_cuts(
+    rt: HostRuntime,
+) -> Result<(), Fail> {
+    check_short(&rt, rt.alloc(), FrontMark::Ignored, NameRule::Any)
+}
+
+#[test]
+fn short_texts_of_unique_names_behind_marks_are_answered_alike_at_every_pair_of_cuts(
+    rt: HostRuntime,
+) -> Result<(), Fail> {
+    check_short(&rt, rt.alloc(), FrontMark::Ignored, NameRule::Unique)
+}
+
 const DEPTHS: [u32; 5] = [0, 1, 2, 512, 65535];
+
+#[test]
+fn short_texts_are_answered_alike_at_every_cut_by_two_workers(rt: HostRuntime) -> Result<(), Fail> {
+    for text in SHORT {
+        for containers in DEPTHS {
+            let depth = Depth::new(containers).ok_or("a depth")?;
+            check_by_two(&rt, rt.alloc(), text, depth)?;
+        }
+    }
+    Ok(())
+}
+
+#[test]
+fn sequences_are_answered_alike_at_every_pair_of_cuts(rt: HostRuntime) -> Result<(), Fail> {
+    for (mark, marked) in MARKS.iter().zip(&MARKED_SEQUENCES) {
+        for (names, repeated) in RULES.iter().zip(&REPEATED_SEQUENCES) {
+            let settings = settings(Depth::default(), *mark, *names);
+            check_sequences(&rt, rt.alloc(), &SEQUENCES, &settings)?;
+            check_sequences(&rt, rt.alloc(), marked, &settings)?;
+            check_sequences(&rt, rt.alloc(), repeated, &settings)?;
+        }
+    }
+    Ok(())
+}
+
+#[test]
+fn texts_with_one_byte_replaced_are_answered_alike_at_every_cut(
+    rt: HostRuntime,
+) -> Result<(), Fail> {
+    check_replaced(&rt, rt.alloc(), FIVE_ROWS, FrontMark::Refused)
+}
+
+#[test]
+fn texts_with_one_byte_replaced_are_answered_alike_where_marks_are_ignored(
+    rt: HostRuntime,
+) -> Result<(), Fail> {
+    check_replaced(&rt, rt.alloc(), FIVE_ROWS, FrontMark::Ignored)
+}
+
+#[test]
+fn texts_with_one_byte_replaced_behind_a_mark_are_answered_alike(
+    rt: HostRuntime,
+) -> Result<(), Fail> {
+    check_replaced(&rt, rt.alloc(), MARKED_FIVE_ROWS, FrontMark::Refused)
+}
+
+#[test]
+fn texts_with_one_byte_replaced_behind_an_ignored_mark_are_answered_alike(
+    rt: HostRuntime,
+) -> Result<(), Fail> {
+    check_replaced(&rt, rt.alloc(), MARKED_FIVE_ROWS, FrontMark::Ignored)
+}
 
 // The answer of one worker that reads a text in one piece.
 fn answer_of_one_piece<'a, R: Threads + Wait + Sync>(
@@ -121,28 +197,6 @@ fn check_short<R: Abort + Threads + Wait + Sync>(
     Ok(())
 }
 
-#[test]
-fn short_texts_at_every_pair_of_cuts(rt: HostRuntime) -> Result<(), Fail> {
-    check_short(&rt, rt.alloc(), FrontMark::Refused, NameRule::Any)
-}
-
-#[test]
-fn short_texts_of_unique_names_at_every_pair_of_cuts(rt: HostRuntime) -> Result<(), Fail> {
-    check_short(&rt, rt.alloc(), FrontMark::Refused, NameRule::Unique)
-}
-
-#[test]
-fn short_texts_behind_marks_at_every_pair_of_cuts(rt: HostRuntime) -> Result<(), Fail> {
-    check_short(&rt, rt.alloc(), FrontMark::Ignored, NameRule::Any)
-}
-
-#[test]
-fn short_texts_of_unique_names_behind_marks_at_every_pair_of_cuts(
-    rt: HostRuntime,
-) -> Result<(), Fail> {
-    check_short(&rt, rt.alloc(), FrontMark::Ignored, NameRule::Unique)
-}
-
 // The first single cut at which two workers answer something else than is answered in one piece.
 fn other_cut_of_two<R: Threads + Wait + Sync>(
     rt: &R,
@@ -171,17 +225,6 @@ fn check_by_two<R: Abort + Threads + Wait + Sync>(
             let settings = settings(depth, mark, names);
             let other = other_cut_of_two(rt, alloc, text, &settings)?;
             assert_eq!(rt; other, None, "{text:?} by {settings:?}");
-        }
-    }
-    Ok(())
-}
-
-#[test]
-fn short_texts_at_every_cut_by_two_workers(rt: HostRuntime) -> Result<(), Fail> {
-    for text in SHORT {
-        for containers in DEPTHS {
-            let depth = Depth::new(containers).ok_or("a depth")?;
-            check_by_two(&rt, rt.alloc(), text, depth)?;
         }
     }
     Ok(())
@@ -260,19 +303,6 @@ fn check_sequences<R: Abort + Threads + Wait + Sync>(
     Ok(())
 }
 
-#[test]
-fn sequences_at_every_pair_of_cuts(rt: HostRuntime) -> Result<(), Fail> {
-    for (mark, marked) in MARKS.iter().zip(&MARKED_SEQUENCES) {
-        for (names, repeated) in RULES.iter().zip(&REPEATED_SEQUENCES) {
-            let settings = settings(Depth::default(), *mark, *names);
-            check_sequences(&rt, rt.alloc(), &SEQUENCES, &settings)?;
-            check_sequences(&rt, rt.alloc(), marked, &settings)?;
-            check_sequences(&rt, rt.alloc(), repeated, &settings)?;
-        }
-    }
-    Ok(())
-}
-
 // The first single cut at which one worker answers something else than in one pass over one piece: in one pass over both, or by
 // runs that it joins, by either rule for names.
 fn other_cut<R: Threads + Wait + Sync>(
@@ -316,24 +346,4 @@ fn check_replaced<R: Abort + Threads + Wait + Sync>(
         }
     }
     Ok(())
-}
-
-#[test]
-fn each_byte_replaced_by_each_value_at_every_cut(rt: HostRuntime) -> Result<(), Fail> {
-    check_replaced(&rt, rt.alloc(), FIVE_ROWS, FrontMark::Refused)
-}
-
-#[test]
-fn each_byte_replaced_at_every_cut_where_marks_are_ignored(rt: HostRuntime) -> Result<(), Fail> {
-    check_replaced(&rt, rt.alloc(), FIVE_ROWS, FrontMark::Ignored)
-}
-
-#[test]
-fn each_byte_replaced_behind_a_mark_at_every_cut(rt: HostRuntime) -> Result<(), Fail> {
-    check_replaced(&rt, rt.alloc(), MARKED_FIVE_ROWS, FrontMark::Refused)
-}
-
-#[test]
-fn each_byte_replaced_behind_an_ignored_mark_at_every_cut(rt: HostRuntime) -> Result<(), Fail> {
-    check_replaced(&rt, rt.alloc(), MARKED_FIVE_ROWS, FrontMark::Ignored)
 }

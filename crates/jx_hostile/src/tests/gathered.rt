@@ -1,5 +1,5 @@
 // Workers on threads of the test's own, by public calls alone, and what `gather` makes of the runs that they left.
-ghost use Rattle.std.specs.Prelude.{◌≡◌, ◌+◌, ◌<◌, ◌≤◌, [], length, true, false, All, IfOk, IfSome};
+ghost use Rattle.std.specs.Prelude.{◌≡◌, ◌+◌, ◌<◌, [], length, true, false, All, IfSome};
 ghost use Rattle.jx_claim.specs.Cut.{drawn_len};
 ghost use Rattle.jx_book.specs.Shares.{share};
 
@@ -19,6 +19,41 @@ use std::sync::ledger::{Blank, Ledger};
 use std::test::Fail;
 use std::thread;
 use std::thread::Threads;
+
+const TWO_DIGITS: [WorkedRow; 1] = [(Kind::Number, (0, 2), None, 0, None)];
+
+const TWO_BYTES: [WorkedRow; 1] = [(Kind::String, (0, 4), None, 0, None)];
+
+const ESCAPE: [WorkedRow; 1] = [(Kind::String, (0, 8), None, 0, None)];
+
+#[test]
+fn scalars_that_are_cut_are_gathered_to_one_row(rt: HostRuntime) -> Result<(), Fail> {
+    check(&rt, rt.alloc(), &worked(b"12", Ok(&TWO_DIGITS)), &[1])?;
+    let character = worked(b"\x22\xC3\xA9\x22", Ok(&TWO_BYTES));
+    check(&rt, rt.alloc(), &character, &[2])?;
+    check(&rt, rt.alloc(), &worked(b"\"\\u0041\"", Ok(&ESCAPE)), &[4])
+}
+
+#[test]
+fn containers_that_are_cut_are_gathered_to_their_rows(rt: HostRuntime) -> Result<(), Fail> {
+    check(&rt, rt.alloc(), &TOO_DEEP, &[2, 3])?;
+    check(&rt, rt.alloc(), &NESTED_ARRAYS, &[2, 3])?;
+    let stopped = worked(b"{\"a\":1,2]", Err(Refusal::Stopped { at: 7 }));
+    check(&rt, rt.alloc(), &stopped, &[7])?;
+    let cuts = [1, 2, 3, 4, 5, 6, 7, 8, 9, 10, 11, 12, 13, 14, 15, 16];
+    check(&rt, rt.alloc(), &FIVE, &cuts)
+}
+
+#[test]
+fn a_run_that_begins_before_the_front_is_handed_back(rt: HostRuntime) -> Result<(), Fail> {
+    let cutting = Cutting::every(NESTED.len(), 6)?;
+    if cutting.len() < 1 {
+        return Err("a text".into());
+    }
+    let cutting = cutting.without_front(1);
+    assert!(rt; is_other_of_one(&rt, rt.alloc(), NESTED, &cutting)?);
+    Ok(())
+}
 
 // What a worker begins with.
 #[derive(Drop)]
@@ -173,12 +208,6 @@ fn check<R: Abort + Threads + Wait + Sync>(
     Ok(())
 }
 
-const TWO_DIGITS: [WorkedRow; 1] = [(Kind::Number, (0, 2), None, 0, None)];
-
-const TWO_BYTES: [WorkedRow; 1] = [(Kind::String, (0, 4), None, 0, None)];
-
-const ESCAPE: [WorkedRow; 1] = [(Kind::String, (0, 8), None, 0, None)];
-
 // A text without a repeated name within the default depth.
 fn worked(text: &'static [u8], answer: Result<&'static [WorkedRow], Refusal>) -> Worked {
     Worked {
@@ -188,24 +217,6 @@ fn worked(text: &'static [u8], answer: Result<&'static [WorkedRow], Refusal>) ->
         answer,
         repeated: None,
     }
-}
-
-#[test]
-fn scalars_that_are_cut(rt: HostRuntime) -> Result<(), Fail> {
-    check(&rt, rt.alloc(), &worked(b"12", Ok(&TWO_DIGITS)), &[1])?;
-    let character = worked(b"\x22\xC3\xA9\x22", Ok(&TWO_BYTES));
-    check(&rt, rt.alloc(), &character, &[2])?;
-    check(&rt, rt.alloc(), &worked(b"\"\\u0041\"", Ok(&ESCAPE)), &[4])
-}
-
-#[test]
-fn containers_that_are_cut(rt: HostRuntime) -> Result<(), Fail> {
-    check(&rt, rt.alloc(), &TOO_DEEP, &[2, 3])?;
-    check(&rt, rt.alloc(), &NESTED_ARRAYS, &[2, 3])?;
-    let stopped = worked(b"{\"a\":1,2]", Err(Refusal::Stopped { at: 7 }));
-    check(&rt, rt.alloc(), &stopped, &[7])?;
-    let cuts = [1, 2, 3, 4, 5, 6, 7, 8, 9, 10, 11, 12, 13, 14, 15, 16];
-    check(&rt, rt.alloc(), &FIVE, &cuts)
 }
 
 /// Draws a piece and puts as many bytes that begin one byte before it, and then meets the end of the pieces.
@@ -283,15 +294,4 @@ fn is_other_of_one<R: Wait>(
     let put = Blank::new(1);
     let taken = Blank::new(1);
     is_other::<Brand, Brand, R>(rt, alloc, text, cutting, put, taken)
-}
-
-#[test]
-fn a_run_that_begins_before_the_front(rt: HostRuntime) -> Result<(), Fail> {
-    let cutting = Cutting::every(NESTED.len(), 6)?;
-    if cutting.len() < 1 {
-        return Err("a text".into());
-    }
-    let cutting = cutting.without_front(1);
-    assert!(rt; is_other_of_one(&rt, rt.alloc(), NESTED, &cutting)?);
-    Ok(())
 }

@@ -1,6 +1,4 @@
 // Workers that are stopped: what they left is read by the calling thread, and the answer is the same.
-ghost use Rattle.std.specs.Prelude.{◌≡◌, length};
-
 use crate::tests::answers::{LookUp, ToldElement, are_found};
 use crate::tests::calls::{SEQUENCE_CALLS, SequenceCall, TEXT_CALLS, TextCall, is_right, tells};
 use crate::tests::inputs::{
@@ -19,6 +17,40 @@ use std::sync::Wait;
 use std::sync::atomic::{AtomicBool, AtomicU64, Ordering};
 use std::test::Fail;
 use std::thread::Threads;
+
+#[test]
+fn texts_are_answered_alike_where_workers_stop(rt: HostRuntime) -> Result<(), Fail> {
+    for mark in MARKS {
+        check_texts(&rt, rt.alloc(), &TEXTS, mark)?;
+    }
+    Ok(())
+}
+
+#[test]
+fn texts_behind_a_mark_are_answered_alike_where_workers_stop(rt: HostRuntime) -> Result<(), Fail> {
+    check_texts(&rt, rt.alloc(), &MARKED_TEXTS, FrontMark::Ignored)
+}
+
+#[test]
+fn sequences_are_answered_alike_where_workers_stop(rt: HostRuntime) -> Result<(), Fail> {
+    for (mark, marked) in MARKS.iter().zip(&MARKED_SEQUENCES) {
+        for (names, repeated) in RULES.iter().zip(&REPEATED_SEQUENCES) {
+            let settings = settings(Depth::default(), *mark, *names);
+            check_sequences(&rt, rt.alloc(), &SEQUENCES, &settings)?;
+            check_sequences(&rt, rt.alloc(), marked, &settings)?;
+            check_sequences(&rt, rt.alloc(), repeated, &settings)?;
+        }
+    }
+    Ok(())
+}
+
+#[test]
+fn look_ups_are_answered_alike_where_workers_stop(rt: HostRuntime) -> Result<(), Fail> {
+    for count in [1, 2, 5] {
+        check_look_ups(&rt, rt.alloc(), count)?;
+    }
+    Ok(())
+}
 
 /// Stops at the event of this number, counted from 0, and at all later ones.
 #[derive(Drop)]
@@ -114,19 +146,6 @@ fn check_texts<R: Abort + Threads + Wait + Sync>(
     Ok(())
 }
 
-#[test]
-fn texts_whose_workers_stop(rt: HostRuntime) -> Result<(), Fail> {
-    for mark in MARKS {
-        check_texts(&rt, rt.alloc(), &TEXTS, mark)?;
-    }
-    Ok(())
-}
-
-#[test]
-fn texts_behind_a_mark_whose_workers_stop(rt: HostRuntime) -> Result<(), Fail> {
-    check_texts(&rt, rt.alloc(), &MARKED_TEXTS, FrontMark::Ignored)
-}
-
 // The same of a text sequence.
 fn check_sequence<R: Abort + Threads + Wait + Sync>(
     rt: &R,
@@ -172,19 +191,6 @@ fn check_sequences<R: Abort + Threads + Wait + Sync>(
     Ok(())
 }
 
-#[test]
-fn sequences_whose_workers_stop(rt: HostRuntime) -> Result<(), Fail> {
-    for (mark, marked) in MARKS.iter().zip(&MARKED_SEQUENCES) {
-        for (names, repeated) in RULES.iter().zip(&REPEATED_SEQUENCES) {
-            let settings = settings(Depth::default(), *mark, *names);
-            check_sequences(&rt, rt.alloc(), &SEQUENCES, &settings)?;
-            check_sequences(&rt, rt.alloc(), marked, &settings)?;
-            check_sequences(&rt, rt.alloc(), repeated, &settings)?;
-        }
-    }
-    Ok(())
-}
-
 // Look-ups by that many workers, who stop from each event on in turn until a run meets no stop.
 fn check_look_ups<R: Abort + Threads + Wait + Sync>(
     rt: &R,
@@ -222,12 +228,4 @@ fn check_look_ups<R: Abort + Threads + Wait + Sync>(
         }
     }
     Err("a run that meets no stop".into())
-}
-
-#[test]
-fn look_ups_whose_workers_stop(rt: HostRuntime) -> Result<(), Fail> {
-    for count in [1, 2, 5] {
-        check_look_ups(&rt, rt.alloc(), count)?;
-    }
-    Ok(())
 }

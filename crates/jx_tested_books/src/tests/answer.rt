@@ -1,9 +1,9 @@
-// Worked texts, sequences and pointers, cut in many places and answered by several workers.
+// What jx_answer answers on texts, sequences and pointers, which are cut in many places and read by several workers.
+mod byte_order_marks;
 mod cuts;
-mod marks;
 mod meeting;
-mod names;
 mod pointers;
 mod sequences;
+mod several_workers;
 mod texts;
-mod turns;
+mod unique_names;

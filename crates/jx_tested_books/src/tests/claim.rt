@@ -1,3 +1,4 @@
+// Which pieces a text is cut into, and who draws them.
 mod cuttings;
 mod draws;
-mod faults;
+mod fault_words;

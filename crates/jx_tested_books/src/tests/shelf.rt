@@ -1,20 +1,12 @@
+// What is published on a shelf, and who sees it.
 use jx_index::Indexed;
 use jx_lex::Depth;
 use jx_run::{Summary, TextRun, Verdict};
 use jx_shelf::{Shelf, ShelfFault};
-use std::alloc::{AllocError, Global};
+use std::alloc::Global;
 use std::test::Fail;
 use std::thread;
 use std::thread::Threads;
-
-fn index_of<'a>(alloc: Global, text: &'a [u8]) -> Result<Indexed<'a>, Fail> {
-    let run = TextRun::of(alloc, text, 0, text.len(), Depth::default())?;
-    let started = run.started()?;
-    if started.verdict() != Verdict::Accepted {
-        return Err("a text".into());
-    }
-    Ok(Indexed::build(alloc, text, &started)?)
-}
 
 #[test]
 fn the_note_that_published_sees_the_index(rt: HostRuntime) -> Result<(), Fail> {
@@ -56,6 +48,38 @@ fn a_second_index_is_handed_back(rt: HostRuntime) -> Result<(), Fail> {
     Ok(())
 }
 
+#[test]
+fn another_thread_sees_the_index(rt: HostRuntime) -> Result<(), Fail> {
+    let alloc = rt.alloc();
+    let shelf = Shelf::new(alloc);
+    let index = index_of(alloc, b"[10,20]")?;
+    let (published, seen) = rows_seen_there(&rt, &shelf, index);
+    assert!(rt; published);
+    assert_eq!(rt; seen, Some(3));
+    Ok(())
+}
+
+#[test]
+fn faults_are_told_in_words(rt: HostRuntime) -> Result<(), Fail> {
+    let alloc = rt.alloc();
+    let taken = ShelfFault::Taken(index_of(alloc, b"1")?);
+    let text = format!(in alloc; "{taken}")?;
+    assert_eq!(rt; text.as_str(), "another index is on the shelf");
+    let memory = ShelfFault::Memory(index_of(alloc, b"1")?);
+    let text = format!(in alloc; "{memory}")?;
+    assert_eq!(rt; text.as_str(), "out of memory");
+    Ok(())
+}
+
+fn index_of<'a>(alloc: Global, text: &'a [u8]) -> Result<Indexed<'a>, Fail> {
+    let run = TextRun::of(alloc, text, 0, text.len(), Depth::default())?;
+    let started = run.started()?;
+    if started.verdict() != Verdict::Accepted {
+        return Err("a text".into());
+    }
+    Ok(Indexed::build(alloc, text, &started)?)
+}
+
 // Publishes on one thread, and then looks on another with a new note.
 fn rows_seen_there<'a, R: Threads + Sync>(
     rt: &R,
@@ -71,27 +95,4 @@ fn rows_seen_there<'a, R: Threads + Sync>(
         || (),
     );
     (published, seen)
-}
-
-#[test]
-fn another_thread_sees_the_index(rt: HostRuntime) -> Result<(), Fail> {
-    let alloc = rt.alloc();
-    let shelf = Shelf::new(alloc);
-    let index = index_of(alloc, b"[10,20]")?;
-    let (published, seen) = rows_seen_there(&rt, &shelf, index);
-    assert!(rt; published);
-    assert_eq!(rt; seen, Some(3));
-    Ok(())
-}
-
-#[test]
-fn words_of_faults(rt: HostRuntime) -> Result<(), Fail> {
-    let alloc = rt.alloc();
-    let taken = ShelfFault::Taken(index_of(alloc, b"1")?);
-    let text = format!(in alloc; "{taken}")?;
-    assert_eq!(rt; text.as_str(), "another index is on the shelf");
-    let memory = ShelfFault::Memory(index_of(alloc, b"1")?);
-    let text = format!(in alloc; "{memory}")?;
-    assert_eq!(rt; text.as_str(), "out of memory");
-    Ok(())
 }

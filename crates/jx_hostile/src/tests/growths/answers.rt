@@ -16,6 +16,85 @@ use std::sync::Wait;
 use std::test::Fail;
 use std::thread::Threads;
 
+#[test]
+fn nested_arrays_by_one_worker_under_a_refused_growth(rt: HostRuntime) -> Result<(), Fail> {
+    check(&rt, rt.alloc(), &NESTED_ARRAYS, 1)
+}
+
+#[test]
+fn nested_arrays_by_two_workers_under_a_refused_growth(rt: HostRuntime) -> Result<(), Fail> {
+    check(&rt, rt.alloc(), &NESTED_ARRAYS, 2)
+}
+
+#[test]
+fn five_rows_by_one_worker_under_a_refused_growth(rt: HostRuntime) -> Result<(), Fail> {
+    check(&rt, rt.alloc(), &FIVE, 1)
+}
+
+#[test]
+fn five_rows_by_two_workers_under_a_refused_growth(rt: HostRuntime) -> Result<(), Fail> {
+    check(&rt, rt.alloc(), &FIVE, 2)
+}
+
+#[test]
+fn a_repeated_name_by_one_worker_under_a_refused_growth(rt: HostRuntime) -> Result<(), Fail> {
+    check(&rt, rt.alloc(), &REPEATED_NAME, 1)
+}
+
+#[test]
+fn a_repeated_name_by_two_workers_under_a_refused_growth(rt: HostRuntime) -> Result<(), Fail> {
+    check(&rt, rt.alloc(), &REPEATED_NAME, 2)
+}
+
+#[test]
+fn names_out_of_order_by_one_worker_under_a_refused_growth(rt: HostRuntime) -> Result<(), Fail> {
+    check(&rt, rt.alloc(), &UNSORTED_NAMES, 1)
+}
+
+#[test]
+fn names_out_of_order_by_two_workers_under_a_refused_growth(rt: HostRuntime) -> Result<(), Fail> {
+    check(&rt, rt.alloc(), &UNSORTED_NAMES, 2)
+}
+
+#[test]
+fn five_rows_behind_a_mark_under_a_refused_growth(rt: HostRuntime) -> Result<(), Fail> {
+    check_marked(&rt, rt.alloc(), &MARKED_FIVE, NameRule::Any, 1)
+}
+
+#[test]
+fn unique_names_by_one_worker_under_a_refused_growth(rt: HostRuntime) -> Result<(), Fail> {
+    check_marked(&rt, rt.alloc(), &MARKED_REPEATED, NameRule::Unique, 1)
+}
+
+#[test]
+fn unique_names_by_two_workers_under_a_refused_growth(rt: HostRuntime) -> Result<(), Fail> {
+    check_marked(&rt, rt.alloc(), &MARKED_REPEATED, NameRule::Unique, 2)
+}
+
+#[test]
+fn a_sequence_by_one_worker_under_a_refused_growth(rt: HostRuntime) -> Result<(), Fail> {
+    check_plain_sequence(&rt, rt.alloc(), 1)?;
+    let settings = settings(Depth::default(), FrontMark::Refused, NameRule::Any);
+    check_sequence(&rt, rt.alloc(), CUT_SEQUENCE, &settings, 1)
+}
+
+#[test]
+fn a_sequence_by_two_workers_under_a_refused_growth(rt: HostRuntime) -> Result<(), Fail> {
+    check_plain_sequence(&rt, rt.alloc(), 2)?;
+    let settings = settings(Depth::default(), FrontMark::Refused, NameRule::Any);
+    check_sequence(&rt, rt.alloc(), CUT_SEQUENCE, &settings, 2)
+}
+
+#[test]
+fn settled_sequences_by_one_worker_under_a_refused_growth(rt: HostRuntime) -> Result<(), Fail> {
+    check_settled_sequences(&rt, rt.alloc(), 1)
+}
+
+#[test]
+fn settled_sequences_by_two_workers_under_a_refused_growth(rt: HostRuntime) -> Result<(), Fail> {
+    check_settled_sequences(&rt, rt.alloc(), 2)
+}
+
 // A call on a text in pieces of a byte.
 fn check_call<R: Abort + Threads + Wait + Sync>(
     rt: &R,
@@ -121,61 +200,6 @@ fn check_settled_sequences<R: Abort + Threads + Wait + Sync>(
     check_sequence(rt, alloc, number, &settings, count)
 }
 
-#[test]
-fn nested_arrays_by_one_worker_under_a_refused_growth(rt: HostRuntime) -> Result<(), Fail> {
-    check(&rt, rt.alloc(), &NESTED_ARRAYS, 1)
-}
-
-#[test]
-fn nested_arrays_by_two_workers_under_a_refused_growth(rt: HostRuntime) -> Result<(), Fail> {
-    check(&rt, rt.alloc(), &NESTED_ARRAYS, 2)
-}
-
-#[test]
-fn five_rows_by_one_worker_under_a_refused_growth(rt: HostRuntime) -> Result<(), Fail> {
-    check(&rt, rt.alloc(), &FIVE, 1)
-}
-
-#[test]
-fn five_rows_by_two_workers_under_a_refused_growth(rt: HostRuntime) -> Result<(), Fail> {
-    check(&rt, rt.alloc(), &FIVE, 2)
-}
-
-#[test]
-fn a_repeated_name_by_one_worker_under_a_refused_growth(rt: HostRuntime) -> Result<(), Fail> {
-    check(&rt, rt.alloc(), &REPEATED_NAME, 1)
-}
-
-#[test]
-fn a_repeated_name_by_two_workers_under_a_refused_growth(rt: HostRuntime) -> Result<(), Fail> {
-    check(&rt, rt.alloc(), &REPEATED_NAME, 2)
-}
-
-#[test]
-fn names_out_of_order_by_one_worker_under_a_refused_growth(rt: HostRuntime) -> Result<(), Fail> {
-    check(&rt, rt.alloc(), &UNSORTED_NAMES, 1)
-}
-
-#[test]
-fn names_out_of_order_by_two_workers_under_a_refused_growth(rt: HostRuntime) -> Result<(), Fail> {
-    check(&rt, rt.alloc(), &UNSORTED_NAMES, 2)
-}
-
-#[test]
-fn five_rows_behind_a_mark_under_a_refused_growth(rt: HostRuntime) -> Result<(), Fail> {
-    check_marked(&rt, rt.alloc(), &MARKED_FIVE, NameRule::Any, 1)
-}
-
-#[test]
-fn unique_names_by_one_worker_under_a_refused_growth(rt: HostRuntime) -> Result<(), Fail> {
-    check_marked(&rt, rt.alloc(), &MARKED_REPEATED, NameRule::Unique, 1)
-}
-
-#[test]
-fn unique_names_by_two_workers_under_a_refused_growth(rt: HostRuntime) -> Result<(), Fail> {
-    check_marked(&rt, rt.alloc(), &MARKED_REPEATED, NameRule::Unique, 2)
-}
-
 // The call without settings on the cut sequence.
 fn check_plain_sequence<R: Abort + Threads + Wait + Sync>(
     rt: &R,
@@ -190,28 +214,4 @@ fn check_plain_sequence<R: Abort + Threads + Wait + Sync>(
         Err(fault) => assert_eq!(rt; fault, Fault::Memory),
     }
     Ok(())
-}
-
-#[test]
-fn a_sequence_by_one_worker_under_a_refused_growth(rt: HostRuntime) -> Result<(), Fail> {
-    check_plain_sequence(&rt, rt.alloc(), 1)?;
-    let settings = settings(Depth::default(), FrontMark::Refused, NameRule::Any);
-    check_sequence(&rt, rt.alloc(), CUT_SEQUENCE, &settings, 1)
-}
-
-#[test]
-fn a_sequence_by_two_workers_under_a_refused_growth(rt: HostRuntime) -> Result<(), Fail> {
-    check_plain_sequence(&rt, rt.alloc(), 2)?;
-    let settings = settings(Depth::default(), FrontMark::Refused, NameRule::Any);
-    check_sequence(&rt, rt.alloc(), CUT_SEQUENCE, &settings, 2)
-}
-
-#[test]
-fn settled_sequences_by_one_worker_under_a_refused_growth(rt: HostRuntime) -> Result<(), Fail> {
-    check_settled_sequences(&rt, rt.alloc(), 1)
-}
-
-#[test]
-fn settled_sequences_by_two_workers_under_a_refused_growth(rt: HostRuntime) -> Result<(), Fail> {
-    check_settled_sequences(&rt, rt.alloc(), 2)
 }

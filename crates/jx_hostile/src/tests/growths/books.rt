@@ -17,6 +17,82 @@ use std::sync::Wait;
 use std::sync::ledger::{Blank, Ledger};
 use std::test::Fail;
 
+#[test]
+fn held_runs_of_nested_arrays_under_a_refused_growth(rt: HostRuntime) -> Result<(), Fail> {
+    check_joins::<TextRun, _>(&rt, rt.alloc(), NESTED)
+}
+
+#[test]
+fn held_runs_of_five_rows_under_a_refused_growth(rt: HostRuntime) -> Result<(), Fail> {
+    check_joins::<OutcomeRun, _>(&rt, rt.alloc(), FIVE_ROWS)
+}
+
+#[test]
+fn held_runs_of_a_repeated_name_under_a_refused_growth(rt: HostRuntime) -> Result<(), Fail> {
+    check_joins::<OutcomeRun, _>(&rt, rt.alloc(), REPEATED)
+}
+
+#[test]
+fn held_runs_of_names_out_of_order_under_a_refused_growth(rt: HostRuntime) -> Result<(), Fail> {
+    check_joins::<OutcomeRun, _>(&rt, rt.alloc(), UNSORTED)
+}
+
+#[test]
+fn held_runs_of_a_sequence_under_a_refused_growth(rt: HostRuntime) -> Result<(), Fail> {
+    check_joins::<SeqRun, _>(&rt, rt.alloc(), SEQUENCE)
+}
+
+#[test]
+fn states_of_a_book_under_a_refused_growth(rt: HostRuntime) -> Result<(), Fail> {
+    for text in [NESTED, FIVE_ROWS, REPEATED, UNSORTED] {
+        check_state::<OutcomeRun, _>(&rt, rt.alloc(), text)?;
+    }
+    Ok(())
+}
+
+#[test]
+fn states_of_a_sequence_under_a_refused_growth(rt: HostRuntime) -> Result<(), Fail> {
+    check_state::<SeqRun, _>(&rt, rt.alloc(), SEQUENCE)
+}
+
+#[test]
+fn puts_under_a_refused_growth(rt: HostRuntime) -> Result<(), Fail> {
+    for text in [NESTED, FIVE_ROWS, REPEATED, UNSORTED] {
+        check_puts::<OutcomeRun, _>(&rt, rt.alloc(), text)?;
+    }
+    Ok(())
+}
+
+#[test]
+fn puts_of_a_sequence_under_a_refused_growth(rt: HostRuntime) -> Result<(), Fail> {
+    check_puts::<SeqRun, _>(&rt, rt.alloc(), SEQUENCE)
+}
+
+#[test]
+fn a_worker_on_nested_arrays_under_a_refused_growth(rt: HostRuntime) -> Result<(), Fail> {
+    check::<TextRun, _>(&rt, rt.alloc(), NESTED)
+}
+
+#[test]
+fn a_worker_on_five_rows_under_a_refused_growth(rt: HostRuntime) -> Result<(), Fail> {
+    check::<OutcomeRun, _>(&rt, rt.alloc(), FIVE_ROWS)
+}
+
+#[test]
+fn a_worker_on_a_repeated_name_under_a_refused_growth(rt: HostRuntime) -> Result<(), Fail> {
+    check::<OutcomeRun, _>(&rt, rt.alloc(), REPEATED)
+}
+
+#[test]
+fn a_worker_on_names_out_of_order_under_a_refused_growth(rt: HostRuntime) -> Result<(), Fail> {
+    check::<OutcomeRun, _>(&rt, rt.alloc(), UNSORTED)
+}
+
+#[test]
+fn a_worker_on_a_sequence_under_a_refused_growth(rt: HostRuntime) -> Result<(), Fail> {
+    check::<SeqRun, _>(&rt, rt.alloc(), SEQUENCE)
+}
+
 /// The run of a part, asked for twice where it is refused.
 fn run_of<S: Likeness>(
     alloc: Global,
@@ -73,31 +149,6 @@ fn check_joins<S: Likeness, R: Abort>(rt: &R, alloc: Global, text: &[u8]) -> Res
     Ok(())
 }
 
-#[test]
-fn held_runs_of_nested_arrays_under_a_refused_growth(rt: HostRuntime) -> Result<(), Fail> {
-    check_joins::<TextRun, _>(&rt, rt.alloc(), NESTED)
-}
-
-#[test]
-fn held_runs_of_five_rows_under_a_refused_growth(rt: HostRuntime) -> Result<(), Fail> {
-    check_joins::<OutcomeRun, _>(&rt, rt.alloc(), FIVE_ROWS)
-}
-
-#[test]
-fn held_runs_of_a_repeated_name_under_a_refused_growth(rt: HostRuntime) -> Result<(), Fail> {
-    check_joins::<OutcomeRun, _>(&rt, rt.alloc(), REPEATED)
-}
-
-#[test]
-fn held_runs_of_names_out_of_order_under_a_refused_growth(rt: HostRuntime) -> Result<(), Fail> {
-    check_joins::<OutcomeRun, _>(&rt, rt.alloc(), UNSORTED)
-}
-
-#[test]
-fn held_runs_of_a_sequence_under_a_refused_growth(rt: HostRuntime) -> Result<(), Fail> {
-    check_joins::<SeqRun, _>(&rt, rt.alloc(), SEQUENCE)
-}
-
 // Whether these are runs of so many bytes of a text, every second one, each as it was read.
 fn are_every_second<S: Likeness>(alloc: Global, runs: &[Held<'_, S>], count: usize) -> bool {
     runs.len() == count
@@ -148,19 +199,6 @@ fn check_state<S: Likeness, R: Abort>(rt: &R, alloc: Global, text: &[u8]) -> Res
     }
     assert!(rt; are_every_second(alloc, state.runs(), count), "{text:?}");
     Ok(())
-}
-
-#[test]
-fn states_of_a_book_under_a_refused_growth(rt: HostRuntime) -> Result<(), Fail> {
-    for text in [NESTED, FIVE_ROWS, REPEATED, UNSORTED] {
-        check_state::<OutcomeRun, _>(&rt, rt.alloc(), text)?;
-    }
-    Ok(())
-}
-
-#[test]
-fn states_of_a_sequence_under_a_refused_growth(rt: HostRuntime) -> Result<(), Fail> {
-    check_state::<SeqRun, _>(&rt, rt.alloc(), SEQUENCE)
 }
 
 /// The join of two neighbours, where it is one that is not empty.
@@ -269,19 +307,6 @@ fn check_puts<S: Likeness, R: Abort + Wait>(
     };
     assert!(rt; put, "{text:?}");
     Ok(())
-}
-
-#[test]
-fn puts_under_a_refused_growth(rt: HostRuntime) -> Result<(), Fail> {
-    for text in [NESTED, FIVE_ROWS, REPEATED, UNSORTED] {
-        check_puts::<OutcomeRun, _>(&rt, rt.alloc(), text)?;
-    }
-    Ok(())
-}
-
-#[test]
-fn puts_of_a_sequence_under_a_refused_growth(rt: HostRuntime) -> Result<(), Fail> {
-    check_puts::<SeqRun, _>(&rt, rt.alloc(), SEQUENCE)
 }
 
 /// Whether the run stands in the book then. Where its left neighbour may stand there, both are joined first.
@@ -482,29 +507,4 @@ fn check<S: Likeness, R: Abort + Wait>(rt: &R, alloc: Global, text: &[u8]) -> Re
     };
     assert!(rt; read, "{text:?}");
     Ok(())
-}
-
-#[test]
-fn a_worker_on_nested_arrays_under_a_refused_growth(rt: HostRuntime) -> Result<(), Fail> {
-    check::<TextRun, _>(&rt, rt.alloc(), NESTED)
-}
-
-#[test]
-fn a_worker_on_five_rows_under_a_refused_growth(rt: HostRuntime) -> Result<(), Fail> {
-    check::<OutcomeRun, _>(&rt, rt.alloc(), FIVE_ROWS)
-}
-
-#[test]
-fn a_worker_on_a_repeated_name_under_a_refused_growth(rt: HostRuntime) -> Result<(), Fail> {
-    check::<OutcomeRun, _>(&rt, rt.alloc(), REPEATED)
-}
-
-#[test]
-fn a_worker_on_names_out_of_order_under_a_refused_growth(rt: HostRuntime) -> Result<(), Fail> {
-    check::<OutcomeRun, _>(&rt, rt.alloc(), UNSORTED)
-}
-
-#[test]
-fn a_worker_on_a_sequence_under_a_refused_growth(rt: HostRuntime) -> Result<(), Fail> {
-    check::<SeqRun, _>(&rt, rt.alloc(), SEQUENCE)
 }

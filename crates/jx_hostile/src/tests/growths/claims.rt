@@ -3,14 +3,6 @@ use jx_claim::{ClaimSeat, Claims, CutFault, Cutting, PieceNo, Workers};
 use std::alloc::{AllocError, Global};
 use std::test::Fail;
 
-// Claims on five pieces, asked for twice where they are refused.
-fn claims_on_five(alloc: Global, workers: Workers) -> Result<(Claims, Vec<ClaimSeat>), AllocError> {
-    match Claims::open(alloc, 5, workers) {
-        Ok(opened) => Ok(opened),
-        Err(_) => Claims::open(alloc, 5, workers),
-    }
-}
-
 #[test]
 fn claims_under_a_refused_growth(rt: HostRuntime) -> Result<(), Fail> {
     let workers = Workers::new(3).ok_or("workers")?;
@@ -21,14 +13,6 @@ fn claims_under_a_refused_growth(rt: HostRuntime) -> Result<(), Fail> {
         assert!(rt; !seat.spent());
     }
     Ok(())
-}
-
-// A cutting at these offsets, asked for twice where it is refused.
-fn cutting_at(alloc: Global, len: usize, cuts: &[usize]) -> Result<Cutting, CutFault> {
-    match Cutting::at(alloc, len, cuts) {
-        Err(CutFault::Memory) => Cutting::at(alloc, len, cuts),
-        answer => answer,
-    }
 }
 
 #[test]
@@ -42,4 +26,20 @@ fn cuttings_under_a_refused_growth(rt: HostRuntime) -> Result<(), Fail> {
         assert_eq!(rt; (place.start, place.end), *want);
     }
     Ok(())
+}
+
+// Claims on five pieces, asked for twice where they are refused.
+fn claims_on_five(alloc: Global, workers: Workers) -> Result<(Claims, Vec<ClaimSeat>), AllocError> {
+    match Claims::open(alloc, 5, workers) {
+        Ok(opened) => Ok(opened),
+        Err(_) => Claims::open(alloc, 5, workers),
+    }
+}
+
+// A cutting at these offsets, asked for twice where it is refused.
+fn cutting_at(alloc: Global, len: usize, cuts: &[usize]) -> Result<Cutting, CutFault> {
+    match Cutting::at(alloc, len, cuts) {
+        Err(CutFault::Memory) => Cutting::at(alloc, len, cuts),
+        answer => answer,
+    }
 }

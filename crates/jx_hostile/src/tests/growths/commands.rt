@@ -7,36 +7,11 @@ use jx_run::{FrontMark, NameRule};
 use std::alloc::Global;
 use std::test::Fail;
 
-// What these words ask for, asked for twice where memory is refused.
-fn named<'a>(alloc: Global, words: &'a [&'a str]) -> Result<Request<'a>, ArgFault> {
-    match command_of(alloc, words) {
-        Err(ArgFault::Memory) => command_of(alloc, words),
-        answer => answer,
-    }
-}
-
 #[test]
 fn a_wrong_word_under_a_refused_growth(rt: HostRuntime) -> Result<(), Fail> {
     let words = ["jx", "chek"];
     assert!(rt; matches!(named(rt.alloc(), &words), Err(ArgFault::Clap(_))));
     Ok(())
-}
-
-// Whether these are the pointers, in order.
-fn are_spelt(pointers: &[String], words: &[&str]) -> bool {
-    pointers.len() == words.len()
-        && pointers
-            .iter()
-            .zip(words)
-            .all(|(pointer, word)| pointer.as_str() == *word)
-}
-
-// Whether a command has no options but those of files.
-fn is_plain(command: &Command) -> bool {
-    command.settings == settings(Depth::default(), FrontMark::Refused, NameRule::Any)
-        && command.workers.count() == 4
-        && command.piece == 65536
-        && !command.quiet
 }
 
 #[test]
@@ -115,4 +90,29 @@ fn all_options_under_a_refused_growth(rt: HostRuntime) -> Result<(), Fail> {
     assert_eq!(rt; request.file, Some("F"));
     assert!(rt; request.pointers.is_none());
     Ok(())
+}
+
+// What these words ask for, asked for twice where memory is refused.
+fn named<'a>(alloc: Global, words: &'a [&'a str]) -> Result<Request<'a>, ArgFault> {
+    match command_of(alloc, words) {
+        Err(ArgFault::Memory) => command_of(alloc, words),
+        answer => answer,
+    }
+}
+
+// Whether these are the pointers, in order.
+fn are_spelt(pointers: &[String], words: &[&str]) -> bool {
+    pointers.len() == words.len()
+        && pointers
+            .iter()
+            .zip(words)
+            .all(|(pointer, word)| pointer.as_str() == *word)
+}
+
+// Whether a command has no options but those of files.
+fn is_plain(command: &Command) -> bool {
+    command.settings == settings(Depth::default(), FrontMark::Refused, NameRule::Any)
+        && command.workers.count() == 4
+        && command.piece == 65536
+        && !command.quiet
 }

@@ -13,6 +13,36 @@ use std::process::Abort;
 use std::test::Fail;
 use std::thread::Threads;
 
+#[test]
+fn an_index_of_nested_arrays_under_a_refused_growth(rt: HostRuntime) -> Result<(), Fail> {
+    check(&rt, rt.alloc(), NESTED_ARRAYS)
+}
+
+#[test]
+fn an_index_of_five_rows_under_a_refused_growth(rt: HostRuntime) -> Result<(), Fail> {
+    check(&rt, rt.alloc(), FIVE)
+}
+
+#[test]
+fn an_index_of_a_repeated_name_under_a_refused_growth(rt: HostRuntime) -> Result<(), Fail> {
+    check(&rt, rt.alloc(), REPEATED_NAME)
+}
+
+#[test]
+fn an_index_of_names_out_of_order_under_a_refused_growth(rt: HostRuntime) -> Result<(), Fail> {
+    check(&rt, rt.alloc(), UNSORTED_NAMES)
+}
+
+#[test]
+fn look_ups_by_one_worker_under_a_refused_growth(rt: HostRuntime) -> Result<(), Fail> {
+    check_all_look_ups(&rt, rt.alloc(), 1)
+}
+
+#[test]
+fn look_ups_by_two_workers_under_a_refused_growth(rt: HostRuntime) -> Result<(), Fail> {
+    check_all_look_ups(&rt, rt.alloc(), 2)
+}
+
 // The index of a text, each step of which is asked for twice where it is refused.
 fn index_of(alloc: Global, text: &[u8]) -> Result<Option<Indexed<'_>>, AllocError> {
     let depth = Depth::default();
@@ -59,26 +89,6 @@ fn check<R: Abort>(rt: &R, alloc: Global, worked: Worked) -> Result<(), Fail> {
     let shown = shelf.look(&mut note).ok_or("an index")?;
     assert!(rt; is_index_of(shown, &worked), "{worked:?}");
     Ok(())
-}
-
-#[test]
-fn an_index_of_nested_arrays_under_a_refused_growth(rt: HostRuntime) -> Result<(), Fail> {
-    check(&rt, rt.alloc(), NESTED_ARRAYS)
-}
-
-#[test]
-fn an_index_of_five_rows_under_a_refused_growth(rt: HostRuntime) -> Result<(), Fail> {
-    check(&rt, rt.alloc(), FIVE)
-}
-
-#[test]
-fn an_index_of_a_repeated_name_under_a_refused_growth(rt: HostRuntime) -> Result<(), Fail> {
-    check(&rt, rt.alloc(), REPEATED_NAME)
-}
-
-#[test]
-fn an_index_of_names_out_of_order_under_a_refused_growth(rt: HostRuntime) -> Result<(), Fail> {
-    check(&rt, rt.alloc(), UNSORTED_NAMES)
 }
 
 // Three pointers into a text, with what they come to: by that many workers.
@@ -134,14 +144,4 @@ fn check_all_look_ups<R: Abort + Threads + Sync>(
     let value = Ok((2, Kind::Number, (11, 12)));
     let (spelt, want) = (["/a", "/b", "/a/x"], [value, repeated, scalar]);
     check_look_ups(rt, alloc, UNSORTED_NAMES, spelt, want, count)
-}
-
-#[test]
-fn look_ups_by_one_worker_under_a_refused_growth(rt: HostRuntime) -> Result<(), Fail> {
-    check_all_look_ups(&rt, rt.alloc(), 1)
-}
-
-#[test]
-fn look_ups_by_two_workers_under_a_refused_growth(rt: HostRuntime) -> Result<(), Fail> {
-    check_all_look_ups(&rt, rt.alloc(), 2)
 }

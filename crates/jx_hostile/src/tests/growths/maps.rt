@@ -7,6 +7,31 @@ use std::alloc::{AllocError, Global};
 use std::process::Abort;
 use std::test::Fail;
 
+#[test]
+fn chunk_maps_of_nested_arrays_under_a_refused_growth(rt: HostRuntime) -> Result<(), Fail> {
+    check(&rt, rt.alloc(), NESTED)
+}
+
+#[test]
+fn chunk_maps_of_five_rows_under_a_refused_growth(rt: HostRuntime) -> Result<(), Fail> {
+    check(&rt, rt.alloc(), FIVE_ROWS)
+}
+
+#[test]
+fn chunk_maps_of_a_repeated_name_under_a_refused_growth(rt: HostRuntime) -> Result<(), Fail> {
+    check(&rt, rt.alloc(), REPEATED)
+}
+
+#[test]
+fn chunk_maps_of_names_out_of_order_under_a_refused_growth(rt: HostRuntime) -> Result<(), Fail> {
+    check(&rt, rt.alloc(), UNSORTED)
+}
+
+#[test]
+fn chunk_maps_of_a_sequence_under_a_refused_growth(rt: HostRuntime) -> Result<(), Fail> {
+    check(&rt, rt.alloc(), SEQUENCE)
+}
+
 // Whether a view shows what reading these bytes one by one gives. It takes no memory.
 fn is_plain(view: &TrackView<'_>, from: LexState, bytes: &[u8], start: usize) -> bool {
     let mut marks = view.marks();
@@ -84,29 +109,4 @@ fn check<R: Abort>(rt: &R, alloc: Global, text: &[u8]) -> Result<(), Fail> {
         assert!(rt; is_right(&map, text), "{text:?} cut at {cut}");
     }
     Ok(())
-}
-
-#[test]
-fn chunk_maps_of_nested_arrays_under_a_refused_growth(rt: HostRuntime) -> Result<(), Fail> {
-    check(&rt, rt.alloc(), NESTED)
-}
-
-#[test]
-fn chunk_maps_of_five_rows_under_a_refused_growth(rt: HostRuntime) -> Result<(), Fail> {
-    check(&rt, rt.alloc(), FIVE_ROWS)
-}
-
-#[test]
-fn chunk_maps_of_a_repeated_name_under_a_refused_growth(rt: HostRuntime) -> Result<(), Fail> {
-    check(&rt, rt.alloc(), REPEATED)
-}
-
-#[test]
-fn chunk_maps_of_names_out_of_order_under_a_refused_growth(rt: HostRuntime) -> Result<(), Fail> {
-    check(&rt, rt.alloc(), UNSORTED)
-}
-
-#[test]
-fn chunk_maps_of_a_sequence_under_a_refused_growth(rt: HostRuntime) -> Result<(), Fail> {
-    check(&rt, rt.alloc(), SEQUENCE)
 }

@@ -1,6 +1,5 @@
 // Runs of texts and of sequences under refused growths.
-ghost use Rattle.std.specs.Prelude.{◌≡◌, ◌≤◌, IfOk, IfSome, length};
-ghost use Rattle.jx_run.specs.OutcomeRun.{outcome_span};
+ghost use Rattle.std.specs.Prelude.{◌≡◌, ◌≤◌, IfOk, length};
 
 use crate::tests::inputs::{FIVE_ROWS, NESTED, REPEATED, SEQUENCE, UNSORTED};
 use crate::tests::likeness::{Likeness, is_as_read};
@@ -9,67 +8,6 @@ use jx_run::{OutcomeRun, Reader, Refusal, SeqRun, Shape, Summary, TextRun, Verdi
 use std::alloc::{AllocError, Global};
 use std::process::Abort;
 use std::test::Fail;
-
-/// The run of a part, asked for twice where it is refused.
-fn run_of<S: Summary>(alloc: Global, text: &[u8], start: usize, end: usize) -> Result<S, AllocError>
-    requires { (start ≤ end) × (end ≤ length text.now) }
-    ensures span { IfOk result (λ r. S.span r ≡ record { start = start; end = end }) }
-    ensures depth { IfOk result (λ r. S.depth r ≡ 512) }
-{
-    match S::of(alloc, text, start, end, Depth::default()) {
-        Ok(run) => Ok(run),
-        Err(_) => S::of(alloc, text, start, end, Depth::default()),
-    }
-}
-
-/// The join of two runs over a text. Where it is refused, both sides have to be as they were, and are joined again.
-fn joined<S: Likeness>(alloc: Global, text: &[u8], left: S, right: S) -> Option<S>
-    requires neighbours { (S.span left).end ≡ (S.span right).start }
-    requires depth { S.depth left ≡ S.depth right }
-{
-    let spans = (left.span(), right.span());
-    match left.join(right) {
-        Ok(run) => Some(run),
-        Err(JoinFault { left, right }) => {
-            if (left.span(), right.span()) != spans
-                || !is_as_read(alloc, text, &left)
-                || !is_as_read(alloc, text, &right)
-            {
-                return None;
-            }
-            left.join(right).ok()
-        }
-    }
-}
-
-// Runs over both sides of each cut of an accepted text, and their join.
-fn check_text<R: Abort>(rt: &R, alloc: Global, text: &[u8]) -> Result<(), Fail> {
-    for cut in 0..text.len() {
-        let left = run_of::<TextRun>(alloc, text, 0, cut)?;
-        let right = run_of::<TextRun>(alloc, text, cut, text.len())?;
-        let run = joined(alloc, text, left, right).ok_or("two sides as they were, and a join")?;
-        assert!(rt; is_as_read(alloc, text, &run), "{text:?} cut at {cut}");
-        assert_eq!(rt; run.verdict(), Verdict::Accepted, "{text:?} cut at {cut}");
-        let started = match run.started() {
-            Ok(started) => started,
-            Err(_) => run.started()?,
-        };
-        assert_eq!(rt; started.verdict(), Verdict::Accepted);
-    }
-    Ok(())
-}
-
-// The same without marks.
-fn check_outcomes<R: Abort>(rt: &R, alloc: Global, text: &[u8]) -> Result<(), Fail> {
-    for cut in 0..text.len() {
-        let left = run_of::<OutcomeRun>(alloc, text, 0, cut)?;
-        let right = run_of::<OutcomeRun>(alloc, text, cut, text.len())?;
-        let run = joined(alloc, text, left, right).ok_or("two sides as they were, and a join")?;
-        assert!(rt; is_as_read(alloc, text, &run), "{text:?} cut at {cut}");
-        assert_eq!(rt; run.verdict(), Verdict::Accepted, "{text:?} cut at {cut}");
-    }
-    Ok(())
-}
 
 #[test]
 fn text_runs_of_nested_arrays_under_a_refused_growth(rt: HostRuntime) -> Result<(), Fail> {
@@ -136,16 +74,6 @@ fn sequence_runs_under_a_refused_growth(rt: HostRuntime) -> Result<(), Fail> {
     Ok(())
 }
 
-// Feeds a text by slices of so many bytes, and gives the verdict.
-fn fed(reader: &mut Reader, text: &[u8], size: usize) -> Result<Verdict, AllocError> {
-    for slice in text.chunks(size.max(1)) {
-        if reader.end() < 1_000_000 && slice.len() < 1_000_000 {
-            reader.feed(slice)?;
-        }
-    }
-    Ok(reader.verdict())
-}
-
 #[test]
 fn readers_under_a_refused_growth(rt: HostRuntime) -> Result<(), Fail> {
     let mut text = [b'['; 201];
@@ -162,4 +90,75 @@ fn readers_under_a_refused_growth(rt: HostRuntime) -> Result<(), Fail> {
         assert_eq!(rt; verdict, Verdict::Refused(Refusal::Stopped { at: 200 }));
     }
     Ok(())
+}
+
+/// The run of a part, asked for twice where it is refused.
+fn run_of<S: Summary>(alloc: Global, text: &[u8], start: usize, end: usize) -> Result<S, AllocError>
+    requires { (start ≤ end) × (end ≤ length text.now) }
+    ensures span { IfOk result (λ r. S.span r ≡ record { start = start; end = end }) }
+    ensures depth { IfOk result (λ r. S.depth r ≡ 512) }
+{
+    match S::of(alloc, text, start, end, Depth::default()) {
+        Ok(run) => Ok(run),
+        Err(_) => S::of(alloc, text, start, end, Depth::default()),
+    }
+}
+
+/// The join of two runs over a text. Where it is refused, both sides have to be as they were, and are joined again.
+fn joined<S: Likeness>(alloc: Global, text: &[u8], left: S, right: S) -> Option<S>
+    requires neighbours { (S.span left).end ≡ (S.span right).start }
+    requires depth { S.depth left ≡ S.depth right }
+{
+    let spans = (left.span(), right.span());
+    match left.join(right) {
+        Ok(run) => Some(run),
+        Err(JoinFault { left, right }) => {
+            if (left.span(), right.span()) != spans
+                || !is_as_read(alloc, text, &left)
+                || !is_as_read(alloc, text, &right)
+            {
+                return None;
+            }
+            left.join(right).ok()
+        }
+    }
+}
+
+// Runs over both sides of each cut of an accepted text, and their join.
+fn check_text<R: Abort>(rt: &R, alloc: Global, text: &[u8]) -> Result<(), Fail> {
+    for cut in 0..text.len() {
+        let left = run_of::<TextRun>(alloc, text, 0, cut)?;
+        let right = run_of::<TextRun>(alloc, text, cut, text.len())?;
+        let run = joined(alloc, text, left, right).ok_or("two sides as they were, and a join")?;
+        assert!(rt; is_as_read(alloc, text, &run), "{text:?} cut at {cut}");
+        assert_eq!(rt; run.verdict(), Verdict::Accepted, "{text:?} cut at {cut}");
+        let started = match run.started() {
+            Ok(started) => started,
+            Err(_) => run.started()?,
+        };
+        assert_eq!(rt; started.verdict(), Verdict::Accepted);
+    }
+    Ok(())
+}
+
+// The same without marks.
+fn check_outcomes<R: Abort>(rt: &R, alloc: Global, text: &[u8]) -> Result<(), Fail> {
+    for cut in 0..text.len() {
+        let left = run_of::<OutcomeRun>(alloc, text, 0, cut)?;
+        let right = run_of::<OutcomeRun>(alloc, text, cut, text.len())?;
+        let run = joined(alloc, text, left, right).ok_or("two sides as they were, and a join")?;
+        assert!(rt; is_as_read(alloc, text, &run), "{text:?} cut at {cut}");
+        assert_eq!(rt; run.verdict(), Verdict::Accepted, "{text:?} cut at {cut}");
+    }
+    Ok(())
+}
+
+// Feeds a text by slices of so many bytes, and gives the verdict.
+fn fed(reader: &mut Reader, text: &[u8], size: usize) -> Result<Verdict, AllocError> {
+    for slice in text.chunks(size.max(1)) {
+        if reader.end() < 1_000_000 && slice.len() < 1_000_000 {
+            reader.feed(slice)?;
+        }
+    }
+    Ok(reader.verdict())
 }

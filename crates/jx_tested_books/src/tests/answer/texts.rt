@@ -12,6 +12,70 @@ use std::sync::Wait;
 use std::test::Fail;
 use std::thread::Threads;
 
+#[test]
+fn a_scalar_is_one_row(rt: HostRuntime) -> Result<(), Fail> {
+    let alloc = rt.alloc();
+    check(&rt, alloc, b"null", &[], 0, Ok(&[root(Kind::Null, 4)]))?;
+    check(&rt, alloc, b"12", &[1], 512, Ok(&[root(Kind::Number, 2)]))?;
+    let string = [root(Kind::String, 4)];
+    check(&rt, alloc, b"\x22\xC3\xA9\x22", &[2], 512, Ok(&string))?;
+    let string = [root(Kind::String, 8)];
+    check(&rt, alloc, b"\"\\u0041\"", &[4], 512, Ok(&string))
+}
+
+// Where the nested text of the tests is cut after every byte.
+const EVERY: [usize; 16] = [1, 2, 3, 4, 5, 6, 7, 8, 9, 10, 11, 12, 13, 14, 15, 16];
+
+#[test]
+fn containers_are_rows_with_their_parents(rt: HostRuntime) -> Result<(), Fail> {
+    let alloc = rt.alloc();
+    let arrays = [
+        root(Kind::Array, 6),
+        child(Kind::Array, at(1, 5), 0, 0, None),
+        child(Kind::Array, at(2, 4), 1, 0, None),
+    ];
+    check(&rt, alloc, b"[[[]]]", &[2, 3], 3, Ok(&arrays))?;
+    let nested = [
+        root(Kind::Object, 17),
+        child(Kind::Array, at(5, 16), 0, 0, Some(at(1, 4))),
+        child(Kind::Number, at(6, 7), 1, 0, None),
+        child(Kind::Object, at(8, 15), 1, 1, None),
+        child(Kind::Number, at(13, 14), 3, 0, Some(at(9, 12))),
+    ];
+    let text: &[u8] = b"{\"a\":[1,{\"b\":2}]}";
+    check(&rt, alloc, text, &EVERY, 512, Ok(&nested))
+}
+
+#[test]
+fn a_text_is_refused_by_any_number_of_workers(rt: HostRuntime) -> Result<(), Fail> {
+    let alloc = rt.alloc();
+    check(&rt, alloc, b"", &[], 512, Err(Refusal::Truncated))?;
+    let too_deep = Refusal::TooDeep { at: 2 };
+    check(&rt, alloc, b"[[[]]]", &[2, 3], 2, Err(too_deep))?;
+    let stopped = Refusal::Stopped { at: 7 };
+    check(&rt, alloc, b"{\"a\":1,2]", &[7], 512, Err(stopped))?;
+    let stopped = Refusal::Stopped { at: 3 };
+    check(&rt, alloc, b"[1,]", &[1, 2, 3], 512, Err(stopped))
+}
+
+#[test]
+fn a_pointer_leads_to_its_value(rt: HostRuntime) -> Result<(), Fail> {
+    let alloc = rt.alloc();
+    let text: &[u8] = b"{\"a\":[1,{\"b\":2}]}";
+    let workers = Workers::new(5).ok_or("workers")?;
+    let cutting = cut(alloc, text.len(), &EVERY)?;
+    let depth = Depth::default();
+    let answer = index_text(&rt, alloc, text, &cutting, workers, depth, &OpenGate)?;
+    let TextAnswer::Accepted(index) = answer else {
+        return Err("accepted".into());
+    };
+    let pointer = Pointer::read("/a/1/b").ok().ok_or("a pointer")?;
+    let node = index.find(&pointer).ok().ok_or("found")?;
+    let row = index.rows().get(node.number()).ok_or("a row")?;
+    assert_eq!(rt; row.span, at(13, 14));
+    Ok(())
+}
+
 // A row, with its parent's number.
 #[derive(Clone, Copy, Debug, PartialEq, Eq)]
 struct Told {
@@ -96,69 +160,5 @@ fn check<R: Abort + Threads + Wait + Sync>(
             _ => return Err("accepted where it is refused, or refused where it is accepted".into()),
         }
     }
-    Ok(())
-}
-
-// Where the nested text of the tests is cut after every byte.
-const EVERY: [usize; 16] = [1, 2, 3, 4, 5, 6, 7, 8, 9, 10, 11, 12, 13, 14, 15, 16];
-
-#[test]
-fn scalars(rt: HostRuntime) -> Result<(), Fail> {
-    let alloc = rt.alloc();
-    check(&rt, alloc, b"null", &[], 0, Ok(&[root(Kind::Null, 4)]))?;
-    check(&rt, alloc, b"12", &[1], 512, Ok(&[root(Kind::Number, 2)]))?;
-    let string = [root(Kind::String, 4)];
-    check(&rt, alloc, b"\x22\xC3\xA9\x22", &[2], 512, Ok(&string))?;
-    let string = [root(Kind::String, 8)];
-    check(&rt, alloc, b"\"\\u0041\"", &[4], 512, Ok(&string))
-}
-
-#[test]
-fn containers(rt: HostRuntime) -> Result<(), Fail> {
-    let alloc = rt.alloc();
-    let arrays = [
-        root(Kind::Array, 6),
-        child(Kind::Array, at(1, 5), 0, 0, None),
-        child(Kind::Array, at(2, 4), 1, 0, None),
-    ];
-    check(&rt, alloc, b"[[[]]]", &[2, 3], 3, Ok(&arrays))?;
-    let nested = [
-        root(Kind::Object, 17),
-        child(Kind::Array, at(5, 16), 0, 0, Some(at(1, 4))),
-        child(Kind::Number, at(6, 7), 1, 0, None),
-        child(Kind::Object, at(8, 15), 1, 1, None),
-        child(Kind::Number, at(13, 14), 3, 0, Some(at(9, 12))),
-    ];
-    let text: &[u8] = b"{\"a\":[1,{\"b\":2}]}";
-    check(&rt, alloc, text, &EVERY, 512, Ok(&nested))
-}
-
-#[test]
-fn refused_texts(rt: HostRuntime) -> Result<(), Fail> {
-    let alloc = rt.alloc();
-    check(&rt, alloc, b"", &[], 512, Err(Refusal::Truncated))?;
-    let too_deep = Refusal::TooDeep { at: 2 };
-    check(&rt, alloc, b"[[[]]]", &[2, 3], 2, Err(too_deep))?;
-    let stopped = Refusal::Stopped { at: 7 };
-    check(&rt, alloc, b"{\"a\":1,2]", &[7], 512, Err(stopped))?;
-    let stopped = Refusal::Stopped { at: 3 };
-    check(&rt, alloc, b"[1,]", &[1, 2, 3], 512, Err(stopped))
-}
-
-#[test]
-fn a_pointer_leads_to_its_value(rt: HostRuntime) -> Result<(), Fail> {
-    let alloc = rt.alloc();
-    let text: &[u8] = b"{\"a\":[1,{\"b\":2}]}";
-    let workers = Workers::new(5).ok_or("workers")?;
-    let cutting = cut(alloc, text.len(), &EVERY)?;
-    let depth = Depth::default();
-    let answer = index_text(&rt, alloc, text, &cutting, workers, depth, &OpenGate)?;
-    let TextAnswer::Accepted(index) = answer else {
-        return Err("accepted".into());
-    };
-    let pointer = Pointer::read("/a/1/b").ok().ok_or("a pointer")?;
-    let node = index.find(&pointer).ok().ok_or("found")?;
-    let row = index.rows().get(node.number()).ok_or("a row")?;
-    assert_eq!(rt; row.span, at(13, 14));
     Ok(())
 }

@@ -5,19 +5,6 @@ use jx_claim::{Cutting, Workers};
 use jx_lex::{Depth, Span};
 use std::test::Fail;
 
-// Stops every worker that has drawn the piece of this number.
-#[derive(Drop)]
-struct StopAt(u32);
-
-impl Gate for StopAt {
-    fn pass(&self, event: Event) -> Go {
-        match event {
-            Event::Drew { piece, .. } if piece.0 == self.0 => Go::Stop,
-            _ => Go::On,
-        }
-    }
-}
-
 #[test]
 fn a_text_is_read_whole_by_any_number_of_workers(rt: HostRuntime) -> Result<(), Fail> {
     let alloc = rt.alloc();
@@ -96,4 +83,17 @@ fn an_empty_text_gives_the_empty_run(rt: HostRuntime) -> Result<(), Fail> {
     )?;
     assert_eq!(rt; run.span(), Span { start: 0, end: 0 });
     Ok(())
+}
+
+// Stops every worker that has drawn the piece of this number.
+#[derive(Drop)]
+struct StopAt(u32);
+
+impl Gate for StopAt {
+    fn pass(&self, event: Event) -> Go {
+        match event {
+            Event::Drew { piece, .. } if piece.0 == self.0 => Go::Stop,
+            _ => Go::On,
+        }
+    }
 }

@@ -13,120 +13,6 @@ use std::sync::Wait;
 use std::sync::ledger::{Blank, Ledger};
 use std::test::Fail;
 
-// The step at which a worker is stopped.
-#[derive(Clone, Copy)]
-enum StopOn {
-    Drew(u32),
-    Stored,
-    Took,
-    Worker(usize),
-}
-
-impl Gate for StopOn {
-    fn pass(&self, event: Event) -> Go {
-        match (*self, event) {
-            (StopOn::Drew(number), Event::Drew { piece, .. }) if piece.0 == number => Go::Stop,
-            (StopOn::Stored, Event::Stored { .. }) => Go::Stop,
-            (StopOn::Took, Event::Took { .. }) => Go::Stop,
-            (StopOn::Worker(number), Event::Drew { worker, .. }) if worker == number => Go::Stop,
-            _ => Go::On,
-        }
-    }
-}
-
-// A hand, in a form that can be compared.
-#[derive(Clone, Copy, Debug, PartialEq, Eq)]
-enum Holding {
-    Nothing,
-    Piece(u32),
-    One(Span),
-    Two(Span, Span),
-}
-
-/// What a hand holds, in a form that can be compared.
-fn held_in<S: Summary>(hand: &Hand<'_, S>) -> Holding {
-    match hand {
-        Hand::Nothing => Holding::Nothing,
-        Hand::Piece(piece) => Holding::Piece(piece.0),
-        Hand::One(run) => Holding::One(run.span()),
-        Hand::Two(left, right) => Holding::Two(left.span(), right.span()),
-    }
-}
-
-/// Lets the worker of the last seat read a text alone: why it stopped, and what it held. A run of another text may
-/// stand in the book before; an empty span is none.
-fn stop<'a, S: Summary, P: Ledger, T: Ledger, G: Gate, R: Wait>(
-    rt: &R,
-    alloc: Global,
-    text: &'a [u8],
-    cutting: &Cutting,
-    other: &'a [u8],
-    place: Span,
-    limit: Depth,
-    gate: &G,
-    put: Blank,
-    taken: Blank,
-    workers: Workers,
-) -> Result<Option<(Cause, Holding)>, AllocError>
-    requires cutting { cutting.now.len ≡ length text.now }
-    requires put { (put.name ≡ P.name) × (put.parts ≡ P.parts) × (put.parts ≡ workers) }
-    requires taken { (taken.name ≡ T.name) × (taken.parts ≡ T.parts) × (taken.parts ≡ workers) }
-{
-    let (book, mut shares) = Book::<S, P, T>::open(alloc, put, taken, workers)?;
-    let (claims, mut seats) = Claims::open(alloc, cutting.count(), workers)?;
-    let Some(mut share) = shares.pop() else {
-        return Err(AllocError);
-    };
-    let Some(seat) = seats.pop() else {
-        return Err(AllocError);
-    };
-    if place.start < place.end && place.end <= other.len() {
-        let run = Held::read(alloc, other, place.start, place.end, limit)?;
-        book.put(rt, &mut share, run);
-    }
-    let depth = Depth::default();
-    match work(
-        rt, alloc, &book, text, cutting, &claims, seat, share, depth, gate,
-    ) {
-        Ok(_) => Ok(None),
-        Err(
-            WorkerStop {
-                seat: _,
-                share: _,
-                hand,
-                cause,
-            },
-        ) => Ok(Some((cause, held_in(&hand)))),
-    }
-}
-
-/// The same on the text `[1,2]`, in pieces of this size, with so many seats.
-fn stopped<'a, S: Summary, G: Gate, R: Wait>(
-    rt: &R,
-    alloc: Global,
-    count: u8,
-    size: usize,
-    other: &'a [u8],
-    place: Span,
-    limit: Depth,
-    gate: &G,
-) -> Result<Option<(Cause, Holding)>, Fail>
-    requires { 1 ≤ size }
-{
-    let workers = Workers::new(count).ok_or("workers")?;
-    let text: &[u8] = b"[1,2]";
-    let cutting = Cutting::every(text.len(), size)?;
-    let put = Blank::new(u64::from(workers.count()));
-    let taken = Blank::new(u64::from(workers.count()));
-    Ok(stop::<S, Brand, Brand, G, R>(
-        rt, alloc, text, &cutting, other, place, limit, gate, put, taken, workers,
-    )?)
-}
-
-fn span(start: usize, end: usize) -> Span {
-    Span { start, end }
-}
-
 #[test]
 fn the_gate_stops_a_worker_at_each_step(rt: HostRuntime) -> Result<(), Fail> {
     let alloc = rt.alloc();
@@ -213,4 +99,112 @@ fn a_neighbour_of_another_text_or_depth_stops_a_worker(rt: HostRuntime) -> Resul
     let met = stopped::<Copied, _, _>(&rt, alloc, 1, 2, b"[1,2]", span(2, 4), less, &OpenGate)?;
     assert_eq!(rt; met, Some((Cause::Other, both)));
     Ok(())
+}
+
+// The step at which a worker is stopped.
+#[derive(Clone, Copy)]
+enum StopOn {
+    Drew(u32),
+    Stored,
+    Took,
+    Worker(usize),
+}
+
+impl Gate for StopOn {
+    fn pass(&self, event: Event) -> Go {
+        match (*self, event) {
+            (StopOn::Drew(number), Event::Drew { piece, .. }) if piece.0 == number => Go::Stop,
+            (StopOn::Stored, Event::Stored { .. }) => Go::Stop,
+            (StopOn::Took, Event::Took { .. }) => Go::Stop,
+            (StopOn::Worker(number), Event::Drew { worker, .. }) if worker == number => Go::Stop,
+            _ => Go::On,
+        }
+    }
+}
+
+// A hand, in a form that can be compared.
+#[derive(Clone, Copy, Debug, PartialEq, Eq)]
+enum Holding {
+    Nothing,
+    Piece(u32),
+    One(Span),
+    Two(Span, Span),
+}
+
+/// Why a worker stopped, and what it held.
+fn told<S: Summary, P: Ledger, T: Ledger>(stop: &WorkerStop<'_, S, P, T>) -> (Cause, Holding) {
+    let holding = match &stop.hand {
+        Hand::Nothing => Holding::Nothing,
+        Hand::Piece(piece) => Holding::Piece(piece.0),
+        Hand::One(run) => Holding::One(run.span()),
+        Hand::Two(left, right) => Holding::Two(left.span(), right.span()),
+    };
+    (stop.cause, holding)
+}
+
+/// Lets the worker of the last seat read a text alone: why it stopped, and what it held. A run of another text may
+/// stand in the book before; an empty span is none.
+fn stop<'a, S: Summary, P: Ledger, T: Ledger, G: Gate, R: Wait>(
+    rt: &R,
+    alloc: Global,
+    text: &'a [u8],
+    cutting: &Cutting,
+    other: &'a [u8],
+    place: Span,
+    limit: Depth,
+    gate: &G,
+    put: Blank,
+    taken: Blank,
+    workers: Workers,
+) -> Result<Option<(Cause, Holding)>, AllocError>
+    requires cutting { cutting.now.len ≡ length text.now }
+    requires put { (put.name ≡ P.name) × (put.parts ≡ P.parts) × (put.parts ≡ workers) }
+    requires taken { (taken.name ≡ T.name) × (taken.parts ≡ T.parts) × (taken.parts ≡ workers) }
+{
+    let (book, mut shares) = Book::<S, P, T>::open(alloc, put, taken, workers)?;
+    let (claims, mut seats) = Claims::open(alloc, cutting.count(), workers)?;
+    let Some(mut share) = shares.pop() else {
+        return Err(AllocError);
+    };
+    let Some(seat) = seats.pop() else {
+        return Err(AllocError);
+    };
+    if place.start < place.end && place.end <= other.len() {
+        let run = Held::read(alloc, other, place.start, place.end, limit)?;
+        book.put(rt, &mut share, run);
+    }
+    let depth = Depth::default();
+    match work(
+        rt, alloc, &book, text, cutting, &claims, seat, share, depth, gate,
+    ) {
+        Ok(_) => Ok(None),
+        Err(stop) => Ok(Some(told(&stop))),
+    }
+}
+
+/// The same on the text `[1,2]`, in pieces of this size, with so many seats.
+fn stopped<'a, S: Summary, G: Gate, R: Wait>(
+    rt: &R,
+    alloc: Global,
+    count: u8,
+    size: usize,
+    other: &'a [u8],
+    place: Span,
+    limit: Depth,
+    gate: &G,
+) -> Result<Option<(Cause, Holding)>, Fail>
+    requires { 1 ≤ size }
+{
+    let workers = Workers::new(count).ok_or("workers")?;
+    let text: &[u8] = b"[1,2]";
+    let cutting = Cutting::every(text.len(), size)?;
+    let put = Blank::new(u64::from(workers.count()));
+    let taken = Blank::new(u64::from(workers.count()));
+    Ok(stop::<S, Brand, Brand, G, R>(
+        rt, alloc, text, &cutting, other, place, limit, gate, put, taken, workers,
+    )?)
+}
+
+fn span(start: usize, end: usize) -> Span {
+    Span { start, end }
 }

@@ -4,17 +4,8 @@ use jx_lex::Span;
 use std::alloc::{AllocError, Global};
 use std::test::Fail;
 
-// The pieces, in order, by their numbers.
-fn pieces(alloc: Global, cutting: &Cutting) -> Result<Vec<Span>, AllocError> {
-    let mut spans = Vec::new(alloc);
-    for number in 0..cutting.count() {
-        spans.push(cutting.piece(PieceNo(number)))?;
-    }
-    Ok(spans)
-}
-
 #[test]
-fn every_four_of_ten_bytes(rt: HostRuntime) -> Result<(), Fail> {
+fn a_cut_stands_at_every_so_many_bytes(rt: HostRuntime) -> Result<(), Fail> {
     let cutting = Cutting::every(10, 4)?;
     let expected = [
         Span { start: 0, end: 4 },
@@ -46,7 +37,7 @@ fn pieces_meet_at_the_cuts(rt: HostRuntime) -> Result<(), Fail> {
 }
 
 #[test]
-fn without_the_first_bytes(rt: HostRuntime) -> Result<(), Fail> {
+fn the_first_bytes_are_left_out(rt: HostRuntime) -> Result<(), Fail> {
     let alloc = rt.alloc();
     let wide = Cutting::every(10, 4)?.without_front(3);
     let expected = [
@@ -72,7 +63,7 @@ fn without_the_first_bytes(rt: HostRuntime) -> Result<(), Fail> {
 }
 
 #[test]
-fn without_the_first_bytes_at_cuts(rt: HostRuntime) -> Result<(), Fail> {
+fn the_first_bytes_are_left_out_at_given_cuts(rt: HostRuntime) -> Result<(), Fail> {
     let alloc = rt.alloc();
     let cutting = Cutting::at(alloc, 10, &[3, 9])?;
     assert_eq!(rt; cutting.front(), 0);
@@ -134,7 +125,7 @@ fn the_first_faulty_cut_is_told(rt: HostRuntime) -> Result<(), Fail> {
 }
 
 #[test]
-fn at_most_4294967295_pieces(rt: HostRuntime) -> Result<(), Fail> {
+fn there_are_at_most_4294967295_pieces(rt: HostRuntime) -> Result<(), Fail> {
     assert_eq!(rt; Cutting::every(4294967295, 1)?.count(), 4294967295);
     assert_eq!(rt;
         Cutting::every(4294967296, 1).err(),
@@ -144,7 +135,7 @@ fn at_most_4294967295_pieces(rt: HostRuntime) -> Result<(), Fail> {
 }
 
 #[test]
-fn one_to_sixty_four_workers(rt: HostRuntime) -> Result<(), Fail> {
+fn there_are_one_to_sixty_four_workers(rt: HostRuntime) -> Result<(), Fail> {
     for (count, expected) in [(0, None), (1, Some(1)), (64, Some(64)), (65, None)] {
         assert_eq!(rt;
             Workers::new(count).map(|workers| workers.count()),
@@ -153,4 +144,13 @@ fn one_to_sixty_four_workers(rt: HostRuntime) -> Result<(), Fail> {
         );
     }
     Ok(())
+}
+
+// The pieces, in order, by their numbers.
+fn pieces(alloc: Global, cutting: &Cutting) -> Result<Vec<Span>, AllocError> {
+    let mut spans = Vec::new(alloc);
+    for number in 0..cutting.count() {
+        spans.push(cutting.piece(PieceNo(number)))?;
+    }
+    Ok(spans)
 }

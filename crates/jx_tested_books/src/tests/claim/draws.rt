@@ -12,35 +12,6 @@ const A: usize = 0;
 
 const B: usize = 1;
 
-/// What the seats of these places draw, one after another; a seat that got `None` is passed over.
-fn draws(
-    alloc: Global,
-    claims: &Claims,
-    seats: &mut Vec<ClaimSeat>,
-    places: &[usize],
-) -> Result<Vec<Option<u32>>, AllocError>
-    requires { AllSeats claims.now seats.old.items }
-    ensures { AllSeats claims.now seats.new.items }
-{
-    let mut drawn = Vec::new(alloc);
-    for place in places {
-        let place = *place;
-        if place < seats.len() && !seats[place].spent() {
-            let piece = claims.draw(&mut seats[place]);
-            drawn.push(piece.map(|piece| piece.0))?;
-        }
-    }
-    Ok(drawn)
-}
-
-// Three pieces and two seats: what the seats of these places draw, and what closing tells then.
-fn play(alloc: Global, places: &[usize]) -> Result<(Vec<Option<u32>>, u32), Fail> {
-    let workers = Workers::new(2).ok_or("two workers")?;
-    let (claims, mut seats) = Claims::open(alloc, 3, workers)?;
-    let drawn = draws(alloc, &claims, &mut seats, places)?;
-    Ok((drawn, claims.close(seats).pieces))
-}
-
 #[test]
 fn whoever_draws_next_gets_the_next_piece(rt: HostRuntime) -> Result<(), Fail> {
     let alloc = rt.alloc();
@@ -92,6 +63,45 @@ fn seats_are_numbered_in_order(rt: HostRuntime) -> Result<(), Fail> {
     Ok(())
 }
 
+#[test]
+fn four_threads_draw_each_piece_once(rt: HostRuntime) -> Result<(), Fail> {
+    let all = drawn_by_four_threads(&rt, rt.alloc())?;
+    assert_eq!(rt; all.len(), 1000);
+    for i in 0..1000u32 {
+        assert_eq!(rt; all.get(i as usize).copied(), Some(i));
+    }
+    Ok(())
+}
+
+/// What the seats of these places draw, one after another; a seat that got `None` is passed over.
+fn draws(
+    alloc: Global,
+    claims: &Claims,
+    seats: &mut Vec<ClaimSeat>,
+    places: &[usize],
+) -> Result<Vec<Option<u32>>, AllocError>
+    requires { AllSeats claims.now seats.old.items }
+    ensures { AllSeats claims.now seats.new.items }
+{
+    let mut drawn = Vec::new(alloc);
+    for place in places {
+        let place = *place;
+        if place < seats.len() && !seats[place].spent() {
+            let piece = claims.draw(&mut seats[place]);
+            drawn.push(piece.map(|piece| piece.0))?;
+        }
+    }
+    Ok(drawn)
+}
+
+// Three pieces and two seats: what the seats of these places draw, and what closing tells then.
+fn play(alloc: Global, places: &[usize]) -> Result<(Vec<Option<u32>>, u32), Fail> {
+    let workers = Workers::new(2).ok_or("two workers")?;
+    let (claims, mut seats) = Claims::open(alloc, 3, workers)?;
+    let drawn = draws(alloc, &claims, &mut seats, places)?;
+    Ok((drawn, claims.close(seats).pieces))
+}
+
 /// Draws until there is no piece, at most 2,000 times.
 fn drain(
     alloc: Global,
@@ -128,14 +138,4 @@ fn drawn_by_four_threads<R: Threads + Sync>(rt: &R, alloc: Global) -> Result<Vec
     }
     all.sort()?;
     Ok(all)
-}
-
-#[test]
-fn four_threads_draw_each_piece_once(rt: HostRuntime) -> Result<(), Fail> {
-    let all = drawn_by_four_threads(&rt, rt.alloc())?;
-    assert_eq!(rt; all.len(), 1000);
-    for i in 0..1000u32 {
-        assert_eq!(rt; all.get(i as usize).copied(), Some(i));
-    }
-    Ok(())
 }

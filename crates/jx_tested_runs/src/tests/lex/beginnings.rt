@@ -1,5 +1,5 @@
-// Maps of beginnings.
-use crate::tests::lex::is_plain;
+// Maps of the beginnings of texts.
+use crate::tests::lex::byte_by_byte::is_plain;
 use jx_lex::ChunkMap;
 use std::test::Fail;
 

@@ -5,46 +5,6 @@ use jx_lex::{LexExit, Keeper, LexState, Mark, MarkKind, Tokens, scan};
 use std::alloc::{AllocError, Global};
 use std::test::Fail;
 
-/// Counts marks up to a limit, and wants no more then.
-#[derive(Drop)]
-struct FirstMarks {
-    limit: usize,
-    count: usize,
-}
-
-impl Keeper for FirstMarks {
-    ghost has_seen = { λ k marks ends. k.count ≡ min k.limit (length marks) };
-
-    fn begin(&mut self, _mark: Mark) -> Result<(), AllocError> {
-        if self.count < self.limit {
-            self.count += 1;
-        }
-        Ok(())
-    }
-
-    fn end(&mut self, _at: usize) -> Result<(), AllocError> {
-        Ok(())
-    }
-
-    fn is_done(&self) -> bool {
-        self.count >= self.limit
-    }
-}
-
-fn keeps(
-    alloc: Global,
-    state: LexState,
-    text: &[u8],
-    marks: &[(MarkKind, usize)],
-    ends: &[usize],
-    exit: LexExit,
-) -> Result<bool, AllocError> {
-    let mut tokens = Tokens::new(alloc);
-    let given = scan(&mut tokens, state, text, 0, text.len())?;
-    let kept = tokens.marks().iter().map(|mark| (mark.kind, mark.at));
-    Ok(given == Some(exit) && kept.eq(marks.iter().copied()) && tokens.ends() == ends)
-}
-
 #[test]
 fn an_object_is_kept_as_marks_and_ends(rt: HostRuntime) -> Result<(), Fail> {
     let marks = [
@@ -145,4 +105,44 @@ fn a_keeper_that_wants_no_more_is_told_no_more(rt: HostRuntime) -> Result<(), Fa
     );
     assert_eq!(rt; first.count, 3);
     Ok(())
+}
+
+/// Counts marks up to a limit, and wants no more then.
+#[derive(Drop)]
+struct FirstMarks {
+    limit: usize,
+    count: usize,
+}
+
+impl Keeper for FirstMarks {
+    ghost has_seen = { λ k marks ends. k.count ≡ min k.limit (length marks) };
+
+    fn begin(&mut self, _mark: Mark) -> Result<(), AllocError> {
+        if self.count < self.limit {
+            self.count += 1;
+        }
+        Ok(())
+    }
+
+    fn end(&mut self, _at: usize) -> Result<(), AllocError> {
+        Ok(())
+    }
+
+    fn is_done(&self) -> bool {
+        self.count >= self.limit
+    }
+}
+
+fn keeps(
+    alloc: Global,
+    state: LexState,
+    text: &[u8],
+    marks: &[(MarkKind, usize)],
+    ends: &[usize],
+    exit: LexExit,
+) -> Result<bool, AllocError> {
+    let mut tokens = Tokens::new(alloc);
+    let given = scan(&mut tokens, state, text, 0, text.len())?;
+    let kept = tokens.marks().iter().map(|mark| (mark.kind, mark.at));
+    Ok(given == Some(exit) && kept.eq(marks.iter().copied()) && tokens.ends() == ends)
 }

@@ -1,14 +1,6 @@
 // Single steps of the lexical states.
 use jx_lex::{Class, LexState, MarkKind, TokenEnd, class_of, step};
 
-fn after(text: &[u8]) -> Option<LexState> {
-    let mut state = LexState::Gap;
-    for &byte in text {
-        state = step(state, byte).next?;
-    }
-    Some(state)
-}
-
 #[test]
 fn bytes_have_their_classes(rt: HostRuntime) {
     assert_eq!(rt; class_of(b'{'), Class::OpenObject);
@@ -44,4 +36,12 @@ fn ill_formed_utf8_is_a_fault(rt: HostRuntime) {
     assert_eq!(rt; after(b"\"\xe0\x9f"), None);
     assert_eq!(rt; after(b"\"\xf4\x90"), None);
     assert_eq!(rt; after(b"\xef"), None);
+}
+
+fn after(text: &[u8]) -> Option<LexState> {
+    let mut state = LexState::Gap;
+    for &byte in text {
+        state = step(state, byte).next?;
+    }
+    Some(state)
 }

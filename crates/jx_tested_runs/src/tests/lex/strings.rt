@@ -1,5 +1,5 @@
 // Strings whose parts stand across the steps of the scanner.
-use crate::tests::lex::{is_plain, repeated};
+use crate::tests::lex::byte_by_byte::{is_plain, repeated};
 use jx_lex::ChunkMap;
 use std::test::Fail;
 
@@ -46,7 +46,7 @@ fn characters_are_read_as_byte_by_byte(rt: HostRuntime) -> Result<(), Fail> {
 }
 
 #[test]
-fn a_string_is_cut_at_every_byte(rt: HostRuntime) -> Result<(), Fail> {
+fn a_string_is_read_up_to_any_byte(rt: HostRuntime) -> Result<(), Fail> {
     let alloc = rt.alloc();
     let mut text = repeated(alloc, b"\xe6\x97\xa5\\n\\u00e9\xf0\x9f\x98\x80\\\\", 200)?;
     text.extend_from_slice(b"\"]")?;

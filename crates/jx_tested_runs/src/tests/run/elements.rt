@@ -1,4 +1,4 @@
-// The verdicts on the elements of worked sequences, at every pair of cuts.
+// The verdicts on the elements of sequences, at every pair of cuts.
 ghost use Rattle.std.specs.Prelude.{◌≡◌, ◌≤◌, IfOk, length};
 ghost use Rattle.jx_run.specs.Tree.{span};
 
@@ -7,14 +7,40 @@ use jx_run::{ElementVerdict, ElementsRun, JudgedElement, Refusal, Summary};
 use std::alloc::{AllocError, Global};
 use std::process::Abort;
 
+const TRUNCATED: ElementVerdict = ElementVerdict::Refused(Refusal::Truncated);
+
+#[test]
+fn an_element_may_be_cut_where_its_end_does_not_show(rt: HostRuntime) -> Result<(), AllocError> {
+    let want = [
+        element(1, 6, ElementVerdict::Accepted),
+        element(7, 11, ElementVerdict::MayBeCut),
+        element(13, 16, TRUNCATED),
+    ];
+    check(&rt, rt.alloc(), b"\x1Etrue\n\x1Etrue\x1E\x1E[1\n", &want)?;
+    let want = [
+        element(0, 1, ElementVerdict::Unmarked),
+        element(2, 5, ElementVerdict::Accepted),
+        element(6, 8, ElementVerdict::MayBeCut),
+    ];
+    check(&rt, rt.alloc(), b"1\x1E\"1\"\x1E10", &want)
+}
+
+#[test]
+fn a_stack_ends_with_its_element(rt: HostRuntime) -> Result<(), AllocError> {
+    let want = [
+        element(1, 4, TRUNCATED),
+        element(5, 7, stopped(5)),
+        element(8, 10, ElementVerdict::Accepted),
+    ];
+    check(&rt, rt.alloc(), b"\x1E[[1\x1E]]\x1E[]", &want)
+}
+
 fn element(start: usize, end: usize, verdict: ElementVerdict) -> JudgedElement {
     JudgedElement {
         span: Span { start, end },
         verdict,
     }
 }
-
-const TRUNCATED: ElementVerdict = ElementVerdict::Refused(Refusal::Truncated);
 
 /// The verdict on an element that can't go on with the byte at this offset.
 fn stopped(at: usize) -> ElementVerdict {
@@ -66,30 +92,4 @@ fn check(
         }
     }
     Ok(())
-}
-
-#[test]
-fn ends_that_show_and_ends_that_do_not(rt: HostRuntime) -> Result<(), AllocError> {
-    let want = [
-        element(1, 6, ElementVerdict::Accepted),
-        element(7, 11, ElementVerdict::MayBeCut),
-        element(13, 16, TRUNCATED),
-    ];
-    check(&rt, rt.alloc(), b"\x1Etrue\n\x1Etrue\x1E\x1E[1\n", &want)?;
-    let want = [
-        element(0, 1, ElementVerdict::Unmarked),
-        element(2, 5, ElementVerdict::Accepted),
-        element(6, 8, ElementVerdict::MayBeCut),
-    ];
-    check(&rt, rt.alloc(), b"1\x1E\"1\"\x1E10", &want)
-}
-
-#[test]
-fn a_stack_ends_with_its_element(rt: HostRuntime) -> Result<(), AllocError> {
-    let want = [
-        element(1, 4, TRUNCATED),
-        element(5, 7, stopped(5)),
-        element(8, 10, ElementVerdict::Accepted),
-    ];
-    check(&rt, rt.alloc(), b"\x1E[[1\x1E]]\x1E[]", &want)
 }

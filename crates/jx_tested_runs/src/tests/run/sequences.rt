@@ -1,10 +1,57 @@
-// The elements of worked sequences, read as one run, cut at every byte, and joined from runs of single bytes.
-
-use crate::tests::run::{cut_at, from_left};
+// The elements of sequences, read as one run, cut at every byte, and joined from runs of single bytes.
+use crate::tests::run::joins::{cut_at, from_left};
+use crate::tests::run::refusals::{TRUNCATED, stopped};
 use jx_lex::{Depth, Span};
-use jx_run::{Refusal, SeqRun, Shape, Summary, TextRun, Verdict};
+use jx_run::{SeqRun, Shape, Summary, TextRun, Verdict};
 use std::alloc::{AllocError, Global};
 use std::process::Abort;
+
+#[test]
+fn separators_in_a_row_begin_one_element(rt: HostRuntime) -> Result<(), AllocError> {
+    let want = [
+        marked(1, 6, Verdict::Accepted),
+        marked(7, 11, Verdict::Accepted),
+        marked(13, 16, TRUNCATED),
+    ];
+    check(&rt, rt.alloc(), b"\x1Etrue\n\x1Etrue\x1E\x1E[1\n", &want)
+}
+
+#[test]
+fn bytes_before_the_first_separator_are_unmarked(rt: HostRuntime) -> Result<(), AllocError> {
+    let alloc = rt.alloc();
+    check(
+        &rt,
+        alloc,
+        b"1\n\x1E2\n",
+        &[unmarked(0, 2), marked(3, 5, Verdict::Accepted)],
+    )?;
+    check(&rt, alloc, b"1\n", &[unmarked(0, 2)])
+}
+
+#[test]
+fn a_separator_ends_an_element(rt: HostRuntime) -> Result<(), AllocError> {
+    let alloc = rt.alloc();
+    check(&rt, alloc, b"\x1E\"a\"", &[marked(1, 4, Verdict::Accepted)])?;
+    check(
+        &rt,
+        alloc,
+        b"\x1E1 \x1E]\n",
+        &[marked(1, 3, Verdict::Accepted), marked(4, 6, stopped(4))],
+    )?;
+    check(
+        &rt,
+        alloc,
+        b"\x1E\"a\x1Eb\"",
+        &[marked(1, 3, TRUNCATED), marked(4, 6, stopped(4))],
+    )
+}
+
+#[test]
+fn blanks_alone_are_an_element_and_nothing_is_none(rt: HostRuntime) -> Result<(), AllocError> {
+    let alloc = rt.alloc();
+    check(&rt, alloc, b"\x1E\n\x1E", &[marked(1, 2, TRUNCATED)])?;
+    check(&rt, alloc, b"", &[])
+}
 
 /// An element, with the verdict on it where a record separator stands before it.
 #[derive(Clone, Copy, Debug, PartialEq, Eq)]
@@ -87,57 +134,4 @@ fn check(rt: &impl Abort, alloc: Global, text: &[u8], want: &[Seen]) -> Result<(
         check_run(rt, alloc, &joined, text, want)?;
     }
     Ok(())
-}
-
-const TRUNCATED: Verdict = Verdict::Refused(Refusal::Truncated);
-
-fn stopped(at: usize) -> Verdict {
-    Verdict::Refused(Refusal::Stopped { at })
-}
-
-#[test]
-fn marks_in_a_row_and_an_unfinished_end(rt: HostRuntime) -> Result<(), AllocError> {
-    let want = [
-        marked(1, 6, Verdict::Accepted),
-        marked(7, 11, Verdict::Accepted),
-        marked(13, 16, TRUNCATED),
-    ];
-    check(&rt, rt.alloc(), b"\x1Etrue\n\x1Etrue\x1E\x1E[1\n", &want)
-}
-
-#[test]
-fn bytes_before_the_first_mark(rt: HostRuntime) -> Result<(), AllocError> {
-    let alloc = rt.alloc();
-    check(
-        &rt,
-        alloc,
-        b"1\n\x1E2\n",
-        &[unmarked(0, 2), marked(3, 5, Verdict::Accepted)],
-    )?;
-    check(&rt, alloc, b"1\n", &[unmarked(0, 2)])
-}
-
-#[test]
-fn a_mark_ends_an_element(rt: HostRuntime) -> Result<(), AllocError> {
-    let alloc = rt.alloc();
-    check(&rt, alloc, b"\x1E\"a\"", &[marked(1, 4, Verdict::Accepted)])?;
-    check(
-        &rt,
-        alloc,
-        b"\x1E1 \x1E]\n",
-        &[marked(1, 3, Verdict::Accepted), marked(4, 6, stopped(4))],
-    )?;
-    check(
-        &rt,
-        alloc,
-        b"\x1E\"a\x1Eb\"",
-        &[marked(1, 3, TRUNCATED), marked(4, 6, stopped(4))],
-    )
-}
-
-#[test]
-fn blanks_alone_and_nothing_behind_a_mark(rt: HostRuntime) -> Result<(), AllocError> {
-    let alloc = rt.alloc();
-    check(&rt, alloc, b"\x1E\n\x1E", &[marked(1, 2, TRUNCATED)])?;
-    check(&rt, alloc, b"", &[])
 }
