@@ -68,7 +68,7 @@ pub fn outcomes_of_pieces(alloc: Global, text: &[u8]) -> Result<u64, AllocError>
 /// Follows the marks of a text over one stack of open containers, and counts them.
 pub fn marks_over_stack(alloc: Global, started: &Started) -> Result<u64, AllocError> {
     let mut stack = KnownStack::new(alloc, Depth::default());
-    stack.push_all(started.marks())?;
+    stack.extend(started.marks())?;
     Ok(if stack.is_done() {
         0
     } else {

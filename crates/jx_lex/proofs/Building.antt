@@ -39,7 +39,7 @@ pub record Built (at : ℕ) (bytes : List ℕ) (live : List Bool) (i : ℕ) (b :
 
 -- ---- a head is set
 
-head-set : (P : Link → Type 0) (heads : List Link) (s u : LexState) (g : Link) → length heads ≡ 32 → (u ≡ s → P g) → (ordinal u ≢ ordinal s → P (head heads u))
+pub head-set : (P : Link → Type 0) (heads : List Link) (s u : LexState) (g : Link) → length heads ≡ 32 → (u ≡ s → P g) → (ordinal u ≢ ordinal s → P (head heads u))
     → P (head (set heads (ordinal s) g) u)
 head-set P heads s u g all here there = go (ordinal u == ordinal s) refl
   where

@@ -6,7 +6,8 @@ use Rattle.std.proofs.lemmas.List.{get_or-drop}
 use Rattle.jx_lex.specs.declared.alphabet.mark.Mark.{Mark}
 use Rattle.jx_lex.specs.declared.map.link.Link.{Link}
 use Rattle.jx_lex.specs.declared.map.link.Link.TheVariants.{Ahead, State, Fault}
-use Rattle.jx_lex.specs.Follow.{Part, behind, follow, IsIn, AreIn}
+use Rattle.jx_lex.specs.Lex.{Track, LexExit, state, fault}
+use Rattle.jx_lex.specs.Follow.{Part, done, behind, follow, IsIn, AreIn}
 use Rattle.jx_lex.specs.View.{path_from, marks_at, ends_at}
 
 pub record Walks (ps : List Part) (k : ℕ) (p : Part) : Type 0 where
@@ -104,18 +105,16 @@ path-ends all n (p ∷ ps) (Ahead zero) e h w =
     ∙ ap (λ (es : List ℕ). p.ends ++ es) (path-ends all (suc n) ps p.next (rest-is all ps n p e) w.0 w.1)
 path-ends all n (p ∷ ps) (Ahead (suc k)) e h w = path-ends all (suc n) ps (Ahead k) (rest-is all ps n p e) (omega (arith, h)) w.1
 
--- a track that leads out has no further segment
-pub no-marks : (ps : List Part) (g : Link) → ((k : ℕ) → g ≡ Ahead k → ⊥) → (follow ps g).marks ≡ []
-unfolding follow
-no-marks ps (Ahead k) h = absurd (h k refl)
-no-marks ps (State s) h = refl
-no-marks ps (Fault at) h = refl
+pub record LeadsOut (t : Track) : Type 0 where
+  pub exit : LexExit
+  pub is : t ≡ done exit
 
-pub no-ends : (ps : List Part) (g : Link) → ((k : ℕ) → g ≡ Ahead k → ⊥) → (follow ps g).ends ≡ []
+-- a track that leads out has no further segment
+pub leads-out : (ps : List Part) (g : Link) → ((k : ℕ) → g ≡ Ahead k → ⊥) → LeadsOut (follow ps g)
 unfolding follow
-no-ends ps (Ahead k) h = absurd (h k refl)
-no-ends ps (State s) h = refl
-no-ends ps (Fault at) h = refl
+leads-out ps (Ahead k) h = absurd (h k refl)
+leads-out ps (State s) h = record { exit = state s; is = refl }
+leads-out ps (Fault at) h = record { exit = fault at; is = refl }
 
 pub no-path : (n : ℕ) (ps : List Part) (g : Link) → ((k : ℕ) → g ≡ Ahead k → ⊥) → path_from n ps g ≡ []
 unfolding path_from

@@ -1,9 +1,11 @@
-// Laws of the plain reading by the lexical machine, each on a function that does nothing.
-ghost use Rattle.std.specs.Prelude.{◌≡◌, ◌≤◌, ℕ, ◌+◌, List, ◌++◌, length, slice_range, true};
+// Laws of the states of the lexical machine and of the plain reading by it, each on a function that does nothing.
+ghost use Rattle.std.specs.Prelude.{◌≡◌, ◌≤◌, ◌<◌, ℕ, ◌+◌, List, ◌++◌, length, slice_get, slice_index_or, slice_range, true, Some};
 ghost use Rattle.jx_lex.specs.declared.kind.Kind.{Kind};
 ghost use Rattle.jx_lex.specs.declared.alphabet.state.LexState.{LexState};
+ghost use Rattle.jx_lex.specs.declared.alphabet.state.LexState.TheVariants as state;
 ghost use Rattle.jx_lex.specs.Lex.{lex};
 ghost use Rattle.jx_lex.specs.Moves.{go, move};
+ghost use Rattle.jx_lex.specs.Ordinal.{all_states, ordinal};
 ghost use Rattle.jx_lex.specs.Uneventful.{AllKeep, Leads};
 ghost use Rattle.jx_lex.specs.Token.{IsToken};
 ghost use Rattle.jx_lex.specs.TokenStates.{IsRead, in_token, mark_of};
@@ -32,4 +34,11 @@ pub fn tokens_are_read()
     ensures stays { (s next : LexState) (byte : ℕ) → in_token s ≡ true → move s byte ≡ go next → in_token next ≡ true }
     ensures steps { (s : LexState) (byte : ℕ) → in_token s ≡ true → TokenStep s byte }
     ensures gaps { (byte : ℕ) → GapStep byte }
+{}
+
+/// Each state stands in the list of all states at its ordinal, and the state that stands at a number has that ordinal.
+pub fn states_stand_in_order()
+    ensures low { (s : LexState) → ordinal s < 32 }
+    ensures state { (s : LexState) → slice_get all_states (ordinal s) ≡ Some s }
+    ensures ordinal { (n : ℕ) → n < 32 → ordinal (slice_index_or all_states n state.Gap) ≡ n }
 {}

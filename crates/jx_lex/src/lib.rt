@@ -15,11 +15,12 @@ pub use alphabet::mark::{Mark, MarkKind};
 pub use alphabet::state::{LexState, Step, TokenEnd};
 pub use jx_summary::{Depth, JoinFault, Span};
 pub use kind::Kind;
-pub use laws::{parts_are_read_in_turn, uneventful_bytes_may_be_passed_over, tokens_are_read};
+pub use laws::{
+    parts_are_read_in_turn, uneventful_bytes_may_be_passed_over, states_stand_in_order, tokens_are_read,
+};
 pub use map::chunk_map::ChunkMap;
-pub use map::ends::Ends;
+pub use map::items::{Ends, Marks};
 pub use map::link::Link;
-pub use map::marks::Marks;
 pub use map::path::Path;
 pub use map::segment::Segment;
 pub use map::track_view::TrackView;

@@ -1,9 +1,8 @@
 // The map: what a part of a text gives from each state, in segments that its tracks share.
 pub(crate) mod bundle;
 pub(crate) mod chunk_map;
-pub(crate) mod ends;
+pub(crate) mod items;
 pub(crate) mod link;
-pub(crate) mod marks;
 pub(crate) mod path;
 pub(crate) mod reach;
 pub(crate) mod segment;

@@ -114,7 +114,7 @@ fn take_byte<K: Keeper>(
     Ok(Some(begun))
 }
 
-/// A name's colon, if it stands there, and gives its end.
+/// Reads a name's colon, if it stands there, and gives its end.
 #[inline(always)]
 fn colon<K: Keeper>(
     keeper: &mut K,
@@ -136,8 +136,8 @@ fn colon<K: Keeper>(
     Ok(from)
 }
 
-/// What follows of a string, with the quotation mark that ends it and a colon behind it. The state that comes in is that
-/// inside the string.
+/// Reads the rest of a string, with the quotation mark that ends it and a colon behind it, from the state inside the string
+/// on.
 #[inline(always)]
 fn string_rest<K: Keeper>(
     keeper: &mut K,
@@ -178,7 +178,7 @@ fn may_end(state: LexState) -> bool
     }
 }
 
-/// The comma that ends a number, if it stands there, and gives its end.
+/// Reads the comma that ends a number, if it stands there, and gives its end.
 #[inline(always)]
 fn comma<K: Keeper>(
     keeper: &mut K,
@@ -203,7 +203,7 @@ fn comma<K: Keeper>(
     Ok(from)
 }
 
-/// What follows of a number, with a comma behind it, and gives its end.
+/// Reads the rest of a number, with a comma behind it, and gives its end.
 #[inline(always)]
 fn number<K: Keeper>(
     keeper: &mut K,
@@ -221,7 +221,7 @@ fn number<K: Keeper>(
     Ok(behind)
 }
 
-/// What follows of a literal, if it stands there whole, and gives its end.
+/// Reads the rest of a literal, if it stands there whole, and gives its end.
 #[inline(always)]
 fn literal<K: Keeper>(
     keeper: &mut K,
@@ -243,8 +243,8 @@ fn literal<K: Keeper>(
     Ok(end)
 }
 
-/// Goes on from a state, to which this byte led, over what follows of a token or over blanks: gives their end, and leaves
-/// the state behind them.
+/// Reads on from the state to which this byte led, over the rest of a token or over blanks. Gives their end, and sets the
+/// state behind them.
 #[inline(always)]
 fn run_on<K: Keeper>(
     keeper: &mut K,

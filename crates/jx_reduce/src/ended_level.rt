@@ -1,10 +1,9 @@
 ghost use Rattle.std.specs.Prelude.{◌≡◌, is_some, ◌&&◌};
 ghost use Rattle.jx_reduce.specs.Form.{end_fault_of, level_of};
 ghost use Rattle.jx_reduce.specs.Join.{filled_end};
-ghost use Rattle.jx_reduce.specs.inside.Shifted.{shifted_end};
 
 use crate::holder::Holder;
-use crate::level::{Level, shifted};
+use crate::level::Level;
 
 /// The first fault of each holder in a level that has ended. No close is allowed where no container is open, so the
 /// bottom always has one.
@@ -53,17 +52,6 @@ impl EndedLevel {
             array: Some(self.array.unwrap_or(self.bottom)),
             object: Some(self.object.unwrap_or(self.bottom)),
             bottom: Some(self.bottom),
-        }
-    }
-
-    /// The same faults so many bytes further on.
-    pub fn shifted(self, by: usize) -> EndedLevel
-        ensures { result ≡ shifted_end by self }
-    {
-        EndedLevel {
-            array: shifted(self.array, by),
-            object: shifted(self.object, by),
-            bottom: by.saturating_add(self.bottom),
         }
     }
 }

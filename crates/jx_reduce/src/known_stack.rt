@@ -103,7 +103,7 @@ impl KnownStack {
         self.fault = None;
     }
 
-    /// The first fault is kept.
+    /// Ends the reading at this fault, unless it ended at one before.
     #[cold]
     fn halt(&mut self, fault: Fault)
         ensures depth { self.new.depth ≡ self.old.depth }
@@ -116,7 +116,7 @@ impl KnownStack {
         }
     }
 
-    /// A container more is open, within the depth.
+    /// Opens one more container, or ends the reading where that is more than the depth.
     #[inline(always)]
     fn enter(&mut self, holder: Holder, expect: Expect, at: usize) -> Result<(), AllocError>
         requires holder { holder ≡ Holder.Bottom → ⊥ }
@@ -155,7 +155,8 @@ impl KnownStack {
         Ok(())
     }
 
-    /// One more mark. Only want of memory is refused, where one container more takes a word more, and then nothing changes.
+    /// Pushes one more mark. It fails only for want of memory, where one more container takes one more word, and then nothing
+    /// changes.
     #[inline(always)]
     pub fn push(&mut self, mark: Mark) -> Result<(), AllocError>
         ensures depth { self.new.depth ≡ self.old.depth }
@@ -182,8 +183,8 @@ impl KnownStack {
         Ok(())
     }
 
-    /// One mark after another. Only want of memory is refused, as for one mark: the marks before that one were taken.
-    pub fn push_all(&mut self, marks: &[Mark]) -> Result<(), AllocError>
+    /// Pushes one mark after another. It fails only where `push` of one of them does: the marks before that one were taken.
+    pub fn extend(&mut self, marks: &[Mark]) -> Result<(), AllocError>
         ensures depth { self.new.depth ≡ self.old.depth }
         ensures reads { OnOk result (self.new.reading ≡ read self.old.depth marks.now self.old.reading) }
         ensures marks { OnOk result ((before : List Mark) → HasRead before self.old → HasRead (before ++ marks.now) self.new) }

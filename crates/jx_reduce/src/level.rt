@@ -2,7 +2,6 @@ ghost use Rattle.std.specs.Prelude.{◌≡◌};
 ghost use Rattle.jx_reduce.specs.Form.{fault_of};
 ghost use Rattle.jx_reduce.specs.Join.{all_faulted, merged, filled, closed, first_of};
 ghost use Rattle.jx_reduce.specs.inside.Quiet.{unfaulted};
-ghost use Rattle.jx_reduce.specs.inside.Shifted.{shifted_level, shifted_fault};
 
 use crate::ended_level::EndedLevel;
 use crate::holder::Holder;
@@ -52,7 +51,7 @@ impl Level {
         array + object + bottom
     }
 
-    /// These faults, and where there are none those.
+    /// These faults, and the later ones for holders that have none here.
     pub(crate) fn merged(self, later: Level) -> Level
         ensures { result ≡ merged self later }
     {
@@ -63,7 +62,7 @@ impl Level {
         }
     }
 
-    /// These faults, and where there are none this one.
+    /// These faults, and this one for holders that have none.
     pub(crate) fn filled(self, at: usize) -> Level
         ensures { result ≡ filled self at }
     {
@@ -74,7 +73,7 @@ impl Level {
         }
     }
 
-    /// The level with an end behind these faults.
+    /// The level where it ends: these faults, and those of its end for holders that have none here.
     pub(crate) fn closed(self, end: EndedLevel) -> EndedLevel
         ensures { result ≡ closed self end }
     {
@@ -83,27 +82,6 @@ impl Level {
             object: first(self.object, end.object),
             bottom: self.bottom.unwrap_or(end.bottom),
         }
-    }
-
-    /// The same faults so many bytes further on.
-    pub(crate) fn shifted(self, by: usize) -> Level
-        ensures { result ≡ shifted_level by self }
-    {
-        Level {
-            array: shifted(self.array, by),
-            object: shifted(self.object, by),
-            bottom: shifted(self.bottom, by),
-        }
-    }
-}
-
-/// The same fault, if there is one, so many bytes further on.
-pub(crate) fn shifted(fault: Option<usize>, by: usize) -> Option<usize>
-    ensures { result ≡ shifted_fault by fault }
-{
-    match fault {
-        Some(at) => Some(by.saturating_add(at)),
-        None => None,
     }
 }
 

@@ -1,12 +1,12 @@
 // Levels that are not known to begin in any container.
 
-ghost use Rattle.std.specs.Prelude.{◌≡◌, ◌≤◌, ◌<◌, ◌+◌, ◌^◌, OnOk, IfOk, IsOk, length, map, reverse, take, vec_len, vec_capacity};
+ghost use Rattle.std.specs.Prelude.{◌≡◌, ◌≤◌, ◌<◌, ◌+◌, ◌^◌, OnOk, IfOk, IsOk, length, reverse, take, vec_len, vec_capacity};
 ghost use Rattle.jx_reduce.specs.Join.{halted, joined, joined_heights};
 ghost use Rattle.jx_reduce.specs.Marks.{pushed, of_change, of_marks, of_nothing};
 ghost use Rattle.jx_reduce.specs.Table.{same, added, removed};
 ghost use Rattle.jx_reduce.specs.Fits.{Fits};
 ghost use Rattle.jx_reduce.specs.inside.Quiet.{GoesOn};
-ghost use Rattle.jx_reduce.specs.inside.Shifted.{shifted_end, shifted_form, shifted_offset};
+ghost use Rattle.jx_reduce.specs.inside.Shifted.{shifted_form};
 ghost use Rattle.jx_reduce.specs.Levels.{form_of, part_form, head_of, taken_in, ended_in, IsSameBut, HasRoom};
 
 use crate::ended_level::EndedLevel;
@@ -15,6 +15,7 @@ use crate::holder::Holder;
 use crate::level::Level;
 use crate::part::Part;
 use crate::quiet;
+use crate::shift::{Shift, all_shifted};
 use jx_lex::{Mark, MarkKind};
 use std::alloc::{AllocError, Global};
 
@@ -34,41 +35,21 @@ fn innermost(opens: &[Holder]) -> Option<Holder>
     opens.last().copied()
 }
 
-/// The same levels so many bytes further on.
-fn shifted_ends(mut ended: Vec<EndedLevel>, by: usize) -> Vec<EndedLevel>
-    ensures { result.items ≡ map (shifted_end by) ended.items }
-{
-    for at in 0..ended.len() {
-        ended[at] = ended[at].shifted(by);
-    }
-    ended
-}
-
-/// The same offsets so many bytes further on.
-fn shifted_heights(mut heights: Vec<usize>, by: usize) -> Vec<usize>
-    ensures { result.items ≡ map (shifted_offset by) heights.items }
-{
-    for at in 0..heights.len() {
-        heights[at] = by.saturating_add(heights[at]);
-    }
-    heights
-}
-
 impl Levels {
     /// The form of the same marks so many bytes further on.
     pub fn shifted(self, by: usize) -> Levels
         ensures { form_of result ≡ shifted_form by (form_of self) }
     {
         Levels {
-            ended: shifted_ends(self.ended, by),
+            ended: all_shifted(self.ended, by),
             last: self.last.shifted(by),
             opens: self.opens,
             exit: self.exit,
-            heights: shifted_heights(self.heights, by),
+            heights: all_shifted(self.heights, by),
         }
     }
 
-    /// No holder of the last level goes on.
+    /// Ends the reading for every holder of the last level, at these faults.
     fn halt(&mut self, faults: Level)
         ensures { form_of self.new ≡ halted (form_of self.old) faults }
     {
@@ -77,7 +58,7 @@ impl Levels {
         self.exit = None;
     }
 
-    /// Appends those offsets of the right that are greater heights than any before.
+    /// Extends the heights by those of the right that are greater than any before.
     fn raise(&mut self, depth: usize, heights: &[usize]) -> Result<(), AllocError>
         requires depth { depth < 2 ^ 32 }
         requires few { length self.old.heights.items ≤ depth + 1 }
@@ -161,8 +142,8 @@ impl Levels {
         Ok(())
     }
 
-    /// Goes on with the right.
-    pub fn absorb(&mut self, depth: usize, part: Part<'_>) -> Result<(), AllocError>
+    /// Extends these levels by the right.
+    pub fn extend(&mut self, depth: usize, part: Part<'_>) -> Result<(), AllocError>
         requires depth { depth < 2 ^ 32 }
         requires fits { Fits depth (form_of self.old) }
         ensures ok { OnOk result (form_of self.new ≡ joined depth (form_of self.old) (part_form part.entry)) }
@@ -172,7 +153,7 @@ impl Levels {
         self.take_in(depth, part)
     }
 
-    /// The same form, lent.
+    /// The same form, borrowed.
     pub fn part(&self) -> Part<'_>
         ensures { part_form result ≡ form_of self.now }
     {
@@ -185,7 +166,7 @@ impl Levels {
         }
     }
 
-    /// Goes on with a mark that opens a container.
+    /// Pushes a mark that opens a container.
     fn open(
         &mut self,
         depth: usize,
@@ -204,10 +185,10 @@ impl Levels {
             exit: Some(entry.leads_to(mark.kind)),
             heights: &[mark.at],
         };
-        self.absorb(depth, part)
+        self.extend(depth, part)
     }
 
-    /// Goes on with a mark that closes a container.
+    /// Pushes a mark that closes a container.
     fn close(&mut self, depth: usize, entry: Entry, mark: Mark) -> Result<(), AllocError>
         requires depth { depth < 2 ^ 32 }
         requires fits { Fits depth (form_of self.old) }
@@ -220,10 +201,10 @@ impl Levels {
             exit: Some(entry.leads_to(mark.kind)),
             heights: &[],
         };
-        self.absorb(depth, part)
+        self.extend(depth, part)
     }
 
-    /// Goes on with a mark that leaves the open containers as they are.
+    /// Pushes a mark that leaves the open containers as they are.
     fn pass(&mut self, depth: usize, entry: Entry, mark: Mark) -> Result<(), AllocError>
         requires depth { depth < 2 ^ 32 }
         requires fits { Fits depth (form_of self.old) }
@@ -236,10 +217,10 @@ impl Levels {
             exit: Some(entry.leads_to(mark.kind)),
             heights: &[],
         };
-        self.absorb(depth, part)
+        self.extend(depth, part)
     }
 
-    /// One more mark.
+    /// Pushes one more mark.
     pub fn push(&mut self, depth: usize, mark: Mark) -> Result<(), AllocError>
         requires depth { depth < 2 ^ 32 }
         requires fits { Fits depth (form_of self.old) }
@@ -256,7 +237,7 @@ impl Levels {
         }
     }
 
-    /// Takes in the marks in front that change at most the open containers and the exit, and answers how many they are.
+    /// Reads the first marks, as long as they change at most the open containers and the exit, and answers how many it read.
     fn run(&mut self, depth: usize, marks: &[Mark]) -> usize
         requires depth { depth < 2 ^ 32 }
         requires fits { Fits depth (form_of self.old) }
@@ -299,11 +280,11 @@ impl Levels {
         ensures fits { IfOk result (λ r. Fits depth (form_of r)) }
         ensures goes_on { IfOk result (λ r. GoesOn (form_of r)) }
     {
-        Levels::new(alloc, entry).go_on(marks, depth)
+        Levels::new(alloc, entry).read_on(marks, depth)
     }
 
-    /// Goes on with these marks. By value, since where memory is refused only some of them were read.
-    pub fn go_on(self, marks: &[Mark], depth: usize) -> Result<Levels, AllocError>
+    /// Reads these marks too. It takes the levels by value, since only some of the marks were read where memory is refused.
+    pub fn read_on(self, marks: &[Mark], depth: usize) -> Result<Levels, AllocError>
         requires depth { depth < 2 ^ 32 }
         requires fits { Fits depth (form_of self) }
         requires goes_on { GoesOn (form_of self) }

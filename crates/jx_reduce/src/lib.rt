@@ -18,6 +18,7 @@ mod quiet;
 mod reduced;
 mod reducer;
 mod reductions;
+mod shift;
 mod whole;
 
 pub use expect::Expect;

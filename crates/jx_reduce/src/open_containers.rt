@@ -49,9 +49,9 @@ fn bit_of(holder: Holder) -> u64
     }
 }
 
-/// A full word more.
+/// Keeps one more full word.
 #[cold]
-fn spill(words: &mut Vec<u64>, word: u64) -> Result<(), AllocError>
+fn push_word(words: &mut Vec<u64>, word: u64) -> Result<(), AllocError>
     ensures ok { OnOk result (words.new.items ≡ words.old.items ++ word ∷ []) }
     ensures err { OnErr result (words.new.items ≡ words.old.items) }
 {
@@ -94,7 +94,7 @@ impl OpenContainers {
         self.words.len() * WORD + self.count
     }
 
-    /// A container more is open. Where memory is refused nothing changes.
+    /// Opens one more container. Where memory is refused nothing changes.
     #[inline(always)]
     pub fn push(&mut self, holder: Holder) -> Result<(), AllocError>
         requires { holder ≡ Holder.Bottom → ⊥ }
@@ -107,14 +107,14 @@ impl OpenContainers {
             self.count += 1;
             Ok(())
         } else {
-            spill(&mut self.words, self.bits)?;
+            push_word(&mut self.words, self.bits)?;
             self.bits = bit;
             self.count = 1;
             Ok(())
         }
     }
 
-    /// The innermost container is closed.
+    /// Closes the innermost container, if one is open.
     #[inline(always)]
     pub fn pop(&mut self)
         ensures { self.new ≡ without_top self.old }
@@ -136,7 +136,7 @@ impl OpenContainers {
         }
     }
 
-    /// Nothing is open any more. The memory stays.
+    /// Closes all containers. The memory stays.
     pub fn clear(&mut self)
         ensures { self.new ≡ [] }
     {

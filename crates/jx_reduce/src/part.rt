@@ -3,7 +3,7 @@ use crate::entry::Entry;
 use crate::holder::Holder;
 use crate::level::Level;
 
-/// A reduced form that is lent.
+/// A reduced form that is borrowed.
 #[derive(Clone, Copy)]
 pub(crate) struct Part<'a> {
     pub ended: &'a [EndedLevel],

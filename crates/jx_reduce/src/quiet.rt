@@ -143,7 +143,7 @@ fn standing_in(opens: &[Holder], base: u8) -> u8
     }
 }
 
-/// A container more is open, where there may be so many and no memory is needed for it.
+/// Opens one more container, where fewer than `most` are open, so that no memory is needed. Answers whether it did.
 #[inline(always)]
 fn enter(opens: &mut Vec<Holder>, most: usize, holder: Holder) -> bool
     requires { most ≤ vec_capacity opens.old }

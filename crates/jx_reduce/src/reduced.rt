@@ -66,13 +66,13 @@ impl Reduced {
         Ok(Reduced { depth, levels })
     }
 
-    /// Goes on with these marks, none of which is looked at again.
+    /// Reads these marks too, each of them once.
     pub(crate) fn read_on(self, marks: &[Mark]) -> Result<Reduced, AllocError>
         ensures depth { IfOk result (λ r. depth_of r ≡ depth_of self) }
         ensures form { IfOk result (λ r. form_in r ≡ of_marks (depth_of self) (form_in self) marks.now) }
     {
         let Reduced { depth, levels } = self;
-        let levels = levels.go_on(marks, depth.containers() as usize)?;
+        let levels = levels.read_on(marks, depth.containers() as usize)?;
         Ok(Reduced { depth, levels })
     }
 
@@ -90,20 +90,20 @@ impl Reduced {
     {
         let mut reduced = Reduced::of(alloc, entry, head, depth)?;
         if let Some(tail) = tail {
-            reduced.go_on(tail)?;
+            reduced.extend(tail)?;
         }
         Ok(reduced)
     }
 
-    /// Goes on with the tail, where anything goes on.
-    fn go_on(&mut self, tail: &Reduced) -> Result<(), AllocError>
+    /// Extends the form by the tail, where the form has an exit.
+    fn extend(&mut self, tail: &Reduced) -> Result<(), AllocError>
         requires { depth_of self.old ≡ depth_of tail.now }
         ensures depth { depth_of self.new ≡ depth_of self.old }
         ensures form { OnOk result (form_in self.new ≡ tail_behind (depth_of self.old) (form_in self.old) (form_in tail.now) (form_in self.old).exit) }
     {
         if self.exit().is_some() {
-            self.make_room(tail)?;
-            self.follow(tail);
+            self.reserve(tail)?;
+            self.extend_reserved(tail);
         }
         Ok(())
     }
@@ -174,7 +174,7 @@ impl Reduced {
     }
 
     /// What the marks come to over these open containers, outermost first and none of them `Bottom`. The earlier of two
-    /// offsets is answered, and `Stopped` where they are equal. Only want of memory is refused.
+    /// offsets is answered, and `Stopped` where they are equal. It fails only for want of memory.
     pub fn act(&self, holders: &[Holder]) -> Result<Outcome, AllocError>
         requires { length holders.now ≤ depth_of self.now }
         ensures { IfOk result (λ o. reading_of o ≡ answer_of self.now (reverse holders.now)) }
@@ -182,15 +182,15 @@ impl Reduced {
         self.levels.act(self.depth.containers() as usize, holders)
     }
 
-    /// Where all this leads, for whoever has not faulted.
+    /// The entry behind the marks, for all holders that have not faulted.
     pub(crate) fn exit(&self) -> Option<Entry>
         ensures { result ≡ (form_in self.now).exit }
     {
         self.levels.exit
     }
 
-    /// Makes room for what follows.
-    pub(crate) fn make_room(&mut self, right: &Reduced) -> Result<(), AllocError>
+    /// Makes room for the right.
+    pub(crate) fn reserve(&mut self, right: &Reduced) -> Result<(), AllocError>
         ensures depth { depth_of self.new ≡ depth_of self.old }
         ensures same { form_in self.new ≡ form_in self.old }
         ensures ok { OnOk result (HasRoomOf self.new.levels (form_in right.now)) }
@@ -201,8 +201,8 @@ impl Reduced {
         Ok(())
     }
 
-    /// Goes on with the right, which takes no memory.
-    pub(crate) fn follow(&mut self, right: &Reduced)
+    /// Extends the form by the right. There is room for it, so that it takes no memory.
+    pub(crate) fn extend_reserved(&mut self, right: &Reduced)
         requires room { HasRoomOf self.old.levels (form_in right.now) }
         requires depth { depth_of self.old ≡ depth_of right.now }
         ensures depth { depth_of self.new ≡ depth_of self.old }
@@ -210,7 +210,7 @@ impl Reduced {
     {
         match self
             .levels
-            .absorb(self.depth.containers() as usize, right.levels.part())
+            .extend(self.depth.containers() as usize, right.levels.part())
         {
             Ok(()) => {}
             Err(AllocError) => unreachable!(),

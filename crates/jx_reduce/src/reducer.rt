@@ -14,12 +14,12 @@ use jx_lex::{Depth, Keeper, Mark};
 use std::alloc::{AllocError, Global};
 use std::marker::Model;
 
-/// So many marks are held before they are read. They stay in the first cache.
+/// How many marks are held before they are read. So many stay in the first cache.
 const WINDOW: usize = 512;
 
-/// The structure of marks that are given one by one, in the order of their offsets. The first
-/// one or two, up to one that is no string, are kept, to be read from each entry in the end. Those behind them are read
-/// once, window by window, and only the window is held.
+/// The structure of marks that are given one by one, in the order of their offsets. The first one or two, up to one that is
+/// no string, are kept, to be read from each entry in the end. Those behind them are read once, window by window, and only
+/// the window is held.
 #[derive(Drop)]
 pub struct Reducer {
     depth: Depth,
@@ -39,7 +39,7 @@ impl Model for Reducer {
     ghost invariant = { λ r. r.rising ≡ true → (front : List Mark) × IsFront front r.depth r.head.items r.tail r.last };
 }
 
-/// Whether the offsets of the marks rise, from behind the last mark before them.
+/// Whether the offsets of the marks rise, and begin behind that of the last mark before them.
 fn rise(last: Option<usize>, marks: &[Mark]) -> bool
     ensures { IsTrue result ↔ RisingFrom (past last) marks.now }
 {
@@ -55,7 +55,7 @@ fn rise(last: Option<usize>, marks: &[Mark]) -> bool
     true
 }
 
-/// The offset of the last of all marks.
+/// The offset of the last of these marks, or where there are none, of the last mark before them.
 fn last_of(last: Option<usize>, marks: &[Mark]) -> Option<usize>
     requires { RisingFrom (past last) marks.now }
     ensures { (more : List Mark) → RisingFrom (past last) (marks.now ++ more) ↔ RisingFrom (past result) more }
@@ -66,8 +66,8 @@ fn last_of(last: Option<usize>, marks: &[Mark]) -> Option<usize>
     }
 }
 
-/// Goes on with the marks of a window: as the tail does, and where there is none yet, with the marks of the head. Gives the
-/// tail behind the window.
+/// Reads the marks of a window: as more of the tail, or where there is no tail yet, first the rest of the head and then the
+/// beginning of the tail. Gives the tail behind the window.
 fn read_on(
     head: &mut Vec<Mark>,
     tail: Option<Reduced>,
@@ -132,7 +132,7 @@ impl Reducer {
         Ok(())
     }
 
-    /// One more mark. Only want of memory is refused.
+    /// Pushes one more mark. It fails only for want of memory.
     #[inline(always)]
     pub fn push(&mut self, mark: Mark) -> Result<(), AllocError>
         ensures depth { self.new.depth ≡ self.old.depth }
@@ -145,7 +145,7 @@ impl Reducer {
         Ok(())
     }
 
-    /// The structure of the marks that it was given. Only want of memory is refused.
+    /// The structure of the marks that it was given. It fails only for want of memory.
     pub fn finish(self) -> Result<Reductions, AllocError>
         ensures depth { IfOk result (λ f. f.depth ≡ self.depth) }
         ensures reads { (marks : List Mark) → HasReduced marks self → RisingFrom 0 marks → IfOk result (IsOf marks) }
@@ -164,7 +164,7 @@ impl Reducer {
         if rising {
             Reductions::of_parts(*head.allocator(), &head, &tail, depth)
         } else {
-            // There is no structure of marks in no order.
+            // Marks whose offsets don't rise have no structure.
             Ok(Reductions::new(*window.allocator(), depth))
         }
     }

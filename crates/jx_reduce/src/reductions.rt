@@ -34,8 +34,8 @@ pub struct Reductions {
     after_or_colon: Reduced,
 }
 
-/// The marks up to the first that is no string, or up to the second: how many they are, and the last one's kind. Behind a
-/// string that stands behind a string nothing goes on.
+/// The marks up to the first that is no string, or up to the second: how many they are, and the last one's kind. Nothing
+/// goes on behind two strings, one after the other.
 pub(crate) fn head_of(marks: &[Mark]) -> Option<(usize, MarkKind)>
     ensures within { IfSome result (λ head. head.0 ≤ length marks.now) }
     ensures ends { IfSome result (λ head. EndsWith (take head.0 marks.now) head.1) }
@@ -83,7 +83,7 @@ impl Reductions {
     }
 
     /// The structure of these marks. Behind the first mark that is no string, or behind a second string, all entries that go
-    /// on stand at the same one: so the marks behind it are read once, for all of them. Only want of memory is refused.
+    /// on stand at the same one: so the marks behind it are read once, for all of them. It fails only for want of memory.
     pub fn of(alloc: Global, marks: &[Mark], depth: Depth) -> Result<Reductions, AllocError>
         requires rising { RisingFrom 0 marks.now }
         ensures depth { IfOk result (λ f. f.depth ≡ depth) }
@@ -165,31 +165,31 @@ impl Reductions {
         }
     }
 
-    /// Makes room on the left for what follows it here.
-    fn make_room(&self, left: &mut Reduced) -> Result<(), AllocError>
+    /// Makes room on the left for the form that follows it here.
+    fn reserve_left(&self, left: &mut Reduced) -> Result<(), AllocError>
         ensures depth { depth_of left.new ≡ depth_of left.old }
         ensures same { form_in left.new ≡ form_in left.old }
         ensures ok { OnOk result (IsReady left.new self.now) }
     {
         if let Some(entry) = left.exit() {
-            left.make_room(self.at(entry))?;
+            left.reserve(self.at(entry))?;
         }
         Ok(())
     }
 
-    /// Goes on from the left.
-    fn follow(&self, left: &mut Reduced)
+    /// Extends the left by the form that follows it here. There is room for it.
+    fn extend_left(&self, left: &mut Reduced)
         requires depth { depth_of left.old ≡ self.now.depth }
         requires ready { IsReady left.old self.now }
         ensures depth { depth_of left.new ≡ depth_of left.old }
         ensures form { form_in left.new ≡ followed (depth_of left.old) (form_in left.old) self.now }
     {
         if let Some(entry) = left.exit() {
-            left.follow(self.at(entry));
+            left.extend_reserved(self.at(entry));
         }
     }
 
-    /// A value equal to this one. Only want of memory is refused.
+    /// A value equal to this one. It fails only for want of memory.
     pub fn copy(&self) -> Result<Reductions, AllocError>
         ensures { IfOk result (λ r. r ≡ self.now) }
     {
@@ -206,7 +206,7 @@ impl Reductions {
         })
     }
 
-    /// Goes on with the marks of the right, whose offsets lie behind those of the left. No mark is looked at again, and
+    /// Extends the left by the marks of the right, whose offsets lie behind those of the left. No mark is looked at again, and
     /// what the left holds is not copied. Where memory is refused the left stays as it was.
     pub fn extend(&mut self, right: &Reductions) -> Result<(), AllocError>
         requires depth { self.old.depth ≡ right.now.depth }
@@ -217,29 +217,29 @@ impl Reductions {
         ensures offsets { OnOk result ((low high : ℕ) → SpansIn low high self.old → SpansIn low high right.now → SpansIn low high self.new) }
         ensures err { OnErr result (self.new ≡ self.old) }
     {
-        // Shows the proof what holds of each right.
+        // Shows the proof what holds of every right side.
         let _ = &right.depth;
         // All that can fail comes first.
-        right.make_room(&mut self.value)?;
-        right.make_room(&mut self.array_first)?;
-        right.make_room(&mut self.object_first)?;
-        right.make_room(&mut self.name)?;
-        right.make_room(&mut self.colon)?;
-        right.make_room(&mut self.after)?;
-        right.make_room(&mut self.value_or_name)?;
-        right.make_room(&mut self.after_or_colon)?;
-        right.follow(&mut self.value);
-        right.follow(&mut self.array_first);
-        right.follow(&mut self.object_first);
-        right.follow(&mut self.name);
-        right.follow(&mut self.colon);
-        right.follow(&mut self.after);
-        right.follow(&mut self.value_or_name);
-        right.follow(&mut self.after_or_colon);
+        right.reserve_left(&mut self.value)?;
+        right.reserve_left(&mut self.array_first)?;
+        right.reserve_left(&mut self.object_first)?;
+        right.reserve_left(&mut self.name)?;
+        right.reserve_left(&mut self.colon)?;
+        right.reserve_left(&mut self.after)?;
+        right.reserve_left(&mut self.value_or_name)?;
+        right.reserve_left(&mut self.after_or_colon)?;
+        right.extend_left(&mut self.value);
+        right.extend_left(&mut self.array_first);
+        right.extend_left(&mut self.object_first);
+        right.extend_left(&mut self.name);
+        right.extend_left(&mut self.colon);
+        right.extend_left(&mut self.after);
+        right.extend_left(&mut self.value_or_name);
+        right.extend_left(&mut self.after_or_colon);
         Ok(())
     }
 
-    /// The structure of the marks of both sides, the right's behind the left's. Only want of memory is refused, and then
+    /// The structure of the marks of both sides, the right's behind the left's. It fails only for want of memory, and then
     /// both sides are handed back as they were.
     pub fn join(self, right: Reductions) -> Result<Reductions, JoinFault<Reductions>>
         requires depth { self.depth ≡ right.depth }

@@ -2,7 +2,7 @@
 use Rattle.std.proofs.Common.{◌≡◌, ℕ, ◌+◌, ◌-◌, ◌<◌, ◌≤◌, List, [], ◌∷◌, ◌++◌, length, Bool, true, false, cond, refl, sym, ap, subst, ◌∙◌, append-nil, arith, Option, Some, None}
 use Rattle.std.proofs.lemmas.List.Elements.{filter-append}
 use Rattle.std.specs.List.{AllZip}
-use Rattle.std.specs.Prelude.{slice_get, slice_range}
+use Rattle.std.specs.Prelude.{slice_get}
 use Rattle.jx_summary.specs.declared.span.Span.{Span}
 use Rattle.jx_run.specs.declared.element_verdict.ElementVerdict.{ElementVerdict}
 use Rattle.jx_run.specs.declared.element_verdict.ElementVerdict.TheVariants as element
@@ -19,8 +19,8 @@ use Rattle.jx_run.specs.Unclosed.{is_open, last_open, ends_open}
 use Rattle.jx_run.specs.Verdict.{Judged, a_text}
 use Rattle.jx_run.proofs.OpenEnds.{last_open-append, element_shows}
 use Rattle.jx_run.proofs.Parts.{unmarked-before}
-use Rattle.jx_run.proofs.SeqJoins.{AllZip-append}
-use Rattle.jx_run.proofs.SeqReading.{IsReadTo, rest_at, one_reading, no_reading, has, has_not}
+use Rattle.jx_run.proofs.PartedJoins.{AllZip-append}
+use Rattle.jx_run.proofs.SeqReading.{one_reading, no_reading, has, has_not}
 
 -- ---- the last byte
 
@@ -88,21 +88,6 @@ loose_left xs ys l r place e low h k =
     h.loose ∙ sym (ends-left xs ys (omega (arith, start, end, long, low)))
 
 -- ---- what stands behind a mark
-
-pub behind_read : (limit : ℕ) (text : List ℕ) (start from end : ℕ) (done : List JudgedElement) (after : PartRunValue) → 0 < from → after_separators from (slice_range text from end) ≡ []
-    → after.outcomes.start ≡ from → after.outcomes.depth ≡ limit → IsPartRun (slice_range text from end) after
-    → IsReadTo (IsJudgedElement limit) (rest_at text start end) (rest_at text from end) done → AreMarked limit (rest_at text start end) (record { done = done; after = after })
-behind_read limit text start from end done after low none here deep of so_far =
-    record {
-      between = so_far.between;
-      last = part from (before_separator (slice_range text from end));
-      parts = so_far.are ∙ ap (λ ps. so_far.between ++ part from (before_separator (slice_range text from end)) ∷ ps) none;
-      done = so_far.readings;
-      marked = low;
-      start = here;
-      depth = deep;
-      after = subst (λ t. IsPartRun t after) (sym (unmarked-before (slice_range text from end) from none)) of;
-    }
 
 pub with_last : (limit : ℕ) (behind : List Part) (m : MarkedElementsValue) (h : AreMarked limit behind m) (more : List JudgedElement)
     → AllZip (IsJudgedElement limit) (filled (h.last ∷ [])) more → AllZip (IsJudgedElement limit) (filled behind) (m.done ++ more)

@@ -4,7 +4,6 @@ pub mod Completion
 pub mod ElementPlaces
 pub mod ElementShifts
 pub mod ElementSteps
-pub mod ElementsJoins
 pub mod Endings
 pub mod FromGrammar
 pub mod FaultPlaces
@@ -16,6 +15,7 @@ pub mod Moves
 pub mod OnePass
 pub mod OpenEnds
 pub mod Paces
+pub mod PartedJoins
 pub mod Parts
 pub mod ReaderSteps
 pub mod Reducing
@@ -23,7 +23,6 @@ pub mod RestWays
 pub mod RunJoin
 pub mod RunVerdict
 pub mod RunReaderSteps
-pub mod SeqJoins
 pub mod SeqReading
 pub mod SequenceSteps
 pub mod Shifts

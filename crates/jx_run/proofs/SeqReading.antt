@@ -7,11 +7,9 @@ use Rattle.std.proofs.lemmas.List.{append_assoc, append-nil, take-take, drop-tak
 use Rattle.std.proofs.lemmas.List.Edits.{length-between}
 use Rattle.std.proofs.lemmas.List.Elements.{filter-append}
 use Rattle.jx_run.specs.Elements.{Part, part, is_mark, before_separator, after_separators, parts, filled, has_bytes}
-use Rattle.jx_run.specs.SeqRun.{IsReading, IsMarked}
-use Rattle.jx_run.specs.Started.{StartedValue}
-use Rattle.jx_run.specs.TextRun.{TextRunValue, IsTextRun}
+use Rattle.jx_run.specs.Parted.{Meaning, IsMarked}
 use Rattle.jx_run.proofs.Parts.{unmarked-before}
-use Rattle.jx_run.proofs.SeqJoins.{AllZip-append}
+use Rattle.jx_run.proofs.PartedJoins.{AllZip-append}
 
 -- ---- the first mark
 
@@ -138,16 +136,17 @@ module _ {D : Type 0} (R : Part → D → Type 0) (text : List ℕ) (start from 
       (subst (λ ps. IsReadTo R (rest_at text start end) ps done) (next_parts text from at end h k) so_far)
       (no_reading R (part from (slice_range text from at)) none))
 
-pub read_all : (limit : ℕ) (text : List ℕ) (start from end : ℕ) (done : List StartedValue) (after : TextRunValue) → after_separators from (slice_range text from end) ≡ [] → after.map.start ≡ from → after.depth ≡ limit
-    → IsTextRun (slice_range text from end) after → IsReadTo (IsReading limit) (rest_at text start end) (rest_at text from end) done
-    → IsMarked limit (rest_at text start end) (record { done = done; after = after })
-read_all limit text start from end done after none here deep of so_far =
+pub read_all : {P F : Type 0} (m : Meaning P F) (limit : ℕ) (text : List ℕ) (start from end : ℕ) (done : List F) (after : P) → 0 < from → after_separators from (slice_range text from end) ≡ []
+    → (m.span after).start ≡ from → m.depth after ≡ limit → m.is_of after (slice_range text from end)
+    → IsReadTo (m.is_finished limit) (rest_at text start end) (rest_at text from end) done → IsMarked m limit (rest_at text start end) (record { done = done; after = after })
+read_all m limit text start from end done after low none here deep of so_far =
     record {
       between = so_far.between;
       last = part from (before_separator (slice_range text from end));
       parts = so_far.are ∙ ap (λ ps. so_far.between ++ part from (before_separator (slice_range text from end)) ∷ ps) none;
       done = so_far.readings;
+      marked = low;
       start = here;
       depth = deep;
-      after = subst (λ t. IsTextRun t after) (sym (unmarked-before (slice_range text from end) from none)) of;
+      after = subst (λ t. m.is_of after t) (sym (unmarked-before (slice_range text from end) from none)) of;
     }

@@ -18,7 +18,7 @@ use Rattle.jx_run.specs.Verdict.{Judged}
 use Rattle.jx_run.proofs.ElementSteps.{judged_element}
 use Rattle.jx_run.proofs.OpenEnds.{last_open-append}
 use Rattle.jx_run.proofs.Parts.{last-ends, longer, parts-append, unmarked-before}
-use Rattle.jx_run.proofs.SeqJoins.{AllZip-append}
+use Rattle.jx_run.proofs.PartedJoins.{AllZip-append}
 use Rattle.jx_run.proofs.SeqReading.{one_reading, no_reading}
 
 -- ---- bytes without a mark

@@ -5,6 +5,7 @@ pub mod Front
 pub mod Grammar
 pub mod Laws
 pub mod OutcomeRun
+pub mod Parted
 pub mod Reading
 pub mod SeqRun
 pub mod Settings

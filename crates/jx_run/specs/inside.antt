@@ -2,6 +2,7 @@
 pub mod Beside
 pub mod Joins
 pub mod Moved
+pub mod PartedJoins
 pub mod Reduced
 pub mod Rest
 pub mod RunReaderInside

@@ -1,16 +1,16 @@
 // Runs over parts of a JSON text sequence that keep verdicts alone.
-ghost use Rattle.std.specs.Prelude.{◌≡◌, ◌++◌, ◌+◌, ◌<◌, ◌^◌, ℕ, List, None, Some, IfOk, IfErr, OnOk, OnErr, length};
+ghost use Rattle.std.specs.Prelude.{◌≡◌, ◌+◌, ◌<◌, ◌^◌, ℕ, List, IfOk, length};
 ghost use Rattle.std.specs.List.{AllZip};
 ghost use Rattle.jx_run.specs.Elements.{elements};
-ghost use Rattle.jx_run.specs.ElementsRun.{AreClosed, IsElementsJoin, IsElementsRun, last_part, elements_span};
+ghost use Rattle.jx_run.specs.ElementsRun.{IsElementsRun, last_part, elements_span};
 ghost use Rattle.jx_run.specs.ElementVerdict.{IsJudgedElement};
 ghost use Rattle.jx_run.specs.SequenceRead.{StartsWithSeparator};
 
 use crate::element_verdict::{ElementVerdict, JudgedElement, all_moved};
 use crate::laws::reader_is_grammar;
-use crate::marked_elements::MarkedElements;
+use crate::marked_elements::{elements_behind, shifted_behind};
 use crate::part_run::PartRun;
-use crate::separators::next_separator;
+use crate::parted::Parted;
 use jx_summary::Summary;
 use jx_lex::{Depth, JoinFault, Span};
 use std::alloc::{AllocError, Global};
@@ -21,9 +21,7 @@ use std::marker::Model;
 /// start, one after another by one reader.
 #[derive(Drop)]
 pub struct ElementsRun {
-    before: PartRun,
-    // none where the bytes hold no separator
-    marked: Option<MarkedElements>,
+    parted: Parted<PartRun>,
 }
 
 impl Model for ElementsRun {
@@ -32,9 +30,9 @@ impl Model for ElementsRun {
 
     ghost Value = { ElementsRunValue };
 
-    ghost view = { λ r. record { before = r.before; marked = r.marked } };
+    ghost view = { λ r. r.parted };
 
-    ghost invariant = { λ r. (last_part r.before r.marked).outcomes.depth ≡ r.before.outcomes.depth };
+    ghost invariant = { λ r. (last_part r.parted.before r.parted.marked).outcomes.depth ≡ r.parted.before.outcomes.depth };
 }
 
 impl ElementsRun {
@@ -43,10 +41,10 @@ impl ElementsRun {
         requires whole { (elements_span self).start ≡ 0 }
         ensures elements { (bytes : List ℕ) → IsElementsRun bytes self → IfOk result (λ es. AllZip (IsJudgedElement self.before.outcomes.depth) (elements 0 bytes) es.items) }
     {
-        let ElementsRun { before, marked } = self;
+        let Parted { before, marked } = self.parted;
         let mut elements = match marked {
             None => Vec::new(before.allocator()),
-            Some(marked) => marked.into_elements()?,
+            Some(marked) => elements_behind(marked)?,
         };
         let span = before.span();
         if span.start < span.end {
@@ -78,144 +76,22 @@ impl ElementsRun {
         ensures of { (bytes : List ℕ) → IsElementsRun bytes self → IsElementsRun bytes result }
     {
         reader_is_grammar();
-        let before = self.before.shifted(by);
-        match self.marked {
+        let Parted { before, marked } = self.parted;
+        let before = before.shifted(by);
+        match marked {
             None => ElementsRun {
-                before,
-                marked: None,
+                parted: Parted {
+                    before,
+                    marked: None,
+                },
             },
             Some(marked) => ElementsRun {
-                before,
-                marked: Some(marked.shifted(by)),
+                parted: Parted {
+                    before,
+                    marked: Some(shifted_behind(marked, by)),
+                },
             },
         }
-    }
-}
-
-/// Puts behind the elements of the left that of its last bytes with the first ones of the right, unless these are none, and
-/// the elements of the right.
-fn close(
-    done: &mut Vec<JudgedElement>,
-    after: &PartRun,
-    before: &PartRun,
-    more: &mut Vec<JudgedElement>,
-) -> Result<(), AllocError>
-    requires neighbours { after.now.outcomes.end ≡ before.now.outcomes.start }
-    requires depth { after.now.outcomes.depth ≡ before.now.outcomes.depth }
-    ensures ok { OnOk result (AreClosed done.old.items after.now before.now more.old.items done.new.items) }
-    ensures err { OnErr result ((done.new.items ≡ done.old.items) × (more.new.items ≡ more.old.items)) }
-{
-    if after.span().start < before.span().end {
-        let count = done.len();
-        done.push(after.judged_with(before)?)?;
-        if let Err(AllocError) = done.append(more) {
-            done.truncate(count);
-            return Err(AllocError);
-        }
-        Ok(())
-    } else {
-        done.append(more)
-    }
-}
-
-/// Joins a left side without separators.
-fn join_plain(left: PartRun, right: ElementsRun) -> Result<ElementsRun, JoinFault<ElementsRun>>
-    requires neighbours { left.outcomes.end ≡ right.before.outcomes.start }
-    requires depth { left.outcomes.depth ≡ right.before.outcomes.depth }
-    ensures joined { IfOk result (IsElementsJoin (record { before = left; marked = None }) right) }
-    ensures refused { IfErr result (λ f. (f.left ≡ record { before = left; marked = None }) × (f.right ≡ right)) }
-{
-    match left.join(right.before) {
-        Ok(before) => Ok(ElementsRun {
-            before,
-            marked: right.marked,
-        }),
-        Err(fault) => Err(JoinFault {
-            left: ElementsRun {
-                before: fault.left,
-                marked: None,
-            },
-            right: ElementsRun {
-                before: fault.right,
-                marked: right.marked,
-            },
-        }),
-    }
-}
-
-/// Joins a right side without separators.
-fn join_last(
-    before: PartRun,
-    marked: MarkedElements,
-    right: PartRun,
-) -> Result<ElementsRun, JoinFault<ElementsRun>>
-    requires whole { marked.after.outcomes.depth ≡ before.outcomes.depth }
-    requires neighbours { marked.after.outcomes.end ≡ right.outcomes.start }
-    requires depth { marked.after.outcomes.depth ≡ right.outcomes.depth }
-    ensures joined { IfOk result (IsElementsJoin (record { before = before; marked = Some marked }) (record { before = right; marked = None })) }
-    ensures refused { IfErr result (λ f. (f.left ≡ record { before = before; marked = Some marked }) × (f.right ≡ record { before = right; marked = None })) }
-{
-    match marked.after.join(right) {
-        Ok(after) => Ok(ElementsRun {
-            before,
-            marked: Some(MarkedElements {
-                done: marked.done,
-                after,
-            }),
-        }),
-        Err(fault) => Err(JoinFault {
-            left: ElementsRun {
-                before,
-                marked: Some(MarkedElements {
-                    done: marked.done,
-                    after: fault.left,
-                }),
-            },
-            right: ElementsRun {
-                before: fault.right,
-                marked: None,
-            },
-        }),
-    }
-}
-
-/// Joins two sides with separators.
-fn join_marked(
-    before: PartRun,
-    marked: MarkedElements,
-    middle: PartRun,
-    right: MarkedElements,
-) -> Result<ElementsRun, JoinFault<ElementsRun>>
-    requires left { marked.after.outcomes.depth ≡ before.outcomes.depth }
-    requires right { right.after.outcomes.depth ≡ middle.outcomes.depth }
-    requires neighbours { marked.after.outcomes.end ≡ middle.outcomes.start }
-    requires depth { marked.after.outcomes.depth ≡ middle.outcomes.depth }
-    ensures joined { IfOk result (IsElementsJoin (record { before = before; marked = Some marked }) (record { before = middle; marked = Some right })) }
-    ensures refused { IfErr result (λ f. (f.left ≡ record { before = before; marked = Some marked }) × (f.right ≡ record { before = middle; marked = Some right })) }
-{
-    let MarkedElements { mut done, after } = marked;
-    let MarkedElements {
-        done: mut more,
-        after: last,
-    } = right;
-    match close(&mut done, &after, &middle, &mut more) {
-        Ok(()) => Ok(ElementsRun {
-            before,
-            marked: Some(MarkedElements { done, after: last }),
-        }),
-        Err(AllocError) => Err(JoinFault {
-            left: ElementsRun {
-                before,
-                marked: Some(MarkedElements { done, after }),
-            },
-            right: ElementsRun {
-                before: middle,
-                marked: Some(MarkedElements {
-                    done: more,
-                    after: last,
-                }),
-            },
-        }),
     }
 }
 
@@ -233,48 +109,27 @@ impl Summary for ElementsRun {
         end: usize,
         depth: Depth,
     ) -> Result<Self, AllocError> {
-        let Some(mark) = next_separator(text, start, end) else {
-            let before = PartRun::of(alloc, text, start, end, depth)?;
-            return Ok(ElementsRun {
-                before,
-                marked: None,
-            });
-        };
-        let before = PartRun::of(alloc, text, start, mark, depth)?;
-        let marked = MarkedElements::of(alloc, text, mark + 1, end, depth)?;
-        Ok(ElementsRun {
-            before,
-            marked: Some(marked),
-        })
+        let parted = Parted::of(alloc, text, start, end, depth)?;
+        Ok(ElementsRun { parted })
     }
 
     fn join(self, right: Self) -> Result<Self, JoinFault<Self>> {
-        let ElementsRun { before, marked } = self;
-        let Some(marked) = marked else {
-            return join_plain(before, right);
-        };
-        let ElementsRun {
-            before: middle,
-            marked: more,
-        } = right;
-        match more {
-            None => join_last(before, marked, middle),
-            Some(more) => join_marked(before, marked, middle, more),
+        match self.parted.join(right.parted) {
+            Ok(parted) => Ok(ElementsRun { parted }),
+            Err(fault) => Err(JoinFault {
+                left: ElementsRun { parted: fault.left },
+                right: ElementsRun {
+                    parted: fault.right,
+                },
+            }),
         }
     }
 
     fn span(&self) -> Span {
-        let last = match &self.marked {
-            None => &self.before,
-            Some(marked) => &marked.after,
-        };
-        Span {
-            start: self.before.span().start,
-            end: last.span().end,
-        }
+        self.parted.span()
     }
 
     fn depth(&self) -> Depth {
-        self.before.depth()
+        self.parted.depth()
     }
 }

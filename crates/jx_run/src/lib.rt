@@ -12,6 +12,8 @@ mod one_pass;
 mod open_end;
 mod outcome_run;
 mod part_run;
+mod parted;
+mod piece;
 mod reader;
 mod reduce;
 mod rest;
@@ -36,7 +38,7 @@ pub use laws::{
 };
 pub use one_pass::{NoPause, Pace, Told, read_into};
 pub use open_end::ends_open_behind;
-pub use outcome_run::OutcomeRun;
+pub use outcome_run::{OutcomeRun, verdict_from};
 pub use reader::Reader;
 pub use run_reader::RunReader;
 pub use separators::separated_part;

@@ -1,31 +1,15 @@
-// What stands behind the first record separator of a part of a JSON text sequence.
+// Elements of a JSON text sequence that stand between two record separators, of which the readings are kept.
 ghost use Rattle.std.specs.Prelude.{◌≡◌, ◌≤◌, ◌<◌, length, slice_range, IfOk};
-ghost use Rattle.jx_run.specs.Elements.{part, parts};
-ghost use Rattle.jx_run.specs.SeqRun.{IsMarked, IsReading};
+ghost use Rattle.jx_run.specs.Elements.{part};
+ghost use Rattle.jx_run.specs.SeqRun.{IsReading};
 
+use crate::piece::Piece;
 use crate::separators::next_separator;
 use crate::started::Started;
 use jx_summary::Summary;
 use crate::text_run::TextRun;
 use jx_lex::Depth;
 use std::alloc::{AllocError, Global};
-use std::marker::Model;
-
-/// The readings of the parts that a further separator ends, where they aren't empty, and the run of what stands behind the last
-/// separator.
-#[derive(Drop)]
-pub(crate) struct Marked {
-    pub(crate) done: Vec<Started>,
-    pub(crate) after: TextRun,
-}
-
-impl Model for Marked {
-    ghost use Rattle.jx_run.specs.SeqRun.{MarkedValue};
-
-    ghost Value = { MarkedValue };
-
-    ghost view = { λ m. record { done = m.done.items; after = m.after } };
-}
 
 /// The reading of a part that two separators enclose.
 fn read_part(
@@ -43,21 +27,24 @@ fn read_part(
     run.started()
 }
 
-impl Marked {
-    /// Reads from behind a separator up to `end`.
-    pub(crate) fn of(
+impl Piece for TextRun {
+    type Finished = Started;
+
+    ghost is_finished = { IsReading };
+
+    ghost long = { λ bytes run h. h.long };
+
+    fn finished_with(&self, right: &Self) -> Result<Started, AllocError> {
+        self.started_with(right)
+    }
+
+    fn behind(
         alloc: Global,
         text: &[u8],
         start: usize,
         end: usize,
         depth: Depth,
-    ) -> Result<Marked, AllocError>
-        requires ordered { start ≤ end }
-        requires within { end ≤ length text.now }
-        ensures end { IfOk result (λ m. m.after.map.end ≡ end) }
-        ensures depth { IfOk result (λ m. m.after.depth ≡ depth) }
-        ensures of { IfOk result (IsMarked depth (parts start (slice_range text.now start end))) }
-    {
+    ) -> Result<(Vec<Started>, Self), AllocError> {
         let mut done = Vec::new(alloc);
         let mut from = start;
         while let Some(at) = next_separator(text, from, end) {
@@ -67,6 +54,6 @@ impl Marked {
             from = at + 1;
         }
         let after = TextRun::of(alloc, text, from, end, depth)?;
-        Ok(Marked { done, after })
+        Ok((done, after))
     }
 }

@@ -1,4 +1,4 @@
-// What stands behind the first record separator of a part of a JSON text sequence, of which verdicts alone are kept.
+// Elements of a JSON text sequence that stand between two record separators, of which verdicts alone are kept.
 ghost use Rattle.std.specs.Prelude.{◌≡◌, ◌≤◌, ◌<◌, ◌+◌, ◌^◌, ℕ, List, length, map, slice_range, IfOk};
 ghost use Rattle.std.specs.List.{AllZip};
 ghost use Rattle.jx_run.specs.Elements.{Part, filled, part, parts};
@@ -9,27 +9,13 @@ ghost use Rattle.jx_run.specs.ElementVerdict.{IsJudgedElement};
 use crate::element_verdict::{JudgedElement, all_moved};
 use crate::open_end::{ends_open, told};
 use crate::part_run::PartRun;
+use crate::parted::Marked;
+use crate::piece::Piece;
 use crate::reader::Reader;
 use crate::separators::next_separator;
+use jx_summary::Summary;
 use jx_lex::{Depth, Span};
 use std::alloc::{AllocError, Global};
-use std::marker::Model;
-
-/// The verdicts on the parts that a further separator ends, where they aren't empty, and the run of what stands behind the last
-/// separator.
-#[derive(Drop)]
-pub(crate) struct MarkedElements {
-    pub(crate) done: Vec<JudgedElement>,
-    pub(crate) after: PartRun,
-}
-
-impl Model for MarkedElements {
-    ghost use Rattle.jx_run.specs.ElementsRun.{MarkedElementsValue};
-
-    ghost Value = { MarkedElementsValue };
-
-    ghost view = { λ m. record { done = m.done.items; after = m.after } };
-}
 
 /// The verdict on an element that two separators enclose. The reader begins anew.
 fn read_element(
@@ -53,22 +39,25 @@ fn read_element(
     })
 }
 
-impl MarkedElements {
-    /// Reads from behind a separator up to `end`. One reader serves every element.
-    pub(crate) fn of(
+impl Piece for PartRun {
+    type Finished = JudgedElement;
+
+    ghost is_finished = { IsJudgedElement };
+
+    ghost long = { λ bytes run h. h.outcomes.long };
+
+    fn finished_with(&self, right: &Self) -> Result<JudgedElement, AllocError> {
+        self.judged_with(right)
+    }
+
+    // one reader serves every element
+    fn behind(
         alloc: Global,
         text: &[u8],
         start: usize,
         end: usize,
         depth: Depth,
-    ) -> Result<MarkedElements, AllocError>
-        requires marked { 0 < start }
-        requires ordered { start ≤ end }
-        requires within { end ≤ length text.now }
-        ensures end { IfOk result (λ m. m.after.outcomes.end ≡ end) }
-        ensures depth { IfOk result (λ m. m.after.outcomes.depth ≡ depth) }
-        ensures of { IfOk result (AreMarked depth (parts start (slice_range text.now start end))) }
-    {
+    ) -> Result<(Vec<JudgedElement>, Self), AllocError> {
         let mut reader = Reader::new(alloc, depth, start);
         let mut done = Vec::new(alloc);
         let mut from = start;
@@ -79,36 +68,36 @@ impl MarkedElements {
             from = at + 1;
         }
         let after = PartRun::of(alloc, text, from, end, depth)?;
-        Ok(MarkedElements { done, after })
+        Ok((done, after))
     }
+}
 
-    /// The elements in order, the last one behind the others unless it is empty.
-    pub(crate) fn into_elements(self) -> Result<Vec<JudgedElement>, AllocError>
-        ensures { (limit : ℕ) (behind : List Part) → AreMarked limit behind self → IfOk result (λ es. AllZip (IsJudgedElement limit) (filled behind) es.items) }
-    {
-        let MarkedElements {
-            done: mut elements,
-            after,
-        } = self;
-        let span = after.span();
-        if span.start < span.end {
-            elements.push(after.judged())?;
-        }
-        Ok(elements)
+/// The elements behind the first separator, in order, the last one behind the others unless it is empty.
+pub(crate) fn elements_behind(marked: Marked<PartRun>) -> Result<Vec<JudgedElement>, AllocError>
+    ensures { (limit : ℕ) (behind : List Part) → AreMarked limit behind marked → IfOk result (λ es. AllZip (IsJudgedElement limit) (filled behind) es.items) }
+{
+    let Marked {
+        done: mut elements,
+        after,
+    } = marked;
+    let span = after.span();
+    if span.start < span.end {
+        elements.push(after.judged())?;
     }
+    Ok(elements)
+}
 
-    /// The same elements, and the same run behind them, so much further on. It takes no memory.
-    pub(crate) fn shifted(self, by: usize) -> MarkedElements
-        requires fits { self.after.outcomes.end + by < 2 ^ 64 }
-        ensures done { result.done ≡ map (moved by) self.done }
-        ensures start { result.after.outcomes.start ≡ by + self.after.outcomes.start }
-        ensures end { result.after.outcomes.end ≡ by + self.after.outcomes.end }
-        ensures depth { result.after.outcomes.depth ≡ self.after.outcomes.depth }
-        ensures after { (bytes : List ℕ) → IsPartRun bytes self.after → IsPartRun bytes result.after }
-    {
-        MarkedElements {
-            done: all_moved(by, self.done),
-            after: self.after.shifted(by),
-        }
+/// The same elements, and the same run behind them, so much further on. It takes no memory.
+pub(crate) fn shifted_behind(marked: Marked<PartRun>, by: usize) -> Marked<PartRun>
+    requires fits { marked.after.outcomes.end + by < 2 ^ 64 }
+    ensures done { result.done ≡ map (moved by) marked.done }
+    ensures start { result.after.outcomes.start ≡ by + marked.after.outcomes.start }
+    ensures end { result.after.outcomes.end ≡ by + marked.after.outcomes.end }
+    ensures depth { result.after.outcomes.depth ≡ marked.after.outcomes.depth }
+    ensures after { (bytes : List ℕ) → IsPartRun bytes marked.after → IsPartRun bytes result.after }
+{
+    Marked {
+        done: all_moved(by, marked.done),
+        after: marked.after.shifted(by),
     }
 }

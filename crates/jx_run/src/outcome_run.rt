@@ -72,7 +72,7 @@ fn ends_text(state: LexState, expect: Expect, containers: usize) -> bool
 }
 
 /// The verdict on a whole text, from where its track ends and from what its marks come to.
-pub(crate) fn verdict_from(exit: LexExit, whole: Whole) -> Verdict
+pub fn verdict_from(exit: LexExit, whole: Whole) -> Verdict
     ensures { result ≡ verdict_from exit whole }
 {
     match (whole, exit) {

@@ -32,39 +32,6 @@ impl Model for PartRun {
 }
 
 impl PartRun {
-    /// Reads the bytes from `start` up to `end` as a part of an element, or as all of it.
-    pub(crate) fn of(
-        alloc: Global,
-        text: &[u8],
-        start: usize,
-        end: usize,
-        depth: Depth,
-    ) -> Result<PartRun, AllocError>
-        requires ordered { start ≤ end }
-        requires within { end ≤ length text.now }
-        ensures span { IfOk result (λ r. outcome_span r.outcomes ≡ span start end) }
-        ensures depth { IfOk result (λ r. r.outcomes.depth ≡ depth) }
-        ensures of { IfOk result (λ r. IsPartRun (slice_range text.now start end) r) }
-    {
-        let outcomes = OutcomeRun::of(alloc, text, start, end, depth)?;
-        let loose = ends_open(&text[start..end]);
-        Ok(PartRun { outcomes, loose })
-    }
-
-    /// Where its bytes stand.
-    pub(crate) fn span(&self) -> Span
-        ensures { result ≡ outcome_span self.now.outcomes }
-    {
-        self.outcomes.span()
-    }
-
-    /// The depth that it was read with.
-    pub(crate) fn depth(&self) -> Depth
-        ensures { result ≡ self.now.outcomes.depth }
-    {
-        self.outcomes.depth()
-    }
-
     /// Where its memory comes from.
     pub(crate) fn allocator(&self) -> Global {
         self.outcomes.allocator()
@@ -80,22 +47,6 @@ impl PartRun {
             right.loose
         } else {
             self.loose
-        }
-    }
-
-    /// Joins with the part to the right; where memory is refused, both are handed back as they were.
-    pub(crate) fn join(self, right: PartRun) -> Result<PartRun, JoinFault<PartRun>>
-        requires neighbours { self.outcomes.end ≡ right.outcomes.start }
-        requires depth { self.outcomes.depth ≡ right.outcomes.depth }
-        ensures span { IfOk result (λ r. outcome_span r.outcomes ≡ span self.outcomes.start right.outcomes.end) }
-        ensures depth { IfOk result (λ r. r.outcomes.depth ≡ self.outcomes.depth) }
-        ensures of { IfOk result (λ r. (xs ys : List ℕ) → IsPartRun xs self → IsPartRun ys right → IsPartRun (xs ++ ys) r) }
-        ensures refused { IfErr result (λ f. (f.left ≡ self) × (f.right ≡ right)) }
-    {
-        let loose = self.loose_with(&right);
-        match self.outcomes.joined(&right.outcomes) {
-            Ok(outcomes) => Ok(PartRun { outcomes, loose }),
-            Err(AllocError) => Err(JoinFault { left: self, right }),
         }
     }
 
@@ -140,5 +91,41 @@ impl PartRun {
             span,
             verdict: told(verdict, self.loose_with(right)),
         })
+    }
+}
+
+impl Summary for PartRun {
+    ghost span = { λ r. outcome_span r.outcomes };
+
+    ghost depth = { λ r. r.outcomes.depth };
+
+    ghost is_of = { λ r bytes. IsPartRun bytes r };
+
+    fn of(
+        alloc: Global,
+        text: &[u8],
+        start: usize,
+        end: usize,
+        depth: Depth,
+    ) -> Result<Self, AllocError> {
+        let outcomes = OutcomeRun::of(alloc, text, start, end, depth)?;
+        let loose = ends_open(&text[start..end]);
+        Ok(PartRun { outcomes, loose })
+    }
+
+    fn join(self, right: Self) -> Result<Self, JoinFault<Self>> {
+        let loose = self.loose_with(&right);
+        match self.outcomes.joined(&right.outcomes) {
+            Ok(outcomes) => Ok(PartRun { outcomes, loose }),
+            Err(AllocError) => Err(JoinFault { left: self, right }),
+        }
+    }
+
+    fn span(&self) -> Span {
+        self.outcomes.span()
+    }
+
+    fn depth(&self) -> Depth {
+        self.outcomes.depth()
     }
 }

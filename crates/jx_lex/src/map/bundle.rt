@@ -32,7 +32,7 @@ impl Model for Bundle {
 }
 
 /// Whether this state is among the live ones.
-fn is_live(live: &[bool; 32], state: LexState) -> bool
+pub(crate) fn is_live(live: &[bool; 32], state: LexState) -> bool
     ensures { result ≡ is_live live.now state }
 {
     live[state.number()]
@@ -183,7 +183,7 @@ impl Bundle {
         })
     }
 
-    /// Lets each track go on as the right one does from the state in which it stands.
+    /// Continues each track by the right track from the state in which it stands.
     pub(crate) fn join(&mut self, right: Bundle) -> Result<(), AllocError>
         requires inside { (s : LexState) → IsIn (length right.parts) (head right.heads s) }
         ensures { OnOk result (self.new ≡ joined_bundle self.old right) }

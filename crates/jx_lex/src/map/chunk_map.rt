@@ -17,10 +17,10 @@ use crate::map::track_view::TrackView;
 use std::alloc::{AllocError, Global};
 use std::marker::Model;
 
-/// So many bytes are read one by one from all states. Mostly two tracks are left by then.
+/// How many bytes are read one by one from all states. Mostly two tracks are left by then.
 const MANY_BYTES: usize = 16;
 
-/// So many bytes at least has a beginning. Tracks that meet have mostly met by then.
+/// How many bytes a beginning has at least. Tracks that meet have mostly met by then.
 const BEGINNING: usize = 64;
 
 /// What reading a part of a text gives from each of the 32 lexical states, with no knowledge of what stands to its left:
@@ -31,7 +31,7 @@ pub struct ChunkMap {
     end: usize,
     heads: [Link; 32],
     segments: Vec<Segment>,
-    // The first so many segments don't lead out in a state.
+    // How many segments in front are known to lead to no state, so that a join leaves them as they are.
     closed: usize,
 }
 
@@ -122,7 +122,8 @@ impl ChunkMap {
         ChunkMap::up_to(alloc, text, start, least, end)
     }
 
-    /// The map of a beginning that ends at an offset, or where no more than two states are live behind it.
+    /// The map of a beginning that has at least the bytes before `least`, and goes on until its tracks stand in at most two
+    /// states.
     fn up_to(
         alloc: Global,
         text: &[u8],

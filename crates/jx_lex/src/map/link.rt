@@ -10,7 +10,7 @@ ghost use Rattle.jx_lex.specs.declared.alphabet.state.LexState.{LexState};
 use crate::alphabet::lex_exit::LexExit;
 use crate::alphabet::state::LexState;
 
-/// What follows a segment: the segment behind the next so many ones, or an exit.
+/// What follows a segment: another segment, named by how many stand between the two, or an exit.
 #[derive(Clone, Copy, Debug, PartialEq, Eq)]
 pub enum Link {
     Ahead(usize),
@@ -39,7 +39,7 @@ impl Link {
         }
     }
 
-    /// The same over so many more segments.
+    /// The same link, with so many more segments between.
     pub(crate) fn shifted(self, by: usize, count: usize) -> Link
         requires is_in { IsIn count self }
         requires fits { by + count < 2 ^ 64 }
@@ -51,7 +51,8 @@ impl Link {
         }
     }
 
-    /// Where the right begins in the state that this leads out in, so many segments on; any other link as it is.
+    /// An exit in a state becomes the right map's head for that state, so many segments further on. Any other link stays as
+    /// it is.
     pub(crate) fn linked(self, heads: &[Link; 32], by: usize, count: usize) -> Link
         requires all { (s : LexState) → IsIn count (head heads.now s) }
         requires fits { by + count < 2 ^ 64 }
@@ -64,7 +65,7 @@ impl Link {
     }
 }
 
-/// Lets all that leads out go on where the right begins, so many segments further on.
+/// Links each head that is an exit in a state to the right map's head for that state, so many segments further on.
 pub(crate) fn link_heads(heads: &mut [Link; 32], right: &[Link; 32], by: usize, count: usize)
     requires all { (s : LexState) → IsIn count (head right.now s) }
     requires fits { by + count < 2 ^ 64 }
@@ -75,42 +76,13 @@ pub(crate) fn link_heads(heads: &mut [Link; 32], right: &[Link; 32], by: usize, 
     }
 }
 
-/// Each state stays what it is.
+/// The heads of a map of no bytes: from each state, the exit in that state.
 pub(crate) fn same_heads() -> [Link; 32]
     ensures { result ≡ map State all_states }
 {
-    [
-        Link::State(LexState::Gap),
-        Link::State(LexState::Str),
-        Link::State(LexState::Esc),
-        Link::State(LexState::Hex4),
-        Link::State(LexState::Hex3),
-        Link::State(LexState::Hex2),
-        Link::State(LexState::Hex1),
-        Link::State(LexState::Tail1),
-        Link::State(LexState::Tail2),
-        Link::State(LexState::Tail3),
-        Link::State(LexState::AfterE0),
-        Link::State(LexState::AfterEd),
-        Link::State(LexState::AfterF0),
-        Link::State(LexState::AfterF4),
-        Link::State(LexState::Minus),
-        Link::State(LexState::Zero),
-        Link::State(LexState::Int),
-        Link::State(LexState::Dot),
-        Link::State(LexState::Frac),
-        Link::State(LexState::E),
-        Link::State(LexState::ESign),
-        Link::State(LexState::Exp),
-        Link::State(LexState::T),
-        Link::State(LexState::Tr),
-        Link::State(LexState::Tru),
-        Link::State(LexState::F),
-        Link::State(LexState::Fa),
-        Link::State(LexState::Fal),
-        Link::State(LexState::Fals),
-        Link::State(LexState::N),
-        Link::State(LexState::Nu),
-        Link::State(LexState::Nul),
-    ]
+    let mut heads = [Link::Fault(0); 32];
+    for state in LexState::all() {
+        heads[state.number()] = Link::State(state);
+    }
+    heads
 }

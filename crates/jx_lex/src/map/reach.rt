@@ -1,4 +1,4 @@
-// What of a map the tracks that come from the left reach.
+// Which segments of a map the tracks that come from the left reach.
 ghost use Rattle.std.specs.Prelude.{◌≡◌, ◌≤◌, true, length, IfOk, OnOk, OnErr, ◌++◌, ◌+◌, ◌<◌, ◌^◌};
 ghost use Rattle.jx_lex.specs.declared.alphabet.state.LexState.{LexState};
 ghost use Rattle.jx_lex.specs.inside.Bundle.{AllLive, LiveAt, is_live};
@@ -6,11 +6,13 @@ ghost use Rattle.jx_lex.specs.inside.Closed.{ClosedTo};
 ghost use Rattle.jx_lex.specs.Follow.{AreIn, IsIn, head, linked_parts};
 ghost use Rattle.jx_lex.specs.inside.Pruned.{IsReached, pruned, with_exit_of};
 
+use crate::map::bundle::is_live;
 use crate::map::link::Link;
 use crate::map::segment::{Segment, link_segments};
+use crate::alphabet::state::LexState;
 use std::alloc::{AllocError, Global};
 
-/// Notes the state where this leads out.
+/// Notes the state of this link, where it is an exit in a state.
 fn note(live: &mut [bool; 32], link: Link)
     ensures { live.new ≡ with_exit_of link live.old }
 {
@@ -19,7 +21,7 @@ fn note(live: &mut [bool; 32], link: Link)
     }
 }
 
-/// The states where the tracks of a map lead out. The first so many segments don't.
+/// The states in which the tracks of a map may end. The first `closed` segments lead to none.
 pub(crate) fn exits(heads: &[Link; 32], segments: &[Segment], closed: usize) -> [bool; 32]
     requires within { closed ≤ length segments.now }
     requires all_closed { ClosedTo closed segments.now }
@@ -30,8 +32,8 @@ pub(crate) fn exits(heads: &[Link; 32], segments: &[Segment], closed: usize) -> 
     for i in closed..segments.len() {
         note(&mut live, segments[i].next());
     }
-    for j in 0..32 {
-        note(&mut live, heads[j]);
+    for state in LexState::all() {
+        note(&mut live, heads[state.number()]);
     }
     live
 }
@@ -48,9 +50,9 @@ pub(crate) fn reached_from(
     ensures heads { IfOk result (λ r. (s : LexState) → is_live live.now s ≡ true → IsReached r.items (head heads.now s)) }
 {
     let mut reached = vec![in alloc; false; count]?;
-    for j in 0..32 {
-        if live[j] {
-            if let Link::Ahead(skip) = heads[j] {
+    for state in LexState::all() {
+        if is_live(live, state) {
+            if let Link::Ahead(skip) = heads[state.number()] {
                 reached[skip] = true;
             }
         }
@@ -73,8 +75,8 @@ fn prune(segments: &mut [Segment], reached: &mut [bool])
     }
 }
 
-/// Moves the right's segments behind the left's, and lets what leads out on the left go on in them. Those that nothing
-/// reaches are emptied.
+/// Moves the right's segments behind the left's, and links each open exit of the left to the right map's head for that
+/// state. Segments of the right that nothing reaches are emptied.
 pub(crate) fn append_reached(
     left: &mut Vec<Segment>,
     right: &mut Vec<Segment>,

@@ -15,7 +15,7 @@ use crate::scanner::tokens::Tokens;
 use std::alloc::{AllocError, Global};
 use std::marker::Model;
 
-/// Marks and ends that stand one after another in each track that comes here.
+/// Marks and ends that each track through this segment has, one after another.
 #[derive(Drop)]
 pub struct Segment {
     tokens: Tokens,
@@ -31,7 +31,7 @@ impl Model for Segment {
 }
 
 impl Segment {
-    /// A segment with no marks and no ends, which leads there.
+    /// A segment with no marks and no ends, which this link follows.
     pub(crate) fn new(alloc: Global, next: Link) -> Segment
         ensures { result ≡ record { marks = []; ends = []; next = next } }
     {
@@ -106,7 +106,7 @@ impl Segment {
         Ok(())
     }
 
-    /// Keeps only its first so many marks and ends, and leads there.
+    /// Keeps only so many of its first marks and ends. This link follows it from now on.
     pub(crate) fn go_back(&mut self, marks: usize, ends: usize, next: Link)
         ensures { self.new ≡ record { marks = take marks self.old.marks; ends = take ends self.old.ends; next = next } }
     {
@@ -114,7 +114,7 @@ impl Segment {
         self.next = next;
     }
 
-    /// Leads there; its marks and ends stay.
+    /// Sets what follows it. Its marks and ends stay.
     pub(crate) fn set_next(&mut self, next: Link)
         ensures { self.new ≡ record self.old { next = next } }
     {
@@ -122,8 +122,8 @@ impl Segment {
     }
 }
 
-/// Lets all that leads out go on where the right begins.
-/// The first so many don't lead out in a state, and stay as they are.
+/// Links each open exit to the right map's head for that state.
+/// The first `closed` segments have no open exit, and stay as they are.
 pub(crate) fn link_segments(
     segments: &mut [Segment],
     heads: &[Link; 32],
@@ -144,7 +144,8 @@ pub(crate) fn link_segments(
     }
 }
 
-/// Moves the right's segments behind the left's, and lets what leads out on the left go on in them.
+/// Moves the right's segments behind the left's, and links each open exit of the left to the right map's head for that
+/// state.
 pub(crate) fn append_linked(
     left: &mut Vec<Segment>,
     right: &mut Vec<Segment>,

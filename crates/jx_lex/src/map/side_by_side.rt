@@ -45,7 +45,7 @@ fn are_many_apart(segments: &[Segment]) -> bool
     standing > 2
 }
 
-/// Takes one more byte in at the end of each.
+/// IsBundleOf one more byte at the end of each segment.
 fn read_each(segments: &mut [Segment], at: usize, byte: u8) -> Result<(), AllocError>
     requires { at + 1 < 2 ^ 64 }
     ensures { OnOk result (segments.new ≡ map (read_part at byte) segments.old) }
@@ -57,7 +57,7 @@ fn read_each(segments: &mut [Segment], at: usize, byte: u8) -> Result<(), AllocE
     Ok(())
 }
 
-/// Whether digits change nothing for what stands so.
+/// Whether digits change nothing for a segment that this follows.
 fn keeps_digits(next: Link) -> bool
     ensures { IsTrue result → (w : List ℕ) → AllKeep state.Str w → AllKeep state.Int w → AllKeep state.Frac w → AllKeep state.Exp w → KeptBy next w }
 {

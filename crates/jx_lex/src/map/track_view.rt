@@ -2,10 +2,9 @@
 ghost use Rattle.std.specs.Prelude.{◌≡◌, ◌<◌, ◌+◌, length, slice_index_or, drop, All, flat_map};
 ghost use Rattle.jx_lex.specs.View.{exit_of, view_track, view_path, marks_at, ends_at};
 
-use crate::map::ends::Ends;
 use crate::alphabet::lex_exit::LexExit;
+use crate::map::items::{Ends, Marks};
 use crate::map::link::Link;
-use crate::map::marks::Marks;
 use crate::map::path::Path;
 use crate::map::segment::Segment;
 use std::marker::Model;
@@ -30,7 +29,7 @@ impl<'a> Model for TrackView<'a> {
     ghost invariant = { λ v. IsIn (length v.segments.now) v.first × AreIn v.segments.now };
 }
 
-/// The segment behind the next so many ones, and what stands behind it.
+/// The segment behind the next `skip` ones, and those that stand behind it.
 pub(crate) fn walk<'a>(rest: &'a [Segment], skip: usize) -> (&'a Segment, &'a [Segment])
     requires { skip < length rest.now }
     ensures segment { result.0.now ≡ slice_index_or rest.now skip result.0.now }

@@ -9,8 +9,8 @@ use crate::map::segment::Segment;
 use crate::alphabet::state::LexState;
 use std::alloc::AllocError;
 
-// Two tracks are read apart over so many bytes at first, and over twice as many each time up to so many: where they meet,
-// what was read of that stretch is read again.
+// Two tracks are read apart, a stretch at a time: the first stretch has `FIRST_STRETCH` bytes, and each later one is twice as
+// long as the one before, up to `LONGEST_STRETCH`. A stretch in which the tracks may have met is read again.
 const FIRST_STRETCH: usize = 64;
 
 const LONGEST_STRETCH: usize = 4096;
@@ -25,8 +25,8 @@ fn are_apart(first: Link, second: Link) -> bool
     }
 }
 
-/// Where one of two segments stands inside a string, the other one alone is read up to the next byte that is not a plain
-/// one of a string. Gives the end of what was read.
+/// Where one of two segments stands inside a string, reads the other one alone up to the next byte that is not plain in a
+/// string: until there, the first stays as it is. Gives the end of what was read.
 fn read_plain(
     first: &mut Segment,
     second: &mut Segment,
@@ -51,7 +51,7 @@ fn read_plain(
     Ok(from)
 }
 
-/// Reads two segments side by side while they stand in two states. Gives the end of what was read.
+/// Reads two segments side by side while they stand in different states. Gives the end of what was read.
 fn read_pair(
     first: &mut Segment,
     second: &mut Segment,
@@ -73,7 +73,7 @@ fn read_pair(
     Ok(i)
 }
 
-/// Whether both may lead to one place: false where they surely don't.
+/// Whether both may lead to the same place. False only where they don't.
 fn may_lead_alike(first: Link, second: Link) -> bool
     ensures { result ≡ false → first ≡ second → ⊥ }
 {
@@ -97,8 +97,8 @@ fn stretch_end(from: usize, to: usize, stretch: usize) -> usize
     }
 }
 
-/// Reads two segments over a stretch, one after the other. Where they then lead to the same, they may have met in it: both
-/// are put back as they were, and the answer is true.
+/// Reads two segments over a stretch, one after the other. Where both may then lead to the same place, they may have met in
+/// it: both are put back as they were, and the answer is true.
 fn may_have_met(
     first: &mut Segment,
     second: &mut Segment,
@@ -122,7 +122,7 @@ fn may_have_met(
     Ok(false)
 }
 
-/// Reads two segments while they stand in two states, each over a stretch at a time. Gives the end of what was read.
+/// Reads two segments while they stand in different states, a stretch at a time. Gives the end of what was read.
 fn read_stretches(
     first: &mut Segment,
     second: &mut Segment,
@@ -151,7 +151,7 @@ fn read_stretches(
     Ok(i)
 }
 
-/// Reads to the end where two segments have come to stand in one state: they go on in a third.
+/// Reads to the end from two segments that have come to stand in one state: both go on in a third.
 fn read_met(
     lanes: Vec<Segment>,
     mut first: Segment,

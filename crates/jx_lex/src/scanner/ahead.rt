@@ -2,10 +2,10 @@
 ghost use Rattle.std.specs.Prelude.{◌≡◌, ◌≤◌, ◌&&◌, length, nat_le, nat_lt, ℕ, List};
 ghost use Rattle.jx_lex.specs.inside.Ahead.{IsSound};
 
-// So many bytes are read one character after another before a stretch is tested.
+// How many bytes are read one character after another before a stretch is tested.
 pub(crate) const LEAST: usize = 32;
 
-// A stretch is at most so long, but for three bytes.
+// The length of the longest stretch, but for up to three bytes.
 const MOST: usize = 4096;
 
 /// A stretch of a text that is well-formed UTF-8 (RFC 3629, section 4): a reader of strings need not look at its
@@ -105,7 +105,8 @@ impl Ahead {
         self.from <= at && at < self.tested && self.tested <= to
     }
 
-    /// The stretch with the byte at this place, or the one that begins there where it pays to test it, or what it was.
+    /// This stretch, or a new one that begins at this place, where the bytes from there on are not tested yet and testing
+    /// them pays.
     #[inline(always)]
     pub(crate) fn at(self, text: &[u8], at: usize, to: usize) -> Ahead
         requires bounds { (at ≤ to) × (to ≤ length text.now) }
@@ -128,9 +129,8 @@ impl Ahead {
     }
 }
 
-/// Where the block of `MOST` bytes ends that this byte or the one three behind it stands in: a stretch that ended
-/// inside a character leaves up to three bytes of the block before. Whole blocks are tested sooner than bytes across
-/// two.
+/// The end of the block of `MOST` bytes that has the byte three places behind this one: a stretch that ended inside a
+/// character leaves up to three bytes of the block before. Whole blocks are tested faster than bytes across two blocks.
 #[inline(always)]
 fn end_of_block(from: usize) -> usize {
     (from.saturating_add(3) / MOST)

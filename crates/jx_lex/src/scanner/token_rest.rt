@@ -1,4 +1,4 @@
-// Going on after a byte over what follows of its token, or over blanks.
+// Reading on behind a byte: over the rest of its token, or over blanks.
 ghost use Rattle.std.specs.Prelude.{◌≡◌, ◌≤◌, ◌<◌, ◌+◌, ◌↔◌, ◌||◌, ◌==◌, IsTrue, slice_range, length};
 ghost use Rattle.jx_lex.specs.declared.alphabet.state.LexState.TheVariants as state;
 ghost use Rattle.jx_lex.specs.Uneventful.{AllKeep, Leads};
@@ -23,7 +23,7 @@ pub(crate) fn gap_end(text: &[u8], byte: u8, from: usize, to: usize) -> usize
     }
 }
 
-/// After a minus sign, its first digit.
+/// Reads the first digit behind a minus sign.
 /// Gives the place behind it, or `from` where none is read.
 #[inline(always)]
 fn first_digit(text: &[u8], state: &mut LexState, from: usize, to: usize) -> usize
@@ -48,7 +48,7 @@ fn first_digit(text: &[u8], state: &mut LexState, from: usize, to: usize) -> usi
     }
 }
 
-/// The digits that follow.
+/// Reads the digits that follow.
 /// Gives their end, or `from` in a state that is none of `Int`, `Frac` and `Exp`.
 #[inline(always)]
 pub(crate) fn more_digits(text: &[u8], state: LexState, from: usize, to: usize) -> usize
@@ -64,7 +64,7 @@ pub(crate) fn more_digits(text: &[u8], state: LexState, from: usize, to: usize) 
     }
 }
 
-/// A decimal point and a digit behind an integer part.
+/// Reads a decimal point and a digit behind an integer part.
 /// Gives the place behind them, or `from` where they are not read.
 #[inline(always)]
 fn point(text: &[u8], state: &mut LexState, from: usize, to: usize) -> usize
@@ -88,7 +88,7 @@ fn point(text: &[u8], state: &mut LexState, from: usize, to: usize) -> usize
     }
 }
 
-/// The letter that begins an exponent, behind a digit.
+/// Reads the letter that begins an exponent, behind a digit.
 /// Gives the place behind it, or `from` where none is read.
 #[inline(always)]
 fn letter(text: &[u8], state: &mut LexState, from: usize, to: usize) -> usize
@@ -124,7 +124,7 @@ fn is_letter(byte: u8) -> bool
     byte == b'e' || byte == b'E'
 }
 
-/// The sign of an exponent, if it has one.
+/// Reads the sign of an exponent, if it has one.
 /// Gives the place behind it, or `from` where none is read.
 #[inline(always)]
 fn sign(text: &[u8], state: &mut LexState, from: usize, to: usize) -> usize
@@ -149,7 +149,7 @@ fn sign(text: &[u8], state: &mut LexState, from: usize, to: usize) -> usize
     }
 }
 
-/// The first digit of an exponent.
+/// Reads the first digit of an exponent.
 /// Gives the place behind it, or `from` where none is read.
 #[inline(always)]
 fn exponent_digit(text: &[u8], state: &mut LexState, from: usize, to: usize) -> usize
@@ -173,7 +173,7 @@ fn exponent_digit(text: &[u8], state: &mut LexState, from: usize, to: usize) -> 
     }
 }
 
-/// An exponent, if the number has one, as far as it stands there.
+/// Reads an exponent, if the number has one, as far as it stands there.
 /// Gives the place behind what is read, or `from`.
 #[inline(always)]
 fn exponent(text: &[u8], state: &mut LexState, from: usize, to: usize) -> usize
@@ -249,7 +249,7 @@ pub(crate) fn literal_end(text: &[u8], begun: LexState, from: usize, to: usize) 
     }
 }
 
-/// Whether no number goes on with this byte, and a value mostly ends before it.
+/// Whether this is one of the bytes that mostly stand behind a value. No number goes on with any of them.
 #[inline(always)]
 fn is_delimiter(byte: u8) -> bool
     ensures { result ≡ (byte == 0x2c || byte == 0x5d || byte == 0x7d || byte == 0x0a) }
@@ -257,7 +257,7 @@ fn is_delimiter(byte: u8) -> bool
     byte == b',' || byte == b']' || byte == b'}' || byte == b'\n'
 }
 
-/// What follows of a number. Many have one digit.
+/// Reads the rest of a number. Many numbers have one digit.
 /// Gives the place behind what is read, or `from`.
 #[inline(always)]
 pub(crate) fn number_rest(text: &[u8], state: &mut LexState, from: usize, to: usize) -> usize

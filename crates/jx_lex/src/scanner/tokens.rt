@@ -13,8 +13,8 @@ use crate::alphabet::state::LexState;
 use std::alloc::{AllocError, Global};
 use std::marker::Model;
 
-// A stretch of at least so many bytes has room reserved for a mark to each four bytes and an end to each eight, so that
-// its vectors need not grow. Memory that is never written to costs next to nothing.
+// For each block of so many bytes, room is reserved for a mark to every four bytes and an end to every eight, so that the
+// vectors need not grow. Memory that is never written to costs next to nothing.
 const BLOCK: usize = 64;
 
 /// All marks and ends that it is told of, in order.
@@ -88,7 +88,7 @@ impl Tokens {
         Ok(())
     }
 
-    /// Keeps only the first so many.
+    /// Keeps only so many of the first marks and ends.
     pub(crate) fn cut_back(&mut self, marks: usize, ends: usize)
         ensures { self.new ≡ record { marks = take marks self.old.marks; ends = take ends self.old.ends } }
     {

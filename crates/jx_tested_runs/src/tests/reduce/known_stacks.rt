@@ -114,7 +114,7 @@ fn nesting_goes_on_across_the_ends_of_words(rt: HostRuntime) -> Result<(), Fail>
 fn whole_of(alloc: Global, text: &[u8], containers: u32) -> Result<Whole, AllocError> {
     let marks = marks_of(alloc, text)?;
     let mut stack = KnownStack::new(alloc, depth_of(containers));
-    stack.push_all(&marks)?;
+    stack.extend(&marks)?;
     Ok(stack.whole())
 }
 
@@ -130,7 +130,7 @@ fn is_as_reduced(alloc: Global, text: &[u8], containers: u32) -> Result<bool, Al
     let whole = all.entry(Expect::Value).whole();
     let mut stack = KnownStack::new(alloc, depth);
     for slice in marks.chunks(7) {
-        stack.push_all(slice)?;
+        stack.extend(slice)?;
     }
     let by_slices = stack.whole();
     stack.reset();

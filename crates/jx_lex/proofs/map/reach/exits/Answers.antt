@@ -1,8 +1,10 @@
-use Rattle.std.proofs.Common.{◌<◌, false, replicate, List, refl, subst, arith, length}
+use Rattle.std.proofs.Common.{◌≡◌, ◌<◌, false, replicate, List, refl, subst, ap, ◌∙◌, arith, length, get_or}
 use Rattle.std.proofs.lemmas.List.{take_all, get_or_default}
 use Rattle.jx_lex.specs.inside.Bundle.{AllLive}
 use Rattle.jx_lex.specs.Follow.{Part}
+use Rattle.jx_lex.specs.declared.map.link.Link.TheVariants.{Fault}
 use Rattle.jx_lex.proofs.Joined.{ordinal-low}
+use Rattle.jx_lex.proofs.Building.{ordinal-in}
 use Rattle.jx_lex.proofs.Pruning.{closed-live, noted-next, noted-heads, noted-parts}
 use Rattle.jx_lex.proofs.map.reach.exits.Goals as goal
 
@@ -17,26 +19,30 @@ loop-i-preserved c =
           c.loop-i.invariant.all c.loop-i.invariant.parts);
     }
 
-pub loop-j-init : goal.loop-j-init
-loop-j-init c =
+pub loop-state-init : goal.loop-state-init
+loop-state-init c =
     record {
       all = c.loop-i.invariant.all;
       parts = subst (λ (ps : List Part). AllLive c.loop-i.live ps) (take_all c.loop-i.i c.args.segments.now c.loop-i-test.false) c.loop-i.invariant.parts;
       heads = λ s lt. absurd (omega (arith, lt));
     }
 
-pub loop-j-preserved : goal.loop-j-preserved
-loop-j-preserved c =
-    let v = c.loop-j.invariant in
-    let note = c.note-in-loop-j.ensures in
+pub loop-state-preserved : goal.loop-state-preserved
+loop-state-preserved c =
+    let v = c.loop-state.invariant in
+    let note = c.note-in-loop-state.ensures in
+    let heads = c.args.heads.now in
+    let i = c.loop-state.state-index in
+    let n = c.number.result in
+    let at : n ≡ i = c.number.ensures.ordinal ∙ ordinal-in c.all-state-items.result i c.all-state-items.ensures c.loop-state-test.true in
     let all = c.told-heads in
-    let test = c.loop-j-test.true in
-    let low : c.loop-j.j < length c.args.heads.now = omega (arith, all, test) in
+    let few = c.number.ensures.low in
+    let low : n < length heads = omega (arith, all, few) in
     record {
-      all = c.note-in-loop-j.array_long;
-      parts = rw note (noted-parts _ c.args.segments.now c.loop-j.live v.all v.parts);
-      heads = rw note (noted-heads c.args.heads.now c.loop-j.j _ c.loop-j.live v.all (get_or_default c.args.heads.now c.loop-j.j _ _ low) v.heads);
+      all = c.note-in-loop-state.array_long;
+      parts = rw note (noted-parts _ c.args.segments.now c.loop-state.live v.all v.parts);
+      heads = rw note (noted-heads heads i _ c.loop-state.live v.all (get_or_default heads n _ _ low ∙ ap (λ k. get_or heads k (Fault 0)) at) v.heads);
     }
 
 pub returns-clause-heads : goal.returns-clause-heads
-returns-clause-heads c = λ s. c.loop-j.invariant.heads s (let l = ordinal-low s in omega (arith, l))
+returns-clause-heads c = λ s. c.loop-state.invariant.heads s (let l = ordinal-low s in omega (arith, l))

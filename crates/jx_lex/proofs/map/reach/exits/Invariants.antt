@@ -13,9 +13,9 @@ invariant-loop-i l = record {
 }
 
 -- and the first heads
-abbrev pub invariant-loop-j : goal.invariant-loop-j
-invariant-loop-j l = record {
+abbrev pub invariant-loop-state : goal.invariant-loop-state
+invariant-loop-state l = record {
   all : length l.live ≡ 32;
   parts : AllLive l.live l.segments;
-  heads : (s : LexState) → ordinal s < l.j → LiveAt l.live (head l.heads s);
+  heads : (s : LexState) → ordinal s < l.state-index → LiveAt l.live (head l.heads s);
 }

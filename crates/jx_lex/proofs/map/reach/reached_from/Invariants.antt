@@ -7,8 +7,8 @@ use Rattle.jx_lex.specs.inside.Pruned.{IsReached}
 use Rattle.jx_lex.proofs.map.reach.reached_from.Given as goal
 
 -- where the first heads lead is noted
-abbrev pub invariant-loop-j : goal.invariant-loop-j
-invariant-loop-j l = record {
+abbrev pub invariant-loop-state : goal.invariant-loop-state
+invariant-loop-state l = record {
   many : length l.reached.items ≡ l.count;
-  heads : (s : LexState) → ordinal s < l.j → is_live l.live s ≡ true → IsReached l.reached.items (head l.heads s);
+  heads : (s : LexState) → ordinal s < l.state-index → is_live l.live s ≡ true → IsReached l.reached.items (head l.heads s);
 }

@@ -5,8 +5,8 @@ use Rattle.jx_reduce.proofs.Exits.{GoesOn-of_nothing}
 use Rattle.jx_reduce.proofs.Readings.{Fits-of_nothing}
 use Rattle.jx_reduce.proofs.levels.Levels.of.Goals as goal
 
-pub go_on-requires-clause-fits : goal.go_on-requires-clause-fits
-go_on-requires-clause-fits c = subst (Fits c.args.depth) (sym c.new.ensures) (Fits-of_nothing c.args.depth c.args.entry)
+pub read_on-requires-clause-fits : goal.read_on-requires-clause-fits
+read_on-requires-clause-fits c = subst (Fits c.args.depth) (sym c.new.ensures) (Fits-of_nothing c.args.depth c.args.entry)
 
-pub go_on-requires-clause-goes_on : goal.go_on-requires-clause-goes_on
-go_on-requires-clause-goes_on c = subst GoesOn (sym c.new.ensures) (GoesOn-of_nothing c.args.entry)
+pub read_on-requires-clause-goes_on : goal.read_on-requires-clause-goes_on
+read_on-requires-clause-goes_on c = subst GoesOn (sym c.new.ensures) (GoesOn-of_nothing c.args.entry)

@@ -9,10 +9,10 @@ returns-then-self-lt-WORD-clause-ok c =
     word_more c.self.inside.count c.self.inside.bits c.bit_of-bit.result _ c.bit_of-bit.ensures.within
     ∙ pushed _ _ _ _ c.bit_of-bit.ensures.holder c.self.view_is
 
-pub returns-in_ok-spill-clause-ok : goal.returns-in_ok-spill-clause-ok
-returns-in_ok-spill-clause-ok c =
+pub returns-in_ok-push_word-clause-ok : goal.returns-in_ok-push_word-clause-ok
+returns-in_ok-push_word-clause-ok c =
     word_one c.bit_of-bit.result _ c.bit_of-bit.ensures.within
     ∙ pushed _ _ _ _ c.bit_of-bit.ensures.holder
-    (ap (λ ws. in_words (reverse ws)) c.in_ok-spill.ensures.ok
+    (ap (λ ws. in_words (reverse ws)) c.in_ok-push_word.ensures.ok
     ∙ spilled c.self.inside.count c.self.inside.bits c.self.inside.words.items (omega arith)
     ∙ c.self.view_is)

@@ -10,11 +10,12 @@ use Rattle.jx_run.proofs.elements_run.ElementsRun.into_elements.Goals as goal
 pub returns : goal.returns
 returns c = record {
   elements = λ bytes h.
-      let before = c.self.inside.before in
-      let marked = c.self.inside.marked in
+      let is = ap (λ i. i.parted) c.self-inside.view_is ∙ c.self.view_is in
+      let before = c.self-inside.inside.0.0.before in
+      let marked = c.self-inside.inside.0.0.marked in
       let limit = before.outcomes.depth in
-      let k : IsSummaryOf bytes before marked = subst (λ (v : ElementsRunValue). IsSummaryOf bytes v.before v.marked) (sym c.self.view_is) h in
-      let starts : before.outcomes.start ≡ 0 = ap (λ (v : ElementsRunValue). v.before.outcomes.start) c.self.view_is ∙ c.requires.whole in
+      let k : IsSummaryOf bytes before marked = subst (λ (v : ElementsRunValue). IsSummaryOf bytes v.before v.marked) (sym is) h in
+      let starts : before.outcomes.start ≡ 0 = ap (λ (v : ElementsRunValue). v.before.outcomes.start) is ∙ c.requires.whole in
       let rest : AllZip (IsJudgedElement limit) (filled (after_separators before.outcomes.start bytes)) c.match-marked.elements.items =
       elim c.match-marked.branch [
         | in-None w ↦ rw (w.elements-is, w.new-elements.ensures.items, unmarked_rest bytes before marked w.in-None.is k) tt
@@ -24,9 +25,9 @@ returns c = record {
       let all : AllZip (IsJudgedElement limit) (elements 0 bytes) c.if-span.elements.items =
       elim c.if-span.branch [
         | then-span+in_ok-insert w ↦ rw (w.elements-is, w.in_ok-insert.ensures.items)
-            (with_first bytes before marked c.span-span.result c.span-span.ensures starts k limit c.match-marked.elements.items rest w.if-span.true)
+            (with_first bytes before marked c.span-span.result c.span-span.ensures.span starts k limit c.match-marked.elements.items rest w.if-span.true)
         | else-span w ↦ rw (w.elements-is)
-            (without_first bytes before marked c.span-span.result c.span-span.ensures starts k limit c.match-marked.elements.items rest w.if-span.false)
+            (without_first bytes before marked c.span-span.result c.span-span.ensures.span starts k limit c.match-marked.elements.items rest w.if-span.false)
       ] in
-      subst (λ (v : ElementsRunValue). AllZip (IsJudgedElement v.before.outcomes.depth) (elements 0 bytes) c.if-span.elements.items) c.self.view_is all;
+      subst (λ (v : ElementsRunValue). AllZip (IsJudgedElement v.before.outcomes.depth) (elements 0 bytes) c.if-span.elements.items) is all;
 }

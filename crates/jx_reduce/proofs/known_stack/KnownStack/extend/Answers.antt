@@ -1,0 +1,5 @@
+use Rattle.jx_reduce.proofs.KnownMoves.{has_read-then}
+use Rattle.jx_reduce.proofs.known_stack.KnownStack.extend.Goals as goal
+
+pub returns-clause-marks : goal.returns-clause-marks
+returns-clause-marks c = λ before h. has_read-then c.args.self.now c.run.new.self before c.args.marks.now c.run.ensures.depth c.in_ok-run.ensures.reads h

@@ -1,0 +1,68 @@
+// Offsets that grow by a distance, where they fit a word.
+ghost use Rattle.std.specs.Prelude.{◌≡◌, ℕ, map};
+ghost use Rattle.jx_reduce.specs.inside.Shifted.{shifted_end, shifted_fault, shifted_level, shifted_offset};
+
+use crate::ended_level::EndedLevel;
+use crate::level::Level;
+
+/// A value with offsets, which may be moved further on.
+pub(crate) trait Shift: Copy {
+    ghost shift: { ℕ → Self → Self };
+
+    /// The same value so many bytes further on.
+    fn shifted(self, by: usize) -> Self
+        ensures { result ≡ shift by self };
+}
+
+impl Shift for usize {
+    ghost shift = { shifted_offset };
+
+    fn shifted(self, by: usize) -> usize {
+        by.saturating_add(self)
+    }
+}
+
+impl Shift for Option<usize> {
+    ghost shift = { shifted_fault };
+
+    fn shifted(self, by: usize) -> Option<usize> {
+        match self {
+            Some(at) => Some(at.shifted(by)),
+            None => None,
+        }
+    }
+}
+
+impl Shift for Level {
+    ghost shift = { shifted_level };
+
+    fn shifted(self, by: usize) -> Level {
+        Level {
+            array: self.array.shifted(by),
+            object: self.object.shifted(by),
+            bottom: self.bottom.shifted(by),
+        }
+    }
+}
+
+impl Shift for EndedLevel {
+    ghost shift = { shifted_end };
+
+    fn shifted(self, by: usize) -> EndedLevel {
+        EndedLevel {
+            array: self.array.shifted(by),
+            object: self.object.shifted(by),
+            bottom: self.bottom.shifted(by),
+        }
+    }
+}
+
+/// Each item of the list so many bytes further on.
+pub(crate) fn all_shifted<T: Shift>(mut list: Vec<T>, by: usize) -> Vec<T>
+    ensures { result.items ≡ map (T.shift by) list.items }
+{
+    for at in 0..list.len() {
+        list[at] = list[at].shifted(by);
+    }
+    list
+}

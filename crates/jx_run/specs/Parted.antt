@@ -1,0 +1,55 @@
+-- Bytes of a JSON text sequence, parted at the record separators in them, and what it means that a run keeps what they come to.
+use Rattle.std.specs.Prelude.{◌≡◌, ◌<◌, ℕ, List, [], ◌∷◌, ◌++◌, Option, None, Some}
+use Rattle.std.specs.List.{AllZip}
+use Rattle.jx_summary.specs.declared.span.Span.{Span}
+use Rattle.jx_run.specs.Elements.{Part, before_separator, after_separators, filled}
+use Rattle.jx_run.specs.Tree.{span}
+
+-- what stands behind the first separator: what is kept of the parts that a further separator ends, and the piece behind the
+-- last separator
+pub record MarkedValue (P F : Type 0) : Type 0 where
+  pub done : List F
+  pub after : P
+
+-- the piece before the first separator, and what stands behind it where there is one
+pub record PartedValue (P F : Type 0) : Type 0 where
+  pub before : P
+  pub marked : Option (MarkedValue P F)
+
+-- of a piece: where it stands, the depth that it was read with, and of which bytes it is the summary; and when what is kept
+-- of a finished part is right for it, within a depth
+pub record Meaning (P F : Type 0) : Type 1 where
+  pub span : P → Span
+  pub depth : P → ℕ
+  pub is_of : P → List ℕ → Type 0
+  pub is_finished : ℕ → Part → F → Type 0
+
+abbrev pub meaning : {P F : Type 0} → (P → Span) → (P → ℕ) → (P → List ℕ → Type 0) → (ℕ → Part → F → Type 0) → Meaning P F
+meaning place limit is_of is_finished = record { span = place; depth = limit; is_of = is_of; is_finished = is_finished }
+
+abbrev pub last_piece : {P F : Type 0} → P → Option (MarkedValue P F) → P
+last_piece before None = before
+last_piece before (Some m) = m.after
+
+abbrev pub place_of_parted : {P F : Type 0} → (P → Span) → PartedValue P F → Span
+place_of_parted place run = span (place run.before).start (place (last_piece run.before run.marked)).end
+
+-- of each part between two neighbouring separators that is not empty what is kept is right, in order; the last part goes on
+-- to the end
+pub record IsMarked {P F : Type 0} (m : Meaning P F) (limit : ℕ) (behind : List Part) (v : MarkedValue P F) : Type 0 where
+  pub between : List Part
+  pub last : Part
+  pub parts : behind ≡ between ++ last ∷ []
+  pub done : AllZip (m.is_finished limit) (filled between) v.done
+  pub marked : 0 < last.at
+  pub start : (m.span v.after).start ≡ last.at
+  pub depth : m.depth v.after ≡ limit
+  pub after : m.is_of v.after last.bytes
+
+-- without a separator the piece of all bytes, else that of the bytes before the first separator, and what stands behind it
+abbrev pub IsSummary : {P F : Type 0} → Meaning P F → List ℕ → P → Option (MarkedValue P F) → Type 0
+IsSummary m bytes before None = (after_separators (m.span before).start bytes ≡ []) × m.is_of before bytes
+IsSummary m bytes before (Some v) = m.is_of before (before_separator bytes) × IsMarked m (m.depth before) (after_separators (m.span before).start bytes) v
+
+abbrev pub IsParted : {P F : Type 0} → Meaning P F → List ℕ → PartedValue P F → Type 0
+IsParted m bytes run = IsSummary m bytes run.before run.marked

@@ -1,0 +1,45 @@
+ghost use Rattle.std.specs.Prelude.{◌≡◌, ◌≤◌, ◌<◌, ◌+◌, ◌++◌, ℕ, List, length, slice_range, IfOk};
+ghost use Rattle.jx_run.specs.Elements.{part, parts};
+ghost use Rattle.jx_run.specs.Parted.{IsMarked, meaning};
+
+use jx_summary::Summary;
+use jx_lex::Depth;
+use std::alloc::{AllocError, Global};
+
+/// What reading bytes of a JSON text sequence gives in which no record separator stands: an element, or a part of one.
+pub(crate) trait Piece: Summary {
+    ghost use Rattle.std.specs.Prelude.{◌≡◌, ◌+◌, ℕ, List, length};
+    ghost use Rattle.jx_run.specs.Elements.{Part};
+
+    /// What is kept of an element that stands between two separators.
+    type Finished: Drop;
+
+    /// It is what is kept of this element, read with this depth.
+    ghost is_finished: { ℕ → Part → Self.Finished → Type 0 };
+
+    /// What is kept of the element that has the joined bytes and stands behind a separator; neither piece changes.
+    fn finished_with(&self, right: &Self) -> Result<Self::Finished, AllocError>
+        requires neighbours { (Self.span self.now).end ≡ (Self.span right.now).start }
+        requires depth { Self.depth self.now ≡ Self.depth right.now }
+        ensures { (xs ys : List ℕ) → 0 < (Self.span self.now).start → Self.is_of self.now xs → Self.is_of right.now ys
+            → IfOk result (is_finished (Self.depth self.now) (part (Self.span self.now).start (xs ++ ys))) };
+
+    /// Reads from behind a separator up to `end`: what is kept of each element that a further separator ends, and the piece
+    /// behind the last separator.
+    fn behind(
+        alloc: Global,
+        text: &[u8],
+        start: usize,
+        end: usize,
+        depth: Depth,
+    ) -> Result<(Vec<Self::Finished>, Self), AllocError>
+        requires marked { 0 < start }
+        requires ordered { start ≤ end }
+        requires within { end ≤ length text.now }
+        ensures end { IfOk result (λ r. (Self.span r.1).end ≡ end) }
+        ensures depth { IfOk result (λ r. Self.depth r.1 ≡ depth) }
+        ensures of { IfOk result (λ r. IsMarked (meaning Self.span Self.depth Self.is_of is_finished) depth (parts start (slice_range text.now start end)) (record { done = r.0.items; after = r.1 })) };
+
+    /// It stands over as many bytes as it is of.
+    ghost long: { (bytes : List ℕ) (piece : Self) → Self.is_of piece bytes → (Self.span piece).end ≡ (Self.span piece).start + length bytes };
+}
