@@ -3,8 +3,8 @@ ghost use Rattle.std.specs.Prelude.{◌≡◌, ◌≤◌, false};
 
 use crate::fault::Fault;
 use jx_book::OpenGate;
-use jx_task::Command;
 use jx_report::{End, Exit, Sink, report};
+use jx_task::Command;
 use std::fs::File;
 use std::sync::Wait;
 use std::thread::Threads;

@@ -107,7 +107,9 @@ fn subcommand<'a>(
 
 /// The program with its four commands.
 pub fn grammar<'a>(alloc: Global) -> Result<Command<'a>, AllocError> {
-    let check = subcommand(alloc, Subcommand::Check, help::CHECK, help::AFTER_CHECK)?.arg(quiet(alloc))?;
+    let check = subcommand(alloc, Subcommand::Check, help::CHECK, help::AFTER_CHECK)?.arg(quiet(
+        alloc,
+    ))?;
     let index = subcommand(alloc, Subcommand::Index, help::INDEX, help::AFTER_INDEX)?;
     let at = subcommand(alloc, Subcommand::At, help::AT, help::AFTER_AT)?
         .arg(pointers(alloc)?)?

@@ -15,16 +15,16 @@ pub(crate) mod string_parts;
 pub(crate) mod token_rest;
 pub(crate) mod tokens;
 
-use crate::scanner::ahead::Ahead;
 use crate::alphabet::cell::Cell;
 use crate::alphabet::class::{Class, class_of};
 use crate::alphabet::lex_exit::LexExit;
-use crate::scanner::keeper::Keeper;
 use crate::alphabet::machine::cell_at;
 use crate::alphabet::mark::{Mark, MarkKind};
+use crate::alphabet::state::LexState;
+use crate::scanner::ahead::Ahead;
+use crate::scanner::keeper::Keeper;
 use crate::scanner::string_parts::string_end_ahead;
 use crate::scanner::token_rest::{gap_end, literal_end, more_digits, number_rest};
-use crate::alphabet::state::LexState;
 use std::alloc::AllocError;
 
 /// Takes in what one byte does: its mark and its end are seen. Gives the next state, or none at a fault.

@@ -6,7 +6,7 @@ use crate::report_fault::ReportFault;
 use crate::source::Source;
 use std::alloc::AllocError;
 
-/// Makes the buffer longer than `filled`, by zeros, unless it is, and no longer than the limit.
+/// Lengthens the buffer by zeros, up to the limit, unless it is longer than `filled` already.
 fn make_room_within(buffer: &mut Vec<u8>, filled: usize, limit: usize) -> Result<(), AllocError>
     requires filled { filled ≤ vec_len buffer.old }
     requires within { vec_len buffer.old ≤ limit }
@@ -23,7 +23,8 @@ fn make_room_within(buffer: &mut Vec<u8>, filled: usize, limit: usize) -> Result
     buffer.resize(filled + step, 0)
 }
 
-/// Reads into the buffer until as many bytes as the limit stand in it or the end of input comes, and answers how many do.
+/// Reads into the buffer until as many bytes as the limit says were read, or the end of input comes, and answers how many
+/// were.
 pub(crate) fn fill<S: Source>(
     reader: &mut S,
     buffer: &mut Vec<u8>,

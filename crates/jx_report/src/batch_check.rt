@@ -39,10 +39,7 @@ impl BatchCheck {
         ensures { IfSome result (HasTaken command.now.task command.now.settings []) }
     {
         match command.task {
-            Task::Check => Some(BatchCheck::Text(TextCheck::new(
-                alloc,
-                command.settings.depth,
-            ))),
+            Task::Check => Some(BatchCheck::Text(TextCheck::new(alloc, command.settings.depth))),
             Task::Seq => Some(BatchCheck::Elements(SequenceCheck::new(alloc, command))),
             Task::Index | Task::At(_) => None,
         }

@@ -8,7 +8,7 @@ use crate::exit::Exit;
 use crate::words::{push_bytes, push_refusal, push_span};
 use jx_run::{ElementVerdict, JudgedElement};
 
-/// Appends what an element comes to.
+/// Appends the words for what an element comes to.
 fn push_word(out: &mut Vec<u8>, verdict: ElementVerdict)
     requires { HasRoom out.old 37 }
     ensures words { out.new.items ≡ out.old.items ++ verdict_words verdict }

@@ -3,6 +3,6 @@
 pub enum Exit {
     /// The text is accepted, and each pointer is found; or each element of the sequence is accepted.
     Good,
-    /// The text is refused, or a pointer leads nowhere or is none; or an element is not accepted.
+    /// The text is refused, a pointer leads nowhere, or what was given as one is none; or an element is not accepted.
     Bad,
 }

@@ -1,4 +1,4 @@
-//! What is written for an input: reads it to its end, has it answered by several workers, and writes the output.
+//! Reports: an input is read to its end, answered by several workers, and the output for it is written.
 #![tactic(auto)]
 
 mod batch;

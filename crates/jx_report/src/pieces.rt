@@ -6,12 +6,12 @@ use jx_claim::{Cutting, PieceNo};
 use jx_run::Reader;
 use std::alloc::AllocError;
 
-/// Whether the one worker may begin this piece.
+/// Whether the gate lets the one worker begin this piece.
 fn may_begin<G: Gate>(gate: &G, piece: PieceNo) -> bool {
     gate.pass(Event::Drew { worker: 0, piece }) == Go::On
 }
 
-/// Reads the part of a text up to an offset, behind what was read of it.
+/// Reads a text on, from the offset up to which it is `done`, to the offset `end`.
 fn feed_up_to(reader: &mut Reader, text: &[u8], done: usize, end: usize) -> Result<(), AllocError>
     requires ordered { done ≤ end }
     requires within { end ≤ length text.now }
@@ -24,8 +24,8 @@ fn feed_up_to(reader: &mut Reader, text: &[u8], done: usize, end: usize) -> Resu
     reader.feed(&text[done..end])
 }
 
-/// Reads a text on this thread behind what was read, piece by piece. The gate is asked as each piece is begun, until it
-/// says `Stop`; the rest is read all the same.
+/// Reads a text on this thread, behind what the reader has read, piece by piece. The gate is asked before each piece. Once
+/// it says `Stop` it is asked no more, and the rest is read all the same.
 pub(crate) fn feed_pieces<G: Gate>(
     reader: &mut Reader,
     text: &[u8],

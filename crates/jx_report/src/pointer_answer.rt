@@ -19,7 +19,7 @@ use std::alloc::{AllocError, Global};
 /// What a pointer comes to in a text.
 #[derive(Clone, Copy, Debug, PartialEq, Eq)]
 pub enum PointerAnswer {
-    /// It leads to a value of this kind, which stands there.
+    /// It leads to a value of this kind, with this span.
     Found { kind: Kind, span: Span },
     /// It is no pointer.
     Unread(PointerFault),
@@ -27,7 +27,7 @@ pub enum PointerAnswer {
     Lost(FindFault),
 }
 
-/// The pointer that is spelt so, or the empty one where that is no pointer.
+/// The pointer that a string spells, or the empty pointer where it spells none.
 fn pointer_of(spelt: &str) -> Pointer<'_>
     ensures { IsPointer spelt.now → result ≡ spelt.now }
 {
@@ -40,7 +40,7 @@ fn pointer_of(spelt: &str) -> Pointer<'_>
     }
 }
 
-/// The pointers that are spelt so, in order. In the place of what is no pointer stands the empty one.
+/// The pointers that strings spell, in order. Where a string spells none, the empty pointer stands in its place.
 pub fn pointers_of<'p>(alloc: Global, spelt: &'p [String]) -> Result<Vec<Pointer<'p>>, AllocError>
     ensures { IfOk result (λ pointers. ArePointersOf (map string_bytes spelt.now) pointers.items) }
 {
@@ -51,7 +51,7 @@ pub fn pointers_of<'p>(alloc: Global, spelt: &'p [String]) -> Result<Vec<Pointer
     Ok(pointers)
 }
 
-/// What a pointer, as it is spelt, comes to in an indexed text, where this was found for it if it is a pointer.
+/// What a string comes to as a pointer into an indexed text: why it is none, or what was found for it.
 fn answer_to(spelt: &str, found: Answer) -> PointerAnswer
     ensures { (index : IndexedValue) (limit : ℕ) (tree : Tree) → IsFoundFor index spelt.now found → index.rows ≡ rows tree
         → IsText index.text index.span.start index.span.end limit tree → IsAnswerTo index.text tree spelt.now result }
@@ -65,7 +65,7 @@ fn answer_to(spelt: &str, found: Answer) -> PointerAnswer
     }
 }
 
-/// What pointers come to, in their order, where these were found.
+/// What strings come to as pointers into an indexed text, in their order: why each is none, or what was found for it.
 pub fn answers_of(
     alloc: Global,
     index: &Indexed,
@@ -77,7 +77,7 @@ pub fn answers_of(
         → IsText index.now.text index.now.span.start index.now.span.end limit tree
         → PointerLines index.now.text tree (map string_bytes pointers.now) (pointer_lines answers.items) (exit_past_lines Good answers.items)) }
 {
-    // Shows the proof that the index has the rows of the text's tree.
+    // By the contract of this call the proof knows that the index has the rows of the text's tree.
     let _ = index.rows();
     let mut answers = Vec::with_capacity(alloc, pointers.len())?;
     for at in 0..pointers.len() {

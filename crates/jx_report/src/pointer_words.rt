@@ -9,7 +9,7 @@ use crate::words::{push_bytes, push_kind, push_numbered, push_span};
 use jx_index::{FindFault, PointerFault};
 use jx_lex::{Kind, Span};
 
-/// Appends why what is spelt is no pointer.
+/// Appends why a string is no pointer.
 fn push_unread(out: &mut Vec<u8>, fault: PointerFault)
     requires { HasRoom out.old 45 }
     ensures words { out.new.items ≡ out.old.items ++ answer_words (PointerAnswer.Unread fault) }

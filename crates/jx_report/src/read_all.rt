@@ -7,12 +7,14 @@ use crate::source::Source;
 use std::alloc::{AllocError, Global};
 use std::io;
 
-/// The least and the greatest room for one read, in bytes. Between them a read has room for as much as is there already.
+/// The least room that is made for a read, in bytes. From here up to the greatest, room is made for as many bytes as there
+/// are already.
 pub(crate) const LEAST_STEP: usize = 16 * 1024;
 
+/// The greatest room that is made for a read, in bytes.
 pub(crate) const GREATEST_STEP: usize = 1024 * 1024;
 
-/// Makes `text` longer than `filled`, by zeros, unless it is.
+/// Lengthens `text` by zeros, unless it is longer than `filled` already.
 fn make_room(text: &mut Vec<u8>, filled: usize) -> Result<(), AllocError>
     requires { filled ≤ vec_len text.old }
     ensures room { OnOk result (filled < vec_len text.new) }
@@ -26,7 +28,7 @@ fn make_room(text: &mut Vec<u8>, filled: usize) -> Result<(), AllocError>
     text.resize(filled + step, 0)
 }
 
-/// One read into the part of `text` from `at` on.
+/// Reads once, into the part of `text` from `at` on.
 pub(crate) fn read_at<R: Source>(reader: &mut R, text: &mut [u8], at: usize) -> io::Result<usize>
     requires room { at < length text.old }
     requires unfailed { R.has_failed reader.old ≡ false }
@@ -40,7 +42,7 @@ pub(crate) fn read_at<R: Source>(reader: &mut R, text: &mut [u8], at: usize) -> 
     reader.read(&mut text[at..])
 }
 
-/// Reads to the end of input.
+/// Reads to the end of input, and answers all bytes that it had.
 pub fn read_all<R: Source>(alloc: Global, reader: &mut R) -> Result<Vec<u8>, ReportFault>
     requires { R.has_failed reader.old ≡ false }
     ensures ok { IfOk result (λ text. ReadsToEnd (R.remaining reader.old) (R.remaining reader.new) text.items) }

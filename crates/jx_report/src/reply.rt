@@ -16,9 +16,9 @@ use jx_answer::{
 };
 use jx_book::Gate;
 use jx_claim::{Cutting, Workers};
-use jx_task::{Command, Task};
 use jx_index::{Indexed, Row};
 use jx_run::{JudgedElement, Verdict};
+use jx_task::{Command, Task};
 use std::alloc::{AllocError, Global};
 use std::sync::Wait;
 use std::thread::Threads;
@@ -37,7 +37,7 @@ pub enum Reply {
 }
 
 impl Reply {
-    /// How the program then ends.
+    /// How the program ends when this is written.
     pub fn exit(&self) -> Exit
         ensures { result ≡ reply_exit self.now }
     {
@@ -60,7 +60,7 @@ fn exit_of_verdict(verdict: Verdict) -> Exit
     }
 }
 
-/// What is found for pointers, as they are spelt, in an accepted text, looked up by that many workers.
+/// What so many workers find in an accepted text for the pointers that strings spell.
 fn found_for<R: Threads + Sync, G: Gate + Sync>(
     rt: &R,
     alloc: Global,
@@ -96,7 +96,7 @@ fn pointers_reply<R: Threads + Sync, G: Gate + Sync>(
     Ok(Reply::Pointers(answers))
 }
 
-/// What the elements of a text sequence come to. One worker reads it as one piece.
+/// The reply for a text sequence: what its elements come to. Where there is one worker, it reads the sequence as one piece.
 fn sequence_reply<R: Threads + Wait + Sync, G: Gate + Sync>(
     rt: &R,
     alloc: Global,

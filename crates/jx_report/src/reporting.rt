@@ -13,8 +13,8 @@ use crate::source::Source;
 use crate::writing::write_reply;
 use jx_book::Gate;
 use jx_claim::Cutting;
-use jx_task::Command;
 use jx_run::NameRule;
+use jx_task::Command;
 use std::alloc::{AllocError, Global};
 use std::sync::Wait;
 use std::thread::Threads;
@@ -25,9 +25,9 @@ const BATCH: usize = 8 * 1024 * 1024;
 /// How many bytes of an output are written at a time, at most.
 const BUFFER: usize = 64 * 1024;
 
-/// Reads to the end of input, and answers by the command's workers. A check keeps one batch of so many bytes at a time, and
-/// so do the verdicts on the elements of a sequence; what else is asked keeps the whole input, and so does what is asked for
-/// unique names, which needs indexes.
+/// Reads to the end of input, and has it answered by the command's workers. While a text or the elements of a sequence are
+/// judged, one batch of the input is kept at a time. For rows and pointers the whole input is kept, and also wherever names
+/// have to be unique, which needs indexes.
 fn answer_to_input<R: Threads + Wait + Sync, S: Source, G: Gate + Sync>(
     rt: &R,
     alloc: Global,
@@ -56,7 +56,7 @@ fn answer_to_input<R: Threads + Wait + Sync, S: Source, G: Gate + Sync>(
     }
 }
 
-/// The same of an input that is kept as a whole.
+/// Reads to the end of input, keeps all of it, and has it answered by the command's workers.
 fn answer_to_all<R: Threads + Wait + Sync, S: Source, G: Gate + Sync>(
     rt: &R,
     alloc: Global,
@@ -83,7 +83,7 @@ fn answer_to_all<R: Threads + Wait + Sync, S: Source, G: Gate + Sync>(
     }
 }
 
-/// How many bytes are read at a time: as many whole pieces as there is room for.
+/// How many bytes are read at a time: as many whole pieces as a batch has room for, or a batch where a piece is no shorter.
 fn batch_of(piece: usize) -> usize
     requires { 1 ≤ piece }
     ensures some { 1 ≤ result }
@@ -96,7 +96,7 @@ fn batch_of(piece: usize) -> usize
     }
 }
 
-/// `report` in batches of so many bytes.
+/// `report` where a batch has so many bytes.
 pub(crate) fn report_by<R: Threads + Wait + Sync, S: Source, W: Sink, G: Gate + Sync>(
     rt: &R,
     alloc: Global,

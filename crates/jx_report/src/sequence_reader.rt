@@ -10,26 +10,26 @@ use crate::text_check::TextReader;
 use jx_answer::judge_batch;
 use jx_book::Gate;
 use jx_claim::Cutting;
-use jx_task::Command;
 use jx_run::{
     JudgedElement, ended_there, ends_open_behind, separated_part, sequences_are_read_part_by_part,
 };
+use jx_task::Command;
 use std::alloc::{AllocError, Global};
 use std::sync::Wait;
 use std::thread::Threads;
 
-/// A text sequence that is read from its start. Of each element that ended it keeps its span and verdict.
+/// A reader of a text sequence from its start. It keeps the span and the verdict of each element that has ended.
 #[derive(Drop)]
 pub(crate) struct SequenceReader {
     /// The elements that ended, in order.
     judged: Vec<JudgedElement>,
-    /// Has read the element that goes on.
+    /// Has read what there is of the last element, which may go on.
     reader: TextReader,
-    /// Whether that one's last byte is open.
+    /// Whether the last byte of that element may be followed by more of its value.
     loose: bool,
 }
 
-/// How many bytes of so many a worker reads at a time. One worker reads them as one piece.
+/// How many of `len` bytes a worker reads at a time. Where there is one worker, it reads them as one piece.
 fn piece_of(command: &Command, len: usize) -> usize
     requires { 1 ≤ command.now.piece }
     ensures { 1 ≤ result }
@@ -41,7 +41,7 @@ fn piece_of(command: &Command, len: usize) -> usize
     }
 }
 
-/// The elements of a part of a sequence, which begins with a record separator and stands behind so many bytes.
+/// The elements of a part of a sequence. The part begins with a record separator, and so many bytes stand before it.
 fn elements_of<R: Threads + Wait + Sync, G: Gate + Sync>(
     rt: &R,
     alloc: Global,
@@ -90,7 +90,7 @@ impl SequenceReader {
         }
     }
 
-    /// Reads bytes without a record separator behind what was read.
+    /// Reads bytes behind what was read. There is no record separator among them.
     fn go_on<R: Threads + Wait + Sync, G: Gate + Sync>(
         &mut self,
         rt: &R,
@@ -110,7 +110,7 @@ impl SequenceReader {
         Ok(())
     }
 
-    /// Puts the element that goes on behind the others, as one that ends here.
+    /// Ends the last element here, and puts it behind the others.
     fn end(&mut self) -> Result<(), AllocError>
         ensures { OnOk result ((limit : ℕ) (text : List ℕ) → AreReadBy limit text self.old → AllZip (IsJudgedElement limit) (elements 0 text) self.new.judged.items) }
     {
@@ -124,7 +124,7 @@ impl SequenceReader {
         }
     }
 
-    /// Reads bytes that begin and end with a record separator behind what was read.
+    /// Reads bytes behind what was read. They begin and end with a record separator.
     fn pass<R: Threads + Wait + Sync, G: Gate + Sync>(
         &mut self,
         rt: &R,
@@ -151,8 +151,8 @@ impl SequenceReader {
         Ok(())
     }
 
-    /// Reads a batch behind what was read, which were so many bytes. What stands between its first and its last record separator is
-    /// judged as a sequence of its own, and moved to where it stands.
+    /// Reads a batch behind what was read. So many bytes stand before it. What stands from its first record separator to its
+    /// last one is judged as a sequence of its own, at its offsets in the whole sequence.
     pub fn read<R: Threads + Wait + Sync, G: Gate + Sync>(
         &mut self,
         rt: &R,

@@ -15,8 +15,8 @@ pub trait Sink {
     /// Whether a call has failed.
     ghost has_failed: { Self → Bool };
 
-    /// Writes a beginning of the bytes, and answers how many. An error is a failure, and so is a call that takes none
-    /// of bytes that are not empty.
+    /// Writes a beginning of the bytes, and answers how many it took. An error is a failure, and so is a call that is given
+    /// bytes and takes none.
     fn write(&mut self, buf: &[u8]) -> io::Result<usize>
         ensures bound { WritesAtMost result buf.now }
         ensures bytes { WriteAppends (contents self.old) (contents self.new) result buf.now }

@@ -1,4 +1,4 @@
-// The words of the output. Each is put into room that is there, so that none takes memory.
+// The words of the output. They go into room that was taken beforehand, so that none of them takes memory.
 ghost use Rattle.std.specs.Prelude.{◌≡◌, ◌+◌, ◌≤◌, [], ◌∷◌, ◌++◌, codes, decimal, length};
 ghost use Rattle.jx_report.specs.inside.Room.{HasRoom, TakesRoom};
 ghost use Rattle.jx_report.specs.Words.{refusal_words, kind_words, span_words};
@@ -35,7 +35,7 @@ pub fn push_number(out: &mut Vec<u8>, number: usize)
     ensures words { out.new.items ≡ out.old.items ++ decimal number }
     ensures room { TakesRoom out.old out.new 20 }
 {
-    // Most places of a value are below ten.
+    // The place of a value among its siblings is mostly below ten.
     if number < 10 {
         push_byte(out, b'0' + number as u8);
         return;

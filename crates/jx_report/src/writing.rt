@@ -23,7 +23,7 @@ use std::alloc::Global;
 /// How many bytes the longest line has: that of a row whose numbers have 20 digits each.
 pub(crate) const LONGEST_LINE: usize = 156;
 
-/// Writes what waits, unless there is room for a line behind it.
+/// Writes what waits in the buffer, unless there is room for a line behind it.
 fn make_room<W: Sink>(writer: &mut W, out: &mut Vec<u8>) -> Result<(), ReportFault>
     requires unfailed { W.has_failed writer.old ≡ false }
     requires large { LONGEST_LINE ≤ vec_capacity out.old }
@@ -40,7 +40,7 @@ fn make_room<W: Sink>(writer: &mut W, out: &mut Vec<u8>) -> Result<(), ReportFau
     Ok(())
 }
 
-/// The line of a verdict.
+/// Appends the line of a verdict.
 fn push_verdict(out: &mut Vec<u8>, verdict: Verdict)
     requires { HasRoom out.old LONGEST_LINE }
     ensures { out.new.items ≡ out.old.items ++ verdict_line verdict }
@@ -52,7 +52,7 @@ fn push_verdict(out: &mut Vec<u8>, verdict: Verdict)
     push_bytes(out, b"\n");
 }
 
-/// Writes the lines of all rows, which are numbered from 0. The last of them may wait in the end.
+/// Writes the lines of all rows, which are numbered from 0. The last lines may be left in the buffer.
 fn write_rows<W: Sink>(writer: &mut W, out: &mut Vec<u8>, rows: &[Row]) -> Result<(), ReportFault>
     requires unfailed { W.has_failed writer.old ≡ false }
     requires large { LONGEST_LINE ≤ vec_capacity out.old }
@@ -68,7 +68,7 @@ fn write_rows<W: Sink>(writer: &mut W, out: &mut Vec<u8>, rows: &[Row]) -> Resul
     Ok(())
 }
 
-/// Writes a line for each pointer, in their order. The last of them may wait in the end.
+/// Writes a line for each pointer, in their order. The last lines may be left in the buffer.
 fn write_pointers<W: Sink>(
     writer: &mut W,
     out: &mut Vec<u8>,
@@ -88,7 +88,7 @@ fn write_pointers<W: Sink>(
     Ok(())
 }
 
-/// Writes a line for each element, in their order. The last of them may wait in the end.
+/// Writes a line for each element, in their order. The last lines may be left in the buffer.
 fn write_elements<W: Sink>(
     writer: &mut W,
     out: &mut Vec<u8>,
@@ -108,7 +108,7 @@ fn write_elements<W: Sink>(
     Ok(())
 }
 
-/// Writes a reply behind what waits. Its last lines may wait in the end.
+/// Writes a reply behind what waits in the buffer. Its last lines may be left there.
 fn write_lines<W: Sink>(writer: &mut W, out: &mut Vec<u8>, reply: &Reply) -> Result<(), ReportFault>
     requires unfailed { W.has_failed writer.old ≡ false }
     requires room { HasRoom out.old LONGEST_LINE }
@@ -131,7 +131,7 @@ fn write_lines<W: Sink>(writer: &mut W, out: &mut Vec<u8>, reply: &Reply) -> Res
     }
 }
 
-/// Writes a reply through a buffer of so many bytes, or of as many as the longest line has.
+/// Writes a reply through a buffer of so many bytes, or of as many as the longest line has where that is more.
 pub(crate) fn write_reply<W: Sink>(
     alloc: Global,
     writer: &mut W,

@@ -11,8 +11,8 @@ use crate::laws::reader_is_grammar;
 use crate::marked_elements::{elements_behind, shifted_behind};
 use crate::part_run::PartRun;
 use crate::parted::Parted;
-use jx_summary::Summary;
 use jx_lex::{Depth, JoinFault, Span};
+use jx_summary::Summary;
 use std::alloc::{AllocError, Global};
 use std::marker::Model;
 

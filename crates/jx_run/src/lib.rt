@@ -30,6 +30,7 @@ mod way;
 pub use byte_order_mark::front;
 pub use element_verdict::{ElementVerdict, JudgedElement, ended_there};
 pub use elements_run::ElementsRun;
+pub use jx_summary::Summary;
 pub use laws::{
     a_refused_mark_changes_nothing, beginnings_are_completed_by_bytes,
     fronts_decide_where_texts_begin, reader_is_grammar, readings_go_on,
@@ -46,6 +47,5 @@ pub use seq_run::SeqRun;
 pub use settings::{Front, FrontMark, NameRule, Settings};
 pub use shape::Shape;
 pub use started::Started;
-pub use jx_summary::Summary;
 pub use text_run::TextRun;
 pub use verdict::{Refusal, Verdict};

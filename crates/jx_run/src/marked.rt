@@ -6,9 +6,9 @@ ghost use Rattle.jx_run.specs.SeqRun.{IsReading};
 use crate::piece::Piece;
 use crate::separators::next_separator;
 use crate::started::Started;
-use jx_summary::Summary;
 use crate::text_run::TextRun;
 use jx_lex::Depth;
+use jx_summary::Summary;
 use std::alloc::{AllocError, Global};
 
 /// The reading of a part that two separators enclose.

@@ -13,8 +13,8 @@ use crate::parted::Marked;
 use crate::piece::Piece;
 use crate::reader::Reader;
 use crate::separators::next_separator;
-use jx_summary::Summary;
 use jx_lex::{Depth, Span};
+use jx_summary::Summary;
 use std::alloc::{AllocError, Global};
 
 /// The verdict on an element that two separators enclose. The reader begins anew.

@@ -10,7 +10,7 @@ ghost use Rattle.jx_run.specs.declared.verdict.Verdict.TheVariants.{Accepted};
 use crate::laws::reader_is_grammar;
 use crate::outcome_run::verdict_from;
 use crate::verdict::Verdict;
-use jx_lex::{Depth, LexExit, Keeper, LexState, Mark, parts_are_read_in_turn, scan};
+use jx_lex::{Depth, Keeper, LexExit, LexState, Mark, parts_are_read_in_turn, scan};
 use jx_reduce::KnownStack;
 use std::alloc::{AllocError, Global};
 

@@ -10,8 +10,8 @@ ghost use Rattle.jx_run.specs.Unclosed.{ends_open};
 use crate::element_verdict::JudgedElement;
 use crate::open_end::{ends_open, told};
 use crate::outcome_run::OutcomeRun;
-use jx_summary::Summary;
 use jx_lex::{Depth, JoinFault, Span};
+use jx_summary::Summary;
 use std::alloc::{AllocError, Global};
 use std::marker::Model;
 

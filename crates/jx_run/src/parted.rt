@@ -5,8 +5,8 @@ ghost use Rattle.jx_run.specs.inside.PartedJoins.{IsClosed, IsPartedJoin};
 
 use crate::piece::Piece;
 use crate::separators::next_separator;
-use jx_summary::Summary;
 use jx_lex::{Depth, JoinFault, Span};
+use jx_summary::Summary;
 use std::alloc::{AllocError, Global};
 use std::marker::Model;
 

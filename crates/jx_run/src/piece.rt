@@ -2,8 +2,8 @@ ghost use Rattle.std.specs.Prelude.{◌≡◌, ◌≤◌, ◌<◌, ◌+◌, ◌+
 ghost use Rattle.jx_run.specs.Elements.{part, parts};
 ghost use Rattle.jx_run.specs.Parted.{IsMarked, meaning};
 
-use jx_summary::Summary;
 use jx_lex::Depth;
+use jx_summary::Summary;
 use std::alloc::{AllocError, Global};
 
 /// What reading bytes of a JSON text sequence gives in which no record separator stands: an element, or a part of one.

@@ -12,7 +12,7 @@ ghost use Rattle.jx_run.specs.Whole.{ends_text, verdict_from};
 
 use crate::laws::reader_is_grammar;
 use crate::verdict::{Refusal, Verdict};
-use jx_lex::{Depth, LexExit, Keeper, LexState, Mark, scan};
+use jx_lex::{Depth, Keeper, LexExit, LexState, Mark, scan};
 use jx_reduce::{Expect, KnownStack, Whole};
 use std::alloc::{AllocError, Global};
 use std::marker::Model;

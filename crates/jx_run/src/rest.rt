@@ -7,7 +7,7 @@ ghost use Rattle.jx_run.specs.OutcomeRun.{outcome_of, IsFormWithin};
 ghost use Rattle.jx_run.specs.inside.Rest.{AreRead, AreReadWays, IsReadWay, Reaches};
 
 use crate::way::Way;
-use jx_lex::{Depth, LexExit, Keeper, LexState, Mark, scan};
+use jx_lex::{Depth, Keeper, LexExit, LexState, Mark, scan};
 use jx_reduce::{Reducer, Reductions};
 use std::alloc::{AllocError, Global};
 

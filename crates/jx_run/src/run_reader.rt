@@ -9,10 +9,10 @@ ghost use Rattle.jx_run.specs.Verdict.{Judged};
 
 use crate::laws::reader_is_grammar;
 use crate::outcome_run::{OutcomeRun, verdict_from};
-use jx_summary::Summary;
 use crate::verdict::{Refusal, Verdict};
 use jx_lex::{Depth, LexExit, LexState};
 use jx_reduce::{Expect, Holder, Outcome, Whole};
+use jx_summary::Summary;
 use std::alloc::{AllocError, Global};
 use std::marker::Model;
 

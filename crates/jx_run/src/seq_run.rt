@@ -6,9 +6,9 @@ ghost use Rattle.jx_run.specs.Shape.{shown};
 
 use crate::parted::Parted;
 use crate::shape::Shape;
-use jx_summary::Summary;
 use crate::text_run::TextRun;
 use jx_lex::{Depth, JoinFault, Span};
+use jx_summary::Summary;
 use std::alloc::{AllocError, Global};
 use std::marker::Model;
 

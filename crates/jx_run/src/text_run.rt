@@ -15,10 +15,10 @@ ghost use Rattle.jx_run.specs.Verdict.{Judged};
 
 use crate::outcome_run::OutcomeRun;
 use crate::started::Started;
-use jx_summary::Summary;
 use crate::verdict::Verdict;
-use jx_lex::{ChunkMap, Depth, Ends, LexExit, JoinFault, LexState, Mark, Marks, Span};
+use jx_lex::{ChunkMap, Depth, Ends, JoinFault, LexExit, LexState, Mark, Marks, Span};
 use jx_reduce::{Expect, Reduced};
+use jx_summary::Summary;
 use std::alloc::{AllocError, Global};
 use std::marker::Model;
 

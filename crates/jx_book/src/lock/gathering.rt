@@ -7,11 +7,10 @@ ghost use Rattle.jx_book.specs.Gathered.{IsGathered, IsRest};
 
 use crate::lock::book::Book;
 use crate::lock::finish_fault::FinishFault;
-use crate::stored::held::Held;
 use crate::lock::share::Share;
+use crate::stored::held::Held;
 use jx_claim::{ClaimSeat, Claims, Cutting};
-use jx_summary::Depth;
-use jx_summary::Summary;
+use jx_summary::{Depth, Summary};
 use std::sync::ledger::Ledger;
 
 /// The one run over all pieces, where every worker ended; or none, exactly where there are no pieces. It takes no memory

@@ -3,9 +3,9 @@ ghost use Rattle.std.specs.Prelude.{◌≡◌, ◌+◌, ◌<◌, [], sum_by, vec
 ghost use Rattle.jx_book.specs.Runs.{IsApart, run_len};
 ghost use Rattle.jx_book.specs.Shares.{IsShared};
 
+use crate::lock::share::Share;
 use crate::stored::held::Held;
 use crate::stored::put::Put;
-use crate::lock::share::Share;
 use crate::stored::state::BookState;
 use jx_summary::Summary;
 use std::alloc::Global;

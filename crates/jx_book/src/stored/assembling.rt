@@ -5,8 +5,7 @@ ghost use Rattle.jx_book.specs.Gathered.{IsRest};
 use crate::stored::closed::Closed;
 use crate::stored::held::Held;
 use crate::stored::held_fault::HeldFault;
-use jx_summary::Depth;
-use jx_summary::Summary;
+use jx_summary::{Depth, Summary};
 use std::alloc::{AllocError, Global};
 
 /// The run over a text from an offset on: each gap that the runs leave there is read as one piece, and all are joined. Runs

@@ -4,8 +4,7 @@ ghost use Rattle.jx_book.specs.Gaps.{AreGaps};
 
 use crate::stored::gaps::Gaps;
 use crate::stored::held::Held;
-use jx_summary::Span;
-use jx_summary::Summary;
+use jx_summary::{Span, Summary};
 use std::marker::Model;
 
 /// The runs of a finished book, in rising order, no two overlapping or touching.

@@ -4,8 +4,7 @@ ghost use Rattle.jx_book.specs.Runs.{spans_of};
 ghost use Rattle.jx_book.specs.Gaps.{gaps_from};
 
 use crate::stored::held::Held;
-use jx_summary::Span;
-use jx_summary::Summary;
+use jx_summary::{Span, Summary};
 use std::marker::Model;
 
 /// The parts of a span that no run covers, in order.

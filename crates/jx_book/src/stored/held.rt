@@ -3,8 +3,7 @@ ghost use Rattle.jx_book.specs.Runs.{HeldValue, held};
 ghost use Rattle.jx_book.specs.Joined.{IsJoin, IsJoinFault, IsCommon, IsOtherRun};
 
 use crate::stored::held_fault::HeldFault;
-use jx_summary::{Depth, JoinFault, Span};
-use jx_summary::Summary;
+use jx_summary::{Depth, JoinFault, Span, Summary};
 use std::alloc::{AllocError, Global};
 use std::marker::Model;
 

@@ -5,8 +5,7 @@ ghost use Rattle.jx_book.specs.Puts.{IsPut, IsPosition, IsFree, IsNeighbour, NoO
 use crate::stored::held::Held;
 use crate::stored::position::Position;
 use crate::stored::put::Put;
-use jx_summary::Span;
-use jx_summary::Summary;
+use jx_summary::{Span, Summary};
 use std::alloc::{AllocFailed, Global};
 use std::marker::Model;
 

@@ -1,12 +1,11 @@
 // The run that workers leave where each of them ends.
 ghost use Rattle.std.specs.Prelude.{◌≡◌, length};
 
-use crate::workers::reading::run_workers;
 use crate::workers::book_end::BookEnd;
+use crate::workers::reading::run_workers;
 use crate::{Held, OpenGate};
 use jx_claim::{Cutting, Workers};
-use jx_summary::Depth;
-use jx_summary::Summary;
+use jx_summary::{Depth, Summary};
 use std::alloc::{AllocError, Global};
 use std::marker::Brand;
 use std::sync::Wait;

@@ -1,8 +1,8 @@
 ghost use Rattle.std.specs.Prelude.{◌≡◌};
 
+use crate::lock::share::Share;
 use crate::workers::cause::Cause;
 use crate::workers::hand::Hand;
-use crate::lock::share::Share;
 use jx_claim::ClaimSeat;
 use jx_summary::Summary;
 use std::sync::ledger::Ledger;

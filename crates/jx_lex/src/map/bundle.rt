@@ -6,11 +6,11 @@ ghost use Rattle.jx_lex.specs.Follow.{IsIn, head};
 ghost use Rattle.jx_lex.specs.inside.Step.{opening};
 ghost use Rattle.jx_lex.specs.inside.Bundle.{IsBundleOf, Stands, ReadsOn, joined_bundle, live_count, is_live, with_byte, with_segment};
 
-use crate::map::two_tracks::read_lanes;
-use crate::map::link::{Link, link_heads, same_heads};
 use crate::alphabet::machine::step;
-use crate::map::segment::{Segment, append_linked};
 use crate::alphabet::state::LexState;
+use crate::map::link::{Link, link_heads, same_heads};
+use crate::map::segment::{Segment, append_linked};
+use crate::map::two_tracks::read_lanes;
 use std::alloc::{AllocError, Global};
 use std::marker::Model;
 

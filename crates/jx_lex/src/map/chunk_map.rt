@@ -5,15 +5,14 @@ ghost use Rattle.jx_lex.specs.View.{view_track};
 ghost use Rattle.jx_lex.specs.Shared.{shared_count};
 ghost use Rattle.jx_lex.specs.Map.{ArePlaced, EndsInTwo, joined_map, IsOf, stored, track};
 
+use crate::alphabet::state::LexState;
 use crate::map::bundle::{Bundle, count_live};
-use jx_summary::JoinFault;
 use crate::map::link::{Link, link_heads};
-use crate::map::side_by_side::read_some;
 use crate::map::reach::{append_reached, exits, reached_from};
 use crate::map::segment::Segment;
-use jx_summary::Span;
-use crate::alphabet::state::LexState;
+use crate::map::side_by_side::read_some;
 use crate::map::track_view::TrackView;
+use jx_summary::{JoinFault, Span};
 use std::alloc::{AllocError, Global};
 use std::marker::Model;
 

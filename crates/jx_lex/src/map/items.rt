@@ -4,8 +4,8 @@ ghost use Rattle.std.specs.Iterator.{YieldsFirst, item_count};
 ghost use Rattle.jx_lex.specs.Follow.{Part, behind, done};
 ghost use Rattle.jx_lex.specs.Lex.{Track, LexExit};
 
-use crate::map::link::Link;
 use crate::alphabet::mark::Mark;
+use crate::map::link::Link;
 use crate::map::segment::Segment;
 use crate::map::track_view::walk;
 use std::iter::FusedIterator;

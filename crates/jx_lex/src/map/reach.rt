@@ -6,10 +6,10 @@ ghost use Rattle.jx_lex.specs.inside.Closed.{ClosedTo};
 ghost use Rattle.jx_lex.specs.Follow.{AreIn, IsIn, head, linked_parts};
 ghost use Rattle.jx_lex.specs.inside.Pruned.{IsReached, pruned, with_exit_of};
 
+use crate::alphabet::state::LexState;
 use crate::map::bundle::is_live;
 use crate::map::link::Link;
 use crate::map::segment::{Segment, link_segments};
-use crate::alphabet::state::LexState;
 use std::alloc::{AllocError, Global};
 
 /// Notes the state of this link, where it is an exit in a state.

@@ -6,11 +6,11 @@ ghost use Rattle.jx_lex.specs.Follow.{IsIn, head, linked, linked_parts};
 ghost use Rattle.jx_lex.specs.inside.Passing.{read_bytes};
 ghost use Rattle.jx_lex.specs.inside.Step.{read_part};
 
-use crate::scanner::keeper::Keeper;
-use crate::map::link::Link;
 use crate::alphabet::machine::step;
 use crate::alphabet::mark::Mark;
 use crate::alphabet::state::{LexState, TokenEnd};
+use crate::map::link::Link;
+use crate::scanner::keeper::Keeper;
 use crate::scanner::tokens::Tokens;
 use std::alloc::{AllocError, Global};
 use std::marker::Model;

@@ -7,11 +7,11 @@ ghost use Rattle.jx_lex.specs.inside.Passing.{KeptBy, AllKept};
 ghost use Rattle.jx_lex.specs.Uneventful.{AllKeep};
 ghost use Rattle.jx_lex.specs.inside.Step.{read_part, held_by};
 
+use crate::alphabet::state::LexState;
 use crate::map::bundle::Bundle;
 use crate::map::link::Link;
-use crate::scanner::byte_sets::digit_end;
 use crate::map::segment::Segment;
-use crate::alphabet::state::LexState;
+use crate::scanner::byte_sets::digit_end;
 use std::alloc::{AllocError, Global};
 
 /// The states in which the segments stand.

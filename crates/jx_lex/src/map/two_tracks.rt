@@ -3,10 +3,10 @@ ghost use Rattle.std.specs.Prelude.{◌≡◌, ◌≤◌, ◌<◌, ◌+◌, ◌�
 ghost use Rattle.jx_lex.specs.declared.map.link.Link.TheVariants.{State};
 ghost use Rattle.jx_lex.specs.inside.Bundle.{ReadsOn, is_apart};
 
-use crate::map::link::Link;
-use crate::scanner::byte_sets::plain_end;
-use crate::map::segment::Segment;
 use crate::alphabet::state::LexState;
+use crate::map::link::Link;
+use crate::map::segment::Segment;
+use crate::scanner::byte_sets::plain_end;
 use std::alloc::AllocError;
 
 // Two tracks are read apart, a stretch at a time: the first stretch has `FIRST_STRETCH` bytes, and each later one is twice as

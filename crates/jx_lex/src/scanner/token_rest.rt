@@ -5,8 +5,8 @@ ghost use Rattle.jx_lex.specs.Uneventful.{AllKeep, Leads};
 ghost use Rattle.jx_lex.specs.Seen.{Shuts};
 ghost use Rattle.jx_lex.specs.Token.{IsE};
 
-use crate::scanner::byte_sets::{blank_end, digit_end};
 use crate::alphabet::state::LexState;
+use crate::scanner::byte_sets::{blank_end, digit_end};
 
 /// The end of the blanks that follow. They mostly stand alone, but for those after a line feed.
 /// Where `byte` is no line feed and no space follows, it looks for none and gives `from`.

@@ -5,11 +5,11 @@ ghost use Rattle.jx_lex.specs.Lex.{lex};
 ghost use Rattle.jx_lex.specs.Seen.{with_tokens};
 ghost use Rattle.jx_lex.specs.inside.Step.{link_at};
 
-use crate::scanner::keeper::Keeper;
-use crate::map::link::Link;
 use crate::alphabet::mark::Mark;
-use crate::scanner::scan;
 use crate::alphabet::state::LexState;
+use crate::map::link::Link;
+use crate::scanner::keeper::Keeper;
+use crate::scanner::scan;
 use std::alloc::{AllocError, Global};
 use std::marker::Model;
 

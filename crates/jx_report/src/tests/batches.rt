@@ -1,19 +1,17 @@
-// Checks of inputs that come in several batches.
-ghost use Rattle.std.specs.Prelude.{◌≤◌, ◌<◌};
-
+// Checks of texts that come in several batches.
 use crate::end::End;
 use crate::exit::Exit;
 use crate::report_fault::ReportFault;
 use crate::reporting::report_by;
 use crate::sink::Sink;
 use crate::source::Source;
-use crate::tests::commands::{Outcome, check_within, command};
+use crate::tests::commands::{check_report_by, check_within, command};
 use crate::tests::ends::{FailingReader, Zeros};
 use crate::tests::gates::Meeting;
 use jx_book::OpenGate;
 use jx_claim::Workers;
-use jx_task::{Command, Task};
 use jx_run::FrontMark;
+use jx_task::Task;
 use std::alloc::Global;
 use std::io;
 use std::process::Abort;
@@ -21,36 +19,7 @@ use std::sync::Wait;
 use std::test::Fail;
 use std::thread::Threads;
 
-/// What a report in batches of so many bytes answers.
-fn reported_by<R: Threads + Wait + Sync>(
-    rt: &R,
-    alloc: Global,
-    text: &[u8],
-    command: &Command,
-    batch: usize,
-) -> Outcome
-    requires piece { 1 ≤ command.now.piece }
-    requires some { 1 ≤ batch }
-    requires few { batch < 4294967296 }
-{
-    let mut reader = End::new(text);
-    let mut writer = End::new(Vec::new(alloc));
-    let answer = report_by(
-        rt,
-        alloc,
-        &mut reader,
-        &mut writer,
-        command,
-        &OpenGate,
-        batch,
-    );
-    Outcome {
-        answer,
-        output: writer.inner,
-    }
-}
-
-// A text, a depth, what is written and how the program then ends.
+/// A text, a depth, what is written within it and how the report ends.
 type Case = (&'static [u8], u32, &'static [u8], Exit);
 
 #[test]
@@ -94,57 +63,7 @@ fn containers_go_on_from_one_batch_to_the_next(rt: HostRuntime) -> Result<(), Fa
     check_in_batches(&rt, rt.alloc(), &cases)
 }
 
-/// Checks each text in batches of a few bytes, by one, two and five workers.
-fn check_in_batches<R: Abort + Threads + Wait + Sync>(
-    rt: &R,
-    alloc: Global,
-    cases: &[Case],
-) -> Result<(), Fail> {
-    for (text, depth, output, exit) in cases {
-        for batch in 1..=7usize {
-            for workers in [1u8, 2, 5] {
-                let mut check = check_within(*depth);
-                check.workers = Workers::new(workers).ok_or("workers")?;
-                let ran = reported_by(rt, alloc, text, &check, batch);
-                assert_eq!(rt; ran.answer, Ok(*exit), "at {text:?} in batches of {batch}");
-                assert_eq!(rt;
-                    ran.output.as_slice(),
-                    *output,
-                    "at {text:?} in batches of {batch}"
-                );
-            }
-        }
-    }
-    Ok(())
-}
-
-// A text by what becomes of a mark in front of it, in batches of a few bytes, by several numbers of workers.
-fn check_mark<R: Abort + Threads + Wait + Sync>(
-    rt: &R,
-    alloc: Global,
-    text: &[u8],
-    mark: FrontMark,
-    want: (&[u8], Exit),
-) -> Result<(), Fail> {
-    let (output, exit) = want;
-    for batch in 1..=7usize {
-        for workers in [1u8, 2, 5] {
-            let mut check = check_within(1);
-            check.settings.mark = mark;
-            check.workers = Workers::new(workers).ok_or("workers")?;
-            let ran = reported_by(rt, alloc, text, &check, batch);
-            assert_eq!(rt; ran.answer, Ok(exit), "at {text:?} in batches of {batch}");
-            assert_eq!(rt;
-                ran.output.as_slice(),
-                output,
-                "at {text:?} in batches of {batch}"
-            );
-        }
-    }
-    Ok(())
-}
-
-// Byte order marks in first batches of a few bytes: what is told where a mark is ignored, and where it is refused.
+// The first batch has a few bytes. Each text stands with its line where a mark is ignored and its line where it is refused.
 #[test]
 fn a_byte_order_mark_is_not_cut_by_a_batch(rt: HostRuntime) -> Result<(), Fail> {
     let texts: [(&[u8], &[u8], &[u8]); 13] = [
@@ -183,7 +102,7 @@ fn a_byte_order_mark_is_not_cut_by_a_batch(rt: HostRuntime) -> Result<(), Fail> 
     Ok(())
 }
 
-// A byte that is allowed nowhere, at each offset: in each batch, and on both sides of each border.
+// The byte is allowed nowhere. It stands in each batch, and on both sides of each border between two.
 #[test]
 fn a_fault_at_each_offset_is_told_there(rt: HostRuntime) -> Result<(), Fail> {
     for at in 0..17usize {
@@ -194,16 +113,22 @@ fn a_fault_at_each_offset_is_told_there(rt: HostRuntime) -> Result<(), Fail> {
             for workers in [1u8, 3] {
                 let mut check = check_within(1);
                 check.workers = Workers::new(workers).ok_or("workers")?;
-                let ran = reported_by(&rt, rt.alloc(), &text, &check, batch);
-                assert_eq!(rt; ran.answer, Ok(Exit::Bad), "at {at}");
-                assert_eq!(rt; ran.output.as_slice(), line.as_bytes(), "at {at}");
+                check_report_by(
+                    &rt,
+                    rt.alloc(),
+                    &check,
+                    batch,
+                    &text,
+                    line.as_bytes(),
+                    Exit::Bad,
+                );
             }
         }
     }
     Ok(())
 }
 
-// Seven bytes, one a call, and the call that meets the end; behind a fault the reader is asked all the same.
+// There are eight calls: one for each of seven bytes, and one that meets the end. They are made behind a fault of the text too.
 #[test]
 fn a_reader_that_fails_in_any_batch_is_told(rt: HostRuntime) -> Result<(), Fail> {
     for text in [b"[1,2,3]".as_slice(), b"x1,2,3]".as_slice()] {
@@ -234,7 +159,7 @@ fn a_reader_that_fails_in_any_batch_is_told(rt: HostRuntime) -> Result<(), Fail>
     Ok(())
 }
 
-// One byte more than there may be pieces, behind a fault in the first batch.
+// There may be 4,294,967,295 pieces, and each has one byte. The first one is a fault of the text, and the rest is read all the same.
 #[test]
 fn too_many_pieces_are_told_when_all_is_read(rt: HostRuntime) -> Result<(), Fail> {
     let lengths = [
@@ -267,7 +192,7 @@ fn too_many_pieces_are_told_when_all_is_read(rt: HostRuntime) -> Result<(), Fail
 
 // In the second batch one worker draws and is held until the other has put a run into the book.
 #[test]
-fn two_workers_read_the_second_batch_too(rt: HostRuntime) -> Result<(), Fail> {
+fn a_second_worker_goes_on_in_the_second_batch_too(rt: HostRuntime) -> Result<(), Fail> {
     let mut check = command(Task::Check, 512);
     check.workers = Workers::new(2).ok_or("workers")?;
     let gate = Meeting::behind(3);
@@ -277,5 +202,43 @@ fn two_workers_read_the_second_batch_too(rt: HostRuntime) -> Result<(), Fail> {
     assert_eq!(rt; answer, Ok(Exit::Good));
     assert_eq!(rt; writer.inner.as_slice(), b"accepted\n".as_slice());
     assert!(rt; gate.took_place());
+    Ok(())
+}
+
+/// Checks each text in batches of a few bytes, by one, two and five workers.
+fn check_in_batches<R: Abort + Threads + Wait + Sync>(
+    rt: &R,
+    alloc: Global,
+    cases: &[Case],
+) -> Result<(), Fail> {
+    for (text, depth, output, exit) in cases {
+        for batch in 1..=7usize {
+            for workers in [1u8, 2, 5] {
+                let mut check = check_within(*depth);
+                check.workers = Workers::new(workers).ok_or("workers")?;
+                check_report_by(rt, alloc, &check, batch, text, *output, *exit);
+            }
+        }
+    }
+    Ok(())
+}
+
+/// Checks a text whose mark is ignored or refused, in batches of a few bytes, by one, two and five workers.
+fn check_mark<R: Abort + Threads + Wait + Sync>(
+    rt: &R,
+    alloc: Global,
+    text: &[u8],
+    mark: FrontMark,
+    want: (&[u8], Exit),
+) -> Result<(), Fail> {
+    let (output, exit) = want;
+    for batch in 1..=7usize {
+        for workers in [1u8, 2, 5] {
+            let mut check = check_within(1);
+            check.settings.mark = mark;
+            check.workers = Workers::new(workers).ok_or("workers")?;
+            check_report_by(rt, alloc, &check, batch, text, output, exit);
+        }
+    }
     Ok(())
 }

@@ -1,8 +1,8 @@
-// What is printed where a byte order mark may be ignored.
+// What is written for inputs with a byte order mark, where it is ignored and where it is refused.
 use crate::exit::Exit;
-use crate::tests::commands::{command, reported};
-use jx_task::Task;
+use crate::tests::commands::{check_report, command, task_at};
 use jx_run::FrontMark;
+use jx_task::Task;
 use std::test::Fail;
 
 #[test]
@@ -25,13 +25,7 @@ fn an_ignored_mark_is_skipped(rt: HostRuntime) -> Result<(), Fail> {
             let mut check = command(Task::Check, 1);
             check.settings.mark = FrontMark::Ignored;
             check.piece = piece;
-            let ran = reported(&rt, rt.alloc(), text, &check);
-            assert_eq!(rt; ran.answer, Ok(exit), "at {text:?} in pieces of {piece}");
-            assert_eq!(rt;
-                ran.output.as_slice(),
-                output,
-                "at {text:?} in pieces of {piece}"
-            );
+            check_report(&rt, rt.alloc(), &check, text, output, exit);
         }
     }
     Ok(())
@@ -54,13 +48,7 @@ fn a_mark_is_refused_where_none_is_ignored(rt: HostRuntime) -> Result<(), Fail> 
         for piece in 1..9 {
             let mut check = command(Task::Check, 1);
             check.piece = piece;
-            let ran = reported(&rt, rt.alloc(), text, &check);
-            assert_eq!(rt; ran.answer, Ok(exit), "at {text:?} in pieces of {piece}");
-            assert_eq!(rt;
-                ran.output.as_slice(),
-                output,
-                "at {text:?} in pieces of {piece}"
-            );
+            check_report(&rt, rt.alloc(), &check, text, output, exit);
         }
     }
     Ok(())
@@ -74,46 +62,52 @@ fn offsets_count_an_ignored_mark(rt: HostRuntime) -> Result<(), Fail> {
         let mut index = command(Task::Index, 512);
         index.settings.mark = FrontMark::Ignored;
         index.piece = piece;
-        let ran = reported(&rt, rt.alloc(), text, &index);
-        assert_eq!(rt; ran.answer, Ok(Exit::Good), "in pieces of {piece}");
-        assert_eq!(rt; ran.output.as_slice(), output, "in pieces of {piece}");
-        let mut pointers = Vec::new(rt.alloc());
-        pointers.push(String::from_str(rt.alloc(), "/0")?)?;
-        let mut at = command(Task::At(pointers), 512);
+        check_report(&rt, rt.alloc(), &index, text, output, Exit::Good);
+        let mut at = command(task_at(rt.alloc(), &["/0"])?, 512);
         at.settings.mark = FrontMark::Ignored;
         at.piece = piece;
-        let ran = reported(&rt, rt.alloc(), text, &at);
-        assert_eq!(rt; ran.answer, Ok(Exit::Good), "in pieces of {piece}");
-        assert_eq!(rt; ran.output.as_slice(), b"found number 4..5\n".as_slice());
+        check_report(
+            &rt,
+            rt.alloc(),
+            &at,
+            text,
+            b"found number 4..5\n",
+            Exit::Good,
+        );
     }
     Ok(())
 }
 
-// Without the setting a mark is a fault of a text, and in a sequence it stands before the first separator.
+// Where no mark is ignored, one in front is a fault of a text, and in a sequence it makes an element before the first separator.
 #[test]
 fn pointers_and_sequences_refuse_a_mark_too(rt: HostRuntime) -> Result<(), Fail> {
     for piece in 1..9 {
-        let mut pointers = Vec::new(rt.alloc());
-        pointers.push(String::from_str(rt.alloc(), "/0")?)?;
-        let mut at = command(Task::At(pointers), 512);
+        let mut at = command(task_at(rt.alloc(), &["/0"])?, 512);
         at.piece = piece;
-        let ran = reported(&rt, rt.alloc(), b"\xEF\xBB\xBF[1]", &at);
-        assert_eq!(rt; ran.answer, Ok(Exit::Bad), "in pieces of {piece}");
-        assert_eq!(rt; ran.output.as_slice(), b"stopped at 0\n".as_slice());
+        check_report(
+            &rt,
+            rt.alloc(),
+            &at,
+            b"\xEF\xBB\xBF[1]",
+            b"stopped at 0\n",
+            Exit::Bad,
+        );
         let mut seq = command(Task::Seq, 512);
         seq.piece = piece;
-        let ran = reported(&rt, rt.alloc(), b"\xEF\xBB\xBF\x1E1\n", &seq);
-        assert_eq!(rt; ran.answer, Ok(Exit::Bad), "in pieces of {piece}");
-        assert_eq!(rt;
-            ran.output.as_slice(),
-            b"0..3 unmarked\n4..6 accepted\n".as_slice()
+        check_report(
+            &rt,
+            rt.alloc(),
+            &seq,
+            b"\xEF\xBB\xBF\x1E1\n",
+            b"0..3 unmarked\n4..6 accepted\n",
+            Exit::Bad,
         );
     }
     Ok(())
 }
 
 #[test]
-fn a_mark_before_the_first_separator_is_ignored(rt: HostRuntime) -> Result<(), Fail> {
+fn a_mark_alone_before_the_first_separator_is_ignored(rt: HostRuntime) -> Result<(), Fail> {
     let inputs: [(&[u8], &[u8], Exit); 4] = [
         (b"\xEF\xBB\xBF\x1E1\n", b"4..6 accepted\n", Exit::Good),
         (b"\xEF\xBB\xBF", b"", Exit::Good),
@@ -133,13 +127,7 @@ fn a_mark_before_the_first_separator_is_ignored(rt: HostRuntime) -> Result<(), F
             let mut seq = command(Task::Seq, 512);
             seq.settings.mark = FrontMark::Ignored;
             seq.piece = piece;
-            let ran = reported(&rt, rt.alloc(), input, &seq);
-            assert_eq!(rt; ran.answer, Ok(exit), "at {input:?} in pieces of {piece}");
-            assert_eq!(rt;
-                ran.output.as_slice(),
-                output,
-                "at {input:?} in pieces of {piece}"
-            );
+            check_report(&rt, rt.alloc(), &seq, input, output, exit);
         }
     }
     Ok(())

@@ -1,17 +1,19 @@
-// Commands, and what a report writes for them over memory.
-ghost use Rattle.std.specs.Prelude.{◌≡◌, ◌≤◌};
+// Commands, and what a report over memory answers and writes for them.
+ghost use Rattle.std.specs.Prelude.{◌≡◌, ◌≤◌, ◌<◌};
 
 use crate::end::End;
 use crate::exit::Exit;
 use crate::report_fault::ReportFault;
-use crate::reporting::report;
+use crate::reporting::{report, report_by};
 use jx_book::OpenGate;
 use jx_claim::Workers;
-use jx_task::{Command, Task};
 use jx_lex::Depth;
 use jx_run::{FrontMark, NameRule, Settings};
+use jx_task::{Command, Task};
 use std::alloc::{AllocError, Global};
+use std::process::Abort;
 use std::sync::Wait;
+use std::test::Fail;
 use std::thread::Threads;
 
 /// A command within a depth, for five workers who read a byte at a time.
@@ -36,6 +38,23 @@ pub fn check_within(containers: u32) -> Command
     ensures { result.piece ≡ 1 }
 {
     command(Task::Check, containers)
+}
+
+/// A command on a text sequence within a depth, for so many workers who read a byte at a time.
+pub fn sequence(containers: u32, mark: FrontMark, workers: u8) -> Result<Command, Fail> {
+    let mut sequence = command(Task::Seq, containers);
+    sequence.settings.mark = mark;
+    sequence.workers = Workers::new(workers).ok_or("workers")?;
+    Ok(sequence)
+}
+
+/// The task that looks up these pointers.
+pub fn task_at(alloc: Global, pointers: &[&str]) -> Result<Task, AllocError> {
+    let mut owned = Vec::new(alloc);
+    for pointer in pointers {
+        owned.push(String::from_str(alloc, *pointer)?)?;
+    }
+    Ok(Task::At(owned))
 }
 
 /// What a report answered, and what it wrote.
@@ -63,7 +82,80 @@ pub fn reported<R: Threads + Wait + Sync>(
     }
 }
 
-/// Bytes, each repeated.
+/// Checks what a report on these bytes writes, and how it ends.
+pub fn check_report<R: Abort + Threads + Wait + Sync>(
+    rt: &R,
+    alloc: Global,
+    command: &Command,
+    text: &[u8],
+    output: &[u8],
+    exit: Exit,
+)
+    requires { 1 ≤ command.now.piece }
+{
+    let piece = command.piece;
+    let ran = reported(rt, alloc, text, command);
+    assert_eq!(rt; ran.answer, Ok(exit), "at {text:?} in pieces of {piece}");
+    assert_eq!(rt;
+        ran.output.as_slice(),
+        output,
+        "at {text:?} in pieces of {piece}"
+    );
+}
+
+/// What a report on these bytes answers where it reads so many bytes at a time, and what it writes into memory.
+pub fn reported_by<R: Threads + Wait + Sync>(
+    rt: &R,
+    alloc: Global,
+    text: &[u8],
+    command: &Command,
+    batch: usize,
+) -> Outcome
+    requires piece { 1 ≤ command.now.piece }
+    requires some { 1 ≤ batch }
+    requires few { batch < 4294967296 }
+{
+    let mut reader = End::new(text);
+    let mut writer = End::new(Vec::new(alloc));
+    let answer = report_by(
+        rt,
+        alloc,
+        &mut reader,
+        &mut writer,
+        command,
+        &OpenGate,
+        batch,
+    );
+    Outcome {
+        answer,
+        output: writer.inner,
+    }
+}
+
+/// Checks what a report writes that reads so many bytes at a time, and how it ends.
+pub fn check_report_by<R: Abort + Threads + Wait + Sync>(
+    rt: &R,
+    alloc: Global,
+    command: &Command,
+    batch: usize,
+    text: &[u8],
+    output: &[u8],
+    exit: Exit,
+)
+    requires piece { 1 ≤ command.now.piece }
+    requires some { 1 ≤ batch }
+    requires few { batch < 4294967296 }
+{
+    let ran = reported_by(rt, alloc, text, command, batch);
+    assert_eq!(rt; ran.answer, Ok(exit), "at {text:?} in batches of {batch}");
+    assert_eq!(rt;
+        ran.output.as_slice(),
+        output,
+        "at {text:?} in batches of {batch}"
+    );
+}
+
+/// A text of these bytes, each repeated so many times.
 pub fn repeated(alloc: Global, parts: &[(u8, usize)]) -> Result<Vec<u8>, AllocError> {
     let mut text = Vec::new(alloc);
     for (byte, count) in parts {

@@ -1,10 +1,13 @@
-// Ends that give and take little at a time, and fail at a call of their own choice.
-use std::alloc::Global;
+// Ends that give and take little at a time, and fail at the call that they are told.
+use std::alloc::{AllocError, Global};
 use std::io;
 use std::io::{Read, Write};
 use std::sync::atomic::{AtomicBool, Ordering};
 
-/// Gives one byte a call, and fails at the call of the number named, from 1 on.
+/// The number of no call: an end that is to fail at this one never does.
+pub const NO_CALL: u32 = 0;
+
+/// Gives one byte a call, and fails at the call with this number, counted from 1.
 #[derive(Drop)]
 pub struct FailingReader<'a> {
     pub text: &'a [u8],
@@ -47,7 +50,7 @@ pub enum Refusal {
     TakesNone,
 }
 
-/// Takes up to `most` bytes a call, and fails at the call of the number named, from 1 on.
+/// Takes up to `most` bytes a call, and fails at the call with this number, counted from 1.
 #[derive(Drop)]
 pub struct FailingWriter {
     pub taken: Vec<u8>,
@@ -108,5 +111,13 @@ impl Read for TellingReader<'_> {
         buf[..count].copy_from_slice(&self.text[..count]);
         self.text = &self.text[count..];
         Ok(count)
+    }
+}
+
+/// Room for a line, so that to write it takes no memory. It is asked for once more where it is refused.
+pub fn room(alloc: Global) -> Result<Vec<u8>, AllocError> {
+    match Vec::with_capacity(alloc, 32) {
+        Ok(bytes) => Ok(bytes),
+        Err(_) => Vec::with_capacity(alloc, 32),
     }
 }

@@ -1,6 +1,6 @@
-// Each task by each of the settings, over ends that fail or take little: a read fault with nothing written, a write fault
-// behind a beginning of the output, or the whole output.
-ghost use Rattle.std.specs.Prelude.{◌≡◌, ◌≤◌};
+// Each task by each of the settings, over ends that fail: after a read fault nothing is written, after a write fault a
+// beginning of the output, and otherwise all of it.
+ghost use Rattle.std.specs.Prelude.{◌≤◌};
 
 use crate::end::End;
 use crate::exit::Exit;
@@ -8,19 +8,17 @@ use crate::report_fault::ReportFault;
 use crate::reporting::report;
 use crate::sink::Sink;
 use crate::source::Source;
-use crate::tests::commands::command;
-use crate::tests::ends::{FailingReader, FailingWriter, Refusal};
+use crate::tests::commands::{command, task_at};
+use crate::tests::ends::{FailingReader, FailingWriter, NO_CALL, Refusal};
 use jx_book::OpenGate;
-use jx_task::{Command, Task};
 use jx_run::{FrontMark, NameRule};
-use std::alloc::{AllocError, Global};
+use jx_task::{Command, Task};
+use std::alloc::Global;
 use std::io;
 use std::process::Abort;
 use std::sync::Wait;
 use std::test::Fail;
 use std::thread::Threads;
-
-const NO_CALL: u32 = 0;
 
 const SETTINGS: [(FrontMark, NameRule); 4] = [
     (FrontMark::Refused, NameRule::Any),
@@ -32,7 +30,56 @@ const SETTINGS: [(FrontMark, NameRule); 4] = [
 /// An input, what is written for it, and the exit.
 type Want = (&'static [u8], &'static [u8], Exit);
 
-/// What a report over a reader that gives a byte a call answers. It fails at this call.
+#[test]
+fn the_ends_of_a_check_may_fail_at_any_call(rt: HostRuntime) -> Result<(), Fail> {
+    for settings in SETTINGS {
+        let want: Want = (b"[1,}", b"stopped at 3\n", Exit::Bad);
+        check(&rt, rt.alloc(), Task::Check, settings, want)?;
+    }
+    Ok(())
+}
+
+#[test]
+fn the_ends_of_an_index_may_fail_at_any_call(rt: HostRuntime) -> Result<(), Fail> {
+    for settings in SETTINGS {
+        let want: Want = (
+            b"{\"a\":[1]}",
+            b"accepted\n0 object 0..9 - 0 -\n1 array 5..8 0 0 1..4\n2 number 6..7 1 0 -\n",
+            Exit::Good,
+        );
+        check(&rt, rt.alloc(), Task::Index, settings, want)?;
+    }
+    Ok(())
+}
+
+#[test]
+fn the_ends_of_a_look_up_may_fail_at_any_call(rt: HostRuntime) -> Result<(), Fail> {
+    for settings in SETTINGS {
+        let want: Want = (
+            b"{\"a\":[1,{\"b\":2}]}",
+            b"found number 13..14\npast end at token 1\n",
+            Exit::Bad,
+        );
+        let task = task_at(rt.alloc(), &["/a/1/b", "/a/2"])?;
+        check(&rt, rt.alloc(), task, settings, want)?;
+    }
+    Ok(())
+}
+
+#[test]
+fn the_ends_of_a_sequence_may_fail_at_any_call(rt: HostRuntime) -> Result<(), Fail> {
+    for settings in SETTINGS {
+        let want: Want = (
+            b"\x1Etrue\n\x1Etrue\x1E\x1E[1\n",
+            b"1..6 accepted\n7..11 may be cut\n13..16 truncated\n",
+            Exit::Bad,
+        );
+        check(&rt, rt.alloc(), Task::Seq, settings, want)?;
+    }
+    Ok(())
+}
+
+/// Checks a report over a reader that gives a byte a call and fails at this one.
 fn check_reader<R: Abort + Threads + Wait + Sync>(
     rt: &R,
     alloc: Global,
@@ -58,7 +105,7 @@ fn check_reader<R: Abort + Threads + Wait + Sync>(
     Ok(())
 }
 
-/// The reader fails at each of its calls, up to the one that meets the end.
+/// Checks reports whose reader fails at each of its calls in turn, the last of which would meet the end.
 fn check_readers<R: Abort + Threads + Wait + Sync>(
     rt: &R,
     alloc: Global,
@@ -77,7 +124,7 @@ fn check_readers<R: Abort + Threads + Wait + Sync>(
     Ok(())
 }
 
-/// What a report into a writer that takes a few bytes a call answers. It fails at this call, or at none.
+/// Checks a report into this writer, which fails at the call that it says, or at none.
 fn check_writer<R: Abort + Threads + Wait + Sync>(
     rt: &R,
     alloc: Global,
@@ -106,7 +153,7 @@ fn check_writer<R: Abort + Threads + Wait + Sync>(
     Ok(())
 }
 
-/// The writer fails, or takes no byte, at none of its calls, and at each.
+/// Checks reports whose writer fails or takes no byte, at none of its calls and at each of them in turn.
 fn check_writers<R: Abort + Threads + Wait + Sync>(
     rt: &R,
     alloc: Global,
@@ -130,6 +177,7 @@ fn check_writers<R: Abort + Threads + Wait + Sync>(
     Ok(())
 }
 
+/// Checks a task by these settings over readers and writers that fail at each call in turn.
 fn check<R: Abort + Threads + Wait + Sync>(
     rt: &R,
     alloc: Global,
@@ -142,61 +190,4 @@ fn check<R: Abort + Threads + Wait + Sync>(
     check_readers(rt, alloc, &command, want.0)?;
     check_writers(rt, alloc, &command, want, 1)?;
     check_writers(rt, alloc, &command, want, 3)
-}
-
-#[test]
-fn the_ends_of_a_check_may_fail_at_any_call(rt: HostRuntime) -> Result<(), Fail> {
-    for settings in SETTINGS {
-        let want: Want = (b"[1,}", b"stopped at 3\n", Exit::Bad);
-        check(&rt, rt.alloc(), Task::Check, settings, want)?;
-    }
-    Ok(())
-}
-
-#[test]
-fn the_ends_of_an_index_may_fail_at_any_call(rt: HostRuntime) -> Result<(), Fail> {
-    for settings in SETTINGS {
-        let want: Want = (
-            b"{\"a\":[1]}",
-            b"accepted\n0 object 0..9 - 0 -\n1 array 5..8 0 0 1..4\n2 number 6..7 1 0 -\n",
-            Exit::Good,
-        );
-        check(&rt, rt.alloc(), Task::Index, settings, want)?;
-    }
-    Ok(())
-}
-
-fn two_pointers(alloc: Global) -> Result<Task, AllocError> {
-    let mut pointers = Vec::with_capacity(alloc, 2)?;
-    for pointer in ["/a/1/b", "/a/2"] {
-        pointers.push(String::from_str(alloc, pointer)?)?;
-    }
-    Ok(Task::At(pointers))
-}
-
-#[test]
-fn the_ends_of_a_look_up_may_fail_at_any_call(rt: HostRuntime) -> Result<(), Fail> {
-    for settings in SETTINGS {
-        let want: Want = (
-            b"{\"a\":[1,{\"b\":2}]}",
-            b"found number 13..14\npast end at token 1\n",
-            Exit::Bad,
-        );
-        let task = two_pointers(rt.alloc())?;
-        check(&rt, rt.alloc(), task, settings, want)?;
-    }
-    Ok(())
-}
-
-#[test]
-fn the_ends_of_a_sequence_may_fail_at_any_call(rt: HostRuntime) -> Result<(), Fail> {
-    for settings in SETTINGS {
-        let want: Want = (
-            b"\x1Etrue\n\x1Etrue\x1E\x1E[1\n",
-            b"1..6 accepted\n7..11 may be cut\n13..16 truncated\n",
-            Exit::Bad,
-        );
-        check(&rt, rt.alloc(), Task::Seq, settings, want)?;
-    }
-    Ok(())
 }

@@ -1,13 +1,16 @@
-// What is printed for the rows of a text, and for pointers.
+// What is written for the rows of a text, and for pointers.
 use crate::exit::Exit;
-use crate::tests::commands::{command, repeated, reported};
+use crate::tests::commands::{check_report, command, repeated, task_at};
 use jx_claim::Workers;
 use jx_task::Task;
-use std::alloc::{AllocError, Global};
+use std::alloc::Global;
 use std::process::Abort;
 use std::sync::Wait;
 use std::test::Fail;
 use std::thread::Threads;
+
+/// A text, pointers into it, what is written for them and how the report ends.
+type Pointed = (&'static [u8], &'static [&'static str], &'static [u8], Exit);
 
 #[test]
 fn each_value_gets_a_line(rt: HostRuntime) -> Result<(), Fail> {
@@ -32,9 +35,7 @@ fn each_value_gets_a_line(rt: HostRuntime) -> Result<(), Fail> {
     ];
     for (text, depth, output) in texts {
         let index = command(Task::Index, depth);
-        let ran = reported(&rt, rt.alloc(), text, &index);
-        assert_eq!(rt; ran.answer, Ok(Exit::Good), "at {text:?}");
-        assert_eq!(rt; ran.output.as_slice(), output, "at {text:?}");
+        check_report(&rt, rt.alloc(), &index, text, output, Exit::Good);
     }
     Ok(())
 }
@@ -42,11 +43,10 @@ fn each_value_gets_a_line(rt: HostRuntime) -> Result<(), Fail> {
 #[test]
 fn each_kind_has_its_word(rt: HostRuntime) -> Result<(), Fail> {
     let index = command(Task::Index, 512);
-    let ran = reported(&rt, rt.alloc(), b"[true,false,null,\"\"]", &index);
+    let text = b"[true,false,null,\"\"]";
     let output =
         b"accepted\n0 array 0..20 - 0 -\n1 true 1..5 0 0 -\n2 false 6..11 0 1 -\n3 null 12..16 0 2 -\n4 string 17..19 0 3 -\n";
-    assert_eq!(rt; ran.answer, Ok(Exit::Good));
-    assert_eq!(rt; ran.output.as_slice(), output.as_slice());
+    check_report(&rt, rt.alloc(), &index, text, output, Exit::Good);
     Ok(())
 }
 
@@ -62,27 +62,16 @@ fn six_hundred_rows_are_written(rt: HostRuntime) -> Result<(), Fail> {
         let line = format!(in rt.alloc(); "{row} array {row}..{end} {parent} 0 -\n")?;
         output.push_str(&line)?;
     }
-    let ran = reported(&rt, rt.alloc(), &text, &index);
-    assert_eq!(rt; ran.answer, Ok(Exit::Good));
-    assert_eq!(rt; ran.output.as_slice(), output.as_bytes());
+    check_report(
+        &rt,
+        rt.alloc(),
+        &index,
+        &text,
+        output.as_bytes(),
+        Exit::Good,
+    );
     Ok(())
 }
-
-fn at(alloc: Global, pointers: &[&str]) -> Result<Task, AllocError> {
-    let mut owned = Vec::new(alloc);
-    for pointer in pointers {
-        owned.push(String::from_str(alloc, *pointer)?)?;
-    }
-    Ok(Task::At(owned))
-}
-
-// A text, pointers into it, what is written and how the program then ends.
-type Pointed = (
-    &'static [u8],
-    &'static [&'static str],
-    &'static [u8],
-    Exit,
-);
 
 #[test]
 fn each_pointer_gets_a_line(rt: HostRuntime) -> Result<(), Fail> {
@@ -134,20 +123,6 @@ fn names_are_looked_up_by_their_values(rt: HostRuntime) -> Result<(), Fail> {
     check_pointers(&rt, rt.alloc(), &cases)
 }
 
-fn check_pointers<R: Abort + Threads + Wait + Sync>(
-    rt: &R,
-    alloc: Global,
-    cases: &[Pointed],
-) -> Result<(), Fail> {
-    for (text, words, output, exit) in cases {
-        let at = command(at(alloc, words)?, 512);
-        let ran = reported(rt, alloc, text, &at);
-        assert_eq!(rt; ran.answer, Ok(*exit), "at {text:?}");
-        assert_eq!(rt; ran.output.as_slice(), *output, "at {text:?}");
-    }
-    Ok(())
-}
-
 #[test]
 fn a_refused_text_gets_one_line(rt: HostRuntime) -> Result<(), Fail> {
     let texts: [(&[u8], u32, &[u8]); 3] = [
@@ -157,13 +132,9 @@ fn a_refused_text_gets_one_line(rt: HostRuntime) -> Result<(), Fail> {
     ];
     for (text, depth, output) in texts {
         let index = command(Task::Index, depth);
-        let ran = reported(&rt, rt.alloc(), text, &index);
-        assert_eq!(rt; ran.answer, Ok(Exit::Bad), "at {text:?}");
-        assert_eq!(rt; ran.output.as_slice(), output, "at {text:?}");
-        let at = command(at(rt.alloc(), &["", "x", "/~"])?, depth);
-        let ran = reported(&rt, rt.alloc(), text, &at);
-        assert_eq!(rt; ran.answer, Ok(Exit::Bad), "at {text:?}");
-        assert_eq!(rt; ran.output.as_slice(), output, "at {text:?}");
+        check_report(&rt, rt.alloc(), &index, text, output, Exit::Bad);
+        let at = command(task_at(rt.alloc(), &["", "x", "/~"])?, depth);
+        check_report(&rt, rt.alloc(), &at, text, output, Exit::Bad);
     }
     Ok(())
 }
@@ -174,13 +145,24 @@ fn pieces_and_workers_change_no_line(rt: HostRuntime) -> Result<(), Fail> {
     let output: &[u8] = b"found number 13..14\nno such member at token 2\n";
     for piece in 1..19 {
         for count in [1, 2, 64] {
-            let mut at = command(at(rt.alloc(), &["/a/1/b", "/a/1/c"])?, 512);
+            let mut at = command(task_at(rt.alloc(), &["/a/1/b", "/a/1/c"])?, 512);
             at.piece = piece;
             at.workers = Workers::new(count).ok_or("workers")?;
-            let ran = reported(&rt, rt.alloc(), text, &at);
-            assert_eq!(rt; ran.answer, Ok(Exit::Bad), "in pieces of {piece}");
-            assert_eq!(rt; ran.output.as_slice(), output, "in pieces of {piece}");
+            check_report(&rt, rt.alloc(), &at, text, output, Exit::Bad);
         }
+    }
+    Ok(())
+}
+
+/// Checks what is written for each case.
+fn check_pointers<R: Abort + Threads + Wait + Sync>(
+    rt: &R,
+    alloc: Global,
+    cases: &[Pointed],
+) -> Result<(), Fail> {
+    for (text, words, output, exit) in cases {
+        let at = command(task_at(alloc, words)?, 512);
+        check_report(rt, alloc, &at, text, *output, *exit);
     }
     Ok(())
 }

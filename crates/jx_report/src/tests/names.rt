@@ -1,8 +1,8 @@
-// What is printed where names have to be unique.
+// What is written where names have to be unique.
 use crate::exit::Exit;
-use crate::tests::commands::{command, reported};
-use jx_task::Task;
+use crate::tests::commands::{check_report, command, task_at};
 use jx_run::{FrontMark, NameRule};
+use jx_task::Task;
 use std::test::Fail;
 
 #[test]
@@ -34,13 +34,7 @@ fn a_repeated_name_refuses_a_text(rt: HostRuntime) -> Result<(), Fail> {
             check.settings.mark = FrontMark::Ignored;
             check.settings.names = NameRule::Unique;
             check.piece = piece;
-            let ran = reported(&rt, rt.alloc(), text, &check);
-            assert_eq!(rt; ran.answer, Ok(exit), "at {text:?} in pieces of {piece}");
-            assert_eq!(rt;
-                ran.output.as_slice(),
-                output,
-                "at {text:?} in pieces of {piece}"
-            );
+            check_report(&rt, rt.alloc(), &check, text, output, exit);
         }
     }
     Ok(())
@@ -52,21 +46,13 @@ fn a_repeated_name_refuses_rows_and_pointers(rt: HostRuntime) -> Result<(), Fail
     let refused: &[u8] = b"repeated name at 7\n";
     let mut index = command(Task::Index, 512);
     index.settings.names = NameRule::Unique;
-    let ran = reported(&rt, rt.alloc(), text, &index);
-    assert_eq!(rt; ran.answer, Ok(Exit::Bad));
-    assert_eq!(rt; ran.output.as_slice(), refused);
-    let mut pointers = Vec::new(rt.alloc());
-    pointers.push(String::from_str(rt.alloc(), "/b")?)?;
-    let mut at = command(Task::At(pointers), 512);
+    check_report(&rt, rt.alloc(), &index, text, refused, Exit::Bad);
+    let mut at = command(task_at(rt.alloc(), &["/b"])?, 512);
     at.settings.names = NameRule::Unique;
-    let ran = reported(&rt, rt.alloc(), text, &at);
-    assert_eq!(rt; ran.answer, Ok(Exit::Bad));
-    assert_eq!(rt; ran.output.as_slice(), refused);
+    check_report(&rt, rt.alloc(), &at, text, refused, Exit::Bad);
     let text: &[u8] = b"{\"a\":1,\"b\":2}";
     let found: &[u8] = b"found number 11..12\n";
-    let ran = reported(&rt, rt.alloc(), text, &at);
-    assert_eq!(rt; ran.answer, Ok(Exit::Good));
-    assert_eq!(rt; ran.output.as_slice(), found);
+    check_report(&rt, rt.alloc(), &at, text, found, Exit::Good);
     Ok(())
 }
 
@@ -88,9 +74,7 @@ fn a_repeated_name_refuses_its_element(rt: HostRuntime) -> Result<(), Fail> {
             let mut seq = command(Task::Seq, 512);
             seq.settings.names = names;
             seq.piece = piece;
-            let ran = reported(&rt, rt.alloc(), input, &seq);
-            assert_eq!(rt; ran.answer, Ok(Exit::Bad), "in pieces of {piece}");
-            assert_eq!(rt; ran.output.as_slice(), output, "in pieces of {piece}");
+            check_report(&rt, rt.alloc(), &seq, input, output, Exit::Bad);
         }
     }
     Ok(())

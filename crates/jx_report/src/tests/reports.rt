@@ -6,15 +6,13 @@ use crate::reporting::report;
 use crate::sink::Sink;
 use crate::source::Source;
 use crate::tests::commands::{check_within, command, repeated, reported};
-use crate::tests::ends::{FailingReader, FailingWriter, Refusal};
+use crate::tests::ends::{FailingReader, FailingWriter, NO_CALL, Refusal};
 use crate::tests::gates::Meeting;
 use jx_book::OpenGate;
 use jx_claim::Workers;
 use jx_task::Task;
 use std::io;
 use std::test::Fail;
-
-const NO_CALL: u32 = 0;
 
 #[test]
 fn each_verdict_has_its_line(rt: HostRuntime) -> Result<(), Fail> {
@@ -79,7 +77,7 @@ fn the_depth_decides_what_is_too_deep(rt: HostRuntime) -> Result<(), Fail> {
 }
 
 #[test]
-fn long_texts_are_judged_by_all_workers(rt: HostRuntime) -> Result<(), Fail> {
+fn a_long_text_gets_its_verdict(rt: HostRuntime) -> Result<(), Fail> {
     let texts: [(&[(u8, usize)], u32, &[u8], Exit); 10] = [
         (&[(b'[', 512)], 512, b"truncated\n", Exit::Bad),
         (&[(b'[', 513)], 512, b"too deep at 512\n", Exit::Bad),
@@ -119,7 +117,7 @@ fn long_texts_are_judged_by_all_workers(rt: HostRuntime) -> Result<(), Fail> {
 }
 
 #[test]
-fn a_text_of_many_steps_is_accepted(rt: HostRuntime) -> Result<(), Fail> {
+fn a_fault_behind_millions_of_blanks_is_told_there(rt: HostRuntime) -> Result<(), Fail> {
     let mut text = vec![in rt.alloc(); b' '; 3_000_000]?;
     text.extend_from_slice(b"1 x")?;
     let mut check = check_within(0);
@@ -241,7 +239,7 @@ fn each_fault_has_its_words(rt: HostRuntime) -> Result<(), Fail> {
 
 // One worker draws and is held until the other has put a run into the book.
 #[test]
-fn two_workers_give_the_answer_of_one(rt: HostRuntime) -> Result<(), Fail> {
+fn a_second_worker_goes_on_while_the_first_is_held(rt: HostRuntime) -> Result<(), Fail> {
     let mut check = command(Task::Check, 512);
     check.piece = 2;
     check.workers = Workers::new(2).ok_or("workers")?;

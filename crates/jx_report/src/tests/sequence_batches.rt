@@ -1,92 +1,25 @@
 // Text sequences that come in several batches.
-ghost use Rattle.std.specs.Prelude.{◌≤◌, ◌<◌};
-
 use crate::end::End;
 use crate::exit::Exit;
 use crate::report_fault::ReportFault;
 use crate::reporting::report_by;
 use crate::sink::Sink;
 use crate::source::Source;
-use crate::tests::commands::{command, repeated};
-use crate::tests::ends::{FailingReader, TellingReader, Zeros};
-use crate::tests::gates::StopFrom;
+use crate::tests::commands::{check_report_by, command, repeated, sequence};
+use crate::tests::ends::{FailingReader, Zeros};
 use jx_book::OpenGate;
-use jx_claim::Workers;
-use jx_task::{Command, Task};
 use jx_lex::Depth;
 use jx_run::{ElementsRun, FrontMark, Summary};
+use jx_task::Task;
 use std::alloc::Global;
 use std::io;
 use std::process::Abort;
 use std::sync::Wait;
-use std::sync::atomic::AtomicBool;
 use std::test::Fail;
 use std::thread::Threads;
 
-/// An input, and what is written for it.
+/// An input, what is written for it and how the report ends.
 type Judged = (&'static [u8], &'static [u8], Exit);
-
-/// More events than any of these runs has.
-const MANY: u64 = 1000;
-
-fn sequence(containers: u32, mark: FrontMark, workers: u8) -> Result<Command, Fail> {
-    let mut sequence = command(Task::Seq, containers);
-    sequence.settings.mark = mark;
-    sequence.workers = Workers::new(workers).ok_or("workers")?;
-    Ok(sequence)
-}
-
-/// Compares what is written in batches of so many bytes.
-fn check_by<R: Abort + Threads + Wait + Sync>(
-    rt: &R,
-    alloc: Global,
-    command: &Command,
-    batch: usize,
-    text: &[u8],
-    output: &[u8],
-    exit: Exit,
-)
-    requires piece { 1 ≤ command.now.piece }
-    requires some { 1 ≤ batch }
-    requires few { batch < 4294967296 }
-{
-    let mut reader = End::new(text);
-    let mut writer = End::new(Vec::new(alloc));
-    let answer = report_by(
-        rt,
-        alloc,
-        &mut reader,
-        &mut writer,
-        command,
-        &OpenGate,
-        batch,
-    );
-    assert_eq!(rt; answer, Ok(exit), "at {text:?} in batches of {batch}");
-    assert_eq!(rt;
-        writer.inner.as_slice(),
-        output,
-        "at {text:?} in batches of {batch}"
-    );
-}
-
-// The same in batches of all these sizes, by one worker and by two.
-fn check_in_batches<R: Abort + Threads + Wait + Sync>(
-    rt: &R,
-    alloc: Global,
-    containers: u32,
-    mark: FrontMark,
-    judged: Judged,
-) -> Result<(), Fail> {
-    let (text, output, exit) = judged;
-    for batch in 1..=9usize {
-        for workers in [1u8, 2] {
-            let mut sequence = sequence(containers, mark, workers)?;
-            sequence.piece = 2;
-            check_by(rt, alloc, &sequence, batch, text, output, exit);
-        }
-    }
-    Ok(())
-}
 
 // Elements, strings, escapes and characters that go from one batch to the next.
 #[test]
@@ -125,7 +58,7 @@ fn elements_go_on_from_one_batch_to_the_next(rt: HostRuntime) -> Result<(), Fail
 }
 
 #[test]
-fn elements_are_judged_alike_in_batches(rt: HostRuntime) -> Result<(), Fail> {
+fn verdicts_on_elements_are_the_same_in_batches(rt: HostRuntime) -> Result<(), Fail> {
     let inputs: [Judged; 5] = [
         (
             b"\x1E[[1]]\x1E[[[1]]]\x1E[]]\x1E[1,\x1E]",
@@ -151,7 +84,7 @@ fn elements_are_judged_alike_in_batches(rt: HostRuntime) -> Result<(), Fail> {
     Ok(())
 }
 
-// Byte order marks that are ignored, in first batches of a few bytes.
+// The first batch has a few bytes.
 #[test]
 fn an_ignored_mark_of_a_sequence_is_not_cut_by_a_batch(rt: HostRuntime) -> Result<(), Fail> {
     let inputs: [Judged; 8] = [
@@ -190,27 +123,7 @@ fn an_ignored_mark_of_a_sequence_is_not_cut_by_a_batch(rt: HostRuntime) -> Resul
     Ok(())
 }
 
-// What is written where the byte at an offset of the sequence below is one that is allowed nowhere.
-fn fault_at(alloc: Global, at: usize) -> Result<String, Fail> {
-    if at == 0 {
-        return Ok(format!(in alloc; "0..7 unmarked\n8..14 accepted\n15..21 accepted\n")?);
-    }
-    if at < 7 {
-        return Ok(format!(in alloc; "1..7 stopped at {at}\n8..14 accepted\n15..21 accepted\n")?);
-    }
-    if at == 7 {
-        return Ok(format!(in alloc; "1..14 stopped at 7\n15..21 accepted\n")?);
-    }
-    if at < 14 {
-        return Ok(format!(in alloc; "1..7 accepted\n8..14 stopped at {at}\n15..21 accepted\n")?);
-    }
-    if at == 14 {
-        return Ok(format!(in alloc; "1..7 accepted\n8..21 stopped at 14\n")?);
-    }
-    Ok(format!(in alloc; "1..7 accepted\n8..14 accepted\n15..21 stopped at {at}\n")?)
-}
-
-// A byte that is allowed nowhere, at each offset: in each batch, and on both sides of each border.
+// The byte is allowed nowhere. It stands in each batch, and on both sides of each border between two.
 #[test]
 fn a_fault_at_each_offset_of_a_sequence_is_told_there(rt: HostRuntime) -> Result<(), Fail> {
     for at in 0..21usize {
@@ -221,7 +134,7 @@ fn a_fault_at_each_offset_of_a_sequence_is_told_there(rt: HostRuntime) -> Result
             for workers in [1u8, 2] {
                 let mut sequence = sequence(2, FrontMark::Refused, workers)?;
                 sequence.piece = 2;
-                check_by(
+                check_report_by(
                     &rt,
                     rt.alloc(),
                     &sequence,
@@ -236,7 +149,7 @@ fn a_fault_at_each_offset_of_a_sequence_is_told_there(rt: HostRuntime) -> Result
     Ok(())
 }
 
-// Eight bytes, one a call, and the call that meets the end.
+// The first text has eight bytes, and there are nine calls: one for each byte, and one that meets the end.
 #[test]
 fn a_reader_that_fails_in_any_batch_of_a_sequence_is_told(rt: HostRuntime) -> Result<(), Fail> {
     for text in [b"\x1E1\n\x1E[2,3".as_slice(), b"x1\n\x1E]2,3".as_slice()] {
@@ -268,7 +181,7 @@ fn a_reader_that_fails_in_any_batch_of_a_sequence_is_told(rt: HostRuntime) -> Re
     Ok(())
 }
 
-// One byte more than there may be pieces.
+// There may be 4,294,967,295 pieces, and each has one byte.
 #[test]
 fn too_many_pieces_of_a_sequence_are_told_when_all_is_read(rt: HostRuntime) -> Result<(), Fail> {
     let lengths = [
@@ -299,66 +212,9 @@ fn too_many_pieces_of_a_sequence_are_told_when_all_is_read(rt: HostRuntime) -> R
     Ok(())
 }
 
-/// A report whose workers stop from each event on in turn, counted from behind so many bytes, until a run meets no
-/// stop. Answers how many runs met one.
-fn stopped_from_each<R: Abort + Threads + Wait + Sync>(
-    rt: &R,
-    alloc: Global,
-    command: &Command,
-    first: usize,
-    judged: Judged,
-) -> Result<u64, Fail>
-    requires piece { 1 ≤ command.now.piece }
-{
-    let (text, output, exit) = judged;
-    for number in 0..MANY {
-        let begun = AtomicBool::new(first == 0);
-        let gate = StopFrom::new(number, &begun);
-        let mut reader = End::new(TellingReader {
-            text,
-            first,
-            begun: &begun,
-        });
-        let mut writer = End::new(Vec::new(alloc));
-        let answer = report_by(rt, alloc, &mut reader, &mut writer, command, &gate, 12);
-        assert_eq!(rt;
-            answer,
-            Ok(exit),
-            "{text:?}, stopped at {number} behind {first}"
-        );
-        assert_eq!(rt;
-            writer.inner.as_slice(),
-            output,
-            "{text:?}, stopped at {number} behind {first}"
-        );
-        if !gate.has_stopped() {
-            return Ok(number);
-        }
-    }
-    Err("a run that meets no stop".into())
-}
-
-// Workers who stop in the second batch, and in both.
+// The elements of a part are read where it stands behind some bytes, and are read at the front and then moved there.
 #[test]
-fn workers_who_stop_in_a_sequence_change_no_answer(rt: HostRuntime) -> Result<(), Fail> {
-    let judged: Judged = (
-        b"\x1E[1]\n\x1E[2]\n\x1E{\"a\":[3]}\x1E4\n\x1E[5,6",
-        b"1..5 accepted\n6..10 accepted\n11..20 accepted\n21..23 accepted\n24..28 truncated\n",
-        Exit::Bad,
-    );
-    for workers in [2u8, 5] {
-        let mut sequence = sequence(2, FrontMark::Refused, workers)?;
-        sequence.piece = 1;
-        let second = stopped_from_each(&rt, rt.alloc(), &sequence, 12, judged)?;
-        let both = stopped_from_each(&rt, rt.alloc(), &sequence, 0, judged)?;
-        assert!(rt; second > 0 && both > second);
-    }
-    Ok(())
-}
-
-// The elements of a part that stands behind some bytes, read there and moved there.
-#[test]
-fn elements_further_on_have_their_own_offsets(rt: HostRuntime) -> Result<(), Fail> {
+fn elements_that_are_moved_are_those_read_there(rt: HostRuntime) -> Result<(), Fail> {
     let alloc = rt.alloc();
     let depth = Depth::default();
     let part = b"\x1E[1\x1E1]\x1Etrue\x1E\x1E{}".as_slice();
@@ -372,4 +228,44 @@ fn elements_further_on_have_their_own_offsets(rt: HostRuntime) -> Result<(), Fai
         assert_eq!(rt; moved.as_slice(), &there[1..], "behind {by}");
     }
     Ok(())
+}
+
+/// Checks a sequence in batches of one to nine bytes, by one worker and by two.
+fn check_in_batches<R: Abort + Threads + Wait + Sync>(
+    rt: &R,
+    alloc: Global,
+    containers: u32,
+    mark: FrontMark,
+    judged: Judged,
+) -> Result<(), Fail> {
+    let (text, output, exit) = judged;
+    for batch in 1..=9usize {
+        for workers in [1u8, 2] {
+            let mut sequence = sequence(containers, mark, workers)?;
+            sequence.piece = 2;
+            check_report_by(rt, alloc, &sequence, batch, text, output, exit);
+        }
+    }
+    Ok(())
+}
+
+/// What is written for the sequence `[0,1]`, `[2,3]`, `[4,5]`, each with its marks, where the byte at an offset is one that is
+/// allowed nowhere.
+fn fault_at(alloc: Global, at: usize) -> Result<String, Fail> {
+    if at == 0 {
+        return Ok(format!(in alloc; "0..7 unmarked\n8..14 accepted\n15..21 accepted\n")?);
+    }
+    if at < 7 {
+        return Ok(format!(in alloc; "1..7 stopped at {at}\n8..14 accepted\n15..21 accepted\n")?);
+    }
+    if at == 7 {
+        return Ok(format!(in alloc; "1..14 stopped at 7\n15..21 accepted\n")?);
+    }
+    if at < 14 {
+        return Ok(format!(in alloc; "1..7 accepted\n8..14 stopped at {at}\n15..21 accepted\n")?);
+    }
+    if at == 14 {
+        return Ok(format!(in alloc; "1..7 accepted\n8..21 stopped at 14\n")?);
+    }
+    Ok(format!(in alloc; "1..7 accepted\n8..14 accepted\n15..21 stopped at {at}\n")?)
 }

@@ -1,6 +1,6 @@
-// What is printed for text sequences.
+// What is written for text sequences.
 use crate::exit::Exit;
-use crate::tests::commands::{command, reported};
+use crate::tests::commands::{check_report, command};
 use jx_claim::Workers;
 use jx_task::Task;
 use std::test::Fail;
@@ -35,13 +35,7 @@ fn each_element_gets_a_line(rt: HostRuntime) -> Result<(), Fail> {
             let mut seq = command(Task::Seq, 512);
             seq.piece = piece;
             seq.workers = Workers::new(2).ok_or("workers")?;
-            let ran = reported(&rt, rt.alloc(), input, &seq);
-            assert_eq!(rt; ran.answer, Ok(exit), "at {input:?} in pieces of {piece}");
-            assert_eq!(rt;
-                ran.output.as_slice(),
-                output,
-                "at {input:?} in pieces of {piece}"
-            );
+            check_report(&rt, rt.alloc(), &seq, input, output, exit);
         }
     }
     Ok(())
@@ -57,9 +51,7 @@ fn a_quiet_sequence_writes_nothing(rt: HostRuntime) -> Result<(), Fail> {
     for (input, exit) in inputs {
         let mut seq = command(Task::Seq, 512);
         seq.quiet = true;
-        let ran = reported(&rt, rt.alloc(), input, &seq);
-        assert_eq!(rt; ran.answer, Ok(exit), "at {input:?}");
-        assert!(rt; ran.output.is_empty());
+        check_report(&rt, rt.alloc(), &seq, input, b"", exit);
     }
     Ok(())
 }
@@ -67,9 +59,8 @@ fn a_quiet_sequence_writes_nothing(rt: HostRuntime) -> Result<(), Fail> {
 #[test]
 fn the_depth_decides_which_element_is_too_deep(rt: HostRuntime) -> Result<(), Fail> {
     let seq = command(Task::Seq, 1);
-    let ran = reported(&rt, rt.alloc(), b"\x1E[]\x1E[[]]\x1E{}", &seq);
+    let input = b"\x1E[]\x1E[[]]\x1E{}";
     let output = b"1..3 accepted\n4..8 too deep at 5\n9..11 accepted\n";
-    assert_eq!(rt; ran.answer, Ok(Exit::Bad));
-    assert_eq!(rt; ran.output.as_slice(), output.as_slice());
+    check_report(&rt, rt.alloc(), &seq, input, output, Exit::Bad);
     Ok(())
 }

@@ -1,16 +1,15 @@
-// Checks whose workers stop, in the second batch, from the first on, or over an input that is kept whole since its names have
-// to be unique: the answer is the same.
-ghost use Rattle.std.specs.Prelude.{◌≤◌};
+// Reports whose workers stop: the answer is the same.
+ghost use Rattle.std.specs.Prelude.{◌≤◌, ◌<◌};
 
 use crate::end::End;
 use crate::exit::Exit;
 use crate::reporting::report_by;
-use crate::tests::commands::check_within;
+use crate::tests::commands::{check_within, sequence};
 use crate::tests::ends::TellingReader;
 use crate::tests::gates::StopFrom;
 use jx_claim::Workers;
-use jx_task::Command;
 use jx_run::{FrontMark, NameRule};
+use jx_task::Command;
 use std::alloc::Global;
 use std::process::Abort;
 use std::sync::Wait;
@@ -18,12 +17,13 @@ use std::sync::atomic::AtomicBool;
 use std::test::Fail;
 use std::thread::Threads;
 
+/// How many bytes of a text are read at a time.
 const BATCH: usize = 8;
 
 /// More events than any of these runs has.
 const MANY: u64 = 1000;
 
-/// An input, and what is written for it.
+/// An input, what is written for it and how the report ends.
 type Checked = (&'static [u8], &'static [u8], Exit);
 
 const MARK_REFUSED: [Checked; 5] = [
@@ -54,16 +54,47 @@ const MARK_IGNORED: [Checked; 5] = [
     (b"[1,\"a\",\xEF\xBB\xBF2]", b"stopped at 7\n", Exit::Bad),
 ];
 
-/// A check whose workers stop from each event on in turn, counted from behind so many bytes, until a run meets no stop.
-/// Answers how many runs met one.
+#[test]
+fn workers_who_stop_change_no_answer_where_a_mark_is_refused(rt: HostRuntime) -> Result<(), Fail> {
+    check_all(&rt, rt.alloc(), FrontMark::Refused, &MARK_REFUSED)
+}
+
+#[test]
+fn workers_who_stop_change_no_answer_where_a_mark_is_ignored(rt: HostRuntime) -> Result<(), Fail> {
+    check_all(&rt, rt.alloc(), FrontMark::Ignored, &MARK_IGNORED)
+}
+
+// They stop in the second batch, and in both.
+#[test]
+fn workers_who_stop_in_a_sequence_change_no_answer(rt: HostRuntime) -> Result<(), Fail> {
+    let judged: Checked = (
+        b"\x1E[1]\n\x1E[2]\n\x1E{\"a\":[3]}\x1E4\n\x1E[5,6",
+        b"1..5 accepted\n6..10 accepted\n11..20 accepted\n21..23 accepted\n24..28 truncated\n",
+        Exit::Bad,
+    );
+    for workers in [2u8, 5] {
+        let mut sequence = sequence(2, FrontMark::Refused, workers)?;
+        sequence.piece = 1;
+        let second = stopped_from_each(&rt, rt.alloc(), &sequence, 12, 12, judged)?;
+        let both = stopped_from_each(&rt, rt.alloc(), &sequence, 12, 0, judged)?;
+        assert!(rt; second > 0 && both > second);
+    }
+    Ok(())
+}
+
+/// Checks reports whose workers stop from an event on: first from the event 0, then from 1, and so on, until a run meets no
+/// stop. Events are counted once so many first bytes are read. Answers how many runs met a stop.
 fn stopped_from_each<R: Abort + Threads + Wait + Sync>(
     rt: &R,
     alloc: Global,
     command: &Command,
+    batch: usize,
     first: usize,
     checked: Checked,
 ) -> Result<u64, Fail>
     requires piece { 1 ≤ command.now.piece }
+    requires some { 1 ≤ batch }
+    requires few { batch < 4294967296 }
 {
     let (text, output, exit) = checked;
     for number in 0..MANY {
@@ -75,7 +106,7 @@ fn stopped_from_each<R: Abort + Threads + Wait + Sync>(
             begun: &begun,
         });
         let mut writer = End::new(Vec::new(alloc));
-        let answer = report_by(rt, alloc, &mut reader, &mut writer, command, &gate, BATCH);
+        let answer = report_by(rt, alloc, &mut reader, &mut writer, command, &gate, batch);
         assert_eq!(rt;
             answer,
             Ok(exit),
@@ -93,7 +124,8 @@ fn stopped_from_each<R: Abort + Threads + Wait + Sync>(
     Err("a run that meets no stop".into())
 }
 
-// Stops in the second batch, in both, and in the whole input; what is behind a fault asks no gate.
+/// Checks a text whose workers stop: in the second batch, in both, and where the input is kept whole since its names have to be
+/// unique. What is behind a fault asks no gate, so that only an accepted text has to meet a stop.
 fn check_stops<R: Abort + Threads + Wait + Sync>(
     rt: &R,
     alloc: Global,
@@ -104,16 +136,17 @@ fn check_stops<R: Abort + Threads + Wait + Sync>(
     let mut command = check_within(8);
     command.settings.mark = mark;
     command.workers = Workers::new(count).ok_or("workers")?;
-    let second = stopped_from_each(rt, alloc, &command, BATCH, checked)?;
-    let both = stopped_from_each(rt, alloc, &command, 0, checked)?;
+    let second = stopped_from_each(rt, alloc, &command, BATCH, BATCH, checked)?;
+    let both = stopped_from_each(rt, alloc, &command, BATCH, 0, checked)?;
     command.settings.names = NameRule::Unique;
-    let whole = stopped_from_each(rt, alloc, &command, 0, checked)?;
+    let whole = stopped_from_each(rt, alloc, &command, BATCH, 0, checked)?;
     if checked.2 == Exit::Good {
         assert!(rt; second > 0 && both > second && whole > 0);
     }
     Ok(())
 }
 
+/// Checks each text by one, two and five workers.
 fn check_all<R: Abort + Threads + Wait + Sync>(
     rt: &R,
     alloc: Global,
@@ -126,14 +159,4 @@ fn check_all<R: Abort + Threads + Wait + Sync>(
         }
     }
     Ok(())
-}
-
-#[test]
-fn workers_who_stop_change_no_answer_where_a_mark_is_refused(rt: HostRuntime) -> Result<(), Fail> {
-    check_all(&rt, rt.alloc(), FrontMark::Refused, &MARK_REFUSED)
-}
-
-#[test]
-fn workers_who_stop_change_no_answer_where_a_mark_is_ignored(rt: HostRuntime) -> Result<(), Fail> {
-    check_all(&rt, rt.alloc(), FrontMark::Ignored, &MARK_IGNORED)
 }

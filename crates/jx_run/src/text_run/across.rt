@@ -7,9 +7,9 @@ ghost use Rattle.jx_run.specs.TextRun.{IsTextRun};
 ghost use Rattle.jx_run.specs.Tree.{span};
 
 use crate::started::Started;
-use jx_summary::Summary;
 use crate::text_run::TextRun;
 use jx_lex::{LexExit, LexState, Mark, Span, parts_are_read_in_turn};
+use jx_summary::Summary;
 use std::alloc::AllocError;
 
 impl TextRun {

@@ -1,9 +1,9 @@
 // Commands under refused growths.
 use crate::tests::inputs::settings;
 use jx_command::{ArgFault, Request, command_of};
-use jx_task::{Command, Task};
 use jx_lex::Depth;
 use jx_run::{FrontMark, NameRule};
+use jx_task::{Command, Task};
 use std::alloc::Global;
 use std::test::Fail;
 

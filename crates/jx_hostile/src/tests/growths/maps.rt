@@ -2,7 +2,7 @@
 ghost use Rattle.std.specs.Prelude.{◌≡◌, ◌≤◌, IfOk, length};
 
 use crate::tests::inputs::{FIVE_ROWS, NESTED, REPEATED, SEQUENCE, UNSORTED};
-use jx_lex::{ChunkMap, LexExit, JoinFault, LexState, TokenEnd, TrackView, step};
+use jx_lex::{ChunkMap, JoinFault, LexExit, LexState, TokenEnd, TrackView, step};
 use std::alloc::{AllocError, Global};
 use std::process::Abort;
 use std::test::Fail;

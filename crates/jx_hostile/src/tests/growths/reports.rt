@@ -6,10 +6,10 @@ use crate::tests::inputs::{
 };
 use jx_book::OpenGate;
 use jx_claim::Workers;
-use jx_task::{Command, Task};
 use jx_lex::Depth;
 use jx_report::{End, Exit, ReportFault, report};
 use jx_run::{FrontMark, NameRule, Settings};
+use jx_task::{Command, Task};
 use std::alloc::{AllocError, Global};
 use std::process::Abort;
 use std::sync::Wait;

@@ -66,11 +66,7 @@ impl Summary for Copied {
                 depth,
             }),
             Err(_) => Err(JoinFault {
-                left: Copied {
-                    bytes,
-                    span,
-                    depth,
-                },
+                left: Copied { bytes, span, depth },
                 right,
             }),
         }

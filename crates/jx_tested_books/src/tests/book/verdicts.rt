@@ -56,8 +56,9 @@ fn check<R: Abort + Threads + Wait + Sync>(
     let cutting = Cutting::at(alloc, text.len(), cuts)?;
     for count in [1, 2, 5] {
         let workers = Workers::new(count).ok_or("workers")?;
-        let run: Held<'_, TextRun> =
-            read_whole(rt, alloc, text, &cutting, workers, depth, &OpenGate)?;
+        let run: Held<'_, TextRun> = read_whole(
+            rt, alloc, text, &cutting, workers, depth, &OpenGate,
+        )?;
         assert_eq!(rt; run.run().verdict(), want, "{text:?} with {count} workers");
     }
     Ok(())

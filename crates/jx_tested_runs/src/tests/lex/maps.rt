@@ -74,7 +74,14 @@ fn a_string_that_is_cut_in_an_escape_is_joined_whole(rt: HostRuntime) -> Result<
 fn a_fault_ends_a_number(rt: HostRuntime) -> Result<(), Fail> {
     let map = ChunkMap::of(rt.alloc(), b"1x", 0, 2)?;
     let number = mark(MarkKind::Number, 0);
-    assert!(rt; shows(&map.entry(LexState::Gap), &[number], &[1], LexExit::Fault(1)));
+    assert!(rt;
+        shows(
+            &map.entry(LexState::Gap),
+            &[number],
+            &[1],
+            LexExit::Fault(1)
+        )
+    );
     assert!(rt; shows(&map.entry(LexState::Int), &[], &[1], LexExit::Fault(1)));
     Ok(())
 }

@@ -1,7 +1,7 @@
 // Scans into keepers, one of which wants no more after some marks.
 ghost use Rattle.std.specs.Prelude.{◌≡◌, length, min};
 
-use jx_lex::{LexExit, Keeper, LexState, Mark, MarkKind, Tokens, scan};
+use jx_lex::{Keeper, LexExit, LexState, Mark, MarkKind, Tokens, scan};
 use std::alloc::{AllocError, Global};
 use std::test::Fail;
 
