@@ -18,10 +18,10 @@ use std::process::ExitCode;
 use std::sync::Wait;
 use std::thread::Threads;
 
-/// The status of a run that ends by a fault.
+/// The status of a call that ends by a fault.
 const FAULT: u8 = 2;
 
-fn run<R: Threads + Wait + Sync>(rt: &HostRuntime, threads: &R) -> Result<Exit, Fault> {
+fn answer<R: Threads + Wait + Sync>(rt: &HostRuntime, threads: &R) -> Result<Exit, Fault> {
     let alloc = rt.alloc();
     let owned: Vec<String> = env::args(rt).map_err(Fault::of_words)?.collect(alloc)?;
     let words: Vec<&str> = owned.iter().map(|word| word.as_str()).collect(alloc)?;
@@ -42,7 +42,7 @@ fn end_by(rt: &HostRuntime, fault: &Fault) -> ExitCode {
 }
 
 fn main(rt: HostRuntime) -> ExitCode {
-    match run(&rt, &rt) {
+    match answer(&rt, &rt) {
         Ok(Exit::Good) => ExitCode::SUCCESS,
         Ok(Exit::Bad) => ExitCode::FAILURE,
         Err(version) if version.is_version() => match rt.print(&version) {

@@ -1,7 +1,5 @@
 mod ByNames
 mod Fronts
-mod InPlace
-mod MarksAlone
 mod OneAnswer
 mod Ones
 mod Placed

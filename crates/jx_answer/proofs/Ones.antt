@@ -19,10 +19,11 @@ use Rattle.jx_answer.specs.declared.element.ElementAnswer.TheVariants as element
 use Rattle.jx_answer.specs.declared.text_answer.TextAnswer.{TextAnswer}
 use Rattle.jx_answer.specs.declared.text_answer.TextAnswer.TheVariants as answer
 use Rattle.jx_run.specs.Unclosed.{EndsUnclosed, end_of}
+use Rattle.jx_run.specs.MarkAlone.{elements_by}
 use Rattle.jx_answer.specs.Answers.{IsAnswer}
 use Rattle.jx_answer.specs.ByNames.{IsByNames}
 use Rattle.jx_answer.specs.Sequence.{IsElementAnswer, IsElementIndex, IsElement, AreElements, AreJudged, judged}
-use Rattle.jx_answer.specs.Settled.{AreElementsBy, AreJudgedBy, IsElementBy, IsJudgedBy, elements_by}
+use Rattle.jx_answer.specs.Settled.{AreElementsBy, AreJudgedBy, IsElementBy, IsJudgedBy}
 use Rattle.jx_answer.proofs.ByNames.{one_by_names}
 
 pub same_index : (x y : IndexedValue) → x.text ≡ y.text → x.span ≡ y.span → x.rows ≡ y.rows → x ≡ y

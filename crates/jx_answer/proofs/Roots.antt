@@ -11,8 +11,9 @@ use Rattle.jx_run.specs.Verdict.{Judged, a_text}
 use Rattle.jx_index.specs.declared.row.Row.{Row}
 use Rattle.jx_index.specs.Indexed.{IndexedValue}
 use Rattle.jx_index.specs.Rows.{rows}
-use Rattle.jx_answer.specs.inside.Pushed.{part_of, IsReadable}
+use Rattle.jx_answer.specs.inside.Pushed.{IsReadable}
 use Rattle.jx_run.specs.Unclosed.{EndsUnclosed, is_unclosed, end_of, IsAccepted}
+use Rattle.jx_run.specs.MarkAlone.{part_of}
 
 -- the root's own row
 abbrev pub IsRoot : Row → Tree → Type 0

@@ -8,9 +8,10 @@ use Rattle.jx_run.specs.SeqRun.{IsMarked, MarkedValue}
 use Rattle.jx_run.specs.Started.{StartedValue}
 use Rattle.jx_run.specs.TextRun.{TextRunValue, IsTextRun, text_span}
 use Rattle.jx_run.specs.Tree.{span}
+use Rattle.jx_run.specs.MarkAlone.{part_of}
 use Rattle.jx_answer.specs.declared.element.Element.{Element}
 use Rattle.jx_answer.specs.Sequence.{IsElement, AreElements}
-use Rattle.jx_answer.specs.inside.Pushed.{IsReadable, IsShown, PushesEach, PushesFilled, part_of, unmarked}
+use Rattle.jx_answer.specs.inside.Pushed.{IsReadable, IsShown, PushesEach, PushesFilled, unmarked}
 use Rattle.jx_answer.proofs.Pushing.{unmarked_is}
 use Rattle.jx_answer.proofs.Readable.{IsMarkedIn, marked_parts, all_front, all_last, all_readable, answered, AllZip-append}
 

@@ -18,6 +18,7 @@ use Rattle.jx_run.specs.ElementVerdict.{IsVerdictOn, IsJudgedElement}
 use Rattle.jx_run.specs.Text.{IsDocument, IsText}
 use Rattle.jx_run.specs.Tree.{Tree}
 use Rattle.jx_run.specs.Unclosed.{IsAccepted}
+use Rattle.jx_run.specs.MarkAlone.{elements_by, is_mark_alone, part_of, without_mark}
 use Rattle.jx_index.specs.Indexed.{IndexedValue}
 use Rattle.jx_index.specs.Repeats.{IsLeast, IsRepeat}
 use Rattle.jx_index.specs.Rows.{rows}
@@ -26,12 +27,12 @@ use Rattle.jx_answer.specs.declared.element.Element.{Element}
 use Rattle.jx_answer.specs.declared.element.ElementAnswer.{ElementAnswer}
 use Rattle.jx_answer.specs.declared.element.ElementAnswer.TheVariants as answer
 use Rattle.jx_answer.specs.ByNames.{IsByNames, RefusesName, RefusesNameIn, judged_unless, unless_refused}
-use Rattle.jx_answer.specs.inside.Pushed.{IsJudgedIn, part_of}
+use Rattle.jx_answer.specs.inside.Pushed.{IsJudgedIn}
 use Rattle.jx_answer.specs.Sequence.{IsElementAnswer, IsElementIndex, IsElement, AreJudged, AreJudgedAs, judged, without_index}
-use Rattle.jx_answer.specs.Settled.{IsJudgedBy, elements_by, is_mark_alone, without_mark}
+use Rattle.jx_answer.specs.Settled.{IsJudgedBy}
 use Rattle.jx_answer.proofs.ByNames.{stays_so}
-use Rattle.jx_answer.proofs.Readable.{LiesIn}
-use Rattle.jx_answer.proofs.MarksAlone.{elements_lie, within_input, none_at_all, mark_stays, mark_goes}
+use Rattle.jx_run.proofs.ElementsLie.{LiesIn, lie_in}
+use Rattle.jx_run.proofs.MarksAlone.{within_input, none_at_all, mark_stays, mark_goes}
 
 -- an answer that is the verdict, with an index where one belongs to it
 record Answered (input : List ℕ) (p : Part) (limit : ℕ) (v : ElementVerdict) : Type 0 where
@@ -85,13 +86,17 @@ module _ (input : List ℕ) (limit : ℕ) (js : List JudgedElement) (h : AreJudg
   abbrev Ignoring : List JudgedElement → Type 0
   Ignoring verdicts = AreJudgedAs (elements_by on_mark.Ignored input) input limit verdicts
 
+  -- an answer has its element's span
+  in_place : (p : Part) (e : Element) → IsElement input limit p e → e.span ≡ part_span p
+  in_place p e a = a.span_is
+
   none : {A : Type 0} → [] ≡ js → 0 < length js → A
   none e low = let n : length js ≡ 0 = ap length (sym e) in absurd (omega (arith, n, low))
 
   pub judged_none : length js ≡ 0 → Ignoring js
   judged_none e =
       let long : length h.answers ≡ length js = sym (length-map h.answers judged) ∙ ap length h.less in
-      record { answers = h.answers; are = none_at_all input limit h.answers h.are (omega (arith, long, e)); less = h.less }
+      record { answers = h.answers; are = none_at_all (λ (e : Element). e.span) (IsElement input limit) in_place input h.answers h.are (omega (arith, long, e)); less = h.less }
 
   module _ (x : JudgedElement) (low : 0 < length js) (is : x ≡ slice_index_or js 0 x) where
     first_span : (a : Element) (more : List Element) → map judged (a ∷ more) ≡ js → a.span ≡ x.span
@@ -102,7 +107,7 @@ module _ (input : List ℕ) (limit : ℕ) (js : List JudgedElement) (h : AreJudg
       where
         go : (xs : List Element) → AllZip (IsElement input limit) (elements 0 input) xs → map judged xs ≡ js → x.span.end ≤ length input
         go [] z e = none e low
-        go (a ∷ more) z e = subst (λ (s : Span). s.end ≤ length input) (first_span a more e) (within_input input limit (a ∷ more) a z (omega arith))
+        go (a ∷ more) z e = subst (λ (s : Span). s.end ≤ length input) (first_span a more e) (within_input (λ (e : Element). e.span) (IsElement input limit) in_place input (a ∷ more) z a (omega arith) refl)
 
     pub judged_stays : is_mark_alone (part_of input x.span) ≡ false → Ignoring js
     judged_stays told = go h.answers h.are h.less
@@ -112,7 +117,7 @@ module _ (input : List ℕ) (limit : ℕ) (js : List JudgedElement) (h : AreJudg
         go (a ∷ more) z e =
             record {
               answers = a ∷ more;
-              are = mark_stays input limit (a ∷ more) a z (subst (λ (s : Span). is_mark_alone (part_of input s) ≡ false) (sym (first_span a more e)) told);
+              are = mark_stays (λ (e : Element). e.span) (IsElement input limit) in_place input (a ∷ more) z a (omega arith) refl (subst (λ (s : Span). is_mark_alone (part_of input s) ≡ false) (sym (first_span a more e)) told);
               less = e;
             }
 
@@ -124,7 +129,7 @@ module _ (input : List ℕ) (limit : ℕ) (js : List JudgedElement) (h : AreJudg
         go (a ∷ more) z e =
             record {
               answers = more;
-              are = mark_goes input limit (a ∷ more) more a z (omega arith) (subst (λ (s : Span). is_mark_alone (part_of input s) ≡ true) (sym (first_span a more e)) told) refl;
+              are = mark_goes (λ (e : Element). e.span) (IsElement input limit) in_place input (a ∷ more) z a (omega arith) refl (subst (λ (s : Span). is_mark_alone (part_of input s) ≡ true) (sym (first_span a more e)) told) more refl;
               less = sym (rest ∙ ap (λ ys. take 0 ys ++ drop 1 ys) (sym e));
             }
 
@@ -142,18 +147,6 @@ paired input limit (p ∷ ps) (x ∷ es) (j ∷ js) z e l =
     let rest : map judged es ≡ js = cc in
     let lies = All-head (LiesIn input) p ps l in
     (record { answer = x; is = z.0; less = first; bytes = lies.bytes; within = lies.within }, paired input limit ps es js z.1 rest (All-tail (LiesIn input) p ps l))
-
-pub lie_in : (mark : FrontMark) (input : List ℕ) → All (LiesIn input) (elements_by mark input)
-lie_in on_mark.Refused input = elements_lie input
-lie_in on_mark.Ignored input = left (elements 0 input) (elements_lie input)
-  where
-    left : (ps : List Part) → All (LiesIn input) ps → All (LiesIn input) (without_mark ps)
-    left [] l = l
-    left (p ∷ ps) l = pick (is_mark_alone p)
-      where
-        pick : (b : Bool) → All (LiesIn input) (cond b ps (p ∷ ps))
-        pick true = All-tail (LiesIn input) p ps l
-        pick false = l
 
 pub judged_in : (mark : FrontMark) (input : List ℕ) (limit : ℕ) (js : List JudgedElement) → AreJudgedAs (elements_by mark input) input limit js → AllZip (IsJudgedIn input limit) (elements_by mark input) js
 judged_in mark input limit js h = paired input limit (elements_by mark input) h.answers js h.are h.less (lie_in mark input)

@@ -3,13 +3,11 @@
 use Rattle.std.specs.Prelude.{◌≡◌, ◌==◌, ◌&&◌, ℕ, Bool, List, [], ◌∷◌, length, if◌then◌else◌}
 use Rattle.std.specs.List.{AllZip}
 use Rattle.jx_run.specs.declared.element_verdict.JudgedElement.{JudgedElement}
-use Rattle.jx_run.specs.declared.settings.FrontMark.{FrontMark}
-use Rattle.jx_run.specs.declared.settings.FrontMark.TheVariants as on_mark
 use Rattle.jx_run.specs.declared.settings.Settings.{Settings}
 use Rattle.jx_run.specs.declared.verdict.Verdict.TheVariants.{Accepted, Refused}
-use Rattle.jx_run.specs.Elements.{Part, part_span, elements}
-use Rattle.jx_run.specs.Front.{agreed}
-use Rattle.jx_run.specs.Settings.{byte_order_mark, JudgedBy}
+use Rattle.jx_run.specs.Elements.{Part, part_span}
+use Rattle.jx_run.specs.MarkAlone.{elements_by}
+use Rattle.jx_run.specs.Settings.{JudgedBy}
 use Rattle.jx_run.specs.Verdict.{Judged}
 pub use Rattle.jx_index.specs.Settled.{IsIndexBy, IsIndexFrom, rest_from}
 use Rattle.jx_answer.specs.declared.element.Element.{Element}
@@ -39,19 +37,6 @@ IsAnswerFrom start bytes limit (answer.Accepted index) = Judged start (rest_from
 IsAnswerFrom start bytes limit (answer.Refused refusal) = Judged start (rest_from start bytes) limit (Refused refusal)
 
 -- ---- a sequence
-
--- the part stands at the start and is just the byte order mark
-abbrev pub is_mark_alone : Part → Bool
-is_mark_alone p = (p.at == 0) && ((length p.bytes == 3) && (agreed p.bytes byte_order_mark == 3))
-
-abbrev pub without_mark : List Part → List Part
-without_mark [] = []
-without_mark (p ∷ ps) = if is_mark_alone p then ps else p ∷ ps
-
--- the elements of the input in order, without a mark that stands alone before the first separator where it is ignored
-abbrev pub elements_by : FrontMark → List ℕ → List Part
-elements_by on_mark.Refused input = elements 0 input
-elements_by on_mark.Ignored input = without_mark (elements 0 input)
 
 -- what is answered on an element within the depth, and what the rule on names makes of that
 pub record IsElementBy (settings : Settings) (input : List ℕ) (p : Part) (e : Element) : Type 0 where

@@ -7,9 +7,9 @@ ghost use Rattle.jx_run.specs.Elements.{elements};
 ghost use Rattle.jx_run.specs.ElementVerdict.{IsJudgedElement};
 ghost use Rattle.jx_run.specs.Front.{front_of};
 ghost use Rattle.jx_run.specs.SequenceRead.{StartsWithSeparator};
-ghost use Rattle.jx_answer.specs.inside.Pushed.{part_of};
+ghost use Rattle.jx_run.specs.MarkAlone.{elements_by, is_mark_alone, part_of};
 ghost use Rattle.jx_answer.specs.Sequence.{AreJudged, AreJudgedAs};
-ghost use Rattle.jx_answer.specs.Settled.{AreJudgedBy, elements_by, is_mark_alone};
+ghost use Rattle.jx_answer.specs.Settled.{AreJudgedBy};
 
 use crate::fault::Fault;
 use crate::texts::read_text;

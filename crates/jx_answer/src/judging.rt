@@ -4,12 +4,13 @@ ghost use Rattle.jx_run.specs.declared.settings.NameRule.TheVariants.{Unique};
 ghost use Rattle.jx_run.specs.Elements.{Part};
 ghost use Rattle.jx_run.specs.Text.{IsText};
 ghost use Rattle.jx_run.specs.Tree.{Tree};
+ghost use Rattle.jx_run.specs.MarkAlone.{elements_by};
 ghost use Rattle.jx_index.specs.Repeats.{IsLeast, IsRepeat};
 ghost use Rattle.jx_index.specs.Rows.{rows};
 ghost use Rattle.jx_answer.specs.ByNames.{judged_unless};
 ghost use Rattle.jx_answer.specs.inside.Pushed.{IsJudgedIn};
 ghost use Rattle.jx_answer.specs.Sequence.{AreJudged, AreJudgedAs};
-ghost use Rattle.jx_answer.specs.Settled.{AreJudgedBy, IsJudgedBy, elements_by};
+ghost use Rattle.jx_answer.specs.Settled.{AreJudgedBy, IsJudgedBy};
 
 use crate::batches::without_mark;
 use crate::fault::Fault;

@@ -8,9 +8,10 @@ ghost use Rattle.jx_run.specs.Text.{IsText};
 ghost use Rattle.jx_run.specs.TextRun.{IsTextRun, text_span};
 ghost use Rattle.jx_run.specs.Tree.{Tree, span};
 ghost use Rattle.jx_run.specs.Unclosed.{EndsUnclosed, is_unclosed};
+ghost use Rattle.jx_run.specs.MarkAlone.{elements_by, part_of};
 ghost use Rattle.jx_answer.specs.Sequence.{AreElements, IsElement, IsElementAnswer};
-ghost use Rattle.jx_answer.specs.Settled.{AreElementsBy, elements_by};
-ghost use Rattle.jx_answer.specs.inside.Pushed.{IsReadable, IsShown, PushesEach, PushesFilled, part_of, unmarked};
+ghost use Rattle.jx_answer.specs.Settled.{AreElementsBy};
+ghost use Rattle.jx_answer.specs.inside.Pushed.{IsReadable, IsShown, PushesEach, PushesFilled, unmarked};
 
 use crate::batches::is_mark_there;
 use crate::by_names::elements_by_names;

@@ -128,12 +128,12 @@ module _ {S : Type 0} where
         (λ d l. omega (arith, h.apart 0 1 d (omega arith) (omega arith))),
   )
 
-  pub are_gaps : (xs : List (HeldValue S)) (part : Span) → IsApart xs → AreGaps (spans_of xs) part (gaps_from part.start (spans_of xs) part.end)
-  are_gaps xs part h =
-      let gs : List Span = gaps_from part.start (spans_of xs) part.end in
-      let t = are_from part.start 0 (spans_of xs) part.end (rising 0 xs h (λ d l. omega arith)) in
+  pub are_gaps : (xs : List (HeldValue S)) (span : Span) → IsApart xs → AreGaps (spans_of xs) span (gaps_from span.start (spans_of xs) span.end)
+  are_gaps xs span h =
+      let gs : List Span = gaps_from span.start (spans_of xs) span.end in
+      let t = are_from span.start 0 (spans_of xs) span.end (rising 0 xs h (λ d l. omega arith)) in
       record {
         filled = t.filled;
         apart = t.apart;
-        uncovered = λ p. ((λ a. let i = t.inside p a in ((lies_behind part.start p gs t.behind a, i.0), i.1)), (λ c. t.found p c.0.0 c.0.1 c.1));
+        uncovered = λ p. ((λ a. let i = t.inside p a in ((lies_behind span.start p gs t.behind a, i.0), i.1)), (λ c. t.found p c.0.0 c.0.1 c.1));
       }

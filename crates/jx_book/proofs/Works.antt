@@ -13,12 +13,12 @@ use Rattle.jx_book.specs.declared.workers.hand.Hand.TheVariants.{Nothing, Piece,
 use Rattle.jx_book.specs.Worked.{HandedOver, HasSpan, IsLeft, Within, Worked}
 
 -- the piece that was read
-pub read_piece : (ps : List Span) (p : ℕ) (place span : Span) → slice_get ps p ≡ Some place → span ≡ record { start = place.start; end = place.end } → slice_index_or ps p no_span ≡ span
-read_piece ps p place span is same = get_or_from_slice_get ps p place no_span is ∙ sym same
+pub read_piece : (ps : List Span) (p : ℕ) (piece span : Span) → slice_get ps p ≡ Some piece → span ≡ record { start = piece.start; end = piece.end } → slice_index_or ps p no_span ≡ span
+read_piece ps p piece span is same = get_or_from_slice_get ps p piece no_span is ∙ sym same
 
 -- its length
-pub read_len : (ps : List Span) (p : ℕ) (place span : Span) → slice_get ps p ≡ Some place → span ≡ record { start = place.start; end = place.end } → piece_len ps p ≡ span_len span
-read_len ps p place span is same = ap span_len (read_piece ps p place span is same)
+pub read_len : (ps : List Span) (p : ℕ) (piece span : Span) → slice_get ps p ≡ Some piece → span ≡ record { start = piece.start; end = piece.end } → piece_len ps p ≡ span_len span
+read_len ps p piece span is same = ap span_len (read_piece ps p piece span is same)
 
 module _ {S : Type 0} where
   -- runs that have the piece of the last number

@@ -5,14 +5,14 @@ use Rattle.jx_book.specs.declared.stored.held_fault.HeldFault.TheVariants.{Memor
 use Rattle.jx_summary.specs.declared.span.Span.{Span}
 use Rattle.jx_book.specs.Runs.{HeldValue, run_len}
 
--- t is the text of the longer side, of the right one where both have one length, and has the bytes of both sides
-pub record IsCommon (l r : List ℕ) (place next : Span) (t : List ℕ) : Type 0 where
-  pub text : t ≡ (if nat_lt (next.end - next.start) (place.end - place.start) then l else r)
+-- t is the text of the longer side, or of the right one where both have the same length, and has the bytes of both sides
+pub record IsCommon (l r : List ℕ) (span next : Span) (t : List ℕ) : Type 0 where
+  pub text : t ≡ (if nat_lt (next.end - next.start) (span.end - span.start) then l else r)
   pub within : next.end ≤ length t
-  pub left : slice_range l place.start place.end ≡ slice_range t place.start place.end
+  pub left : slice_range l span.start span.end ≡ slice_range t span.start span.end
   pub right : slice_range r next.start next.end ≡ slice_range t next.start next.end
 
--- it covers both sides, and carries the text of the longer side, of the right one where both have one length
+-- it covers both sides, and carries the text of the longer side, or of the right one where both have the same length
 pub record IsJoin {S : Type 0} (l r h : HeldValue S) : Type 0 where
   pub span : h.span ≡ record { start = l.span.start; end = r.span.end }
   pub depth : (h.depth ≡ l.depth) × (h.depth ≡ r.depth)

@@ -1,4 +1,4 @@
--- How parts of a text lie to one another.
+-- How spans of a text lie to one another.
 use Rattle.std.specs.Prelude.{◌≡◌, ◌⊎◌, ◌<◌}
 use Rattle.jx_summary.specs.declared.span.Span.{Span}
 pub use Rattle.jx_claim.specs.Cut.{span, span_len}

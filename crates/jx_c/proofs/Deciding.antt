@@ -79,31 +79,6 @@ pub agreed_behind : (fed slice : List ℕ) → fed ≡ take (length fed) byte_or
 agreed_behind fed slice part cut =
     subst (λ (xs : List ℕ). agreed (xs ++ slice) byte_order_mark ≡ length fed + agreed slice (drop (length fed) byte_order_mark)) (sym part) (agreed_from (length fed) slice cut)
 
--- ---- while they are counted
-
-pub agreed_ends : (xs ms : List ℕ) (i : ℕ) → length xs ≤ i → agreed (drop i xs) ms ≡ 0
-agreed_ends [] ms zero h = refl
-agreed_ends [] ms (suc i) h = refl
-agreed_ends (x ∷ xs) ms zero h = absurd (omega (arith, h))
-agreed_ends (x ∷ xs) ms (suc i) h = agreed_ends xs ms i (omega (arith, h))
-
-pub agreed_more : (xs ms : List ℕ) (i d e : ℕ) → i < length xs → i < length ms → get_or xs i d ≡ get_or ms i e
-    → agreed (drop i xs) (drop i ms) ≡ suc (agreed (drop (suc i) xs) (drop (suc i) ms))
-agreed_more [] ms i d e low h same = absurd (omega (arith, low))
-agreed_more (x ∷ xs) [] i d e low h same = absurd (omega (arith, h))
-agreed_more (x ∷ xs) (m ∷ ms) zero d e low h same = let q : (x == m) ≡ true = grind (arith, nat_tests) in ap (λ b. cond b (suc (agreed xs ms)) 0) q
-agreed_more (x ∷ xs) (m ∷ ms) (suc i) d e low h same = agreed_more xs ms i d e (omega (arith, low)) (omega (arith, h)) same
-
-pub agreed_differs : (xs ms : List ℕ) (i d e : ℕ) → i < length xs → i < length ms → (get_or xs i d ≡ get_or ms i e → ⊥) → agreed (drop i xs) (drop i ms) ≡ 0
-agreed_differs [] ms i d e low h other = absurd (omega (arith, low))
-agreed_differs (x ∷ xs) [] i d e low h other = absurd (omega (arith, h))
-agreed_differs (x ∷ xs) (m ∷ ms) zero d e low h other = pick (x == m) refl
-  where
-    pick : (b : Bool) → (x == m) ≡ b → cond b (suc (agreed xs ms)) 0 ≡ 0
-    pick true q = let same : x ≡ m = grind (arith, nat_tests) in absurd (other same)
-    pick false q = refl
-agreed_differs (x ∷ xs) (m ∷ ms) (suc i) d e low h other = agreed_differs xs ms i d e (omega (arith, low)) (omega (arith, h)) other
-
 -- ---- what follows changes nothing
 
 skips_mark : (xs more : List ℕ) → agreed xs byte_order_mark ≡ 3 → front_of on_mark.Ignored (xs ++ more) ≡ seen.Skip 3

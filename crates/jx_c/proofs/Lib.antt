@@ -8,8 +8,5 @@ pub mod Slices
 pub mod ByRules
 pub mod Deciding
 pub mod Fronts
-pub mod InPlace
 pub mod Verdicts
-pub mod MarksAlone
-pub mod Readable
 pub mod Plain

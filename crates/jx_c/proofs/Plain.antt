@@ -18,12 +18,13 @@ use Rattle.jx_run.specs.Settings.{IsDocumentBy, JudgedBy}
 use Rattle.jx_run.specs.Text.{IsDocument}
 use Rattle.jx_run.specs.Tree.{Tree}
 use Rattle.jx_run.specs.Verdict.{Judged}
+use Rattle.jx_run.specs.MarkAlone.{elements_by}
 use Rattle.jx_index.specs.Rows.{rows}
 use Rattle.jx_c.specs.ByNames.{IsJudgedBy, IsVerdictBy, RefusesName, RefusesNameIn, judged_unless}
 use Rattle.jx_c.specs.Elements.{AreElementsOf}
 use Rattle.jx_c.specs.LookUps.{IsLookUp}
 use Rattle.jx_c.specs.Rows.{AreRows, AreRowsOf}
-use Rattle.jx_c.specs.Settled.{AreElementsWith, AreRowsBy, AreRowsWith, IsLookUpBy, elements_by}
+use Rattle.jx_c.specs.Settled.{AreElementsWith, AreRowsBy, AreRowsWith, IsLookUpBy}
 use Rattle.jx_c.specs.declared.elements.JxElement.{JxElement}
 use Rattle.jx_c.specs.declared.look_up.LookUp.{LookUp}
 use Rattle.jx_c.specs.declared.look_up.LookUp.TheVariants.{Found, Lost, BadPointer, NotUtf8, NoText}

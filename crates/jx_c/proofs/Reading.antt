@@ -30,39 +30,39 @@ use Rattle.jx_run.specs.declared.verdict.Refusal.TheVariants as refusal
 use Rattle.jx_c.specs.Reader.{state_in, progress_at}
 
 -- each state stands in its place
-pub state_in-place : (s : LexState) → state_in (ordinal s) ≡ s
-state_in-place state.Gap = refl
-state_in-place state.Str = refl
-state_in-place state.Esc = refl
-state_in-place state.Hex4 = refl
-state_in-place state.Hex3 = refl
-state_in-place state.Hex2 = refl
-state_in-place state.Hex1 = refl
-state_in-place state.Tail1 = refl
-state_in-place state.Tail2 = refl
-state_in-place state.Tail3 = refl
-state_in-place state.AfterE0 = refl
-state_in-place state.AfterEd = refl
-state_in-place state.AfterF0 = refl
-state_in-place state.AfterF4 = refl
-state_in-place state.Minus = refl
-state_in-place state.Zero = refl
-state_in-place state.Int = refl
-state_in-place state.Dot = refl
-state_in-place state.Frac = refl
-state_in-place state.E = refl
-state_in-place state.ESign = refl
-state_in-place state.Exp = refl
-state_in-place state.T = refl
-state_in-place state.Tr = refl
-state_in-place state.Tru = refl
-state_in-place state.F = refl
-state_in-place state.Fa = refl
-state_in-place state.Fal = refl
-state_in-place state.Fals = refl
-state_in-place state.N = refl
-state_in-place state.Nu = refl
-state_in-place state.Nul = refl
+pub state_in-number : (s : LexState) → state_in (ordinal s) ≡ s
+state_in-number state.Gap = refl
+state_in-number state.Str = refl
+state_in-number state.Esc = refl
+state_in-number state.Hex4 = refl
+state_in-number state.Hex3 = refl
+state_in-number state.Hex2 = refl
+state_in-number state.Hex1 = refl
+state_in-number state.Tail1 = refl
+state_in-number state.Tail2 = refl
+state_in-number state.Tail3 = refl
+state_in-number state.AfterE0 = refl
+state_in-number state.AfterEd = refl
+state_in-number state.AfterF0 = refl
+state_in-number state.AfterF4 = refl
+state_in-number state.Minus = refl
+state_in-number state.Zero = refl
+state_in-number state.Int = refl
+state_in-number state.Dot = refl
+state_in-number state.Frac = refl
+state_in-number state.E = refl
+state_in-number state.ESign = refl
+state_in-number state.Exp = refl
+state_in-number state.T = refl
+state_in-number state.Tr = refl
+state_in-number state.Tru = refl
+state_in-number state.F = refl
+state_in-number state.Fa = refl
+state_in-number state.Fal = refl
+state_in-number state.Fals = refl
+state_in-number state.N = refl
+state_in-number state.Nu = refl
+state_in-number state.Nul = refl
 
 -- the depth stays, unless memory was refused
 pub depth_stays : (p : Progress) (d : ℕ) (k : Known) (o : TextReading) → IsOfUse p d k → outcome_at p k.reading ≡ Some o → k.depth ≡ d

@@ -16,12 +16,12 @@ use Rattle.jx_run.specs.ElementVerdict.{IsVerdictOn, IsJudgedElement}
 use Rattle.jx_run.specs.Text.{IsDocument, IsText}
 use Rattle.jx_run.specs.Tree.{Tree}
 use Rattle.jx_run.specs.Unclosed.{IsAccepted}
+use Rattle.jx_run.specs.MarkAlone.{elements_by}
 use Rattle.jx_index.specs.Repeats.{IsLeast, IsRepeat}
 use Rattle.jx_index.specs.Rows.{rows}
 use Rattle.jx_c.specs.ByNames.{RefusesName, RefusesNameIn, IsJudgedBy, judged_unless}
 use Rattle.jx_c.specs.inside.Placed.{IsJudgedIn}
-use Rattle.jx_c.specs.Settled.{elements_by}
-use Rattle.jx_c.proofs.Readable.{LiesIn, lie_in}
+use Rattle.jx_run.proofs.ElementsLie.{LiesIn, lie_in}
 
 -- ---- with where each element lies
 

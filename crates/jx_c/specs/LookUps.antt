@@ -20,15 +20,15 @@ use Rattle.jx_c.specs.declared.look_up.LookUp.{LookUp}
 use Rattle.jx_c.specs.declared.look_up.LookUp.TheVariants.{Found, Lost, BadPointer, NotUtf8, NoText}
 
 -- the kind and span of the node to which the pointer's tokens lead in the tree
-pub record IsFoundIn (text : List ℕ) (tree : Tree) (pointer : List ℕ) (kind : Kind) (place : Span) : Type 0 where
+pub record IsFoundIn (text : List ℕ) (tree : Tree) (pointer : List ℕ) (kind : Kind) (span : Span) : Type 0 where
   pub node : Numbered
   pub leads : led text tree (tokens pointer) ≡ Ok node
   pub kind_is : kind ≡ kind_of node.tree
-  pub span_is : place ≡ span_of node.tree
+  pub span_is : span ≡ span_of node.tree
 
 -- in a text with this tree: that kind and span, or why the tokens lead nowhere
 abbrev pub IsLed : List ℕ → Tree → List ℕ → LookUp → Type 0
-IsLed text tree pointer (Found kind place) = IsFoundIn text tree pointer kind place
+IsLed text tree pointer (Found kind span) = IsFoundIn text tree pointer kind span
 IsLed text tree pointer (Lost fault) = led text tree (tokens pointer) ≡ Err fault
 IsLed text tree pointer (BadPointer fault) = ⊥
 IsLed text tree pointer NotUtf8 = ⊥
@@ -36,7 +36,7 @@ IsLed text tree pointer (NoText refused) = ⊥
 
 -- in any bytes: the same in their tree, or why there is no pointer or no text
 abbrev pub IsLookUp : List ℕ → ℕ → List ℕ → LookUp → Type 0
-IsLookUp text depth pointer (Found kind place) = (tree : Tree) × IsDocument 0 text depth tree × IsLed text tree pointer (Found kind place)
+IsLookUp text depth pointer (Found kind span) = (tree : Tree) × IsDocument 0 text depth tree × IsLed text tree pointer (Found kind span)
 IsLookUp text depth pointer (Lost fault) = (tree : Tree) × IsDocument 0 text depth tree × IsLed text tree pointer (Lost fault)
 IsLookUp text depth pointer (BadPointer fault) = IsUtf8 pointer × IsFaultOf pointer fault
 IsLookUp text depth pointer NotUtf8 = IsUtf8 pointer → ⊥
@@ -46,7 +46,7 @@ abbrev pub told : ℕ → ℕ → JxAnswer
 told outcome at = record { span = record { start = 0; end = 0 }; at = at; outcome = outcome; kind = 0 }
 
 abbrev pub shown_look_up : LookUp → JxAnswer
-shown_look_up (Found kind place) = record { span = shown_span place; at = 0; outcome = 0; kind = kind_in kind }
+shown_look_up (Found kind span) = record { span = shown_span span; at = 0; outcome = 0; kind = kind_in kind }
 shown_look_up (Lost (NoSuchMember token)) = told 1 token
 shown_look_up (Lost (NameRepeated token)) = told 2 token
 shown_look_up (Lost (NotAnIndex token)) = told 3 token

@@ -10,7 +10,7 @@ use Rattle.jx_run.specs.declared.reader.Progress.TheVariants.{Going, Stopped, To
 use Rattle.jx_c.specs.Stack.{known_of}
 use Rattle.jx_c.specs.declared.reader.JxReader.{JxReader}
 
--- the lexical state at a place among all
+-- the lexical state of a number among all
 abbrev pub state_in : ℕ → LexState
 state_in n = slice_index_or all_states n Gap
 

@@ -2,14 +2,11 @@
 use Rattle.std.specs.Prelude.{◌≡◌, ◌==◌, ◌&&◌, ℕ, Bool, List, [], ◌∷◌, length, None, if◌then◌else◌}
 use Rattle.std.specs.List.{AllZip}
 use Rattle.jx_run.specs.declared.element_verdict.JudgedElement.{JudgedElement}
-use Rattle.jx_run.specs.declared.settings.FrontMark.{FrontMark}
-use Rattle.jx_run.specs.declared.settings.FrontMark.TheVariants as on_mark
 use Rattle.jx_run.specs.declared.settings.Settings.{Settings}
 use Rattle.jx_run.specs.declared.verdict.Verdict.{Verdict}
 use Rattle.jx_run.specs.declared.verdict.Verdict.TheVariants as verdict
-use Rattle.jx_run.specs.Elements.{Part, elements}
-use Rattle.jx_run.specs.Front.{agreed}
-use Rattle.jx_run.specs.Settings.{byte_order_mark, IsDocumentBy, JudgedBy}
+use Rattle.jx_run.specs.MarkAlone.{elements_by}
+use Rattle.jx_run.specs.Settings.{IsDocumentBy, JudgedBy}
 use Rattle.jx_run.specs.Tree.{Tree}
 use Rattle.jx_index.specs.Indexed.{IndexedValue}
 use Rattle.jx_index.specs.Rows.{rows}
@@ -67,7 +64,7 @@ IsLedBy settings text pointer look_up = (tree : Tree) × IsDocumentBy settings 0
 
 -- in any bytes: the same, or why there is no pointer or no text
 abbrev pub IsLookUpBy : Settings → List ℕ → List ℕ → LookUp → Type 0
-IsLookUpBy settings text pointer (Found kind place) = IsLedBy settings text pointer (Found kind place)
+IsLookUpBy settings text pointer (Found kind span) = IsLedBy settings text pointer (Found kind span)
 IsLookUpBy settings text pointer (Lost fault) = IsLedBy settings text pointer (Lost fault)
 IsLookUpBy settings text pointer (BadPointer fault) = IsLookUp text settings.depth pointer (BadPointer fault)
 IsLookUpBy settings text pointer NotUtf8 = IsLookUp text settings.depth pointer NotUtf8
@@ -78,19 +75,6 @@ abbrev pub IsAnswerWith : Settings → List ℕ → List ℕ → JxAnswer → Ty
 IsAnswerWith settings text pointer told_as = (look_up : LookUp) × (IsLookUpBy settings text pointer look_up × (told_as ≡ shown_look_up look_up))
 
 -- ---- a sequence
-
--- the part stands at the start and is just the byte order mark
-abbrev pub is_mark_alone : Part → Bool
-is_mark_alone p = (p.at == 0) && ((length p.bytes == 3) && (agreed p.bytes byte_order_mark == 3))
-
-abbrev pub without_mark : List Part → List Part
-without_mark [] = []
-without_mark (p ∷ ps) = if is_mark_alone p then ps else p ∷ ps
-
--- the elements of the input in order, without a mark that stands alone before the first separator where it is ignored
-abbrev pub elements_by : FrontMark → List ℕ → List Part
-elements_by on_mark.Refused input = elements 0 input
-elements_by on_mark.Ignored input = without_mark (elements 0 input)
 
 -- how many elements the sequence has, and in the buffer what each comes to by settings
 pub record AreElementsWith (settings : Settings) (sequence : List ℕ) (old new : List JxElement) (count : ℕ) : Type 0 where

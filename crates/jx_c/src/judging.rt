@@ -7,11 +7,11 @@ ghost use Rattle.jx_run.specs.Elements.{Part, elements as elements_of};
 ghost use Rattle.jx_run.specs.ElementVerdict.{IsJudgedElement};
 ghost use Rattle.jx_run.specs.Text.{IsText};
 ghost use Rattle.jx_run.specs.Tree.{Tree};
+ghost use Rattle.jx_run.specs.MarkAlone.{elements_by, is_mark_alone, part_of};
 ghost use Rattle.jx_index.specs.Repeats.{IsLeast, IsRepeat};
 ghost use Rattle.jx_index.specs.Rows.{rows};
 ghost use Rattle.jx_c.specs.ByNames.{IsJudgedBy, judged_unless};
-ghost use Rattle.jx_c.specs.inside.Placed.{IsJudgedIn, part_of};
-ghost use Rattle.jx_c.specs.Settled.{elements_by, is_mark_alone};
+ghost use Rattle.jx_c.specs.inside.Placed.{IsJudgedIn};
 
 use jx_index::Indexed;
 use jx_lex::{Depth, Span};

@@ -1,20 +1,19 @@
 // A text that C feeds slice by slice.
 ghost use Rattle.std.specs.Prelude.{◌≡◌, ◌+◌, ◌<◌, ◌≤◌, ◌^◌, ◌++◌, ℕ, List, [], OnOk, length};
-ghost use Rattle.jx_lex.specs.declared.alphabet.lex_exit.LexExit.TheVariants as exit;
 ghost use Rattle.jx_run.specs.ReaderInside.{settled};
 ghost use Rattle.jx_run.specs.Settings.{JudgedBy};
 ghost use Rattle.jx_run.specs.Verdict.{Judged};
 ghost use Rattle.jx_run.specs.declared.settings.Settings.{Settings};
-ghost use Rattle.jx_run.specs.Whole.{ends_text, verdict_from};
 ghost use Rattle.jx_c.specs.Front.{HasReadBy, IsFresh, IsRefused};
 ghost use Rattle.jx_c.specs.Reader.{HasRead, HasReadFrom, progress_in};
 
 use crate::stack::JxStack;
-use crate::states::{place_of, state_at};
-use jx_lex::{LexExit, LexState, scan};
-use jx_reduce::{Expect, Whole};
+use crate::states::{number_of, state_at};
+use jx_lex::{LexExit, scan};
+use jx_reduce::Whole;
 use jx_run::{
     Refusal, Verdict, fronts_decide_where_texts_begin, reader_is_grammar, readings_go_on,
+    verdict_from,
 };
 use std::alloc::AllocError;
 
@@ -49,40 +48,9 @@ pub struct JxReader {
     /// 0 as long as there is no fault, 1 where the text can't go on, 2 where it is too deep; 3, 4 or 5 where a byte order
     /// mark may yet be ignored, and none, one or two of its bytes were fed.
     pub progress: u32,
-    /// The lexical state, by its place among all.
+    /// The lexical state, by its number among all.
     pub state: u32,
     pub stack: JxStack,
-}
-
-/// Whether a whole text may end in this state, with this expected and so many containers open.
-fn ends_text(state: LexState, expect: Expect, containers: usize) -> bool
-    ensures { result ≡ ends_text state expect containers }
-{
-    if containers != 0 {
-        return false;
-    }
-    matches!(expect, Expect::After)
-        && matches!(
-            state,
-            LexState::Gap | LexState::Zero | LexState::Int | LexState::Frac | LexState::Exp
-        )
-}
-
-/// The verdict where the bytes led to this state and the marks came to this.
-fn verdict_at(state: LexState, whole: Whole) -> Verdict
-    ensures { result ≡ verdict_from (exit.State state) whole }
-{
-    match whole {
-        Whole::Stopped(at) => Verdict::Refused(Refusal::Stopped { at }),
-        Whole::TooDeep(at) => Verdict::Refused(Refusal::TooDeep { at }),
-        Whole::Went { expect, open } => {
-            if ends_text(state, expect, open) {
-                Verdict::Accepted
-            } else {
-                Verdict::Refused(Refusal::Truncated)
-            }
-        }
-    }
 }
 
 impl JxReader {
@@ -134,7 +102,7 @@ impl JxReader {
             Whole::Went { .. } => match exit {
                 Some(LexExit::State(state)) => {
                     self.progress = GOING;
-                    self.state = place_of(state);
+                    self.state = number_of(state);
                 }
                 Some(LexExit::Fault(at)) => {
                     self.progress = STOPPED;
@@ -181,7 +149,7 @@ impl JxReader {
         reader_is_grammar();
         readings_go_on();
         if self.progress == GOING {
-            verdict_at(state_at(self.state), self.stack.whole())
+            verdict_from(LexExit::State(state_at(self.state)), self.stack.whole())
         } else if self.progress == STOPPED {
             Verdict::Refused(Refusal::Stopped { at: self.at })
         } else if self.progress == TOO_DEEP {

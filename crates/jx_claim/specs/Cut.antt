@@ -20,7 +20,7 @@ abbrev pub Tiles : ℕ → List Span → ℕ → Type 0
 Tiles a [] b = a ≡ b
 Tiles a (p ∷ ps) b = (p.start ≡ a) × (a < p.end) × Tiles p.end ps b
 
--- the pieces cut to what lies from an offset on, those that end there or before it left out
+-- of the pieces, what lies from an offset on; those that end there or before it are left out
 abbrev pub behind : ℕ → List Span → List Span
 behind n [] = []
 behind n (p ∷ ps) = if nat_lt n p.end then span (max n p.start) p.end ∷ behind n ps else behind n ps

@@ -19,7 +19,7 @@ pub struct Cutting {
     front: usize,
     // How many parts end at the front or before it.
     skipped: usize,
-    parts: PieceList,
+    pieces: PieceList,
 }
 
 impl Model for Cutting {
@@ -29,9 +29,9 @@ impl Model for Cutting {
 
     ghost Value = { CuttingValue };
 
-    ghost view = { λ c. record { len = c.len; front = c.front; pieces = behind c.front (listed c.len c.parts) } };
+    ghost view = { λ c. record { len = c.len; front = c.front; pieces = behind c.front (listed c.len c.pieces) } };
 
-    ghost invariant = { λ c. Tiles 0 (listed c.len c.parts) c.len × (length (listed c.len c.parts) < 4294967296) × IsRegular c.len c.parts × (c.front ≤ c.len) × AreEnded c.front c.skipped (listed c.len c.parts) };
+    ghost invariant = { λ c. Tiles 0 (listed c.len c.pieces) c.len × (length (listed c.len c.pieces) < 4294967296) × IsRegular c.len c.pieces × (c.front ≤ c.len) × AreEnded c.front c.skipped (listed c.len c.pieces) };
 }
 
 impl Cutting {
@@ -56,7 +56,7 @@ impl Cutting {
             len,
             front: 0,
             skipped: 0,
-            parts: PieceList::Every { size, count },
+            pieces: PieceList::Every { size, count },
         })
     }
 
@@ -79,7 +79,7 @@ impl Cutting {
                 len,
                 front: 0,
                 skipped: 0,
-                parts: PieceList::At {
+                pieces: PieceList::At {
                     ends: Vec::new(alloc),
                 },
             });
@@ -91,7 +91,7 @@ impl Cutting {
             len,
             front: 0,
             skipped: 0,
-            parts: PieceList::At { ends },
+            pieces: PieceList::At { ends },
         })
     }
 
@@ -104,7 +104,7 @@ impl Cutting {
             len: self.len,
             front: self.front,
             skipped: self.skipped,
-            parts: self.parts.copy(alloc)?,
+            pieces: self.pieces.copy(alloc)?,
         })
     }
 
@@ -122,14 +122,14 @@ impl Cutting {
             len,
             front: _,
             skipped: _,
-            parts,
+            pieces,
         } = self;
-        let skipped = parts.ended(len, front);
+        let skipped = pieces.ended(len, front);
         Cutting {
             len,
             front,
             skipped,
-            parts,
+            pieces,
         }
     }
 
@@ -154,7 +154,7 @@ impl Cutting {
         ensures count { result ≡ length self.now.pieces }
         ensures none { self.now.len ≡ 0 → result ≡ 0 }
     {
-        (self.parts.count() - self.skipped) as u32
+        (self.pieces.count() - self.skipped) as u32
     }
 
     /// The piece of this number, which is below the count.
@@ -165,10 +165,10 @@ impl Cutting {
         ensures behind { self.now.front ≤ result.start }
         ensures within { result.end ≤ self.now.len }
     {
-        let place = self.parts.piece(self.len, self.skipped + piece.0 as usize);
+        let whole = self.pieces.piece(self.len, self.skipped + piece.0 as usize);
         Span {
-            start: place.start.max(self.front),
-            end: place.end,
+            start: whole.start.max(self.front),
+            end: whole.end,
         }
     }
 }

@@ -37,10 +37,10 @@ impl PieceList {
         }
     }
 
-    /// The same parts once more.
+    /// The same pieces once more.
     pub fn copy(&self, alloc: Global) -> Result<PieceList, AllocError>
-        ensures same { IfOk result (λ parts. (len : ℕ) → listed len parts ≡ listed len self.now) }
-        ensures regular { IfOk result (λ parts. (len : ℕ) → IsRegular len self.now → IsRegular len parts) }
+        ensures same { IfOk result (λ copy. (len : ℕ) → listed len copy ≡ listed len self.now) }
+        ensures regular { IfOk result (λ copy. (len : ℕ) → IsRegular len self.now → IsRegular len copy) }
     {
         match self {
             PieceList::Every { size, count } => Ok(PieceList::Every {

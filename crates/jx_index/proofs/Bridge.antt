@@ -149,15 +149,15 @@ at_ok : (P : Numbered → Type 0) (r : Result Numbered FindFault) → AtOk P r �
 at_ok P (Ok d) h c e = let same : d ≡ c = cc in subst P same h
 at_ok P (Err fault) h c e = absurd (cc)
 
-row_parts : (table : List Row) (inner : Tree) (t : Standing) (name : Option Span) (number : ℕ) → slice_get table number ≡ Some (row_of inner t) → t.name ≡ name
+row_fields : (table : List Row) (inner : Tree) (t : Standing) (name : Option Span) (number : ℕ) → slice_get table number ≡ Some (row_of inner t) → t.name ≡ name
     → HasRow table (record { name = name; tree = inner; number = number })
-row_parts table (node k place below) t name number e n = record { row = row_of (node k place below) t; is_row = e; kind = refl; span = refl; name = n }
+row_fields table (node k place below) t name number e n = record { row = row_of (node k place below) t; is_row = e; kind = refl; span = refl; name = n }
 
 pub led_row : (text : List ℕ) (tree : Tree) (tokens : List (List ℕ)) (c : Numbered) → led text tree tokens ≡ Ok c → HasRow (rows tree) c
 led_row text tree tokens c e =
     let root : IsChild tree (root_of tree) = record { t = root_standing; stands = itself; number_is = refl; name_is = refl } in
     let h = at_ok (IsChild tree) (led text tree tokens) (led_each text tree tokens (root_of tree) root 0) c e in
-    row_parts (rows tree) c.tree h.t c.name c.number (ap (slice_get (rows tree)) (sym h.number_is) ∙ row_there h.stands) h.name_is
+    row_fields (rows tree) c.tree h.t c.name c.number (ap (slice_get (rows tree)) (sym h.number_is) ∙ row_there h.stands) h.name_is
 
 -- ---- numbers of rows
 

@@ -7,7 +7,7 @@ use Rattle.jx_index.specs.Leads.{and_then}
 use Rattle.jx_index.specs.Nodes.{kind_at, child_numbers}
 use Rattle.jx_index.specs.Pointers.{HasSlash, HasNoSlash, tokens}
 use Rattle.jx_index.specs.RowsLead.{is_equal, row_token, rows_lead}
-use Rattle.jx_index.specs.Units.{parts_units}
+use Rattle.jx_index.specs.Units.{chars_units}
 use Rattle.jx_index.proofs.Bridge.{children_within}
 use Rattle.jx_index.proofs.Each.{AtOk, each_more, token_each}
 use Rattle.jx_index.proofs.TokenSteps.{tokens_next, tokens_end}
@@ -22,12 +22,12 @@ module _ (text : List ℕ) (rows : List Row) where
   no_token rest node k h = ap (λ x. rows_lead text rows x node k) (tokens_end rest h)
 
   module _ (rest bytes token later : List ℕ) (n node k : ℕ) (here : 0 < length rest) (slash : HasSlash rest) (from : bytes ≡ drop 1 rest)
-      (slashless : HasNoSlash (take n bytes)) (next : HasSlash (drop n bytes)) (token_is : token ≡ take n bytes) (later_is : later ≡ drop n bytes) (units : List ℕ) (units_are : units ≡ parts_units InToken 0 token) where
+      (slashless : HasNoSlash (take n bytes)) (next : HasSlash (drop n bytes)) (token_is : token ≡ take n bytes) (later_is : later ≡ drop n bytes) (units : List ℕ) (units_are : units ≡ chars_units InToken 0 token) where
     one_token_more : rows_lead text rows (tokens rest) node k ≡ and_then (row_token text rows units node k) (λ m. rows_lead text rows (tokens later) m (suc k))
     one_token_more =
         ap (λ x. rows_lead text rows x node k) (tokens_next rest bytes n here slash from slashless next)
-        ∙ first_token (parts_units InToken 0 (take n bytes)) (tokens (drop n bytes)) node k
-        ∙ ap (λ x. and_then (row_token text rows (parts_units InToken 0 x) node k) (λ m. rows_lead text rows (tokens (drop n bytes)) m (suc k))) (sym token_is)
+        ∙ first_token (chars_units InToken 0 (take n bytes)) (tokens (drop n bytes)) node k
+        ∙ ap (λ x. and_then (row_token text rows (chars_units InToken 0 x) node k) (λ m. rows_lead text rows (tokens (drop n bytes)) m (suc k))) (sym token_is)
         ∙ ap (λ x. and_then (row_token text rows x node k) (λ m. rows_lead text rows (tokens (drop n bytes)) m (suc k))) (sym units_are)
         ∙ ap (λ x. and_then (row_token text rows units node k) (λ m. rows_lead text rows (tokens x) m (suc k))) (sym later_is)
 

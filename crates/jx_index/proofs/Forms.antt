@@ -5,7 +5,7 @@ use lib.Utf8.{scalar, scalars, encode, encodes, next, scalar_cases}
 use Rattle.std.proofs.lemmas.Bool.{lt-ltb, le-ltb}
 use Rattle.std.proofs.lemmas.List.{length-append}
 use Rattle.jx_lex.specs.Character.{IsTail, Utf8, one, two, three_e0, three_low, three_ed, three_high, four_f0, four_mid, four_f4, tail_bits, two_tails, three_tails}
-use Rattle.jx_index.specs.PointerForm.{IsTokenPart, plain, tilde, slash, IsToken, no_part, one_part, IsPointerOf, root, below}
+use Rattle.jx_index.specs.PointerForm.{IsTokenChar, plain, tilde, slash, IsToken, no_char, one_char, IsPointerOf, root, below}
 use Rattle.jx_index.specs.Pointers.{IsEscapeDigit, IsBadEscape, HasSlash, IsPointer}
 
 -- ---- the bytes of a character are one of the well-formed sequences
@@ -136,14 +136,14 @@ record Parsed (bytes : List ℕ) : Type 0 where
   is_rest : IsPointerOf rest tokens
   whole : bytes ≡ token ++ rest
 
-with_part : {w us : List ℕ} {bytes : List ℕ} → IsTokenPart w us → Parsed bytes → Parsed (w ++ bytes)
-with_part {w = w} {us = us} p q =
+with_char : {w us : List ℕ} {bytes : List ℕ} → IsTokenChar w us → Parsed bytes → Parsed (w ++ bytes)
+with_char {w = w} {us = us} p q =
     record {
       token = w ++ q.token;
       units = us ++ q.units;
       rest = q.rest;
       tokens = q.tokens;
-      is_token = one_part p q.is_token;
+      is_token = one_char p q.is_token;
       is_rest = q.is_rest;
       whole = ap (λ x. w ++ x) q.whole ∙ sym (append_assoc w q.token q.rest);
     }
@@ -155,7 +155,7 @@ at_slash q =
       units = [];
       rest = 0x2f ∷ (q.token ++ q.rest);
       tokens = q.units ∷ q.tokens;
-      is_token = no_part;
+      is_token = no_char;
       is_rest = below q.is_token q.is_rest;
       whole = ap (λ x. 0x2f ∷ x) q.whole;
     }
@@ -183,8 +183,8 @@ is_digit_or b =
     ]
 
 escape_of : (d : ℕ) (bytes : List ℕ) → IsEscapeDigit d → Parsed bytes → Parsed (0x7e ∷ (encode d ++ bytes))
-escape_of d bytes (inl e) q = subst (λ x. Parsed (0x7e ∷ (x ++ bytes))) (sym (ap encode e ∙ encode_low 0x30 (omega arith))) (with_part tilde q)
-escape_of d bytes (inr e) q = subst (λ x. Parsed (0x7e ∷ (x ++ bytes))) (sym (ap encode e ∙ encode_low 0x31 (omega arith))) (with_part slash q)
+escape_of d bytes (inl e) q = subst (λ x. Parsed (0x7e ∷ (x ++ bytes))) (sym (ap encode e ∙ encode_low 0x30 (omega arith))) (with_char tilde q)
+escape_of d bytes (inr e) q = subst (λ x. Parsed (0x7e ∷ (x ++ bytes))) (sym (ap encode e ∙ encode_low 0x31 (omega arith))) (with_char slash q)
 
 choose : (c : ℕ) (cs : List ℕ) → ((c ≡ 0x2f) ⊎ (c ≢ 0x2f)) → ((c ≡ 0x7e) ⊎ (c ≢ 0x7e)) → scalar c ≡ true → NoBad (encode c ++ encodes cs)
     → (NoBad (encodes cs) → Parsed (encodes cs)) → (NoBad (0x7e ∷ encodes cs) → Parsed (0x7e ∷ encodes cs)) → Parsed (encode c ++ encodes cs)
@@ -193,11 +193,11 @@ choose c cs (inl e) b s n rec til =
 choose c cs (inr a) (inl e) s n rec til =
     let w : encode c ≡ 0x7e ∷ [] = ap encode e ∙ encode_low 0x7e (omega arith) in
     subst (λ x. Parsed (x ++ encodes cs)) (sym w) (til (subst (λ x. NoBad (x ++ encodes cs)) w n))
-choose c cs (inr a) (inr b) s n rec til = with_part (plain (encoded c s) b a) (rec (later (encode c) (encodes cs) n))
+choose c cs (inr a) (inr b) s n rec til = with_char (plain (encoded c s) b a) (rec (later (encode c) (encodes cs) n))
 
 mutual
   parse : (cs : List ℕ) → scalars cs ≡ true → NoBad (encodes cs) → Parsed (encodes cs)
-  parse [] s n = record { token = []; units = []; rest = []; tokens = []; is_token = no_part; is_rest = root; whole = refl }
+  parse [] s n = record { token = []; units = []; rest = []; tokens = []; is_token = no_char; is_rest = root; whole = refl }
   parse (c ∷ cs) s n =
       let p = and_parts (scalar c) (scalars cs) s in
       choose c cs (cases_eq c 0x2f) (cases_eq c 0x7e) p.0 n (λ m. parse cs p.1 m) (λ m. behind_tilde cs p.1 m)

@@ -8,7 +8,7 @@ use Rattle.jx_index.specs.declared.row.Row.{Row}
 use Rattle.jx_index.specs.Indexed.{IndexedValue, IsIndexed}
 use Rattle.jx_index.specs.Leads.{leads}
 use Rattle.jx_index.specs.Names.{IsInNameOrder}
-use Rattle.jx_index.specs.Parts.{part_at}
+use Rattle.jx_index.specs.ChildLists.{child_list}
 use Rattle.jx_index.specs.Nodes.{IsArrayAt, IsObjectAt, child_numbers}
 use Rattle.jx_index.specs.Rows.{rows}
 use Rattle.jx_index.specs.RowsLead.{rows_lead}
@@ -49,34 +49,34 @@ module _ (text : List ℕ) (place : Span) (table : List Row) (after starts child
   pub start_there : (node : ℕ) → node < length table → node + 1 < length starts
   start_there node h = omega (arith, x.starts_are)
 
-  pub part_ordered : (node : ℕ) → node < length table → slice_index starts node ≤ slice_index starts (node + 1)
-  part_ordered node h = (x.parts node h).ordered
+  pub child_list_ordered : (node : ℕ) → node < length table → slice_index starts node ≤ slice_index starts (node + 1)
+  child_list_ordered node h = (x.lists node h).ordered
 
-  pub part_within : (node : ℕ) → node < length table → slice_index starts (node + 1) ≤ length children
-  part_within node h = (x.parts node h).within
+  pub child_list_within : (node : ℕ) → node < length table → slice_index starts (node + 1) ≤ length children
+  child_list_within node h = (x.lists node h).within
 
-  pub names_are : (node : ℕ) → IsObjectAt table node → IsInNameOrder text table (child_numbers table node) (part_at starts children node)
-  names_are node h = subst (λ c. IsInNameOrder text table c (part_at starts children node)) (walk_is node) ((x.parts node (object_row table node h)).by_name h)
+  pub names_are : (node : ℕ) → IsObjectAt table node → IsInNameOrder text table (child_numbers table node) (child_list starts children node)
+  names_are node h = subst (λ c. IsInNameOrder text table c (child_list starts children node)) (walk_is node) ((x.lists node (object_row table node h)).by_name h)
 
-  pub elements_are : (node : ℕ) → IsArrayAt table node → part_at starts children node ≡ child_numbers table node
-  elements_are node h = (x.parts node (array_row table node h)).by_place h ∙ walk_is node
+  pub elements_are : (node : ℕ) → IsArrayAt table node → child_list starts children node ≡ child_numbers table node
+  elements_are node h = (x.lists node (array_row table node h)).by_place h ∙ walk_is node
 
   -- the same where the value of an index is at hand, and its lists come from elsewhere
   pub names_shown : (v : IndexedValue) → record { text = text; span = place; rows = table } ≡ v → (node : ℕ) → IsObjectAt v.rows node
-      → (s m names : List ℕ) → s ≡ starts → m ≡ children → names ≡ part_at s m node → IsInNameOrder v.text v.rows (child_numbers v.rows node) names
+      → (s m names : List ℕ) → s ≡ starts → m ≡ children → names ≡ child_list s m node → IsInNameOrder v.text v.rows (child_numbers v.rows node) names
   names_shown v e node h s m names es em en =
       subst (IsInNameOrder v.text v.rows (child_numbers v.rows node))
-      (ap (λ y. part_at y children node) (sym es) ∙ ap (λ y. part_at s y node) (sym em) ∙ sym en)
-      (subst (λ (w : IndexedValue). IsInNameOrder w.text w.rows (child_numbers w.rows node) (part_at starts children node)) e
+      (ap (λ y. child_list y children node) (sym es) ∙ ap (λ y. child_list s y node) (sym em) ∙ sym en)
+      (subst (λ (w : IndexedValue). IsInNameOrder w.text w.rows (child_numbers w.rows node) (child_list starts children node)) e
       (names_are node (subst (λ (w : IndexedValue). IsObjectAt w.rows node) (sym e) h)))
 
   pub elements_shown : (v : IndexedValue) → record { text = text; span = place; rows = table } ≡ v → (node : ℕ) → IsArrayAt v.rows node
-      → (s m elements : List ℕ) → s ≡ starts → m ≡ children → elements ≡ part_at s m node → elements ≡ child_numbers v.rows node
+      → (s m elements : List ℕ) → s ≡ starts → m ≡ children → elements ≡ child_list s m node → elements ≡ child_numbers v.rows node
   elements_shown v e node h s m elements es em en =
       en
-      ∙ ap (λ y. part_at s y node) em
-      ∙ ap (λ y. part_at y children node) es
-      ∙ subst (λ (w : IndexedValue). part_at starts children node ≡ child_numbers w.rows node) e
+      ∙ ap (λ y. child_list s y node) em
+      ∙ ap (λ y. child_list y children node) es
+      ∙ subst (λ (w : IndexedValue). child_list starts children node ≡ child_numbers w.rows node) e
       (elements_are node (subst (λ (w : IndexedValue). IsArrayAt w.rows node) (sym e) h))
 
 -- the look-up over the rows is that over the tree

@@ -26,7 +26,7 @@ pub mod FindSteps
 pub mod Readings
 pub mod OnePass
 pub mod Indexes
-pub mod PartSteps
+pub mod ChildListSteps
 pub mod Spelt
 pub mod Ties
 pub mod Leasts

@@ -20,7 +20,7 @@ use Rattle.jx_index.specs.Rows.{rows}
 use Rattle.jx_index.proofs.Builds.{IsBuilt, built_is}
 use Rattle.jx_index.proofs.Readings.{tree_of}
 use Rattle.jx_index.proofs.Tokens.{TokensAreRead}
-use Rattle.jx_index.proofs.Within.{marks_within, part_end}
+use Rattle.jx_index.proofs.Within.{marks_within, slice_end}
 
 -- what is built of a run's marks and ends
 pub record RunNodes (run : TextRunValue) (place : Span) (marks : List Mark) (ends : List ℕ) (told : List Row) (after : List ℕ) : Type 0 where
@@ -33,14 +33,14 @@ pub record RunNodes (run : TextRunValue) (place : Span) (marks : List Mark) (end
 module _ (text : List ℕ) (place : Span) (ordered : place.start ≤ place.end) (within : place.end ≤ length text) where
   all_low : length text < 2 ^ 64 → AllLow (lex state.Gap place.start (slice_range text place.start place.end)).marks
   all_low fits =
-      let end = part_end text place.start place.end ordered within in
+      let end = slice_end text place.start place.end ordered within in
       marks_within state.Gap place.start (slice_range text place.start place.end) (2 ^ 64 - 1) (omega (arith, end))
 
   is_built : TokensAreRead → (limit : ℕ) (tree : Tree) → IsText text place.start place.end limit tree
       → IsBuilt tree (built_of place.end (lex state.Gap place.start (slice_range text place.start place.end)).marks (lex state.Gap place.start (slice_range text place.start place.end)).ends)
   is_built law limit tree t =
       let bytes = slice_range text place.start place.end in
-      subst (λ (n : ℕ). IsBuilt tree (built_of n (lex state.Gap place.start bytes).marks (lex state.Gap place.start bytes).ends)) (part_end text place.start place.end ordered within)
+      subst (λ (n : ℕ). IsBuilt tree (built_of n (lex state.Gap place.start bytes).marks (lex state.Gap place.start bytes).ends)) (slice_end text place.start place.end ordered within)
       (built_is law place.start limit bytes tree t)
 
   pub rows_told : TokensAreRead → (limit : ℕ) (tree : Tree) (told : List Row) → length text < 2 ^ 64

@@ -6,11 +6,11 @@ use Rattle.std.specs.Ordering.{nat_cmp}
 use Rattle.std.specs.Cmp.Lexicographic.{slice_cmp}
 use Rattle.jx_index.specs.declared.units.Spelling.{Spelling}
 use Rattle.jx_index.specs.declared.units.Spelling.TheVariants.{InText, InToken}
-use Rattle.jx_index.specs.Units.{parts_units}
+use Rattle.jx_index.specs.Units.{chars_units}
 
 -- an ASCII byte that begins no escape, neither in a text nor in a token
-plain_unit : (s : Spelling) (b : ℕ) (bytes : List ℕ) → b < 0x80 → b ≢ 0x5c → b ≢ 0x7e → parts_units s 0 (b ∷ bytes) ≡ b ∷ parts_units s 0 bytes
-unfolding parts_units
+plain_unit : (s : Spelling) (b : ℕ) (bytes : List ℕ) → b < 0x80 → b ≢ 0x5c → b ≢ 0x7e → chars_units s 0 (b ∷ bytes) ≡ b ∷ chars_units s 0 bytes
+unfolding chars_units
 plain_unit InText b bytes h n m =
     let e : (b == 0x5c) ≡ false = grind (arith, nat_tests) in
     let l : nat_lt b 0x80 ≡ true = grind (arith, nat_tests) in
@@ -30,18 +30,18 @@ same_head b us vs =
 
 pub front_more : (spelling : Spelling) (xs ys : List ℕ) (at : ℕ) → at < length xs → at < length ys → get_or xs at 0 ≡ get_or ys at 0
     → get_or xs at 0 < 0x80 → get_or xs at 0 ≢ 0x5c → get_or xs at 0 ≢ 0x7e
-    → slice_cmp nat_cmp (parts_units InText 0 (drop at xs)) (parts_units spelling 0 (drop at ys)) ≡ slice_cmp nat_cmp (parts_units InText 0 (drop (at + 1) xs)) (parts_units spelling 0 (drop (at + 1) ys))
+    → slice_cmp nat_cmp (chars_units InText 0 (drop at xs)) (chars_units spelling 0 (drop at ys)) ≡ slice_cmp nat_cmp (chars_units InText 0 (drop (at + 1) xs)) (chars_units spelling 0 (drop (at + 1) ys))
 front_more spelling xs ys at h k e p n m =
     let s : suc at ≡ at + 1 = omega arith in
     let b = get_or xs at 0 in
-    let u : parts_units InText 0 (drop at xs) ≡ b ∷ parts_units InText 0 (drop (suc at) xs) = ap (parts_units InText 0) (drop-cons xs at 0 h) ∙ plain_unit InText b (drop (suc at) xs) p n m in
-    let v : parts_units spelling 0 (drop at ys) ≡ b ∷ parts_units spelling 0 (drop (suc at) ys) =
-    ap (parts_units spelling 0) (drop-cons ys at 0 k ∙ ap (λ x. x ∷ drop (suc at) ys) (sym e)) ∙ plain_unit spelling b (drop (suc at) ys) p n m in
+    let u : chars_units InText 0 (drop at xs) ≡ b ∷ chars_units InText 0 (drop (suc at) xs) = ap (chars_units InText 0) (drop-cons xs at 0 h) ∙ plain_unit InText b (drop (suc at) xs) p n m in
+    let v : chars_units spelling 0 (drop at ys) ≡ b ∷ chars_units spelling 0 (drop (suc at) ys) =
+    ap (chars_units spelling 0) (drop-cons ys at 0 k ∙ ap (λ x. x ∷ drop (suc at) ys) (sym e)) ∙ plain_unit spelling b (drop (suc at) ys) p n m in
     ap₂ (slice_cmp nat_cmp) u v
-    ∙ same_head b (parts_units InText 0 (drop (suc at) xs)) (parts_units spelling 0 (drop (suc at) ys))
-    ∙ ap (λ i. slice_cmp nat_cmp (parts_units InText 0 (drop i xs)) (parts_units spelling 0 (drop i ys))) s
+    ∙ same_head b (chars_units InText 0 (drop (suc at) xs)) (chars_units spelling 0 (drop (suc at) ys))
+    ∙ ap (λ i. slice_cmp nat_cmp (chars_units InText 0 (drop i xs)) (chars_units spelling 0 (drop i ys))) s
 
 pub first_unit : (spelling : Spelling) (bytes : List ℕ) → 0 < length bytes → get_or bytes 0 0 < 0x80 → get_or bytes 0 0 ≢ 0x5c → get_or bytes 0 0 ≢ 0x7e
-    → parts_units spelling 0 bytes ≡ get_or bytes 0 0 ∷ parts_units spelling 0 (drop 1 bytes)
+    → chars_units spelling 0 bytes ≡ get_or bytes 0 0 ∷ chars_units spelling 0 (drop 1 bytes)
 first_unit spelling [] h p n m = absurd (omega (arith, h))
 first_unit spelling (b ∷ bytes) h p n m = plain_unit spelling b bytes p n m

@@ -6,7 +6,7 @@ use Rattle.std.proofs.lemmas.Bool.{lt-ltb, le-ltb}
 use Rattle.std.proofs.lemmas.Bool.Decides.{nat_tests}
 use Rattle.std.proofs.lemmas.Str.{IsUtf8-append, IsUtf8-encode, IsUtf8-nil}
 use Rattle.jx_lex.specs.Character.{IsTail, Utf8, one, two, three_e0, three_low, three_ed, three_high, four_f0, four_mid, four_f4, tail_bits, two_tails, three_tails}
-use Rattle.jx_index.specs.PointerForm.{IsTokenPart, plain, tilde, slash, IsToken, no_part, one_part, IsPointerOf, root, below}
+use Rattle.jx_index.specs.PointerForm.{IsTokenChar, plain, tilde, slash, IsToken, no_char, one_char, IsPointerOf, root, below}
 use Rattle.jx_index.specs.Pointers.{IsEscapeDigit, IsBadEscape, HasSlash, IsPointer}
 
 -- ---- the bytes of a character are its encoding
@@ -112,14 +112,14 @@ encodes_char (four_f4 {b = b} {c = d} {d = f} h t u) =
 utf8_ascii : (c : ℕ) → c < 128 → IsUtf8 (c ∷ [])
 utf8_ascii c h = subst IsUtf8 (encode_one c h) (IsUtf8-encode c (low_scalar c (omega arith)))
 
-utf8_part : {w us : List ℕ} → IsTokenPart w us → IsUtf8 w
+utf8_part : {w us : List ℕ} → IsTokenChar w us → IsUtf8 w
 utf8_part (plain u n m) = let e = encodes_char u in subst IsUtf8 e.bytes (IsUtf8-encode _ e.is_scalar)
 utf8_part tilde = IsUtf8-append (0x7e ∷ []) (0x30 ∷ []) (utf8_ascii 0x7e (omega arith)) (utf8_ascii 0x30 (omega arith))
 utf8_part slash = IsUtf8-append (0x7e ∷ []) (0x31 ∷ []) (utf8_ascii 0x7e (omega arith)) (utf8_ascii 0x31 (omega arith))
 
 utf8_token : {w us : List ℕ} → IsToken w us → IsUtf8 w
-utf8_token no_part = IsUtf8-nil
-utf8_token (one_part {w = w} {v = v} p ps) = IsUtf8-append w v (utf8_part p) (utf8_token ps)
+utf8_token no_char = IsUtf8-nil
+utf8_token (one_char {w = w} {v = v} p ps) = IsUtf8-append w v (utf8_part p) (utf8_token ps)
 
 pub utf8_of_form : {p : List ℕ} {ts : List (List ℕ)} → IsPointerOf p ts → IsUtf8 p
 utf8_of_form root = IsUtf8-nil
@@ -152,14 +152,14 @@ good_char (four_mid {a = a} {b = b} {c = d} {d = f} h t u v) n rest g =
 good_char (four_f4 {b = b} {c = d} {d = f} h t u) n rest g =
     let x = h.from in past 0xf4 (b ∷ d ∷ f ∷ rest) (λ e. omega arith) (past b (d ∷ f ∷ rest) (λ e. omega arith) (tail_past d (f ∷ rest) t (tail_past f rest u g)))
 
-good_part : {w us : List ℕ} → IsTokenPart w us → (rest : List ℕ) → Good rest → Good (w ++ rest)
-good_part (plain u n m) rest g = good_char u n rest g
-good_part tilde rest g = (λ e. inl refl, past 0x30 rest (λ e. omega arith) g)
-good_part slash rest g = (λ e. inr refl, past 0x31 rest (λ e. omega arith) g)
+good_token_char : {w us : List ℕ} → IsTokenChar w us → (rest : List ℕ) → Good rest → Good (w ++ rest)
+good_token_char (plain u n m) rest g = good_char u n rest g
+good_token_char tilde rest g = (λ e. inl refl, past 0x30 rest (λ e. omega arith) g)
+good_token_char slash rest g = (λ e. inr refl, past 0x31 rest (λ e. omega arith) g)
 
 good_token : {w us : List ℕ} → IsToken w us → (rest : List ℕ) → Good rest → Good (w ++ rest)
-good_token no_part rest g = g
-good_token (one_part {w = w} {v = v} p ps) rest g = subst Good (sym (append_assoc w v rest)) (good_part p (v ++ rest) (good_token ps rest g))
+good_token no_char rest g = g
+good_token (one_char {w = w} {v = v} p ps) rest g = subst Good (sym (append_assoc w v rest)) (good_token_char p (v ++ rest) (good_token ps rest g))
 
 good_pointer : {p : List ℕ} {ts : List (List ℕ)} → IsPointerOf p ts → Good p
 good_pointer root = tt

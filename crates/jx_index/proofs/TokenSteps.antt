@@ -3,7 +3,7 @@ use Rattle.std.proofs.Common.{◌≡◌, ◌≢◌, ℕ, zero, suc, ◌+◌, ◌
 use Rattle.std.proofs.lemmas.List.{take-append-drop}
 use Rattle.jx_index.specs.declared.units.Spelling.TheVariants.{InToken}
 use Rattle.jx_index.specs.Pointers.{HasSlash, HasNoSlash, parted, tokens}
-use Rattle.jx_index.specs.Units.{parts_units}
+use Rattle.jx_index.specs.Units.{chars_units}
 use Rattle.jx_index.proofs.TokenLaws.{parted-token}
 
 no_slash_suc : (bytes : List ℕ) (at : ℕ) → at < length bytes → HasNoSlash (take at bytes) → get_or bytes at 0 ≢ 0x2f → HasNoSlash (take (suc at) bytes)
@@ -21,13 +21,13 @@ parted_slash (b ∷ bytes) h = ap (λ x. parted (x ∷ bytes)) (h (omega arith))
 
 -- what follows the first slash: a token up to the next one, and the rest
 pub tokens_next : (rest bytes : List ℕ) (n : ℕ) → 0 < length rest → HasSlash rest → bytes ≡ drop 1 rest → HasNoSlash (take n bytes) → HasSlash (drop n bytes)
-    → tokens rest ≡ parts_units InToken 0 (take n bytes) ∷ tokens (drop n bytes)
+    → tokens rest ≡ chars_units InToken 0 (take n bytes) ∷ tokens (drop n bytes)
 unfolding parted
 tokens_next [] bytes n l h e t s = absurd (omega arith)
 tokens_next (b ∷ rest) bytes n l h e t s =
     ap (λ x. tokens (x ∷ rest)) (h l)
-    ∙ ap (λ x. map (parts_units InToken 0) (parted x)) (sym e ∙ sym (take-append-drop n bytes))
-    ∙ ap (map (parts_units InToken 0)) (parted-token (take n bytes) (drop n bytes) t (parted_slash (drop n bytes) s))
+    ∙ ap (λ x. map (chars_units InToken 0) (parted x)) (sym e ∙ sym (take-append-drop n bytes))
+    ∙ ap (map (chars_units InToken 0)) (parted-token (take n bytes) (drop n bytes) t (parted_slash (drop n bytes) s))
 
 pub tokens_end : (rest : List ℕ) → length rest ≤ 0 → tokens rest ≡ []
 unfolding parted

@@ -24,8 +24,8 @@ marks_within s at (b ∷ bs) limit h =
     next_of None rec = All-nil (λ (m : Mark). m.at < limit)
     next_of (Some s) rec = rec s
 
-pub part_end : (text : List ℕ) (start end : ℕ) → start ≤ end → end ≤ length text → start + length (slice_range text start end) ≡ end
-part_end text start end h k =
+pub slice_end : (text : List ℕ) (start end : ℕ) → start ≤ end → end ≤ length text → start + length (slice_range text start end) ≡ end
+slice_end text start end h k =
     let d : length (drop start text) ≡ length text - start = length-drop start text in
     let t : length (slice_range text start end) ≡ end - start = length-take-le (end - start) (drop start text) (omega arith) in
     omega arith

@@ -5,7 +5,7 @@ pub mod Indexed
 pub mod Leads
 pub mod Names
 pub mod Nodes
-pub mod Parts
+pub mod ChildLists
 pub mod PointerFaults
 pub mod PointerForm
 pub mod Pointers

@@ -1,6 +1,6 @@
 -- Pointers: tokens, each after a slash, in which ~0 stands for ~ and ~1 for a slash (RFC 6901, section 3).
 use Rattle.jx_index.specs.declared.units.Spelling.TheVariants.{InToken}
-use Rattle.jx_index.specs.Units.{parts_units}
+use Rattle.jx_index.specs.Units.{chars_units}
 use Rattle.std.specs.Prelude.{◌≡◌, ◌≢◌, ℕ, ◌+◌, ◌<◌, ◌⊎◌, ◌==◌, if◌then◌else◌, List, [], ◌∷◌, length, map, drop, slice_index}
 
 -- ---- which texts are pointers
@@ -39,7 +39,7 @@ HasNoSlash (b ∷ bs) = (b ≢ 0x2f) × HasNoSlash bs
 -- a list parted at its slashes
 abbrev pub onto_first : ℕ → List (List ℕ) → List (List ℕ)
 onto_first b [] = (b ∷ []) ∷ []
-onto_first b (part ∷ parts) = (b ∷ part) ∷ parts
+onto_first b (first ∷ rest) = (b ∷ first) ∷ rest
 
 unfoldable pub parted : List ℕ → List (List ℕ)
 parted [] = [] ∷ []
@@ -47,4 +47,4 @@ parted (b ∷ bs) = if b == 0x2f then [] ∷ parted bs else onto_first b (parted
 
 -- the units of each token
 abbrev pub tokens : List ℕ → List (List ℕ)
-tokens pointer = map (parts_units InToken 0) (drop 1 (parted pointer))
+tokens pointer = map (chars_units InToken 0) (drop 1 (parted pointer))

@@ -1,4 +1,4 @@
--- Indexes over what stands behind a front, at its offsets in all bytes.
+-- Indexes over what stands behind a front; their offsets count all bytes.
 use Rattle.std.specs.Prelude.{◌≡◌, ℕ, List, length, slice_range}
 use Rattle.jx_run.specs.declared.settings.Settings.{Settings}
 use Rattle.jx_run.specs.Settings.{IsDocumentBy}

@@ -22,8 +22,8 @@ mutual
   -- where the tree stands so, a node inside stands so
   pub data Stands : Tree → Standing → Tree → Standing → Type 0 where
     itself : {tree : Tree} {s : Standing} → Stands tree s tree s
-    inside : {kind : Kind} {place : Span} {children : Children} {s t : Standing} {inner : Tree}
-        → StandsBelow children (suc s.number) s.number 0 inner t → Stands (node kind place children) s inner t
+    inside : {kind : Kind} {span : Span} {children : Children} {s t : Standing} {inner : Tree}
+        → StandsBelow children (suc s.number) s.number 0 inner t → Stands (node kind span children) s inner t
 
   -- the same, where the first child has a number, a parent and a place
   pub data StandsBelow : Children → ℕ → ℕ → ℕ → Tree → Standing → Type 0 where

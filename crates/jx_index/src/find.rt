@@ -8,7 +8,7 @@ ghost use Rattle.jx_index.specs.Leads.{only, at_place, leads};
 ghost use Rattle.jx_index.specs.Nodes.{IsArrayAt, IsObjectAt, kind_at, child_numbers};
 ghost use Rattle.jx_index.specs.Pointers.{HasSlash, tokens, HasNoSlash};
 ghost use Rattle.jx_index.specs.RowsLead.{is_equal, row_token};
-ghost use Rattle.jx_index.specs.Units.{parts_units};
+ghost use Rattle.jx_index.specs.Units.{chars_units};
 
 use crate::array_token::{Place, place_of_token};
 use crate::find_fault::FindFault;
@@ -48,7 +48,7 @@ impl<'a> Indexed<'a> {
     /// The only member of an object with the name that a token spells; refused where no member has it, or several.
     fn member(&self, object: NodeId, name: &[u8], token: usize) -> Result<NodeId, FindFault>
         requires { IsObjectAt self.now.rows object }
-        ensures { result ≡ only (filter (is_equal self.now.text self.now.rows (parts_units InToken 0 name.now)) (child_numbers self.now.rows object)) token }
+        ensures { result ≡ only (filter (is_equal self.now.text self.now.rows (chars_units InToken 0 name.now)) (child_numbers self.now.rows object)) token }
     {
         find_name(self.text(), self.rows(), self.names(object), name, token)
     }
@@ -56,7 +56,7 @@ impl<'a> Indexed<'a> {
     /// The element of an array that a token names; refused where it names none.
     fn element(&self, array: NodeId, name: &[u8], token: usize) -> Result<NodeId, FindFault>
         requires { IsArrayAt self.now.rows array }
-        ensures { result ≡ at_place (place_in (parts_units InToken 0 name.now) (length (child_numbers self.now.rows array))) (child_numbers self.now.rows array) token }
+        ensures { result ≡ at_place (place_in (chars_units InToken 0 name.now) (length (child_numbers self.now.rows array))) (child_numbers self.now.rows array) token }
     {
         let elements = self.elements(array);
         match place_of_token(Units::new(name, Spelling::InToken), elements.len()) {
@@ -70,7 +70,7 @@ impl<'a> Indexed<'a> {
     /// The child of a node of this kind to which a token leads, or why it leads nowhere.
     fn step(&self, kind: Kind, node: NodeId, name: &[u8], token: usize) -> Result<NodeId, FindFault>
         requires { kind ≡ kind_at self.now.rows node }
-        ensures { result ≡ row_token self.now.text self.now.rows (parts_units InToken 0 name.now) node token }
+        ensures { result ≡ row_token self.now.text self.now.rows (chars_units InToken 0 name.now) node token }
     {
         match kind {
             Kind::Object => self.member(node, name, token),

@@ -12,8 +12,8 @@ ghost use Rattle.jx_index.specs.Nodes.{IsArrayAt, IsObjectAt, child_numbers};
 ghost use Rattle.jx_index.specs.Rows.{rows as rows_of};
 
 use crate::builder::{Nodes, nodes_from_marks, nodes_of_track};
+use crate::child_lists::{ChildLists, child_list};
 use crate::children::{Children, children_in};
-use crate::parts::{Parts, part_of};
 use crate::row::{NodeId, Row};
 use crate::row_keeper::RowKeeper;
 use jx_lex::{Depth, Span, tokens_are_read};
@@ -27,7 +27,7 @@ pub struct Indexed<'a> {
     text: &'a [u8],
     span: Span,
     nodes: Nodes,
-    parts: Parts,
+    lists: ChildLists,
 }
 
 impl<'a> Model for Indexed<'a> {
@@ -37,7 +37,7 @@ impl<'a> Model for Indexed<'a> {
 
     ghost view = { λ i. record { text = i.text.now; span = i.span; rows = i.nodes.rows.items } };
 
-    ghost invariant = { λ i. IsIndexed i.text.now i.span i.nodes.rows.items i.nodes.after.items i.parts.starts.items i.parts.children.items };
+    ghost invariant = { λ i. IsIndexed i.text.now i.span i.nodes.rows.items i.nodes.after.items i.lists.starts.items i.lists.children.items };
 }
 
 impl<'a> Indexed<'a> {
@@ -135,12 +135,12 @@ impl<'a> Indexed<'a> {
         ensures rows { IfOk result (λ index. index.rows ≡ nodes.rows.items) }
     {
         text_has_one_tree();
-        let parts = Parts::of(alloc, text, &nodes.rows, &nodes.after)?;
+        let lists = ChildLists::of(alloc, text, &nodes.rows, &nodes.after)?;
         Ok(Indexed {
             text,
             span,
             nodes,
-            parts,
+            lists,
         })
     }
 
@@ -211,7 +211,7 @@ impl<'a> Indexed<'a> {
         ensures rising { IsSortedBy (is_below self.now.text self.now.rows) result.now }
         ensures equal_by_place { IsStableBy (is_below self.now.text self.now.rows) (child_numbers self.now.rows object) result.now }
     {
-        part_of(&self.parts.starts, &self.parts.children, object.number())
+        child_list(&self.lists.starts, &self.lists.children, object.number())
     }
 
     /// The elements of an array by place.
@@ -219,6 +219,6 @@ impl<'a> Indexed<'a> {
         requires { IsArrayAt self.now.rows array }
         ensures { result.now ≡ child_numbers self.now.rows array }
     {
-        part_of(&self.parts.starts, &self.parts.children, array.number())
+        child_list(&self.lists.starts, &self.lists.children, array.number())
     }
 }

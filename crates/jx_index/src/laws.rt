@@ -25,7 +25,7 @@ ghost use Rattle.jx_index.specs.Repeats.{IsLeast, IsRepeat};
 ghost use Rattle.jx_index.specs.Rows.{rows};
 ghost use Rattle.jx_index.specs.Settled.{IsIndexBy, IsIndexFrom, rest_from};
 ghost use Rattle.jx_index.specs.Standing.{HasNode, Standing, Stands, root_standing};
-ghost use Rattle.jx_index.specs.Units.{parts_units, between_marks};
+ghost use Rattle.jx_index.specs.Units.{chars_units, between_marks};
 
 use jx_lex::tokens_are_read;
 use jx_run::fronts_decide_where_texts_begin;
@@ -34,7 +34,7 @@ use jx_run::fronts_decide_where_texts_begin;
 /// and what is read off them are that form's tokens; the rows of a text stand in rising order of their starts, and those whose parent is a node
 /// are the node's children, in order.
 pub fn readings_are_forms()
-    ensures strings { (w us : List ℕ) → IsString w us → parts_units InText 0 (between_marks w) ≡ us }
+    ensures strings { (w us : List ℕ) → IsString w us → chars_units InText 0 (between_marks w) ≡ us }
     ensures pointers { (p : List ℕ) (ts : List (List ℕ)) → IsPointerOf p ts → tokens p ≡ ts }
     ensures spelt { (p : List ℕ) (ts : List (List ℕ)) → IsPointerOf p ts → IsUtf8 p × IsPointer p }
     ensures forms { (p : List ℕ) → IsUtf8 p → IsPointer p → (ts : List (List ℕ)) × IsPointerOf p ts }

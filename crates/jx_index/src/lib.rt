@@ -3,6 +3,7 @@
 
 mod array_token;
 mod builder;
+mod child_lists;
 mod children;
 mod comparing;
 mod find;
@@ -11,7 +12,6 @@ mod indexed;
 mod laws;
 mod look_up;
 mod names;
-mod parts;
 mod pointer;
 mod repeats;
 mod row;

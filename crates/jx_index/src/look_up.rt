@@ -6,7 +6,7 @@ ghost use Rattle.jx_index.specs.Names.{is_below};
 ghost use Rattle.jx_index.specs.Leads.{only};
 ghost use Rattle.jx_index.specs.inside.LookUp.{rank_of, IsEqualAt};
 ghost use Rattle.jx_index.specs.RowsLead.{is_equal};
-ghost use Rattle.jx_index.specs.Units.{parts_units};
+ghost use Rattle.jx_index.specs.Units.{chars_units};
 
 use crate::find_fault::FindFault;
 use crate::names::compare_to_token;
@@ -15,7 +15,7 @@ use std::cmp::Ordering;
 
 /// How a member's name compares with what a token spells: 0 where it is less, 1 where equal, 2 where greater.
 fn rank(text: &[u8], rows: &[Row], node: NodeId, name: &[u8]) -> u8
-    ensures { result ≡ rank_of text.now rows.now (parts_units InToken 0 name.now) node }
+    ensures { result ≡ rank_of text.now rows.now (chars_units InToken 0 name.now) node }
 {
     match compare_to_token(text, rows, node, name) {
         Ordering::Less => 0,
@@ -26,7 +26,7 @@ fn rank(text: &[u8], rows: &[Row], node: NodeId, name: &[u8]) -> u8
 
 /// Whether there is a member at this index whose name is what a token spells.
 fn is_equal_at(text: &[u8], rows: &[Row], names: &[NodeId], at: usize, name: &[u8]) -> bool
-    ensures { IsTrue result ↔ IsEqualAt (rank_of text.now rows.now (parts_units InToken 0 name.now)) names.now at }
+    ensures { IsTrue result ↔ IsEqualAt (rank_of text.now rows.now (chars_units InToken 0 name.now)) names.now at }
 {
     at < names.len() && rank(text, rows, names[at], name) == 1
 }
@@ -41,7 +41,7 @@ pub fn find_name(
     token: usize,
 ) -> Result<NodeId, FindFault>
     requires { IsSortedBy (is_below text.now rows.now) names.now }
-    ensures { result ≡ only (filter (is_equal text.now rows.now (parts_units InToken 0 name.now)) names.now) token }
+    ensures { result ≡ only (filter (is_equal text.now rows.now (chars_units InToken 0 name.now)) names.now) token }
 {
     let at = names.partition_point(|member| rank(text, rows, *member, name) < 1);
     if !is_equal_at(text, rows, names, at, name) {

@@ -5,7 +5,7 @@ ghost use Rattle.std.specs.Cmp.Lexicographic.{slice_cmp};
 ghost use Rattle.jx_index.specs.declared.units.Spelling.TheVariants.{InText, InToken};
 ghost use Rattle.jx_index.specs.Names.{name_units, IsInNameOrder};
 ghost use Rattle.jx_index.specs.Nodes.{IsObjectAt};
-ghost use Rattle.jx_index.specs.Units.{units_at, parts_units};
+ghost use Rattle.jx_index.specs.Units.{units_at, chars_units};
 ghost use Rattle.jx_index.specs.inside.UnitsLeft.{units_left};
 
 use crate::comparing::Comparing;
@@ -52,23 +52,23 @@ pub(crate) fn keep(bytes: &[u8], count: usize) -> &[u8]
 /// The bytes between the quotation marks of the string at a span.
 #[tactic(auto, unfolding(crate::specs::Units::units_at))]
 fn string_bytes<'a>(text: &'a [u8], span: Span) -> &'a [u8]
-    ensures { parts_units InText 0 result.now ≡ units_at text.now span }
+    ensures { chars_units InText 0 result.now ≡ units_at text.now span }
 {
     let string = keep(skip(text, span.start), span.end.saturating_sub(span.start));
     keep(skip(string, 1), string.len().saturating_sub(2))
 }
 
 /// No bytes, which spell no units.
-#[tactic(auto, unfolding(crate::specs::Units::parts_units))]
+#[tactic(auto, unfolding(crate::specs::Units::chars_units))]
 fn no_bytes<'a>() -> &'a [u8]
-    ensures { parts_units InText 0 result.now ≡ [] }
+    ensures { chars_units InText 0 result.now ≡ [] }
 {
     &[]
 }
 
 /// The bytes of a member's name; none where the row has no name.
 fn name_bytes<'a>(text: &'a [u8], rows: &[Row], node: NodeId) -> &'a [u8]
-    ensures { parts_units InText 0 result.now ≡ name_units text.now rows.now node }
+    ensures { chars_units InText 0 result.now ≡ name_units text.now rows.now node }
 {
     let Some(row) = rows.get(node.number()) else {
         return no_bytes();
@@ -82,7 +82,7 @@ fn name_bytes<'a>(text: &'a [u8], rows: &[Row], node: NodeId) -> &'a [u8]
 /// How many bytes both begin with, each of which stands for one unit in a text and in a token. To compare the others
 /// decides as to compare all.
 fn same_front(left: &[u8], right: &[u8], spelling: Spelling) -> usize
-    ensures { slice_cmp nat_cmp (parts_units InText 0 left.now) (parts_units spelling 0 right.now) ≡ slice_cmp nat_cmp (parts_units InText 0 (drop result left.now)) (parts_units spelling 0 (drop result right.now)) }
+    ensures { slice_cmp nat_cmp (chars_units InText 0 left.now) (chars_units spelling 0 right.now) ≡ slice_cmp nat_cmp (chars_units InText 0 (drop result left.now)) (chars_units spelling 0 (drop result right.now)) }
 {
     let mut at = 0;
     while at < left.len() && at < right.len() {
@@ -97,7 +97,7 @@ fn same_front(left: &[u8], right: &[u8], spelling: Spelling) -> usize
 
 /// The first byte, where it stands for one unit of its own in a text and in a token.
 fn first_plain(bytes: &[u8], spelling: Spelling) -> Option<u8>
-    ensures { IfSome result (λ unit. parts_units spelling 0 bytes.now ≡ unit ∷ parts_units spelling 0 (drop 1 bytes.now)) }
+    ensures { IfSome result (λ unit. chars_units spelling 0 bytes.now ≡ unit ∷ chars_units spelling 0 (drop 1 bytes.now)) }
 {
     match bytes {
         [byte, ..] if *byte < 0x80 && *byte != b'\\' && *byte != b'~' => Some(*byte),
@@ -106,9 +106,9 @@ fn first_plain(bytes: &[u8], spelling: Spelling) -> Option<u8>
 }
 
 /// What is left of two names behind the bytes with which both begin. The next bytes mostly decide.
-#[tactic(auto, unfolding(crate::specs::Units::parts_units))]
+#[tactic(auto, unfolding(crate::specs::Units::chars_units))]
 fn compare_rests(left: &[u8], right: &[u8], spelling: Spelling) -> Ordering
-    ensures { result ≡ slice_cmp nat_cmp (parts_units InText 0 left.now) (parts_units spelling 0 right.now) }
+    ensures { result ≡ slice_cmp nat_cmp (chars_units InText 0 left.now) (chars_units spelling 0 right.now) }
 {
     match (
         first_plain(left, Spelling::InText),
@@ -128,7 +128,7 @@ fn compare_rests(left: &[u8], right: &[u8], spelling: Spelling) -> Ordering
 
 /// A name against another name or a token, as they are spelt. Bytes decide as long as each of them stands for one unit.
 fn compare_bytes(name: &[u8], other: &[u8], spelling: Spelling) -> Ordering
-    ensures { result ≡ slice_cmp nat_cmp (parts_units InText 0 name.now) (parts_units spelling 0 other.now) }
+    ensures { result ≡ slice_cmp nat_cmp (chars_units InText 0 name.now) (chars_units spelling 0 other.now) }
 {
     let same = same_front(name, other, spelling);
     compare_rests(skip(name, same), skip(other, same), spelling)
@@ -147,7 +147,7 @@ pub(crate) fn compare_members(text: &[u8], rows: &[Row], first: NodeId, second: 
 
 /// A member's name against a token as a pointer spells it.
 pub(crate) fn compare_to_token(text: &[u8], rows: &[Row], node: NodeId, token: &[u8]) -> Ordering
-    ensures { result ≡ slice_cmp nat_cmp (name_units text.now rows.now node) (parts_units InToken 0 token.now) }
+    ensures { result ≡ slice_cmp nat_cmp (name_units text.now rows.now node) (chars_units InToken 0 token.now) }
 {
     compare_bytes(name_bytes(text, rows, node), token, Spelling::InToken)
 }

@@ -11,15 +11,16 @@ use Rattle.jx_lex.specs.declared.map.link.Link.TheVariants.{Ahead, State, Fault}
 use Rattle.jx_lex.specs.Moves.{move}
 use Rattle.jx_lex.specs.Lex.{Track, lex, with_mark, with_end, on_next}
 use Rattle.jx_lex.specs.Ordinal.{ordinal, all_states}
-use Rattle.jx_lex.specs.Follow.{Part, behind, follow, IsIn, AreIn, head, shifted, linked, linked_parts}
+use Rattle.jx_lex.specs.Follow.{SegmentValue, behind, follow, IsIn, AreIn, head, shifted, linked, linked_segments}
 use Rattle.jx_lex.specs.inside.Closed.{IsClosed, AreClosed}
-use Rattle.jx_lex.specs.inside.Step.{link_of, read_part, opening}
+use Rattle.jx_lex.specs.inside.Step.{link_of, read_segment, opening}
 use Rattle.jx_lex.specs.Map.{stored, MarksIn, ArePlaced, IsOf, IsLinked}
 use Rattle.jx_lex.specs.Shared.{has, held_after, begins, beginning, shared_from, after}
 use Rattle.jx_lex.specs.inside.Bundle.{Bundle, is_live, LiveAt, AllLive, Within, IsBundleOf, Stands, with_segment, with_exit, with_byte, more_live, is_quiet}
 use Rattle.jx_lex.proofs.ClassTable.{all_below, all_below-at}
-use Rattle.jx_lex.proofs.Joined.{ordinal-low, follow-shifted, head-map}
-use Rattle.jx_lex.proofs.Meeting.{same_ordinal, state-at}
+use Rattle.jx_lex.proofs.Joined.{follow-shifted, head-map}
+use Rattle.jx_lex.proofs.StateOrder.{ordinal-low}
+use Rattle.jx_lex.proofs.Meeting.{same_ordinal, state-read}
 use Rattle.jx_lex.proofs.Reading.{one, one-is, follow-read}
 use Rattle.jx_lex.proofs.Counting.{stored-append, has-after, has-all}
 use Rattle.jx_lex.proofs.Placing.{ArePlaced-append}
@@ -31,11 +32,11 @@ own at bytes live s = cond (is_live live s) (length ((lex s at bytes).marks)) 0
 -- the tracks from the first i states are there
 pub record Built (at : ℕ) (bytes : List ℕ) (live : List Bool) (i : ℕ) (b : Bundle) : Type 0 where
   pub all : length b.heads ≡ 32
-  pub heads : (s : LexState) → IsIn (length b.parts) (head b.heads s)
-  pub parts : AreIn b.parts
-  pub tracks : (s : LexState) → ordinal s < i → is_live live s ≡ true → follow b.parts (head b.heads s) ≡ lex s at bytes
-  pub counted : stored b.parts ≤ sum_by (own at bytes live) (take i all_states)
-  pub placed : ArePlaced at (at + length bytes) b.parts
+  pub heads : (s : LexState) → IsIn (length b.segments) (head b.heads s)
+  pub segments : AreIn b.segments
+  pub tracks : (s : LexState) → ordinal s < i → is_live live s ≡ true → follow b.segments (head b.heads s) ≡ lex s at bytes
+  pub counted : stored b.segments ≤ sum_by (own at bytes live) (take i all_states)
+  pub placed : ArePlaced at (at + length bytes) b.segments
 
 -- ---- a head is set
 
@@ -64,13 +65,13 @@ IsIn-more n m (Ahead k) le h = omega (arith, le, h)
 IsIn-more n m (State s) le h = tt
 IsIn-more n m (Fault at) le h = tt
 
-AreIn-append : (ps qs : List Part) → AreIn ps → AreIn qs → AreIn (ps ++ qs)
+AreIn-append : (ps qs : List SegmentValue) → AreIn ps → AreIn qs → AreIn (ps ++ qs)
 AreIn-append [] qs w v = v
 AreIn-append (p ∷ ps) qs w v =
     let e = length-append ps qs in
     (IsIn-more (length ps) (length (ps ++ qs)) p.next (omega (arith, e)) w.0, AreIn-append ps qs w.1 v)
 
-follow-append : (ps qs : List Part) (g : Link) → IsIn (length ps) g → AreIn ps → follow (ps ++ qs) g ≡ follow ps g
+follow-append : (ps qs : List SegmentValue) (g : Link) → IsIn (length ps) g → AreIn ps → follow (ps ++ qs) g ≡ follow ps g
 unfolding follow
 follow-append ps qs (State s) h w = refl
 follow-append ps qs (Fault at) h w = refl
@@ -78,7 +79,7 @@ follow-append [] qs (Ahead k) h w = absurd (omega (arith, h))
 follow-append (p ∷ ps) qs (Ahead zero) h w = ap (behind p) (follow-append ps qs p.next w.0 w.1)
 follow-append (p ∷ ps) qs (Ahead (suc k)) h w = follow-append ps qs (Ahead k) (omega (arith, h)) w.1
 
-follow-last : (ps : List Part) (p : Part) → follow (ps ++ p ∷ []) (Ahead (length ps)) ≡ follow (p ∷ []) (Ahead 0)
+follow-last : (ps : List SegmentValue) (p : SegmentValue) → follow (ps ++ p ∷ []) (Ahead (length ps)) ≡ follow (p ∷ []) (Ahead 0)
 follow-last ps p =
     let e : length ps ≡ length ps + 0 = omega arith in
     ap (λ n. follow (ps ++ p ∷ []) (Ahead n)) e ∙ follow-shifted ps (p ∷ []) (Ahead 0)
@@ -86,41 +87,41 @@ follow-last ps p =
 -- ---- the steps
 
 sum-more : (f : LexState → ℕ) (s : LexState) → sum_by f (take (ordinal s + 1) all_states) ≡ sum_by f (take (ordinal s) all_states) + f s
-sum-more f s = sum_by_more f all_states (ordinal s) state.Gap (ordinal-low s) ∙ ap (λ t. sum_by f (take (ordinal s) all_states) + f t) (state-at s)
+sum-more f s = sum_by_more f all_states (ordinal s) state.Gap (ordinal-low s) ∙ ap (λ t. sum_by f (take (ordinal s) all_states) + f t) (state-read s)
 
-pub Built-segment : (at : ℕ) (bytes : List ℕ) (live more : List Bool) (s : LexState) (p : Part) (b : Bundle)
+pub Built-segment : (at : ℕ) (bytes : List ℕ) (live more : List Bool) (s : LexState) (p : SegmentValue) (b : Bundle)
     → is_live live s ≡ true → IsIn 0 p.next → follow (p ∷ []) (Ahead 0) ≡ lex s at bytes → length p.marks ≡ length ((lex s at bytes).marks) → MarksIn at (at + length bytes) p.marks
     → Built at bytes live (ordinal s) b → Built at bytes live (ordinal s + 1) (with_segment s p more b)
 Built-segment at bytes live more s p b l out is long place h =
-    let n : length (b.parts ++ p ∷ []) ≡ length b.parts + 1 = length-append b.parts (p ∷ []) in
+    let n : length (b.segments ++ p ∷ []) ≡ length b.segments + 1 = length-append b.segments (p ∷ []) in
     record {
-      all = length-set b.heads (ordinal s) (Ahead (length b.parts)) ∙ h.all;
-      heads = λ u. head-set (IsIn (length (b.parts ++ p ∷ []))) b.heads s u (Ahead (length b.parts)) h.all
+      all = length-set b.heads (ordinal s) (Ahead (length b.segments)) ∙ h.all;
+      heads = λ u. head-set (IsIn (length (b.segments ++ p ∷ []))) b.heads s u (Ahead (length b.segments)) h.all
           (λ e. omega (arith, n))
-          (λ e. IsIn-more (length b.parts) (length (b.parts ++ p ∷ [])) (head b.heads u) (omega (arith, n)) (h.heads u));
-      parts = AreIn-append b.parts (p ∷ []) h.parts (out, tt);
-      tracks = λ u low u_live. head-set (λ g. follow (b.parts ++ p ∷ []) g ≡ lex u at bytes) b.heads s u (Ahead (length b.parts)) h.all
-          (λ e. follow-last b.parts p ∙ is ∙ ap (λ t. lex t at bytes) (sym e))
-          (λ e. follow-append b.parts (p ∷ []) (head b.heads u) (h.heads u) h.parts ∙ h.tracks u (omega (arith, low, e)) u_live);
+          (λ e. IsIn-more (length b.segments) (length (b.segments ++ p ∷ [])) (head b.heads u) (omega (arith, n)) (h.heads u));
+      segments = AreIn-append b.segments (p ∷ []) h.segments (out, tt);
+      tracks = λ u low u_live. head-set (λ g. follow (b.segments ++ p ∷ []) g ≡ lex u at bytes) b.heads s u (Ahead (length b.segments)) h.all
+          (λ e. follow-last b.segments p ∙ is ∙ ap (λ t. lex t at bytes) (sym e))
+          (λ e. follow-append b.segments (p ∷ []) (head b.heads u) (h.heads u) h.segments ∙ h.tracks u (omega (arith, low, e)) u_live);
       counted =
-          let a = stored-append b.parts (p ∷ []) in
+          let a = stored-append b.segments (p ∷ []) in
           let c = h.counted in
           let d = sum-more (own at bytes live) s in
           let o : own at bytes live s ≡ length ((lex s at bytes).marks) = ap (λ t. cond t (length ((lex s at bytes).marks)) 0) l in
           omega (arith, a, c, d, o, long);
-      placed = ArePlaced-append at (at + length bytes) b.parts (p ∷ []) h.placed (place, tt);
+      placed = ArePlaced-append at (at + length bytes) b.segments (p ∷ []) h.placed (place, tt);
     }
 
 pub Built-exit : (at : ℕ) (bytes : List ℕ) (live more : List Bool) (s : LexState) (g : Link) (b : Bundle)
-    → IsIn 0 g → ((ps : List Part) → follow ps g ≡ lex s at bytes)
+    → IsIn 0 g → ((ps : List SegmentValue) → follow ps g ≡ lex s at bytes)
     → Built at bytes live (ordinal s) b → Built at bytes live (ordinal s + 1) (with_exit s g more b)
 Built-exit at bytes live more s g b out is h =
     record {
       all = length-set b.heads (ordinal s) g ∙ h.all;
-      heads = λ u. head-set (IsIn (length b.parts)) b.heads s u g h.all (λ e. IsIn-more 0 (length b.parts) g (omega arith) out) (λ e. h.heads u);
-      parts = h.parts;
-      tracks = λ u low u_live. head-set (λ g. follow b.parts g ≡ lex u at bytes) b.heads s u g h.all
-          (λ e. is b.parts ∙ ap (λ t. lex t at bytes) (sym e))
+      heads = λ u. head-set (IsIn (length b.segments)) b.heads s u g h.all (λ e. IsIn-more 0 (length b.segments) g (omega arith) out) (λ e. h.heads u);
+      segments = h.segments;
+      tracks = λ u low u_live. head-set (λ g. follow b.segments g ≡ lex u at bytes) b.heads s u g h.all
+          (λ e. is b.segments ∙ ap (λ t. lex t at bytes) (sym e))
           (λ e. h.tracks u (omega (arith, low, e)) u_live);
       counted = let c = h.counted in let d = sum-more (own at bytes live) s in omega (arith, c, d);
       placed = h.placed;
@@ -133,13 +134,13 @@ Built-none at bytes live s b l h =
     record {
       all = h.all;
       heads = h.heads;
-      parts = h.parts;
+      segments = h.segments;
       tracks = λ u low u_live. go u low u_live (ordinal u == ordinal s) refl;
       counted = let c = h.counted in let d = sum-more (own at bytes live) s in omega (arith, c, d);
       placed = h.placed;
     }
   where
-    go : (u : LexState) → ordinal u < ordinal s + 1 → is_live live u ≡ true → (c : Bool) → (ordinal u == ordinal s) ≡ c → follow b.parts (head b.heads u) ≡ lex u at bytes
+    go : (u : LexState) → ordinal u < ordinal s + 1 → is_live live u ≡ true → (c : Bool) → (ordinal u == ordinal s) ≡ c → follow b.segments (head b.heads u) ≡ lex u at bytes
     go u low u_live true e =
         let n : ordinal u ≡ ordinal s = grind (arith, e) in
         let i : u ≡ s = same_ordinal u s n in
@@ -153,12 +154,12 @@ no-heads : (s : LexState) → head (replicate 32 (Fault 0)) s ≡ Fault 0
 no-heads s = get_or-replicate 32 (ordinal s) (Fault 0) (Fault 0) (ordinal-low s)
 
 -- before the first state
-pub Built-start : (at : ℕ) (bytes : List ℕ) (live more : List Bool) → Built at bytes live 0 (record { heads = replicate 32 (Fault 0); parts = []; live = more })
+pub Built-start : (at : ℕ) (bytes : List ℕ) (live more : List Bool) → Built at bytes live 0 (record { heads = replicate 32 (Fault 0); segments = []; live = more })
 Built-start at bytes live more =
     record {
       all = refl;
       heads = λ s. subst (IsIn 0) (sym (no-heads s)) tt;
-      parts = tt;
+      segments = tt;
       tracks = λ s low l. absurd (omega (arith, low));
       counted = omega arith;
       placed = tt;
@@ -166,7 +167,7 @@ Built-start at bytes live more =
 
 -- ---- one byte
 
-pub follow-one : (at byte : ℕ) (s : LexState) → follow (read_part at byte (opening s) ∷ []) (Ahead 0) ≡ lex s at (byte ∷ [])
+pub follow-one : (at byte : ℕ) (s : LexState) → follow (read_segment at byte (opening s) ∷ []) (Ahead 0) ≡ lex s at (byte ∷ [])
 unfolding follow
 follow-one at byte s = follow-read at byte (opening s ∷ []) 0 (omega arith) (tt, tt) ∙ no-start (one at byte s)
   where
@@ -177,7 +178,7 @@ IsIn-link_of : (at : ℕ) (m : Option LexState) → IsIn 0 (link_of at m)
 IsIn-link_of at None = tt
 IsIn-link_of at (Some s) = tt
 
-marks-one : (at byte : ℕ) (s : LexState) → length ((read_part at byte (opening s)).marks) ≡ length ((lex s at (byte ∷ [])).marks)
+marks-one : (at byte : ℕ) (s : LexState) → length ((read_segment at byte (opening s)).marks) ≡ length ((lex s at (byte ∷ [])).marks)
 marks-one at byte s = ap (λ (t : Track). length t.marks) (sym (one-is at byte s))
 
 MarksIn-one : (at : ℕ) (m : Option MarkKind) → MarksIn at (at + 1) ([] ++ with_mark m at [])
@@ -185,7 +186,7 @@ MarksIn-one at None = tt
 MarksIn-one at (Some k) = (omega arith, omega arith, tt)
 
 -- a byte with no event leads straight to the next state
-quiet-one : (at byte : ℕ) (s : LexState) → is_quiet (move s byte) ≡ true → (ps : List Part) → follow ps (link_of at ((move s byte).next)) ≡ lex s at (byte ∷ [])
+quiet-one : (at byte : ℕ) (s : LexState) → is_quiet (move s byte) ≡ true → (ps : List SegmentValue) → follow ps (link_of at ((move s byte).next)) ≡ lex s at (byte ∷ [])
 unfolding follow lex
 quiet-one at byte s q ps = go ((move s byte).end) ((move s byte).begin) ((move s byte).next) q ∙ sym (one-is at byte s)
   where
@@ -202,9 +203,9 @@ Built-byte at byte live s b l h = go (is_quiet (move s byte)) refl
   where
     go : (q : Bool) → is_quiet (move s byte) ≡ q → Built at (byte ∷ []) live (ordinal s + 1)
         (if q then with_exit s (link_of at ((move s byte).next)) (more_live ((move s byte).next) b.live) b
-        else with_segment s (read_part at byte (opening s)) (more_live ((move s byte).next) b.live) b)
+        else with_segment s (read_segment at byte (opening s)) (more_live ((move s byte).next) b.live) b)
     go true q = Built-exit at (byte ∷ []) live _ s (link_of at ((move s byte).next)) b (IsIn-link_of at ((move s byte).next)) (quiet-one at byte s q) h
-    go false q = Built-segment at (byte ∷ []) live _ s (read_part at byte (opening s)) b l (IsIn-link_of at ((move s byte).next)) (follow-one at byte s) (marks-one at byte s) (MarksIn-one at ((move s byte).begin)) h
+    go false q = Built-segment at (byte ∷ []) live _ s (read_segment at byte (opening s)) b l (IsIn-link_of at ((move s byte).next)) (follow-one at byte s) (marks-one at byte s) (MarksIn-one at ((move s byte).begin)) h
 
 own-le : (at byte : ℕ) (live : List Bool) (held : List LexState) → Within live held → (s : LexState) → own at (byte ∷ []) live s ≤ cond (has s held && begins byte s) 1 0
 own-le at byte live held w s = go (is_live live s) refl
@@ -226,10 +227,10 @@ Reads-built at byte live b h =
     record {
       all = h.all;
       heads = h.heads;
-      parts = h.parts;
+      segments = h.segments;
       tracks = λ s. h.tracks s (ordinal-low s);
       counted = λ held w.
-          let c : stored b.parts ≤ sum_by (own at (byte ∷ []) live) all_states = h.counted in
+          let c : stored b.segments ≤ sum_by (own at (byte ∷ []) live) all_states = h.counted in
           let d : sum_by (own at (byte ∷ []) live) all_states ≤ beginning byte held =
           sum_by-le-sum_by (own at (byte ∷ []) live) (λ s. cond (has s held && begins byte s) 1 0) all_states (own-le at byte live held w) in
           omega (arith, c, d);
@@ -261,10 +262,10 @@ Reads-open at live b h =
     record {
       all = h.all;
       heads = h.heads;
-      parts = h.parts;
+      segments = h.segments;
       tracks = λ s. h.tracks s (ordinal-low s);
       counted = λ held w.
-          let c : stored b.parts ≤ sum_by (own at [] live) all_states = h.counted in
+          let c : stored b.segments ≤ sum_by (own at [] live) all_states = h.counted in
           let d : sum_by (own at [] live) all_states ≤ sum_by (λ s. 0) all_states = sum_by-le-sum_by (own at [] live) (λ s. 0) all_states (own-none at live) in
           omega (arith, c, d);
       placed = h.placed;
@@ -313,11 +314,11 @@ LiveAt-more m live (State s) all l = live-more m live s all l
 LiveAt-more m live (Ahead k) all l = tt
 LiveAt-more m live (Fault at) all l = tt
 
-pub AllLive-more : (m : Option LexState) (live : List Bool) (ps : List Part) → length live ≡ 32 → AllLive live ps → AllLive (more_live m live) ps
+pub AllLive-more : (m : Option LexState) (live : List Bool) (ps : List SegmentValue) → length live ≡ 32 → AllLive live ps → AllLive (more_live m live) ps
 AllLive-more m live [] all l = tt
 AllLive-more m live (p ∷ ps) all l = (LiveAt-more m live p.next all l.0, AllLive-more m live ps all l.1)
 
-pub AllLive-append : (live : List Bool) (ps qs : List Part) → AllLive live ps → AllLive live qs → AllLive live (ps ++ qs)
+pub AllLive-append : (live : List Bool) (ps qs : List SegmentValue) → AllLive live ps → AllLive live qs → AllLive live (ps ++ qs)
 AllLive-append live [] qs l k = k
 AllLive-append live (p ∷ ps) qs l k = (l.0, AllLive-append live ps qs l.1 k)
 
@@ -345,23 +346,23 @@ Stands-byte at byte live s b heads l h = go (is_quiet (move s byte))
 
     go : (q : Bool) → Stands (byte ∷ []) live
         (if q then with_exit s (link_of at ((move s byte).next)) (more_live ((move s byte).next) b.live) b
-        else with_segment s (read_part at byte (opening s)) (more_live ((move s byte).next) b.live) b)
+        else with_segment s (read_segment at byte (opening s)) (more_live ((move s byte).next) b.live) b)
     go true =
         record {
           all = length-more ((move s byte).next) b.live ∙ h.all;
           heads = λ u. head-set (LiveAt (more_live ((move s byte).next) b.live)) b.heads s u (link_of at ((move s byte).next)) heads
               (λ e. LiveAt-link_of at ((move s byte).next) b.live h.all)
               (λ e. LiveAt-more ((move s byte).next) b.live (head b.heads u) h.all (h.heads u));
-          parts = AllLive-more ((move s byte).next) b.live b.parts h.all h.parts;
+          segments = AllLive-more ((move s byte).next) b.live b.segments h.all h.segments;
           held = λ held w. held-more byte live b.live s l h.all ((move s byte).next) refl held w (h.held held w);
         }
     go false =
         record {
           all = length-more ((move s byte).next) b.live ∙ h.all;
-          heads = λ u. head-set (LiveAt (more_live ((move s byte).next) b.live)) b.heads s u (Ahead (length b.parts)) heads
+          heads = λ u. head-set (LiveAt (more_live ((move s byte).next) b.live)) b.heads s u (Ahead (length b.segments)) heads
               (λ e. tt)
               (λ e. LiveAt-more ((move s byte).next) b.live (head b.heads u) h.all (h.heads u));
-          parts = AllLive-append (more_live ((move s byte).next) b.live) b.parts (read_part at byte (opening s) ∷ []) (AllLive-more ((move s byte).next) b.live b.parts h.all h.parts)
+          segments = AllLive-append (more_live ((move s byte).next) b.live) b.segments (read_segment at byte (opening s) ∷ []) (AllLive-more ((move s byte).next) b.live b.segments h.all h.segments)
               (LiveAt-link_of at ((move s byte).next) b.live h.all, tt);
           held = λ held w. held-more byte live b.live s l h.all ((move s byte).next) refl held w (h.held held w);
         }
@@ -378,12 +379,12 @@ none-live : (u : LexState) → is_live (replicate 32 false) u ≡ true → ⊥
 none-live u l = let e : is_live (replicate 32 false) u ≡ false = get_or-replicate 32 (ordinal u) false false (ordinal-low u) in absurd cc
 
 -- no state is live yet
-pub Stands-start : (bytes : List ℕ) (live : List Bool) → Stands bytes live (record { heads = replicate 32 (Fault 0); parts = []; live = replicate 32 false })
+pub Stands-start : (bytes : List ℕ) (live : List Bool) → Stands bytes live (record { heads = replicate 32 (Fault 0); segments = []; live = replicate 32 false })
 Stands-start bytes live =
     record {
       all = refl;
       heads = λ s. subst (LiveAt (replicate 32 false)) (sym (no-heads s)) tt;
-      parts = tt;
+      segments = tt;
       held = λ held w u l. absurd (none-live u l);
     }
 
@@ -393,14 +394,14 @@ pub record Opened (live : List Bool) (i : ℕ) (b : Bundle) : Type 0 where
   pub built : (at : ℕ) → Built at [] live i b
   pub stands : Stands [] live b
   pub closed : (s : LexState) → IsClosed (head b.heads s)
-  pub count : length b.parts ≡ count_by (is_live live) (take i all_states)
+  pub count : length b.segments ≡ count_by (is_live live) (take i all_states)
   pub same : b.live ≡ live
 
-pub Opened-start : (live : List Bool) → length live ≡ 32 → Opened live 0 (record { heads = replicate 32 (Fault 0); parts = []; live = live })
+pub Opened-start : (live : List Bool) → length live ≡ 32 → Opened live 0 (record { heads = replicate 32 (Fault 0); segments = []; live = live })
 Opened-start live all =
     record {
       built = λ at. Built-start at [] live live;
-      stands = record { all = all; heads = λ s. subst (LiveAt live) (sym (no-heads s)) tt; parts = tt; held = λ held w. w };
+      stands = record { all = all; heads = λ s. subst (LiveAt live) (sym (no-heads s)) tt; segments = tt; held = λ held w. w };
       closed = λ s. subst IsClosed (sym (no-heads s)) tt;
       count = refl;
       same = refl;
@@ -423,14 +424,14 @@ Opened-where live i s b e h = subst (λ n. Opened live (n + 1) (if is_live live 
           stands =
               record {
                 all = h.stands.all;
-                heads = λ u. head-set (LiveAt b.live) b.heads s u (Ahead (length b.parts)) all_heads (λ q. tt) (λ q. h.stands.heads u);
-                parts = AllLive-append b.live b.parts (opening s ∷ []) h.stands.parts (subst (λ x. is_live x s ≡ true) (sym h.same) l, tt);
+                heads = λ u. head-set (LiveAt b.live) b.heads s u (Ahead (length b.segments)) all_heads (λ q. tt) (λ q. h.stands.heads u);
+                segments = AllLive-append b.live b.segments (opening s ∷ []) h.stands.segments (subst (λ x. is_live x s ≡ true) (sym h.same) l, tt);
                 held = h.stands.held;
               };
-          closed = λ u. head-set IsClosed b.heads s u (Ahead (length b.parts)) all_heads (λ q. tt) (λ q. h.closed u);
+          closed = λ u. head-set IsClosed b.heads s u (Ahead (length b.segments)) all_heads (λ q. tt) (λ q. h.closed u);
           count =
-              let a = length-append b.parts (opening s ∷ []) in
-              let k = count_by_more_yes (is_live live) all_states (ordinal s) state.Gap (ordinal-low s) (ap (is_live live) (state-at s) ∙ l) in
+              let a = length-append b.segments (opening s ∷ []) in
+              let k = count_by_more_yes (is_live live) all_states (ordinal s) state.Gap (ordinal-low s) (ap (is_live live) (state-read s) ∙ l) in
               let c = here.count in
               omega (arith, a, k, c);
           same = h.same;
@@ -441,7 +442,7 @@ Opened-where live i s b e h = subst (λ n. Opened live (n + 1) (if is_live live 
           stands = h.stands;
           closed = h.closed;
           count =
-              let k = count_by_more_no (is_live live) all_states (ordinal s) state.Gap (ordinal-low s) (ap (is_live live) (state-at s) ∙ l) in
+              let k = count_by_more_no (is_live live) all_states (ordinal s) state.Gap (ordinal-low s) (ap (is_live live) (state-read s) ∙ l) in
               here.count ∙ sym k;
           same = h.same;
         }
@@ -449,29 +450,29 @@ Opened-where live i s b e h = subst (λ n. Opened live (n + 1) (if is_live live 
 -- ---- nothing read, from every state
 
 head-exit : (s : LexState) → head (map State all_states) s ≡ State s
-head-exit s = get_or-map State all_states (ordinal s) state.Gap (Fault 0) (ordinal-low s) ∙ ap State (state-at s)
+head-exit s = get_or-map State all_states (ordinal s) state.Gap (Fault 0) (ordinal-low s) ∙ ap State (state-read s)
 
 pub every-live : (s : LexState) → is_live (replicate 32 true) s ≡ true
 every-live s = get_or-replicate 32 (ordinal s) true false (ordinal-low s)
 
-pub Reads-unread : (at : ℕ) → IsBundleOf at [] (replicate 32 true) (record { heads = map State all_states; parts = []; live = replicate 32 true })
+pub Reads-unread : (at : ℕ) → IsBundleOf at [] (replicate 32 true) (record { heads = map State all_states; segments = []; live = replicate 32 true })
 unfolding shared_from follow lex
 Reads-unread at =
     record {
       all = refl;
       heads = λ s. subst (IsIn 0) (sym (head-exit s)) tt;
-      parts = tt;
+      segments = tt;
       tracks = λ s l. ap (follow []) (head-exit s);
       counted = λ held w. omega arith;
       placed = tt;
     }
 
-pub Stands-unread : Stands [] (replicate 32 true) (record { heads = map State all_states; parts = []; live = replicate 32 true })
+pub Stands-unread : Stands [] (replicate 32 true) (record { heads = map State all_states; segments = []; live = replicate 32 true })
 Stands-unread =
     record {
       all = refl;
       heads = λ s. subst (LiveAt (replicate 32 true)) (sym (head-exit s)) (every-live s);
-      parts = tt;
+      segments = tt;
       held = λ held w. w;
     }
 
@@ -481,11 +482,11 @@ pub shared-all : (bytes : List ℕ) → Within (replicate 32 true) all_states
 shared-all bytes s l = has-all s
 
 pub IsOf-reads : (start end : ℕ) (bytes : List ℕ) (b : Bundle) → end ≡ start + length bytes → IsBundleOf start bytes (replicate 32 true) b
-    → IsOf bytes (record { start = start; end = end; heads = b.heads; parts = b.parts })
+    → IsOf bytes (record { start = start; end = end; heads = b.heads; segments = b.segments })
 IsOf-reads start end bytes b long r = record { long = long; tracks = λ s. r.tracks s (every-live s) }
 
-pub IsWhole-reads : (start end : ℕ) (bytes : List ℕ) (live : List Bool) (b : Bundle) → IsBundleOf start bytes live b → IsLinked (record { start = start; end = end; heads = b.heads; parts = b.parts })
-IsWhole-reads start end bytes live b r = record { all = r.all; heads = r.heads; parts = r.parts }
+pub IsWhole-reads : (start end : ℕ) (bytes : List ℕ) (live : List Bool) (b : Bundle) → IsBundleOf start bytes live b → IsLinked (record { start = start; end = end; heads = b.heads; segments = b.segments })
+IsWhole-reads start end bytes live b r = record { all = r.all; heads = r.heads; segments = r.segments }
 
 closed-link : (heads : List Link) (n : ℕ) (g : Link) → ((s : LexState) → IsClosed (head heads s)) → IsClosed (linked heads n g)
 closed-link heads n (Ahead k) all = tt
@@ -499,10 +500,10 @@ closed-link heads n (State s) all = closed-shift n (head heads s) (all s)
 
 -- where no track of the right side leads out in a state
 pub AreClosed-bundle : (l r : Bundle) → length l.heads ≡ 32 → ((s : LexState) → IsClosed (head r.heads s))
-    → AreClosed 0 (map (linked r.heads (length l.parts)) l.heads) (linked_parts r.heads l.parts ++ r.parts)
+    → AreClosed 0 (map (linked r.heads (length l.segments)) l.heads) (linked_segments r.heads l.segments ++ r.segments)
 AreClosed-bundle l r all closed =
     record {
       within = omega arith;
-      all = λ s. subst IsClosed (sym (head-map (linked r.heads (length l.parts)) l.heads s all)) (closed-link r.heads (length l.parts) (head l.heads s) closed);
-      parts = tt;
+      all = λ s. subst IsClosed (sym (head-map (linked r.heads (length l.segments)) l.heads s all)) (closed-link r.heads (length l.segments) (head l.heads s) closed);
+      segments = tt;
     }

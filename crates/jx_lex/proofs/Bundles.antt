@@ -5,17 +5,17 @@ use Rattle.jx_lex.specs.declared.alphabet.state.LexState.{LexState}
 use Rattle.jx_lex.specs.declared.map.link.Link.{Link}
 use Rattle.jx_lex.specs.declared.map.link.Link.TheVariants.{Ahead, State, Fault}
 use Rattle.jx_lex.specs.Lex.{Track, LexExit, lex}
-use Rattle.jx_lex.specs.Follow.{Part, follow, IsIn, AreIn, head, shifted, linked, linked_parts}
+use Rattle.jx_lex.specs.Follow.{SegmentValue, follow, IsIn, AreIn, head, shifted, linked, linked_segments}
 use Rattle.jx_lex.specs.Shared.{has, held_after, shared_from, after}
 use Rattle.jx_lex.specs.inside.Bundle.{Bundle, is_live, LiveAt, AllLive, IsBundleOf, Stands, joined_bundle}
-use Rattle.jx_lex.specs.TwoParts.{joined, right_of}
+use Rattle.jx_lex.specs.TwoPieces.{joined, right_of}
 use Rattle.jx_lex.proofs.LexJoin.{lex-append}
 use Rattle.jx_lex.proofs.Joined.{head-map, follow-linked, IsIn-linked, AreIn-linked, length-linked}
 use Rattle.jx_lex.proofs.Counting.{stored-append, stored-linked}
 use Rattle.jx_lex.proofs.Placing.{ArePlaced-wider, ArePlaced-append, ArePlaced-linked}
 
 -- a track that ends in a state ends in a live one
-pub exit-live : (live : List Bool) (ps : List Part) (g : Link) → LiveAt live g → AllLive live ps → IsIn (length ps) g → AreIn ps
+pub exit-live : (live : List Bool) (ps : List SegmentValue) (g : Link) → LiveAt live g → AllLive live ps → IsIn (length ps) g → AreIn ps
     → (s : LexState) → (follow ps g).exit ≡ LexExit.state s → is_live live s ≡ true
 unfolding follow
 exit-live live ps (State t) l ls h w s e = let i : t ≡ s = cc in subst (λ x. is_live live x ≡ true) i l
@@ -45,31 +45,31 @@ pub Reads-joined : (at from : ℕ) (u w : List ℕ) (live : List Bool) (l r : Bu
     → IsBundleOf at u live l → Stands u live l → IsBundleOf from w l.live r → IsBundleOf at (u ++ w) live (joined_bundle l r)
 Reads-joined at from u w live l r here rl sl rr =
     record {
-      all = length-map l.heads (linked r.heads (length l.parts)) ∙ rl.all;
-      heads = λ s. rw (head-map (linked r.heads (length l.parts)) l.heads s rl.all) (subst (λ n. IsIn n (linked r.heads (length l.parts) (head l.heads s)))
-          (sym (length-append (linked_parts r.heads l.parts) r.parts ∙ ap (λ n. n + length r.parts) (length-linked r.heads l.parts)))
-          (IsIn-linked r.heads (length l.parts) (length r.parts) (head l.heads s) rr.heads (rl.heads s)));
-      parts = AreIn-linked r.heads l.parts r.parts rr.heads rl.parts rr.parts;
+      all = length-map l.heads (linked r.heads (length l.segments)) ∙ rl.all;
+      heads = λ s. rw (head-map (linked r.heads (length l.segments)) l.heads s rl.all) (subst (λ n. IsIn n (linked r.heads (length l.segments) (head l.heads s)))
+          (sym (length-append (linked_segments r.heads l.segments) r.segments ∙ ap (λ n. n + length r.segments) (length-linked r.heads l.segments)))
+          (IsIn-linked r.heads (length l.segments) (length r.segments) (head l.heads s) rr.heads (rl.heads s)));
+      segments = AreIn-linked r.heads l.segments r.segments rr.heads rl.segments rr.segments;
       tracks = λ s live_s.
-          ap (follow (linked_parts r.heads l.parts ++ r.parts)) (head-map (linked r.heads (length l.parts)) l.heads s rl.all)
-          ∙ follow-linked r.heads r.parts l.parts (head l.heads s) (rl.heads s) rl.parts
-          ∙ joined-at-exit (follow l.parts (head l.heads s)) (λ t. follow r.parts (head r.heads t)) (λ t. lex t from w)
-          (λ t e. rr.tracks t (exit-live l.live l.parts (head l.heads s) (sl.heads s) sl.parts (rl.heads s) rl.parts t e))
+          ap (follow (linked_segments r.heads l.segments ++ r.segments)) (head-map (linked r.heads (length l.segments)) l.heads s rl.all)
+          ∙ follow-linked r.heads r.segments l.segments (head l.heads s) (rl.heads s) rl.segments
+          ∙ joined-at-exit (follow l.segments (head l.heads s)) (λ t. follow r.segments (head r.heads t)) (λ t. lex t from w)
+          (λ t e. rr.tracks t (exit-live l.live l.segments (head l.heads s) (sl.heads s) sl.segments (rl.heads s) rl.segments t e))
           ∙ ap (λ t. joined t (λ x. lex x from w)) (rl.tracks s live_s)
           ∙ ap (λ n. joined (lex s at u) (λ x. lex x n w)) here
           ∙ sym (lex-append u w s at);
       counted = λ held h.
-          let a = stored-append (linked_parts r.heads l.parts) r.parts in
-          let b = stored-linked r.heads l.parts in
+          let a = stored-append (linked_segments r.heads l.segments) r.segments in
+          let b = stored-linked r.heads l.segments in
           let c = rl.counted held h in
           let d = rr.counted (after held u) (sl.held held h) in
           let e = shared-join held u w in
           omega (arith, a, b, c, d, e);
       placed =
           let n = length-append u w in
-          ArePlaced-append at (at + length (u ++ w)) (linked_parts r.heads l.parts) r.parts
-          (ArePlaced-linked r.heads at (at + length (u ++ w)) l.parts (ArePlaced-wider at (at + length u) at (at + length (u ++ w)) l.parts (omega arith) (omega (arith, n)) rl.placed))
-          (ArePlaced-wider from (from + length w) at (at + length (u ++ w)) r.parts (omega (arith, here)) (omega (arith, here, n)) rr.placed);
+          ArePlaced-append at (at + length (u ++ w)) (linked_segments r.heads l.segments) r.segments
+          (ArePlaced-linked r.heads at (at + length (u ++ w)) l.segments (ArePlaced-wider at (at + length u) at (at + length (u ++ w)) l.segments (omega arith) (omega (arith, n)) rl.placed))
+          (ArePlaced-wider from (from + length w) at (at + length (u ++ w)) r.segments (omega (arith, here)) (omega (arith, here, n)) rr.placed);
     }
 
 LiveAt-shifted : (live : List Bool) (n : ℕ) (g : Link) → LiveAt live g → LiveAt live (shifted n g)
@@ -82,8 +82,8 @@ LiveAt-linked live heads n (Ahead k) all = tt
 LiveAt-linked live heads n (State s) all = LiveAt-shifted live n (head heads s) (all s)
 LiveAt-linked live heads n (Fault at) all = tt
 
-AllLive-joined : (live : List Bool) (heads : List Link) (ps qs : List Part) → ((s : LexState) → LiveAt live (head heads s)) → AllLive live qs
-    → AllLive live (linked_parts heads ps ++ qs)
+AllLive-joined : (live : List Bool) (heads : List Link) (ps qs : List SegmentValue) → ((s : LexState) → LiveAt live (head heads s)) → AllLive live qs
+    → AllLive live (linked_segments heads ps ++ qs)
 AllLive-joined live heads [] qs all h = h
 AllLive-joined live heads (p ∷ ps) qs all h = (LiveAt-linked live heads (length ps) p.next all, AllLive-joined live heads ps qs all h)
 
@@ -92,7 +92,7 @@ pub Stands-joined : (u w : List ℕ) (live : List Bool) (l r : Bundle) → lengt
 Stands-joined u w live l r all sl sr =
     record {
       all = sr.all;
-      heads = λ s. subst (LiveAt r.live) (sym (head-map (linked r.heads (length l.parts)) l.heads s all)) (LiveAt-linked r.live r.heads (length l.parts) (head l.heads s) sr.heads);
-      parts = AllLive-joined r.live r.heads l.parts r.parts sr.heads sr.parts;
+      heads = λ s. subst (LiveAt r.live) (sym (head-map (linked r.heads (length l.segments)) l.heads s all)) (LiveAt-linked r.live r.heads (length l.segments) (head l.heads s) sr.heads);
+      segments = AllLive-joined r.live r.heads l.segments r.segments sr.heads sr.segments;
       held = λ held h s e. subst (λ hs. has s hs ≡ true) (sym (after-join held u w)) (sr.held (after held u) (sl.held held h) s e);
     }

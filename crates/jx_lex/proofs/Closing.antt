@@ -4,7 +4,7 @@ use Rattle.std.proofs.lemmas.List.{take-append-drop}
 use Rattle.jx_lex.specs.declared.alphabet.state.LexState.{LexState}
 use Rattle.jx_lex.specs.declared.map.link.Link.{Link}
 use Rattle.jx_lex.specs.declared.map.link.Link.TheVariants.{Ahead, State, Fault}
-use Rattle.jx_lex.specs.Follow.{Part, head, shifted, linked, linked_parts}
+use Rattle.jx_lex.specs.Follow.{SegmentValue, head, shifted, linked, linked_segments}
 use Rattle.jx_lex.specs.inside.Closed.{IsClosed, ClosedTo, AreClosed}
 use Rattle.jx_lex.proofs.Joined.{head-map, length-linked}
 
@@ -13,14 +13,14 @@ closed-same heads n (Ahead k) h = refl
 closed-same heads n (Fault at) h = refl
 closed-same heads n (State s) h = absurd h
 
-closed-take : (heads : List Link) (k : ℕ) (ps : List Part) → ClosedTo k ps → take k (linked_parts heads ps) ≡ take k ps
+closed-take : (heads : List Link) (k : ℕ) (ps : List SegmentValue) → ClosedTo k ps → take k (linked_segments heads ps) ≡ take k ps
 closed-take heads zero ps h = refl
 closed-take heads (suc k) [] h = refl
 closed-take heads (suc k) (p ∷ ps) h =
-    ap (λ (g : Link). record p { next = g } ∷ take k (linked_parts heads ps)) (closed-same heads (length ps) p.next h.0)
-    ∙ ap (λ (qs : List Part). p ∷ qs) (closed-take heads k ps h.1)
+    ap (λ (g : Link). record p { next = g } ∷ take k (linked_segments heads ps)) (closed-same heads (length ps) p.next h.0)
+    ∙ ap (λ (qs : List SegmentValue). p ∷ qs) (closed-take heads k ps h.1)
 
-pub link-start : (heads : List Link) (k : ℕ) (ps : List Part) → ClosedTo k ps → ps ≡ take k (linked_parts heads ps) ++ drop k ps
+pub link-start : (heads : List Link) (k : ℕ) (ps : List SegmentValue) → ClosedTo k ps → ps ≡ take k (linked_segments heads ps) ++ drop k ps
 link-start heads k ps h = sym (ap (λ qs. qs ++ drop k ps) (closed-take heads k ps h) ∙ take-append-drop k ps)
 
 closed-shifted : (n : ℕ) (g : Link) → IsClosed g → IsClosed (shifted n g)
@@ -33,17 +33,17 @@ closed-linked heads n (Ahead k) all = tt
 closed-linked heads n (Fault at) all = tt
 closed-linked heads n (State s) all = closed-shifted n (head heads s) (all s)
 
-ClosedTo-joined : (heads : List Link) (k : ℕ) (ps rs : List Part) → ((s : LexState) → IsClosed (head heads s)) → ClosedTo k rs → ClosedTo (length ps + k) (linked_parts heads ps ++ rs)
+ClosedTo-joined : (heads : List Link) (k : ℕ) (ps rs : List SegmentValue) → ((s : LexState) → IsClosed (head heads s)) → ClosedTo k rs → ClosedTo (length ps + k) (linked_segments heads ps ++ rs)
 ClosedTo-joined heads k [] rs all h = let e : 0 + k ≡ k = omega arith in subst (λ n. ClosedTo n rs) (sym e) h
 ClosedTo-joined heads k (p ∷ ps) rs all h =
     let e : suc (length ps) + k ≡ suc (length ps + k) = omega arith in
-    subst (λ n. ClosedTo n (linked_parts heads (p ∷ ps) ++ rs)) (sym e) (closed-linked heads (length ps) p.next all, ClosedTo-joined heads k ps rs all h)
+    subst (λ n. ClosedTo n (linked_segments heads (p ∷ ps) ++ rs)) (sym e) (closed-linked heads (length ps) p.next all, ClosedTo-joined heads k ps rs all h)
 
-pub AreClosed-joined : (lheads rheads : List Link) (ps rs : List Part) (i j : ℕ) → length lheads ≡ 32 → AreClosed i lheads ps → AreClosed j rheads rs
-    → AreClosed (length ps + j) (map (linked rheads (length ps)) lheads) (linked_parts rheads ps ++ rs)
+pub AreClosed-joined : (lheads rheads : List Link) (ps rs : List SegmentValue) (i j : ℕ) → length lheads ≡ 32 → AreClosed i lheads ps → AreClosed j rheads rs
+    → AreClosed (length ps + j) (map (linked rheads (length ps)) lheads) (linked_segments rheads ps ++ rs)
 AreClosed-joined lheads rheads ps rs i j all l r =
     record {
-      within = let e = length-append (linked_parts rheads ps) rs in let f = length-linked rheads ps in let w = r.within in omega (arith, e, f, w);
+      within = let e = length-append (linked_segments rheads ps) rs in let f = length-linked rheads ps in let w = r.within in omega (arith, e, f, w);
       all = λ s. subst IsClosed (sym (head-map (linked rheads (length ps)) lheads s all)) (closed-linked rheads (length ps) (head lheads s) r.all);
-      parts = ClosedTo-joined rheads j ps rs r.all r.parts;
+      segments = ClosedTo-joined rheads j ps rs r.all r.segments;
     }

@@ -10,30 +10,30 @@ use Rattle.jx_lex.specs.Lex.{with_mark}
 use Rattle.jx_lex.specs.declared.map.link.Link.{Link}
 use Rattle.jx_lex.specs.declared.map.link.Link.TheVariants.{Ahead, State, Fault}
 use Rattle.jx_lex.specs.Ordinal.{ordinal, all_states}
-use Rattle.jx_lex.specs.Follow.{Part, shifted, linked, linked_parts}
+use Rattle.jx_lex.specs.Follow.{SegmentValue, shifted, linked, linked_segments}
 use Rattle.jx_lex.specs.Map.{Map, stored, joined_map}
-use Rattle.jx_lex.specs.inside.Step.{link_of, read_from, read_part, opening, meeting_heads, met, held_by, state_is, stands_in}
+use Rattle.jx_lex.specs.inside.Step.{link_of, read_from, read_segment, opening, meeting_heads, met, held_by, state_is, stands_in}
 use Rattle.jx_lex.specs.Shared.{held_after, add_next, has, begins, HeldAt, AllHeld}
-use Rattle.jx_lex.proofs.Joined.{ordinal-low}
-use Rattle.jx_lex.proofs.Meeting.{same_ordinal, head-meeting, state-at}
+use Rattle.jx_lex.proofs.StateOrder.{ordinal-low}
+use Rattle.jx_lex.proofs.Meeting.{same_ordinal, head-meeting, state-read}
 
 -- ---- marks
 
-pub stored-append : (ps qs : List Part) → stored (ps ++ qs) ≡ stored ps + stored qs
+pub stored-append : (ps qs : List SegmentValue) → stored (ps ++ qs) ≡ stored ps + stored qs
 stored-append [] qs = omega arith
 stored-append (p ∷ ps) qs = omega (arith, stored-append ps qs)
 
-pub stored-linked : (heads : List Link) (ps : List Part) → stored (linked_parts heads ps) ≡ stored ps
+pub stored-linked : (heads : List Link) (ps : List SegmentValue) → stored (linked_segments heads ps) ≡ stored ps
 stored-linked heads [] = refl
 stored-linked heads (p ∷ ps) = ap (λ n. length p.marks + n) (stored-linked heads ps)
 
 -- a join stores what both sides store
-pub stored-joined : (l r : Map) → stored ((joined_map l r).parts) ≡ stored l.parts + stored r.parts
-stored-joined l r = stored-append (linked_parts r.heads l.parts) r.parts ∙ ap (λ n. n + stored r.parts) (stored-linked r.heads l.parts)
+pub stored-joined : (l r : Map) → stored ((joined_map l r).segments) ≡ stored l.segments + stored r.segments
+stored-joined l r = stored-append (linked_segments r.heads l.segments) r.segments ∙ ap (λ n. n + stored r.segments) (stored-linked r.heads l.segments)
 
-pub stored-met : (s : LexState) (ps : List Part) → stored (met s ps) ≡ stored ps
+pub stored-met : (s : LexState) (ps : List SegmentValue) → stored (met s ps) ≡ stored ps
 stored-met s ps =
-    let a = stored-append (linked_parts (meeting_heads s) ps) (opening s ∷ []) in
+    let a = stored-append (linked_segments (meeting_heads s) ps) (opening s ∷ []) in
     let b = stored-linked (meeting_heads s) ps in
     omega (arith, a, b)
 
@@ -42,11 +42,11 @@ push_at b (State s) = cond (begins b s) 1 0
 push_at b (Ahead k) = 0
 push_at b (Fault at) = 0
 
-abbrev pub pushes : ℕ → List Part → ℕ
+abbrev pub pushes : ℕ → List SegmentValue → ℕ
 pushes b [] = 0
 pushes b (p ∷ ps) = push_at b p.next + pushes b ps
 
-pub marks-read : (at b : ℕ) (p : Part) (g : Link) → length ((read_from at b p g).marks) ≡ push_at b g + length p.marks
+pub marks-read : (at b : ℕ) (p : SegmentValue) (g : Link) → length ((read_from at b p g).marks) ≡ push_at b g + length p.marks
 marks-read at b p (Ahead k) = omega arith
 marks-read at b p (Fault f) = omega arith
 marks-read at b p (State s) = go ((move s b).begin)
@@ -55,7 +55,7 @@ marks-read at b p (State s) = go ((move s b).begin)
     go None = let e = length-append p.marks (with_mark None at []) in omega (arith, e)
     go (Some k) = let e = length-append p.marks (with_mark (Some k) at []) in omega (arith, e)
 
-pub stored-read : (at b : ℕ) (ps : List Part) → stored (map (read_part at b) ps) ≡ pushes b ps + stored ps
+pub stored-read : (at b : ℕ) (ps : List SegmentValue) → stored (map (read_segment at b) ps) ≡ pushes b ps + stored ps
 stored-read at b [] = refl
 stored-read at b (p ∷ ps) = let e = stored-read at b ps in let f = marks-read at b p p.next in omega (arith, e, f)
 
@@ -65,7 +65,7 @@ stored-read at b (p ∷ ps) = let e = stored-read at b ps in let f = marks-read 
 pub term-le : (f : LexState → ℕ) (s : LexState) → f s ≤ sum_by f all_states
 term-le f s =
     let e : ordinal s < length all_states = ordinal-low s in
-    subst (λ (t : LexState). f t ≤ sum_by f all_states) (state-at s) (get_or-le-sum_by f all_states (ordinal s) state.Gap e)
+    subst (λ (t : LexState). f t ≤ sum_by f all_states) (state-read s) (get_or-le-sum_by f all_states (ordinal s) state.Gap e)
 
 pub sum-both : (f g : LexState → ℕ) (ss : List LexState) → sum_by (λ s. f s + g s) ss ≡ sum_by f ss + sum_by g ss
 sum-both f g [] = refl
@@ -76,16 +76,16 @@ sum-both f g (s ∷ ss) =
     let c = sum_by-cons g s ss in
     omega (arith, e, a, b, c)
 
-abbrev pub spread : ℕ → List Part → LexState → ℕ
+abbrev pub spread : ℕ → List SegmentValue → LexState → ℕ
 spread b ps s = cond (begins b s) (held_by s ps) 0
 
 abbrev at_state : ℕ → Link → LexState → ℕ
 at_state b g s = cond (begins b s) (cond (state_is s g) 1 0) 0
 
-pub held_by-cons : (s : LexState) (p : Part) (ps : List Part) → held_by s (p ∷ ps) ≡ cond (state_is s p.next) 1 0 + held_by s ps
+pub held_by-cons : (s : LexState) (p : SegmentValue) (ps : List SegmentValue) → held_by s (p ∷ ps) ≡ cond (state_is s p.next) 1 0 + held_by s ps
 held_by-cons s p ps = sum_by-cons (λ x. cond (stands_in s x) 1 0) p ps
 
-spread-cons : (b : ℕ) (p : Part) (ps : List Part) (s : LexState) → at_state b p.next s + spread b ps s ≤ spread b (p ∷ ps) s
+spread-cons : (b : ℕ) (p : SegmentValue) (ps : List SegmentValue) (s : LexState) → at_state b p.next s + spread b ps s ≤ spread b (p ∷ ps) s
 spread-cons b p ps s = rw (held_by-cons s p ps) (go (begins b s))
   where
     go : (t : Bool) → cond t (cond (state_is s p.next) 1 0) 0 + cond t (held_by s ps) 0 ≤ cond t (cond (state_is s p.next) 1 0 + held_by s ps) 0
@@ -102,7 +102,7 @@ push-le b (State s) =
     let e : at_state b (State s) s ≡ cond (begins b s) 1 0 = ap (λ t. cond (begins b s) (cond t 1 0) 0) (is_itself (ordinal s)) in
     subst (λ n. n ≤ sum_by (at_state b (State s)) all_states) e (term-le (at_state b (State s)) s)
 
-pub pushes-spread : (b : ℕ) (ps : List Part) → pushes b ps ≤ sum_by (spread b ps) all_states
+pub pushes-spread : (b : ℕ) (ps : List SegmentValue) → pushes b ps ≤ sum_by (spread b ps) all_states
 pushes-spread b [] = omega arith
 pushes-spread b (p ∷ ps) =
     let a = push-le b p.next in
@@ -115,7 +115,7 @@ pushes-spread b (p ∷ ps) =
     total x y u v w z a c d e = omega arith
 
 -- what some segment stands in is held
-pub held_by-has : (held : List LexState) (ps : List Part) (s : LexState) → AllHeld held ps → 1 ≤ held_by s ps → has s held ≡ true
+pub held_by-has : (held : List LexState) (ps : List SegmentValue) (s : LexState) → AllHeld held ps → 1 ≤ held_by s ps → has s held ≡ true
 held_by-has held [] s h low = absurd (omega (arith, low))
 held_by-has held (p ∷ ps) s h low = go p.next h.0 (rw (held_by-cons s p ps) at low) (λ l. held_by-has held ps s h.1 l)
   where
@@ -152,7 +152,7 @@ has-after b t n (x ∷ xs) h e = pick (ordinal x == ordinal t) refl h (λ l. has
         ap (λ m. has n (add_next m (held_after b xs))) q ∙ has-head n (held_after b xs)
     pick false i l more = added ((move x b).next) (more l)
 
-pub AllHeld-read : (at b : ℕ) (held : List LexState) (ps : List Part) → AllHeld held ps → AllHeld (held_after b held) (map (read_part at b) ps)
+pub AllHeld-read : (at b : ℕ) (held : List LexState) (ps : List SegmentValue) → AllHeld held ps → AllHeld (held_after b held) (map (read_segment at b) ps)
 AllHeld-read at b held [] h = tt
 AllHeld-read at b held (p ∷ ps) h = (go p.next refl h.0, AllHeld-read at b held ps h.1)
   where
@@ -165,11 +165,11 @@ AllHeld-read at b held (p ∷ ps) h = (go p.next refl h.0, AllHeld-read at b hel
         next None q = tt
         next (Some n) q = has-after b t n held a q
 
-pub AllHeld-append : (held : List LexState) (ps qs : List Part) → AllHeld held ps → AllHeld held qs → AllHeld held (ps ++ qs)
+pub AllHeld-append : (held : List LexState) (ps qs : List SegmentValue) → AllHeld held ps → AllHeld held qs → AllHeld held (ps ++ qs)
 AllHeld-append held [] qs h k = k
 AllHeld-append held (p ∷ ps) qs h k = (h.0, AllHeld-append held ps qs h.1 k)
 
-pub AllHeld-linked : (held : List LexState) (s : LexState) (ps : List Part) → AllHeld held ps → AllHeld held (linked_parts (meeting_heads s) ps)
+pub AllHeld-linked : (held : List LexState) (s : LexState) (ps : List SegmentValue) → AllHeld held ps → AllHeld held (linked_segments (meeting_heads s) ps)
 AllHeld-linked held s [] h = tt
 AllHeld-linked held s (p ∷ ps) h = (go p.next h.0, AllHeld-linked held s ps h.1)
   where
@@ -212,7 +212,7 @@ has-all state.N = refl
 has-all state.Nu = refl
 has-all state.Nul = refl
 
-pub spread-le : (b : ℕ) (held : List LexState) (ps : List Part) → AllHeld held ps → ((s : LexState) → held_by s ps ≤ 1)
+pub spread-le : (b : ℕ) (held : List LexState) (ps : List SegmentValue) → AllHeld held ps → ((s : LexState) → held_by s ps ≤ 1)
     → (s : LexState) → spread b ps s ≤ cond (has s held && begins b s) 1 0
 spread-le b held ps h one s = go (begins b s) (has s held) refl
   where

@@ -8,10 +8,10 @@ use Rattle.jx_lex.specs.Ordinal.{ordinal, all_states}
 use Rattle.jx_lex.specs.Follow.{head}
 use Rattle.jx_lex.specs.Map.{Map, IsOf, EndsInTwo}
 use Rattle.jx_lex.specs.inside.Bundle.{Bundle, is_live, live_count, IsBundleOf, Stands}
-use Rattle.jx_lex.specs.TwoParts.{right_of}
+use Rattle.jx_lex.specs.TwoPieces.{right_of}
 use Rattle.jx_lex.proofs.LexJoin.{lex-append}
-use Rattle.jx_lex.proofs.Joined.{ordinal-low}
-use Rattle.jx_lex.proofs.Meeting.{state-at}
+use Rattle.jx_lex.proofs.StateOrder.{ordinal-low}
+use Rattle.jx_lex.proofs.Meeting.{state-read}
 use Rattle.jx_lex.proofs.Building.{every-live}
 use Rattle.jx_lex.proofs.Bundles.{exit-live}
 
@@ -109,9 +109,9 @@ live-two start u b reads stands few = record { one = two.one; other = two.other;
     at : (s t : LexState) → (lex s start u).exit ≡ LexExit.state t → (t ≡ two.one) ⊎ (t ≡ two.other)
     at s t e =
         let track = reads.tracks s (every-live s) in
-        let lives : is_live b.live t ≡ true = exit-live b.live b.parts (head b.heads s) (stands.heads s) stands.parts (reads.heads s) reads.parts t (ap (λ (t : Track). t.exit) track ∙ e) in
-        subst (λ (x : LexState). (x ≡ two.one) ⊎ (x ≡ two.other)) (state-at t)
-        (two.all (ordinal t) (ordinal-low t) (subst (λ (x : LexState). is_live b.live x ≡ true) (sym (state-at t)) lives))
+        let lives : is_live b.live t ≡ true = exit-live b.live b.segments (head b.heads s) (stands.heads s) stands.segments (reads.heads s) reads.segments t (ap (λ (t : Track). t.exit) track ∙ e) in
+        subst (λ (x : LexState). (x ≡ two.one) ⊎ (x ≡ two.other)) (state-read t)
+        (two.all (ordinal t) (ordinal-low t) (subst (λ (x : LexState). is_live b.live x ≡ true) (sym (state-read t)) lives))
 
 -- the state in which a reading ends, where it ends in one
 abbrev end_of : LexExit → LexState

@@ -10,7 +10,7 @@ use Rattle.jx_lex.specs.Character.{IsTail, Utf8, one, two, three_e0, three_low, 
 use Rattle.jx_lex.specs.Classes.{class_at}
 use Rattle.jx_lex.specs.Moves.{move, row, go, begin}
 use Rattle.jx_lex.specs.Token
-use Rattle.jx_lex.specs.Token.{IsDigit, Digits, no_digits, digit, IsMinus, unsigned, minus, IsInt, zero_alone, leading, IsFrac, no_frac, frac, IsSign, no_sign, plus, minus_sign, IsE, IsExp, no_exp, exp, IsNumber, number, IsHexDigit, IsEscaped, IsPart, character, escape, unit, Parts, no_parts, part, IsString, quoted, IsToken}
+use Rattle.jx_lex.specs.Token.{IsDigit, Digits, no_digits, digit, IsMinus, unsigned, minus, IsInt, zero_alone, leading, IsFrac, no_frac, frac, IsSign, no_sign, plus, minus_sign, IsE, IsExp, no_exp, exp, IsNumber, number, IsHexDigit, IsEscaped, IsChar, character, escape, unit, Chars, no_chars, one_char, IsString, quoted, IsToken}
 use Rattle.jx_lex.specs.TokenStates.{in_token, Spells, here, goes, shuts, IsFinal, final_gap, final_zero, final_int, final_frac, final_exp, mark_of, IsRead}
 use Rattle.jx_lex.proofs.Forward.{move-range, move-digit, move-e, move-hex, move-tail, Str-ordinary}
 
@@ -125,20 +125,20 @@ escaped Token.new_line = refl
 escaped Token.return = refl
 escaped Token.tabulator = refl
 
-pub part_inside : {w us : List ℕ} → IsPart w us → Spells state.Str w state.Str
+pub string_char_inside : {w us : List ℕ} → IsChar w us → Spells state.Str w state.Str
 unfolding class_at
-part_inside (character u from q k) = char_inside u from q k
-part_inside (escape h) = goes {next = state.Esc} refl (goes (escaped h) here)
-part_inside (unit a b c d) =
+string_char_inside (character u from q k) = char_inside u from q k
+string_char_inside (escape h) = goes {next = state.Esc} refl (goes (escaped h) here)
+string_char_inside (unit a b c d) =
     goes {next = state.Esc} refl (goes {next = state.Hex4} refl
     (goes (move-hex state.Hex4 state.Hex3 (refl, (refl, tt)) (refl, (refl, tt)) (refl, (refl, (refl, (refl, (refl, tt))))) a)
     (goes (move-hex state.Hex3 state.Hex2 (refl, (refl, tt)) (refl, (refl, tt)) (refl, (refl, (refl, (refl, (refl, tt))))) b)
     (goes (move-hex state.Hex2 state.Hex1 (refl, (refl, tt)) (refl, (refl, tt)) (refl, (refl, (refl, (refl, (refl, tt))))) c)
     (goes (move-hex state.Hex1 state.Str (refl, (refl, tt)) (refl, (refl, tt)) (refl, (refl, (refl, (refl, (refl, tt))))) d) here)))))
 
-pub parts_inside : {w us : List ℕ} → Parts w us → Spells state.Str w state.Str
-parts_inside no_parts = here
-parts_inside (part p ps) = Spells-append refl (part_inside p) (parts_inside ps)
+pub chars_inside : {w us : List ℕ} → Chars w us → Spells state.Str w state.Str
+chars_inside no_chars = here
+chars_inside (one_char p ps) = Spells-append refl (string_char_inside p) (chars_inside ps)
 
 pub string_reads : {w us : List ℕ} → IsString w us → IsRead mark.String w
 unfolding class_at
@@ -150,7 +150,7 @@ string_reads (quoted ps) =
       last = state.Gap;
       whole = refl;
       begins = refl;
-      inside = Spells-append refl (parts_inside ps) (shuts refl);
+      inside = Spells-append refl (chars_inside ps) (shuts refl);
       final = final_gap;
       entered = refl;
     }

@@ -4,21 +4,21 @@ use Rattle.std.proofs.lemmas.List.{length-map, get_or-map}
 use Rattle.jx_lex.specs.declared.alphabet.state.LexState.{LexState}
 use Rattle.jx_lex.specs.declared.alphabet.mark.Mark.{Mark}
 use Rattle.jx_lex.specs.Lex.{Track, LexExit, lex}
-use Rattle.jx_lex.specs.TwoParts.{joined, right_of}
+use Rattle.jx_lex.specs.TwoPieces.{joined, right_of}
 use Rattle.jx_lex.proofs.LexJoin.{lex-append}
-use Rattle.jx_lex.specs.declared.alphabet.state.LexState.TheVariants as state
+use Rattle.jx_lex.proofs.StateOrder.{ordinal-low}
 use Rattle.jx_lex.specs.Map.{Map, IsLinked, IsOf, joined_map, track}
 use Rattle.jx_lex.specs.declared.map.link.Link.{Link}
 use Rattle.jx_lex.specs.declared.map.link.Link.TheVariants.{Ahead, State, Fault}
 use Rattle.jx_lex.specs.Ordinal.{ordinal}
-use Rattle.jx_lex.specs.Follow.{Part, behind, follow, IsIn, AreIn, shifted, head, linked, linked_parts}
+use Rattle.jx_lex.specs.Follow.{SegmentValue, behind, follow, IsIn, AreIn, shifted, head, linked, linked_segments}
 
-pub length-linked : (heads : List Link) (ps : List Part) → length (linked_parts heads ps) ≡ length ps
+pub length-linked : (heads : List Link) (ps : List SegmentValue) → length (linked_segments heads ps) ≡ length ps
 length-linked heads [] = refl
 length-linked heads (p ∷ ps) = ap suc (length-linked heads ps)
 
 -- over segments that stand in front, one goes where one went without them
-pub follow-shifted : (xs rs : List Part) (g : Link) → follow (xs ++ rs) (shifted (length xs) g) ≡ follow rs g
+pub follow-shifted : (xs rs : List SegmentValue) (g : Link) → follow (xs ++ rs) (shifted (length xs) g) ≡ follow rs g
 unfolding follow
 follow-shifted [] rs (Ahead k) = let e : 0 + k ≡ k = omega arith in ap (λ n. follow rs (Ahead n)) e
 follow-shifted (x ∷ xs) rs (Ahead k) =
@@ -27,19 +27,19 @@ follow-shifted (x ∷ xs) rs (Ahead k) =
 follow-shifted xs rs (State s) = refl
 follow-shifted xs rs (Fault at) = refl
 
-pub behind-joined : (p : Part) (t : Track) (right : LexState → Track) → behind p (joined t right) ≡ joined (behind p t) right
+pub behind-joined : (p : SegmentValue) (t : Track) (right : LexState → Track) → behind p (joined t right) ≡ joined (behind p t) right
 behind-joined p t right =
     let r = right_of t.exit right in
     ap (λ (m : List Mark). record { marks = m; ends = p.ends ++ (t.ends ++ r.ends); exit = r.exit }) (sym (append_assoc p.marks t.marks r.marks))
     ∙ ap (λ (e : List ℕ). record { marks = (p.marks ++ t.marks) ++ r.marks; ends = e; exit = r.exit }) (sym (append_assoc p.ends t.ends r.ends))
 
 -- the track of the right side stands behind that of the left
-pub follow-linked : (heads : List Link) (rs ps : List Part) (g : Link) → IsIn (length ps) g → AreIn ps
-    → follow (linked_parts heads ps ++ rs) (linked heads (length ps) g) ≡ joined (follow ps g) (λ s. follow rs (head heads s))
+pub follow-linked : (heads : List Link) (rs ps : List SegmentValue) (g : Link) → IsIn (length ps) g → AreIn ps
+    → follow (linked_segments heads ps ++ rs) (linked heads (length ps) g) ≡ joined (follow ps g) (λ s. follow rs (head heads s))
 unfolding follow
 follow-linked heads rs ps (State s) h w =
-    ap (λ n. follow (linked_parts heads ps ++ rs) (shifted n (head heads s))) (sym (length-linked heads ps))
-    ∙ follow-shifted (linked_parts heads ps) rs (head heads s)
+    ap (λ n. follow (linked_segments heads ps ++ rs) (shifted n (head heads s))) (sym (length-linked heads ps))
+    ∙ follow-shifted (linked_segments heads ps) rs (head heads s)
 follow-linked heads rs ps (Fault at) h w = refl
 follow-linked heads rs [] (Ahead k) h w = absurd (omega (arith, h))
 follow-linked heads rs (p ∷ ps) (Ahead zero) h w =
@@ -48,22 +48,22 @@ follow-linked heads rs (p ∷ ps) (Ahead zero) h w =
 follow-linked heads rs (p ∷ ps) (Ahead (suc k)) h w = follow-linked heads rs ps (Ahead k) (omega (arith, h)) w.1
 
 -- one segment more leads on
-link-next : (heads : List Link) (ps : List Part) (i r : ℕ) (p : Part) → r + suc i ≡ length ps
-    → p ≡ get_or (take i (linked_parts heads ps) ++ drop i ps) i p
-    → set (take i (linked_parts heads ps) ++ drop i ps) i (record p { next = linked heads r p.next })
-    ≡ take (suc i) (linked_parts heads ps) ++ drop (suc i) ps
+link-next : (heads : List Link) (ps : List SegmentValue) (i r : ℕ) (p : SegmentValue) → r + suc i ≡ length ps
+    → p ≡ get_or (take i (linked_segments heads ps) ++ drop i ps) i p
+    → set (take i (linked_segments heads ps) ++ drop i ps) i (record p { next = linked heads r p.next })
+    ≡ take (suc i) (linked_segments heads ps) ++ drop (suc i) ps
 link-next heads [] i r p e q = absurd (omega (arith, e))
 link-next heads (x ∷ ps) zero r p e q =
     let n : r ≡ length ps = omega (arith, e) in
-    ap (λ (y : Part). record y { next = linked heads r y.next } ∷ ps) q
+    ap (λ (y : SegmentValue). record y { next = linked heads r y.next } ∷ ps) q
     ∙ ap (λ k. record x { next = linked heads k x.next } ∷ ps) n
 link-next heads (x ∷ ps) (suc i) r p e q =
-    ap (λ (ys : List Part). record x { next = linked heads (length ps) x.next } ∷ ys) (link-next heads ps i r p (omega (arith, e)) q)
+    ap (λ (ys : List SegmentValue). record x { next = linked heads (length ps) x.next } ∷ ys) (link-next heads ps i r p (omega (arith, e)) q)
 
-pub link-more : (heads : List Link) (ps ys : List Part) (i : ℕ) (p : Part) → i < length ps
-    → ys ≡ take i (linked_parts heads ps) ++ drop i ps
+pub link-more : (heads : List Link) (ps ys : List SegmentValue) (i : ℕ) (p : SegmentValue) → i < length ps
+    → ys ≡ take i (linked_segments heads ps) ++ drop i ps
     → p ≡ get_or ys i p
-    → set ys i (record p { next = linked heads (length ps - i - 1) p.next }) ≡ take (i + 1) (linked_parts heads ps) ++ drop (i + 1) ps
+    → set ys i (record p { next = linked heads (length ps - i - 1) p.next }) ≡ take (i + 1) (linked_segments heads ps) ++ drop (i + 1) ps
 link-more heads ps ys i p low is q =
     rw (is, add-one) (link-next heads ps i (length ps - i - 1) p (omega (arith, low)) (rw is at q))
 
@@ -77,46 +77,12 @@ IsIn-linked heads n m (Ahead k) all h = omega (arith, h)
 IsIn-linked heads n m (State s) all h = IsIn-shifted n m (head heads s) (all s)
 IsIn-linked heads n m (Fault at) all h = tt
 
-pub AreIn-linked : (heads : List Link) (ps rs : List Part) → ((s : LexState) → IsIn (length rs) (head heads s)) → AreIn ps → AreIn rs
-    → AreIn (linked_parts heads ps ++ rs)
+pub AreIn-linked : (heads : List Link) (ps rs : List SegmentValue) → ((s : LexState) → IsIn (length rs) (head heads s)) → AreIn ps → AreIn rs
+    → AreIn (linked_segments heads ps ++ rs)
 AreIn-linked heads [] rs all w v = v
 AreIn-linked heads (p ∷ ps) rs all w v =
-    let e : length (linked_parts heads ps ++ rs) ≡ length ps + length rs = length-append (linked_parts heads ps) rs ∙ ap (λ n. n + length rs) (length-linked heads ps) in
+    let e : length (linked_segments heads ps ++ rs) ≡ length ps + length rs = length-append (linked_segments heads ps) rs ∙ ap (λ n. n + length rs) (length-linked heads ps) in
     (subst (λ n. IsIn n (linked heads (length ps) p.next)) (sym e) (IsIn-linked heads (length ps) (length rs) p.next all w.0), AreIn-linked heads ps rs all w.1 v)
-
-pub ordinal-low : (s : LexState) → ordinal s < 32
-ordinal-low state.Gap = omega arith
-ordinal-low state.Str = omega arith
-ordinal-low state.Esc = omega arith
-ordinal-low state.Hex4 = omega arith
-ordinal-low state.Hex3 = omega arith
-ordinal-low state.Hex2 = omega arith
-ordinal-low state.Hex1 = omega arith
-ordinal-low state.Tail1 = omega arith
-ordinal-low state.Tail2 = omega arith
-ordinal-low state.Tail3 = omega arith
-ordinal-low state.AfterE0 = omega arith
-ordinal-low state.AfterEd = omega arith
-ordinal-low state.AfterF0 = omega arith
-ordinal-low state.AfterF4 = omega arith
-ordinal-low state.Minus = omega arith
-ordinal-low state.Zero = omega arith
-ordinal-low state.Int = omega arith
-ordinal-low state.Dot = omega arith
-ordinal-low state.Frac = omega arith
-ordinal-low state.E = omega arith
-ordinal-low state.ESign = omega arith
-ordinal-low state.Exp = omega arith
-ordinal-low state.T = omega arith
-ordinal-low state.Tr = omega arith
-ordinal-low state.Tru = omega arith
-ordinal-low state.F = omega arith
-ordinal-low state.Fa = omega arith
-ordinal-low state.Fal = omega arith
-ordinal-low state.Fals = omega arith
-ordinal-low state.N = omega arith
-ordinal-low state.Nu = omega arith
-ordinal-low state.Nul = omega arith
 
 pub head-map : (f : Link → Link) (heads : List Link) (s : LexState) → length heads ≡ 32 → head (map f heads) s ≡ f (head heads s)
 head-map f heads s all = get_or-map f heads (ordinal s) (Fault 0) (Fault 0) (rw all (ordinal-low s))
@@ -124,18 +90,18 @@ head-map f heads s all = get_or-map f heads (ordinal s) (Fault 0) (Fault 0) (rw 
 pub IsWhole-joined : (l r : Map) → IsLinked l → IsLinked r → IsLinked (joined_map l r)
 IsWhole-joined l r wl wr =
     record {
-      all = length-map l.heads (linked r.heads (length l.parts)) ∙ wl.all;
-      heads = λ s. rw (head-map (linked r.heads (length l.parts)) l.heads s wl.all) (subst (λ n. IsIn n (linked r.heads (length l.parts) (head l.heads s)))
-          (sym (length-append (linked_parts r.heads l.parts) r.parts ∙ ap (λ n. n + length r.parts) (length-linked r.heads l.parts)))
-          (IsIn-linked r.heads (length l.parts) (length r.parts) (head l.heads s) wr.heads (wl.heads s)));
-      parts = AreIn-linked r.heads l.parts r.parts wr.heads wl.parts wr.parts;
+      all = length-map l.heads (linked r.heads (length l.segments)) ∙ wl.all;
+      heads = λ s. rw (head-map (linked r.heads (length l.segments)) l.heads s wl.all) (subst (λ n. IsIn n (linked r.heads (length l.segments) (head l.heads s)))
+          (sym (length-append (linked_segments r.heads l.segments) r.segments ∙ ap (λ n. n + length r.segments) (length-linked r.heads l.segments)))
+          (IsIn-linked r.heads (length l.segments) (length r.segments) (head l.heads s) wr.heads (wl.heads s)));
+      segments = AreIn-linked r.heads l.segments r.segments wr.heads wl.segments wr.segments;
     }
 
 -- the tracks of the joined map are those of the left, with those of the right behind them
 pub track-joined : (l r : Map) (s : LexState) → IsLinked l → track (joined_map l r) s ≡ joined (track l s) (track r)
 track-joined l r s w =
-    ap (follow (linked_parts r.heads l.parts ++ r.parts)) (head-map (linked r.heads (length l.parts)) l.heads s w.all)
-    ∙ follow-linked r.heads r.parts l.parts (head l.heads s) (w.heads s) w.parts
+    ap (follow (linked_segments r.heads l.segments ++ r.segments)) (head-map (linked r.heads (length l.segments)) l.heads s w.all)
+    ∙ follow-linked r.heads r.segments l.segments (head l.heads s) (w.heads s) w.segments
 
 right_of-same : (e : LexExit) (f g : LexState → Track) → ((s : LexState) → f s ≡ g s) → right_of e f ≡ right_of e g
 right_of-same (LexExit.state s) f g h = h s

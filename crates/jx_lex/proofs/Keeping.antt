@@ -13,7 +13,7 @@ use Rattle.jx_lex.specs.Uneventful.{Leads}
 use Rattle.jx_lex.specs.Seen.{Seen, Grows, SeesTrack, GoesTo, EndsAtComma, Shuts}
 use Rattle.jx_lex.specs.declared.alphabet.mark.MarkKind.TheVariants.{Colon, Comma}
 use Rattle.jx_lex.specs.declared.alphabet.state.TokenEnd.TheVariants.{Before}
-use Rattle.jx_lex.specs.TwoParts.{joined, right_of}
+use Rattle.jx_lex.specs.TwoPieces.{joined, right_of}
 use Rattle.jx_lex.proofs.LexJoin.{lex-append}
 use Rattle.jx_lex.proofs.Reading.{one-is}
 use Rattle.jx_lex.proofs.Running.{lex-leads}
@@ -44,7 +44,7 @@ then t u = record { marks = t.marks ++ u.marks; ends = t.ends ++ u.ends; exit = 
 right-at : (e : LexExit) (s : LexState) (right : LexState → Track) → e ≡ reading.state s → right_of e right ≡ right s
 right-at e s right h = ap (λ (x : LexExit). right_of x right) h
 
--- a stretch is read in two parts
+-- a stretch is read in two pieces
 pub in_two : (xs : List ℕ) (a b c : ℕ) (s : LexState) → a ≤ b → b ≤ c → b ≤ length xs
     → lex s a (slice_range xs a c) ≡ joined (lex s a (slice_range xs a b)) (λ next. lex next b (slice_range xs b c))
 in_two xs a b c s low high fits =
@@ -53,7 +53,7 @@ in_two xs a b c s low high fits =
     let n : a + length u ≡ b = sym (slice-length xs a b low fits) in
     ap (lex s a) (slice-split xs a b c low high) ∙ lex-append u v s a ∙ ap (λ (k : ℕ). joined (lex s a u) (λ next. lex next k v)) n
 
--- reading goes on where the first part led to
+-- reading goes on where the first piece led to
 pub lex-then : (xs : List ℕ) (a b c : ℕ) (s t : LexState) → a ≤ b → b ≤ c → b ≤ length xs → (lex s a (slice_range xs a b)).exit ≡ reading.state t
     → lex s a (slice_range xs a c) ≡ then (lex s a (slice_range xs a b)) (lex t b (slice_range xs b c))
 lex-then xs a b c s t low high fits h =

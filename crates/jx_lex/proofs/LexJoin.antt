@@ -8,7 +8,7 @@ use Rattle.jx_lex.specs.declared.alphabet.state.Step.{Step}
 use Rattle.jx_lex.specs.declared.alphabet.mark.Mark.{Mark}
 use Rattle.jx_lex.specs.Moves.{move}
 use Rattle.jx_lex.specs.Lex.{lex, Track, with_mark, with_end, after_step, on_next}
-use Rattle.jx_lex.specs.TwoParts.{joined, right_of}
+use Rattle.jx_lex.specs.TwoPieces.{joined, right_of}
 
 with_mark-append : (m : Option MarkKind) (at : ℕ) (xs ys : List Mark) → with_mark m at (xs ++ ys) ≡ with_mark m at xs ++ ys
 with_mark-append None at xs ys = refl

@@ -28,7 +28,8 @@ pub mod Recognized
 pub mod Running
 pub mod Slices
 pub mod Spans
+pub mod StateOrder
 pub mod Stays
-pub mod StringParts
+pub mod StringChars
 pub mod Unescaped
 pub mod Walking

@@ -7,16 +7,16 @@ use Rattle.jx_lex.specs.declared.alphabet.state.LexState.{LexState}
 use Rattle.jx_lex.specs.declared.map.link.Link.{Link}
 use Rattle.jx_lex.specs.declared.map.link.Link.TheVariants.{Ahead, State, Fault}
 use Rattle.jx_lex.specs.Ordinal.{ordinal}
-use Rattle.jx_lex.specs.Follow.{Part, head}
+use Rattle.jx_lex.specs.Follow.{SegmentValue, head}
 use Rattle.jx_lex.specs.inside.Closed.{IsClosed}
 use Rattle.jx_lex.specs.inside.Bundle.{Bundle, is_live, LiveAt, IsBundleOf, Stands, ReadsOn, StandIn, joined_bundle}
 use Rattle.jx_lex.specs.inside.Passing.{KeptBy, AllKept}
 use Rattle.jx_lex.specs.Shared.{has, after, HeldAt, AllHeld}
-use Rattle.jx_lex.specs.inside.Step.{read_part, held_by, state_is}
+use Rattle.jx_lex.specs.inside.Step.{read_segment, held_by, state_is}
 use Rattle.jx_lex.proofs.Building.{live-set, live-new, AllLive-more, AllLive-append}
 use Rattle.jx_lex.proofs.Bundles.{Reads-joined, Stands-joined}
 use Rattle.jx_lex.proofs.Counting.{held_by-cons}
-use Rattle.jx_lex.proofs.Joined.{ordinal-low}
+use Rattle.jx_lex.proofs.StateOrder.{ordinal-low}
 use Rattle.jx_lex.proofs.Meeting.{same_ordinal}
 use Rattle.jx_lex.proofs.ReadingOn.{Reads-on, AllHeld-live, reads-byte, few-single, reads-slices, reads-kept}
 use Rattle.jx_lex.proofs.Slices.{slice-none, slice-more, slice-first}
@@ -28,10 +28,10 @@ not_itself s false e = let h : ordinal s ≢ ordinal s = grind (arith, e) in abs
 
 -- ---- one segment more
 
-pub take-next : (ps : List Part) (i : ℕ) (p : Part) → i < length ps → p ≡ get_or ps i p → take (i + 1) ps ≡ take i ps ++ p ∷ []
+pub take-next : (ps : List SegmentValue) (i : ℕ) (p : SegmentValue) → i < length ps → p ≡ get_or ps i p → take (i + 1) ps ≡ take i ps ++ p ∷ []
 take-next ps i p low is = take_more ps i p low ∙ ap (λ q. take i ps ++ q ∷ []) (sym is)
 
-pub held_by-more : (s : LexState) (ps : List Part) (p : Part) → held_by s (ps ++ p ∷ []) ≡ held_by s ps + cond (state_is s p.next) 1 0
+pub held_by-more : (s : LexState) (ps : List SegmentValue) (p : SegmentValue) → held_by s (ps ++ p ∷ []) ≡ held_by s ps + cond (state_is s p.next) 1 0
 held_by-more s [] p = let a = held_by-cons s p [] in omega (arith, a)
 held_by-more s (q ∷ ps) p =
     let a = held_by-cons s q (ps ++ p ∷ []) in
@@ -39,19 +39,19 @@ held_by-more s (q ∷ ps) p =
     let c = held_by-more s ps p in
     omega (arith, a, b, c)
 
-AllHeld-left : (held : List LexState) (ps qs : List Part) → AllHeld held (ps ++ qs) → AllHeld held ps
+AllHeld-left : (held : List LexState) (ps qs : List SegmentValue) → AllHeld held (ps ++ qs) → AllHeld held ps
 AllHeld-left held [] qs h = tt
 AllHeld-left held (p ∷ ps) qs h = (h.0, AllHeld-left held ps qs h.1)
 
-AllHeld-last : (held : List LexState) (ps : List Part) (p : Part) → AllHeld held (ps ++ p ∷ []) → HeldAt held p.next
+AllHeld-last : (held : List LexState) (ps : List SegmentValue) (p : SegmentValue) → AllHeld held (ps ++ p ∷ []) → HeldAt held p.next
 AllHeld-last held [] p h = h.0
 AllHeld-last held (q ∷ ps) p h = AllHeld-last held ps p h.1
 
-pub AllKept-more : (w : List ℕ) (ps : List Part) (p : Part) → AllKept w ps → KeptBy p.next w → AllKept w (ps ++ p ∷ [])
+pub AllKept-more : (w : List ℕ) (ps : List SegmentValue) (p : SegmentValue) → AllKept w ps → KeptBy p.next w → AllKept w (ps ++ p ∷ [])
 AllKept-more w [] p h k = (k, tt)
 AllKept-more w (q ∷ ps) p h k = (h.0, AllKept-more w ps p h.1 k)
 
-pub AllKept-none : (ps : List Part) → AllKept [] ps
+pub AllKept-none : (ps : List SegmentValue) → AllKept [] ps
 AllKept-none [] = tt
 AllKept-none (p ∷ ps) = (kept-none p.next, AllKept-none ps)
   where
@@ -62,7 +62,7 @@ AllKept-none (p ∷ ps) = (kept-none p.next, AllKept-none ps)
 
 -- ---- the states that were seen, each once
 
-pub record Apart (seen : List Bool) (ps : List Part) : Type 0 where
+pub record Apart (seen : List Bool) (ps : List SegmentValue) : Type 0 where
   pub all : length seen ≡ 32
   pub once : (s : LexState) → held_by s ps ≡ cond (is_live seen s) 1 0
 
@@ -72,7 +72,7 @@ none_live s = get_or-replicate 32 (ordinal s) false false (ordinal-low s)
 pub Apart-none : Apart (replicate 32 false) []
 Apart-none = record { all = length-replicate 32 false; once = λ s. ap (λ (b : Bool). cond b 1 0) (sym (none_live s)) }
 
-pub Apart-state : (seen : List Bool) (ps : List Part) (p : Part) (t : LexState) → Apart seen ps → p.next ≡ State t → is_live seen t ≡ false
+pub Apart-state : (seen : List Bool) (ps : List SegmentValue) (p : SegmentValue) (t : LexState) → Apart seen ps → p.next ≡ State t → is_live seen t ≡ false
     → Apart (set seen (ordinal t) true) (ps ++ p ∷ [])
 Apart-state seen ps p t h stands new =
     record {
@@ -102,7 +102,7 @@ Apart-state seen ps p t h stands new =
         differ false e = refl
         differ true e = let m : ordinal s ≡ ordinal t = grind (arith, e) in absurd (n m)
 
-pub Apart-out : (seen : List Bool) (ps : List Part) (p : Part) → Apart seen ps → ((s : LexState) → p.next ≡ State s → ⊥) → Apart seen (ps ++ p ∷ [])
+pub Apart-out : (seen : List Bool) (ps : List SegmentValue) (p : SegmentValue) → Apart seen ps → ((s : LexState) → p.next ≡ State s → ⊥) → Apart seen (ps ++ p ∷ [])
 Apart-out seen ps p h out =
     record {
       all = h.all;
@@ -118,7 +118,7 @@ Apart-out seen ps p h out =
     zero_at s (Ahead k) n = refl
     zero_at s (Fault at) n = refl
 
-pub Apart-single : (seen : List Bool) (ps : List Part) → Apart seen ps → (s : LexState) → held_by s ps ≤ 1
+pub Apart-single : (seen : List Bool) (ps : List SegmentValue) → Apart seen ps → (s : LexState) → held_by s ps ≤ 1
 Apart-single seen ps h s = go (is_live seen s) (h.once s)
   where
     go : (b : Bool) → held_by s ps ≡ cond b 1 0 → held_by s ps ≤ 1
@@ -130,7 +130,7 @@ Apart-single seen ps h s = go (is_live seen s) (h.once s)
 pub StandIn-none : StandIn (replicate 32 false) []
 StandIn-none = record { all = length-replicate 32 false; stand = tt; held = λ held h s l. let e = none_live s in absurd cc }
 
-pub StandIn-state : (live : List Bool) (ps : List Part) (p : Part) (t : LexState) → StandIn live ps → p.next ≡ State t → StandIn (set live (ordinal t) true) (ps ++ p ∷ [])
+pub StandIn-state : (live : List Bool) (ps : List SegmentValue) (p : SegmentValue) (t : LexState) → StandIn live ps → p.next ≡ State t → StandIn (set live (ordinal t) true) (ps ++ p ∷ [])
 StandIn-state live ps p t h stands =
     record {
       all = length-set live (ordinal t) true ∙ h.all;
@@ -141,7 +141,7 @@ StandIn-state live ps p t h stands =
           (λ n x. h.held held (AllHeld-left held ps (p ∷ []) k) s x);
     }
 
-pub StandIn-out : (live : List Bool) (ps : List Part) (p : Part) → StandIn live ps → ((s : LexState) → p.next ≡ State s → ⊥) → StandIn live (ps ++ p ∷ [])
+pub StandIn-out : (live : List Bool) (ps : List SegmentValue) (p : SegmentValue) → StandIn live ps → ((s : LexState) → p.next ≡ State s → ⊥) → StandIn live (ps ++ p ∷ [])
 StandIn-out live ps p h out =
     record {
       all = h.all;
@@ -156,20 +156,20 @@ StandIn-out live ps p h out =
 
 -- ---- open tracks that were read on
 
-pub Reads-open_on : (at : ℕ) (w : List ℕ) (live now : List Bool) (o : Bundle) (new : List Part) → IsBundleOf at [] live o → Stands [] live o
-    → ((s : LexState) → IsClosed (head o.heads s)) → ReadsOn at w o.parts new → IsBundleOf at w live (record { heads = o.heads; parts = new; live = now })
+pub Reads-open_on : (at : ℕ) (w : List ℕ) (live now : List Bool) (o : Bundle) (new : List SegmentValue) → IsBundleOf at [] live o → Stands [] live o
+    → ((s : LexState) → IsClosed (head o.heads s)) → ReadsOn at w o.segments new → IsBundleOf at w live (record { heads = o.heads; segments = new; live = now })
 Reads-open_on at w live now o new r st closed on =
     let b = Reads-on at w live o new r st closed on in
-    record { all = b.all; heads = b.heads; parts = b.parts; tracks = b.tracks; counted = b.counted; placed = b.placed }
+    record { all = b.all; heads = b.heads; segments = b.segments; tracks = b.tracks; counted = b.counted; placed = b.placed }
 
-pub Stands-open_on : (at : ℕ) (w : List ℕ) (live now : List Bool) (o : Bundle) (new : List Part) → Stands [] live o
-    → ((s : LexState) → IsClosed (head o.heads s)) → ReadsOn at w o.parts new → StandIn now new → Stands w live (record { heads = o.heads; parts = new; live = now })
+pub Stands-open_on : (at : ℕ) (w : List ℕ) (live now : List Bool) (o : Bundle) (new : List SegmentValue) → Stands [] live o
+    → ((s : LexState) → IsClosed (head o.heads s)) → ReadsOn at w o.segments new → StandIn now new → Stands w live (record { heads = o.heads; segments = new; live = now })
 Stands-open_on at w live now o new st closed on l =
     record {
       all = l.all;
       heads = λ s. go (head o.heads s) (closed s);
-      parts = l.stand;
-      held = λ held h. l.held (after held w) (on.held held (AllHeld-live o.live held o.parts (st.held held h) st.parts));
+      segments = l.stand;
+      held = λ held h. l.held (after held w) (on.held held (AllHeld-live o.live held o.segments (st.held held h) st.segments));
     }
   where
     go : (g : Link) → IsClosed g → LiveAt now g
@@ -178,22 +178,22 @@ Stands-open_on at w live now o new st closed on l =
     go (Fault f) c = tt
 
 -- a slice was written back to where it came from
-pub written : (xs ys : List Part) (n : ℕ) → length xs ≡ n → length ys ≡ n → take n (xs ++ drop (length xs) ys) ≡ xs
+pub written : (xs ys : List SegmentValue) (n : ℕ) → length xs ≡ n → length ys ≡ n → take n (xs ++ drop (length xs) ys) ≡ xs
 written xs ys n e f =
     let g : length ys ≤ length xs = omega (arith, e, f) in
     let h : length xs ≤ n = omega (arith, e) in
     ap (λ zs. take n (xs ++ zs)) (drop_all (length xs) ys g) ∙ ap (take n) (append-nil xs) ∙ take_all n xs h
 
 -- one byte, and then the open tracks on their own
-pub some-read : (xs : List ℕ) (at j : ℕ) (live now : List Bool) (l o b : Bundle) (new : List Part) → at < j → j ≤ length xs
+pub some-read : (xs : List ℕ) (at j : ℕ) (live now : List Bool) (l o b : Bundle) (new : List SegmentValue) → at < j → j ≤ length xs
     → IsBundleOf at (get_or xs at 0 ∷ []) live l → Stands (get_or xs at 0 ∷ []) live l
     → ((k : ℕ) → IsBundleOf k [] l.live o) → Stands [] l.live o → ((s : LexState) → IsClosed (head o.heads s))
-    → ReadsOn (at + 1) (slice_range xs (at + 1) j) o.parts new → StandIn now new
-    → b ≡ joined_bundle l (record { heads = o.heads; parts = new; live = now })
+    → ReadsOn (at + 1) (slice_range xs (at + 1) j) o.segments new → StandIn now new
+    → b ≡ joined_bundle l (record { heads = o.heads; segments = new; live = now })
     → IsBundleOf at (slice_range xs at j) live b × Stands (slice_range xs at j) live b
 some-read xs at j live now l o b new low high rl sl ro so closed on stand same =
     let w = slice_range xs (at + 1) j in
-    let r : Bundle = record { heads = o.heads; parts = new; live = now } in
+    let r : Bundle = record { heads = o.heads; segments = new; live = now } in
     let here : at + 1 ≡ at + length (get_or xs at 0 ∷ []) = omega arith in
     let cut : slice_range xs at j ≡ (get_or xs at 0 ∷ []) ++ w = slice-first xs at j 0 low high in
     let rr = Reads-open_on (at + 1) w l.live now o new (ro (at + 1)) so closed on in
@@ -210,8 +210,8 @@ some-none xs at live l low r s =
     (rw cut r, rw cut s)
 
 -- one byte for all of them, and then a stretch that changes none
-pub apart-step : (xs : List ℕ) (from i j : ℕ) (ps qs rs : List Part) → from ≤ i → i < length xs → i + 1 ≤ j → j ≤ length xs
-    → ReadsOn from (slice_range xs from i) ps qs → ((s : LexState) → held_by s qs ≤ 1) → rs ≡ map (read_part i (get_or xs i 0)) qs → AllKept (slice_range xs (i + 1) j) rs
+pub apart-step : (xs : List ℕ) (from i j : ℕ) (ps qs rs : List SegmentValue) → from ≤ i → i < length xs → i + 1 ≤ j → j ≤ length xs
+    → ReadsOn from (slice_range xs from i) ps qs → ((s : LexState) → held_by s qs ≤ 1) → rs ≡ map (read_segment i (get_or xs i 0)) qs → AllKept (slice_range xs (i + 1) j) rs
     → ReadsOn from (slice_range xs from j) ps rs
 apart-step xs from i j ps qs rs low here more fits before apart same kept =
     let b = get_or xs i 0 in

@@ -1,57 +1,28 @@
 -- Segments that stand in one state go on in one segment: no track changes.
 use Rattle.std.proofs.Common.{◌≡◌, ◌≢◌, ℕ, ◌<◌, List, [], ◌∷◌, ◌++◌, length, get_or, refl, ap, sym, subst, ◌∙◌, arith, append-nil, map, Bool, true, false, ◌==◌}
 use Rattle.std.proofs.lemmas.List.{get_or-map, get_or-set_same, get_or-set_other}
+use Rattle.std.proofs.lemmas.Option.{get_or_from_slice_get}
 use Rattle.jx_lex.specs.declared.alphabet.state.LexState.{LexState}
 use Rattle.jx_lex.specs.declared.alphabet.state.LexState.TheVariants as state
 use Rattle.jx_lex.specs.declared.alphabet.mark.Mark.{Mark}
 use Rattle.jx_lex.specs.Lex.{Track, LexExit}
-use Rattle.jx_lex.specs.TwoParts.{joined, right_of}
+use Rattle.jx_lex.specs.TwoPieces.{joined, right_of}
 use Rattle.jx_lex.specs.declared.map.link.Link.{Link}
 use Rattle.jx_lex.specs.declared.map.link.Link.TheVariants.{Ahead, State, Fault}
 use Rattle.jx_lex.specs.Ordinal.{ordinal, all_states}
-use Rattle.jx_lex.specs.Follow.{Part, done, follow, IsIn, AreIn, head}
+use Rattle.jx_lex.specs.Follow.{SegmentValue, done, follow, IsIn, AreIn, head}
 use Rattle.jx_lex.specs.inside.Step.{opening, meeting_heads, met}
-use Rattle.jx_lex.proofs.Joined.{ordinal-low, follow-linked, joined-same}
+use Rattle.jx_lex.proofs.Joined.{follow-linked, joined-same}
+use Rattle.jx_lex.proofs.StateOrder.{ordinal-low, state-at}
 
-pub state-at : (s : LexState) → get_or all_states (ordinal s) state.Gap ≡ s
-state-at state.Gap = refl
-state-at state.Str = refl
-state-at state.Esc = refl
-state-at state.Hex4 = refl
-state-at state.Hex3 = refl
-state-at state.Hex2 = refl
-state-at state.Hex1 = refl
-state-at state.Tail1 = refl
-state-at state.Tail2 = refl
-state-at state.Tail3 = refl
-state-at state.AfterE0 = refl
-state-at state.AfterEd = refl
-state-at state.AfterF0 = refl
-state-at state.AfterF4 = refl
-state-at state.Minus = refl
-state-at state.Zero = refl
-state-at state.Int = refl
-state-at state.Dot = refl
-state-at state.Frac = refl
-state-at state.E = refl
-state-at state.ESign = refl
-state-at state.Exp = refl
-state-at state.T = refl
-state-at state.Tr = refl
-state-at state.Tru = refl
-state-at state.F = refl
-state-at state.Fa = refl
-state-at state.Fal = refl
-state-at state.Fals = refl
-state-at state.N = refl
-state-at state.Nu = refl
-state-at state.Nul = refl
+pub state-read : (s : LexState) → get_or all_states (ordinal s) state.Gap ≡ s
+state-read s = get_or_from_slice_get all_states (ordinal s) s state.Gap (state-at s)
 
 pub same_ordinal : (s t : LexState) → ordinal s ≡ ordinal t → s ≡ t
-same_ordinal s t e = sym (state-at s) ∙ ap (λ n. get_or all_states n state.Gap) e ∙ state-at t
+same_ordinal s t e = sym (state-read s) ∙ ap (λ n. get_or all_states n state.Gap) e ∙ state-read t
 
 head-same : (s : LexState) → head (map State all_states) s ≡ State s
-head-same s = get_or-map State all_states (ordinal s) state.Gap (Fault 0) (ordinal-low s) ∙ ap State (state-at s)
+head-same s = get_or-map State all_states (ordinal s) state.Gap (Fault 0) (ordinal-low s) ∙ ap State (state-read s)
 
 pub head-meeting : (P : Link → Type 0) (s u : LexState) → (u ≡ s → P (Ahead 0)) → ((ordinal u == ordinal s) ≡ false → P (State u)) → P (head (meeting_heads s) u)
 head-meeting P s u here there = go (ordinal u == ordinal s) refl
@@ -81,7 +52,7 @@ joined-done t =
     ∙ ap (λ (m : List Mark). record { marks = m; ends = t.ends ++ []; exit = t.exit }) (append-nil t.marks)
     ∙ ap (λ (e : List ℕ). record { marks = t.marks; ends = e; exit = t.exit }) (append-nil t.ends)
 
-pub follow-met : (s : LexState) (ps : List Part) (k : ℕ) → k < length ps → AreIn ps → follow (met s ps) (Ahead k) ≡ follow ps (Ahead k)
+pub follow-met : (s : LexState) (ps : List SegmentValue) (k : ℕ) → k < length ps → AreIn ps → follow (met s ps) (Ahead k) ≡ follow ps (Ahead k)
 follow-met s ps k low w =
     follow-linked (meeting_heads s) (opening s ∷ []) ps (Ahead k) low w
     ∙ joined-same (follow ps (Ahead k)) (λ u. follow (opening s ∷ []) (head (meeting_heads s) u)) (λ u. done (LexExit.state u)) (follow-opening s)

@@ -2,7 +2,7 @@
 use Rattle.std.proofs.Common.{ℕ, ◌+◌, ◌≤◌, List, [], ◌∷◌, ◌++◌, arith}
 use Rattle.jx_lex.specs.declared.alphabet.mark.Mark.{Mark}
 use Rattle.jx_lex.specs.declared.map.link.Link.{Link}
-use Rattle.jx_lex.specs.Follow.{Part, linked_parts}
+use Rattle.jx_lex.specs.Follow.{SegmentValue, linked_segments}
 use Rattle.jx_lex.specs.Map.{MarksIn, ArePlaced}
 
 pub MarksIn-wider : (a b c d : ℕ) (ms : List Mark) → c ≤ a → b ≤ d → MarksIn a b ms → MarksIn c d ms
@@ -18,14 +18,14 @@ MarksIn-append a b c (m ∷ ms) ns low high h k =
     let u = h.1 in
     (h.0, omega (arith, high, u), MarksIn-append (m.at + 1) b c ms ns (omega (arith, u)) high h.2 k)
 
-pub ArePlaced-wider : (a b c d : ℕ) (ps : List Part) → c ≤ a → b ≤ d → ArePlaced a b ps → ArePlaced c d ps
+pub ArePlaced-wider : (a b c d : ℕ) (ps : List SegmentValue) → c ≤ a → b ≤ d → ArePlaced a b ps → ArePlaced c d ps
 ArePlaced-wider a b c d [] low high h = tt
 ArePlaced-wider a b c d (p ∷ ps) low high h = (MarksIn-wider a b c d p.marks low high h.0, ArePlaced-wider a b c d ps low high h.1)
 
-pub ArePlaced-append : (a b : ℕ) (ps qs : List Part) → ArePlaced a b ps → ArePlaced a b qs → ArePlaced a b (ps ++ qs)
+pub ArePlaced-append : (a b : ℕ) (ps qs : List SegmentValue) → ArePlaced a b ps → ArePlaced a b qs → ArePlaced a b (ps ++ qs)
 ArePlaced-append a b [] qs h k = k
 ArePlaced-append a b (p ∷ ps) qs h k = (h.0, ArePlaced-append a b ps qs h.1 k)
 
-pub ArePlaced-linked : (heads : List Link) (a b : ℕ) (ps : List Part) → ArePlaced a b ps → ArePlaced a b (linked_parts heads ps)
+pub ArePlaced-linked : (heads : List Link) (a b : ℕ) (ps : List SegmentValue) → ArePlaced a b ps → ArePlaced a b (linked_segments heads ps)
 ArePlaced-linked heads a b [] h = tt
 ArePlaced-linked heads a b (p ∷ ps) h = (h.0, ArePlaced-linked heads a b ps h.1)

@@ -6,7 +6,7 @@ use Rattle.jx_lex.specs.declared.map.link.Link.{Link}
 use Rattle.jx_lex.specs.declared.map.link.Link.TheVariants.{Ahead, State, Fault}
 use Rattle.jx_lex.specs.declared.alphabet.state.LexState.TheVariants as state
 use Rattle.jx_lex.specs.Ordinal.{ordinal, all_states}
-use Rattle.jx_lex.specs.Follow.{Part, behind, follow, head, IsIn, AreIn}
+use Rattle.jx_lex.specs.Follow.{SegmentValue, behind, follow, head, IsIn, AreIn}
 use Rattle.jx_lex.specs.Lex.{Track, LexExit}
 use Rattle.jx_lex.specs.inside.Closed.{IsClosed, ClosedTo, AreClosed}
 use Rattle.jx_lex.specs.inside.Bundle.{LiveAt, AllLive, is_live}
@@ -14,7 +14,7 @@ use Rattle.jx_lex.specs.Map.{Map, IsLinked, joined_map, stored, track}
 use Rattle.jx_lex.specs.inside.Pruned.{IsReached, with_reached, emptied, pruned, with_exit_of}
 use Rattle.jx_lex.proofs.Building.{AllLive-append, AllLive-more, LiveAt-more, live-new, ordinal-at}
 use Rattle.jx_lex.proofs.Joined.{track-joined}
-use Rattle.jx_lex.specs.TwoParts.{joined, right_of}
+use Rattle.jx_lex.specs.TwoPieces.{joined, right_of}
 use Rattle.jx_lex.proofs.Many.{take-next}
 
 -- ---- what is reached
@@ -48,7 +48,7 @@ length-reached (Fault at) rs = refl
 
 -- ---- tracks that are reached
 
-pub follow-pruned : (rs : List Bool) (ps : List Part) (g : Link) → length rs ≡ length ps → IsIn (length ps) g → AreIn ps → IsReached rs g → follow (pruned rs ps) g ≡ follow ps g
+pub follow-pruned : (rs : List Bool) (ps : List SegmentValue) (g : Link) → length rs ≡ length ps → IsIn (length ps) g → AreIn ps → IsReached rs g → follow (pruned rs ps) g ≡ follow ps g
 unfolding follow
 follow-pruned rs ps (State s) e h w r = refl
 follow-pruned rs ps (Fault at) e h w r = refl
@@ -64,26 +64,26 @@ follow-pruned (true ∷ rs) (p ∷ ps) (Ahead (suc k)) e h w r =
     follow-pruned (with_reached p.next rs) ps (Ahead k) (length-reached p.next rs ∙ l) (omega (arith, h)) w.1 (reached-more p.next rs k r)
 follow-pruned (false ∷ rs) (p ∷ ps) (Ahead (suc k)) e h w r = follow-pruned rs ps (Ahead k) (omega (arith, e)) (omega (arith, h)) w.1 r
 
-pub length-pruned : (rs : List Bool) (ps : List Part) → length (pruned rs ps) ≡ length ps
+pub length-pruned : (rs : List Bool) (ps : List SegmentValue) → length (pruned rs ps) ≡ length ps
 length-pruned rs [] = refl
 length-pruned [] (p ∷ ps) = ap suc (length-pruned [] ps)
 length-pruned (true ∷ rs) (p ∷ ps) = ap suc (length-pruned (with_reached p.next rs) ps)
 length-pruned (false ∷ rs) (p ∷ ps) = ap suc (length-pruned rs ps)
 
-AreIn-pruned : (rs : List Bool) (ps : List Part) → AreIn ps → AreIn (pruned rs ps)
+AreIn-pruned : (rs : List Bool) (ps : List SegmentValue) → AreIn ps → AreIn (pruned rs ps)
 AreIn-pruned rs [] w = tt
 AreIn-pruned [] (p ∷ ps) w = (subst (λ n. IsIn n p.next) (sym (length-pruned [] ps)) w.0, AreIn-pruned [] ps w.1)
 AreIn-pruned (true ∷ rs) (p ∷ ps) w = (subst (λ n. IsIn n p.next) (sym (length-pruned (with_reached p.next rs) ps)) w.0, AreIn-pruned (with_reached p.next rs) ps w.1)
 AreIn-pruned (false ∷ rs) (p ∷ ps) w = (subst (λ n. IsIn n p.next) (sym (length-pruned rs ps)) w.0, AreIn-pruned rs ps w.1)
 
-ClosedTo-pruned : (k : ℕ) (rs : List Bool) (ps : List Part) → ClosedTo k ps → ClosedTo k (pruned rs ps)
+ClosedTo-pruned : (k : ℕ) (rs : List Bool) (ps : List SegmentValue) → ClosedTo k ps → ClosedTo k (pruned rs ps)
 ClosedTo-pruned zero rs ps h = tt
 ClosedTo-pruned (suc k) rs [] h = tt
 ClosedTo-pruned (suc k) [] (p ∷ ps) h = (h.0, ClosedTo-pruned k [] ps h.1)
 ClosedTo-pruned (suc k) (true ∷ rs) (p ∷ ps) h = (h.0, ClosedTo-pruned k (with_reached p.next rs) ps h.1)
 ClosedTo-pruned (suc k) (false ∷ rs) (p ∷ ps) h = (h.0, ClosedTo-pruned k rs ps h.1)
 
-pub stored-pruned : (rs : List Bool) (ps : List Part) → stored (pruned rs ps) ≤ stored ps
+pub stored-pruned : (rs : List Bool) (ps : List SegmentValue) → stored (pruned rs ps) ≤ stored ps
 stored-pruned rs [] = omega arith
 stored-pruned [] (p ∷ ps) = let a = stored-pruned [] ps in omega (arith, a)
 stored-pruned (true ∷ rs) (p ∷ ps) = let a = stored-pruned (with_reached p.next rs) ps in omega (arith, a)
@@ -92,26 +92,26 @@ stored-pruned (false ∷ rs) (p ∷ ps) = let a = stored-pruned rs ps in omega (
 -- ---- maps
 
 abbrev pub pruned_map : List Bool → Map → Map
-pruned_map rs m = record m { parts = pruned rs m.parts }
+pruned_map rs m = record m { segments = pruned rs m.segments }
 
 pub IsWhole-pruned : (rs : List Bool) (m : Map) → IsLinked m → IsLinked (pruned_map rs m)
 IsWhole-pruned rs m w =
     record {
       all = w.all;
-      heads = λ s. subst (λ n. IsIn n (head m.heads s)) (sym (length-pruned rs m.parts)) (w.heads s);
-      parts = AreIn-pruned rs m.parts w.parts;
+      heads = λ s. subst (λ n. IsIn n (head m.heads s)) (sym (length-pruned rs m.segments)) (w.heads s);
+      segments = AreIn-pruned rs m.segments w.segments;
     }
 
-pub AreClosed-pruned : (k : ℕ) (rs : List Bool) (heads : List Link) (ps : List Part) → AreClosed k heads ps → AreClosed k heads (pruned rs ps)
+pub AreClosed-pruned : (k : ℕ) (rs : List Bool) (heads : List Link) (ps : List SegmentValue) → AreClosed k heads ps → AreClosed k heads (pruned rs ps)
 AreClosed-pruned k rs heads ps h =
     record {
       within = let a = h.within in let b = length-pruned rs ps in omega (arith, a, b);
       all = h.all;
-      parts = ClosedTo-pruned k rs ps h.parts;
+      segments = ClosedTo-pruned k rs ps h.segments;
     }
 
 -- a track that leads out does so in one of the states that were noted
-exit-live : (live : List Bool) (ps : List Part) (g : Link) → LiveAt live g → AllLive live ps → (s : LexState) → (follow ps g).exit ≡ LexExit.state s → is_live live s ≡ true
+exit-live : (live : List Bool) (ps : List SegmentValue) (g : Link) → LiveAt live g → AllLive live ps → (s : LexState) → (follow ps g).exit ≡ LexExit.state s → is_live live s ≡ true
 unfolding follow
 exit-live live ps (State t) l a s e = let same : t ≡ s = cc in subst (λ u. is_live live u ≡ true) same l
 exit-live live ps (Fault at) l a s e = absurd cc
@@ -127,14 +127,14 @@ right-where (LexExit.fault at) f g h = refl
 joined-where : (t : Track) (f g : LexState → Track) → ((s : LexState) → t.exit ≡ LexExit.state s → f s ≡ g s) → joined t f ≡ joined t g
 joined-where t f g h = ap (λ (r : Track). record { marks = t.marks ++ r.marks; ends = t.ends ++ r.ends; exit = r.exit }) (right-where t.exit f g h)
 
-pub track-pruned : (l r : Map) (rs live : List Bool) → IsLinked l → IsLinked r → length rs ≡ length r.parts
-    → ((s : LexState) → LiveAt live (head l.heads s)) → AllLive live l.parts
+pub track-pruned : (l r : Map) (rs live : List Bool) → IsLinked l → IsLinked r → length rs ≡ length r.segments
+    → ((s : LexState) → LiveAt live (head l.heads s)) → AllLive live l.segments
     → ((s : LexState) → is_live live s ≡ true → IsReached rs (head r.heads s))
     → (s : LexState) → track (joined_map l (pruned_map rs r)) s ≡ track (joined_map l r) s
-track-pruned l r rs live wl wr long heads parts reached s =
+track-pruned l r rs live wl wr long heads segments reached s =
     track-joined l (pruned_map rs r) s wl
     ∙ joined-where (track l s) (track (pruned_map rs r)) (track r)
-    (λ u e. follow-pruned rs r.parts (head r.heads u) long (wr.heads u) wr.parts (reached u (exit-live live l.parts (head l.heads s) (heads s) parts u e)))
+    (λ u e. follow-pruned rs r.segments (head r.heads u) long (wr.heads u) wr.segments (reached u (exit-live live l.segments (head l.heads s) (heads s) segments u e)))
     ∙ sym (track-joined l r s wl)
 
 -- ---- states that are noted
@@ -154,12 +154,12 @@ noted-more (State s) h live all l = LiveAt-more (Some s) live h all l
 noted-more (Ahead k) h live all l = l
 noted-more (Fault at) h live all l = l
 
-pub noted-parts : (g : Link) (ps : List Part) (live : List Bool) → length live ≡ 32 → AllLive live ps → AllLive (with_exit_of g live) ps
-noted-parts (State s) ps live all l = AllLive-more (Some s) live ps all l
-noted-parts (Ahead k) ps live all l = l
-noted-parts (Fault at) ps live all l = l
+pub noted-segments : (g : Link) (ps : List SegmentValue) (live : List Bool) → length live ≡ 32 → AllLive live ps → AllLive (with_exit_of g live) ps
+noted-segments (State s) ps live all l = AllLive-more (Some s) live ps all l
+noted-segments (Ahead k) ps live all l = l
+noted-segments (Fault at) ps live all l = l
 
-pub closed-live : (k : ℕ) (live : List Bool) (ps : List Part) → ClosedTo k ps → AllLive live (take k ps)
+pub closed-live : (k : ℕ) (live : List Bool) (ps : List SegmentValue) → ClosedTo k ps → AllLive live (take k ps)
 closed-live zero live ps h = tt
 closed-live (suc k) live [] h = tt
 closed-live (suc k) live (p ∷ ps) h = (at p.next h.0, closed-live k live ps h.1)
@@ -171,7 +171,7 @@ closed-live (suc k) live (p ∷ ps) h = (at p.next h.0, closed-live k live ps h.
 
 -- ---- one segment after another
 
-pub AreIn-at : (ps : List Part) (i : ℕ) (d : Part) → AreIn ps → i < length ps → IsIn (length ps - (i + 1)) ((get_or ps i d).next)
+pub AreIn-at : (ps : List SegmentValue) (i : ℕ) (d : SegmentValue) → AreIn ps → i < length ps → IsIn (length ps - (i + 1)) ((get_or ps i d).next)
 AreIn-at [] i d w low = absurd (omega (arith, low))
 AreIn-at (p ∷ ps) zero d w low = let e : suc (length ps) - (0 + 1) ≡ length ps = omega arith in subst (λ n. IsIn n p.next) (sym e) w.0
 AreIn-at (p ∷ ps) (suc i) d w low =
@@ -215,19 +215,19 @@ drop-behind rs i (State s) = refl
 drop-behind rs i (Fault at) = refl
 
 -- what the loop keeps: the first i are done, and the rest is as it was
-pub record Pruning (rs0 rs : List Bool) (ps0 ps : List Part) (i : ℕ) : Type 0 where
+pub record Pruning (rs0 rs : List Bool) (ps0 ps : List SegmentValue) (i : ℕ) : Type 0 where
   pub flags : length rs ≡ length ps0
   pub many : length ps ≡ length ps0
   pub rest : drop i ps ≡ drop i ps0
   pub same : take i ps ++ pruned (drop i rs) (drop i ps0) ≡ pruned rs0 ps0
 
-tails : {x y : Part} {xs ys : List Part} → x ∷ xs ≡ y ∷ ys → xs ≡ ys
+tails : {x y : SegmentValue} {xs ys : List SegmentValue} → x ∷ xs ≡ y ∷ ys → xs ≡ ys
 tails e = cc
 
-heads-same : {x y : Part} {xs ys : List Part} → x ∷ xs ≡ y ∷ ys → x ≡ y
+heads-same : {x y : SegmentValue} {xs ys : List SegmentValue} → x ∷ xs ≡ y ∷ ys → x ≡ y
 heads-same e = cc
 
-pub Pruning-kept : (rs0 rs : List Bool) (ps0 ps : List Part) (i : ℕ) (p : Part) → i < length ps0 → Pruning rs0 rs ps0 ps i → p ≡ get_or ps i p → get_or rs i false ≡ true
+pub Pruning-kept : (rs0 rs : List Bool) (ps0 ps : List SegmentValue) (i : ℕ) (p : SegmentValue) → i < length ps0 → Pruning rs0 rs ps0 ps i → p ≡ get_or ps i p → get_or rs i false ≡ true
     → Pruning rs0 (reached_behind i p.next rs) ps0 ps (i + 1)
 Pruning-kept rs0 rs ps0 ps i p low h is set_here =
     subst (λ n. Pruning rs0 (reached_behind i p.next rs) ps0 ps n) n (record {
@@ -235,11 +235,11 @@ Pruning-kept rs0 rs ps0 ps i p low h is set_here =
       many = h.many;
       rest = tails (sym cut ∙ h.rest ∙ cut0);
       same =
-          ap (λ (xs : List Part). xs ++ pruned (drop (suc i) (reached_behind i p.next rs)) (drop (suc i) ps0)) (take-at ps i p here ∙ ap (λ (q : Part). take i ps ++ q ∷ []) (sym is))
+          ap (λ (xs : List SegmentValue). xs ++ pruned (drop (suc i) (reached_behind i p.next rs)) (drop (suc i) ps0)) (take-at ps i p here ∙ ap (λ (q : SegmentValue). take i ps ++ q ∷ []) (sym is))
           ∙ append_assoc (take i ps) (p ∷ []) (pruned (drop (suc i) (reached_behind i p.next rs)) (drop (suc i) ps0))
           ∙ ap (λ (fs : List Bool). take i ps ++ p ∷ pruned fs (drop (suc i) ps0)) (drop-behind rs i p.next)
           ∙ ap (λ (fs : List Bool). take i ps ++ pruned fs (p ∷ drop (suc i) ps0)) (sym flag)
-          ∙ ap (λ (xs : List Part). take i ps ++ pruned (drop i rs) xs) (sym first)
+          ∙ ap (λ (xs : List SegmentValue). take i ps ++ pruned (drop i rs) xs) (sym first)
           ∙ h.same;
     })
   where
@@ -256,7 +256,7 @@ Pruning-kept rs0 rs ps0 ps i p low h is set_here =
     cut0 = drop-at ps0 i p low
 
     first : drop i ps0 ≡ p ∷ drop (suc i) ps0
-    first = cut0 ∙ ap (λ (q : Part). q ∷ drop (suc i) ps0) (sym (heads-same (sym cut ∙ h.rest ∙ cut0)) ∙ sym is)
+    first = cut0 ∙ ap (λ (q : SegmentValue). q ∷ drop (suc i) ps0) (sym (heads-same (sym cut ∙ h.rest ∙ cut0)) ∙ sym is)
 
     flag : drop i rs ≡ true ∷ drop (suc i) rs
     flag = let m = h.flags in drop-at rs i false (omega (arith, m, low)) ∙ ap (λ (b : Bool). b ∷ drop (suc i) rs) set_here
@@ -266,7 +266,7 @@ Pruning-kept rs0 rs ps0 ps i p low h is set_here =
     behind_length (State s) = refl
     behind_length (Fault at) = refl
 
-pub Pruning-emptied : (rs0 rs : List Bool) (ps0 ps : List Part) (i : ℕ) (p q : Part) → i < length ps0 → Pruning rs0 rs ps0 ps i → p ≡ get_or ps i p → get_or rs i false ≡ false
+pub Pruning-emptied : (rs0 rs : List Bool) (ps0 ps : List SegmentValue) (i : ℕ) (p q : SegmentValue) → i < length ps0 → Pruning rs0 rs ps0 ps i → p ≡ get_or ps i p → get_or rs i false ≡ false
     → q ≡ emptied p → Pruning rs0 rs ps0 (set ps i q) (i + 1)
 Pruning-emptied rs0 rs ps0 ps i p q low h is clear_here e =
     subst (λ n. Pruning rs0 rs ps0 (set ps i q) n) n (record {
@@ -274,10 +274,10 @@ Pruning-emptied rs0 rs ps0 ps i p q low h is clear_here e =
       many = length-set ps i q ∙ h.many;
       rest = drop-past ps i q ∙ tails (sym cut ∙ h.rest ∙ cut0);
       same =
-          ap (λ (xs : List Part). xs ++ pruned (drop (suc i) rs) (drop (suc i) ps0)) (take-set ps i q here ∙ ap (λ (x : Part). take i ps ++ x ∷ []) e)
+          ap (λ (xs : List SegmentValue). xs ++ pruned (drop (suc i) rs) (drop (suc i) ps0)) (take-set ps i q here ∙ ap (λ (x : SegmentValue). take i ps ++ x ∷ []) e)
           ∙ append_assoc (take i ps) (emptied p ∷ []) (pruned (drop (suc i) rs) (drop (suc i) ps0))
           ∙ ap (λ (fs : List Bool). take i ps ++ pruned fs (p ∷ drop (suc i) ps0)) (sym flag)
-          ∙ ap (λ (xs : List Part). take i ps ++ pruned (drop i rs) xs) (sym first)
+          ∙ ap (λ (xs : List SegmentValue). take i ps ++ pruned (drop i rs) xs) (sym first)
           ∙ h.same;
     })
   where
@@ -294,34 +294,34 @@ Pruning-emptied rs0 rs ps0 ps i p q low h is clear_here e =
     cut0 = drop-at ps0 i p low
 
     first : drop i ps0 ≡ p ∷ drop (suc i) ps0
-    first = cut0 ∙ ap (λ (q : Part). q ∷ drop (suc i) ps0) (sym (heads-same (sym cut ∙ h.rest ∙ cut0)) ∙ sym is)
+    first = cut0 ∙ ap (λ (q : SegmentValue). q ∷ drop (suc i) ps0) (sym (heads-same (sym cut ∙ h.rest ∙ cut0)) ∙ sym is)
 
     flag : drop i rs ≡ false ∷ drop (suc i) rs
     flag = let m = h.flags in drop-at rs i false (omega (arith, m, low)) ∙ ap (λ (b : Bool). b ∷ drop (suc i) rs) clear_here
 
-pub Pruning-start : (rs : List Bool) (ps : List Part) → length rs ≡ length ps → Pruning rs rs ps ps 0
+pub Pruning-start : (rs : List Bool) (ps : List SegmentValue) → length rs ≡ length ps → Pruning rs rs ps ps 0
 Pruning-start rs ps e = record { flags = e; many = refl; rest = refl; same = refl }
 
-pub Pruning-done : (rs0 rs : List Bool) (ps0 ps : List Part) (i : ℕ) → length ps0 ≤ i → Pruning rs0 rs ps0 ps i → ps ≡ pruned rs0 ps0
+pub Pruning-done : (rs0 rs : List Bool) (ps0 ps : List SegmentValue) (i : ℕ) → length ps0 ≤ i → Pruning rs0 rs ps0 ps i → ps ≡ pruned rs0 ps0
 Pruning-done rs0 rs ps0 ps i le h =
     let m = h.many in
     let short : length ps ≤ i = omega (arith, m, le) in
     sym (take_all i ps short)
     ∙ sym (append-nil (take i ps))
-    ∙ ap (λ (xs : List Part). take i ps ++ pruned (drop i rs) xs) (sym (drop_all i ps0 le))
+    ∙ ap (λ (xs : List SegmentValue). take i ps ++ pruned (drop i rs) xs) (sym (drop_all i ps0 le))
     ∙ h.same
 
 -- the link of the next segment stays within
-pub Pruning-in : (rs0 rs : List Bool) (ps0 ps : List Part) (i : ℕ) (p : Part) → AreIn ps0 → i < length ps0 → Pruning rs0 rs ps0 ps i → p ≡ get_or ps i p → IsIn (length ps0 - (i + 1)) p.next
+pub Pruning-in : (rs0 rs : List Bool) (ps0 ps : List SegmentValue) (i : ℕ) (p : SegmentValue) → AreIn ps0 → i < length ps0 → Pruning rs0 rs ps0 ps i → p ≡ get_or ps i p → IsIn (length ps0 - (i + 1)) p.next
 Pruning-in rs0 rs ps0 ps i p w low h is =
     let m = h.many in
     let here : i < length ps = omega (arith, m, low) in
     let same : get_or ps i p ≡ get_or ps0 i p = heads-same (sym (drop-at ps i p here) ∙ h.rest ∙ drop-at ps0 i p low) in
-    subst (λ (q : Part). IsIn (length ps0 - (i + 1)) q.next) (sym same ∙ sym is) (AreIn-at ps0 i p w low)
+    subst (λ (q : SegmentValue). IsIn (length ps0 - (i + 1)) q.next) (sym same ∙ sym is) (AreIn-at ps0 i p w low)
 
-pub Pruning-same : (rs0 rs rs1 : List Bool) (ps0 ps ps1 : List Part) (i : ℕ) → rs1 ≡ rs → ps1 ≡ ps → Pruning rs0 rs ps0 ps i → Pruning rs0 rs1 ps0 ps1 i
+pub Pruning-same : (rs0 rs rs1 : List Bool) (ps0 ps ps1 : List SegmentValue) (i : ℕ) → rs1 ≡ rs → ps1 ≡ ps → Pruning rs0 rs ps0 ps i → Pruning rs0 rs1 ps0 ps1 i
 Pruning-same rs0 rs rs1 ps0 ps ps1 i e f h =
-    subst (λ (xs : List Bool). Pruning rs0 xs ps0 ps1 i) (sym e) (subst (λ (xs : List Part). Pruning rs0 rs ps0 xs i) (sym f) h)
+    subst (λ (xs : List Bool). Pruning rs0 xs ps0 ps1 i) (sym e) (subst (λ (xs : List SegmentValue). Pruning rs0 rs ps0 xs i) (sym f) h)
 
 pub behind-none : (i : ℕ) (g : Link) (rs : List Bool) → ((k : ℕ) → g ≡ Ahead k → ⊥) → reached_behind i g rs ≡ rs
 behind-none i (Ahead k) rs n = absurd (n k refl)
@@ -330,11 +330,11 @@ behind-none i (Fault at) rs n = refl
 
 -- ---- one link after another
 
-pub noted-next : (ps : List Part) (i : ℕ) (p : Part) (g : Link) (live : List Bool) → i < length ps → p ≡ get_or ps i p → g ≡ p.next → length live ≡ 32
+pub noted-next : (ps : List SegmentValue) (i : ℕ) (p : SegmentValue) (g : Link) (live : List Bool) → i < length ps → p ≡ get_or ps i p → g ≡ p.next → length live ≡ 32
     → AllLive live (take i ps) → AllLive (with_exit_of g live) (take (i + 1) ps)
 noted-next ps i p g live low is e all h =
-    subst (λ (xs : List Part). AllLive (with_exit_of g live) xs) (sym (take-next ps i p low is))
-    (AllLive-append (with_exit_of g live) (take i ps) (p ∷ []) (noted-parts g (take i ps) live all h)
+    subst (λ (xs : List SegmentValue). AllLive (with_exit_of g live) xs) (sym (take-next ps i p low is))
+    (AllLive-append (with_exit_of g live) (take i ps) (p ∷ []) (noted-segments g (take i ps) live all h)
     (subst (λ (x : Link). LiveAt (with_exit_of g live) x) e (noted-here g live all), tt))
 
 pub below-or : (P : LexState → Type 0) (j : ℕ) → ((s : LexState) → ordinal s < j → P s) → ((s : LexState) → ordinal s ≡ j → P s) → (s : LexState) → ordinal s < j + 1 → P s

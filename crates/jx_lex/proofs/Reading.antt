@@ -5,11 +5,11 @@ use Rattle.jx_lex.specs.declared.alphabet.state.LexState.{LexState}
 use Rattle.jx_lex.specs.declared.alphabet.mark.Mark.{Mark}
 use Rattle.jx_lex.specs.Moves.{move}
 use Rattle.jx_lex.specs.Lex.{Track, LexExit, state, fault, lex, with_mark, with_end, after_step, on_next}
-use Rattle.jx_lex.specs.TwoParts.{joined}
+use Rattle.jx_lex.specs.TwoPieces.{joined}
 use Rattle.jx_lex.specs.declared.map.link.Link.{Link}
 use Rattle.jx_lex.specs.declared.map.link.Link.TheVariants.{Ahead, State, Fault}
-use Rattle.jx_lex.specs.Follow.{Part, done, behind, follow, IsIn, AreIn}
-use Rattle.jx_lex.specs.inside.Step.{link_of, read_from, read_part}
+use Rattle.jx_lex.specs.Follow.{SegmentValue, done, behind, follow, IsIn, AreIn}
+use Rattle.jx_lex.specs.inside.Step.{link_of, read_from, read_segment}
 use Rattle.jx_lex.proofs.Joined.{behind-joined}
 
 -- what a track does at one byte
@@ -30,7 +30,7 @@ one-is at byte s = go ((move s byte).next)
     go None = refl
     go (Some n) = refl
 
-follow-link_of : (ps : List Part) (at : ℕ) (m : Option LexState) → follow ps (link_of at m) ≡ done ((on_next m at (λ n. lex n (suc at) [])).exit)
+follow-link_of : (ps : List SegmentValue) (at : ℕ) (m : Option LexState) → follow ps (link_of at m) ≡ done ((on_next m at (λ n. lex n (suc at) [])).exit)
 unfolding follow lex
 follow-link_of ps at None = refl
 follow-link_of ps at (Some n) = refl
@@ -39,7 +39,7 @@ swap-nil : {A : Type 0} (xs ys : List A) → (xs ++ ys) ++ [] ≡ (xs ++ []) ++ 
 swap-nil xs ys = append-nil (xs ++ ys) ∙ ap (λ zs. zs ++ ys) (sym (append-nil xs))
 
 -- a segment that ended a track
-read-end : (at byte : ℕ) (p : Part) (qs : List Part) (s : LexState)
+read-end : (at byte : ℕ) (p : SegmentValue) (qs : List SegmentValue) (s : LexState)
     → behind (read_from at byte p (State s)) (follow qs (link_of at ((move s byte).next))) ≡ joined (behind p (done (state s))) (one at byte)
 read-end at byte p qs s =
     let wm = with_mark ((move s byte).begin) at [] in
@@ -51,24 +51,24 @@ read-end at byte p qs s =
     ∙ ap (λ (t : Track). record { marks = (p.marks ++ []) ++ t.marks; ends = (p.ends ++ []) ++ t.ends; exit = t.exit }) (sym (one-is at byte s))
 
 -- each track that leads to a segment is one byte longer
-pub follow-read : (at byte : ℕ) (ps : List Part) (k : ℕ) → k < length ps → AreIn ps
-    → follow (map (read_part at byte) ps) (Ahead k) ≡ joined (follow ps (Ahead k)) (one at byte)
+pub follow-read : (at byte : ℕ) (ps : List SegmentValue) (k : ℕ) → k < length ps → AreIn ps
+    → follow (map (read_segment at byte) ps) (Ahead k) ≡ joined (follow ps (Ahead k)) (one at byte)
 unfolding follow
 follow-read at byte [] k low w = absurd (omega (arith, low))
 follow-read at byte (p ∷ ps) (suc k) low w = follow-read at byte ps k (omega (arith, low)) w.1
 follow-read at byte (p ∷ ps) zero low w = go p.next refl w.0 (λ j h. follow-read at byte ps j h w.1)
   where
     go : (g : Link) → p.next ≡ g → IsIn (length ps) g
-        → ((j : ℕ) → j < length ps → follow (map (read_part at byte) ps) (Ahead j) ≡ joined (follow ps (Ahead j)) (one at byte))
-        → behind (read_from at byte p g) (follow (map (read_part at byte) ps) ((read_from at byte p g).next)) ≡ joined (behind p (follow ps g)) (one at byte)
+        → ((j : ℕ) → j < length ps → follow (map (read_segment at byte) ps) (Ahead j) ≡ joined (follow ps (Ahead j)) (one at byte))
+        → behind (read_from at byte p g) (follow (map (read_segment at byte) ps) ((read_from at byte p g).next)) ≡ joined (behind p (follow ps g)) (one at byte)
     go (Ahead j) e h more =
-        ap (λ n. behind p (follow (map (read_part at byte) ps) n)) e
+        ap (λ n. behind p (follow (map (read_segment at byte) ps) n)) e
         ∙ ap (behind p) (more j h)
         ∙ behind-joined p (follow ps (Ahead j)) (one at byte)
-    go (Fault f) e h more = ap (λ n. behind p (follow (map (read_part at byte) ps) n)) e ∙ behind-joined p (done (fault f)) (one at byte)
-    go (State s) e h more = read-end at byte p (map (read_part at byte) ps) s
+    go (Fault f) e h more = ap (λ n. behind p (follow (map (read_segment at byte) ps) n)) e ∙ behind-joined p (done (fault f)) (one at byte)
+    go (State s) e h more = read-end at byte p (map (read_segment at byte) ps) s
 
-IsIn-read : (at byte n : ℕ) (p : Part) (g : Link) → p.next ≡ g → IsIn n g → IsIn n ((read_from at byte p g).next)
+IsIn-read : (at byte n : ℕ) (p : SegmentValue) (g : Link) → p.next ≡ g → IsIn n g → IsIn n ((read_from at byte p g).next)
 IsIn-read at byte n p (Ahead k) e h = rw e h
 IsIn-read at byte n p (Fault f) e h = rw e h
 IsIn-read at byte n p (State s) e h = go ((move s byte).next)
@@ -77,6 +77,6 @@ IsIn-read at byte n p (State s) e h = go ((move s byte).next)
     go None = tt
     go (Some x) = tt
 
-pub AreIn-read : (at byte : ℕ) (ps : List Part) → AreIn ps → AreIn (map (read_part at byte) ps)
+pub AreIn-read : (at byte : ℕ) (ps : List SegmentValue) → AreIn ps → AreIn (map (read_segment at byte) ps)
 AreIn-read at byte [] w = tt
-AreIn-read at byte (p ∷ ps) w = (subst (λ n. IsIn n ((read_part at byte p).next)) (sym (length-map ps (read_part at byte))) (IsIn-read at byte (length ps) p p.next refl w.0), AreIn-read at byte ps w.1)
+AreIn-read at byte (p ∷ ps) w = (subst (λ n. IsIn n ((read_segment at byte p).next)) (sym (length-map ps (read_segment at byte))) (IsIn-read at byte (length ps) p p.next refl w.0), AreIn-read at byte ps w.1)

@@ -49,7 +49,7 @@ pub Leads-append : (s t r : LexState) (u v : List ℕ) → Leads s u t → Leads
 Leads-append s t r [] v h k = subst (λ s. Leads s v r) (sym h) k
 Leads-append s t r (b ∷ u) v h k = (h.0, h.1, Leads-append h.0 t r u v h.2 k)
 
--- ---- runs of bytes that pass a test
+-- ---- stretches of bytes of a set
 
 -- where the rows of the classes keep the state, so does a byte of these classes
 pub keeps_class : (p : ℕ → Bool) (s : LexState) (ks : List Class) → AllStep s (go s) ks
@@ -88,22 +88,22 @@ digit_keeps s all b h = keeps_class is_digit s (class.Zero ∷ class.Digit ∷ [
 blank_keeps : (b : ℕ) → not (is_blank b) ≡ false → move state.Gap b ≡ go state.Gap
 blank_keeps b h = keeps_class is_blank state.Gap (class.Blank ∷ class.Space ∷ []) (refl, (refl, tt)) refl b (blank_small b (not-false _ h)) h
 
-pub plain_run : (xs : List ℕ) (from to r : ℕ) → IsFirstPlace (λ k. not (is_plain (get_or xs k 0))) from to r → AllKeep state.Str (slice_range xs from r)
-plain_run = AllKeep-run is_plain state.Str plain_keeps
+pub plain_stretch : (xs : List ℕ) (from to r : ℕ) → IsFirstPlace (λ k. not (is_plain (get_or xs k 0))) from to r → AllKeep state.Str (slice_range xs from r)
+plain_stretch = AllKeep-run is_plain state.Str plain_keeps
 
-pub digit_run : (xs : List ℕ) (from to r : ℕ) → IsFirstPlace (λ k. not (is_digit (get_or xs k 0))) from to r
+pub digit_stretch : (xs : List ℕ) (from to r : ℕ) → IsFirstPlace (λ k. not (is_digit (get_or xs k 0))) from to r
     → AllKeep state.Int (slice_range xs from r) × AllKeep state.Frac (slice_range xs from r) × AllKeep state.Exp (slice_range xs from r) × AllKeep state.Str (slice_range xs from r)
-digit_run xs from to r first = (
+digit_stretch xs from to r first = (
   AllKeep-run is_digit state.Int (digit_keeps state.Int (refl, (refl, tt))) xs from to r first,
   AllKeep-run is_digit state.Frac (digit_keeps state.Frac (refl, (refl, tt))) xs from to r first,
   AllKeep-run is_digit state.Exp (digit_keeps state.Exp (refl, (refl, tt))) xs from to r first,
   AllKeep-run is_digit state.Str (digit_keeps state.Str (refl, (refl, tt))) xs from to r first,
 )
 
-pub blank_run : (xs : List ℕ) (from to r : ℕ) → IsFirstPlace (λ k. not (is_blank (get_or xs k 0))) from to r → AllKeep state.Gap (slice_range xs from r)
-blank_run = AllKeep-run is_blank state.Gap blank_keeps
+pub blank_stretch : (xs : List ℕ) (from to r : ℕ) → IsFirstPlace (λ k. not (is_blank (get_or xs k 0))) from to r → AllKeep state.Gap (slice_range xs from r)
+blank_stretch = AllKeep-run is_blank state.Gap blank_keeps
 
--- ---- runs one after another
+-- ---- stretches one after another
 
 slice-split : (xs : List ℕ) (a b c : ℕ) → a ≤ b → b ≤ c → slice_range xs a c ≡ slice_range xs a b ++ slice_range xs b c
 slice-split xs a b c low high =
@@ -126,13 +126,13 @@ take-short zero xs = omega arith
 take-short (suc m) [] = omega arith
 take-short (suc m) (x ∷ xs) = let rest = take-short m xs in omega (arith, rest)
 
--- a part of n bytes
-pub part_leads : (xs : List ℕ) (i to n : ℕ) → n ≤ length (slice_range xs i to) → Leads state.Str (take n (slice_range xs i to)) state.Str → Leads state.Str (slice_range xs i (i + n)) state.Str
-part_leads xs i to n within part =
+-- a character of n bytes
+pub char_leads : (xs : List ℕ) (i to n : ℕ) → n ≤ length (slice_range xs i to) → Leads state.Str (take n (slice_range xs i to)) state.Str → Leads state.Str (slice_range xs i (i + n)) state.Str
+char_leads xs i to n within leads =
     let short = take-short (to - i) (drop i xs) in
     let e : i + n - i ≡ n = omega arith in
     let same : take n (slice_range xs i to) ≡ slice_range xs i (i + n) = take-again n (to - i) (drop i xs) (omega (arith, within, short)) ∙ ap (λ m. take m (drop i xs)) (sym e) in
-    subst (λ l. Leads state.Str l state.Str) same part
+    subst (λ l. Leads state.Str l state.Str) same leads
 
 pub plain_leads : (xs : List ℕ) (from r : ℕ) → AllKeep state.Str (slice_range xs from r) → Leads state.Str (slice_range xs from r) state.Str
 plain_leads xs from r = AllKeep-leads state.Str (slice_range xs from r)

@@ -11,8 +11,8 @@ use Rattle.jx_lex.specs.declared.map.link.Link.{Link}
 use Rattle.jx_lex.specs.declared.map.link.Link.TheVariants.{Ahead, State, Fault}
 use Rattle.jx_lex.specs.Moves.{move}
 use Rattle.jx_lex.specs.Lex.{Track, lex, with_mark, with_end, on_next}
-use Rattle.jx_lex.specs.Follow.{Part}
-use Rattle.jx_lex.specs.inside.Step.{link_at, link_of, read_from, read_part}
+use Rattle.jx_lex.specs.Follow.{SegmentValue}
+use Rattle.jx_lex.specs.inside.Step.{link_at, link_of, read_from, read_segment}
 use Rattle.jx_lex.specs.inside.Passing.{read_bytes}
 use Rattle.jx_lex.specs.Seen.{WantsNoMore, TokenLists}
 use Rattle.jx_lex.specs.inside.Bundle.{ReadsOn, is_apart}
@@ -29,10 +29,10 @@ with_end-first (Some Before) at es = refl
 with_end-first (Some After) at es = refl
 
 -- a segment with the marks and ends of a reading behind its own, which leads where the reading does
-abbrev pub with_track : Part → Track → Part
+abbrev pub with_track : SegmentValue → Track → SegmentValue
 with_track p t = record { marks = p.marks ++ t.marks; ends = p.ends ++ t.ends; next = link_at t.exit }
 
-pub read-lex : (w : List ℕ) (at : ℕ) (p : Part) (s : LexState) → p.next ≡ State s → read_bytes at w p ≡ with_track p (lex s at w)
+pub read-lex : (w : List ℕ) (at : ℕ) (p : SegmentValue) (s : LexState) → p.next ≡ State s → read_bytes at w p ≡ with_track p (lex s at w)
 unfolding lex
 read-lex [] at p s e =
     ap (λ (g : Link). record { marks = p.marks; ends = p.ends; next = g }) e
@@ -43,7 +43,7 @@ read-lex (b ∷ w) at p s e =
     ∙ go ((move s b).next) ((move s b).begin) ((move s b).end) (λ q n f. read-lex w (suc at) q n f)
   where
     go : (o : Option LexState) (m : Option MarkKind) (t : Option TokenEnd)
-        → ((q : Part) (n : LexState) → q.next ≡ State n → read_bytes (suc at) w q ≡ with_track q (lex n (suc at) w))
+        → ((q : SegmentValue) (n : LexState) → q.next ≡ State n → read_bytes (suc at) w q ≡ with_track q (lex n (suc at) w))
         → read_bytes (suc at) w (record { marks = p.marks ++ with_mark m at []; ends = p.ends ++ with_end t at []; next = link_of at o })
         ≡ record {
           marks = p.marks ++ with_mark m at ((on_next o at (λ n. lex n (suc at) w)).marks);
@@ -61,10 +61,10 @@ read-lex (b ∷ w) at p s e =
         (append_assoc p.ends (with_end t at []) r.ends ∙ ap (λ (es : List ℕ). p.ends ++ es) (with_end-first t at r.ends))
 
 -- two that lead to the same are led to the same
-pub next-same : (w : List ℕ) (at : ℕ) (p q : Part) → p.next ≡ q.next → (read_bytes at w p).next ≡ (read_bytes at w q).next
+pub next-same : (w : List ℕ) (at : ℕ) (p q : SegmentValue) → p.next ≡ q.next → (read_bytes at w p).next ≡ (read_bytes at w q).next
 next-same [] at p q e = e
 next-same (b ∷ w) at p q e =
-    next-same w (suc at) (read_part at b p) (read_part at b q) (one p.next refl (sym e) ∙ ap (λ (g : Link). (read_from at b q g).next) e)
+    next-same w (suc at) (read_segment at b p) (read_segment at b q) (one p.next refl (sym e) ∙ ap (λ (g : Link). (read_from at b q g).next) e)
   where
     one : (g : Link) → p.next ≡ g → q.next ≡ g → (read_from at b p g).next ≡ (read_from at b q g).next
     one (State s) f h = refl
@@ -72,19 +72,19 @@ next-same (b ∷ w) at p q e =
     one (Fault k) f h = f ∙ sym h
 
 -- two that are led to different places stand in different states all the way, or one of them leads out
-pub reads-differ : (w : List ℕ) (at : ℕ) (p q : Part) → ((read_bytes at w p).next ≡ (read_bytes at w q).next → ⊥)
+pub reads-differ : (w : List ℕ) (at : ℕ) (p q : SegmentValue) → ((read_bytes at w p).next ≡ (read_bytes at w q).next → ⊥)
     → ReadsOn at w (p ∷ q ∷ []) (read_bytes at w p ∷ read_bytes at w q ∷ [])
 reads-differ [] at p q h = reads-none at (p ∷ q ∷ [])
 reads-differ (b ∷ w) at p q h =
     let n : suc at ≡ at + 1 = omega arith in
-    let p1 = read_part at b p in
-    let q1 = read_part at b q in
+    let p1 = read_segment at b p in
+    let q1 = read_segment at b q in
     let rest : ReadsOn (suc at) w (p1 ∷ q1 ∷ []) (read_bytes (suc at) w p1 ∷ read_bytes (suc at) w q1 ∷ []) = reads-differ w (suc at) p1 q1 h in
     reads-then at (b ∷ []) w (p ∷ q ∷ []) (p1 ∷ q1 ∷ []) (read_bytes (suc at) w p1 ∷ read_bytes (suc at) w q1 ∷ [])
     (one (is_apart p.next q.next) refl)
     (subst (λ i. ReadsOn i w (p1 ∷ q1 ∷ []) (read_bytes (suc at) w p1 ∷ read_bytes (suc at) w q1 ∷ [])) n rest)
   where
-    one : (c : Bool) → is_apart p.next q.next ≡ c → ReadsOn at (b ∷ []) (p ∷ q ∷ []) (read_part at b p ∷ read_part at b q ∷ [])
+    one : (c : Bool) → is_apart p.next q.next ≡ c → ReadsOn at (b ∷ []) (p ∷ q ∷ []) (read_segment at b p ∷ read_segment at b q ∷ [])
     one true e = reads-apart at b p q e
     one false e = reads-two at (b ∷ []) p q (kept-one (b ∷ []) p.next q.next e (λ s f k. h (next-same (b ∷ w) at p q (f ∙ sym k))))
 
@@ -93,21 +93,21 @@ reads-differ (b ∷ w) at p q h =
 take-whole : {A : Type 0} (xs : List A) → take (length xs) xs ≡ xs
 take-whole {A = A} xs = ap (λ (zs : List A). take (length xs) zs) (sym (append-nil xs)) ∙ take-append_seam xs []
 
-abbrev pub cut_to : Part → Part → Part
+abbrev pub cut_to : SegmentValue → SegmentValue → SegmentValue
 cut_to p r = record { marks = take (length p.marks) r.marks; ends = take (length p.ends) r.ends; next = p.next }
 
-pub cut-back : (at : ℕ) (w : List ℕ) (p : Part) → cut_to p (read_bytes at w p) ≡ p
+pub cut-back : (at : ℕ) (w : List ℕ) (p : SegmentValue) → cut_to p (read_bytes at w p) ≡ p
 cut-back at w p = go p.next refl
   where
     same : ((s : LexState) → p.next ≡ State s → ⊥) → cut_to p (read_bytes at w p) ≡ p
     same out =
-        ap (λ (r : Part). cut_to p r) (sym (closed-span at w p out))
+        ap (λ (r : SegmentValue). cut_to p r) (sym (closed-span at w p out))
         ∙ ap (λ (ms : List Mark). record { marks = ms; ends = take (length p.ends) p.ends; next = p.next }) (take-whole p.marks)
         ∙ ap (λ (es : List ℕ). record { marks = p.marks; ends = es; next = p.next }) (take-whole p.ends)
 
     go : (g : Link) → p.next ≡ g → cut_to p (read_bytes at w p) ≡ p
     go (State s) e =
-        ap (λ (r : Part). cut_to p r) (read-lex w at p s e)
+        ap (λ (r : SegmentValue). cut_to p r) (read-lex w at p s e)
         ∙ ap (λ (ms : List Mark). record { marks = ms; ends = take (length p.ends) (p.ends ++ (lex s at w).ends); next = p.next }) (take-append_seam p.marks ((lex s at w).marks))
         ∙ ap (λ (es : List ℕ). record { marks = p.marks; ends = es; next = p.next }) (take-append_seam p.ends ((lex s at w).ends))
     go (Ahead k) e = same (λ s f. let x = sym e ∙ f in absurd cc)

@@ -16,16 +16,16 @@ use Rattle.jx_lex.proofs.ByteFacts.{IsOrdinary}
 use Rattle.jx_lex.proofs.Forward.{Str-ordinary}
 use Rattle.jx_lex.proofs.Running.{Leads-append, take-again}
 use Rattle.jx_lex.proofs.Slices.{slice-length}
-use Rattle.jx_lex.proofs.StringParts.{two_bytes_lead, three_bytes_lead, four_bytes_lead}
+use Rattle.jx_lex.proofs.StringChars.{two_bytes_lead, three_bytes_lead, four_bytes_lead}
 
--- none of these bytes ends a run of characters
+-- none of these bytes ends a stretch of characters
 abbrev pub AllUnescaped : List ℕ → Type 0
 AllUnescaped [] = Unit {0}
 AllUnescaped (b ∷ bs) = (is_unescaped b ≡ true) × AllUnescaped bs
 
-parts-unescaped : (u v : List ℕ) → AllUnescaped (u ++ v) → AllUnescaped u × AllUnescaped v
-parts-unescaped [] v h = (tt, h)
-parts-unescaped (b ∷ u) v h = let p = parts-unescaped u v h.1 in ((h.0, p.0), p.1)
+both-unescaped : (u v : List ℕ) → AllUnescaped (u ++ v) → AllUnescaped u × AllUnescaped v
+both-unescaped [] v h = (tt, h)
+both-unescaped (b ∷ u) v h = let p = both-unescaped u v h.1 in ((h.0, p.0), p.1)
 
 -- ---- characters
 
@@ -77,7 +77,7 @@ characters_lead : (cs : List ℕ) → scalars cs ≡ true → AllUnescaped (enco
 characters_lead [] ok all = refl
 characters_lead (c ∷ cs) ok all =
     let p = and_parts (scalar c) (scalars cs) ok in
-    let q = parts-unescaped (encode c) (encodes cs) all in
+    let q = both-unescaped (encode c) (encodes cs) all in
     Leads-append state.Str state.Str state.Str (encode c) (encodes cs) (character_leads c p.0 q.0) (characters_lead cs p.1 q.1)
 
 pub utf8_leads : (bs : List ℕ) → IsUtf8 bs → AllUnescaped bs → Leads state.Str bs state.Str
@@ -85,15 +85,15 @@ utf8_leads bs u all =
     let e : encodes u.0 ≡ bs = u.1.1 in
     subst (λ l. Leads state.Str l state.Str) e (characters_lead u.0 u.1.0 (subst AllUnescaped (sym e) all))
 
--- ---- runs in a text
+-- ---- stretches in a text
 
 take-unescaped : (n : ℕ) (ys : List ℕ) → ((k : ℕ) → k < n → is_unescaped (get_or ys k 0) ≡ true) → AllUnescaped (take n ys)
 take-unescaped zero ys h = tt
 take-unescaped (suc n) [] h = tt
 take-unescaped (suc n) (y ∷ ys) h = (h 0 (omega arith), take-unescaped n ys (λ k lt. h (suc k) (omega arith)))
 
-run-unescaped : (xs : List ℕ) (from to r : ℕ) → IsFirstPlace (λ k. not (is_unescaped (get_or xs k 0))) from to r → AllUnescaped (slice_range xs from r)
-run-unescaped xs from to r first =
+stretch-unescaped : (xs : List ℕ) (from to r : ℕ) → IsFirstPlace (λ k. not (is_unescaped (get_or xs k 0))) from to r → AllUnescaped (slice_range xs from r)
+stretch-unescaped xs from to r first =
     take-unescaped (r - from) (drop from xs)
     (λ k lt. subst (λ b. is_unescaped b ≡ true) (sym (get_or-drop from xs k 0)) (not-false _ (first.before (from + k) (omega arith) (omega (arith, lt)))))
 
@@ -111,7 +111,7 @@ slice-slice xs a b i r ai ir rb =
     ∙ ap (λ n. take n (take (b - i) (drop i xs))) g
     ∙ take-again (r - i) (b - i) (drop i xs) (omega arith)
 
--- a run of a stretch that is well formed, from the first byte of a character on
+-- a slice of a stretch that is well formed, from the first byte of a character on
 pub stretch_led : (xs : List ℕ) (a b i r : ℕ) → a ≤ i → i < b → b ≤ length xs → IsUtf8 (slice_range xs a b) → 0xc0 ≤ get_or xs i 0
     → IsFirstPlace (λ k. not (is_unescaped (get_or xs k 0))) i b r → Leads state.Str (slice_range xs i r) state.Str
 stretch_led xs a b i r ai ib within utf8 lead first =
@@ -129,5 +129,5 @@ stretch_led xs a b i r ai ib within utf8 lead first =
           let low = end_low (get_or xs r 0) (first.hit below) in
           absurd (omega (arith, at_r, low, ge)),
     ) in
-    let part : IsUtf8 (take ((r - a) - (i - a)) (drop (i - a) w)) = IsUtf8-between w (i - a) (r - a) utf8 (omega arith) begins ends in
-    utf8_leads (slice_range xs i r) (subst IsUtf8 (slice-slice xs a b i r ai ir rb) part) (run-unescaped xs i b r first)
+    let middle : IsUtf8 (take ((r - a) - (i - a)) (drop (i - a) w)) = IsUtf8-between w (i - a) (r - a) utf8 (omega arith) begins ends in
+    utf8_leads (slice_range xs i r) (subst IsUtf8 (slice-slice xs a b i r ai ir rb) middle) (stretch-unescaped xs i b r first)

@@ -8,7 +8,7 @@ use Rattle.jx_lex.specs.declared.map.link.Link.TheVariants.{Ahead, State, Fault}
 use Rattle.jx_lex.specs.Ordinal.{ordinal}
 
 -- what a contract sees of a segment
-pub record Part : Type 0 where
+pub record SegmentValue : Type 0 where
   pub marks : List Mark
   pub ends : List ℕ
   pub next : Link
@@ -16,11 +16,11 @@ pub record Part : Type 0 where
 abbrev pub done : LexExit → Track
 done e = record { marks = []; ends = []; exit = e }
 
-abbrev pub behind : Part → Track → Track
+abbrev pub behind : SegmentValue → Track → Track
 behind p t = record { marks = p.marks ++ t.marks; ends = p.ends ++ t.ends; exit = t.exit }
 
 -- the track from here on: Ahead k is the segment behind the next k ones
-unfoldable pub follow : List Part → Link → Track
+unfoldable pub follow : List SegmentValue → Link → Track
 follow ps (State s) = done (state s)
 follow ps (Fault at) = done (fault at)
 follow [] (Ahead k) = done (fault 0)
@@ -33,7 +33,7 @@ IsIn n (Ahead k) = k < n
 IsIn n (State s) = Unit {0}
 IsIn n (Fault at) = Unit {0}
 
-abbrev pub AreIn : List Part → Type 0
+abbrev pub AreIn : List SegmentValue → Type 0
 AreIn [] = Unit {0}
 AreIn (p ∷ ps) = IsIn (length ps) p.next × AreIn ps
 
@@ -46,12 +46,12 @@ shifted n (Fault at) = Fault at
 abbrev pub head : List Link → LexState → Link
 head heads s = get_or heads (ordinal s) (Fault 0)
 
--- what leads out in a state goes on where the right begins from that state, n segments further on
+-- an exit in a state becomes the right map's head for that state, n segments further on
 abbrev pub linked : List Link → ℕ → Link → Link
 linked heads n (Ahead k) = Ahead k
 linked heads n (State s) = shifted n (head heads s)
 linked heads n (Fault at) = Fault at
 
-abbrev pub linked_parts : List Link → List Part → List Part
-linked_parts heads [] = []
-linked_parts heads (p ∷ ps) = record p { next = linked heads (length ps) p.next } ∷ linked_parts heads ps
+abbrev pub linked_segments : List Link → List SegmentValue → List SegmentValue
+linked_segments heads [] = []
+linked_segments heads (p ∷ ps) = record p { next = linked heads (length ps) p.next } ∷ linked_segments heads ps

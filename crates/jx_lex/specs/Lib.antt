@@ -11,6 +11,6 @@ pub mod Seen
 pub mod Token
 pub mod TokenStates
 pub mod TokenSteps
-pub mod TwoParts
+pub mod TwoPieces
 pub mod View
 pub mod inside

@@ -4,23 +4,23 @@ use Rattle.jx_lex.specs.declared.alphabet.state.LexState.{LexState}
 use Rattle.jx_lex.specs.Lex.{LexExit, Track, lex}
 use Rattle.jx_lex.specs.declared.alphabet.mark.Mark.{Mark}
 use Rattle.jx_lex.specs.declared.map.link.Link.{Link}
-use Rattle.jx_lex.specs.Follow.{Part, follow, head, IsIn, AreIn, linked, linked_parts}
+use Rattle.jx_lex.specs.Follow.{SegmentValue, follow, head, IsIn, AreIn, linked, linked_segments}
 
 pub record Map : Type 0 where
   pub start : ℕ
   pub end : ℕ
   pub heads : List Link
-  pub parts : List Part
+  pub segments : List SegmentValue
 
 -- the track from a state
 abbrev pub track : Map → LexState → Track
-track m s = follow m.parts (head m.heads s)
+track m s = follow m.segments (head m.heads s)
 
 -- all that the map leads to is there
 pub record IsLinked (m : Map) : Type 0 where
   pub all : length m.heads ≡ 32
-  pub heads : (s : LexState) → IsIn (length m.parts) (head m.heads s)
-  pub parts : AreIn m.parts
+  pub heads : (s : LexState) → IsIn (length m.segments) (head m.heads s)
+  pub segments : AreIn m.segments
 
 -- the map of these bytes
 pub record IsOf (bytes : List ℕ) (m : Map) : Type 0 where
@@ -33,7 +33,7 @@ pub record EndsInTwo (m : Map) : Type 0 where
   pub other : LexState
   pub all : (s t : LexState) → (track m s).exit ≡ LexExit.state t → (t ≡ one) ⊎ (t ≡ other)
 
-abbrev pub stored : List Part → ℕ
+abbrev pub stored : List SegmentValue → ℕ
 stored [] = 0
 stored (p ∷ ps) = length p.marks + stored ps
 
@@ -43,7 +43,7 @@ MarksIn from to [] = Unit {0}
 MarksIn from to (m ∷ ms) = (from ≤ m.at) × (m.at < to) × MarksIn (m.at + 1) to ms
 
 -- the marks of each segment
-abbrev pub ArePlaced : ℕ → ℕ → List Part → Type 0
+abbrev pub ArePlaced : ℕ → ℕ → List SegmentValue → Type 0
 ArePlaced from to [] = Unit {0}
 ArePlaced from to (p ∷ ps) = MarksIn from to p.marks × ArePlaced from to ps
 
@@ -53,6 +53,6 @@ joined_map l r =
     record {
       start = l.start;
       end = r.end;
-      heads = map (linked r.heads (length l.parts)) l.heads;
-      parts = linked_parts r.heads l.parts ++ r.parts;
+      heads = map (linked r.heads (length l.segments)) l.heads;
+      segments = linked_segments r.heads l.segments ++ r.segments;
     }

@@ -21,7 +21,7 @@ Grows old new more others = (marks : List Mark) (ends : List ℕ) → old marks 
 abbrev pub SeesTrack : Seen → Seen → Track → Type 0
 SeesTrack old new track = Grows old new track.marks track.ends
 
--- whatever was seen, it is also what that and anything more comes to
+-- nothing more is wanted: what counts as seen stays so, whatever marks and ends come behind
 abbrev pub WantsNoMore : Seen → Type 0
 WantsNoMore seen = (marks more : List Mark) (ends others : List ℕ) → seen marks ends → seen (marks ++ more) (ends ++ others)
 

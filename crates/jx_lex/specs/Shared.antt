@@ -5,7 +5,7 @@ use Rattle.jx_lex.specs.declared.alphabet.state.LexState.{LexState}
 use Rattle.jx_lex.specs.Moves.{move}
 use Rattle.jx_lex.specs.declared.map.link.Link.{Link}
 use Rattle.jx_lex.specs.declared.map.link.Link.TheVariants.{Ahead, State, Fault}
-use Rattle.jx_lex.specs.Follow.{Part}
+use Rattle.jx_lex.specs.Follow.{SegmentValue}
 use Rattle.jx_lex.specs.Ordinal.{ordinal, all_states}
 
 -- the states that are held after a byte
@@ -45,6 +45,6 @@ HeldAt held (State t) = has t held ≡ true
 HeldAt held (Ahead k) = Unit {0}
 HeldAt held (Fault at) = Unit {0}
 
-abbrev pub AllHeld : List LexState → List Part → Type 0
+abbrev pub AllHeld : List LexState → List SegmentValue → Type 0
 AllHeld held [] = Unit {0}
 AllHeld held (p ∷ ps) = HeldAt held p.next × AllHeld held ps

@@ -66,7 +66,7 @@ pub data IsExp : List ℕ → Type 0 where
   no_exp : IsExp []
   exp : {e b : ℕ} {sign bs : List ℕ} → IsE e → IsSign sign → IsDigit b → Digits bs → IsExp (e ∷ (sign ++ (b ∷ bs)))
 
--- a number: its four parts one after another
+-- a number: the four of them one after another
 --   number = [ minus ] int [ frac ] [ exp ]
 pub data IsNumber : List ℕ → Type 0 where
   number : {minus int frac exp : List ℕ} → IsMinus minus → IsInt int → IsFrac frac → IsExp exp → IsNumber (minus ++ (int ++ (frac ++ exp)))
@@ -105,24 +105,24 @@ escaped_unit b =
 abbrev pub hex_unit : ℕ → ℕ → ℕ → ℕ → ℕ
 hex_unit a b c d = digit_value a * 4096 + digit_value b * 256 + digit_value c * 16 + digit_value d
 
--- a part of a string, and its UTF-16 units: a character that stands for itself, or an escape
+-- a character of a string, and its UTF-16 units: it stands for itself, or is an escape
 --   char = unescaped / escape ( one of the above / %x75 4HEXDIG ), escape = %x5C,
 --   unescaped = %x20-21 / %x23-5B / %x5D-10FFFF
-pub data IsPart : List ℕ → List ℕ → Type 0 where
-  character : {w : List ℕ} {c : ℕ} → Utf8 w c → 0x20 ≤ c → c ≢ 0x22 → c ≢ 0x5c → IsPart w (encode_utf16 c)
-  escape : {b : ℕ} → IsEscaped b → IsPart (0x5c ∷ b ∷ []) (escaped_unit b ∷ [])
-  unit : {a b c d : ℕ} → IsHexDigit a → IsHexDigit b → IsHexDigit c → IsHexDigit d → IsPart (0x5c ∷ 0x75 ∷ a ∷ b ∷ c ∷ d ∷ []) (hex_unit a b c d ∷ [])
+pub data IsChar : List ℕ → List ℕ → Type 0 where
+  character : {w : List ℕ} {c : ℕ} → Utf8 w c → 0x20 ≤ c → c ≢ 0x22 → c ≢ 0x5c → IsChar w (encode_utf16 c)
+  escape : {b : ℕ} → IsEscaped b → IsChar (0x5c ∷ b ∷ []) (escaped_unit b ∷ [])
+  unit : {a b c d : ℕ} → IsHexDigit a → IsHexDigit b → IsHexDigit c → IsHexDigit d → IsChar (0x5c ∷ 0x75 ∷ a ∷ b ∷ c ∷ d ∷ []) (hex_unit a b c d ∷ [])
 
--- any number of parts, and their units
+-- any number of them, and their units
 --   *char
-pub data Parts : List ℕ → List ℕ → Type 0 where
-  no_parts : Parts [] []
-  part : {w v us vs : List ℕ} → IsPart w us → Parts v vs → Parts (w ++ v) (us ++ vs)
+pub data Chars : List ℕ → List ℕ → Type 0 where
+  no_chars : Chars [] []
+  one_char : {w v us vs : List ℕ} → IsChar w us → Chars v vs → Chars (w ++ v) (us ++ vs)
 
 -- a string, and its value as UTF-16 units
 --   string = quotation-mark *char quotation-mark, quotation-mark = %x22
 pub data IsString : List ℕ → List ℕ → Type 0 where
-  quoted : {w us : List ℕ} → Parts w us → IsString (0x22 ∷ (w ++ (0x22 ∷ []))) us
+  quoted : {w us : List ℕ} → Chars w us → IsString (0x22 ∷ (w ++ (0x22 ∷ []))) us
 
 -- ---- tokens (section 3)
 

@@ -6,22 +6,22 @@ use Rattle.jx_lex.specs.declared.map.link.Link.{Link}
 use Rattle.jx_lex.specs.declared.map.link.Link.TheVariants as link
 use Rattle.jx_lex.specs.declared.alphabet.lex_exit.LexExit.{LexExit}
 use Rattle.jx_lex.specs.declared.alphabet.lex_exit.LexExit.TheVariants as exit
-use Rattle.jx_lex.specs.Follow.{Part, follow}
+use Rattle.jx_lex.specs.Follow.{SegmentValue, follow}
 
 -- the segments of a map, and where in them the track begins
 pub record View : Type 0 where
-  pub parts : List Part
+  pub segments : List SegmentValue
   pub first : Link
 
 abbrev pub view_track : View → lex.Track
-view_track v = follow v.parts v.first
+view_track v = follow v.segments v.first
 
 abbrev pub exit_of : LexExit → lex.LexExit
 exit_of (exit.State s) = lex.LexExit.state s
 exit_of (exit.Fault at) = lex.LexExit.fault at
 
 -- the numbers of the segments that a track goes through, where the first of these segments has the number n
-unfoldable pub path_from : ℕ → List Part → Link → List ℕ
+unfoldable pub path_from : ℕ → List SegmentValue → Link → List ℕ
 path_from n ps (link.State s) = []
 path_from n ps (link.Fault at) = []
 path_from n [] (link.Ahead k) = []
@@ -29,12 +29,12 @@ path_from n (p ∷ ps) (link.Ahead zero) = n ∷ path_from (suc n) ps p.next
 path_from n (p ∷ ps) (link.Ahead (suc k)) = path_from (suc n) ps (link.Ahead k)
 
 abbrev pub view_path : View → List ℕ
-view_path v = path_from 0 v.parts v.first
+view_path v = path_from 0 v.segments v.first
 
 -- the marks of the segment of this number
-abbrev pub marks_at : List Part → ℕ → List Mark
+abbrev pub marks_at : List SegmentValue → ℕ → List Mark
 marks_at ps n = (get_or ps n (record { marks = []; ends = []; next = link.Fault 0 })).marks
 
 -- the ends of the segment of this number
-abbrev pub ends_at : List Part → ℕ → List ℕ
+abbrev pub ends_at : List SegmentValue → ℕ → List ℕ
 ends_at ps n = (get_or ps n (record { marks = []; ends = []; next = link.Fault 0 })).ends

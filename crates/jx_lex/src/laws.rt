@@ -10,7 +10,7 @@ ghost use Rattle.jx_lex.specs.Uneventful.{AllKeep, Leads};
 ghost use Rattle.jx_lex.specs.Token.{IsToken};
 ghost use Rattle.jx_lex.specs.TokenStates.{IsRead, in_token, mark_of};
 ghost use Rattle.jx_lex.specs.TokenSteps.{GapStep, TokenStep};
-ghost use Rattle.jx_lex.specs.TwoParts.{joined};
+ghost use Rattle.jx_lex.specs.TwoPieces.{joined};
 
 /// Bytes that keep the state and have no event may be passed over, and so may those that lead back to it.
 pub fn uneventful_bytes_may_be_passed_over()
@@ -18,9 +18,9 @@ pub fn uneventful_bytes_may_be_passed_over()
     ensures led { (s t : LexState) (at : ℕ) (run bytes : List ℕ) → Leads s run t → lex s at (run ++ bytes) ≡ lex t (at + length run) bytes }
 {}
 
-/// Bytes are read part by part: the rest goes on in the state that the first part leads to, and behind a fault nothing is
+/// Bytes are read piece by piece: the second goes on in the state that the first leads to, and behind a fault nothing is
 /// read.
-pub fn parts_are_read_in_turn()
+pub fn pieces_are_read_in_turn()
     ensures two { (s : LexState) (at : ℕ) (first rest : List ℕ) → lex s at (first ++ rest) ≡ joined (lex s at first) (λ next. lex next (at + length first) rest) }
     ensures stretch { (text : List ℕ) (a b c : ℕ) (s : LexState) → a ≤ b → b ≤ c → b ≤ length text
         → lex s a (slice_range text a c) ≡ joined (lex s a (slice_range text a b)) (λ next. lex next b (slice_range text b c)) }

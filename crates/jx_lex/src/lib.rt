@@ -16,7 +16,7 @@ pub use alphabet::state::{LexState, Step, TokenEnd};
 pub use jx_summary::{Depth, JoinFault, Span};
 pub use kind::Kind;
 pub use laws::{
-    parts_are_read_in_turn, states_stand_in_order, tokens_are_read,
+    pieces_are_read_in_turn, states_stand_in_order, tokens_are_read,
     uneventful_bytes_may_be_passed_over,
 };
 pub use map::chunk_map::ChunkMap;

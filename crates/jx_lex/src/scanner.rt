@@ -11,7 +11,7 @@ ghost use Rattle.jx_lex.specs.View.{exit_of};
 pub(crate) mod ahead;
 pub(crate) mod byte_sets;
 pub(crate) mod keeper;
-pub(crate) mod string_parts;
+pub(crate) mod string_chars;
 pub(crate) mod token_rest;
 pub(crate) mod tokens;
 
@@ -23,7 +23,7 @@ use crate::alphabet::mark::{Mark, MarkKind};
 use crate::alphabet::state::LexState;
 use crate::scanner::ahead::Ahead;
 use crate::scanner::keeper::Keeper;
-use crate::scanner::string_parts::string_end_ahead;
+use crate::scanner::string_chars::string_end_ahead;
 use crate::scanner::token_rest::{gap_end, literal_end, more_digits, number_rest};
 use std::alloc::AllocError;
 
@@ -246,7 +246,7 @@ fn literal<K: Keeper>(
 /// Reads on from the state to which this byte led, over the rest of a token or over blanks. Gives their end, and sets the
 /// state behind them.
 #[inline(always)]
-fn run_on<K: Keeper>(
+fn read_rest<K: Keeper>(
     keeper: &mut K,
     state: &mut LexState,
     text: &[u8],
@@ -319,7 +319,7 @@ pub fn scan<K: Keeper>(
             return Ok(Some(LexExit::Fault(i)));
         };
         state = next;
-        let end = run_on(keeper, &mut state, text, byte, i + 1, to, &mut ahead)?;
+        let end = read_rest(keeper, &mut state, text, byte, i + 1, to, &mut ahead)?;
         i = end;
     }
     Ok(Some(LexExit::State(state)))

@@ -9,7 +9,7 @@ use Rattle.jx_reduce.specs.declared.holder.Holder.TheVariants.{Array, Object, Bo
 use Rattle.jx_reduce.specs.declared.level.Level.{Level}
 use Rattle.jx_reduce.specs.declared.ended_level.EndedLevel.{EndedLevel}
 
--- levels in two parts are gone along one after another
+-- two lists of levels are gone along one after another
 pub along-append : (xs ys : List EndedLevel) (s : List Holder) (k : List Holder → Plain) → along (xs ++ ys) s k ≡ along xs s (λ t. along ys t k)
 along-append [] ys s k = refl
 along-append (x ∷ xs) ys s k = ap (unless (end_fault_of x (top s))) (along-append xs ys (without_top s) k)

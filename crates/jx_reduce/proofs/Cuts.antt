@@ -28,7 +28,7 @@ pub below-push : (c d : ℕ) (ms : List Mark) (m : Mark) → c ≤ m.at → m.at
 below-push c d [] m g h e = ((g, h), tt)
 below-push c d (n ∷ ms) m g h e = ((e.0.0, omega (arith, h, e.0.1)), below-push c d ms m g h e.1)
 
--- an offset between both parts
+-- an offset between the left and the right
 pub record Between (b n : ℕ) (ms : List Mark) : Type 0 where
   pub at : ℕ
   pub low : b ≤ at
@@ -67,7 +67,7 @@ under b (m ∷ ms) r =
       below = ((r.0, omega (arith, rest.low)), each_lower b (m.at + 1) rest.at ms (omega (arith, r.0)) rest.below);
     }
 
--- the structures of both parts may be joined
+-- the structures of the left and the right may be joined
 pub before_of_parts : (n : ℕ) (ms : List Mark) (l r : Forms) → RisingFrom 0 ms
     → ((low high : ℕ) → EachIn (λ m. (low ≤ m.at) × (m.at < high)) (take n ms) → SpansIn low high l)
     → ((low high : ℕ) → EachIn (λ m. (low ≤ m.at) × (m.at < high)) (drop n ms) → SpansIn low high r)

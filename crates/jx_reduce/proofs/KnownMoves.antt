@@ -14,11 +14,11 @@ read-fault d (m ∷ ms) (went e s) f = absurd f
 read-fault d (m ∷ ms) (stopped at) f = read-fault d ms (stopped at) f
 read-fault d (m ∷ ms) (too_deep at) f = read-fault d ms (too_deep at) f
 
--- a part, and what follows it
+-- marks, and what follows them
 pub part_then : (d : ℕ) (i : ℕ) (ms : List Mark) (r : Reading) → read d ms r ≡ read d (drop i ms) (read d (take i ms) r)
 part_then d i ms r = ap (λ (xs : List Mark). read d xs r) (sym (take-append-drop i ms)) ∙ read-append d (take i ms) (drop i ms) r
 
--- a fault in a part is the fault of all
+-- a fault in the first marks is the fault of all
 pub part_fault : (d i : ℕ) (ms : List Mark) (r new : Reading) → new ≡ read d (take i ms) r → IsFault new → new ≡ read d ms r
 part_fault d i ms r new e f = sym (read-fault d (drop i ms) new f) ∙ ap (read d (drop i ms)) e ∙ sym (part_then d i ms r)
 

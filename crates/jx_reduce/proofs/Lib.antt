@@ -13,7 +13,7 @@ mod HolderSets
 mod QuietMarks
 mod Exits
 mod Strings
-mod Parts
+mod HeadAndTail
 pub mod Spans
 pub mod Cuts
 mod KnownWords

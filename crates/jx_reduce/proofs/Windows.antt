@@ -2,9 +2,9 @@
 use Rattle.std.proofs.Common.{◌≡◌, ℕ, ◌+◌, ◌-◌, List, [], ◌∷◌, ◌++◌, length, append_assoc, append-nil, refl, sym, ap, subst, ◌∙◌, arith, Option, None, Some, true}
 use Rattle.std.specs.Prelude.{◌↔◌, slice_get}
 use Rattle.jx_reduce.specs.Offsets.{RisingFrom}
-use Rattle.jx_reduce.specs.Parts.{AreParts}
+use Rattle.jx_reduce.specs.HeadAndTail.{AreHeadAndTail}
 use Rattle.jx_reduce.specs.Reducer.{ReducerValue, IsFront, HasReduced, past}
-use Rattle.jx_reduce.proofs.Parts.{parts_all}
+use Rattle.jx_reduce.proofs.HeadAndTail.{split_all}
 use Rattle.jx_lex.specs.declared.alphabet.mark.Mark.{Mark}
 
 -- just past the last of the marks, or where none is, this
@@ -12,9 +12,9 @@ abbrev pub end_of : ℕ → List Mark → ℕ
 end_of b [] = b
 end_of b (m ∷ ms) = end_of (m.at + 1) ms
 
-pub rising-parts : (b : ℕ) (xs ys : List Mark) → RisingFrom b (xs ++ ys) → RisingFrom b xs × RisingFrom (end_of b xs) ys
-rising-parts b [] ys h = (tt, h)
-rising-parts b (x ∷ xs) ys h = let r = rising-parts (x.at + 1) xs ys h.1 in ((h.0, r.0), r.1)
+pub rising-split : (b : ℕ) (xs ys : List Mark) → RisingFrom b (xs ++ ys) → RisingFrom b xs × RisingFrom (end_of b xs) ys
+rising-split b [] ys h = (tt, h)
+rising-split b (x ∷ xs) ys h = let r = rising-split (x.at + 1) xs ys h.1 in ((h.0, r.0), r.1)
 
 end-last : (b : ℕ) (m : Mark) (ms : List Mark) (l : Mark) → slice_get (m ∷ ms) (length ms) ≡ Some l → end_of b (m ∷ ms) ≡ l.at + 1
 end-last b m [] l h = let e : m ≡ l = cc in ap (λ (x : Mark). x.at + 1) e
@@ -46,13 +46,13 @@ rising-more b (x ∷ xs) ys h k = (h.0, rising-more (x.at + 1) xs ys h.1 k)
 pub behind_window : (b : ℕ) (next : Option ℕ) (window : List Mark) → RisingFrom b window → past next ≡ end_of b window
     → (more : List Mark) → RisingFrom b (window ++ more) ↔ RisingFrom (past next) more
 behind_window b next window h e more = (
-  λ up. subst (λ n. RisingFrom n more) (sym e) (rising-parts b window more up).1,
+  λ up. subst (λ n. RisingFrom n more) (sym e) (rising-split b window more up).1,
   λ up. rising-more b window more h (subst (λ n. RisingFrom n more) e up),
 )
 
 -- the front of no marks
 pub no_front : (d : ℕ) (head : List Mark) → head ≡ [] → IsFront [] d head None None
-no_front d head e = subst (λ head. IsFront [] d head None None) (sym e) (record { parts = parts_all d [] tt; behind = λ more. (λ up. up, λ up. up) })
+no_front d head e = subst (λ head. IsFront [] d head None None) (sym e) (record { split = split_all d [] tt; behind = λ more. (λ up. up, λ up. up) })
 
 pub nothing_reduced : (d : ℕ) (head window : List Mark) → head ≡ [] → window ≡ []
     → HasReduced [] (record { depth = d; head = head; tail = None; last = None; window = window; rising = true })
@@ -64,14 +64,14 @@ nothing_reduced d head window e f rising = record { front = []; are = sym f; ris
 pub record IsRead (old new : ReducerValue) : Type 0 where
   pub depth : new.depth ≡ old.depth
   pub window : RisingFrom (past old.last) old.window
-  pub parts : (front : List Mark) → AreParts old.depth old.head old.tail front → RisingFrom 0 (front ++ old.window) → AreParts old.depth new.head new.tail (front ++ old.window)
+  pub split : (front : List Mark) → AreHeadAndTail old.depth old.head old.tail front → RisingFrom 0 (front ++ old.window) → AreHeadAndTail old.depth new.head new.tail (front ++ old.window)
   pub behind : (more : List Mark) → RisingFrom (past old.last) (old.window ++ more) ↔ RisingFrom (past new.last) more
 
 pub front_read : (old new : ReducerValue) → IsRead old new → (front : List Mark) → IsFront front old.depth old.head old.tail old.last
     → IsFront (front ++ old.window) new.depth new.head new.tail new.last
 front_read old new r front k =
     record {
-      parts = subst (λ d. AreParts d new.head new.tail (front ++ old.window)) (sym r.depth) (r.parts front k.parts ((k.behind old.window).1 r.window));
+      split = subst (λ d. AreHeadAndTail d new.head new.tail (front ++ old.window)) (sym r.depth) (r.split front k.split ((k.behind old.window).1 r.window));
       behind = λ more. (
         λ up. (r.behind more).0 ((k.behind (old.window ++ more)).0 (subst (RisingFrom 0) (append_assoc front old.window more) up)),
         λ up. subst (RisingFrom 0) (sym (append_assoc front old.window more)) ((k.behind (old.window ++ more)).1 ((r.behind more).1 up)),
@@ -98,7 +98,7 @@ pub window_pushed : (old : ReducerValue) (window : List Mark) (m : Mark) → win
     → (marks : List Mark) → HasReduced marks old
     → HasReduced (marks ++ m ∷ []) (record { depth = old.depth; head = old.head; tail = old.tail; last = old.last; window = window; rising = old.rising })
 window_pushed old window m e marks h rising =
-    let k = h (rising-parts 0 marks (m ∷ []) rising).0 in
+    let k = h (rising-split 0 marks (m ∷ []) rising).0 in
     record {
       front = k.front;
       are = ap (λ xs. xs ++ m ∷ []) k.are ∙ append_assoc k.front old.window (m ∷ []) ∙ ap (λ xs. k.front ++ xs) (sym e);

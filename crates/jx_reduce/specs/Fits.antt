@@ -3,7 +3,7 @@ use Rattle.std.specs.Prelude.{◌≡◌, ℕ, ◌+◌, ◌<◌, ◌≤◌, None,
 use Rattle.jx_reduce.specs.Form.{Form, levels_of}
 use Rattle.jx_reduce.specs.Join.{all_faulted}
 
--- what shows of this: at most d + 1 levels with the last one, d opens and d + 1 heights
+-- how many there are: at most d + 1 levels, the last one among them, d open containers and d + 1 heights
 pub record IsOfSize (d : ℕ) (r : Form) : Type 0 where
   pub levels : length (levels_of r) ≤ d + 1
   pub opens : length r.opens ≤ d
@@ -15,5 +15,5 @@ pub record Fits (d : ℕ) (r : Form) : Type 0 where
   pub opens : length r.opens ≤ d
   pub heights : length r.heights ≤ d + 1
   pub risen : length r.opens ≤ length r.ended + length r.heights
-  -- where nothing goes on, all have faulted, or the heights decide
+  -- where the form has no exit, all holders have faulted, or the heights decide
   pub decided : r.exit ≡ None → all_faulted r.last ≡ false → d < length r.ended + length r.heights

@@ -17,7 +17,7 @@ pub record Form : Type 0 where
   pub exit : Option Entry
   pub heights : List ℕ
 
--- what comes of the levels, with no eye to the depth
+-- what the levels come to, whatever the depth
 pub data Plain : Type 0 where
   halt : ℕ → Plain
   go : Expect → List Holder → Plain

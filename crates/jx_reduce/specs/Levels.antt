@@ -6,13 +6,13 @@ use Rattle.jx_reduce.specs.Join.{cut, absorbed, tail_of, base_at}
 use Rattle.jx_reduce.specs.declared.entry.Entry.{Entry}
 use Rattle.jx_reduce.specs.declared.holder.Holder.{Holder}
 use Rattle.jx_reduce.specs.declared.levels.Levels.{Levels}
-use Rattle.jx_reduce.specs.declared.part.Part.{Part}
+use Rattle.jx_reduce.specs.declared.form_ref.FormRef.{FormRef}
 
 abbrev pub form_of : Levels → Form
 form_of v = record { ended = v.ended.items; last = v.last; opens = reverse v.opens.items; exit = v.exit; heights = v.heights.items }
 
-abbrev pub part_form : Part → Form
-part_form p = record { ended = p.ended.now; last = p.last; opens = reverse p.opens.now; exit = p.exit; heights = p.heights.now }
+abbrev pub borrowed_form : FormRef → Form
+borrowed_form p = record { ended = p.ended.now; last = p.last; opens = reverse p.opens.now; exit = p.exit; heights = p.heights.now }
 
 abbrev pub head_of : {X : Type 0} → List X → Option X
 head_of [] = None
@@ -32,7 +32,7 @@ pub record IsSameBut (old new : Levels) : Type 0 where
   pub exit : new.exit ≡ old.exit
 
 -- no vector has to grow
-pub record HasRoom (v : Levels) (p : Part) : Type 0 where
+pub record HasRoom (v : Levels) (p : FormRef) : Type 0 where
   pub ended : vec_len v.ended + length p.ended.now ≤ vec_capacity v.ended
   pub opens : vec_len v.opens + length p.opens.now ≤ vec_capacity v.opens
   pub heights : vec_len v.heights + length p.heights.now ≤ vec_capacity v.heights

@@ -10,7 +10,7 @@ pub mod Levels
 pub mod Reduced
 pub mod Reducer
 pub mod Reductions
-pub mod Parts
+pub mod HeadAndTail
 pub mod Outcome
 pub mod Whole
 pub mod Shift

@@ -1,7 +1,7 @@
 -- What a contract sees of marks that are reduced as they come, and what it means that these were all of them.
 use Rattle.std.specs.Prelude.{◌≡◌, ◌↔◌, ℕ, ◌+◌, List, ◌++◌, Option, None, Some, Bool, true}
 use Rattle.jx_reduce.specs.Offsets.{RisingFrom}
-use Rattle.jx_reduce.specs.Parts.{AreParts}
+use Rattle.jx_reduce.specs.HeadAndTail.{AreHeadAndTail}
 use Rattle.jx_reduce.specs.declared.reduced.Reduced.{Reduced}
 use Rattle.jx_lex.specs.declared.alphabet.mark.Mark.{Mark}
 
@@ -23,7 +23,7 @@ past (Some at) = at + 1
 
 -- the head and the tail are of these marks, behind which more go on rising just where they stand past the last
 pub record IsFront (front : List Mark) (d : ℕ) (head : List Mark) (tail : Option Reduced) (last : Option ℕ) : Type 0 where
-  pub parts : AreParts d head tail front
+  pub split : AreHeadAndTail d head tail front
   pub behind : (more : List Mark) → RisingFrom 0 (front ++ more) ↔ RisingFrom (past last) more
 
 -- the marks are those in front of the window, and the window

@@ -169,7 +169,7 @@ impl KnownStack {
     }
 
     /// Takes one mark after another, and stops once the reading is done: the reading is that of all of them.
-    fn run(&mut self, marks: &[Mark]) -> Result<(), AllocError>
+    fn step_all(&mut self, marks: &[Mark]) -> Result<(), AllocError>
         ensures depth { self.new.depth ≡ self.old.depth }
         ensures reads { OnOk result (self.new.reading ≡ read self.old.depth marks.now self.old.reading) }
         ensures err { OnErr result (IsPartRead self.old self.new marks.now) }
@@ -190,7 +190,7 @@ impl KnownStack {
         ensures marks { OnOk result ((before : List Mark) → HasRead before self.old → HasRead (before ++ marks.now) self.new) }
         ensures err { OnErr result (IsPartRead self.old self.new marks.now) }
     {
-        self.run(marks)?;
+        self.step_all(marks)?;
         Ok(())
     }
 }

@@ -7,13 +7,13 @@ ghost use Rattle.jx_reduce.specs.Table.{same, added, removed};
 ghost use Rattle.jx_reduce.specs.Fits.{Fits};
 ghost use Rattle.jx_reduce.specs.inside.Quiet.{GoesOn};
 ghost use Rattle.jx_reduce.specs.inside.Shifted.{shifted_form};
-ghost use Rattle.jx_reduce.specs.Levels.{form_of, part_form, head_of, taken_in, ended_in, IsSameBut, HasRoom};
+ghost use Rattle.jx_reduce.specs.Levels.{form_of, borrowed_form, head_of, taken_in, ended_in, IsSameBut, HasRoom};
 
 use crate::ended_level::EndedLevel;
 use crate::entry::Entry;
+use crate::form_ref::FormRef;
 use crate::holder::Holder;
 use crate::level::Level;
-use crate::part::Part;
 use crate::quiet;
 use crate::shift::{Shift, all_shifted};
 use jx_lex::{Mark, MarkKind};
@@ -79,15 +79,15 @@ impl Levels {
     }
 
     /// Takes in the levels of the right that end, and then its last level.
-    fn take_in(&mut self, depth: usize, part: Part<'_>) -> Result<(), AllocError>
+    fn take_in(&mut self, depth: usize, right: FormRef<'_>) -> Result<(), AllocError>
         requires depth { depth < 2 ^ 32 }
         requires levels { length self.old.ended.items ≤ depth }
-        ensures ok { OnOk result (form_of self.new ≡ taken_in depth (form_of self.old) (part_form part.entry)) }
-        ensures succeeds { vec_len self.old.ended + length part.entry.ended.now ≤ vec_capacity self.old.ended
-            → vec_len self.old.opens + length part.entry.opens.now ≤ vec_capacity self.old.opens
+        ensures ok { OnOk result (form_of self.new ≡ taken_in depth (form_of self.old) (borrowed_form right.entry)) }
+        ensures succeeds { vec_len self.old.ended + length right.entry.ended.now ≤ vec_capacity self.old.ended
+            → vec_len self.old.opens + length right.entry.opens.now ≤ vec_capacity self.old.opens
             → IsOk result }
     {
-        for level in part.ended {
+        for level in right.ended {
             match innermost(&self.opens) {
                 Some(top) => match level.fault(top) {
                     Some(at) => {
@@ -111,53 +111,53 @@ impl Levels {
                 }
             }
         }
-        self.finish(depth, part)
+        self.finish(depth, right)
     }
 
     /// Takes in the last level of the right, where all levels before it have ended.
-    fn finish(&mut self, depth: usize, part: Part<'_>) -> Result<(), AllocError>
+    fn finish(&mut self, depth: usize, right: FormRef<'_>) -> Result<(), AllocError>
         requires depth { depth < 2 ^ 32 }
-        ensures ok { OnOk result (form_of self.new ≡ ended_in depth (form_of self.old) (part_form part.entry)) }
-        ensures succeeds { vec_len self.old.opens + length part.entry.opens.now ≤ vec_capacity self.old.opens → IsOk result }
+        ensures ok { OnOk result (form_of self.new ≡ ended_in depth (form_of self.old) (borrowed_form right.entry)) }
+        ensures succeeds { vec_len self.old.opens + length right.entry.opens.now ≤ vec_capacity self.old.opens → IsOk result }
     {
         match innermost(&self.opens) {
             Some(top) => {
-                if let Some(at) = part.last.fault(top) {
+                if let Some(at) = right.last.fault(top) {
                     let faults = self.last.filled(at);
                     self.halt(faults);
                     return Ok(());
                 }
             }
             None => {
-                self.last = self.last.merged(part.last);
+                self.last = self.last.merged(right.last);
             }
         }
-        if self.last.is_all() || depth < self.opens.len() + part.opens.len() {
+        if self.last.is_all() || depth < self.opens.len() + right.opens.len() {
             self.opens.clear();
             self.exit = None;
         } else {
-            self.opens.extend_from_slice(part.opens)?;
-            self.exit = part.exit;
+            self.opens.extend_from_slice(right.opens)?;
+            self.exit = right.exit;
         }
         Ok(())
     }
 
     /// Extends these levels by the right.
-    pub fn extend(&mut self, depth: usize, part: Part<'_>) -> Result<(), AllocError>
+    pub fn extend(&mut self, depth: usize, right: FormRef<'_>) -> Result<(), AllocError>
         requires depth { depth < 2 ^ 32 }
         requires fits { Fits depth (form_of self.old) }
-        ensures ok { OnOk result (form_of self.new ≡ joined depth (form_of self.old) (part_form part.entry)) }
-        ensures succeeds { HasRoom self.old part.entry → IsOk result }
+        ensures ok { OnOk result (form_of self.new ≡ joined depth (form_of self.old) (borrowed_form right.entry)) }
+        ensures succeeds { HasRoom self.old right.entry → IsOk result }
     {
-        self.raise(depth, part.heights)?;
-        self.take_in(depth, part)
+        self.raise(depth, right.heights)?;
+        self.take_in(depth, right)
     }
 
     /// The same form, borrowed.
-    pub fn part(&self) -> Part<'_>
-        ensures { part_form result ≡ form_of self.now }
+    pub fn borrowed(&self) -> FormRef<'_>
+        ensures { borrowed_form result ≡ form_of self.now }
     {
-        Part {
+        FormRef {
             ended: &self.ended,
             last: self.last,
             opens: &self.opens,
@@ -178,14 +178,14 @@ impl Levels {
         requires fits { Fits depth (form_of self.old) }
         ensures ok { OnOk result (form_of self.new ≡ joined depth (form_of self.old) (of_change (added holder) entry mark)) }
     {
-        let part = Part {
+        let right = FormRef {
             ended: &[],
             last: entry.faults_at(mark),
             opens: &[holder],
             exit: Some(entry.leads_to(mark.kind)),
             heights: &[mark.at],
         };
-        self.extend(depth, part)
+        self.extend(depth, right)
     }
 
     /// Pushes a mark that closes a container.
@@ -194,14 +194,14 @@ impl Levels {
         requires fits { Fits depth (form_of self.old) }
         ensures ok { OnOk result (form_of self.new ≡ joined depth (form_of self.old) (of_change removed entry mark)) }
     {
-        let part = Part {
+        let right = FormRef {
             ended: &[entry.end_at(mark)],
             last: Level::NONE,
             opens: &[],
             exit: Some(entry.leads_to(mark.kind)),
             heights: &[],
         };
-        self.extend(depth, part)
+        self.extend(depth, right)
     }
 
     /// Pushes a mark that leaves the open containers as they are.
@@ -210,14 +210,14 @@ impl Levels {
         requires fits { Fits depth (form_of self.old) }
         ensures ok { OnOk result (form_of self.new ≡ joined depth (form_of self.old) (of_change same entry mark)) }
     {
-        let part = Part {
+        let right = FormRef {
             ended: &[],
             last: entry.faults_at(mark),
             opens: &[],
             exit: Some(entry.leads_to(mark.kind)),
             heights: &[],
         };
-        self.extend(depth, part)
+        self.extend(depth, right)
     }
 
     /// Pushes one more mark.
@@ -238,7 +238,7 @@ impl Levels {
     }
 
     /// Reads the first marks, as long as they change at most the open containers and the exit, and answers how many it read.
-    fn run(&mut self, depth: usize, marks: &[Mark]) -> usize
+    fn read_quiet(&mut self, depth: usize, marks: &[Mark]) -> usize
         requires depth { depth < 2 ^ 32 }
         requires fits { Fits depth (form_of self.old) }
         requires goes_on { GoesOn (form_of self.old) }
@@ -250,7 +250,7 @@ impl Levels {
         };
         let limit = depth.min(self.ended.len() + self.heights.len());
         let base = self.last.unfaulted();
-        let (taken, exit) = quiet::run(&mut self.opens, limit, base, entry, marks);
+        let (taken, exit) = quiet::pass(&mut self.opens, limit, base, entry, marks);
         self.exit = Some(exit);
         taken
     }
@@ -295,7 +295,7 @@ impl Levels {
         let mut levels = self;
         let mut done = 0;
         while done < marks.len() && levels.exit.is_some() {
-            done += levels.run(depth, &marks[done..]);
+            done += levels.read_quiet(depth, &marks[done..]);
             if done < marks.len() {
                 levels.push(depth, marks[done])?;
                 done += 1;

@@ -159,11 +159,11 @@ fn enter(opens: &mut Vec<Holder>, most: usize, holder: Holder) -> bool
     true
 }
 
-/// Runs through the marks that are no fault of any holder standing, end no level and reach no new height. It stops before
+/// Passes the marks that are no fault of any holder standing, end no level and reach no new height. It stops before
 /// the first that is none of these, and where one container more would need memory. It answers how many marks it took,
 /// and the entry behind them.
 #[inline(never)]
-pub(crate) fn run(
+pub(crate) fn pass(
     opens: &mut Vec<Holder>,
     limit: usize,
     base: u8,

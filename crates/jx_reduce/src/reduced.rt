@@ -39,7 +39,7 @@ pub struct Reduced {
 
 impl Reduced {
     ghost use Rattle.jx_reduce.specs.Reduced.{depth_of, form_in, answer_of};
-    ghost use Rattle.jx_reduce.specs.Parts.{tail_behind, then_tail};
+    ghost use Rattle.jx_reduce.specs.HeadAndTail.{tail_behind, then_tail};
 
     /// The form of no marks.
     pub(crate) fn new(alloc: Global, entry: Entry, depth: Depth) -> Reduced
@@ -77,7 +77,7 @@ impl Reduced {
     }
 
     /// The form of a head of marks, read from this entry, and of the tail behind it where the head goes on.
-    pub(crate) fn of_parts(
+    pub(crate) fn of_head_and_tail(
         alloc: Global,
         entry: Entry,
         head: &[Mark],
@@ -210,7 +210,7 @@ impl Reduced {
     {
         match self
             .levels
-            .extend(self.depth.containers() as usize, right.levels.part())
+            .extend(self.depth.containers() as usize, right.levels.borrowed())
         {
             Ok(()) => {}
             Err(AllocError) => unreachable!(),

@@ -2,7 +2,7 @@
 
 ghost use Rattle.std.specs.Prelude.{◌≡◌, ◌↔◌, ◌≤◌, ◌<◌, ◌++◌, ℕ, List, [], ◌∷◌, true, IsTrue, OnOk, IfOk};
 ghost use Rattle.jx_reduce.specs.Offsets.{RisingFrom, EachIn};
-ghost use Rattle.jx_reduce.specs.Parts.{AreParts};
+ghost use Rattle.jx_reduce.specs.HeadAndTail.{AreHeadAndTail};
 ghost use Rattle.jx_reduce.specs.Reducer.{ReducerValue, HasReduced, IsFront, past};
 ghost use Rattle.jx_reduce.specs.Reductions.{IsOf, SpansIn};
 ghost use Rattle.jx_lex.specs.declared.alphabet.mark.Mark.{Mark};
@@ -74,7 +74,7 @@ fn read_on(
     window: &[Mark],
     depth: Depth,
 ) -> Result<Option<Reduced>, AllocError>
-    ensures { IfOk result (λ next. (front : List Mark) → AreParts depth head.old.items tail front → RisingFrom 0 (front ++ window.now) → AreParts depth head.new.items next (front ++ window.now)) }
+    ensures { IfOk result (λ next. (front : List Mark) → AreHeadAndTail depth head.old.items tail front → RisingFrom 0 (front ++ window.now) → AreHeadAndTail depth head.new.items next (front ++ window.now)) }
 {
     if let Some(tail) = tail {
         return Ok(Some(tail.read_on(window)?));
@@ -162,7 +162,7 @@ impl Reducer {
             ..
         } = reducer;
         if rising {
-            Reductions::of_parts(*head.allocator(), &head, &tail, depth)
+            Reductions::of_head_and_tail(*head.allocator(), &head, &tail, depth)
         } else {
             // Marks whose offsets don't rise have no structure.
             Ok(Reductions::new(*window.allocator(), depth))

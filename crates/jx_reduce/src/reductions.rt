@@ -6,7 +6,7 @@ ghost use Rattle.jx_reduce.specs.Fits.{IsOfSize};
 ghost use Rattle.jx_reduce.specs.Reduced.{depth_of, form_in};
 ghost use Rattle.jx_reduce.specs.Reductions.{answer, form_at, entry_of, IsJoin, IsBefore, IsOf, SpansIn};
 ghost use Rattle.jx_reduce.specs.inside.Follow.{followed, IsReady};
-ghost use Rattle.jx_reduce.specs.Parts.{EndsWith, AreParts};
+ghost use Rattle.jx_reduce.specs.HeadAndTail.{EndsWith, AreHeadAndTail};
 ghost use Rattle.jx_reduce.specs.Shift.{shifted};
 ghost use Rattle.jx_reduce.specs.declared.expect.Expect.{Expect};
 ghost use Rattle.jx_reduce.specs.declared.holder.Holder.{Holder};
@@ -94,34 +94,40 @@ impl Reductions {
             Some((len, kind)) => {
                 let entry = Entry::Value.leads_to(kind);
                 let tail = Reduced::of(alloc, entry, &marks[len..], depth)?;
-                Reductions::of_parts(alloc, &marks[..len], &Some(tail), depth)
+                Reductions::of_head_and_tail(alloc, &marks[..len], &Some(tail), depth)
             }
-            None => Reductions::of_parts(alloc, marks, &None, depth),
+            None => Reductions::of_head_and_tail(alloc, marks, &None, depth),
         }
     }
 
     /// The structure of all marks of which these are the head, that is read from each entry, and the tail behind it.
-    pub(crate) fn of_parts(
+    pub(crate) fn of_head_and_tail(
         alloc: Global,
         head: &[Mark],
         tail: &Option<Reduced>,
         depth: Depth,
     ) -> Result<Reductions, AllocError>
-        requires parts { (marks : List Mark) × AreParts depth head.now tail.now marks }
+        requires split { (marks : List Mark) × AreHeadAndTail depth head.now tail.now marks }
         ensures depth { IfOk result (λ f. f.depth ≡ depth) }
-        ensures reads { IfOk result (λ f. (marks : List Mark) → AreParts depth head.now tail.now marks → IsOf marks f) }
-        ensures offsets { IfOk result (λ f. (marks : List Mark) → AreParts depth head.now tail.now marks → (low high : ℕ) → EachIn (λ m. (low ≤ m.at) × (m.at < high)) marks → SpansIn low high f) }
+        ensures reads { IfOk result (λ f. (marks : List Mark) → AreHeadAndTail depth head.now tail.now marks → IsOf marks f) }
+        ensures offsets { IfOk result (λ f. (marks : List Mark) → AreHeadAndTail depth head.now tail.now marks → (low high : ℕ) → EachIn (λ m. (low ≤ m.at) × (m.at < high)) marks → SpansIn low high f) }
     {
         Ok(Reductions {
             depth,
-            value: Reduced::of_parts(alloc, Entry::Value, head, tail, depth)?,
-            array_first: Reduced::of_parts(alloc, Entry::ArrayFirst, head, tail, depth)?,
-            object_first: Reduced::of_parts(alloc, Entry::ObjectFirst, head, tail, depth)?,
-            name: Reduced::of_parts(alloc, Entry::Name, head, tail, depth)?,
-            colon: Reduced::of_parts(alloc, Entry::Colon, head, tail, depth)?,
-            after: Reduced::of_parts(alloc, Entry::After, head, tail, depth)?,
-            value_or_name: Reduced::of_parts(alloc, Entry::ValueOrName, head, tail, depth)?,
-            after_or_colon: Reduced::of_parts(alloc, Entry::AfterOrColon, head, tail, depth)?,
+            value: Reduced::of_head_and_tail(alloc, Entry::Value, head, tail, depth)?,
+            array_first: Reduced::of_head_and_tail(alloc, Entry::ArrayFirst, head, tail, depth)?,
+            object_first: Reduced::of_head_and_tail(alloc, Entry::ObjectFirst, head, tail, depth)?,
+            name: Reduced::of_head_and_tail(alloc, Entry::Name, head, tail, depth)?,
+            colon: Reduced::of_head_and_tail(alloc, Entry::Colon, head, tail, depth)?,
+            after: Reduced::of_head_and_tail(alloc, Entry::After, head, tail, depth)?,
+            value_or_name: Reduced::of_head_and_tail(alloc, Entry::ValueOrName, head, tail, depth)?,
+            after_or_colon: Reduced::of_head_and_tail(
+                alloc,
+                Entry::AfterOrColon,
+                head,
+                tail,
+                depth,
+            )?,
         })
     }
 

@@ -13,10 +13,11 @@ use Rattle.jx_run.specs.Tree.{Tree}
 use Rattle.jx_index.specs.declared.row.Row.{Row}
 use Rattle.jx_index.specs.Indexed.{IndexedValue}
 use Rattle.jx_answer.specs.ByNames.{IsVerdictBy}
-use Rattle.jx_answer.specs.Settled.{AreJudgedBy, IsElementBy, IsIndexBy, IsJudgedBy, elements_by}
+use Rattle.jx_answer.specs.Settled.{AreJudgedBy, IsElementBy, IsIndexBy, IsJudgedBy}
 use Rattle.jx_answer.specs.declared.element.Element.{Element}
 use Rattle.jx_answer.specs.Sequence.{judged}
 use Rattle.jx_run.specs.declared.element_verdict.JudgedElement.{JudgedElement}
+use Rattle.jx_run.specs.MarkAlone.{elements_by}
 use Rattle.jx_task.specs.declared.task.Task.TheVariants.{Index, At, Seq}
 use Rattle.jx_report.specs.declared.exit.Exit.{Exit}
 use Rattle.jx_report.specs.declared.exit.Exit.TheVariants.{Good}

@@ -4,7 +4,7 @@ use Rattle.jx_lex.specs.declared.alphabet.state.LexState.{LexState}
 use Rattle.jx_lex.specs.declared.alphabet.state.LexState.TheVariants as state
 use Rattle.jx_lex.specs.Lex.{lex, LexExit, Track}
 use Rattle.jx_lex.specs.Map.{track}
-use Rattle.jx_lex.specs.TwoParts.{joined, right_of}
+use Rattle.jx_lex.specs.TwoPieces.{joined, right_of}
 use Rattle.jx_run.specs.TextRun.{TextRunValue, IsTextRun}
 
 right_same : (e : LexExit) (f g : LexState → Track) → ((s : LexState) → f s ≡ g s) → right_of e f ≡ right_of e g

@@ -27,10 +27,12 @@ pub mod SeqReading
 pub mod SequenceSteps
 pub mod Shifts
 pub mod Spans
-pub mod StateOrder
 pub mod TextRuns
 pub mod Theorems
 pub mod ToGrammar
 pub mod Unique
 pub mod VerdictLaws
 pub mod Ways
+pub mod ElementsLie
+pub mod InPlace
+pub mod MarksAlone

@@ -10,7 +10,7 @@ use Rattle.jx_run.specs.Grammar.{Blanks, no_blanks, blank, Value, leaf, empty_ar
 use Rattle.jx_run.specs.Text.{Document, document, IsDocument}
 use Rattle.jx_run.specs.Tree.{Tree, node, Children, no_children, span}
 use Rattle.jx_run.specs.Unclosed.{is_unclosed, EndsUnclosed, end_of, is_open, last_open, ends_open}
-use Rattle.jx_run.proofs.Spans.{next_part, blanks_part, value_part, items_part, members_part}
+use Rattle.jx_run.proofs.Spans.{then_stretch, blanks_stretch, value_stretch, items_stretch, members_stretch}
 
 -- ---- lists
 
@@ -76,10 +76,10 @@ closed_behind o t p u b h e = ap (last_open o) e ∙ last_open-append o p (b ∷
 value_open : (o : Bool) {i j : ℕ} {t u : List ℕ} {tree : Tree} → Value i t j u tree → last_open o t ≡ last_open (kind_open tree) u
 value_open o {u = u} (leaf {kind = kind} x) =
     ap (last_open o) x.whole ∙ last_open-append o x.token u ∙ ap (λ b. last_open b u) (token_open kind o x.token x.is_token)
-value_open o {u = u} (empty_array {bytes = bytes} bs) = let p = blanks_part bs in closed_behind (is_open 0x5b) bytes p.part u 0x5d refl p.whole
-value_open o {u = u} (array {bytes = bytes} xs) = let p = items_part xs in closed_behind (is_open 0x5b) bytes p.part u 0x5d refl p.whole
-value_open o {u = u} (empty_object {bytes = bytes} bs) = let p = blanks_part bs in closed_behind (is_open 0x7b) bytes p.part u 0x7d refl p.whole
-value_open o {u = u} (object {bytes = bytes} xs) = let p = members_part xs in closed_behind (is_open 0x7b) bytes p.part u 0x7d refl p.whole
+value_open o {u = u} (empty_array {bytes = bytes} bs) = let p = blanks_stretch bs in closed_behind (is_open 0x5b) bytes p.bytes u 0x5d refl p.whole
+value_open o {u = u} (array {bytes = bytes} xs) = let p = items_stretch xs in closed_behind (is_open 0x5b) bytes p.bytes u 0x5d refl p.whole
+value_open o {u = u} (empty_object {bytes = bytes} bs) = let p = blanks_stretch bs in closed_behind (is_open 0x7b) bytes p.bytes u 0x7d refl p.whole
+value_open o {u = u} (object {bytes = bytes} xs) = let p = members_stretch xs in closed_behind (is_open 0x7b) bytes p.bytes u 0x7d refl p.whole
 
 -- ---- blanks behind the value
 
@@ -101,7 +101,7 @@ data Behind (o : Bool) (i j : ℕ) (t : List ℕ) : Type 0 where
 behind : (o : Bool) {i j : ℕ} {t u : List ℕ} → Blanks i t j u → u ≡ [] → Behind o i j t
 behind o no_blanks e = nothing refl (ap (last_open o) e)
 behind o (blank {b = b} {i = i} {j = j} {bytes = bytes} h bs) e =
-    let p = (blanks_part bs).end in
+    let p = (blanks_stretch bs).end in
     blanks (omega (arith, p)) (ap (λ x. last_open x bytes) (blank_closed h) ∙ blanks_closed bs e)
 
 -- ---- texts
@@ -127,11 +127,11 @@ value_shows {i = i} {j = j} k u (object {children = below} xs) loose h e = node_
 
 document_shows : {i : ℕ} {t : List ℕ} {tree : Tree} → Document i t tree → Shows tree (i + length t) (ends_open t)
 document_shows {i = i} {t = t} {tree = tree} (document {l = l} {t1 = t1} {t2 = t2} bs v cs) =
-    let p = blanks_part bs in
-    let all = next_part p (next_part (value_part v) (blanks_part cs)) in
-    let long : length t ≡ length all.part = ap length (all.whole ∙ append-nil all.part) in
+    let p = blanks_stretch bs in
+    let all = then_stretch p (then_stretch (value_stretch v) (blanks_stretch cs)) in
+    let long : length t ≡ length all.bytes = ap length (all.whole ∙ append-nil all.bytes) in
     let last = all.end in
-    let same : ends_open t ≡ last_open (kind_open tree) t2 = ap ends_open p.whole ∙ last_open-append false p.part t1 ∙ value_open (last_open false p.part) v in
+    let same : ends_open t ≡ last_open (kind_open tree) t2 = ap ends_open p.whole ∙ last_open-append false p.bytes t1 ∙ value_open (last_open false p.bytes) v in
     subst (λ n. Shows tree n (ends_open t)) (omega (arith, last, long)) (value_shows l t2 v (ends_open t) (behind (kind_open tree) cs refl) same)
 
 -- an element's last byte shows whether its end shows

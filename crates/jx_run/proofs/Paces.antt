@@ -6,7 +6,7 @@ use Rattle.jx_lex.specs.declared.alphabet.state.LexState.{LexState}
 use Rattle.jx_lex.specs.Lex as reading
 use Rattle.jx_lex.specs.Lex.{lex, Track, LexExit}
 use Rattle.jx_lex.specs.Seen.{GoesTo, Seen, SeesTrack, WantsNoMore}
-use Rattle.jx_lex.specs.TwoParts.{joined, right_of}
+use Rattle.jx_lex.specs.TwoPieces.{joined, right_of}
 
 -- a stretch is read in two parts
 abbrev pub InTwo : Type 0

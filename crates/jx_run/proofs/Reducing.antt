@@ -13,7 +13,7 @@ use Rattle.jx_lex.specs.declared.alphabet.mark.Mark.{Mark}
 use Rattle.jx_lex.specs.declared.alphabet.mark.MarkKind.{MarkKind}
 use Rattle.jx_lex.specs.declared.alphabet.state.LexState.{LexState}
 use Rattle.std.proofs.lemmas.Option.{get_or_from_slice_get, slice_get_within, slice_get-get_or}
-use Rattle.jx_lex.specs.Follow.{Part}
+use Rattle.jx_lex.specs.Follow.{SegmentValue}
 use Rattle.jx_lex.specs.Lex.{lex, on_next, with_mark, Track}
 use Rattle.jx_lex.specs.Map.{Map, track}
 use Rattle.jx_lex.specs.Map
@@ -30,7 +30,7 @@ use Rattle.jx_run.specs.Reading.{at_exit, read}
 use Rattle.jx_run.specs.inside.Reduced.{AreInside, AreNumbered, AreReduced, AreRising, AreWaysOf, IsAt, IsReduced, IsWayOf, path_at}
 use Rattle.jx_run.specs.inside.Joins.{IsAbove}
 use Rattle.jx_run.specs.OutcomeRun.{OutcomeRunValue, IsOutcomeRun, IsFormWithin, outcome_in}
-use Rattle.jx_run.proofs.StateOrder.{state-at}
+use Rattle.jx_lex.proofs.StateOrder.{state-at}
 use Rattle.jx_run.proofs.Ways.{all_at, at_end, entries_are}
 
 -- ---- the marks of the lexical machine rise, and lie where the bytes do
@@ -162,10 +162,10 @@ reduced_ok limit ms (Err e) deep reads offsets = tt
 
 -- ---- the structures of segments
 
-pub none_reduced : (limit : ℕ) (ps : List Part) (parts : List (Option Forms)) → All (λ part. part ≡ None) parts → AreReduced limit ps parts
-none_reduced limit ps parts h n f e =
-    let x = get_or_from_slice_get parts n (Some f) None e in
-    let y : get_or parts n None ≡ None = h n None (slice_get_within parts n (Some f) e) in
+pub none_reduced : (limit : ℕ) (ps : List SegmentValue) (slots : List (Option Forms)) → All (λ slot. slot ≡ None) slots → AreReduced limit ps slots
+none_reduced limit ps slots h n f e =
+    let x = get_or_from_slice_get slots n (Some f) None e in
+    let y : get_or slots n None ≡ None = h n None (slice_get_within slots n (Some f) e) in
     absurd cc
 
 -- the next number on the way
@@ -184,42 +184,42 @@ next_flat f xs path more n ys all e same h =
     ∙ ap (λ q. xs ++ flat_map f q) (sym e)
     ∙ h
 
-abbrev no_part : Part
-no_part = record { marks = []; ends = []; next = Fault 0 }
+abbrev no_segment : SegmentValue
+no_segment = record { marks = []; ends = []; next = Fault 0 }
 
-pub marks_same : (ps : List Part) (n : ℕ) (p : Part) → n < length ps → p ≡ get_or ps n p → marks_at ps n ≡ p.marks
-marks_same ps n p low e = ap (λ (p : Part). p.marks) (get_or_default ps n no_part p low ∙ sym e)
+pub marks_same : (ps : List SegmentValue) (n : ℕ) (p : SegmentValue) → n < length ps → p ≡ get_or ps n p → marks_at ps n ≡ p.marks
+marks_same ps n p low e = ap (λ (p : SegmentValue). p.marks) (get_or_default ps n no_segment p low ∙ sym e)
 
-pub ends_same : (ps : List Part) (n : ℕ) (p : Part) → n < length ps → p ≡ get_or ps n p → ends_at ps n ≡ p.ends
-ends_same ps n p low e = ap (λ (p : Part). p.ends) (get_or_default ps n no_part p low ∙ sym e)
+pub ends_same : (ps : List SegmentValue) (n : ℕ) (p : SegmentValue) → n < length ps → p ≡ get_or ps n p → ends_at ps n ≡ p.ends
+ends_same ps n p low e = ap (λ (p : SegmentValue). p.ends) (get_or_default ps n no_segment p low ∙ sym e)
 
-pub part_if : (limit : ℕ) (ps : List Part) (parts : List (Option Forms)) (n : ℕ) (d : Option Forms) (p : Part) → n < length parts → n < length ps
-    → AreReduced limit ps parts → p ≡ get_or ps n p → IfSome (get_or parts n d) (IsReduced limit p.marks)
-part_if limit ps parts n d p low low' h e = pick (get_or parts n d) refl
+pub slot_if : (limit : ℕ) (ps : List SegmentValue) (slots : List (Option Forms)) (n : ℕ) (d : Option Forms) (p : SegmentValue) → n < length slots → n < length ps
+    → AreReduced limit ps slots → p ≡ get_or ps n p → IfSome (get_or slots n d) (IsReduced limit p.marks)
+slot_if limit ps slots n d p low low' h e = pick (get_or slots n d) refl
   where
-    pick : (o : Option Forms) → get_or parts n d ≡ o → IfSome o (IsReduced limit p.marks)
+    pick : (o : Option Forms) → get_or slots n d ≡ o → IfSome o (IsReduced limit p.marks)
     pick None q = tt
-    pick (Some f) q = subst (λ ms. IsReduced limit ms f) (marks_same ps n p low' e) (h n f (slice_get-get_or parts n d low ∙ ap Some q))
+    pick (Some f) q = subst (λ ms. IsReduced limit ms f) (marks_same ps n p low' e) (h n f (slice_get-get_or slots n d low ∙ ap Some q))
 
-pub set_reduced : (limit : ℕ) (ps : List Part) (parts : List (Option Forms)) (k : ℕ) (o : Option Forms) (p : Part) → k < length parts → marks_at ps k ≡ p.marks
-    → AreReduced limit ps parts → IsSomeAnd o (IsReduced limit p.marks) → AreReduced limit ps (set parts k o)
-set_reduced limit ps parts k o p low same h new n f e = pick (n == k) refl
+pub set_reduced : (limit : ℕ) (ps : List SegmentValue) (slots : List (Option Forms)) (k : ℕ) (o : Option Forms) (p : SegmentValue) → k < length slots → marks_at ps k ≡ p.marks
+    → AreReduced limit ps slots → IsSomeAnd o (IsReduced limit p.marks) → AreReduced limit ps (set slots k o)
+set_reduced limit ps slots k o p low same h new n f e = pick (n == k) refl
   where
-    low' : n < length parts
-    low' = subst (λ m. n < m) (length-set parts k o) (slice_get_within (set parts k o) n (Some f) e)
+    low' : n < length slots
+    low' = subst (λ m. n < m) (length-set slots k o) (slice_get_within (set slots k o) n (Some f) e)
 
-    is : get_or (set parts k o) n None ≡ Some f
-    is = get_or_from_slice_get (set parts k o) n (Some f) None e
+    is : get_or (set slots k o) n None ≡ Some f
+    is = get_or_from_slice_get (set slots k o) n (Some f) None e
 
     pick : (b : Bool) → (n == k) ≡ b → IsReduced limit (marks_at ps n) f
     pick true q =
         let here : n ≡ k = grind (arith, nat_tests) in
-        let it : o ≡ Some f = sym (get_or-set_same parts k o None low) ∙ ap (λ m. get_or (set parts k o) m None) (sym here) ∙ is in
+        let it : o ≡ Some f = sym (get_or-set_same slots k o None low) ∙ ap (λ m. get_or (set slots k o) m None) (sym here) ∙ is in
         let new' : IsSomeAnd (Some f) (IsReduced limit p.marks) = subst (λ o. IsSomeAnd o (IsReduced limit p.marks)) it new in
         subst (λ ms. IsReduced limit ms f) (sym (ap (marks_at ps) here ∙ same)) new'
     pick false q =
         let other : n ≢ k = not_from_Decides (n == k) (Decides-eqb n k) q in
-        h n f (slice_get-get_or parts n None low' ∙ ap Some (sym (get_or-set_other parts k n o None other) ∙ is))
+        h n f (slice_get-get_or slots n None low' ∙ ap Some (sym (get_or-set_other slots k n o None other) ∙ is))
 
 pub both_ok : {A E P Q R : Type 0} (r : Result A E) → (P → Q → R) → OnOk r P → OnOk r Q → OnOk r R
 both_ok (Ok x) f p q = f p q
@@ -227,13 +227,13 @@ both_ok (Err e) f p q = tt
 
 -- ---- the structures of paths
 
-none-behind : (n : ℕ) (ps : List Part) → path_from n ps (Ahead (length ps)) ≡ []
+none-behind : (n : ℕ) (ps : List SegmentValue) → path_from n ps (Ahead (length ps)) ≡ []
 unfolding path_from
 none-behind n [] = refl
 none-behind n (p ∷ ps) = none-behind (suc n) ps
 
 -- a path that goes on begins with the number of its first segment
-begins : (n : ℕ) (ps : List Part) (k : ℕ) → (path_from n ps (Ahead k) ≡ []) ⊎ ((rest : List ℕ) × (path_from n ps (Ahead k) ≡ (n + k) ∷ rest))
+begins : (n : ℕ) (ps : List SegmentValue) (k : ℕ) → (path_from n ps (Ahead k) ≡ []) ⊎ ((rest : List ℕ) × (path_from n ps (Ahead k) ≡ (n + k) ∷ rest))
 unfolding path_from
 begins n [] k = inl refl
 begins n (p ∷ ps) zero = let e : n ≡ n + 0 = omega arith in inr (path_from (suc n) ps p.next, ap (λ i. i ∷ path_from (suc n) ps p.next) e)
@@ -245,7 +245,7 @@ begins n (p ∷ ps) (suc k) = pick (begins (suc n) ps k)
     pick (inr h) = let e : suc n + k ≡ n + suc k = omega arith in inr (h.0, h.1 ∙ ap (λ i. i ∷ h.0) e)
 
 -- a path is known by its first segment
-pub path-first : (ps : List Part) (link : Link) (n : ℕ) (rest : List ℕ) → path_from 0 ps link ≡ n ∷ rest → path_at ps n ≡ path_from 0 ps link
+pub path-first : (ps : List SegmentValue) (link : Link) (n : ℕ) (rest : List ℕ) → path_from 0 ps link ≡ n ∷ rest → path_at ps n ≡ path_from 0 ps link
 unfolding path_from
 path-first [] (State s) n rest h = absurd cc
 path-first (p ∷ ps) (State s) n rest h = absurd cc
@@ -261,14 +261,14 @@ path-first ps (Ahead k) n rest h = pick (begins 0 ps k)
         let here : n ≡ k = omega (arith, first) in
         ap (path_at ps) here
 
-pub path-none : (ps : List Part) (link : Link) → path_from 0 ps link ≡ [] → path_at ps (length ps) ≡ path_from 0 ps link
+pub path-none : (ps : List SegmentValue) (link : Link) → path_from 0 ps link ≡ [] → path_at ps (length ps) ≡ path_from 0 ps link
 path-none ps link h = none-behind 0 ps ∙ sym h
 
 -- the path of none has the marks of a track that has no marks
-pub path-bare : (ps : List Part) (count : ℕ) (marks : List Mark) → count ≡ length ps → marks ≡ [] → flat_map (marks_at ps) (path_at ps count) ≡ marks
+pub path-bare : (ps : List SegmentValue) (count : ℕ) (marks : List Mark) → count ≡ length ps → marks ≡ [] → flat_map (marks_at ps) (path_at ps count) ≡ marks
 path-bare ps count marks all bare = ap (λ n. flat_map (marks_at ps) (path_at ps n)) all ∙ ap (flat_map (marks_at ps)) (none-behind 0 ps) ∙ sym bare
 
-pub none_numbered : (limit : ℕ) (ps : List Part) (numbers : List (Option ℕ)) (fs : List Forms) → All (λ number. number ≡ None) numbers → AreNumbered limit ps numbers fs
+pub none_numbered : (limit : ℕ) (ps : List SegmentValue) (numbers : List (Option ℕ)) (fs : List Forms) → All (λ number. number ≡ None) numbers → AreNumbered limit ps numbers fs
 none_numbered limit ps numbers fs h n i e = let none : Some i ≡ None = all_at (λ number. number ≡ None) numbers n (Some i) h e in absurd cc
 
 pub at_above : (limit : ℕ) (marks : List Mark) (olds news : List Forms) (i : ℕ) → IsAbove olds news → IsAt limit marks olds i → IsAt limit marks news i
@@ -288,7 +288,7 @@ push_above fs f i g h = stays_there fs f i g h
 pub pushed_at : (limit : ℕ) (marks : List Mark) (fs : List Forms) (f : Forms) → IsReduced limit marks f → IsAt limit marks (fs ++ f ∷ []) (length fs)
 pushed_at limit marks fs f h = record { form = f; at = at_end fs f; of = h }
 
-pub set_numbered : (limit : ℕ) (ps : List Part) (numbers : List (Option ℕ)) (olds news : List Forms) (k j : ℕ) → k < length numbers → AreNumbered limit ps numbers olds
+pub set_numbered : (limit : ℕ) (ps : List SegmentValue) (numbers : List (Option ℕ)) (olds news : List Forms) (k j : ℕ) → k < length numbers → AreNumbered limit ps numbers olds
     → IsAbove olds news → IsAt limit (flat_map (marks_at ps) (path_at ps k)) news j → AreNumbered limit ps (set numbers k (Some j)) news
 set_numbered limit ps numbers olds news k j low h up new n i e = pick (n == k) refl
   where

@@ -32,7 +32,7 @@ use Rattle.jx_run.specs.inside.Reduced.{IsReduced}
 use Rattle.jx_run.specs.inside.Rest.{AreRead, AreReadWays, HasTaken, IsReadWay, IsRestOf, Reaches}
 use Rattle.jx_run.proofs.ReaderSteps.{stuck}
 use Rattle.jx_run.proofs.Reducing.{all_push, lex-in, lex_rises, reduced_within, rises-then, stays_there}
-use Rattle.jx_run.proofs.StateOrder.{ordinal-low, state-at}
+use Rattle.jx_lex.proofs.StateOrder.{ordinal-low, state-at}
 use Rattle.jx_run.proofs.Ways.{all_at, at_end, entries_are, exit_is, some_of}
 
 -- ---- a scan into a reducer

@@ -27,7 +27,7 @@ use Rattle.jx_run.specs.OutcomeRun.{OutcomeRunValue, Entries, entries_at, exit_a
 use Rattle.jx_run.specs.inside.Rest.{IsRestOf}
 use Rattle.jx_run.proofs.Completion.{run-append}
 use Rattle.jx_run.proofs.Reducing.{push_above, states-many}
-use Rattle.jx_run.proofs.StateOrder.{state-at}
+use Rattle.jx_lex.proofs.StateOrder.{state-at}
 use Rattle.jx_run.proofs.Ways.{all_at, at_end, entries_are, has_entries, one_of, some_of, with_one}
 use Rattle.jx_run.proofs.Fused.{after_turn, after_mark, in_next, run, read-run}
 

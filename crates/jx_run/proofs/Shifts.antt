@@ -22,7 +22,7 @@ use Rattle.jx_run.specs.ReaderInside.{offset_at, shifted}
 use Rattle.jx_run.proofs.FaultPlaces.{Below, read-below}
 use Rattle.jx_run.proofs.Moves.{shifted-twice}
 use Rattle.jx_run.proofs.ReaderSteps.{read-shift}
-use Rattle.jx_run.proofs.StateOrder.{ordinal-low}
+use Rattle.jx_lex.proofs.StateOrder.{ordinal-low}
 use Rattle.jx_run.proofs.Ways.{all_at, entries_are, one_of, some_of}
 
 -- ---- lists in which one is put

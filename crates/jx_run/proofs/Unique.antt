@@ -21,76 +21,76 @@ use Rattle.jx_run.specs.Text.{Document, document}
 use Rattle.jx_run.proofs.Lexical.{TokensAreRead}
 
 -- an offset, and the bytes from there on
-pub record Place : Type 0 where
+pub record Spot : Type 0 where
   pub at : ℕ
   pub bytes : List ℕ
 
-abbrev place : ℕ → List ℕ → Place
-place at bytes = record { at = at; bytes = bytes }
+abbrev spot : ℕ → List ℕ → Spot
+spot at bytes = record { at = at; bytes = bytes }
 
 -- ---- the parser
 
 abbrev is_blank : ℕ → Bool
 is_blank b = (b == 0x20) || ((b == 0x09) || ((b == 0x0a) || (b == 0x0d)))
 
-abbrev skip : ℕ → List ℕ → Place
-skip i [] = place i []
-skip i (b ∷ t) = cond (is_blank b) (skip (suc i) t) (place i (b ∷ t))
+abbrev skip : ℕ → List ℕ → Spot
+skip i [] = spot i []
+skip i (b ∷ t) = cond (is_blank b) (skip (suc i) t) (spot i (b ∷ t))
 
 -- where a token ends
-abbrev scan_end : ℕ → ℕ → List ℕ → Option TokenEnd → Option LexState → (LexState → Place) → Place
-scan_end i b t (Some Before) next more = place i (b ∷ t)
-scan_end i b t (Some After) next more = place (suc i) t
-scan_end i b t None None more = place i (b ∷ t)
+abbrev scan_end : ℕ → ℕ → List ℕ → Option TokenEnd → Option LexState → (LexState → Spot) → Spot
+scan_end i b t (Some Before) next more = spot i (b ∷ t)
+scan_end i b t (Some After) next more = spot (suc i) t
+scan_end i b t None None more = spot i (b ∷ t)
 scan_end i b t None (Some s) more = more s
 
-unfoldable scan : LexState → ℕ → List ℕ → Place
-scan s i [] = place i []
+unfoldable scan : LexState → ℕ → List ℕ → Spot
+scan s i [] = spot i []
 scan s i (b ∷ t) = scan_end i b t ((move s b).end) ((move s b).next) (λ n. scan n (suc i) t)
 
-abbrev scan_from : Option LexState → ℕ → List ℕ → Place
-scan_from None i t = place i t
+abbrev scan_from : Option LexState → ℕ → List ℕ → Spot
+scan_from None i t = spot i t
 scan_from (Some s) i t = scan s i t
 
 -- the end of the token that begins here
-abbrev token_end : ℕ → List ℕ → Place
-token_end i [] = place i []
+abbrev token_end : ℕ → List ℕ → Spot
+token_end i [] = spot i []
 token_end i (b ∷ t) = scan_from ((move state.Gap b).next) (suc i) t
 
 record Found : Type 0 where
   tree : Tree
-  rest : Place
+  rest : Spot
 
 record FoundAll : Type 0 where
   children : Children
-  rest : Place
+  rest : Spot
 
-abbrev found : Tree → Place → Option Found
+abbrev found : Tree → Spot → Option Found
 found tree rest = Some (record { tree = tree; rest = rest })
 
-abbrev leaf_found : Kind → ℕ → Place → Option Found
+abbrev leaf_found : Kind → ℕ → Spot → Option Found
 leaf_found k i p = found (node k (span i p.at) no_children) p
 
-abbrev close_found : Kind → ℕ → Children → Place → Option Found
+abbrev close_found : Kind → ℕ → Children → Spot → Option Found
 close_found k i kids p = close_bytes p.bytes
   where
     close_bytes : List ℕ → Option Found
     close_bytes [] = None
-    close_bytes (b ∷ t) = found (node k (span i (suc p.at)) kids) (place (suc p.at) t)
+    close_bytes (b ∷ t) = found (node k (span i (suc p.at)) kids) (spot (suc p.at) t)
 
 abbrev all_found : Kind → ℕ → Option FoundAll → Option Found
 all_found k i None = None
 all_found k i (Some x) = close_found k i x.children x.rest
 
 -- a container: its close at once, or its children
-abbrev container_on : Kind → ℕ → ℕ → Place → (Place → Option FoundAll) → List ℕ → Option Found
+abbrev container_on : Kind → ℕ → ℕ → Spot → (Spot → Option FoundAll) → List ℕ → Option Found
 container_on k close_byte i p more [] = None
 container_on k close_byte i p more (b ∷ t) = cond (b == close_byte) (close_found k i no_children p) (all_found k i (more p))
 
-abbrev container : Kind → ℕ → ℕ → Place → (Place → Option FoundAll) → Option Found
+abbrev container : Kind → ℕ → ℕ → Spot → (Spot → Option FoundAll) → Option Found
 container k close_byte i p more = container_on k close_byte i p more p.bytes
 
-abbrev value_by : Option MarkKind → (Place → Option FoundAll) → (Place → Option FoundAll) → ℕ → List ℕ → List ℕ → Option Found
+abbrev value_by : Option MarkKind → (Spot → Option FoundAll) → (Spot → Option FoundAll) → ℕ → List ℕ → List ℕ → Option Found
 value_by (Some mark.OpenArray) items members i bytes t = container kind.Array 0x5d i (skip (suc i) t) items
 value_by (Some mark.OpenObject) items members i bytes t = container kind.Object 0x7d i (skip (suc i) t) members
 value_by (Some mark.String) items members i bytes t = leaf_found kind.String i (token_end i bytes)
@@ -100,7 +100,7 @@ value_by (Some mark.False) items members i bytes t = leaf_found kind.False i (to
 value_by (Some mark.Null) items members i bytes t = leaf_found kind.Null i (token_end i bytes)
 value_by _ items members i bytes t = None
 
-abbrev value_with : (Place → Option FoundAll) → (Place → Option FoundAll) → ℕ → List ℕ → Option Found
+abbrev value_with : (Spot → Option FoundAll) → (Spot → Option FoundAll) → ℕ → List ℕ → Option Found
 value_with items members i [] = None
 value_with items members i (b ∷ t) = value_by ((move state.Gap b).begin) items members i (b ∷ t) t
 
@@ -109,14 +109,14 @@ with_child name tree None = None
 with_child name tree (Some x) = Some (record { children = child name tree x.children; rest = x.rest })
 
 -- after a child: a comma and more, or the end
-abbrev after_child : Option Span → Tree → Place → (Place → Option FoundAll) → Option FoundAll
+abbrev after_child : Option Span → Tree → Spot → (Spot → Option FoundAll) → Option FoundAll
 after_child name tree p more = after_bytes p.bytes
   where
     after_bytes : List ℕ → Option FoundAll
     after_bytes [] = None
     after_bytes (b ∷ t) = cond (b == 0x2c) (with_child name tree (more (skip (suc p.at) t))) (Some (record { children = child name tree no_children; rest = p }))
 
-abbrev child_found : Option Span → Option Found → (Place → Option FoundAll) → Option FoundAll
+abbrev child_found : Option Span → Option Found → (Spot → Option FoundAll) → Option FoundAll
 child_found name None more = None
 child_found name (Some x) more = after_child name x.tree (skip x.rest.at x.rest.bytes) more
 
@@ -130,11 +130,11 @@ mutual
   value_at zero i t = None
   value_at (suc n) i t = value_with (λ p. items_at n p) (λ p. members_at n p) i t
 
-  items_at : ℕ → Place → Option FoundAll
+  items_at : ℕ → Spot → Option FoundAll
   items_at zero p = None
   items_at (suc n) p = child_found None (value_at n p.at p.bytes) (λ q. items_at n q)
 
-  members_at : ℕ → Place → Option FoundAll
+  members_at : ℕ → Spot → Option FoundAll
   members_at zero p = None
   members_at (suc n) p =
       let e = token_end p.at p.bytes in
@@ -148,9 +148,9 @@ data NotBlank : List ℕ → Type 0 where
   no_byte : NotBlank []
   other : {b : ℕ} {t : List ℕ} → is_blank b ≡ false → NotBlank (b ∷ t)
 
-skip_is : {i j : ℕ} {t u : List ℕ} → Blanks i t j u → NotBlank u → skip i t ≡ place j u
+skip_is : {i j : ℕ} {t u : List ℕ} → Blanks i t j u → NotBlank u → skip i t ≡ spot j u
 skip_is no_blanks no_byte = refl
-skip_is (no_blanks {i = i}) (other {b = b} {t = t} h) = ap (λ c. cond c (skip (suc i) t) (place i (b ∷ t))) h
+skip_is (no_blanks {i = i}) (other {b = b} {t = t} h) = ap (λ c. cond c (skip (suc i) t) (spot i (b ∷ t))) h
 skip_is (blank space bs) n = skip_is bs n
 skip_is (blank tab bs) n = skip_is bs n
 skip_is (blank line_feed bs) n = skip_is bs n
@@ -171,7 +171,7 @@ blanks_delim (blank h bs) d = a_blank h
 
 -- ---- tokens
 
-number_end : (s : LexState) → IsFinal s → in_token s ≡ true → (i : ℕ) {t : List ℕ} → Delim t → scan s i t ≡ place i t
+number_end : (s : LexState) → IsFinal s → in_token s ≡ true → (i : ℕ) {t : List ℕ} → Delim t → scan s i t ≡ spot i t
 unfolding scan class_at as_gap
 number_end _ final_gap h i d = absurd cc
 number_end _ final_zero h i at_the_end = refl
@@ -212,15 +212,15 @@ number_end _ final_exp h i an_object_end = refl
 number_end _ final_exp h i a_colon = refl
 
 scan-spells : TokensAreRead → {s last : LexState} {w : List ℕ} → Spells s w last → in_token s ≡ true → IsFinal last → (i : ℕ) (rest : List ℕ) → Delim rest
-    → scan s i (w ++ rest) ≡ place (i + length w) rest
+    → scan s i (w ++ rest) ≡ spot (i + length w) rest
 unfolding scan
-scan-spells law (here {s = s}) h f i rest d = number_end s f h i d ∙ ap (λ n. place n rest) (let x : i ≡ i + 0 = omega arith in x)
+scan-spells law (here {s = s}) h f i rest d = number_end s f h i d ∙ ap (λ n. spot n rest) (let x : i ≡ i + 0 = omega arith in x)
 scan-spells law (goes {s = s} {next = n} {b = b} {bs = bs} e p) h f i rest d =
     ap (λ m. scan_end i b (bs ++ rest) m.end m.next (λ n. scan n (suc i) (bs ++ rest))) e
     ∙ scan-spells law p (law.stays s n b h e) f (suc i) rest d
-    ∙ ap (λ n. place n rest) (let x : suc i + length bs ≡ i + suc (length bs) = omega arith in x)
+    ∙ ap (λ n. spot n rest) (let x : suc i + length bs ≡ i + suc (length bs) = omega arith in x)
 scan-spells law (shuts {b = b} e) h f i rest d =
-    ap (λ m. scan_end i b rest m.end m.next (λ n. scan n (suc i) rest)) e ∙ ap (λ n. place n rest) (let x : suc i ≡ i + 1 = omega arith in x)
+    ap (λ m. scan_end i b rest m.end m.next (λ n. scan n (suc i) rest)) e ∙ ap (λ n. spot n rest) (let x : suc i ≡ i + 1 = omega arith in x)
 
 -- a token begins with its mark, and its end is found
 record TokenFound (k : Kind) (i : ℕ) (t : List ℕ) (j : ℕ) (rest : List ℕ) : Type 0 where
@@ -228,7 +228,7 @@ record TokenFound (k : Kind) (i : ℕ) (t : List ℕ) (j : ℕ) (rest : List ℕ
   bytes : List ℕ
   whole : t ≡ first ∷ bytes
   marks : (move state.Gap first).begin ≡ Some (mark_of k)
-  end : token_end i t ≡ place j rest
+  end : token_end i t ≡ spot j rest
 
 token_found : TokensAreRead → {k : Kind} {i j : ℕ} {t rest : List ℕ} → Scalar k i t j rest → Delim rest → TokenFound k i t j rest
 token_found law {k = k} {i = i} {j = j} {t = t} {rest = rest} x d =
@@ -241,7 +241,7 @@ token_found law {k = k} {i = i} {j = j} {t = t} {rest = rest} x d =
       marks = ap (λ m. m.begin) r.begins;
       end = ap (token_end i) whole ∙ ap (λ m. scan_from m.next (suc i) (r.bytes ++ rest)) r.begins
           ∙ scan-spells law r.inside r.entered r.final (suc i) rest d
-          ∙ ap (λ n. place n rest) (let y : suc i + length r.bytes ≡ j = omega (arith, x.end, ap length r.whole) in y);
+          ∙ ap (λ n. spot n rest) (let y : suc i + length r.bytes ≡ j = omega (arith, x.end, ap length r.whole) in y);
     }
 
 -- ---- what a value begins with
@@ -339,29 +339,29 @@ one_more P k h = record { from = suc k; holds = go }
     go (suc m) le = h m (omega arith)
 
 abbrev ValueFound : ℕ → List ℕ → ℕ → List ℕ → Tree → ℕ → Type 0
-ValueFound i t j rest tree n = value_at n i t ≡ found tree (place j rest)
+ValueFound i t j rest tree n = value_at n i t ≡ found tree (spot j rest)
 
-abbrev all : Children → Place → Option FoundAll
+abbrev all : Children → Spot → Option FoundAll
 all kids p = Some (record { children = kids; rest = p })
 
-abbrev ItemsFound : Place → ℕ → List ℕ → Children → ℕ → Type 0
-ItemsFound p j rest kids n = items_at n p ≡ all kids (place j rest)
+abbrev ItemsFound : Spot → ℕ → List ℕ → Children → ℕ → Type 0
+ItemsFound p j rest kids n = items_at n p ≡ all kids (spot j rest)
 
-abbrev MembersFound : Place → ℕ → List ℕ → Children → ℕ → Type 0
-MembersFound p j rest kids n = members_at n p ≡ all kids (place j rest)
+abbrev MembersFound : Spot → ℕ → List ℕ → Children → ℕ → Type 0
+MembersFound p j rest kids n = members_at n p ≡ all kids (spot j rest)
 
-child_last : (name : Option Span) (tree : Tree) (j l : ℕ) (t rest : List ℕ) (v : Option Found) (more : Place → Option FoundAll)
-    → v ≡ found tree (place j t) → skip j t ≡ place l rest → Ends rest → child_found name v more ≡ all (child name tree no_children) (place l rest)
+child_last : (name : Option Span) (tree : Tree) (j l : ℕ) (t rest : List ℕ) (v : Option Found) (more : Spot → Option FoundAll)
+    → v ≡ found tree (spot j t) → skip j t ≡ spot l rest → Ends rest → child_found name v more ≡ all (child name tree no_children) (spot l rest)
 child_last name tree j l t rest v more h s array_ends = ap (λ v. child_found name v more) h ∙ ap (λ p. after_child name tree p more) s
 child_last name tree j l t rest v more h s object_ends = ap (λ v. child_found name v more) h ∙ ap (λ p. after_child name tree p more) s
 
-child_more : (name : Option Span) (tree : Tree) (j l m : ℕ) (t u rest : List ℕ) (kids : Children) (v : Option Found) (more : Place → Option FoundAll)
-    → v ≡ found tree (place j t) → skip j t ≡ place l (0x2c ∷ u) → more (skip (suc l) u) ≡ all kids (place m rest)
-    → child_found name v more ≡ all (child name tree kids) (place m rest)
+child_more : (name : Option Span) (tree : Tree) (j l m : ℕ) (t u rest : List ℕ) (kids : Children) (v : Option Found) (more : Spot → Option FoundAll)
+    → v ≡ found tree (spot j t) → skip j t ≡ spot l (0x2c ∷ u) → more (skip (suc l) u) ≡ all kids (spot m rest)
+    → child_found name v more ≡ all (child name tree kids) (spot m rest)
 child_more name tree j l m t u rest kids v more h s r =
     ap (λ v. child_found name v more) h ∙ ap (λ p. after_child name tree p more) s ∙ ap (with_child name tree) r
 
-leaf_case : (k : Kind) (w : List ℕ) → IsToken k w → (items members : Place → Option FoundAll) (i : ℕ) (bytes t : List ℕ)
+leaf_case : (k : Kind) (w : List ℕ) → IsToken k w → (items members : Spot → Option FoundAll) (i : ℕ) (bytes t : List ℕ)
     → value_by (Some (mark_of k)) items members i bytes t ≡ leaf_found k i (token_end i bytes)
 leaf_case kind.Object w h items members i bytes t = absurd h
 leaf_case kind.Array w h items members i bytes t = absurd h
@@ -371,8 +371,8 @@ leaf_case kind.True w h items members i bytes t = refl
 leaf_case kind.False w h items members i bytes t = refl
 leaf_case kind.Null w h items members i bytes t = refl
 
-leaf_value : TokensAreRead → {k : Kind} {i j : ℕ} {t rest : List ℕ} → Scalar k i t j rest → Delim rest → (items members : Place → Option FoundAll)
-    → value_with items members i t ≡ found (node k (span i j) no_children) (place j rest)
+leaf_value : TokensAreRead → {k : Kind} {i j : ℕ} {t rest : List ℕ} → Scalar k i t j rest → Delim rest → (items members : Spot → Option FoundAll)
+    → value_with items members i t ≡ found (node k (span i j) no_children) (spot j rest)
 leaf_value law {k = k} {i = i} {t = t} x d items members =
     let f = token_found law x d in
     ap (value_with items members i) f.whole
@@ -381,9 +381,9 @@ leaf_value law {k = k} {i = i} {t = t} x d items members =
     ∙ ap (λ v. leaf_found k i (token_end i v)) (sym f.whole)
     ∙ ap (leaf_found k i) f.end
 
-container_more : (k : Kind) (c i j : ℕ) (rest : List ℕ) (kids : Children) (p : Place) (b : ℕ) (t : List ℕ) (close_byte : ℕ) (more : Place → Option FoundAll)
-    → p.bytes ≡ b ∷ t → eqb b c ≡ false → more p ≡ all kids (place j (close_byte ∷ rest))
-    → container k c i p more ≡ found (node k (span i (suc j)) kids) (place (suc j) rest)
+container_more : (k : Kind) (c i j : ℕ) (rest : List ℕ) (kids : Children) (p : Spot) (b : ℕ) (t : List ℕ) (close_byte : ℕ) (more : Spot → Option FoundAll)
+    → p.bytes ≡ b ∷ t → eqb b c ≡ false → more p ≡ all kids (spot j (close_byte ∷ rest))
+    → container k c i p more ≡ found (node k (span i (suc j)) kids) (spot (suc j) rest)
 container_more k c i j rest kids p b t close_byte more h differs r =
     ap (container_on k c i p more) h ∙ ap (λ x. cond x (close_found k i no_children p) (all_found k i (more p))) differs ∙ ap (all_found k i) r
 
@@ -403,21 +403,21 @@ module _ (P : ℕ → Type 0) (Q : ℕ → Type 0) where
 -- a name's end, and the place of the value behind the colon
 record NamePlace : Type 0 where
   end : ℕ
-  value : Place
+  value : Spot
 
-abbrev name_place : Place → NamePlace
-name_place e = let q = skip e.at e.bytes in record { end = e.at; value = skip (suc q.at) (rest_of q.bytes) }
+abbrev name_spot : Spot → NamePlace
+name_spot e = let q = skip e.at e.bytes in record { end = e.at; value = skip (suc q.at) (rest_of q.bytes) }
 
 abbrev after_name : ℕ → ℕ → NamePlace → Option FoundAll
 after_name m j x = child_found (Some (span j x.end)) (value_at m x.value.at x.value.bytes) (λ q. members_at m q)
 
 name_is : TokensAreRead → {j k l a : ℕ} {t1 t2 t3 t4 : List ℕ} → Scalar kind.String j t1 k t2 → Delim t2 → Blanks k t2 l (0x3a ∷ t3) → Blanks (suc l) t3 a t4 → Start t4
-    → name_place (token_end j t1) ≡ record { end = k; value = place a t4 }
+    → name_spot (token_end j t1) ≡ record { end = k; value = spot a t4 }
 name_is law {k = k} {l = l} {t3 = t3} w d cs ds s =
     let f = token_found law w d in
-    ap name_place f.end
-    ∙ ap (λ (q : Place). record { end = k; value = skip (suc q.at) (rest_of q.bytes) }) (skip_is cs (other refl))
-    ∙ ap (λ (v : Place). record { end = k; value = v }) (skip_is ds (start_not_blank _ s))
+    ap name_spot f.end
+    ∙ ap (λ (q : Spot). record { end = k; value = skip (suc q.at) (rest_of q.bytes) }) (skip_is cs (other refl))
+    ∙ ap (λ (v : Spot). record { end = k; value = v }) (skip_is ds (start_not_blank _ s))
 
 mutual
   unfolding class_at value_at
@@ -466,18 +466,18 @@ mutual
 -- ---- a text has one tree
 
 record Parsed (i : ℕ) (t : List ℕ) (x : Tree) : Type 0 where
-  after : Place
+  after : Spot
   enough : Enough (λ n. value_at n (skip i t).at (skip i t).bytes ≡ found x after)
 
 parsed : TokensAreRead → {i : ℕ} {t : List ℕ} {x : Tree} → Document i t x → Parsed i t x
 parsed law {i = i} {t = t} (document {k = k} {t2 = t2} bs v cs) =
     let e = value_parsed law v (blanks_delim cs at_the_end) in
-    record { after = place k t2; enough = record { from = e.from; holds = λ n le. ap (λ (p : Place). value_at n p.at p.bytes) (skip_is bs (start_not_blank _ (value_start law v))) ∙ e.holds n le } }
+    record { after = spot k t2; enough = record { from = e.from; holds = λ n le. ap (λ (p : Spot). value_at n p.at p.bytes) (skip_is bs (start_not_blank _ (value_start law v))) ∙ e.holds n le } }
 
 some_found : {x y : Found} → Some x ≡ Some y → x ≡ y
 some_found e = cc
 
-same_tree : {x y : Tree} {p q : Place} → found x p ≡ found y q → x ≡ y
+same_tree : {x y : Tree} {p q : Spot} → found x p ≡ found y q → x ≡ y
 same_tree e = ap (λ (f : Found). f.tree) (some_found e)
 
 pub one_tree : TokensAreRead → {i : ℕ} {t : List ℕ} {x y : Tree} → Document i t x → Document i t y → x ≡ y

@@ -29,7 +29,7 @@ after_separators at [] = []
 after_separators at (b ∷ bytes) =
     if is_mark b then part (suc at) (before_separator bytes) ∷ after_separators (suc at) bytes else after_separators (suc at) bytes
 
--- the parts of which the separators are the ends
+-- the parts between the separators, before the first and behind the last
 abbrev pub parts : ℕ → List ℕ → List Part
 parts at bytes = part at (before_separator bytes) ∷ after_separators at bytes
 

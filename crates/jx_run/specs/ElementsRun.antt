@@ -29,7 +29,7 @@ abbrev pub last_part : PartRunValue → Option MarkedElementsValue → PartRunVa
 last_part = parted.last_piece
 
 abbrev pub elements_span : ElementsRunValue → Span
-elements_span = parted.place_of_parted (λ r. outcome_span r.outcomes)
+elements_span = parted.parted_span (λ r. outcome_span r.outcomes)
 
 abbrev pub judging : parted.Meaning PartRunValue JudgedElement
 judging = parted.meaning (λ r. outcome_span r.outcomes) (λ r. r.outcomes.depth) (λ r bytes. IsPartRun bytes r) IsJudgedElement

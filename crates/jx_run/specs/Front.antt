@@ -17,7 +17,7 @@ agreed [] others = 0
 agreed (b ∷ bytes) [] = 0
 agreed (b ∷ bytes) (o ∷ others) = if b == o then suc (agreed bytes others) else 0
 
--- nothing of the mark, all of it, or a part at which the text ends or goes on otherwise
+-- where so many bytes agree: nothing is skipped, the mark is skipped, or a mark that was begun and not ended is refused
 abbrev pub front_by : ℕ → ℕ → Front
 front_by n count =
     if n == 0 then seen.Skip 0 else (if n == 3 then seen.Skip 3 else (if n == count then seen.Refused Truncated else seen.Refused (Stopped n)))

@@ -64,4 +64,4 @@ BeginsAtSomeDepth bytes = (limit : ℕ) × Begins bytes limit
 
 -- where a value stands
 abbrev pub span_of : Tree → Span
-span_of (node kind place below) = place
+span_of (node kind span below) = span

@@ -22,3 +22,4 @@ pub mod Reader
 pub mod ReaderInside
 pub mod SequenceRead
 pub mod inside
+pub mod MarkAlone

@@ -16,8 +16,8 @@ pub record PartedValue (P F : Type 0) : Type 0 where
   pub before : P
   pub marked : Option (MarkedValue P F)
 
--- of a piece: where it stands, the depth that it was read with, and of which bytes it is the summary; and when what is kept
--- of a finished part is right for it, within a depth
+-- how a piece is read: its span, its depth, and the bytes that it is the summary of; and when what is kept of a finished part
+-- is right for that part, within a depth
 pub record Meaning (P F : Type 0) : Type 1 where
   pub span : P → Span
   pub depth : P → ℕ
@@ -25,14 +25,14 @@ pub record Meaning (P F : Type 0) : Type 1 where
   pub is_finished : ℕ → Part → F → Type 0
 
 abbrev pub meaning : {P F : Type 0} → (P → Span) → (P → ℕ) → (P → List ℕ → Type 0) → (ℕ → Part → F → Type 0) → Meaning P F
-meaning place limit is_of is_finished = record { span = place; depth = limit; is_of = is_of; is_finished = is_finished }
+meaning spans limit is_of is_finished = record { span = spans; depth = limit; is_of = is_of; is_finished = is_finished }
 
 abbrev pub last_piece : {P F : Type 0} → P → Option (MarkedValue P F) → P
 last_piece before None = before
 last_piece before (Some m) = m.after
 
-abbrev pub place_of_parted : {P F : Type 0} → (P → Span) → PartedValue P F → Span
-place_of_parted place run = span (place run.before).start (place (last_piece run.before run.marked)).end
+abbrev pub parted_span : {P F : Type 0} → (P → Span) → PartedValue P F → Span
+parted_span spans run = span (spans run.before).start (spans (last_piece run.before run.marked)).end
 
 -- of each part between two neighbouring separators that is not empty what is kept is right, in order; the last part goes on
 -- to the end

@@ -17,7 +17,7 @@ abbrev pub last_run : TextRunValue → Option MarkedValue → TextRunValue
 last_run = parted.last_piece
 
 abbrev pub sequence_span : SeqRunValue → Span
-sequence_span = parted.place_of_parted text_span
+sequence_span = parted.parted_span text_span
 
 -- the reading of a part as a whole text, within the depth
 pub record IsReading (limit : ℕ) (p : Part) (s : StartedValue) : Type 0 where

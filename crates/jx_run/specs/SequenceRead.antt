@@ -22,8 +22,8 @@ StartsWithSeparator bytes = before_separator bytes ≡ []
 abbrev pub EndsWithSeparator : List ℕ → Type 0
 EndsWithSeparator bytes = (front : List ℕ) × (bytes ≡ front ++ 30 ∷ [])
 
--- what these bytes of a sequence come to: the elements that a separator ends, and of the one that goes on what a reader has read
--- of it, and whether its last byte is open
+-- what these bytes of a sequence come to: each element that a separator ends; of the one that goes on, what a reader has read
+-- and whether its last byte is open
 pub record AreRead (limit : ℕ) (bytes : List ℕ) (judged : List JudgedElement) (reader : ReaderValue) (loose : Bool) : Type 0 where
   pub ended : List Part
   pub last : Part

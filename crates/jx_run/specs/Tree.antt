@@ -30,7 +30,7 @@ depth_over Null below = 0
 -- a container is one deeper than its deepest child; an empty one has depth 1
 abbrev mutual
   pub depth : Tree → ℕ
-  depth (node kind place children) = depth_over kind (deepest children)
+  depth (node kind span children) = depth_over kind (deepest children)
 
   pub deepest : Children → ℕ
   deepest no_children = 0

@@ -10,7 +10,7 @@ ghost use Rattle.jx_run.specs.declared.verdict.Verdict.TheVariants.{Accepted};
 use crate::laws::reader_is_grammar;
 use crate::outcome_run::verdict_from;
 use crate::verdict::Verdict;
-use jx_lex::{Depth, Keeper, LexExit, LexState, Mark, parts_are_read_in_turn, scan};
+use jx_lex::{Depth, Keeper, LexExit, LexState, Mark, pieces_are_read_in_turn, scan};
 use jx_reduce::KnownStack;
 use std::alloc::{AllocError, Global};
 
@@ -83,7 +83,7 @@ fn scan_by<K: Keeper, P: Pace>(
     ensures exit { IfOk result (λ exit. IfSome exit (λ e. exit_of e ≡ (lex Gap from (slice_range text.now from to)).exit)) }
     ensures done { IfOk result (λ exit. IsNone exit → WantsNoMore (K.has_seen keeper.new)) }
 {
-    parts_are_read_in_turn();
+    pieces_are_read_in_turn();
     let mut state = LexState::Gap;
     let mut at = from;
     while at < to {

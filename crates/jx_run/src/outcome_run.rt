@@ -105,7 +105,7 @@ fn structures_shifted(by: usize, depth: Depth, mut structures: Vec<Reductions>) 
 {
     let alloc = *structures.allocator();
     for at in 0..structures.len() {
-        // Stands in the place of the structure while that is moved.
+        // Stands for the structure while that is moved.
         let empty = Reductions::new(alloc, depth);
         let structure = mem::replace(&mut structures[at], empty);
         structures[at] = structure.shifted(by);

@@ -42,8 +42,8 @@ impl PartRun {
         requires neighbours { self.now.outcomes.end ≡ right.now.outcomes.start }
         ensures { (xs ys : List ℕ) → IsPartRun xs self.now → IsPartRun ys right.now → result ≡ ends_open (xs ++ ys) }
     {
-        let place = right.outcomes.span();
-        if place.start < place.end {
+        let span = right.outcomes.span();
+        if span.start < span.end {
             right.loose
         } else {
             self.loose

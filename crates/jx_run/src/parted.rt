@@ -1,6 +1,6 @@
 // Bytes of a JSON text sequence, parted at the record separators in them.
 ghost use Rattle.std.specs.Prelude.{◌≡◌, ℕ, List, None, Some, IfOk, IfErr, OnOk, OnErr};
-ghost use Rattle.jx_run.specs.Parted.{IsParted, last_piece, meaning, place_of_parted};
+ghost use Rattle.jx_run.specs.Parted.{IsParted, last_piece, meaning, parted_span};
 ghost use Rattle.jx_run.specs.inside.PartedJoins.{IsClosed, IsPartedJoin};
 
 use crate::piece::Piece;
@@ -174,7 +174,7 @@ fn join_marked<P: Piece>(
 }
 
 impl<P: Piece> Summary for Parted<P> {
-    ghost span = { place_of_parted P.span };
+    ghost span = { parted_span P.span };
 
     ghost depth = { λ r. P.depth r.before };
 

@@ -1,19 +1,18 @@
 // A text that is read from its start, slice by slice.
 
 ghost use Rattle.std.specs.Prelude.{◌≡◌, ◌+◌, ◌<◌, ◌^◌, ◌++◌, ℕ, List, [], OnOk, OnErr, IfOk, IsErr, length};
-ghost use Rattle.jx_lex.specs.declared.alphabet.lex_exit.LexExit.TheVariants as exit;
 ghost use Rattle.jx_lex.specs.declared.alphabet.mark.Mark.{Mark};
 ghost use Rattle.jx_lex.specs.Lex.{lex};
 ghost use Rattle.jx_reduce.specs.KnownStack.{HasRead as StackHasRead};
 ghost use Rattle.jx_reduce.specs.Read.{read as read_marks};
 ghost use Rattle.jx_run.specs.Reader.{HasRead, HasFailed};
 ghost use Rattle.jx_run.specs.Verdict.{Judged};
-ghost use Rattle.jx_run.specs.Whole.{ends_text, verdict_from};
 
 use crate::laws::reader_is_grammar;
+use crate::outcome_run::verdict_from;
 use crate::verdict::{Refusal, Verdict};
 use jx_lex::{Depth, Keeper, LexExit, LexState, Mark, scan};
-use jx_reduce::{Expect, KnownStack, Whole};
+use jx_reduce::{KnownStack, Whole};
 use std::alloc::{AllocError, Global};
 use std::marker::Model;
 
@@ -78,37 +77,6 @@ impl Model for Reader {
     ghost view = { reader_of };
 
     ghost invariant = { IsLawful };
-}
-
-/// Whether a whole text may end in this state, with this expected and so many containers open.
-fn ends_text(state: LexState, expect: Expect, containers: usize) -> bool
-    ensures { result ≡ ends_text state expect containers }
-{
-    if containers != 0 {
-        return false;
-    }
-    matches!(expect, Expect::After)
-        && matches!(
-            state,
-            LexState::Gap | LexState::Zero | LexState::Int | LexState::Frac | LexState::Exp
-        )
-}
-
-/// The verdict where the bytes led to this state and the marks came to this.
-fn verdict_at(state: LexState, whole: Whole) -> Verdict
-    ensures { result ≡ verdict_from (exit.State state) whole }
-{
-    match whole {
-        Whole::Stopped(at) => Verdict::Refused(Refusal::Stopped { at }),
-        Whole::TooDeep(at) => Verdict::Refused(Refusal::TooDeep { at }),
-        Whole::Went { expect, open } => {
-            if ends_text(state, expect, open) {
-                Verdict::Accepted
-            } else {
-                Verdict::Refused(Refusal::Truncated)
-            }
-        }
-    }
 }
 
 impl Reader {
@@ -235,7 +203,9 @@ impl Reader {
     {
         reader_is_grammar();
         match self.progress {
-            Progress::Going(state) => verdict_at(state, self.kept.stack.whole()),
+            Progress::Going(state) => {
+                verdict_from(LexExit::State(state), self.kept.stack.whole())
+            }
             Progress::Stopped(at) => Verdict::Refused(Refusal::Stopped { at }),
             Progress::TooDeep(at) => Verdict::Refused(Refusal::TooDeep { at }),
             Progress::Failed => Verdict::Refused(Refusal::Truncated),

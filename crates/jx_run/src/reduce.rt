@@ -18,18 +18,18 @@ use std::alloc::{AllocError, Global};
 fn fill(
     alloc: Global,
     segment: &Segment,
-    part: &mut Option<Reductions>,
+    slot: &mut Option<Reductions>,
     depth: Depth,
 ) -> Result<(), AllocError>
-    requires part { IfSome part.old (IsReduced depth segment.now.marks) }
+    requires slot { IfSome slot.old (IsReduced depth segment.now.marks) }
     requires rising { RisingFrom 0 segment.now.marks }
-    ensures part { OnOk result (IsSomeAnd part.new (IsReduced depth segment.now.marks)) }
+    ensures slot { OnOk result (IsSomeAnd slot.new (IsReduced depth segment.now.marks)) }
 {
-    if part.is_some() {
+    if slot.is_some() {
         return Ok(());
     }
     let reduced = Reductions::of(alloc, segment.marks(), depth)?;
-    *part = Some(reduced);
+    *slot = Some(reduced);
     Ok(())
 }
 
@@ -38,18 +38,18 @@ fn take_in(
     alloc: Global,
     reduced: &mut Reductions,
     segment: &Segment,
-    part: &mut Option<Reductions>,
+    slot: &mut Option<Reductions>,
 ) -> Result<(), AllocError>
-    requires part { IfSome part.old (IsReduced reduced.old.depth segment.now.marks) }
+    requires slot { IfSome slot.old (IsReduced reduced.old.depth segment.now.marks) }
     requires rising { (marks : List Mark) × IsReduced reduced.old.depth marks reduced.old × RisingFrom 0 (marks ++ segment.now.marks) }
-    ensures part { OnOk result (IsSomeAnd part.new (IsReduced reduced.old.depth segment.now.marks)) }
+    ensures slot { OnOk result (IsSomeAnd slot.new (IsReduced reduced.old.depth segment.now.marks)) }
     ensures depth { reduced.new.depth ≡ reduced.old.depth }
     ensures reduced { OnOk result ((marks : List Mark) → IsReduced reduced.old.depth marks reduced.old → IsReduced reduced.old.depth (marks ++ segment.now.marks) reduced.new) }
 {
     offsets_lie_in_spans();
-    fill(alloc, segment, part, reduced.depth())?;
-    match part {
-        Some(part) => reduced.extend(part),
+    fill(alloc, segment, slot, reduced.depth())?;
+    match slot {
+        Some(slot) => reduced.extend(slot),
         None => unreachable!(),
     }
 }
@@ -58,21 +58,21 @@ fn take_in(
 fn reduce_path(
     alloc: Global,
     segments: &[Segment],
-    parts: &mut [Option<Reductions>],
+    slots: &mut [Option<Reductions>],
     path: Path<'_>,
     depth: Depth,
 ) -> Result<Reductions, AllocError>
-    requires many { length parts.old ≡ length segments.now }
-    requires parts { AreReduced depth segments.now parts.old }
+    requires many { length slots.old ≡ length segments.now }
+    requires slots { AreReduced depth segments.now slots.old }
     requires within { All (λ n. n < length segments.now) path }
     requires rising { RisingFrom 0 (flat_map (marks_at segments.now) path) }
-    ensures parts { OnOk result (AreReduced depth segments.now parts.new) }
+    ensures slots { OnOk result (AreReduced depth segments.now slots.new) }
     ensures reduced { IfOk result (IsReduced depth (flat_map (marks_at segments.now) path.entry)) }
 {
     let mut reduced = Reductions::new(alloc, depth);
     let mut path = path;
     while let Some(number) = path.next() {
-        take_in(alloc, &mut reduced, &segments[number], &mut parts[number])?;
+        take_in(alloc, &mut reduced, &segments[number], &mut slots[number])?;
     }
     Ok(reduced)
 }
@@ -98,9 +98,9 @@ fn is_bare(track: &TrackView<'_>) -> bool
 
 /// The number with which the path of a track begins, or the count of the segments where it has none, or no marks.
 fn first_of(track: &TrackView<'_>, count: usize) -> usize
-    requires { count ≡ length track.now.parts }
+    requires { count ≡ length track.now.segments }
     ensures low { result ≤ count }
-    ensures marks { flat_map (marks_at track.now.parts) (path_at track.now.parts result) ≡ (view_track track.now).marks }
+    ensures marks { flat_map (marks_at track.now.segments) (path_at track.now.segments result) ≡ (view_track track.now).marks }
 {
     if is_bare(track) {
         return count;
@@ -129,13 +129,13 @@ fn structure_from(
     alloc: Global,
     map: &ChunkMap,
     state: LexState,
-    parts: &mut [Option<Reductions>],
+    slots: &mut [Option<Reductions>],
     depth: Depth,
 ) -> Result<Reductions, AllocError>
-    requires many { length parts.old ≡ length map.now.parts }
-    requires parts { AreReduced depth map.now.parts parts.old }
+    requires many { length slots.old ≡ length map.now.segments }
+    requires slots { AreReduced depth map.now.segments slots.old }
     requires rising { RisingFrom 0 (track map.now state).marks }
-    ensures parts { OnOk result (AreReduced depth map.now.parts parts.new) }
+    ensures slots { OnOk result (AreReduced depth map.now.segments slots.new) }
     ensures marks { IfOk result (IsReduced depth (track map.now state).marks) }
 {
     let track = map.entry(state);
@@ -145,7 +145,7 @@ fn structure_from(
     if let Some(mark) = lone_mark(&track) {
         return Reductions::of(alloc, &[mark], depth);
     }
-    reduce_path(alloc, map.segments(), parts, track.path(), depth)
+    reduce_path(alloc, map.segments(), slots, track.path(), depth)
 }
 
 /// A mark that is all that a track has, and the number of its structure.
@@ -172,7 +172,7 @@ fn number_of_lone(known: Option<Lone>, mark: Option<Mark>) -> Option<usize>
 #[derive(Drop)]
 struct Paths {
     // those of the segments
-    parts: Vec<Option<Reductions>>,
+    slots: Vec<Option<Reductions>>,
     // for each segment the number of the structure of the path that begins with it, and last that of the path of none
     numbers: Vec<Option<usize>>,
     structures: Vec<Reductions>,
@@ -190,9 +190,9 @@ impl Paths {
     ) -> Result<usize, AllocError>
         requires rising { RisingFrom 0 (track map.now state).marks }
         requires inside { EachIn (λ m. (map.now.start ≤ m.at) × (m.at < map.now.end)) (track map.now state).marks }
-        requires made { ArePaths depth map.now self.old.parts.items self.old.numbers.items self.old.structures.items }
+        requires made { ArePaths depth map.now self.old.slots.items self.old.numbers.items self.old.structures.items }
         requires lone { IfSome self.old.lone (IsLoneIn depth self.old.structures.items) }
-        ensures made { OnOk result (ArePaths depth map.now self.new.parts.items self.new.numbers.items self.new.structures.items) }
+        ensures made { OnOk result (ArePaths depth map.now self.new.slots.items self.new.numbers.items self.new.structures.items) }
         ensures lone { OnOk result (IfSome self.new.lone (IsLoneIn depth self.new.structures.items)) }
         ensures few { OnOk result (length self.new.structures.items ≤ length self.old.structures.items + 1) }
         ensures above { OnOk result (IsAbove self.old.structures.items self.new.structures.items) }
@@ -224,18 +224,18 @@ impl Paths {
         first: usize,
         depth: Depth,
     ) -> Result<usize, AllocError>
-        requires first { first ≤ length map.now.parts }
-        requires path { flat_map (marks_at map.now.parts) (path_at map.now.parts first) ≡ (track map.now state).marks }
+        requires first { first ≤ length map.now.segments }
+        requires path { flat_map (marks_at map.now.segments) (path_at map.now.segments first) ≡ (track map.now state).marks }
         requires rising { RisingFrom 0 (track map.now state).marks }
         requires inside { EachIn (λ m. (map.now.start ≤ m.at) × (m.at < map.now.end)) (track map.now state).marks }
-        requires made { ArePaths depth map.now self.old.parts.items self.old.numbers.items self.old.structures.items }
-        ensures made { OnOk result (ArePaths depth map.now self.new.parts.items self.new.numbers.items self.new.structures.items) }
+        requires made { ArePaths depth map.now self.old.slots.items self.old.numbers.items self.old.structures.items }
+        ensures made { OnOk result (ArePaths depth map.now self.new.slots.items self.new.numbers.items self.new.structures.items) }
         ensures lone { self.new.lone ≡ self.old.lone }
         ensures few { OnOk result (length self.new.structures.items ≤ length self.old.structures.items + 1) }
         ensures above { OnOk result (IsAbove self.old.structures.items self.new.structures.items) }
         ensures number { IfOk result (IsAt depth (track map.now state).marks self.new.structures.items) }
     {
-        let marks = structure_from(alloc, map, state, &mut self.parts, depth)?;
+        let marks = structure_from(alloc, map, state, &mut self.slots, depth)?;
         self.structures.push(marks)?;
         let number = self.structures.len() - 1;
         self.numbers[first] = Some(number);
@@ -257,7 +257,7 @@ pub(crate) fn all_ways(
 {
     let count = map.segments().len();
     let mut paths = Paths {
-        parts: none(alloc, count)?,
+        slots: none(alloc, count)?,
         numbers: none(alloc, count + 1)?,
         structures: Vec::new(alloc),
         lone: None,

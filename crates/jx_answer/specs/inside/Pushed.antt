@@ -3,17 +3,14 @@ use Rattle.std.specs.Prelude.{◌≡◌, ℕ, ◌+◌, ◌<◌, ◌≤◌, List,
 use Rattle.std.specs.List.{AllZip}
 use Rattle.jx_summary.specs.declared.span.Span.{Span}
 use Rattle.jx_run.specs.declared.element_verdict.JudgedElement.{JudgedElement}
-use Rattle.jx_run.specs.Elements.{Part, part, filled}
+use Rattle.jx_run.specs.Elements.{Part, filled}
+use Rattle.jx_run.specs.MarkAlone.{part_of}
 use Rattle.jx_run.specs.SeqRun.{IsSummary}
 use Rattle.jx_run.specs.Started.{StartedValue, IsStarted}
 use Rattle.jx_run.specs.TextRun.{TextRunValue}
 use Rattle.jx_answer.specs.declared.element.Element.{Element}
 use Rattle.jx_answer.specs.declared.element.ElementAnswer.TheVariants as answer
 use Rattle.jx_answer.specs.Sequence.{IsElement, judged}
-
--- the bytes of the input at a span
-abbrev pub part_of : List ℕ → Span → Part
-part_of input s = part s.start (slice_range input s.start s.end)
 
 -- the reading of bytes of the input behind a record separator
 pub record IsReadable (input : List ℕ) (s : StartedValue) : Type 0 where

@@ -39,12 +39,12 @@ impl<'a, S: Summary, P: Ledger, T: Ledger> Locked<'a, S, P, T> {
         requires { run.span.start < run.span.end }
         ensures { IsShared share.old run.entry result share.new }
     {
-        let place = run.span();
+        let span = run.span();
         let answer = self.state.put(run);
         match &answer {
             Put::Stored => share.add_put(
                 &mut self.put,
-                place.end - place.start,
+                span.end - span.start,
                 self.state.total_put(),
             ),
             Put::Touches(_, neighbour) => {

@@ -24,11 +24,11 @@ pub fn assemble<'a, S: Summary>(
     let mut runs = closed.into_runs();
     let mut rest = Held::read(alloc, text, text.len(), text.len(), depth)?;
     while let Some(run) = runs.pop() {
-        let place = run.span();
-        if place.start < front {
+        let span = run.span();
+        if span.start < front {
             return fill(alloc, text, depth, front, rest);
         }
-        let filled = fill(alloc, text, depth, place.end, rest)?;
+        let filled = fill(alloc, text, depth, span.end, rest)?;
         rest = join_same(run, filled)?;
     }
     fill(alloc, text, depth, front, rest)

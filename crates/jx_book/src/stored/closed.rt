@@ -50,10 +50,10 @@ impl<'a, S: Summary> Closed<'a, S> {
         runs
     }
 
-    /// The parts of a span that no run covers, in order. It takes no memory.
-    pub fn gaps(&self, part: Span) -> Gaps<'_, 'a, S>
-        ensures { AreGaps (spans_of self.now) part result }
+    /// The gaps of a span: the stretches of it that no run covers, in order. It takes no memory.
+    pub fn gaps(&self, span: Span) -> Gaps<'_, 'a, S>
+        ensures { AreGaps (spans_of self.now) span result }
     {
-        Gaps::new(self.runs.as_slice(), part)
+        Gaps::new(self.runs.as_slice(), span)
     }
 }

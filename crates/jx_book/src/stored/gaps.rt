@@ -7,7 +7,7 @@ use crate::stored::held::Held;
 use jx_summary::{Span, Summary};
 use std::marker::Model;
 
-/// The parts of a span that no run covers, in order.
+/// The stretches of a span that no run covers, in order.
 #[derive(Drop)]
 pub struct Gaps<'r, 'a, S: Summary> {
     runs: &'r [Held<'a, S>],
@@ -32,15 +32,15 @@ impl<'r, 'a, S: Summary> Model for Gaps<'r, 'a, S> {
 }
 
 impl<'r, 'a, S: Summary> Gaps<'r, 'a, S> {
-    /// All parts of a span that none of these runs covers.
-    pub(crate) fn new(runs: &'r [Held<'a, S>], part: Span) -> Gaps<'r, 'a, S>
-        ensures { result ≡ gaps_from part.start (spans_of runs.entry.now) part.end }
+    /// All stretches of a span that none of these runs covers.
+    pub(crate) fn new(runs: &'r [Held<'a, S>], span: Span) -> Gaps<'r, 'a, S>
+        ensures { result ≡ gaps_from span.start (spans_of runs.entry.now) span.end }
     {
         Gaps {
             runs,
             number: 0,
-            start: part.start,
-            end: part.end,
+            start: span.start,
+            end: span.end,
         }
     }
 }
@@ -75,10 +75,10 @@ fn first_gap<S: Summary>(
     let mut at = start;
     let mut next = number;
     while next < runs.len() {
-        let place = runs[next].span();
+        let span = runs[next].span();
         let from = at;
-        let to = place.start.min(end);
-        at = at.max(place.end);
+        let to = span.start.min(end);
+        at = at.max(span.end);
         next += 1;
         if from < to {
             return (

@@ -132,20 +132,20 @@ impl<'a, S: Summary> Held<'a, S> {
 }
 
 /// The text of the longer of two neighbours, where the other's bytes stand in it too.
-fn common<'a>(text: &'a [u8], other: &'a [u8], place: Span, next: Span) -> Option<&'a [u8]>
-    requires left { (place.start ≤ place.end) × (place.end ≤ length text.now) }
+fn common<'a>(text: &'a [u8], other: &'a [u8], span: Span, next: Span) -> Option<&'a [u8]>
+    requires left { (span.start ≤ span.end) × (span.end ≤ length text.now) }
     requires right { (next.start ≤ next.end) × (next.end ≤ length other.now) }
-    requires neighbours { place.end ≡ next.start }
-    ensures some { IfSome result (λ t. IsCommon text.entry.now other.entry.now place next t.now) }
+    requires neighbours { span.end ≡ next.start }
+    ensures some { IfSome result (λ t. IsCommon text.entry.now other.entry.now span next t.now) }
     ensures none { IfNone result (text.entry.now ≢ other.entry.now) }
 {
-    if next.end - next.start < place.end - place.start {
+    if next.end - next.start < span.end - span.start {
         if agrees(other, text, next) {
             Some(text)
         } else {
             None
         }
-    } else if agrees(text, other, place) {
+    } else if agrees(text, other, span) {
         Some(other)
     } else {
         None
@@ -153,10 +153,10 @@ fn common<'a>(text: &'a [u8], other: &'a [u8], place: Span, next: Span) -> Optio
 }
 
 /// Whether the other text has the same bytes there.
-fn agrees(text: &[u8], other: &[u8], place: Span) -> bool
-    requires { (place.start ≤ place.end) × (place.end ≤ length text.now) }
-    ensures yes { result ≡ true → (place.end ≤ length other.now) × (slice_range text.now place.start place.end ≡ slice_range other.now place.start place.end) }
-    ensures no { result ≡ false → (place.end ≤ length other.now) → slice_range text.now place.start place.end ≢ slice_range other.now place.start place.end }
+fn agrees(text: &[u8], other: &[u8], span: Span) -> bool
+    requires { (span.start ≤ span.end) × (span.end ≤ length text.now) }
+    ensures yes { result ≡ true → (span.end ≤ length other.now) × (slice_range text.now span.start span.end ≡ slice_range other.now span.start span.end) }
+    ensures no { result ≡ false → (span.end ≤ length other.now) → slice_range text.now span.start span.end ≢ slice_range other.now span.start span.end }
 {
-    place.end <= other.len() && text[place.start..place.end] == other[place.start..place.end]
+    span.end <= other.len() && text[span.start..span.end] == other[span.start..span.end]
 }

@@ -95,20 +95,20 @@ impl<'a, S: Summary> BookState<'a, S> {
     }
 
     /// Where a run would go.
-    fn position(&self, place: Span) -> Position
-        requires { place.start < place.end }
-        ensures { IsPosition self.now.runs place result }
+    fn position(&self, span: Span) -> Position
+        requires { span.start < span.end }
+        ensures { IsPosition self.now.runs span result }
     {
-        let at = self.first_from(place.start);
+        let at = self.first_from(span.start);
         if at == self.runs.len() {
             return Position::Free(at);
         }
         let first = self.runs[at].span();
-        if first.end == place.start {
-            self.left_position(at, place)
-        } else if first.start < place.end {
+        if first.end == span.start {
+            self.left_position(at, span)
+        } else if first.start < span.end {
             Position::Overlapping
-        } else if first.start == place.end {
+        } else if first.start == span.end {
             Position::Right(at)
         } else {
             Position::Free(at)
@@ -116,18 +116,18 @@ impl<'a, S: Summary> BookState<'a, S> {
     }
 
     /// Where it would go, with a neighbour on the left.
-    fn left_position(&self, at: usize, place: Span) -> Position
-        requires span { place.start < place.end }
+    fn left_position(&self, at: usize, span: Span) -> Position
+        requires span { span.start < span.end }
         requires bound { at < length self.now.runs }
-        requires below { (k : ℕ) (d : _) → k < at → (slice_index_or self.now.runs k d).span.end < place.start }
-        requires here { (d : _) → (slice_index_or self.now.runs at d).span.end ≡ place.start }
-        ensures { IsPosition self.now.runs place result }
+        requires below { (k : ℕ) (d : _) → k < at → (slice_index_or self.now.runs k d).span.end < span.start }
+        requires here { (d : _) → (slice_index_or self.now.runs at d).span.end ≡ span.start }
+        ensures { IsPosition self.now.runs span result }
     {
         if self.runs.len() - at == 1 {
             return Position::Left(at);
         }
         let next = self.runs[at + 1].span();
-        if next.start < place.end {
+        if next.start < span.end {
             Position::Overlapping
         } else {
             Position::Left(at)
@@ -155,8 +155,8 @@ impl<'a, S: Summary> BookState<'a, S> {
         requires no_overlap { NoOverlap self.old.runs run.span }
         ensures { IsPut self.old run.entry result self.new }
     {
-        let place = self.runs[at].span();
-        let Some(taken) = self.taken.checked_add((place.end - place.start) as u128) else {
+        let span = self.runs[at].span();
+        let Some(taken) = self.taken.checked_add((span.end - span.start) as u128) else {
             return Put::Full(run);
         };
         self.taken = taken;
@@ -170,8 +170,8 @@ impl<'a, S: Summary> BookState<'a, S> {
         requires free { IsFree self.old.runs run.span at }
         ensures { IsPut self.old run.entry result self.new }
     {
-        let place = run.span();
-        let Some(put) = self.put.checked_add((place.end - place.start) as u128) else {
+        let span = run.span();
+        let Some(put) = self.put.checked_add((span.end - span.start) as u128) else {
             return Put::Full(run);
         };
         match self.runs.insert(at, run) {

@@ -2,7 +2,7 @@
 ghost use Rattle.std.specs.Prelude.{◌≡◌, length};
 
 use crate::workers::book_end::BookEnd;
-use crate::workers::reading::run_workers;
+use crate::workers::reading::read_by_workers;
 use crate::{Held, OpenGate};
 use jx_claim::{Cutting, Workers};
 use jx_summary::{Depth, Summary};
@@ -49,7 +49,7 @@ fn gathered_with<
     requires put { (put.name ≡ P.name) × (put.parts ≡ P.parts) × (put.parts ≡ workers) }
     requires taken { (taken.name ≡ T.name) × (taken.parts ≡ T.parts) × (taken.parts ≡ workers) }
 {
-    let outcome = run_workers::<S, P, T, R, OpenGate>(
+    let outcome = read_by_workers::<S, P, T, R, OpenGate>(
         rt, alloc, text, cutting, workers, depth, &OpenGate, put, taken,
     )?;
     match outcome {

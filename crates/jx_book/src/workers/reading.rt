@@ -73,7 +73,7 @@ fn read_with<
     requires taken { (taken.name ≡ T.name) × (taken.parts ≡ T.parts) × (taken.parts ≡ workers) }
     ensures { IfOk result (λ h. IsRest text.entry.now depth cutting.now.front h) }
 {
-    match run_workers::<S, P, T, R, G>(
+    match read_by_workers::<S, P, T, R, G>(
         rt, alloc, text, cutting, workers, depth, gate, put, taken,
     )? {
         BookEnd::Gathered(run) => Ok(run),
@@ -83,7 +83,7 @@ fn read_with<
 }
 
 /// Lets all workers work, and gathers what they left.
-pub(crate) fn run_workers<
+pub(crate) fn read_by_workers<
     'a,
     S: Summary + Send,
     P: Ledger + Send + Sync,
@@ -110,7 +110,7 @@ pub(crate) fn run_workers<
     let (book, shares) = Book::<S, P, T>::open(alloc, put, taken, workers)?;
     let (claims, seats) = Claims::open(alloc, cutting.count(), workers)?;
     let jobs = pair(alloc, &claims, seats, shares)?;
-    let ends = run_all(rt, alloc, &book, text, cutting, &claims, jobs, depth, gate)?;
+    let ends = work_all(rt, alloc, &book, text, cutting, &claims, jobs, depth, gate)?;
     let Returned {
         seats,
         shares,
@@ -167,7 +167,7 @@ fn pair<P: Ledger, T: Ledger>(
 }
 
 /// Lets each worker work, in a thread of its own where one can be made.
-fn run_all<
+fn work_all<
     'a,
     S: Summary + Send,
     P: Ledger + Send + Sync,
@@ -197,12 +197,12 @@ fn run_all<
         &|job: Job<P, T>| -> Result<WorkerEnd<P, T>, WorkerStop<S, P, T>>
             requires { (cutting.now.len ≡ length text.now) × (claims.now.pieces ≡ length cutting.now.pieces) × IsFresh claims.now.id job }
             ensures { Balances cutting.entry.now.pieces claims.entry.now.id result }
-        { run_one(rt, alloc, book, text, cutting, claims, job, depth, gate) },
+        { work_one(rt, alloc, book, text, cutting, claims, job, depth, gate) },
     )
 }
 
 /// Lets one worker work.
-fn run_one<'a, S: Summary, P: Ledger, T: Ledger, R: Wait, G: Gate>(
+fn work_one<'a, S: Summary, P: Ledger, T: Ledger, R: Wait, G: Gate>(
     rt: &R,
     alloc: Global,
     book: &Book<'a, S, P, T>,

@@ -76,8 +76,8 @@ pub fn work<'a, S: Summary, P: Ledger, T: Ledger, G: Gate, R: Wait>(
         if gate.pass(Event::Drew { worker, piece }) == Go::Stop {
             return Err(WorkerStop::new(seat, share, Hand::Piece(piece), Cause::Gate));
         }
-        let place = cutting.piece(piece);
-        let Ok(run) = Held::read(alloc, text, place.start, place.end, depth) else {
+        let span = cutting.piece(piece);
+        let Ok(run) = Held::read(alloc, text, span.start, span.end, depth) else {
             return Err(WorkerStop::new(seat, share, Hand::Piece(piece), Cause::Memory));
         };
         if let Err(Unfinished { hand, cause }) = hand_over(

@@ -5,10 +5,6 @@ use Rattle.jx_run.specs.declared.element_verdict.JudgedElement.{JudgedElement}
 use Rattle.jx_run.specs.Elements.{Part, part}
 use Rattle.jx_run.specs.ElementVerdict.{IsJudgedElement}
 
--- the bytes of the input at a span
-abbrev pub part_of : List ℕ → Span → Part
-part_of input s = part s.start (slice_range input s.start s.end)
-
 -- an element's verdict whatever names its objects have, and that its bytes are those of the input at its place
 pub record IsJudgedIn (input : List ℕ) (limit : ℕ) (p : Part) (e : JudgedElement) : Type 0 where
   pub judged : IsJudgedElement limit p e

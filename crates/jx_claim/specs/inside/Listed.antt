@@ -1,4 +1,4 @@
--- The pieces that the parts of a cutting stand for, before its front is left out.
+-- The pieces of a list, before a front is left out.
 use Rattle.std.specs.Prelude.{ℕ, zero, suc, ◌+◌, ◌*◌, ◌<◌, ◌≤◌, ⊤, min, List, [], ◌∷◌, length, slice_index_or}
 use Rattle.jx_summary.specs.declared.span.Span.{Span}
 use Rattle.jx_claim.specs.declared.piece_list.PieceList.{PieceList}

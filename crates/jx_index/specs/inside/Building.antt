@@ -36,15 +36,15 @@ counted [] = []
 counted (top ∷ outer) = record top { count = suc top.count } ∷ outer
 
 abbrev pub next_row : Kind → Span → Building → Row
-next_row kind place b = record { kind = kind; span = place; parent = parent_in b.opened; place = child_place b.opened; name = b.name }
+next_row kind span b = record { kind = kind; span = span; parent = parent_in b.opened; place = child_place b.opened; name = b.name }
 
 abbrev pub one_after : Building → List ℕ
 one_after b = b.after ++ ((length b.rows + 1) ∷ [])
 
 -- a value of one token
 abbrev pub add_leaf : Kind → Span → Building → Building
-add_leaf kind place b =
-    record { rows = b.rows ++ (next_row kind place b ∷ []); after = one_after b; opened = counted b.opened; name = None }
+add_leaf kind span b =
+    record { rows = b.rows ++ (next_row kind span b ∷ []); after = one_after b; opened = counted b.opened; name = None }
 
 -- a container begins; its end and the number behind it are set later
 abbrev pub begin_container : Kind → Bool → ℕ → Building → Building
@@ -79,7 +79,7 @@ is_name_next (top ∷ outer) None = top.is_object
 is_name_next _ _ = false
 
 abbrev pub add_string : Span → Building → Building
-add_string place b = cond (is_name_next b.opened b.name) (record b { name = Some place }) (add_leaf kind.String place b)
+add_string span b = cond (is_name_next b.opened b.name) (record b { name = Some span }) (add_leaf kind.String span b)
 
 -- a mark at an offset, and the end that belongs to it where it begins a token
 abbrev pub on_mark : MarkKind → ℕ → ℕ → Building → Building

@@ -2,14 +2,14 @@
 use Rattle.std.specs.Prelude.{ℕ, suc, List, [], ◌∷◌}
 use Rattle.jx_lex.specs.declared.map.link.Link.{Link}
 use Rattle.jx_lex.specs.declared.map.link.Link.TheVariants.{Ahead, State, Fault}
-use Rattle.jx_lex.specs.Follow.{Part}
-use Rattle.jx_lex.specs.inside.Step.{read_part}
+use Rattle.jx_lex.specs.Follow.{SegmentValue}
+use Rattle.jx_lex.specs.inside.Step.{read_segment}
 use Rattle.jx_lex.specs.Uneventful.{AllKeep, Leads}
 
 -- a segment after these bytes
-abbrev pub read_bytes : ℕ → List ℕ → Part → Part
+abbrev pub read_bytes : ℕ → List ℕ → SegmentValue → SegmentValue
 read_bytes at [] p = p
-read_bytes at (b ∷ bs) p = read_bytes (suc at) bs (read_part at b p)
+read_bytes at (b ∷ bs) p = read_bytes (suc at) bs (read_segment at b p)
 
 -- these bytes change nothing
 abbrev pub KeptBy : Link → List ℕ → Type 0
@@ -24,6 +24,6 @@ LedBy (Ahead k) bytes = Unit {0}
 LedBy (Fault at) bytes = Unit {0}
 
 -- these bytes change none of the segments
-abbrev pub AllKept : List ℕ → List Part → Type 0
+abbrev pub AllKept : List ℕ → List SegmentValue → Type 0
 AllKept bytes [] = Unit {0}
 AllKept bytes (p ∷ ps) = KeptBy p.next bytes × AllKept bytes ps

@@ -2,7 +2,7 @@
 use Rattle.std.specs.Prelude.{◌≡◌, Bool, true, false, List, [], ◌∷◌, get_or, slice_set as set}
 use Rattle.jx_lex.specs.declared.map.link.Link.{Link}
 use Rattle.jx_lex.specs.declared.map.link.Link.TheVariants.{Ahead, State, Fault}
-use Rattle.jx_lex.specs.Follow.{Part}
+use Rattle.jx_lex.specs.Follow.{SegmentValue}
 use Rattle.jx_lex.specs.Ordinal.{ordinal}
 
 -- a segment that this leads to is among those that are reached
@@ -17,11 +17,11 @@ with_reached (Ahead k) reached = set reached k true
 with_reached (State s) reached = reached
 with_reached (Fault at) reached = reached
 
-abbrev pub emptied : Part → Part
+abbrev pub emptied : SegmentValue → SegmentValue
 emptied p = record p { marks = []; ends = [] }
 
 -- the segments from the first on, where so many of them are reached from in front of them
-abbrev pub pruned : List Bool → List Part → List Part
+abbrev pub pruned : List Bool → List SegmentValue → List SegmentValue
 pruned reached [] = []
 pruned [] (p ∷ ps) = emptied p ∷ pruned [] ps
 pruned (true ∷ reached) (p ∷ ps) = p ∷ pruned (with_reached p.next reached) ps

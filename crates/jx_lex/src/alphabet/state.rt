@@ -115,7 +115,7 @@ impl LexState {
         ]
     }
 
-    /// Its place among all of them, counted from 0.
+    /// Its number among all of them, counted from 0.
     #[inline(always)]
     pub fn number(self) -> usize
         ensures ordinal { result ≡ ordinal self }

@@ -28,7 +28,7 @@ impl Model for Bundle {
 
     ghost Value = { Bundle };
 
-    ghost view = { λ b. record { heads = b.heads; parts = b.segments.items; live = b.live } };
+    ghost view = { λ b. record { heads = b.heads; segments = b.segments.items; live = b.live } };
 }
 
 /// Whether this state is among the live ones.
@@ -66,7 +66,7 @@ impl Bundle {
 
     /// No track yet.
     fn empty(alloc: Global, live: [bool; 32]) -> Bundle
-        ensures { result ≡ record { heads = replicate 32 (Link.Fault 0); parts = []; live = live } }
+        ensures { result ≡ record { heads = replicate 32 (Link.Fault 0); segments = []; live = live } }
     {
         Bundle {
             heads: [Link::Fault(0); 32],
@@ -153,7 +153,7 @@ impl Bundle {
         ensures reads { IfOk result (λ b. (at : ℕ) → IsBundleOf at [] live.now b) }
         ensures stands { IfOk result (λ b. Stands [] live.now b) }
         ensures closed { IfOk result (λ b. (s : LexState) → IsClosed (head b.heads s)) }
-        ensures count { IfOk result (λ b. length b.parts ≡ live_count live.now) }
+        ensures count { IfOk result (λ b. length b.segments ≡ live_count live.now) }
     {
         let mut bundle = Bundle::empty(alloc, *live);
         for state in LexState::all() {
@@ -162,13 +162,13 @@ impl Bundle {
         Ok(bundle)
     }
 
-    /// IsBundleOf on to the end of a span, where at most two states are live or nothing is left to read.
+    /// Reads on to the end of a span, where at most two states are live or nothing is left to read.
     pub(crate) fn read_on(self, text: &[u8], from: usize, to: usize) -> Result<Bundle, AllocError>
         requires bounds { (from ≤ to) × (to ≤ length text.now) }
-        requires few { (length self.parts ≤ 2) ⊎ (from ≡ to) }
+        requires few { (length self.segments ≤ 2) ⊎ (from ≡ to) }
         ensures heads { IfOk result (λ b. b.heads ≡ self.heads) }
         ensures live { IfOk result (λ b. b.live ≡ self.live) }
-        ensures read { IfOk result (λ b. ReadsOn from (slice_range text.now from to) self.parts b.parts) }
+        ensures read { IfOk result (λ b. ReadsOn from (slice_range text.now from to) self.segments b.segments) }
     {
         let Bundle {
             heads,
@@ -185,7 +185,7 @@ impl Bundle {
 
     /// Continues each track by the right track from the state in which it stands.
     pub(crate) fn join(&mut self, right: Bundle) -> Result<(), AllocError>
-        requires inside { (s : LexState) → IsIn (length right.parts) (head right.heads s) }
+        requires inside { (s : LexState) → IsIn (length right.segments) (head right.heads s) }
         ensures { OnOk result (self.new ≡ joined_bundle self.old right) }
     {
         let mut right = right;

@@ -40,9 +40,9 @@ impl Model for ChunkMap {
 
     ghost Value = { Map };
 
-    ghost view = { λ m. record { start = m.start; end = m.end; heads = m.heads; parts = m.segments.items } };
+    ghost view = { λ m. record { start = m.start; end = m.end; heads = m.heads; segments = m.segments.items } };
 
-    ghost invariant = { λ m. IsLinked (record { start = m.start; end = m.end; heads = m.heads; parts = m.segments.items }) × AreClosed m.closed m.heads m.segments.items };
+    ghost invariant = { λ m. IsLinked (record { start = m.start; end = m.end; heads = m.heads; segments = m.segments.items }) × AreClosed m.closed m.heads m.segments.items };
 }
 
 impl ChunkMap {
@@ -58,14 +58,14 @@ impl ChunkMap {
 
     /// The segments of which the tracks are made.
     pub fn segments(&self) -> &[Segment]
-        ensures value { result.now ≡ self.now.parts }
+        ensures value { result.now ≡ self.now.segments }
     {
         &self.segments
     }
 
     /// How many marks the map holds, those of all segments together.
     pub fn stored(&self) -> u128
-        ensures value { result ≡ stored self.now.parts }
+        ensures value { result ≡ stored self.now.segments }
     {
         let mut stored = 0;
         for segment in &self.segments {
@@ -77,7 +77,7 @@ impl ChunkMap {
     /// What reading the span gives from this state.
     pub fn entry(&self, state: LexState) -> TrackView<'_>
         ensures track { view_track result ≡ track self.now state }
-        ensures parts { result.parts ≡ self.now.parts }
+        ensures segments { result.segments ≡ self.now.segments }
     {
         TrackView {
             segments: &self.segments,
@@ -91,8 +91,8 @@ impl ChunkMap {
         ensures start { IfOk result (λ m. m.start ≡ start) }
         ensures end { IfOk result (λ m. m.end ≡ end) }
         ensures of { IfOk result (λ m. IsOf (slice_range text.now start end) m) }
-        ensures stored { IfOk result (λ m. stored m.parts ≤ shared_count (slice_range text.now start end)) }
-        ensures placed { IfOk result (λ m. ArePlaced start end m.parts) }
+        ensures stored { IfOk result (λ m. stored m.segments ≤ shared_count (slice_range text.now start end)) }
+        ensures placed { IfOk result (λ m. ArePlaced start end m.segments) }
     {
         ChunkMap::up_to(alloc, text, start, end, end)
     }
@@ -110,8 +110,8 @@ impl ChunkMap {
         ensures end { IfOk result (λ m. (start ≤ m.end) × (m.end ≤ end)) }
         ensures of { IfOk result (λ m. IsOf (slice_range text.now start m.end) m) }
         ensures few { IfOk result (λ m. (m.end ≡ end) ⊎ EndsInTwo m) }
-        ensures stored { IfOk result (λ m. stored m.parts ≤ shared_count (slice_range text.now start m.end)) }
-        ensures placed { IfOk result (λ m. ArePlaced start m.end m.parts) }
+        ensures stored { IfOk result (λ m. stored m.segments ≤ shared_count (slice_range text.now start m.end)) }
+        ensures placed { IfOk result (λ m. ArePlaced start m.end m.segments) }
     {
         let least = if end - start < BEGINNING {
             end
@@ -135,8 +135,8 @@ impl ChunkMap {
         ensures end { IfOk result (λ m. (least ≤ m.end) × (m.end ≤ end)) }
         ensures of { IfOk result (λ m. IsOf (slice_range text.now start m.end) m) }
         ensures few { IfOk result (λ m. (m.end ≡ end) ⊎ EndsInTwo m) }
-        ensures stored { IfOk result (λ m. stored m.parts ≤ shared_count (slice_range text.now start m.end)) }
-        ensures placed { IfOk result (λ m. ArePlaced start m.end m.parts) }
+        ensures stored { IfOk result (λ m. stored m.segments ≤ shared_count (slice_range text.now start m.end)) }
+        ensures placed { IfOk result (λ m. ArePlaced start m.end m.segments) }
     {
         let mut bundle = Bundle::unread(alloc);
         let mut at = start;
@@ -171,7 +171,7 @@ impl ChunkMap {
         ensures end { IfOk result (λ j. j.end ≡ right.end) }
         ensures tracks { IfOk result (λ j. (s : LexState) → track j s ≡ track (joined_map self right) s) }
         ensures of { IfOk result (λ j. (xs ys : List ℕ) → IsOf xs self → IsOf ys right → IsOf (xs ++ ys) j) }
-        ensures stored { IfOk result (λ j. stored j.parts ≤ stored self.parts + stored right.parts) }
+        ensures stored { IfOk result (λ j. stored j.segments ≤ stored self.segments + stored right.segments) }
         ensures err { IfErr result (λ e. (e.left ≡ self) × (e.right ≡ right)) }
     {
         let mut left = self;

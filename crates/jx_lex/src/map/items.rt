@@ -1,7 +1,7 @@
 // The marks of a track, or its ends, one after another.
 ghost use Rattle.std.specs.Prelude.{◌≡◌, [], ◌++◌, ℕ, List, refl, option_to_list, IsNone};
 ghost use Rattle.std.specs.Iterator.{YieldsFirst, item_count};
-ghost use Rattle.jx_lex.specs.Follow.{Part, behind, done};
+ghost use Rattle.jx_lex.specs.Follow.{SegmentValue, behind, done};
 ghost use Rattle.jx_lex.specs.Lex.{Track, LexExit};
 
 use crate::alphabet::mark::Mark;
@@ -13,21 +13,21 @@ use std::marker::Model;
 
 /// What segments keep lists of, and tracks therefore have lists of: marks or ends.
 pub trait Kept: Copy {
-    ghost in_part: { Part → List Self };
+    ghost in_segment: { SegmentValue → List Self };
 
     ghost in_track: { Track → List Self };
 
     /// The list that a segment keeps of them.
     fn kept_by(segment: &Segment) -> &[Self]
-        ensures { result.now ≡ in_part segment.now };
+        ensures { result.now ≡ in_segment segment.now };
 
-    ghost behind_part: { (p : Part) (t : Track) → in_track (behind p t) ≡ in_part p ++ in_track t };
+    ghost behind_segment: { (p : SegmentValue) (t : Track) → in_track (behind p t) ≡ in_segment p ++ in_track t };
 
     ghost at_exit: { (e : LexExit) → in_track (done e) ≡ [] };
 }
 
 impl Kept for Mark {
-    ghost in_part = { λ p. p.marks };
+    ghost in_segment = { λ p. p.marks };
 
     ghost in_track = { λ t. t.marks };
 
@@ -35,13 +35,13 @@ impl Kept for Mark {
         segment.marks()
     }
 
-    ghost behind_part = { λ p t. refl };
+    ghost behind_segment = { λ p t. refl };
 
     ghost at_exit = { λ e. refl };
 }
 
 impl Kept for usize {
-    ghost in_part = { λ p. p.ends };
+    ghost in_segment = { λ p. p.ends };
 
     ghost in_track = { λ t. t.ends };
 
@@ -49,7 +49,7 @@ impl Kept for usize {
         segment.ends()
     }
 
-    ghost behind_part = { λ p t. refl };
+    ghost behind_segment = { λ p t. refl };
 
     ghost at_exit = { λ e. refl };
 }

@@ -3,7 +3,7 @@ ghost use Rattle.std.specs.Prelude.{◌≡◌, ◌≤◌, true, length, IfOk, On
 ghost use Rattle.jx_lex.specs.declared.alphabet.state.LexState.{LexState};
 ghost use Rattle.jx_lex.specs.inside.Bundle.{AllLive, LiveAt, is_live};
 ghost use Rattle.jx_lex.specs.inside.Closed.{ClosedTo};
-ghost use Rattle.jx_lex.specs.Follow.{AreIn, IsIn, head, linked_parts};
+ghost use Rattle.jx_lex.specs.Follow.{AreIn, IsIn, head, linked_segments};
 ghost use Rattle.jx_lex.specs.inside.Pruned.{IsReached, pruned, with_exit_of};
 
 use crate::alphabet::state::LexState;
@@ -26,7 +26,7 @@ pub(crate) fn exits(heads: &[Link; 32], segments: &[Segment], closed: usize) -> 
     requires within { closed ≤ length segments.now }
     requires all_closed { ClosedTo closed segments.now }
     ensures heads { (s : LexState) → LiveAt result (head heads.now s) }
-    ensures parts { AllLive result segments.now }
+    ensures segments { AllLive result segments.now }
 {
     let mut live = [false; 32];
     for i in closed..segments.len() {
@@ -85,11 +85,11 @@ pub(crate) fn append_reached(
     reached: Vec<bool>,
 ) -> Result<(), AllocError>
     requires many { length reached.items ≡ length right.old.items }
-    requires parts { AreIn right.old.items }
+    requires segments { AreIn right.old.items }
     requires inside { (s : LexState) → IsIn (length right.old.items) (head heads.now s) }
     requires within { closed ≤ length left.old.items }
     requires all_closed { ClosedTo closed left.old.items }
-    ensures ok { OnOk result (left.new.items ≡ linked_parts heads.now left.old.items ++ pruned reached.items right.old.items) }
+    ensures ok { OnOk result (left.new.items ≡ linked_segments heads.now left.old.items ++ pruned reached.items right.old.items) }
     ensures err { OnErr result ((left.new.items ≡ left.old.items) × (right.new.items ≡ right.old.items)) }
     ensures fits { OnOk result (length left.old.items + length right.old.items < 2 ^ 64) }
 {

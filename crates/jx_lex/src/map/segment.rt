@@ -1,10 +1,10 @@
-// A part of one or more tracks.
+// What one or more tracks have in common.
 ghost use Rattle.std.specs.Prelude.{◌≡◌, ◌≤◌, ◌<◌, ◌+◌, ◌++◌, [], ◌^◌, length, take, slice_range, OnOk, OnErr};
 ghost use Rattle.jx_lex.specs.inside.Closed.{ClosedTo};
 ghost use Rattle.jx_lex.specs.declared.alphabet.state.LexState.{LexState};
-ghost use Rattle.jx_lex.specs.Follow.{IsIn, head, linked, linked_parts};
+ghost use Rattle.jx_lex.specs.Follow.{IsIn, head, linked, linked_segments};
 ghost use Rattle.jx_lex.specs.inside.Passing.{read_bytes};
-ghost use Rattle.jx_lex.specs.inside.Step.{read_part};
+ghost use Rattle.jx_lex.specs.inside.Step.{read_segment};
 
 use crate::alphabet::machine::step;
 use crate::alphabet::mark::Mark;
@@ -23,9 +23,9 @@ pub struct Segment {
 }
 
 impl Model for Segment {
-    ghost use Rattle.jx_lex.specs.Follow.{Part};
+    ghost use Rattle.jx_lex.specs.Follow.{SegmentValue};
 
-    ghost Value = { Part };
+    ghost Value = { SegmentValue };
 
     ghost view = { λ s. record { marks = s.tokens.marks; ends = s.tokens.ends; next = s.next } };
 }
@@ -72,7 +72,7 @@ impl Segment {
     /// Takes in one more byte, where this is the end of a track.
     pub(crate) fn read(&mut self, at: usize, byte: u8) -> Result<(), AllocError>
         requires { at + 1 < 2 ^ 64 }
-        ensures { OnOk result (self.new ≡ read_part at byte self.old) }
+        ensures { OnOk result (self.new ≡ read_segment at byte self.old) }
     {
         let Link::State(state) = self.next else {
             return Ok(());
@@ -134,7 +134,7 @@ pub(crate) fn link_segments(
     requires fits { length segments.old + count < 2 ^ 64 }
     requires within { closed ≤ length segments.old }
     requires all_closed { ClosedTo closed segments.old }
-    ensures { segments.new ≡ linked_parts heads.now segments.old }
+    ensures { segments.new ≡ linked_segments heads.now segments.old }
 {
     let len = segments.len();
     for i in closed..len {
@@ -155,7 +155,7 @@ pub(crate) fn append_linked(
     requires inside { (s : LexState) → IsIn (length right.old.items) (head heads.now s) }
     requires within { closed ≤ length left.old.items }
     requires all_closed { ClosedTo closed left.old.items }
-    ensures ok { OnOk result (left.new.items ≡ linked_parts heads.now left.old.items ++ right.old.items) }
+    ensures ok { OnOk result (left.new.items ≡ linked_segments heads.now left.old.items ++ right.old.items) }
     ensures err { OnErr result ((left.new.items ≡ left.old.items) × (right.new.items ≡ right.old.items)) }
     ensures fits { OnOk result (length left.old.items + length right.old.items < 2 ^ 64) }
 {

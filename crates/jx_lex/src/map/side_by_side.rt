@@ -5,7 +5,7 @@ ghost use Rattle.jx_lex.specs.declared.alphabet.state.LexState.TheVariants as st
 ghost use Rattle.jx_lex.specs.inside.Bundle.{IsBundleOf, Stands, ReadsOn, StandIn};
 ghost use Rattle.jx_lex.specs.inside.Passing.{KeptBy, AllKept};
 ghost use Rattle.jx_lex.specs.Uneventful.{AllKeep};
-ghost use Rattle.jx_lex.specs.inside.Step.{read_part, held_by};
+ghost use Rattle.jx_lex.specs.inside.Step.{read_segment, held_by};
 
 use crate::alphabet::state::LexState;
 use crate::map::bundle::Bundle;
@@ -45,10 +45,10 @@ fn are_many_apart(segments: &[Segment]) -> bool
     standing > 2
 }
 
-/// IsBundleOf one more byte at the end of each segment.
+/// Reads one more byte at the end of each segment.
 fn read_each(segments: &mut [Segment], at: usize, byte: u8) -> Result<(), AllocError>
     requires { at + 1 < 2 ^ 64 }
-    ensures { OnOk result (segments.new ≡ map (read_part at byte) segments.old) }
+    ensures { OnOk result (segments.new ≡ map (read_segment at byte) segments.old) }
 {
     for i in 0..segments.len() {
         let segment = &mut segments[i];
@@ -97,7 +97,7 @@ fn still_end(segments: &[Segment], text: &[u8], from: usize, to: usize) -> usize
     }
 }
 
-/// IsBundleOf segments side by side while more than two stand, and no two in the same state. Gives the end of what was read.
+/// Reads segments side by side while more than two stand, and no two in the same state. Gives the end of what was read.
 fn read_apart(
     segments: &mut [Segment],
     text: &[u8],
@@ -116,14 +116,14 @@ fn read_apart(
     Ok(i)
 }
 
-/// IsBundleOf the tracks of a bundle side by side until two of them meet or no more than two are left. Gives the end of what
+/// Reads the tracks of a bundle side by side until two of them meet or no more than two are left. Gives the end of what
 /// was read, too.
 fn go_on(bundle: Bundle, text: &[u8], from: usize, to: usize) -> Result<(Bundle, usize), AllocError>
     requires { (from ≤ to) × (to ≤ length text.now) }
     ensures bounds { IfOk result (λ r. (from ≤ r.1) × (r.1 ≤ to)) }
     ensures heads { IfOk result (λ r. r.0.heads ≡ bundle.heads) }
-    ensures read { IfOk result (λ r. ReadsOn from (slice_range text.now from r.1) bundle.parts r.0.parts) }
-    ensures stand { IfOk result (λ r. StandIn r.0.live r.0.parts) }
+    ensures read { IfOk result (λ r. ReadsOn from (slice_range text.now from r.1) bundle.segments r.0.segments) }
+    ensures stand { IfOk result (λ r. StandIn r.0.live r.0.segments) }
 {
     let Bundle {
         heads,

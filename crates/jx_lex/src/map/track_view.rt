@@ -24,7 +24,7 @@ impl<'a> Model for TrackView<'a> {
 
     ghost Value = { View };
 
-    ghost view = { λ v. record { parts = v.segments.now; first = v.first } };
+    ghost view = { λ v. record { segments = v.segments.now; first = v.first } };
 
     ghost invariant = { λ v. IsIn (length v.segments.now) v.first × AreIn v.segments.now };
 }
@@ -85,9 +85,9 @@ impl<'a> TrackView<'a> {
     /// The numbers of the segments that the track goes through, in order: places in the map's list of segments.
     pub fn path(&self) -> Path<'a>
         ensures all { result ≡ view_path self.now }
-        ensures within { All (λ n. n < length self.now.parts) result }
-        ensures marks { flat_map (marks_at self.now.parts) result ≡ (view_track self.now).marks }
-        ensures ends { flat_map (ends_at self.now.parts) result ≡ (view_track self.now).ends }
+        ensures within { All (λ n. n < length self.now.segments) result }
+        ensures marks { flat_map (marks_at self.now.segments) result ≡ (view_track self.now).marks }
+        ensures ends { flat_map (ends_at self.now.segments) result ≡ (view_track self.now).ends }
     {
         Path {
             number: 0,

@@ -99,13 +99,13 @@ impl Ahead {
         }
     }
 
-    /// Whether the byte at this place was tested, and nothing past `to`.
+    /// Whether the byte at this offset was tested, and nothing past `to`.
     #[inline(always)]
     fn was_tested(self, at: usize, to: usize) -> bool {
         self.from <= at && at < self.tested && self.tested <= to
     }
 
-    /// This stretch, or a new one that begins at this place, where the bytes from there on are not tested yet and testing
+    /// This stretch, or a new one that begins at this offset, where the bytes from there on are not tested yet and testing
     /// them pays.
     #[inline(always)]
     pub(crate) fn at(self, text: &[u8], at: usize, to: usize) -> Ahead
@@ -120,7 +120,7 @@ impl Ahead {
         }
     }
 
-    /// Whether the stretch has the byte at this place, and ends no later than there.
+    /// Whether the stretch has the byte at this offset, and ends no later than there.
     #[inline(always)]
     pub(crate) fn covers(self, at: usize, to: usize) -> bool
         ensures { result ≡ (nat_le self.from at && nat_lt at self.to && nat_le self.to to) }

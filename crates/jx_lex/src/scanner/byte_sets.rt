@@ -1,5 +1,5 @@
-// Ends of runs of bytes over which the lexical machine keeps its state with no event, found 16 bytes at a time, and in long
-// runs 64.
+// Ends of stretches of bytes over which the lexical machine keeps its state with no event, found 16 bytes at a time, and in
+// long stretches 64.
 ghost use Rattle.std.specs.Prelude.{◌≡◌, ◌≤◌, ◌<◌, ◌+◌, ℕ, Bool, not, length, slice_index, slice_range, map};
 ghost use Rattle.std.specs.Simd.Lanes.{mask_l};
 ghost use Rattle.std.specs.Slice.Scan.{HoldsNowhere, IsFirstPlace, Marks};
@@ -8,14 +8,14 @@ ghost use Rattle.jx_lex.specs.Uneventful.{AllKeep, is_plain, is_unescaped, is_di
 
 use std::simd::prelude::*;
 
-// A test of bytes that go on a run: of one, of 16 and of 64.
-trait Run {
+// A set of bytes, with which one byte, 16 and 64 are compared at a time.
+trait ByteSet {
     ghost goes_on: { ℕ → Bool };
 
     fn has(byte: u8) -> bool
         ensures { result ≡ goes_on byte };
 
-    // Bit k says that byte k is none of the run.
+    // Bit k says that byte k is not in the set.
     fn others(block: u8x16) -> u64
         ensures { result ≡ mask_l (map (λ byte. not (goes_on byte)) block) };
 
@@ -31,7 +31,7 @@ struct Digits;
 
 struct Blanks;
 
-impl Run for Plain {
+impl ByteSet for Plain {
     ghost goes_on = { is_plain };
 
     #[inline(always)]
@@ -54,7 +54,7 @@ impl Run for Plain {
     }
 }
 
-impl Run for Unescaped {
+impl ByteSet for Unescaped {
     ghost goes_on = { is_unescaped };
 
     #[inline(always)]
@@ -77,7 +77,7 @@ impl Run for Unescaped {
     }
 }
 
-impl Run for Digits {
+impl ByteSet for Digits {
     ghost goes_on = { is_digit };
 
     #[inline(always)]
@@ -100,7 +100,7 @@ impl Run for Digits {
     }
 }
 
-impl Run for Blanks {
+impl ByteSet for Blanks {
     ghost goes_on = { is_blank };
 
     #[inline(always)]
@@ -125,42 +125,42 @@ impl Run for Blanks {
     }
 }
 
-/// Bit k says that the byte k places behind `i` is none of the run, for the 16 bytes from `i` on.
+/// Bit k says that the byte k places behind `i` is not in the set, for the 16 bytes from `i` on.
 #[inline(always)]
-fn marks<R: Run>(text: &[u8], i: usize) -> u64
+fn marks<R: ByteSet>(text: &[u8], i: usize) -> u64
     requires { i + 16 ≤ length text.now }
     ensures { Marks (λ k. not (R.goes_on (slice_index text.now k))) i 16 result }
 {
     R::others(u8x16::from_slice(&text[i..]))
 }
 
-/// Bit k says that the byte k places behind `i` is none of the run, for the 64 bytes from `i` on.
+/// Bit k says that the byte k places behind `i` is not in the set, for the 64 bytes from `i` on.
 #[inline(always)]
-fn marks_of_64<R: Run>(text: &[u8], i: usize) -> u64
+fn marks_of_64<R: ByteSet>(text: &[u8], i: usize) -> u64
     requires { i + 64 ≤ length text.now }
     ensures { Marks (λ k. not (R.goes_on (slice_index text.now k))) i 64 result }
 {
     R::others_of_64(u8x64::from_slice(&text[i..]))
 }
 
-/// The first place from `from` on whose byte is none of the run, or `to`. Most runs end in their first 16 bytes.
+/// The first offset from `from` on whose byte is not in the set, or `to`. Most stretches end in their first 16 bytes.
 #[inline(always)]
-fn run_end<R: Run>(text: &[u8], from: usize, to: usize) -> usize
+fn members_end<R: ByteSet>(text: &[u8], from: usize, to: usize) -> usize
     requires { (from ≤ to) × (to ≤ length text.now) }
     ensures { IsFirstPlace (λ k. not (R.goes_on (slice_index text.now k))) from to result }
 {
     if to - from < 16 {
-        return run_end_by_one::<R>(text, from, from, to);
+        return members_end_by_one::<R>(text, from, from, to);
     }
     let found = marks::<R>(text, from);
     if found != 0 {
         return from + found.trailing_zeros() as usize;
     }
-    long_run_end::<R>(text, from, from + 16, to)
+    long_members_end::<R>(text, from, from + 16, to)
 }
 
-/// `run_end`, where the bytes before `seen` are all of the run: it goes on 64 bytes at a time.
-fn long_run_end<R: Run>(text: &[u8], from: usize, seen: usize, to: usize) -> usize
+/// `members_end`, where all bytes before `seen` are in the set: it goes on 64 bytes at a time.
+fn long_members_end<R: ByteSet>(text: &[u8], from: usize, seen: usize, to: usize) -> usize
     requires ordered { (from ≤ seen) × (seen ≤ to) × (to ≤ length text.now) }
     requires passed { HoldsNowhere (λ k. not (R.goes_on (slice_index text.now k))) from seen }
     ensures { IsFirstPlace (λ k. not (R.goes_on (slice_index text.now k))) from to result }
@@ -173,12 +173,12 @@ fn long_run_end<R: Run>(text: &[u8], from: usize, seen: usize, to: usize) -> usi
         }
         i += 64;
     }
-    run_end_by_16::<R>(text, from, i, to)
+    members_end_by_16::<R>(text, from, i, to)
 }
 
-/// `run_end`, where the bytes before `seen` are all of the run: it goes on 16 bytes at a time.
+/// `members_end`, where all bytes before `seen` are in the set: it goes on 16 bytes at a time.
 #[inline(always)]
-fn run_end_by_16<R: Run>(text: &[u8], from: usize, seen: usize, to: usize) -> usize
+fn members_end_by_16<R: ByteSet>(text: &[u8], from: usize, seen: usize, to: usize) -> usize
     requires ordered { (from ≤ seen) × (seen ≤ to) × (to ≤ length text.now) }
     requires passed { HoldsNowhere (λ k. not (R.goes_on (slice_index text.now k))) from seen }
     ensures { IsFirstPlace (λ k. not (R.goes_on (slice_index text.now k))) from to result }
@@ -191,12 +191,12 @@ fn run_end_by_16<R: Run>(text: &[u8], from: usize, seen: usize, to: usize) -> us
         }
         i += 16;
     }
-    run_end_by_one::<R>(text, from, i, to)
+    members_end_by_one::<R>(text, from, i, to)
 }
 
-/// `run_end`, where the bytes before `seen` are all of the run: it goes on one byte at a time.
+/// `members_end`, where all bytes before `seen` are in the set: it goes on one byte at a time.
 #[inline(always)]
-fn run_end_by_one<R: Run>(text: &[u8], from: usize, seen: usize, to: usize) -> usize
+fn members_end_by_one<R: ByteSet>(text: &[u8], from: usize, seen: usize, to: usize) -> usize
     requires ordered { (from ≤ seen) × (seen ≤ to) × (to ≤ length text.now) }
     requires passed { HoldsNowhere (λ k. not (R.goes_on (slice_index text.now k))) from seen }
     ensures { IsFirstPlace (λ k. not (R.goes_on (slice_index text.now k))) from to result }
@@ -208,7 +208,7 @@ fn run_end_by_one<R: Run>(text: &[u8], from: usize, seen: usize, to: usize) -> u
     i
 }
 
-/// The first place from `from` on whose byte is no ordinary ASCII of a string, or `to`: a quotation mark, a backslash, a
+/// The first offset from `from` on whose byte is no ordinary ASCII of a string, or `to`: a quotation mark, a backslash, a
 /// byte below 20 or above 7F.
 #[inline(always)]
 pub(crate) fn plain_end(text: &[u8], from: usize, to: usize) -> usize
@@ -217,20 +217,20 @@ pub(crate) fn plain_end(text: &[u8], from: usize, to: usize) -> usize
     ensures kept { AllKeep state.Str (slice_range text.now from result) }
     ensures first { IsFirstPlace (λ k. not (is_plain (slice_index text.now k))) from to result }
 {
-    run_end::<Plain>(text, from, to)
+    members_end::<Plain>(text, from, to)
 }
 
-/// The first place from `from` on whose byte is a quotation mark, a backslash or a control character, or `to`. What it
+/// The first offset from `from` on whose byte is a quotation mark, a backslash or a control character, or `to`. What it
 /// passes over is only known to be whole characters where the text is known to be UTF-8.
 #[inline(always)]
 pub(crate) fn unescaped_end(text: &[u8], from: usize, to: usize) -> usize
     requires { (from ≤ to) × (to ≤ length text.now) }
     ensures first { IsFirstPlace (λ k. not (is_unescaped (slice_index text.now k))) from to result }
 {
-    run_end::<Unescaped>(text, from, to)
+    members_end::<Unescaped>(text, from, to)
 }
 
-/// The first place from `from` on whose byte is no digit, or `to`.
+/// The first offset from `from` on whose byte is no digit, or `to`.
 #[inline(always)]
 pub(crate) fn digit_end(text: &[u8], from: usize, to: usize) -> usize
     requires { (from ≤ to) × (to ≤ length text.now) }
@@ -241,10 +241,10 @@ pub(crate) fn digit_end(text: &[u8], from: usize, to: usize) -> usize
     ensures string { AllKeep state.Str (slice_range text.now from result) }
     ensures first { IsFirstPlace (λ k. not (is_digit (slice_index text.now k))) from to result }
 {
-    run_end::<Digits>(text, from, to)
+    members_end::<Digits>(text, from, to)
 }
 
-/// The first place from `from` on whose byte is no blank, or `to`.
+/// The first offset from `from` on whose byte is no blank, or `to`.
 #[inline(always)]
 pub(crate) fn blank_end(text: &[u8], from: usize, to: usize) -> usize
     requires { (from ≤ to) × (to ≤ length text.now) }
@@ -252,5 +252,5 @@ pub(crate) fn blank_end(text: &[u8], from: usize, to: usize) -> usize
     ensures kept { AllKeep state.Gap (slice_range text.now from result) }
     ensures first { IsFirstPlace (λ k. not (is_blank (slice_index text.now k))) from to result }
 {
-    run_end::<Blanks>(text, from, to)
+    members_end::<Blanks>(text, from, to)
 }

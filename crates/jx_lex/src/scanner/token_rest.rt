@@ -24,7 +24,7 @@ pub(crate) fn gap_end(text: &[u8], byte: u8, from: usize, to: usize) -> usize
 }
 
 /// Reads the first digit behind a minus sign.
-/// Gives the place behind it, or `from` where none is read.
+/// Gives the offset behind it, or `from` where none is read.
 #[inline(always)]
 fn first_digit(text: &[u8], state: &mut LexState, from: usize, to: usize) -> usize
     requires { (from ≤ to) × (to ≤ length text.now) }
@@ -65,7 +65,7 @@ pub(crate) fn more_digits(text: &[u8], state: LexState, from: usize, to: usize) 
 }
 
 /// Reads a decimal point and a digit behind an integer part.
-/// Gives the place behind them, or `from` where they are not read.
+/// Gives the offset behind them, or `from` where they are not read.
 #[inline(always)]
 fn point(text: &[u8], state: &mut LexState, from: usize, to: usize) -> usize
     requires { (from ≤ to) × (to ≤ length text.now) }
@@ -89,7 +89,7 @@ fn point(text: &[u8], state: &mut LexState, from: usize, to: usize) -> usize
 }
 
 /// Reads the letter that begins an exponent, behind a digit.
-/// Gives the place behind it, or `from` where none is read.
+/// Gives the offset behind it, or `from` where none is read.
 #[inline(always)]
 fn letter(text: &[u8], state: &mut LexState, from: usize, to: usize) -> usize
     requires { (from ≤ to) × (to ≤ length text.now) }
@@ -125,7 +125,7 @@ fn is_letter(byte: u8) -> bool
 }
 
 /// Reads the sign of an exponent, if it has one.
-/// Gives the place behind it, or `from` where none is read.
+/// Gives the offset behind it, or `from` where none is read.
 #[inline(always)]
 fn sign(text: &[u8], state: &mut LexState, from: usize, to: usize) -> usize
     requires { (from ≤ to) × (to ≤ length text.now) }
@@ -150,7 +150,7 @@ fn sign(text: &[u8], state: &mut LexState, from: usize, to: usize) -> usize
 }
 
 /// Reads the first digit of an exponent.
-/// Gives the place behind it, or `from` where none is read.
+/// Gives the offset behind it, or `from` where none is read.
 #[inline(always)]
 fn exponent_digit(text: &[u8], state: &mut LexState, from: usize, to: usize) -> usize
     requires { (from ≤ to) × (to ≤ length text.now) }
@@ -174,7 +174,7 @@ fn exponent_digit(text: &[u8], state: &mut LexState, from: usize, to: usize) -> 
 }
 
 /// Reads an exponent, if the number has one, as far as it stands there.
-/// Gives the place behind what is read, or `from`.
+/// Gives the offset behind what is read, or `from`.
 #[inline(always)]
 fn exponent(text: &[u8], state: &mut LexState, from: usize, to: usize) -> usize
     requires { (from ≤ to) × (to ≤ length text.now) }
@@ -258,7 +258,7 @@ fn is_delimiter(byte: u8) -> bool
 }
 
 /// Reads the rest of a number. Many numbers have one digit.
-/// Gives the place behind what is read, or `from`.
+/// Gives the offset behind what is read, or `from`.
 #[inline(always)]
 pub(crate) fn number_rest(text: &[u8], state: &mut LexState, from: usize, to: usize) -> usize
     requires { (from ≤ to) × (to ≤ length text.now) }

@@ -2,7 +2,7 @@
 use Rattle.std.specs.Prelude.{◌≡◌, ◌<◌, ℕ, List, [], ◌∷◌, ◌++◌}
 use Rattle.std.specs.List.{AllZip}
 use Rattle.jx_run.specs.Elements.{part, filled}
-use Rattle.jx_run.specs.Parted.{PartedValue, Meaning, IsParted, place_of_parted}
+use Rattle.jx_run.specs.Parted.{PartedValue, Meaning, IsParted, parted_span}
 use Rattle.jx_run.specs.Tree.{span}
 
 -- the bytes of two neighbouring pieces are one part; what is kept of it, unless it is empty, comes behind that of the left
@@ -15,6 +15,6 @@ pub record IsClosed {P F : Type 0} (m : Meaning P F) (done : List F) (after befo
 
 -- the right run goes on where the left one ends, and their joined bytes have the joined run as summary
 pub record IsPartedJoin {P F : Type 0} (m : Meaning P F) (left right joined : PartedValue P F) : Type 0 where
-  pub span : place_of_parted m.span joined ≡ span (m.span left.before).start (place_of_parted m.span right).end
+  pub span : parted_span m.span joined ≡ span (m.span left.before).start (parted_span m.span right).end
   pub depth : m.depth joined.before ≡ m.depth left.before
   pub of : (xs ys : List ℕ) → IsParted m xs left → IsParted m ys right → IsParted m (xs ++ ys) joined

@@ -3,7 +3,7 @@ use Rattle.std.specs.Prelude.{◌≡◌, ℕ, ◌≤◌, ◌<◌, ◌+◌, List,
 use Rattle.jx_lex.specs.declared.map.link.Link.TheVariants.{Ahead}
 use Rattle.jx_lex.specs.declared.alphabet.mark.Mark.{Mark}
 use Rattle.jx_lex.specs.declared.alphabet.state.LexState.{LexState}
-use Rattle.jx_lex.specs.Follow.{Part}
+use Rattle.jx_lex.specs.Follow.{SegmentValue}
 use Rattle.jx_lex.specs.Lex.{Track}
 use Rattle.jx_lex.specs.Map.{Map, track}
 use Rattle.jx_lex.specs.View.{exit_of, marks_at, path_from}
@@ -20,8 +20,8 @@ pub record IsReduced (limit : ℕ) (marks : List Mark) (f : Forms) : Type 0 wher
   pub offsets : (low high : ℕ) → EachIn (λ m. (low ≤ m.at) × (m.at < high)) marks → SpansIn low high f
 
 -- those that are there are the structures of their segments
-abbrev pub AreReduced : ℕ → List Part → List (Option Forms) → Type 0
-AreReduced limit ps parts = (n : ℕ) (f : Forms) → slice_get parts n ≡ Some (Some f) → IsReduced limit (marks_at ps n) f
+abbrev pub AreReduced : ℕ → List SegmentValue → List (Option Forms) → Type 0
+AreReduced limit ps slots = (n : ℕ) (f : Forms) → slice_get slots n ≡ Some (Some f) → IsReduced limit (marks_at ps n) f
 
 -- the structure in this place is that of these marks
 pub record IsAt (limit : ℕ) (marks : List Mark) (structures : List Forms) (i : ℕ) : Type 0 where
@@ -46,19 +46,19 @@ AreWaysOf limit m fs (s ∷ ss) [] = ⊥
 AreWaysOf limit m fs (s ∷ ss) (w ∷ ws) = IsWayOf limit fs (track m s) w × AreWaysOf limit m fs ss ws
 
 -- the path that begins with the segment of this number; there is none behind the last
-abbrev pub path_at : List Part → ℕ → List ℕ
+abbrev pub path_at : List SegmentValue → ℕ → List ℕ
 path_at ps n = path_from 0 ps (Ahead n)
 
 -- by the number with which a path begins, the place of its structure, where it was made
-abbrev pub AreNumbered : ℕ → List Part → List (Option ℕ) → List Forms → Type 0
+abbrev pub AreNumbered : ℕ → List SegmentValue → List (Option ℕ) → List Forms → Type 0
 AreNumbered limit ps numbers structures = (n i : ℕ) → slice_get numbers n ≡ Some (Some i) → IsAt limit (flat_map (marks_at ps) (path_at ps n)) structures i
 
 -- what was made of a map so far, the structures of segments and of paths
-pub record ArePaths (limit : ℕ) (m : Map) (parts : List (Option Forms)) (numbers : List (Option ℕ)) (structures : List Forms) : Type 0 where
-  pub parts_all : length parts ≡ length m.parts
-  pub numbers_all : length numbers ≡ length m.parts + 1
-  pub parts_are : AreReduced limit m.parts parts
-  pub numbers_are : AreNumbered limit m.parts numbers structures
+pub record ArePaths (limit : ℕ) (m : Map) (slots : List (Option Forms)) (numbers : List (Option ℕ)) (structures : List Forms) : Type 0 where
+  pub slots_all : length slots ≡ length m.segments
+  pub numbers_all : length numbers ≡ length m.segments + 1
+  pub slots_are : AreReduced limit m.segments slots
+  pub numbers_are : AreNumbered limit m.segments numbers structures
   pub within : All (IsFormWithin limit m.start m.end) structures
 
 -- the marks of each track rise

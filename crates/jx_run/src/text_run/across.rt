@@ -8,7 +8,7 @@ ghost use Rattle.jx_run.specs.Tree.{span};
 
 use crate::started::Started;
 use crate::text_run::TextRun;
-use jx_lex::{LexExit, LexState, Mark, Span, parts_are_read_in_turn};
+use jx_lex::{LexExit, LexState, Mark, Span, pieces_are_read_in_turn};
 use jx_summary::Summary;
 use std::alloc::AllocError;
 
@@ -21,13 +21,13 @@ impl TextRun {
         ensures span { IfOk result (λ s. s.span ≡ span self.now.map.start right.now.map.end) }
         ensures depth { IfOk result (λ s. s.depth ≡ self.now.depth) }
     {
-        let place = Span {
+        let span = Span {
             start: self.map.span().start,
             end: right.map.span().end,
         };
         let (marks, ends) = self.copy_track_with(right)?;
         let verdict = self.outcomes.verdict_with(&right.outcomes)?;
-        Ok(Started::new(place, self.depth(), marks, ends, verdict))
+        Ok(Started::new(span, self.depth(), marks, ends, verdict))
     }
 
     /// The marks and the ends of the track from the start of a text, on through the run to the right.
@@ -36,7 +36,7 @@ impl TextRun {
         ensures marks { (xs ys : List ℕ) → IsTextRun xs self.now → IsTextRun ys right.now → IfOk result (λ r. r.0.items ≡ (lex Gap self.now.map.start (xs ++ ys)).marks) }
         ensures ends { (xs ys : List ℕ) → IsTextRun xs self.now → IsTextRun ys right.now → IfOk result (λ r. r.1.items ≡ (lex Gap self.now.map.start (xs ++ ys)).ends) }
     {
-        parts_are_read_in_turn();
+        pieces_are_read_in_turn();
         let (mut marks, mut ends) = self.copy_track(LexState::Gap)?;
         match self.map.entry(LexState::Gap).exit() {
             LexExit::Fault(_) => Ok((marks, ends)),

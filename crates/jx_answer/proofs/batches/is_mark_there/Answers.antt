@@ -1,7 +1,7 @@
 use Rattle.std.proofs.Common.{length, sym, ◌∙◌}
 use Rattle.jx_run.specs.Front.{agreed}
 use Rattle.jx_run.specs.Settings.{byte_order_mark}
-use Rattle.jx_answer.proofs.MarksAlone.{alone_here, refuses}
+use Rattle.jx_run.proofs.MarksAlone.{alone_here, refuses}
 use Rattle.jx_answer.proofs.batches.is_mark_there.Goals as goal
 
 pub returns-in-Refused : goal.returns-in-Refused

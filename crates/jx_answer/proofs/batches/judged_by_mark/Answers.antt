@@ -1,8 +1,8 @@
 use Rattle.std.proofs.Common.{List, sym, subst}
 use Rattle.jx_run.specs.declared.element_verdict.JudgedElement.{JudgedElement}
 use Rattle.jx_run.specs.declared.settings.FrontMark.{FrontMark}
+use Rattle.jx_run.specs.MarkAlone.{elements_by}
 use Rattle.jx_answer.specs.Sequence.{AreJudgedAs}
-use Rattle.jx_answer.specs.Settled.{elements_by}
 use Rattle.jx_answer.proofs.Verdicts.{are_judged, by_any, judged_in}
 use Rattle.jx_answer.proofs.batches.judged_by_mark.Goals as goal
 

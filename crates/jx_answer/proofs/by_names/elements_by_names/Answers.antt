@@ -5,7 +5,7 @@ use Rattle.jx_answer.specs.declared.element.Element.{Element}
 use Rattle.jx_answer.specs.Sequence.{IsElement}
 use Rattle.jx_answer.specs.Settled.{IsElementBy}
 use Rattle.jx_answer.proofs.ByNames.{element_told}
-use Rattle.jx_answer.proofs.InPlace.{Passed, all_passed, pass_one}
+use Rattle.jx_run.proofs.InPlace.{Passed, all_passed, pass_one}
 use Rattle.jx_answer.proofs.by_names.elements_by_names.Goals as goal
 
 pub loop-at-preserved : goal.loop-at-preserved

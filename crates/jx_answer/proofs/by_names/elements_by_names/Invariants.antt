@@ -4,7 +4,7 @@ use Rattle.jx_run.specs.declared.settings.Settings.{Settings}
 use Rattle.jx_run.specs.Elements.{Part}
 use Rattle.jx_answer.specs.Sequence.{IsElement}
 use Rattle.jx_answer.specs.Settled.{IsElementBy}
-use Rattle.jx_answer.proofs.InPlace.{Passed}
+use Rattle.jx_run.proofs.InPlace.{Passed}
 use Rattle.jx_answer.proofs.by_names.elements_by_names.Given as goal
 
 -- the elements before this one had their turn

@@ -3,9 +3,10 @@ use Rattle.std.specs.Prelude.{slice_set}
 use Rattle.std.proofs.lemmas.List.{length-set}
 use Rattle.jx_run.specs.declared.element_verdict.JudgedElement.{JudgedElement}
 use Rattle.jx_run.specs.Elements.{Part}
+use Rattle.jx_run.specs.MarkAlone.{elements_by}
 use Rattle.jx_answer.specs.inside.Pushed.{IsJudgedIn}
-use Rattle.jx_answer.specs.Settled.{IsJudgedBy, elements_by}
-use Rattle.jx_answer.proofs.InPlace.{Passed, all_passed, next_of, pass_one}
+use Rattle.jx_answer.specs.Settled.{IsJudgedBy}
+use Rattle.jx_run.proofs.InPlace.{Passed, all_passed, next_of, pass_one}
 use Rattle.jx_answer.proofs.Verdicts.{judged_in}
 use Rattle.jx_answer.proofs.judging.judged_by_names.Goals as goal
 

@@ -1,7 +1,8 @@
 use Rattle.std.proofs.Common.{◌≡◌, length}
+use Rattle.jx_run.specs.MarkAlone.{elements_by}
 use Rattle.jx_answer.specs.inside.Pushed.{IsJudgedIn}
-use Rattle.jx_answer.specs.Settled.{IsJudgedBy, elements_by}
-use Rattle.jx_answer.proofs.InPlace.{Passed}
+use Rattle.jx_answer.specs.Settled.{IsJudgedBy}
+use Rattle.jx_run.proofs.InPlace.{Passed}
 use Rattle.jx_answer.proofs.judging.judged_by_names.Given as goal
 
 -- the elements before this one had their turn

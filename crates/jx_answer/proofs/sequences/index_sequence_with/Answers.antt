@@ -1,5 +1,5 @@
 use Rattle.std.proofs.Common.{refl}
-use Rattle.jx_answer.specs.Settled.{elements_by}
+use Rattle.jx_run.specs.MarkAlone.{elements_by}
 use Rattle.jx_answer.proofs.sequences.index_sequence_with.Goals as goal
 
 pub returns : goal.returns

@@ -1,16 +1,19 @@
-use Rattle.std.proofs.Common.{◌≡◌, ◌<◌, ◌≤◌, List, length, true, false, rules, sym, ap, subst, ◌∙◌}
-use Rattle.std.specs.Prelude.{slice_index_or}
+use Rattle.std.proofs.Common.{◌≡◌, ◌<◌, ◌≤◌, ℕ, List, length, true, false, rules, sym, ◌∙◌}
+use Rattle.jx_run.specs.Elements.{Part, part_span}
+use Rattle.jx_run.proofs.MarksAlone.{none_at_all, within_input, mark_stays, mark_goes}
 use Rattle.jx_answer.specs.declared.element.Element.{Element}
-use Rattle.jx_answer.specs.inside.Pushed.{part_of}
-use Rattle.jx_answer.specs.Settled.{is_mark_alone}
-use Rattle.jx_answer.proofs.MarksAlone.{none_at_all, within_input, mark_stays, mark_goes}
+use Rattle.jx_answer.specs.Sequence.{IsElement}
 use Rattle.jx_answer.proofs.sequences.without_mark.Goals as goal
+
+-- an answer has its element's span
+in_place : (text : List ℕ) (limit : ℕ) (p : Part) (e : Element) → IsElement text limit p e → e.span ≡ part_span p
+in_place text limit p e a = a.span_is
 
 pub returns-then-is_empty : goal.returns-then-is_empty
 returns-then-is_empty c =
     let xs : List Element = c.args.elements.items in
     let none : length xs ≡ 0 = search rules in
-    λ text limit seen z. none_at_all text limit xs z none
+    λ text limit seen z. none_at_all (λ (e : Element). e.span) (IsElement text limit) (in_place text limit) text xs z none
 
 pub returns-then-not-is_mark_there : goal.returns-then-not-is_mark_there
 returns-then-not-is_mark_there c =
@@ -19,10 +22,8 @@ returns-then-not-is_mark_there c =
     let low : 0 < length xs = search rules in
     let flag : c.is_mark_there.result ≡ false = search rules in
     λ text limit seen z.
-    let within : x.span.end ≤ length text = subst (λ (e : Element). e.span.end ≤ length text) (sym c.index.ensures) (within_input text limit xs x z low) in
-    let told : is_mark_alone (part_of text (slice_index_or xs 0 x).span) ≡ false =
-    ap (λ (e : Element). is_mark_alone (part_of text e.span)) (sym c.index.ensures) ∙ (sym (c.is_mark_there.ensures text seen within) ∙ flag) in
-    mark_stays text limit xs x z told
+    let within : x.span.end ≤ length text = within_input (λ (e : Element). e.span) (IsElement text limit) (in_place text limit) text xs z x low c.index.ensures in
+    mark_stays (λ (e : Element). e.span) (IsElement text limit) (in_place text limit) text xs z x low c.index.ensures (sym (c.is_mark_there.ensures text seen within) ∙ flag)
 
 pub returns : goal.returns
 returns c =
@@ -31,7 +32,6 @@ returns c =
     let low : 0 < length xs = search rules in
     let flag : c.is_mark_there.result ≡ true = search rules in
     λ text limit seen z.
-    let within : x.span.end ≤ length text = subst (λ (e : Element). e.span.end ≤ length text) (sym c.index.ensures) (within_input text limit xs x z low) in
-    let told : is_mark_alone (part_of text (slice_index_or xs 0 x).span) ≡ true =
-    ap (λ (e : Element). is_mark_alone (part_of text e.span)) (sym c.index.ensures) ∙ (sym (c.is_mark_there.ensures text seen within) ∙ flag) in
-    mark_goes text limit xs c.remove.new.self.items x z low told c.remove.ensures.by_index.2
+    let within : x.span.end ≤ length text = within_input (λ (e : Element). e.span) (IsElement text limit) (in_place text limit) text xs z x low c.index.ensures in
+    mark_goes (λ (e : Element). e.span) (IsElement text limit) (in_place text limit) text xs z x low c.index.ensures (sym (c.is_mark_there.ensures text seen within) ∙ flag)
+    c.remove.new.self.items c.remove.ensures.by_index.2

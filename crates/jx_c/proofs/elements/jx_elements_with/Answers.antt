@@ -3,11 +3,11 @@ use Rattle.std.specs.List.{AllZip}
 use Rattle.std.proofs.lemmas.Slice.Zip.{AllZip-long}
 use Rattle.jx_run.specs.declared.element_verdict.JudgedElement.{JudgedElement}
 use Rattle.jx_run.specs.declared.settings.Settings.{Settings}
+use Rattle.jx_run.specs.MarkAlone.{elements_by}
 use Rattle.jx_c.specs.Buffers.{IsFilled}
 use Rattle.jx_c.specs.ByNames.{IsJudgedBy}
 use Rattle.jx_c.specs.Elements.{shown_element}
 use Rattle.jx_c.specs.Settings.{settings_in}
-use Rattle.jx_c.specs.Settled.{elements_by}
 use Rattle.jx_c.proofs.elements.jx_elements_with.Goals as goal
 
 pub returns-in-Ok-judge_with-clause-elements : goal.returns-in-Ok-judge_with-clause-elements

@@ -3,10 +3,10 @@ use Rattle.std.specs.Prelude.{slice_set}
 use Rattle.std.proofs.lemmas.List.{length-set}
 use Rattle.jx_run.specs.declared.element_verdict.JudgedElement.{JudgedElement}
 use Rattle.jx_run.specs.Elements.{Part}
+use Rattle.jx_run.specs.MarkAlone.{elements_by}
 use Rattle.jx_c.specs.ByNames.{IsJudgedBy}
 use Rattle.jx_c.specs.inside.Placed.{IsJudgedIn}
-use Rattle.jx_c.specs.Settled.{elements_by}
-use Rattle.jx_c.proofs.InPlace.{Passed, all_passed, next_of, pass_one}
+use Rattle.jx_run.proofs.InPlace.{Passed, all_passed, next_of, pass_one}
 use Rattle.jx_c.proofs.Verdicts.{judged_in}
 use Rattle.jx_c.proofs.judging.judged_by_names.Goals as goal
 

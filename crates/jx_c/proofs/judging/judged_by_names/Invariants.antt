@@ -1,8 +1,8 @@
 use Rattle.std.proofs.Common.{◌≡◌, length}
 use Rattle.jx_c.specs.ByNames.{IsJudgedBy}
+use Rattle.jx_run.specs.MarkAlone.{elements_by}
 use Rattle.jx_c.specs.inside.Placed.{IsJudgedIn}
-use Rattle.jx_c.specs.Settled.{elements_by}
-use Rattle.jx_c.proofs.InPlace.{Passed}
+use Rattle.jx_run.proofs.InPlace.{Passed}
 use Rattle.jx_c.proofs.judging.judged_by_names.Given as goal
 
 -- the elements before this one had their turn

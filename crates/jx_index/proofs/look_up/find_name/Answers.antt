@@ -12,7 +12,7 @@ use Rattle.jx_index.specs.Leads.{only}
 use Rattle.jx_index.specs.inside.LookUp.{rank_of, IsEqualAt}
 use Rattle.jx_index.specs.Names.{is_below, name_units}
 use Rattle.jx_index.specs.RowsLead.{is_equal}
-use Rattle.jx_index.specs.Units.{parts_units}
+use Rattle.jx_index.specs.Units.{chars_units}
 use Rattle.jx_index.proofs.Halving.{eq_at_one, eq_not_one, nowhere, once, often}
 use Rattle.jx_index.proofs.look_up.find_name.Goals as goal
 
@@ -29,7 +29,7 @@ pub returns-then-not-is_equal_at : goal.returns-then-not-is_equal_at
 returns-then-not-is_equal_at c =
     let text = c.args.text.now in
     let rows = c.args.rows.now in
-    let units = parts_units InToken 0 c.args.name.now in
+    let units = chars_units InToken 0 c.args.name.now in
     let up = rises text rows c.args.names.now units c.requires in
     let point = IsPartitionPoint-from_clause (λ y. ltb (rank_of text rows units y) 1) _ _ c.partition_point-at.ensures.partitioned (IsPartitionedBy-ltb (rank_of text rows units) _ 1 up) (λ a r q k. search rules) in
     sym (ap (λ (x : List ℕ). only x c.args.token)
@@ -40,7 +40,7 @@ pub returns-then-is_equal_at : goal.returns-then-is_equal_at
 returns-then-is_equal_at c =
     let text = c.args.text.now in
     let rows = c.args.rows.now in
-    let units = parts_units InToken 0 c.args.name.now in
+    let units = chars_units InToken 0 c.args.name.now in
     let up = rises text rows c.args.names.now units c.requires in
     let point = IsPartitionPoint-from_clause (λ y. ltb (rank_of text rows units y) 1) _ _ c.partition_point-at.ensures.partitioned (IsPartitionedBy-ltb (rank_of text rows units) _ 1 up) (λ a r q k. search rules) in
     let e : c.partition_point-at.result + 1 ≡ suc c.partition_point-at.result = omega arith in
@@ -52,7 +52,7 @@ pub returns : goal.returns
 returns c =
     let text = c.args.text.now in
     let rows = c.args.rows.now in
-    let units = parts_units InToken 0 c.args.name.now in
+    let units = chars_units InToken 0 c.args.name.now in
     let up = rises text rows c.args.names.now units c.requires in
     let point = IsPartitionPoint-from_clause (λ y. ltb (rank_of text rows units y) 1) _ _ c.partition_point-at.ensures.partitioned (IsPartitionedBy-ltb (rank_of text rows units) _ 1 up) (λ a r q k. search rules) in
     let e : suc c.partition_point-at.result ≡ c.partition_point-at.result + 1 = omega arith in

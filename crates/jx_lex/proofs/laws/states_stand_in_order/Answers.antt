@@ -3,14 +3,14 @@ use Rattle.std.proofs.lemmas.Option.{slice_get-get_or}
 use Rattle.jx_lex.specs.declared.alphabet.state.LexState.TheVariants as state
 use Rattle.jx_lex.specs.Ordinal.{all_states, ordinal}
 use Rattle.jx_lex.proofs.Building.{ordinal-at}
-use Rattle.jx_lex.proofs.Joined.{ordinal-low}
-use Rattle.jx_lex.proofs.Meeting.{state-at}
+use Rattle.jx_lex.proofs.StateOrder.{ordinal-low}
+use Rattle.jx_lex.proofs.Meeting.{state-read}
 use Rattle.jx_lex.proofs.laws.states_stand_in_order.Goals as goal
 
 pub returns : goal.returns
 returns c =
     record {
       low = ordinal-low;
-      state = λ s. slice_get-get_or all_states (ordinal s) state.Gap (ordinal-low s) ∙ ap Some (state-at s);
+      state = λ s. slice_get-get_or all_states (ordinal s) state.Gap (ordinal-low s) ∙ ap Some (state-read s);
       ordinal = ordinal-at;
     }

@@ -52,15 +52,15 @@ loop-i-preserved g c =
     let first = g.K.Keeper.has_seen c.args.keeper.now in
     let old = g.K.Keeper.has_seen c.loop-i.keeper in
     let mid = g.K.Keeper.has_seen c.take_byte.new.keeper in
-    let new = g.K.Keeper.has_seen c.run_on.new.keeper in
+    let new = g.K.Keeper.has_seen c.read_rest.new.keeper in
     let byte : GoesTo old mid (lex c.loop-i.state i (slice_range xs i (i + 1))) c.in-Some.next =
     goes-byte xs i c.loop-i.state c.in-Some.next old mid (omega (arith, fits, c.loop-i-test.true)) c.in_ok-next.ensures.seen (sym c.in_ok-next.ensures.next ∙ c.in-Some.is) in
     record {
       low = omega (arith, b, low);
       high = b.1;
       sound = on.ensures.sound;
-      read = goes-then xs c.args.from i on.end c.args.state c.loop-i.state c.run_on.new.state first old new low (omega (arith, b)) (omega (arith, fits, v.high)) v.read
-          (goes-then xs i (i + 1) on.end c.loop-i.state c.in-Some.next c.run_on.new.state old mid new (omega arith) b.0 (omega (arith, fits, c.loop-i-test.true)) byte on.ensures.read);
+      read = goes-then xs c.args.from i on.end c.args.state c.loop-i.state c.read_rest.new.state first old new low (omega (arith, b)) (omega (arith, fits, v.high)) v.read
+          (goes-then xs i (i + 1) on.end c.loop-i.state c.in-Some.next c.read_rest.new.state old mid new (omega arith) b.0 (omega (arith, fits, c.loop-i-test.true)) byte on.ensures.read);
     }
 
 pub returns-clause-exit : goal.returns-clause-exit

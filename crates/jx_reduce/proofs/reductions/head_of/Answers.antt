@@ -1,5 +1,5 @@
 use Rattle.std.proofs.Common.{sym}
-use Rattle.jx_reduce.proofs.Parts.{first_within, first_ends, second_ends}
+use Rattle.jx_reduce.proofs.HeadAndTail.{first_within, first_ends, second_ends}
 use Rattle.jx_reduce.proofs.reductions.head_of.Goals as goal
 
 pub returns-in_ok-second-in-String-clause-ends : goal.returns-in_ok-second-in-String-clause-ends

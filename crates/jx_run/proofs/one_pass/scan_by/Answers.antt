@@ -24,8 +24,8 @@ returns-in_default-clause-seen g c =
     let fits = c.requires.1 in
     let old = g.K.Keeper.has_seen c.loop-at.keeper in
     let new = g.K.Keeper.has_seen c.scan.new.keeper in
-    sees_then c.parts_are_read_in_turn.ensures.stretch xs c.args.from at c.args.to Gap v.low v.high (let h = v.high in omega (arith, fits, h)) c.loop-at.state v.read.exit (g.K.Keeper.has_seen c.args.keeper.now) old new v.read.seen
-    (done_sees c.parts_are_read_in_turn.ensures.stretch xs at stop c.args.to c.loop-at.state (omega (arith, b)) b.1 (let h = b.1 in omega (arith, fits, h)) old new c.in_ok-exit.ensures.seen (c.in_ok-exit.ensures.done (ap is_some c.in_default.is)))
+    sees_then c.pieces_are_read_in_turn.ensures.stretch xs c.args.from at c.args.to Gap v.low v.high (let h = v.high in omega (arith, fits, h)) c.loop-at.state v.read.exit (g.K.Keeper.has_seen c.args.keeper.now) old new v.read.seen
+    (done_sees c.pieces_are_read_in_turn.ensures.stretch xs at stop c.args.to c.loop-at.state (omega (arith, b)) b.1 (let h = b.1 in omega (arith, fits, h)) old new c.in_ok-exit.ensures.seen (c.in_ok-exit.ensures.done (ap is_some c.in_default.is)))
 
 pub returns-in-Fault-clause-seen : goal.returns-in-Fault-clause-seen
 returns-in-Fault-clause-seen g c =
@@ -40,8 +40,8 @@ returns-in-Fault-clause-seen g c =
     let track = lex c.loop-at.state at (slice_range xs at stop) in
     let e : exit_of c.in-Some.exit ≡ track.exit = subst (λ (o : Option LexExit). IfSome o (λ e. exit_of e ≡ track.exit)) c.in-Some.is c.in_ok-exit.ensures.exit in
     let f : track.exit ≡ reading.fault c.in-Fault.fault = sym e ∙ ap exit_of c.in-Fault.is in
-    sees_then c.parts_are_read_in_turn.ensures.stretch xs c.args.from at c.args.to Gap v.low v.high (let h = v.high in omega (arith, fits, h)) c.loop-at.state v.read.exit (g.K.Keeper.has_seen c.args.keeper.now) old new v.read.seen
-    (subst (λ (x : Track). SeesTrack old new x) (sym (fault_ends c.parts_are_read_in_turn.ensures.stretch xs at stop c.args.to c.loop-at.state (omega (arith, b)) b.1 (let h = b.1 in omega (arith, fits, h)) c.in-Fault.fault f)) c.in_ok-exit.ensures.seen)
+    sees_then c.pieces_are_read_in_turn.ensures.stretch xs c.args.from at c.args.to Gap v.low v.high (let h = v.high in omega (arith, fits, h)) c.loop-at.state v.read.exit (g.K.Keeper.has_seen c.args.keeper.now) old new v.read.seen
+    (subst (λ (x : Track). SeesTrack old new x) (sym (fault_ends c.pieces_are_read_in_turn.ensures.stretch xs at stop c.args.to c.loop-at.state (omega (arith, b)) b.1 (let h = b.1 in omega (arith, fits, h)) c.in-Fault.fault f)) c.in_ok-exit.ensures.seen)
 
 pub returns-in-Fault-clause-exit : goal.returns-in-Fault-clause-exit
 returns-in-Fault-clause-exit g c =
@@ -55,8 +55,8 @@ returns-in-Fault-clause-exit g c =
     let e : exit_of c.in-Some.exit ≡ track.exit = subst (λ (o : Option LexExit). IfSome o (λ e. exit_of e ≡ track.exit)) c.in-Some.is c.in_ok-exit.ensures.exit in
     let f : track.exit ≡ reading.fault c.in-Fault.fault = sym e ∙ ap exit_of c.in-Fault.is in
     sym (
-    exit_then c.parts_are_read_in_turn.ensures.stretch xs c.args.from at c.args.to Gap v.low v.high (let h = v.high in omega (arith, fits, h)) c.loop-at.state v.read.exit
-    ∙ ap (λ (t : Track). t.exit) (fault_ends c.parts_are_read_in_turn.ensures.stretch xs at stop c.args.to c.loop-at.state (omega (arith, b)) b.1 (let h = b.1 in omega (arith, fits, h)) c.in-Fault.fault f)
+    exit_then c.pieces_are_read_in_turn.ensures.stretch xs c.args.from at c.args.to Gap v.low v.high (let h = v.high in omega (arith, fits, h)) c.loop-at.state v.read.exit
+    ∙ ap (λ (t : Track). t.exit) (fault_ends c.pieces_are_read_in_turn.ensures.stretch xs at stop c.args.to c.loop-at.state (omega (arith, b)) b.1 (let h = b.1 in omega (arith, fits, h)) c.in-Fault.fault f)
     ∙ f)
 
 pub loop-at-preserved : goal.loop-at-preserved
@@ -78,8 +78,8 @@ loop-at-preserved g c =
       low = omega (arith, b, low);
       high = b.1;
       read = record {
-        seen = sees_then c.parts_are_read_in_turn.ensures.stretch xs c.args.from at stop Gap low (omega (arith, b)) (let h = v.high in omega (arith, fits, h)) c.loop-at.state v.read.exit (g.K.Keeper.has_seen c.args.keeper.now) old new v.read.seen here.seen;
-        exit = exit_then c.parts_are_read_in_turn.ensures.stretch xs c.args.from at stop Gap low (omega (arith, b)) (let h = v.high in omega (arith, fits, h)) c.loop-at.state v.read.exit ∙ here.exit;
+        seen = sees_then c.pieces_are_read_in_turn.ensures.stretch xs c.args.from at stop Gap low (omega (arith, b)) (let h = v.high in omega (arith, fits, h)) c.loop-at.state v.read.exit (g.K.Keeper.has_seen c.args.keeper.now) old new v.read.seen here.seen;
+        exit = exit_then c.pieces_are_read_in_turn.ensures.stretch xs c.args.from at stop Gap low (omega (arith, b)) (let h = v.high in omega (arith, fits, h)) c.loop-at.state v.read.exit ∙ here.exit;
       };
     }
 

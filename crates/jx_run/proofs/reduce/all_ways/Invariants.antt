@@ -6,7 +6,7 @@ use Rattle.jx_run.proofs.reduce.all_ways.Given as goal
 
 abbrev pub invariant-loop-place : goal.invariant-loop-place
 invariant-loop-place l = record {
-  paths : ArePaths l.depth l.map l.paths.parts.items l.paths.numbers.items l.paths.structures.items;
+  paths : ArePaths l.depth l.map l.paths.slots.items l.paths.numbers.items l.paths.structures.items;
   lone : IfSome l.paths.lone (IsLoneIn l.depth l.paths.structures.items);
   few : length l.paths.structures.items ≤ l.place;
   ways : AreWaysOf l.depth l.map l.paths.structures.items (take l.place all_states) l.ways.items;

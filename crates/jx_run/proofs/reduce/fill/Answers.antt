@@ -6,5 +6,5 @@ pub returns : goal.returns
 returns c =
     let r = c.in_ok-reduced.ensures in
     record {
-      part = subst (λ ms. IsReduced c.args.depth ms c.in_ok-reduced.reduced) c.marks.ensures (record { depth = r.depth; reads = r.reads; offsets = r.offsets });
+      slot = subst (λ ms. IsReduced c.args.depth ms c.in_ok-reduced.reduced) c.marks.ensures (record { depth = r.depth; reads = r.reads; offsets = r.offsets });
     }

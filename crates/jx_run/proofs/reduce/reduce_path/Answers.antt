@@ -3,32 +3,32 @@ use Rattle.std.specs.Prelude.{IsSomeAnd}
 use Rattle.jx_lex.specs.View.{marks_at}
 use Rattle.jx_reduce.specs.Offsets.{RisingFrom}
 use Rattle.jx_run.specs.inside.Reduced.{IsReduced}
-use Rattle.jx_run.proofs.Reducing.{first_within, rest_within, front_rises, marks_same, next_flat, part_if, set_reduced}
+use Rattle.jx_run.proofs.Reducing.{first_within, rest_within, front_rises, marks_same, next_flat, slot_if, set_reduced}
 use Rattle.jx_run.proofs.reduce.reduce_path.Goals as goal
 
 pub loop-number-init : goal.loop-number-init
 loop-number-init c =
     let r = c.new-reduced.ensures in
     record {
-      parts = c.requires.parts;
+      slots = c.requires.slots;
       within = c.requires.within;
       so_far = ([], record { depth = r.depth; reads = r.reads; offsets = λ low high h. r.offsets low high }, refl);
     }
 
-pub bounds-parts-number : goal.bounds-parts-number
-bounds-parts-number c =
+pub bounds-slots-number : goal.bounds-slots-number
+bounds-slots-number c =
     let low = first_within c.loop-number.path c.next.new.self c.in-Some.number (length c.args.segments.now) c.in-Some.ensures.steps c.loop-number.invariant.within in
-    let a = c.loop-number.auto.parts in
+    let a = c.loop-number.auto.slots in
     let b = c.requires.many in
     omega (arith, low, a, b)
 
-pub take_in-requires-clause-part : goal.take_in-requires-clause-part
-take_in-requires-clause-part c =
+pub take_in-requires-clause-slot : goal.take_in-requires-clause-slot
+take_in-requires-clause-slot c =
     let low = first_within c.loop-number.path c.next.new.self c.in-Some.number (length c.args.segments.now) c.in-Some.ensures.steps c.loop-number.invariant.within in
-    let a = c.loop-number.auto.parts in
+    let a = c.loop-number.auto.slots in
     let b = c.requires.many in
-    part_if c.loop-number.reduced.depth c.args.segments.now c.loop-number.parts c.in-Some.number c.index-parts-number.result c.index-segments-number.result
-    (omega (arith, low, a, b)) low (λ n f e. subst (λ d. IsReduced d (marks_at c.args.segments.now n) f) (sym c.loop-number.invariant.so_far.1.depth) (c.loop-number.invariant.parts n f e)) c.index-segments-number.is
+    slot_if c.loop-number.reduced.depth c.args.segments.now c.loop-number.slots c.in-Some.number c.index-slots-number.result c.index-segments-number.result
+    (omega (arith, low, a, b)) low (λ n f e. subst (λ d. IsReduced d (marks_at c.args.segments.now n) f) (sym c.loop-number.invariant.so_far.1.depth) (c.loop-number.invariant.slots n f e)) c.index-segments-number.is
 
 pub take_in-requires-clause-rising : goal.take_in-requires-clause-rising
 take_in-requires-clause-rising c =
@@ -45,12 +45,12 @@ pub loop-number-preserved : goal.loop-number-preserved
 loop-number-preserved c =
     let so_far = c.loop-number.invariant.so_far in
     let low = first_within c.loop-number.path c.next.new.self c.in-Some.number (length c.args.segments.now) c.in-Some.ensures.steps c.loop-number.invariant.within in
-    let a = c.loop-number.auto.parts in
+    let a = c.loop-number.auto.slots in
     let b = c.requires.many in
     let marks = marks_same c.args.segments.now c.in-Some.number c.index-segments-number.result low c.index-segments-number.is in
     record {
-      parts = set_reduced c.args.depth c.args.segments.now c.loop-number.parts c.in-Some.number c.take_in.new.part c.index-segments-number.result (omega (arith, low, a, b)) marks c.loop-number.invariant.parts
-          (subst (λ d. IsSomeAnd c.take_in.new.part (IsReduced d c.index-segments-number.result.marks)) so_far.1.depth c.in_ok-take_in.ensures.part);
+      slots = set_reduced c.args.depth c.args.segments.now c.loop-number.slots c.in-Some.number c.take_in.new.slot c.index-segments-number.result (omega (arith, low, a, b)) marks c.loop-number.invariant.slots
+          (subst (λ d. IsSomeAnd c.take_in.new.slot (IsReduced d c.index-segments-number.result.marks)) so_far.1.depth c.in_ok-take_in.ensures.slot);
       within = rest_within c.loop-number.path c.next.new.self c.in-Some.number (length c.args.segments.now) c.in-Some.ensures.steps c.loop-number.invariant.within;
       so_far = (
         so_far.0 ++ c.index-segments-number.result.marks,

@@ -7,7 +7,7 @@ use Rattle.jx_run.proofs.reduce.reduce_path.Given as goal
 -- the marks so far, and those of the segments that are left
 abbrev pub invariant-loop-number : goal.invariant-loop-number
 invariant-loop-number l = record {
-  parts : AreReduced l.fn.depth l.segments l.parts;
+  slots : AreReduced l.fn.depth l.segments l.slots;
   within : All (λ n. n < length l.segments) l.path;
   so_far : (marks : List Mark) × IsReduced l.fn.depth marks l.reduced × (marks ++ flat_map (marks_at l.segments) l.path ≡ flat_map (marks_at l.segments) l.fn.path);
 }

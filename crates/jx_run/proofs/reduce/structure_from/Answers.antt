@@ -7,11 +7,11 @@ use Rattle.jx_run.specs.inside.Reduced.{AreReduced, IsReduced}
 use Rattle.jx_run.proofs.Reducing.{reduced_ok}
 use Rattle.jx_run.proofs.reduce.structure_from.Goals as goal
 
-pub reduce_path-requires-clause-parts : goal.reduce_path-requires-clause-parts
-reduce_path-requires-clause-parts c = subst (λ ps. AreReduced c.args.depth ps c.args.parts.now) (sym c.segments.ensures.value) c.requires.parts
+pub reduce_path-requires-clause-slots : goal.reduce_path-requires-clause-slots
+reduce_path-requires-clause-slots c = subst (λ ps. AreReduced c.args.depth ps c.args.slots.now) (sym c.segments.ensures.value) c.requires.slots
 
-pub returns-clause-parts : goal.returns-clause-parts
-returns-clause-parts c = subst (λ ps. OnOk c.reduce_path.result (AreReduced c.args.depth ps c.reduce_path.new.parts)) c.segments.ensures.value c.reduce_path.ensures.parts
+pub returns-clause-slots : goal.returns-clause-slots
+returns-clause-slots c = subst (λ ps. OnOk c.reduce_path.result (AreReduced c.args.depth ps c.reduce_path.new.slots)) c.segments.ensures.value c.reduce_path.ensures.slots
 
 pub returns-then-is_bare-clause-marks : goal.returns-then-is_bare-clause-marks
 returns-then-is_bare-clause-marks c =

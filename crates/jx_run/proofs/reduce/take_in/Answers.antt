@@ -9,16 +9,16 @@ fill-requires-clause-rising c = segment_rises c.requires.rising.0 c.args.segment
 
 pub extend-requires-clause-before : goal.extend-requires-clause-before
 extend-requires-clause-before c =
-    let part : IsReduced c.args.reduced.now.depth c.args.segment.now.marks c.in-Some.part =
+    let slot : IsReduced c.args.reduced.now.depth c.args.segment.now.marks c.in-Some.slot =
     subst (λ o. IsSomeAnd o (IsReduced c.args.reduced.now.depth c.args.segment.now.marks)) c.in-Some.is
-    (subst (λ d. IsSomeAnd c.fill.new.part (IsReduced d c.args.segment.now.marks)) c.depth.ensures c.in_ok-fill.ensures.part) in
-    reduced_before c.offsets_lie_in_spans.ensures.before c.args.reduced.now.depth c.requires.rising.0 c.args.segment.now.marks c.args.reduced.now c.in-Some.part c.requires.rising.1 part c.requires.rising.2
+    (subst (λ d. IsSomeAnd c.fill.new.slot (IsReduced d c.args.segment.now.marks)) c.depth.ensures c.in_ok-fill.ensures.slot) in
+    reduced_before c.offsets_lie_in_spans.ensures.before c.args.reduced.now.depth c.requires.rising.0 c.args.segment.now.marks c.args.reduced.now c.in-Some.slot c.requires.rising.1 slot c.requires.rising.2
 
 pub returns-clause-reduced : goal.returns-clause-reduced
 returns-clause-reduced c =
-    let part : IsReduced c.args.reduced.now.depth c.args.segment.now.marks c.in-Some.part =
+    let slot : IsReduced c.args.reduced.now.depth c.args.segment.now.marks c.in-Some.slot =
     subst (λ o. IsSomeAnd o (IsReduced c.args.reduced.now.depth c.args.segment.now.marks)) c.in-Some.is
-    (subst (λ d. IsSomeAnd c.fill.new.part (IsReduced d c.args.segment.now.marks)) c.depth.ensures c.in_ok-fill.ensures.part) in
+    (subst (λ d. IsSomeAnd c.fill.new.slot (IsReduced d c.args.segment.now.marks)) c.depth.ensures c.in_ok-fill.ensures.slot) in
     both_ok c.extend.result
-    (λ reads spans marks h. reduced_more c.args.reduced.now.depth marks c.args.segment.now.marks c.args.reduced.now c.in-Some.part c.extend.new.self h part c.extend.ensures.depth reads spans)
+    (λ reads spans marks h. reduced_more c.args.reduced.now.depth marks c.args.segment.now.marks c.args.reduced.now c.in-Some.slot c.extend.new.self h slot c.extend.ensures.depth reads spans)
     c.extend.ensures.marks c.extend.ensures.offsets

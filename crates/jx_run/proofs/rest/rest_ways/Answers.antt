@@ -6,7 +6,7 @@ use Rattle.jx_lex.specs.Ordinal.{ordinal}
 use Rattle.jx_run.specs.inside.Rest.{AreReadWays}
 use Rattle.jx_run.proofs.Reducing.{states-many}
 use Rattle.jx_run.proofs.RestWays.{IsThere, read_above, read_next, there_next}
-use Rattle.jx_run.proofs.StateOrder.{ordinal-low}
+use Rattle.jx_lex.proofs.StateOrder.{ordinal-low}
 use Rattle.jx_run.proofs.rest.rest_ways.Goals as goal
 
 pub loop-place-preserved : goal.loop-place-preserved

@@ -34,7 +34,7 @@ loop-run-preserved g c =
     let of : HeldValue g.row.S.Denot → Type 0 = IsOf c.args.text.now c.args.depth in
     let mine : of run = last_of of c.loop-run.runs.items front run items i.of in
     let now = c.in_ok-rest-2.ensures in
-    let filled : IsRest c.args.text.now c.args.depth c.span-place.result.end c.in_ok-filled.filled = c.in_ok-filled.ensures in
+    let filled : IsRest c.args.text.now c.args.depth c.span-span.result.end c.in_ok-filled.filled = c.in_ok-filled.ensures in
     let start : c.in_ok-rest-2.rest.span.start ≡ run.span.start = ap (λ (p : Span). p.start) now.span in
     let span : c.in_ok-rest-2.rest.span ≡ record { start = c.in_ok-rest-2.rest.span.start; end = length c.args.text.now } =
     now.span ∙ (λ j. record { start = sym start j; end = ap (λ (p : Span). p.end) filled.span_is j }) in
@@ -42,6 +42,6 @@ loop-run-preserved g c =
       apart = front_apart front run all;
       of = front_of of c.loop-run.runs.items front run items i.of;
       rest = record { text_is = now.text ∙ mine.text_is; depth_is = now.depth ∙ mine.depth_is; span_is = span };
-      front = omega (arith, start, c.if-place-front.false, ap (λ (p : Span). p.start) c.span-place.ensures.span);
+      front = omega (arith, start, c.if-span-front.false, ap (λ (p : Span). p.start) c.span-span.ensures.span);
       before = λ k d l. omega (arith, front_before front run all k d l, start);
     }

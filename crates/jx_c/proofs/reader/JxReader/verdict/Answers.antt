@@ -10,8 +10,8 @@ use Rattle.jx_c.proofs.reader.JxReader.verdict.Goals as goal
 
 pub returns-then-self-eq-GOING-clause-reads : goal.returns-then-self-eq-GOING-clause-reads
 returns-then-self-eq-GOING-clause-reads c = λ start depth text h.
-    judged_at (record { judged = c.reader_is_grammar.ensures.verdict; told = c.readings_go_on.ensures.verdict }) depth start c.args.self.now.at c.args.self.now.progress (state_in c.args.self.now.state) c.state_at.result (known_of c.args.self.now.stack).reading c.whole.result text c.verdict_at.result
-    c.if-self-eq-GOING.true c.state_at.ensures c.whole.ensures c.verdict_at.ensures h.outcome
+    judged_at (record { judged = c.reader_is_grammar.ensures.verdict; told = c.readings_go_on.ensures.verdict }) depth start c.args.self.now.at c.args.self.now.progress (state_in c.args.self.now.state) c.state_at.result (known_of c.args.self.now.stack).reading c.whole.result text c.verdict_from.result
+    c.if-self-eq-GOING.true c.state_at.ensures c.whole.ensures c.verdict_from.ensures h.outcome
 
 pub returns-then-self-eq-GOING-clause-settled : goal.returns-then-self-eq-GOING-clause-settled
 returns-then-self-eq-GOING-clause-settled c = λ settings fed h.

@@ -10,7 +10,7 @@ together c =
     let s = c.self.inside in
     omega (
       arith,
-      behind_len s.front s.skipped (listed s.len s.parts) c.self.invariant.4,
+      behind_len s.front s.skipped (listed s.len s.pieces) c.self.invariant.4,
       c.count.ensures s.len,
       ap (λ (v : CuttingValue). length v.pieces) c.self.view_is,
     )
@@ -21,5 +21,5 @@ returns-clause-count c = omega (arith, together c)
 pub returns-clause-none : goal.returns-clause-none
 returns-clause-none c = λ empty.
     let s = c.self.inside in
-    let covers = behind_covers 0 (listed s.len s.parts) s.len s.front c.self.invariant.0 (omega arith) c.self.invariant.3 in
-    omega (arith, together c, covers_none s.front (behind s.front (listed s.len s.parts)) s.len covers (omega (arith, empty, ap (λ (v : CuttingValue). v.len) c.self.view_is)), ap (λ (v : CuttingValue). length v.pieces) c.self.view_is)
+    let covers = behind_covers 0 (listed s.len s.pieces) s.len s.front c.self.invariant.0 (omega arith) c.self.invariant.3 in
+    omega (arith, together c, covers_none s.front (behind s.front (listed s.len s.pieces)) s.len covers (omega (arith, empty, ap (λ (v : CuttingValue). v.len) c.self.view_is)), ap (λ (v : CuttingValue). length v.pieces) c.self.view_is)

@@ -8,4 +8,4 @@ pub returns-clause-covers : goal.returns-clause-covers
 returns-clause-covers c =
     let s = c.self.inside in
     subst (λ (v : CuttingValue). Tiles v.front v.pieces v.len) c.self.view_is
-    (behind_covers 0 (listed s.len s.parts) s.len s.front c.self.invariant.0 (omega arith) c.self.invariant.3)
+    (behind_covers 0 (listed s.len s.pieces) s.len s.front c.self.invariant.0 (omega arith) c.self.invariant.3)

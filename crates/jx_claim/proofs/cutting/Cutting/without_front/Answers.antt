@@ -11,11 +11,11 @@ from c = omega (arith, c.requires.from, ap (λ (v : CuttingValue). v.front) c.se
 pub returns-clause-pieces : goal.returns-clause-pieces
 returns-clause-pieces c =
     let s = c.self.inside in
-    sym (behind_again s.front c.args.front (listed s.len s.parts) (from c)) ∙ ap (λ (v : CuttingValue). behind c.args.front v.pieces) c.self.view_is
+    sym (behind_again s.front c.args.front (listed s.len s.pieces) (from c)) ∙ ap (λ (v : CuttingValue). behind c.args.front v.pieces) c.self.view_is
 
 pub returns-clause-covers : goal.returns-clause-covers
 returns-clause-covers c =
     let s = c.self.inside in
     let len : s.len ≡ c.args.self.len = ap (λ (v : CuttingValue). v.len) c.self.view_is in
-    subst (λ n. Tiles c.args.front (behind c.args.front (listed s.len s.parts)) n) len
-    (behind_covers 0 (listed s.len s.parts) s.len c.args.front c.self.invariant.0 (omega arith) (omega (arith, c.requires.within, len)))
+    subst (λ n. Tiles c.args.front (behind c.args.front (listed s.len s.pieces)) n) len
+    (behind_covers 0 (listed s.len s.pieces) s.len c.args.front c.self.invariant.0 (omega arith) (omega (arith, c.requires.within, len)))

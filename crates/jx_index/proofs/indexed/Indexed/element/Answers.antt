@@ -6,7 +6,7 @@ use Rattle.jx_index.specs.declared.units.Spelling.TheVariants.{InToken}
 use Rattle.jx_index.specs.ArrayTokens.{place_in}
 use Rattle.jx_index.specs.Leads.{at_place}
 use Rattle.jx_index.specs.Nodes.{child_numbers}
-use Rattle.jx_index.specs.Units.{parts_units}
+use Rattle.jx_index.specs.Units.{chars_units}
 use Rattle.jx_index.proofs.Each.{element_is}
 use Rattle.jx_index.proofs.indexed.Indexed.element.Goals as goal
 
@@ -20,4 +20,4 @@ returns-in-Element c =
     (sym c.in-Element.is
     ∙ c.place_of_token.ensures
     ∙ ap (λ (u : List ℕ). place_in u (length c.elements-elements.result.now)) c.new.ensures
-    ∙ ap (λ (x : List ℕ). place_in (parts_units InToken 0 c.args.name.now) (length x)) c.elements-elements.ensures)
+    ∙ ap (λ (x : List ℕ). place_in (chars_units InToken 0 c.args.name.now) (length x)) c.elements-elements.ensures)

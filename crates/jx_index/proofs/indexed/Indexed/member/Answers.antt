@@ -5,7 +5,7 @@ use Rattle.jx_index.specs.declared.units.Spelling.TheVariants.{InToken}
 use Rattle.jx_index.specs.Leads.{only}
 use Rattle.jx_index.specs.Nodes.{child_numbers}
 use Rattle.jx_index.specs.RowsLead.{is_equal}
-use Rattle.jx_index.specs.Units.{parts_units}
+use Rattle.jx_index.specs.Units.{chars_units}
 use Rattle.jx_index.proofs.Orders.{equal_kept}
 use Rattle.jx_index.proofs.indexed.Indexed.member.Goals as goal
 use Prim.Native.Nat.{ℕ}
@@ -13,7 +13,7 @@ use Prim.Native.Nat.{ℕ}
 pub returns : goal.returns
 returns c =
     let v = c.args.self.now in
-    let units = parts_units InToken 0 c.args.name.now in
+    let units = chars_units InToken 0 c.args.name.now in
     let names = c.names.result.now in
     c.find_name.ensures
     ∙ ap (λ (t : List ℕ). only (filter (is_equal t c.rows.result.now units) names) c.args.token) c.text.ensures

@@ -1,6 +1,6 @@
 use Rattle.std.proofs.Common.{ℕ, ◌+◌, List, length, sym, ap, subst, ◌∙◌}
 use Rattle.std.specs.Prelude.{slice_range}
-use Rattle.jx_index.specs.Parts.{HaveParts}
+use Rattle.jx_index.specs.ChildLists.{HaveChildLists}
 use Rattle.jx_index.specs.Walk.{IsForward, IsBounded}
 use Rattle.jx_index.specs.declared.row.Row.{Row}
 use Rattle.jx_index.proofs.Indexes.{one_of_any}
@@ -22,9 +22,9 @@ invariant_of-result c = record {
   after_are = c.requires.after_are;
   one_tree = λ most other t.
       one_of_any c.text_has_one_tree.ensures.one_tree c.args.span.start c.requires.limit most (slice_range c.args.text.now c.args.span.start c.args.span.end) c.requires.tree other c.requires.is_text t;
-  starts_are = c.in_ok-parts.ensures.starts ∙ ap (λ (r : List Row). length r + 1) c.deref.ensures.value;
-  parts =
-      subst (λ (r : List Row). HaveParts c.args.text.now r c.args.nodes.after.items c.in_ok-parts.parts.starts.items c.in_ok-parts.parts.children.items (length r)) c.deref.ensures.value
-      (subst (λ (a : List ℕ). HaveParts c.args.text.now c.deref.result.now a c.in_ok-parts.parts.starts.items c.in_ok-parts.parts.children.items (length c.deref.result.now)) c.deref-2.ensures.value
-      c.in_ok-parts.ensures.parts);
+  starts_are = c.in_ok-lists.ensures.starts ∙ ap (λ (r : List Row). length r + 1) c.deref.ensures.value;
+  lists =
+      subst (λ (r : List Row). HaveChildLists c.args.text.now r c.args.nodes.after.items c.in_ok-lists.lists.starts.items c.in_ok-lists.lists.children.items (length r)) c.deref.ensures.value
+      (subst (λ (a : List ℕ). HaveChildLists c.args.text.now c.deref.result.now a c.in_ok-lists.lists.starts.items c.in_ok-lists.lists.children.items (length c.deref.result.now)) c.deref-2.ensures.value
+      c.in_ok-lists.ensures.lists);
 }

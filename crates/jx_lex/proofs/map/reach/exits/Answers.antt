@@ -1,29 +1,29 @@
 use Rattle.std.proofs.Common.{◌≡◌, ◌<◌, false, replicate, List, refl, subst, ap, ◌∙◌, arith, length, get_or}
 use Rattle.std.proofs.lemmas.List.{take_all, get_or_default}
 use Rattle.jx_lex.specs.inside.Bundle.{AllLive}
-use Rattle.jx_lex.specs.Follow.{Part}
+use Rattle.jx_lex.specs.Follow.{SegmentValue}
 use Rattle.jx_lex.specs.declared.map.link.Link.TheVariants.{Fault}
-use Rattle.jx_lex.proofs.Joined.{ordinal-low}
+use Rattle.jx_lex.proofs.StateOrder.{ordinal-low}
 use Rattle.jx_lex.proofs.Building.{ordinal-in}
-use Rattle.jx_lex.proofs.Pruning.{closed-live, noted-next, noted-heads, noted-parts}
+use Rattle.jx_lex.proofs.Pruning.{closed-live, noted-next, noted-heads, noted-segments}
 use Rattle.jx_lex.proofs.map.reach.exits.Goals as goal
 
 pub loop-i-init : goal.loop-i-init
-loop-i-init c = record { all = refl; parts = closed-live c.args.closed (replicate 32 false) c.args.segments.now c.requires.all_closed }
+loop-i-init c = record { all = refl; segments = closed-live c.args.closed (replicate 32 false) c.args.segments.now c.requires.all_closed }
 
 pub loop-i-preserved : goal.loop-i-preserved
 loop-i-preserved c =
     record {
       all = c.note.array_long;
-      parts = rw c.note.ensures (noted-next c.args.segments.now c.loop-i.i c.index-segments-i.result c.next.result c.loop-i.live c.loop-i-test.true c.index-segments-i.is c.next.ensures
-          c.loop-i.invariant.all c.loop-i.invariant.parts);
+      segments = rw c.note.ensures (noted-next c.args.segments.now c.loop-i.i c.index-segments-i.result c.next.result c.loop-i.live c.loop-i-test.true c.index-segments-i.is c.next.ensures
+          c.loop-i.invariant.all c.loop-i.invariant.segments);
     }
 
 pub loop-state-init : goal.loop-state-init
 loop-state-init c =
     record {
       all = c.loop-i.invariant.all;
-      parts = subst (λ (ps : List Part). AllLive c.loop-i.live ps) (take_all c.loop-i.i c.args.segments.now c.loop-i-test.false) c.loop-i.invariant.parts;
+      segments = subst (λ (ps : List SegmentValue). AllLive c.loop-i.live ps) (take_all c.loop-i.i c.args.segments.now c.loop-i-test.false) c.loop-i.invariant.segments;
       heads = λ s lt. absurd (omega (arith, lt));
     }
 
@@ -40,7 +40,7 @@ loop-state-preserved c =
     let low : n < length heads = omega (arith, all, few) in
     record {
       all = c.note-in-loop-state.array_long;
-      parts = rw note (noted-parts _ c.args.segments.now c.loop-state.live v.all v.parts);
+      segments = rw note (noted-segments _ c.args.segments.now c.loop-state.live v.all v.segments);
       heads = rw note (noted-heads heads i _ c.loop-state.live v.all (get_or_default heads n _ _ low ∙ ap (λ k. get_or heads k (Fault 0)) at) v.heads);
     }
 

@@ -9,13 +9,13 @@ use Rattle.jx_lex.proofs.map.reach.exits.Given as goal
 abbrev pub invariant-loop-i : goal.invariant-loop-i
 invariant-loop-i l = record {
   all : length l.live ≡ 32;
-  parts : AllLive l.live (take l.i l.segments);
+  segments : AllLive l.live (take l.i l.segments);
 }
 
 -- and the first heads
 abbrev pub invariant-loop-state : goal.invariant-loop-state
 invariant-loop-state l = record {
   all : length l.live ≡ 32;
-  parts : AllLive l.live l.segments;
+  segments : AllLive l.live l.segments;
   heads : (s : LexState) → ordinal s < l.state-index → LiveAt l.live (head l.heads s);
 }

@@ -1,7 +1,7 @@
 use Rattle.std.proofs.Common.{◌≡◌, set, ◌+◌, ◌-◌, ◌<◌, rules, sym, subst, ap, ◌∙◌, arith, length}
 use Rattle.jx_lex.specs.declared.map.link.Link.{Link}
 use Rattle.jx_lex.specs.declared.map.link.Link.TheVariants.{Ahead}
-use Rattle.jx_lex.specs.Follow.{Part, IsIn}
+use Rattle.jx_lex.specs.Follow.{SegmentValue, IsIn}
 use Rattle.jx_lex.specs.inside.Pruned.{emptied}
 use Rattle.jx_lex.proofs.Pruning.{Pruning-start, Pruning-same, Pruning-kept, Pruning-emptied, Pruning-in, Pruning-done, reached_behind, behind-none}
 use Rattle.jx_lex.proofs.map.reach.prune.Goals as goal
@@ -17,7 +17,7 @@ ahead c =
     let p = c.index-segments-i-else-not-reached-i.result in
     let is = c.index-segments-i-else-not-reached-i.is in
     let test = c.loop-i-test.true in
-    let link : p.next ≡ Ahead c.in-Ahead.skip = ap (λ (x : Part). x.next) is ∙ sym c.next.ensures ∙ c.in-Ahead.is in
+    let link : p.next ≡ Ahead c.in-Ahead.skip = ap (λ (x : SegmentValue). x.next) is ∙ sym c.next.ensures ∙ c.in-Ahead.is in
     let within : c.in-Ahead.skip < length ps0 - (i + 1) =
     subst (IsIn (length ps0 - (i + 1))) link (Pruning-in c.args.reached.now c.loop-i.reached ps0 c.loop-i.segments i p c.requires.inside test c.loop-i.invariant is) in
     omega (arith, within, test)
@@ -47,14 +47,14 @@ loop-i-preserved c =
       | else-not-reached-i+in-Ahead w ↦ (
           let p = w.index-segments-i-else-not-reached-i.result in
           let is = w.index-segments-i-else-not-reached-i.is in
-          let link : p.next ≡ Ahead w.in-Ahead.skip = ap (λ (x : Part). x.next) is ∙ sym w.next.ensures ∙ w.in-Ahead.is in
+          let link : p.next ≡ Ahead w.in-Ahead.skip = ap (λ (x : SegmentValue). x.next) is ∙ sym w.next.ensures ∙ w.in-Ahead.is in
           Pruning-same rs0 (reached_behind i p.next rs) c.if-not-reached-i.reached ps0 ps c.if-not-reached-i.segments (i + 1)
           (w.reached-is ∙ ap (λ (g : Link). reached_behind i g rs) (sym link)) w.segments-is
           (Pruning-kept rs0 rs ps0 ps i p test v is w.if-not-reached-i.false))
       | else-not-reached-i+in_default w ↦ (
           let p = w.index-segments-i-else-not-reached-i.result in
           let is = w.index-segments-i-else-not-reached-i.is in
-          let next : w.next.result ≡ p.next = w.next.ensures ∙ ap (λ (x : Part). x.next) (sym is) in
+          let next : w.next.result ≡ p.next = w.next.ensures ∙ ap (λ (x : SegmentValue). x.next) (sym is) in
           Pruning-same rs0 (reached_behind i p.next rs) c.if-not-reached-i.reached ps0 ps c.if-not-reached-i.segments (i + 1)
           (w.reached-is ∙ sym (behind-none i p.next rs (λ k e. w.in_default.not-Ahead k (next ∙ e)))) w.segments-is
           (Pruning-kept rs0 rs ps0 ps i p test v is w.if-not-reached-i.false))

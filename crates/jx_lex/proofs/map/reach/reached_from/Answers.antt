@@ -3,7 +3,7 @@ use Rattle.std.proofs.lemmas.List.{get_or_default}
 use Rattle.jx_lex.specs.declared.map.link.Link.TheVariants.{Fault}
 use Rattle.jx_lex.specs.inside.Pruned.{IsReached}
 use Rattle.jx_lex.proofs.Building.{ordinal-in}
-use Rattle.jx_lex.proofs.Joined.{ordinal-low}
+use Rattle.jx_lex.proofs.StateOrder.{ordinal-low}
 use Rattle.jx_lex.proofs.Pruning.{reached-heads, reached-none, reached-set, IsReached-set, head-in}
 use Rattle.jx_lex.proofs.map.reach.reached_from.Goals as goal
 use Rattle.jx_lex.proofs.map.reach.reached_from.Goals.{then-is_live+in-Ahead, then-is_live+in_default, else-is_live}

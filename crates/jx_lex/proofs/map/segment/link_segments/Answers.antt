@@ -1,6 +1,6 @@
 use Rattle.std.proofs.Common.{◌≤◌, length, arith, append-nil}
 use Rattle.std.proofs.lemmas.List.{take_all, drop_all}
-use Rattle.jx_lex.specs.Follow.{linked_parts}
+use Rattle.jx_lex.specs.Follow.{linked_segments}
 use Rattle.jx_lex.proofs.Closing.{link-start}
 use Rattle.jx_lex.proofs.Joined.{link-more, length-linked}
 use Rattle.jx_lex.proofs.map.segment.link_segments.Goals as goal
@@ -15,7 +15,7 @@ loop-i-preserved c =
 
 pub returns : goal.returns
 returns c =
-    let n : length (linked_parts c.args.heads.now c.args.segments.now) ≤ c.loop-i.i = omega (arith, length-linked c.args.heads.now c.args.segments.now) in
-    let a = take_all c.loop-i.i (linked_parts c.args.heads.now c.args.segments.now) n in
+    let n : length (linked_segments c.args.heads.now c.args.segments.now) ≤ c.loop-i.i = omega (arith, length-linked c.args.heads.now c.args.segments.now) in
+    let a = take_all c.loop-i.i (linked_segments c.args.heads.now c.args.segments.now) n in
     let b = drop_all c.loop-i.i c.args.segments.now c.loop-i-test.false in
     rw (c.loop-i.invariant, a, b) (append-nil _)

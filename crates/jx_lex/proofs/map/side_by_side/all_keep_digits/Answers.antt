@@ -1,5 +1,5 @@
 use Rattle.std.proofs.Common.{List, take, refl, subst, sym}
-use Rattle.jx_lex.specs.Follow.{Part}
+use Rattle.jx_lex.specs.Follow.{SegmentValue}
 use Rattle.jx_lex.specs.inside.Passing.{KeptBy, AllKept}
 use Rattle.jx_lex.proofs.Many.{AllKept-more, take-next}
 use Rattle.jx_lex.proofs.map.side_by_side.all_keep_digits.Goals as goal
@@ -9,5 +9,5 @@ loop-i-preserved c = λ w a b d e.
     let ps = c.args.segments.now in
     let p = c.index-segments-i.result in
     let here : KeptBy p.next w = subst (λ g. KeptBy g w) c.next.ensures (c.if-not-keeps_digits.ensures refl w a b d e) in
-    subst (λ (qs : List Part). AllKept w qs) (sym (take-next ps c.loop-i.i p c.loop-i-test.true c.index-segments-i.is))
+    subst (λ (qs : List SegmentValue). AllKept w qs) (sym (take-next ps c.loop-i.i p c.loop-i-test.true c.index-segments-i.is))
     (AllKept-more w (take c.loop-i.i ps) p (c.loop-i.invariant w a b d e) here)

@@ -1,6 +1,6 @@
 use Rattle.std.proofs.Common.{◌∷◌, [], arith, ◌++◌, take, set, true, List, Bool, subst, sym, ap, ◌∙◌}
 use Rattle.std.proofs.lemmas.List.{take_all}
-use Rattle.jx_lex.specs.Follow.{Part}
+use Rattle.jx_lex.specs.Follow.{SegmentValue}
 use Rattle.jx_lex.proofs.Many.{Apart, Apart-none, Apart-state, Apart-out, Apart-single, take-next}
 use Rattle.jx_lex.proofs.map.side_by_side.are_many_apart.Goals as goal
 use Rattle.jx_lex.proofs.map.side_by_side.are_many_apart.Goals.{in-State+else-seen-number, in_default}
@@ -17,7 +17,7 @@ loop-i-preserved c =
     let v = c.loop-i.invariant.apart in
     let few = c.loop-i.invariant.few in
     record {
-      apart = subst (λ (qs : List Part). Apart c.match-next.seen qs) (sym (take-next ps i p c.loop-i-test.true c.index-segments-i.is))
+      apart = subst (λ (qs : List SegmentValue). Apart c.match-next.seen qs) (sym (take-next ps i p c.loop-i-test.true c.index-segments-i.is))
           (elim c.match-next.branch [
             | in-State+else-seen-number w ↦ (
                 let s = w.in-State.state in
@@ -33,4 +33,4 @@ loop-i-preserved c =
     }
 
 pub returns : goal.returns
-returns c = λ t. Apart-single c.loop-i.seen c.args.segments.now (subst (λ (ps : List Part). Apart c.loop-i.seen ps) (take_all c.loop-i.i c.args.segments.now c.loop-i-test.false) c.loop-i.invariant.apart)
+returns c = λ t. Apart-single c.loop-i.seen c.args.segments.now (subst (λ (ps : List SegmentValue). Apart c.loop-i.seen ps) (take_all c.loop-i.i c.args.segments.now c.loop-i-test.false) c.loop-i.invariant.apart)

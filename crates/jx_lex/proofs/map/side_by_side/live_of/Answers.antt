@@ -1,6 +1,6 @@
 use Rattle.std.proofs.Common.{◌∷◌, [], ◌++◌, take, set, true, List, Bool, subst, sym, ap, ◌∙◌}
 use Rattle.std.proofs.lemmas.List.{take_all}
-use Rattle.jx_lex.specs.Follow.{Part}
+use Rattle.jx_lex.specs.Follow.{SegmentValue}
 use Rattle.jx_lex.specs.inside.Bundle.{StandIn}
 use Rattle.jx_lex.proofs.Many.{StandIn-none, StandIn-state, StandIn-out, take-next}
 use Rattle.jx_lex.proofs.map.side_by_side.live_of.Goals as goal
@@ -16,7 +16,7 @@ loop-i-preserved c =
     let i = c.loop-i.i in
     let live = c.loop-i.live in
     let v = c.loop-i.invariant in
-    subst (λ (qs : List Part). StandIn c.match-next.live qs) (sym (take-next ps i p c.loop-i-test.true c.index-segments-i.is))
+    subst (λ (qs : List SegmentValue). StandIn c.match-next.live qs) (sym (take-next ps i p c.loop-i-test.true c.index-segments-i.is))
     (elim c.match-next.branch [
       | in-State w ↦
           subst (λ (l : List Bool). StandIn l (take i ps ++ p ∷ [])) (sym (w.live-is ∙ ap (λ n. set live n true) w.number.ensures.ordinal))
@@ -26,4 +26,4 @@ loop-i-preserved c =
     ])
 
 pub returns : goal.returns
-returns c = subst (λ (ps : List Part). StandIn c.loop-i.live ps) (take_all c.loop-i.i c.args.segments.now c.loop-i-test.false) c.loop-i.invariant
+returns c = subst (λ (ps : List SegmentValue). StandIn c.loop-i.live ps) (take_all c.loop-i.i c.args.segments.now c.loop-i-test.false) c.loop-i.invariant

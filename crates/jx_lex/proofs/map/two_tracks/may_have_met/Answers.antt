@@ -1,6 +1,6 @@
 use Rattle.std.proofs.Common.{ap, sym, ◌∙◌}
 use Rattle.std.specs.Prelude.{slice_range}
-use Rattle.jx_lex.specs.Follow.{Part}
+use Rattle.jx_lex.specs.Follow.{SegmentValue}
 use Rattle.jx_lex.proofs.Spans.{reads-differ, cut-back}
 use Rattle.jx_lex.proofs.map.two_tracks.may_have_met.Goals as goal
 
@@ -12,7 +12,7 @@ returns-clause-read c = λ no.
     rw (c.in_ok-read_span.ensures, c.in_ok-read_span-2.ensures)
     (reads-differ w c.args.from p q (λ e.
     c.may_lead_alike.ensures c.if-may_lead_alike.false
-    (c.next.ensures ∙ ap (λ (r : Part). r.next) c.in_ok-read_span.ensures ∙ e ∙ sym (ap (λ (r : Part). r.next) c.in_ok-read_span-2.ensures) ∙ sym c.next-2.ensures)))
+    (c.next.ensures ∙ ap (λ (r : SegmentValue). r.next) c.in_ok-read_span.ensures ∙ e ∙ sym (ap (λ (r : SegmentValue). r.next) c.in_ok-read_span-2.ensures) ∙ sym c.next-2.ensures)))
 
 pub returns-then-may_lead_alike-clause-back : goal.returns-then-may_lead_alike-clause-back
 returns-then-may_lead_alike-clause-back c = λ yes.

@@ -3,4 +3,4 @@ use Rattle.jx_lex.proofs.Lanes.{marks_of}
 use Rattle.jx_lex.proofs.scanner.byte_sets.marks.Goals as goal
 
 pub returns : goal.returns
-returns g c = marks_of 16 (omega arith) (omega arith) (λ byte. not (g.R.Run.goes_on byte)) c.args.text.now c.args.i c.requires c.others.result c.others.ensures
+returns g c = marks_of 16 (omega arith) (omega arith) (λ byte. not (g.R.ByteSet.goes_on byte)) c.args.text.now c.args.i c.requires c.others.result c.others.ensures

@@ -18,33 +18,33 @@ fits_so d r ms f h e = subst (Fits d) (sym e) (Fits-of_marks d r ms h)
 goes_on_so : (d : ℕ) (r : Form) (ms : List Mark) (f : Form) → GoesOn r → f ≡ of_marks d r ms → GoesOn f
 goes_on_so d r ms f h e = subst GoesOn (sym e) (GoesOn-of_marks d r ms h)
 
-pub run-done-requires-clause-fits : goal.run-done-requires-clause-fits
-run-done-requires-clause-fits c = fits_so c.args.depth (form_of c.args.self) (take c.loop-done.done c.args.marks.now) (form_of c.loop-done.levels) c.requires.fits c.loop-done.invariant.same
+pub read_quiet-done-requires-clause-fits : goal.read_quiet-done-requires-clause-fits
+read_quiet-done-requires-clause-fits c = fits_so c.args.depth (form_of c.args.self) (take c.loop-done.done c.args.marks.now) (form_of c.loop-done.levels) c.requires.fits c.loop-done.invariant.same
 
-pub run-done-requires-clause-goes_on : goal.run-done-requires-clause-goes_on
-run-done-requires-clause-goes_on c = goes_on_so c.args.depth (form_of c.args.self) (take c.loop-done.done c.args.marks.now) (form_of c.loop-done.levels) c.requires.goes_on c.loop-done.invariant.same
+pub read_quiet-done-requires-clause-goes_on : goal.read_quiet-done-requires-clause-goes_on
+read_quiet-done-requires-clause-goes_on c = goes_on_so c.args.depth (form_of c.args.self) (take c.loop-done.done c.args.marks.now) (form_of c.loop-done.levels) c.requires.goes_on c.loop-done.invariant.same
 
 pub push-requires-clause-fits : goal.push-requires-clause-fits
 push-requires-clause-fits c =
-    fits_so c.args.depth (form_of c.args.self) (take (c.loop-done.done + c.run-done.result) c.args.marks.now) (form_of c.run-done.new.self) c.requires.fits
-    (of_more c.args.depth (form_of c.args.self) c.args.marks.now c.loop-done.done c.run-done.result (form_of c.loop-done.levels) (form_of c.run-done.new.self) c.loop-done.invariant.same c.run-done.ensures.form)
+    fits_so c.args.depth (form_of c.args.self) (take (c.loop-done.done + c.read_quiet-done.result) c.args.marks.now) (form_of c.read_quiet-done.new.self) c.requires.fits
+    (of_more c.args.depth (form_of c.args.self) c.args.marks.now c.loop-done.done c.read_quiet-done.result (form_of c.loop-done.levels) (form_of c.read_quiet-done.new.self) c.loop-done.invariant.same c.read_quiet-done.ensures.form)
 
 pub loop-done-preserved-then-done-marks : goal.loop-done-preserved-then-done-marks
 loop-done-preserved-then-done-marks c =
     record {
       within = omega (arith, c.if-done-marks.true);
       same =
-          of_one_more c.args.depth (form_of c.args.self) c.args.marks.now (c.loop-done.done + c.run-done.result) _ c.if-done-marks.true (form_of c.run-done.new.self) (form_of c.push.new.self)
-          (of_more c.args.depth (form_of c.args.self) c.args.marks.now c.loop-done.done c.run-done.result (form_of c.loop-done.levels) (form_of c.run-done.new.self) c.loop-done.invariant.same c.run-done.ensures.form)
+          of_one_more c.args.depth (form_of c.args.self) c.args.marks.now (c.loop-done.done + c.read_quiet-done.result) _ c.if-done-marks.true (form_of c.read_quiet-done.new.self) (form_of c.push.new.self)
+          (of_more c.args.depth (form_of c.args.self) c.args.marks.now c.loop-done.done c.read_quiet-done.result (form_of c.loop-done.levels) (form_of c.read_quiet-done.new.self) c.loop-done.invariant.same c.read_quiet-done.ensures.form)
           c.in_ok-push.ensures.ok;
     }
 
 pub loop-done-preserved : goal.loop-done-preserved
 loop-done-preserved c =
-    let few = rw take_rest at c.run-done.ensures.within in
+    let few = rw take_rest at c.read_quiet-done.ensures.within in
     record {
       within = omega (arith, few, c.loop-done.invariant.within, length-drop c.loop-done.done c.args.marks.now);
-      same = of_more c.args.depth (form_of c.args.self) c.args.marks.now c.loop-done.done c.run-done.result (form_of c.loop-done.levels) (form_of c.run-done.new.self) c.loop-done.invariant.same c.run-done.ensures.form;
+      same = of_more c.args.depth (form_of c.args.self) c.args.marks.now c.loop-done.done c.read_quiet-done.result (form_of c.loop-done.levels) (form_of c.read_quiet-done.new.self) c.loop-done.invariant.same c.read_quiet-done.ensures.form;
     }
 
 pub returns-clause-form : goal.returns-clause-form

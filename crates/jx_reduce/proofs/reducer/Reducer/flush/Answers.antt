@@ -2,7 +2,7 @@ use Rattle.std.proofs.Common.{◌≡◌, ◌++◌, true, false, sym, ap, subst, 
 use Rattle.std.specs.Prelude.{◌↔◌, ◌⊎◌}
 use Rattle.jx_reduce.specs.declared.reducer.Reducer.TheInside.{Inside}
 use Rattle.jx_reduce.specs.Offsets.{RisingFrom}
-use Rattle.jx_reduce.specs.Parts.{AreParts}
+use Rattle.jx_reduce.specs.HeadAndTail.{AreHeadAndTail}
 use Rattle.jx_reduce.specs.Reducer.{ReducerValue, HasReduced, past}
 use Rattle.jx_reduce.proofs.Windows.{IsRead, front_read, window_reduced, not_rising}
 use Rattle.jx_reduce.proofs.reducer.Reducer.flush.Goals.{After-clear, then-self+then-rise+in_ok-self-inside, else-self, else-self-via-then-self+else-rise, else-self-via-else-self}
@@ -32,11 +32,11 @@ turn c =
               record {
                 depth = ap (λ (x : Inside). x.depth) w.self-inside-is;
                 window = subst (RisingFrom (past i.last)) w.deref.ensures.value (w.rise.ensures.0 w.if-rise.true);
-                parts = λ front parts up.
-                    subst (λ (x : Inside). AreParts i.depth x.head.items x.tail (front ++ i.window.items)) (sym w.self-inside-is)
-                    (subst (λ ms. AreParts i.depth w.read_on.new.head.items w.in_ok-self-inside.field-0 (front ++ ms)) w.deref-then-rise.ensures.value
+                split = λ front split up.
+                    subst (λ (x : Inside). AreHeadAndTail i.depth x.head.items x.tail (front ++ i.window.items)) (sym w.self-inside-is)
+                    (subst (λ ms. AreHeadAndTail i.depth w.read_on.new.head.items w.in_ok-self-inside.field-0 (front ++ ms)) w.deref-then-rise.ensures.value
                     (w.in_ok-self-inside.ensures front
-                    (subst (λ t. AreParts i.depth i.head.items t front) (sym w.take-tail.ensures.value) parts)
+                    (subst (λ t. AreHeadAndTail i.depth i.head.items t front) (sym w.take-tail.ensures.value) split)
                     (subst (λ ms. RisingFrom 0 (front ++ ms)) (sym w.deref-then-rise.ensures.value) up)));
                 behind = λ more.
                     subst (λ (x : Inside). RisingFrom (past i.last) (i.window.items ++ more) ↔ RisingFrom (past x.last) more) (sym w.self-inside-is)

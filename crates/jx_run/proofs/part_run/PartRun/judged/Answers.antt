@@ -10,8 +10,8 @@ pub returns : goal.returns
 returns c bytes low k =
     let run : PartRunValue = record { outcomes = c.self.inside.outcomes; loose = c.self.inside.loose } in
     let of : IsPartRun bytes run = subst (IsPartRun bytes) (sym c.self.view_is) k in
-    let place = c.span.ensures.span in
+    let span = c.span.ensures.span in
     subst (λ (r : PartRunValue). IsJudgedElement r.outcomes.depth (part r.outcomes.start bytes) (record { span = c.span.result; verdict = c.told.result })) c.self.view_is
     (judged_element run.outcomes.depth run.outcomes.start bytes c.span.result.start c.span.result.end c.verdict.result run.loose c.told.result
-    (ap (λ (s : Span). s.start) place) (ap (λ (s : Span). s.end) place ∙ of.outcomes.long)
+    (ap (λ (s : Span). s.start) span) (ap (λ (s : Span). s.end) span ∙ of.outcomes.long)
     (subst (λ (r : PartRunValue). 0 < r.outcomes.start) (sym c.self.view_is) low) (c.verdict.ensures.verdict bytes of.outcomes) of.loose c.told.ensures)

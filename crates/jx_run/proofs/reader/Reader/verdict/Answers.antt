@@ -6,8 +6,8 @@ use Rattle.jx_run.proofs.reader.Reader.verdict.Goals as goal
 pub returns-in-Going : goal.returns-in-Going
 returns-in-Going c = record {
   verdict = λ bytes h.
-      judged_going c.reader_is_grammar.ensures.verdict c.args.self.now c.self.inside.progress c.in-Going.state c.self.inside.kept.stack.reading c.whole.result bytes c.verdict_at.result
-      c.in-Going.is (ap (λ (v : ReaderValue). v.outcome) c.self.view_is) c.whole.ensures c.verdict_at.ensures h;
+      judged_going c.reader_is_grammar.ensures.verdict c.args.self.now c.self.inside.progress c.in-Going.state c.self.inside.kept.stack.reading c.whole.result bytes c.verdict_from.result
+      c.in-Going.is (ap (λ (v : ReaderValue). v.outcome) c.self.view_is) c.whole.ensures c.verdict_from.ensures h;
 }
 
 pub returns-in-Stopped : goal.returns-in-Stopped

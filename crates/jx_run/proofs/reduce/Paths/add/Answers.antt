@@ -7,8 +7,8 @@ use Rattle.jx_run.specs.inside.Reduced.{AreReduced, IsAt}
 use Rattle.jx_run.proofs.Reducing.{all_push, push_above, pushed_at, reduced_within, set_numbered}
 use Rattle.jx_run.proofs.reduce.Paths.add.Goals as goal
 
-pub structure_from-requires-clause-parts : goal.structure_from-requires-clause-parts
-structure_from-requires-clause-parts c = subst (AreReduced c.args.depth c.args.map.now.parts) (sym c.deref_mut.ensures.value) c.requires.made.parts_are
+pub structure_from-requires-clause-slots : goal.structure_from-requires-clause-slots
+structure_from-requires-clause-slots c = subst (AreReduced c.args.depth c.args.map.now.segments) (sym c.deref_mut.ensures.value) c.requires.made.slots_are
 
 pub returns-clause-above : goal.returns-clause-above
 returns-clause-above c =
@@ -31,7 +31,7 @@ returns-clause-made c =
     let first = c.args.first in
     let marks = (track m c.args.state).marks in
     let news = c.push.new.self.items in
-    let parts = with_items_is old.parts c.structure_from.new.parts (c.structure_from.auto.parts ∙ c.deref_mut.ensures.len) in
+    let slots = with_items_is old.slots c.structure_from.new.slots (c.structure_from.auto.slots ∙ c.deref_mut.ensures.len) in
     let all = ap length c.in_ok-push.ensures.items ∙ length-append old.structures.items (c.in_ok-marks.marks ∷ []) in
     let count = c.len-number.ensures in
     let last : length old.structures.items ≡ c.len-number.result - 1 = omega (arith, all, count) in
@@ -44,10 +44,10 @@ returns-clause-made c =
     let within : first < length old.numbers.items = omega (arith, numbers, low) in
     let P = IsFormWithin c.args.depth m.start m.end in
     record {
-      parts_all = ap length parts ∙ c.structure_from.auto.parts ∙ ap length c.deref_mut.ensures.value ∙ c.requires.made.parts_all;
+      slots_all = ap length slots ∙ c.structure_from.auto.slots ∙ ap length c.deref_mut.ensures.value ∙ c.requires.made.slots_all;
       numbers_all = length-set old.numbers.items first (Some (c.len-number.result - 1)) ∙ numbers;
-      parts_are = subst (AreReduced c.args.depth m.parts) (sym parts) c.in_ok-marks.ensures.parts;
-      numbers_are = set_numbered c.args.depth m.parts old.numbers.items old.structures.items news first (c.len-number.result - 1) within c.requires.made.numbers_are up
+      slots_are = subst (AreReduced c.args.depth m.segments) (sym slots) c.in_ok-marks.ensures.slots;
+      numbers_are = set_numbered c.args.depth m.segments old.numbers.items old.structures.items news first (c.len-number.result - 1) within c.requires.made.numbers_are up
           (subst (λ ms. IsAt c.args.depth ms news (c.len-number.result - 1)) (sym c.requires.path) here);
       within = subst (All P) (sym c.in_ok-push.ensures.items)
           (all_push P old.structures.items c.in_ok-marks.marks c.requires.made.within

@@ -9,5 +9,5 @@ pub returns : goal.returns
 returns g c =
     let xs : List (HeldValue g.row.S.Denot) = c.args.self.now in
     let apart : IsApart xs = subst (λ (l : List (HeldValue g.row.S.Denot)). IsApart l) c.self.view_is c.self.invariant in
-    let same = c.new.ensures ∙ ap (λ (l : List (HeldValue g.row.S.Denot)). gaps_from c.args.part.start (spans_of l) c.args.part.end) (c.as_slice.ensures.value ∙ c.self.view_is) in
-    subst (λ (gs : List Span). AreGaps (spans_of xs) c.args.part gs) (sym same) (are_gaps xs c.args.part apart)
+    let same = c.new.ensures ∙ ap (λ (l : List (HeldValue g.row.S.Denot)). gaps_from c.args.span.start (spans_of l) c.args.span.end) (c.as_slice.ensures.value ∙ c.self.view_is) in
+    subst (λ (gs : List Span). AreGaps (spans_of xs) c.args.span gs) (sym same) (are_gaps xs c.args.span apart)

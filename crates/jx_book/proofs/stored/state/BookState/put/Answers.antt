@@ -6,5 +6,5 @@ use Rattle.jx_book.specs.Spans.{Overlap}
 use Rattle.jx_book.proofs.stored.state.BookState.put.Goals as goal
 
 pub returns-in-Overlapping : goal.returns-in-Overlapping
-returns-in-Overlapping g c = let place = c.span.ensures.span in let is = c.in-Overlapping.ensures in
-    (refl, subst (λ (p : Span). Any (λ (x : HeldValue g.row.S.Denot). Overlap x.span p) c.args.self.now.runs) place is, refl)
+returns-in-Overlapping g c = let span = c.span.ensures.span in let is = c.in-Overlapping.ensures in
+    (refl, subst (λ (p : Span). Any (λ (x : HeldValue g.row.S.Denot). Overlap x.span p) c.args.self.now.runs) span is, refl)

@@ -15,8 +15,8 @@ invariant_of-self g c =
     let s = c.self.inside in
     let items : c.insert.new.self.items ≡ insert s.runs.items c.args.at c.args.run = search rules in
     let free : IsFree s.runs.items c.args.run.span c.args.at = subst (λ (v : StateValue g.row.S.Denot). IsFree v.runs c.args.run.span c.args.at) (sym c.self.view_is) c.requires.free in
-    let len : run_len c.args.run ≡ c.span-place.result.end - c.span-place.result.start = ap (λ (p : Span). p.end - p.start) (sym c.span-place.ensures.span) in
-    let put : c.in-Some.put ≡ s.put + (c.span-place.result.end - c.span-place.result.start) = search rules in
+    let len : run_len c.args.run ≡ c.span-span.result.end - c.span-span.result.start = ap (λ (p : Span). p.end - p.start) (sym c.span-span.ensures.span) in
+    let put : c.in-Some.put ≡ s.put + (c.span-span.result.end - c.span-span.result.start) = search rules in
     record {
       runs = rw items (inserted s.runs.items c.args.at c.args.run i.runs c.requires.filled free);
       covered = omega (arith, i.covered, ap (sum_by run_len) items, sum_by-insert run_len s.runs.items c.args.at c.args.run, len, put);
@@ -28,8 +28,8 @@ returns-in-Ok g c =
     let xs = c.args.self.now.runs in
     let apart : IsApart xs = subst (λ (v : StateValue g.row.S.Denot). IsApart v.runs) c.self.view_is c.self.invariant.runs in
     let items : c.insert.new.self.items ≡ insert s.runs.items c.args.at c.args.run = search rules in
-    let sum : c.in-Some.put ≡ s.put + (c.span-place.result.end - c.span-place.result.start) = search rules in
-    let put : c.in-Some.put ≡ s.put + run_len c.args.run = sum ∙ ap (λ (p : Span). s.put + (p.end - p.start)) c.span-place.ensures.span in
+    let sum : c.in-Some.put ≡ s.put + (c.span-span.result.end - c.span-span.result.start) = search rules in
+    let put : c.in-Some.put ≡ s.put + run_len c.args.run = sum ∙ ap (λ (p : Span). s.put + (p.end - p.start)) c.span-span.ensures.span in
     let view = (λ i. state (items i) (put i) s.taken) ∙ ap (λ (v : StateValue g.row.S.Denot). state (insert v.runs c.args.at c.args.run) (v.put + run_len c.args.run) v.taken) c.self.view_is in
     let stores_it : Stores (spans_of xs) c.args.run.span (spans_of (insert xs c.args.at c.args.run)) = stores xs c.args.at c.args.run apart.filled c.requires.filled c.requires.free in
     record {

@@ -57,7 +57,7 @@ join-requires-2 c =
 -- the whole span was read
 whole : (c : After-heads-1)
     → IsBundleOf c.args.start (slice_range c.args.text.now c.args.start c.max-to.result) (replicate 32 true)
-    (record { heads = c.bundle-2.inside.heads; parts = c.bundle-2.inside.segments.items; live = c.bundle-2.inside.live })
+    (record { heads = c.bundle-2.inside.heads; segments = c.bundle-2.inside.segments.items; live = c.bundle-2.inside.live })
     × AreClosed 0 c.bundle-2.inside.heads c.bundle-2.inside.segments.items
 whole c =
     let v = c.loop-at.invariant in
@@ -69,8 +69,8 @@ whole c =
     let to = c.max-to.result in
     let late : (at ≤ to) × (to ≤ length xs) = (omega (arith, c.max-to.ensures), let r = c.requires in omega (arith, high, c.max-to.ensures, r.1, r.2)) in
     let o = c.in_ok-open.field-0 in
-    let b : Bundle = record { heads = c.bundle-2.inside.heads; parts = c.bundle-2.inside.segments.items; live = c.bundle-2.inside.live } in
-    subst (λ bytes. IsBundleOf start bytes (replicate 32 true) b × AreClosed 0 b.heads b.parts) (sym (slice-split xs start at to v.low late.0))
+    let b : Bundle = record { heads = c.bundle-2.inside.heads; segments = c.bundle-2.inside.segments.items; live = c.bundle-2.inside.live } in
+    subst (λ bytes. IsBundleOf start bytes (replicate 32 true) b × AreClosed 0 b.heads b.segments) (sym (slice-split xs start at to v.low late.0))
     (span-read start at (slice_range xs start at) (slice_range xs at to) (replicate 32 true) c.loop-at.bundle o c.in_ok-rest.rest b
     (slice-length xs start at v.low (omega (arith, high, fits))) v.reads v.stands
     (subst (λ (l : Bundle). IsBundleOf at [] l.live o) c.bundle.view_is (c.in_ok-open.ensures.reads at))

@@ -16,7 +16,7 @@ loop-first-preserved g c =
     let none = no_items at.here.now (omega (arith, c.in_default.ensures.cases)) in
     rw (c.kept_by-self-inside.ensures, c.next-self-inside.ensures)
     (record {
-      same = sym (g.met.T.Kept.behind_part c.walk.result.0.now (follow c.walk.result.1.now c.walk.result.0.now.next)) ∙ ap of (sym h.track) ∙ ap (λ xs. xs ++ of (follow at.rest.now at.next)) (sym none) ∙ v.same;
+      same = sym (g.met.T.Kept.behind_segment c.walk.result.0.now (follow c.walk.result.1.now c.walk.result.0.now.next)) ∙ ap of (sym h.track) ∙ ap (λ xs. xs ++ of (follow at.rest.now at.next)) (sym none) ∙ v.same;
       next = h.next;
       all = h.all;
     })

@@ -5,7 +5,7 @@ use Rattle.jx_lex.proofs.map.track_view.TrackView.exit.Given as goal
 -- what is left leads to the same exit
 abbrev pub invariant-loop-next : goal.invariant-loop-next
 invariant-loop-next l = record {
-  same : (follow l.rest l.next).exit ≡ (follow l.self.parts l.self.first).exit;
+  same : (follow l.rest l.next).exit ≡ (follow l.self.segments l.self.first).exit;
   next : IsIn (length l.rest) l.next;
   all : AreIn l.rest;
 }

@@ -1,7 +1,0 @@
-use Rattle.std.proofs.Common.{ap, ◌∙◌}
-use Rattle.jx_c.specs.Reader.{state_in}
-use Rattle.jx_c.proofs.Reading.{state_in-place}
-use Rattle.jx_c.proofs.states.place_of.Goals as goal
-
-pub returns : goal.returns
-returns c = ap state_in c.number.ensures.ordinal ∙ state_in-place c.args.state

@@ -1,9 +1,0 @@
-use Rattle.std.proofs.Common.{◌≤◌, ◌-◌, not, slice_index}
-use Rattle.std.specs.Slice.Scan.{HoldsNowhere}
-use Rattle.jx_lex.proofs.scanner.byte_sets.run_end_by_one.Given as goal
-
-abbrev pub invariant-loop-i : goal.invariant-loop-i
-invariant-loop-i g l = (l.from ≤ l.i) × (l.i ≤ l.to) × HoldsNowhere (λ k. not (g.R.Run.goes_on (slice_index l.text k))) l.from l.i
-
-abbrev pub decreases-loop-i : goal.decreases-loop-i
-decreases-loop-i g l = l.to - l.i

@@ -1,0 +1,16 @@
+use Rattle.std.proofs.Common.{◌≡◌, ◌≤◌, ◌<◌, ℕ, true, sym, ◌∙◌, arith}
+use Rattle.std.specs.Prelude.{◌&&◌, nat_le, nat_lt}
+use Rattle.std.proofs.lemmas.Bool.Decides.{nat_tests}
+use Rattle.jx_lex.proofs.Unescaped.{stretch_led}
+use Rattle.jx_lex.proofs.scanner.string_chars.characters_end.Goals as goal
+
+covered : (a b i to : ℕ) → (nat_le a i && nat_lt i b && nat_le b to) ≡ true → (a ≤ i) × (i < b)
+covered a b i to h = (grind (arith, nat_tests), grind (arith, nat_tests))
+
+pub returns-then-is_lead-clause-led : goal.returns-then-is_lead-clause-led
+returns-then-is_lead-clause-led c =
+    let xs = c.args.text.now in
+    let a = c.at-ahead.result in
+    let sound = c.at-ahead.ensures.sound in
+    let within = covered a.from a.to c.args.from c.args.to (sym c.covers.ensures ∙ c.if-covers.true) in
+    stretch_led xs a.from a.to c.args.from c.unescaped_end.result within.0 within.1 sound.within (sound.utf8 (omega (arith, within))) (c.is_lead.ensures c.if-is_lead.true) c.unescaped_end.ensures.first
