@@ -1,5 +1,5 @@
 -- Verdicts on the elements of an input are the answers on them less their indexes.
-use Rattle.std.proofs.Common.{◌≡◌, ℕ, ◌<◌, ◌≤◌, List, [], ◌∷◌, ◌++◌, length, take, drop, map, Option, None, Some, Bool, true, false, cond, refl, sym, ap, subst, ◌∙◌, arith}
+use Rattle.std.proofs.Common.{◌≡◌, ℕ, ◌<◌, ◌≤◌, List, [], ◌∷◌, ◌++◌, length, take, drop, map, Option, None, Some, true, false, refl, sym, ap, subst, ◌∙◌, arith}
 use Rattle.std.specs.Prelude.{All, slice_index_or}
 use Rattle.std.proofs.lemmas.List.{length-map}
 use Rattle.std.proofs.lemmas.List.Elements.{All-head, All-tail}
@@ -18,7 +18,7 @@ use Rattle.jx_run.specs.ElementVerdict.{IsVerdictOn, IsJudgedElement}
 use Rattle.jx_run.specs.Text.{IsDocument, IsText}
 use Rattle.jx_run.specs.Tree.{Tree}
 use Rattle.jx_run.specs.Unclosed.{IsAccepted}
-use Rattle.jx_run.specs.MarkAlone.{elements_by, is_mark_alone, part_of, without_mark}
+use Rattle.jx_run.specs.MarkAlone.{elements_by, is_mark_alone, part_of}
 use Rattle.jx_index.specs.Indexed.{IndexedValue}
 use Rattle.jx_index.specs.Repeats.{IsLeast, IsRepeat}
 use Rattle.jx_index.specs.Rows.{rows}

@@ -1,6 +1,6 @@
 -- The answers by settings: where a byte order mark is ignored, one may stand in front of a text, or alone before the first
 -- record separator of a sequence; where names have to be unique, what repeats one is refused.
-use Rattle.std.specs.Prelude.{◌≡◌, ◌==◌, ◌&&◌, ℕ, Bool, List, [], ◌∷◌, length, if◌then◌else◌}
+use Rattle.std.specs.Prelude.{◌≡◌, ℕ, List}
 use Rattle.std.specs.List.{AllZip}
 use Rattle.jx_run.specs.declared.element_verdict.JudgedElement.{JudgedElement}
 use Rattle.jx_run.specs.declared.settings.Settings.{Settings}

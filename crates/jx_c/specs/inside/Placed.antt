@@ -1,8 +1,7 @@
 -- Judged elements, with where they lie in the input.
 use Rattle.std.specs.Prelude.{◌≡◌, ℕ, ◌+◌, ◌≤◌, List, length, slice_range}
-use Rattle.jx_summary.specs.declared.span.Span.{Span}
 use Rattle.jx_run.specs.declared.element_verdict.JudgedElement.{JudgedElement}
-use Rattle.jx_run.specs.Elements.{Part, part}
+use Rattle.jx_run.specs.Elements.{Part}
 use Rattle.jx_run.specs.ElementVerdict.{IsJudgedElement}
 
 -- an element's verdict whatever names its objects have, and that its bytes are those of the input at its place

@@ -1,4 +1,4 @@
-use Rattle.std.proofs.Common.{◌≡◌, ◌<◌, length, length-set, set, map, get_or, refl, sym, subst, ◌∙◌, ap, arith}
+use Rattle.std.proofs.Common.{◌≡◌, ◌<◌, length-set, set, map, get_or, refl, sym, subst, ◌∙◌, ap, arith}
 use Rattle.std.proofs.lemmas.List.{ext_get_or, get_or-map}
 use Rattle.jx_lex.specs.Follow.{head}
 use Rattle.jx_lex.specs.Ordinal.{ordinal, all_states}

@@ -1,4 +1,4 @@
-use Rattle.std.proofs.Common.{◌≡◌, ◌<◌, length, set, get_or, true, false, sym, subst, ap, ◌∙◌, arith, length-set}
+use Rattle.std.proofs.Common.{◌≡◌, length, set, get_or, true, false, sym, subst, ap, ◌∙◌, arith, length-set}
 use Rattle.std.proofs.lemmas.List.{get_or_default}
 use Rattle.jx_lex.specs.declared.map.link.Link.TheVariants.{Fault}
 use Rattle.jx_lex.specs.inside.Pruned.{IsReached}
