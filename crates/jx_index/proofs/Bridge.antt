@@ -36,10 +36,10 @@ row_there {tree = tree} {inner = inner} {t = t} w =
     ∙ slice_get_seam h.before (row_of inner t) h.behind
 
 pub kind_there : (inner : Tree) (t : Standing) → kind_in (Some (row_of inner t)) ≡ kind_of inner
-kind_there (node k place below) t = refl
+kind_there (node k span below) t = refl
 
 name_there : (inner : Tree) (t : Standing) → name_in (Some (row_of inner t)) ≡ t.name
-name_there (node k place below) t = refl
+name_there (node k span below) t = refl
 
 -- ---- children
 
@@ -88,7 +88,7 @@ of_object kind.False text token tree below m h e = tt
 of_object kind.Null text token tree below m h e = tt
 
 pub named_for : (inner : Tree) → Named inner → NamedFor (kind_of inner) (children_of inner)
-named_for (node k place below) h = h.0
+named_for (node k span below) h = h.0
 
 -- ---- one token, and then the others
 
@@ -151,7 +151,7 @@ at_ok P (Err fault) h c e = absurd (cc)
 
 row_fields : (table : List Row) (inner : Tree) (t : Standing) (name : Option Span) (number : ℕ) → slice_get table number ≡ Some (row_of inner t) → t.name ≡ name
     → HasRow table (record { name = name; tree = inner; number = number })
-row_fields table (node k place below) t name number e n = record { row = row_of (node k place below) t; is_row = e; kind = refl; span = refl; name = n }
+row_fields table (node k span below) t name number e n = record { row = row_of (node k span below) t; is_row = e; kind = refl; span = refl; name = n }
 
 pub led_row : (text : List ℕ) (tree : Tree) (tokens : List (List ℕ)) (c : Numbered) → led text tree tokens ≡ Ok c → HasRow (rows tree) c
 led_row text tree tokens c e =

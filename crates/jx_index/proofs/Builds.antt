@@ -27,7 +27,7 @@ use Rattle.jx_index.proofs.Tokens.{Delimited, at_end, at_close_array, at_close_o
 
 mutual
   pub size-length : (tree : Tree) (number : ℕ) (parent : Option ℕ) (place : ℕ) (name : Option Span) → length (rows_from tree number parent place name) ≡ size tree
-  size-length (node kind place children) number parent at name = ap suc (sizes-length children (suc number) number 0)
+  size-length (node kind s children) number parent at name = ap suc (sizes-length children (suc number) number 0)
 
   sizes-length : (children : Children) (number parent place : ℕ) → length (rows_below children number parent place) ≡ sizes children
   sizes-length no_children number parent place = refl
@@ -38,7 +38,7 @@ mutual
 
 mutual
   pub afters-length : (tree : Tree) (number : ℕ) → length (afters_from tree number) ≡ size tree
-  afters-length (node kind place children) number = ap suc (afters_below-length children (suc number))
+  afters-length (node kind s children) number = ap suc (afters_below-length children (suc number))
 
   pub afters_below-length : (children : Children) (number : ℕ) → length (afters_below children number) ≡ sizes children
   afters_below-length no_children number = refl

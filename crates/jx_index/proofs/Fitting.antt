@@ -40,8 +40,8 @@ added b row h =
     let e : suc (length b.rows) ≡ length (b.rows ++ (row ∷ [])) = omega (arith, length-append b.rows (row ∷ [])) in
     subst (λ n. AllWithin n (counted b.opened)) e (within_counted (length b.rows) b.opened h)
 
-leaf_fits : (k : Kind) (place : Span) (b : Building) → Fits b → Fits (add_leaf k place b)
-leaf_fits k place b h = added b (next_row k place b) h
+leaf_fits : (k : Kind) (s : Span) (b : Building) → Fits b → Fits (add_leaf k s b)
+leaf_fits k s b h = added b (next_row k s b) h
 
 begin_fits : (k : Kind) (is_object : Bool) (at : ℕ) (b : Building) → Fits b → Fits (begin_container k is_object at b)
 begin_fits k is_object at b h = (omega arith, added b (next_row k (span at (suc at)) b) h)
@@ -50,9 +50,9 @@ end_fits : (rows : List Row) (after : List ℕ) (opened : List Opened) (name : O
 end_fits rows after [] name end h = tt
 end_fits rows after (top ∷ outer) name end h = subst (λ n. AllWithin n outer) (sym (set_end-length rows top.row end)) h.1
 
-string_fits : (c : Bool) (place : Span) (b : Building) → Fits b → Fits (cond c (record b { name = Some place }) (add_leaf kind.String place b))
-string_fits true place b h = h
-string_fits false place b h = leaf_fits kind.String place b h
+string_fits : (c : Bool) (s : Span) (b : Building) → Fits b → Fits (cond c (record b { name = Some s }) (add_leaf kind.String s b))
+string_fits true s b h = h
+string_fits false s b h = leaf_fits kind.String s b h
 
 pub mark_fits : (k : MarkKind) (at end : ℕ) (b : Building) → Fits b → Fits (on_mark k at end b)
 mark_fits mark.OpenArray at end b h = begin_fits kind.Array false at b h

@@ -28,8 +28,8 @@ one_of_any one at low high bytes x y d e =
     let b = e.within in
     one at (max low high) bytes x y (record { reads = d.reads; within = omega (arith, a) }) (record { reads = e.reads; within = omega (arith, b) })
 
-module _ (text : List ℕ) (place : Span) (table : List Row) (after starts children : List ℕ) (x : IsIndexed text place table after starts children) where
-  pub tree_rows : (limit : ℕ) (tree : Tree) → IsText text place.start place.end limit tree → table ≡ rows tree
+module _ (text : List ℕ) (span : Span) (table : List Row) (after starts children : List ℕ) (x : IsIndexed text span table after starts children) where
+  pub tree_rows : (limit : ℕ) (tree : Tree) → IsText text span.start span.end limit tree → table ≡ rows tree
   tree_rows limit tree t = x.rows_are ∙ ap rows (x.one_tree limit tree t)
 
   pub has_root : 0 < length table
@@ -62,7 +62,7 @@ module _ (text : List ℕ) (place : Span) (table : List Row) (after starts child
   elements_are node h = (x.lists node (array_row table node h)).by_place h ∙ walk_is node
 
   -- the same where the value of an index is at hand, and its lists come from elsewhere
-  pub names_shown : (v : IndexedValue) → record { text = text; span = place; rows = table } ≡ v → (node : ℕ) → IsObjectAt v.rows node
+  pub names_shown : (v : IndexedValue) → record { text = text; span = span; rows = table } ≡ v → (node : ℕ) → IsObjectAt v.rows node
       → (s m names : List ℕ) → s ≡ starts → m ≡ children → names ≡ child_list s m node → IsInNameOrder v.text v.rows (child_numbers v.rows node) names
   names_shown v e node h s m names es em en =
       subst (IsInNameOrder v.text v.rows (child_numbers v.rows node))
@@ -70,7 +70,7 @@ module _ (text : List ℕ) (place : Span) (table : List Row) (after starts child
       (subst (λ (w : IndexedValue). IsInNameOrder w.text w.rows (child_numbers w.rows node) (child_list starts children node)) e
       (names_are node (subst (λ (w : IndexedValue). IsObjectAt w.rows node) (sym e) h)))
 
-  pub elements_shown : (v : IndexedValue) → record { text = text; span = place; rows = table } ≡ v → (node : ℕ) → IsArrayAt v.rows node
+  pub elements_shown : (v : IndexedValue) → record { text = text; span = span; rows = table } ≡ v → (node : ℕ) → IsArrayAt v.rows node
       → (s m elements : List ℕ) → s ≡ starts → m ≡ children → elements ≡ child_list s m node → elements ≡ child_numbers v.rows node
   elements_shown v e node h s m elements es em en =
       en

@@ -23,39 +23,39 @@ use Rattle.jx_index.proofs.Tokens.{TokensAreRead}
 use Rattle.jx_index.proofs.Within.{marks_within, slice_end}
 
 -- what is built of a run's marks and ends
-pub record RunNodes (run : TextRunValue) (place : Span) (marks : List Mark) (ends : List ℕ) (told : List Row) (after : List ℕ) : Type 0 where
-  pub place_is : place ≡ text_span run
+pub record RunNodes (run : TextRunValue) (span : Span) (marks : List Mark) (ends : List ℕ) (told : List Row) (after : List ℕ) : Type 0 where
+  pub span_is : span ≡ text_span run
   pub marks_are : marks ≡ (track run.map state.Gap).marks
   pub ends_are : ends ≡ (track run.map state.Gap).ends
-  pub rows_are : AllLow marks → told ≡ (built_of place.end marks ends).rows
-  pub after_are : AllLow marks → after ≡ (built_of place.end marks ends).after
+  pub rows_are : AllLow marks → told ≡ (built_of span.end marks ends).rows
+  pub after_are : AllLow marks → after ≡ (built_of span.end marks ends).after
 
-module _ (text : List ℕ) (place : Span) (ordered : place.start ≤ place.end) (within : place.end ≤ length text) where
-  all_low : length text < 2 ^ 64 → AllLow (lex state.Gap place.start (slice_range text place.start place.end)).marks
+module _ (text : List ℕ) (span : Span) (ordered : span.start ≤ span.end) (within : span.end ≤ length text) where
+  all_low : length text < 2 ^ 64 → AllLow (lex state.Gap span.start (slice_range text span.start span.end)).marks
   all_low fits =
-      let end = slice_end text place.start place.end ordered within in
-      marks_within state.Gap place.start (slice_range text place.start place.end) (2 ^ 64 - 1) (omega (arith, end))
+      let end = slice_end text span.start span.end ordered within in
+      marks_within state.Gap span.start (slice_range text span.start span.end) (2 ^ 64 - 1) (omega (arith, end))
 
-  is_built : TokensAreRead → (limit : ℕ) (tree : Tree) → IsText text place.start place.end limit tree
-      → IsBuilt tree (built_of place.end (lex state.Gap place.start (slice_range text place.start place.end)).marks (lex state.Gap place.start (slice_range text place.start place.end)).ends)
+  is_built : TokensAreRead → (limit : ℕ) (tree : Tree) → IsText text span.start span.end limit tree
+      → IsBuilt tree (built_of span.end (lex state.Gap span.start (slice_range text span.start span.end)).marks (lex state.Gap span.start (slice_range text span.start span.end)).ends)
   is_built law limit tree t =
-      let bytes = slice_range text place.start place.end in
-      subst (λ (n : ℕ). IsBuilt tree (built_of n (lex state.Gap place.start bytes).marks (lex state.Gap place.start bytes).ends)) (slice_end text place.start place.end ordered within)
-      (built_is law place.start limit bytes tree t)
+      let bytes = slice_range text span.start span.end in
+      subst (λ (n : ℕ). IsBuilt tree (built_of n (lex state.Gap span.start bytes).marks (lex state.Gap span.start bytes).ends)) (slice_end text span.start span.end ordered within)
+      (built_is law span.start limit bytes tree t)
 
   pub rows_told : TokensAreRead → (limit : ℕ) (tree : Tree) (told : List Row) → length text < 2 ^ 64
-      → (AllLow (lex state.Gap place.start (slice_range text place.start place.end)).marks
-      → told ≡ (built_of place.end (lex state.Gap place.start (slice_range text place.start place.end)).marks (lex state.Gap place.start (slice_range text place.start place.end)).ends).rows)
-      → IsText text place.start place.end limit tree → told ≡ rows tree
+      → (AllLow (lex state.Gap span.start (slice_range text span.start span.end)).marks
+      → told ≡ (built_of span.end (lex state.Gap span.start (slice_range text span.start span.end)).marks (lex state.Gap span.start (slice_range text span.start span.end)).ends).rows)
+      → IsText text span.start span.end limit tree → told ≡ rows tree
   rows_told law limit tree told fits h t = h (all_low fits) ∙ (is_built law limit tree t).rows_are
 
   pub nodes_told : TokensAreRead → (limit : ℕ) (v : Verdict) (told : List Row) (after : List ℕ) → length text < 2 ^ 64
-      → Judged place.start (slice_range text place.start place.end) limit v → v ≡ Accepted
-      → (AllLow (lex state.Gap place.start (slice_range text place.start place.end)).marks
-      → told ≡ (built_of place.end (lex state.Gap place.start (slice_range text place.start place.end)).marks (lex state.Gap place.start (slice_range text place.start place.end)).ends).rows)
-      → (AllLow (lex state.Gap place.start (slice_range text place.start place.end)).marks
-      → after ≡ (built_of place.end (lex state.Gap place.start (slice_range text place.start place.end)).marks (lex state.Gap place.start (slice_range text place.start place.end)).ends).after)
-      → HasNodes text place told after
+      → Judged span.start (slice_range text span.start span.end) limit v → v ≡ Accepted
+      → (AllLow (lex state.Gap span.start (slice_range text span.start span.end)).marks
+      → told ≡ (built_of span.end (lex state.Gap span.start (slice_range text span.start span.end)).marks (lex state.Gap span.start (slice_range text span.start span.end)).ends).rows)
+      → (AllLow (lex state.Gap span.start (slice_range text span.start span.end)).marks
+      → after ≡ (built_of span.end (lex state.Gap span.start (slice_range text span.start span.end)).marks (lex state.Gap span.start (slice_range text span.start span.end)).ends).after)
+      → HasNodes text span told after
   nodes_told law limit v told after fits judged e h k =
       let t = tree_of v judged e in
       record {
@@ -68,14 +68,14 @@ module _ (text : List ℕ) (place : Span) (ordered : place.start ≤ place.end) 
 
 module _ (text : List ℕ) (run : TextRunValue) (ordered : run.map.start ≤ run.map.end) (within : run.map.end ≤ length text) (fits : length text < 2 ^ 64)
     (of : IsTextRun (slice_range text run.map.start run.map.end) run) where
-  module _ (place : Span) (marks : List Mark) (ends : List ℕ) (told : List Row) (after : List ℕ) (nodes : RunNodes run place marks ends told after) where
+  module _ (span : Span) (marks : List Mark) (ends : List ℕ) (told : List Row) (after : List ℕ) (nodes : RunNodes run span marks ends told after) where
     same_track : track run.map state.Gap ≡ lex state.Gap run.map.start (slice_range text run.map.start run.map.end)
     same_track = of.tracks state.Gap
 
-    same_building : built_of place.end marks ends
+    same_building : built_of span.end marks ends
         ≡ built_of run.map.end (lex state.Gap run.map.start (slice_range text run.map.start run.map.end)).marks (lex state.Gap run.map.start (slice_range text run.map.start run.map.end)).ends
     same_building =
-        ap (λ (s : Span). built_of s.end marks ends) nodes.place_is
+        ap (λ (s : Span). built_of s.end marks ends) nodes.span_is
         ∙ ap (λ (x : List Mark). built_of run.map.end x ends) nodes.marks_are
         ∙ ap (λ (x : List ℕ). built_of run.map.end (track run.map state.Gap).marks x) nodes.ends_are
         ∙ ap (λ (t : Track). built_of run.map.end t.marks t.ends) same_track
@@ -87,9 +87,9 @@ module _ (text : List ℕ) (run : TextRunValue) (ordered : run.map.start ≤ run
     run_rows law limit tree t =
         rows_told text (text_span run) ordered within law limit tree told fits (λ low. nodes.rows_are (low_too low) ∙ ap (λ (b : Building). b.rows) same_building) t
 
-    pub run_nodes : TokensAreRead → Judged run.map.start (slice_range text run.map.start run.map.end) run.depth Accepted → HasNodes text place told after
+    pub run_nodes : TokensAreRead → Judged run.map.start (slice_range text run.map.start run.map.end) run.depth Accepted → HasNodes text span told after
     run_nodes law judged =
-        subst (λ (s : Span). HasNodes text s told after) (sym nodes.place_is)
+        subst (λ (s : Span). HasNodes text s told after) (sym nodes.span_is)
         (nodes_told text (text_span run) ordered within law run.depth Accepted told after fits judged refl
         (λ low. nodes.rows_are (low_too low) ∙ ap (λ (b : Building). b.rows) same_building)
         (λ low. nodes.after_are (low_too low) ∙ ap (λ (b : Building). b.after) same_building))

@@ -22,8 +22,8 @@ mutual
   -- where the tree has a first number, a node inside it has a second one
   data At : Tree → ℕ → ℕ → Tree → Type 0 where
     here : {tree : Tree} {m : ℕ} → At tree m m tree
-    under : {kind : Kind} {place : Span} {children : Children} {m n : ℕ} {inner : Tree}
-        → AtBelow children (suc m) n inner → At (node kind place children) m n inner
+    under : {kind : Kind} {span : Span} {children : Children} {m n : ℕ} {inner : Tree}
+        → AtBelow children (suc m) n inner → At (node kind span children) m n inner
 
   data AtBelow : Children → ℕ → ℕ → Tree → Type 0 where
     in_first : {name : Option Span} {tree inner : Tree} {more : Children} {m n : ℕ} → At tree m n inner → AtBelow (child name tree more) m n inner
@@ -79,7 +79,7 @@ apart_in n m s (inr h) = inr (omega arith)
 mutual
   pub none_from : (tree : Tree) (n m : ℕ) (parent : Option ℕ) (p : ℕ) (name : Option Span) → Apart n m (m + size tree) → is_parent n parent ≡ false
       → with_parent n m (rows_from tree m parent p name) ≡ []
-  none_from (node kind place children) n m parent p name a h =
+  none_from (node kind span children) n m parent p name a h =
       ap (λ c. cond c (m ∷ with_parent n (suc m) (rows_below children (suc m) m 0)) (with_parent n (suc m) (rows_below children (suc m) m 0))) h
       ∙ none_below children n (suc m) m 0 (apart_in n m (sizes children) a) (not_it n m (m + suc (sizes children)) a (omega arith))
 
@@ -91,7 +91,7 @@ mutual
       ∙ none_below more n (m + size tree) q (suc p) (apart_right n m (size tree) (sizes more) a) h
 
 one_from : (tree : Tree) (n m p : ℕ) (name : Option Span) → n < m → with_parent n m (rows_from tree m (Some n) p name) ≡ m ∷ []
-one_from (node kind place children) n m p name h =
+one_from (node kind span children) n m p name h =
     let e : (n == n) ≡ true = grind (arith, nat_tests) in
     ap (λ c. cond c (m ∷ with_parent n (suc m) (rows_below children (suc m) m 0)) (with_parent n (suc m) (rows_below children (suc m) m 0))) e
     ∙ ap (λ x. m ∷ x) (none_below children n (suc m) m 0 (inl (omega arith)) (grind (arith, nat_tests)))
@@ -104,7 +104,7 @@ all_below (child name tree more) n m p h =
     ∙ ap (λ x. m ∷ x) (all_below more n (m + size tree) (suc p) (omega arith))
 
 pub size-positive : (tree : Tree) → 1 ≤ size tree
-size-positive (node kind place _) = omega arith
+size-positive (node kind span _) = omega arith
 
 mutual
   at_bounds : {tree inner : Tree} {m n : ℕ} → At tree m n inner → (m ≤ n) × (n < m + size tree)
@@ -121,7 +121,7 @@ mutual
   children_at (here {tree = tree} {m = m}) parent p name h = root tree h
     where
       root : (tree : Tree) → is_parent m parent ≡ false → with_parent m m (rows_from tree m parent p name) ≡ numbers (children_of tree) (suc m)
-      root (node kind place children) h =
+      root (node kind span children) h =
           ap (λ c. cond c (m ∷ with_parent m (suc m) (rows_below children (suc m) m 0)) (with_parent m (suc m) (rows_below children (suc m) m 0))) h
           ∙ all_below children m (suc m) 0 (omega arith)
   children_at (under {children = children} {m = m} {n = n} w) parent p name h =

@@ -31,9 +31,9 @@ tree_of start limit bytes (a_text {tree = tree} document) = (tree, document)
 pub over_rest : (text : List ℕ) (start limit : ℕ) (index : IndexedValue) → Judged start (rest_from start text) limit Accepted → index.text ≡ text
     → index.span ≡ span start (length text) → ((d : ℕ) (tree : Tree) → IsText text start (length text) d tree → index.rows ≡ rows tree)
     → IsIndexFrom start text limit index
-over_rest text start limit index judged is_text is_place is_rows =
+over_rest text start limit index judged is_text is_span is_rows =
     let t = tree_of start limit (rest_from start text) judged in
-    record { text = is_text; span = is_place; tree = t.0; is_text = t.1; rows_are = is_rows limit t.0 t.1 }
+    record { text = is_text; span = is_span; tree = t.0; is_text = t.1; rows_are = is_rows limit t.0 t.1 }
 
 -- ---- what stands in front
 
@@ -108,7 +108,7 @@ index_behind settings text n index is h =
       rows_are = h.rows_are;
     }
 
--- what stands at the place of such an index is the text
+-- what stands at the span of such an index is the text
 pub text_behind : (settings : Settings) (text : List ℕ) (index : IndexedValue) (x : IsIndexBy settings text index) → IsText index.text index.span.start index.span.end settings.depth x.tree
 text_behind settings text index x =
     let d = x.is_text in

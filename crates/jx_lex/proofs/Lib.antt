@@ -17,7 +17,7 @@ pub mod Keeping
 pub mod Lanes
 pub mod LexJoin
 pub mod Literals
-pub mod Many
+pub mod SideBySide
 pub mod Meeting
 pub mod Passing
 pub mod Placing

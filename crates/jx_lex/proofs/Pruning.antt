@@ -15,7 +15,7 @@ use Rattle.jx_lex.specs.inside.Pruned.{IsReached, with_reached, emptied, pruned,
 use Rattle.jx_lex.proofs.Building.{AllLive-append, AllLive-more, LiveAt-more, live-new, ordinal-at}
 use Rattle.jx_lex.proofs.Joined.{track-joined}
 use Rattle.jx_lex.specs.TwoPieces.{joined, right_of}
-use Rattle.jx_lex.proofs.Many.{take-next}
+use Rattle.jx_lex.proofs.SideBySide.{take-next}
 
 -- ---- what is reached
 

@@ -1,7 +1,7 @@
 use Rattle.std.proofs.Common.{List, take, refl, subst, sym}
 use Rattle.jx_lex.specs.Follow.{SegmentValue}
 use Rattle.jx_lex.specs.inside.Passing.{KeptBy, AllKept}
-use Rattle.jx_lex.proofs.Many.{AllKept-more, take-next}
+use Rattle.jx_lex.proofs.SideBySide.{AllKept-more, take-next}
 use Rattle.jx_lex.proofs.map.side_by_side.all_keep_digits.Goals as goal
 
 pub loop-i-preserved : goal.loop-i-preserved

@@ -1,7 +1,7 @@
 use Rattle.std.proofs.Common.{◌∷◌, [], arith, ◌++◌, take, set, true, List, Bool, subst, sym, ap, ◌∙◌}
 use Rattle.std.proofs.lemmas.List.{take_all}
 use Rattle.jx_lex.specs.Follow.{SegmentValue}
-use Rattle.jx_lex.proofs.Many.{Apart, Apart-none, Apart-state, Apart-out, Apart-single, take-next}
+use Rattle.jx_lex.proofs.SideBySide.{Apart, Apart-none, Apart-state, Apart-out, Apart-single, take-next}
 use Rattle.jx_lex.proofs.map.side_by_side.are_many_apart.Goals as goal
 use Rattle.jx_lex.proofs.map.side_by_side.are_many_apart.Goals.{in-State+else-seen-number, in_default}
 

@@ -1,5 +1,5 @@
 use Rattle.std.proofs.Common.{◌≤◌, take}
-use Rattle.jx_lex.proofs.Many.{Apart}
+use Rattle.jx_lex.proofs.SideBySide.{Apart}
 use Rattle.jx_lex.proofs.map.side_by_side.are_many_apart.Given as goal
 
 -- the states of the first segments, each once

@@ -2,7 +2,7 @@ use Rattle.std.proofs.Common.{List, length, ap, sym, subst, ◌∙◌}
 use Rattle.std.specs.Prelude.{slice_range}
 use Rattle.jx_lex.specs.inside.Bundle.{Bundle, ReadsOn, StandIn}
 use Rattle.jx_lex.specs.Follow.{SegmentValue}
-use Rattle.jx_lex.proofs.Many.{written}
+use Rattle.jx_lex.proofs.SideBySide.{written}
 use Rattle.jx_lex.proofs.map.side_by_side.go_on.Goals as goal
 
 pub returns-clause-read : goal.returns-clause-read

@@ -2,7 +2,7 @@ use Rattle.std.proofs.Common.{◌∷◌, [], ◌++◌, take, set, true, List, Bo
 use Rattle.std.proofs.lemmas.List.{take_all}
 use Rattle.jx_lex.specs.Follow.{SegmentValue}
 use Rattle.jx_lex.specs.inside.Bundle.{StandIn}
-use Rattle.jx_lex.proofs.Many.{StandIn-none, StandIn-state, StandIn-out, take-next}
+use Rattle.jx_lex.proofs.SideBySide.{StandIn-none, StandIn-state, StandIn-out, take-next}
 use Rattle.jx_lex.proofs.map.side_by_side.live_of.Goals as goal
 use Rattle.jx_lex.proofs.map.side_by_side.live_of.Goals.{in-State, in_default}
 

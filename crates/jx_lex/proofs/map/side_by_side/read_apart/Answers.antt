@@ -1,5 +1,5 @@
 use Rattle.std.proofs.Common.{arith, refl}
-use Rattle.jx_lex.proofs.Many.{apart-step}
+use Rattle.jx_lex.proofs.SideBySide.{apart-step}
 use Rattle.jx_lex.proofs.ReadingOn.{reads-none}
 use Rattle.jx_lex.proofs.Slices.{slice-none}
 use Rattle.jx_lex.proofs.map.side_by_side.read_apart.Goals as goal

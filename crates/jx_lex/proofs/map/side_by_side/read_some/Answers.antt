@@ -3,7 +3,7 @@ use Rattle.std.specs.Prelude.{slice_range}
 use Rattle.jx_lex.specs.declared.map.link.Link.{Link}
 use Rattle.jx_lex.specs.inside.Bundle.{Bundle, IsBundleOf, Stands, joined_bundle}
 use Rattle.jx_lex.specs.Follow.{IsIn, head}
-use Rattle.jx_lex.proofs.Many.{some-read, Reads-open_on}
+use Rattle.jx_lex.proofs.SideBySide.{some-read, Reads-open_on}
 use Rattle.jx_lex.proofs.map.side_by_side.read_some.Goals as goal
 use Rattle.jx_lex.proofs.map.side_by_side.read_some.Goals.{In_ok-join}
 

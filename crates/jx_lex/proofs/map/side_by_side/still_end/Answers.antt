@@ -1,4 +1,4 @@
-use Rattle.jx_lex.proofs.Many.{AllKept-none}
+use Rattle.jx_lex.proofs.SideBySide.{AllKept-none}
 use Rattle.jx_lex.proofs.Slices.{slice-none}
 use Rattle.jx_lex.proofs.map.side_by_side.still_end.Goals as goal
 
