@@ -15,10 +15,11 @@ use Rattle.jx_run.specs.Tree.{Tree}
 use Rattle.jx_index.specs.Repeats.{IsLeast, IsRepeat}
 use Rattle.jx_index.specs.Rows.{rows}
 use Rattle.jx_index.specs.declared.row.Row.{Row}
+use Rattle.jx_index.specs.ByNames.{RefusesName, IsVerdictBy, a_text, repeated_name, no_text}
 use Rattle.jx_answer.specs.declared.element.Element.{Element}
 use Rattle.jx_answer.specs.declared.element.ElementAnswer.{ElementAnswer}
 use Rattle.jx_answer.specs.declared.element.ElementAnswer.TheVariants as element
-use Rattle.jx_answer.specs.ByNames.{RefusesName, RefusesNameIn, IsVerdictBy, a_text, repeated_name, no_text, unless_refused, IsByNames}
+use Rattle.jx_answer.specs.ByNames.{RefusesNameIn, unless_refused, IsByNames}
 use Rattle.jx_answer.specs.Sequence.{IsElement, IsElementAnswer}
 use Rattle.jx_answer.specs.Settled.{IsElementBy}
 

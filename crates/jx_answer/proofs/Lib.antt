@@ -1,5 +1,4 @@
 mod ByNames
-mod Fronts
 mod OneAnswer
 mod Ones
 mod Placed
@@ -8,5 +7,5 @@ mod Readable
 mod Roots
 mod Shown
 mod Unmarked
-mod Verdicts
+pub mod Verdicts
 mod Whole

@@ -13,10 +13,10 @@ use Rattle.jx_run.specs.Text.{Document, document}
 use Rattle.jx_run.specs.Tree.{Tree, node, span}
 use Rattle.jx_index.specs.Indexed.{IndexedValue}
 use Rattle.jx_index.specs.Rows.{rows}
-use Rattle.jx_answer.specs.declared.text_answer.TextAnswer.{TextAnswer}
-use Rattle.jx_answer.specs.declared.text_answer.TextAnswer.TheVariants as answer
-use Rattle.jx_answer.specs.ByNames.{IsVerdictBy}
-use Rattle.jx_answer.specs.Settled.{IsAnswerBy, IsIndexBy}
+use Rattle.jx_index.specs.declared.text_answer.TextAnswer.{TextAnswer}
+use Rattle.jx_index.specs.declared.text_answer.TextAnswer.TheVariants as answer
+use Rattle.jx_index.specs.ByNames.{IsVerdictBy}
+use Rattle.jx_index.specs.Settled.{IsAnswerBy, IsIndexBy}
 use Rattle.jx_answer.proofs.Ones.{not_both, same_index, same_refusal}
 
 -- ---- where the value of a text begins

@@ -8,6 +8,7 @@ use Rattle.jx_run.specs.declared.verdict.Refusal.{Refusal}
 use Rattle.jx_run.specs.declared.settings.Settings.{Settings}
 use Rattle.jx_run.specs.declared.element_verdict.JudgedElement.{JudgedElement}
 use Rattle.jx_run.specs.Elements.{Part, elements}
+use Rattle.jx_run.specs.ElementVerdict.{IsJudgedElement}
 use Rattle.jx_run.specs.Text.{IsDocument}
 use Rattle.jx_run.specs.Tree.{Tree}
 use Rattle.jx_run.specs.Verdict.{Judged}
@@ -16,15 +17,17 @@ use Rattle.jx_index.specs.Rows.{rows}
 use Rattle.jx_answer.specs.declared.element.Element.{Element}
 use Rattle.jx_answer.specs.declared.element.ElementAnswer.{ElementAnswer}
 use Rattle.jx_answer.specs.declared.element.ElementAnswer.TheVariants as element
-use Rattle.jx_answer.specs.declared.text_answer.TextAnswer.{TextAnswer}
-use Rattle.jx_answer.specs.declared.text_answer.TextAnswer.TheVariants as answer
+use Rattle.jx_index.specs.declared.text_answer.TextAnswer.{TextAnswer}
+use Rattle.jx_index.specs.declared.text_answer.TextAnswer.TheVariants as answer
+use Rattle.jx_index.specs.ByNames.{AreJudgedBy, IsJudgedBy}
 use Rattle.jx_run.specs.Unclosed.{EndsUnclosed, end_of}
 use Rattle.jx_run.specs.MarkAlone.{elements_by}
 use Rattle.jx_answer.specs.Answers.{IsAnswer}
 use Rattle.jx_answer.specs.ByNames.{IsByNames}
-use Rattle.jx_answer.specs.Sequence.{IsElementAnswer, IsElementIndex, IsElement, AreElements, AreJudged, judged}
-use Rattle.jx_answer.specs.Settled.{AreElementsBy, AreJudgedBy, IsElementBy, IsJudgedBy}
+use Rattle.jx_answer.specs.Sequence.{IsElementAnswer, IsElementIndex, IsElement, AreElements, judged}
+use Rattle.jx_answer.specs.Settled.{AreElementsBy, IsElementBy}
 use Rattle.jx_answer.proofs.ByNames.{one_by_names}
+use Rattle.jx_answer.proofs.Verdicts.{all_answered, answered, answered_by}
 
 pub same_index : (x y : IndexedValue) → x.text ≡ y.text → x.span ≡ y.span → x.rows ≡ y.rows → x ≡ y
 same_index x y e f g =
@@ -92,8 +95,11 @@ module _ (one_tree : (at limit : ℕ) (bytes : List ℕ) (x y : Tree) → IsDocu
     pub one_elements : (xs ys : List Element) → AreElements input limit xs → AreElements input limit ys → xs ≡ ys
     one_elements xs ys h k = zip_one (IsElement input limit) one_element (elements 0 input) xs ys h k
 
-    pub one_judged : (xs ys : List JudgedElement) → AreJudged input limit xs → AreJudged input limit ys → xs ≡ ys
-    one_judged xs ys h k = sym h.less ∙ ap (map judged) (one_elements h.answers k.answers h.are k.are) ∙ k.less
+    pub one_judged : (xs ys : List JudgedElement) → AllZip (IsJudgedElement limit) (elements 0 input) xs → AllZip (IsJudgedElement limit) (elements 0 input) ys → xs ≡ ys
+    one_judged xs ys h k =
+        let a = all_answered (IsJudgedElement limit) (IsElement input limit) (λ p j. answered input p limit j) (elements 0 input) xs h in
+        let b = all_answered (IsJudgedElement limit) (IsElement input limit) (λ p j. answered input p limit j) (elements 0 input) ys k in
+        sym a.2 ∙ ap (map judged) (one_elements a.0 b.0 a.1 b.1) ∙ b.2
 
   module _ (settings : Settings) (input : List ℕ) where
     one_element_by : (p : Part) (x y : Element) → IsElementBy settings input p x → IsElementBy settings input p y → x ≡ y
@@ -105,8 +111,8 @@ module _ (one_tree : (at limit : ℕ) (bytes : List ℕ) (x y : Tree) → IsDocu
     pub one_elements_by : (xs ys : List Element) → AreElementsBy settings input xs → AreElementsBy settings input ys → xs ≡ ys
     one_elements_by xs ys h k = zip_one (IsElementBy settings input) one_element_by (elements_by settings.mark input) xs ys h k
 
-    one_judged_by : (p : Part) (x y : JudgedElement) → IsJudgedBy settings input p x → IsJudgedBy settings input p y → x ≡ y
-    one_judged_by p x y h k = sym h.less ∙ ap judged (one_element_by p h.answer k.answer h.is k.is) ∙ k.less
-
     pub all_judged_by : (xs ys : List JudgedElement) → AreJudgedBy settings input xs → AreJudgedBy settings input ys → xs ≡ ys
-    all_judged_by xs ys h k = zip_one (IsJudgedBy settings input) one_judged_by (elements_by settings.mark input) xs ys h k
+    all_judged_by xs ys h k =
+        let a = all_answered (IsJudgedBy settings input) (IsElementBy settings input) (λ p j. answered_by input p settings j) (elements_by settings.mark input) xs h in
+        let b = all_answered (IsJudgedBy settings input) (IsElementBy settings input) (λ p j. answered_by input p settings j) (elements_by settings.mark input) ys k in
+        sym a.2 ∙ ap (map judged) (one_elements_by a.0 b.0 a.1 b.1) ∙ b.2

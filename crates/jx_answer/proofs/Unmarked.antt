@@ -14,12 +14,13 @@ use Rattle.jx_run.specs.Tree.{Tree, span}
 use Rattle.jx_run.specs.Verdict.{Judged}
 use Rattle.jx_run.specs.MarkAlone.{elements_by}
 use Rattle.jx_answer.specs.declared.element.Element.{Element}
-use Rattle.jx_answer.specs.declared.text_answer.TextAnswer.{TextAnswer}
-use Rattle.jx_answer.specs.declared.text_answer.TextAnswer.TheVariants as answer
+use Rattle.jx_index.specs.declared.text_answer.TextAnswer.{TextAnswer}
+use Rattle.jx_index.specs.declared.text_answer.TextAnswer.TheVariants as answer
+use Rattle.jx_index.specs.ByNames.{IsVerdictBy}
+use Rattle.jx_index.specs.Settled.{IsAnswerBy}
 use Rattle.jx_answer.specs.Answers.{IsAnswer}
-use Rattle.jx_answer.specs.ByNames.{IsVerdictBy}
 use Rattle.jx_answer.specs.Sequence.{AreElements, IsElement}
-use Rattle.jx_answer.specs.Settled.{AreElementsBy, IsAnswerBy, IsElementBy}
+use Rattle.jx_answer.specs.Settled.{AreElementsBy, IsElementBy}
 use Rattle.jx_answer.proofs.ByNames.{any_element, zip_more}
 
 module _ (texts : (settings : Settings) (at : ℕ) (bytes : List ℕ) (tree : Tree) → settings.mark ≡ on_mark.Refused → IsDocumentBy settings at bytes tree ↔ IsDocument at bytes settings.depth tree)

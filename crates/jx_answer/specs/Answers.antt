@@ -6,8 +6,8 @@ use Rattle.jx_run.specs.Text.{IsDocument}
 use Rattle.jx_run.specs.Verdict.{Judged}
 use Rattle.jx_index.specs.Indexed.{IndexedValue}
 use Rattle.jx_index.specs.Rows.{rows}
-use Rattle.jx_answer.specs.declared.text_answer.TextAnswer.{TextAnswer}
-use Rattle.jx_answer.specs.declared.text_answer.TextAnswer.TheVariants as answer
+use Rattle.jx_index.specs.declared.text_answer.TextAnswer.{TextAnswer}
+use Rattle.jx_index.specs.declared.text_answer.TextAnswer.TheVariants as answer
 
 -- the index is over the whole of these bytes, and its rows are those of their tree
 pub record IsIndexOf (bytes : List ℕ) (limit : ℕ) (index : IndexedValue) : Type 0 where

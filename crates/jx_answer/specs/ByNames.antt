@@ -2,7 +2,7 @@
 use Rattle.std.specs.Prelude.{◌≡◌, ℕ, Option, None, Some}
 use Rattle.jx_run.specs.declared.settings.NameRule.{NameRule}
 use Rattle.jx_run.specs.declared.verdict.Refusal.TheVariants.{RepeatedName}
-pub use Rattle.jx_index.specs.ByNames.{RefusesName, IsVerdictBy, a_text, repeated_name, no_text, judged_unless}
+use Rattle.jx_index.specs.ByNames.{RefusesName}
 use Rattle.jx_answer.specs.declared.element.ElementAnswer.{ElementAnswer}
 use Rattle.jx_answer.specs.declared.element.ElementAnswer.TheVariants as answer
 

@@ -1,5 +1,5 @@
 -- The answers on a JSON text sequence (RFC 7464, sections 2.1 and 2.4).
-use Rattle.std.specs.Prelude.{◌≡◌, ℕ, ◌<◌, List, map}
+use Rattle.std.specs.Prelude.{◌≡◌, ℕ, ◌<◌, List}
 use Rattle.std.specs.List.{AllZip}
 use Rattle.jx_run.specs.declared.verdict.Verdict.TheVariants.{Refused}
 use Rattle.jx_run.specs.Elements.{Part, part_span, elements}
@@ -48,12 +48,3 @@ without_index (answer.Accepted index) = verdict.Accepted
 
 abbrev pub judged : Element → JudgedElement
 judged e = record { span = e.span; verdict = without_index e.answer }
-
--- one for each of these parts of the input, in order: its answer less the index
-pub record AreJudgedAs (ps : List Part) (input : List ℕ) (limit : ℕ) (verdicts : List JudgedElement) : Type 0 where
-  pub answers : List Element
-  pub are : AllZip (IsElement input limit) ps answers
-  pub less : map judged answers ≡ verdicts
-
-abbrev pub AreJudged : List ℕ → ℕ → List JudgedElement → Type 0
-AreJudged input limit verdicts = AreJudgedAs (elements 0 input) input limit verdicts

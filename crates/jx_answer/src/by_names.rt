@@ -1,47 +1,21 @@
-// What a rule on the names of objects makes of what is otherwise accepted.
+// What a rule on the names of objects makes of elements that are otherwise accepted.
 ghost use Rattle.std.specs.Prelude.{◌≡◌, ℕ, List};
 ghost use Rattle.std.specs.List.{AllZip};
 ghost use Rattle.jx_run.specs.Elements.{Part};
 ghost use Rattle.jx_run.specs.declared.settings.Settings.{Settings};
-ghost use Rattle.jx_answer.specs.ByNames.{IsByNames, RefusesName, RefusesNameIn};
+ghost use Rattle.jx_answer.specs.ByNames.{IsByNames, RefusesNameIn};
 ghost use Rattle.jx_answer.specs.Sequence.{IsElement};
-ghost use Rattle.jx_answer.specs.Settled.{IsAnswerBy, IsElementBy, IsReadBy};
+ghost use Rattle.jx_answer.specs.Settled.{IsElementBy};
 
 use crate::element::{Element, ElementAnswer};
-use crate::text_answer::TextAnswer;
-use jx_index::{Indexed, names_are_refused_by_rows};
 use jx_run::{NameRule, Refusal};
-
-/// The start of the name for which the rule refuses a text, if it refuses one.
-fn refused_name(rule: NameRule, index: &Indexed<'_>) -> Option<usize>
-    ensures { RefusesName rule index.now.text index.now.rows result }
-{
-    match rule {
-        NameRule::Any => None,
-        NameRule::Unique => index.repeated(),
-    }
-}
-
-/// The answer on a text, from that whatever names its objects have.
-pub(crate) fn text_by_names<'a>(rule: NameRule, answer: TextAnswer<'a>) -> TextAnswer<'a>
-    ensures { (settings : Settings) (text : List ℕ) → settings.names ≡ rule → IsReadBy settings text answer.entry → IsAnswerBy settings text result }
-{
-    names_are_refused_by_rows();
-    match answer {
-        TextAnswer::Refused(refusal) => TextAnswer::Refused(refusal),
-        TextAnswer::Accepted(index) => match refused_name(rule, &index) {
-            None => TextAnswer::Accepted(index),
-            Some(at) => TextAnswer::Refused(Refusal::RepeatedName { at }),
-        },
-    }
-}
 
 /// The start of the name for which the rule refuses an element with this answer, if it refuses one.
 fn refused_name_in(rule: NameRule, answer: &ElementAnswer<'_>) -> Option<usize>
     ensures { RefusesNameIn rule answer.now result }
 {
     match answer {
-        ElementAnswer::Accepted(index) => refused_name(rule, index),
+        ElementAnswer::Accepted(index) => index.refused_name(rule),
         ElementAnswer::Refused(_) => None,
         ElementAnswer::MayBeCut => None,
         ElementAnswer::Unmarked => None,

@@ -9,7 +9,7 @@ use crate::lookups::Lookups;
 use jx_book::Gate;
 use jx_claim::Workers;
 use jx_index::{Indexed, Pointer};
-use std::alloc::{AllocError, Global};
+use std::alloc::Global;
 use std::thread::Threads;
 
 /// Answers pointers in their order, as `Indexed::find` does, by that many workers, who draw pieces of the list. It waits
@@ -26,8 +26,6 @@ pub fn find_all<'i, R: Threads + Sync, G: Gate + Sync>(
     ensures answers { IfOk result (λ answers. AllZip (IsAnswerTo index.now) pointers.now answers.items) }
 {
     let lookups = Lookups { index, pointers };
-    match lookups.answers(rt, alloc, workers, gate) {
-        Ok(answers) => Ok(answers),
-        Err(AllocError) => Err(Fault::Memory),
-    }
+    let answers = lookups.answers(rt, alloc, workers, gate)?;
+    Ok(answers)
 }

@@ -1,29 +1,18 @@
-ghost use Rattle.std.specs.Prelude.{◌≡◌, ◌≤◌, ◌↔◌, ℕ, IsTrue, length, IfOk};
-ghost use Rattle.jx_run.specs.declared.element_verdict.ElementVerdict.TheVariants.{Accepted};
-ghost use Rattle.jx_run.specs.declared.settings.NameRule.TheVariants.{Unique};
-ghost use Rattle.jx_run.specs.Elements.{Part};
-ghost use Rattle.jx_run.specs.Text.{IsText};
-ghost use Rattle.jx_run.specs.Tree.{Tree};
-ghost use Rattle.jx_run.specs.MarkAlone.{elements_by};
-ghost use Rattle.jx_index.specs.Repeats.{IsLeast, IsRepeat};
-ghost use Rattle.jx_index.specs.Rows.{rows};
-ghost use Rattle.jx_answer.specs.ByNames.{judged_unless};
-ghost use Rattle.jx_answer.specs.inside.Pushed.{IsJudgedIn};
-ghost use Rattle.jx_answer.specs.Sequence.{AreJudged, AreJudgedAs};
-ghost use Rattle.jx_answer.specs.Settled.{AreJudgedBy, IsJudgedBy};
+ghost use Rattle.std.specs.Prelude.{◌≡◌, ◌+◌, ◌<◌, ◌^◌, length, IfOk};
+ghost use Rattle.std.specs.List.{AllZip};
+ghost use Rattle.jx_run.specs.Elements.{elements as elements_of};
+ghost use Rattle.jx_run.specs.ElementVerdict.{IsJudgedElement};
+ghost use Rattle.jx_run.specs.SequenceRead.{StartsWithSeparator};
+ghost use Rattle.jx_index.specs.ByNames.{AreJudgedBy};
 
-use crate::batches::without_mark;
 use crate::fault::Fault;
 use crate::texts::read_text;
 use jx_book::Gate;
 use jx_claim::{Cutting, Workers};
-use jx_index::Indexed;
-use jx_lex::{Depth, Span};
-use jx_run::{
-    ElementVerdict, ElementsRun, FrontMark, JudgedElement, NameRule, NoPause, Refusal, Settings,
-    front,
-};
-use std::alloc::{AllocError, Global};
+use jx_index::judged_by_names;
+use jx_lex::Depth;
+use jx_run::{ElementsRun, FrontMark, JudgedElement, Settings, front, judged_by_mark};
+use std::alloc::Global;
 use std::sync::Wait;
 use std::thread::Threads;
 
@@ -40,13 +29,11 @@ pub fn judge_sequence<R: Threads + Wait + Sync, G: Gate + Sync>(
 ) -> Result<Vec<JudgedElement>, Fault>
     requires cutting { cutting.now.len ≡ length text.now }
     requires front { cutting.now.front ≡ 0 }
-    ensures elements { IfOk result (λ elements. AreJudged text.now depth elements.items) }
+    ensures elements { IfOk result (λ judged. AllZip (IsJudgedElement depth) (elements_of 0 text.now) judged.items) }
 {
     let run = read_text::<ElementsRun, R, G>(rt, alloc, text, cutting, workers, depth, gate)?;
-    match run.into_run().into_elements() {
-        Ok(elements) => Ok(elements),
-        Err(AllocError) => Err(Fault::Memory),
-    }
+    let judged = run.into_run().into_elements()?;
+    Ok(judged)
 }
 
 /// The same by settings: the answers that `index_sequence_with` gives, without the indexes. Where names have to be unique,
@@ -62,107 +49,35 @@ pub fn judge_sequence_with<R: Threads + Wait + Sync, G: Gate + Sync>(
 ) -> Result<Vec<JudgedElement>, Fault>
     requires cutting { cutting.now.len ≡ length text.now }
     requires front { cutting.now.front ≡ 0 }
-    ensures elements { IfOk result (λ elements. AreJudgedBy settings.now text.now elements.items) }
+    ensures elements { IfOk result (λ judged. AreJudgedBy settings.now text.now judged.items) }
 {
-    let elements = judge_by_mark(rt, alloc, text, cutting, workers, settings, gate)?;
-    match judged_by_names(alloc, text, settings, elements) {
-        Ok(elements) => Ok(elements),
-        Err(AllocError) => Err(Fault::Memory),
-    }
+    let all = judge_sequence(rt, alloc, text, cutting, workers, settings.depth, gate)?;
+    let elements = judged_by_mark(settings.mark, front(text, FrontMark::Ignored), all);
+    let judged = judged_by_names(alloc, text, settings, elements)?;
+    Ok(judged)
 }
 
-/// The same whatever names the objects have.
-fn judge_by_mark<R: Threads + Wait + Sync, G: Gate + Sync>(
+/// Judges the elements of a batch of a text sequence, which begins with a record separator and stands behind `before` bytes,
+/// by that many workers, who draw the pieces of the batch. The last element ends with the batch. Offsets are those in the
+/// whole sequence. It may wait for the workers. The gate is asked as by `judge_sequence`. Only want of memory is a fault.
+pub fn judge_batch<R: Threads + Wait + Sync, G: Gate + Sync>(
     rt: &R,
     alloc: Global,
-    text: &[u8],
+    batch: &[u8],
+    before: usize,
     cutting: &Cutting,
     workers: Workers,
-    settings: &Settings,
+    depth: Depth,
     gate: &G,
 ) -> Result<Vec<JudgedElement>, Fault>
-    requires cutting { cutting.now.len ≡ length text.now }
+    requires cutting { cutting.now.len ≡ length batch.now }
     requires front { cutting.now.front ≡ 0 }
-    ensures elements { IfOk result (λ elements. AreJudgedAs (elements_by settings.now.mark text.now) text.now settings.now.depth elements.items) }
+    requires starts { StartsWithSeparator batch.now }
+    requires fits { before + length batch.now < 2 ^ 64 }
+    // For every cutting, number of workers and gate, these are the verdicts on the elements of the batch.
+    ensures elements { IfOk result (λ judged. AllZip (IsJudgedElement depth) (elements_of before batch.now) judged.items) }
 {
-    let elements = judge_sequence(rt, alloc, text, cutting, workers, settings.depth, gate)?;
-    match settings.mark {
-        FrontMark::Refused => Ok(elements),
-        FrontMark::Ignored => Ok(without_mark(front(text, FrontMark::Ignored), elements)),
-    }
-}
-
-/// The verdicts on the elements of a text, from those whatever names their objects have.
-fn judged_by_names(
-    alloc: Global,
-    text: &[u8],
-    settings: &Settings,
-    mut elements: Vec<JudgedElement>,
-) -> Result<Vec<JudgedElement>, AllocError>
-    requires elements { AreJudgedAs (elements_by settings.now.mark text.now) text.now settings.now.depth elements.items }
-    ensures elements { IfOk result (λ elements. AreJudgedBy settings.now text.now elements.items) }
-{
-    for at in 0..elements.len() {
-        elements[at] = element_by_names(alloc, text, settings, elements[at])?;
-    }
-    Ok(elements)
-}
-
-/// Whether the rule can refuse a name in what has this verdict.
-fn may_be_refused(rule: NameRule, verdict: ElementVerdict) -> bool
-    ensures { IsTrue result ↔ (rule ≡ Unique) × (verdict ≡ Accepted) }
-{
-    matches!(
-        (rule, verdict),
-        (NameRule::Unique, ElementVerdict::Accepted)
-    )
-}
-
-/// The verdict on an element, from that whatever names its objects have. Only what is accepted is indexed.
-fn element_by_names(
-    alloc: Global,
-    text: &[u8],
-    settings: &Settings,
-    element: JudgedElement,
-) -> Result<JudgedElement, AllocError>
-    requires judged { (p : Part) × IsJudgedIn text.now settings.now.depth p element }
-    ensures by_names { IfOk result (λ after. (p : Part) → IsJudgedIn text.now settings.now.depth p element → IsJudgedBy settings.now text.now p after) }
-{
-    if !may_be_refused(settings.names, element.verdict) {
-        return Ok(element);
-    }
-    let name = repeated_name(alloc, text, element.span, settings.depth)?;
-    Ok(judged_unless(name, element))
-}
-
-/// The verdict, unless a name is refused.
-fn judged_unless(name: Option<usize>, element: JudgedElement) -> JudgedElement
-    ensures { result ≡ judged_unless name element }
-{
-    match name {
-        None => element,
-        Some(at) => JudgedElement {
-            span: element.span,
-            verdict: ElementVerdict::Refused(Refusal::RepeatedName { at }),
-        },
-    }
-}
-
-/// The start of the first name that an object repeats in the text at a span.
-fn repeated_name(
-    alloc: Global,
-    text: &[u8],
-    span: Span,
-    depth: Depth,
-) -> Result<Option<usize>, AllocError>
-    requires ordered { span.start ≤ span.end }
-    requires within { span.end ≤ length text.now }
-    requires is_text { (tree : Tree) × IsText text.now span.start span.end depth tree }
-    ensures least { IfOk result (λ name. (tree : Tree) → IsText text.now span.start span.end depth tree → IsLeast (IsRepeat text.now (rows tree)) name) }
-{
-    let read = Indexed::read(alloc, text, span, depth, &mut NoPause)?;
-    match read {
-        Ok(index) => Ok(index.repeated()),
-        Err(_) => unreachable!(),
-    }
+    let run = read_text::<ElementsRun, R, G>(rt, alloc, batch, cutting, workers, depth, gate)?;
+    let judged = run.into_run().into_elements_behind(before)?;
+    Ok(judged)
 }

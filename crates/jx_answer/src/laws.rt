@@ -1,17 +1,20 @@
-ghost use Rattle.std.specs.Prelude.{◌≡◌, ◌↔◌, ℕ, List};
+ghost use Rattle.std.specs.Prelude.{◌≡◌, ◌↔◌, ℕ, List, map};
+ghost use Rattle.std.specs.List.{AllZip};
 ghost use Rattle.jx_run.specs.declared.element_verdict.JudgedElement.{JudgedElement};
 ghost use Rattle.jx_run.specs.declared.settings.FrontMark.TheVariants.{Refused};
 ghost use Rattle.jx_run.specs.declared.settings.NameRule.TheVariants.{Any};
 ghost use Rattle.jx_run.specs.declared.settings.Settings.{Settings};
 ghost use Rattle.jx_run.specs.declared.verdict.Verdict.{Verdict};
-ghost use Rattle.jx_run.specs.Elements.{Part};
+ghost use Rattle.jx_run.specs.Elements.{Part, elements as elements_of};
+ghost use Rattle.jx_run.specs.ElementVerdict.{IsJudgedElement};
 ghost use Rattle.jx_run.specs.Settings.{JudgedBy};
 ghost use Rattle.jx_answer.specs.Answers.{IsAnswer};
-ghost use Rattle.jx_answer.specs.ByNames.{IsVerdictBy};
-ghost use Rattle.jx_answer.specs.Sequence.{AreElements, AreJudged, IsElement};
-ghost use Rattle.jx_answer.specs.Settled.{AreElementsBy, AreJudgedBy, IsAnswerBy, IsElementBy};
+ghost use Rattle.jx_answer.specs.Sequence.{AreElements, IsElement, judged};
+ghost use Rattle.jx_answer.specs.Settled.{AreElementsBy, IsElementBy};
 ghost use Rattle.jx_answer.specs.declared.element.Element.{Element};
-ghost use Rattle.jx_answer.specs.declared.text_answer.TextAnswer.{TextAnswer};
+ghost use Rattle.jx_index.specs.declared.text_answer.TextAnswer.{TextAnswer};
+ghost use Rattle.jx_index.specs.ByNames.{IsVerdictBy, AreJudgedBy};
+ghost use Rattle.jx_index.specs.Settled.{IsAnswerBy};
 
 use jx_index::names_are_refused_by_rows;
 use jx_run::{
@@ -47,12 +50,21 @@ pub fn elements_by_settings_are_one()
 
 /// An input has one list of verdicts on its elements, within a depth as by settings.
 pub fn verdicts_on_elements_are_one()
-    ensures within_a_depth { (input : List ℕ) (depth : ℕ) (xs ys : List JudgedElement) → AreJudged input depth xs → AreJudged input depth ys → xs ≡ ys }
+    ensures within_a_depth { (input : List ℕ) (depth : ℕ) (xs ys : List JudgedElement) → AllZip (IsJudgedElement depth) (elements_of 0 input) xs
+        → AllZip (IsJudgedElement depth) (elements_of 0 input) ys → xs ≡ ys }
     ensures by_settings { (settings : Settings) (input : List ℕ) (xs ys : List JudgedElement) → AreJudgedBy settings input xs → AreJudgedBy settings input ys → xs ≡ ys }
 {
     text_has_one_tree();
     verdict_is_one();
 }
+
+/// The verdicts on the elements of an input are the answers on them less their indexes, within a depth as by settings.
+pub fn verdicts_are_answers_without_indexes()
+    ensures within_a_depth { (input : List ℕ) (depth : ℕ) (verdicts : List JudgedElement) → AllZip (IsJudgedElement depth) (elements_of 0 input) verdicts
+        → (answers : List Element) × AreElements input depth answers × (map judged answers ≡ verdicts) }
+    ensures by_settings { (settings : Settings) (input : List ℕ) (verdicts : List JudgedElement) → AreJudgedBy settings input verdicts
+        → (answers : List Element) × AreElementsBy settings input answers × (map judged answers ≡ verdicts) }
+{}
 
 /// An input has one verdict by settings.
 pub fn verdicts_by_settings_are_one()

@@ -4,7 +4,6 @@
 
 mod answered;
 mod asking;
-mod batches;
 mod by_names;
 mod element;
 mod fault;
@@ -14,20 +13,19 @@ mod judging;
 mod laws;
 mod lookups;
 mod sequences;
-mod text_answer;
 mod texts;
 
-pub use batches::{judge_batch, judged_by_mark};
 pub use element::{Element, ElementAnswer};
 pub use fault::Fault;
 pub use find_answer::Answer;
 pub use found::find_all;
-pub use judging::{judge_sequence, judge_sequence_with};
+pub use judging::{judge_batch, judge_sequence, judge_sequence_with};
+pub use jx_index::TextAnswer;
 pub use laws::{
     answers_are_one, answers_by_settings_are_one, any_names_change_nothing,
     elements_by_settings_are_one, settings_that_are_off_change_no_answer,
-    verdicts_by_settings_are_one, verdicts_on_elements_are_one,
+    verdicts_are_answers_without_indexes, verdicts_by_settings_are_one,
+    verdicts_on_elements_are_one,
 };
 pub use sequences::{index_sequence, index_sequence_with};
-pub use text_answer::TextAnswer;
 pub use texts::{index_text, index_text_with, read_batch, verdict_of_text, verdict_of_text_with};

@@ -1,9 +1,7 @@
 ghost use Rattle.std.specs.Prelude.{◌≡◌, ◌<◌, ◌≤◌, ◌↔◌, ◌++◌, ℕ, List, IsTrue, All, length, slice_range, IfOk, OnOk};
 ghost use Rattle.std.specs.List.{AllZip};
-ghost use Rattle.jx_run.specs.Elements.{Part, filled};
 ghost use Rattle.jx_run.specs.Front.{front_of};
 ghost use Rattle.jx_run.specs.SeqRun.{IsSeqRun, sequence_span};
-ghost use Rattle.jx_run.specs.Started.{IsStarted};
 ghost use Rattle.jx_run.specs.Text.{IsText};
 ghost use Rattle.jx_run.specs.TextRun.{IsTextRun, text_span};
 ghost use Rattle.jx_run.specs.Tree.{Tree, span};
@@ -13,7 +11,6 @@ ghost use Rattle.jx_answer.specs.Sequence.{AreElements, IsElement, IsElementAnsw
 ghost use Rattle.jx_answer.specs.Settled.{AreElementsBy};
 ghost use Rattle.jx_answer.specs.inside.Pushed.{IsReadable, IsShown, PushesEach, PushesFilled, unmarked};
 
-use crate::batches::is_mark_there;
 use crate::by_names::elements_by_names;
 use crate::element::{Element, ElementAnswer};
 use crate::fault::Fault;
@@ -24,6 +21,7 @@ use jx_index::Indexed;
 use jx_lex::{Depth, Kind, Span};
 use jx_run::{
     Front, FrontMark, SeqRun, Settings, Shape, Started, Summary, TextRun, Verdict, front,
+    is_mark_alone,
 };
 use std::alloc::{AllocError, Global};
 use std::sync::Wait;
@@ -47,10 +45,8 @@ pub fn index_sequence<'a, R: Threads + Wait + Sync, G: Gate + Sync>(
     ensures elements { IfOk result (λ elements. AreElements text.entry.now depth elements.items) }
 {
     let run = read_text::<SeqRun, R, G>(rt, alloc, text, cutting, workers, depth, gate)?;
-    match elements_of(alloc, text, run.run()) {
-        Ok(elements) => Ok(elements),
-        Err(AllocError) => Err(Fault::Memory),
-    }
+    let elements = elements_of(alloc, text, run.run())?;
+    Ok(elements)
 }
 
 /// The same by settings. Where a byte order mark is ignored, one that stands alone before the first record separator is no
@@ -102,7 +98,7 @@ fn without_mark<'a>(seen: Front, mut elements: Vec<Element<'a>>) -> Vec<Element<
     if elements.is_empty() {
         return elements;
     }
-    if !is_mark_there(seen, elements[0].span) {
+    if !is_mark_alone(seen, elements[0].span) {
         return elements;
     }
     elements.remove(0);

@@ -1,6 +1,5 @@
 ghost use Rattle.std.specs.Prelude.{◌≡◌, ◌+◌, ◌<◌, ◌≤◌, ◌^◌, ◌++◌, ℕ, List, length, IfOk, OnOk};
 ghost use Rattle.jx_run.specs.Reader.{HasRead};
-ghost use Rattle.jx_run.specs.TextRun.{IsTextRun};
 ghost use Rattle.jx_run.specs.Settings.{JudgedBy};
 ghost use Rattle.jx_run.specs.declared.settings.FrontMark.TheVariants.{Refused};
 ghost use Rattle.jx_run.specs.declared.settings.NameRule.TheVariants.{Any};
@@ -8,21 +7,19 @@ ghost use Rattle.jx_run.specs.declared.settings.Settings.{Settings};
 ghost use Rattle.jx_run.specs.Verdict.{Judged};
 ghost use Rattle.jx_book.specs.Gathered.{IsRest};
 ghost use Rattle.jx_answer.specs.Answers.{IsAnswer};
-ghost use Rattle.jx_answer.specs.ByNames.{IsVerdictBy};
-ghost use Rattle.jx_answer.specs.Settled.{IsAnswerBy, IsAnswerFrom, IsReadBy, rest_from};
+ghost use Rattle.jx_index.specs.ByNames.{IsVerdictBy};
+ghost use Rattle.jx_index.specs.Settled.{IsAnswerBy, IsAnswerFrom, IsReadBy, rest_from};
 
 use crate::asking::Asking;
-use crate::by_names::text_by_names;
 use crate::fault::Fault;
 use crate::laws::{any_names_change_nothing, settings_that_are_off_change_no_answer};
-use crate::text_answer::TextAnswer;
 use jx_book::{Gate, Held, read_whole};
 use jx_claim::{Cutting, Workers};
-use jx_index::{Indexed, indexes_stand_behind_fronts};
-use jx_lex::{Depth, Span};
+use jx_index::{TextAnswer, indexes_stand_behind_fronts};
+use jx_lex::Depth;
 use jx_run::{
-    Front, FrontMark, NameRule, OutcomeRun, Pace, Reader, RunReader, Settings, Summary, TextRun,
-    Verdict, a_refused_mark_changes_nothing, front,
+    Front, FrontMark, NameRule, OutcomeRun, Reader, RunReader, Settings, Summary, TextRun, Verdict,
+    a_refused_mark_changes_nothing, front,
 };
 use std::alloc::{AllocError, Global};
 use std::sync::Wait;
@@ -69,7 +66,7 @@ pub fn index_text_with<'a, R: Threads + Wait + Sync, G: Gate + Sync>(
     ensures answer { IfOk result (λ answer. IsAnswerBy settings.now text.entry.now answer) }
 {
     let answer = index_behind_front(rt, alloc, text, cutting, workers, settings, gate)?;
-    Ok(text_by_names(settings.names, answer))
+    Ok(answer.by_names(settings.names))
 }
 
 /// The same whatever names the objects have.
@@ -81,7 +78,7 @@ fn index_behind_front<'a, R: Threads + Wait + Sync, G: Gate + Sync>(
     workers: Workers,
     settings: &Settings,
     gate: &G,
-) -> Result<TextAnswer<'a>, Fault>
+) -> Result<TextAnswer<'a>, AllocError>
     requires cutting { cutting.now.len ≡ length text.now }
     requires front { cutting.now.front ≡ 0 }
     ensures answer { IfOk result (λ answer. IsReadBy settings.now text.entry.now answer) }
@@ -132,10 +129,13 @@ pub fn verdict_of_text_with<R: Threads + Wait + Sync, G: Gate + Sync>(
 {
     any_names_change_nothing();
     match settings.names {
-        NameRule::Any => verdict_behind_front(rt, alloc, text, cutting, workers, settings, gate),
+        NameRule::Any => {
+            let verdict = verdict_behind_front(rt, alloc, text, cutting, workers, settings, gate)?;
+            Ok(verdict)
+        }
         NameRule::Unique => {
             let answer = index_text_with(rt, alloc, text, cutting, workers, settings, gate)?;
-            Ok(verdict_of(answer))
+            Ok(answer.into_verdict())
         }
     }
 }
@@ -153,16 +153,6 @@ fn plain(depth: Depth) -> Settings
     }
 }
 
-/// An answer less the index.
-fn verdict_of(answer: TextAnswer<'_>) -> Verdict
-    ensures { (settings : Settings) (text : List ℕ) → IsAnswerBy settings text answer.entry → IsVerdictBy settings text result }
-{
-    match answer {
-        TextAnswer::Accepted(_) => Verdict::Accepted,
-        TextAnswer::Refused(refusal) => Verdict::Refused(refusal),
-    }
-}
-
 /// The verdict on the text behind its front, whatever names the objects have.
 fn verdict_behind_front<R: Threads + Wait + Sync, G: Gate + Sync>(
     rt: &R,
@@ -172,7 +162,7 @@ fn verdict_behind_front<R: Threads + Wait + Sync, G: Gate + Sync>(
     workers: Workers,
     settings: &Settings,
     gate: &G,
-) -> Result<Verdict, Fault>
+) -> Result<Verdict, AllocError>
     requires cutting { cutting.now.len ≡ length text.now }
     requires front { cutting.now.front ≡ 0 }
     ensures verdict { IfOk result (λ verdict. JudgedBy settings.now 0 text.now verdict) }
@@ -187,16 +177,14 @@ fn verdict_behind_front<R: Threads + Wait + Sync, G: Gate + Sync>(
 }
 
 /// The cutting without its first bytes.
-fn behind(alloc: Global, cutting: &Cutting, front: usize) -> Result<Cutting, Fault>
+fn behind(alloc: Global, cutting: &Cutting, front: usize) -> Result<Cutting, AllocError>
     requires from { cutting.now.front ≡ 0 }
     requires within { front ≤ cutting.now.len }
     ensures len { IfOk result (λ c. c.len ≡ cutting.now.len) }
     ensures front { IfOk result (λ c. c.front ≡ front) }
 {
-    match cutting.copy(alloc) {
-        Ok(copy) => Ok(copy.without_front(front)),
-        Err(AllocError) => Err(Fault::Memory),
-    }
+    let copy = cutting.copy(alloc)?;
+    Ok(copy.without_front(front))
 }
 
 /// The answer on the text from the cutting's front on.
@@ -208,22 +196,17 @@ fn index_rest<'a, R: Threads + Wait + Sync, G: Gate + Sync>(
     workers: Workers,
     depth: Depth,
     gate: &G,
-) -> Result<TextAnswer<'a>, Fault>
+) -> Result<TextAnswer<'a>, AllocError>
     requires cutting { cutting.now.len ≡ length text.now }
     ensures answer { IfOk result (λ answer. IsAnswerFrom cutting.now.front text.entry.now depth answer) }
 {
     if cutting.count() <= 1 || workers.count() == 1 {
         let mut asking = Asking::new(cutting, gate);
-        return match answer_in_one_pass(alloc, text, cutting.front(), depth, &mut asking) {
-            Ok(answer) => Ok(answer),
-            Err(AllocError) => Err(Fault::Memory),
-        };
+        return TextAnswer::read_from(alloc, text, cutting.front(), depth, &mut asking);
     }
-    let run = read_text::<TextRun, R, G>(rt, alloc, text, cutting, workers, depth, gate)?;
-    match answer_from(alloc, text, run.run()) {
-        Ok(answer) => Ok(answer),
-        Err(AllocError) => Err(Fault::Memory),
-    }
+    let run = read_whole::<TextRun, R, G>(rt, alloc, text, cutting, workers, depth, gate)?;
+    let answer = TextAnswer::of_run(alloc, text, run.run())?;
+    Ok(answer)
 }
 
 /// The verdict on the text from the cutting's front on.
@@ -235,27 +218,30 @@ fn verdict_of_rest<R: Threads + Wait + Sync, G: Gate + Sync>(
     workers: Workers,
     depth: Depth,
     gate: &G,
-) -> Result<Verdict, Fault>
+) -> Result<Verdict, AllocError>
     requires cutting { cutting.now.len ≡ length text.now }
     ensures verdict { IfOk result (λ verdict. Judged cutting.now.front (rest_from cutting.now.front text.now) depth verdict) }
 {
     if cutting.count() <= 1 {
         return verdict_from(alloc, text, cutting.front(), depth);
     }
-    let run = read_text::<OutcomeRun, R, G>(rt, alloc, text, cutting, workers, depth, gate)?;
+    let run = read_whole::<OutcomeRun, R, G>(rt, alloc, text, cutting, workers, depth, gate)?;
     Ok(run.run().verdict())
 }
 
 /// The verdict on the text from an offset on, which is read on this thread. Up to 64 open containers take no memory.
-fn verdict_from(alloc: Global, text: &[u8], start: usize, depth: Depth) -> Result<Verdict, Fault>
+fn verdict_from(
+    alloc: Global,
+    text: &[u8],
+    start: usize,
+    depth: Depth,
+) -> Result<Verdict, AllocError>
     requires within { start ≤ length text.now }
     ensures verdict { IfOk result (λ verdict. Judged start (rest_from start text.now) depth verdict) }
 {
     let mut reader = Reader::new(alloc, depth, start);
-    match reader.feed(&text[start..text.len()]) {
-        Ok(()) => Ok(reader.verdict()),
-        Err(AllocError) => Err(Fault::Memory),
-    }
+    reader.feed(&text[start..text.len()])?;
+    Ok(reader.verdict())
 }
 
 /// Reads a batch of a text, which stands behind the bytes that the reader has read, by that many workers, who draw the
@@ -285,10 +271,8 @@ pub fn read_batch<R: Threads + Wait + Sync, G: Gate + Sync>(
     }
     let depth = reader.depth();
     let run = read_text::<OutcomeRun, R, G>(rt, alloc, batch, cutting, workers, depth, gate)?;
-    match reader.follow(run.run()) {
-        Ok(()) => Ok(()),
-        Err(AllocError) => Err(Fault::Memory),
-    }
+    reader.follow(run.run())?;
+    Ok(())
 }
 
 /// The run over a text from the cutting's front on. A text of one piece, or of none, is read on this thread.
@@ -300,58 +284,12 @@ pub(crate) fn read_text<'a, S: Summary + Send, R: Threads + Wait + Sync, G: Gate
     workers: Workers,
     depth: Depth,
     gate: &G,
-) -> Result<Held<'a, S>, Fault>
+) -> Result<Held<'a, S>, AllocError>
     requires cutting { cutting.now.len ≡ length text.now }
     ensures rest { IfOk result (λ h. IsRest text.entry.now depth cutting.now.front h) }
 {
-    let read = if cutting.count() <= 1 {
-        Held::read(alloc, text, cutting.front(), text.len(), depth)
-    } else {
-        read_whole(rt, alloc, text, cutting, workers, depth, gate)
-    };
-    match read {
-        Ok(run) => Ok(run),
-        Err(AllocError) => Err(Fault::Memory),
+    if cutting.count() <= 1 {
+        return Held::read(alloc, text, cutting.front(), text.len(), depth);
     }
-}
-
-/// The answer that one pass over the text from an offset on gives, which one thread makes sooner than a run.
-fn answer_in_one_pass<'a, P: Pace>(
-    alloc: Global,
-    text: &'a [u8],
-    start: usize,
-    depth: Depth,
-    pace: &mut P,
-) -> Result<TextAnswer<'a>, AllocError>
-    requires within { start ≤ length text.now }
-    ensures answer { IfOk result (λ answer. IsAnswerFrom start text.entry.now depth answer) }
-{
-    indexes_stand_behind_fronts();
-    let end = text.len();
-    let read = Indexed::read(alloc, text, Span { start, end }, depth, pace)?;
-    match read {
-        Ok(index) => Ok(TextAnswer::Accepted(index)),
-        Err(refusal) => Ok(TextAnswer::Refused(refusal)),
-    }
-}
-
-/// The answer that a run over the end of a text gives.
-fn answer_from<'a>(
-    alloc: Global,
-    text: &'a [u8],
-    run: &TextRun,
-) -> Result<TextAnswer<'a>, AllocError>
-    requires ordered { run.now.map.start ≤ length text.now }
-    requires end { run.now.map.end ≡ length text.now }
-    requires of { IsTextRun (rest_from run.now.map.start text.now) run.now }
-    ensures answer { IfOk result (λ answer. IsAnswerFrom run.now.map.start text.entry.now run.now.depth answer) }
-{
-    indexes_stand_behind_fronts();
-    match run.verdict() {
-        Verdict::Refused(refusal) => Ok(TextAnswer::Refused(refusal)),
-        Verdict::Accepted => {
-            let index = Indexed::of_run(alloc, text, run)?;
-            Ok(TextAnswer::Accepted(index))
-        }
-    }
+    read_whole(rt, alloc, text, cutting, workers, depth, gate)
 }

@@ -1,5 +1,5 @@
 -- The row that a look-up ends at shows the kind and span of the node that the tokens lead to.
-use Rattle.std.proofs.Common.{◌≡◌, ℕ, List, Some, None, Result, Ok, Err, refl, sym, ap, ◌∙◌}
+use Rattle.std.proofs.Common.{◌≡◌, ℕ, List, Some, None, Result, Ok, Err, refl, sym, ap, subst, ◌∙◌}
 use Rattle.std.specs.Prelude.{slice_get}
 use Rattle.jx_run.specs.Tree.{Tree}
 use Rattle.jx_index.specs.declared.find_fault.FindFault.{FindFault}
@@ -7,13 +7,20 @@ use Rattle.jx_index.specs.declared.row.Row.{Row}
 use Rattle.jx_index.specs.Leads.{Numbered, HasRow, led, leads, number_of}
 use Rattle.jx_index.specs.Pointers.{tokens}
 use Rattle.jx_index.specs.Rows.{rows}
+use Rattle.jx_index.specs.ByNames.{IsVerdictBy, RefusesName, a_text}
 use Rattle.jx_run.specs.declared.settings.Settings.{Settings}
+use Rattle.jx_run.specs.declared.verdict.Verdict.TheVariants.{Accepted}
 use Rattle.jx_run.specs.Settings.{IsDocumentBy}
-use Rattle.jx_c.specs.ByNames.{RefusesName}
 use Rattle.jx_c.specs.LookUps.{IsFoundIn, IsLed}
 use Rattle.jx_c.specs.Settled.{IsLookUpBy}
 use Rattle.jx_c.specs.declared.look_up.LookUp.{LookUp}
 use Rattle.jx_c.specs.declared.look_up.LookUp.TheVariants.{Found, Lost, BadPointer, NotUtf8, NoText}
+
+-- in the tree of a text that is accepted by settings no name is refused
+pub none_refused : ((settings : Settings) (at : ℕ) (bytes : List ℕ) (x y : Tree) → IsDocumentBy settings at bytes x → IsDocumentBy settings at bytes y → x ≡ y)
+    → (settings : Settings) (text : List ℕ) (tree : Tree) → IsDocumentBy settings 0 text tree → IsVerdictBy settings text Accepted → RefusesName settings.names text (rows tree) None
+none_refused one_tree settings text tree d (a_text {tree = other} e h) =
+    subst (λ (t : Tree). RefusesName settings.names text (rows t) None) (one_tree settings 0 text other tree e d) h
 
 module _ (text : List ℕ) (tree : Tree) (pointer : List ℕ) where
   found_by : (node : ℕ) (row : Row) (r : Result Numbered FindFault) → led text tree (tokens pointer) ≡ r → ((c : Numbered) → r ≡ Ok c → HasRow (rows tree) c)

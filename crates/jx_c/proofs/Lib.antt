@@ -4,9 +4,5 @@ pub mod Reading
 pub mod Feeds
 pub mod Filled
 pub mod Led
-pub mod Slices
-pub mod ByRules
 pub mod Deciding
-pub mod Fronts
-pub mod Verdicts
 pub mod Plain

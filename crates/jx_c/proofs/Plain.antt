@@ -20,7 +20,7 @@ use Rattle.jx_run.specs.Tree.{Tree}
 use Rattle.jx_run.specs.Verdict.{Judged}
 use Rattle.jx_run.specs.MarkAlone.{elements_by}
 use Rattle.jx_index.specs.Rows.{rows}
-use Rattle.jx_c.specs.ByNames.{IsJudgedBy, IsVerdictBy, RefusesName, RefusesNameIn, judged_unless}
+use Rattle.jx_index.specs.ByNames.{IsJudgedBy, IsRefusedName, IsVerdictBy, RefusesName, judged_unless}
 use Rattle.jx_c.specs.Elements.{AreElementsOf}
 use Rattle.jx_c.specs.LookUps.{IsLookUp}
 use Rattle.jx_c.specs.Rows.{AreRows, AreRowsOf}
@@ -57,8 +57,8 @@ module _ (texts : (settings : Settings) (at : ℕ) (bytes : List ℕ) (tree : Tr
 -- ---- a sequence
 
 module _ (settings : Settings) (is : settings.mark ≡ on_mark.Refused) (any : settings.names ≡ Any) (sequence : List ℕ) where
-  none_refused : (p : Part) (v : ElementVerdict) (name : Option ℕ) → RefusesNameIn settings sequence p v name → name ≡ None
-  none_refused p element.Accepted name h = subst (λ (rule : NameRule). RefusesName rule sequence (rows h.0) name) any h.2
+  none_refused : (p : Part) (v : ElementVerdict) (name : Option ℕ) → IsRefusedName settings sequence p v name → name ≡ None
+  none_refused p element.Accepted name h = subst (λ (rule : NameRule). RefusesName rule sequence (rows (h.0).tree) name) any h.1
   none_refused p (element.Refused refusal) name h = h
   none_refused p element.MayBeCut name h = h
   none_refused p element.Unmarked name h = h

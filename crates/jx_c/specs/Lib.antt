@@ -1,5 +1,4 @@
 pub mod Buffers
-pub mod ByNames
 pub mod Containers
 pub mod Elements
 pub mod Front
@@ -10,4 +9,3 @@ pub mod Settings
 pub mod Settled
 pub mod Stack
 pub mod Verdict
-pub mod inside

@@ -1,18 +1,15 @@
 -- What calls with settings tell.
 use Rattle.std.specs.Prelude.{◌≡◌, ℕ, List, length, None}
-use Rattle.std.specs.List.{AllZip}
 use Rattle.jx_run.specs.declared.element_verdict.JudgedElement.{JudgedElement}
 use Rattle.jx_run.specs.declared.settings.Settings.{Settings}
 use Rattle.jx_run.specs.declared.verdict.Verdict.{Verdict}
 use Rattle.jx_run.specs.declared.verdict.Verdict.TheVariants as verdict
 use Rattle.jx_run.specs.MarkAlone.{elements_by}
-use Rattle.jx_run.specs.Settings.{IsDocumentBy, JudgedBy}
+use Rattle.jx_run.specs.Settings.{IsDocumentBy}
 use Rattle.jx_run.specs.Tree.{Tree}
-use Rattle.jx_index.specs.Indexed.{IndexedValue}
+use Rattle.jx_index.specs.ByNames.{AreJudgedBy, IsVerdictBy, RefusesName}
 use Rattle.jx_index.specs.Rows.{rows}
-pub use Rattle.jx_index.specs.Settled.{IsIndexBy}
 use Rattle.jx_c.specs.Buffers.{IsFilled}
-use Rattle.jx_c.specs.ByNames.{IsJudgedBy, IsVerdictBy, RefusesName}
 use Rattle.jx_c.specs.Elements.{shown_element}
 use Rattle.jx_c.specs.LookUps.{IsLed, IsLookUp, shown_look_up}
 use Rattle.jx_c.specs.Rows.{shown_row}
@@ -22,8 +19,6 @@ use Rattle.jx_c.specs.declared.look_up.JxAnswer.{JxAnswer}
 use Rattle.jx_c.specs.declared.look_up.LookUp.{LookUp}
 use Rattle.jx_c.specs.declared.look_up.LookUp.TheVariants.{Found, Lost, BadPointer, NotUtf8, NoText}
 use Rattle.jx_c.specs.declared.places.JxRow.{JxRow}
-use Rattle.jx_c.specs.declared.texts.TextAnswer.{TextAnswer}
-use Rattle.jx_c.specs.declared.texts.TextAnswer.TheVariants.{Accepted, Refused}
 use Rattle.jx_c.specs.declared.verdict.JxVerdict.{JxVerdict}
 
 -- ---- a text
@@ -31,21 +26,6 @@ use Rattle.jx_c.specs.declared.verdict.JxVerdict.{JxVerdict}
 -- it shows the verdict by settings on these bytes
 abbrev pub IsVerdictWith : Settings → List ℕ → JxVerdict → Type 0
 IsVerdictWith settings bytes v = (verdict : Verdict) × (IsVerdictBy settings bytes verdict × (v ≡ shown verdict))
-
--- the index is over what stands behind the front, and no name is refused
-pub record IsIndexByNames (settings : Settings) (bytes : List ℕ) (index : IndexedValue) : Type 0 where
-  pub is_index : IsIndexBy settings bytes index
-  pub no_name : RefusesName settings.names bytes (rows is_index.tree) None
-
--- accepted with the rows of the tree, or refused, whatever names the objects have
-abbrev pub IsReadBy : Settings → List ℕ → TextAnswer → Type 0
-IsReadBy settings bytes (Accepted index) = IsIndexBy settings bytes index
-IsReadBy settings bytes (Refused refusal) = JudgedBy settings 0 bytes (verdict.Refused refusal)
-
--- the same where the names are looked at
-abbrev pub IsAnswerBy : Settings → List ℕ → TextAnswer → Type 0
-IsAnswerBy settings bytes (Accepted index) = IsIndexByNames settings bytes index
-IsAnswerBy settings bytes (Refused refusal) = IsVerdictBy settings bytes (verdict.Refused refusal)
 
 -- by the verdict: the rows of the text's tree and how many they are, or none
 abbrev pub AreRowsBy : Settings → List ℕ → List JxRow → List JxRow → ℕ → Verdict → Type 0
@@ -80,5 +60,5 @@ IsAnswerWith settings text pointer told_as = (look_up : LookUp) × (IsLookUpBy s
 pub record AreElementsWith (settings : Settings) (sequence : List ℕ) (old new : List JxElement) (count : ℕ) : Type 0 where
   pub count_is : count ≡ length (elements_by settings.mark sequence)
   pub judged : List JudgedElement
-  pub are : AllZip (IsJudgedBy settings sequence) (elements_by settings.mark sequence) judged
+  pub are : AreJudgedBy settings sequence judged
   pub filled : IsFilled shown_element old new judged

@@ -1,18 +1,16 @@
 // Checks of whole texts.
 ghost use Rattle.std.specs.Prelude.{◌≡◌, ◌<◌, ◌≤◌, IfOk};
 ghost use Rattle.jx_run.specs.Settings.{JudgedBy};
-ghost use Rattle.jx_c.specs.ByNames.{IsVerdictBy};
+ghost use Rattle.jx_index.specs.ByNames.{IsVerdictBy};
 ghost use Rattle.jx_c.specs.Settings.{settings_in};
 ghost use Rattle.jx_c.specs.Settled.{IsVerdictWith};
 ghost use Rattle.jx_c.specs.Verdict.{IsVerdictOn};
 
-use crate::by_names::verdict_of;
 use crate::reader::JxReader;
 use crate::settings::{JxSettings, settings_in};
 use crate::status::{DEPTH_TOO_GREAT, NO_MEMORY, OK, UNKNOWN_FLAG};
-use crate::texts::index_text;
 use crate::verdict::{JxVerdict, shown};
-use jx_index::names_are_refused_by_rows;
+use jx_index::{TextAnswer, names_are_refused_by_rows};
 use jx_run::{Front, NameRule, Settings, Verdict, front};
 use std::alloc::{AllocError, Global};
 
@@ -59,8 +57,8 @@ fn verdict_by(alloc: Global, text: &[u8], settings: &Settings) -> Result<Verdict
     match settings.names {
         NameRule::Any => verdict_behind_front(text, settings),
         NameRule::Unique => {
-            let answer = index_text(alloc, text, settings)?;
-            Ok(verdict_of(answer))
+            let answer = TextAnswer::read(alloc, text, settings)?;
+            Ok(answer.into_verdict())
         }
     }
 }

@@ -5,11 +5,11 @@ ghost use Rattle.jx_c.specs.Elements.{AreElementsOf, shown_element, shown_verdic
 ghost use Rattle.jx_c.specs.Settings.{settings_in};
 ghost use Rattle.jx_c.specs.Settled.{AreElementsWith};
 
-use crate::judging::judge_with;
 use crate::places::{JxSpan, shown_span};
 use crate::settings::{JxSettings, settings_in};
 use crate::status::{DEPTH_TOO_GREAT, NO_MEMORY, OK, UNKNOWN_FLAG};
 use crate::verdict::{JxVerdict, shown};
+use jx_index::judge_elements;
 use jx_run::{ElementVerdict, JudgedElement, Verdict};
 use std::alloc::{AllocError, Global};
 
@@ -106,7 +106,7 @@ pub extern "C" fn jx_elements_with(
         Ok(asked) => asked,
         Err(status) => return status,
     };
-    match judge_with(alloc, sequence, &asked) {
+    match judge_elements(alloc, sequence, &asked) {
         Ok(all) => {
             *count = all.len();
             fill(elements, &all);

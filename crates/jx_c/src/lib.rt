@@ -1,12 +1,10 @@
 //! What C calls: thin exports over the crates that check and index JSON texts.
 #![tactic(auto)]
 
-mod by_names;
 mod check;
 mod elements;
 mod feeding;
 mod front;
-mod judging;
 mod look_up;
 mod places;
 mod reader;
@@ -15,6 +13,5 @@ mod settings;
 mod stack;
 mod states;
 mod status;
-mod texts;
 mod verdict;
 mod version;

@@ -5,18 +5,18 @@ ghost use Rattle.jx_run.specs.Tree.{Tree};
 ghost use Rattle.jx_run.specs.declared.settings.Settings.{Settings};
 ghost use Rattle.jx_c.specs.LookUps.{IsAnswerOf, IsLed, shown_look_up};
 ghost use Rattle.jx_c.specs.Settings.{settings_in};
-ghost use Rattle.jx_c.specs.Settled.{IsAnswerBy, IsAnswerWith, IsLookUpBy};
+ghost use Rattle.jx_index.specs.Settled.{IsAnswerBy};
+ghost use Rattle.jx_c.specs.Settled.{IsAnswerWith, IsLookUpBy};
 
 use crate::places::{JxSpan, kind_in, shown_span};
 use crate::settings::{JxSettings, settings_in};
 use crate::status::{DEPTH_TOO_GREAT, NO_MEMORY, OK, UNKNOWN_FLAG};
-use crate::texts::{TextAnswer, index_text};
 use jx_index::{
-    FindFault, Indexed, Pointer, PointerFault, indexes_stand_behind_fronts, look_ups_end_at_rows,
-    names_are_refused_by_rows,
+    FindFault, Indexed, Pointer, PointerFault, TextAnswer, indexes_stand_behind_fronts,
+    look_ups_end_at_rows, names_are_refused_by_rows,
 };
 use jx_lex::{Kind, Span};
-use jx_run::{Refusal, Settings, a_refused_mark_changes_nothing};
+use jx_run::{Refusal, Settings, a_refused_mark_changes_nothing, text_by_settings_has_one_tree};
 use std::alloc::{AllocError, Global};
 use std::str;
 
@@ -138,6 +138,7 @@ fn led_in(answer: TextAnswer, pointer: &Pointer) -> LookUp
     ensures { (settings : Settings) (text : List ℕ) → IsAnswerBy settings text answer.entry → IsLookUpBy settings text pointer.now result }
 {
     indexes_stand_behind_fronts();
+    text_by_settings_has_one_tree();
     match answer {
         TextAnswer::Accepted(index) => led(&index, pointer),
         TextAnswer::Refused(refusal) => LookUp::NoText(refusal),
@@ -169,7 +170,7 @@ fn look_up(
 {
     match spelt(pointer) {
         Ok(read) => {
-            let answer = index_text(alloc, text, settings)?;
+            let answer = TextAnswer::read(alloc, text, settings)?;
             Ok(led_in(answer, &read))
         }
         Err(none) => Ok(none),

@@ -4,14 +4,14 @@ ghost use Rattle.jx_run.specs.declared.settings.Settings.{Settings};
 ghost use Rattle.jx_c.specs.Buffers.{IsFilled};
 ghost use Rattle.jx_c.specs.Rows.{AreRowsOf, shown_row};
 ghost use Rattle.jx_c.specs.Settings.{settings_in};
-ghost use Rattle.jx_c.specs.Settled.{AreRowsWith, IsAnswerBy};
+ghost use Rattle.jx_index.specs.Settled.{IsAnswerBy};
+ghost use Rattle.jx_c.specs.Settled.{AreRowsWith};
 
 use crate::places::{JxRow, shown_row};
 use crate::settings::{JxSettings, settings_in};
 use crate::status::{DEPTH_TOO_GREAT, NO_MEMORY, OK, UNKNOWN_FLAG};
-use crate::texts::{TextAnswer, index_text};
 use crate::verdict::{JxVerdict, shown};
-use jx_index::{Row, names_are_refused_by_rows};
+use jx_index::{Row, TextAnswer, names_are_refused_by_rows};
 use jx_run::{Verdict, a_refused_mark_changes_nothing};
 use std::alloc::{AllocError, Global};
 
@@ -88,7 +88,7 @@ pub extern "C" fn jx_rows_with(
         Ok(asked) => asked,
         Err(status) => return status,
     };
-    match index_text(alloc, text, &asked) {
+    match TextAnswer::read(alloc, text, &asked) {
         Ok(answer) => {
             tell(answer, rows, count, verdict);
             OK

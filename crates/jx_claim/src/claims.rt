@@ -1,5 +1,5 @@
 ghost use Rattle.std.specs.Prelude.{◌≡◌, ℕ, ◌+◌, ◌<◌, [], ◌∷◌, ◌++◌, true, false, IfOk, IfSome, MatchOption, length, vec_len, count_by};
-ghost use Rattle.jx_claim.specs.Claimed.{ClaimsValue, SeatValue, AreFresh, AllSeats, EachGotOnce};
+ghost use Rattle.jx_claim.specs.Claimed.{ClaimsValue, AreFresh, AllSeats, EachGotOnce};
 ghost use Rattle.jx_claim.specs.inside.Dealt.{IsDraw, view};
 ghost use Rattle.jx_claim.specs.Undrawn.{undrawn, Draws};
 

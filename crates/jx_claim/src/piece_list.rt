@@ -6,11 +6,12 @@ ghost use Rattle.jx_claim.specs.inside.Listed.{listed, between, IsRegular, AreEn
 use jx_summary::Span;
 use std::alloc::{AllocError, Global};
 
+/// The pieces of a cutting, in order.
 #[derive(Debug, Drop)]
 pub enum PieceList {
-    // `count` pieces of `size` bytes each, but the last may have fewer.
+    /// `count` pieces of `size` bytes each, but the last may have fewer.
     Every { size: usize, count: u32 },
-    // Where each piece ends: at the cuts, and the last one at the length.
+    /// Where each piece ends: at the cuts, and the last one at the length.
     At { ends: Vec<usize> },
 }
 

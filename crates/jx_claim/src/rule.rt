@@ -3,21 +3,22 @@ use atomic_table::{Join, Play, Split, TableRule};
 use std::collections::LinkedList;
 use std::marker::{Brand, PhantomData};
 
-// What claims are told when they are opened.
+/// What claims are told when they are opened.
 #[derive(Drop)]
 pub struct Terms {
     pub pieces: u32,
     pub workers: u8,
 }
 
-// What a seat knows: for how many seats it stands, the numbers that it got, and how often it got `None`. No value of
-// it is ever made: it stands in proofs alone.
+/// What a seat knows: for how many seats it stands, the numbers that it got, and how often it got `None`. No value of
+/// it is ever made: it stands in proofs alone.
 pub struct View {
     pub seats: u64,
     pub got: LinkedList<u64>,
     pub nones: u64,
 }
 
+/// The rule of the table that holds the claim word: of which views a seat may be, and the first one.
 pub struct ClaimRule;
 
 impl TableRule<(), View, Terms> for ClaimRule {
@@ -29,7 +30,7 @@ impl TableRule<(), View, Terms> for ClaimRule {
     ghost first = { λ k. view k.workers [] 0 };
 }
 
-// How many pieces there are, for a step, which cannot read the table's terms. A call picks it.
+/// How many pieces there are, for a step, which cannot read the table's terms. A call picks it.
 pub trait Count {
     ghost use Rattle.std.specs.Prelude.{ℕ};
 
@@ -42,7 +43,7 @@ impl Count for Brand {
     ghost pieces = { 0 };
 }
 
-// The step of a draw.
+/// The step of a draw.
 pub struct DrawStep<C> {
     of: PhantomData<C>,
 }
@@ -53,7 +54,7 @@ impl<C: Count> Play<(), View> for DrawStep<C> {
     ghost then = { DrawsFrom C.pieces };
 }
 
-// The step that cuts one seat off those for which a seat stands.
+/// The step that cuts one seat off those for which a seat stands.
 pub struct CutSeat;
 
 impl Split<View> for CutSeat {
@@ -65,7 +66,7 @@ impl Split<View> for CutSeat {
     ghost right = { λ v. view 1 [] 0 };
 }
 
-// The step that joins a seat to another; the one joined away stands for no seat and holds nothing.
+/// The step that joins a seat to another; the one joined away stands for no seat and holds nothing.
 pub struct JoinSeats;
 
 impl Join<View> for JoinSeats {

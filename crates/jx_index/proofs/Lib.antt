@@ -33,3 +33,5 @@ pub mod Leasts
 pub mod Uniques
 pub mod ByNames
 pub mod Settled
+pub mod Fronts
+pub mod RefusedNames

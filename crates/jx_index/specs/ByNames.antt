@@ -1,5 +1,7 @@
 -- What a rule on the names of objects makes of texts that are otherwise accepted.
 use Rattle.std.specs.Prelude.{◌≡◌, ℕ, List, Option, None, Some}
+use Rattle.std.specs.List.{AllZip}
+use Rattle.jx_run.specs.declared.element_verdict.ElementVerdict.{ElementVerdict}
 use Rattle.jx_run.specs.declared.element_verdict.ElementVerdict.TheVariants as verdict
 use Rattle.jx_run.specs.declared.element_verdict.JudgedElement.{JudgedElement}
 use Rattle.jx_run.specs.declared.settings.NameRule.{NameRule}
@@ -9,6 +11,9 @@ use Rattle.jx_run.specs.declared.verdict.Refusal.{Refusal}
 use Rattle.jx_run.specs.declared.verdict.Refusal.TheVariants.{RepeatedName}
 use Rattle.jx_run.specs.declared.verdict.Verdict.{Verdict}
 use Rattle.jx_run.specs.declared.verdict.Verdict.TheVariants.{Accepted, Refused}
+use Rattle.jx_run.specs.Elements.{Part}
+use Rattle.jx_run.specs.ElementVerdict.{IsClosedText, IsJudgedElement}
+use Rattle.jx_run.specs.MarkAlone.{elements_by}
 use Rattle.jx_run.specs.Settings.{IsDocumentBy, JudgedBy}
 use Rattle.jx_run.specs.Tree.{Tree}
 use Rattle.jx_index.specs.declared.row.Row.{Row}
@@ -21,6 +26,8 @@ abbrev pub RefusesName : NameRule → List ℕ → List Row → Option ℕ → T
 RefusesName Any text table name = name ≡ None
 RefusesName Unique text table name = IsLeast (IsRepeat text table) name
 
+-- ---- a text
+
 -- by cases, the verdict by settings on bytes that stand from 0 on
 pub data IsVerdictBy (settings : Settings) (bytes : List ℕ) : Verdict → Type 0 where
   -- a text in which no name is refused
@@ -31,7 +38,28 @@ pub data IsVerdictBy (settings : Settings) (bytes : List ℕ) : Verdict → Type
   -- no text, whatever names its objects have
   no_text : {refusal : Refusal} → JudgedBy settings 0 bytes (Refused refusal) → IsVerdictBy settings bytes (Refused refusal)
 
+-- ---- a sequence
+
+-- the start of the name for which the rule refuses an element with this verdict: only what is accepted can be refused for one
+abbrev pub IsRefusedName : Settings → List ℕ → Part → ElementVerdict → Option ℕ → Type 0
+IsRefusedName settings input p verdict.Accepted name = (text : IsClosedText p settings.depth) × RefusesName settings.names input (rows text.tree) name
+IsRefusedName settings input p (verdict.Refused refusal) name = name ≡ None
+IsRefusedName settings input p verdict.MayBeCut name = name ≡ None
+IsRefusedName settings input p verdict.Unmarked name = name ≡ None
+
 -- the verdict on an element, unless a name is refused
 abbrev pub judged_unless : Option ℕ → JudgedElement → JudgedElement
 judged_unless None e = e
 judged_unless (Some at) e = record e { verdict = verdict.Refused (RepeatedName at) }
+
+-- what an element of the input comes to by settings: the verdict on it within the depth, and what the rule makes of that
+pub record IsJudgedBy (settings : Settings) (input : List ℕ) (p : Part) (e : JudgedElement) : Type 0 where
+  pub told : JudgedElement
+  pub judged : IsJudgedElement settings.depth p told
+  pub name : Option ℕ
+  pub refused : IsRefusedName settings input p told.verdict name
+  pub by_names : e ≡ judged_unless name told
+
+-- one verdict for each element by settings, in order
+abbrev pub AreJudgedBy : Settings → List ℕ → List JudgedElement → Type 0
+AreJudgedBy settings input verdicts = AllZip (IsJudgedBy settings input) (elements_by settings.mark input) verdicts

@@ -2,6 +2,7 @@
 pub mod ArrayDigits
 pub mod Building
 pub mod Built
+pub mod JudgedIn
 pub mod LookUp
 pub mod Low
 pub mod RowKeeper

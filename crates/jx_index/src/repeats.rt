@@ -1,6 +1,7 @@
 // Names that an object repeats.
 ghost use Rattle.std.specs.Prelude.{◌≡◌, ◌<◌, length};
 ghost use Rattle.std.specs.List.Sorted.{IsSortedBy};
+ghost use Rattle.jx_index.specs.ByNames.{RefusesName};
 ghost use Rattle.jx_index.specs.Names.{is_below};
 ghost use Rattle.jx_index.specs.Nodes.{name_at};
 ghost use Rattle.jx_index.specs.Repeats.{earlier_of, start_in, tie_start, IsLeast, IsRepeat, IsRepeatIn, IsRepeatOf, IsTie};
@@ -9,6 +10,7 @@ use crate::comparing::{Comparing, Uncounted};
 use crate::indexed::Indexed;
 use crate::names::is_object;
 use crate::row::{NodeId, Row};
+use jx_run::NameRule;
 use std::cmp::Ordering;
 
 /// The lesser of two offsets, where there are any.
@@ -106,5 +108,15 @@ impl<'a> Indexed<'a> {
             first = earlier(first, self.repeated_in(node));
         }
         first
+    }
+
+    /// The start of the name for which a rule on names refuses the text; none where it refuses none. It takes no memory.
+    pub fn refused_name(&self, rule: NameRule) -> Option<usize>
+        ensures name { RefusesName rule self.now.text self.now.rows result }
+    {
+        match rule {
+            NameRule::Any => None,
+            NameRule::Unique => self.repeated(),
+        }
     }
 }

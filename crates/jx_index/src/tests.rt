@@ -2,10 +2,12 @@
 mod array_places;
 mod comparison_counts;
 mod fault_words;
+mod judged_elements;
 mod name_order;
 mod one_pass;
 mod pointer_forms;
 mod pointer_targets;
 mod repeated_names;
 mod row_building;
+mod text_answers;
 mod texts;

@@ -6,16 +6,16 @@ use Rattle.std.proofs.lemmas.List.{take_all, length-drop}
 use Rattle.jx_run.specs.declared.settings.Settings.{Settings}
 use Rattle.jx_run.specs.declared.verdict.Verdict.{Verdict}
 use Rattle.jx_run.specs.declared.verdict.Verdict.TheVariants.{Accepted, Refused}
-use Rattle.std.specs.List.{AllZip}
-use Rattle.jx_run.specs.Elements.{Part}
 use Rattle.jx_run.specs.Text.{IsDocument, IsText}
 use Rattle.jx_run.specs.Tree.{Tree}
 use Rattle.jx_index.specs.declared.row.Row.{Row}
 use Rattle.jx_index.specs.Indexed.{IndexedValue}
-use Rattle.jx_answer.specs.ByNames.{IsVerdictBy}
-use Rattle.jx_answer.specs.Settled.{AreJudgedBy, IsElementBy, IsIndexBy, IsJudgedBy}
+use Rattle.jx_index.specs.ByNames.{IsVerdictBy, AreJudgedBy, IsJudgedBy}
+use Rattle.jx_index.specs.Settled.{IsIndexBy}
+use Rattle.jx_answer.specs.Settled.{IsElementBy}
 use Rattle.jx_answer.specs.declared.element.Element.{Element}
 use Rattle.jx_answer.specs.Sequence.{judged}
+use Rattle.jx_answer.proofs.Verdicts.{all_answered, answered_by}
 use Rattle.jx_run.specs.declared.element_verdict.JudgedElement.{JudgedElement}
 use Rattle.jx_run.specs.MarkAlone.{elements_by}
 use Rattle.jx_task.specs.declared.task.Task.TheVariants.{Index, At, Seq}
@@ -77,30 +77,11 @@ unfolding exit_past_all exit_past_judged
 exits_same exit [] = refl
 exits_same exit (e ∷ es) = exits_same (exit_past exit e.answer) es
 
--- the answers that have these verdicts
-record Answered (settings : Settings) (text : List ℕ) (ps : List Part) (js : List JudgedElement) : Type 0 where
-  answers : List Element
-  are : AllZip (IsElementBy settings text) ps answers
-  less : map judged answers ≡ js
-
-answered : (settings : Settings) (text : List ℕ) (ps : List Part) (js : List JudgedElement) → AllZip (IsJudgedBy settings text) ps js → Answered settings text ps js
-answered settings text [] [] z = record { answers = []; are = tt; less = refl }
-answered settings text [] (j ∷ js) z = absurd z
-answered settings text (p ∷ ps) [] z = absurd z
-answered settings text (p ∷ ps) (j ∷ js) z =
-    let rest = answered settings text ps js z.1 in
-    let one = z.0 in
-    record {
-      answers = one.answer ∷ rest.answers;
-      are = (one.is, rest.are);
-      less = ap (λ x. x ∷ map judged rest.answers) one.less ∙ ap (λ xs. j ∷ xs) rest.less;
-    }
-
 pub judged_output : (text : List ℕ) (settings : Settings) (js : List JudgedElement) → AreJudgedBy settings text js
     → Output Seq settings text (judged_lines js) (exit_past_judged Good js)
 judged_output text settings js h =
-    let a = answered settings text (elements_by settings.mark text) js h in (
-      a.answers,
-      a.are,
-      (ap judged_lines (sym a.less) ∙ sym (lines_same a.answers), ap (exit_past_judged Good) (sym a.less) ∙ sym (exits_same Good a.answers)),
+    let a = all_answered (IsJudgedBy settings text) (IsElementBy settings text) (λ p j. answered_by text p settings j) (elements_by settings.mark text) js h in (
+      a.0,
+      a.1,
+      (ap judged_lines (sym a.2) ∙ sym (lines_same a.0), ap (exit_past_judged Good) (sym a.2) ∙ sym (exits_same Good a.0)),
     )

@@ -18,8 +18,8 @@ use Rattle.jx_index.specs.Leads.{leads}
 use Rattle.jx_index.specs.PointerFaults.{IsFaultOf}
 use Rattle.jx_index.specs.Pointers.{IsFirstBadEscape, IsPointer, tokens}
 use Rattle.jx_index.specs.Rows.{rows}
+use Rattle.jx_index.specs.ByNames.{IsVerdictBy}
 use Rattle.jx_answer.specs.declared.element.Element.{Element}
-use Rattle.jx_answer.specs.ByNames.{IsVerdictBy}
 use Rattle.jx_answer.specs.Settled.{AreElementsBy}
 use Rattle.jx_task.specs.declared.task.Task.{Task}
 use Rattle.jx_task.specs.declared.task.Task.TheVariants.{Check, Index, At, Seq}

@@ -8,8 +8,8 @@ use Rattle.jx_run.specs.Settings.{IsDocumentBy}
 use Rattle.jx_run.specs.Tree.{Tree}
 use Rattle.jx_index.specs.declared.row.Row.{Row}
 use Rattle.jx_index.specs.Rows.{rows}
+use Rattle.jx_index.specs.ByNames.{IsVerdictBy}
 use Rattle.jx_answer.specs.declared.element.Element.{Element}
-use Rattle.jx_answer.specs.ByNames.{IsVerdictBy}
 use Rattle.jx_answer.specs.Settled.{AreElementsBy}
 use Rattle.jx_task.specs.declared.task.Task.{Task}
 use Rattle.jx_task.specs.declared.task.Task.TheVariants.{Check, Index, At, Seq}

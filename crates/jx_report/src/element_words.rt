@@ -1,5 +1,5 @@
 // The lines that stand for the elements of a text sequence.
-ghost use Rattle.std.specs.Prelude.{◌≡◌, ◌<◌, ◌++◌, Some, codes, length, slice_get};
+ghost use Rattle.std.specs.Prelude.{◌≡◌, ◌<◌, ◌++◌, Some, length, slice_get};
 ghost use Rattle.jx_report.specs.Elements.{exit_past_judged, exit_past_verdict, judged_line, verdict_words};
 ghost use Rattle.jx_report.specs.inside.Room.{HasRoom, TakesRoom};
 ghost use Rattle.jx_report.specs.declared.exit.Exit.TheVariants.{Good};

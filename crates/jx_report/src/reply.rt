@@ -5,7 +5,7 @@ ghost use Rattle.jx_run.specs.Text.{IsText};
 ghost use Rattle.jx_run.specs.Tree.{Tree};
 ghost use Rattle.jx_report.specs.Output.{Output};
 ghost use Rattle.jx_report.specs.Pointers.{IsFoundFor, PointerLines};
-ghost use Rattle.jx_report.specs.inside.Replies.{exit_past_lines, pointer_lines, reply_exit, reply_output, verdict_exit};
+ghost use Rattle.jx_report.specs.inside.Replies.{reply_exit, reply_output, verdict_exit};
 ghost use Rattle.jx_report.specs.declared.exit.Exit.TheVariants.{Good};
 
 use crate::element_words::exit_of_elements;

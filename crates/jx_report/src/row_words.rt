@@ -1,5 +1,5 @@
 // The lines that stand for the rows of a text.
-ghost use Rattle.std.specs.Prelude.{◌≡◌, ◌++◌, codes, decimal, length};
+ghost use Rattle.std.specs.Prelude.{◌≡◌, ◌++◌};
 ghost use Rattle.jx_report.specs.inside.Room.{HasRoom, TakesRoom};
 ghost use Rattle.jx_report.specs.Words.{line};
 ghost use Rattle.jx_report.specs.RowWords.{node_words, parent_words, name_words, place_words, row_words};

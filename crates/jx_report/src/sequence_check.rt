@@ -1,6 +1,6 @@
 // An input of a text sequence that is read batch by batch.
 ghost use Rattle.std.specs.Prelude.{◌≡◌, ◌≢◌, ◌+◌, ◌<◌, ◌≤◌, ◌^◌, ◌++◌, ℕ, List, [], length, false, OnOk, IfOk, IfErr};
-ghost use Rattle.jx_answer.specs.Settled.{AreJudgedBy};
+ghost use Rattle.jx_index.specs.ByNames.{AreJudgedBy};
 ghost use Rattle.jx_run.specs.declared.settings.FrontMark.TheVariants.{Ignored};
 ghost use Rattle.jx_run.specs.declared.settings.NameRule.TheVariants.{Any};
 ghost use Rattle.jx_run.specs.declared.settings.Settings.{Settings};
@@ -10,9 +10,8 @@ ghost use Rattle.jx_report.specs.inside.Sequences.{AreReadBy, IsSequenceTaken};
 
 use crate::report_fault::ReportFault;
 use crate::sequence_reader::SequenceReader;
-use jx_answer::judged_by_mark;
 use jx_book::Gate;
-use jx_run::{Front, FrontMark, JudgedElement, Settings, front};
+use jx_run::{Front, FrontMark, JudgedElement, Settings, front, judged_by_mark};
 use jx_task::Command;
 use std::alloc::{AllocError, Global};
 use std::sync::Wait;
@@ -125,6 +124,6 @@ impl SequenceCheck {
             return Err(AllocError);
         }
         let elements = self.reader.into_elements()?;
-        Ok(judged_by_mark(settings, self.front, elements))
+        Ok(judged_by_mark(settings.mark, self.front, elements))
     }
 }

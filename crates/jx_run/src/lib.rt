@@ -6,6 +6,7 @@ mod element_verdict;
 mod elements_run;
 mod joins;
 mod laws;
+mod mark_alone;
 mod marked;
 mod marked_elements;
 mod one_pass;
@@ -37,6 +38,7 @@ pub use laws::{
     sequences_are_read_part_by_part, text_by_settings_has_one_tree, text_has_one_tree,
     values_fill_their_spans, verdict_by_settings_is_one, verdict_is_one,
 };
+pub use mark_alone::{is_mark_alone, judged_by_mark};
 pub use one_pass::{NoPause, Pace, Told, read_into};
 pub use open_end::ends_open_behind;
 pub use outcome_run::{OutcomeRun, verdict_from};

@@ -1,8 +1,7 @@
 -- What the steps of answering on a sequence do to the list of elements.
-use Rattle.std.specs.Prelude.{◌≡◌, ℕ, ◌+◌, ◌<◌, ◌≤◌, List, [], ◌∷◌, ◌++◌, length, nat_lt, if◌then◌else◌, slice_range, Some}
+use Rattle.std.specs.Prelude.{◌≡◌, ℕ, ◌<◌, ◌≤◌, List, [], ◌∷◌, ◌++◌, length, nat_lt, if◌then◌else◌, slice_range, Some}
 use Rattle.std.specs.List.{AllZip}
 use Rattle.jx_summary.specs.declared.span.Span.{Span}
-use Rattle.jx_run.specs.declared.element_verdict.JudgedElement.{JudgedElement}
 use Rattle.jx_run.specs.Elements.{Part, filled}
 use Rattle.jx_run.specs.MarkAlone.{part_of}
 use Rattle.jx_run.specs.SeqRun.{IsSummary}
@@ -10,7 +9,7 @@ use Rattle.jx_run.specs.Started.{StartedValue, IsStarted}
 use Rattle.jx_run.specs.TextRun.{TextRunValue}
 use Rattle.jx_answer.specs.declared.element.Element.{Element}
 use Rattle.jx_answer.specs.declared.element.ElementAnswer.TheVariants as answer
-use Rattle.jx_answer.specs.Sequence.{IsElement, judged}
+use Rattle.jx_answer.specs.Sequence.{IsElement}
 
 -- the reading of bytes of the input behind a record separator
 pub record IsReadable (input : List ℕ) (s : StartedValue) : Type 0 where
@@ -38,14 +37,6 @@ pub record PushesFilled (input : List ℕ) (limit : ℕ) (p : Part) (old new : L
   pub more : List Element
   pub new_is : new ≡ old ++ more
   pub each : AllZip (IsElement input limit) (filled (p ∷ [])) more
-
--- an element's verdict whatever names its objects have, with where the element lies in the input
-pub record IsJudgedIn (input : List ℕ) (limit : ℕ) (p : Part) (e : JudgedElement) : Type 0 where
-  pub answer : Element
-  pub is : IsElement input limit p answer
-  pub less : judged answer ≡ e
-  pub bytes : slice_range input p.at (p.at + length p.bytes) ≡ p.bytes
-  pub within : p.at + length p.bytes ≤ length input
 
 -- what a run over the whole input shows where that has record separators
 pub record IsShown (input : List ℕ) (before : TextRunValue) (done : List StartedValue) (after : TextRunValue) : Type 0 where

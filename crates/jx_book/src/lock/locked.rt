@@ -12,7 +12,7 @@ use std::alloc::Global;
 use std::sync::ledger;
 use std::sync::ledger::Ledger;
 
-// The runs, and the ledgers of what all shares put and took: their totals are those of the runs.
+/// The runs, and the ledgers of what all shares put and took: their totals are those of the runs.
 #[derive(Drop)]
 pub struct Locked<'a, S: Summary, P: Ledger, T: Ledger> {
     state: BookState<'a, S>,

@@ -78,7 +78,9 @@ fn read_with<
     )? {
         BookEnd::Gathered(run) => Ok(run),
         BookEnd::Stopped(closed) => assemble(alloc, closed, text, cutting.front(), depth),
-        BookEnd::Empty | BookEnd::Other => read_alone(alloc, text, cutting.front(), depth),
+        BookEnd::Empty | BookEnd::Other => {
+            Held::read(alloc, text, cutting.front(), text.len(), depth)
+        }
     }
 }
 
@@ -128,19 +130,6 @@ pub(crate) fn read_by_workers<
             Err(_) => Ok(BookEnd::Other),
         }
     }
-}
-
-/// Reads the text from an offset on, on this thread.
-fn read_alone<'a, S: Summary>(
-    alloc: Global,
-    text: &'a [u8],
-    front: usize,
-    depth: Depth,
-) -> Result<Held<'a, S>, AllocError>
-    requires { front ≤ length text.now }
-    ensures { IfOk result (λ h. IsRest text.entry.now depth front h) }
-{
-    Held::read(alloc, text, front, text.len(), depth)
 }
 
 /// A seat and a share for each worker.

@@ -21,7 +21,7 @@ use std::alloc::Global;
 use std::sync::Wait;
 use std::sync::ledger::Ledger;
 
-// A run that was not handed over.
+/// A run that was not handed over.
 #[derive(Drop)]
 struct Unfinished<'a, S: Summary> {
     hand: Hand<'a, S>,

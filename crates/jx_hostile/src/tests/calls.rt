@@ -10,7 +10,7 @@ use jx_answer::{
 use jx_book::{Gate, Held, read_whole};
 use jx_claim::{Cutting, Workers};
 use jx_index::Indexed;
-use jx_run::{Front, NameRule, Refusal, Settings, TextRun, Verdict, front};
+use jx_run::{Front, Settings, TextRun, Verdict, front};
 use std::alloc::{AllocError, Global};
 use std::sync::Wait;
 use std::thread::Threads;
@@ -44,25 +44,6 @@ pub fn answer_of<'a>(
     }
 }
 
-/// The start of the name for which the rule refuses a text, if it refuses one.
-fn refused_name(names: NameRule, index: &Indexed<'_>) -> Option<usize> {
-    match names {
-        NameRule::Any => None,
-        NameRule::Unique => index.repeated(),
-    }
-}
-
-/// The answer by a rule for names, from that whatever names the objects have.
-pub fn by_names<'a>(names: NameRule, answer: TextAnswer<'a>) -> TextAnswer<'a> {
-    match answer {
-        TextAnswer::Refused(refusal) => TextAnswer::Refused(refusal),
-        TextAnswer::Accepted(index) => match refused_name(names, &index) {
-            None => TextAnswer::Accepted(index),
-            Some(at) => TextAnswer::Refused(Refusal::RepeatedName { at }),
-        },
-    }
-}
-
 /// The answer on a text by its run, which workers make piece by piece and join in a book. So does one worker, on the calling
 /// thread, where the cutting has two pieces or more behind the mark.
 pub fn answer_by_run<'a, R: Threads + Wait + Sync, G: Gate + Sync>(
@@ -84,7 +65,7 @@ pub fn answer_by_run<'a, R: Threads + Wait + Sync, G: Gate + Sync>(
             let depth = settings.depth;
             let run = read_whole::<TextRun, R, G>(rt, alloc, text, &rest, workers, depth, gate)?;
             let answer = answer_of(alloc, &run)?;
-            Ok(by_names(settings.names, answer))
+            Ok(answer.by_names(settings.names))
         }
     }
 }

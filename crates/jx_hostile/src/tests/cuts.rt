@@ -1,7 +1,7 @@
 // Every single cut and every pair of cuts: the answer is that of one piece, with all its rows. One worker reads a text in one
 // pass over the pieces, and by runs of the pieces, which are joined in a book; a sequence it reads by such runs alone.
 use crate::tests::answers::{ToldElement, are_equal, verdict_in};
-use crate::tests::calls::{SEQUENCE_CALLS, answer_by_run, by_names, tells};
+use crate::tests::calls::{SEQUENCE_CALLS, answer_by_run, tells};
 use crate::tests::inputs::{
     FIVE_ROWS, MARKED_FIVE_ROWS, MARKED_SEQUENCES, MARKS, REPEATED_SEQUENCES, RULES, SEQUENCES,
     SHORT, WorkedSequence, settings,
@@ -322,7 +322,7 @@ fn other_cut<R: Threads + Wait + Sync>(
         let answer = answer_by_run(rt, alloc, text, cutting, workers, &any, &OpenGate)?;
         if !are_equal(&told, &want)
             || !are_equal(&answer, &want)
-            || !are_equal(&by_names(NameRule::Unique, answer), &want_unique)
+            || !are_equal(&answer.by_names(NameRule::Unique), &want_unique)
         {
             return Ok(Some(cut));
         }

@@ -1,6 +1,7 @@
 // The first name that an object repeats.
 use crate::tests::texts::index_of;
 use jx_lex::Depth;
+use jx_run::NameRule;
 use std::test::Fail;
 
 const REPEATED: [(&[u8], usize); 7] = [
@@ -18,6 +19,8 @@ fn the_first_repeat_is_told_by_where_it_stands(rt: HostRuntime) -> Result<(), Fa
     for (text, at) in REPEATED {
         let index = index_of(rt.alloc(), text, Depth::default())?;
         assert_eq!(rt; index.repeated(), Some(at), "at {text:?}");
+        assert_eq!(rt; index.refused_name(NameRule::Unique), Some(at));
+        assert!(rt; index.refused_name(NameRule::Any).is_none());
     }
     Ok(())
 }
@@ -35,6 +38,7 @@ fn no_repeat_is_told_where_each_object_has_unique_names(rt: HostRuntime) -> Resu
     for text in UNIQUE {
         let index = index_of(rt.alloc(), text, Depth::default())?;
         assert!(rt; index.repeated().is_none(), "at {text:?}");
+        assert!(rt; index.refused_name(NameRule::Unique).is_none());
     }
     Ok(())
 }

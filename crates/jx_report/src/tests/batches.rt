@@ -3,12 +3,11 @@ use crate::end::End;
 use crate::exit::Exit;
 use crate::report_fault::ReportFault;
 use crate::reporting::report_by;
-use crate::sink::Sink;
-use crate::source::Source;
-use crate::tests::commands::{check_report_by, check_within, command};
-use crate::tests::ends::{FailingReader, Zeros};
+use crate::tests::commands::{
+    check_read_fault, check_report_by, check_within, check_zeros, command,
+};
+use crate::tests::ends::FailingReader;
 use crate::tests::gates::Meeting;
-use jx_book::OpenGate;
 use jx_claim::Workers;
 use jx_run::FrontMark;
 use jx_task::Task;
@@ -134,26 +133,8 @@ fn a_reader_that_fails_in_any_batch_is_told(rt: HostRuntime) -> Result<(), Fail>
     for text in [b"[1,2,3]".as_slice(), b"x1,2,3]".as_slice()] {
         for fails_at in 1..=8u32 {
             let check = check_within(1);
-            let mut reader = End::new(FailingReader {
-                text,
-                call: 0,
-                fails_at,
-                kind: io::ErrorKind::Other,
-            });
-            let mut writer = End::new(Vec::new(rt.alloc()));
-            let answer = report_by(
-                &rt,
-                rt.alloc(),
-                &mut reader,
-                &mut writer,
-                &check,
-                &OpenGate,
-                2,
-            );
-            assert_eq!(rt; answer, Err(ReportFault::Read), "at call {fails_at}");
-            assert!(rt; reader.failed());
-            assert!(rt; writer.inner.is_empty());
-            assert!(rt; !writer.failed());
+            let reader = FailingReader::new(text, fails_at, io::ErrorKind::Other);
+            check_read_fault(&rt, rt.alloc(), &check, 2, reader);
         }
     }
     Ok(())
@@ -172,20 +153,7 @@ fn too_many_pieces_are_told_when_all_is_read(rt: HostRuntime) -> Result<(), Fail
     ];
     for (left, wanted, output) in lengths {
         let check = check_within(1);
-        let mut reader = End::new(Zeros { left });
-        let mut writer = End::new(Vec::new(rt.alloc()));
-        let answer = report_by(
-            &rt,
-            rt.alloc(),
-            &mut reader,
-            &mut writer,
-            &check,
-            &OpenGate,
-            4096,
-        );
-        assert_eq!(rt; answer, wanted);
-        assert_eq!(rt; writer.inner.as_slice(), output);
-        assert_eq!(rt; reader.inner.left, 0);
+        check_zeros(&rt, rt.alloc(), &check, left, wanted, output);
     }
     Ok(())
 }

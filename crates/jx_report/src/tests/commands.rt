@@ -5,6 +5,9 @@ use crate::end::End;
 use crate::exit::Exit;
 use crate::report_fault::ReportFault;
 use crate::reporting::{report, report_by};
+use crate::sink::Sink;
+use crate::source::Source;
+use crate::tests::ends::{FailingReader, Zeros};
 use jx_book::OpenGate;
 use jx_claim::Workers;
 use jx_lex::Depth;
@@ -15,6 +18,9 @@ use std::process::Abort;
 use std::sync::Wait;
 use std::test::Fail;
 use std::thread::Threads;
+
+/// An input, what is written for it and how the report ends.
+pub type Expected = (&'static [u8], &'static [u8], Exit);
 
 /// A command within a depth, for five workers who read a byte at a time.
 pub fn command(task: Task, containers: u32) -> Command
@@ -153,6 +159,63 @@ pub fn check_report_by<R: Abort + Threads + Wait + Sync>(
         output,
         "at {text:?} in batches of {batch}"
     );
+}
+
+/// Checks a report whose reader fails, and which reads so many bytes at a time: nothing is written.
+pub fn check_read_fault<R: Abort + Threads + Wait + Sync>(
+    rt: &R,
+    alloc: Global,
+    command: &Command,
+    batch: usize,
+    reader: FailingReader,
+)
+    requires piece { 1 ≤ command.now.piece }
+    requires some { 1 ≤ batch }
+    requires few { batch < 4294967296 }
+{
+    let call = reader.fails_at;
+    let mut reader = End::new(reader);
+    let mut writer = End::new(Vec::new(alloc));
+    let answer = report_by(
+        rt,
+        alloc,
+        &mut reader,
+        &mut writer,
+        command,
+        &OpenGate,
+        batch,
+    );
+    assert_eq!(rt; answer, Err(ReportFault::Read), "at call {call}");
+    assert!(rt; reader.failed());
+    assert!(rt; writer.inner.is_empty());
+    assert!(rt; !writer.failed());
+}
+
+/// Checks what a report on so many zeros answers, all of which it reads, and what it writes.
+pub fn check_zeros<R: Abort + Threads + Wait + Sync>(
+    rt: &R,
+    alloc: Global,
+    command: &Command,
+    left: usize,
+    wanted: Result<Exit, ReportFault>,
+    output: &[u8],
+)
+    requires { 1 ≤ command.now.piece }
+{
+    let mut reader = End::new(Zeros { left });
+    let mut writer = End::new(Vec::new(alloc));
+    let answer = report_by(
+        rt,
+        alloc,
+        &mut reader,
+        &mut writer,
+        command,
+        &OpenGate,
+        4096,
+    );
+    assert_eq!(rt; answer, wanted);
+    assert_eq!(rt; writer.inner.as_slice(), output);
+    assert_eq!(rt; reader.inner.left, 0);
 }
 
 /// A text of these bytes, each repeated so many times.

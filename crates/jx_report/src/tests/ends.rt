@@ -16,6 +16,17 @@ pub struct FailingReader<'a> {
     pub kind: io::ErrorKind,
 }
 
+impl<'a> FailingReader<'a> {
+    pub fn new(text: &'a [u8], fails_at: u32, kind: io::ErrorKind) -> FailingReader<'a> {
+        FailingReader {
+            text,
+            call: 0,
+            fails_at,
+            kind,
+        }
+    }
+}
+
 impl Read for FailingReader<'_> {
     fn read(&mut self, buf: &mut [u8]) -> io::Result<usize> {
         self.call = self.call.saturating_add(1);

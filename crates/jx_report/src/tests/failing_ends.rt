@@ -8,7 +8,7 @@ use crate::report_fault::ReportFault;
 use crate::reporting::report;
 use crate::sink::Sink;
 use crate::source::Source;
-use crate::tests::commands::{command, task_at};
+use crate::tests::commands::{Expected, check_read_fault, command, task_at};
 use crate::tests::ends::{FailingReader, FailingWriter, NO_CALL, Refusal};
 use jx_book::OpenGate;
 use jx_run::{FrontMark, NameRule};
@@ -27,13 +27,10 @@ const SETTINGS: [(FrontMark, NameRule); 4] = [
     (FrontMark::Ignored, NameRule::Unique),
 ];
 
-/// An input, what is written for it, and the exit.
-type Want = (&'static [u8], &'static [u8], Exit);
-
 #[test]
 fn the_ends_of_a_check_may_fail_at_any_call(rt: HostRuntime) -> Result<(), Fail> {
     for settings in SETTINGS {
-        let want: Want = (b"[1,}", b"stopped at 3\n", Exit::Bad);
+        let want: Expected = (b"[1,}", b"stopped at 3\n", Exit::Bad);
         check(&rt, rt.alloc(), Task::Check, settings, want)?;
     }
     Ok(())
@@ -42,7 +39,7 @@ fn the_ends_of_a_check_may_fail_at_any_call(rt: HostRuntime) -> Result<(), Fail>
 #[test]
 fn the_ends_of_an_index_may_fail_at_any_call(rt: HostRuntime) -> Result<(), Fail> {
     for settings in SETTINGS {
-        let want: Want = (
+        let want: Expected = (
             b"{\"a\":[1]}",
             b"accepted\n0 object 0..9 - 0 -\n1 array 5..8 0 0 1..4\n2 number 6..7 1 0 -\n",
             Exit::Good,
@@ -55,7 +52,7 @@ fn the_ends_of_an_index_may_fail_at_any_call(rt: HostRuntime) -> Result<(), Fail
 #[test]
 fn the_ends_of_a_look_up_may_fail_at_any_call(rt: HostRuntime) -> Result<(), Fail> {
     for settings in SETTINGS {
-        let want: Want = (
+        let want: Expected = (
             b"{\"a\":[1,{\"b\":2}]}",
             b"found number 13..14\npast end at token 1\n",
             Exit::Bad,
@@ -69,7 +66,7 @@ fn the_ends_of_a_look_up_may_fail_at_any_call(rt: HostRuntime) -> Result<(), Fai
 #[test]
 fn the_ends_of_a_sequence_may_fail_at_any_call(rt: HostRuntime) -> Result<(), Fail> {
     for settings in SETTINGS {
-        let want: Want = (
+        let want: Expected = (
             b"\x1Etrue\n\x1Etrue\x1E\x1E[1\n",
             b"1..6 accepted\n7..11 may be cut\n13..16 truncated\n",
             Exit::Bad,
@@ -79,33 +76,7 @@ fn the_ends_of_a_sequence_may_fail_at_any_call(rt: HostRuntime) -> Result<(), Fa
     Ok(())
 }
 
-/// Checks a report over a reader that gives a byte a call and fails at this one.
-fn check_reader<R: Abort + Threads + Wait + Sync>(
-    rt: &R,
-    alloc: Global,
-    command: &Command,
-    text: &[u8],
-    fails_at: u32,
-    kind: io::ErrorKind,
-) -> Result<(), Fail>
-    requires { 1 ≤ command.now.piece }
-{
-    let mut reader = End::new(FailingReader {
-        text,
-        call: 0,
-        fails_at,
-        kind,
-    });
-    let mut writer = End::new(Vec::new(alloc));
-    let answer = report(rt, alloc, &mut reader, &mut writer, command, &OpenGate);
-    assert_eq!(rt; answer, Err(ReportFault::Read), "at call {fails_at}");
-    assert!(rt; reader.failed());
-    assert!(rt; writer.inner.is_empty());
-    assert!(rt; !writer.failed());
-    Ok(())
-}
-
-/// Checks reports whose reader fails at each of its calls in turn, the last of which would meet the end.
+/// Checks reports whose reader, which gives a byte a call, fails at each of its calls in turn, the last of which would meet the end.
 fn check_readers<R: Abort + Threads + Wait + Sync>(
     rt: &R,
     alloc: Global,
@@ -118,7 +89,8 @@ fn check_readers<R: Abort + Threads + Wait + Sync>(
     for _ in 0..=text.len() {
         fails_at = fails_at.saturating_add(1);
         for kind in [io::ErrorKind::Other, io::ErrorKind::Interrupted] {
-            check_reader(rt, alloc, command, text, fails_at, kind)?;
+            let reader = FailingReader::new(text, fails_at, kind);
+            check_read_fault(rt, alloc, command, 4096, reader);
         }
     }
     Ok(())
@@ -129,7 +101,7 @@ fn check_writer<R: Abort + Threads + Wait + Sync>(
     rt: &R,
     alloc: Global,
     command: &Command,
-    want: Want,
+    want: Expected,
     writer: FailingWriter,
 ) -> Result<(), Fail>
     requires { 1 ≤ command.now.piece }
@@ -158,7 +130,7 @@ fn check_writers<R: Abort + Threads + Wait + Sync>(
     rt: &R,
     alloc: Global,
     command: &Command,
-    want: Want,
+    want: Expected,
     most: usize,
 ) -> Result<(), Fail>
     requires { 1 ≤ command.now.piece }
@@ -183,7 +155,7 @@ fn check<R: Abort + Threads + Wait + Sync>(
     alloc: Global,
     task: Task,
     settings: (FrontMark, NameRule),
-    want: Want,
+    want: Expected,
 ) -> Result<(), Fail> {
     let mut command = command(task, 512);
     (command.settings.mark, command.settings.names) = settings;

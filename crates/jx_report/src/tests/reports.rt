@@ -5,7 +5,7 @@ use crate::report_fault::ReportFault;
 use crate::reporting::report;
 use crate::sink::Sink;
 use crate::source::Source;
-use crate::tests::commands::{check_within, command, repeated, reported};
+use crate::tests::commands::{check_read_fault, check_within, command, repeated, reported};
 use crate::tests::ends::{FailingReader, FailingWriter, NO_CALL, Refusal};
 use crate::tests::gates::Meeting;
 use jx_book::OpenGate;
@@ -134,18 +134,8 @@ fn a_reader_that_fails_leaves_nothing_written(rt: HostRuntime) -> Result<(), Fai
     for kind in [io::ErrorKind::Other, io::ErrorKind::Interrupted] {
         for fails_at in 1..=5u32 {
             let check = check_within(0);
-            let mut reader = End::new(FailingReader {
-                text: b"nulx",
-                call: 0,
-                fails_at,
-                kind,
-            });
-            let mut writer = End::new(Vec::new(rt.alloc()));
-            let answer = report(&rt, rt.alloc(), &mut reader, &mut writer, &check, &OpenGate);
-            assert_eq!(rt; answer, Err(ReportFault::Read), "at call {fails_at}");
-            assert!(rt; reader.failed());
-            assert!(rt; writer.inner.is_empty());
-            assert!(rt; !writer.failed());
+            let reader = FailingReader::new(b"nulx", fails_at, kind);
+            check_read_fault(&rt, rt.alloc(), &check, 4096, reader);
         }
     }
     Ok(())
@@ -154,12 +144,7 @@ fn a_reader_that_fails_leaves_nothing_written(rt: HostRuntime) -> Result<(), Fai
 #[test]
 fn a_reader_may_give_one_byte_a_call(rt: HostRuntime) -> Result<(), Fail> {
     let check = check_within(0);
-    let mut reader = End::new(FailingReader {
-        text: b"nulx",
-        call: 0,
-        fails_at: 6,
-        kind: io::ErrorKind::Other,
-    });
+    let mut reader = End::new(FailingReader::new(b"nulx", 6, io::ErrorKind::Other));
     let mut writer = End::new(Vec::new(rt.alloc()));
     let answer = report(&rt, rt.alloc(), &mut reader, &mut writer, &check, &OpenGate);
     assert_eq!(rt; answer, Ok(Exit::Bad));

@@ -1,13 +1,10 @@
 // Text sequences that come in several batches.
-use crate::end::End;
 use crate::exit::Exit;
 use crate::report_fault::ReportFault;
-use crate::reporting::report_by;
-use crate::sink::Sink;
-use crate::source::Source;
-use crate::tests::commands::{check_report_by, command, repeated, sequence};
-use crate::tests::ends::{FailingReader, Zeros};
-use jx_book::OpenGate;
+use crate::tests::commands::{
+    Expected, check_read_fault, check_report_by, check_zeros, command, repeated, sequence,
+};
+use crate::tests::ends::FailingReader;
 use jx_lex::Depth;
 use jx_run::{ElementsRun, FrontMark, Summary};
 use jx_task::Task;
@@ -18,13 +15,10 @@ use std::sync::Wait;
 use std::test::Fail;
 use std::thread::Threads;
 
-/// An input, what is written for it and how the report ends.
-type Judged = (&'static [u8], &'static [u8], Exit);
-
 // Elements, strings, escapes and characters that go from one batch to the next.
 #[test]
 fn elements_go_on_from_one_batch_to_the_next(rt: HostRuntime) -> Result<(), Fail> {
-    let inputs: [Judged; 5] = [
+    let inputs: [Expected; 5] = [
         (
             b"\x1E{\"a\":[1,\"\\u0041\"]}\n\x1E\"\xF0\x9F\x98\x80\xE6\x97\xA5\"\x1E-12.5e+1\n",
             b"1..20 accepted\n21..30 accepted\n31..40 accepted\n",
@@ -59,7 +53,7 @@ fn elements_go_on_from_one_batch_to_the_next(rt: HostRuntime) -> Result<(), Fail
 
 #[test]
 fn verdicts_on_elements_are_the_same_in_batches(rt: HostRuntime) -> Result<(), Fail> {
-    let inputs: [Judged; 5] = [
+    let inputs: [Expected; 5] = [
         (
             b"\x1E[[1]]\x1E[[[1]]]\x1E[]]\x1E[1,\x1E]",
             b"1..6 accepted\n7..14 too deep at 9\n15..18 stopped at 17\n19..22 truncated\n23..24 stopped at 23\n",
@@ -87,7 +81,7 @@ fn verdicts_on_elements_are_the_same_in_batches(rt: HostRuntime) -> Result<(), F
 // The first batch has a few bytes.
 #[test]
 fn an_ignored_mark_of_a_sequence_is_not_cut_by_a_batch(rt: HostRuntime) -> Result<(), Fail> {
-    let inputs: [Judged; 8] = [
+    let inputs: [Expected; 8] = [
         (
             b"\xEF\xBB\xBF\x1E1\n\x1E[]",
             b"4..6 accepted\n7..9 accepted\n",
@@ -156,26 +150,8 @@ fn a_reader_that_fails_in_any_batch_of_a_sequence_is_told(rt: HostRuntime) -> Re
         for fails_at in 1..=9u32 {
             let mut sequence = sequence(1, FrontMark::Refused, 2)?;
             sequence.piece = 1;
-            let mut reader = End::new(FailingReader {
-                text,
-                call: 0,
-                fails_at,
-                kind: io::ErrorKind::Other,
-            });
-            let mut writer = End::new(Vec::new(rt.alloc()));
-            let answer = report_by(
-                &rt,
-                rt.alloc(),
-                &mut reader,
-                &mut writer,
-                &sequence,
-                &OpenGate,
-                3,
-            );
-            assert_eq!(rt; answer, Err(ReportFault::Read), "at call {fails_at}");
-            assert!(rt; reader.failed());
-            assert!(rt; writer.inner.is_empty());
-            assert!(rt; !writer.failed());
+            let reader = FailingReader::new(text, fails_at, io::ErrorKind::Other);
+            check_read_fault(&rt, rt.alloc(), &sequence, 3, reader);
         }
     }
     Ok(())
@@ -194,20 +170,7 @@ fn too_many_pieces_of_a_sequence_are_told_when_all_is_read(rt: HostRuntime) -> R
     ];
     for (left, wanted, output) in lengths {
         let sequence = command(Task::Seq, 1);
-        let mut reader = End::new(Zeros { left });
-        let mut writer = End::new(Vec::new(rt.alloc()));
-        let answer = report_by(
-            &rt,
-            rt.alloc(),
-            &mut reader,
-            &mut writer,
-            &sequence,
-            &OpenGate,
-            4096,
-        );
-        assert_eq!(rt; answer, wanted);
-        assert_eq!(rt; writer.inner.as_slice(), output);
-        assert_eq!(rt; reader.inner.left, 0);
+        check_zeros(&rt, rt.alloc(), &sequence, left, wanted, output);
     }
     Ok(())
 }
@@ -236,7 +199,7 @@ fn check_in_batches<R: Abort + Threads + Wait + Sync>(
     alloc: Global,
     containers: u32,
     mark: FrontMark,
-    judged: Judged,
+    judged: Expected,
 ) -> Result<(), Fail> {
     let (text, output, exit) = judged;
     for batch in 1..=9usize {

@@ -4,7 +4,7 @@ ghost use Rattle.std.specs.Prelude.{◌≤◌, ◌<◌};
 use crate::end::End;
 use crate::exit::Exit;
 use crate::reporting::report_by;
-use crate::tests::commands::{check_within, sequence};
+use crate::tests::commands::{Expected, check_within, sequence};
 use crate::tests::ends::TellingReader;
 use crate::tests::gates::StopFrom;
 use jx_claim::Workers;
@@ -23,10 +23,7 @@ const BATCH: usize = 8;
 /// More events than any of these runs has.
 const MANY: u64 = 1000;
 
-/// An input, what is written for it and how the report ends.
-type Checked = (&'static [u8], &'static [u8], Exit);
-
-const MARK_REFUSED: [Checked; 5] = [
+const MARK_REFUSED: [Expected; 5] = [
     (b"{\"a\":[1,{\"b\":2}]}", b"accepted\n", Exit::Good),
     (b"[1,22,333,x4]", b"stopped at 10\n", Exit::Bad),
     (b"[[[[[[[[[1]]]]]]]]]", b"too deep at 8\n", Exit::Bad),
@@ -34,7 +31,7 @@ const MARK_REFUSED: [Checked; 5] = [
     (b"\xEF\xBB\xBF[1,22,333,4]", b"stopped at 0\n", Exit::Bad),
 ];
 
-const MARK_IGNORED: [Checked; 5] = [
+const MARK_IGNORED: [Expected; 5] = [
     (
         b"\xEF\xBB\xBF{\"a\":[1,{\"b\":2}]}",
         b"accepted\n",
@@ -67,7 +64,7 @@ fn workers_who_stop_change_no_answer_where_a_mark_is_ignored(rt: HostRuntime) ->
 // They stop in the second batch, and in both.
 #[test]
 fn workers_who_stop_in_a_sequence_change_no_answer(rt: HostRuntime) -> Result<(), Fail> {
-    let judged: Checked = (
+    let judged: Expected = (
         b"\x1E[1]\n\x1E[2]\n\x1E{\"a\":[3]}\x1E4\n\x1E[5,6",
         b"1..5 accepted\n6..10 accepted\n11..20 accepted\n21..23 accepted\n24..28 truncated\n",
         Exit::Bad,
@@ -90,7 +87,7 @@ fn stopped_from_each<R: Abort + Threads + Wait + Sync>(
     command: &Command,
     batch: usize,
     first: usize,
-    checked: Checked,
+    checked: Expected,
 ) -> Result<u64, Fail>
     requires piece { 1 ≤ command.now.piece }
     requires some { 1 ≤ batch }
@@ -131,7 +128,7 @@ fn check_stops<R: Abort + Threads + Wait + Sync>(
     alloc: Global,
     mark: FrontMark,
     count: u8,
-    checked: Checked,
+    checked: Expected,
 ) -> Result<(), Fail> {
     let mut command = check_within(8);
     command.settings.mark = mark;
@@ -151,7 +148,7 @@ fn check_all<R: Abort + Threads + Wait + Sync>(
     rt: &R,
     alloc: Global,
     mark: FrontMark,
-    inputs: &[Checked],
+    inputs: &[Expected],
 ) -> Result<(), Fail> {
     for checked in inputs {
         for count in [1u8, 2, 5] {

@@ -1,23 +1,19 @@
-use Rattle.std.proofs.Common.{length, ap, subst, ◌∙◌}
+use Rattle.std.proofs.Common.{ℕ, List, subst, ◌∙◌}
 use Rattle.std.specs.List.{AllZip}
-use Rattle.std.specs.Prelude.{slice_range}
 use Rattle.jx_run.specs.Elements.{elements}
 use Rattle.jx_run.specs.ElementsRun.{IsElementsRun, ElementsRunValue}
 use Rattle.jx_run.specs.ElementVerdict.{IsJudgedElement}
-use Rattle.jx_answer.proofs.Verdicts.{are_judged}
-use Rattle.jx_answer.proofs.Whole.{slice_range-all}
+use Rattle.jx_answer.proofs.Whole.{covers_all}
 use Rattle.jx_answer.proofs.judging.judge_sequence.Goals as goal
 
-pub returns-in-Ok : goal.returns-in-Ok
-returns-in-Ok g c =
+pub returns : goal.returns
+returns g c =
     let h = c.in_ok-run.run' in
     let w = c.in_ok-run.ensures.rest in
     let text = c.args.text.now in
     let run : ElementsRunValue = c.into_run.result in
     let of : IsElementsRun text run =
-    subst (λ b. IsElementsRun b run) (ap (λ t. slice_range t h.span.start h.span.end) w.text_is ∙ ap (λ p. slice_range text p.start p.end) w.span_is ∙ ap (λ n. slice_range text n (length text)) c.requires.front ∙ slice_range-all text)
-    c.into_run.ensures.of in
+    subst (λ (b : List ℕ). IsElementsRun b run) (covers_all h.text text h.span c.args.cutting.now.front w.text_is w.span_is c.requires.front) c.into_run.ensures.of in
     record {
-      elements = are_judged text c.args.depth c.in-Ok.elements.items
-          (subst (λ d. AllZip (IsJudgedElement d) (elements 0 text) c.in-Ok.elements.items) (c.into_run.ensures.depth ∙ w.depth_is) (c.in-Ok.ensures.elements text of));
+      elements = subst (λ (d : ℕ). AllZip (IsJudgedElement d) (elements 0 text) c.in_ok-judged.judged.items) (c.into_run.ensures.depth ∙ w.depth_is) (c.in_ok-judged.ensures.elements text of);
     }

@@ -15,23 +15,23 @@ returns-then-is_empty c =
     let none : length xs ≡ 0 = search rules in
     λ text limit seen z. none_at_all (λ (e : Element). e.span) (IsElement text limit) (in_place text limit) text xs z none
 
-pub returns-then-not-is_mark_there : goal.returns-then-not-is_mark_there
-returns-then-not-is_mark_there c =
+pub returns-then-not-is_mark_alone : goal.returns-then-not-is_mark_alone
+returns-then-not-is_mark_alone c =
     let xs : List Element = c.args.elements.items in
     let x : Element = c.index.result.now in
     let low : 0 < length xs = search rules in
-    let flag : c.is_mark_there.result ≡ false = search rules in
+    let flag : c.is_mark_alone.result ≡ false = search rules in
     λ text limit seen z.
     let within : x.span.end ≤ length text = within_input (λ (e : Element). e.span) (IsElement text limit) (in_place text limit) text xs z x low c.index.ensures in
-    mark_stays (λ (e : Element). e.span) (IsElement text limit) (in_place text limit) text xs z x low c.index.ensures (sym (c.is_mark_there.ensures text seen within) ∙ flag)
+    mark_stays (λ (e : Element). e.span) (IsElement text limit) (in_place text limit) text xs z x low c.index.ensures (sym (c.is_mark_alone.ensures.alone text seen within) ∙ flag)
 
 pub returns : goal.returns
 returns c =
     let xs : List Element = c.args.elements.items in
     let x : Element = c.index.result.now in
     let low : 0 < length xs = search rules in
-    let flag : c.is_mark_there.result ≡ true = search rules in
+    let flag : c.is_mark_alone.result ≡ true = search rules in
     λ text limit seen z.
     let within : x.span.end ≤ length text = within_input (λ (e : Element). e.span) (IsElement text limit) (in_place text limit) text xs z x low c.index.ensures in
-    mark_goes (λ (e : Element). e.span) (IsElement text limit) (in_place text limit) text xs z x low c.index.ensures (sym (c.is_mark_there.ensures text seen within) ∙ flag)
+    mark_goes (λ (e : Element). e.span) (IsElement text limit) (in_place text limit) text xs z x low c.index.ensures (sym (c.is_mark_alone.ensures.alone text seen within) ∙ flag)
     c.remove.new.self.items c.remove.ensures.by_index.2

@@ -1,8 +1,8 @@
 use Rattle.std.proofs.Common.{ℕ, sym, subst}
 use Rattle.std.proofs.lemmas.Result.{IfOk-weaker}
-use Rattle.jx_answer.specs.declared.text_answer.TextAnswer.{TextAnswer}
-use Rattle.jx_answer.specs.Settled.{IsAnswerFrom, IsReadBy}
-use Rattle.jx_answer.proofs.Fronts.{behind_answer}
+use Rattle.jx_index.specs.declared.text_answer.TextAnswer.{TextAnswer}
+use Rattle.jx_index.proofs.Fronts.{behind_answer}
+use Rattle.jx_index.specs.Settled.{IsAnswerFrom, IsReadBy}
 use Rattle.jx_answer.proofs.texts.index_behind_front.Goals as goal
 
 pub returns-in_ok-rest-in-Skip : goal.returns-in_ok-rest-in-Skip

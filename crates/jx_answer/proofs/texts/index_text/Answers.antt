@@ -1,9 +1,9 @@
 use Rattle.std.proofs.Common.{ℕ, subst}
 use Rattle.std.proofs.lemmas.Result.{IfOk-weaker}
 use Rattle.jx_run.specs.declared.settings.Settings.{Settings}
-use Rattle.jx_answer.specs.declared.text_answer.TextAnswer.{TextAnswer}
+use Rattle.jx_index.specs.declared.text_answer.TextAnswer.{TextAnswer}
+use Rattle.jx_index.specs.Settled.{IsAnswerBy}
 use Rattle.jx_answer.specs.Answers.{IsAnswer}
-use Rattle.jx_answer.specs.Settled.{IsAnswerBy}
 use Rattle.jx_answer.proofs.texts.index_text.Goals as goal
 
 pub returns : goal.returns

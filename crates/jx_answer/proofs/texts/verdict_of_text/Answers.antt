@@ -3,7 +3,7 @@ use Rattle.std.proofs.lemmas.Result.{IfOk-weaker}
 use Rattle.jx_run.specs.declared.settings.Settings.{Settings}
 use Rattle.jx_run.specs.declared.verdict.Verdict.{Verdict}
 use Rattle.jx_run.specs.Verdict.{Judged}
-use Rattle.jx_answer.specs.ByNames.{IsVerdictBy}
+use Rattle.jx_index.specs.ByNames.{IsVerdictBy}
 use Rattle.jx_answer.proofs.texts.verdict_of_text.Goals as goal
 
 pub returns : goal.returns

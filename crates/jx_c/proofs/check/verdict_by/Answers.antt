@@ -1,7 +1,7 @@
 use Rattle.std.proofs.lemmas.Result.{IfOk-weaker}
 use Rattle.jx_run.specs.declared.verdict.Verdict.{Verdict}
 use Rattle.jx_run.specs.Settings.{JudgedBy}
-use Rattle.jx_c.specs.ByNames.{IsVerdictBy}
+use Rattle.jx_index.specs.ByNames.{IsVerdictBy}
 use Rattle.jx_c.proofs.check.verdict_by.Goals as goal
 
 pub returns-in-Any : goal.returns-in-Any
@@ -12,4 +12,4 @@ returns-in-Any c =
     (λ v h. (c.names_are_refused_by_rows.ensures.any settings text v c.in-Any.is).1 h) c.verdict_behind_front.ensures
 
 pub returns-in_ok-answer-in-Unique : goal.returns-in_ok-answer-in-Unique
-returns-in_ok-answer-in-Unique c = c.verdict_of.ensures c.args.settings.now c.args.text.now c.in_ok-answer-in-Unique.ensures
+returns-in_ok-answer-in-Unique c = c.into_verdict.ensures.verdict c.args.settings.now c.args.text.now c.in_ok-answer-in-Unique.ensures.answer

@@ -3,20 +3,19 @@ use Rattle.jx_run.specs.declared.verdict.Verdict.TheVariants as verdict
 use Rattle.jx_index.specs.Rows.{rows}
 use Rattle.jx_index.specs.declared.row.Row.{Row}
 use Rattle.jx_c.specs.Buffers.{IsFilled}
-use Rattle.jx_c.specs.ByNames.{a_text}
 use Rattle.jx_c.specs.Rows.{shown_row}
-use Rattle.jx_c.specs.Settled.{IsAnswerBy}
-use Rattle.jx_c.specs.declared.texts.TextAnswer.{TextAnswer}
-use Rattle.jx_c.specs.declared.texts.TextAnswer.TheVariants.{Accepted}
+use Rattle.jx_index.specs.declared.text_answer.TextAnswer.{TextAnswer}
+use Rattle.jx_index.specs.declared.text_answer.TextAnswer.TheVariants.{Accepted}
+use Rattle.jx_index.specs.Settled.{IsAnswerBy}
 use Rattle.jx_c.proofs.rows.tell.Goals as goal
 
 pub returns-in-Accepted : goal.returns-in-Accepted
 returns-in-Accepted c = λ settings bytes told.
     let h : IsAnswerBy settings bytes (Accepted c.in-Accepted.index) = subst (λ (a : TextAnswer). IsAnswerBy settings bytes a) c.in-Accepted.is told in
-    let x = h.is_index in
+    let x = h.1 in
     let all : c.rows-all.result.now ≡ rows x.tree = c.rows-all.ensures.same ∙ x.rows_are in (
       verdict.Accepted,
-      a_text x.is_text h.no_name,
+      h.0,
       c.shown.ensures,
       (
         x.tree,

@@ -1,6 +1,6 @@
 use Rattle.std.proofs.Common.{subst}
-use Rattle.jx_answer.specs.declared.text_answer.TextAnswer.{TextAnswer}
-use Rattle.jx_answer.specs.declared.text_answer.TextAnswer.TheVariants.{Accepted}
+use Rattle.jx_index.specs.declared.text_answer.TextAnswer.{TextAnswer}
+use Rattle.jx_index.specs.declared.text_answer.TextAnswer.TheVariants.{Accepted}
 use Rattle.jx_answer.specs.Answers.{IsAnswer}
 use Rattle.jx_examples.specs.LookUps.{IsSpan}
 use Rattle.jx_examples.proofs.Led.{in_bytes, text_there}

@@ -6,9 +6,8 @@ use Rattle.jx_index.specs.Indexed.{IndexedValue}
 use Rattle.jx_answer.specs.declared.find_answer.Answer.{Answer}
 use Rattle.jx_report.specs.declared.exit.Exit.TheVariants.{Good}
 use Rattle.jx_report.specs.declared.pointer_answer.PointerAnswer.{PointerAnswer}
-use Rattle.jx_report.specs.Pointers.{answer_words, IsFoundFor, PointerLines}
+use Rattle.jx_report.specs.Pointers.{IsFoundFor, PointerLines}
 use Rattle.jx_report.specs.inside.Replies.{exit_past_lines, pointer_lines}
-use Rattle.jx_report.specs.Words.{line}
 use Rattle.jx_report.proofs.FoundSteps.{zip_length, zip_at}
 use Rattle.jx_report.proofs.LineSteps.{lines_and_one, exit_and_one}
 use Rattle.jx_report.proofs.PointerSteps.{no_lines, lines_step, lines_done}

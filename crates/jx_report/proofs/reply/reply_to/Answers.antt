@@ -6,8 +6,8 @@ use Rattle.jx_run.specs.declared.settings.Settings.{Settings}
 use Rattle.jx_run.specs.Text.{IsText}
 use Rattle.jx_run.specs.Tree.{Tree}
 use Rattle.jx_index.specs.Indexed.{IndexedValue}
-use Rattle.jx_answer.specs.declared.text_answer.TextAnswer.TheVariants.{Accepted}
-use Rattle.jx_answer.specs.Settled.{IsAnswerBy}
+use Rattle.jx_index.specs.declared.text_answer.TextAnswer.TheVariants.{Accepted}
+use Rattle.jx_index.specs.Settled.{IsAnswerBy}
 use Rattle.jx_task.specs.declared.task.Task.{Task}
 use Rattle.jx_report.specs.declared.reply.Reply.{Reply}
 use Rattle.jx_report.specs.Output.{Output}

@@ -1,8 +1,7 @@
 // What is answered where names have to be unique.
 use crate::tests::answer::cuts::cut;
 use jx_answer::{
-    ElementAnswer, TextAnswer, index_sequence_with, index_text_with, judge_sequence_with,
-    verdict_of_text_with,
+    ElementAnswer, index_sequence_with, index_text_with, judge_sequence_with, verdict_of_text_with,
 };
 use jx_book::OpenGate;
 use jx_claim::Workers;
@@ -122,12 +121,8 @@ fn check_at<R: Abort + Threads + Wait + Sync>(
     let cutting = cut(alloc, text.len(), cuts)?;
     let verdict = verdict_of_text_with(rt, alloc, text, &cutting, workers, settings, &OpenGate)?;
     let answer = index_text_with(rt, alloc, text, &cutting, workers, settings, &OpenGate)?;
-    let told = match answer {
-        TextAnswer::Accepted(_) => Verdict::Accepted,
-        TextAnswer::Refused(refusal) => Verdict::Refused(refusal),
-    };
     assert_eq!(rt; verdict, want, "{text:?} cut at {cuts:?}");
-    assert_eq!(rt; told, want, "{text:?} cut at {cuts:?}");
+    assert_eq!(rt; answer.into_verdict(), want, "{text:?} cut at {cuts:?}");
     Ok(())
 }
 

@@ -1,3 +1,0 @@
--- What the contracts of this crate's own functions cite, and no public one.
-pub mod Answers
-pub mod Placed
