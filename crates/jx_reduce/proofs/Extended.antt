@@ -1,35 +1,28 @@
--- A structure whose eight forms each went on with the right.
-use Rattle.std.proofs.Common.{◌≡◌, ℕ, ap, subst, sym, ◌∙◌}
-use Rattle.jx_reduce.specs.Reduced.{depth_of, form_in}
-use Rattle.jx_reduce.specs.Reductions.{Forms, form_at, IsSound, IsBefore, IsJoin}
+-- A structure whose forms each went on with the right.
+use Rattle.std.proofs.Common.{◌≡◌, List, map, sym, ◌∙◌, ap, subst}
+use Rattle.std.proofs.lemmas.List.{length-map}
+use Rattle.jx_reduce.specs.Form.{Form}
+use Rattle.jx_reduce.specs.Reduced.{form_in}
+use Rattle.jx_reduce.specs.Reductions.{Forms, IsSound, IsBefore, IsJoin}
 use Rattle.jx_reduce.specs.inside.Follow.{followed}
-use Rattle.jx_reduce.specs.inside.View.{forms_of}
-use Rattle.jx_reduce.specs.declared.entry.Entry.{Entry}
+use Rattle.jx_reduce.specs.inside.View.{forms_of, AreOfDepth}
 use Rattle.jx_reduce.specs.declared.reduced.Reduced.{Reduced}
 use Rattle.jx_reduce.specs.declared.reductions.Reductions.TheInside.{Inside}
-use Rattle.jx_reduce.proofs.Sound.{Follows, eight, is_join}
+use Rattle.jx_reduce.proofs.Places.{count_of, each_changed}
+use Rattle.jx_reduce.proofs.Sound.{Follows, is_join}
 
--- room was made for a form, and then it went on
-pub one : (l m j : Reduced) (r : Forms) (d : ℕ) → depth_of m ≡ depth_of l → depth_of l ≡ d → form_in m ≡ form_in l
-    → form_in j ≡ followed (depth_of m) (form_in m) r → form_in j ≡ followed d (form_in l) r
-one l m j r d a b s e = e ∙ ap (λ n. followed n (form_in m) r) (a ∙ b) ∙ ap (λ f. followed d f r) s
-
-pub extended : (l j : Inside) (r : Forms) → l.depth ≡ r.depth → j.depth ≡ l.depth
-    → form_in j.value ≡ followed l.depth (form_in l.value) r
-    → form_in j.array_first ≡ followed l.depth (form_in l.array_first) r
-    → form_in j.object_first ≡ followed l.depth (form_in l.object_first) r
-    → form_in j.name ≡ followed l.depth (form_in l.name) r
-    → form_in j.colon ≡ followed l.depth (form_in l.colon) r
-    → form_in j.after ≡ followed l.depth (form_in l.after) r
-    → form_in j.value_or_name ≡ followed l.depth (form_in l.value_or_name) r
-    → form_in j.after_or_colon ≡ followed l.depth (form_in l.after_or_colon) r
-    → Follows (forms_of l) r (forms_of j)
-extended l j r same kept e1 e2 e3 e4 e5 e6 e7 e8 =
+-- room was made for each form, and then it went on
+pub extended : (self right : Forms) (l : Inside) (ms js : List Reduced) → forms_of l ≡ self → self.depth ≡ right.depth → AreOfDepth l
+    → map form_in ms ≡ map form_in l.forms
+    → map form_in js ≡ map (λ (f : Form). followed right.depth f right) (map form_in ms)
+    → Follows (forms_of l) right (forms_of (record { depth = l.depth; forms = js }))
+extended self right l ms js view depth eight same on =
+    let depths : l.depth ≡ right.depth = ap (λ (f : Forms). f.depth) view ∙ depth in
     record {
-      depths = same;
-      depth = kept ∙ same;
-      each = subst (λ n. (x : Entry) → form_at (forms_of j) x ≡ followed n (form_at (forms_of l) x) r) same
-          (eight l.depth (forms_of l) r (forms_of j) e1 e2 e3 e4 e5 e6 e7 e8);
+      depths = depths;
+      depth = depths;
+      each = each_changed l.depth l.depth (λ (f : Form). followed right.depth f right) (map form_in l.forms) (map form_in js)
+          (length-map l.forms form_in ∙ count_of l.depth l.forms eight) (on ∙ ap (map (λ (f : Form). followed right.depth f right)) same);
     }
 
 pub join_of : (l self r j : Forms) → l ≡ self → Follows l r j → IsBefore self r → IsSound l → IsSound r → IsJoin self r j

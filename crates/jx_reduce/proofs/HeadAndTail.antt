@@ -1,11 +1,12 @@
 -- Behind a mark that is no string, or a second string, all entries that go on stand at the same one.
-use Rattle.std.proofs.Common.{◌≡◌, ℕ, ◌<◌, ◌≤◌, List, [], ◌∷◌, ◌++◌, length, get_or, take, drop, append_assoc, refl, sym, ◌∙◌, ap, subst, arith, length-take, Option, Some, None, Bool, true, false, if◌then◌else◌, inl, inr}
+use Rattle.std.proofs.Common.{◌≡◌, ℕ, ◌<◌, ◌≤◌, List, [], ◌∷◌, ◌++◌, length, get_or, take, drop, map, append_assoc, refl, sym, ◌∙◌, ap, subst, arith, length-take, Option, Some, None, Bool, true, false, if◌then◌else◌, inl, inr}
 use Rattle.std.specs.Prelude.{◌⊎◌, nat_lt, slice_get}
 use Rattle.std.proofs.lemmas.List.{take_all, take-append-drop, take-append-le, drop-append-le, length-take-le}
 use Rattle.std.proofs.lemmas.Option.{same_Some}
 use Rattle.std.proofs.Math.Seq.{take-append_seam, drop-append_seam}
 use Rattle.jx_reduce.specs.Entries.{leads_to, string_leads}
 use Rattle.jx_reduce.specs.inside.Follow.{followed_by, followed}
+use Rattle.jx_reduce.specs.inside.View.{in_order}
 use Rattle.jx_reduce.specs.Form.{Form, fault_of, end_fault_of}
 use Rattle.jx_reduce.specs.Join.{Tail, closed, filled_end, tail_of, halted, stop_or, with_tail, with_level, passes, absorbed, over, cut_short, joined}
 use Rattle.jx_reduce.specs.Marks.{of_change, of_mark, of_nothing, pushed_from, pushed, of_marks}
@@ -16,7 +17,7 @@ use Rattle.jx_reduce.specs.Reductions.{Forms, form_at, IsSound, IsBefore, IsOf}
 use Rattle.jx_reduce.specs.Table.{change_of, Change, same, added, removed}
 use Rattle.jx_reduce.specs.declared.ended_level.EndedLevel.{EndedLevel}
 use Rattle.jx_reduce.specs.declared.entry.Entry.{Entry}
-use Rattle.jx_reduce.specs.declared.entry.Entry.TheVariants.{ValueOrName, AfterOrColon, Value as AnyValue, ArrayFirst as AnyArrayFirst, ObjectFirst as AnyObjectFirst, Name as AnyName, Colon as AnyColon, After as AnyAfter}
+use Rattle.jx_reduce.specs.declared.entry.Entry.TheVariants.{Value as AnyValue}
 use Rattle.jx_reduce.specs.declared.holder.Holder.{Holder}
 use Rattle.jx_reduce.specs.declared.reduced.Reduced.{Reduced}
 use Rattle.jx_lex.specs.declared.alphabet.mark.Mark.{Mark}
@@ -25,10 +26,11 @@ use Rattle.jx_lex.specs.declared.alphabet.mark.MarkKind.TheVariants.{OpenArray, 
 use Rattle.jx_reduce.proofs.Bounds.{EachIn-take, EachIn-drop}
 use Rattle.jx_reduce.proofs.Cuts.{RisingFrom-take, RisingFrom-drop, before_of_parts}
 use Rattle.jx_reduce.proofs.Joined.{base_of, uncut}
+use Rattle.jx_reduce.proofs.Places.{all_entries, each_made}
 use Rattle.jx_reduce.proofs.Readings.{of_marks-append}
 use Rattle.jx_reduce.proofs.Runs.{is_of_join}
 use Rattle.jx_reduce.proofs.Strings.{second_none}
-use Rattle.jx_reduce.proofs.Sound.{Follows, FromMarks, eight_marks, is_of, sound_marks, in_marks, is_join, sound_join, in_join}
+use Rattle.jx_reduce.proofs.Sound.{Follows, FromMarks, is_of, sound_marks, in_marks, is_join, sound_join, in_join}
 
 -- a form to which something is joined leads nowhere, or where that leads
 abbrev LeadsTo : Option Entry → Option Entry → Type 0
@@ -247,20 +249,11 @@ split_on d head ms more t next p rising depth form =
 
 -- the forms of marks from each entry
 abbrev forms_from : ℕ → List Mark → Forms
-forms_from d ms = record {
-  depth = d;
-  value = of_marks d (of_nothing AnyValue) ms;
-  array_first = of_marks d (of_nothing AnyArrayFirst) ms;
-  object_first = of_marks d (of_nothing AnyObjectFirst) ms;
-  name = of_marks d (of_nothing AnyName) ms;
-  colon = of_marks d (of_nothing AnyColon) ms;
-  after = of_marks d (of_nothing AnyAfter) ms;
-  value_or_name = of_marks d (of_nothing ValueOrName) ms;
-  after_or_colon = of_marks d (of_nothing AfterOrColon) ms;
-}
+forms_from d ms = in_order d (map (λ (x : Entry). of_marks d (of_nothing x) ms) all_entries)
 
 from_all : (d : ℕ) (ms : List Mark) → RisingFrom 0 ms → FromMarks ms (forms_from d ms)
-from_all d ms rising = record { rising = rising; each = eight_marks ms (forms_from d ms) refl refl refl refl refl refl refl refl }
+from_all d ms rising =
+    record { rising = rising; each = each_made d (λ (x : Entry). of_marks d (of_nothing x) ms) (map (λ (x : Entry). of_marks d (of_nothing x) ms) all_entries) refl }
 
 -- the forms that are made of a head, and of the tail behind it
 pub record FromHeadAndTail (ms : List Mark) (n : ℕ) (tail : Option Reduced) (f : Forms) : Type 0 where

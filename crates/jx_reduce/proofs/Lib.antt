@@ -9,6 +9,8 @@ pub mod Sound
 pub mod Acting
 pub mod Runs
 pub mod Extended
+mod EachInPlace
+mod Places
 mod HolderSets
 mod QuietMarks
 mod Exits

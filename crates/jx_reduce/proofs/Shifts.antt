@@ -14,7 +14,6 @@ use Rattle.jx_reduce.specs.Shift.{shifted}
 use Rattle.jx_reduce.specs.inside.Shifted.{shifted_offset, shifted_fault, shifted_level, shifted_end, shifted_form}
 use Rattle.jx_reduce.specs.declared.ended_level.EndedLevel.{EndedLevel}
 use Rattle.jx_reduce.specs.declared.entry.Entry.{Entry}
-use Rattle.jx_reduce.specs.declared.entry.Entry.TheVariants.{ValueOrName, AfterOrColon, Value as AnyValue, ArrayFirst as AnyArrayFirst, ObjectFirst as AnyObjectFirst, Name as AnyName, Colon as AnyColon, After as AnyAfter}
 use Rattle.jx_reduce.specs.declared.expect.Expect.{Expect}
 use Rattle.jx_reduce.specs.declared.holder.Holder.{Holder}
 use Rattle.jx_reduce.specs.declared.holder.Holder.TheVariants.{Array, Object, Bottom}
@@ -183,19 +182,6 @@ pub record IsShifted (b : ℕ) (f g : Forms) : Type 0 where
   pub depth : g.depth ≡ f.depth
   pub fits : (x : Entry) → OffsetsIn (λ p. p < 2 ^ 64 - b) (form_at f x)
   pub each : (x : Entry) → form_at g x ≡ shifted_form b (form_at f x)
-
-pub eight_shifted : (b : ℕ) (f g : Forms) → g.value ≡ shifted_form b f.value → g.array_first ≡ shifted_form b f.array_first → g.object_first ≡ shifted_form b f.object_first
-    → g.name ≡ shifted_form b f.name → g.colon ≡ shifted_form b f.colon → g.after ≡ shifted_form b f.after
-    → g.value_or_name ≡ shifted_form b f.value_or_name → g.after_or_colon ≡ shifted_form b f.after_or_colon
-    → (x : Entry) → form_at g x ≡ shifted_form b (form_at f x)
-eight_shifted b f g a c e h i j k l AnyValue = a
-eight_shifted b f g a c e h i j k l AnyArrayFirst = c
-eight_shifted b f g a c e h i j k l AnyObjectFirst = e
-eight_shifted b f g a c e h i j k l AnyName = h
-eight_shifted b f g a c e h i j k l AnyColon = i
-eight_shifted b f g a c e h i j k l AnyAfter = j
-eight_shifted b f g a c e h i j k l ValueOrName = k
-eight_shifted b f g a c e h i j k l AfterOrColon = l
 
 entry-shifted : (b : ℕ) (f g : Forms) → IsShifted b f g → IsSound f → (x : Entry) (s : List Holder) → length s ≤ f.depth
     → acts g.depth (form_at g x) s ≡ shifted b (acts f.depth (form_at f x) s)

@@ -16,7 +16,6 @@ use Rattle.jx_lex.specs.declared.alphabet.mark.Mark.{Mark}
 use Rattle.jx_reduce.specs.declared.expect.Expect.{Expect}
 use Rattle.jx_reduce.specs.declared.expect.Expect.TheVariants.{Value, ArrayFirst, ObjectFirst, Name, Colon, After}
 use Rattle.jx_reduce.specs.declared.entry.Entry.{Entry}
-use Rattle.jx_reduce.specs.declared.entry.Entry.TheVariants.{ValueOrName, AfterOrColon, Value as AnyValue, ArrayFirst as AnyArrayFirst, ObjectFirst as AnyObjectFirst, Name as AnyName, Colon as AnyColon, After as AnyAfter}
 
 acts_by : (l : Form) (r : Forms) (mid : ℕ) (s : List Holder) (x : Option Entry) → l.exit ≡ x → Fits r.depth l → IsSound r
     → OffsetsIn (λ p. p < mid) l → ((x : Entry) → OffsetsIn (λ p. mid ≤ p) (form_at r x)) → length s ≤ r.depth
@@ -40,19 +39,6 @@ pub record Follows (l r j : Forms) : Type 0 where
   pub depths : l.depth ≡ r.depth
   pub depth : j.depth ≡ r.depth
   pub each : (x : Entry) → form_at j x ≡ followed r.depth (form_at l x) r
-
-pub eight : (d : ℕ) (l r j : Forms) → j.value ≡ followed d l.value r → j.array_first ≡ followed d l.array_first r → j.object_first ≡ followed d l.object_first r
-    → j.name ≡ followed d l.name r → j.colon ≡ followed d l.colon r → j.after ≡ followed d l.after r
-    → j.value_or_name ≡ followed d l.value_or_name r → j.after_or_colon ≡ followed d l.after_or_colon r
-    → (x : Entry) → form_at j x ≡ followed d (form_at l x) r
-eight d l r j a b c e f g h i AnyValue = a
-eight d l r j a b c e f g h i AnyArrayFirst = b
-eight d l r j a b c e f g h i AnyObjectFirst = c
-eight d l r j a b c e f g h i AnyName = e
-eight d l r j a b c e f g h i AnyColon = f
-eight d l r j a b c e f g h i AnyAfter = g
-eight d l r j a b c e f g h i ValueOrName = h
-eight d l r j a b c e f g h i AfterOrColon = i
 
 acts_each : (l r j : Forms) → Follows l r j → IsBefore l r → IsSound l → IsSound r → (x : Entry) (s : List Holder) → length s ≤ r.depth
     → acts j.depth (form_at j x) s ≡ then_by (answer r) (acts l.depth (form_at l x) s)
@@ -82,19 +68,6 @@ in_join Q l r j f a b x = subst (λ v. OffsetsIn Q v) (sym (f.each x)) (in_by Q 
 pub record FromMarks (ms : List Mark) (f : Forms) : Type 0 where
   pub rising : RisingFrom 0 ms
   pub each : (x : Entry) → form_at f x ≡ of_marks f.depth (of_nothing x) ms
-
-pub eight_marks : (ms : List Mark) (f : Forms) → f.value ≡ of_marks f.depth (of_nothing AnyValue) ms → f.array_first ≡ of_marks f.depth (of_nothing AnyArrayFirst) ms
-    → f.object_first ≡ of_marks f.depth (of_nothing AnyObjectFirst) ms → f.name ≡ of_marks f.depth (of_nothing AnyName) ms → f.colon ≡ of_marks f.depth (of_nothing AnyColon) ms
-    → f.after ≡ of_marks f.depth (of_nothing AnyAfter) ms → f.value_or_name ≡ of_marks f.depth (of_nothing ValueOrName) ms → f.after_or_colon ≡ of_marks f.depth (of_nothing AfterOrColon) ms
-    → (x : Entry) → form_at f x ≡ of_marks f.depth (of_nothing x) ms
-eight_marks ms f a b c e g h i k AnyValue = a
-eight_marks ms f a b c e g h i k AnyArrayFirst = b
-eight_marks ms f a b c e g h i k AnyObjectFirst = c
-eight_marks ms f a b c e g h i k AnyName = e
-eight_marks ms f a b c e g h i k AnyColon = g
-eight_marks ms f a b c e g h i k AnyAfter = h
-eight_marks ms f a b c e g h i k ValueOrName = i
-eight_marks ms f a b c e g h i k AfterOrColon = k
 
 marks_each : (ms : List Mark) (f : Forms) → FromMarks ms f → (x : Entry) (s : List Holder) → length s ≤ f.depth
     → acts f.depth (form_at f x) s ≡ read f.depth ms (went (expect_at x (top s)) s)

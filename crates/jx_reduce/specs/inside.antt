@@ -2,6 +2,7 @@
 pub mod Follow
 pub mod KnownInside
 pub mod OpenContainers
+pub mod Places
 pub mod Quiet
 pub mod Shifted
 pub mod View

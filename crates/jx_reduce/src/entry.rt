@@ -1,6 +1,8 @@
-ghost use Rattle.std.specs.Prelude.{◌≡◌};
+ghost use Rattle.std.specs.Prelude.{◌≡◌, ◌<◌};
 ghost use Rattle.jx_reduce.specs.Entries.{expect_at, leads_to};
 ghost use Rattle.jx_reduce.specs.Marks.{fault_at, faults_at, end_at};
+ghost use Rattle.jx_reduce.specs.Reductions.{entry_of};
+ghost use Rattle.jx_reduce.specs.inside.Places.{place};
 
 use crate::ended_level::EndedLevel;
 use crate::expect::Expect;
@@ -26,6 +28,40 @@ pub(crate) enum Entry {
 }
 
 impl Entry {
+    /// All entries in order.
+    pub const ALL: [Entry; 8] = [
+        Entry::Value,
+        Entry::ArrayFirst,
+        Entry::ObjectFirst,
+        Entry::Name,
+        Entry::Colon,
+        Entry::After,
+        Entry::ValueOrName,
+        Entry::AfterOrColon,
+    ];
+
+    /// Its place among all of them, counted from 0.
+    pub fn index(self) -> usize
+        ensures place { result ≡ place self }
+        ensures low { result < 8 }
+    {
+        self as usize
+    }
+
+    /// The entry that is this expectation in every container.
+    pub fn of(expect: Expect) -> Entry
+        ensures { result ≡ entry_of expect }
+    {
+        match expect {
+            Expect::Value => Entry::Value,
+            Expect::ArrayFirst => Entry::ArrayFirst,
+            Expect::ObjectFirst => Entry::ObjectFirst,
+            Expect::Name => Entry::Name,
+            Expect::Colon => Entry::Colon,
+            Expect::After => Entry::After,
+        }
+    }
+
     /// The expectation that this is in the innermost container `top`.
     pub fn at(self, top: Holder) -> Expect
         ensures { result ≡ expect_at self top }

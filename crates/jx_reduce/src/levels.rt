@@ -15,7 +15,7 @@ use crate::form_ref::FormRef;
 use crate::holder::Holder;
 use crate::level::Level;
 use crate::quiet;
-use crate::shift::{Shift, all_shifted};
+use crate::shift::{Shift, shift_all};
 use jx_lex::{Mark, MarkKind};
 use std::alloc::{AllocError, Global};
 
@@ -36,17 +36,13 @@ fn innermost(opens: &[Holder]) -> Option<Holder>
 }
 
 impl Levels {
-    /// The form of the same marks so many bytes further on.
-    pub fn shifted(self, by: usize) -> Levels
-        ensures { form_of result ≡ shifted_form by (form_of self) }
+    /// Moves the form so many bytes further on.
+    pub fn shift(&mut self, by: usize)
+        ensures { form_of self.new ≡ shifted_form by (form_of self.old) }
     {
-        Levels {
-            ended: all_shifted(self.ended, by),
-            last: self.last.shifted(by),
-            opens: self.opens,
-            exit: self.exit,
-            heights: all_shifted(self.heights, by),
-        }
+        shift_all(&mut self.ended, by);
+        self.last = self.last.shifted(by);
+        shift_all(&mut self.heights, by);
     }
 
     /// Ends the reading for every holder of the last level, at these faults.

@@ -109,7 +109,7 @@ impl Reduced {
     }
 
     /// Where its memory comes from.
-    fn allocator(&self) -> Global {
+    pub(crate) fn allocator(&self) -> Global {
         *self.levels.opens.allocator()
     }
 
@@ -261,15 +261,11 @@ impl Reduced {
         })
     }
 
-    /// The form of the same marks so many bytes further on.
-    pub(crate) fn shifted(self, by: usize) -> Reduced
-        ensures depth { depth_of result ≡ depth_of self }
-        ensures form { form_in result ≡ shifted_form by (form_in self) }
+    /// Moves the form so many bytes further on.
+    pub(crate) fn shift(&mut self, by: usize)
+        ensures depth { depth_of self.new ≡ depth_of self.old }
+        ensures form { form_in self.new ≡ shifted_form by (form_in self.old) }
     {
-        let Reduced { depth, levels } = self;
-        Reduced {
-            depth,
-            levels: levels.shifted(by),
-        }
+        self.levels.shift(by);
     }
 }

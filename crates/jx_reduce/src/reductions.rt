@@ -1,11 +1,11 @@
 // The structure of a list of marks, from each expectation.
 
-ghost use Rattle.std.specs.Prelude.{◌≡◌, ◌≤◌, ◌<◌, ◌++◌, ◌+◌, ◌-◌, ◌^◌, ℕ, List, [], length, take, OnOk, OnErr, IfOk, IfErr, IfSome};
+ghost use Rattle.std.specs.Prelude.{◌≡◌, ◌≤◌, ◌<◌, ◌++◌, ◌+◌, ◌-◌, ◌^◌, ℕ, List, [], length, map, replicate, take, OnOk, OnErr, IfOk, IfErr, IfSome};
 ghost use Rattle.jx_reduce.specs.Offsets.{RisingFrom, EachIn};
 ghost use Rattle.jx_reduce.specs.Fits.{IsOfSize};
 ghost use Rattle.jx_reduce.specs.Reduced.{depth_of, form_in};
 ghost use Rattle.jx_reduce.specs.Reductions.{answer, form_at, entry_of, IsJoin, IsBefore, IsOf, SpansIn};
-ghost use Rattle.jx_reduce.specs.inside.Follow.{followed, IsReady};
+ghost use Rattle.jx_reduce.specs.inside.Follow.{followed, IsReady, AreReady};
 ghost use Rattle.jx_reduce.specs.HeadAndTail.{EndsWith, AreHeadAndTail};
 ghost use Rattle.jx_reduce.specs.Shift.{shifted};
 ghost use Rattle.jx_reduce.specs.declared.expect.Expect.{Expect};
@@ -17,6 +17,7 @@ use crate::expect::Expect;
 use crate::reduced::Reduced;
 use jx_lex::{Depth, JoinFault, Mark, MarkKind};
 use std::alloc::{AllocError, Global};
+use std::array;
 use std::marker::Model;
 
 /// What a list of marks comes to, from each of the six expectations and for every list of open containers at entry that
@@ -24,14 +25,8 @@ use std::marker::Model;
 #[derive(Drop)]
 pub struct Reductions {
     depth: Depth,
-    value: Reduced,
-    array_first: Reduced,
-    object_first: Reduced,
-    name: Reduced,
-    colon: Reduced,
-    after: Reduced,
-    value_or_name: Reduced,
-    after_or_colon: Reduced,
+    // From each entry, in the order of `Entry::ALL`.
+    forms: [Reduced; 8],
 }
 
 /// The marks up to the first that is no string, or up to the second: how many they are, and the last one's kind. Nothing
@@ -71,14 +66,7 @@ impl Reductions {
     {
         Reductions {
             depth,
-            value: Reduced::new(alloc, Entry::Value, depth),
-            array_first: Reduced::new(alloc, Entry::ArrayFirst, depth),
-            object_first: Reduced::new(alloc, Entry::ObjectFirst, depth),
-            name: Reduced::new(alloc, Entry::Name, depth),
-            colon: Reduced::new(alloc, Entry::Colon, depth),
-            after: Reduced::new(alloc, Entry::After, depth),
-            value_or_name: Reduced::new(alloc, Entry::ValueOrName, depth),
-            after_or_colon: Reduced::new(alloc, Entry::AfterOrColon, depth),
+            forms: array::from_fn(|at| Reduced::new(alloc, Entry::ALL[at], depth)),
         }
     }
 
@@ -112,23 +100,11 @@ impl Reductions {
         ensures reads { IfOk result (λ f. (marks : List Mark) → AreHeadAndTail depth head.now tail.now marks → IsOf marks f) }
         ensures offsets { IfOk result (λ f. (marks : List Mark) → AreHeadAndTail depth head.now tail.now marks → (low high : ℕ) → EachIn (λ m. (low ≤ m.at) × (m.at < high)) marks → SpansIn low high f) }
     {
-        Ok(Reductions {
-            depth,
-            value: Reduced::of_head_and_tail(alloc, Entry::Value, head, tail, depth)?,
-            array_first: Reduced::of_head_and_tail(alloc, Entry::ArrayFirst, head, tail, depth)?,
-            object_first: Reduced::of_head_and_tail(alloc, Entry::ObjectFirst, head, tail, depth)?,
-            name: Reduced::of_head_and_tail(alloc, Entry::Name, head, tail, depth)?,
-            colon: Reduced::of_head_and_tail(alloc, Entry::Colon, head, tail, depth)?,
-            after: Reduced::of_head_and_tail(alloc, Entry::After, head, tail, depth)?,
-            value_or_name: Reduced::of_head_and_tail(alloc, Entry::ValueOrName, head, tail, depth)?,
-            after_or_colon: Reduced::of_head_and_tail(
-                alloc,
-                Entry::AfterOrColon,
-                head,
-                tail,
-                depth,
-            )?,
-        })
+        let Reductions { mut forms, .. } = Reductions::new(alloc, depth);
+        for entry in Entry::ALL {
+            forms[entry.index()] = Reduced::of_head_and_tail(alloc, entry, head, tail, depth)?;
+        }
+        Ok(Reductions { depth, forms })
     }
 
     /// How many containers may stand open at once.
@@ -144,14 +120,7 @@ impl Reductions {
         ensures form { form_in result.now ≡ form_at self.now (entry_of expect) }
         ensures size { IsOfSize self.now.depth (form_in result.now) }
     {
-        match expect {
-            Expect::Value => &self.value,
-            Expect::ArrayFirst => &self.array_first,
-            Expect::ObjectFirst => &self.object_first,
-            Expect::Name => &self.name,
-            Expect::Colon => &self.colon,
-            Expect::After => &self.after,
-        }
+        self.at(Entry::of(expect))
     }
 
     /// What the marks come to from this entry.
@@ -159,16 +128,7 @@ impl Reductions {
         ensures depth { depth_of result.now ≡ self.now.depth }
         ensures form { form_in result.now ≡ form_at self.now entry }
     {
-        match entry {
-            Entry::Value => &self.value,
-            Entry::ArrayFirst => &self.array_first,
-            Entry::ObjectFirst => &self.object_first,
-            Entry::Name => &self.name,
-            Entry::Colon => &self.colon,
-            Entry::After => &self.after,
-            Entry::ValueOrName => &self.value_or_name,
-            Entry::AfterOrColon => &self.after_or_colon,
-        }
+        &self.forms[entry.index()]
     }
 
     /// Makes room on the left for the form that follows it here.
@@ -195,20 +155,42 @@ impl Reductions {
         }
     }
 
+    /// Makes room in each of these for the form that follows it here.
+    fn reserve_lefts(&self, lefts: &mut [Reduced]) -> Result<(), AllocError>
+        ensures depths { map depth_of lefts.new ≡ map depth_of lefts.old }
+        ensures same { map form_in lefts.new ≡ map form_in lefts.old }
+        ensures ok { OnOk result (AreReady lefts.new self.now) }
+    {
+        for left in lefts {
+            self.reserve_left(left)?;
+        }
+        Ok(())
+    }
+
+    /// Extends each of these by the form that follows it here. There is room for it.
+    fn extend_lefts(&self, lefts: &mut [Reduced])
+        requires depths { map depth_of lefts.old ≡ replicate 8 self.now.depth }
+        requires ready { AreReady lefts.old self.now }
+        ensures depths { map depth_of lefts.new ≡ map depth_of lefts.old }
+        ensures forms { map form_in lefts.new ≡ map (λ l. followed self.now.depth l self.now) (map form_in lefts.old) }
+    {
+        for left in lefts {
+            self.extend_left(left);
+        }
+    }
+
     /// A value equal to this one. It fails only for want of memory.
     pub fn copy(&self) -> Result<Reductions, AllocError>
         ensures { IfOk result (λ r. r ≡ self.now) }
     {
+        let alloc = self.at(Entry::Value).allocator();
+        let Reductions { mut forms, .. } = Reductions::new(alloc, self.depth);
+        for entry in Entry::ALL {
+            forms[entry.index()] = self.at(entry).copy()?;
+        }
         Ok(Reductions {
             depth: self.depth,
-            value: self.value.copy()?,
-            array_first: self.array_first.copy()?,
-            object_first: self.object_first.copy()?,
-            name: self.name.copy()?,
-            colon: self.colon.copy()?,
-            after: self.after.copy()?,
-            value_or_name: self.value_or_name.copy()?,
-            after_or_colon: self.after_or_colon.copy()?,
+            forms,
         })
     }
 
@@ -226,22 +208,8 @@ impl Reductions {
         // Shows the proof what holds of every right side.
         let _ = &right.depth;
         // All that can fail comes first.
-        right.reserve_left(&mut self.value)?;
-        right.reserve_left(&mut self.array_first)?;
-        right.reserve_left(&mut self.object_first)?;
-        right.reserve_left(&mut self.name)?;
-        right.reserve_left(&mut self.colon)?;
-        right.reserve_left(&mut self.after)?;
-        right.reserve_left(&mut self.value_or_name)?;
-        right.reserve_left(&mut self.after_or_colon)?;
-        right.extend_left(&mut self.value);
-        right.extend_left(&mut self.array_first);
-        right.extend_left(&mut self.object_first);
-        right.extend_left(&mut self.name);
-        right.extend_left(&mut self.colon);
-        right.extend_left(&mut self.after);
-        right.extend_left(&mut self.value_or_name);
-        right.extend_left(&mut self.after_or_colon);
+        right.reserve_lefts(&mut self.forms)?;
+        right.extend_lefts(&mut self.forms);
         Ok(())
     }
 
@@ -270,16 +238,10 @@ impl Reductions {
         ensures answers { (expect : Expect) (holders : List Holder) → length holders ≤ self.depth → answer result expect holders ≡ shifted by (answer self expect holders) }
         ensures offsets { (low high : ℕ) → SpansIn low high self → SpansIn (by + low) (by + high) result }
     {
-        Reductions {
-            depth: self.depth,
-            value: self.value.shifted(by),
-            array_first: self.array_first.shifted(by),
-            object_first: self.object_first.shifted(by),
-            name: self.name.shifted(by),
-            colon: self.colon.shifted(by),
-            after: self.after.shifted(by),
-            value_or_name: self.value_or_name.shifted(by),
-            after_or_colon: self.after_or_colon.shifted(by),
+        let Reductions { depth, mut forms } = self;
+        for form in &mut forms {
+            form.shift(by);
         }
+        Reductions { depth, forms }
     }
 }

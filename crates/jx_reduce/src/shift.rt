@@ -57,12 +57,11 @@ impl Shift for EndedLevel {
     }
 }
 
-/// Each item of the list so many bytes further on.
-pub(crate) fn all_shifted<T: Shift>(mut list: Vec<T>, by: usize) -> Vec<T>
-    ensures { result.items ≡ map (T.shift by) list.items }
+/// Moves each item of the list so many bytes further on.
+pub(crate) fn shift_all<T: Shift>(list: &mut [T], by: usize)
+    ensures { list.new ≡ map (T.shift by) list.old }
 {
     for at in 0..list.len() {
         list[at] = list[at].shifted(by);
     }
-    list
 }

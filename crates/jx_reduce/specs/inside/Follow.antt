@@ -1,5 +1,5 @@
 -- How one reduced form goes on with the forms of further marks.
-use Rattle.std.specs.Prelude.{ℕ, Option, Some, None}
+use Rattle.std.specs.Prelude.{ℕ, ◌<◌, List, length, slice_index_or, Option, Some, None}
 use Rattle.jx_reduce.specs.Form.{Form}
 use Rattle.jx_reduce.specs.Join.{joined}
 use Rattle.jx_reduce.specs.Levels.{HasRoomOf}
@@ -22,3 +22,7 @@ ReadyBy l r (Some x) = HasRoomOf l.levels (form_at r x)
 -- going on with these forms makes no vector grow
 abbrev pub IsReady : Reduced → Forms → Type 0
 IsReady l r = ReadyBy l r l.levels.exit
+
+-- so it is for each of them
+abbrev pub AreReady : List Reduced → Forms → Type 0
+AreReady ls r = (i : ℕ) (d : Reduced) → i < length ls → IsReady (slice_index_or ls i d) r

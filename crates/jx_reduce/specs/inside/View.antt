@@ -1,29 +1,33 @@
 -- The forms in a value of the program.
-use Rattle.std.specs.Prelude.{◌≡◌}
-use Rattle.jx_reduce.specs.Levels.{form_of}
+use Rattle.std.specs.Prelude.{◌≡◌, ℕ, List, map, replicate, slice_index_or}
+use Rattle.jx_reduce.specs.Form.{Form}
+use Rattle.jx_reduce.specs.Marks.{of_nothing}
+use Rattle.jx_reduce.specs.Reduced.{depth_of, form_in}
 use Rattle.jx_reduce.specs.Reductions.{Forms}
+use Rattle.jx_reduce.specs.declared.entry.Entry.TheVariants.{Value as AnyValue}
 use Rattle.jx_reduce.specs.declared.reductions.Reductions.TheInside.{Inside}
 
-abbrev pub forms_of : Inside → Forms
-forms_of a = record {
-  depth = a.depth;
-  value = form_of a.value.levels;
-  array_first = form_of a.array_first.levels;
-  object_first = form_of a.object_first.levels;
-  name = form_of a.name.levels;
-  colon = form_of a.colon.levels;
-  after = form_of a.after.levels;
-  value_or_name = form_of a.value_or_name.levels;
-  after_or_colon = form_of a.after_or_colon.levels;
+-- the form in this place
+abbrev pub nth : List Form → ℕ → Form
+nth fs i = slice_index_or fs i (of_nothing AnyValue)
+
+-- the forms of the entries, in their order
+abbrev pub in_order : ℕ → List Form → Forms
+in_order d fs = record {
+  depth = d;
+  value = nth fs 0;
+  array_first = nth fs 1;
+  object_first = nth fs 2;
+  name = nth fs 3;
+  colon = nth fs 4;
+  after = nth fs 5;
+  value_or_name = nth fs 6;
+  after_or_colon = nth fs 7;
 }
 
--- each form knows the depth
-pub record AreOfDepth (a : Inside) : Type 0 where
-  pub value : a.value.depth ≡ a.depth
-  pub array_first : a.array_first.depth ≡ a.depth
-  pub object_first : a.object_first.depth ≡ a.depth
-  pub name : a.name.depth ≡ a.depth
-  pub colon : a.colon.depth ≡ a.depth
-  pub after : a.after.depth ≡ a.depth
-  pub value_or_name : a.value_or_name.depth ≡ a.depth
-  pub after_or_colon : a.after_or_colon.depth ≡ a.depth
+abbrev pub forms_of : Inside → Forms
+forms_of a = in_order a.depth (map form_in a.forms)
+
+-- there are eight forms, and each knows the depth
+abbrev pub AreOfDepth : Inside → Type 0
+AreOfDepth a = map depth_of a.forms ≡ replicate 8 a.depth
