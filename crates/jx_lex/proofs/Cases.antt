@@ -8,7 +8,7 @@ use Rattle.jx_lex.specs.declared.alphabet.state.Step.{Step}
 use Rattle.jx_lex.specs.Classes.{class_at}
 use Rattle.jx_lex.specs.Character.{IsWithin, IsTail}
 use Rattle.jx_lex.specs.Moves
-use Rattle.jx_lex.specs.Moves.{move, row, go, begin, close, structural, fault, as_gap}
+use Rattle.jx_lex.specs.Moves.{move, go, begin, close, structural, fault, as_gap}
 use Rattle.jx_lex.specs.Token.{IsBlank, IsDigit, IsE, IsHexDigit, IsEscaped}
 use Rattle.jx_lex.proofs.ByteFacts
 use Rattle.jx_lex.proofs.ByteFacts.{IsOrdinary, IsSignByte, IsLead3}

@@ -10,7 +10,7 @@ use Rattle.jx_lex.specs.Character.{IsTail, Utf8, one, two, three_e0, three_low, 
 use Rattle.jx_lex.specs.Classes.{class_at}
 use Rattle.jx_lex.specs.Moves.{move, row, go, begin}
 use Rattle.jx_lex.specs.Token
-use Rattle.jx_lex.specs.Token.{IsDigit, Digits, no_digits, digit, IsMinus, unsigned, minus, IsInt, zero_alone, leading, IsFrac, no_frac, frac, IsSign, no_sign, plus, minus_sign, IsE, IsExp, no_exp, exp, IsNumber, number, IsHexDigit, IsEscaped, IsChar, character, escape, unit, Chars, no_chars, one_char, IsString, quoted, IsToken}
+use Rattle.jx_lex.specs.Token.{Digits, no_digits, digit, unsigned, minus, zero_alone, leading, IsFrac, no_frac, frac, IsSign, no_sign, plus, minus_sign, IsExp, no_exp, exp, IsNumber, number, IsEscaped, IsChar, character, escape, unit, Chars, no_chars, one_char, IsString, quoted, IsToken}
 use Rattle.jx_lex.specs.TokenStates.{in_token, Spells, here, goes, shuts, IsFinal, final_gap, final_zero, final_int, final_frac, final_exp, mark_of, IsRead}
 use Rattle.jx_lex.proofs.Forward.{move-range, move-digit, move-e, move-hex, move-tail, Str-ordinary}
 

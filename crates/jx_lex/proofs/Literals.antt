@@ -4,7 +4,7 @@ use Rattle.std.specs.Prelude.{slice_range}
 use Rattle.jx_lex.specs.declared.alphabet.state.LexState.{LexState}
 use Rattle.jx_lex.specs.declared.alphabet.state.LexState.TheVariants as state
 use Rattle.jx_lex.specs.Classes.{class_at}
-use Rattle.jx_lex.specs.Lex.{Track, lex}
+use Rattle.jx_lex.specs.Lex.{lex}
 use Rattle.jx_lex.specs.Lex as reading
 use Rattle.jx_lex.specs.Seen.{Shuts}
 use Rattle.jx_lex.proofs.Slices.{slice-none, slice-first}

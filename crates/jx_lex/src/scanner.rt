@@ -1,5 +1,5 @@
 // Reading bytes from a known lexical state, whatever is kept of the tokens.
-ghost use Rattle.std.specs.Prelude.{◌≡◌, ◌≤◌, ◌<◌, ◌+◌, ◌++◌, ◌∷◌, [], ◌^◌, ℕ, List, length, OnOk, IfOk, IfSome, IsNone, IsTrue, slice_range};
+ghost use Rattle.std.specs.Prelude.{◌≡◌, ◌≤◌, ◌<◌, ◌+◌, ◌∷◌, [], ◌^◌, ℕ, List, length, OnOk, IfOk, IfSome, IsNone, IsTrue, slice_range};
 ghost use Rattle.jx_lex.specs.declared.alphabet.state.LexState.TheVariants as state;
 ghost use Rattle.jx_lex.specs.inside.Ahead.{IsSound};
 ghost use Rattle.jx_lex.specs.inside.Cells.{step_of};

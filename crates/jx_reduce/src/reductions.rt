@@ -25,7 +25,7 @@ use std::marker::Model;
 #[derive(Drop)]
 pub struct Reductions {
     depth: Depth,
-    // From each entry, in the order of `Entry::ALL`.
+    /// From each entry, in the order of `Entry::ALL`.
     forms: [Reduced; 8],
 }
 

@@ -1,5 +1,5 @@
 // A byte order mark in front of a text.
-ghost use Rattle.std.specs.Prelude.{◌≡◌, ◌≤◌, length};
+ghost use Rattle.std.specs.Prelude.{◌≡◌};
 ghost use Rattle.jx_run.specs.Front.{agreed, front_of, IsTold};
 
 use crate::laws::fronts_decide_where_texts_begin;

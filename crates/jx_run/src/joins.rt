@@ -1,6 +1,6 @@
 // The structures of the joined bytes of two runs. Ways that go through the same two structures share what is made of them.
-ghost use Rattle.std.specs.Prelude.{◌≡◌, ◌<◌, ◌≤◌, ◌+◌, ℕ, All, Some, length, slice_get, IfOk, IfSome, OnOk};
-ghost use Rattle.jx_run.specs.inside.Joins.{AreMade, IsAbove, IsMade, IsThere};
+ghost use Rattle.std.specs.Prelude.{◌≡◌, ◌<◌, ◌≤◌, ◌+◌, All, Some, length, slice_get, IfOk, IfSome, OnOk};
+ghost use Rattle.jx_run.specs.inside.Joins.{AreMade, IsAbove, IsThere};
 ghost use Rattle.jx_run.specs.OutcomeRun.{IsFormWithin};
 
 use crate::outcome_run::OutcomeRun;

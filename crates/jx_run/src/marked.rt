@@ -1,5 +1,5 @@
 // Elements of a JSON text sequence that stand between two record separators, of which the readings are kept.
-ghost use Rattle.std.specs.Prelude.{◌≡◌, ◌≤◌, ◌<◌, length, slice_range, IfOk};
+ghost use Rattle.std.specs.Prelude.{◌≤◌, ◌<◌, length, slice_range, IfOk};
 ghost use Rattle.jx_run.specs.Elements.{part};
 ghost use Rattle.jx_run.specs.SeqRun.{IsReading};
 

@@ -1,7 +1,7 @@
 // Elements of a JSON text sequence that stand between two record separators, of which verdicts alone are kept.
 ghost use Rattle.std.specs.Prelude.{◌≡◌, ◌≤◌, ◌<◌, ◌+◌, ◌^◌, ℕ, List, length, map, slice_range, IfOk};
 ghost use Rattle.std.specs.List.{AllZip};
-ghost use Rattle.jx_run.specs.Elements.{Part, filled, part, parts};
+ghost use Rattle.jx_run.specs.Elements.{Part, filled, part};
 ghost use Rattle.jx_run.specs.ElementsRun.{AreMarked, IsPartRun};
 ghost use Rattle.jx_run.specs.inside.Moved.{moved};
 ghost use Rattle.jx_run.specs.ElementVerdict.{IsJudgedElement};
@@ -50,7 +50,7 @@ impl Piece for PartRun {
         self.judged_with(right)
     }
 
-    // one reader serves every element
+    // One reader serves every element.
     fn behind(
         alloc: Global,
         text: &[u8],

@@ -1,5 +1,5 @@
 // Runs over parts of the elements of a JSON text sequence.
-ghost use Rattle.std.specs.Prelude.{◌≡◌, ◌≤◌, ◌<◌, ◌+◌, ◌^◌, ℕ, List, ◌++◌, length, slice_range, IfOk, IfErr};
+ghost use Rattle.std.specs.Prelude.{◌≡◌, ◌<◌, ◌+◌, ◌^◌, ℕ, List, ◌++◌, IfOk};
 ghost use Rattle.jx_run.specs.Elements.{part};
 ghost use Rattle.jx_run.specs.ElementsRun.{IsPartRun};
 ghost use Rattle.jx_run.specs.ElementVerdict.{IsJudgedElement};

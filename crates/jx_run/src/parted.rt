@@ -1,5 +1,5 @@
 // Bytes of a JSON text sequence, parted at the record separators in them.
-ghost use Rattle.std.specs.Prelude.{◌≡◌, ℕ, List, None, Some, IfOk, IfErr, OnOk, OnErr};
+ghost use Rattle.std.specs.Prelude.{◌≡◌, None, Some, IfOk, IfErr, OnOk, OnErr};
 ghost use Rattle.jx_run.specs.Parted.{IsParted, last_piece, meaning, parted_span};
 ghost use Rattle.jx_run.specs.inside.PartedJoins.{IsClosed, IsPartedJoin};
 
@@ -31,7 +31,7 @@ impl<P: Piece> Model for Marked<P> {
 #[derive(Drop)]
 pub(crate) struct Parted<P: Piece> {
     pub(crate) before: P,
-    // none where the bytes hold no separator
+    /// None where the bytes hold no separator.
     pub(crate) marked: Option<Marked<P>>,
 }
 

@@ -1,5 +1,5 @@
 // Runs over parts of a JSON text.
-ghost use Rattle.std.specs.Prelude.{◌≡◌, ◌≤◌, ℕ, List, ◌++◌, length, Some, slice_range, IfOk, IfErr};
+ghost use Rattle.std.specs.Prelude.{◌≡◌, ◌≤◌, ℕ, List, length, Some, IfOk};
 ghost use Rattle.jx_lex.specs.declared.alphabet.state.LexState.TheVariants.{Gap};
 ghost use Rattle.jx_lex.specs.Map.{track};
 ghost use Rattle.jx_lex.specs.View.{exit_of};
@@ -7,7 +7,7 @@ ghost use Rattle.jx_reduce.specs.Fits.{IsOfSize};
 ghost use Rattle.jx_reduce.specs.Reduced.{answer_of, depth_of, form_in};
 ghost use Rattle.jx_reduce.specs.Reductions.{form_at, entry_of};
 ghost use Rattle.jx_reduce.specs.declared.holder.Holder.{Holder};
-ghost use Rattle.jx_run.specs.OutcomeRun.{entries_at, exit_at, Entries, IsOutcomeRun};
+ghost use Rattle.jx_run.specs.OutcomeRun.{entries_at, exit_at, Entries};
 ghost use Rattle.jx_run.specs.Reading.{at_exit, read};
 ghost use Rattle.jx_run.specs.Started.{IsStarted};
 ghost use Rattle.jx_run.specs.TextRun.{outcomes_of, text_span, IsTextRun};

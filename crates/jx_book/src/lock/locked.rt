@@ -1,5 +1,5 @@
 // What the lock of a book guards.
-ghost use Rattle.std.specs.Prelude.{◌≡◌, ◌+◌, ◌<◌, [], sum_by, vec_len};
+ghost use Rattle.std.specs.Prelude.{◌≡◌, ◌+◌, ◌<◌, sum_by, vec_len};
 ghost use Rattle.jx_book.specs.Runs.{IsApart, run_len};
 ghost use Rattle.jx_book.specs.Shares.{IsShared};
 

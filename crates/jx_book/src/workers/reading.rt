@@ -1,4 +1,4 @@
-ghost use Rattle.std.specs.Prelude.{◌≡◌, ◌+◌, ◌≤◌, List, length, true, All, sum_by, vec_len, IfOk};
+ghost use Rattle.std.specs.Prelude.{◌≡◌, ◌+◌, List, length, true, All, sum_by, vec_len, IfOk};
 ghost use Rattle.jx_summary.specs.declared.span.Span.{Span};
 ghost use Rattle.jx_claim.specs.Claimed.{TableId, AreFresh};
 ghost use Rattle.jx_claim.specs.Cut.{drawn_len};

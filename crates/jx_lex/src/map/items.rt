@@ -1,5 +1,5 @@
 // The marks of a track, or its ends, one after another.
-ghost use Rattle.std.specs.Prelude.{◌≡◌, [], ◌++◌, ℕ, List, refl, option_to_list, IsNone};
+ghost use Rattle.std.specs.Prelude.{◌≡◌, [], ◌++◌, List, refl, option_to_list, IsNone};
 ghost use Rattle.std.specs.Iterator.{YieldsFirst, item_count};
 ghost use Rattle.jx_lex.specs.Follow.{SegmentValue, behind, done};
 ghost use Rattle.jx_lex.specs.Lex.{Track, LexExit};

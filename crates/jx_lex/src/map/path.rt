@@ -11,7 +11,7 @@ use std::marker::Model;
 /// An iterator over the numbers of a track's segments, seen as the list of those that are left.
 #[derive(Drop)]
 pub struct Path<'a> {
-    // the number of the first segment of `rest`
+    /// The number of the first segment of `rest`.
     pub(crate) number: usize,
     pub(crate) rest: &'a [Segment],
     pub(crate) next: Link,

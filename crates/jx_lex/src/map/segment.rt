@@ -2,7 +2,7 @@
 ghost use Rattle.std.specs.Prelude.{◌≡◌, ◌≤◌, ◌<◌, ◌+◌, ◌++◌, [], ◌^◌, length, take, slice_range, OnOk, OnErr};
 ghost use Rattle.jx_lex.specs.inside.Closed.{ClosedTo};
 ghost use Rattle.jx_lex.specs.declared.alphabet.state.LexState.{LexState};
-ghost use Rattle.jx_lex.specs.Follow.{IsIn, head, linked, linked_segments};
+ghost use Rattle.jx_lex.specs.Follow.{IsIn, head, linked_segments};
 ghost use Rattle.jx_lex.specs.inside.Passing.{read_bytes};
 ghost use Rattle.jx_lex.specs.inside.Step.{read_segment};
 

@@ -17,10 +17,10 @@ const MOST: usize = 4096;
 pub(crate) struct Ahead {
     pub(crate) from: usize,
     pub(crate) to: usize,
-    // The end of what was tested. Where that isn't well-formed, the stretch is empty.
+    /// The end of what was tested. Where that isn't well-formed, the stretch is empty.
     tested: usize,
-    // How many bytes were read one character after another, or the length of this stretch. The next one is four times as
-    // long, so that a short string costs no long stretch.
+    /// How many bytes were read one character after another, or the length of this stretch. The next one is four times as
+    /// long, so that a short string costs no long stretch.
     pub(crate) next: usize,
 }
 

@@ -8,27 +8,33 @@ ghost use Rattle.jx_lex.specs.Uneventful.{AllKeep, is_plain, is_unescaped, is_di
 
 use std::simd::prelude::*;
 
-// A set of bytes, with which one byte, 16 and 64 are compared at a time.
+/// A set of bytes, with which one byte, 16 and 64 are compared at a time.
 trait ByteSet {
     ghost goes_on: { ℕ → Bool };
 
+    /// Whether the byte is in the set.
     fn has(byte: u8) -> bool
         ensures { result ≡ goes_on byte };
 
-    // Bit k says that byte k is not in the set.
+    /// Bit k says that byte k of 16 is not in the set.
     fn others(block: u8x16) -> u64
         ensures { result ≡ mask_l (map (λ byte. not (goes_on byte)) block) };
 
+    /// Bit k says that byte k of 64 is not in the set.
     fn others_of_64(block: u8x64) -> u64
         ensures { result ≡ mask_l (map (λ byte. not (goes_on byte)) block) };
 }
 
+/// Ordinary ASCII in a string.
 struct Plain;
 
+/// What a string holds but for quotation marks, backslashes and control characters.
 struct Unescaped;
 
+/// The digits, 30 to 39.
 struct Digits;
 
+/// The blanks that may stand between tokens (RFC 8259, section 2).
 struct Blanks;
 
 impl ByteSet for Plain {

@@ -1,5 +1,5 @@
 // What is kept of the tokens that a scan finds.
-ghost use Rattle.std.specs.Prelude.{◌≡◌, ◌++◌, ◌∷◌, [], ℕ, List, OnOk, IsTrue};
+ghost use Rattle.std.specs.Prelude.{◌++◌, ◌∷◌, [], ℕ, List, OnOk, IsTrue};
 ghost use Rattle.jx_lex.specs.declared.alphabet.mark.Mark.{Mark};
 ghost use Rattle.jx_lex.specs.Seen.{WantsNoMore};
 
