@@ -2,7 +2,7 @@
 complete -c jx -f
 complete -c jx -n __fish_use_subcommand -a check -d 'Tell whether the input is a JSON text'
 complete -c jx -n __fish_use_subcommand -a index -d 'Print a line for each value of a JSON text'
-complete -c jx -n __fish_use_subcommand -a at -d 'Print where pointers lead in a JSON text'
+complete -c jx -n __fish_use_subcommand -a at -d 'Print where JSON Pointers lead in a JSON text'
 complete -c jx -n __fish_use_subcommand -a seq -d 'Tell which elements of a JSON text sequence are JSON texts'
 complete -c jx -n __fish_use_subcommand -a help -d 'Print help'
 complete -c jx -n __fish_use_subcommand -s V -l version -d 'Print version'

@@ -30,7 +30,7 @@ pub const CHECK: &str = "Tell whether the input is a JSON text";
 
 pub const INDEX: &str = "Print a line for each value of a JSON text";
 
-pub const AT: &str = "Print where pointers lead in a JSON text";
+pub const AT: &str = "Print where JSON Pointers lead in a JSON text";
 
 pub const SEQ: &str = "Tell which elements of a JSON text sequence are JSON texts";
 
