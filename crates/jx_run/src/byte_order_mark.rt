@@ -24,7 +24,7 @@ fn count_agreed(text: &[u8]) -> usize
     3
 }
 
-/// The same as `front`.
+/// What stands in front, by how many bytes of the mark the text begins with.
 fn seen(text: &[u8], mark: FrontMark) -> Front
     ensures { result ≡ front_of mark text.now }
 {

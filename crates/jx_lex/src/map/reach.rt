@@ -21,6 +21,19 @@ fn note(live: &mut [bool; 32], link: Link)
     }
 }
 
+/// The states in which these segments end. The first `closed` end in none.
+fn ends_of(segments: &[Segment], closed: usize) -> [bool; 32]
+    requires within { closed ≤ length segments.now }
+    requires all_closed { ClosedTo closed segments.now }
+    ensures { AllLive result segments.now }
+{
+    let mut live = [false; 32];
+    for i in closed..segments.len() {
+        note(&mut live, segments[i].next());
+    }
+    live
+}
+
 /// The states in which the tracks of a map may end. The first `closed` segments lead to none.
 pub(crate) fn exits(heads: &[Link; 32], segments: &[Segment], closed: usize) -> [bool; 32]
     requires within { closed ≤ length segments.now }
@@ -28,10 +41,7 @@ pub(crate) fn exits(heads: &[Link; 32], segments: &[Segment], closed: usize) -> 
     ensures heads { (s : LexState) → LiveAt result (head heads.now s) }
     ensures segments { AllLive result segments.now }
 {
-    let mut live = [false; 32];
-    for i in closed..segments.len() {
-        note(&mut live, segments[i].next());
-    }
+    let mut live = ends_of(segments, closed);
     for state in LexState::all() {
         note(&mut live, heads[state.number()]);
     }
