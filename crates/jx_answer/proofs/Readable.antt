@@ -3,7 +3,7 @@ use Rattle.std.proofs.Common.{◌≡◌, ℕ, suc, ◌+◌, ◌<◌, ◌≤◌, 
 use Rattle.std.specs.Prelude.{slice_range, All}
 use Rattle.std.specs.List.{AllZip}
 use Rattle.std.proofs.lemmas.List.Elements.{All-nil, All-cons, All-head, All-tail}
-use Rattle.jx_run.specs.Elements.{Part, part, is_mark, before_separator, after_separators}
+use Rattle.jx_run.specs.Elements.{Part, part, is_separator, before_separator, after_separators}
 use Rattle.jx_run.specs.SeqRun.{IsReading}
 use Rattle.jx_run.specs.Started.{StartedValue, IsStarted}
 use Rattle.jx_run.proofs.ElementsLie.{LiesIn, parts_lie}
@@ -26,7 +26,7 @@ wider at (p ∷ ps) h =
 
 pub behind_marks : (at : ℕ) (bytes : List ℕ) → All (λ (p : Part). at < p.at) (after_separators at bytes)
 behind_marks at [] = All-nil (λ (p : Part). at < p.at)
-behind_marks at (b ∷ bytes) = pick (is_mark b) (wider at (after_separators (suc at) bytes) (behind_marks (suc at) bytes))
+behind_marks at (b ∷ bytes) = pick (is_separator b) (wider at (after_separators (suc at) bytes) (behind_marks (suc at) bytes))
   where
     pick : (m : Bool) → All (λ (p : Part). at < p.at) (after_separators (suc at) bytes)
         → All (λ (p : Part). at < p.at) (cond m (part (suc at) (before_separator bytes) ∷ after_separators (suc at) bytes) (after_separators (suc at) bytes))

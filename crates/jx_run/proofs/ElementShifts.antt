@@ -3,7 +3,7 @@ use Rattle.std.proofs.Common.{◌≡◌, ℕ, suc, ◌+◌, ◌^◌, ◌<◌, �
 use Rattle.std.specs.List.{AllZip}
 use Rattle.std.proofs.lemmas.List.{map-append}
 use Rattle.jx_run.specs.declared.element_verdict.JudgedElement.{JudgedElement}
-use Rattle.jx_run.specs.Elements.{Part, part, is_mark, before_separator, after_separators, filled, has_bytes}
+use Rattle.jx_run.specs.Elements.{Part, part, is_separator, before_separator, after_separators, filled, has_bytes}
 use Rattle.jx_run.specs.ElementsRun.{PartRunValue, MarkedElementsValue, IsPartRun, AreMarked, IsSummaryOf, last_part}
 use Rattle.jx_run.specs.ElementVerdict.{IsJudgedElement}
 use Rattle.jx_run.specs.inside.Moved.{moved}
@@ -22,7 +22,7 @@ AllEndBy n (p ∷ ps) = EndsBy n p × AllEndBy n ps
 
 parts_end : (at : ℕ) (xs : List ℕ) (n : ℕ) → at + length xs ≤ n → AllEndBy n (after_separators at xs)
 parts_end at [] n low = tt
-parts_end at (b ∷ xs) n low = pick (is_mark b) (parts_end (suc at) xs n (omega (arith, low)))
+parts_end at (b ∷ xs) n low = pick (is_separator b) (parts_end (suc at) xs n (omega (arith, low)))
   where
     pick : (m : Bool) → AllEndBy n (after_separators (suc at) xs) → AllEndBy n (cond m (part (suc at) (before_separator xs) ∷ after_separators (suc at) xs) (after_separators (suc at) xs))
     pick true rest = (record { marked = omega arith; ends = let h = before-short xs in omega (arith, h, low) }, rest)

@@ -5,7 +5,7 @@ use Rattle.std.proofs.lemmas.List.{drop-drop, length-drop}
 use Rattle.std.proofs.lemmas.List.Elements.{All-nil, All-cons, All-head, All-tail}
 use Rattle.jx_run.specs.declared.settings.FrontMark.{FrontMark}
 use Rattle.jx_run.specs.declared.settings.FrontMark.TheVariants as on_mark
-use Rattle.jx_run.specs.Elements.{Part, part, is_mark, before_separator, after_separators, parts, has_bytes, filled, elements}
+use Rattle.jx_run.specs.Elements.{Part, part, is_separator, before_separator, after_separators, parts, has_bytes, filled, elements}
 use Rattle.jx_run.specs.MarkAlone.{elements_by, is_mark_alone, without_mark}
 
 -- these are the bytes of the text that the part says
@@ -15,7 +15,7 @@ pub record LiesIn (text : List ℕ) (p : Part) : Type 0 where
 
 before-is_front : (bytes : List ℕ) → take (length (before_separator bytes)) bytes ≡ before_separator bytes
 before-is_front [] = refl
-before-is_front (b ∷ bytes) = pick (is_mark b) (before-is_front bytes)
+before-is_front (b ∷ bytes) = pick (is_separator b) (before-is_front bytes)
   where
     pick : (m : Bool) → take (length (before_separator bytes)) bytes ≡ before_separator bytes
         → take (length (cond m [] (b ∷ before_separator bytes))) (b ∷ bytes) ≡ cond m [] (b ∷ before_separator bytes)
@@ -24,7 +24,7 @@ before-is_front (b ∷ bytes) = pick (is_mark b) (before-is_front bytes)
 
 before-short : (bytes : List ℕ) → length (before_separator bytes) ≤ length bytes
 before-short [] = omega arith
-before-short (b ∷ bytes) = pick (is_mark b) (before-short bytes)
+before-short (b ∷ bytes) = pick (is_separator b) (before-short bytes)
   where
     pick : (m : Bool) → length (before_separator bytes) ≤ length bytes → length (cond m [] (b ∷ before_separator bytes)) ≤ suc (length bytes)
     pick true h = omega arith
@@ -50,7 +50,7 @@ parts_lie text at (b ∷ bytes) h low =
     let long : length (drop at text) ≡ length text - at = length-drop at text in
     let all : length (drop at text) ≡ suc (length bytes) = ap length h in
     let more : suc at ≤ length text = omega arith in
-    pick (is_mark b) (first_lies text (suc at) bytes next more) (parts_lie text (suc at) bytes next more)
+    pick (is_separator b) (first_lies text (suc at) bytes next more) (parts_lie text (suc at) bytes next more)
   where
     pick : (m : Bool) → LiesIn text (part (suc at) (before_separator bytes)) → All (LiesIn text) (after_separators (suc at) bytes)
         → All (LiesIn text) (cond m (part (suc at) (before_separator bytes) ∷ after_separators (suc at) bytes) (after_separators (suc at) bytes))

@@ -12,7 +12,7 @@ use Rattle.jx_run.specs.declared.verdict.Refusal.{Refusal}
 use Rattle.jx_run.specs.declared.verdict.Refusal.TheVariants as refusal
 use Rattle.jx_run.specs.declared.verdict.Verdict.{Verdict}
 use Rattle.jx_run.specs.declared.verdict.Verdict.TheVariants.{Accepted, Refused}
-use Rattle.jx_run.specs.Elements.{Part, part, is_mark, before_separator, after_separators, filled, has_bytes, elements}
+use Rattle.jx_run.specs.Elements.{Part, part, is_separator, before_separator, after_separators, filled, has_bytes, elements}
 use Rattle.jx_run.specs.ElementVerdict.{IsClosedText, IsUnclosedText, IsVerdictOn, IsJudgedElement}
 use Rattle.jx_run.specs.Laws.{is_end, verdict_of}
 use Rattle.jx_run.specs.inside.Moved.{moved, moved_refusal, moved_verdict}
@@ -131,11 +131,11 @@ element_moved law limit more p e marked low h =
       verdict_is = verdict_moved law limit more p e.verdict marked low h.verdict_is;
     }
 
--- ---- the elements behind marks
+-- ---- the elements behind separators
 
 pub before-short : (xs : List ℕ) → length (before_separator xs) ≤ length xs
 before-short [] = omega arith
-before-short (b ∷ xs) = pick (is_mark b) (before-short xs)
+before-short (b ∷ xs) = pick (is_separator b) (before-short xs)
   where
     pick : (m : Bool) → length (before_separator xs) ≤ length xs → length (cond m [] (b ∷ before_separator xs)) ≤ length (b ∷ xs)
     pick true h = omega arith
@@ -144,7 +144,7 @@ before-short (b ∷ xs) = pick (is_mark b) (before-short xs)
 pub parts_moved : (more at : ℕ) (xs : List ℕ) → after_separators (more + at) xs ≡ map (moved_part more) (after_separators at xs)
 parts_moved more at [] = refl
 parts_moved more at (b ∷ xs) =
-    ap (λ (i : ℕ). cond (is_mark b) (part i (before_separator xs) ∷ after_separators i xs) (after_separators i xs)) (sym (add-suc more at)) ∙ pick (is_mark b) (parts_moved more (suc at) xs)
+    ap (λ (i : ℕ). cond (is_separator b) (part i (before_separator xs) ∷ after_separators i xs) (after_separators i xs)) (sym (add-suc more at)) ∙ pick (is_separator b) (parts_moved more (suc at) xs)
   where
     pick : (m : Bool) → after_separators (more + suc at) xs ≡ map (moved_part more) (after_separators (suc at) xs)
         → cond m (part (more + suc at) (before_separator xs) ∷ after_separators (more + suc at) xs) (after_separators (more + suc at) xs)
@@ -152,13 +152,13 @@ parts_moved more at (b ∷ xs) =
     pick true h = ap (λ ps. part (more + suc at) (before_separator xs) ∷ ps) h
     pick false h = h
 
--- each element behind a mark is moved
+-- each element behind a separator is moved
 pub moved_elements : Verdicts → (limit more at : ℕ) (xs : List ℕ) (es : List JudgedElement) → more + (at + length xs) < 2 ^ 64
     → AllZip (IsJudgedElement limit) (filled (after_separators at xs)) es → AllZip (IsJudgedElement limit) (filled (map (moved_part more) (after_separators at xs))) (map (moved more) es)
 moved_elements law limit more at [] [] low z = tt
 moved_elements law limit more at [] (e ∷ es) low z = absurd z
 moved_elements law limit more at (b ∷ xs) es low z =
-    pick (is_mark b) (λ es z. moved_elements law limit more (suc at) xs es (omega (arith, low)) z) (let h = before-short xs in omega (arith, h, low)) z
+    pick (is_separator b) (λ es z. moved_elements law limit more (suc at) xs es (omega (arith, low)) z) (let h = before-short xs in omega (arith, h, low)) z
   where
     with_first : (f : Bool) (es : List JudgedElement) → ((es : List JudgedElement) → AllZip (IsJudgedElement limit) (filled (after_separators (suc at) xs)) es
         → AllZip (IsJudgedElement limit) (filled (map (moved_part more) (after_separators (suc at) xs))) (map (moved more) es)) → more + (suc at + length (before_separator xs)) < 2 ^ 64
@@ -176,7 +176,7 @@ moved_elements law limit more at (b ∷ xs) es low z =
     pick true rest fit z = with_first (has_bytes (part (suc at) (before_separator xs))) es rest fit z
     pick false rest fit z = rest es z
 
--- the elements of what begins with a mark
+-- the elements of what begins with a separator
 pub behind_moved : Verdicts → (limit more : ℕ) (bytes : List ℕ) (es : List JudgedElement) → before_separator bytes ≡ [] → more + length bytes < 2 ^ 64
     → AllZip (IsJudgedElement limit) (elements 0 bytes) es → AllZip (IsJudgedElement limit) (elements more bytes) (map (moved more) es)
 behind_moved law limit more bytes es starts low z =

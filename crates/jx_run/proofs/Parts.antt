@@ -1,11 +1,11 @@
--- The parts between the record marks of one list of bytes and then another.
+-- The parts between the record separators of one list of bytes and then another.
 use Rattle.std.proofs.Common.{◌≡◌, ℕ, suc, ◌+◌, List, [], ◌∷◌, ◌++◌, length, Bool, true, false, cond, refl, sym, ap, ◌∙◌, arith}
-use Rattle.jx_run.specs.Elements.{Part, part, is_mark, before_separator, after_separators}
+use Rattle.jx_run.specs.Elements.{Part, part, is_separator, before_separator, after_separators}
 
--- no mark: all stands before
+-- no separator: all stands before
 pub unmarked-before : (xs : List ℕ) (at : ℕ) → after_separators at xs ≡ [] → before_separator xs ≡ xs
 unmarked-before [] at h = refl
-unmarked-before (b ∷ xs) at h = pick (is_mark b) h (unmarked-before xs (suc at))
+unmarked-before (b ∷ xs) at h = pick (is_separator b) h (unmarked-before xs (suc at))
   where
     pick : (m : Bool) → cond m (part (suc at) (before_separator xs) ∷ after_separators (suc at) xs) (after_separators (suc at) xs) ≡ []
         → (after_separators (suc at) xs ≡ [] → before_separator xs ≡ xs) → cond m [] (b ∷ before_separator xs) ≡ b ∷ xs
@@ -14,7 +14,7 @@ unmarked-before (b ∷ xs) at h = pick (is_mark b) h (unmarked-before xs (suc at
 
 pub unmarked-before-append : (xs ys : List ℕ) (at : ℕ) → after_separators at xs ≡ [] → before_separator (xs ++ ys) ≡ xs ++ before_separator ys
 unmarked-before-append [] ys at h = refl
-unmarked-before-append (b ∷ xs) ys at h = pick (is_mark b) h (unmarked-before-append xs ys (suc at))
+unmarked-before-append (b ∷ xs) ys at h = pick (is_separator b) h (unmarked-before-append xs ys (suc at))
   where
     pick : (m : Bool) → cond m (part (suc at) (before_separator xs) ∷ after_separators (suc at) xs) (after_separators (suc at) xs) ≡ []
         → (after_separators (suc at) xs ≡ [] → before_separator (xs ++ ys) ≡ xs ++ before_separator ys)
@@ -28,7 +28,7 @@ further at b xs = omega arith
 pub unmarked-after-append : (xs ys : List ℕ) (at : ℕ) → after_separators at xs ≡ [] → after_separators at (xs ++ ys) ≡ after_separators (at + length xs) ys
 unmarked-after-append [] ys at h = let e : at ≡ at + 0 = omega arith in ap (λ n. after_separators n ys) e
 unmarked-after-append (b ∷ xs) ys at h =
-    pick (is_mark b) h (unmarked-after-append xs ys (suc at)) ∙ ap (λ n. after_separators n ys) (further at b xs)
+    pick (is_separator b) h (unmarked-after-append xs ys (suc at)) ∙ ap (λ n. after_separators n ys) (further at b xs)
   where
     pick : (m : Bool) → cond m (part (suc at) (before_separator xs) ∷ after_separators (suc at) xs) (after_separators (suc at) xs) ≡ []
         → (after_separators (suc at) xs ≡ [] → after_separators (suc at) (xs ++ ys) ≡ after_separators (suc at + length xs) ys)
@@ -36,10 +36,10 @@ unmarked-after-append (b ∷ xs) ys at h =
     pick true h more = absurd cc
     pick false h more = more h
 
--- a mark: what stands before the first stays
+-- a separator: what stands before the first stays
 pub marked-before-append : (xs ys : List ℕ) (at : ℕ) (p : Part) (ps : List Part) → after_separators at xs ≡ p ∷ ps → before_separator (xs ++ ys) ≡ before_separator xs
 marked-before-append [] ys at p ps h = absurd cc
-marked-before-append (b ∷ xs) ys at p ps h = pick (is_mark b) h (marked-before-append xs ys (suc at) p ps)
+marked-before-append (b ∷ xs) ys at p ps h = pick (is_separator b) h (marked-before-append xs ys (suc at) p ps)
   where
     pick : (m : Bool) → cond m (part (suc at) (before_separator xs) ∷ after_separators (suc at) xs) (after_separators (suc at) xs) ≡ p ∷ ps
         → (after_separators (suc at) xs ≡ p ∷ ps → before_separator (xs ++ ys) ≡ before_separator xs)
@@ -73,13 +73,13 @@ first xs ys at p ps l h more =
     let here : part at (before_separator (xs ++ ys)) ≡ part at (before_separator xs) = ap (part at) (last-before-append xs ys at ps l rest) in
     cc
 
--- the last part of the left goes on with what stands before the first mark of the right
+-- the last part of the left goes on with what stands before the first separator of the right
 pub marked-after-append : (xs ys : List ℕ) (at : ℕ) (between : List Part) (last : Part) → after_separators at xs ≡ between ++ last ∷ []
     → after_separators at (xs ++ ys) ≡ between ++ longer last (before_separator ys) ∷ after_separators (at + length xs) ys
 marked-after-append [] ys at [] last h = absurd cc
 marked-after-append [] ys at (p ∷ ps) last h = absurd cc
 marked-after-append (b ∷ xs) ys at between last h =
-    pick (is_mark b) between h (λ ps. marked-after-append xs ys (suc at) ps last) ∙ ap (λ n. between ++ longer last (before_separator ys) ∷ after_separators n ys) (further at b xs)
+    pick (is_separator b) between h (λ ps. marked-after-append xs ys (suc at) ps last) ∙ ap (λ n. between ++ longer last (before_separator ys) ∷ after_separators n ys) (further at b xs)
   where
     pick : (m : Bool) (between : List Part) → cond m (part (suc at) (before_separator xs) ∷ after_separators (suc at) xs) (after_separators (suc at) xs) ≡ between ++ last ∷ []
         → ((ps : List Part) → after_separators (suc at) xs ≡ ps ++ last ∷ [] → after_separators (suc at) (xs ++ ys) ≡ ps ++ longer last (before_separator ys) ∷ after_separators (suc at + length xs) ys)
@@ -99,7 +99,7 @@ parts-append xs ys at (p ∷ ps) last h = first xs ys at p ps last h (marked-aft
 pub last-ends : (xs : List ℕ) (at : ℕ) (between : List Part) (last : Part) → after_separators at xs ≡ between ++ last ∷ [] → last.at + length last.bytes ≡ at + length xs
 last-ends [] at [] last h = absurd cc
 last-ends [] at (p ∷ ps) last h = absurd cc
-last-ends (b ∷ xs) at between last h = pick (is_mark b) between h (λ ps. last-ends xs (suc at) ps last) ∙ further at b xs
+last-ends (b ∷ xs) at between last h = pick (is_separator b) between h (λ ps. last-ends xs (suc at) ps last) ∙ further at b xs
   where
     pick : (m : Bool) (between : List Part) → cond m (part (suc at) (before_separator xs) ∷ after_separators (suc at) xs) (after_separators (suc at) xs) ≡ between ++ last ∷ []
         → ((ps : List Part) → after_separators (suc at) xs ≡ ps ++ last ∷ [] → last.at + length last.bytes ≡ suc at + length xs)

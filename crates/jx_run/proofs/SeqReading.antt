@@ -6,38 +6,38 @@ use Rattle.std.proofs.lemmas.Bool.Decides.{nat_tests}
 use Rattle.std.proofs.lemmas.List.{append_assoc, append-nil, take-take, drop-take, drop-drop}
 use Rattle.std.proofs.lemmas.List.Edits.{length-between}
 use Rattle.std.proofs.lemmas.List.Elements.{filter-append}
-use Rattle.jx_run.specs.Elements.{Part, part, is_mark, before_separator, after_separators, parts, filled, has_bytes}
+use Rattle.jx_run.specs.Elements.{Part, part, is_separator, before_separator, after_separators, parts, filled, has_bytes}
 use Rattle.jx_run.specs.Parted.{Meaning, IsMarked}
 use Rattle.jx_run.proofs.Parts.{unmarked-before}
 use Rattle.jx_run.proofs.PartedJoins.{AllZip-append}
 
--- ---- the first mark
+-- ---- the first separator
 
 abbrev pub HasNone : List ℕ → ℕ → Type 0
-HasNone xs n = (k : ℕ) → k < n → is_mark (get_or xs k 0) ≡ true → ⊥
+HasNone xs n = (k : ℕ) → k < n → is_separator (get_or xs k 0) ≡ true → ⊥
 
 none_in_rest : (b : ℕ) (xs : List ℕ) (n : ℕ) → HasNone (b ∷ xs) (suc n) → HasNone xs n
 none_in_rest b xs n h k low = h (suc k) (omega arith)
 
 pub none-after : (xs : List ℕ) (at : ℕ) → HasNone xs (length xs) → after_separators at xs ≡ []
 none-after [] at h = refl
-none-after (b ∷ xs) at h = pick (is_mark b) (h 0 (omega arith)) (none-after xs (suc at) (none_in_rest b xs (length xs) h))
+none-after (b ∷ xs) at h = pick (is_separator b) (h 0 (omega arith)) (none-after xs (suc at) (none_in_rest b xs (length xs) h))
   where
     pick : (m : Bool) → (m ≡ true → ⊥) → after_separators (suc at) xs ≡ []
         → cond m (part (suc at) (before_separator xs) ∷ after_separators (suc at) xs) (after_separators (suc at) xs) ≡ []
     pick true away more = absurd (away refl)
     pick false away more = more
 
-pub first-before : (xs : List ℕ) (k : ℕ) → k < length xs → HasNone xs k → is_mark (get_or xs k 0) ≡ true → before_separator xs ≡ take k xs
+pub first-before : (xs : List ℕ) (k : ℕ) → k < length xs → HasNone xs k → is_separator (get_or xs k 0) ≡ true → before_separator xs ≡ take k xs
 first-before [] k low h m = absurd (omega arith)
 first-before (b ∷ xs) zero low h m = ap (λ t. cond t [] (b ∷ before_separator xs)) m
-first-before (b ∷ xs) (suc k) low h m = pick (is_mark b) (h 0 (omega arith)) (first-before xs k (omega arith) (none_in_rest b xs k h) m)
+first-before (b ∷ xs) (suc k) low h m = pick (is_separator b) (h 0 (omega arith)) (first-before xs k (omega arith) (none_in_rest b xs k h) m)
   where
     pick : (t : Bool) → (t ≡ true → ⊥) → before_separator xs ≡ take k xs → cond t [] (b ∷ before_separator xs) ≡ b ∷ take k xs
     pick true away more = absurd (away refl)
     pick false away more = ap (λ ys. b ∷ ys) more
 
-pub first-after : (xs : List ℕ) (k at : ℕ) → k < length xs → HasNone xs k → is_mark (get_or xs k 0) ≡ true
+pub first-after : (xs : List ℕ) (k at : ℕ) → k < length xs → HasNone xs k → is_separator (get_or xs k 0) ≡ true
     → after_separators at xs ≡ parts (at + k + 1) (drop (suc k) xs)
 first-after [] k at low h m = absurd (omega arith)
 first-after (b ∷ xs) zero at low h m =
@@ -45,7 +45,7 @@ first-after (b ∷ xs) zero at low h m =
     ap (λ t. cond t (parts (suc at) xs) (after_separators (suc at) xs)) m ∙ ap (λ n. parts n xs) e
 first-after (b ∷ xs) (suc k) at low h m =
     let e : suc at + k + 1 ≡ at + suc k + 1 = omega arith in
-    pick (is_mark b) (h 0 (omega arith)) (first-after xs k (suc at) (omega arith) (none_in_rest b xs k h) m) ∙ ap (λ n. parts n (drop (suc k) xs)) e
+    pick (is_separator b) (h 0 (omega arith)) (first-after xs k (suc at) (omega arith) (none_in_rest b xs k h) m) ∙ ap (λ n. parts n (drop (suc k) xs)) e
   where
     pick : (t : Bool) → (t ≡ true → ⊥) → after_separators (suc at) xs ≡ parts (suc at + k + 1) (drop (suc k) xs)
         → cond t (part (suc at) (before_separator xs) ∷ after_separators (suc at) xs) (after_separators (suc at) xs) ≡ parts (suc at + k + 1) (drop (suc k) xs)
@@ -107,7 +107,7 @@ one_reading R p s h k = subst (λ b. AllZip R (these b p) (s ∷ [])) (sym (has 
 pub no_reading : {D : Type 0} (R : Part → D → Type 0) (p : Part) → length p.bytes ≡ 0 → AllZip R (filled (p ∷ [])) []
 no_reading R p h = subst (λ b. AllZip R (these b p) []) (sym (has_not p h)) tt
 
--- the parts from here on, where the next mark is at `at`
+-- the parts from here on, where the next separator is at `at`
 abbrev pub rest_at : List ℕ → ℕ → ℕ → List Part
 rest_at text from end = parts from (slice_range text from end)
 

@@ -8,7 +8,7 @@ use Rattle.std.proofs.lemmas.List.Elements.{filter-append}
 use Rattle.jx_run.specs.declared.element_verdict.ElementVerdict.TheVariants as element
 use Rattle.jx_run.specs.declared.element_verdict.JudgedElement.{JudgedElement}
 use Rattle.jx_run.specs.declared.verdict.Verdict.{Verdict}
-use Rattle.jx_run.specs.Elements.{Part, part, is_mark, before_separator, after_separators, parts, filled, has_bytes, elements}
+use Rattle.jx_run.specs.Elements.{Part, part, is_separator, before_separator, after_separators, parts, filled, has_bytes, elements}
 use Rattle.jx_run.specs.ElementVerdict.{IsJudgedElement, told}
 use Rattle.jx_run.specs.Reader.{ReaderValue, HasRead}
 use Rattle.jx_run.specs.SequenceRead.{AreRead, EndsWithSeparator, HasNoSeparator, StartsWithSeparator, ended_there, listed}
@@ -21,10 +21,10 @@ use Rattle.jx_run.proofs.Parts.{last-ends, longer, parts-append, unmarked-before
 use Rattle.jx_run.proofs.PartedJoins.{AllZip-append}
 use Rattle.jx_run.proofs.SeqReading.{one_reading, no_reading}
 
--- ---- bytes without a mark
+-- ---- bytes without a separator
 
-unmarked_rest : (b : ℕ) (xs : List ℕ) → HasNoSeparator (b ∷ xs) → (is_mark b ≡ false) × HasNoSeparator xs
-unmarked_rest b xs h = pick (is_mark b) h
+unmarked_rest : (b : ℕ) (xs : List ℕ) → HasNoSeparator (b ∷ xs) → (is_separator b ≡ false) × HasNoSeparator xs
+unmarked_rest b xs h = pick (is_separator b) h
   where
     pick : (m : Bool) → cond m [] (b ∷ before_separator xs) ≡ b ∷ xs → (m ≡ false) × HasNoSeparator xs
     pick true h = absurd cc
@@ -36,17 +36,17 @@ unmarked-after (b ∷ xs) at h =
     let r = unmarked_rest b xs h in
     ap (λ (m : Bool). cond m (part (suc at) (before_separator xs) ∷ after_separators (suc at) xs) (after_separators (suc at) xs)) r.0 ∙ unmarked-after xs (suc at) r.1
 
--- ---- bytes that begin with a mark, behind others
+-- ---- bytes that begin with a separator, behind others
 
 before-stays : (xs ys : List ℕ) → StartsWithSeparator ys → before_separator (xs ++ ys) ≡ before_separator xs
 before-stays [] ys h = h
-before-stays (b ∷ xs) ys h = ap (λ (t : List ℕ). cond (is_mark b) [] (b ∷ t)) (before-stays xs ys h)
+before-stays (b ∷ xs) ys h = ap (λ (t : List ℕ). cond (is_separator b) [] (b ∷ t)) (before-stays xs ys h)
 
 after-append : (xs ys : List ℕ) (at : ℕ) → StartsWithSeparator ys → after_separators at (xs ++ ys) ≡ after_separators at xs ++ after_separators (at + length xs) ys
 after-append [] ys at h = let e : at ≡ at + 0 = omega arith in ap (λ (n : ℕ). after_separators n ys) e
 after-append (b ∷ xs) ys at h =
     let e : suc at + length xs ≡ at + length (b ∷ xs) = omega arith in
-    pick (is_mark b) (after-append xs ys (suc at) h) (before-stays xs ys h) ∙ ap (λ (n : ℕ). after_separators at (b ∷ xs) ++ after_separators n ys) e
+    pick (is_separator b) (after-append xs ys (suc at) h) (before-stays xs ys h) ∙ ap (λ (n : ℕ). after_separators at (b ∷ xs) ++ after_separators n ys) e
   where
     pick : (m : Bool) → after_separators (suc at) (xs ++ ys) ≡ after_separators (suc at) xs ++ after_separators (suc at + length xs) ys → before_separator (xs ++ ys) ≡ before_separator xs
         → cond m (part (suc at) (before_separator (xs ++ ys)) ∷ after_separators (suc at) (xs ++ ys)) (after_separators (suc at) (xs ++ ys))
@@ -57,7 +57,7 @@ after-append (b ∷ xs) ys at h =
 parts-behind : (xs ys : List ℕ) (at : ℕ) → StartsWithSeparator ys → parts at (xs ++ ys) ≡ parts at xs ++ after_separators (at + length xs) ys
 parts-behind xs ys at h = ap (λ (t : List ℕ). part at t ∷ after_separators at (xs ++ ys)) (before-stays xs ys h) ∙ ap (λ ps. part at (before_separator xs) ∷ ps) (after-append xs ys at h)
 
--- a mark at the end ends all elements before it
+-- a separator at the end ends all elements before it
 ends-empty : (front bytes : List ℕ) (at : ℕ) → bytes ≡ front ++ 30 ∷ [] → after_separators at bytes ≡ after_separators at front ++ part (at + length bytes) [] ∷ []
 ends-empty front bytes at h =
     let long : length bytes ≡ length front + 1 = ap length h ∙ length-one front in
@@ -181,17 +181,17 @@ module _ (limit : ℕ) where
         opens = refl;
       }
 
--- ---- from the first mark up to behind the last one
+-- ---- from the first separator up to behind the last one
 
-pub no_mark : (xs : List ℕ) → ((k : ℕ) → k < length xs → is_mark (get_or xs k 0) ≡ true → ⊥) → HasNoSeparator xs
-no_mark [] h = refl
-no_mark (b ∷ xs) h = pick (is_mark b) (h 0 (omega arith)) (no_mark xs (λ k low. h (suc k) (omega (arith, low))))
+pub no_separator : (xs : List ℕ) → ((k : ℕ) → k < length xs → is_separator (get_or xs k 0) ≡ true → ⊥) → HasNoSeparator xs
+no_separator [] h = refl
+no_separator (b ∷ xs) h = pick (is_separator b) (h 0 (omega arith)) (no_separator xs (λ k low. h (suc k) (omega (arith, low))))
   where
     pick : (m : Bool) → (m ≡ true → ⊥) → HasNoSeparator xs → cond m [] (b ∷ before_separator xs) ≡ b ∷ xs
     pick true away more = absurd (away refl)
     pick false away more = ap (λ ys. b ∷ ys) more
 
-pub starts_there : (xs : List ℕ) (i j : ℕ) → i < j → i < length xs → is_mark (get_or xs i 0) ≡ true → StartsWithSeparator (slice_range xs i j)
+pub starts_there : (xs : List ℕ) (i j : ℕ) → i < j → i < length xs → is_separator (get_or xs i 0) ≡ true → StartsWithSeparator (slice_range xs i j)
 starts_there xs i j low within is =
     let long : j - i ≡ suc (j - i - 1) = omega (arith, low) in
     ap (λ (n : ℕ). before_separator (take n (drop i xs))) long
@@ -203,7 +203,7 @@ take-snoc [] n h = absurd (omega (arith, h))
 take-snoc (x ∷ xs) zero h = refl
 take-snoc (x ∷ xs) (suc n) h = ap (λ ys. x ∷ ys) (take-snoc xs n (omega (arith, h)))
 
-pub ends_there : (xs : List ℕ) (i j : ℕ) → i ≤ j → j < length xs → is_mark (get_or xs j 0) ≡ true → EndsWithSeparator (slice_range xs i (j + 1))
+pub ends_there : (xs : List ℕ) (i j : ℕ) → i ≤ j → j < length xs → is_separator (get_or xs j 0) ≡ true → EndsWithSeparator (slice_range xs i (j + 1))
 ends_there xs i j low within is =
     let rest : length (drop i xs) ≡ length xs - i = length-drop i xs in
     let long : j + 1 - i ≡ suc (j - i) = omega (arith, low) in
@@ -215,16 +215,16 @@ ends_there xs i j low within is =
           ∙ ap (λ (b : ℕ). take (j - i) (drop i xs) ++ b ∷ []) there,
     )
 
-pub unmarked_front : (xs : List ℕ) (k : ℕ) → k ≤ length xs → ((j : ℕ) → j < k → is_mark (get_or xs j 0) ≡ true → ⊥) → HasNoSeparator (take k xs)
+pub unmarked_front : (xs : List ℕ) (k : ℕ) → k ≤ length xs → ((j : ℕ) → j < k → is_separator (get_or xs j 0) ≡ true → ⊥) → HasNoSeparator (take k xs)
 unmarked_front xs zero within h = refl
 unmarked_front [] (suc k) within h = refl
-unmarked_front (b ∷ xs) (suc k) within h = pick (is_mark b) (h 0 (omega arith)) (unmarked_front xs k (omega (arith, within)) (λ j low. h (suc j) (omega (arith, low))))
+unmarked_front (b ∷ xs) (suc k) within h = pick (is_separator b) (h 0 (omega arith)) (unmarked_front xs k (omega (arith, within)) (λ j low. h (suc j) (omega (arith, low))))
   where
     pick : (m : Bool) → (m ≡ true → ⊥) → HasNoSeparator (take k xs) → cond m [] (b ∷ before_separator (take k xs)) ≡ b ∷ take k xs
     pick true away more = absurd (away refl)
     pick false away more = ap (λ ys. b ∷ ys) more
 
-pub unmarked_rest_of : (xs : List ℕ) (k : ℕ) → k ≤ length xs → ((j : ℕ) → k ≤ j → j < length xs → is_mark (get_or xs j 0) ≡ true → ⊥) → HasNoSeparator (drop k xs)
+pub unmarked_rest_of : (xs : List ℕ) (k : ℕ) → k ≤ length xs → ((j : ℕ) → k ≤ j → j < length xs → is_separator (get_or xs j 0) ≡ true → ⊥) → HasNoSeparator (drop k xs)
 unmarked_rest_of xs k within h =
     let rest : length (drop k xs) ≡ length xs - k = length-drop k xs in
-    no_mark (drop k xs) (λ j low m. h (k + j) (omega arith) (omega (arith, rest, low)) (sym (ap is_mark (get_or-drop k xs j 0)) ∙ m))
+    no_separator (drop k xs) (λ j low m. h (k + j) (omega arith) (omega (arith, rest, low)) (sym (ap is_separator (get_or-drop k xs j 0)) ∙ m))

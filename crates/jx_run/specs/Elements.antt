@@ -4,8 +4,8 @@ use Rattle.std.specs.List.{filter}
 use Rattle.jx_summary.specs.declared.span.Span.{Span}
 
 -- the record separator of section 2.2, hexadecimal 1E
-abbrev pub is_mark : ℕ → Bool
-is_mark byte = byte == 30
+abbrev pub is_separator : ℕ → Bool
+is_separator byte = byte == 0x1e
 
 -- bytes, and the offset from which they stand
 pub record Part : Type 0 where
@@ -21,13 +21,13 @@ part_span p = record { start = p.at; end = p.at + length p.bytes }
 -- what stands before the first separator, or all where there is none
 abbrev pub before_separator : List ℕ → List ℕ
 before_separator [] = []
-before_separator (b ∷ bytes) = if is_mark b then [] else b ∷ before_separator bytes
+before_separator (b ∷ bytes) = if is_separator b then [] else b ∷ before_separator bytes
 
 -- what stands behind each separator, up to the next one or to the end, in order; the bytes stand from an offset on
 abbrev pub after_separators : ℕ → List ℕ → List Part
 after_separators at [] = []
 after_separators at (b ∷ bytes) =
-    if is_mark b then part (suc at) (before_separator bytes) ∷ after_separators (suc at) bytes else after_separators (suc at) bytes
+    if is_separator b then part (suc at) (before_separator bytes) ∷ after_separators (suc at) bytes else after_separators (suc at) bytes
 
 -- the parts between the separators, before the first and behind the last
 abbrev pub parts : ℕ → List ℕ → List Part

@@ -187,15 +187,15 @@ impl<P: Piece> Summary for Parted<P> {
         end: usize,
         depth: Depth,
     ) -> Result<Self, AllocError> {
-        let Some(mark) = next_separator(text, start, end) else {
+        let Some(separator) = next_separator(text, start, end) else {
             let before = P::of(alloc, text, start, end, depth)?;
             return Ok(Parted {
                 before,
                 marked: None,
             });
         };
-        let before = P::of(alloc, text, start, mark, depth)?;
-        let (done, after) = P::behind(alloc, text, mark + 1, end, depth)?;
+        let before = P::of(alloc, text, start, separator, depth)?;
+        let (done, after) = P::behind(alloc, text, separator + 1, end, depth)?;
         Ok(Parted {
             before,
             marked: Some(Marked { done, after }),

@@ -1,9 +1,9 @@
 use Rattle.std.proofs.Common.{◌≡◌, ℕ, ◌+◌, ◌-◌, ◌<◌, List, length, take, drop, get_or, true, sym, subst, arith, Option, None, Some}
 use Rattle.std.specs.Prelude.{IfNone}
 use Rattle.std.proofs.lemmas.List.{take_all, length-drop}
-use Rattle.jx_run.specs.Elements.{is_mark}
+use Rattle.jx_run.specs.Elements.{is_separator}
 use Rattle.jx_run.specs.SequenceRead.{HasNoSeparator}
-use Rattle.jx_run.proofs.SequenceSteps.{no_mark, starts_there, ends_there, unmarked_front, unmarked_rest_of}
+use Rattle.jx_run.proofs.SequenceSteps.{no_separator, starts_there, ends_there, unmarked_front, unmarked_rest_of}
 use Rattle.jx_run.proofs.separators.separated_part.Goals as goal
 
 if_none : {X : Type 0} (o : Option X) (P : Type 0) → P → IfNone o P
@@ -11,14 +11,14 @@ if_none None P h = h
 if_none (Some x) P h = tt
 
 -- the last mark does not stand before the first
-not_before : (xs : List ℕ) (i j : ℕ) → is_mark (get_or xs j 0) ≡ true → ((k : ℕ) → k < i → is_mark (get_or xs k 0) ≡ true → ⊥) → i < j + 1
+not_before : (xs : List ℕ) (i j : ℕ) → is_separator (get_or xs j 0) ≡ true → ((k : ℕ) → k < i → is_separator (get_or xs k 0) ≡ true → ⊥) → i < j + 1
 not_before xs i j m h = let f : j < i → ⊥ = λ low. h j low m in omega arith
 
 pub returns-in_err-first-clause-none : goal.returns-in_err-first-clause-none
-returns-in_err-first-clause-none c = if_none c.from_residual.result _ (no_mark c.args.bytes.now (λ k low m. c.in_err-first.ensures k (omega arith) low m))
+returns-in_err-first-clause-none c = if_none c.from_residual.result _ (no_separator c.args.bytes.now (λ k low m. c.in_err-first.ensures k (omega arith) low m))
 
 pub returns-in_err-last-clause-none : goal.returns-in_err-last-clause-none
-returns-in_err-last-clause-none c = if_none c.from_residual-in_err-last.result _ (no_mark c.args.bytes.now (λ k low m. c.in_err-last.ensures k (omega arith) low m))
+returns-in_err-last-clause-none c = if_none c.from_residual-in_err-last.result _ (no_separator c.args.bytes.now (λ k low m. c.in_err-last.ensures k (omega arith) low m))
 
 pub returns-clause-before : goal.returns-clause-before
 returns-clause-before c =
