@@ -4,7 +4,7 @@ _jx() {
     COMPREPLY=()
     for ((at = 1; at < COMP_CWORD; at++)); do
         case ${COMP_WORDS[at]} in
-        check | index | at | seq | help)
+        check | explain | index | at | seq | help)
             command=${COMP_WORDS[at]}
             break
             ;;
@@ -16,12 +16,26 @@ _jx() {
         mapfile -t COMPREPLY < <(compgen -f -- "$word")
         return
         ;;
+    --color)
+        mapfile -t COMPREPLY < <(compgen -W 'auto always never' -- "$word")
+        return
+        ;;
     --depth | --workers | --piece) return ;;
     esac
     case $command in
-    '') mapfile -t COMPREPLY < <(compgen -W 'check index at seq help -h --help -V --version' -- "$word") ;;
-    help) mapfile -t COMPREPLY < <(compgen -W 'check index at seq' -- "$word") ;;
+    check | explain | index | seq)
+        if [[ $word != -* ]]; then
+            compopt -o filenames 2>/dev/null
+            mapfile -t COMPREPLY < <(compgen -f -- "$word")
+            return
+        fi
+        ;;
+    esac
+    case $command in
+    '') mapfile -t COMPREPLY < <(compgen -W 'check explain index at seq help -h --help -V --version' -- "$word") ;;
+    help) mapfile -t COMPREPLY < <(compgen -W 'check explain index at seq' -- "$word") ;;
     check | seq) mapfile -t COMPREPLY < <(compgen -W '--file --depth --workers --piece --ignore-bom --unique-names -q --quiet -h --help' -- "$word") ;;
+    explain) mapfile -t COMPREPLY < <(compgen -W '--file --depth --workers --piece --ignore-bom --unique-names --color -h --help' -- "$word") ;;
     at) mapfile -t COMPREPLY < <(compgen -W '--file --pointers --depth --workers --piece --ignore-bom --unique-names -h --help' -- "$word") ;;
     *) mapfile -t COMPREPLY < <(compgen -W '--file --depth --workers --piece --ignore-bom --unique-names -h --help' -- "$word") ;;
     esac

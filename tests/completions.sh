@@ -21,7 +21,7 @@ bash_reads_its_file() {
 
 the_commands_and_their_options_are_offered() {
     local command option
-    for command in check index at seq; do
+    for command in check explain index at seq; do
         same "bash: the options of $command" "$(options_of $command)" "$(offered jx $command --)"
         has "bash: $command itself" "$command" "$(offered jx '')"
         for option in $(options_of $command); do
@@ -34,11 +34,17 @@ the_commands_and_their_options_are_offered() {
 }
 
 bash_completes_what_is_begun() {
+    local command
     same 'bash: the options of jx' "$(options_of '')" "$(offered jx --)"
     same 'bash: a command that is begun' check "$(offered jx c)"
     same 'bash: an option that is begun' --depth "$(offered jx check --d)"
     printf x >text.json
     same 'bash: a file' text.json "$(offered jx check --file te)"
+    for command in check explain index seq; do
+        same "bash: a file as a word of $command" text.json "$(offered jx $command te)"
+    done
+    same 'bash: no file as a word of at' '' "$(offered jx at te)"
+    same 'bash: colors' "$(printf '%s\n' always auto never)" "$(offered jx explain --color '')"
     same 'bash: a file of pointers' text.json "$(offered jx at --pointers te)"
     same 'bash: a number' '' "$(offered jx check --depth '')"
 }
@@ -46,7 +52,7 @@ bash_completes_what_is_begun() {
 fish_offers_no_other_option() {
     local option
     for option in $(grep -oE -- "-l [a-z-]+" "$root/completions/jx.fish" | sort -u | sed 's/-l /--/'); do
-        has "fish: $option is one" "$option" "$(for command in '' check index at seq; do options_of "$command"; done)"
+        has "fish: $option is one" "$option" "$(for command in '' check explain index at seq; do options_of "$command"; done)"
     done
 }
 

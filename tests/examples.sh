@@ -1,5 +1,5 @@
 #!/usr/bin/env bash
-# The functions that README quotes stand word for word in the examples, and each public one is quoted. A `main` is a program's
+# The functions that docs/CALLING.md quotes stand word for word in the examples, and each public one is quoted. A `main` is a program's
 # of its own, and stands in none.
 . "$(dirname "$0")/lib.sh"
 
@@ -12,9 +12,9 @@ import sys
 
 root = pathlib.Path(sys.argv[1])
 sources = [path.read_text() for path in sorted(root.glob("crates/jx_examples/src/*.rt"))]
-readme = (root / "README.md").read_text()
+page = (root / "docs" / "CALLING.md").read_text()
 # An indented part that begins with a function, up to the next line that is not indented.
-parts = re.findall(r"^    (?:pub )?fn .*(?:\n    .*|\n(?=\n*    (?! *$)))*", readme, re.M)
+parts = re.findall(r"^    (?:pub )?fn .*(?:\n    .*|\n(?=\n*    (?! *$)))*", page, re.M)
 functions = {}
 for part in parts:
     text = re.sub(r"^    ", "", part, flags=re.M)
@@ -34,7 +34,7 @@ PYTHON
 }
 
 the_examples_are_quoted_as_they_stand() {
-    same 'README: the examples that it quotes' '' "$(unlike)"
+    same 'docs/CALLING.md: the examples that it quotes' '' "$(unlike)"
 }
 
 tests the_examples_are_quoted_as_they_stand

@@ -146,7 +146,7 @@ a_missing_rt_is_told() {
     PATH=$room/plain
     same 'no rt' 'status 2' "$(use check)"
     PATH=$tools
-    same 'no rt: one line' 'jx: cannot build: the command rt is not on the PATH (README.md, "Two commands")' "$(cat err)"
+    same 'no rt: one line' 'jx: cannot build: the command rt is not on the PATH (README.md, "Build and test")' "$(cat err)"
 }
 
 make_clone

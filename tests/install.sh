@@ -4,7 +4,7 @@
 
 clone="$room/a clone"
 prefix=$room/home/.local
-places='lib/libjx.a include/jx.h lib/pkgconfig/jx.pc bin/jx
+places='lib/libjx.a lib/libjx.so.0 include/jx.h lib/pkgconfig/jx.pc bin/jx
 share/man/man1/jx.1 share/bash-completion/completions/jx
 share/zsh/site-functions/_jx share/fish/vendor_completions.d/jx.fish'
 
@@ -19,6 +19,11 @@ copy_clone() {
     else
         echo 'no library' >"$clone/crates/jx_c/out/libjx.a"
     fi
+    if [ -e "$root/crates/jx_c/out/libjx.so.0" ]; then
+        cp "$root/crates/jx_c/out/libjx.so.0" "$clone/crates/jx_c/out/libjx.so.0"
+    else
+        echo 'no library' >"$clone/crates/jx_c/out/libjx.so.0"
+    fi
     touch "$clone/jx.stamp" "$clone/jx.library.stamp"
 }
 
@@ -32,7 +37,7 @@ it_installs_all_that_it_says() {
         same "$place is there" yes "$([ -s "$prefix/$place" ] && echo yes)"
     done
     has 'a folder that is not on the PATH' "$prefix/bin is not on the PATH" "$said"
-    same 'nothing else is there' 8 "$(find home -type f | wc -l)"
+    same 'nothing else is there' 9 "$(find home -type f | wc -l)"
 }
 
 the_installed_program_needs_nothing_of_the_clone() {

@@ -1,5 +1,5 @@
 #!/usr/bin/env bash
-# Each session that README shows: the lines behind `$ ` and `> ` are run, and what they print is what stands below them.
+# README and the recipes: each session that they show is run, README stays short, and links lead to files that are there.
 . "$(dirname "$0")/lib.sh"
 
 # put_tools_on_the_path: the program, and zstd or another packer in its place.
@@ -30,7 +30,7 @@ write_sessions() {
     /^    > / && inside { print substr($0, 7) > script; next }
     /^    / && inside { print substr($0, 5) > wanted; next }
     { close_session() }
-' "$root/README.md"
+' "$root/README.md" "$root/docs/RECIPES.md"
 }
 
 each_session_prints_what_stands_below_it() {
@@ -41,20 +41,36 @@ each_session_prints_what_stands_below_it() {
         mkdir "session.$number"
         ln -s "$program" "session.$number/jx"
         got=$(cd "session.$number" && bash "../$script" 2>&1)
-        same "README: the session that begins $(sed -n 2p "$script")" "$(cat "wanted.$number")" "$got"
+        same "the session that begins $(sed -n 2p "$script")" "$(cat "wanted.$number")" "$got"
         sessions=$((sessions + 1))
     done
-    same 'README: there are sessions' yes "$([ "$sessions" -ge 8 ] && echo yes)"
+    same 'there are sessions' yes "$([ "$sessions" -ge 12 ] && echo yes)"
 }
 
 the_recipes_are_among_the_sessions() {
     local recipe
     for recipe in 'tail -c +' 'head -c' 'pre-commit' 'jx seq' 'check -q' 'zstd -dc' 'case $? in'; do
-        has "README: a recipe with $recipe" "$recipe" "$(cat script.*)"
+        has "a recipe with $recipe" "$recipe" "$(cat script.*)"
+    done
+}
+
+readme_is_short() {
+    same 'README has at most 14,000 bytes' yes "$([ "$(wc -c <"$root/README.md")" -le 14000 ] && echo yes)"
+}
+
+links_lead_to_files() {
+    local page link
+    for page in "$root/README.md" "$root"/docs/*.md; do
+        while read -r link; do
+            link=${link%%#*}
+            if [ -n "$link" ]; then same "${page##*/}: the link to $link" yes "$([ -e "${page%/*}/$link" ] && echo yes)"; fi
+        done < <(grep -o '](\([^)]*\))' "$page" | sed 's/^](//; s/)$//' | grep -v '^https\?:')
     done
 }
 
 put_tools_on_the_path
 write_sessions
-tests each_session_prints_what_stands_below_it \
+tests readme_is_short \
+    links_lead_to_files \
+    each_session_prints_what_stands_below_it \
     the_recipes_are_among_the_sessions

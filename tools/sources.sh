@@ -4,8 +4,10 @@ program=$root/crates/jx/out/jx
 # Made when the last build began.
 stamp=$root/jx.stamp
 
-# The library that C links, and what was made when its last build began.
+# The library that C links; its stamp is made when its last build begins.
 library=$root/crates/jx_c/out/libjx.a
+# The same for programs that load it as they start, or later.
+shared_library=$root/crates/jx_c/out/libjx.so.0
 library_stamp=$root/jx.library.stamp
 
 # Sets `crates`: the crate, or jx, and all that crates.txt says that it stands on, each named once.
@@ -47,7 +49,7 @@ is_newer() {
 is_built() { [ -x "$program" ] && is_fresh "$stamp"; }
 
 # Whether the library is there, and nothing that it is made of is newer.
-is_library_built() { [ -e "$library" ] && is_fresh "$library_stamp"; }
+is_library_built() { [ -e "$library" ] && [ -e "$shared_library" ] && is_fresh "$library_stamp"; }
 
 # Whether no source of the crates is newer than the stamp.
 is_fresh() {

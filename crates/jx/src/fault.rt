@@ -11,6 +11,9 @@ pub enum Fault {
     /// The words are wrong, or ask for help or the version.
     #[error("{0}")]
     Words(clap::Error),
+    /// Standard input is named twice.
+    #[error("error: the word '-' stands for standard input, which is read once\n")]
+    StandardTwice,
     /// A word is no text, as clap puts it.
     #[error("error: invalid UTF-8 was detected in one or more arguments\n")]
     NotText,
@@ -43,6 +46,7 @@ impl Fault {
     pub fn of_arguments(fault: ArgFault) -> Fault {
         match fault {
             ArgFault::Clap(error) => Fault::Words(error),
+            ArgFault::StandardTwice => Fault::StandardTwice,
             ArgFault::Memory => Fault::Memory(AllocError),
         }
     }

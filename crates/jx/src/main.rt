@@ -1,17 +1,18 @@
-// The program `jx`: reads a JSON text from standard input or a file, and tells whether it is one, what its values are, or
-// what pointers lead to in it; or reads a sequence of them, and tells which of its elements are texts.
+// The program `jx`. It checks JSON texts, lists their values, finds what pointers name, or explains why a text is refused. Or
+// it checks the elements of sequences.
 #![tactic(auto)]
 
+mod explaining;
 mod fault;
 mod input;
 mod lines;
-#[cfg(test)]
-mod tests;
 
+use explaining::explain_input;
 use fault::Fault;
-use input::report_on;
-use jx_command::{Request, command_of};
-use jx_report::{End, Exit, ReportFault};
+use input::report_on_inputs;
+use jx_command::{Request, Told, command_of};
+use jx_files::Status;
+use jx_report::ReportFault;
 use lines::add_lines;
 use std::env;
 use std::process::ExitCode;
@@ -21,19 +22,22 @@ use std::thread::Threads;
 /// The status of a call that ends by a fault.
 const FAULT: u8 = 2;
 
-fn answer<R: Threads + Wait + Sync>(rt: &HostRuntime, threads: &R) -> Result<Exit, Fault> {
+fn answer<R: Threads + Wait + Sync>(rt: &HostRuntime, threads: &R) -> Result<Status, Fault> {
     let alloc = rt.alloc();
     let owned: Vec<String> = env::args(rt).map_err(Fault::of_words)?.collect(alloc)?;
     let words: Vec<&str> = owned.iter().map(|word| word.as_str()).collect(alloc)?;
     let request = command_of(alloc, &words).map_err(Fault::of_arguments)?;
     let Request {
         mut command,
-        file,
+        inputs,
         pointers,
+        told,
     } = request;
     add_lines(rt, &mut command, pointers)?;
-    let mut writer = End::new(rt.stdout());
-    report_on(rt, threads, file, &mut writer, &command)
+    match told {
+        Told::Lines => report_on_inputs(rt, threads, &inputs, &command),
+        Told::Explained(color) => explain_input(rt, threads, &inputs, &command, color),
+    }
 }
 
 fn end_by(rt: &HostRuntime, fault: &Fault) -> ExitCode {
@@ -43,8 +47,9 @@ fn end_by(rt: &HostRuntime, fault: &Fault) -> ExitCode {
 
 fn main(rt: HostRuntime) -> ExitCode {
     match answer(&rt, &rt) {
-        Ok(Exit::Good) => ExitCode::SUCCESS,
-        Ok(Exit::Bad) => ExitCode::FAILURE,
+        Ok(Status::Good) => ExitCode::SUCCESS,
+        Ok(Status::Bad) => ExitCode::FAILURE,
+        Ok(Status::Fault) => ExitCode::from(FAULT),
         Err(version) if version.is_version() => match rt.print(&version) {
             Ok(()) => ExitCode::SUCCESS,
             Err(_) => end_by(&rt, &Fault::Report(ReportFault::Write)),

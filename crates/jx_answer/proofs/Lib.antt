@@ -1,6 +1,8 @@
 mod ByNames
+mod ElementParts
 mod OneAnswer
 mod Ones
+mod Parts
 mod Placed
 mod Pushing
 mod Readable

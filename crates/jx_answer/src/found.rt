@@ -13,8 +13,9 @@ use std::alloc::Global;
 use std::thread::Threads;
 
 /// Answers pointers in their order, as `Indexed::find` does, by that many workers, who draw pieces of the list. It waits
-/// for the workers. The gate is asked after each draw and may stop the worker; the calling thread answers what is
-/// left, and a list of one pointer. Only want of memory is a fault.
+/// for the workers. The gate is asked after each draw and may stop the worker; the calling thread answers what is left. One
+/// worker draws as each of several does. A list of at most one pointer starts no worker and asks no gate: the calling
+/// thread answers. Only want of memory is a fault.
 pub fn find_all<'i, R: Threads + Sync, G: Gate + Sync>(
     rt: &R,
     alloc: Global,

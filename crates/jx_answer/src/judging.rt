@@ -5,6 +5,7 @@ ghost use Rattle.jx_run.specs.ElementVerdict.{IsJudgedElement};
 ghost use Rattle.jx_run.specs.SequenceRead.{StartsWithSeparator};
 ghost use Rattle.jx_index.specs.ByNames.{AreJudgedBy};
 
+use crate::element_parts::{judge_alone, judge_by_parts};
 use crate::fault::Fault;
 use crate::texts::read_text;
 use jx_book::Gate;
@@ -58,26 +59,29 @@ pub fn judge_sequence_with<R: Threads + Wait + Sync, G: Gate + Sync>(
 }
 
 /// Judges the elements of a batch of a text sequence, which begins with a record separator and stands behind `before` bytes,
-/// by that many workers, who draw the pieces of the batch. The last element ends with the batch. Offsets are those in the
-/// whole sequence. It may wait for the workers. The gate is asked as by `judge_sequence`. Only want of memory is a fault.
-pub fn judge_batch<R: Threads + Wait + Sync, G: Gate + Sync>(
+/// by that many workers. The last element ends with the batch. Offsets are those in the whole sequence. Each worker judges a
+/// part of the batch that begins and ends where an element does. The gate is asked as a worker begins its part, and once it
+/// has judged it; the number of a piece is that of its worker. The calling thread judges what a worker was not let judge, or
+/// had no memory for. One worker asks no gate. Only want of memory is a fault.
+pub fn judge_batch<R: Threads + Sync, G: Gate + Sync>(
     rt: &R,
     alloc: Global,
     batch: &[u8],
     before: usize,
-    cutting: &Cutting,
     workers: Workers,
     depth: Depth,
     gate: &G,
 ) -> Result<Vec<JudgedElement>, Fault>
-    requires cutting { cutting.now.len ≡ length batch.now }
-    requires front { cutting.now.front ≡ 0 }
     requires starts { StartsWithSeparator batch.now }
     requires fits { before + length batch.now < 2 ^ 64 }
-    // For every cutting, number of workers and gate, these are the verdicts on the elements of the batch.
+    // For every number of workers and gate, these are the verdicts on the elements of the batch.
     ensures elements { IfOk result (λ judged. AllZip (IsJudgedElement depth) (elements_of before batch.now) judged.items) }
 {
-    let run = read_text::<ElementsRun, R, G>(rt, alloc, batch, cutting, workers, depth, gate)?;
-    let judged = run.into_run().into_elements_behind(before)?;
+    let count = workers.count() as usize;
+    let judged = if count == 1 {
+        judge_alone(alloc, batch, before, depth)?
+    } else {
+        judge_by_parts(rt, alloc, batch, before, count, depth, gate)?
+    };
     Ok(judged)
 }

@@ -4,8 +4,10 @@
 
 mod answered;
 mod asking;
+mod batches;
 mod by_names;
 mod element;
+mod element_parts;
 mod fault;
 mod find_answer;
 mod found;
@@ -15,6 +17,7 @@ mod lookups;
 mod sequences;
 mod texts;
 
+pub use batches::{Balance, read_batch};
 pub use element::{Element, ElementAnswer};
 pub use fault::Fault;
 pub use find_answer::Answer;
@@ -28,4 +31,4 @@ pub use laws::{
     verdicts_on_elements_are_one,
 };
 pub use sequences::{index_sequence, index_sequence_with};
-pub use texts::{index_text, index_text_with, read_batch, verdict_of_text, verdict_of_text_with};
+pub use texts::{index_text, index_text_with, verdict_of_text, verdict_of_text_with};

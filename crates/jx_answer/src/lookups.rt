@@ -7,10 +7,10 @@ use crate::answered::Answered;
 use crate::find_answer::Answer;
 use jx_book::{Event, Gate, Go};
 use jx_claim::{ClaimSeat, Claims, Cutting, Workers};
+use jx_fork::call_each;
 use jx_index::{Indexed, Pointer};
 use jx_lex::Span;
 use std::alloc::{AllocError, Global};
-use std::thread;
 use std::thread::Threads;
 
 /// How many pieces a list of pointers is cut into at the most.
@@ -76,8 +76,9 @@ impl<'i> Lookups<'i> {
         ensures found { IfOk result (λ v. All (λ f. AreAnswered self.now.index.now self.now.pointers.now f.items) v.items) }
     {
         let lookups = self;
-        thread::map_vec(
+        call_each(
             rt,
+            alloc,
             seats,
             &|seat: ClaimSeat| -> Vec<Answered>
                 requires { (cutting.now.len ≡ length lookups.now.pointers.now) × (claims.now.pieces ≡ length cutting.now.pieces) × ((seat.id ≡ claims.now.id) × (seat.spent ≡ false)) }

@@ -18,7 +18,7 @@ use jx_claim::{Cutting, Workers};
 use jx_index::{TextAnswer, indexes_stand_behind_fronts};
 use jx_lex::Depth;
 use jx_run::{
-    Front, FrontMark, NameRule, OutcomeRun, Reader, RunReader, Settings, Summary, TextRun, Verdict,
+    Front, FrontMark, NameRule, OutcomeRun, Reader, Settings, Summary, TextRun, Verdict,
     a_refused_mark_changes_nothing, front,
 };
 use std::alloc::{AllocError, Global};
@@ -93,7 +93,8 @@ fn index_behind_front<'a, R: Threads + Wait + Sync, G: Gate + Sync>(
     }
 }
 
-/// The verdict that `index_text` comes to, without the index.
+/// The verdict that `index_text` comes to, without the index. One worker reads as each of several does, in a thread of its
+/// own where one can be made. A cutting of at most one piece starts no worker and asks no gate: the calling thread reads.
 pub fn verdict_of_text<R: Threads + Wait + Sync, G: Gate + Sync>(
     rt: &R,
     alloc: Global,
@@ -242,37 +243,6 @@ fn verdict_from(
     let mut reader = Reader::new(alloc, depth, start);
     reader.feed(&text[start..text.len()])?;
     Ok(reader.verdict())
-}
-
-/// Reads a batch of a text, which stands behind the bytes that the reader has read, by that many workers, who draw the
-/// pieces of the batch. It may wait for the workers. The gate is asked as by `index_text`. Behind a fault no byte is looked
-/// at. Only want of memory is a fault.
-pub fn read_batch<R: Threads + Wait + Sync, G: Gate + Sync>(
-    rt: &R,
-    alloc: Global,
-    reader: &mut RunReader,
-    batch: &[u8],
-    cutting: &Cutting,
-    workers: Workers,
-    gate: &G,
-) -> Result<(), Fault>
-    requires cutting { cutting.now.len ≡ length batch.now }
-    requires front { cutting.now.front ≡ 0 }
-    requires fits { reader.old.start + reader.old.count + length batch.now < 2 ^ 64 }
-    ensures depth { reader.new.depth ≡ reader.old.depth }
-    ensures start { reader.new.start ≡ reader.old.start }
-    // For every cutting, number of workers and gate, the reader goes on with the bytes of the batch.
-    ensures reads { OnOk result ((bytes : List ℕ) → HasRead bytes reader.old → HasRead (bytes ++ batch.now) reader.new) }
-    ensures count { OnOk result (reader.new.count ≡ reader.old.count + length batch.now) }
-{
-    if reader.is_done() {
-        reader.pass(batch);
-        return Ok(());
-    }
-    let depth = reader.depth();
-    let run = read_text::<OutcomeRun, R, G>(rt, alloc, batch, cutting, workers, depth, gate)?;
-    reader.follow(run.run())?;
-    Ok(())
 }
 
 /// The run over a text from the cutting's front on. A text of one piece, or of none, is read on this thread.

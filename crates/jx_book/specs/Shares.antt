@@ -31,9 +31,9 @@ IsOther text depth (Other r) = IsOtherRun text depth r
 abbrev pub IsOtherFrom : {S : Type 0} → List ℕ → ℕ → ℕ → FinishFault S → Type 0
 IsOtherFrom text depth front (Other r) = IsOtherRun text depth r ⊎ (r.span.start < front)
 
--- the run is not empty, and no longer than the bytes put and not taken
-abbrev pub WasStored : {S : Type 0} → ℕ → ℕ → FinishFault S → Type 0
-WasStored put taken (Other r) = (r.span.start < r.span.end) × (run_len r + taken ≤ put)
+-- the run is not empty, and no longer than the bytes put and not taken, as each stored run
+abbrev pub IsSizedAsStored : {S : Type 0} → ℕ → ℕ → FinishFault S → Type 0
+IsSizedAsStored put taken (Other r) = (r.span.start < r.span.end) × (run_len r + taken ≤ put)
 
 -- a run of this text and depth
 pub record IsOf {S : Type 0} (text : List ℕ) (depth : ℕ) (r : HeldValue S) : Type 0 where

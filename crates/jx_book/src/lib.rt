@@ -24,6 +24,3 @@ pub use workers::reading::read_whole;
 pub use workers::worker::work;
 pub use workers::worker_end::WorkerEnd;
 pub use workers::worker_stop::WorkerStop;
-
-#[cfg(test)]
-mod tests;

@@ -11,7 +11,7 @@ use Rattle.jx_index.specs.ByNames.{IsVerdictBy, RefusesName, a_text}
 use Rattle.jx_run.specs.declared.settings.Settings.{Settings}
 use Rattle.jx_run.specs.declared.verdict.Verdict.TheVariants.{Accepted}
 use Rattle.jx_run.specs.Settings.{IsDocumentBy}
-use Rattle.jx_c.specs.LookUps.{IsFoundIn, IsLed}
+use Rattle.jx_c.specs.LookUps.{IsFoundIn, IsLed, IsSpelt}
 use Rattle.jx_c.specs.Settled.{IsLookUpBy}
 use Rattle.jx_c.specs.declared.look_up.LookUp.{LookUp}
 use Rattle.jx_c.specs.declared.look_up.LookUp.TheVariants.{Found, Lost, BadPointer, NotUtf8, NoText}
@@ -44,9 +44,9 @@ module _ (text : List ℕ) (tree : Tree) (pointer : List ℕ) where
   pub lost_at : (fault : FindFault) → Err fault ≡ leads text tree (tokens pointer) → led text tree (tokens pointer) ≡ Err fault
   lost_at fault e = lost_by fault (led text tree (tokens pointer)) e
 
-  pub in_bytes : (settings : Settings) → IsDocumentBy settings 0 text tree → RefusesName settings.names text (rows tree) None → (l : LookUp) → IsLed text tree pointer l → IsLookUpBy settings text pointer l
-  in_bytes settings d n (Found kind place) h = (tree, d, n, h)
-  in_bytes settings d n (Lost fault) h = (tree, d, n, h)
-  in_bytes settings d n (BadPointer fault) h = absurd h
-  in_bytes settings d n NotUtf8 h = absurd h
-  in_bytes settings d n (NoText refused) h = absurd h
+  pub in_bytes : (settings : Settings) → IsDocumentBy settings 0 text tree → RefusesName settings.names text (rows tree) None → IsSpelt pointer → (l : LookUp) → IsLed text tree pointer l → IsLookUpBy settings text pointer l
+  in_bytes settings d n s (Found kind place) h = (s, (tree, d, n, h))
+  in_bytes settings d n s (Lost fault) h = (s, (tree, d, n, h))
+  in_bytes settings d n s (BadPointer fault) h = absurd h
+  in_bytes settings d n s NotUtf8 h = absurd h
+  in_bytes settings d n s (NoText refused) h = absurd h

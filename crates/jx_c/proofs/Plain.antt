@@ -41,11 +41,11 @@ module _ (texts : (settings : Settings) (at : ℕ) (bytes : List ℕ) (tree : Tr
   verdict_off v h = (verdicts settings 0 text v is).0 ((by_names settings text v any).0 h)
 
   pub look_up_off : (pointer : List ℕ) (l : LookUp) → IsLookUpBy settings text pointer l → IsLookUp text settings.depth pointer l
-  look_up_off pointer (Found kind place) h = (h.0, (texts settings 0 text h.0 is).0 h.1, h.3)
-  look_up_off pointer (Lost fault) h = (h.0, (texts settings 0 text h.0 is).0 h.1, h.3)
+  look_up_off pointer (Found kind place) h = (h.0, h.1.0, (texts settings 0 text h.1.0 is).0 h.1.1, h.1.3)
+  look_up_off pointer (Lost fault) h = (h.0, h.1.0, (texts settings 0 text h.1.0 is).0 h.1.1, h.1.3)
   look_up_off pointer (BadPointer fault) h = h
   look_up_off pointer NotUtf8 h = h
-  look_up_off pointer (NoText refusal) h = verdict_off (verdict.Refused refusal) h
+  look_up_off pointer (NoText refusal) h = (h.0, verdict_off (verdict.Refused refusal) h.1)
 
   by_verdict : (old new : List JxRow) (count : ℕ) (v : Verdict) → AreRowsBy settings text old new count v → AreRows text settings.depth old new count v
   by_verdict old new count verdict.Accepted h = (h.0, (texts settings 0 text h.0 is).0 h.1, h.2, h.3)

@@ -13,7 +13,7 @@ use Rattle.jx_index.specs.declared.find_fault.FindFault.TheVariants.{NoSuchMembe
 use Rattle.jx_index.specs.declared.pointer.PointerFault.TheVariants.{NoSlash, BadEscape}
 use Rattle.jx_index.specs.Leads.{Numbered, kind_of, led}
 use Rattle.jx_index.specs.PointerFaults.{IsFaultOf}
-use Rattle.jx_index.specs.Pointers.{tokens}
+use Rattle.jx_index.specs.Pointers.{IsPointer, tokens}
 use Rattle.jx_c.specs.Rows.{kind_in, shown_span}
 use Rattle.jx_c.specs.declared.look_up.JxAnswer.{JxAnswer}
 use Rattle.jx_c.specs.declared.look_up.LookUp.{LookUp}
@@ -34,13 +34,17 @@ IsLed text tree pointer (BadPointer fault) = ⊥
 IsLed text tree pointer NotUtf8 = ⊥
 IsLed text tree pointer (NoText refused) = ⊥
 
--- in any bytes: the same in their tree, or why there is no pointer or no text
+-- the bytes are in UTF-8 and spell a pointer
+abbrev pub IsSpelt : List ℕ → Type 0
+IsSpelt pointer = IsUtf8 pointer × IsPointer pointer
+
+-- in any bytes: the same in their tree, or why there is no text, or first of all why there is no pointer
 abbrev pub IsLookUp : List ℕ → ℕ → List ℕ → LookUp → Type 0
-IsLookUp text depth pointer (Found kind span) = (tree : Tree) × IsDocument 0 text depth tree × IsLed text tree pointer (Found kind span)
-IsLookUp text depth pointer (Lost fault) = (tree : Tree) × IsDocument 0 text depth tree × IsLed text tree pointer (Lost fault)
+IsLookUp text depth pointer (Found kind span) = IsSpelt pointer × (tree : Tree) × IsDocument 0 text depth tree × IsLed text tree pointer (Found kind span)
+IsLookUp text depth pointer (Lost fault) = IsSpelt pointer × (tree : Tree) × IsDocument 0 text depth tree × IsLed text tree pointer (Lost fault)
 IsLookUp text depth pointer (BadPointer fault) = IsUtf8 pointer × IsFaultOf pointer fault
 IsLookUp text depth pointer NotUtf8 = IsUtf8 pointer → ⊥
-IsLookUp text depth pointer (NoText refused) = Judged 0 text depth (verdict.Refused refused)
+IsLookUp text depth pointer (NoText refused) = IsSpelt pointer × Judged 0 text depth (verdict.Refused refused)
 
 abbrev pub told : ℕ → ℕ → JxAnswer
 told outcome at = record { span = record { start = 0; end = 0 }; at = at; outcome = outcome; kind = 0 }

@@ -11,7 +11,7 @@ use Rattle.jx_index.specs.ByNames.{AreJudgedBy, IsVerdictBy, RefusesName}
 use Rattle.jx_index.specs.Rows.{rows}
 use Rattle.jx_c.specs.Buffers.{IsFilled}
 use Rattle.jx_c.specs.Elements.{shown_element}
-use Rattle.jx_c.specs.LookUps.{IsLed, IsLookUp, shown_look_up}
+use Rattle.jx_c.specs.LookUps.{IsLed, IsLookUp, IsSpelt, shown_look_up}
 use Rattle.jx_c.specs.Rows.{shown_row}
 use Rattle.jx_c.specs.Verdict.{shown}
 use Rattle.jx_c.specs.declared.elements.JxElement.{JxElement}
@@ -44,11 +44,11 @@ IsLedBy settings text pointer look_up = (tree : Tree) × IsDocumentBy settings 0
 
 -- in any bytes: the same, or why there is no pointer or no text
 abbrev pub IsLookUpBy : Settings → List ℕ → List ℕ → LookUp → Type 0
-IsLookUpBy settings text pointer (Found kind span) = IsLedBy settings text pointer (Found kind span)
-IsLookUpBy settings text pointer (Lost fault) = IsLedBy settings text pointer (Lost fault)
+IsLookUpBy settings text pointer (Found kind span) = IsSpelt pointer × IsLedBy settings text pointer (Found kind span)
+IsLookUpBy settings text pointer (Lost fault) = IsSpelt pointer × IsLedBy settings text pointer (Lost fault)
 IsLookUpBy settings text pointer (BadPointer fault) = IsLookUp text settings.depth pointer (BadPointer fault)
 IsLookUpBy settings text pointer NotUtf8 = IsLookUp text settings.depth pointer NotUtf8
-IsLookUpBy settings text pointer (NoText refusal) = IsVerdictBy settings text (verdict.Refused refusal)
+IsLookUpBy settings text pointer (NoText refusal) = IsSpelt pointer × IsVerdictBy settings text (verdict.Refused refusal)
 
 -- it shows what the pointer comes to
 abbrev pub IsAnswerWith : Settings → List ℕ → List ℕ → JxAnswer → Type 0

@@ -1,5 +1,5 @@
 // Checks of whole texts.
-ghost use Rattle.std.specs.Prelude.{◌≡◌, ◌<◌, ◌≤◌, IfOk};
+ghost use Rattle.std.specs.Prelude.{◌≡◌, ◌⊎◌, ◌<◌, ◌≤◌, IfOk};
 ghost use Rattle.jx_run.specs.Settings.{JudgedBy};
 ghost use Rattle.jx_index.specs.ByNames.{IsVerdictBy};
 ghost use Rattle.jx_c.specs.Settings.{settings_in};
@@ -20,6 +20,7 @@ use std::alloc::{AllocError, Global};
 pub extern "C" fn jx_check(text: &[u8], depth: u32, verdict: &mut JxVerdict) -> u32
     ensures judged { result ≡ OK → IsVerdictOn text.now depth verdict.new }
     ensures depth { 65535 < depth → result ≡ DEPTH_TOO_GREAT }
+    ensures status { depth ≤ 65535 → (result ≡ OK) ⊎ (result ≡ NO_MEMORY) }
     ensures unchanged { (result ≡ OK → ⊥) → verdict.new ≡ verdict.old }
 {
     if depth > 65535 {
@@ -75,6 +76,7 @@ pub extern "C" fn jx_check_with(
     ensures judged { result ≡ OK → IsVerdictWith (settings_in settings.now) text.now verdict.new }
     ensures depth { 65535 < settings.now.depth → result ≡ DEPTH_TOO_GREAT }
     ensures flags { settings.now.depth ≤ 65535 → 3 < settings.now.flags → result ≡ UNKNOWN_FLAG }
+    ensures status { settings.now.depth ≤ 65535 → settings.now.flags ≤ 3 → (result ≡ OK) ⊎ (result ≡ NO_MEMORY) }
     ensures unchanged { (result ≡ OK → ⊥) → verdict.new ≡ verdict.old }
 {
     let asked = match settings_in(settings) {

@@ -1,5 +1,5 @@
 // The elements of a JSON text sequence.
-ghost use Rattle.std.specs.Prelude.{◌≡◌, ◌<◌, ◌≤◌};
+ghost use Rattle.std.specs.Prelude.{◌≡◌, ◌⊎◌, ◌<◌, ◌≤◌};
 ghost use Rattle.jx_c.specs.Buffers.{IsFilled};
 ghost use Rattle.jx_c.specs.Elements.{AreElementsOf, shown_element, shown_verdict};
 ghost use Rattle.jx_c.specs.Settings.{settings_in};
@@ -79,6 +79,7 @@ pub extern "C" fn jx_elements(
 ) -> u32
     ensures elements { result ≡ OK → AreElementsOf sequence.now depth elements.old elements.new count.new }
     ensures depth { 65535 < depth → result ≡ DEPTH_TOO_GREAT }
+    ensures status { depth ≤ 65535 → (result ≡ OK) ⊎ (result ≡ NO_MEMORY) }
     ensures unchanged_elements { (result ≡ OK → ⊥) → elements.new ≡ elements.old }
     ensures unchanged_count { (result ≡ OK → ⊥) → count.new ≡ count.old }
 {
@@ -86,8 +87,8 @@ pub extern "C" fn jx_elements(
     jx_elements_with(alloc, sequence, &settings, elements, count)
 }
 
-/// The same by settings: a byte order mark that stands alone before the first record separator may be ignored, and is no
-/// element then; names may have to be unique (RFC 8259, section 4).
+/// Does the same by settings. A byte order mark that is alone before the first record separator may be ignored and is
+/// no element. Names may have to be unique (RFC 8259, section 4).
 #[unsafe(no_mangle)]
 pub extern "C" fn jx_elements_with(
     alloc: Global,
@@ -99,6 +100,7 @@ pub extern "C" fn jx_elements_with(
     ensures elements { result ≡ OK → AreElementsWith (settings_in settings.now) sequence.now elements.old elements.new count.new }
     ensures depth { 65535 < settings.now.depth → result ≡ DEPTH_TOO_GREAT }
     ensures flags { settings.now.depth ≤ 65535 → 3 < settings.now.flags → result ≡ UNKNOWN_FLAG }
+    ensures status { settings.now.depth ≤ 65535 → settings.now.flags ≤ 3 → (result ≡ OK) ⊎ (result ≡ NO_MEMORY) }
     ensures unchanged_elements { (result ≡ OK → ⊥) → elements.new ≡ elements.old }
     ensures unchanged_count { (result ≡ OK → ⊥) → count.new ≡ count.old }
 {

@@ -1,5 +1,5 @@
 // A text that C feeds slice by slice.
-ghost use Rattle.std.specs.Prelude.{◌≡◌, ◌++◌, ◌≤◌, ◌<◌, ◌+◌, ◌^◌, ℕ, List, [], length};
+ghost use Rattle.std.specs.Prelude.{◌≡◌, ◌⊎◌, ◌++◌, ◌≤◌, ◌<◌, ◌+◌, ◌^◌, ℕ, List, [], length};
 ghost use Rattle.jx_run.specs.declared.settings.NameRule.TheVariants.{Any};
 ghost use Rattle.jx_run.specs.declared.settings.Settings.{Settings};
 ghost use Rattle.jx_c.specs.Front.{HasReadBy};
@@ -57,6 +57,7 @@ pub extern "C" fn jx_reader_feed(reader: &mut JxReader, bytes: &[u8]) -> u32
     ensures reads { result ≡ OK → (depth : ℕ) (fed : List ℕ) → HasRead depth fed reader.old → HasRead depth (fed ++ bytes.now) reader.new }
     ensures settled { result ≡ OK → (settings : Settings) (fed : List ℕ) → HasReadBy settings fed reader.old → HasReadBy settings (fed ++ bytes.now) reader.new }
     ensures not_started { (reader.old.started ≡ STARTED → ⊥) → (result ≡ NOT_STARTED) × (reader.new ≡ reader.old) }
+    ensures status { reader.old.started ≡ STARTED → reader.old.count + length bytes.now < 2 ^ 64 → (result ≡ OK) ⊎ ((result ≡ NO_MEMORY) × (reader.new.started ≡ 0)) }
     ensures too_many { reader.old.started ≡ STARTED → 2 ^ 64 ≤ reader.old.count + length bytes.now → (result ≡ TOO_MANY_BYTES) × (reader.new ≡ reader.old) }
 {
     if reader.started != STARTED {

@@ -1,9 +1,9 @@
 // What a pointer leads to in a text.
-ghost use Rattle.std.specs.Prelude.{◌≡◌, ◌<◌, ◌≤◌, ℕ, List, IfOk, IfErr};
+ghost use Rattle.std.specs.Prelude.{◌≡◌, ◌⊎◌, ◌<◌, ◌≤◌, ℕ, List, IfOk, IfErr};
 ghost use Rattle.jx_run.specs.Text.{IsText};
 ghost use Rattle.jx_run.specs.Tree.{Tree};
 ghost use Rattle.jx_run.specs.declared.settings.Settings.{Settings};
-ghost use Rattle.jx_c.specs.LookUps.{IsAnswerOf, IsLed, shown_look_up};
+ghost use Rattle.jx_c.specs.LookUps.{IsAnswerOf, IsLed, IsSpelt, shown_look_up};
 ghost use Rattle.jx_c.specs.Settings.{settings_in};
 ghost use Rattle.jx_index.specs.Settled.{IsAnswerBy};
 ghost use Rattle.jx_c.specs.Settled.{IsAnswerWith, IsLookUpBy};
@@ -135,7 +135,7 @@ fn led(index: &Indexed, pointer: &Pointer) -> LookUp
 
 /// What a pointer comes to in what was answered on a text.
 fn led_in(answer: TextAnswer, pointer: &Pointer) -> LookUp
-    ensures { (settings : Settings) (text : List ℕ) → IsAnswerBy settings text answer.entry → IsLookUpBy settings text pointer.now result }
+    ensures { (settings : Settings) (text : List ℕ) → IsSpelt pointer.now → IsAnswerBy settings text answer.entry → IsLookUpBy settings text pointer.now result }
 {
     indexes_stand_behind_fronts();
     text_by_settings_has_one_tree();
@@ -148,6 +148,7 @@ fn led_in(answer: TextAnswer, pointer: &Pointer) -> LookUp
 /// The pointer that bytes spell, or what they come to where they spell none.
 fn spelt(pointer: &[u8]) -> Result<Pointer<'_>, LookUp>
     ensures pointer { IfOk result (λ p. p ≡ pointer.now) }
+    ensures spelt { IfOk result (λ _. IsSpelt pointer.now) }
     ensures none { IfErr result (λ l. (settings : Settings) (text : List ℕ) → IsLookUpBy settings text pointer.now l) }
 {
     let Ok(text) = str::from_utf8(pointer) else {
@@ -188,6 +189,7 @@ pub extern "C" fn jx_at(
 ) -> u32
     ensures answer { result ≡ OK → IsAnswerOf text.now depth pointer.now answer.new }
     ensures depth { 65535 < depth → result ≡ DEPTH_TOO_GREAT }
+    ensures status { depth ≤ 65535 → (result ≡ OK) ⊎ (result ≡ NO_MEMORY) }
     ensures unchanged { (result ≡ OK → ⊥) → answer.new ≡ answer.old }
 {
     a_refused_mark_changes_nothing();
@@ -209,6 +211,7 @@ pub extern "C" fn jx_at_with(
     ensures answer { result ≡ OK → IsAnswerWith (settings_in settings.now) text.now pointer.now answer.new }
     ensures depth { 65535 < settings.now.depth → result ≡ DEPTH_TOO_GREAT }
     ensures flags { settings.now.depth ≤ 65535 → 3 < settings.now.flags → result ≡ UNKNOWN_FLAG }
+    ensures status { settings.now.depth ≤ 65535 → settings.now.flags ≤ 3 → (result ≡ OK) ⊎ (result ≡ NO_MEMORY) }
     ensures unchanged { (result ≡ OK → ⊥) → answer.new ≡ answer.old }
 {
     let asked = match settings_in(settings) {

@@ -45,8 +45,8 @@ pub struct JxReader {
     pub count: usize,
     /// The offset of the fault.
     pub at: usize,
-    /// 0 as long as there is no fault, 1 where the text can't go on, 2 where it is too deep; 3, 4 or 5 where a byte order
-    /// mark may yet be ignored, and none, one or two of its bytes were fed.
+    /// 0 while there is no fault, 1 where no text goes on, 2 where it is too deep. 3, 4 or 5 while a byte order mark
+    /// may yet be ignored, after none, one or two of its bytes.
     pub progress: u32,
     /// The lexical state, by its number among all.
     pub state: u32,

@@ -1,5 +1,5 @@
 // The rows of a text.
-ghost use Rattle.std.specs.Prelude.{◌≡◌, ◌<◌, ◌≤◌, ℕ, List};
+ghost use Rattle.std.specs.Prelude.{◌≡◌, ◌⊎◌, ◌<◌, ◌≤◌, ℕ, List};
 ghost use Rattle.jx_run.specs.declared.settings.Settings.{Settings};
 ghost use Rattle.jx_c.specs.Buffers.{IsFilled};
 ghost use Rattle.jx_c.specs.Rows.{AreRowsOf, shown_row};
@@ -56,6 +56,7 @@ pub extern "C" fn jx_rows(
 ) -> u32
     ensures rows { result ≡ OK → AreRowsOf text.now depth rows.old rows.new count.new verdict.new }
     ensures depth { 65535 < depth → result ≡ DEPTH_TOO_GREAT }
+    ensures status { depth ≤ 65535 → (result ≡ OK) ⊎ (result ≡ NO_MEMORY) }
     ensures unchanged_rows { (result ≡ OK → ⊥) → rows.new ≡ rows.old }
     ensures unchanged_count { (result ≡ OK → ⊥) → count.new ≡ count.old }
     ensures unchanged_verdict { (result ≡ OK → ⊥) → verdict.new ≡ verdict.old }
@@ -80,6 +81,7 @@ pub extern "C" fn jx_rows_with(
     ensures rows { result ≡ OK → AreRowsWith (settings_in settings.now) text.now rows.old rows.new count.new verdict.new }
     ensures depth { 65535 < settings.now.depth → result ≡ DEPTH_TOO_GREAT }
     ensures flags { settings.now.depth ≤ 65535 → 3 < settings.now.flags → result ≡ UNKNOWN_FLAG }
+    ensures status { settings.now.depth ≤ 65535 → settings.now.flags ≤ 3 → (result ≡ OK) ⊎ (result ≡ NO_MEMORY) }
     ensures unchanged_rows { (result ≡ OK → ⊥) → rows.new ≡ rows.old }
     ensures unchanged_count { (result ≡ OK → ⊥) → count.new ≡ count.old }
     ensures unchanged_verdict { (result ≡ OK → ⊥) → verdict.new ≡ verdict.old }

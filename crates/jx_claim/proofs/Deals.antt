@@ -1,6 +1,6 @@
 -- Each step of the claims keeps their rule.
-use Rattle.std.proofs.Common.{◌≡◌, ◌≢◌, ℕ, zero, suc, ◌+◌, ◌-◌, ◌%◌, ◌^◌, ◌<◌, ◌≤◌, min, cond, List, [], ◌∷◌, ◌++◌, get_or, set, sym, refl, ap, ◌∙◌, subst, ⊎_elim, inl, inr, arith, length, length-append, length-set, get_or-set_same}
-use Rattle.std.specs.Prelude.{sum_by, nat_eq, slice_index}
+use Rattle.std.proofs.Common.{◌≡◌, ◌≢◌, Bool, true, ℕ, zero, suc, ◌+◌, ◌-◌, ◌%◌, ◌^◌, ◌<◌, ◌≤◌, min, cond, List, [], ◌∷◌, ◌++◌, get_or, set, sym, refl, ap, ◌∙◌, subst, ⊎_elim, inl, inr, arith, length, length-append, length-set, get_or-set_same}
+use Rattle.std.specs.Prelude.{sum_by, nat_eq, slice_index, All}
 use Rattle.std.specs.List.{range_with_len}
 use mathlib.Core.Option.{none, some, some-injective, some-ne-none}
 use mathlib.Core.Logic.{dite}
@@ -96,6 +96,28 @@ got_none pieces word v w past (inr h) = h.1
 below_got : (k : Terms) (s : St) → Dealt k s → (x : ℕ) → sum_by (λ (v : View). times x v.got) s.views ≡ once_below x (min (slice_index s.words 0) k.pieces)
 below_got k s h x = omega (arith, h.got x, undrawn_or_below x (slice_index s.words 0) k.pieces)
 
+abbrev pub bit : Bool → ℕ
+bit b = cond b 1 0
+
+-- what stands in a list stands there once at least
+times_at : (xs : List ℕ) (i d : ℕ) → i < length xs → 0 < times (get_or xs i d) xs
+times_at [] i d low = absurd (omega arith)
+times_at (x ∷ xs) zero d low = let e : nat_eq x x ≡ true = grind (arith, nat_tests) in omega (arith, sum_by-cons (λ y. cond (nat_eq y x) 1 0) x xs, ap bit e)
+times_at (x ∷ xs) (suc i) d low =
+    let y = get_or xs i d in
+    omega (arith, sum_by-cons (λ z. cond (nat_eq z y) 1 0) x xs, times_at xs i d (omega arith))
+
+some_below : (x n : ℕ) → 0 < once_below x n → x < n
+some_below x n one = grind (arith, nat_tests)
+
+-- all that a view got is below the word
+got_below : (k : Terms) (s : St) (id : ℕ) (v : View) → Dealt k s → get_elem? s.views id ≡ some v → All (λ n. n < slice_index s.words 0) v.got
+got_below k s id v h at i d low =
+    let x = get_or v.got i d in
+    let word = min (slice_index s.words 0) k.pieces in
+    let below : x < word = some_below x word (omega (arith, times_at v.got i d low, at_most_sum (λ u. times x u.got) s.views id v at, below_got k s h x)) in
+    omega (arith, below)
+
 fits_set : (views : List View) (id : ℕ) (w : View) → ((j : ℕ) (u : View) → get_elem? views j ≡ some u → Fits u) → Fits w → (j : ℕ) (u : View) → get_elem? (set views id w) j ≡ some u → Fits u
 fits_set views id w others mine j u e =
     ⊎_elim (λ (x : (j ≡ id) × (w ≡ u)). subst Fits x.1 mine) (λ (x : (j ≢ id) × (get_elem? views j ≡ some u)). others j u x.1) (at_set views id j w u e)
@@ -157,7 +179,7 @@ draws k slots id me one unspent s h _ at fits =
       subst (λ m. P m w) (sym next) (moved k s h id me.0 w (n + 1) at refl (record { nones = (h.fits id me.0 at).nones; idle = λ e. absurd (omega arith) })
           (λ x. omega (arith, times_push x n me.0.got, ap (times x) (first_undrawn n k.pieces low), sum_by-cons (λ y. cond (nat_eq y x) 1 0) n (undrawn (n + 1) k.pieces)))
           (omega arith)),
-      (inl (first_drawn n k.pieces low, refl), refl),
+      (got_below k s id me.0 h at, inl (first_drawn n k.pieces low, refl), refl),
     ))
     (λ past.
     let w = view me.0.seats me.0.got (me.0.nones + 1) in
@@ -168,7 +190,7 @@ draws k slots id me one unspent s h _ at fits =
       subst (λ m. P m w) (sym next) (moved k s h id me.0 w (n + 1) at refl (record { nones = omega arith; idle = λ e. absurd (omega arith) })
           (λ x. omega (arith, ap (times x) none, ap (times x) (none_undrawn (n + 1) k.pieces (omega arith))))
           (omega arith)),
-      (inr (none, refl), refl),
+      (got_below k s id me.0 h at, inr (none, refl), refl),
     ))
 
 pub cuts : (k : Terms) (id : ℕ) (v : View) → 0 < v.seats → v.got ≡ [] → v.nones ≡ 0 → Splits (Dealt k) id v (view (v.seats - 1) v.got v.nones) (view 1 [] 0)

@@ -1,4 +1,4 @@
-ghost use Rattle.std.specs.Prelude.{◌≡◌, ℕ, ◌+◌, ◌<◌, [], ◌∷◌, ◌++◌, true, false, IfOk, IfSome, MatchOption, length, vec_len, count_by};
+ghost use Rattle.std.specs.Prelude.{◌≡◌, ℕ, ◌+◌, ◌<◌, [], ◌∷◌, ◌++◌, true, false, All, IfOk, IfSome, MatchOption, length, vec_len, count_by};
 ghost use Rattle.jx_claim.specs.Claimed.{ClaimsValue, AreFresh, AllSeats, EachGotOnce};
 ghost use Rattle.jx_claim.specs.inside.Dealt.{IsDraw, view};
 ghost use Rattle.jx_claim.specs.Undrawn.{undrawn, Draws};
@@ -79,6 +79,7 @@ impl Claims {
     fn take<C: Count>(&self, seat: &mut Seat<(), View>) -> u64
         requires pieces { C.pieces ≡ self.now.pieces }
         requires seat { (seat.old.table_id ≡ self.now.id) × (seat.old.me.0.seats ≡ 1) × (seat.old.me.0.nones ≡ 0) }
+        ensures below { All (λ n. n < result) seat.old.me.0.got }
         ensures draw { IsDraw C.pieces result seat.old.me.0 seat.new.me.0 }
         ensures seat { (seat.new.table_id ≡ seat.old.table_id) × (seat.new.me.1 ≡ seat.old.me.1) }
     {
@@ -86,15 +87,16 @@ impl Claims {
     }
 
     /// Draws the next piece, or `None` where all pieces had been drawn. It takes no memory and waits for nobody.
-    /// It is one atomic step on the word that it finds: where that is a piece, it is the first undrawn one, and the
-    /// draw leaves the others undrawn; else none is undrawn. That no other seat gets the same number is told by `close`.
+    /// It is one atomic step on the word that it finds, which all numbers that the seat got before are below: where the
+    /// word is a piece, it is the first undrawn one, and the draw leaves the others undrawn; else none is undrawn. That no
+    /// other seat gets the same number is told by `close`.
     pub fn draw(&self, seat: &mut ClaimSeat) -> Option<PieceNo>
         requires seat { seat.old.id ≡ self.now.id }
         requires unspent { seat.old.spent ≡ false }
         ensures seat { (seat.new.id ≡ seat.old.id) × (seat.new.number ≡ seat.old.number) }
         ensures drew { MatchOption result ((seat.new.got ≡ seat.old.got) × (seat.new.spent ≡ true)) (λ p. (seat.new.got ≡ seat.old.got ++ p.0 ∷ []) × (seat.new.spent ≡ false)) }
         ensures piece { IfSome result (λ p. p.0 < self.now.pieces) }
-        ensures undrawn { (word : ℕ) × MatchOption result (undrawn word self.now.pieces ≡ []) (λ p. (p.0 ≡ word) × Draws (undrawn word self.now.pieces) p.0 (undrawn (word + 1) self.now.pieces)) }
+        ensures undrawn { (word : ℕ) × All (λ n. n < word) seat.old.got × MatchOption result (undrawn word self.now.pieces ≡ []) (λ p. (p.0 ≡ word) × Draws (undrawn word self.now.pieces) p.0 (undrawn (word + 1) self.now.pieces)) }
     {
         let found = self.take::<Brand>(&mut seat.seat);
         if found < u64::from(self.pieces) {

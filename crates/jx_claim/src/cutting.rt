@@ -10,9 +10,9 @@ use jx_summary::Span;
 use std::alloc::{AllocError, Global};
 use std::marker::Model;
 
-/// A text of a known length, cut into pieces: they are not empty, stand in order and cover the text from its front on,
-/// which is 0 unless `without_front` set it. There are at most 4,294,967,295 of them, and none where nothing is left to
-/// cover.
+/// A text of a known length, cut into pieces. They are not empty, stand in order and cover the text from its front on.
+/// The front is 0 unless `without_front` set it. There are at most 4,294,967,295 of them, and none where nothing is
+/// left to cover.
 #[derive(Debug, Drop)]
 pub struct Cutting {
     len: usize,

@@ -6,6 +6,9 @@ pub enum ArgFault {
     /// The words are wrong, or ask for help.
     #[error("{0}")]
     Clap(clap::Error),
+    /// More than one of the words for what is read is `-`.
+    #[error("error: the word '-' stands for standard input, which is read once")]
+    StandardTwice,
     /// A growth of memory was refused.
     #[error("jx: out of memory")]
     Memory,

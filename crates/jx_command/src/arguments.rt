@@ -3,7 +3,8 @@ ghost use Rattle.std.specs.Prelude.{◌≤◌, IfOk, IfSome};
 
 use crate::arg_fault::ArgFault;
 use crate::grammar::grammar;
-use crate::request::Request;
+use crate::inputs::{Input, Inputs, inputs_of, reads_standard_twice};
+use crate::request::{Color, Request, Told};
 use crate::subcommand::Subcommand;
 use clap::ArgMatches;
 use clap::error::ErrorKind;
@@ -76,7 +77,7 @@ fn task_of(
     options: &ArgMatches<'_>,
 ) -> Result<Task, AllocError> {
     match called {
-        Subcommand::Check => Ok(Task::Check),
+        Subcommand::Check | Subcommand::Explain => Ok(Task::Check),
         Subcommand::Index => Ok(Task::Index),
         Subcommand::At => Ok(Task::At(pointers_of(alloc, options)?)),
         Subcommand::Seq => Ok(Task::Seq),
@@ -106,12 +107,80 @@ fn command_from(
     })
 }
 
+/// The words that a subcommand is given for what is read, where they may be several or none.
+fn words_of<'a>(
+    alloc: Global,
+    called: Subcommand,
+    options: &ArgMatches<'a>,
+) -> Result<Vec<&'a str>, AllocError> {
+    match called {
+        Subcommand::At => Ok(Vec::new(alloc)),
+        Subcommand::Check | Subcommand::Explain | Subcommand::Index | Subcommand::Seq => {
+            Vec::from_slice(alloc, options.get_strs("files").unwrap_or(&[]))
+        }
+    }
+}
+
+/// What is read: the file of an option, or what words name.
+fn inputs_from<'a>(
+    alloc: Global,
+    called: Subcommand,
+    options: &ArgMatches<'a>,
+) -> Result<Inputs<'a>, ArgFault> {
+    if let Some(file) = options.get_str("file") {
+        return Ok(Inputs::One(Input::File(file)));
+    }
+    let Ok(words) = words_of(alloc, called, options) else {
+        return Err(ArgFault::Memory);
+    };
+    if reads_standard_twice(&words) {
+        return Err(ArgFault::StandardTwice);
+    }
+    Ok(inputs_of(words))
+}
+
 /// The file of pointers that a subcommand is given, if it takes one.
 fn pointers_file_of<'a>(called: Subcommand, options: &ArgMatches<'a>) -> Option<&'a str> {
     match called {
         Subcommand::At => options.get_str("pointers_file"),
-        Subcommand::Check | Subcommand::Index | Subcommand::Seq => None,
+        Subcommand::Check | Subcommand::Explain | Subcommand::Index | Subcommand::Seq => None,
     }
+}
+
+/// Whether what is told to people has colors by the options.
+fn color_of(options: &ArgMatches<'_>) -> Color {
+    match options.get_str("color") {
+        Some("always") => Color::Always,
+        Some("never") => Color::Never,
+        _ => Color::Auto,
+    }
+}
+
+/// How the answer of a subcommand is told.
+fn told_by(called: Subcommand, options: &ArgMatches<'_>) -> Told {
+    match called {
+        Subcommand::Explain => Told::Explained(color_of(options)),
+        Subcommand::Check | Subcommand::Index | Subcommand::At | Subcommand::Seq => Told::Lines,
+    }
+}
+
+/// What a subcommand and its options ask for.
+fn request_from<'a>(
+    alloc: Global,
+    called: Subcommand,
+    options: &ArgMatches<'a>,
+) -> Result<Request<'a>, ArgFault>
+    ensures { IfOk result (λ r. 1 ≤ r.command.piece) }
+{
+    let Ok(command) = command_from(alloc, called, options) else {
+        return Err(ArgFault::Memory);
+    };
+    Ok(Request {
+        command,
+        inputs: inputs_from(alloc, called, options)?,
+        pointers: pointers_file_of(called, options),
+        told: told_by(called, options),
+    })
 }
 
 /// What the words ask for, the first of which is the program's name. Each FILE and each POINTER are taken as they stand:
@@ -125,10 +194,5 @@ pub fn command_of<'a>(alloc: Global, words: &'a [&'a str]) -> Result<Request<'a>
     let check = Subcommand::Check;
     let (name, options) = matches.subcommand().unwrap_or((check.name(), &matches));
     let called = Subcommand::named(name).unwrap_or(check);
-    let command = command_from(alloc, called, options).map_err(|_| ArgFault::Memory)?;
-    Ok(Request {
-        command,
-        file: options.get_str("file"),
-        pointers: pointers_file_of(called, options),
-    })
+    request_from(alloc, called, options)
 }

@@ -5,6 +5,9 @@ use clap::builder::ValueParser;
 use clap::{Arg, ArgAction, Command, value_parser};
 use std::alloc::{AllocError, Global};
 
+/// The words for when what is told to people has colors.
+const COLORS: &[&str] = &["auto", "always", "never"];
+
 fn file<'a>(alloc: Global) -> Arg<'a> {
     Arg::new(alloc, "file")
         .long("file")
@@ -12,6 +15,36 @@ fn file<'a>(alloc: Global) -> Arg<'a> {
         .allow_hyphen_values(true)
         .help(help::FILE)
         .long_help(help::LONG_FILE)
+}
+
+/// What is read, as words.
+fn files<'a>(alloc: Global) -> Result<Arg<'a>, AllocError> {
+    Arg::new(alloc, "files")
+        .value_name("FILE")
+        .num_args(1..)
+        .help(help::FILES)
+        .long_help(help::LONG_FILES)
+        .conflicts_with("file")
+}
+
+/// What is read, as one word.
+fn one_file<'a>(alloc: Global) -> Result<Arg<'a>, AllocError> {
+    Arg::new(alloc, "files")
+        .value_name("FILE")
+        .help(help::ONE_FILE)
+        .long_help(help::LONG_ONE_FILE)
+        .conflicts_with("file")
+}
+
+fn color<'a>(alloc: Global) -> Arg<'a> {
+    Arg::new(alloc, "color")
+        .long("color")
+        .value_name("WHEN")
+        .value_parser(ValueParser::Names(COLORS))
+        .hide_possible_values(true)
+        .default_value("auto")
+        .help(help::COLOR)
+        .long_help(help::LONG_COLOR)
 }
 
 fn depth<'a>(alloc: Global) -> Arg<'a> {
@@ -105,16 +138,41 @@ fn subcommand<'a>(
         .arg(unique_names(alloc))
 }
 
-/// The program with its four commands.
-pub fn grammar<'a>(alloc: Global) -> Result<Command<'a>, AllocError> {
-    let check = subcommand(alloc, Subcommand::Check, help::CHECK, help::AFTER_CHECK)?.arg(quiet(
+fn check<'a>(alloc: Global) -> Result<Command<'a>, AllocError> {
+    subcommand(alloc, Subcommand::Check, help::CHECK, help::AFTER_CHECK)?
+        .arg(quiet(alloc))?
+        .arg(files(alloc)?)
+}
+
+fn explain<'a>(alloc: Global) -> Result<Command<'a>, AllocError> {
+    subcommand(
         alloc,
-    ))?;
-    let index = subcommand(alloc, Subcommand::Index, help::INDEX, help::AFTER_INDEX)?;
-    let at = subcommand(alloc, Subcommand::At, help::AT, help::AFTER_AT)?
+        Subcommand::Explain,
+        help::EXPLAIN,
+        help::AFTER_EXPLAIN,
+    )?
+    .arg(color(alloc))?
+    .arg(one_file(alloc)?)
+}
+
+fn index<'a>(alloc: Global) -> Result<Command<'a>, AllocError> {
+    subcommand(alloc, Subcommand::Index, help::INDEX, help::AFTER_INDEX)?.arg(one_file(alloc)?)
+}
+
+fn at<'a>(alloc: Global) -> Result<Command<'a>, AllocError> {
+    subcommand(alloc, Subcommand::At, help::AT, help::AFTER_AT)?
         .arg(pointers(alloc)?)?
-        .arg(pointers_file(alloc))?;
-    let seq = subcommand(alloc, Subcommand::Seq, help::SEQ, help::AFTER_SEQ)?.arg(quiet(alloc))?;
+        .arg(pointers_file(alloc))
+}
+
+fn seq<'a>(alloc: Global) -> Result<Command<'a>, AllocError> {
+    subcommand(alloc, Subcommand::Seq, help::SEQ, help::AFTER_SEQ)?
+        .arg(quiet(alloc))?
+        .arg(files(alloc)?)
+}
+
+/// The program without its commands.
+fn program<'a>(alloc: Global) -> Command<'a> {
     Command::new(alloc, "jx")
         .version(help::VERSION)
         .about(help::ABOUT)
@@ -122,8 +180,14 @@ pub fn grammar<'a>(alloc: Global) -> Result<Command<'a>, AllocError> {
         .after_help(help::AFTER)
         .after_long_help(help::LONG_AFTER)
         .subcommand_required(true)
-        .subcommand(check)?
-        .subcommand(index)?
-        .subcommand(at)?
-        .subcommand(seq)
+}
+
+/// The program with its commands.
+pub fn grammar<'a>(alloc: Global) -> Result<Command<'a>, AllocError> {
+    program(alloc)
+        .subcommand(check(alloc)?)?
+        .subcommand(explain(alloc)?)?
+        .subcommand(index(alloc)?)?
+        .subcommand(at(alloc)?)?
+        .subcommand(seq(alloc)?)
 }

@@ -15,24 +15,45 @@ pub const AFTER: &str =
     "Exit status: 0 accepted, 1 refused, 2 no answer. More by 'jx help COMMAND'.";
 
 pub const LONG_AFTER: &str = "Examples:
-  jx check --file dump.json           is this file a JSON text?
+  jx check *.json                     which of these files are JSON texts?
   jx check -q < dump.json || echo no  the same, by the exit status alone
-  jx index --file dump.json           a line for each value, with its span
+  jx explain dump.json                why is this file none?
+  jx index dump.json                  a line for each value, with its span
   jx at /users/0/name < dump.json     where this value stands
-  jx seq --file log.json-seq          which elements of a sequence are texts?
+  jx seq log.json-seq                 which elements of a sequence are texts?
 
 Exit status:
   0  the text is accepted, every pointer is found, every element is accepted
   1  otherwise: standard output tells what was refused, and where
-  2  no answer: standard error tells why; a call for help ends so too";
+  2  no answer: standard error tells why; a call for help ends so too
+Of several files, the greatest status of one.";
 
 pub const CHECK: &str = "Tell whether the input is a JSON text";
+
+pub const EXPLAIN: &str = "Show where a text stops being one, and why";
 
 pub const INDEX: &str = "Print a line for each value of a JSON text";
 
 pub const AT: &str = "Print where JSON Pointers lead in a JSON text";
 
 pub const SEQ: &str = "Tell which elements of a JSON text sequence are JSON texts";
+
+pub const FILES: &str = "Read each FILE in order; - is standard input";
+
+pub const LONG_FILES: &str = "Read each FILE in order; - is standard input, which is read too where
+no FILE is named. With two or more, the output is that of each behind
+its name, as 'FILE: accepted'. What goes wrong with a FILE is told on
+standard error, and the others are read.";
+
+pub const ONE_FILE: &str = "Read FILE; - is standard input";
+
+pub const LONG_ONE_FILE: &str = "Read FILE; - is standard input, which is read too where no FILE is
+named.";
+
+pub const COLOR: &str = "Color the output: auto, always or never";
+
+pub const LONG_COLOR: &str = "Color the output: auto, which is where it is a terminal, always or
+never.";
 
 pub const FILE: &str = "Read FILE in place of standard input";
 
@@ -97,11 +118,27 @@ pub const AFTER_CHECK: &str = "Output, one line:
   repeated name at K  the name at K is that of an earlier member of its object
                       (with --unique-names)
 
+Exit status: 0 accepted, 1 refused, 2 no answer; of several files the
+greatest.
+
+Examples:
+  jx check dump.json
+  jx check *.json
+  zstd -dc dump.json.zst | jx check";
+
+pub const AFTER_EXPLAIN: &str = "Output for a text that is refused, three lines:
+  FILE:LINE:COLUMN: SENTENCE
+  the line's text around the place
+  a caret below the place
+Lines end with line feeds and count from 1; columns count the characters of
+a line from 1. FILE is - for standard input. For a text that is accepted:
+  FILE: accepted
+
 Exit status: 0 accepted, 1 refused, 2 no answer.
 
 Examples:
-  jx check --file dump.json
-  zstd -dc dump.json.zst | jx check";
+  jx explain dump.json
+  jx explain --color always < dump.json | less -R";
 
 pub const AFTER_INDEX: &str =
     "Output, 'accepted' and a line for each value, in the order of their starts:
@@ -117,7 +154,7 @@ Of a text that is refused, one line as by 'jx check'.
 Exit status: 0 accepted, 1 refused, 2 no answer.
 
 Examples:
-  jx index --file dump.json
+  jx index dump.json
   printf '{\"a\":[1,2]}' | jx index";
 
 pub const AFTER_AT: &str = "Output, a line for each pointer, whose tokens count from 0:
@@ -149,8 +186,9 @@ pub const AFTER_SEQ: &str = "Output, a line for each element, its span and then:
   too deep at K       as by 'jx check'; K counts from the start of the input
   repeated name at K  as by 'jx check'; K counts from the start of the input
 
-Exit status: 0 all accepted, 1 not all accepted, 2 no answer.
+Exit status: 0 all accepted, 1 not all accepted, 2 no answer; of several
+files the greatest.
 
 Examples:
-  jx seq --file log.json-seq
+  jx seq log.json-seq
   jx seq --quiet < log.json-seq && echo whole";

@@ -5,9 +5,11 @@ mod arg_fault;
 mod arguments;
 mod grammar;
 mod help;
+mod inputs;
 mod request;
 mod subcommand;
 
 pub use arg_fault::ArgFault;
 pub use arguments::command_of;
-pub use request::Request;
+pub use inputs::{Input, Inputs, input_of, inputs_of, reads_standard_twice};
+pub use request::{Color, Request, Told};

@@ -1,12 +1,33 @@
 // What the words of the command line ask for.
+use crate::inputs::Inputs;
 use jx_task::Command;
 
 /// What the words of the command line ask for.
 #[derive(Debug, Drop)]
 pub struct Request<'a> {
     pub command: Command,
-    /// FILE that is read in place of standard input.
-    pub file: Option<&'a str>,
+    /// What is read.
+    pub inputs: Inputs<'a>,
     /// FILE whose lines are looked up behind the pointers among the words.
     pub pointers: Option<&'a str>,
+    /// How the answer is told.
+    pub told: Told,
+}
+
+/// How the answer is told.
+#[derive(Clone, Copy, Debug, PartialEq, Eq)]
+pub enum Told {
+    /// By the lines of a report.
+    Lines,
+    /// To people: where a fault stands, what it is, and what could stand there instead.
+    Explained(Color),
+}
+
+/// Whether what is told to people has colors.
+#[derive(Clone, Copy, Debug, PartialEq, Eq)]
+pub enum Color {
+    /// Where the output is a terminal.
+    Auto,
+    Always,
+    Never,
 }

@@ -3,6 +3,7 @@
 #[derive(Clone, Copy, Debug, PartialEq, Eq)]
 pub enum Subcommand {
     Check,
+    Explain,
     Index,
     At,
     Seq,
@@ -13,6 +14,7 @@ impl Subcommand {
     pub fn name<'a>(self) -> &'a str {
         match self {
             Subcommand::Check => "check",
+            Subcommand::Explain => "explain",
             Subcommand::Index => "index",
             Subcommand::At => "at",
             Subcommand::Seq => "seq",
@@ -23,6 +25,7 @@ impl Subcommand {
     pub fn named(word: &str) -> Option<Subcommand> {
         let all = [
             Subcommand::Check,
+            Subcommand::Explain,
             Subcommand::Index,
             Subcommand::At,
             Subcommand::Seq,

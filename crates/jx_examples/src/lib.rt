@@ -14,6 +14,3 @@ pub use pointers::{LookUp, look_up};
 pub use reports::lines_of_values;
 pub use sequences::whole_elements;
 pub use texts::check;
-
-#[cfg(test)]
-mod tests;

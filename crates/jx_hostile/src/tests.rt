@@ -6,5 +6,4 @@ mod deep_texts;
 mod gathered;
 mod growths;
 mod inputs;
-mod likeness;
 mod stops;

@@ -1,6 +1,7 @@
 -- The least number of which something holds.
 use Rattle.std.proofs.Common.{◌≡◌, ℕ, zero, suc, ◌≤◌, ◌⊎◌, Option, None, Some, min, refl, ap, subst, inl, inr, arith}
-use Rattle.jx_index.specs.Repeats.{IsLeast, earlier_of}
+use Rattle.jx_index.specs.Repeats.{IsLeast}
+use Rattle.jx_index.specs.inside.Ties.{earlier_of}
 
 pub least_same : (P Q : ℕ → Type 0) → ((n : ℕ) → P n → Q n) → ((n : ℕ) → Q n → P n) → (r : Option ℕ) → IsLeast P r → IsLeast Q r
 least_same P Q to of None h = λ n q. h n (of n q)

@@ -13,7 +13,8 @@ use Rattle.jx_index.specs.declared.row.Row.{Row}
 use Rattle.jx_index.specs.inside.LookUp.{rank_of}
 use Rattle.jx_index.specs.Names.{is_below, name_units}
 use Rattle.jx_index.specs.Nodes.{IsObjectAt, kind_at, kind_in, name_at, child_numbers}
-use Rattle.jx_index.specs.Repeats.{IsAmong, start_in, IsRepeatIn, IsRepeat, IsLeast, earlier_of, tie_start, IsTieBehind, IsTie, IsRepeatOf, IsRepeatFrom}
+use Rattle.jx_index.specs.Repeats.{IsAmong, start_in, IsRepeatIn, IsRepeat, IsLeast}
+use Rattle.jx_index.specs.inside.Ties.{earlier_of, tie_start, IsTieBehind, IsTie, IsRepeatOf, IsRepeatFrom}
 use Rattle.jx_index.specs.RowsLead.{is_equal}
 use Rattle.jx_index.proofs.Halving.{eq_at_one}
 use Rattle.jx_index.proofs.Leasts.{least_same, least_one, least_none, least_either, earlier_assoc, earlier_none}

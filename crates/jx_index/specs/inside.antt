@@ -6,4 +6,5 @@ pub mod JudgedIn
 pub mod LookUp
 pub mod Low
 pub mod RowKeeper
+pub mod Ties
 pub mod UnitsLeft

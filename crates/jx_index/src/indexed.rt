@@ -64,9 +64,9 @@ impl<'a> Indexed<'a> {
         Ok(index)
     }
 
-    /// Reads the bytes of a span as a whole text (RFC 8259, section 2) and indexes it where it is accepted, in one pass over
-    /// the bytes that keeps nothing but the rows; else the refusal. It pauses where the pace says, which changes nothing of
-    /// that. `Err` where memory is refused.
+    /// Reads the bytes of a span as a whole text (RFC 8259, section 2) in one pass that keeps nothing but the rows.
+    /// Returns the index where the text is accepted, else the refusal. It pauses where the pace says, which changes
+    /// nothing of that. `Err` where memory is refused.
     pub fn read<P: Pace>(
         alloc: Global,
         text: &'a [u8],

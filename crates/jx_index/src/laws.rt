@@ -30,9 +30,9 @@ ghost use Rattle.jx_index.specs.Units.{chars_units, between_marks};
 use jx_lex::tokens_are_read;
 use jx_run::fronts_decide_where_texts_begin;
 
-/// What is read off a string is its value; the texts that are read as pointers are exactly those that have the form of one,
-/// and what is read off them are that form's tokens; the rows of a text stand in rising order of their starts, and those whose parent is a node
-/// are the node's children, in order.
+/// What is read off a string is its value. The texts that are read as pointers are exactly those of a pointer's form,
+/// and their tokens are that form's. The rows of a text stand in rising order of their starts. Those whose parent is a
+/// node are its children, in order.
 pub fn readings_are_forms()
     ensures strings { (w us : List ℕ) → IsString w us → chars_units InText 0 (between_marks w) ≡ us }
     ensures pointers { (p : List ℕ) (ts : List (List ℕ)) → IsPointerOf p ts → tokens p ≡ ts }
@@ -46,8 +46,8 @@ pub fn readings_are_forms()
     tokens_are_read();
 }
 
-/// The row of the node to which tokens lead has that node's kind, span and name; and each row of a text is the row of a node
-/// of its tree.
+/// The row of the node to which tokens lead has that node's kind, span and name. Each row of a text is the row of a
+/// node of its tree.
 pub fn look_ups_end_at_rows()
     ensures led { (text : List ℕ) (tree : Tree) (tokens : List (List ℕ)) (node : Numbered) → led text tree tokens ≡ Ok node → HasRow (rows tree) node }
     ensures nodes { (tree : Tree) (number : ℕ) → number < length (rows tree) → HasNode tree number }
@@ -59,8 +59,8 @@ pub fn unique_names_are_met_once()
         → (tokens : List (List ℕ)) (token : ℕ) → leads text tree tokens ≡ Err (NameRepeated token) → ⊥ }
 {}
 
-/// An index over an accepted text from an offset on has the rows of its tree; and where that offset is just behind the front of
-/// the bytes, what is told of the text there is told by settings of all bytes.
+/// An index over an accepted text from an offset on has the rows of its tree. Where that offset is just behind the
+/// front of the bytes, the same holds by settings of all bytes.
 pub fn indexes_stand_behind_fronts()
     ensures over { (text : List ℕ) (start limit : ℕ) (index : IndexedValue) → Judged start (rest_from start text) limit Accepted → index.text ≡ text
         → index.span ≡ span start (length text) → ((d : ℕ) (tree : Tree) → IsText text start (length text) d tree → index.rows ≡ rows tree)

@@ -31,6 +31,3 @@ pub use laws::{
 pub use pointer::{Pointer, PointerFault};
 pub use row::{NodeId, Row};
 pub use text_answer::TextAnswer;
-
-#[cfg(test)]
-mod tests;

@@ -4,7 +4,8 @@ ghost use Rattle.std.specs.List.Sorted.{IsSortedBy};
 ghost use Rattle.jx_index.specs.ByNames.{RefusesName};
 ghost use Rattle.jx_index.specs.Names.{is_below};
 ghost use Rattle.jx_index.specs.Nodes.{name_at};
-ghost use Rattle.jx_index.specs.Repeats.{earlier_of, start_in, tie_start, IsLeast, IsRepeat, IsRepeatIn, IsRepeatOf, IsTie};
+ghost use Rattle.jx_index.specs.Repeats.{start_in, IsLeast, IsRepeat, IsRepeatIn};
+ghost use Rattle.jx_index.specs.inside.Ties.{earlier_of, tie_start, IsRepeatOf, IsTie};
 
 use crate::comparing::{Comparing, Uncounted};
 use crate::indexed::Indexed;

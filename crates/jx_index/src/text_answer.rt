@@ -20,9 +20,9 @@ pub enum TextAnswer<'a> {
 }
 
 impl<'a> TextAnswer<'a> {
-    /// Reads a JSON text (RFC 8259) by settings on the calling thread in one pass, and indexes it where it is accepted. A byte
-    /// order mark in front of it may be ignored (section 8.1); where names have to be unique, what is otherwise accepted is
-    /// refused for the first name that an object repeats (section 4). `Err` where memory is refused.
+    /// Reads a JSON text (RFC 8259) by settings on the calling thread in one pass, and indexes it where it is accepted.
+    /// A byte order mark in front may be ignored (section 8.1). Where names have to be unique, a text is refused at the
+    /// first duplicate name (section 4). `Err` where memory is refused.
     pub fn read(
         alloc: Global,
         text: &'a [u8],

@@ -26,7 +26,7 @@ pub fn pieces_are_read_in_turn()
         → lex s a (slice_range text a c) ≡ joined (lex s a (slice_range text a b)) (λ next. lex next b (slice_range text b c)) }
 {}
 
-/// What is read as one token is exactly what is a token of RFC 8259 (sections 3, 6 and 7); and what a byte may do, in a token
+/// What is read as one token is exactly a token of RFC 8259 (sections 3, 6 and 7). Also what a byte may do, in a token
 /// and between tokens.
 pub fn tokens_are_read()
     ensures reads { (kind : Kind) (bytes : List ℕ) → IsToken kind bytes → IsRead (mark_of kind) bytes }

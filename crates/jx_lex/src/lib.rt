@@ -1,5 +1,5 @@
-//! The lexical layer of JSON texts: byte classes, the lexical machine and its marks, and chunk maps: what reading a
-//! part of a text gives from each state, whatever stands to its left.
+//! The lexical layer of JSON texts: byte classes, the lexical machine and its marks, and chunk maps. A chunk map is the
+//! reading of a part of a text from each state, whatever stands to its left.
 #![tactic(auto)]
 
 mod alphabet;

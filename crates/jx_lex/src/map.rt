@@ -2,6 +2,7 @@
 pub(crate) mod bundle;
 pub(crate) mod chunk_map;
 pub(crate) mod items;
+pub(crate) mod lane;
 pub(crate) mod link;
 pub(crate) mod path;
 pub(crate) mod reach;

@@ -293,7 +293,7 @@ fn known_ahead(state: LexState) -> Ahead
 /// Reads the bytes of a text from one offset to another, from a known lexical state, into a keeper. What the keeper has
 /// seen grows by the marks and ends of that reading, with their offsets in the text.
 ///
-/// Gives where the reading ends, or none where the keeper wanted no more before: the rest was not looked at then, and
+/// Returns where the reading ends, or none where the keeper wanted no more before. Then the rest was not looked at, and
 /// what the keeper has seen stands for it too. Where memory is refused, the keeper is of no more use.
 pub fn scan<K: Keeper>(
     keeper: &mut K,

@@ -1,8 +1,8 @@
 // The moves over marks from the start of a text.
 
-ghost use Rattle.std.specs.Prelude.{◌≡◌, ◌↔◌, ◌++◌, List, [], ◌∷◌, IsTrue, OnOk, OnErr};
+ghost use Rattle.std.specs.Prelude.{◌≡◌, ◌↔◌, ◌++◌, ◌≤◌, List, [], ◌∷◌, IsTrue, OnOk, OnErr, IfOk, length, reverse};
 ghost use Rattle.jx_reduce.specs.Table.{added};
-ghost use Rattle.jx_reduce.specs.Read.{changed, then_by, step, read};
+ghost use Rattle.jx_reduce.specs.Read.{changed, then_by, step, read, went};
 ghost use Rattle.jx_reduce.specs.Whole.{whole_of};
 ghost use Rattle.jx_reduce.specs.KnownStack.{start, HasRead, IsFault, IsPartRead};
 ghost use Rattle.jx_lex.specs.declared.alphabet.mark.Mark.{Mark};
@@ -22,8 +22,8 @@ enum Fault {
     TooDeep(usize),
 }
 
-/// What marks come to from the start of a text, where a value is expected and nothing is open: the moves at each of them
-/// over the containers that are open (RFC 8259, sections 2 to 5). Up to 64 open containers take no memory.
+/// What marks come to from the start of a text, where a value is expected and nothing is open. Applies the moves at
+/// each of them to the open containers (RFC 8259, sections 2 to 5). Up to 64 open containers take no memory.
 #[derive(Drop)]
 pub struct KnownStack {
     depth: Depth,
@@ -101,6 +101,34 @@ impl KnownStack {
         self.expect = Expect::Value;
         self.open.clear();
         self.fault = None;
+    }
+
+    /// Takes out what may stand next and the open containers, outermost first, where no fault was met. What the stack
+    /// stands for behind that is not told.
+    pub fn take_standing(&mut self) -> Result<(Expect, Vec<Holder>), AllocError>
+        requires going { IsFault self.old.reading → ⊥ }
+        ensures depth { self.new.depth ≡ self.old.depth }
+        ensures standing { IfOk result (λ s. self.old.reading ≡ went s.0 (reverse s.1.items)) }
+        ensures within { IfOk result (λ s. length s.1.items ≤ self.old.depth) }
+    {
+        // Shows the proof that the number of open containers is within the depth.
+        let _ = self.depth.containers();
+        let expect = self.expect;
+        let holders = self.open.take_all()?;
+        Ok((expect, holders))
+    }
+
+    /// Stands, from now on, where this may stand next and these containers are open, outermost first. They are refused, as
+    /// for want of memory, where one of them is `Bottom`.
+    pub fn stand(&mut self, expect: Expect, holders: &[Holder]) -> Result<(), AllocError>
+        requires within { length holders.now ≤ self.old.depth }
+        ensures depth { self.new.depth ≡ self.old.depth }
+        ensures standing { OnOk result (self.new.reading ≡ went expect (reverse holders.now)) }
+    {
+        self.fault = None;
+        self.expect = expect;
+        self.open.clear();
+        self.open.push_all(holders)
     }
 
     /// Ends the reading at this fault, unless it ended at one before.

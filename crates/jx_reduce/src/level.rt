@@ -7,8 +7,8 @@ use crate::ended_level::EndedLevel;
 use crate::holder::Holder;
 use crate::quiet::{ARRAY, BOTTOM, OBJECT};
 
-/// The marks that stand directly in one container which was open at entry, or in none: the offset of the first fault,
-/// if there is one, for each holder that the container may be.
+/// The marks directly in one container that was open at entry, or in none. Holds the offset of the first fault, if any,
+/// for each holder that the container may be.
 #[derive(Clone, Copy, Debug, PartialEq, Eq)]
 pub struct Level {
     pub array: Option<usize>,

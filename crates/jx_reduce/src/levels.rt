@@ -19,8 +19,8 @@ use crate::shift::{Shift, shift_all};
 use jx_lex::{Mark, MarkKind};
 use std::alloc::{AllocError, Global};
 
-/// A reduced form: the levels that are ended and the last one, what is open above it, the exit, and the offsets at which
-/// one container more than ever stood open.
+/// A reduced form: the ended levels and the last one, what is open above it, and the exit. Also the offsets at which
+/// one container more than ever was open.
 #[derive(Drop)]
 pub(crate) struct Levels {
     pub ended: Vec<EndedLevel>,

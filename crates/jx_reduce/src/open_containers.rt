@@ -1,6 +1,6 @@
 // Open containers, one bit each.
 
-ghost use Rattle.std.specs.Prelude.{◌≡◌, ◌<◌, ◌^◌, ◌++◌, List, [], ◌∷◌, OnOk, OnErr, length};
+ghost use Rattle.std.specs.Prelude.{◌≡◌, ◌+◌, ◌<◌, ◌≤◌, ◌^◌, ◌++◌, List, [], ◌∷◌, OnOk, OnErr, IfOk, length, reverse};
 ghost use Rattle.jx_reduce.specs.Read.{top, without_top};
 ghost use Rattle.jx_reduce.specs.Bits.{holder_of};
 
@@ -134,6 +134,35 @@ impl OpenContainers {
                 }
             }
         }
+    }
+
+    /// Closes all containers, and lists them outermost first.
+    pub fn take_all(&mut self) -> Result<Vec<Holder>, AllocError>
+        requires few { length self.old < 2 ^ 32 }
+        ensures all { IfOk result (λ holders. self.old ≡ reverse holders.items) }
+        ensures fewer { length self.new ≤ length self.old }
+    {
+        let mut holders = Vec::new(*self.words.allocator());
+        while self.len() > 0 {
+            holders.push(self.top())?;
+            self.pop();
+        }
+        holders.reverse();
+        Ok(holders)
+    }
+
+    /// Opens these containers, the outermost first. They are refused, as for want of memory, where one of them is `Bottom`.
+    pub fn push_all(&mut self, holders: &[Holder]) -> Result<(), AllocError>
+        ensures ok { OnOk result (self.new ≡ reverse holders.now ++ self.old) }
+        ensures more { length self.new ≤ length holders.now + length self.old }
+    {
+        for holder in holders {
+            if matches!(holder, Holder::Bottom) {
+                return Err(AllocError);
+            }
+            self.push(*holder)?;
+        }
+        Ok(())
     }
 
     /// Closes all containers. The memory stays.

@@ -22,13 +22,13 @@ use crate::whole::Whole;
 use jx_lex::{Depth, Mark};
 use std::alloc::{AllocError, Global};
 
-/// What a list of marks comes to from one expectation, for every list of open containers at entry that is no longer than
-/// the depth. Level 0 stands in the innermost container at entry; each level but the last one ends with the close of its
-/// container, and the next stands in the container around it.
+/// What a list of marks comes to from one expectation, for every list of open containers at entry that is no longer
+/// than the depth. Level 0 stands in the innermost container at entry. Each level but the last ends with the close of
+/// its container, and the next stands in the container around it.
 ///
-/// Levels, open containers, exits and heights are the parts that `act` reads its answer off. Only that answer is settled by
-/// the marks: where no list of open containers within the depth tells the difference, two forms of the same marks may show
-/// different parts, as one that was joined and one that was not.
+/// Levels, open containers, exits and heights are the parts that `act` reads its answer off. Only that answer is
+/// settled by the marks. Two forms of the same marks may show different parts where no list of open containers within
+/// the depth tells the difference.
 #[derive(Drop)]
 pub struct Reduced {
     depth: Depth,

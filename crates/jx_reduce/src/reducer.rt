@@ -66,8 +66,8 @@ fn last_of(last: Option<usize>, marks: &[Mark]) -> Option<usize>
     }
 }
 
-/// Reads the marks of a window: as more of the tail, or where there is no tail yet, first the rest of the head and then the
-/// beginning of the tail. Gives the tail behind the window.
+/// Reads the marks of a window as more of the tail. Where there is no tail yet, reads first the rest of the head and
+/// then the beginning of the tail. Gives the tail behind the window.
 fn read_on(
     head: &mut Vec<Mark>,
     tail: Option<Reduced>,

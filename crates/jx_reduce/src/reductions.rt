@@ -70,8 +70,9 @@ impl Reductions {
         }
     }
 
-    /// The structure of these marks. Behind the first mark that is no string, or behind a second string, all entries that go
-    /// on stand at the same one: so the marks behind it are read once, for all of them. It fails only for want of memory.
+    /// The structure of these marks. Behind the first mark that is no string, or behind a second string, all entries
+    /// that go on stand at the same one. So the marks behind it are read once, for all of them. It fails only for want
+    /// of memory.
     pub fn of(alloc: Global, marks: &[Mark], depth: Depth) -> Result<Reductions, AllocError>
         requires rising { RisingFrom 0 marks.now }
         ensures depth { IfOk result (λ f. f.depth ≡ depth) }

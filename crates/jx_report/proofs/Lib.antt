@@ -6,6 +6,6 @@ mod FrontSteps
 mod LineSteps
 mod OneOutput
 mod PointerSteps
-mod PutSteps
+pub mod PutSteps
 mod RowSteps
 mod SequenceSteps

@@ -19,8 +19,6 @@ mod sequence_check;
 mod sequence_reader;
 mod sink;
 mod source;
-#[cfg(test)]
-mod tests;
 mod text_check;
 mod words;
 mod write_all;
@@ -30,6 +28,7 @@ pub use end::End;
 pub use exit::Exit;
 pub use laws::outputs_are_one;
 pub use report_fault::ReportFault;
-pub use reporting::report;
+pub use reporting::{report, report_in_batches};
 pub use sink::Sink;
 pub use source::Source;
+pub use write_all::write_all as write_whole;

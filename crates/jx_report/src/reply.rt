@@ -125,7 +125,17 @@ fn sequence_reply<R: Threads + Wait + Sync, G: Gate + Sync>(
     }
 }
 
-/// The reply to a command on an input; `Err` where memory is refused.
+/// One worker.
+pub(crate) fn one_worker() -> Workers {
+    let Some(one) = Workers::new(1) else {
+        unreachable!()
+    };
+    one
+}
+
+/// The reply to a command on an input; `Err` where memory is refused. One worker indexes it, in one pass from the start of
+/// the text, which takes less time and memory than the runs of several workers and the rows that are then made of these. As
+/// many as the command says answer pointers.
 pub fn reply_to<R: Threads + Wait + Sync, G: Gate + Sync>(
     rt: &R,
     alloc: Global,
@@ -143,20 +153,21 @@ pub fn reply_to<R: Threads + Wait + Sync, G: Gate + Sync>(
         workers,
         ..
     } = *command;
+    let one = one_worker();
     match &command.task {
         Task::Check => {
-            match verdict_of_text_with(rt, alloc, text, cutting, workers, &settings, gate) {
+            match verdict_of_text_with(rt, alloc, text, cutting, one, &settings, gate) {
                 Ok(verdict) => Ok(Reply::Verdict(verdict)),
                 Err(_) => Err(AllocError),
             }
         }
-        Task::Index => match index_text_with(rt, alloc, text, cutting, workers, &settings, gate) {
+        Task::Index => match index_text_with(rt, alloc, text, cutting, one, &settings, gate) {
             Ok(TextAnswer::Accepted(index)) => Ok(Reply::Rows(index.into_rows())),
             Ok(TextAnswer::Refused(refusal)) => Ok(Reply::Verdict(Verdict::Refused(refusal))),
             Err(_) => Err(AllocError),
         },
         Task::At(pointers) => match index_text_with(
-            rt, alloc, text, cutting, workers, &settings, gate,
+            rt, alloc, text, cutting, one, &settings, gate,
         ) {
             Ok(TextAnswer::Accepted(index)) => {
                 pointers_reply(rt, alloc, &index, pointers, workers, gate)

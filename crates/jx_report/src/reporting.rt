@@ -28,7 +28,7 @@ const BUFFER: usize = 64 * 1024;
 /// Reads to the end of input, and has it answered by the command's workers. While a text or the elements of a sequence are
 /// judged, one batch of the input is kept at a time. For rows and pointers the whole input is kept, and also wherever names
 /// have to be unique, which needs indexes.
-fn answer_to_input<R: Threads + Wait + Sync, S: Source, G: Gate + Sync>(
+fn answer_to_input<R: Threads + Wait + Sync, S: Source + Send, G: Gate + Sync>(
     rt: &R,
     alloc: Global,
     reader: &mut S,
@@ -57,7 +57,7 @@ fn answer_to_input<R: Threads + Wait + Sync, S: Source, G: Gate + Sync>(
 }
 
 /// Reads to the end of input, keeps all of it, and has it answered by the command's workers.
-fn answer_to_all<R: Threads + Wait + Sync, S: Source, G: Gate + Sync>(
+fn answer_to_all<R: Threads + Wait + Sync, S: Source + Send, G: Gate + Sync>(
     rt: &R,
     alloc: Global,
     reader: &mut S,
@@ -96,8 +96,9 @@ fn batch_of(piece: usize) -> usize
     }
 }
 
-/// `report` where a batch has so many bytes.
-pub(crate) fn report_by<R: Threads + Wait + Sync, S: Source, W: Sink, G: Gate + Sync>(
+/// `report` where a batch has so many bytes: 1 to 4,294,967,295. Batches are what a text or the elements of a sequence are judged
+/// by; their length changes no output.
+pub fn report_in_batches<R: Threads + Wait + Sync, S: Source + Send, W: Sink, G: Gate + Sync>(
     rt: &R,
     alloc: Global,
     reader: &mut S,
@@ -134,8 +135,15 @@ pub(crate) fn report_by<R: Threads + Wait + Sync, S: Source, W: Sink, G: Gate + 
 
 /// Reads to the end of input, has it answered by the command's workers, and then writes the output through one buffer,
 /// unless the command is quiet; the exit is the same then. No memory is taken once the first byte is written. It may wait
-/// for the workers. The gate is asked after each step of a worker, and changes no output.
-pub fn report<R: Threads + Wait + Sync, S: Source, W: Sink, G: Gate + Sync>(
+/// for the workers.
+///
+/// The gate changes no output. One worker asks it as each piece of a batch begins, and the pieces of a batch are numbered
+/// from 0. Each of several workers asks as it begins its part of a batch, whose number is that of the worker, and as it has
+/// read it; the first worker goes on whatever is said. What stands between two record separators is asked for as by
+/// `judge_batch`, rows are asked for by one worker, and pointers as by `find_all`. Less than a MiB is read by the calling
+/// thread alone where nobody is asked (`Gate::is_asked`). With several workers the reader is also called from another
+/// thread, one call at a time.
+pub fn report<R: Threads + Wait + Sync, S: Source + Send, W: Sink, G: Gate + Sync>(
     rt: &R,
     alloc: Global,
     reader: &mut S,
@@ -160,7 +168,7 @@ pub fn report<R: Threads + Wait + Sync, S: Source, W: Sink, G: Gate + Sync>(
     ensures pieces { IsErrOf result ReportFault.Pieces → HasTooManyPieces command.now (S.remaining reader.old)
         (S.remaining reader.new) }
 {
-    report_by(
+    report_in_batches(
         rt,
         alloc,
         reader,

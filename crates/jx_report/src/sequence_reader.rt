@@ -6,10 +6,11 @@ ghost use Rattle.jx_run.specs.ElementVerdict.{IsJudgedElement};
 ghost use Rattle.jx_run.specs.SequenceRead.{EndsWithSeparator, HasNoSeparator, StartsWithSeparator};
 ghost use Rattle.jx_report.specs.inside.Sequences.{AreReadBy};
 
-use crate::text_check::TextReader;
+use crate::reply::one_worker;
+use crate::text_check::{TextReader, is_short};
 use jx_answer::judge_batch;
 use jx_book::Gate;
-use jx_claim::Cutting;
+use jx_claim::Workers;
 use jx_run::{
     JudgedElement, ended_there, ends_open_behind, separated_part, sequences_are_read_part_by_part,
 };
@@ -29,20 +30,17 @@ pub(crate) struct SequenceReader {
     loose: bool,
 }
 
-/// How many of `len` bytes a worker reads at a time. Where there is one worker, it reads them as one piece.
-fn piece_of(command: &Command, len: usize) -> usize
-    requires { 1 ≤ command.now.piece }
-    ensures { 1 ≤ result }
-{
-    if command.workers.count() == 1 {
-        len.max(1)
+/// How many workers judge so many bytes: one, where they are few or one piece.
+fn workers_for<G: Gate>(command: &Command, len: usize, gate: &G) -> Workers {
+    if len <= command.piece || is_short(len, gate) {
+        one_worker()
     } else {
-        command.piece
+        command.workers
     }
 }
 
 /// The elements of a part of a sequence. The part begins with a record separator, and so many bytes stand before it.
-fn elements_of<R: Threads + Wait + Sync, G: Gate + Sync>(
+fn elements_of<R: Threads + Sync, G: Gate + Sync>(
     rt: &R,
     alloc: Global,
     command: &Command,
@@ -50,26 +48,13 @@ fn elements_of<R: Threads + Wait + Sync, G: Gate + Sync>(
     before: usize,
     gate: &G,
 ) -> Result<Vec<JudgedElement>, AllocError>
-    requires piece { 1 ≤ command.now.piece }
-    requires few { length part.now < 2 ^ 32 }
     requires fits { before + length part.now < 2 ^ 64 }
     requires starts { StartsWithSeparator part.now }
     ensures { IfOk result (λ es. AllZip (IsJudgedElement command.now.settings.depth) (elements before part.now) es.items) }
 {
-    let Ok(cutting) = Cutting::every(part.len(), piece_of(command, part.len())) else {
-        unreachable!()
-    };
+    let workers = workers_for(command, part.len(), gate);
     let depth = command.settings.depth;
-    match judge_batch(
-        rt,
-        alloc,
-        part,
-        before,
-        &cutting,
-        command.workers,
-        depth,
-        gate,
-    ) {
+    match judge_batch(rt, alloc, part, before, workers, depth, gate) {
         Ok(elements) => Ok(elements),
         Err(_) => Err(AllocError),
     }
@@ -125,7 +110,7 @@ impl SequenceReader {
     }
 
     /// Reads bytes behind what was read. They begin and end with a record separator.
-    fn pass<R: Threads + Wait + Sync, G: Gate + Sync>(
+    fn pass<R: Threads + Sync, G: Gate + Sync>(
         &mut self,
         rt: &R,
         alloc: Global,
@@ -134,8 +119,6 @@ impl SequenceReader {
         before: usize,
         gate: &G,
     ) -> Result<(), AllocError>
-        requires piece { 1 ≤ command.now.piece }
-        requires few { length bytes.now < 2 ^ 32 }
         requires fits { before + length bytes.now < 2 ^ 64 }
         requires starts { StartsWithSeparator bytes.now }
         requires ends { EndsWithSeparator bytes.now }

@@ -11,23 +11,26 @@ ghost use Rattle.jx_report.specs.inside.Batches.{seen, IsTaken, ShowsFront};
 
 use crate::pieces::feed_pieces;
 use crate::report_fault::ReportFault;
-use jx_answer::read_batch;
+use jx_answer::{Balance, read_batch};
 use jx_book::Gate;
 use jx_claim::Cutting;
 use jx_lex::{Depth, Span};
-use jx_run::{Front, Reader, Refusal, RunReader, Verdict, front, fronts_decide_where_texts_begin};
+use jx_run::{Front, Reader, Refusal, Verdict, front, fronts_decide_where_texts_begin};
 use jx_task::Command;
 use std::alloc::{AllocError, Global};
 use std::sync::Wait;
 use std::thread::Threads;
+
+/// How many bytes are read by several workers, at the least.
+const LEAST_SHARED: usize = 1024 * 1024;
 
 /// A reader of a text from its start.
 #[derive(Drop)]
 pub(crate) enum TextReader {
     /// On this thread, byte by byte.
     Alone(Reader),
-    /// By the runs that workers make of each batch.
-    Shared(RunReader),
+    /// By several workers: one on from where the text stands, and by the runs that the others make of what stands behind that.
+    Shared(Reader, Balance),
 }
 
 impl TextReader {
@@ -39,7 +42,10 @@ impl TextReader {
     {
         let depth = command.settings.depth;
         if command.workers.count() > 1 {
-            TextReader::Shared(RunReader::new(alloc, depth, start))
+            TextReader::Shared(
+                Reader::new(alloc, depth, start),
+                Balance::new(command.workers),
+            )
         } else {
             TextReader::Alone(Reader::new(alloc, depth, start))
         }
@@ -51,7 +57,7 @@ impl TextReader {
     {
         let (start, end) = match self {
             TextReader::Alone(reader) => (reader.start(), reader.end()),
-            TextReader::Shared(reader) => (reader.start(), reader.end()),
+            TextReader::Shared(reader, _) => (reader.start(), reader.end()),
         };
         Span { start, end }
     }
@@ -74,7 +80,9 @@ impl TextReader {
     {
         match self {
             TextReader::Alone(reader) => read_alone(reader, command, batch, gate),
-            TextReader::Shared(reader) => read_shared(rt, alloc, reader, command, batch, gate),
+            TextReader::Shared(reader, balance) => {
+                read_shared(rt, alloc, reader, balance, command, batch, gate)
+            }
         }
     }
 
@@ -84,7 +92,7 @@ impl TextReader {
     {
         match self {
             TextReader::Alone(reader) => reader.verdict(),
-            TextReader::Shared(reader) => reader.verdict(),
+            TextReader::Shared(reader, _) => reader.verdict(),
         }
     }
 }
@@ -112,11 +120,18 @@ fn read_alone<G: Gate>(
     feed_pieces(reader, batch, &cutting, gate)
 }
 
-/// Lets the workers read a batch behind what was read.
+/// Whether so few bytes are read by the calling thread alone. To start workers takes longer, unless somebody is asked as they
+/// go on.
+pub(crate) fn is_short<G: Gate>(len: usize, gate: &G) -> bool {
+    len < LEAST_SHARED && !gate.is_asked()
+}
+
+/// Lets the workers read a batch behind what was read, where it is worth their while.
 fn read_shared<R: Threads + Wait + Sync, G: Gate + Sync>(
     rt: &R,
     alloc: Global,
-    reader: &mut RunReader,
+    reader: &mut Reader,
+    balance: &mut Balance,
     command: &Command,
     batch: &[u8],
     gate: &G,
@@ -128,13 +143,10 @@ fn read_shared<R: Threads + Wait + Sync, G: Gate + Sync>(
     ensures start { reader.new.start ≡ reader.old.start }
     ensures reads { OnOk result ((bytes : List ℕ) → HasRead bytes reader.old → HasRead (bytes ++ batch.now) reader.new) }
 {
-    let Ok(cutting) = Cutting::every(batch.len(), command.piece) else {
-        unreachable!()
-    };
-    match read_batch(rt, alloc, reader, batch, &cutting, command.workers, gate) {
-        Ok(()) => Ok(()),
-        Err(_) => Err(AllocError),
+    if batch.len() <= command.piece || is_short(batch.len(), gate) {
+        return reader.feed(batch);
     }
+    read_batch(rt, alloc, reader, balance, batch, command.workers, gate)
 }
 
 /// What was read of an input so far. It keeps no byte of it.
@@ -173,7 +185,10 @@ impl TextCheck {
     {
         let depth = command.settings.depth;
         let reader = if command.workers.count() > 1 && command.piece < batch {
-            TextReader::Shared(RunReader::new(alloc, depth, front))
+            TextReader::Shared(
+                Reader::new(alloc, depth, front),
+                Balance::new(command.workers),
+            )
         } else {
             TextReader::Alone(Reader::new(alloc, depth, front))
         };

@@ -11,7 +11,8 @@ use Rattle.jx_run.specs.declared.verdict.Verdict.{Verdict}
 use Rattle.jx_run.specs.declared.verdict.Verdict.TheVariants.{Accepted, Refused}
 use Rattle.jx_run.specs.Elements.{Part, part, before_separator, after_separators, filled, has_bytes, elements}
 use Rattle.jx_run.specs.ElementVerdict.{IsVerdictOn, IsJudgedElement, told}
-use Rattle.jx_run.specs.ElementsRun.{PartRunValue, MarkedElementsValue, IsPartRun, AreMarked, IsSummaryOf}
+use Rattle.jx_run.specs.ElementsRun.{PartRunValue, MarkedElementsValue, IsPartRun}
+use Rattle.jx_run.specs.inside.MarkedElements.{AreMarked, IsSummaryOf}
 use Rattle.jx_run.specs.OutcomeRun.{outcome_span}
 use Rattle.jx_run.specs.Text.{IsDocument}
 use Rattle.jx_run.specs.Tree.{Tree, span}

@@ -18,6 +18,7 @@ pub mod Paces
 pub mod PartedJoins
 pub mod Parts
 pub mod ReaderSteps
+pub mod ReaderRuns
 pub mod Reducing
 pub mod RestWays
 pub mod RunJoin

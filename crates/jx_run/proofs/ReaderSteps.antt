@@ -79,7 +79,7 @@ read-shift limit b s e o xs =
 
 -- ---- a slice behind the bytes that were read
 
-went_of : (x : lexical.LexExit) (r : Reading) (s : LexState) (e : Expect) (o : List Holder) → at_exit x r ≡ went s e o → (x ≡ lexical.state s) × (r ≡ Reading.went e o)
+pub went_of : (x : lexical.LexExit) (r : Reading) (s : LexState) (e : Expect) (o : List Holder) → at_exit x r ≡ went s e o → (x ≡ lexical.state s) × (r ≡ Reading.went e o)
 went_of (lexical.state t) (Reading.went f p) s e o h = (cc, cc)
 went_of (lexical.fault i) (Reading.went f p) s e o h = cc
 went_of (lexical.state t) (Reading.stopped at) s e o h = cc
@@ -189,7 +189,7 @@ at_state limit from bytes s (Reading.stopped at) f h = absurd (f tt)
 at_state limit from bytes s (Reading.too_deep at) f h = absurd (f tt)
 
 -- what the text comes to is what the stack came to, behind the lexical state
-read_is : (limit d : ℕ) (s : LexState) (e : Expect) (o : List Holder) (xs : List ℕ) (r : Reading) → d ≡ limit → r ≡ Reading.went e o
+pub read_is : (limit d : ℕ) (s : LexState) (e : Expect) (o : List Holder) (xs : List ℕ) (r : Reading) → d ≡ limit → r ≡ Reading.went e o
     → read limit s e o 0 xs ≡ at_exit (lex s 0 xs).exit (read_marks d (lex s 0 xs).marks r)
 unfolding read
 read_is limit d s e o xs r i j =

@@ -31,12 +31,12 @@ fits : (b at : ℕ) → b + at < 2 ^ 64 → offset_at b at ≡ b + at
 fits b at h = omega arith
 
 leads_at : (b limit : ℕ) (x : LexExit) (o : declared_outcome.Outcome) → Within limit (at_exit (exit_of x) (reading_of o)) → LeadsTo b limit (at_exit (exit_of x) (reading_of o)) (arrived b x o)
-leads_at b limit (exit.State s) (reduced.Went e hs) w = record { within = subst (λ (n : ℕ). n ≤ limit) (length-reverse hs.items) w; outcome = λ l. refl }
-leads_at b limit (exit.Fault at) (reduced.Went e hs) w = record { within = tt; outcome = λ l. ap (λ (k : ℕ). Some (stopped k)) (fits b at l) }
-leads_at b limit (exit.State s) (reduced.Stopped at) w = record { within = tt; outcome = λ l. ap (λ (k : ℕ). Some (stopped k)) (fits b at l) }
-leads_at b limit (exit.Fault i) (reduced.Stopped at) w = record { within = tt; outcome = λ l. ap (λ (k : ℕ). Some (stopped k)) (fits b at l) }
-leads_at b limit (exit.State s) (reduced.TooDeep at) w = record { within = tt; outcome = λ l. ap (λ (k : ℕ). Some (too_deep k)) (fits b at l) }
-leads_at b limit (exit.Fault i) (reduced.TooDeep at) w = record { within = tt; outcome = λ l. ap (λ (k : ℕ). Some (too_deep k)) (fits b at l) }
+leads_at b limit (exit.State s) (reduced.Went e hs) w = record { going = refl; within = subst (λ (n : ℕ). n ≤ limit) (length-reverse hs.items) w; outcome = λ l. refl }
+leads_at b limit (exit.Fault at) (reduced.Went e hs) w = record { going = tt; within = tt; outcome = λ l. ap (λ (k : ℕ). Some (stopped k)) (fits b at l) }
+leads_at b limit (exit.State s) (reduced.Stopped at) w = record { going = tt; within = tt; outcome = λ l. ap (λ (k : ℕ). Some (stopped k)) (fits b at l) }
+leads_at b limit (exit.Fault i) (reduced.Stopped at) w = record { going = tt; within = tt; outcome = λ l. ap (λ (k : ℕ). Some (stopped k)) (fits b at l) }
+leads_at b limit (exit.State s) (reduced.TooDeep at) w = record { going = tt; within = tt; outcome = λ l. ap (λ (k : ℕ). Some (too_deep k)) (fits b at l) }
+leads_at b limit (exit.Fault i) (reduced.TooDeep at) w = record { going = tt; within = tt; outcome = λ l. ap (λ (k : ℕ). Some (too_deep k)) (fits b at l) }
 
 -- where a run leads, by what its entry answers
 pub leads : (b limit : ℕ) (x : LexExit) (o : declared_outcome.Outcome) (c : Course) (r : TextReading) → c ≡ arrived b x o → at_exit (exit_of x) (reading_of o) ≡ r → Within limit r → LeadsTo b limit r c

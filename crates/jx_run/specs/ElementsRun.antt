@@ -3,7 +3,6 @@
 use Rattle.std.specs.Prelude.{◌≡◌, ℕ, Bool, List, Option}
 use Rattle.jx_summary.specs.declared.span.Span.{Span}
 use Rattle.jx_run.specs.declared.element_verdict.JudgedElement.{JudgedElement}
-use Rattle.jx_run.specs.Elements.{Part}
 use Rattle.jx_run.specs.ElementVerdict.{IsJudgedElement}
 use Rattle.jx_run.specs.OutcomeRun.{OutcomeRunValue, IsOutcomeRun, outcome_span}
 use Rattle.jx_run.specs.Parted as parted
@@ -33,13 +32,6 @@ elements_span = parted.parted_span (λ r. outcome_span r.outcomes)
 
 abbrev pub judging : parted.Meaning PartRunValue JudgedElement
 judging = parted.meaning (λ r. outcome_span r.outcomes) (λ r. r.outcomes.depth) (λ r bytes. IsPartRun bytes r) IsJudgedElement
-
--- each part between two neighbouring separators that is not empty is judged, in order; the last part goes on to the end
-abbrev pub AreMarked : ℕ → List Part → MarkedElementsValue → Type 0
-AreMarked = parted.IsMarked judging
-
-abbrev pub IsSummaryOf : List ℕ → PartRunValue → Option MarkedElementsValue → Type 0
-IsSummaryOf = parted.IsSummary judging
 
 abbrev pub IsElementsRun : List ℕ → ElementsRunValue → Type 0
 IsElementsRun = parted.IsParted judging

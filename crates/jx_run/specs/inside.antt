@@ -1,6 +1,7 @@
 -- What the contracts of this crate's own functions cite, and no public one.
 pub mod Beside
 pub mod Joins
+pub mod MarkedElements
 pub mod Moved
 pub mod PartedJoins
 pub mod Reduced

@@ -39,8 +39,8 @@ fn seen(text: &[u8], mark: FrontMark) -> Front
     }
 }
 
-/// What stands in front of a text that begins at the input's start: the mark or a part of it where the setting lets it be
-/// ignored, and otherwise nothing (RFC 8259, section 8.1). It takes no memory.
+/// What stands in front of a text that begins at the input's start (RFC 8259, section 8.1). It is the mark or a part of
+/// it where the setting ignores it, and otherwise nothing. It takes no memory.
 ///
 /// The verdict by settings is that on the bytes behind the front, at their offsets, or the refusal.
 pub fn front(text: &[u8], mark: FrontMark) -> Front

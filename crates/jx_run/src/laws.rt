@@ -39,8 +39,8 @@ ghost use Rattle.jx_run.specs.declared.verdict.Verdict.{Verdict};
 
 use jx_lex::tokens_are_read;
 
-/// The plain reading is the grammar (RFC 8259, section 2): it meets no fault exactly on what begins a text, it accepts
-/// exactly the texts, and its first fault lies just past the longest beginning of a text.
+/// The plain reading is the grammar (RFC 8259, section 2). It meets no fault exactly on beginnings of texts and accepts
+/// exactly the texts. Its first fault lies just past the longest beginning of a text.
 ///
 /// The fault is one of depth exactly where the bytes up to and with it begin a deeper text. So what the reading comes to
 /// is the verdict that the grammar gives.
@@ -74,7 +74,7 @@ pub fn beginnings_are_completed_by_bytes()
     tokens_are_read();
 }
 
-/// A value that stands in a text from `i` up to `j` has the span `i..j`, and what is left behind it is what stands in the
+/// A value that stands in a text from `i` up to `j` has the span `i..j`. What is left behind it is what stands in the
 /// text from `j` on.
 pub fn values_fill_their_spans()
     ensures span { (text : List ℕ) (i j : ℕ) (rest : List ℕ) (tree : Tree) → Value i (drop i text) j rest tree → span_of tree ≡ span i j }
@@ -111,9 +111,9 @@ pub fn fronts_decide_where_texts_begin()
 
 /// How a reading goes on that is fed slice by slice, over a stack that knows all open containers.
 ///
-/// A scan that reads a slice with the stack goes on behind the stack's reading, and its outcome is that of all bytes so far; no
-/// byte behind a fault changes the outcome; a stack that met a fault wants no more; and where the bytes led, with what the
-/// stack came to, tells the verdict.
+/// A scan that reads a slice with the stack goes on behind the stack's reading, and its outcome is that of all bytes so
+/// far. No byte behind a fault changes the outcome, and a stack that met a fault wants no more. Where the bytes led,
+/// with what the stack came to, tells the verdict.
 pub fn readings_go_on()
     ensures scanned { (old new : Known) (marks : List Mark) (track : Track) (base : ℕ) (exit : Option LexExit) (whole : Whole) → HasRead marks old
         → SeesTrack (λ marks ends. HasSeen marks ends old) (λ marks ends. HasSeen marks ends new) track
@@ -132,8 +132,8 @@ pub fn readings_go_on()
 
 /// How a text sequence is read part by part, cut at some of its record separators (RFC 7464, section 2).
 ///
-/// The element that goes on is read further by bytes without a mark; where it ends, it comes behind those that ended; and
-/// what begins and ends with a mark brings its own elements, and a new one that has no byte yet.
+/// Bytes without a separator go on with the open element. Where it ends, it comes behind those that ended. Bytes that
+/// begin and end with a separator bring their own elements, and a new one that has no byte yet.
 pub fn sequences_are_read_part_by_part()
     ensures begun { (limit : ℕ) (reader : ReaderValue) → reader.depth ≡ limit → reader.start ≡ 0 → HasReadText [] reader → AreRead limit [] [] reader false }
     ensures gone_on { (limit : ℕ) (bytes more : List ℕ) (done : List JudgedElement) (old new : ReaderValue) (loose next : Bool) → AreRead limit bytes done old loose

@@ -2,7 +2,8 @@
 ghost use Rattle.std.specs.Prelude.{◌≡◌, ◌≤◌, ◌<◌, ◌+◌, ◌^◌, ℕ, List, length, map, slice_range, IfOk};
 ghost use Rattle.std.specs.List.{AllZip};
 ghost use Rattle.jx_run.specs.Elements.{Part, filled, part};
-ghost use Rattle.jx_run.specs.ElementsRun.{AreMarked, IsPartRun};
+ghost use Rattle.jx_run.specs.ElementsRun.{IsPartRun};
+ghost use Rattle.jx_run.specs.inside.MarkedElements.{AreMarked};
 ghost use Rattle.jx_run.specs.inside.Moved.{moved};
 ghost use Rattle.jx_run.specs.ElementVerdict.{IsJudgedElement};
 

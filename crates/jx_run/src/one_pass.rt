@@ -107,10 +107,10 @@ pub struct Told<K: Drop> {
     pub keeper: K,
 }
 
-/// Reads the bytes from one offset to another as a whole text (RFC 8259, section 2), in one pass from their start, and
-/// tells a keeper, which has seen nothing so far, of its tokens as they are found. It has then seen all marks and ends of
-/// an accepted text, with their offsets; soon behind the first fault it is told nothing more. Only want of memory is
-/// refused. It pauses where the pace says, which changes nothing of that.
+/// Reads the bytes from one offset to another as a whole text (RFC 8259, section 2), in one pass from their start.
+/// Gives its tokens to a keeper that has seen nothing so far. It has then seen all marks and ends of an accepted text,
+/// with their offsets; soon behind the first fault it is told nothing more. Only want of memory is refused. It pauses
+/// where the pace says, which changes nothing of that.
 pub fn read_into<K: Keeper + Drop, P: Pace>(
     alloc: Global,
     text: &[u8],

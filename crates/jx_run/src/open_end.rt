@@ -23,8 +23,8 @@ pub(crate) fn ends_open(bytes: &[u8]) -> bool
     }
 }
 
-/// Whether the last byte of an element may be followed by more of its value, where these bytes stand behind others of it of
-/// which this was told; at its start `before` is false (RFC 7464, section 2.4).
+/// Whether the last byte of an element may be followed by more of its value (RFC 7464, section 2.4). `before` is the
+/// answer for the bytes of the element before these, and false at its start.
 pub fn ends_open_behind(before: bool, bytes: &[u8]) -> bool
     ensures { result ≡ last_open before bytes.now }
 {

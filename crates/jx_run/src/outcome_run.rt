@@ -33,9 +33,9 @@ use std::mem;
 /// So many structures has a run at most.
 const MOST: usize = 32;
 
-/// What reading part of a text comes to from each of the 32 lexical states and each of the six expectations, for every list
-/// of open containers that is no longer than the depth, without its marks. It keeps at most 32 structures, whose size the
-/// depth bounds, whatever the length of the text. While it is made from bytes, the marks of their beginning are held too, and
+/// What reading part of a text comes to, without its marks, from each of the 32 lexical states and six expectations. It
+/// holds for every list of open containers within the depth. It keeps at most 32 structures, whose size the depth
+/// bounds, whatever the length of the text. While it is made from bytes, the marks of their beginning are held too, and
 /// of the rest a short window of marks.
 #[derive(Drop)]
 pub struct OutcomeRun {

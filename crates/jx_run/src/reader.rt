@@ -1,18 +1,21 @@
 // A text that is read from its start, slice by slice.
 
-ghost use Rattle.std.specs.Prelude.{◌≡◌, ◌+◌, ◌<◌, ◌^◌, ◌++◌, ℕ, List, [], OnOk, OnErr, IfOk, IsErr, length};
+ghost use Rattle.std.specs.Prelude.{◌≡◌, ◌+◌, ◌<◌, ◌^◌, ◌++◌, ℕ, List, [], true, OnOk, OnErr, IfOk, IsErr, length};
 ghost use Rattle.jx_lex.specs.declared.alphabet.mark.Mark.{Mark};
 ghost use Rattle.jx_lex.specs.Lex.{lex};
-ghost use Rattle.jx_reduce.specs.KnownStack.{HasRead as StackHasRead};
+ghost use Rattle.jx_reduce.specs.KnownStack.{HasRead as StackHasRead, IsFault};
 ghost use Rattle.jx_reduce.specs.Read.{read as read_marks};
-ghost use Rattle.jx_run.specs.Reader.{HasRead, HasFailed};
+ghost use Rattle.jx_run.specs.Reader.{HasRead, HasFailed, is_fault};
+ghost use Rattle.jx_run.specs.OutcomeRun.{IsOutcomeRun};
 ghost use Rattle.jx_run.specs.Verdict.{Judged};
 
 use crate::laws::reader_is_grammar;
-use crate::outcome_run::verdict_from;
+use crate::outcome_run::{OutcomeRun, verdict_from};
+use crate::run_reader::{Course, led};
 use crate::verdict::{Refusal, Verdict};
 use jx_lex::{Depth, Keeper, LexExit, LexState, Mark, scan};
 use jx_reduce::{KnownStack, Whole};
+use jx_summary::Summary;
 use std::alloc::{AllocError, Global};
 use std::marker::Model;
 
@@ -112,6 +115,42 @@ impl Reader {
         Ok(Reader::settled(base, exit, whole))
     }
 
+    /// Reads the bytes of a run that stands from `base` on.
+    fn read_run(
+        kept: &mut Kept,
+        state: LexState,
+        run: &OutcomeRun,
+        base: usize,
+    ) -> Result<Progress, AllocError>
+        requires going { IsFault kept.old.stack.reading → ⊥ }
+        requires depth { run.now.depth ≡ kept.old.stack.depth }
+        requires start { run.now.start ≡ 0 }
+        requires of { (more : List ℕ) × IsOutcomeRun more run.now }
+        ensures { IfOk result (λ progress. (marks : List Mark) (more : List ℕ) → StackHasRead marks kept.old.stack → IsOutcomeRun more run.now
+            → GoesOn kept.old.stack (lex state 0 more) (read_marks kept.old.stack.depth (lex state 0 more).marks kept.old.stack.reading) base progress kept.new.stack) }
+    {
+        let (expect, holders) = kept.stack.take_standing()?;
+        match led(run, base, state, expect, &holders)? {
+            Course::Going {
+                state,
+                expect,
+                holders,
+            } => {
+                kept.stack.stand(expect, &holders)?;
+                Ok(Progress::Going(state))
+            }
+            Course::Stopped(at) => {
+                kept.stack.reset();
+                Ok(Progress::Stopped(at))
+            }
+            Course::TooDeep(at) => {
+                kept.stack.reset();
+                Ok(Progress::TooDeep(at))
+            }
+            Course::Failed => Err(AllocError),
+        }
+    }
+
     /// A reader of a text whose first byte has this offset. Nothing is allocated.
     pub fn new(alloc: Global, depth: Depth, start: usize) -> Reader
         ensures depth { result.depth ≡ depth }
@@ -196,10 +235,46 @@ impl Reader {
         }
     }
 
+    /// Whether a fault was met. No byte behind it changes the verdict.
+    pub fn is_done(&self) -> bool
+        ensures { result ≡ is_fault self.now.outcome }
+    {
+        matches!(self.progress, Progress::Stopped(_) | Progress::TooDeep(_))
+    }
+
+    /// Reads the bytes of a run behind all bytes that it has read. The run is over a text of its own, and its offsets are
+    /// moved to where its bytes stand here. Only want of memory is refused, and from then on every run is.
+    pub fn follow(&mut self, run: &OutcomeRun) -> Result<(), AllocError>
+        requires depth { run.now.depth ≡ self.old.depth }
+        requires start { run.now.start ≡ 0 }
+        requires fits { self.old.start + self.old.count + run.now.end < 2 ^ 64 }
+        requires of { (more : List ℕ) × IsOutcomeRun more run.now }
+        ensures depth { self.new.depth ≡ self.old.depth }
+        ensures start { self.new.start ≡ self.old.start }
+        ensures reads { OnOk result ((bytes more : List ℕ) → HasRead bytes self.old → IsOutcomeRun more run.now → HasRead (bytes ++ more) self.new) }
+        ensures count { OnOk result (self.new.count ≡ self.old.count + run.now.end) }
+        ensures err { OnErr result (HasFailed self.new) }
+        ensures failed { HasFailed self.old → IsErr result }
+    {
+        reader_is_grammar();
+        let base = self.end();
+        self.count += run.span().end;
+        let state = match self.progress {
+            Progress::Going(state) => state,
+            Progress::Stopped(_) => return Ok(()),
+            Progress::TooDeep(_) => return Ok(()),
+            Progress::Failed => return Err(AllocError),
+        };
+        self.progress = Progress::Failed;
+        self.progress = Reader::read_run(&mut self.kept, state, run, base)?;
+        Ok(())
+    }
+
     /// The verdict on the bytes that it was fed, as a whole text. Where memory was refused there is no verdict, and this
     /// says that the text is cut short.
     pub fn verdict(&self) -> Verdict
         ensures verdict { (bytes : List ℕ) → HasRead bytes self.now → Judged self.now.start bytes self.now.depth result }
+        ensures failed { HasFailed self.now → result ≡ Verdict.Refused Refusal.Truncated }
     {
         reader_is_grammar();
         match self.progress {

@@ -18,7 +18,7 @@ use std::marker::Model;
 
 /// How far the reading of a text came.
 #[derive(Drop)]
-enum Course {
+pub(crate) enum Course {
     /// No fault so far: the lexical state, what may stand next, and the open containers, outermost first.
     Going {
         state: LexState,
@@ -72,7 +72,7 @@ fn arrived(base: usize, exit: LexExit, outcome: Outcome) -> Course
 }
 
 /// Where a run leads from here.
-fn led(
+pub(crate) fn led(
     run: &OutcomeRun,
     base: usize,
     state: LexState,
@@ -191,6 +191,7 @@ impl RunReader {
     /// says that the text is cut short.
     pub fn verdict(&self) -> Verdict
         ensures verdict { (bytes : List ℕ) → HasRead bytes self.now → Judged self.now.start bytes self.now.depth result }
+        ensures failed { HasFailed self.now → result ≡ Verdict.Refused Refusal.Truncated }
     {
         reader_is_grammar();
         match &self.course {

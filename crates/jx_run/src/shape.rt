@@ -6,8 +6,8 @@ use crate::text_run::TextRun;
 pub enum Shape<'a> {
     /// The bytes hold no record separator.
     Plain(&'a TextRun),
-    /// The run of the bytes before the first mark, the reading of each part between two neighbouring marks that isn't
-    /// empty, in order, and the run of the bytes behind the last mark.
+    /// The run of the bytes before the first separator, the readings of the parts between two neighbouring ones, in
+    /// order, and the run of the bytes behind the last. Empty parts are left out.
     Marked {
         before: &'a TextRun,
         done: &'a [Started],

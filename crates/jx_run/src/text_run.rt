@@ -24,8 +24,8 @@ use std::marker::Model;
 
 mod across;
 
-/// What reading part of a text gives from each of the 32 lexical states and each of the six expectations, for every list of
-/// open containers that is no longer than the depth.
+/// What reading part of a text gives from each of the 32 lexical states and six expectations. It holds for every list
+/// of open containers within the depth.
 #[derive(Drop)]
 pub struct TextRun {
     map: ChunkMap,

@@ -68,7 +68,7 @@ impl<'a> Shelf<'a> {
         ensures shelf { note.new.shelf ≡ note.old.shelf }
         ensures published { IfOk result (λ _. note.new.known ≡ Some index.entry) }
         ensures first { IfOk result (λ _. note.old.known ≡ None) }
-        ensures refused { IfErr result (Refuses index.entry note.new.known) }
+        ensures refused { IfErr result (Refuses index.entry note.old.known note.new.known) }
         ensures kept { Keeps note.old.known note.new.known }
     {
         match Box::new(self.alloc, index) {

@@ -6,8 +6,8 @@ use std::marker::Model;
 /// The depth that is used where none is named.
 const DEFAULT_DEPTH: u32 = 512;
 
-/// How many containers may stand open at once: the depth of a scalar is 0, and that of a container is one more than
-/// that of its deepest child (RFC 8259, section 9, lets a parser set such a limit).
+/// How many containers may be open at once (RFC 8259, section 9, allows such a limit). A scalar has depth 0, a
+/// container one more than its deepest child.
 #[derive(Clone, Copy, Debug, PartialEq, Eq)]
 pub struct Depth {
     containers: u32,

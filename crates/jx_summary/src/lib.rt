@@ -1,5 +1,5 @@
-//! What the book, its workers and the claims know of reading: spans of an input, a depth, and what reading part of a text
-//! gives, which may be joined with its neighbour's.
+//! What the book, its workers and the claims know of reading: spans, a depth, and summaries of parts of a text that can
+//! be joined with their neighbours'.
 #![tactic(auto)]
 
 mod depth;

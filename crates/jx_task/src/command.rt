@@ -26,6 +26,7 @@ impl Command {
     /// adds nothing. A line feed ends a line, and the last line may do without. Nothing else is cut off a line.
     pub fn add_pointers(&mut self, alloc: Global, lines: &str) -> Result<(), AllocError>
         ensures piece { self.new.piece ≡ self.old.piece }
+        ensures kept { self.new ≡ record self.old { task = self.new.task } }
     {
         match &mut self.task {
             Task::At(pointers) => push_lines(alloc, pointers, lines),

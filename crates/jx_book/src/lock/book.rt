@@ -1,6 +1,6 @@
 ghost use Rattle.std.specs.Prelude.{◌≡◌, ◌+◌, ◌<◌, All, sum_by, vec_len, IfOk, IfErr};
 ghost use Rattle.jx_book.specs.Runs.{IsApart, run_len};
-ghost use Rattle.jx_book.specs.Shares.{share, IsShared, IsOther, IsOf, WasStored};
+ghost use Rattle.jx_book.specs.Shares.{share, IsShared, IsOther, IsOf, IsSizedAsStored};
 ghost use Rattle.jx_book.specs.HandOver.{Core};
 
 use crate::lock::finish_fault::FinishFault;
@@ -69,8 +69,9 @@ impl<'a, S: Summary, P: Ledger, T: Ledger> Book<'a, S, P, T> {
     /// Takes all shares, and gives the stored runs in order, each now carrying this text. Their lengths add up to the
     /// bytes put minus the bytes taken. It takes no memory and waits for nobody.
     ///
-    /// A stored run that is not of this text and depth is handed back. It is not empty, and no longer than the bytes put
-    /// minus the bytes taken; the other runs are let go.
+    /// A stored run that is not of this text and depth is handed back; the other runs are let go. Which runs stood there,
+    /// the lock forgets: of the run the contract says that it is not empty, and no longer than the bytes put minus the bytes
+    /// taken.
     pub fn finish(
         self,
         text: &'a [u8],
@@ -82,7 +83,7 @@ impl<'a, S: Summary, P: Ledger, T: Ledger> Book<'a, S, P, T> {
         ensures of { IfOk result (λ c. All (λ r. IsOf text.entry.now depth r) c) }
         ensures total { IfOk result (λ c. sum_by run_len c + sum_by (λ s. s.taken) shares.items ≡ sum_by (λ s. s.put) shares.items) }
         ensures err { IfErr result (λ f. IsOther text.entry.now depth f) }
-        ensures stored { IfErr result (λ f. WasStored (sum_by (λ s. s.put) shares.items) (sum_by (λ s. s.taken) shares.items) f) }
+        ensures size { IfErr result (λ f. IsSizedAsStored (sum_by (λ s. s.put) shares.items) (sum_by (λ s. s.taken) shares.items) f) }
     {
         let Book { locked } = self;
         let runs = locked.into_inner().into_runs(shares);
@@ -121,7 +122,7 @@ fn carry_all<'a, S: Summary>(
     ensures total { IfOk result (λ c. sum_by run_len c ≡ sum_by run_len runs.entry.items) }
     ensures apart { IfOk result (λ c. IsApart c) }
     ensures err { IfErr result (λ f. IsOther text.entry.now depth f) }
-    ensures stored { IfErr result (λ f. WasStored (sum_by run_len runs.entry.items) 0 f) }
+    ensures size { IfErr result (λ f. IsSizedAsStored (sum_by run_len runs.entry.items) 0 f) }
 {
     let mut i = 0;
     while i < runs.len() {

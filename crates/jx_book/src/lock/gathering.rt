@@ -2,7 +2,7 @@ ghost use Rattle.std.specs.Prelude.{◌≡◌, ◌+◌, ◌<◌, ◌≤◌, leng
 ghost use Rattle.jx_claim.specs.Claimed.{AllSeats};
 ghost use Rattle.jx_claim.specs.Cut.{drawn_len};
 ghost use Rattle.jx_book.specs.Runs.{IsApart, run_len};
-ghost use Rattle.jx_book.specs.Shares.{IsOtherFrom, IsOf, WasStored};
+ghost use Rattle.jx_book.specs.Shares.{IsOtherFrom, IsOf, IsSizedAsStored};
 ghost use Rattle.jx_book.specs.Gathered.{IsGathered, IsRest};
 
 use crate::lock::book::Book;
@@ -35,7 +35,7 @@ pub fn gather<'a, S: Summary, P: Ledger, T: Ledger>(
     requires bytes { sum_by (λ s. drawn_len cutting.now.pieces s.got) seats.items + sum_by (λ s. s.taken) shares.items ≡ sum_by (λ s. s.put) shares.items }
     ensures ok { IfOk result (λ r. IsGathered cutting.now.pieces text.entry.now depth cutting.now.front r) }
     ensures err { IfErr result (λ f. IsOtherFrom text.entry.now depth cutting.now.front f) }
-    ensures stored { IfErr result (λ f. WasStored (sum_by (λ s. s.put) shares.items) (sum_by (λ s. s.taken) shares.items) f) }
+    ensures size { IfErr result (λ f. IsSizedAsStored (sum_by (λ s. s.put) shares.items) (sum_by (λ s. s.taken) shares.items) f) }
 {
     let front = cutting.front();
     let _len = cutting.len();

@@ -88,8 +88,8 @@ impl<'a, S: Summary> Held<'a, S> {
         self.run.depth()
     }
 
-    /// Joins two neighbours of one text and one depth. The bytes of the shorter side are compared in both texts, and
-    /// the joined run carries the text of the longer side, of the right one where both have one length.
+    /// Joins two neighbours of one text and one depth. Compares the bytes of the shorter side in both texts. The joined
+    /// run carries the text of the longer side, or the right one's if both have one length.
     pub fn join(self, right: Held<'a, S>) -> Result<Held<'a, S>, HeldFault<'a, S>>
         requires neighbours { self.span.end ≡ right.span.start }
         ensures ok { IfOk result (λ h. IsJoin self.entry right.entry h) }

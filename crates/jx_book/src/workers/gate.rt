@@ -1,4 +1,4 @@
-ghost use Rattle.std.specs.Prelude.{◌≡◌};
+ghost use Rattle.std.specs.Prelude.{◌≡◌, false};
 
 use crate::workers::event::Event;
 
@@ -12,6 +12,11 @@ pub enum Go {
 /// Who is asked after each step of a worker.
 pub trait Gate {
     fn pass(&self, event: Event) -> Go;
+
+    /// Whether anybody is asked. Where nobody is, short inputs need no worker.
+    fn is_asked(&self) -> bool {
+        true
+    }
 }
 
 /// The gate that lets every worker go on.
@@ -23,5 +28,11 @@ impl Gate for OpenGate {
         ensures { result ≡ Go.On }
     {
         Go::On
+    }
+
+    fn is_asked(&self) -> bool
+        ensures { result ≡ false }
+    {
+        false
     }
 }

@@ -19,12 +19,12 @@ use crate::workers::worker::work;
 use crate::workers::worker_end::WorkerEnd;
 use crate::workers::worker_stop::WorkerStop;
 use jx_claim::{ClaimSeat, Claims, Cutting, Workers};
+use jx_fork::call_each;
 use jx_summary::{Depth, Summary};
 use std::alloc::{AllocError, Global};
 use std::marker::Brand;
 use std::sync::Wait;
 use std::sync::ledger::{Blank, Ledger};
-use std::thread;
 use std::thread::Threads;
 
 /// Reads a text from the cutting's front on by that many workers, each in a thread of its own where one can be made. It
@@ -180,8 +180,9 @@ fn work_all<
     ensures len { IfOk result (λ v. vec_len v ≡ vec_len jobs) }
     ensures each { IfOk result (λ v. All (λ r. Balances cutting.now.pieces claims.now.id r) v.items) }
 {
-    thread::map_vec(
+    call_each(
         rt,
+        alloc,
         jobs,
         &|job: Job<P, T>| -> Result<WorkerEnd<P, T>, WorkerStop<S, P, T>>
             requires { (cutting.now.len ≡ length text.now) × (claims.now.pieces ≡ length cutting.now.pieces) × IsFresh claims.now.id job }

@@ -1,5 +1,5 @@
 -- The rule of the claim word, which holds the number that the next draw finds.
-use Rattle.std.specs.Prelude.{◌≡◌, ◌⊎◌, ℕ, ◌+◌, ◌-◌, ◌<◌, ◌≤◌, List, [], ◌∷◌, ◌++◌, length, slice_index, sum_by}
+use Rattle.std.specs.Prelude.{◌≡◌, ◌⊎◌, ℕ, ◌+◌, ◌-◌, ◌<◌, ◌≤◌, List, [], ◌∷◌, ◌++◌, All, length, slice_index, sum_by}
 use mathlib.Core.Option.{some}
 use lib.ListN.{get_elem?}
 use Rattle.atomic_table.specs.Table.{State, Me, Step}
@@ -43,6 +43,6 @@ IsDraw pieces word v w =
     (Draws (undrawn word pieces) word (undrawn (word + 1) pieces) × (w ≡ view v.seats (v.got ++ word ∷ []) v.nones))
     ⊎ ((undrawn word pieces ≡ []) × (w ≡ view v.seats v.got (v.nones + 1)))
 
--- a draw changes the view of the seat that draws, and no other
+-- a draw changes the view of the seat that draws, and no other; all that the seat got before is below the word
 abbrev pub DrawsFrom : ℕ → Step (Unit {0}) → Me (Unit {0}) View → ℕ → Me (Unit {0}) View → Type 0
-DrawsFrom pieces st m word m' = IsDraw pieces word m.0 m'.0 × (m'.1 ≡ m.1)
+DrawsFrom pieces st m word m' = All (λ n. n < word) m.0.got × IsDraw pieces word m.0 m'.0 × (m'.1 ≡ m.1)

@@ -3,12 +3,13 @@
 use crate::tests::answers::{ToldElement, are_equal, verdict_in};
 use crate::tests::calls::{SEQUENCE_CALLS, answer_by_run, tells};
 use crate::tests::inputs::{
-    FIVE_ROWS, MARKED_FIVE_ROWS, MARKED_SEQUENCES, MARKS, REPEATED_SEQUENCES, RULES, SEQUENCES,
-    SHORT, WorkedSequence, settings,
+    MARKED_FIVE_ROWS, MARKED_SEQUENCES, MARKS, REPEATED_SEQUENCES, RULES, SEQUENCES, SHORT,
+    WorkedSequence,
 };
 use jx_answer::{TextAnswer, index_text_with, verdict_of_text_with};
 use jx_book::OpenGate;
 use jx_claim::{Cutting, Workers};
+use jx_hostile_runs::inputs::{FIVE_ROWS, settings};
 use jx_lex::Depth;
 use jx_run::{FrontMark, NameRule, Settings};
 use std::alloc::Global;
@@ -19,28 +20,20 @@ use std::thread::Threads;
 
 #[test]
 fn short_texts_are_answered_alike_at_every_pair_of_cuts(rt: HostRuntime) -> Result<(), Fail> {
-    check_short(&rt, rt.alloc(), FrontMark::Refused, NameRule::Any)
-}
-
-#[test]
-fn short_texts_of_unique_names_are_answered_alike_at_every_pair_of_cuts(
-    rt: HostRuntime,
-) -> Result<(), Fail> {
-    check_short(&rt, rt.alloc(), FrontMark::Refused, NameRule::Unique)
+    for names in RULES {
+        check_short(&rt, rt.alloc(), FrontMark::Refused, names)?;
+    }
+    Ok(())
 }
 
 #[test]
 fn short_texts_behind_marks_are_answered_alike_at_every_pair_of_cuts(
     rt: HostRuntime,
 ) -> Result<(), Fail> {
-    check_short(&rt, rt.alloc(), FrontMark::Ignored, NameRule::Any)
-}
-
-#[test]
-fn short_texts_of_unique_names_behind_marks_are_answered_alike_at_every_pair_of_cuts(
-    rt: HostRuntime,
-) -> Result<(), Fail> {
-    check_short(&rt, rt.alloc(), FrontMark::Ignored, NameRule::Unique)
+    for names in RULES {
+        check_short(&rt, rt.alloc(), FrontMark::Ignored, names)?;
+    }
+    Ok(())
 }
 
 const DEPTHS: [u32; 5] = [0, 1, 2, 512, 65535];

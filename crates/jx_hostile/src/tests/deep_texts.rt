@@ -1,8 +1,8 @@
 // Deep, unclosed and over-closed texts, in small pieces and by many workers.
-use crate::tests::inputs::settings;
 use jx_answer::{TextAnswer, index_text_with, verdict_of_text_with};
 use jx_book::OpenGate;
 use jx_claim::{Cutting, Workers};
+use jx_hostile_runs::inputs::settings;
 use jx_index::Row;
 use jx_lex::{Depth, Kind};
 use jx_run::{FrontMark, NameRule, Refusal, Settings, Verdict};
@@ -12,33 +12,6 @@ use std::sync::Wait;
 use std::test::Fail;
 use std::thread::Threads;
 
-#[test]
-fn a_million_brackets_are_refused_where_they_are_too_deep(rt: HostRuntime) -> Result<(), Fail> {
-    let by = [
-        (FrontMark::Refused, NameRule::Any),
-        (FrontMark::Ignored, NameRule::Any),
-    ];
-    for piece in [7, 100, 65536] {
-        check_brackets(&rt, rt.alloc(), 1_000_000, piece, &by)?;
-    }
-    Ok(())
-}
-
-// Runs that keep marks take longer, so fewer brackets are read in the smallest pieces.
-#[test]
-fn a_million_brackets_are_refused_alike_where_names_are_unique(
-    rt: HostRuntime,
-) -> Result<(), Fail> {
-    let by = [
-        (FrontMark::Refused, NameRule::Unique),
-        (FrontMark::Ignored, NameRule::Unique),
-    ];
-    for (count, piece) in [(100_000, 7), (1_000_000, 100), (1_000_000, 65536)] {
-        check_brackets(&rt, rt.alloc(), count, piece, &by)?;
-    }
-    Ok(())
-}
-
 const ALL: [Setting; 4] = [
     (FrontMark::Refused, NameRule::Any),
     (FrontMark::Refused, NameRule::Unique),
@@ -46,18 +19,11 @@ const ALL: [Setting; 4] = [
     (FrontMark::Ignored, NameRule::Unique),
 ];
 
-#[test]
-fn many_workers_read_deep_texts_in_pieces_of_a_byte(rt: HostRuntime) -> Result<(), Fail> {
-    let alloc = rt.alloc();
-    let text = repeated(alloc, &[(b'[', 300), (b'1', 5000), (b']', 300)])?;
-    let reading = Reading {
-        piece: 1,
-        count: 64,
-    };
-    check(&rt, alloc, &text, reading, 299, &ALL, too_deep(299))?;
-    check(&rt, alloc, &text, reading, 300, &ALL, Verdict::Accepted)?;
-    check(&rt, alloc, &text, reading, 65535, &ALL, Verdict::Accepted)
-}
+// Both off, and both on.
+const OFF_AND_ON: [Setting; 2] = [
+    (FrontMark::Refused, NameRule::Any),
+    (FrontMark::Ignored, NameRule::Unique),
+];
 
 #[test]
 fn deep_and_unclosed_texts_have_their_verdicts(rt: HostRuntime) -> Result<(), Fail> {
@@ -67,34 +33,14 @@ fn deep_and_unclosed_texts_have_their_verdicts(rt: HostRuntime) -> Result<(), Fa
     Ok(())
 }
 
-// Both off, and both on.
-const OFF_AND_ON: [Setting; 2] = [
-    (FrontMark::Refused, NameRule::Any),
-    (FrontMark::Ignored, NameRule::Unique),
-];
-
 // Pieces of a byte take longer, so two of the four settings are tried.
 #[test]
-fn deep_and_unclosed_texts_have_their_verdicts_in_pieces_of_a_byte(
-    rt: HostRuntime,
-) -> Result<(), Fail> {
+fn many_workers_read_deep_texts_in_pieces_of_a_byte(rt: HostRuntime) -> Result<(), Fail> {
     let reading = Reading {
         piece: 1,
         count: 64,
     };
     check_all(&rt, rt.alloc(), reading, &OFF_AND_ON)
-}
-
-#[test]
-fn a_text_as_deep_as_may_be_is_accepted(rt: HostRuntime) -> Result<(), Fail> {
-    let alloc = rt.alloc();
-    let text = repeated(alloc, &[(b'[', 600), (b']', 600)])?;
-    for count in [1, 5, 64] {
-        let reading = Reading { piece: 7, count };
-        check(&rt, alloc, &text, reading, 599, &ALL, too_deep(599))?;
-        check(&rt, alloc, &text, reading, 600, &ALL, Verdict::Accepted)?;
-    }
-    Ok(())
 }
 
 #[test]
@@ -108,16 +54,6 @@ fn a_text_as_deep_as_may_be_has_all_its_rows(rt: HostRuntime) -> Result<(), Fail
         }
     }
     Ok(())
-}
-
-const TRUNCATED: Verdict = Verdict::Refused(Refusal::Truncated);
-
-fn stopped(at: usize) -> Verdict {
-    Verdict::Refused(Refusal::Stopped { at })
-}
-
-fn too_deep(at: usize) -> Verdict {
-    Verdict::Refused(Refusal::TooDeep { at })
 }
 
 // So many of each of these bytes, one after another.
@@ -170,59 +106,88 @@ fn check<R: Abort + Threads + Wait + Sync>(
     Ok(())
 }
 
-// So many brackets that open, and as many that close, by four workers.
-fn check_brackets<R: Abort + Threads + Wait + Sync>(
-    rt: &R,
-    alloc: Global,
-    count: usize,
-    piece: usize,
-    by: &[Setting],
-) -> Result<(), Fail> {
-    let reading = Reading { piece, count: 4 };
-    let opened = repeated(alloc, &[(b'[', count)])?;
-    check(rt, alloc, &opened, reading, 512, by, too_deep(512))?;
-    let closed = repeated(alloc, &[(b']', count)])?;
-    check(rt, alloc, &closed, reading, 512, by, stopped(0))
+// A text of so many of each of these bytes. So many containers stand in one another, each at an offset one further on.
+#[derive(Clone, Copy)]
+struct DeepText {
+    parts: &'static [(u8, usize)],
+    nesting: u32,
+    /// What it comes to where so many containers may stand open.
+    verdict: Verdict,
+    /// The depths within which it is read.
+    depths: &'static [u32],
 }
+
+const TRUNCATED: Verdict = Verdict::Refused(Refusal::Truncated);
 
 const DEPTHS: [u32; 5] = [0, 1, 2, 512, 65535];
 
-const DEEP: [Verdict; 4] = [
-    Verdict::Refused(Refusal::TooDeep { at: 0 }),
-    Verdict::Refused(Refusal::TooDeep { at: 1 }),
-    Verdict::Refused(Refusal::TooDeep { at: 2 }),
-    Verdict::Refused(Refusal::TooDeep { at: 512 }),
+const TEXTS: [DeepText; 7] = [
+    DeepText {
+        parts: &[(b'[', 2000)],
+        nesting: 2000,
+        verdict: TRUNCATED,
+        depths: &DEPTHS,
+    },
+    DeepText {
+        parts: &[(b'[', 600), (b']', 600)],
+        nesting: 600,
+        verdict: Verdict::Accepted,
+        depths: &[0, 1, 2, 512, 599, 600, 65535],
+    },
+    DeepText {
+        parts: &[(b'[', 300), (b'1', 5000), (b']', 300)],
+        nesting: 300,
+        verdict: Verdict::Accepted,
+        depths: &[299, 300, 65535],
+    },
+    DeepText {
+        parts: &[(b']', 1000)],
+        nesting: 0,
+        verdict: Verdict::Refused(Refusal::Stopped { at: 0 }),
+        depths: &DEPTHS,
+    },
+    DeepText {
+        parts: &[(b'"', 1), (b'\\', 1000)],
+        nesting: 0,
+        verdict: TRUNCATED,
+        depths: &DEPTHS,
+    },
+    DeepText {
+        parts: &[(b'"', 1), (b'\\', 1001), (b'x', 1)],
+        nesting: 0,
+        verdict: Verdict::Refused(Refusal::Stopped { at: 1002 }),
+        depths: &DEPTHS,
+    },
+    DeepText {
+        parts: &[(b'[', 1), (b' ', 3000), (b']', 1)],
+        nesting: 1,
+        verdict: Verdict::Accepted,
+        depths: &DEPTHS,
+    },
 ];
 
-// Each of six texts within each of the depths.
+// What a text comes to within a depth.
+fn verdict_within(text: &DeepText, containers: u32) -> Verdict {
+    if containers < text.nesting {
+        let at = containers as usize;
+        Verdict::Refused(Refusal::TooDeep { at })
+    } else {
+        text.verdict
+    }
+}
+
+// Each text within each of its depths.
 fn check_all<R: Abort + Threads + Wait + Sync>(
     rt: &R,
     alloc: Global,
     reading: Reading,
     by: &[Setting],
 ) -> Result<(), Fail> {
-    let accepted = Verdict::Accepted;
-    let texts: [(&[(u8, usize)], [Verdict; 5]); 6] = [
-        (
-            &[(b'[', 2000)],
-            [DEEP[0], DEEP[1], DEEP[2], DEEP[3], TRUNCATED],
-        ),
-        (
-            &[(b'[', 600), (b']', 600)],
-            [DEEP[0], DEEP[1], DEEP[2], DEEP[3], accepted],
-        ),
-        (&[(b']', 1000)], [stopped(0); 5]),
-        (&[(b'"', 1), (b'\\', 1000)], [TRUNCATED; 5]),
-        (&[(b'"', 1), (b'\\', 1001), (b'x', 1)], [stopped(1002); 5]),
-        (
-            &[(b'[', 1), (b' ', 3000), (b']', 1)],
-            [DEEP[0], accepted, accepted, accepted, accepted],
-        ),
-    ];
-    for (parts, wanted) in texts {
-        let text = repeated(alloc, parts)?;
-        for (containers, want) in DEPTHS.iter().zip(&wanted) {
-            check(rt, alloc, &text, reading, *containers, by, *want)?;
+    for deep in TEXTS {
+        let text = repeated(alloc, deep.parts)?;
+        for containers in deep.depths {
+            let want = verdict_within(&deep, *containers);
+            check(rt, alloc, &text, reading, *containers, by, want)?;
         }
     }
     Ok(())

@@ -5,10 +5,10 @@ ghost use Rattle.jx_book.specs.Shares.{share};
 
 use crate::tests::answers::is_worked;
 use crate::tests::calls::answer_of;
-use crate::tests::inputs::{FIVE, NESTED, NESTED_ARRAYS, TOO_DEEP, Worked, WorkedRow};
 use jx_answer::TextAnswer;
 use jx_book::{Book, FinishFault, Held, OpenGate, Put, Share, WorkerEnd, gather, work};
 use jx_claim::{ClaimSeat, Claims, Cutting, Workers};
+use jx_hostile_runs::inputs::{FIVE, NESTED, NESTED_ARRAYS, TOO_DEEP, Worked, WorkedRow};
 use jx_lex::{Depth, Kind, Span};
 use jx_run::{NameRule, OutcomeRun, Refusal, TextRun};
 use std::alloc::Global;
@@ -20,28 +20,53 @@ use std::test::Fail;
 use std::thread;
 use std::thread::Threads;
 
-const TWO_DIGITS: [WorkedRow; 1] = [(Kind::Number, (0, 2), None, 0, None)];
+// A text without a repeated name within the default depth.
+fn worked(text: &'static [u8], answer: Result<&'static [WorkedRow], Refusal>) -> Worked {
+    Worked {
+        text,
+        front: 0,
+        containers: 512,
+        answer,
+        repeated: None,
+    }
+}
 
-const TWO_BYTES: [WorkedRow; 1] = [(Kind::String, (0, 4), None, 0, None)];
+const ALL_CUTS: [usize; 16] = [1, 2, 3, 4, 5, 6, 7, 8, 9, 10, 11, 12, 13, 14, 15, 16];
 
-const ESCAPE: [WorkedRow; 1] = [(Kind::String, (0, 8), None, 0, None)];
-
-#[test]
-fn scalars_that_are_cut_are_gathered_to_one_row(rt: HostRuntime) -> Result<(), Fail> {
-    check(&rt, rt.alloc(), &worked(b"12", Ok(&TWO_DIGITS)), &[1])?;
-    let character = worked(b"\x22\xC3\xA9\x22", Ok(&TWO_BYTES));
-    check(&rt, rt.alloc(), &character, &[2])?;
-    check(&rt, rt.alloc(), &worked(b"\"\\u0041\"", Ok(&ESCAPE)), &[4])
+// Texts, and where each is cut.
+fn cut_texts() -> [(Worked, &'static [usize]); 7] {
+    [
+        (
+            worked(b"12", Ok(&[(Kind::Number, (0, 2), None, 0, None)])),
+            &[1],
+        ),
+        (
+            worked(
+                b"\x22\xC3\xA9\x22",
+                Ok(&[(Kind::String, (0, 4), None, 0, None)]),
+            ),
+            &[2],
+        ),
+        (
+            worked(b"\"\\u0041\"", Ok(&[(Kind::String, (0, 8), None, 0, None)])),
+            &[4],
+        ),
+        (TOO_DEEP, &[2, 3]),
+        (NESTED_ARRAYS, &[2, 3]),
+        (
+            worked(b"{\"a\":1,2]", Err(Refusal::Stopped { at: 7 })),
+            &[7],
+        ),
+        (FIVE, &ALL_CUTS),
+    ]
 }
 
 #[test]
-fn containers_that_are_cut_are_gathered_to_their_rows(rt: HostRuntime) -> Result<(), Fail> {
-    check(&rt, rt.alloc(), &TOO_DEEP, &[2, 3])?;
-    check(&rt, rt.alloc(), &NESTED_ARRAYS, &[2, 3])?;
-    let stopped = worked(b"{\"a\":1,2]", Err(Refusal::Stopped { at: 7 }));
-    check(&rt, rt.alloc(), &stopped, &[7])?;
-    let cuts = [1, 2, 3, 4, 5, 6, 7, 8, 9, 10, 11, 12, 13, 14, 15, 16];
-    check(&rt, rt.alloc(), &FIVE, &cuts)
+fn texts_that_are_cut_are_gathered_to_their_rows(rt: HostRuntime) -> Result<(), Fail> {
+    for (worked, cuts) in cut_texts() {
+        check(&rt, rt.alloc(), &worked, cuts)?;
+    }
+    Ok(())
 }
 
 #[test]
@@ -206,17 +231,6 @@ fn check<R: Abort + Threads + Wait + Sync>(
         "{worked:?} cut at {cuts:?}"
     );
     Ok(())
-}
-
-// A text without a repeated name within the default depth.
-fn worked(text: &'static [u8], answer: Result<&'static [WorkedRow], Refusal>) -> Worked {
-    Worked {
-        text,
-        front: 0,
-        containers: 512,
-        answer,
-        repeated: None,
-    }
 }
 
 /// Draws a piece and puts as many bytes that begin one byte before it, and then meets the end of the pieces.

@@ -1,119 +1,17 @@
 // Inputs that several tests read, and what they come to.
 use crate::tests::answers::{Told, ToldElement};
-use jx_lex::{Depth, Kind};
-use jx_run::{FrontMark, NameRule, Refusal, Settings};
+use jx_hostile_runs::inputs::{
+    FIVE_ROWS, NESTED, REPEATED, REPEATED_SEQUENCE, ROWS_OF_FIVE, ROWS_OF_REPEATED, SEQUENCE,
+    UNSORTED, WIDE, Worked, WorkedRow,
+};
+use jx_lex::Kind;
+use jx_run::{FrontMark, NameRule, Refusal};
 
 /// Both things that may become of a byte order mark.
 pub const MARKS: [FrontMark; 2] = [FrontMark::Refused, FrontMark::Ignored];
 
 /// Both rules for names.
 pub const RULES: [NameRule; 2] = [NameRule::Any, NameRule::Unique];
-
-/// Settings by which this becomes of a byte order mark and of names.
-pub fn settings(depth: Depth, mark: FrontMark, names: NameRule) -> Settings {
-    Settings { depth, mark, names }
-}
-
-/// Three arrays, each in the one before.
-pub const NESTED: &[u8] = b"[[[]]]";
-
-/// A text of five rows.
-pub const FIVE_ROWS: &[u8] = b"{\"a\":[1,{\"b\":2}]}";
-
-/// A name that is repeated by an escape.
-pub const REPEATED: &[u8] = b"{\"a\":1,\"\\u0061\":2}";
-
-/// Names that don't stand in their order.
-pub const UNSORTED: &[u8] = b"{\"b\":1,\"a\":2,\"b\":3}";
-
-/// A row: its kind, its span, the number of its parent, its place among its siblings, and the span of its name.
-pub type WorkedRow = (
-    Kind,
-    (usize, usize),
-    Option<usize>,
-    usize,
-    Option<(usize, usize)>,
-);
-
-/// A text, and what it comes to within a depth where names may be repeated: its rows, as offsets behind the byte order mark of
-/// so many bytes in front of it, or its refusal. Where names have to be unique it is refused for the first one that an object
-/// repeats, which begins there behind the mark.
-#[derive(Clone, Copy, Debug)]
-pub struct Worked {
-    pub text: &'static [u8],
-    pub front: usize,
-    pub containers: u32,
-    pub answer: Result<&'static [WorkedRow], Refusal>,
-    pub repeated: Option<usize>,
-}
-
-const NESTED_ROWS: [WorkedRow; 3] = [
-    (Kind::Array, (0, 6), None, 0, None),
-    (Kind::Array, (1, 5), Some(0), 0, None),
-    (Kind::Array, (2, 4), Some(1), 0, None),
-];
-
-pub const NESTED_ARRAYS: Worked = Worked {
-    text: NESTED,
-    front: 0,
-    containers: 512,
-    answer: Ok(&NESTED_ROWS),
-    repeated: None,
-};
-
-/// The same within a depth of two.
-pub const TOO_DEEP: Worked = Worked {
-    text: NESTED,
-    front: 0,
-    containers: 2,
-    answer: Err(Refusal::TooDeep { at: 2 }),
-    repeated: None,
-};
-
-const ROWS_OF_FIVE: [WorkedRow; 5] = [
-    (Kind::Object, (0, 17), None, 0, None),
-    (Kind::Array, (5, 16), Some(0), 0, Some((1, 4))),
-    (Kind::Number, (6, 7), Some(1), 0, None),
-    (Kind::Object, (8, 15), Some(1), 1, None),
-    (Kind::Number, (13, 14), Some(3), 0, Some((9, 12))),
-];
-
-pub const FIVE: Worked = Worked {
-    text: FIVE_ROWS,
-    front: 0,
-    containers: 512,
-    answer: Ok(&ROWS_OF_FIVE),
-    repeated: None,
-};
-
-const ROWS_OF_REPEATED: [WorkedRow; 3] = [
-    (Kind::Object, (0, 18), None, 0, None),
-    (Kind::Number, (5, 6), Some(0), 0, Some((1, 4))),
-    (Kind::Number, (16, 17), Some(0), 1, Some((7, 15))),
-];
-
-pub const REPEATED_NAME: Worked = Worked {
-    text: REPEATED,
-    front: 0,
-    containers: 512,
-    answer: Ok(&ROWS_OF_REPEATED),
-    repeated: Some(7),
-};
-
-const ROWS_OF_UNSORTED: [WorkedRow; 4] = [
-    (Kind::Object, (0, 19), None, 0, None),
-    (Kind::Number, (5, 6), Some(0), 0, Some((1, 4))),
-    (Kind::Number, (11, 12), Some(0), 1, Some((7, 10))),
-    (Kind::Number, (17, 18), Some(0), 2, Some((13, 16))),
-];
-
-pub const UNSORTED_NAMES: Worked = Worked {
-    text: UNSORTED,
-    front: 0,
-    containers: 512,
-    answer: Ok(&ROWS_OF_UNSORTED),
-    repeated: Some(13),
-};
 
 /// The text of five rows behind a byte order mark.
 pub const MARKED_FIVE_ROWS: &[u8] = b"\xEF\xBB\xBF{\"a\":[1,{\"b\":2}]}";
@@ -135,9 +33,6 @@ pub const MARKED_REPEATED: Worked = Worked {
     repeated: Some(7),
 };
 
-/// Texts without a byte order mark.
-pub const TEXTS: [Worked; 5] = [NESTED_ARRAYS, TOO_DEEP, FIVE, REPEATED_NAME, UNSORTED_NAMES];
-
 /// Texts behind a byte order mark, which is to be ignored.
 pub const MARKED_TEXTS: [Worked; 2] = [MARKED_FIVE, MARKED_REPEATED];
 
@@ -148,16 +43,12 @@ const TRUNCATED: Told = Told::Refused(Refusal::Truncated);
 
 const STOPPED_AT_4: Told = Told::Refused(Refusal::Stopped { at: 4 });
 
-/// A sequence with an element that may be cut, two separators in a row, and an element that ends too early.
-pub const SEQUENCE: &[u8] = b"\x1Etrue\n\x1Etrue\x1E\x1E[1\n";
-
+/// The answers on the elements of the sequence.
 pub const ELEMENTS: [ToldElement; 3] = [
     (1, 6, Told::Accepted(&[(Kind::True, (1, 5), None, 0, None)])),
     (7, 11, Told::MayBeCut),
     (13, 16, TRUNCATED),
 ];
-
-pub const CUT_SEQUENCE: WorkedSequence = (SEQUENCE, &ELEMENTS);
 
 /// The same sequence behind a byte order mark.
 pub const MARKED_SEQUENCE: &[u8] = b"\xEF\xBB\xBF\x1Etrue\n\x1Etrue\x1E\x1E[1\n";
@@ -177,14 +68,17 @@ const BEHIND_IGNORED_MARK: [ToldElement; 3] = [
     (16, 19, TRUNCATED),
 ];
 
-// A sequence of one number behind a byte order mark.
-const MARKED_NUMBER: &[u8] = b"\xEF\xBB\xBF\x1E1\n";
+/// A sequence of one number behind a byte order mark.
+pub const MARKED_NUMBER: &[u8] = b"\xEF\xBB\xBF\x1E1\n";
 
 const NUMBER: ToldElement = (
     4,
     6,
     Told::Accepted(&[(Kind::Number, (4, 5), None, 0, None)]),
 );
+
+/// The answer on the number where the mark is ignored.
+pub const NUMBER_ALONE: [ToldElement; 1] = [NUMBER];
 
 const ARRAY_ROWS: [WorkedRow; 2] = [
     (Kind::Array, (1, 4), None, 0, None),
@@ -233,9 +127,6 @@ pub const SEQUENCES: [WorkedSequence; 8] = [
     (b"\x1E[1]", &[(1, 4, Told::Accepted(&ARRAY_ROWS))]),
 ];
 
-/// A sequence whose one element repeats a name.
-pub const REPEATED_SEQUENCE: &[u8] = b"\x1E{\"a\":1,\"\\u0061\":2}\n";
-
 const ROWS_OF_ELEMENT: [WorkedRow; 3] = [
     (Kind::Object, (1, 19), None, 0, None),
     (Kind::Number, (6, 7), Some(0), 0, Some((2, 5))),
@@ -244,7 +135,12 @@ const ROWS_OF_ELEMENT: [WorkedRow; 3] = [
 
 const ANY_NAMES: [ToldElement; 1] = [(1, 20, Told::Accepted(&ROWS_OF_ELEMENT))];
 
-const UNIQUE_NAMES: [ToldElement; 1] = [(1, 20, Told::Refused(Refusal::RepeatedName { at: 8 }))];
+/// The answer on the sequence that repeats a name, where names have to be unique.
+pub const UNIQUE_NAMES: [ToldElement; 1] = [(
+    1,
+    20,
+    Told::Refused(Refusal::RepeatedName { at: 8 }),
+)];
 
 /// Sequences behind a byte order mark, where it is refused, and where it is ignored.
 pub const MARKED_SEQUENCES: [[WorkedSequence; 2]; 2] = [
@@ -254,7 +150,7 @@ pub const MARKED_SEQUENCES: [[WorkedSequence; 2]; 2] = [
     ],
     [
         (MARKED_SEQUENCE, &BEHIND_IGNORED_MARK),
-        (MARKED_NUMBER, &[NUMBER]),
+        (MARKED_NUMBER, &NUMBER_ALONE),
     ],
 ];
 
@@ -295,7 +191,7 @@ pub const SHORT: [&[u8]; 50] = [
     REPEATED,
     UNSORTED,
     b"{\"a/b\":1,\"m~n\":8,\"\":0}",
-    b"{\"\xEF\xBD\x9E\":1,\"\xF0\x9F\x98\x80\":2}",
+    WIDE,
     b"[10,20]",
     b"{\"a\":1,2]",
     b"1[",

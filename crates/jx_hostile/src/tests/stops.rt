@@ -1,34 +1,38 @@
 // Workers that are stopped: what they left is read by the calling thread, and the answer is the same.
 use crate::tests::answers::{LookUp, ToldElement, are_found};
-use crate::tests::calls::{SEQUENCE_CALLS, SequenceCall, TEXT_CALLS, TextCall, is_right, tells};
-use crate::tests::inputs::{
-    MARKED_SEQUENCES, MARKED_TEXTS, MARKS, REPEATED_SEQUENCES, RULES, SEQUENCES, TEXTS, UNSORTED,
-    Worked, WorkedSequence, settings,
+use crate::tests::calls::{
+    SEQUENCE_CALLS, SequenceCall, TEXT_CALLS, TextCall, index_of, is_right, tells,
 };
-use jx_answer::{TextAnswer, find_all, index_text};
-use jx_book::{Event, Gate, Go, OpenGate};
+use crate::tests::inputs::{
+    MARKED_SEQUENCES, MARKED_TEXTS, MARKS, REPEATED_SEQUENCES, RULES, SEQUENCES, WorkedSequence,
+};
+use jx_answer::find_all;
 use jx_claim::{Cutting, Workers};
+use jx_hostile_runs::gates::{MANY, StopFrom};
+use jx_hostile_runs::inputs::{TEXTS, UNSORTED, Worked, settings};
 use jx_index::{FindFault, Pointer};
 use jx_lex::{Depth, Kind};
 use jx_run::{FrontMark, Settings};
 use std::alloc::Global;
 use std::process::Abort;
 use std::sync::Wait;
-use std::sync::atomic::{AtomicBool, AtomicU64, Ordering};
+use std::sync::atomic::AtomicBool;
 use std::test::Fail;
 use std::thread::Threads;
 
-#[test]
-fn texts_are_answered_alike_where_workers_stop(rt: HostRuntime) -> Result<(), Fail> {
-    for mark in MARKS {
-        check_texts(&rt, rt.alloc(), &TEXTS, mark)?;
-    }
-    Ok(())
-}
+// Texts, each with what becomes of a byte order mark.
+const TEXT_LISTS: [(&[Worked], FrontMark); 3] = [
+    (&TEXTS, FrontMark::Refused),
+    (&TEXTS, FrontMark::Ignored),
+    (&MARKED_TEXTS, FrontMark::Ignored),
+];
 
 #[test]
-fn texts_behind_a_mark_are_answered_alike_where_workers_stop(rt: HostRuntime) -> Result<(), Fail> {
-    check_texts(&rt, rt.alloc(), &MARKED_TEXTS, FrontMark::Ignored)
+fn texts_are_answered_alike_where_workers_stop(rt: HostRuntime) -> Result<(), Fail> {
+    for (texts, mark) in TEXT_LISTS {
+        check_texts(&rt, rt.alloc(), texts, mark)?;
+    }
+    Ok(())
 }
 
 #[test]
@@ -52,37 +56,6 @@ fn look_ups_are_answered_alike_where_workers_stop(rt: HostRuntime) -> Result<(),
     Ok(())
 }
 
-/// Stops at the event of this number, counted from 0, and at all later ones.
-#[derive(Drop)]
-struct StopFrom {
-    number: u64,
-    events: AtomicU64,
-    has_stopped: AtomicBool,
-}
-
-impl StopFrom {
-    fn new(number: u64) -> StopFrom {
-        StopFrom {
-            number,
-            events: AtomicU64::new(0),
-            has_stopped: AtomicBool::new(false),
-        }
-    }
-}
-
-impl Gate for StopFrom {
-    fn pass(&self, _event: Event) -> Go {
-        if self.events.fetch_add(1, Ordering::SeqCst) < self.number {
-            return Go::On;
-        }
-        self.has_stopped.store(true, Ordering::SeqCst);
-        Go::Stop
-    }
-}
-
-/// More events than any of these runs has.
-const MANY: u64 = 1000;
-
 // A call on a text by so many workers, who stop from each event on in turn until a run meets no stop.
 fn check_call<R: Abort + Threads + Wait + Sync>(
     rt: &R,
@@ -93,15 +66,16 @@ fn check_call<R: Abort + Threads + Wait + Sync>(
     count: u8,
 ) -> Result<(), Fail> {
     let workers = Workers::new(count).ok_or("workers")?;
+    let begun = AtomicBool::new(true);
     for number in 0..MANY {
-        let gate = StopFrom::new(number);
+        let gate = StopFrom::new(number, &begun);
         let cutting = Cutting::every(worked.text.len(), 1)?;
         let right = is_right(rt, alloc, call, worked, cutting, workers, settings, &gate)?;
         assert!(rt;
             right,
             "{call:?} on {worked:?} by {settings:?} and {count}, stopped at {number}"
         );
-        if !gate.has_stopped.load(Ordering::SeqCst) {
+        if !gate.has_stopped() {
             return Ok(());
         }
     }
@@ -158,8 +132,9 @@ fn check_sequence<R: Abort + Threads + Wait + Sync>(
 ) -> Result<(), Fail> {
     let workers = Workers::new(count).ok_or("workers")?;
     let cutting = Cutting::every(text.len(), 1)?;
+    let begun = AtomicBool::new(true);
     for number in 0..MANY {
-        let gate = StopFrom::new(number);
+        let gate = StopFrom::new(number, &begun);
         let told = tells(
             rt, alloc, call, text, want, &cutting, workers, settings, &gate,
         )?;
@@ -167,7 +142,7 @@ fn check_sequence<R: Abort + Threads + Wait + Sync>(
             told,
             "{call:?} on {text:?} by {settings:?} and {count}, stopped at {number}"
         );
-        if !gate.has_stopped.load(Ordering::SeqCst) {
+        if !gate.has_stopped() {
             return Ok(());
         }
     }
@@ -198,12 +173,7 @@ fn check_look_ups<R: Abort + Threads + Wait + Sync>(
     count: u8,
 ) -> Result<(), Fail> {
     let workers = Workers::new(count).ok_or("workers")?;
-    let cutting = Cutting::every(UNSORTED.len(), 4)?;
-    let depth = Depth::default();
-    let answer = index_text(rt, alloc, UNSORTED, &cutting, workers, depth, &OpenGate)?;
-    let TextAnswer::Accepted(index) = answer else {
-        return Err("a text".into());
-    };
+    let index = index_of(rt, alloc, UNSORTED)?;
     let (Ok(root), Ok(name), Ok(repeated), Ok(missing)) = (
         Pointer::read(""),
         Pointer::read("/a"),
@@ -219,11 +189,12 @@ fn check_look_ups<R: Abort + Threads + Wait + Sync>(
         Err(FindFault::NameRepeated { token: 0 }),
         Err(FindFault::NoSuchMember { token: 0 }),
     ];
+    let begun = AtomicBool::new(true);
     for number in 0..MANY {
-        let gate = StopFrom::new(number);
+        let gate = StopFrom::new(number, &begun);
         let found = find_all(rt, alloc, &index, &pointers, workers, &gate)?;
         assert!(rt; are_found(&found, &want), "stopped at {number}");
-        if !gate.has_stopped.load(Ordering::SeqCst) {
+        if !gate.has_stopped() {
             return Ok(());
         }
     }

@@ -4,8 +4,8 @@ ghost use Rattle.jx_lex.specs.Ordinal.{ordinal, all_states};
 
 use crate::alphabet::mark::MarkKind;
 
-/// Where the lexical machine stands between two bytes: between tokens, or how far it is in one (RFC 8259, sections 2, 3,
-/// 6 and 7; inside strings RFC 3629, section 4).
+/// Where the lexical machine stands between two bytes: between tokens, or how far it is in one. RFC 8259, sections 2,
+/// 3, 6 and 7; inside strings RFC 3629, section 4.
 #[derive(Clone, Copy, Debug, PartialEq, Eq)]
 pub enum LexState {
     /// Between tokens.

@@ -22,8 +22,8 @@ const MANY_BYTES: usize = 16;
 /// How many bytes a beginning has at least. Tracks that meet have mostly met by then.
 const BEGINNING: usize = 64;
 
-/// What reading a part of a text gives from each of the 32 lexical states, with no knowledge of what stands to its left:
-/// marks, ends and an exit for each. Tracks that come to stand in one state before one byte go on as one.
+/// The reading of a part of a text from each of the 32 lexical states, without what stands to its left: marks, ends and
+/// an exit for each. Tracks that come to stand in one state before one byte go on as one.
 #[derive(Drop)]
 pub struct ChunkMap {
     start: usize,

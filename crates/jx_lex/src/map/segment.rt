@@ -1,25 +1,28 @@
 // What one or more tracks have in common.
-ghost use Rattle.std.specs.Prelude.{◌≡◌, ◌≤◌, ◌<◌, ◌+◌, ◌++◌, [], ◌^◌, length, take, slice_range, OnOk, OnErr};
+ghost use Rattle.std.specs.Prelude.{◌≡◌, ◌≤◌, ◌<◌, ◌+◌, ◌++◌, [], ◌^◌, length, OnOk, OnErr};
 ghost use Rattle.jx_lex.specs.inside.Closed.{ClosedTo};
 ghost use Rattle.jx_lex.specs.declared.alphabet.state.LexState.{LexState};
 ghost use Rattle.jx_lex.specs.Follow.{IsIn, head, linked_segments};
-ghost use Rattle.jx_lex.specs.inside.Passing.{read_bytes};
 ghost use Rattle.jx_lex.specs.inside.Step.{read_segment};
 
 use crate::alphabet::machine::step;
 use crate::alphabet::mark::Mark;
 use crate::alphabet::state::{LexState, TokenEnd};
 use crate::map::link::Link;
-use crate::scanner::keeper::Keeper;
-use crate::scanner::tokens::Tokens;
+use smallvec::SmallVec;
 use std::alloc::{AllocError, Global};
 use std::marker::Model;
+
+/// How many marks, and how many ends, a segment holds without memory of its own. Most tracks meet within a few bytes, so
+/// most segments hold no more.
+const FEW: usize = 4;
 
 /// Marks and ends that each track through this segment has, one after another.
 #[derive(Drop)]
 pub struct Segment {
-    tokens: Tokens,
-    next: Link,
+    pub(crate) marks: SmallVec<Mark, FEW>,
+    pub(crate) ends: SmallVec<usize, FEW>,
+    pub(crate) next: Link,
 }
 
 impl Model for Segment {
@@ -27,7 +30,7 @@ impl Model for Segment {
 
     ghost Value = { SegmentValue };
 
-    ghost view = { λ s. record { marks = s.tokens.marks; ends = s.tokens.ends; next = s.next } };
+    ghost view = { λ s. record { marks = s.marks.items; ends = s.ends.items; next = s.next } };
 }
 
 impl Segment {
@@ -36,23 +39,42 @@ impl Segment {
         ensures { result ≡ record { marks = []; ends = []; next = next } }
     {
         Segment {
-            tokens: Tokens::new(alloc),
+            marks: SmallVec::new(alloc),
+            ends: SmallVec::new(alloc),
             next,
         }
+    }
+
+    /// These marks and ends, which this link follows. Where they are many, the memory that has them is kept.
+    pub(crate) fn of(marks: Vec<Mark>, ends: Vec<usize>, next: Link) -> Segment
+        ensures { result ≡ record { marks = marks.items; ends = ends.items; next = next } }
+    {
+        let mut segment = Segment {
+            marks: SmallVec::from_vec(marks),
+            ends: SmallVec::from_vec(ends),
+            next,
+        };
+        if segment.marks.len() <= FEW {
+            segment.marks.shrink_to_fit();
+        }
+        if segment.ends.len() <= FEW {
+            segment.ends.shrink_to_fit();
+        }
+        segment
     }
 
     /// Its marks, in order.
     pub fn marks(&self) -> &[Mark]
         ensures { result.now ≡ self.now.marks }
     {
-        self.tokens.marks()
+        self.marks.as_slice()
     }
 
     /// Its ends of strings, numbers and literals, in order, each just past the token's last byte.
     pub fn ends(&self) -> &[usize]
         ensures { result.now ≡ self.now.ends }
     {
-        self.tokens.ends()
+        self.ends.as_slice()
     }
 
     /// What follows it.
@@ -66,7 +88,9 @@ impl Segment {
     pub(crate) fn empty(&mut self)
         ensures { self.new ≡ record self.old { marks = []; ends = [] } }
     {
-        self.tokens.empty();
+        let alloc = *self.marks.allocator();
+        self.marks = SmallVec::new(alloc);
+        self.ends = SmallVec::new(alloc);
     }
 
     /// Takes in one more byte, where this is the end of a track.
@@ -79,39 +103,15 @@ impl Segment {
         };
         let step = step(state, byte);
         match step.end {
-            Some(TokenEnd::Before) => self.tokens.end(at)?,
-            Some(TokenEnd::After) => self.tokens.end(at + 1)?,
+            Some(TokenEnd::Before) => self.ends.push(at)?,
+            Some(TokenEnd::After) => self.ends.push(at + 1)?,
             None => {}
         }
         if let Some(kind) = step.begin {
-            self.tokens.begin(Mark { kind, at })?;
+            self.marks.push(Mark { kind, at })?;
         }
         self.next = Link::after(step.next, at);
         Ok(())
-    }
-
-    /// Takes in a stretch of text, where this is the end of a track.
-    pub(crate) fn read_span(
-        &mut self,
-        text: &[u8],
-        from: usize,
-        to: usize,
-    ) -> Result<(), AllocError>
-        requires { (from ≤ to) × (to ≤ length text.now) }
-        ensures { OnOk result (self.new ≡ read_bytes from (slice_range text.now from to) self.old) }
-    {
-        if let Link::State(state) = self.next {
-            self.next = self.tokens.read(state, text, from, to)?;
-        }
-        Ok(())
-    }
-
-    /// Keeps only so many of its first marks and ends. This link follows it from now on.
-    pub(crate) fn go_back(&mut self, marks: usize, ends: usize, next: Link)
-        ensures { self.new ≡ record { marks = take marks self.old.marks; ends = take ends self.old.ends; next = next } }
-    {
-        self.tokens.cut_back(marks, ends);
-        self.next = next;
     }
 
     /// Sets what follows it. Its marks and ends stay.

@@ -4,13 +4,14 @@ ghost use Rattle.jx_lex.specs.declared.map.link.Link.TheVariants.{State};
 ghost use Rattle.jx_lex.specs.inside.Bundle.{ReadsOn, is_apart};
 
 use crate::alphabet::state::LexState;
+use crate::map::lane::Lane;
 use crate::map::link::Link;
 use crate::map::segment::Segment;
 use crate::scanner::byte_sets::plain_end;
 use std::alloc::AllocError;
 
-// Two tracks are read apart, a stretch at a time: the first stretch has `FIRST_STRETCH` bytes, and each later one is twice as
-// long as the one before, up to `LONGEST_STRETCH`. A stretch in which the tracks may have met is read again.
+// Two tracks are read apart, a stretch at a time. The first stretch has `FIRST_STRETCH` bytes, and each later one is
+// twice as long, up to `LONGEST_STRETCH`. A stretch in which the tracks may have met is read again.
 const FIRST_STRETCH: usize = 64;
 
 const LONGEST_STRETCH: usize = 4096;
@@ -25,11 +26,11 @@ fn are_apart(first: Link, second: Link) -> bool
     }
 }
 
-/// Where one of two segments stands inside a string, reads the other one alone up to the next byte that is not plain in a
-/// string: until there, the first stays as it is. Gives the end of what was read.
+/// Where one of two segments is inside a string, reads the other one alone up to the next byte that is not plain in a
+/// string. Until there the first stays as it is. Gives the end of what was read.
 fn read_plain(
-    first: &mut Segment,
-    second: &mut Segment,
+    first: &mut Lane,
+    second: &mut Lane,
     text: &[u8],
     from: usize,
     to: usize,
@@ -53,8 +54,8 @@ fn read_plain(
 
 /// Reads two segments side by side while they stand in different states. Gives the end of what was read.
 fn read_pair(
-    first: &mut Segment,
-    second: &mut Segment,
+    first: &mut Lane,
+    second: &mut Lane,
     text: &[u8],
     from: usize,
     to: usize,
@@ -100,8 +101,8 @@ fn stretch_end(from: usize, to: usize, stretch: usize) -> usize
 /// Reads two segments over a stretch, one after the other. Where both may then lead to the same place, they may have met in
 /// it: both are put back as they were, and the answer is true.
 fn may_have_met(
-    first: &mut Segment,
-    second: &mut Segment,
+    first: &mut Lane,
+    second: &mut Lane,
     text: &[u8],
     from: usize,
     to: usize,
@@ -110,8 +111,8 @@ fn may_have_met(
     ensures read { IfOk result (λ met. met ≡ false → ReadsOn from (slice_range text.now from to) (first.old ∷ second.old ∷ []) (first.new ∷ second.new ∷ [])) }
     ensures back { IfOk result (λ met. IsTrue met → (first.new ≡ first.old) × (second.new ≡ second.old)) }
 {
-    let (marks, ends, next) = (first.marks().len(), first.ends().len(), first.next());
-    let (others, other_ends, other) = (second.marks().len(), second.ends().len(), second.next());
+    let (marks, ends, next) = (first.marks(), first.ends(), first.next());
+    let (others, other_ends, other) = (second.marks(), second.ends(), second.next());
     first.read_span(text, from, to)?;
     second.read_span(text, from, to)?;
     if may_lead_alike(first.next(), second.next()) {
@@ -124,8 +125,8 @@ fn may_have_met(
 
 /// Reads two segments while they stand in different states, a stretch at a time. Gives the end of what was read.
 fn read_stretches(
-    first: &mut Segment,
-    second: &mut Segment,
+    first: &mut Lane,
+    second: &mut Lane,
     text: &[u8],
     from: usize,
     to: usize,
@@ -154,8 +155,8 @@ fn read_stretches(
 /// Reads to the end from two segments that have come to stand in one state: both go on in a third.
 fn read_met(
     lanes: Vec<Segment>,
-    mut first: Segment,
-    mut second: Segment,
+    first: Lane,
+    second: Lane,
     state: LexState,
     text: &[u8],
     from: usize,
@@ -167,13 +168,11 @@ fn read_met(
     ensures { IfOk result (λ lanes. ReadsOn from (slice_range text.now from to) (first ∷ second ∷ []) lanes.items) }
 {
     let mut lanes = lanes;
-    let mut third = Segment::new(*lanes.allocator(), Link::State(state));
+    let mut third = Lane::new(*lanes.allocator(), Link::State(state));
     third.read_span(text, from, to)?;
-    first.set_next(Link::Ahead(1));
-    second.set_next(Link::Ahead(0));
-    lanes.push(first)?;
-    lanes.push(second)?;
-    lanes.push(third)?;
+    lanes.push(first.followed_by(Link::Ahead(1)))?;
+    lanes.push(second.followed_by(Link::Ahead(0)))?;
+    lanes.push(third.into_segment())?;
     Ok(lanes)
 }
 
@@ -191,8 +190,8 @@ fn common_state(first: Link, second: Link) -> Option<LexState>
 /// Reads two segments to the end. The vector that comes in is empty.
 fn read_two(
     lanes: Vec<Segment>,
-    first: Segment,
-    second: Segment,
+    first: Lane,
+    second: Lane,
     text: &[u8],
     from: usize,
     to: usize,
@@ -211,8 +210,8 @@ fn read_two(
     }
     first.read_span(text, i, to)?;
     second.read_span(text, i, to)?;
-    lanes.push(first)?;
-    lanes.push(second)?;
+    lanes.push(first.into_segment())?;
+    lanes.push(second.into_segment())?;
     Ok(lanes)
 }
 
@@ -232,12 +231,14 @@ pub(crate) fn read_lanes(
         return Ok(lanes);
     };
     let Some(first) = lanes.pop() else {
-        let mut only = second;
+        let mut only = Lane::of(second)?;
         only.read_span(text, from, to)?;
-        lanes.push(only)?;
+        lanes.push(only.into_segment())?;
         return Ok(lanes);
     };
     if lanes.is_empty() {
+        let first = Lane::of(first)?;
+        let second = Lane::of(second)?;
         let lanes = read_two(lanes, first, second, text, from, to)?;
         return Ok(lanes);
     }

@@ -38,8 +38,8 @@ impl Ahead {
         }
     }
 
-    /// No stretch yet, in bytes that begin inside a string: what stood before them is not known here, and they are mostly a
-    /// part of a long string, so that the first stretch is as long as one may be.
+    /// No stretch yet, in bytes that begin inside a string. What stood before them is not known. They are mostly a part
+    /// of a long string, so the first stretch is as long as one may be.
     #[inline(always)]
     pub(crate) fn inside_string() -> Ahead
         ensures sound { (text : List ℕ) → IsSound text result }
@@ -129,7 +129,7 @@ impl Ahead {
     }
 }
 
-/// The end of the block of `MOST` bytes that has the byte three places behind this one: a stretch that ended inside a
+/// The end of the block of `MOST` bytes that has the byte three places behind this one. A stretch that ended inside a
 /// character leaves up to three bytes of the block before. Whole blocks are tested faster than bytes across two blocks.
 #[inline(always)]
 fn end_of_block(from: usize) -> usize {

@@ -6,8 +6,8 @@ ghost use Rattle.jx_lex.specs.Seen.{WantsNoMore};
 use crate::alphabet::mark::Mark;
 use std::alloc::AllocError;
 
-/// What a scan tells of the tokens that it finds, and what is kept of them: `begin` is told each mark and `end` each end
-/// of a string, a number or a literal, both in the order of the text.
+/// Takes the tokens that a scan finds. `begin` takes each mark and `end` each end of a string, a number or a literal,
+/// both in the order of the text.
 ///
 /// `has_seen` says which marks and ends a keeper may have been told of. It may be true of many: a keeper need not keep
 /// what it has seen, but only what that comes to.

@@ -195,8 +195,8 @@ fn sequences_end(text: &[u8], from: usize, most: usize, to: usize) -> usize
     i
 }
 
-/// The end of characters from a byte above 7F on: of all that may stand for themselves in a stretch that is known to be
-/// UTF-8, and else of a few; or `from` where none stands whole.
+/// The end of characters from a byte above 7F on, or `from` where none stands whole. Takes all that may stand for
+/// themselves in a stretch known to be UTF-8, else a few.
 #[inline(always)]
 fn characters_end(text: &[u8], from: usize, to: usize, ahead: Ahead) -> (usize, Ahead)
     requires bounds { (from < to) × (to ≤ length text.now) }
@@ -266,8 +266,9 @@ fn ascii_string_end(text: &[u8], from: usize, to: usize) -> usize
     end
 }
 
-/// The end of a stretch of whole characters and escapes of a string from `from` on, or `to`: a quotation mark, a fault, or
-/// the first byte of a character that isn't whole before `to`. What was learnt of the UTF-8 ahead serves the strings that follow.
+/// The end of a stretch of whole characters and escapes of a string from `from` on, or `to`. It ends at a quotation
+/// mark, a fault, or the first character that isn't whole before `to`. What was learnt of the UTF-8 ahead serves the
+/// strings that follow.
 #[inline(always)]
 pub(crate) fn string_end_ahead(text: &[u8], from: usize, to: usize, ahead: &mut Ahead) -> usize
     requires bounds { (from ≤ to) × (to ≤ length text.now) }

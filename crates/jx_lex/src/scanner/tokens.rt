@@ -43,6 +43,13 @@ impl Tokens {
         }
     }
 
+    /// These marks and ends.
+    pub(crate) fn of(marks: Vec<Mark>, ends: Vec<usize>) -> Tokens
+        ensures { result ≡ record { marks = marks.items; ends = ends.items } }
+    {
+        Tokens { marks, ends }
+    }
+
     /// The marks, in order.
     #[inline(always)]
     pub fn marks(&self) -> &[Mark]
@@ -83,6 +90,13 @@ impl Tokens {
     pub(crate) fn reserve(&mut self, marks: usize, ends: usize) -> Result<(), AllocError>
         ensures { OnOk result (self.new ≡ self.old) }
     {
+        // What stands behind the room that is asked for last is mostly free: of a long stretch that is read at once, marks
+        // beyond those that were thought of then need no copy of the others.
+        if self.marks.is_empty() {
+            self.ends.reserve(ends)?;
+            self.marks.reserve(marks)?;
+            return Ok(());
+        }
         self.marks.reserve(marks)?;
         self.ends.reserve(ends)?;
         Ok(())
@@ -96,13 +110,11 @@ impl Tokens {
         self.ends.truncate(ends);
     }
 
-    /// Lets go of all of them, and of their memory.
-    pub(crate) fn empty(&mut self)
-        ensures { self.new ≡ record { marks = []; ends = [] } }
+    /// The marks and the ends.
+    pub(crate) fn into_lists(self) -> (Vec<Mark>, Vec<usize>)
+        ensures { (result.0.items ≡ self.marks) × (result.1.items ≡ self.ends) }
     {
-        let alloc = *self.marks.allocator();
-        self.marks = Vec::new(alloc);
-        self.ends = Vec::new(alloc);
+        (self.marks, self.ends)
     }
 }
 

@@ -38,7 +38,15 @@ arrived base x (reduced.TooDeep at) = TooDeep (offset_at base at)
 arrived base (exit.State s) (reduced.Went e hs) = Going s e hs
 arrived base (exit.Fault at) (reduced.Went e hs) = Stopped (offset_at base at)
 
+-- where it goes on, the reading went
+abbrev pub IsWentTo : TextReading → Course → Type 0
+IsWentTo read (Going s e hs) = read ≡ went s e (reverse hs.items)
+IsWentTo read (Stopped at) = Unit {0}
+IsWentTo read (TooDeep at) = Unit {0}
+IsWentTo read Failed = Unit {0}
+
 -- it is where a reading of bytes leads that stand that much further on
 pub record LeadsTo (base limit : ℕ) (read : TextReading) (course : Course) : Type 0 where
+  pub going : IsWentTo read course
   pub within : IsCourseWithin limit course
   pub outcome : IsLow base read → outcome_on course ≡ Some (shifted base read)

@@ -1,102 +1,97 @@
-// Answers under refused growths: the right one, or want of memory, and no third thing.
-use crate::tests::answers::{are_told, is_worked};
-use crate::tests::calls::{SEQUENCE_CALLS, TEXT_CALLS, TextCall, is_right, tells};
-use crate::tests::inputs::{
-    CUT_SEQUENCE, ELEMENTS, FIVE, MARKED_FIVE, MARKED_REPEATED, MARKED_SEQUENCES, NESTED_ARRAYS,
-    REPEATED_NAME, REPEATED_SEQUENCES, SEQUENCE, UNSORTED_NAMES, Worked, WorkedSequence, settings,
+// Answers under refused growths: the right one, or want of memory, and then the right one where it is asked for again.
+use crate::tests::calls::{
+    ALL_SEQUENCE_CALLS, ALL_TEXT_CALLS, SequenceCall, TextCall, is_right, tells,
 };
-use jx_answer::{Fault, index_sequence, index_text};
+use crate::tests::inputs::{
+    ELEMENTS, MARKED_FIVE, MARKED_NUMBER, MARKED_REPEATED, NUMBER_ALONE, UNIQUE_NAMES,
+    WorkedSequence,
+};
+use jx_answer::Fault;
 use jx_book::OpenGate;
 use jx_claim::{Cutting, Workers};
+use jx_hostile_runs::inputs::{
+    FIVE, NESTED_ARRAYS, REPEATED_NAME, REPEATED_SEQUENCE, SEQUENCE, TOO_DEEP, UNSORTED_NAMES,
+    WIDE_NAMES, Worked, settings,
+};
+use jx_hostile_runs::lines::Lines;
 use jx_lex::Depth;
 use jx_run::{FrontMark, NameRule, Settings};
 use std::alloc::Global;
+use std::env::Env;
 use std::process::Abort;
 use std::sync::Wait;
 use std::test::Fail;
 use std::thread::Threads;
 
+// Texts, each with what becomes of a byte order mark and of names.
+const SETTLED_TEXTS: [(Worked, FrontMark, NameRule); 8] = [
+    (NESTED_ARRAYS, FrontMark::Refused, NameRule::Any),
+    (TOO_DEEP, FrontMark::Refused, NameRule::Any),
+    (FIVE, FrontMark::Refused, NameRule::Any),
+    (REPEATED_NAME, FrontMark::Refused, NameRule::Any),
+    (UNSORTED_NAMES, FrontMark::Refused, NameRule::Any),
+    (WIDE_NAMES, FrontMark::Refused, NameRule::Any),
+    (MARKED_FIVE, FrontMark::Ignored, NameRule::Any),
+    (MARKED_REPEATED, FrontMark::Ignored, NameRule::Unique),
+];
+
+// Sequences, each with what becomes of a byte order mark and of names.
+const SETTLED_SEQUENCES: [(WorkedSequence, FrontMark, NameRule); 3] = [
+    ((SEQUENCE, &ELEMENTS), FrontMark::Refused, NameRule::Any),
+    (
+        (REPEATED_SEQUENCE, &UNIQUE_NAMES),
+        FrontMark::Ignored,
+        NameRule::Unique,
+    ),
+    (
+        (MARKED_NUMBER, &NUMBER_ALONE),
+        FrontMark::Ignored,
+        NameRule::Unique,
+    ),
+];
+
 #[test]
-fn nested_arrays_by_one_worker_under_a_refused_growth(rt: HostRuntime) -> Result<(), Fail> {
-    check(&rt, rt.alloc(), &NESTED_ARRAYS, 1)
+fn texts_by_one_worker_under_a_refused_growth(rt: HostRuntime) -> Result<(), Fail> {
+    check_texts(&rt, rt.alloc(), 1)
 }
 
 #[test]
-fn nested_arrays_by_two_workers_under_a_refused_growth(rt: HostRuntime) -> Result<(), Fail> {
-    check(&rt, rt.alloc(), &NESTED_ARRAYS, 2)
+fn texts_by_two_workers_under_a_refused_growth(rt: HostRuntime) -> Result<(), Fail> {
+    check_texts(&rt, rt.alloc(), 2)
 }
 
 #[test]
-fn five_rows_by_one_worker_under_a_refused_growth(rt: HostRuntime) -> Result<(), Fail> {
-    check(&rt, rt.alloc(), &FIVE, 1)
+fn sequences_by_one_worker_under_a_refused_growth(rt: HostRuntime) -> Result<(), Fail> {
+    check_sequences(&rt, rt.alloc(), 1)
 }
 
 #[test]
-fn five_rows_by_two_workers_under_a_refused_growth(rt: HostRuntime) -> Result<(), Fail> {
-    check(&rt, rt.alloc(), &FIVE, 2)
+fn sequences_by_two_workers_under_a_refused_growth(rt: HostRuntime) -> Result<(), Fail> {
+    check_sequences(&rt, rt.alloc(), 2)
 }
 
-#[test]
-fn a_repeated_name_by_one_worker_under_a_refused_growth(rt: HostRuntime) -> Result<(), Fail> {
-    check(&rt, rt.alloc(), &REPEATED_NAME, 1)
-}
-
-#[test]
-fn a_repeated_name_by_two_workers_under_a_refused_growth(rt: HostRuntime) -> Result<(), Fail> {
-    check(&rt, rt.alloc(), &REPEATED_NAME, 2)
-}
-
-#[test]
-fn names_out_of_order_by_one_worker_under_a_refused_growth(rt: HostRuntime) -> Result<(), Fail> {
-    check(&rt, rt.alloc(), &UNSORTED_NAMES, 1)
-}
-
-#[test]
-fn names_out_of_order_by_two_workers_under_a_refused_growth(rt: HostRuntime) -> Result<(), Fail> {
-    check(&rt, rt.alloc(), &UNSORTED_NAMES, 2)
-}
-
-#[test]
-fn five_rows_behind_a_mark_under_a_refused_growth(rt: HostRuntime) -> Result<(), Fail> {
-    check_marked(&rt, rt.alloc(), &MARKED_FIVE, NameRule::Any, 1)
-}
-
-#[test]
-fn unique_names_by_one_worker_under_a_refused_growth(rt: HostRuntime) -> Result<(), Fail> {
-    check_marked(&rt, rt.alloc(), &MARKED_REPEATED, NameRule::Unique, 1)
-}
-
-#[test]
-fn unique_names_by_two_workers_under_a_refused_growth(rt: HostRuntime) -> Result<(), Fail> {
-    check_marked(&rt, rt.alloc(), &MARKED_REPEATED, NameRule::Unique, 2)
-}
-
-#[test]
-fn a_sequence_by_one_worker_under_a_refused_growth(rt: HostRuntime) -> Result<(), Fail> {
-    check_plain_sequence(&rt, rt.alloc(), 1)?;
-    let settings = settings(Depth::default(), FrontMark::Refused, NameRule::Any);
-    check_sequence(&rt, rt.alloc(), CUT_SEQUENCE, &settings, 1)
-}
-
-#[test]
-fn a_sequence_by_two_workers_under_a_refused_growth(rt: HostRuntime) -> Result<(), Fail> {
-    check_plain_sequence(&rt, rt.alloc(), 2)?;
-    let settings = settings(Depth::default(), FrontMark::Refused, NameRule::Any);
-    check_sequence(&rt, rt.alloc(), CUT_SEQUENCE, &settings, 2)
-}
-
-#[test]
-fn settled_sequences_by_one_worker_under_a_refused_growth(rt: HostRuntime) -> Result<(), Fail> {
-    check_settled_sequences(&rt, rt.alloc(), 1)
-}
-
-#[test]
-fn settled_sequences_by_two_workers_under_a_refused_growth(rt: HostRuntime) -> Result<(), Fail> {
-    check_settled_sequences(&rt, rt.alloc(), 2)
+// Each call on each text by so many workers: one reads in one pass and by runs that are joined in a book, two read by runs.
+fn check_texts<R: Abort + Env + Threads + Wait + Sync>(
+    rt: &R,
+    alloc: Global,
+    count: u8,
+) -> Result<(), Fail> {
+    let mut lines = Lines::of(rt);
+    for (worked, mark, names) in SETTLED_TEXTS {
+        let depth = Depth::new(worked.containers).ok_or("a depth")?;
+        let settings = settings(depth, mark, names);
+        for call in ALL_TEXT_CALLS {
+            let is_meant = call != TextCall::Plain || mark == FrontMark::Refused;
+            if is_meant && lines.takes_next() {
+                check_text(rt, alloc, call, &worked, &settings, count)?;
+            }
+        }
+    }
+    Ok(())
 }
 
 // A call on a text in pieces of a byte.
-fn check_call<R: Abort + Threads + Wait + Sync>(
+fn check_text<R: Abort + Threads + Wait + Sync>(
     rt: &R,
     alloc: Global,
     call: TextCall,
@@ -105,70 +100,42 @@ fn check_call<R: Abort + Threads + Wait + Sync>(
     count: u8,
 ) -> Result<(), Fail> {
     let workers = Workers::new(count).ok_or("workers")?;
-    let cutting = Cutting::every(worked.text.len(), 1)?;
-    match is_right(
-        rt, alloc, call, worked, cutting, workers, settings, &OpenGate,
-    ) {
-        Ok(right) => assert!(rt; right, "{call:?} on {worked:?} by {settings:?} and {count}"),
-        Err(fault) => assert_eq!(rt; fault, Fault::Memory),
-    }
+    let first = Cutting::every(worked.text.len(), 1)?;
+    let again = Cutting::every(worked.text.len(), 1)?;
+    let right = match is_right(rt, alloc, call, worked, first, workers, settings, &OpenGate) {
+        Ok(right) => right,
+        Err(Fault::Memory) => {
+            is_right(rt, alloc, call, worked, again, workers, settings, &OpenGate)?
+        }
+    };
+    assert!(rt; right, "{call:?} on {worked:?} by {settings:?} and {count}");
     Ok(())
 }
 
-// The call without settings.
-fn check_plain<R: Abort + Threads + Wait + Sync>(
+// Each call on each sequence by so many workers.
+fn check_sequences<R: Abort + Env + Threads + Wait + Sync>(
     rt: &R,
     alloc: Global,
-    worked: &Worked,
     count: u8,
 ) -> Result<(), Fail> {
-    let workers = Workers::new(count).ok_or("workers")?;
-    let cutting = Cutting::every(worked.text.len(), 1)?;
-    let depth = Depth::default();
-    match index_text(rt, alloc, worked.text, &cutting, workers, depth, &OpenGate) {
-        Ok(answer) => assert!(rt;
-            is_worked(&answer, worked, NameRule::Any),
-            "{worked:?} by {count}"
-        ),
-        Err(fault) => assert_eq!(rt; fault, Fault::Memory),
+    let mut lines = Lines::of(rt);
+    for (sequence, mark, names) in SETTLED_SEQUENCES {
+        let settings = settings(Depth::default(), mark, names);
+        for call in ALL_SEQUENCE_CALLS {
+            let is_meant = call != SequenceCall::Plain || mark == FrontMark::Refused;
+            if is_meant && lines.takes_next() {
+                check_sequence(rt, alloc, call, sequence, &settings, count)?;
+            }
+        }
     }
     Ok(())
 }
 
-// Each call on a text whose names may be repeated: by one worker in one pass and by runs that are joined in a book, by two by runs.
-fn check<R: Abort + Threads + Wait + Sync>(
-    rt: &R,
-    alloc: Global,
-    worked: &Worked,
-    count: u8,
-) -> Result<(), Fail> {
-    check_plain(rt, alloc, worked, count)?;
-    let settings = settings(Depth::default(), FrontMark::Refused, NameRule::Any);
-    for call in TEXT_CALLS {
-        check_call(rt, alloc, call, worked, &settings, count)?;
-    }
-    Ok(())
-}
-
-// Each call on a text behind a byte order mark that is ignored.
-fn check_marked<R: Abort + Threads + Wait + Sync>(
-    rt: &R,
-    alloc: Global,
-    worked: &Worked,
-    names: NameRule,
-    count: u8,
-) -> Result<(), Fail> {
-    let settings = settings(Depth::default(), FrontMark::Ignored, names);
-    for call in TEXT_CALLS {
-        check_call(rt, alloc, call, worked, &settings, count)?;
-    }
-    Ok(())
-}
-
-// Both calls on a sequence in pieces of a byte.
+// A call on a sequence in pieces of a byte.
 fn check_sequence<R: Abort + Threads + Wait + Sync>(
     rt: &R,
     alloc: Global,
+    call: SequenceCall,
     sequence: WorkedSequence,
     settings: &Settings,
     count: u8,
@@ -176,42 +143,14 @@ fn check_sequence<R: Abort + Threads + Wait + Sync>(
     let (text, want) = sequence;
     let workers = Workers::new(count).ok_or("workers")?;
     let cutting = Cutting::every(text.len(), 1)?;
-    for call in SEQUENCE_CALLS {
-        match tells(
+    let told = match tells(
+        rt, alloc, call, text, want, &cutting, workers, settings, &OpenGate,
+    ) {
+        Ok(told) => told,
+        Err(Fault::Memory) => tells(
             rt, alloc, call, text, want, &cutting, workers, settings, &OpenGate,
-        ) {
-            Ok(told) => assert!(rt; told, "{call:?} on {text:?} by {settings:?} and {count}"),
-            Err(fault) => assert_eq!(rt; fault, Fault::Memory),
-        }
-    }
-    Ok(())
-}
-
-// Sequences that repeat a name or stand behind a byte order mark, where both matter.
-fn check_settled_sequences<R: Abort + Threads + Wait + Sync>(
-    rt: &R,
-    alloc: Global,
-    count: u8,
-) -> Result<(), Fail> {
-    let [_, [repeated]] = REPEATED_SEQUENCES;
-    let [_, [_, number]] = MARKED_SEQUENCES;
-    let settings = settings(Depth::default(), FrontMark::Ignored, NameRule::Unique);
-    check_sequence(rt, alloc, repeated, &settings, count)?;
-    check_sequence(rt, alloc, number, &settings, count)
-}
-
-// The call without settings on the cut sequence.
-fn check_plain_sequence<R: Abort + Threads + Wait + Sync>(
-    rt: &R,
-    alloc: Global,
-    count: u8,
-) -> Result<(), Fail> {
-    let workers = Workers::new(count).ok_or("workers")?;
-    let cutting = Cutting::every(SEQUENCE.len(), 1)?;
-    let depth = Depth::default();
-    match index_sequence(rt, alloc, SEQUENCE, &cutting, workers, depth, &OpenGate) {
-        Ok(elements) => assert!(rt; are_told(&elements, &ELEMENTS), "by {count}"),
-        Err(fault) => assert_eq!(rt; fault, Fault::Memory),
-    }
+        )?,
+    };
+    assert!(rt; told, "{call:?} on {text:?} by {settings:?} and {count}");
     Ok(())
 }

@@ -1,6 +1,6 @@
 use Rattle.std.proofs.Common.{◌≡◌, ℕ, suc, ◌+◌, ◌<◌, ◌≤◌, List, Option, length, drop, get_or, sym, ap, subst, ◌∙◌, arith}
 use Rattle.std.proofs.lemmas.List.{get_or_default, length-drop}
-use Rattle.jx_index.specs.Repeats.{IsTie}
+use Rattle.jx_index.specs.inside.Ties.{IsTie}
 use Rattle.jx_index.proofs.Ties.{Leads, at_last, tie_step, no_more_ties}
 use Rattle.jx_index.proofs.repeats.first_tie.Goals as goal
 

@@ -1,5 +1,5 @@
 use Rattle.std.proofs.Common.{drop}
-use Rattle.jx_index.specs.Repeats.{IsTie}
+use Rattle.jx_index.specs.inside.Ties.{IsTie}
 use Rattle.jx_index.proofs.Ties.{Leads}
 use Rattle.jx_index.proofs.repeats.first_tie.Given as goal
 

@@ -1,5 +1,6 @@
 use Rattle.std.proofs.Common.{sym, subst}
-use Rattle.jx_run.specs.ElementsRun.{AreMarked, MarkedElementsValue}
+use Rattle.jx_run.specs.ElementsRun.{MarkedElementsValue}
+use Rattle.jx_run.specs.inside.MarkedElements.{AreMarked}
 use Rattle.jx_run.proofs.ElementSteps.{last_judged, last_empty}
 use Rattle.jx_run.proofs.marked_elements.elements_behind.Goals.{then-span+in_ok-push, else-span}
 use Rattle.jx_run.proofs.marked_elements.elements_behind.Goals as goal

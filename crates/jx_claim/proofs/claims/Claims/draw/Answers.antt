@@ -1,12 +1,10 @@
-use Rattle.std.proofs.Common.{◌≡◌, ℕ, ◌+◌, ◌<◌, ◌≤◌, Bool, false, [], ◌∷◌, ◌++◌, cond, refl, ap, ◌∙◌, arith}
+use Rattle.std.proofs.Common.{◌≡◌, ℕ, ◌+◌, ◌<◌, ◌≤◌, false, List, [], ◌∷◌, ◌++◌, refl, ap, subst, ◌∙◌, arith}
+use Rattle.std.specs.Prelude.{All}
 use Rattle.jx_claim.specs.declared.rule.View.{View}
 use Rattle.jx_claim.specs.Claimed.{ClaimsValue, SeatValue}
 use Rattle.jx_claim.specs.inside.Dealt.{view}
-use Rattle.jx_claim.proofs.Deals.{got_piece, got_none, first_drawn, none_undrawn}
+use Rattle.jx_claim.proofs.Deals.{bit, got_piece, got_none, first_drawn, none_undrawn}
 use Rattle.jx_claim.proofs.claims.Claims.draw.Goals as goal
-
-abbrev bit : Bool → ℕ
-bit b = cond b 1 0
 
 low : (c : goal.Then-found-from) → c.take-found.result < c.args.self.now.pieces
 low c = omega (arith, c.if-found-from.true, c.from.ensures, ap (λ (v : ClaimsValue). v.pieces) c.self.view_is)
@@ -21,6 +19,10 @@ got c = got_piece c.args.self.now.pieces c.take-found.result c.seat.inside.seat.
 -- the view after a draw that found none
 none : (c : goal.After-seat-1) → c.take-found.new.seat.me.0 ≡ view c.seat.inside.seat.me.0.seats c.seat.inside.seat.me.0.got (c.seat.inside.seat.me.0.nones + 1)
 none c = got_none c.args.self.now.pieces c.take-found.result c.seat.inside.seat.me.0 c.take-found.new.seat.me.0 (past c) c.take-found.ensures.draw
+
+-- what holds of all numbers that the view got holds of those that the seat shows
+seen : {word : ℕ} {xs ys : List ℕ} → All (λ n. n < word) xs → xs ≡ ys → All (λ n. n < word) ys
+seen {word} h e = subst (λ (l : List ℕ). All (λ n. n < word) l) e h
 
 pub invariant_of-seat : goal.invariant_of-seat
 invariant_of-seat c = (
@@ -44,10 +46,10 @@ returns-then-found-from-clause-drew c = (
 )
 
 pub returns-then-found-from-clause-undrawn : goal.returns-then-found-from-clause-undrawn
-returns-then-found-from-clause-undrawn c = (c.take-found.result, (refl, first_drawn c.take-found.result c.args.self.now.pieces (low c)))
+returns-then-found-from-clause-undrawn c = (c.take-found.result, seen c.take-found.ensures.below (ap (λ (v : SeatValue). v.got) c.seat.view_is), (refl, first_drawn c.take-found.result c.args.self.now.pieces (low c)))
 
 pub returns-else-found-from-clause-drew : goal.returns-else-found-from-clause-drew
 returns-else-found-from-clause-drew c = (ap (λ (v : View). v.got) (none c) ∙ ap (λ (v : SeatValue). v.got) c.seat.view_is, refl)
 
 pub returns-else-found-from-clause-undrawn : goal.returns-else-found-from-clause-undrawn
-returns-else-found-from-clause-undrawn c = (c.take-found.result, none_undrawn c.take-found.result c.args.self.now.pieces (past c))
+returns-else-found-from-clause-undrawn c = (c.take-found.result, seen c.take-found.ensures.below (ap (λ (v : SeatValue). v.got) c.seat.view_is), none_undrawn c.take-found.result c.args.self.now.pieces (past c))

@@ -1,6 +1,6 @@
 use Rattle.std.proofs.Common.{◌≡◌, ℕ, suc, ◌+◌, ◌≤◌, List, Option, length, sym, ap, subst, arith}
 use Rattle.jx_index.specs.declared.row.Row.{Row}
-use Rattle.jx_index.specs.Repeats.{IsRepeatFrom}
+use Rattle.jx_index.specs.inside.Ties.{IsRepeatFrom}
 use Rattle.jx_index.proofs.Ties.{Leads, at_first, at_last, object_step, no_more_objects, from_any}
 use Rattle.jx_index.proofs.indexed.Indexed.repeated.Goals as goal
 

@@ -1,4 +1,4 @@
-use Rattle.jx_index.specs.Repeats.{IsRepeatFrom}
+use Rattle.jx_index.specs.inside.Ties.{IsRepeatFrom}
 use Rattle.jx_index.proofs.Ties.{Leads}
 use Rattle.jx_index.proofs.indexed.Indexed.repeated.Given as goal
 

@@ -1,4 +1,4 @@
-use Rattle.std.proofs.Common.{◌≡◌, false, replicate, List, refl, subst}
+use Rattle.std.proofs.Common.{false, replicate, List, refl, subst}
 use Rattle.std.proofs.lemmas.List.{take_all}
 use Rattle.jx_lex.specs.inside.Bundle.{AllLive}
 use Rattle.jx_lex.specs.Follow.{SegmentValue}

@@ -19,6 +19,6 @@ returns-then-may_lead_alike-clause-back c = λ yes.
     let w = slice_range c.args.text.now c.args.from c.args.to in
     let p = c.args.first.now in
     let q = c.args.second.now in (
-      rw (c.go_back.ensures, c.in_ok-read_span.ensures, c.marks.ensures, c.ends.ensures, c.next-next.ensures) (cut-back c.args.from w p),
-      rw (c.go_back-then-may_lead_alike.ensures, c.in_ok-read_span-2.ensures, c.marks-2.ensures, c.ends-2.ensures, c.next-other.ensures) (cut-back c.args.from w q),
+      rw (c.go_back.ensures, c.in_ok-read_span.ensures, c.marks-marks.ensures, c.ends-ends.ensures, c.next-next.ensures) (cut-back c.args.from w p),
+      rw (c.go_back-then-may_lead_alike.ensures, c.in_ok-read_span-2.ensures, c.marks-others.ensures, c.ends-other_ends.ensures, c.next-other.ensures) (cut-back c.args.from w q),
     )

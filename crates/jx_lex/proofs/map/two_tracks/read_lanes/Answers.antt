@@ -11,5 +11,5 @@ no_segments (p ∷ ps) e = absurd (omega (arith, e))
 pub returns-in_default-pop : goal.returns-in_default-pop
 returns-in_default-pop c =
     let none : c.pop-2.new.self.items ≡ [] = no_segments c.pop-2.new.self.items (let n = c.in_default-pop.ensures.cases in omega (arith, n)) in
-    rw (c.in-Some.ensures.items, c.in_default-pop.ensures.items, c.in_ok-push.ensures.items, none, c.in_ok-read_span.ensures)
+    rw (c.in-Some.ensures.items, c.in_default-pop.ensures.items, c.in_ok-push.ensures.items, none, c.into_segment.ensures, c.in_ok-read_span.ensures, c.in_ok-only.ensures)
     (reads-one c.args.from (slice_range c.args.text.now c.args.from c.args.to) c.in-Some.second)

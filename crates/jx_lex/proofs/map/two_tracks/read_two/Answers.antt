@@ -11,7 +11,7 @@ returns-in-Some c =
 pub returns : goal.returns
 returns c =
     let b = c.in_ok-i.ensures.bounds in
-    rw (c.in_ok-push-2.ensures.items, c.in_ok-push.ensures.items, c.requires.none, c.in_ok-read_span.ensures, c.in_ok-read_span-2.ensures)
+    rw (c.in_ok-push-2.ensures.items, c.in_ok-push.ensures.items, c.requires.none, c.into_segment.ensures, c.into_segment-2.ensures, c.in_ok-read_span.ensures, c.in_ok-read_span-2.ensures)
     (reads-slices c.args.text.now c.args.from c.in_ok-i.i c.args.to (c.args.first ∷ c.args.second ∷ []) (c.read_stretches.new.first ∷ c.read_stretches.new.second ∷ []) _
     b.0 b.1 c.requires.bounds.1 c.in_ok-i.ensures.read
     (reads-rest c.args.text.now c.in_ok-i.i c.args.to c.read_stretches.new.first c.read_stretches.new.second b.1 c.requires.bounds.1 c.in_ok-i.ensures.done

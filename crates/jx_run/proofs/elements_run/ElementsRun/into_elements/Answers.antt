@@ -1,7 +1,8 @@
 use Rattle.std.proofs.Common.{◌≡◌, sym, subst, ap, ◌∙◌}
 use Rattle.std.specs.List.{AllZip}
 use Rattle.jx_run.specs.Elements.{after_separators, elements, filled}
-use Rattle.jx_run.specs.ElementsRun.{ElementsRunValue, IsSummaryOf}
+use Rattle.jx_run.specs.ElementsRun.{ElementsRunValue}
+use Rattle.jx_run.specs.inside.MarkedElements.{IsSummaryOf}
 use Rattle.jx_run.specs.ElementVerdict.{IsJudgedElement}
 use Rattle.jx_run.proofs.ElementSteps.{unmarked_rest, marked_rest, with_first, without_first}
 use Rattle.jx_run.proofs.elements_run.ElementsRun.into_elements.Goals.{in-None, in-Some+in_ok-elements-in-Some, then-span+in_ok-insert, else-span}

@@ -1,6 +1,7 @@
 use Rattle.std.proofs.Common.{◌≡◌, ℕ, ◌+◌, ◌^◌, ◌<◌, length, Option, sym, ap, subst, ◌∙◌, arith}
 use Rattle.jx_run.specs.Elements.{after_separators}
-use Rattle.jx_run.specs.ElementsRun.{ElementsRunValue, MarkedElementsValue, IsElementsRun, IsSummaryOf, AreMarked}
+use Rattle.jx_run.specs.ElementsRun.{ElementsRunValue, MarkedElementsValue, IsElementsRun}
+use Rattle.jx_run.specs.inside.MarkedElements.{IsSummaryOf, AreMarked}
 use Rattle.jx_run.proofs.ElementShifts.{marked_shifts, plain_shifts, run_ends, before_ends}
 use Rattle.jx_run.proofs.elements_run.ElementsRun.shifted.Goals as goal
 

@@ -15,14 +15,17 @@ returns-in-Going c = record {
       (sym (ap outcome_on c.in-Going.is) ∙ ap (λ (v : ReaderValue). v.outcome) c.self.view_is)
       (c.verdict_from.ensures ∙ ap (λ (n : ℕ). verdict_from (exit.State c.in-Going.state) (whole.Went c.in-Going.expect n)) standing)
       h;
+  failed = search rules;
 }
 
 pub returns-in-Stopped : goal.returns-in-Stopped
 returns-in-Stopped c = record {
   verdict = λ bytes h. judged_stopped c.reader_is_grammar.ensures.verdict c.args.self.now c.in-Stopped.at _ bytes (sym (ap outcome_on c.in-Stopped.is) ∙ ap (λ (v : ReaderValue). v.outcome) c.self.view_is) refl h;
+  failed = search rules;
 }
 
 pub returns-in-TooDeep : goal.returns-in-TooDeep
 returns-in-TooDeep c = record {
   verdict = λ bytes h. judged_too_deep c.reader_is_grammar.ensures.verdict c.args.self.now c.in-TooDeep.at _ bytes (sym (ap outcome_on c.in-TooDeep.is) ∙ ap (λ (v : ReaderValue). v.outcome) c.self.view_is) refl h;
+  failed = search rules;
 }

@@ -1,0 +1,52 @@
+"""Whether bytes are a JSON text (RFC 8259), at which byte they stop being one, and where JSON Pointers (RFC 6901) lead.
+
+No call makes a tree of values or copies the data. Other threads run during a call.
+"""
+from ._elements import Element, elements
+from ._faults import (
+    AfterLast,
+    BadPointer,
+    Kind,
+    NameRepeated,
+    NoSuchMember,
+    NotAContainer,
+    NotAnIndex,
+    NotFound,
+    PastEnd,
+    Refused,
+    Verdict,
+)
+from ._find import get, get_all, loads
+from ._index import Index, Row, Value, ValueKind
+from ._library import DEPTH_DEFAULT, DEPTH_MAX, version
+from ._texts import Reader, check, check_file, verdict
+
+__version__ = version()
+__all__ = [
+    "AfterLast",
+    "BadPointer",
+    "DEPTH_DEFAULT",
+    "DEPTH_MAX",
+    "Element",
+    "Index",
+    "Kind",
+    "NameRepeated",
+    "NoSuchMember",
+    "NotAContainer",
+    "NotAnIndex",
+    "NotFound",
+    "PastEnd",
+    "Reader",
+    "Refused",
+    "Row",
+    "Value",
+    "ValueKind",
+    "Verdict",
+    "check",
+    "check_file",
+    "elements",
+    "get",
+    "get_all",
+    "loads",
+    "verdict",
+]

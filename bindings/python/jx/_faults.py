@@ -1,0 +1,146 @@
+"""Verdicts, and the exceptions that tell them."""
+from __future__ import annotations
+
+import dataclasses
+import enum
+from typing import Any, Optional
+
+from . import _library
+
+_STEP = 1 << 20
+_CONTINUATIONS = bytes(range(0x80, 0xC0))
+
+
+class Kind(enum.IntEnum):
+    """What reading bytes as a JSON text (RFC 8259), or as an element of a sequence (RFC 7464), comes to."""
+
+    ACCEPTED = 0
+    STOPPED = 1
+    TRUNCATED = 2
+    TOO_DEEP = 3
+    MAY_BE_CUT = 4
+    UNMARKED = 5
+    REPEATED_NAME = 6
+
+
+_MESSAGES = {
+    Kind.ACCEPTED: "Accepted",
+    Kind.STOPPED: "No JSON text has this byte here",
+    Kind.TRUNCATED: "The text ends too early",
+    Kind.TOO_DEEP: "More containers are open than depth allows",
+    Kind.MAY_BE_CUT: "The element may be cut",
+    Kind.UNMARKED: "The element has no record separator in front",
+    Kind.REPEATED_NAME: "An earlier member of the object has this name",
+}
+
+
+@dataclasses.dataclass(frozen=True)
+class Verdict:
+    """A kind, and the offset of the byte it is about: of the fault, of the repeated name, or 0 where the kind has none."""
+
+    kind: Kind
+    offset: int
+
+    @property
+    def is_accepted(self) -> bool:
+        return self.kind is Kind.ACCEPTED
+
+    @classmethod
+    def _of(cls, verdict: _library.CVerdict) -> Verdict:
+        return cls(Kind(verdict.kind), verdict.offset)
+
+
+class Refused(ValueError):
+    """The bytes are not a text that is accepted.
+
+    `offset` counts bytes from 0. `lineno` and `colno` count lines and characters from 1, as `json.JSONDecodeError` does; both
+    are None where the bytes in front are gone. A text that ends too early has the offset of its end.
+    """
+
+    def __init__(self, verdict: Verdict, offset: Optional[int], place: Optional[tuple[int, int]]):
+        self.verdict = verdict
+        self.kind = verdict.kind
+        self.offset = offset
+        self.msg = _MESSAGES[verdict.kind]
+        self.lineno, self.colno = place or (None, None)
+        where = "" if place is None else "line %d column %d " % place
+        end = "" if offset is None else "(byte %d)" % offset
+        super().__init__((self.msg + ": " + where + end).rstrip(": "))
+
+    def __reduce__(self) -> Any:
+        place = None if self.lineno is None else (self.lineno, self.colno)
+        return type(self), (self.verdict, self.offset, place)
+
+
+class Place:
+    """Counts lines and characters over bytes that come in parts."""
+
+    def __init__(self) -> None:
+        self.lineno, self.colno = 1, 1
+
+    def go_over(self, part: bytes) -> None:
+        newlines = part.count(b"\n")
+        if newlines:
+            self.lineno += newlines
+            self.colno = 1
+            part = part[part.rindex(b"\n") + 1 :]
+        # One of each character's bytes is no continuation.
+        self.colno += len(part.translate(None, _CONTINUATIONS))
+
+    def told(self) -> tuple[int, int]:
+        return self.lineno, self.colno
+
+
+def place_in(data: memoryview, offset: int) -> tuple[int, int]:
+    """The line and the column of an offset, both from 1. Copies a MiB at a time."""
+    place = Place()
+    for start in range(0, offset, _STEP):
+        place.go_over(bytes(data[start : min(start + _STEP, offset)]))
+    return place.told()
+
+
+def refused_in(data: memoryview, verdict: Verdict) -> Refused:
+    offset = len(data) if verdict.kind is Kind.TRUNCATED else verdict.offset
+    return Refused(verdict, offset, place_in(data, offset))
+
+
+class BadPointer(ValueError):
+    """The words are no JSON Pointer (RFC 6901, section 3)."""
+
+
+class NotFound(LookupError):
+    """The pointer leads to no value of the text. `token` counts the pointer's tokens from 0."""
+
+    why = ""
+
+    def __init__(self, pointer: str, token: int):
+        super().__init__(pointer, token)
+        self.pointer = pointer
+        self.token = token
+
+    def __str__(self) -> str:
+        return "%s: token %d %s" % (self.pointer, self.token, self.why)
+
+
+class NoSuchMember(NotFound, KeyError):
+    why = "is the name of no member of the object"
+
+
+class NameRepeated(NotFound, KeyError):
+    why = "is the name of two or more members of the object"
+
+
+class NotAContainer(NotFound, KeyError):
+    why = "would lead on from a value that is neither an object nor an array"
+
+
+class NotAnIndex(NotFound, IndexError):
+    why = "is no number of an array's element"
+
+
+class PastEnd(NotFound, IndexError):
+    why = "is not below the count of the array's elements"
+
+
+class AfterLast(NotFound, IndexError):
+    why = "names what would stand after the array's last element"

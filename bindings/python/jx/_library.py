@@ -1,0 +1,180 @@
+"""The C library: its structs, its calls, and the bytes of any buffer without a copy."""
+from __future__ import annotations
+
+import contextlib
+import ctypes
+import enum
+import os
+import pathlib
+from typing import Any, Iterator
+
+DEPTH_DEFAULT = 512
+DEPTH_MAX = 65535
+IGNORE_BOM = 1
+UNIQUE_NAMES = 2
+# `parent` of the row of the root.
+NO_ROW = ctypes.c_size_t(-1).value
+
+
+class Status(enum.IntEnum):
+    OK = 0
+    NO_MEMORY = 1
+    DEPTH_TOO_GREAT = 2
+    NOT_STARTED = 3
+    TOO_MANY_BYTES = 4
+    UNKNOWN_FLAG = 5
+    NO_UNIQUE_NAMES = 6
+
+
+class CSettings(ctypes.Structure):
+    _fields_ = [("depth", ctypes.c_uint32), ("flags", ctypes.c_uint32)]
+
+
+class CVerdict(ctypes.Structure):
+    _fields_ = [("offset", ctypes.c_size_t), ("kind", ctypes.c_uint32)]
+
+
+class CReader(ctypes.Structure):
+    _fields_ = [("words", ctypes.c_uint64 * 1031)]
+
+
+class CSpan(ctypes.Structure):
+    _fields_ = [("start", ctypes.c_size_t), ("end", ctypes.c_size_t)]
+
+
+class CAnswer(ctypes.Structure):
+    _fields_ = [("span", CSpan), ("at", ctypes.c_size_t), ("outcome", ctypes.c_uint32), ("kind", ctypes.c_uint32)]
+
+
+class CRow(ctypes.Structure):
+    _fields_ = [
+        ("span", CSpan),
+        ("name", CSpan),
+        ("parent", ctypes.c_size_t),
+        ("place", ctypes.c_size_t),
+        ("kind", ctypes.c_uint32),
+    ]
+
+
+class CElement(ctypes.Structure):
+    _fields_ = [("span", CSpan), ("verdict", CVerdict)]
+
+
+_POINTER = ctypes.c_void_p
+_SIZE = ctypes.c_size_t
+_CALLS: dict[str, list[Any]] = {
+    "jx_check_with": [_POINTER, _SIZE, _POINTER, _POINTER],
+    "jx_reader_start_with": [_POINTER, _POINTER],
+    "jx_reader_feed": [_POINTER, _POINTER, _SIZE],
+    "jx_reader_verdict": [_POINTER, _POINTER],
+    "jx_at_with": [_POINTER, _SIZE, _POINTER, _SIZE, _POINTER, _POINTER],
+    "jx_rows_with": [_POINTER, _SIZE, _POINTER, _POINTER, _SIZE, _POINTER, _POINTER],
+    "jx_elements_with": [_POINTER, _SIZE, _POINTER, _POINTER, _SIZE, _POINTER],
+    "jx_version": [],
+}
+
+
+def _places() -> Iterator[str]:
+    """Where the shared library may be, best first."""
+    named = os.environ.get("JX_LIBRARY")
+    if named:
+        yield named
+        return
+    here = pathlib.Path(__file__).resolve()
+    yield str(here.parent / "libjx.so.0")
+    if len(here.parents) > 3:
+        yield str(here.parents[3] / "crates" / "jx_c" / "out" / "libjx.so.0")
+    yield "libjx.so.0"
+
+
+def _load() -> ctypes.CDLL:
+    faults = []
+    for place in _places():
+        try:
+            # CDLL, and not PyDLL: other threads of Python run during a call.
+            library = ctypes.CDLL(place)
+            break
+        except OSError as fault:
+            faults.append(str(fault))
+    else:
+        raise ImportError("jx: libjx.so.0 is not found; build it with tools/library or set JX_LIBRARY: " + "; ".join(faults))
+    for name, arguments in _CALLS.items():
+        call = getattr(library, name)
+        call.argtypes = arguments
+        call.restype = ctypes.c_uint32
+    return library
+
+
+LIBRARY = _load()
+
+
+def version() -> str:
+    number = LIBRARY.jx_version()
+    return "%d.%d.%d" % (number // 10000, number // 100 % 100, number % 100)
+
+
+def settings(depth: int, ignore_bom: bool, unique_names: bool) -> CSettings:
+    if isinstance(depth, bool) or not isinstance(depth, int):
+        raise TypeError("depth is an int, not " + type(depth).__name__)
+    if not 0 <= depth <= DEPTH_MAX:
+        raise ValueError("depth is from 0 to %d, not %d" % (DEPTH_MAX, depth))
+    return CSettings(depth, (IGNORE_BOM if ignore_bom else 0) | (UNIQUE_NAMES if unique_names else 0))
+
+
+def done(status: int) -> None:
+    """Raises what a status stands for. The callers have ruled out all others but these."""
+    if status == Status.NO_MEMORY:
+        raise MemoryError("jx: out of memory")
+    if status == Status.TOO_MANY_BYTES:
+        raise OverflowError("jx: a reader takes fewer than 2**64 bytes")
+    if status != Status.OK:
+        raise SystemError("jx: status %s" % Status(status).name)
+
+
+class _PyBuffer(ctypes.Structure):
+    """The interpreter's `Py_buffer`, part of its stable interface."""
+
+    _fields_ = [
+        ("buf", ctypes.c_void_p),
+        ("obj", ctypes.py_object),
+        ("len", ctypes.c_ssize_t),
+        ("itemsize", ctypes.c_ssize_t),
+        ("readonly", ctypes.c_int),
+        ("ndim", ctypes.c_int),
+        ("format", ctypes.c_char_p),
+        ("shape", ctypes.c_void_p),
+        ("strides", ctypes.c_void_p),
+        ("suboffsets", ctypes.c_void_p),
+        ("internal", ctypes.c_void_p),
+    ]
+
+
+_get_buffer = ctypes.pythonapi.PyObject_GetBuffer
+_get_buffer.argtypes = [ctypes.py_object, ctypes.c_void_p, ctypes.c_int]
+_get_buffer.restype = ctypes.c_int
+_release_buffer = ctypes.pythonapi.PyBuffer_Release
+_release_buffer.argtypes = [ctypes.c_void_p]
+_release_buffer.restype = None
+_SIMPLE = 0
+# The library takes no null pointer, also where there are no bytes.
+_NO_BYTES = ctypes.create_string_buffer(1)
+
+
+@contextlib.contextmanager
+def held(data: Any) -> Iterator[tuple[int, int]]:
+    """The address and size of a buffer's bytes. While they are held, the object refuses to be resized or closed."""
+    if isinstance(data, str):
+        raise TypeError("jx reads bytes, and this is a str: pass data.encode()")
+    buffer = _PyBuffer()
+    _get_buffer(data, ctypes.byref(buffer), _SIMPLE)
+    try:
+        yield buffer.buf or ctypes.addressof(_NO_BYTES), buffer.len
+    finally:
+        _release_buffer(ctypes.byref(buffer))
+
+
+def view(data: Any) -> memoryview:
+    """The bytes of a buffer, without a copy."""
+    if isinstance(data, str):
+        raise TypeError("jx reads bytes, and this is a str: pass data.encode()")
+    return memoryview(data).cast("B")

@@ -1,0 +1,173 @@
+"""Verdicts on whole texts and on texts that come in parts."""
+import io
+import json
+import mmap
+import os
+import pathlib
+import re
+import tempfile
+import threading
+import unittest
+
+import jx
+
+TABLE = pathlib.Path(__file__).resolve().parents[3] / "tests" / "verdicts"
+BUFFERS = (bytes, bytearray, memoryview, lambda data: memoryview(bytearray(b"x" + data))[1:])
+
+
+def lines():
+    """The rows of the table of verdicts: kind, offset, depth, text."""
+    for line in TABLE.read_bytes().splitlines():
+        if line and not line.startswith(b"#"):
+            kind, offset, depth, text = (line + b" ").split(b" ", 3)
+            text = re.sub(rb"\\x(..)", lambda found: bytes.fromhex(found[1].decode()), text[:-1])
+            yield jx.Kind[kind.decode().upper()], int(offset), int(depth), text
+
+
+class Table(unittest.TestCase):
+    def test_every_verdict_of_the_table_in_every_buffer(self):
+        rows = list(lines())
+        self.assertGreater(len(rows), 35)
+        for kind, offset, depth, text in rows:
+            for buffer in BUFFERS:
+                self.assertEqual(jx.verdict(buffer(text), depth=depth), jx.Verdict(kind, offset), text)
+
+    def test_every_verdict_of_the_table_by_a_reader(self):
+        for kind, offset, depth, text in lines():
+            for size in (1, 2, 3, 1000):
+                reader = jx.Reader(depth=depth)
+                for start in range(0, len(text), size):
+                    reader.feed(text[start : start + size])
+                self.assertEqual(reader.verdict(), jx.Verdict(kind, offset), text)
+
+    def test_check_raises_where_the_verdict_refuses(self):
+        for kind, offset, depth, text in lines():
+            if kind is jx.Kind.ACCEPTED:
+                self.assertIsNone(jx.check(text, depth=depth))
+                continue
+            with self.assertRaises(jx.Refused) as caught:
+                jx.check(text, depth=depth)
+            self.assertIs(caught.exception.kind, kind)
+            self.assertEqual(caught.exception.offset, len(text) if kind is jx.Kind.TRUNCATED else offset)
+
+
+class Places(unittest.TestCase):
+    def test_lines_and_columns_are_those_of_the_json_module(self):
+        for text in ('{"a": 1,\n "b": x}', "[1,\n2,\n\n3 4]", '["é𝄞", x]', '{"a"\n\n:1]', "[1 2"):
+            with self.assertRaises(json.JSONDecodeError) as theirs:
+                json.loads(text)
+            with self.assertRaises(jx.Refused) as ours:
+                jx.check(text.encode())
+            wanted = (theirs.exception.lineno, theirs.exception.colno)
+            self.assertEqual((ours.exception.lineno, ours.exception.colno), wanted, text)
+
+    def test_a_refusal_is_a_value_error_with_a_sentence(self):
+        with self.assertRaises(ValueError) as caught:
+            jx.check(b"nulx")
+        self.assertEqual(str(caught.exception), "No JSON text has this byte here: line 1 column 4 (byte 3)")
+        self.assertEqual(caught.exception.msg, "No JSON text has this byte here")
+
+
+class Settings(unittest.TestCase):
+    def test_a_byte_order_mark_is_ignored_if_asked(self):
+        text = b"\xef\xbb\xbfnull"
+        self.assertEqual(jx.verdict(text), jx.Verdict(jx.Kind.STOPPED, 0))
+        self.assertTrue(jx.verdict(text, ignore_bom=True).is_accepted)
+        reader = jx.Reader(ignore_bom=True)
+        for byte in text:
+            reader.feed(bytes([byte]))
+        reader.check()
+
+    def test_a_repeated_name_is_refused_if_asked(self):
+        text = b'{"a":1,"\\u0061":2}'
+        self.assertTrue(jx.verdict(text).is_accepted)
+        self.assertEqual(jx.verdict(text, unique_names=True), jx.Verdict(jx.Kind.REPEATED_NAME, 7))
+
+    def test_wrong_depths_are_refused(self):
+        for depth, fault in ((-1, ValueError), (65536, ValueError), (2**40, ValueError), (1.5, TypeError), (None, TypeError)):
+            with self.assertRaises(fault):
+                jx.check(b"1", depth=depth)
+
+
+class Inputs(unittest.TestCase):
+    def test_a_str_is_refused_with_what_to_do(self):
+        for call in (jx.check, jx.verdict, jx.elements, jx.Index, lambda data: jx.get(data, ""), jx.Reader().feed):
+            with self.assertRaisesRegex(TypeError, "encode"):
+                call("null")
+
+    def test_what_is_no_buffer_is_refused(self):
+        for data in (1, None, [], object()):
+            with self.assertRaises(TypeError):
+                jx.check(data)
+        with self.assertRaises(BufferError):
+            jx.check(memoryview(b"1 2 3 ")[::2])
+
+    def test_an_empty_buffer_is_truncated(self):
+        for buffer in (bytes, bytearray, memoryview):
+            self.assertEqual(jx.verdict(buffer(b"")).kind, jx.Kind.TRUNCATED)
+
+    def test_a_map_of_a_file_and_a_closed_one(self):
+        with tempfile.TemporaryFile() as file:
+            file.write(b"[1,2]")
+            file.flush()
+            mapped = mmap.mmap(file.fileno(), 0, access=mmap.ACCESS_READ)
+            jx.check(mapped)
+            mapped.close()
+            with self.assertRaises(ValueError):
+                jx.check(mapped)
+
+    def test_a_buffer_is_let_go_after_a_call(self):
+        data = bytearray(b"[1]")
+        jx.check(data)
+        data += b" "
+        jx.check(data)
+        with self.assertRaises(jx.Refused):
+            jx.check(data[:2])
+
+
+class Files(unittest.TestCase):
+    def test_a_file_by_path_and_open(self):
+        with tempfile.TemporaryDirectory() as folder:
+            path = os.path.join(folder, "a.json")
+            pathlib.Path(path).write_bytes(b"[" + b"1,\n" * 1_000_000 + b"x]")
+            for file in (path, pathlib.Path(path), path.encode()):
+                with self.assertRaises(jx.Refused) as caught:
+                    jx.check_file(file)
+                self.assertEqual((caught.exception.offset, caught.exception.lineno, caught.exception.colno), (3_000_001, 1_000_001, 1))
+            with open(path, "rb") as file:
+                file.seek(1)
+                with self.assertRaises(jx.Refused) as caught:
+                    jx.check_file(file)
+                self.assertEqual((caught.exception.offset, caught.exception.lineno), (1, 1))
+            with self.assertRaises(FileNotFoundError):
+                jx.check_file(path + ".none")
+
+    def test_a_pipe_has_no_lines(self):
+        ends = os.pipe()
+        with os.fdopen(ends[1], "wb") as file:
+            file.write(b"[1 2]")
+        with os.fdopen(ends[0], "rb") as file, self.assertRaises(jx.Refused) as caught:
+            jx.check_file(file)
+        self.assertEqual((caught.exception.offset, caught.exception.lineno), (3, None))
+
+    def test_a_file_of_words_is_refused(self):
+        with self.assertRaisesRegex(TypeError, "rb"):
+            jx.check_file(io.StringIO("[1]"))
+
+
+class Threads(unittest.TestCase):
+    def test_a_hundred_threads_at_once(self):
+        text = b"[" + b'{"a":[1,2,3]},' * 2000 + b"x]"
+        offset, wrong = len(text) - 2, []
+
+        def work():
+            for _ in range(5):
+                if jx.verdict(text) != jx.Verdict(jx.Kind.STOPPED, offset):
+                    wrong.append(1)
+
+        threads = [threading.Thread(target=work) for _ in range(100)]
+        for thread in threads:
+            thread.start()
+        for thread in threads:
+            thread.join()
+        self.assertEqual(wrong, [])

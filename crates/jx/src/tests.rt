@@ -1,3 +1,0 @@
-// Input from a file, and the words of faults.
-mod faults;
-mod files;

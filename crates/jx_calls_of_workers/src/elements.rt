@@ -1,0 +1,42 @@
+// What is answered on elements, in words.
+use jx_answer::{Element, ElementAnswer};
+use jx_lines::push_element;
+use jx_run::{ElementVerdict, JudgedElement};
+use std::alloc::{AllocError, Global};
+
+/// The verdict that an answer has, without the index.
+fn verdict_of(answer: &ElementAnswer) -> ElementVerdict {
+    match answer {
+        ElementAnswer::Accepted(_) => ElementVerdict::Accepted,
+        ElementAnswer::Refused(refusal) => ElementVerdict::Refused(*refusal),
+        ElementAnswer::MayBeCut => ElementVerdict::MayBeCut,
+        ElementAnswer::Unmarked => ElementVerdict::Unmarked,
+    }
+}
+
+/// Each element and its verdict, or `-` where there is none.
+pub fn told_of(alloc: Global, elements: &[JudgedElement]) -> Result<String, AllocError> {
+    if elements.is_empty() {
+        return String::from_str(alloc, "-");
+    }
+    let mut told = String::new(alloc);
+    for (number, element) in elements.iter().enumerate() {
+        if number > 0 {
+            told.push_str("; ")?;
+        }
+        push_element(&mut told, element)?;
+    }
+    Ok(told)
+}
+
+/// The same of elements with their indexes.
+pub fn told_of_answers(alloc: Global, elements: &[Element]) -> Result<String, AllocError> {
+    let mut judged = Vec::new(alloc);
+    for element in elements {
+        judged.push(JudgedElement {
+            span: element.span,
+            verdict: verdict_of(&element.answer),
+        })?;
+    }
+    told_of(alloc, &judged)
+}

@@ -1,0 +1,72 @@
+// What pointers come to in an index, in words.
+use jx_answer::Answer;
+use jx_index::{FindFault, Indexed, NodeId};
+use jx_lex::{Kind, Span};
+use jx_lines::push_span;
+use std::alloc::{AllocError, Global};
+
+fn kind_word(kind: Kind) -> &'static str {
+    match kind {
+        Kind::Object => "object",
+        Kind::Array => "array",
+        Kind::String => "string",
+        Kind::Number => "number",
+        Kind::True => "true",
+        Kind::False => "false",
+        Kind::Null => "null",
+    }
+}
+
+/// Whether the node's row has this kind and this span.
+fn is_row_of(index: &Indexed, node: NodeId, kind: Kind, span: Span) -> bool {
+    match index.rows().get(node.number()) {
+        Some(row) => row.kind == kind && row.span == span,
+        None => false,
+    }
+}
+
+/// The node that a pointer leads to, in the words of what is answered on it.
+pub fn found_at(index: &Indexed, node: Result<NodeId, FindFault>) -> Answer {
+    match node {
+        Ok(node) => match index.rows().get(node.number()) {
+            Some(row) => Answer::Found {
+                node,
+                kind: row.kind,
+                span: row.span,
+            },
+            None => Answer::Fault(FindFault::NotAContainer { token: 0 }),
+        },
+        Err(fault) => Answer::Fault(fault),
+    }
+}
+
+/// `found KIND S..E`, or why the pointer leads nowhere.
+fn push_found(out: &mut String, index: &Indexed, answer: &Answer) -> Result<(), AllocError> {
+    match answer {
+        Answer::Found { node, kind, span } => {
+            if !is_row_of(index, *node, *kind, *span) {
+                out.push_str("another row: ")?;
+            }
+            out.push_str("found ")?;
+            out.push_str(kind_word(*kind))?;
+            out.push_str(" ")?;
+            push_span(out, *span)
+        }
+        Answer::Fault(fault) => write!(out, "{fault}"),
+    }
+}
+
+/// The answers, or `-` where there is none.
+pub fn told_of(alloc: Global, index: &Indexed, answers: &[Answer]) -> Result<String, AllocError> {
+    if answers.is_empty() {
+        return String::from_str(alloc, "-");
+    }
+    let mut told = String::new(alloc);
+    for (number, answer) in answers.iter().enumerate() {
+        if number > 0 {
+            told.push_str("; ")?;
+        }
+        push_found(&mut told, index, answer)?;
+    }
+    Ok(told)
+}

@@ -1,0 +1,50 @@
+// What the words name that is read.
+ghost use Rattle.std.specs.Prelude.{◌≡◌, count_by, map, nat_lt};
+ghost use Rattle.jx_command.specs.Inputs.{is_dash, AreInputsOf, IsInputOf};
+
+/// What one word names.
+#[derive(Clone, Copy, Debug, PartialEq, Eq)]
+pub enum Input<'a> {
+    /// Standard input.
+    Standard,
+    /// The file of this name.
+    File(&'a str),
+}
+
+/// What is read.
+#[derive(Debug, PartialEq, Drop)]
+pub enum Inputs<'a> {
+    /// One input, whose answer stands alone.
+    One(Input<'a>),
+    /// The inputs that two words or more name, in their order. The answer for each stands behind its word.
+    Several(Vec<&'a str>),
+}
+
+/// What a word names: standard input where it is `-`, and else the file of this name, also where it is empty.
+pub fn input_of<'a>(word: &'a str) -> Input<'a>
+    ensures { IsInputOf word.entry.now result }
+{
+    if word == "-" {
+        Input::Standard
+    } else {
+        Input::File(word)
+    }
+}
+
+/// What words name: standard input where there is none, what a word names that stands alone, and else all of them.
+pub fn inputs_of<'a>(words: Vec<&'a str>) -> Inputs<'a>
+    ensures { AreInputsOf (map (λ word. word.now) words.entry.items) result }
+{
+    match words.as_slice() {
+        [] => Inputs::One(Input::Standard),
+        [word] => Inputs::One(input_of(word)),
+        _ => Inputs::Several(words),
+    }
+}
+
+/// Whether more than one of the words is `-`: standard input can be read once.
+pub fn reads_standard_twice(words: &[&str]) -> bool
+    ensures { result ≡ nat_lt 1 (count_by (λ word. is_dash word.now) words.now) }
+{
+    words.iter().filter(|word| **word == "-").count() > 1
+}

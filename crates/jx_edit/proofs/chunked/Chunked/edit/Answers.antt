@@ -1,0 +1,13 @@
+use Rattle.std.proofs.Common.{arith, ap, length, subst, List}
+use Rattle.jx_edit.specs.inside.Chunks.{ChunkValue, ChunkedValue, IsMade}
+use Rattle.jx_edit.proofs.Links.{kept_edited}
+use Rattle.jx_edit.proofs.chunked.Chunked.edit.Goals as goal
+
+pub invariant_of-self-2 : goal.invariant_of-self-2
+invariant_of-self-2 c =
+    kept_edited c.self.inside.chunks.items c.in_ok-patch.patch.chunks.items c.replace.new.chunks.items c.self.inside.depth _ c.args.start c.args.end c.in_ok-patch.patch.first
+    c.in_ok-patch.patch.last c.args.replacement.now c.requires.order (omega (arith, c.requires.within, ap (λ (v : ChunkedValue). length v.bytes) c.self.view_is)) c.self.invariant.linked
+    c.in_ok-patch.ensures.fresh
+    (subst (λ (xs : List ChunkValue). IsMade c.args.start c.args.end c.args.replacement.now xs c.in_ok-patch.patch.first c.in_ok-patch.patch.last c.in_ok-patch.patch.chunks.items)
+    c.as_slice-chunks.ensures.value c.in_ok-patch.ensures.made)
+    c.in_ok-replace.ensures.ok (omega (arith, c.self.invariant.long)) (omega arith)

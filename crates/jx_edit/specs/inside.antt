@@ -1,0 +1,5 @@
+pub mod Chunks
+pub mod Fronts
+pub mod Leads
+pub mod Links
+pub mod Places

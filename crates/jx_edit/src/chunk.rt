@@ -1,0 +1,137 @@
+// Part of a document, with what reading it comes to.
+ghost use Rattle.std.specs.Prelude.{◌≡◌, ◌≤◌, ◌<◌, ◌++◌, List, ℕ, IfOk, length, true};
+ghost use Rattle.jx_edit.specs.inside.Chunks.{loose, text_of, AreFresh, IsFresh};
+ghost use Rattle.jx_edit.specs.inside.Leads.{reading_in, IsLedWithin};
+ghost use Rattle.jx_edit.specs.inside.Places.{read_on};
+
+use crate::led::{Led, follow_run};
+use crate::place::Place;
+use jx_lex::Depth;
+use jx_run::{OutcomeRun, Summary};
+use std::alloc::{AllocError, Global};
+use std::marker::Model;
+
+/// Bytes, and the run that is the summary of exactly these, as if they stood at the start of an input: so it stays as it
+/// is wherever they stand.
+#[derive(Drop)]
+pub(crate) struct Chunk {
+    bytes: Vec<u8>,
+    run: OutcomeRun,
+    // where it led when it was last followed
+    to: Place,
+    // whether it leads there from where the chunk before it leads
+    linked: bool,
+}
+
+impl Model for Chunk {
+    ghost use Rattle.std.specs.Prelude.{◌≡◌, ◌≤◌, length};
+    ghost use Rattle.jx_edit.specs.inside.Chunks.{ChunkValue};
+    ghost use Rattle.jx_run.specs.OutcomeRun.{IsOutcomeRun};
+
+    ghost Value = { ChunkValue };
+
+    ghost view = { λ c. record { depth = c.run.depth; bytes = c.bytes.items; to = c.to; linked = c.linked } };
+
+    ghost invariant = { λ c. (c.run.start ≡ 0) × IsOutcomeRun c.bytes.items c.run × (length c.to.holders ≤ c.run.depth) };
+}
+
+impl Chunk {
+    /// The chunk of these bytes.
+    pub(crate) fn of(alloc: Global, bytes: &[u8], depth: Depth) -> Result<Chunk, AllocError>
+        ensures fresh { IfOk result (IsFresh depth) }
+        ensures bytes { IfOk result (λ c. c.bytes ≡ bytes.now) }
+    {
+        let run = OutcomeRun::of(alloc, bytes, 0, bytes.len(), depth)?;
+        let bytes = Vec::from_slice(alloc, bytes)?;
+        Ok(Chunk {
+            bytes,
+            run,
+            to: Place::origin(alloc),
+            linked: false,
+        })
+    }
+
+    /// Its bytes.
+    pub(crate) fn bytes(&self) -> &[u8]
+        ensures { result.now ≡ self.now.bytes }
+    {
+        self.bytes.as_slice()
+    }
+
+    /// The place that it keeps.
+    pub(crate) fn place(&self) -> &Place
+        ensures place { result.now ≡ self.now.to }
+        ensures within { length result.now.holders ≤ self.now.depth }
+    {
+        &self.to
+    }
+
+    /// Whether it leads there from where the chunk before it leads.
+    pub(crate) fn is_linked(&self) -> bool
+        ensures { result ≡ self.now.linked }
+    {
+        self.linked
+    }
+
+    /// Where it leads from a place.
+    pub(crate) fn follow(&self, from: &Place) -> Result<Led, AllocError>
+        requires within { length from.now.holders ≤ self.now.depth }
+        ensures reads { IfOk result (λ led. reading_in led ≡ read_on self.now.depth from.now self.now.bytes) }
+        ensures within { IfOk result (IsLedWithin self.now.depth) }
+    {
+        let led = follow_run(from, &self.run)?;
+        Ok(led)
+    }
+
+    /// Links it to the place to which it leads, and tells whether it is the one that it kept.
+    pub(crate) fn link(&mut self, to: Place) -> bool
+        requires within { length to.holders ≤ self.old.depth }
+        ensures linked { self.new ≡ record { depth = self.old.depth; bytes = self.old.bytes; to = to; linked = true } }
+        ensures same { result ≡ true → to ≡ self.old.to }
+    {
+        let same = to.is_same(&self.to);
+        self.to = to;
+        self.linked = true;
+        same
+    }
+
+    /// Gives its link up.
+    pub(crate) fn unlink(&mut self)
+        ensures { self.new ≡ loose self.old }
+    {
+        self.linked = false;
+    }
+}
+
+/// The bytes of chunks, one behind another.
+#[tactic(auto, using(crate::proofs::Texts::text_more))]
+pub(crate) fn text_of(alloc: Global, chunks: &[Chunk]) -> Result<Vec<u8>, AllocError>
+    ensures { IfOk result (λ bytes. bytes.items ≡ text_of chunks.now) }
+{
+    let mut bytes = Vec::new(alloc);
+    for chunk in chunks {
+        bytes.extend_from_slice(chunk.bytes())?;
+    }
+    Ok(bytes)
+}
+
+/// The chunks of these bytes, none of them longer than `size`.
+pub(crate) fn chunks_of(
+    alloc: Global,
+    bytes: &[u8],
+    size: usize,
+    depth: Depth,
+) -> Result<Vec<Chunk>, AllocError>
+    requires { 0 < size }
+    ensures fresh { IfOk result (λ chunks. AreFresh depth chunks.items) }
+    ensures bytes { IfOk result (λ chunks. text_of chunks.items ≡ bytes.now) }
+{
+    let mut chunks = Vec::new(alloc);
+    let mut rest = bytes;
+    while !rest.is_empty() {
+        let (piece, behind) = rest.split_at(size.min(rest.len()));
+        chunks.push(Chunk::of(alloc, piece, depth)?)?;
+        rest = behind;
+    }
+    Ok(chunks)
+}

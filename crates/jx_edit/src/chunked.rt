@@ -1,0 +1,134 @@
+// A text in chunks.
+ghost use Rattle.std.specs.Prelude.{◌≡◌, ◌≤◌, ◌<◌, ◌+◌, ◌^◌, ℕ, [], Err, IfErr, IfOk, OnErr, OnOk, length, slice_range};
+ghost use Rattle.jx_edit.specs.Document.{edited};
+ghost use Rattle.jx_edit.specs.declared.edit_fault.EditFault.TheVariants.{Memory, OutOfBounds};
+ghost use Rattle.jx_run.specs.Verdict.{Judged};
+
+use crate::chunk::{Chunk, chunks_of};
+use crate::edit_fault::EditFault;
+use crate::patch::{patch_of, piece_for, replace};
+use crate::seam::between;
+use crate::walk::walk;
+use jx_lex::Depth;
+use jx_run::Verdict;
+use std::alloc::{AllocError, Global};
+use std::marker::Model;
+
+/// A text in chunks, each with the run over its bytes. An edit reads the chunks that it touches, and no other.
+#[derive(Drop)]
+pub(crate) struct Chunked {
+    alloc: Global,
+    depth: Depth,
+    len: usize,
+    chunks: Vec<Chunk>,
+}
+
+impl Model for Chunked {
+    ghost use Rattle.jx_edit.specs.inside.Chunks.{ChunkedValue, text_of};
+    ghost use Rattle.jx_edit.specs.inside.Links.{IsKept};
+
+    ghost Value = { ChunkedValue };
+
+    ghost view = { λ t. record { depth = t.depth; bytes = text_of t.chunks.items } };
+
+    ghost invariant = { λ t. IsKept t.depth t.len t.chunks.items };
+}
+
+/// How long the chunks are that an edit makes, where there are so many bytes. Twice the size is read in less than twice the
+/// time, and leaves half as many chunks to look at.
+const SIZE: usize = 16384;
+
+impl Chunked {
+    /// A text without a byte. It takes no memory.
+    pub(crate) fn new(alloc: Global, depth: Depth) -> Chunked
+        ensures depth { result.depth ≡ depth }
+        ensures bytes { result.bytes ≡ [] }
+    {
+        Chunked {
+            alloc,
+            depth,
+            len: 0,
+            chunks: Vec::new(alloc),
+        }
+    }
+
+    /// The text of these bytes. Only want of memory is refused.
+    pub(crate) fn of(alloc: Global, bytes: &[u8], depth: Depth) -> Result<Chunked, AllocError>
+        ensures depth { IfOk result (λ t. t.depth ≡ depth) }
+        ensures bytes { IfOk result (λ t. t.bytes ≡ bytes.now) }
+    {
+        let piece = piece_for(bytes.len(), SIZE);
+        let chunks = chunks_of(alloc, bytes, piece, depth)?;
+        Ok(Chunked {
+            alloc,
+            depth,
+            len: bytes.len(),
+            chunks,
+        })
+    }
+
+    /// Where its memory comes from.
+    pub(crate) fn allocator(&self) -> Global {
+        self.alloc
+    }
+
+    /// How many bytes it has.
+    pub(crate) fn len(&self) -> usize
+        ensures { result ≡ length self.now.bytes }
+    {
+        self.len
+    }
+
+    /// The verdict on its bytes as a whole text (RFC 8259, section 2) whose first byte has this offset. Only chunks that
+    /// may lead elsewhere than when they were last followed are followed.
+    pub(crate) fn verdict(&mut self, start: usize) -> Result<Verdict, AllocError>
+        requires fits { start + length self.old.bytes < 2 ^ 64 }
+        ensures same { self.new ≡ self.old }
+        ensures verdict { IfOk result (Judged start self.old.bytes self.old.depth) }
+    {
+        walk(self.alloc, self.depth, start, &mut self.chunks)
+    }
+
+    /// Puts other bytes in the place of those from `start` up to `end`. Where that is refused nothing changes.
+    pub(crate) fn edit(
+        &mut self,
+        start: usize,
+        end: usize,
+        replacement: &[u8],
+    ) -> Result<(), EditFault>
+        requires order { start ≤ end }
+        requires within { end ≤ length self.old.bytes }
+        ensures depth { self.new.depth ≡ self.old.depth }
+        ensures ok { OnOk result (self.new.bytes ≡ edited start end replacement.now self.old.bytes) }
+        ensures err { OnErr result (self.new ≡ self.old) }
+        ensures fault { IfErr result (λ fault. fault ≡ Memory) }
+    {
+        let kept = self.len - (end - start);
+        if usize::MAX - kept < replacement.len() {
+            return Err(EditFault::Memory);
+        }
+        let len = kept + replacement.len();
+        let chunks = self.chunks.as_slice();
+        let patch = patch_of(
+            self.alloc,
+            chunks,
+            start,
+            end,
+            replacement,
+            SIZE,
+            self.depth,
+        )?;
+        replace(&mut self.chunks, patch.first, patch.last, patch.chunks)?;
+        self.len = len;
+        Ok(())
+    }
+
+    /// A copy of the bytes from `start` up to `end`.
+    pub(crate) fn copy(&self, start: usize, end: usize) -> Result<Vec<u8>, AllocError>
+        requires order { start ≤ end }
+        requires within { end ≤ length self.now.bytes }
+        ensures { IfOk result (λ bytes. bytes.items ≡ slice_range self.now.bytes start end) }
+    {
+        between(self.alloc, &self.chunks, start, end)
+    }
+}

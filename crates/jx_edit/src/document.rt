@@ -1,0 +1,174 @@
+// A text that is edited.
+ghost use Rattle.std.specs.Prelude.{◌≡◌, ◌≤◌, ◌<◌, ◌+◌, ◌-◌, ◌^◌, [], Err, IfErr, IfOk, OnErr, OnOk, length, slice_range};
+ghost use Rattle.jx_edit.specs.Document.{edited};
+ghost use Rattle.jx_edit.specs.declared.edit_fault.EditFault.TheVariants as edit;
+ghost use Rattle.jx_edit.specs.declared.open_fault.OpenFault.TheVariants as opening;
+ghost use Rattle.jx_edit.specs.inside.Fronts.{skipped};
+ghost use Rattle.jx_run.specs.declared.settings.NameRule.TheVariants.{Any, Unique};
+ghost use Rattle.jx_run.specs.Settings.{JudgedBy};
+
+use crate::chunked::Chunked;
+use crate::edit_fault::EditFault;
+use crate::open_fault::OpenFault;
+use jx_run::{Front, NameRule, Settings, Verdict, front, fronts_decide_where_texts_begin};
+use std::alloc::{AllocError, Global};
+use std::marker::Model;
+
+/// U+FEFF in UTF-8.
+const BYTE_ORDER_MARK: [u8; 3] = [0xEF, 0xBB, 0xBF];
+
+/// A text that is edited, and the verdict on all of it after each edit.
+#[derive(Drop)]
+pub struct Document {
+    settings: Settings,
+    // what stands in front: a mark that is ignored is in none of the chunks
+    front: Front,
+    rest: Chunked,
+}
+
+impl Model for Document {
+    ghost use Rattle.jx_edit.specs.Document.{DocumentValue};
+    ghost use Rattle.jx_edit.specs.inside.Fronts.{with_front, IsFronted};
+
+    ghost Value = { DocumentValue };
+
+    ghost view = { λ d. record { settings = d.settings; bytes = with_front d.front d.rest.bytes } };
+
+    ghost invariant = { λ d. IsFronted d.settings d.front d.rest };
+}
+
+/// How many bytes are skipped.
+fn skipped(front: Front) -> usize
+    ensures { result ≡ skipped front }
+{
+    match front {
+        Front::Skip(count) => count,
+        Front::Refused(_) => 0,
+    }
+}
+
+impl Document {
+    /// A document of these bytes. Unique names are refused, as a document keeps no names.
+    pub fn of(alloc: Global, bytes: &[u8], settings: Settings) -> Result<Document, OpenFault>
+        ensures settings { IfOk result (λ d. d.settings ≡ settings) }
+        ensures bytes { IfOk result (λ d. d.bytes ≡ bytes.now) }
+        ensures names { settings.names ≡ Unique → result ≡ Err opening.UniqueNames }
+        ensures any { settings.names ≡ Any → IfErr result (λ fault. fault ≡ opening.Memory) }
+    {
+        if settings.names == NameRule::Unique {
+            return Err(OpenFault::UniqueNames);
+        }
+        let front = front(bytes, settings.mark);
+        let rest = Chunked::of(alloc, &bytes[skipped(front)..], settings.depth)?;
+        Ok(Document {
+            settings,
+            front,
+            rest,
+        })
+    }
+
+    /// How many bytes it has, with those of a mark in front.
+    pub fn len(&self) -> usize
+        ensures { result ≡ length self.now.bytes }
+    {
+        skipped(self.front) + self.rest.len()
+    }
+
+    /// What it was made with.
+    pub fn settings(&self) -> Settings
+        ensures { result ≡ self.now.settings }
+    {
+        self.settings
+    }
+
+    /// The verdict on its bytes as a whole text by its settings (RFC 8259, sections 2, 8.1 and 9). Offsets count all bytes.
+    /// It takes up only what edits changed since the last verdict.
+    pub fn verdict(&mut self) -> Result<Verdict, AllocError>
+        ensures same { self.new ≡ self.old }
+        ensures verdict { IfOk result (JudgedBy self.old.settings 0 self.old.bytes) }
+    {
+        fronts_decide_where_texts_begin();
+        match self.front {
+            Front::Skip(count) => {
+                let verdict = self.rest.verdict(count)?;
+                Ok(verdict)
+            }
+            Front::Refused(refusal) => Ok(Verdict::Refused(refusal)),
+        }
+    }
+
+    /// Puts other bytes in the place of those from `start` up to `end`. Where that is refused nothing changes.
+    pub fn edit(&mut self, start: usize, end: usize, replacement: &[u8]) -> Result<(), EditFault>
+        ensures settings { self.new.settings ≡ self.old.settings }
+        ensures ok { OnOk result (self.new.bytes ≡ edited start end replacement.now self.old.bytes) }
+        ensures err { OnErr result (self.new ≡ self.old) }
+        ensures inside { start ≤ end → end ≤ length self.old.bytes → IfErr result (λ fault. fault ≡ edit.Memory) }
+        ensures outside { (start ≤ end → end ≤ length self.old.bytes → ⊥) → result ≡ Err edit.OutOfBounds }
+    {
+        if end < start || self.len() < end {
+            return Err(EditFault::OutOfBounds);
+        }
+        let kept = self.len() - (end - start);
+        if usize::MAX - kept < replacement.len() {
+            return Err(EditFault::Memory);
+        }
+        if start < BYTE_ORDER_MARK.len() {
+            return self.edit_front(start, end, replacement);
+        }
+        let skip = skipped(self.front);
+        self.rest.edit(start - skip, end - skip, replacement)?;
+        Ok(())
+    }
+
+    /// The same at a place so near to the start that what stands in front may change.
+    fn edit_front(&mut self, start: usize, end: usize, replacement: &[u8]) -> Result<(), EditFault>
+        requires order { start ≤ end }
+        requires within { end ≤ length self.old.bytes }
+        requires fits { (length self.old.bytes - (end - start)) + length replacement.now < 2 ^ 64 }
+        ensures settings { self.new.settings ≡ self.old.settings }
+        ensures ok { OnOk result (self.new.bytes ≡ edited start end replacement.now self.old.bytes) }
+        ensures err { OnErr result (self.new ≡ self.old) }
+        ensures fault { IfErr result (λ fault. fault ≡ edit.Memory) }
+    {
+        // Behind three bytes nothing changes what stands in front.
+        let far = end.saturating_add(3).min(self.len());
+        let mut bytes = self.bytes_between(0, start)?;
+        bytes.extend_from_slice(replacement)?;
+        let behind = self.bytes_between(end, far)?;
+        bytes.extend_from_slice(&behind)?;
+        let front = front(&bytes, self.settings.mark);
+        let skip = skipped(self.front);
+        self.rest.edit(0, far - skip, &bytes[skipped(front)..])?;
+        self.front = front;
+        Ok(())
+    }
+
+    /// A copy of the bytes from `start` up to `end`.
+    pub fn copy(&self, start: usize, end: usize) -> Result<Vec<u8>, EditFault>
+        ensures ok { IfOk result (λ bytes. bytes.items ≡ slice_range self.now.bytes start end) }
+        ensures inside { start ≤ end → end ≤ length self.now.bytes → IfErr result (λ fault. fault ≡ edit.Memory) }
+        ensures outside { (start ≤ end → end ≤ length self.now.bytes → ⊥) → result ≡ Err edit.OutOfBounds }
+    {
+        if end < start || self.len() < end {
+            return Err(EditFault::OutOfBounds);
+        }
+        Ok(self.bytes_between(start, end)?)
+    }
+
+    fn bytes_between(&self, start: usize, end: usize) -> Result<Vec<u8>, AllocError>
+        requires order { start ≤ end }
+        requires within { end ≤ length self.now.bytes }
+        ensures { IfOk result (λ bytes. bytes.items ≡ slice_range self.now.bytes start end) }
+    {
+        let skip = skipped(self.front);
+        if skip <= start {
+            let bytes = self.rest.copy(start - skip, end - skip)?;
+            return Ok(bytes);
+        }
+        let mark = &BYTE_ORDER_MARK[..skip];
+        let mut bytes = Vec::from_slice(self.rest.allocator(), &mark[start..end.min(skip)])?;
+        let behind = self.rest.copy(0, end.saturating_sub(skip))?;
+        bytes.extend_from_slice(&behind)?;
+        Ok(bytes)
+    }
+}

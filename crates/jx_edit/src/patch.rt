@@ -1,0 +1,107 @@
+// What an edit makes of chunks.
+ghost use Rattle.std.specs.Prelude.{◌≡◌, ◌≤◌, ◌<◌, ◌^◌, ◌++◌, IfOk, OnOk, OnErr, length};
+ghost use Rattle.jx_edit.specs.inside.Chunks.{loosened, replaced, text_of, AreFresh, IsMade};
+
+use crate::chunk::{Chunk, chunks_of};
+use crate::seam::{back_of, front_of};
+use jx_lex::Depth;
+use std::alloc::{AllocError, Global};
+
+/// Chunks that take the place of those from `first` up to `last`.
+#[derive(Drop)]
+pub(crate) struct Patch {
+    pub(crate) first: usize,
+    pub(crate) last: usize,
+    pub(crate) chunks: Vec<Chunk>,
+}
+
+/// How long each piece is where so many bytes are cut evenly, into pieces of at least this size and less than twice that; fewer
+/// bytes are one piece.
+pub(crate) fn piece_for(len: usize, size: usize) -> usize
+    requires { 0 < size }
+    ensures { 0 < result }
+{
+    let count = (len / size).max(1);
+    (len / count).saturating_add(1)
+}
+
+/// So few bytes behind an edit are taken together with the next chunk: where half a chunk is not reached otherwise.
+fn few_for(size: usize, before: usize, put: usize) -> usize {
+    (size / 2).saturating_sub(before).saturating_sub(put)
+}
+
+/// The chunks with which the bytes from `start` up to `end` give place to others. What stays of the chunks in which both
+/// places lie is read anew, and no other.
+pub(crate) fn patch_of(
+    alloc: Global,
+    chunks: &[Chunk],
+    start: usize,
+    end: usize,
+    replacement: &[u8],
+    size: usize,
+    depth: Depth,
+) -> Result<Patch, AllocError>
+    requires fits { length (text_of chunks.now) < 2 ^ 64 }
+    requires order { start ≤ end }
+    requires within { end ≤ length (text_of chunks.now) }
+    requires size { 0 < size }
+    ensures fresh { IfOk result (λ patch. AreFresh depth patch.chunks.items) }
+    ensures made { IfOk result (λ patch. IsMade start end replacement.now chunks.now patch.first patch.last patch.chunks.items) }
+{
+    let front = front_of(alloc, chunks, start)?;
+    let rest = &chunks[front.before..];
+    let few = few_for(size, front.bytes.len(), replacement.len());
+    let back = back_of(alloc, rest, end - front.offset, few)?;
+    let first = front.before;
+    let last = first + back.before;
+    let mut bytes = front.bytes;
+    bytes.extend_from_slice(replacement)?;
+    bytes.extend_from_slice(&back.bytes)?;
+    let piece = piece_for(bytes.len(), size);
+    let chunks = chunks_of(alloc, &bytes, piece, depth)?;
+    Ok(Patch {
+        first,
+        last,
+        chunks,
+    })
+}
+
+/// The first one gives its link up.
+fn loosen(chunks: &mut [Chunk])
+    ensures { chunks.new ≡ loosened chunks.old }
+{
+    if chunks.is_empty() {
+        return;
+    }
+    chunks[0].unlink();
+}
+
+/// Puts chunks in the place of those from `first` up to `last`, and gives up the link of the next one. Where memory is
+/// refused nothing changes.
+pub(crate) fn replace(
+    chunks: &mut Vec<Chunk>,
+    first: usize,
+    last: usize,
+    made: Vec<Chunk>,
+) -> Result<(), AllocError>
+    requires order { first ≤ last }
+    requires within { last ≤ length chunks.old.items }
+    ensures ok { OnOk result (chunks.new.items ≡ replaced first last made.items chunks.old.items) }
+    ensures err { OnErr result (chunks.new.items ≡ chunks.old.items) }
+{
+    let mut made = made;
+    // All that can fail comes first.
+    chunks.reserve(made.len())?;
+    let mut behind = chunks.split_off(last)?;
+    loosen(&mut behind);
+    chunks.truncate(first);
+    match chunks.append(&mut made) {
+        Ok(()) => {}
+        Err(AllocError) => unreachable!(),
+    }
+    match chunks.append(&mut behind) {
+        Ok(()) => {}
+        Err(AllocError) => unreachable!(),
+    }
+    Ok(())
+}

@@ -1,0 +1,179 @@
+// What people are told of a text.
+use crate::earlier_name::earlier_name;
+use crate::excerpt::push_excerpt;
+use crate::place::place_of;
+use crate::sentence::{push_repeated, push_stopped, push_truncated};
+use crate::shown::push_shown;
+use crate::standing::{Standing, standing_behind};
+use jx_index::TextAnswer;
+use jx_lex::Span;
+use jx_run::{Front, NameRule, Refusal, Settings, Verdict, front};
+use std::alloc::{AllocError, Global};
+use std::fmt::Write;
+
+/// How the parts of what is told are marked.
+#[derive(Clone, Copy, Debug, PartialEq, Eq)]
+pub enum Marking {
+    /// By nothing.
+    Plain,
+    /// By the colors of a terminal (ECMA-48, section 8.3.117).
+    Colored,
+}
+
+impl Marking {
+    /// What begins the place.
+    fn place(self) -> &'static str {
+        match self {
+            Marking::Plain => "",
+            Marking::Colored => "\x1b[1m",
+        }
+    }
+
+    /// What ends it.
+    fn end(self) -> &'static str {
+        match self {
+            Marking::Plain => "",
+            Marking::Colored => "\x1b[0m",
+        }
+    }
+
+    /// The caret.
+    fn caret(self) -> &'static str {
+        match self {
+            Marking::Plain => "^",
+            Marking::Colored => "\x1b[1;31m^\x1b[0m",
+        }
+    }
+}
+
+/// The offset of the place that a refusal is about.
+fn offset_of(text: &[u8], refusal: Refusal) -> usize {
+    match refusal {
+        Refusal::Stopped { at } => at,
+        Refusal::TooDeep { at } => at,
+        Refusal::RepeatedName { at } => at,
+        Refusal::Truncated => text.len(),
+    }
+}
+
+/// Where a reading of a text stands before an offset, by settings; none where it stands in a byte order mark.
+fn standing_before(
+    alloc: Global,
+    text: &[u8],
+    at: usize,
+    settings: &Settings,
+) -> Result<Option<Standing>, AllocError> {
+    match front(text, settings.mark) {
+        Front::Skip(from) if from <= at && at <= text.len() => {
+            standing_behind(alloc, text, from, at, settings.depth)
+        }
+        _ => Ok(None),
+    }
+}
+
+/// Where the name stands that is the same as the one that begins at an offset, in a text whose names may be repeated.
+fn name_before(
+    alloc: Global,
+    text: &[u8],
+    at: usize,
+    settings: &Settings,
+) -> Result<Option<Span>, AllocError> {
+    let any = Settings {
+        depth: settings.depth,
+        mark: settings.mark,
+        names: NameRule::Any,
+    };
+    match TextAnswer::read(alloc, text, &any)? {
+        TextAnswer::Accepted(index) => Ok(earlier_name(&index, at)),
+        TextAnswer::Refused(_) => Ok(None),
+    }
+}
+
+/// Appends the sentence for a name that was used before.
+fn push_name(
+    alloc: Global,
+    out: &mut String,
+    text: &[u8],
+    at: usize,
+    settings: &Settings,
+) -> Result<(), AllocError> {
+    let earlier = name_before(alloc, text, at, settings)?;
+    let name = match earlier {
+        Some(span) => text.get(span.start..span.end).unwrap_or(&[]),
+        None => &[],
+    };
+    push_repeated(out, text, name, earlier.map(|span| span.start))
+}
+
+/// Appends what is wrong, in a sentence.
+fn push_sentence(
+    alloc: Global,
+    out: &mut String,
+    text: &[u8],
+    refusal: Refusal,
+    settings: &Settings,
+) -> Result<(), AllocError> {
+    match refusal {
+        Refusal::Stopped { at } => {
+            let standing = standing_before(alloc, text, at, settings)?;
+            push_stopped(out, text, at, standing.as_ref())
+        }
+        Refusal::Truncated => {
+            let standing = standing_before(alloc, text, text.len(), settings)?;
+            push_truncated(out, text, standing.as_ref())
+        }
+        Refusal::TooDeep { .. } => {
+            let most = settings.depth.containers();
+            write!(out, "more than {most} containers open")
+        }
+        Refusal::RepeatedName { at } => push_name(alloc, out, text, at, settings),
+    }
+}
+
+/// What people are told of a text of this name that is refused by settings: the place, what is wrong there in a sentence, and the
+/// line of the place with a caret. A line that is long is cut around the place, and what is no UTF-8 or not printed is shown
+/// by its bytes.
+fn refused(
+    alloc: Global,
+    name: &str,
+    text: &[u8],
+    refusal: Refusal,
+    settings: &Settings,
+    marking: Marking,
+) -> Result<String, AllocError> {
+    let at = offset_of(text, refusal).min(text.len());
+    let place = place_of(text, at);
+    let line = place.line;
+    let column = place.column;
+    let mut out = String::new(alloc);
+    out.push_str(marking.place())?;
+    push_shown(&mut out, name.as_bytes())?;
+    write!(out, ":{line}:{column}:")?;
+    out.push_str(marking.end())?;
+    out.push(' ')?;
+    push_sentence(alloc, &mut out, text, refusal, settings)?;
+    out.push('\n')?;
+    push_excerpt(&mut out, text, at, marking.caret())?;
+    Ok(out)
+}
+
+/// What people are told of a text of this name, by the verdict that settings give on it: that it is accepted, or where it is
+/// refused and why.
+pub fn explained(
+    alloc: Global,
+    name: &str,
+    text: &[u8],
+    verdict: Verdict,
+    settings: &Settings,
+    marking: Marking,
+) -> Result<String, AllocError> {
+    match verdict {
+        Verdict::Accepted => {
+            let mut out = String::new(alloc);
+            push_shown(&mut out, name.as_bytes())?;
+            out.push_str(": accepted\n")?;
+            Ok(out)
+        }
+        Verdict::Refused(refusal) => refused(alloc, name, text, refusal, settings, marking),
+    }
+}

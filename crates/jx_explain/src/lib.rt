@@ -1,0 +1,16 @@
+//! Refusals in words for people: where a text stops being one, what stands there, and what could stand there instead.
+#![tactic(auto)]
+
+mod choice;
+mod earlier_name;
+mod excerpt;
+mod explain;
+mod place;
+mod sentence;
+mod shown;
+mod standing;
+
+pub use choice::{Choice, Choices, choices_for};
+pub use explain::{Marking, explained};
+pub use place::{Place, place_of};
+pub use standing::{Standing, choices_at, standing_behind};

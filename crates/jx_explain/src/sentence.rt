@@ -1,0 +1,182 @@
+// What is wrong at a place, in a sentence.
+use crate::choice::{Choice, Choices};
+use crate::place::place_of;
+use crate::shown::push_shown;
+use crate::standing::{Standing, choices_at};
+use bstr::ByteSlice;
+use jx_lex::LexState;
+use std::alloc::AllocError;
+use std::fmt::Write;
+
+/// The bytes of a byte order mark.
+const MARK: &[u8] = b"\xEF\xBB\xBF";
+
+/// What may stand at a place, in words; none for blanks, which are not told.
+fn words_of(choice: Choice) -> Option<&'static str> {
+    match choice {
+        Choice::Blank => None,
+        Choice::Value => Some("a value"),
+        Choice::Name => Some("a string"),
+        Choice::Colon => Some("a colon"),
+        Choice::Comma => Some("a comma"),
+        Choice::ArrayEnd => Some("]"),
+        Choice::ObjectEnd => Some("}"),
+        Choice::Digit => Some("a digit"),
+        Choice::Point => Some("a decimal point"),
+        Choice::Exponent => Some("an exponent"),
+        Choice::Sign => Some("a sign"),
+        Choice::Character => Some("a character in UTF-8"),
+        Choice::Escape => Some("one of \" \\ / b f n r t u"),
+        Choice::HexDigit => Some("a hexadecimal digit"),
+        Choice::Tail => Some("a byte from 80 to BF"),
+        Choice::Tail80To8F => Some("a byte from 80 to 8F"),
+        Choice::Tail80To9F => Some("a byte from 80 to 9F"),
+        Choice::Tail90ToBF => Some("a byte from 90 to BF"),
+        Choice::TailA0ToBF => Some("a byte from A0 to BF"),
+        Choice::A => Some("a, as in false"),
+        Choice::E => Some("e, as in true and false"),
+        Choice::L => Some("l, as in false and null"),
+        Choice::R => Some("r, as in true"),
+        Choice::S => Some("s, as in false"),
+        Choice::U => Some("u, as in true and null"),
+    }
+}
+
+/// How many of them are told.
+fn count(choices: &Choices) -> usize {
+    let told = |choice: &&Choice| **choice != Choice::Blank;
+    let inside = choices.inside.iter().filter(told).count();
+    inside.saturating_add(choices.between.iter().filter(told).count())
+}
+
+/// Appends what may stand at a place: `A, B or C`, or that the text has to end.
+fn push_choices(out: &mut String, choices: &Choices) -> Result<(), AllocError> {
+    let mut left = count(choices);
+    if left == 0 {
+        return out.push_str("the end of the text");
+    }
+    for choice in choices.inside.iter().chain(choices.between) {
+        if let Some(words) = words_of(*choice) {
+            out.push_str(words)?;
+            left = left.saturating_sub(1);
+            out.push_str(match left {
+                0 => "",
+                1 => " or ",
+                _ => ", ",
+            })?;
+        }
+    }
+    Ok(())
+}
+
+/// Appends what stands at an offset.
+fn push_found(out: &mut String, text: &[u8], at: usize) -> Result<(), AllocError> {
+    let rest = text.get(at..).unwrap_or(&[]);
+    let Some((start, end, _)) = rest.char_indices().next() else {
+        return out.push_str("the end of the text");
+    };
+    match rest.first() {
+        Some(b'\n') => out.push_str("the end of the line"),
+        Some(b'\r') => out.push_str("a carriage return"),
+        Some(b'\t') => out.push_str("a tab"),
+        Some(b' ') => out.push_str("a space"),
+        Some(b',') => out.push_str("a comma"),
+        Some(b':') => out.push_str("a colon"),
+        Some(b'.') => out.push_str("a point"),
+        _ => push_shown(out, rest.get(start..end).unwrap_or(rest)),
+    }
+}
+
+/// Whether a byte has to be escaped in a string.
+fn is_control(byte: u8) -> bool {
+    byte < 0x20
+}
+
+/// The sentence for what stands at some places, where it says more than what could stand there.
+fn known_mistake(standing: &Standing, byte: u8) -> Option<&'static str> {
+    match standing.state {
+        LexState::Str if is_control(byte) => Some(
+            "a control character in a string must be escaped",
+        ),
+        LexState::Zero if byte.is_ascii_digit() => Some("a number may not begin with 0"),
+        _ => None,
+    }
+}
+
+/// Appends the sentence for a text that stopped at an offset, by where the reading stood there; where it stood nowhere, a byte
+/// order mark was begun.
+pub fn push_stopped(
+    out: &mut String,
+    text: &[u8],
+    at: usize,
+    standing: Option<&Standing>,
+) -> Result<(), AllocError> {
+    let Some(standing) = standing else {
+        return out.push_str("a byte order mark is begun and not ended");
+    };
+    if at == 0 && text.starts_with(MARK) {
+        return out.push_str("a byte order mark stands in front of the text");
+    }
+    let byte = text.get(at).copied().unwrap_or(b' ');
+    if let Some(sentence) = known_mistake(standing, byte) {
+        return out.push_str(sentence);
+    }
+    out.push_str("expected ")?;
+    push_choices(out, &choices_at(standing))?;
+    out.push_str(", found ")?;
+    push_found(out, text, at)
+}
+
+/// Whether a state of the lexical machine is inside a string.
+fn is_in_string(state: LexState) -> bool {
+    match state {
+        LexState::Str | LexState::Esc => true,
+        LexState::Hex4 | LexState::Hex3 | LexState::Hex2 | LexState::Hex1 => true,
+        LexState::Tail1 | LexState::Tail2 | LexState::Tail3 => true,
+        LexState::AfterE0 | LexState::AfterEd | LexState::AfterF0 | LexState::AfterF4 => true,
+        _ => false,
+    }
+}
+
+/// Appends the sentence for a text that ends too early, by where the reading stood at its end.
+pub fn push_truncated(
+    out: &mut String,
+    text: &[u8],
+    standing: Option<&Standing>,
+) -> Result<(), AllocError> {
+    let Some(standing) = standing else {
+        return out.push_str("the text ends inside a byte order mark");
+    };
+    if is_in_string(standing.state) {
+        let began = place_of(text, standing.token.min(text.len()));
+        let line = began.line;
+        let column = began.column;
+        return write!(
+            out,
+            "the text ends inside a string that began at line {line}, column {column}"
+        );
+    }
+    out.push_str("the text ends where ")?;
+    push_choices(out, &choices_at(standing))?;
+    out.push_str(" is expected")
+}
+
+/// Appends the sentence for a name that was used before, which stands at these bytes.
+pub fn push_repeated(
+    out: &mut String,
+    text: &[u8],
+    name: &[u8],
+    earlier: Option<usize>,
+) -> Result<(), AllocError> {
+    out.push_str("the name ")?;
+    push_shown(out, name)?;
+    match earlier {
+        None => out.push_str(" was used before"),
+        Some(at) => {
+            let used = place_of(text, at.min(text.len()));
+            let line = used.line;
+            let column = used.column;
+            write!(out, " was used at line {line}, column {column}")
+        }
+    }
+}

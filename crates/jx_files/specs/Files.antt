@@ -1,0 +1,91 @@
+-- What reports on several inputs write and tell.
+use Rattle.std.specs.Prelude.{◌≡◌, ℕ, ◌≤◌, List, [], ◌∷◌, ◌++◌, codes, length, Bool, true, false, Option, Result, Ok, Err}
+use Rattle.std.specs.Io.KnownBytes.{Appends}
+use Rattle.jx_task.specs.declared.command.Command.{Command}
+use Rattle.jx_report.specs.declared.exit.Exit.{Exit}
+use Rattle.jx_report.specs.Ends.{ReadsToEnd, AppendsBeginning}
+use Rattle.jx_report.specs.Output.{Output}
+use Rattle.jx_report.specs.Reports.{HasTooManyPieces, greatest_length, shown_output}
+use Rattle.jx_files.specs.declared.file_fault.FileFault.{FileFault}
+use Rattle.jx_files.specs.declared.file_fault.FileFault.TheVariants.{Open, Read, Memory, Pieces}
+use Rattle.jx_files.specs.declared.file_fault.OpenFault.{OpenFault}
+use Rattle.jx_files.specs.declared.file_fault.OpenFault.TheVariants.{Closed}
+use Rattle.jx_files.specs.declared.status.Status.{Status}
+use Rattle.jx_files.specs.declared.status.Status.TheVariants.{Good, Fault}
+use Rattle.jx_files.specs.Naming.{named}
+use Rattle.jx_files.specs.Status.{greatest, status_of}
+
+abbrev pub fault_words : FileFault → List ℕ
+fault_words Open = codes "cannot open"
+fault_words Read = codes "read failed"
+fault_words Memory = codes "out of memory"
+fault_words Pieces = codes "too many pieces"
+
+-- what is told of a fault: jx: WORD: FAULT
+abbrev pub fault_line : List ℕ → FileFault → List ℕ
+fault_line word fault = codes "jx: " ++ word ++ codes ": " ++ fault_words fault ++ 10 ∷ []
+
+-- what is written for an input behind its word
+abbrev pub part : List ℕ → List ℕ → List ℕ
+part word output = named (word ++ codes ": ") output
+
+-- how inputs are opened and read
+pub record Ways : Type 1 where
+  pub Input : Type 0
+  -- what the opening of a word may come to
+  pub opens : List ℕ → Result Input OpenFault → Type 0
+  -- the bytes that an input has left
+  pub remaining : Input → Option (List ℕ)
+  -- a read of it has failed
+  pub has_failed : Input → Bool
+
+abbrev pub ways_of : {Input : Type 0} → (List ℕ → Result Input OpenFault → Type 0) → (Input → Option (List ℕ)) → (Input → Bool) → Ways
+ways_of {Input} opens remaining has_failed = record { Input = Input; opens = opens; remaining = remaining; has_failed = has_failed }
+
+-- why there is no answer for a word
+pub data IsFaultAt (ways : Ways) (command : Command) (word : List ℕ) : FileFault → Type 0 where
+  not_opened : ways.opens word (Err Closed) → IsFaultAt ways command word Open
+  not_read : (input left : ways.Input) → ways.opens word (Ok input) → ways.has_failed left ≡ true → IsFaultAt ways command word Read
+  too_long : (input left : ways.Input) → ways.opens word (Ok input) → HasTooManyPieces command (ways.remaining input) (ways.remaining left) → IsFaultAt ways command word Pieces
+  no_memory : IsFaultAt ways command word Memory
+
+-- all that the input of a word had was read, and this is the output for it, and how its report ends
+pub record IsAnsweredAt (ways : Ways) (command : Command) (word : List ℕ) (output : List ℕ) (exit : Exit) : Type 0 where
+  pub input : ways.Input
+  pub left : ways.Input
+  pub text : List ℕ
+  pub opened : ways.opens word (Ok input)
+  pub read : ReadsToEnd (ways.remaining input) (ways.remaining left) text
+  pub few : length text ≤ greatest_length command.piece
+  pub answer : Output command.task command.settings text output exit
+
+-- what is written for one word, what is told of it, and its status
+pub data IsReportedAt (ways : Ways) (command : Command) (word : List ℕ) : List ℕ → List ℕ → Status → Type 0 where
+  answered : {output : List ℕ} {exit : Exit} → IsAnsweredAt ways command word output exit → IsReportedAt ways command word (part word (shown_output command.quiet output)) [] (status_of exit)
+  unanswered : {fault : FileFault} → IsFaultAt ways command word fault → IsReportedAt ways command word [] (fault_line word fault) Fault
+
+-- what is written for words in their order, what is told of them, and the greatest of their statuses
+pub data AreReported (ways : Ways) (command : Command) : List (List ℕ) → List ℕ → List ℕ → Status → Type 0 where
+  no_word : AreReported ways command [] [] [] Good
+  one_more : {words : List (List ℕ)} {output told : List ℕ} {status : Status} → AreReported ways command words output told status
+      → (word more tells : List ℕ) (next : Status) → IsReportedAt ways command word more tells next
+      → AreReported ways command (words ++ word ∷ []) (output ++ more) (told ++ tells) (greatest status next)
+
+-- all that is written for the words was written, and what is told of them was told unless telling failed
+pub record ReportsEach (ways : Ways) (command : Command) (words : List (List ℕ)) (written grown : Option (List ℕ)) (is_lost : Bool) (told retold : Option (List ℕ)) (status : Status) : Type 0 where
+  pub output : List ℕ
+  pub tells : List ℕ
+  pub reported : AreReported ways command words output tells status
+  pub wrote : Appends written grown output
+  pub says : is_lost ≡ false → Appends told retold tells
+
+-- a beginning of what is written for the first of the words was written, and not all
+pub record ReportsFirst (ways : Ways) (command : Command) (words : List (List ℕ)) (written grown : Option (List ℕ)) : Type 0 where
+  pub first : List (List ℕ)
+  pub rest : List (List ℕ)
+  pub are_first : words ≡ first ++ rest
+  pub output : List ℕ
+  pub tells : List ℕ
+  pub status : Status
+  pub reported : AreReported ways command first output tells status
+  pub wrote : AppendsBeginning written grown output

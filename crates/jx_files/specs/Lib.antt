@@ -1,0 +1,4 @@
+pub mod Files
+pub mod Naming
+pub mod Status
+pub mod inside

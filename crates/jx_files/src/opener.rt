@@ -1,0 +1,18 @@
+ghost use Rattle.std.specs.Prelude.{◌≡◌, false, IfOk};
+
+use crate::file_fault::OpenFault;
+use jx_report::Source;
+
+/// Opens what words name.
+pub trait Opener<S: Source> {
+    ghost use Rattle.std.specs.Prelude.{ℕ, List, Result};
+    ghost use Rattle.jx_files.specs.declared.file_fault.OpenFault.{OpenFault};
+
+    /// What the opening of a word may come to.
+    ghost opens: { Self → List ℕ → Result S OpenFault → Type 0 };
+
+    /// Opens what the word names.
+    fn open(&self, word: &str) -> Result<S, OpenFault>
+        ensures gives { opens self.now word.now result }
+        ensures unfailed { IfOk result (λ s. S.has_failed s ≡ false) };
+}

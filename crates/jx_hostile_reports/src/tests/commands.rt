@@ -1,0 +1,136 @@
+// Commands under refused growths.
+use jx_command::{ArgFault, Input, Inputs, Request, command_of};
+use jx_hostile_runs::lines::Lines;
+use jx_run::{FrontMark, NameRule};
+use jx_task::Task;
+use std::alloc::{AllocError, Global};
+use std::test::Fail;
+
+// Words behind the program's name, and what they ask for.
+const COMMANDS: [(&[&str], &str); 6] = [
+    (&["chek"], "wrong words"),
+    (
+        &["at", "/1", "/2", "x"],
+        "at /1 /2 x; depth 512, mark Refused, names Any, workers 4, piece 65536, standard input",
+    ),
+    (
+        &["seq"],
+        "seq; depth 512, mark Refused, names Any, workers 4, piece 65536, standard input",
+    ),
+    (
+        &["at", "--file", "F", "--pointers", "G"],
+        "at; depth 512, mark Refused, names Any, workers 4, piece 65536, file F, pointers G",
+    ),
+    (
+        &["check", "F", "-", "G"],
+        "check; depth 512, mark Refused, names Any, workers 4, piece 65536, inputs F - G",
+    ),
+    (
+        &[
+            "check",
+            "--file",
+            "F",
+            "--depth",
+            "3",
+            "--workers",
+            "2",
+            "--piece",
+            "5",
+            "--ignore-bom",
+            "--unique-names",
+            "-q",
+        ],
+        "check; depth 3, mark Ignored, names Unique, workers 2, piece 5, quiet, file F",
+    ),
+];
+
+#[test]
+fn commands_under_a_refused_growth(rt: HostRuntime) -> Result<(), Fail> {
+    let mut lines = Lines::of(&rt);
+    for (words, want) in COMMANDS {
+        if lines.takes_next() {
+            let asked = match asked_by(rt.alloc(), words) {
+                Ok(asked) => asked,
+                Err(AllocError) => asked_by(rt.alloc(), words)?,
+            };
+            assert_eq!(rt; asked.as_str(), want);
+        }
+    }
+    Ok(())
+}
+
+// All that these words ask for, as a line.
+fn asked_by(alloc: Global, words: &[&str]) -> Result<String, AllocError> {
+    let mut all = Vec::from_array(alloc, ["jx"])?;
+    all.extend_from_slice(words)?;
+    match command_of(alloc, &all) {
+        Ok(request) => line_of(alloc, &request),
+        Err(ArgFault::Memory) => Err(AllocError),
+        Err(_) => String::from_str(alloc, "wrong words"),
+    }
+}
+
+fn line_of(alloc: Global, request: &Request<'_>) -> Result<String, AllocError> {
+    let command = &request.command;
+    let mut line = task_of(alloc, &command.task)?;
+    let depth = command.settings.depth.containers();
+    let mark = match command.settings.mark {
+        FrontMark::Refused => "Refused",
+        FrontMark::Ignored => "Ignored",
+    };
+    let names = match command.settings.names {
+        NameRule::Any => "Any",
+        NameRule::Unique => "Unique",
+    };
+    let workers = command.workers.count();
+    let piece = command.piece;
+    let rest = format!(in alloc;
+        "; depth {depth}, mark {mark}, names {names}, workers {workers}, piece {piece}"
+    )?;
+    line.push_str(&rest)?;
+    if command.quiet {
+        line.push_str(", quiet")?;
+    }
+    add_inputs(&mut line, &request.inputs)?;
+    if let Some(file) = request.pointers {
+        line.push_str(", pointers ")?;
+        line.push_str(file)?;
+    }
+    Ok(line)
+}
+
+// What is read.
+fn add_inputs(line: &mut String, inputs: &Inputs<'_>) -> Result<(), AllocError> {
+    match inputs {
+        Inputs::One(Input::Standard) => line.push_str(", standard input"),
+        Inputs::One(Input::File(file)) => {
+            line.push_str(", file ")?;
+            line.push_str(*file)
+        }
+        Inputs::Several(words) => {
+            line.push_str(", inputs")?;
+            for word in words {
+                line.push_str(" ")?;
+                line.push_str(*word)?;
+            }
+            Ok(())
+        }
+    }
+}
+
+// The task's word, and its pointers.
+fn task_of(alloc: Global, task: &Task) -> Result<String, AllocError> {
+    match task {
+        Task::Check => String::from_str(alloc, "check"),
+        Task::Index => String::from_str(alloc, "index"),
+        Task::Seq => String::from_str(alloc, "seq"),
+        Task::At(pointers) => {
+            let mut line = String::from_str(alloc, "at")?;
+            for pointer in pointers {
+                line.push_str(" ")?;
+                line.push_str(pointer)?;
+            }
+            Ok(line)
+        }
+    }
+}

@@ -1,0 +1,10 @@
+//! Tests of the crates below `jx_answer`: each growth of memory refused in turn, lists by chance, and long texts. What the tests
+//! above read too is public: inputs, the lines of a table, and a gate that stops workers.
+#![tactic(auto)]
+
+pub mod gates;
+pub mod inputs;
+pub mod lines;
+pub mod rows;
+#[cfg(test)]
+mod tests;

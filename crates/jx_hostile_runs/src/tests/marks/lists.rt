@@ -1,0 +1,127 @@
+// Marks and their structures.
+ghost use Rattle.std.specs.Prelude.{◌≡◌, ◌≤◌, ◌<◌, ℕ, IfOk, length};
+ghost use Rattle.jx_reduce.specs.Offsets.{EachIn, RisingFrom};
+ghost use Rattle.jx_reduce.specs.Reductions.{SpansIn};
+
+use crate::tests::marks::table::{EXPECTS, HOLDERS};
+use jx_lex::{Depth, JoinFault, Mark, MarkKind};
+use jx_reduce::{Reduced, Reductions};
+use std::alloc::{AllocError, Global};
+use std::test::Fail;
+
+/// The mark of this kind at an offset.
+pub(crate) fn mark(kind: MarkKind, at: usize) -> Mark
+    ensures { result ≡ record { kind = kind; at = at } }
+{
+    Mark { kind, at }
+}
+
+/// The depth of so many containers, or the default one where there is none such.
+pub(crate) fn depth_of(containers: u32) -> Depth
+    ensures { containers ≤ 65535 → result ≡ containers }
+{
+    Depth::new(containers).unwrap_or_default()
+}
+
+/// The kind of mark that this byte stands for.
+pub(crate) fn kind_of(byte: u8) -> MarkKind {
+    match byte {
+        b'[' => MarkKind::OpenArray,
+        b']' => MarkKind::CloseArray,
+        b'{' => MarkKind::OpenObject,
+        b'}' => MarkKind::CloseObject,
+        b':' => MarkKind::Colon,
+        b',' => MarkKind::Comma,
+        b's' => MarkKind::String,
+        _ => MarkKind::Number,
+    }
+}
+
+/// The marks that these bytes stand for, each at the place of its byte.
+pub(crate) fn marks_of(alloc: Global, text: &[u8]) -> Result<Vec<Mark>, AllocError>
+    ensures { IfOk result (λ marks. RisingFrom 0 marks.items) }
+{
+    let mut marks = Vec::new(alloc);
+    for (at, byte) in text.iter().enumerate() {
+        let kind = kind_of(*byte);
+        marks.push(Mark { kind, at })?;
+    }
+    Ok(marks)
+}
+
+/// The structure of marks, asked for twice where it is refused.
+pub(crate) fn structure_of(
+    alloc: Global,
+    marks: &[Mark],
+    depth: Depth,
+) -> Result<Reductions, AllocError>
+    requires rising { RisingFrom 0 marks.now }
+    ensures depth { IfOk result (λ f. f.depth ≡ depth) }
+    ensures offsets { IfOk result (λ f. (low high : ℕ) → EachIn (λ m. (low ≤ m.at) × (m.at < high)) marks.now → SpansIn low high f) }
+{
+    match Reductions::of(alloc, marks, depth) {
+        Ok(structure) => Ok(structure),
+        Err(_) => Reductions::of(alloc, marks, depth),
+    }
+}
+
+/// Whether both show the same levels, containers, exits and heights, from each expectation. It takes no memory.
+fn shows_the_same(one: &Reduced, other: &Reduced) -> bool {
+    one.level_count() == other.level_count()
+        && (0..one.level_count()).all(|index| one.level(index) == other.level(index))
+        && one.opens() == other.opens()
+        && HOLDERS
+            .iter()
+            .all(|holder| one.exit_of(*holder) == other.exit_of(*holder))
+        && one.heights() == other.heights()
+}
+
+/// Whether two structures show the same from each expectation. It takes no memory.
+pub(crate) fn is_same(one: &Reductions, other: &Reductions) -> bool {
+    one.depth() == other.depth()
+        && EXPECTS.iter().all(|expect| shows_the_same(one.entry(*expect), other.entry(*expect)))
+}
+
+/// Whether two structures are those of both parts of a list, which are made once more.
+fn are_both_parts(
+    alloc: Global,
+    marks: &[Mark],
+    cut: usize,
+    left: &Reductions,
+    right: &Reductions,
+) -> Result<bool, AllocError>
+    requires rising { RisingFrom 0 marks.now }
+    requires cut { cut ≤ length marks.now }
+{
+    let first = structure_of(alloc, &marks[..cut], left.depth())?;
+    let second = structure_of(alloc, &marks[cut..], left.depth())?;
+    Ok(is_same(left, &first) && is_same(right, &second))
+}
+
+/// The structures of both parts of a list, joined. Where the join is refused, the sides that it handed back have to be those that came
+/// in, and are joined again.
+pub(crate) fn joined_at(
+    alloc: Global,
+    marks: &[Mark],
+    cut: usize,
+    depth: Depth,
+) -> Result<Reductions, Fail>
+    requires rising { RisingFrom 0 marks.now }
+    requires cut { cut ≤ length marks.now }
+    ensures { IfOk result (λ r. r.depth ≡ depth) }
+{
+    let left = structure_of(alloc, &marks[..cut], depth)?;
+    let right = structure_of(alloc, &marks[cut..], depth)?;
+    match left.join(right) {
+        Ok(both) => Ok(both),
+        Err(JoinFault { left, right }) => {
+            if !are_both_parts(alloc, marks, cut, &left, &right)? {
+                return Err("two sides as they were".into());
+            }
+            match left.join(right) {
+                Ok(both) => Ok(both),
+                Err(_) => Err("a join with memory".into()),
+            }
+        }
+    }
+}

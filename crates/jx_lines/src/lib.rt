@@ -1,0 +1,42 @@
+//! Tests that are data: a line is a call with its words, and another line its answer. Here are the words that programs of
+//! such calls have in common: how a line spells what a call takes, and how it tells what a call answers.
+//!
+//! A line has a call's name and its words, parted by one blank. An empty line and a line that begins with `#` are no call.
+//!
+//! A text is one word. Its bytes 21 to 7E stand for themselves, but `\`:
+//!
+//! | Spelt | Stands for |
+//! |---|---|
+//! | `\xHH` | the byte with these hexadecimal digits |
+//! | `\*N;` | the byte behind it, N times: `\*600;[`, `\*3;\x20` |
+//! | `\(N;` .. `\)` | the bytes between, N times: `\(80;1,\x0A\)`. It holds no other such part |
+//! | `\-` | no bytes, where it is the whole word |
+//!
+//! A number is decimal. A span is `S..E`, a span that is cut in two `S..C..E`. A list of numbers is `2,3`, or `-` for none. Cuts
+//! are such a list, or `each` for each single one and `pairs` for each pair too; both also try none. Settings are letters:
+//! `b` where a byte order mark is ignored, `u` where names have to be unique, or `-`. States and expectations have the names
+//! that they have in Rust. Open containers are letters, the outermost first: `A` for an array, `O` for an object, or `-`.
+//! Marks are each a letter and an offset, joined by `+`, or `-` for none: `,6+n7+]8`. The letters are `[ ] { } : ,` and, for
+//! strings, numbers, `true`, `false` and `null`, `s n t f z`.
+#![tactic(auto)]
+
+mod answers;
+mod cuts;
+mod line;
+mod names;
+mod numbers;
+mod spelt;
+mod texts;
+mod ways;
+
+pub use answers::{
+    push_element, push_elements, push_found, push_numbers, push_row, push_rows, push_span,
+    push_verdict, push_word,
+};
+pub use cuts::cuts_of;
+pub use line::{LineFault, is_call, words_of};
+pub use names::{expect_of, holders_of, settings_of, state_of};
+pub use numbers::{Meeting, depth_of, meeting_within, number_of, numbers_of, span_within};
+pub use spelt::push_text;
+pub use texts::{bytes_of, text_of};
+pub use ways::Ways;

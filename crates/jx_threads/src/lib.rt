@@ -1,0 +1,5 @@
+//! Tests of two threads and more: workers of whom one is held at a gate until another went on, and callers' own threads.
+#![tactic(auto)]
+
+#[cfg(test)]
+mod tests;

@@ -1,0 +1,7 @@
+// What takes two threads at least.
+mod draws;
+mod meeting;
+mod pointers;
+mod reports;
+mod shelf;
+mod workers;

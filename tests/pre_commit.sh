@@ -1,0 +1,60 @@
+#!/usr/bin/env bash
+# The hooks for the program pre-commit: what is staged is checked, and a commit of what is no JSON text is refused.
+. "$(dirname "$0")/lib.sh"
+
+# make_hooks: a repository with the hooks alone, as a clone of this one has them.
+make_hooks() {
+    git init -q "$room/hooks"
+    cp "$root/.pre-commit-hooks.yaml" "$room/hooks"
+    git -C "$room/hooks" add . && git -C "$room/hooks" commit -qm hooks
+    mkdir "$room/bin"
+    cp "$program" "$room/bin/jx"
+    export PATH=$room/bin:$PATH PRE_COMMIT_HOME=$room/cache
+    export GIT_AUTHOR_NAME=jx GIT_AUTHOR_EMAIL=jx@localhost GIT_COMMITTER_NAME=jx GIT_COMMITTER_EMAIL=jx@localhost
+}
+
+# make_checkout HOOK: a repository with this hook.
+make_checkout() {
+    git init -q "$room/$1"
+    cd "$room/$1" || exit 1
+    printf 'repos:\n- repo: %s\n  rev: %s\n  hooks:\n  - id: %s\n' "$room/hooks" "$(git -C "$room/hooks" rev-parse HEAD)" "$1" >.pre-commit-config.yaml
+    git add .
+    pre-commit install >/dev/null
+}
+
+texts_are_checked_before_a_commit() {
+    local said
+    make_checkout jx-check
+    printf '{"a":1,"a":2}' >good.json
+    printf '{"a":}' >'not good.json'
+    printf '{' >no.text
+    git add .
+    said=$(git commit -m two 2>&1)
+    same 'a commit of what is no text: status' 1 $?
+    has 'it names the file' 'not good.json: stopped at 5' "$said"
+    has 'it names the others' 'good.json: accepted' "$said"
+    git rm -q --cached 'not good.json'
+    git commit -qm one >/dev/null 2>&1
+    same 'a commit of texts: status' 0 $?
+    cd "$room" || exit 1
+}
+
+names_are_checked_where_that_is_asked_for() {
+    local said
+    make_checkout jx-check-unique-names
+    printf '{"a":1,"a":2}' >repeated.json
+    git add .
+    said=$(git commit -m one 2>&1)
+    same 'a commit of a repeated name: status' 1 $?
+    has 'it says where' 'repeated name at 7' "$said"
+    cd "$room" || exit 1
+}
+
+if command -v pre-commit >/dev/null; then
+    export GIT_AUTHOR_NAME=jx GIT_AUTHOR_EMAIL=jx@localhost GIT_COMMITTER_NAME=jx GIT_COMMITTER_EMAIL=jx@localhost
+    make_hooks
+    tests texts_are_checked_before_a_commit names_are_checked_where_that_is_asked_for
+else
+    echo 'pre_commit.sh: skipped: there is no pre-commit here'
+    tests
+fi
