@@ -4,7 +4,7 @@ _jx() {
     COMPREPLY=()
     for ((at = 1; at < COMP_CWORD; at++)); do
         case ${COMP_WORDS[at]} in
-        check | explain | index | at | seq | help)
+        check | explain | index | at | seq | part | join | whole | help)
             command=${COMP_WORDS[at]}
             break
             ;;
@@ -20,7 +20,7 @@ _jx() {
         mapfile -t COMPREPLY < <(compgen -W 'auto always never' -- "$word")
         return
         ;;
-    --depth | --workers | --piece) return ;;
+    --depth | --workers | --piece | --from | --to) return ;;
     esac
     case $command in
     check | explain | index | seq)
@@ -32,11 +32,14 @@ _jx() {
         ;;
     esac
     case $command in
-    '') mapfile -t COMPREPLY < <(compgen -W 'check explain index at seq help -h --help -V --version' -- "$word") ;;
-    help) mapfile -t COMPREPLY < <(compgen -W 'check explain index at seq' -- "$word") ;;
+    '') mapfile -t COMPREPLY < <(compgen -W 'check explain index at seq part join whole help -h --help -V --version' -- "$word") ;;
+    help) mapfile -t COMPREPLY < <(compgen -W 'check explain index at seq part join whole' -- "$word") ;;
     check | seq) mapfile -t COMPREPLY < <(compgen -W '--file --depth --workers --piece --ignore-bom --unique-names -q --quiet -h --help' -- "$word") ;;
     explain) mapfile -t COMPREPLY < <(compgen -W '--file --depth --workers --piece --ignore-bom --unique-names --color -h --help' -- "$word") ;;
     at) mapfile -t COMPREPLY < <(compgen -W '--file --pointers --depth --workers --piece --ignore-bom --unique-names -h --help' -- "$word") ;;
+    part) mapfile -t COMPREPLY < <(compgen -W '--file --from --depth -h --help' -- "$word") ;;
+    join) mapfile -t COMPREPLY < <(compgen -W '--file --depth -h --help' -- "$word") ;;
+    whole) mapfile -t COMPREPLY < <(compgen -W '--file --to --from --depth -q --quiet -h --help' -- "$word") ;;
     *) mapfile -t COMPREPLY < <(compgen -W '--file --depth --workers --piece --ignore-bom --unique-names -h --help' -- "$word") ;;
     esac
 }

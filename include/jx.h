@@ -3,12 +3,14 @@
  * Every call returns a status. Any status but JX_OK leaves the caller's structs unchanged. Offsets and sizes count bytes,
  * depths count containers.
  *
- * Ownership: the caller owns all memory that it passes, and no call keeps a pointer to it. The caller never frees memory of
- * the library. A pointer to bytes must not be null, even if the size is 0. What a call writes to must not overlap anything
- * else that it is passed.
+ * Ownership: the caller owns all memory that it passes, and no call but jx_index_new keeps a pointer to it. A document and an
+ * index are memory of the library: what its calls that end in _new take, those that end in _free give back. A pointer must
+ * not be null, not even one to bytes with the size 0, but in the calls on documents and indexes, which answer it. What a call
+ * writes to must not overlap anything else that it is passed.
  *
  * Threads: calls share no state, so any number of threads may call at once, each with its own structs. One call at a time
- * may use a struct that it writes to. No call starts a thread or waits for one. Do not call from a signal handler.
+ * may use a struct that it writes to, a document or an index. No call starts a thread or waits for one. Do not call from a signal
+ * handler.
  */
 #ifndef JX_H
 #define JX_H
@@ -26,9 +28,17 @@ enum {
     JX_NO_MEMORY = 1,       /* out of memory */
     JX_DEPTH_TOO_GREAT = 2, /* the depth is above JX_DEPTH_MAX */
     JX_NOT_STARTED = 3,     /* the reader was not started */
-    JX_TOO_MANY_BYTES = 4,  /* the reader would have been fed 2^64 bytes or more */
+    JX_TOO_MANY_BYTES = 4,  /* the reader would have been fed 2^64 bytes or more, or a part would end there or behind */
     JX_UNKNOWN_FLAG = 5,    /* unknown flag */
-    JX_NO_UNIQUE_NAMES = 6  /* a reader keeps no names, so it cannot check them */
+    JX_NO_UNIQUE_NAMES = 6, /* a reader or a document keeps no names, so it cannot check them */
+    JX_OUT_OF_BOUNDS = 7,   /* the range ends before it starts, or behind the document's last byte; or there is no such row */
+    JX_NO_DOCUMENT = 8,     /* the struct holds no document, or the pointer to it is null */
+    JX_NULL_POINTER = 9,    /* another pointer to a call on a document or an index is null */
+    JX_NO_INDEX = 10,       /* the struct holds no index, or the pointer to it is null */
+    JX_NO_ROOM = 11,        /* the run has more bytes than the buffer: see its size */
+    JX_NOT_A_RUN = 12,      /* the bytes are no run that this version of the library writes */
+    JX_OTHER_DEPTH = 13,    /* the runs were made with different depths */
+    JX_NOT_NEIGHBOURS = 14  /* the right run does not begin where the left one ends, or the run is of other bytes */
 };
 
 /* Depths: how many containers may be open at once (RFC 8259, section 9, allows such a limit). A scalar has depth 0, a
@@ -76,8 +86,8 @@ uint32_t jx_check(const uint8_t *text, size_t size, uint32_t depth, jx_verdict *
 
 /* Does the same by settings.
  *
- * Allocates nothing without JX_UNIQUE_NAMES; with it, memory in proportion to the text, freed before the call returns.
- * Returns JX_OK, JX_DEPTH_TOO_GREAT, JX_UNKNOWN_FLAG, or JX_NO_MEMORY with JX_UNIQUE_NAMES. */
+ * Allocates nothing without JX_UNIQUE_NAMES; with it, memory in proportion to the names of the objects that are open at
+ * once, freed before the call returns. Returns JX_OK, JX_DEPTH_TOO_GREAT, JX_UNKNOWN_FLAG, or JX_NO_MEMORY with JX_UNIQUE_NAMES. */
 uint32_t jx_check_with(const uint8_t *text, size_t size, const jx_settings *settings, jx_verdict *verdict);
 
 /* Reads a text slice by slice. Its size is fixed, and it keeps no byte of the text. The words are private to the library. A
@@ -154,14 +164,30 @@ typedef struct jx_answer {
 /* Finds the value that a JSON Pointer (RFC 6901) names in a JSON text. A malformed pointer is reported before the text is
  * read.
  *
- * Allocates memory in proportion to the text and frees it. Returns JX_OK, JX_NO_MEMORY or JX_DEPTH_TOO_GREAT. */
+ * Reads the text once. Allocates memory in proportion to the pointer and to how deep the text nests, and frees it. Returns
+ * JX_OK, JX_NO_MEMORY or JX_DEPTH_TOO_GREAT. */
 uint32_t jx_at(const uint8_t *text, size_t size, const uint8_t *pointer, size_t pointer_size, uint32_t depth, jx_answer *answer);
 
-/* Does the same by settings.
+/* Does the same by settings. With JX_UNIQUE_NAMES it reads the text twice, and allocates as jx_check_with does.
  *
  * Returns JX_OK, JX_NO_MEMORY, JX_DEPTH_TOO_GREAT or JX_UNKNOWN_FLAG. */
 uint32_t jx_at_with(const uint8_t *text, size_t size, const uint8_t *pointer, size_t pointer_size, const jx_settings *settings,
                     jx_answer *answer);
+
+/* The bytes of a pointer. */
+typedef struct jx_pointer {
+    const uint8_t *bytes;
+    size_t size;
+} jx_pointer;
+
+/* Finds the values that many pointers name in one text, each as jx_at_with does. Writes as many answers as fit, in the order
+ * of the pointers, and leaves the rest of `answers` unchanged. `pointers` and `answers` must not be null.
+ *
+ * Reads the text once, and indexes it unless there is only one pointer. Allocates memory in proportion to the count of its
+ * values and frees it; for one pointer as jx_at_with does. Returns JX_OK, JX_NO_MEMORY, JX_DEPTH_TOO_GREAT or
+ * JX_UNKNOWN_FLAG. */
+uint32_t jx_at_all(const uint8_t *text, size_t size, const jx_settings *settings, const jx_pointer *pointers, size_t count,
+                   jx_answer *answers, size_t room);
 
 /* A value of a text. */
 typedef struct jx_row {
@@ -176,7 +202,7 @@ typedef struct jx_row {
  * it unchanged; writes how many there are to `count`, 0 if the bytes are not a text. A first call with room 0 tells how much
  * room a second one needs; `rows` must not be null in either.
  *
- * Allocates memory in proportion to the text and frees it. Returns JX_OK, JX_NO_MEMORY or JX_DEPTH_TOO_GREAT. */
+ * Allocates memory in proportion to the count of values and frees it. Returns JX_OK, JX_NO_MEMORY or JX_DEPTH_TOO_GREAT. */
 uint32_t jx_rows(const uint8_t *text, size_t size, uint32_t depth, jx_row *rows, size_t room, size_t *count, jx_verdict *verdict);
 
 /* Does the same by settings. Spans count the bytes of an ignored byte order mark. A text refused for a duplicate name has
@@ -185,6 +211,64 @@ uint32_t jx_rows(const uint8_t *text, size_t size, uint32_t depth, jx_row *rows,
  * Returns JX_OK, JX_NO_MEMORY, JX_DEPTH_TOO_GREAT or JX_UNKNOWN_FLAG. */
 uint32_t jx_rows_with(const uint8_t *text, size_t size, const jx_settings *settings, jx_row *rows, size_t room, size_t *count,
                       jx_verdict *verdict);
+
+/* The index of a text, for many calls over it.
+ *
+ * The struct is a handle, which the library alone writes. Set it to {0}, which holds no index, before its first call. Free it
+ * once. It may be moved, also to another thread. Do not use a copy of it after a call on another copy.
+ *
+ * The index keeps a pointer to the text. Until the index is freed, the text must stay where it is, and nothing may change it.
+ *
+ * Null pointers are answered, and change nothing: JX_NO_INDEX where `index` is null, else JX_NULL_POINTER. Bytes of the size
+ * 0 may be null. */
+typedef struct jx_index {
+    void *inside;
+} jx_index;
+
+/* What the library exports: the calls below, for pointers of which none is null. Call those. */
+uint32_t jx_index_new_non_null(const uint8_t *text, size_t size, const jx_settings *settings, jx_index *index, jx_verdict *verdict);
+uint32_t jx_index_find_non_null(jx_index *index, const uint8_t *pointer, size_t pointer_size, jx_answer *answer);
+uint32_t jx_index_row_non_null(jx_index *index, size_t number, jx_row *row);
+void jx_index_free_non_null(jx_index *index);
+
+/* Reads a text by settings, tells the verdict, and indexes the text if it is accepted; the struct holds no index if it is
+ * refused. An index that the struct held is freed. Any status but JX_OK leaves both structs as they were.
+ *
+ * Allocates memory in proportion to the count of values, which jx_index_free frees. Returns JX_OK, JX_NO_MEMORY,
+ * JX_DEPTH_TOO_GREAT, JX_UNKNOWN_FLAG, JX_NO_INDEX or JX_NULL_POINTER. */
+static inline uint32_t jx_index_new(const uint8_t *text, size_t size, const jx_settings *settings, jx_index *index,
+                                    jx_verdict *verdict) {
+    static const uint8_t none[1] = {0};
+    if (index == NULL) return JX_NO_INDEX;
+    if (settings == NULL || verdict == NULL || (text == NULL && size != 0)) return JX_NULL_POINTER;
+    return jx_index_new_non_null(text == NULL ? none : text, size, settings, index, verdict);
+}
+
+/* Finds the value that a JSON Pointer (RFC 6901) names, as jx_at_with does by the settings of the index. In an object it
+ * looks at as many names as a binary search needs, in an array at one element.
+ *
+ * Allocates nothing. Returns JX_OK, JX_NO_INDEX or JX_NULL_POINTER. */
+static inline uint32_t jx_index_find(jx_index *index, const uint8_t *pointer, size_t pointer_size, jx_answer *answer) {
+    static const uint8_t none[1] = {0};
+    if (index == NULL) return JX_NO_INDEX;
+    if (answer == NULL || (pointer == NULL && pointer_size != 0)) return JX_NULL_POINTER;
+    return jx_index_find_non_null(index, pointer == NULL ? none : pointer, pointer_size, answer);
+}
+
+/* Gives a value by the number of its row, as jx_rows lists it: 0 is the root.
+ *
+ * Allocates nothing. Returns JX_OK, JX_OUT_OF_BOUNDS if there are no more rows, JX_NO_INDEX or JX_NULL_POINTER. */
+static inline uint32_t jx_index_row(jx_index *index, size_t number, jx_row *row) {
+    if (index == NULL) return JX_NO_INDEX;
+    if (row == NULL) return JX_NULL_POINTER;
+    return jx_index_row_non_null(index, number, row);
+}
+
+/* Frees the index, if there is one, and sets the struct to {0}. So a second call on the same struct does nothing, nor does one
+ * with a null pointer. */
+static inline void jx_index_free(jx_index *index) {
+    if (index != NULL) jx_index_free_non_null(index);
+}
 
 /* Kinds of verdicts on elements of sequences, in addition to those on texts. */
 enum {
@@ -210,11 +294,130 @@ uint32_t jx_elements(const uint8_t *sequence, size_t size, uint32_t depth, jx_el
 
 /* Does the same by settings. JX_IGNORE_MARK skips a byte order mark that is alone before the first record separator; in an
  * element a mark is refused. JX_UNIQUE_NAMES refuses an element at its first duplicate name, and allocates memory in
- * proportion to each accepted element, one after another.
+ * proportion to the names of the objects that are open at once.
  *
  * Returns JX_OK, JX_NO_MEMORY, JX_DEPTH_TOO_GREAT or JX_UNKNOWN_FLAG. */
 uint32_t jx_elements_with(const uint8_t *sequence, size_t size, const jx_settings *settings, jx_element *elements, size_t room,
                           size_t *count);
+
+/* A text that is edited, and the verdict on all of it after each edit (RFC 8259). An edit and its verdict read what is near
+ * the edit, not the whole text.
+ *
+ * The struct is a handle, which the library alone writes. Set it to {0}, which holds no document, before its first call.
+ * Free it once. It may be moved, also to another thread. Do not use a copy of it after a call on another copy: a copy that is
+ * used, or freed, once the document was freed leads to memory that is gone.
+ *
+ * Null pointers are answered, and change nothing: JX_NO_DOCUMENT where `document` is null, else JX_NULL_POINTER. Bytes of
+ * the size 0 may be null. */
+typedef struct jx_document {
+    void *inside;
+} jx_document;
+
+/* What the library exports: the calls below, for pointers of which none is null. Call those. */
+uint32_t jx_document_new_non_null(const uint8_t *text, size_t size, const jx_settings *settings, jx_document *document);
+uint32_t jx_document_edit_non_null(jx_document *document, size_t start, size_t end, const uint8_t *replacement, size_t size);
+uint32_t jx_document_verdict_non_null(jx_document *document, jx_verdict *verdict);
+uint32_t jx_document_size_non_null(jx_document *document, size_t *size);
+uint32_t jx_document_copy_non_null(jx_document *document, size_t start, uint8_t *bytes, size_t size);
+void jx_document_free_non_null(jx_document *document);
+
+/* Makes a document of a copy of the bytes. A document that the struct held is freed. Any status but JX_OK leaves the struct
+ * as it was.
+ *
+ * Allocates memory in proportion to the text, which jx_document_free frees. Returns JX_OK, JX_NO_MEMORY, JX_DEPTH_TOO_GREAT,
+ * JX_UNKNOWN_FLAG, JX_NO_UNIQUE_NAMES, JX_NO_DOCUMENT or JX_NULL_POINTER. */
+static inline uint32_t jx_document_new(const uint8_t *text, size_t size, const jx_settings *settings, jx_document *document) {
+    static const uint8_t none[1] = {0};
+    if (document == NULL) return JX_NO_DOCUMENT;
+    if (settings == NULL || (text == NULL && size != 0)) return JX_NULL_POINTER;
+    return jx_document_new_non_null(text == NULL ? none : text, size, settings, document);
+}
+
+/* Puts `size` other bytes in the place of those from `start` up to, but not including, `end`. Offsets count the bytes of an
+ * ignored byte order mark. An edit may cut a character, an escape or a mark. Any status but JX_OK leaves all bytes as they
+ * were.
+ *
+ * Allocates memory in proportion to the replacement. Returns JX_OK, JX_NO_MEMORY, JX_OUT_OF_BOUNDS, JX_NO_DOCUMENT or
+ * JX_NULL_POINTER. */
+static inline uint32_t jx_document_edit(jx_document *document, size_t start, size_t end, const uint8_t *replacement, size_t size) {
+    static const uint8_t none[1] = {0};
+    if (document == NULL) return JX_NO_DOCUMENT;
+    if (replacement == NULL && size != 0) return JX_NULL_POINTER;
+    return jx_document_edit_non_null(document, start, end, replacement == NULL ? none : replacement, size);
+}
+
+/* Gives the verdict on all bytes, as one text: that of jx_check_with by the document's settings. Takes up what edits changed
+ * since the last verdict, so there may be several edits before one.
+ *
+ * May allocate. Returns JX_OK, JX_NO_MEMORY, JX_NO_DOCUMENT or JX_NULL_POINTER. */
+static inline uint32_t jx_document_verdict(jx_document *document, jx_verdict *verdict) {
+    if (document == NULL) return JX_NO_DOCUMENT;
+    if (verdict == NULL) return JX_NULL_POINTER;
+    return jx_document_verdict_non_null(document, verdict);
+}
+
+/* Tells how many bytes there are.
+ *
+ * Allocates nothing. Returns JX_OK, JX_NO_DOCUMENT or JX_NULL_POINTER. */
+static inline uint32_t jx_document_size(jx_document *document, size_t *size) {
+    if (document == NULL) return JX_NO_DOCUMENT;
+    if (size == NULL) return JX_NULL_POINTER;
+    return jx_document_size_non_null(document, size);
+}
+
+/* Copies the `size` bytes from `start` on to `bytes`.
+ *
+ * Allocates as much as it copies and frees it. Returns JX_OK, JX_NO_MEMORY, JX_OUT_OF_BOUNDS, JX_NO_DOCUMENT or
+ * JX_NULL_POINTER. */
+static inline uint32_t jx_document_copy(jx_document *document, size_t start, uint8_t *bytes, size_t size) {
+    uint8_t none[1] = {0};
+    if (document == NULL) return JX_NO_DOCUMENT;
+    if (bytes == NULL && size != 0) return JX_NULL_POINTER;
+    return jx_document_copy_non_null(document, start, bytes == NULL ? none : bytes, size);
+}
+
+/* Frees the document, if there is one, and sets the struct to {0}. So a second call on the same struct does nothing, nor does
+ * one with a null pointer. */
+static inline void jx_document_free(jx_document *document) {
+    if (document != NULL) jx_document_free_non_null(document);
+}
+
+/* A text in parts, on many machines: each part is read by itself and comes to a run, which is bytes to be kept or sent. Runs
+ * of neighbours are joined, in any order of joins, up to the run of the whole text, which has the verdict on it. A run has
+ * a few KB for most parts. Its bytes are the same on every machine; docs/FORMAT.md says what they are.
+ *
+ * The bytes of a run are looked at before they are used: any bytes may be passed. A digest finds runs that were damaged. It
+ * is no signature: sign runs where other people may write them. */
+
+/* In place of an offset: where the part stands is not told. Then runs are joined in the order in which they are passed. */
+#define JX_NO_FROM UINT64_MAX
+
+/* At most so many bytes has a run of this depth. */
+#define JX_RUN_MOST(depth) ((size_t)4096 + (size_t)1120 * (depth))
+
+/* Reads a part of a text, which may be cut at any byte, also inside a character or a number, and writes its run to `run`.
+ * `from` is the offset of its first byte in the text, or JX_NO_FROM. Writes the run's size to `run_size`. A run of more
+ * than `room` bytes is not written, and JX_NO_ROOM is returned: its size tells how much room a second call needs. A byte
+ * order mark is not ignored: leave it out of the first part, and let `from` count it.
+ *
+ * Allocates memory and frees it. Returns JX_OK, JX_NO_ROOM, JX_NO_MEMORY, JX_DEPTH_TOO_GREAT, or JX_TOO_MANY_BYTES for a part
+ * that would end at 2^64 or behind. */
+uint32_t jx_run_of(const uint8_t *part, size_t size, uint64_t from, uint32_t depth, uint8_t *run, size_t room, size_t *run_size);
+
+/* Writes the run of both parts' bytes, those of `right` behind those of `left`, which must end where `right` begins. Joins
+ * may be made in any order: (a b) c comes to the verdict of a (b c). `run` and `run_size` as with jx_run_of.
+ *
+ * Allocates memory in proportion to the runs and frees it. Returns JX_OK, JX_NO_ROOM, JX_NO_MEMORY, JX_NOT_A_RUN,
+ * JX_OTHER_DEPTH, JX_NOT_NEIGHBOURS, also where one run tells its offset and the other does not, or JX_TOO_MANY_BYTES. */
+uint32_t jx_run_join(const uint8_t *left, size_t left_size, const uint8_t *right, size_t right_size, uint8_t *run, size_t room,
+                     size_t *run_size);
+
+/* Gives the verdict on the run's bytes as a whole text, that of jx_check on them. They must be those from `start` up to, but
+ * not including, `end`: so a part that was lost is told, and no verdict is given on less than the text. Offsets count from
+ * the text's start. A run that was made with JX_NO_FROM starts at 0.
+ *
+ * Allocates memory in proportion to the run and frees it. Returns JX_OK, JX_NO_MEMORY, JX_NOT_A_RUN or JX_NOT_NEIGHBOURS. */
+uint32_t jx_run_verdict(const uint8_t *run, size_t run_size, size_t start, size_t end, jx_verdict *verdict);
 
 /* Returns the version: 10,000 times its first number, plus 100 times the second, plus the third. 100 is 0.1.0. */
 uint32_t jx_version(void);

@@ -1,7 +1,8 @@
 #!/usr/bin/env bash
-# Where the loop over a text's bytes stands in the program. Where `Reader::feed` begins 16 bytes behind a multiple of 32, one worker may
-# take up to 1.4 times as long (docs/PERFORMANCE.md). The compiler aligns functions to 16 bytes, so any change in front of it decides
-# that anew. No answer depends on it: a bad place is told and fails nothing.
+# Where the loop over a text's bytes stands in the program. Processors of the Skylake family decode a jump anew each time if it crosses a
+# multiple of 32 bytes or ends there. The compiler aligns functions to 16 bytes, so any change in front of `Reader::feed` decides anew which
+# of its jumps are such: 4 to 7 of 100 that it takes where it begins at a multiple of 32, 24 to 29 where it begins 16 bytes behind one. There
+# one worker takes up to 1.4 times as long. No answer depends on it: a bad place is told and fails nothing.
 . "$(dirname "$0")/lib.sh"
 
 # The addresses of the function, hexadecimal, a line each.

@@ -4,16 +4,22 @@
 
 clone="$room/a clone"
 prefix=$room/home/.local
-places='lib/libjx.a lib/libjx.so.0 include/jx.h lib/pkgconfig/jx.pc bin/jx
-share/man/man1/jx.1 share/bash-completion/completions/jx
+places='lib/libjx.a lib/libjx.so.0 include/jx.h lib/pkgconfig/jx.pc bin/jx bin/jx-lsp
+share/man/man1/jx.1 share/man/man1/jx-lsp.1 share/bash-completion/completions/jx
 share/zsh/site-functions/_jx share/fish/vendor_completions.d/jx.fish'
 
 # copy_clone: a copy of what ./install reads, built by now as it says itself.
 copy_clone() {
     mkdir -p "$clone/crates/jx/src" "$clone/crates/jx/out"
     mkdir -p "$clone/crates/jx_c/src" "$clone/crates/jx_c/out"
-    cp -R "$root/install" "$root/jx" "$root/tools" "$root/jx.1" "$root/completions" "$root/crates.txt" "$root/include" "$root/jx.pc" "$clone"
+    cp -R "$root/install" "$root/jx" "$root/tools" "$root/jx.1" "$root/jx-lsp.1" "$root/completions" "$root/crates.txt" "$root/include" "$root/jx.pc" "$clone"
     cp "$program" "$clone/crates/jx/out/jx"
+    mkdir -p "$clone/crates/jx_lsp/src" "$clone/crates/jx_lsp/out"
+    if [ -e "$root/crates/jx_lsp/out/jx_lsp" ]; then
+        cp "$root/crates/jx_lsp/out/jx_lsp" "$clone/crates/jx_lsp/out/jx_lsp"
+    else
+        cp "$program" "$clone/crates/jx_lsp/out/jx_lsp"
+    fi
     if [ -e "$root/crates/jx_c/out/libjx.a" ]; then
         cp "$root/crates/jx_c/out/libjx.a" "$clone/crates/jx_c/out/libjx.a"
     else
@@ -24,7 +30,7 @@ copy_clone() {
     else
         echo 'no library' >"$clone/crates/jx_c/out/libjx.so.0"
     fi
-    touch "$clone/jx.stamp" "$clone/jx.library.stamp"
+    touch "$clone/jx.stamp" "$clone/jx.library.stamp" "$clone/jx.server.stamp"
 }
 
 it_installs_all_that_it_says() {
@@ -37,7 +43,7 @@ it_installs_all_that_it_says() {
         same "$place is there" yes "$([ -s "$prefix/$place" ] && echo yes)"
     done
     has 'a folder that is not on the PATH' "$prefix/bin is not on the PATH" "$said"
-    same 'nothing else is there' 9 "$(find home -type f | wc -l)"
+    same 'nothing else is there' 11 "$(find home -type f | wc -l)"
 }
 
 the_installed_program_needs_nothing_of_the_clone() {

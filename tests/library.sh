@@ -38,7 +38,7 @@ c_programs_come_to_what_the_table_says() {
             continue
         fi
         is_compiled=yes
-        for name in verdicts indexed sequences settings; do
+        for name in verdicts indexed indexes sequences settings documents runs; do
             c_program "$compiler" "$name"
         done
     done

@@ -39,7 +39,7 @@ the_page_has_its_sections_and_the_version() {
 
 each_paragraph_of_the_help_stands_there() {
     local command count paragraph
-    for command in '' check explain index at seq; do
+    for command in '' check explain index at seq part join whole; do
         count=0
         while read -r paragraph; do
             has "jx $command --help: a paragraph" "$paragraph" "$text"
@@ -51,8 +51,12 @@ each_paragraph_of_the_help_stands_there() {
 
 each_fault_stands_there() {
     local line
-    for line in cannot\ open read\ failed write\ failed out\ of\ memory too\ many\ pieces; do
+    for line in cannot\ open read\ failed write\ failed out\ of\ memory too\ many\ pieces no\ runs 'the runs cover A..B and not C..D'; do
         has "the fault $line" "jx: $line" "$text"
+    done
+    for line in 'not a run' 'of another version' 'cut short' 'damaged' 'not well formed' 'read with depth D' \
+        'begins at X, where Y was due' 'has no --from, as others have'; do
+        has "the fault $line" "jx: run K: $line" "$text"
     done
 }
 

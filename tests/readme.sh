@@ -30,7 +30,7 @@ write_sessions() {
     /^    > / && inside { print substr($0, 7) > script; next }
     /^    / && inside { print substr($0, 5) > wanted; next }
     { close_session() }
-' "$root/README.md" "$root/docs/RECIPES.md"
+' "$root/README.md" "$root/docs/RECIPES.md" "$root/docs/DISTRIBUTED.md"
 }
 
 each_session_prints_what_stands_below_it() {

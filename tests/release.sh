@@ -7,9 +7,15 @@ clone="$room/a clone"
 # copy_clone: a copy of what tools/release reads, built by now as it says itself.
 copy_clone() {
     mkdir -p "$clone/crates/jx/src" "$clone/crates/jx/out" "$clone/crates/jx_c/src" "$clone/crates/jx_c/out"
-    cp -R "$root/install" "$root/jx" "$root/tools" "$root/jx.1" "$root/completions" "$root/crates.txt" "$root/include" "$root/jx.pc" "$root/README.md" "$clone"
+    cp -R "$root/install" "$root/jx" "$root/tools" "$root/jx.1" "$root/jx-lsp.1" "$root/completions" "$root/crates.txt" "$root/include" "$root/jx.pc" "$root/README.md" "$clone"
     rm -f "$clone/tools/wheel"
     cp "$program" "$clone/crates/jx/out/jx"
+    mkdir -p "$clone/crates/jx_lsp/src" "$clone/crates/jx_lsp/out"
+    if [ -e "$root/crates/jx_lsp/out/jx_lsp" ]; then
+        cp "$root/crates/jx_lsp/out/jx_lsp" "$clone/crates/jx_lsp/out/jx_lsp"
+    else
+        cp "$program" "$clone/crates/jx_lsp/out/jx_lsp"
+    fi
     for library in libjx.a libjx.so.0; do
         if [ -e "$root/crates/jx_c/out/$library" ]; then
             cp "$root/crates/jx_c/out/$library" "$clone/crates/jx_c/out/$library"
@@ -17,7 +23,7 @@ copy_clone() {
             echo 'no library' >"$clone/crates/jx_c/out/$library"
         fi
     done
-    touch "$clone/jx.stamp" "$clone/jx.library.stamp"
+    touch "$clone/jx.stamp" "$clone/jx.library.stamp" "$clone/jx.server.stamp"
 }
 
 two_runs_make_the_same_bytes() {
@@ -37,7 +43,7 @@ the_archive_has_all_that_is_installed() {
     local place version
     version=$("$program" --version | sed 's/^jx //')
     tar -xzf "one/jx-$version-x86_64-linux.tar.gz"
-    for place in bin/jx lib/libjx.a include/jx.h lib/pkgconfig/jx.pc share/man/man1/jx.1 share/bash-completion/completions/jx \
+    for place in bin/jx bin/jx-lsp lib/libjx.a include/jx.h lib/pkgconfig/jx.pc share/man/man1/jx.1 share/man/man1/jx-lsp.1 share/bash-completion/completions/jx \
         share/zsh/site-functions/_jx share/fish/vendor_completions.d/jx.fish README.md; do
         same "the archive has $place" yes "$([ -s "jx-$version-x86_64-linux/$place" ] && echo yes)"
     done
@@ -47,7 +53,7 @@ the_archive_has_all_that_is_installed() {
 the_package_is_unpacked_and_its_program_runs() {
     local place
     dpkg-deb -x one/jx_*_amd64.deb unpacked
-    for place in bin/jx lib/libjx.a include/jx.h lib/pkgconfig/jx.pc share/man/man1/jx.1.gz share/bash-completion/completions/jx \
+    for place in bin/jx bin/jx-lsp lib/libjx.a include/jx.h lib/pkgconfig/jx.pc share/man/man1/jx.1.gz share/man/man1/jx-lsp.1.gz share/bash-completion/completions/jx \
         share/zsh/vendor-completions/_jx share/fish/vendor_completions.d/jx.fish share/doc/jx/README.md; do
         same "the package has $place" yes "$([ -s "unpacked/usr/$place" ] && echo yes)"
     done

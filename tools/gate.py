@@ -54,9 +54,18 @@ class Sampler(threading.Thread):
         if b"--crate-name" not in words:
             return
         crate = words[words.index(b"--crate-name") + 1].decode()
+        if not self.is_below(int(folder.name)):
+            return  # Somebody else's check.
         fields = (folder / "stat").read_text().rpartition(")")[2].split()
         ticks = int(fields[11]) + int(fields[12])
         self.seen[folder.name, fields[19]] = crate, ticks / os.sysconf("SC_CLK_TCK")
+
+    def is_below(self, process):
+        """Whether this process or one that it started has started that one."""
+        while process > 1 and process != os.getpid():
+            stat = pathlib.Path("/proc/%d/stat" % process).read_text()
+            process = int(stat.rpartition(")")[2].split()[1])
+        return process == os.getpid()
 
     def by_crate(self):
         sums = collections.Counter()

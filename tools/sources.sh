@@ -10,6 +10,10 @@ library=$root/crates/jx_c/out/libjx.a
 shared_library=$root/crates/jx_c/out/libjx.so.0
 library_stamp=$root/jx.library.stamp
 
+# The language server.
+server=$root/crates/jx_lsp/out/jx_lsp
+server_stamp=$root/jx.server.stamp
+
 # Sets `crates`: the crate, or jx, and all that crates.txt says that it stands on, each named once.
 find_crates() {
     crates=" ${1-jx} "
@@ -50,6 +54,9 @@ is_built() { [ -x "$program" ] && is_fresh "$stamp"; }
 
 # Whether the library is there, and nothing that it is made of is newer.
 is_library_built() { [ -e "$library" ] && [ -e "$shared_library" ] && is_fresh "$library_stamp"; }
+
+# Whether the language server is there, and nothing that it is made of is newer.
+is_server_built() { [ -x "$server" ] && is_fresh "$server_stamp"; }
 
 # Whether no source of the crates is newer than the stamp.
 is_fresh() {

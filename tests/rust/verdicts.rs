@@ -1,7 +1,8 @@
 //! Reads the texts of the table, each beginning of them, and each of these in slices of one byte.
 
 use jx::{
-    check, elements, ElementVerdict, Fault, FindError, NoUniqueNames, Reader, Refusal, Settings,
+    check, elements, Document, EditError, ElementVerdict, Fault, FindError, NoUniqueNames,
+    OpenError, Reader, Refusal, Run, RunError, Settings,
 };
 
 struct Row {
@@ -75,6 +76,75 @@ fn slices_of_one_byte_come_to_the_same() {
                 reader.feed(&[*byte]).unwrap();
             }
         }
+    }
+}
+
+/// A text typed at its end and at its start, a byte at a time, and then taken out.
+#[test]
+fn documents_come_to_the_same() {
+    for one in table() {
+        let settings = Settings {
+            depth: one.depth,
+            ..Settings::default()
+        };
+        let mut document = Document::new(b"", &settings).unwrap();
+        let mut kept = Vec::new();
+        let half = one.text.len() / 2;
+        let (front, back) = one.text.split_at(half);
+        let typed = back.iter().enumerate();
+        let put = front.iter().rev().map(|byte| (0, byte));
+        for (at, byte) in typed.chain(put) {
+            document.edit(at..at, &[*byte]).unwrap();
+            kept.insert(at, *byte);
+            let wanted = check(&kept, one.depth).map_err(Fault::Refused);
+            assert_eq!(document.verdict(), wanted, "line {}, {kept:?}", one.line);
+        }
+        assert_eq!(document.copy(..).unwrap(), one.text, "line {}", one.line);
+        while let Some(last) = kept.pop() {
+            assert_eq!(document.copy(kept.len()..).unwrap(), [last]);
+            document.edit(kept.len().., b"").unwrap();
+            let wanted = check(&kept, one.depth).map_err(Fault::Refused);
+            assert_eq!(document.verdict(), wanted, "line {}, {kept:?}", one.line);
+        }
+        assert!(document.is_empty());
+    }
+}
+
+#[test]
+fn documents_refuse_what_they_cannot_do() {
+    let unique = Settings {
+        unique_names: true,
+        ..Settings::default()
+    };
+    let refused = Document::new(b"1", &unique).map(|_| ());
+    assert_eq!(refused, Err(OpenError::NoUniqueNames));
+    let mut document = Document::new(b"[1]", &Settings::default()).unwrap();
+    #[allow(clippy::reversed_empty_ranges)]
+    for range in [2..1, 0..4, 4..4, usize::MAX..usize::MAX, 3..0] {
+        let told = Err(EditError::OutOfBounds);
+        assert_eq!(document.edit(range.clone(), b"7"), told);
+        assert_eq!(document.copy(range).map(|_| ()), told);
+    }
+    assert_eq!(
+        document.edit(..=usize::MAX, b""),
+        Err(EditError::OutOfBounds)
+    );
+    assert_eq!(document.copy(1..=1).unwrap(), b"1");
+    assert_eq!(document.len(), 3);
+}
+
+#[test]
+fn documents_go_to_other_threads_and_are_freed() {
+    let text = format!("[{}0]", "[1,2],".repeat(20_000));
+    for _ in 0..50 {
+        let mut document = Document::new(text.as_bytes(), &Settings::default()).unwrap();
+        let worker = std::thread::spawn(move || {
+            document.edit(50_000..50_000, b" ").unwrap();
+            (document.verdict(), document)
+        });
+        let (verdict, document) = worker.join().unwrap();
+        assert_eq!(verdict, Ok(()));
+        assert_eq!(document.len(), text.len() + 1);
     }
 }
 
@@ -246,4 +316,65 @@ fn a_mark_alone_is_no_element() {
     let repeated = ElementVerdict::Refused(Refusal::RepeatedName { at: 11 });
     assert_eq!(found, [(4..18, repeated), (19..21, ElementVerdict::Accepted)]);
     assert_eq!(elements(sequence, jx::DEPTH).unwrap().len(), 3);
+}
+
+#[test]
+fn runs_of_two_parts_come_to_the_verdict_of_the_whole() {
+    for one in table() {
+        let size = one.text.len();
+        for cut in 0..=size {
+            let part = |from, part| Run::of(part, Some(from), one.depth).unwrap();
+            let right = part(cut as u64, &one.text[cut..]);
+            let sent = Run::try_from(right.as_bytes()).unwrap();
+            assert_eq!(sent, right);
+            let whole = part(0, &one.text[..cut]).join(&sent).unwrap();
+            assert_eq!(
+                whole.verdict(0..size),
+                Ok(one.wanted),
+                "line {}, {cut}",
+                one.line
+            );
+        }
+    }
+}
+
+#[test]
+fn runs_that_do_not_meet_are_told() {
+    let run = |part: &[u8], from, depth| Run::of(part, from, depth).unwrap();
+    let left = run(b"[1,", Some(0), 512);
+    assert_eq!(
+        left.join(&run(b"2]", Some(4), 512)),
+        Err(RunError::NotNeighbours)
+    );
+    assert_eq!(
+        left.join(&run(b"2]", None, 512)),
+        Err(RunError::NotNeighbours)
+    );
+    assert_eq!(
+        left.join(&run(b"2]", Some(3), 3)),
+        Err(RunError::OtherDepth)
+    );
+    assert_eq!(left.verdict(0..4), Err(RunError::NotNeighbours));
+    assert_eq!(left.verdict(0..3), Ok(Err(Refusal::Truncated)));
+    assert_eq!(
+        Run::of(b"12", Some(u64::MAX - 1), 512),
+        Err(RunError::TooManyBytes)
+    );
+    assert_eq!(Run::of(b"", Some(u64::MAX), 512), Err(RunError::TooManyBytes));
+    for end in 0..left.as_bytes().len() {
+        let cut = Run::try_from(&left.as_bytes()[..end]);
+        assert_eq!(cut, Err(RunError::NotARun), "{end} bytes");
+    }
+}
+
+#[test]
+fn a_run_with_more_bytes_than_are_tried_first_is_whole() {
+    let deep = "[".repeat(60_000) + &"]".repeat(60_000);
+    let part = |range: std::ops::Range<usize>| {
+        Run::of(deep[range.clone()].as_bytes(), Some(range.start as u64), 60_000).unwrap()
+    };
+    let left = part(0..90_000);
+    let right = part(90_000..120_000);
+    assert!(right.as_bytes().len() > 100_000);
+    assert_eq!(left.join(&right).unwrap().verdict(0..120_000), Ok(Ok(())));
 }

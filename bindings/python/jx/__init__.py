@@ -2,6 +2,7 @@
 
 No call makes a tree of values or copies the data. Other threads run during a call.
 """
+from ._document import Document
 from ._elements import Element, elements
 from ._faults import (
     AfterLast,
@@ -19,6 +20,7 @@ from ._faults import (
 from ._find import get, get_all, loads
 from ._index import Index, Row, Value, ValueKind
 from ._library import DEPTH_DEFAULT, DEPTH_MAX, version
+from ._runs import NoRun, NotARun, NotNeighbours, OtherDepth, Run
 from ._texts import Reader, check, check_file, verdict
 
 __version__ = version()
@@ -27,18 +29,24 @@ __all__ = [
     "BadPointer",
     "DEPTH_DEFAULT",
     "DEPTH_MAX",
+    "Document",
     "Element",
     "Index",
     "Kind",
     "NameRepeated",
+    "NoRun",
     "NoSuchMember",
+    "NotARun",
     "NotAContainer",
     "NotAnIndex",
     "NotFound",
+    "NotNeighbours",
+    "OtherDepth",
     "PastEnd",
     "Reader",
     "Refused",
     "Row",
+    "Run",
     "Value",
     "ValueKind",
     "Verdict",

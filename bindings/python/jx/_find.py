@@ -7,7 +7,7 @@ from typing import Any, Iterable, List
 
 from . import _faults
 from ._faults import Kind, Verdict, refused_in
-from ._library import DEPTH_DEFAULT, LIBRARY, CAnswer, done, held, settings, view
+from ._library import DEPTH_DEFAULT, LIBRARY, CAnswer, CPointer, done, held, settings, view
 
 _FOUND = 0
 _NOT_FOUND = {
@@ -55,8 +55,13 @@ def get(
                 address, size, pointer_address, pointer_size, ctypes.byref(asked), ctypes.byref(answer)
             )
         )
+    return _told(view(data), pointer, answer, default)
+
+
+def _told(data: memoryview, pointer: str, answer: CAnswer, default: Any) -> Any:
+    """What an answer says of a pointer: the value's bytes or the default, or what it raises."""
     if answer.outcome == _FOUND:
-        return view(data)[answer.span.start : answer.span.end]
+        return data[answer.span.start : answer.span.end]
     if answer.outcome in _NOT_FOUND:
         if default is not _RAISE:
             return default
@@ -64,7 +69,7 @@ def get(
     if answer.outcome in _BAD_POINTERS:
         why = _BAD_POINTERS[answer.outcome]
         raise _faults.BadPointer("%r is no JSON Pointer: %s" % (pointer, why % answer.at if "%" in why else why))
-    raise refused_in(view(data), Verdict(_NO_TEXT[answer.outcome], answer.at))
+    raise refused_in(data, Verdict(_NO_TEXT[answer.outcome], answer.at))
 
 
 def loads(
@@ -81,20 +86,28 @@ def loads(
     return json.loads(bytes(value), **options)
 
 
-def get_all(data: Any, pointers: Iterable[str], default: Any = _RAISE, **asked: Any) -> List[Any]:
-    """The bytes of the values that pointers lead to, in order. The text is read once, and its rows are kept for the call.
+def get_all(
+    data: Any,
+    pointers: Iterable[str],
+    default: Any = _RAISE,
+    *,
+    depth: int = DEPTH_DEFAULT,
+    ignore_bom: bool = False,
+    unique_names: bool = False,
+) -> List[Any]:
+    """The bytes of the values that pointers lead to, in order. The text is read and indexed once for the call.
 
     The words are those of `get`.
     """
-    from ._index import Index
-
-    index = Index(data, **asked)
-    found = []
-    for pointer in pointers:
-        try:
-            found.append(index[pointer].bytes)
-        except _faults.NotFound:
-            if default is _RAISE:
-                raise
-            found.append(default)
-    return found
+    asked = settings(depth, ignore_bom, unique_names)
+    named = list(pointers)
+    # The empty pointer behind them tells whether the bytes are a text.
+    words = [pointer_bytes(pointer) for pointer in named] + [b""]
+    count = len(words)
+    spelt = (CPointer * count)(*(CPointer(word, len(word)) for word in words))
+    answers = (CAnswer * count)()
+    with held(data) as (address, size):
+        done(LIBRARY.jx_at_all(address, size, ctypes.byref(asked), spelt, count, answers, count))
+    whole = view(data)
+    _told(whole, "", answers[count - 1], None)
+    return [_told(whole, pointer, answers[at], default) for at, pointer in enumerate(named)]

@@ -14,6 +14,8 @@ IGNORE_BOM = 1
 UNIQUE_NAMES = 2
 # `parent` of the row of the root.
 NO_ROW = ctypes.c_size_t(-1).value
+# In place of an offset: where a part stands is not told.
+NO_FROM = 2**64 - 1
 
 
 class Status(enum.IntEnum):
@@ -24,6 +26,12 @@ class Status(enum.IntEnum):
     TOO_MANY_BYTES = 4
     UNKNOWN_FLAG = 5
     NO_UNIQUE_NAMES = 6
+    OUT_OF_BOUNDS = 7
+    NO_DOCUMENT = 8
+    NO_ROOM = 11
+    NOT_A_RUN = 12
+    OTHER_DEPTH = 13
+    NOT_NEIGHBOURS = 14
 
 
 class CSettings(ctypes.Structure):
@@ -38,8 +46,16 @@ class CReader(ctypes.Structure):
     _fields_ = [("words", ctypes.c_uint64 * 1031)]
 
 
+class CDocument(ctypes.Structure):
+    _fields_ = [("inside", ctypes.c_void_p)]
+
+
 class CSpan(ctypes.Structure):
     _fields_ = [("start", ctypes.c_size_t), ("end", ctypes.c_size_t)]
+
+
+class CPointer(ctypes.Structure):
+    _fields_ = [("bytes", ctypes.c_char_p), ("size", ctypes.c_size_t)]
 
 
 class CAnswer(ctypes.Structure):
@@ -68,8 +84,18 @@ _CALLS: dict[str, list[Any]] = {
     "jx_reader_feed": [_POINTER, _POINTER, _SIZE],
     "jx_reader_verdict": [_POINTER, _POINTER],
     "jx_at_with": [_POINTER, _SIZE, _POINTER, _SIZE, _POINTER, _POINTER],
+    "jx_at_all": [_POINTER, _SIZE, _POINTER, _POINTER, _SIZE, _POINTER, _SIZE],
     "jx_rows_with": [_POINTER, _SIZE, _POINTER, _POINTER, _SIZE, _POINTER, _POINTER],
     "jx_elements_with": [_POINTER, _SIZE, _POINTER, _POINTER, _SIZE, _POINTER],
+    "jx_document_new_non_null": [_POINTER, _SIZE, _POINTER, _POINTER],
+    "jx_document_edit_non_null": [_POINTER, _SIZE, _SIZE, _POINTER, _SIZE],
+    "jx_document_verdict_non_null": [_POINTER, _POINTER],
+    "jx_document_size_non_null": [_POINTER, _POINTER],
+    "jx_document_copy_non_null": [_POINTER, _SIZE, _POINTER, _SIZE],
+    "jx_document_free_non_null": [_POINTER],
+    "jx_run_of": [_POINTER, _SIZE, ctypes.c_uint64, ctypes.c_uint32, _POINTER, _SIZE, _POINTER],
+    "jx_run_join": [_POINTER, _SIZE, _POINTER, _SIZE, _POINTER, _SIZE, _POINTER],
+    "jx_run_verdict": [_POINTER, _SIZE, _SIZE, _SIZE, _POINTER],
     "jx_version": [],
 }
 
@@ -101,7 +127,7 @@ def _load() -> ctypes.CDLL:
     for name, arguments in _CALLS.items():
         call = getattr(library, name)
         call.argtypes = arguments
-        call.restype = ctypes.c_uint32
+        call.restype = None if name == "jx_document_free_non_null" else ctypes.c_uint32
     return library
 
 

@@ -58,6 +58,15 @@ class Pointers(unittest.TestCase):
         self.assertEqual(jx.get_all(TEXT, ["/c", "/a/0"], None)[0], None)
         with self.assertRaises(jx.NoSuchMember):
             jx.get_all(TEXT, ["/a", "/c"])
+        with self.assertRaises(jx.BadPointer):
+            jx.get_all(TEXT, ["/a", "a"], None)
+        self.assertEqual(jx.get_all(TEXT, []), [])
+        for pointers in ([], ["/a"], ["a"]):
+            with self.assertRaises(jx.Refused):
+                jx.get_all(b"nulx", pointers, None)
+        # A pointer may be long, may repeat another one, and may hold a NUL.
+        self.assertEqual([bytes(it) for it in jx.get_all(b'{"a\\u0000b":1}', ["/a\0b", "", "/a\0b"])], [b"1", b'{"a\\u0000b":1}', b"1"])
+        self.assertEqual(jx.get_all(b"[]", ["/0" * 65535], None), [None])
 
     def test_a_value_of_64_mb_is_not_copied(self):
         data = bytearray(b'{"a":"' + b"x" * (64 << 20) + b'","b":[1]}')

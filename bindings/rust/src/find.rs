@@ -1,3 +1,4 @@
+use crate::elements::OutOfMemory;
 use crate::raw;
 use crate::refusal::Refusal;
 use crate::rows::Kind;
@@ -13,6 +14,32 @@ pub struct Found {
     pub kind: Kind,
     /// Where it stands: a string with its quotation marks, a container with its brackets.
     pub span: Range<usize>,
+}
+
+impl Found {
+    /// What an answer of the library says.
+    pub(crate) fn of(answer: &raw::Answer) -> Result<Found, FindError> {
+        let (token, at) = (answer.at, answer.at);
+        match answer.outcome {
+            0 => Ok(Found {
+                kind: Kind::of(answer.kind),
+                span: answer.span.start..answer.span.end,
+            }),
+            1 => Err(FindError::NoSuchMember { token }),
+            2 => Err(FindError::NameRepeated { token }),
+            3 => Err(FindError::NotAnIndex { token }),
+            4 => Err(FindError::PastEnd { token }),
+            5 => Err(FindError::AfterLast { token }),
+            6 => Err(FindError::NotAContainer { token }),
+            7 => Err(FindError::NoSlash),
+            8 => Err(FindError::BadEscape { at }),
+            9 => unreachable!("a str is in UTF-8"),
+            10 => Err(FindError::Refused(Refusal::Stopped { at })),
+            11 => Err(FindError::Refused(Refusal::Truncated)),
+            12 => Err(FindError::Refused(Refusal::TooDeep { at })),
+            _ => Err(FindError::Refused(Refusal::RepeatedName { at })),
+        }
+    }
 }
 
 /// Why a pointer (RFC 6901, sections 3 and 4) leads to no value. Tokens are counted from 0.
@@ -125,24 +152,44 @@ pub(crate) fn find_with(
         return Err(FindError::OutOfMemory);
     }
     debug_assert_eq!(status, raw::OK);
-    let (token, at) = (answer.at, answer.at);
-    match answer.outcome {
-        0 => Ok(Found {
-            kind: Kind::of(answer.kind),
-            span: answer.span.start..answer.span.end,
-        }),
-        1 => Err(FindError::NoSuchMember { token }),
-        2 => Err(FindError::NameRepeated { token }),
-        3 => Err(FindError::NotAnIndex { token }),
-        4 => Err(FindError::PastEnd { token }),
-        5 => Err(FindError::AfterLast { token }),
-        6 => Err(FindError::NotAContainer { token }),
-        7 => Err(FindError::NoSlash),
-        8 => Err(FindError::BadEscape { at }),
-        9 => unreachable!("a str is in UTF-8"),
-        10 => Err(FindError::Refused(Refusal::Stopped { at })),
-        11 => Err(FindError::Refused(Refusal::Truncated)),
-        12 => Err(FindError::Refused(Refusal::TooDeep { at })),
-        _ => Err(FindError::Refused(Refusal::RepeatedName { at })),
+    Found::of(&answer)
+}
+
+/// What each of many pointers leads to, by settings.
+pub(crate) fn find_all_with(
+    text: &[u8],
+    pointers: &[&str],
+    settings: &Settings,
+) -> Result<Vec<Result<Found, FindError>>, OutOfMemory> {
+    let spelt = collected(pointers.iter().map(|pointer| raw::Pointer {
+        bytes: pointer.as_ptr(),
+        size: pointer.len(),
+    }))?;
+    let mut answers = collected(pointers.iter().map(|_| raw::Answer::default()))?;
+    // SAFETY: each pointer and size are those of one slice, and all are borrowed for the call alone.
+    let status = unsafe {
+        raw::jx_at_all(
+            text.as_ptr(),
+            text.len(),
+            &settings.raw(),
+            spelt.as_ptr(),
+            spelt.len(),
+            answers.as_mut_ptr(),
+            answers.len(),
+        )
+    };
+    if status == raw::NO_MEMORY {
+        return Err(OutOfMemory);
     }
+    debug_assert_eq!(status, raw::OK);
+    collected(answers.iter().map(Found::of))
+}
+
+/// A list of these, for which memory may be refused.
+fn collected<T>(items: impl ExactSizeIterator<Item = T>) -> Result<Vec<T>, OutOfMemory> {
+    let mut all = Vec::new();
+    all.try_reserve_exact(items.len())
+        .map_err(|_| OutOfMemory)?;
+    all.extend(items);
+    Ok(all)
 }

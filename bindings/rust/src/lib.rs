@@ -11,21 +11,27 @@
 
 #![deny(missing_docs, unsafe_op_in_unsafe_fn)]
 
+mod document;
 mod elements;
 mod fault;
 mod find;
+mod index;
 mod raw;
 mod reader;
 mod refusal;
 mod rows;
+mod run;
 mod settings;
 
+pub use document::{Document, EditError, OpenError};
 pub use elements::{elements, Element, ElementVerdict, OutOfMemory};
 pub use fault::Fault;
 pub use find::{find, FindError, Found};
+pub use index::{Index, Value};
 pub use reader::{Reader, TooManyBytes};
 pub use refusal::Refusal;
 pub use rows::{rows, Kind, Row};
+pub use run::{Run, RunError};
 pub use settings::{NoUniqueNames, Settings};
 
 /// The depth that the program `jx` takes where none is named.

@@ -1,5 +1,8 @@
 //! The calls of `jx.h`, as that file declares them.
 
+use std::ffi::c_void;
+use std::ptr;
+
 #[repr(C)]
 #[derive(Clone, Copy, Default)]
 pub struct Verdict {
@@ -19,6 +22,42 @@ pub struct Settings {
 #[derive(Clone)]
 pub struct Reader {
     pub words: [u64; 1031],
+}
+
+/// The pointer is the library's alone; null where it holds no document.
+#[repr(C)]
+pub struct Document {
+    pub inside: *mut c_void,
+}
+
+impl Default for Document {
+    fn default() -> Document {
+        Document {
+            inside: ptr::null_mut(),
+        }
+    }
+}
+
+/// The pointer is the library's alone; null where it holds no index.
+#[repr(C)]
+pub struct Index {
+    pub inside: *mut c_void,
+}
+
+impl Default for Index {
+    fn default() -> Index {
+        Index {
+            inside: ptr::null_mut(),
+        }
+    }
+}
+
+/// The bytes of a pointer.
+#[repr(C)]
+#[derive(Clone, Copy)]
+pub struct Pointer {
+    pub bytes: *const u8,
+    pub size: usize,
 }
 
 #[repr(C)]
@@ -58,6 +97,13 @@ pub const OK: u32 = 0;
 pub const NO_MEMORY: u32 = 1;
 pub const TOO_MANY_BYTES: u32 = 4;
 pub const NO_UNIQUE_NAMES: u32 = 6;
+pub const OUT_OF_BOUNDS: u32 = 7;
+pub const NO_ROOM: u32 = 11;
+pub const NOT_A_RUN: u32 = 12;
+pub const OTHER_DEPTH: u32 = 13;
+pub const NOT_NEIGHBOURS: u32 = 14;
+
+pub const NO_FROM: u64 = u64::MAX;
 
 pub const IGNORE_MARK: u32 = 1;
 pub const UNIQUE_NAMES: u32 = 2;
@@ -86,6 +132,30 @@ extern "C" {
         settings: *const Settings,
         answer: *mut Answer,
     ) -> u32;
+    pub fn jx_at_all(
+        text: *const u8,
+        size: usize,
+        settings: *const Settings,
+        pointers: *const Pointer,
+        count: usize,
+        answers: *mut Answer,
+        room: usize,
+    ) -> u32;
+    pub fn jx_index_new_non_null(
+        text: *const u8,
+        size: usize,
+        settings: *const Settings,
+        index: *mut Index,
+        verdict: *mut Verdict,
+    ) -> u32;
+    pub fn jx_index_find_non_null(
+        index: *mut Index,
+        pointer: *const u8,
+        pointer_size: usize,
+        answer: *mut Answer,
+    ) -> u32;
+    pub fn jx_index_row_non_null(index: *mut Index, number: usize, row: *mut Row) -> u32;
+    pub fn jx_index_free_non_null(index: *mut Index);
     pub fn jx_rows_with(
         text: *const u8,
         size: usize,
@@ -108,4 +178,51 @@ extern "C" {
     pub fn jx_reader_start_with(reader: *mut Reader, settings: *const Settings) -> u32;
     pub fn jx_reader_feed(reader: *mut Reader, bytes: *const u8, size: usize) -> u32;
     pub fn jx_reader_verdict(reader: *const Reader, verdict: *mut Verdict) -> u32;
+    pub fn jx_document_new_non_null(
+        text: *const u8,
+        size: usize,
+        settings: *const Settings,
+        document: *mut Document,
+    ) -> u32;
+    pub fn jx_document_edit_non_null(
+        document: *mut Document,
+        start: usize,
+        end: usize,
+        replacement: *const u8,
+        size: usize,
+    ) -> u32;
+    pub fn jx_document_verdict_non_null(document: *mut Document, verdict: *mut Verdict) -> u32;
+    pub fn jx_document_size_non_null(document: *mut Document, size: *mut usize) -> u32;
+    pub fn jx_document_copy_non_null(
+        document: *mut Document,
+        start: usize,
+        bytes: *mut u8,
+        size: usize,
+    ) -> u32;
+    pub fn jx_document_free_non_null(document: *mut Document);
+    pub fn jx_run_of(
+        part: *const u8,
+        size: usize,
+        from: u64,
+        depth: u32,
+        run: *mut u8,
+        room: usize,
+        run_size: *mut usize,
+    ) -> u32;
+    pub fn jx_run_join(
+        left: *const u8,
+        left_size: usize,
+        right: *const u8,
+        right_size: usize,
+        run: *mut u8,
+        room: usize,
+        run_size: *mut usize,
+    ) -> u32;
+    pub fn jx_run_verdict(
+        run: *const u8,
+        run_size: usize,
+        start: usize,
+        end: usize,
+        verdict: *mut Verdict,
+    ) -> u32;
 }

@@ -47,7 +47,7 @@ pub struct Row {
 }
 
 impl Row {
-    fn of(row: &raw::Row) -> Row {
+    pub(crate) fn of(row: &raw::Row) -> Row {
         Row {
             kind: Kind::of(row.kind),
             span: row.span.start..row.span.end,

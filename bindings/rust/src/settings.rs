@@ -1,6 +1,7 @@
 use crate::elements::{elements_with, Element, OutOfMemory};
 use crate::fault::Fault;
-use crate::find::{find_with, FindError, Found};
+use crate::find::{find_all_with, find_with, FindError, Found};
+use crate::index::Index;
 use crate::raw;
 use crate::reader::Reader;
 use crate::refusal::Refusal;
@@ -112,6 +113,30 @@ impl Settings {
     /// The same as [`find`](crate::find) by these settings.
     pub fn find(&self, text: &[u8], pointer: &str) -> Result<Found, FindError> {
         find_with(text, pointer, self)
+    }
+
+    /// What each of many pointers leads to, in their order. The text is read and indexed once.
+    ///
+    /// ```
+    /// use jx::{FindError, Settings};
+    ///
+    /// let text = br#"{"a":1,"b":[true]}"#;
+    /// let found = Settings::default().find_all(text, &["/b/0", "/c"])?;
+    /// assert_eq!(&text[found[0].clone().unwrap().span], b"true");
+    /// assert_eq!(found[1], Err(FindError::NoSuchMember { token: 0 }));
+    /// # Ok::<(), jx::OutOfMemory>(())
+    /// ```
+    pub fn find_all(
+        &self,
+        text: &[u8],
+        pointers: &[&str],
+    ) -> Result<Vec<Result<Found, FindError>>, OutOfMemory> {
+        find_all_with(text, pointers, self)
+    }
+
+    /// An index of a text, for many look-ups over it: [`Index::new`].
+    pub fn index<'a>(&self, text: &'a [u8]) -> Result<Index<'a>, Fault> {
+        Index::new(text, self)
     }
 
     /// The same as [`rows`](crate::rows) by these settings.

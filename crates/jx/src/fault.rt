@@ -1,5 +1,6 @@
 use clap::error::ErrorKind;
 use jx_command::ArgFault;
+use jx_parts::PartsFault;
 use jx_report::ReportFault;
 use std::alloc::AllocError;
 use std::io;
@@ -23,6 +24,8 @@ pub enum Fault {
     Memory(#[from(alloc)] AllocError),
     #[error("{0}\n")]
     Report(ReportFault),
+    #[error("{0}\n")]
+    Parts(PartsFault),
 }
 
 impl Fault {

@@ -1,19 +1,23 @@
 // The program `jx`. It checks JSON texts, lists their values, finds what pointers name, or explains why a text is refused. Or
-// it checks the elements of sequences.
+// it checks the elements of sequences, or a text that stands in several parts.
 #![tactic(auto)]
+
+ghost use Rattle.std.specs.Prelude.{◌≤◌};
 
 mod explaining;
 mod fault;
 mod input;
 mod lines;
+mod parts;
 
 use explaining::explain_input;
 use fault::Fault;
 use input::report_on_inputs;
-use jx_command::{Request, Told, command_of};
+use jx_command::{Order, Request, Told, command_of};
 use jx_files::Status;
 use jx_report::ReportFault;
 use lines::add_lines;
+use parts::work_on_parts;
 use std::env;
 use std::process::ExitCode;
 use std::sync::Wait;
@@ -22,11 +26,14 @@ use std::thread::Threads;
 /// The status of a call that ends by a fault.
 const FAULT: u8 = 2;
 
-fn answer<R: Threads + Wait + Sync>(rt: &HostRuntime, threads: &R) -> Result<Status, Fault> {
-    let alloc = rt.alloc();
-    let owned: Vec<String> = env::args(rt).map_err(Fault::of_words)?.collect(alloc)?;
-    let words: Vec<&str> = owned.iter().map(|word| word.as_str()).collect(alloc)?;
-    let request = command_of(alloc, &words).map_err(Fault::of_arguments)?;
+/// Answers a request for a report.
+fn answer_request<R: Threads + Wait + Sync>(
+    rt: &HostRuntime,
+    threads: &R,
+    request: Request<'_>,
+) -> Result<Status, Fault>
+    requires { 1 ≤ request.command.piece }
+{
     let Request {
         mut command,
         inputs,
@@ -37,6 +44,16 @@ fn answer<R: Threads + Wait + Sync>(rt: &HostRuntime, threads: &R) -> Result<Sta
     match told {
         Told::Lines => report_on_inputs(rt, threads, &inputs, &command),
         Told::Explained(color) => explain_input(rt, threads, &inputs, &command, color),
+    }
+}
+
+fn answer<R: Threads + Wait + Sync>(rt: &HostRuntime, threads: &R) -> Result<Status, Fault> {
+    let alloc = rt.alloc();
+    let owned: Vec<String> = env::args(rt).map_err(Fault::of_words)?.collect(alloc)?;
+    let words: Vec<&str> = owned.iter().map(|word| word.as_str()).collect(alloc)?;
+    match command_of(alloc, &words).map_err(Fault::of_arguments)? {
+        Order::Report(request) => answer_request(rt, threads, request),
+        Order::Parts(order) => work_on_parts(rt, &order),
     }
 }
 

@@ -3,7 +3,7 @@ use jx_book::{Event, Gate, Go};
 use jx_claim::{Cutting, PieceNo};
 use jx_run::Pace;
 
-/// Reads the pieces of a cutting in order, as one worker, and asks a gate as each is begun, until it says stop: the rest
+/// Reads the pieces of a cutting in order, as one worker, and asks a gate as each is begun, until it says stop. The rest
 /// is then read without a question. Where there is one piece, or none, it asks nothing.
 pub(crate) struct Asking<'g, G> {
     cutting: &'g Cutting,

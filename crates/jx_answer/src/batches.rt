@@ -332,9 +332,9 @@ fn read_both<R: Threads + Sync, G: Gate + Sync>(
     Ok(parts)
 }
 
-/// Reads a batch of a text, which stands behind the bytes that the reader has read, by that many workers: the first reads
-/// on from where the reader stands, and the others make runs of the parts behind that, which the reader then follows. The
-/// gate is asked as each of them begins its part, and the number of a piece is that of its worker; the calling thread reads
+/// Reads a batch of a text, which stands behind the bytes that the reader has read, by that many workers. The first reads
+/// on from where the reader stands. The others make runs of the parts behind that, which the reader then follows. The
+/// gate is asked as each of them begins its part, and the number of a piece is that of its worker. The calling thread reads
 /// a part that a worker was not let read, or had no memory for. Behind a fault no byte is looked at. Only want of memory is
 /// refused, and from then on every batch is.
 pub fn read_batch<R: Threads + Sync, G: Gate + Sync>(

@@ -31,4 +31,6 @@ pub use laws::{
     verdicts_on_elements_are_one,
 };
 pub use sequences::{index_sequence, index_sequence_with};
-pub use texts::{index_text, index_text_with, verdict_of_text, verdict_of_text_with};
+pub use texts::{
+    index_text, index_text_with, rows_of_text_with, verdict_of_text, verdict_of_text_with,
+};

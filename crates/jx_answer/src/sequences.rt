@@ -28,7 +28,7 @@ use std::sync::Wait;
 use std::thread::Threads;
 
 /// Reads a JSON text sequence (RFC 7464) by that many workers, who draw the pieces of the cutting, and answers on each
-/// of its elements in order; a refused one does not stop the rest. It may wait for the workers. The gate is asked after
+/// of its elements in order. A refused one does not stop the rest. It may wait for the workers. The gate is asked after
 /// each step of a worker and may stop the worker; the calling thread reads what is left. One worker reads as each of
 /// several does, in a thread of its own where one can be made. A cutting of at most one piece starts no worker and asks no
 /// gate: the calling thread reads. Only want of memory is a fault.

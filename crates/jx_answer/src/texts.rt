@@ -1,13 +1,15 @@
-ghost use Rattle.std.specs.Prelude.{◌≡◌, ◌+◌, ◌<◌, ◌≤◌, ◌^◌, ◌++◌, ℕ, List, length, IfOk, OnOk};
+ghost use Rattle.std.specs.Prelude.{◌≡◌, ◌+◌, ◌<◌, ◌≤◌, ◌^◌, ◌++◌, ℕ, List, length, IfOk, IfErr, OnOk};
 ghost use Rattle.jx_run.specs.Reader.{HasRead};
 ghost use Rattle.jx_run.specs.Settings.{JudgedBy};
 ghost use Rattle.jx_run.specs.declared.settings.FrontMark.TheVariants.{Refused};
 ghost use Rattle.jx_run.specs.declared.settings.NameRule.TheVariants.{Any};
 ghost use Rattle.jx_run.specs.declared.settings.Settings.{Settings};
+ghost use Rattle.jx_run.specs.declared.verdict.Verdict.TheVariants as verdict;
 ghost use Rattle.jx_run.specs.Verdict.{Judged};
 ghost use Rattle.jx_book.specs.Gathered.{IsRest};
 ghost use Rattle.jx_answer.specs.Answers.{IsAnswer};
 ghost use Rattle.jx_index.specs.ByNames.{IsVerdictBy};
+ghost use Rattle.jx_index.specs.RowsAlone.{AreRowsBy, AreRowsFrom, AreRowsRead};
 ghost use Rattle.jx_index.specs.Settled.{IsAnswerBy, IsAnswerFrom, IsReadBy, rest_from};
 
 use crate::asking::Asking;
@@ -15,10 +17,12 @@ use crate::fault::Fault;
 use crate::laws::{any_names_change_nothing, settings_that_are_off_change_no_answer};
 use jx_book::{Gate, Held, read_whole};
 use jx_claim::{Cutting, Workers};
-use jx_index::{TextAnswer, indexes_stand_behind_fronts};
+use jx_index::{
+    Row, TextAnswer, indexes_stand_behind_fronts, rows_from, rows_of_run, verdict_with_unique_names,
+};
 use jx_lex::Depth;
 use jx_run::{
-    Front, FrontMark, NameRule, OutcomeRun, Reader, Settings, Summary, TextRun, Verdict,
+    Front, FrontMark, NameRule, OutcomeRun, Reader, Refusal, Settings, Summary, TextRun, Verdict,
     a_refused_mark_changes_nothing, front,
 };
 use std::alloc::{AllocError, Global};
@@ -114,7 +118,8 @@ pub fn verdict_of_text<R: Threads + Wait + Sync, G: Gate + Sync>(
     verdict_of_text_with(rt, alloc, text, cutting, workers, &settings, gate)
 }
 
-/// The verdict that `index_text_with` comes to. An index is made only where names have to be unique, and is let go.
+/// The verdict that `index_text_with` comes to. Where names have to be unique, the calling thread reads the text, and asks
+/// the gate as each piece begins, until it says stop.
 pub fn verdict_of_text_with<R: Threads + Wait + Sync, G: Gate + Sync>(
     rt: &R,
     alloc: Global,
@@ -135,10 +140,96 @@ pub fn verdict_of_text_with<R: Threads + Wait + Sync, G: Gate + Sync>(
             Ok(verdict)
         }
         NameRule::Unique => {
-            let answer = index_text_with(rt, alloc, text, cutting, workers, settings, gate)?;
-            Ok(answer.into_verdict())
+            let mut asking = Asking::new(cutting, gate);
+            let verdict = verdict_with_unique_names(alloc, text, settings, &mut asking)?;
+            Ok(verdict)
         }
     }
+}
+
+/// The rows of the index that `index_text_with` makes, or the refusal. No children are listed, and no names sorted. Only
+/// want of memory is a fault.
+pub fn rows_of_text_with<R: Threads + Wait + Sync, G: Gate + Sync>(
+    rt: &R,
+    alloc: Global,
+    text: &[u8],
+    cutting: &Cutting,
+    workers: Workers,
+    settings: &Settings,
+    gate: &G,
+) -> Result<Result<Vec<Row>, Refusal>, Fault>
+    requires cutting { cutting.now.len ≡ length text.now }
+    requires front { cutting.now.front ≡ 0 }
+    ensures accepted { IfOk result (λ read. IfOk read (λ rows. AreRowsBy settings.now text.now rows.items)) }
+    ensures refused { IfOk result (λ read. IfErr read (λ refusal. IsVerdictBy settings.now text.now (verdict.Refused refusal))) }
+{
+    match settings.names {
+        NameRule::Any => {
+            let rows = rows_behind_front(rt, alloc, text, cutting, workers, settings, gate)?;
+            Ok(rows)
+        }
+        NameRule::Unique => {
+            let mut asking = Asking::new(cutting, gate);
+            let verdict = verdict_with_unique_names(alloc, text, settings, &mut asking)?;
+            match verdict {
+                Verdict::Refused(refusal) => Ok(Err(refusal)),
+                Verdict::Accepted => {
+                    let rows = rows_behind_front(
+                        rt, alloc, text, cutting, workers, settings, gate,
+                    )?;
+                    Ok(rows)
+                }
+            }
+        }
+    }
+}
+
+/// The rows whatever names the objects have.
+fn rows_behind_front<R: Threads + Wait + Sync, G: Gate + Sync>(
+    rt: &R,
+    alloc: Global,
+    text: &[u8],
+    cutting: &Cutting,
+    workers: Workers,
+    settings: &Settings,
+    gate: &G,
+) -> Result<Result<Vec<Row>, Refusal>, AllocError>
+    requires cutting { cutting.now.len ≡ length text.now }
+    requires front { cutting.now.front ≡ 0 }
+    ensures accepted { IfOk result (λ read. IfOk read (λ rows. AreRowsRead settings.now text.now rows.items)) }
+    ensures refused { IfOk result (λ read. IfErr read (λ refusal. JudgedBy settings.now 0 text.now (verdict.Refused refusal))) }
+{
+    indexes_stand_behind_fronts();
+    match front(text, settings.mark) {
+        Front::Refused(refusal) => Ok(Err(refusal)),
+        Front::Skip(count) => {
+            let rest = behind(alloc, cutting, count)?;
+            rows_of_rest(rt, alloc, text, &rest, workers, settings.depth, gate)
+        }
+    }
+}
+
+/// The rows of the text from the cutting's front on.
+fn rows_of_rest<R: Threads + Wait + Sync, G: Gate + Sync>(
+    rt: &R,
+    alloc: Global,
+    text: &[u8],
+    cutting: &Cutting,
+    workers: Workers,
+    depth: Depth,
+    gate: &G,
+) -> Result<Result<Vec<Row>, Refusal>, AllocError>
+    requires cutting { cutting.now.len ≡ length text.now }
+    ensures accepted { IfOk result (λ read. IfOk read (λ rows. AreRowsFrom cutting.now.front text.now depth rows.items)) }
+    ensures refused { IfOk result (λ read. IfErr read (λ refusal. Judged cutting.now.front (rest_from cutting.now.front text.now) depth (verdict.Refused refusal))) }
+{
+    if cutting.count() <= 1 || workers.count() == 1 {
+        let mut asking = Asking::new(cutting, gate);
+        return rows_from(alloc, text, cutting.front(), depth, &mut asking);
+    }
+    let run = read_whole::<TextRun, R, G>(rt, alloc, text, cutting, workers, depth, gate)?;
+    let rows = rows_of_run(alloc, text, run.run())?;
+    Ok(rows)
 }
 
 /// The settings that a depth alone stands for: a byte order mark is refused, and objects may have any names.

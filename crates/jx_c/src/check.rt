@@ -10,8 +10,8 @@ use crate::reader::JxReader;
 use crate::settings::{JxSettings, settings_in};
 use crate::status::{DEPTH_TOO_GREAT, NO_MEMORY, OK, UNKNOWN_FLAG};
 use crate::verdict::{JxVerdict, shown};
-use jx_index::{TextAnswer, names_are_refused_by_rows};
-use jx_run::{Front, NameRule, Settings, Verdict, front};
+use jx_index::{names_are_refused_by_rows, verdict_with_unique_names};
+use jx_run::{Front, NameRule, NoPause, Settings, Verdict, front};
 use std::alloc::{AllocError, Global};
 
 /// Whether the bytes are a JSON text (RFC 8259) with at most so many containers open at once, and if not, where they stop
@@ -57,10 +57,7 @@ fn verdict_by(alloc: Global, text: &[u8], settings: &Settings) -> Result<Verdict
     names_are_refused_by_rows();
     match settings.names {
         NameRule::Any => verdict_behind_front(text, settings),
-        NameRule::Unique => {
-            let answer = TextAnswer::read(alloc, text, settings)?;
-            Ok(answer.into_verdict())
-        }
+        NameRule::Unique => verdict_with_unique_names(alloc, text, settings, &mut NoPause),
     }
 }
 

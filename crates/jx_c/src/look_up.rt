@@ -1,20 +1,19 @@
 // What a pointer leads to in a text.
 ghost use Rattle.std.specs.Prelude.{◌≡◌, ◌⊎◌, ◌<◌, ◌≤◌, ℕ, List, IfOk, IfErr};
-ghost use Rattle.jx_run.specs.Text.{IsText};
 ghost use Rattle.jx_run.specs.Tree.{Tree};
 ghost use Rattle.jx_run.specs.declared.settings.Settings.{Settings};
 ghost use Rattle.jx_c.specs.LookUps.{IsAnswerOf, IsLed, IsSpelt, shown_look_up};
 ghost use Rattle.jx_c.specs.Settings.{settings_in};
-ghost use Rattle.jx_index.specs.Settled.{IsAnswerBy};
+ghost use Rattle.jx_index.specs.Found.{IsFoundBy, found_of};
+ghost use Rattle.jx_index.specs.Leads.{led};
+ghost use Rattle.jx_index.specs.Pointers.{tokens};
 ghost use Rattle.jx_c.specs.Settled.{IsAnswerWith, IsLookUpBy};
 
+use crate::by_names::find_by_names;
 use crate::places::{JxSpan, kind_in, shown_span};
 use crate::settings::{JxSettings, settings_in};
 use crate::status::{DEPTH_TOO_GREAT, NO_MEMORY, OK, UNKNOWN_FLAG};
-use jx_index::{
-    FindFault, Indexed, Pointer, PointerFault, TextAnswer, indexes_stand_behind_fronts,
-    look_ups_end_at_rows, names_are_refused_by_rows,
-};
+use jx_index::{FindFault, Found, Pointer, PointerFault, names_are_refused_by_rows};
 use jx_lex::{Kind, Span};
 use jx_run::{Refusal, Settings, a_refused_mark_changes_nothing, text_by_settings_has_one_tree};
 use std::alloc::{AllocError, Global};
@@ -89,7 +88,7 @@ fn answer(outcome: u32, at: usize) -> JxAnswer
 }
 
 /// A look-up as C sees it.
-fn shown_look_up(look_up: LookUp) -> JxAnswer
+pub fn shown_look_up(look_up: LookUp) -> JxAnswer
     ensures { result ≡ shown_look_up look_up }
 {
     match look_up {
@@ -115,38 +114,32 @@ fn shown_look_up(look_up: LookUp) -> JxAnswer
     }
 }
 
-/// What a pointer leads to in an index.
-fn led(index: &Indexed, pointer: &Pointer) -> LookUp
-    ensures { (limit : ℕ) (tree : Tree) → IsText index.now.text index.now.span.start index.now.span.end limit tree
-        → IsLed index.now.text tree pointer.now result }
+/// What was found in a text, as a look-up.
+fn look_up_of(found: Result<Found, FindFault>) -> LookUp
+    ensures { (text : List ℕ) (tree : Tree) (pointer : List ℕ) → found ≡ found_of (led text tree (tokens pointer)) → IsLed text tree pointer result }
 {
-    look_ups_end_at_rows();
-    match index.find(pointer) {
-        Ok(node) => {
-            let row = index.row(node);
-            LookUp::Found {
-                kind: row.kind,
-                span: row.span,
-            }
-        }
+    match found {
+        Ok(value) => LookUp::Found {
+            kind: value.kind,
+            span: value.span,
+        },
         Err(fault) => LookUp::Lost(fault),
     }
 }
 
-/// What a pointer comes to in what was answered on a text.
-fn led_in(answer: TextAnswer, pointer: &Pointer) -> LookUp
-    ensures { (settings : Settings) (text : List ℕ) → IsSpelt pointer.now → IsAnswerBy settings text answer.entry → IsLookUpBy settings text pointer.now result }
+/// What a pointer comes to, by the refusal of the bytes or by what was found in them.
+fn told(read: Result<Result<Found, FindFault>, Refusal>) -> LookUp
+    ensures { (settings : Settings) (text pointer : List ℕ) → IsSpelt pointer → IsFoundBy settings text pointer read → IsLookUpBy settings text pointer result }
 {
-    indexes_stand_behind_fronts();
     text_by_settings_has_one_tree();
-    match answer {
-        TextAnswer::Accepted(index) => led(&index, pointer),
-        TextAnswer::Refused(refusal) => LookUp::NoText(refusal),
+    match read {
+        Ok(found) => look_up_of(found),
+        Err(refusal) => LookUp::NoText(refusal),
     }
 }
 
 /// The pointer that bytes spell, or what they come to where they spell none.
-fn spelt(pointer: &[u8]) -> Result<Pointer<'_>, LookUp>
+pub fn spelt(pointer: &[u8]) -> Result<Pointer<'_>, LookUp>
     ensures pointer { IfOk result (λ p. p ≡ pointer.now) }
     ensures spelt { IfOk result (λ _. IsSpelt pointer.now) }
     ensures none { IfErr result (λ l. (settings : Settings) (text : List ℕ) → IsLookUpBy settings text pointer.now l) }
@@ -161,7 +154,7 @@ fn spelt(pointer: &[u8]) -> Result<Pointer<'_>, LookUp>
 }
 
 /// What the bytes of a pointer come to in a text by settings.
-fn look_up(
+pub fn look_up(
     alloc: Global,
     text: &[u8],
     pointer: &[u8],
@@ -171,8 +164,8 @@ fn look_up(
 {
     match spelt(pointer) {
         Ok(read) => {
-            let answer = TextAnswer::read(alloc, text, settings)?;
-            Ok(led_in(answer, &read))
+            let found = find_by_names(alloc, text, settings, &read)?;
+            Ok(told(found))
         }
         Err(none) => Ok(none),
     }

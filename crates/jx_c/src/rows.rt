@@ -1,18 +1,20 @@
 // The rows of a text.
-ghost use Rattle.std.specs.Prelude.{◌≡◌, ◌⊎◌, ◌<◌, ◌≤◌, ℕ, List};
+ghost use Rattle.std.specs.Prelude.{◌≡◌, ◌⊎◌, ◌<◌, ◌≤◌, ℕ, List, IfOk, IfErr};
 ghost use Rattle.jx_run.specs.declared.settings.Settings.{Settings};
+ghost use Rattle.jx_run.specs.declared.verdict.Verdict.TheVariants.{Refused};
 ghost use Rattle.jx_c.specs.Buffers.{IsFilled};
 ghost use Rattle.jx_c.specs.Rows.{AreRowsOf, shown_row};
 ghost use Rattle.jx_c.specs.Settings.{settings_in};
-ghost use Rattle.jx_index.specs.Settled.{IsAnswerBy};
+ghost use Rattle.jx_index.specs.ByNames.{IsVerdictBy};
+ghost use Rattle.jx_index.specs.RowsAlone.{AreRowsBy};
 ghost use Rattle.jx_c.specs.Settled.{AreRowsWith};
 
 use crate::places::{JxRow, shown_row};
 use crate::settings::{JxSettings, settings_in};
 use crate::status::{DEPTH_TOO_GREAT, NO_MEMORY, OK, UNKNOWN_FLAG};
 use crate::verdict::{JxVerdict, shown};
-use jx_index::{Row, TextAnswer, names_are_refused_by_rows};
-use jx_run::{Verdict, a_refused_mark_changes_nothing};
+use jx_index::{Row, names_are_refused_by_rows, read_rows};
+use jx_run::{Refusal, Verdict, a_refused_mark_changes_nothing};
 use std::alloc::{AllocError, Global};
 
 /// Puts the rows into the buffer, as many as it has room for.
@@ -25,18 +27,24 @@ fn fill(rows: &mut [JxRow], from: &[Row])
     }
 }
 
-/// Tells the answer on a text: the verdict, how many rows there are, and in the buffer the rows.
-fn tell(answer: TextAnswer, rows: &mut [JxRow], count: &mut usize, verdict: &mut JxVerdict)
-    ensures { (settings : Settings) (bytes : List ℕ) → IsAnswerBy settings bytes answer.entry → AreRowsWith settings bytes rows.old rows.new count.new verdict.new }
+/// Tells what reading a text came to: the verdict, how many rows there are, and in the buffer the rows.
+fn tell(
+    read: Result<Vec<Row>, Refusal>,
+    rows: &mut [JxRow],
+    count: &mut usize,
+    verdict: &mut JxVerdict,
+)
+    ensures { (settings : Settings) (bytes : List ℕ) → IfOk read (λ all. AreRowsBy settings bytes all.items)
+        → IfErr read (λ refusal. IsVerdictBy settings bytes (Refused refusal)) → AreRowsWith settings bytes rows.old rows.new count.new verdict.new }
 {
-    match answer {
-        TextAnswer::Accepted(index) => {
-            let all = index.rows();
+    match read {
+        Ok(made) => {
+            let all = made.as_slice();
             *count = all.len();
             *verdict = shown(Verdict::Accepted);
             fill(rows, all);
         }
-        TextAnswer::Refused(refusal) => {
+        Err(refusal) => {
             *count = 0;
             *verdict = shown(Verdict::Refused(refusal));
         }
@@ -90,9 +98,9 @@ pub extern "C" fn jx_rows_with(
         Ok(asked) => asked,
         Err(status) => return status,
     };
-    match TextAnswer::read(alloc, text, &asked) {
-        Ok(answer) => {
-            tell(answer, rows, count, verdict);
+    match read_rows(alloc, text, &asked) {
+        Ok(read) => {
+            tell(read, rows, count, verdict);
             OK
         }
         Err(AllocError) => NO_MEMORY,

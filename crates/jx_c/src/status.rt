@@ -12,11 +12,32 @@ pub const DEPTH_TOO_GREAT: u32 = 2;
 /// The reader was not started.
 pub const NOT_STARTED: u32 = 3;
 
-/// With these bytes the reader would have been fed more bytes than 64 bits can count.
+/// With these bytes the reader would have been fed more bytes than 64 bits can count, or a part would end at 2^64 or behind.
 pub const TOO_MANY_BYTES: u32 = 4;
 
 /// The settings have an unknown flag.
 pub const UNKNOWN_FLAG: u32 = 5;
 
-/// The settings ask for unique names, and a reader keeps none.
+/// The settings ask for unique names, and a reader or a document keeps none.
 pub const NO_UNIQUE_NAMES: u32 = 6;
+
+/// The range ends before it starts, or behind the document's last byte; or there is no row with the number.
+pub const OUT_OF_BOUNDS: u32 = 7;
+
+/// The struct holds no document.
+pub const NO_DOCUMENT: u32 = 8;
+
+/// The struct holds no index. 9 is for null pointers, which the C header answers.
+pub const NO_INDEX: u32 = 10;
+
+/// The run has more bytes than the buffer.
+pub const NO_ROOM: u32 = 11;
+
+/// The bytes are no run.
+pub const NOT_A_RUN: u32 = 12;
+
+/// The runs were made with different depths.
+pub const OTHER_DEPTH: u32 = 13;
+
+/// The right run does not begin where the left one ends, or the run is of other bytes.
+pub const NOT_NEIGHBOURS: u32 = 14;

@@ -1,5 +1,7 @@
 // What words of the command line are.
-use jx_command::{ArgFault, Input, Inputs, Request, Told, command_of};
+use jx_command::{
+    ArgFault, Input, Inputs, Order, PartsOrder, PartsStep, Request, Told, command_of,
+};
 use jx_lines::{LineFault, push_text, text_of};
 use jx_run::Settings;
 use jx_task::{Command, Task};
@@ -24,7 +26,8 @@ pub fn command(alloc: Global, words: &[&str], out: &mut String) -> Result<(), Li
     let owned = owned_of(alloc, words)?;
     let words: Vec<&str> = owned.iter().map(|word| word.as_str()).collect(alloc)?;
     match command_of(alloc, &words) {
-        Ok(request) => push_request(out, &request)?,
+        Ok(Order::Report(request)) => push_request(out, &request)?,
+        Ok(Order::Parts(order)) => push_parts(out, &order)?,
         Err(fault) => push_fault(out, alloc, &fault)?,
     }
     Ok(())
@@ -44,10 +47,11 @@ pub fn lines(alloc: Global, words: &[&str], out: &mut String) -> Result<(), Line
     let owned = owned_of(alloc, rest)?;
     let words: Vec<&str> = owned.iter().map(|word| word.as_str()).collect(alloc)?;
     match command_of(alloc, &words) {
-        Ok(request) => {
+        Ok(Order::Report(request)) => {
             let command = command_with(alloc, request, lines.as_str())?;
             push_task(out, &command.task)?;
         }
+        Ok(Order::Parts(order)) => push_parts(out, &order)?,
         Err(fault) => push_fault(out, alloc, &fault)?,
     }
     Ok(())
@@ -94,6 +98,23 @@ fn push_request(out: &mut String, request: &Request) -> Result<(), AllocError> {
         Some(file) => push_file(out, "; pointers ", file),
         None => Ok(()),
     }
+}
+
+fn push_parts(out: &mut String, order: &PartsOrder) -> Result<(), AllocError> {
+    match order.step {
+        PartsStep::Part { from: None } => out.push_str("part")?,
+        PartsStep::Part { from: Some(from) } => write!(out, "part from {from}")?,
+        PartsStep::Join => out.push_str("join")?,
+        PartsStep::Whole { from, to, quiet } => {
+            write!(out, "whole {from}..{to}")?;
+            if quiet {
+                out.push_str(", quiet")?;
+            }
+        }
+    }
+    let depth = order.depth.containers();
+    write!(out, "; depth {depth}")?;
+    push_inputs(out, &Inputs::One(order.input))
 }
 
 /// The files that are read, and nothing for standard input alone.

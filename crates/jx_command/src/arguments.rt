@@ -1,15 +1,19 @@
 // The words of the command line.
 ghost use Rattle.std.specs.Prelude.{◌≤◌, IfOk, IfSome};
+ghost use Rattle.jx_command.specs.Orders.{HasPieces};
 
 use crate::arg_fault::ArgFault;
 use crate::grammar::grammar;
 use crate::inputs::{Input, Inputs, inputs_of, reads_standard_twice};
+use crate::options::depth_of;
+use crate::order::Order;
+use crate::parts_arguments::parts_order_from;
+use crate::parts_command::PartsCommand;
 use crate::request::{Color, Request, Told};
 use crate::subcommand::Subcommand;
 use clap::ArgMatches;
 use clap::error::ErrorKind;
 use jx_claim::Workers;
-use jx_lex::Depth;
 use jx_run::{FrontMark, NameRule, Settings};
 use jx_task::{Command, Task};
 use std::alloc::{AllocError, Global};
@@ -20,11 +24,6 @@ fn refused(error: clap::Error) -> ArgFault {
         ErrorKind::OutOfMemory => ArgFault::Memory,
         _ => ArgFault::Clap(error),
     }
-}
-
-/// The depth that the options give, if they give one.
-fn depth_of(options: &ArgMatches<'_>) -> Option<Depth> {
-    Depth::new(u32::from(options.get_one::<u16>("depth")?))
 }
 
 /// Whether a byte order mark is ignored or refused by the options.
@@ -183,16 +182,32 @@ fn request_from<'a>(
     })
 }
 
+/// What a name and its options ask for. The name of a subcommand calls it, and any other one calls `check`.
+fn order_from<'a>(
+    alloc: Global,
+    name: &str,
+    options: &ArgMatches<'a>,
+) -> Result<Order<'a>, ArgFault>
+    ensures { IfOk result HasPieces }
+{
+    if let Some(called) = PartsCommand::named(name) {
+        return Ok(Order::Parts(parts_order_from(called, options)));
+    }
+    let called = Subcommand::named(name).unwrap_or(Subcommand::Check);
+    let request = request_from(alloc, called, options)?;
+    Ok(Order::Report(request))
+}
+
 /// What the words ask for, the first of which is the program's name. Each FILE and each POINTER are taken as they stand:
 /// they are not cut, trimmed or read. Where the words are no command, or ask for help or the version, `Err` has what is
 /// to be told.
-pub fn command_of<'a>(alloc: Global, words: &'a [&'a str]) -> Result<Request<'a>, ArgFault>
-    ensures { IfOk result (λ r. 1 ≤ r.command.piece) }
+pub fn command_of<'a>(alloc: Global, words: &'a [&'a str]) -> Result<Order<'a>, ArgFault>
+    ensures { IfOk result HasPieces }
 {
     let grammar = grammar(alloc).map_err(|_| ArgFault::Memory)?;
     let matches = grammar.try_get_matches_from(words).map_err(refused)?;
-    let check = Subcommand::Check;
-    let (name, options) = matches.subcommand().unwrap_or((check.name(), &matches));
-    let called = Subcommand::named(name).unwrap_or(check);
-    request_from(alloc, called, options)
+    let (name, options) = matches
+        .subcommand()
+        .unwrap_or((Subcommand::Check.name(), &matches));
+    order_from(alloc, name, options)
 }

@@ -1,5 +1,6 @@
 // The commands and options that the words of the command line are read by.
 use crate::help;
+use crate::parts_command::PartsCommand;
 use crate::subcommand::Subcommand;
 use clap::builder::ValueParser;
 use clap::{Arg, ArgAction, Command, value_parser};
@@ -171,6 +172,63 @@ fn seq<'a>(alloc: Global) -> Result<Command<'a>, AllocError> {
         .arg(files(alloc)?)
 }
 
+/// An offset in a text, for an option with the name of its id.
+fn offset<'a>(alloc: Global, name: &'a str) -> Arg<'a> {
+    Arg::new(alloc, name)
+        .long(name)
+        .value_name("N")
+        .value_parser(value_parser!(u64))
+}
+
+/// A subcommand that works on the parts of a text, with the options that each of them takes.
+fn of_parts<'a>(
+    alloc: Global,
+    called: PartsCommand,
+    about: &'a str,
+    after: &'a str,
+) -> Result<Command<'a>, AllocError> {
+    Command::new(alloc, called.name())
+        .about(about)
+        .after_long_help(after)
+        .arg(file(alloc))
+}
+
+fn part<'a>(alloc: Global) -> Result<Command<'a>, AllocError> {
+    of_parts(alloc, PartsCommand::Part, help::PART, help::AFTER_PART)?
+        .arg(
+            offset(alloc, "from")
+                .help(help::PART_FROM)
+                .long_help(help::LONG_PART_FROM),
+        )?
+        .arg(depth(alloc))
+}
+
+fn depth_of_runs<'a>(alloc: Global) -> Arg<'a> {
+    depth(alloc).long_help(help::LONG_DEPTH_OF_RUNS)
+}
+
+fn join<'a>(alloc: Global) -> Result<Command<'a>, AllocError> {
+    of_parts(alloc, PartsCommand::Join, help::JOIN, help::AFTER_JOIN)?.arg(depth_of_runs(alloc))
+}
+
+fn whole<'a>(alloc: Global) -> Result<Command<'a>, AllocError> {
+    of_parts(alloc, PartsCommand::Whole, help::WHOLE, help::AFTER_WHOLE)?
+        .arg(
+            offset(alloc, "to")
+                .required(true)
+                .help(help::WHOLE_TO)
+                .long_help(help::LONG_WHOLE_TO),
+        )?
+        .arg(
+            offset(alloc, "from")
+                .default_value("0")
+                .help(help::WHOLE_FROM)
+                .long_help(help::LONG_WHOLE_FROM),
+        )?
+        .arg(depth_of_runs(alloc))?
+        .arg(quiet(alloc))
+}
+
 /// The program without its commands.
 fn program<'a>(alloc: Global) -> Command<'a> {
     Command::new(alloc, "jx")
@@ -189,5 +247,8 @@ pub fn grammar<'a>(alloc: Global) -> Result<Command<'a>, AllocError> {
         .subcommand(explain(alloc)?)?
         .subcommand(index(alloc)?)?
         .subcommand(at(alloc)?)?
-        .subcommand(seq(alloc)?)
+        .subcommand(seq(alloc)?)?
+        .subcommand(part(alloc)?)?
+        .subcommand(join(alloc)?)?
+        .subcommand(whole(alloc)?)
 }

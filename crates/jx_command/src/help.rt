@@ -21,6 +21,8 @@ pub const LONG_AFTER: &str = "Examples:
   jx index dump.json                  a line for each value, with its span
   jx at /users/0/name < dump.json     where this value stands
   jx seq log.json-seq                 which elements of a sequence are texts?
+  jx part --from 0 < part-0 > 0.run   what this part of a text comes to
+  cat *.run | jx whole --to 81920     are all parts together a JSON text?
 
 Exit status:
   0  the text is accepted, every pointer is found, every element is accepted
@@ -37,6 +39,12 @@ pub const INDEX: &str = "Print a line for each value of a JSON text";
 pub const AT: &str = "Print where JSON Pointers lead in a JSON text";
 
 pub const SEQ: &str = "Tell which elements of a JSON text sequence are JSON texts";
+
+pub const PART: &str = "Write the run of a part of a JSON text";
+
+pub const JOIN: &str = "Write the joined run of neighboring parts, from their runs";
+
+pub const WHOLE: &str = "Tell from the runs of its parts whether a text is a JSON text";
 
 pub const FILES: &str = "Read each FILE in order; - is standard input";
 
@@ -64,6 +72,27 @@ pub const DEPTH: &str = "Let N containers be open, 0 to 65535";
 
 pub const LONG_DEPTH: &str = "Let N containers (objects and arrays) be open at once, 0 to 65535.
 A text that needs more is too deep.";
+
+pub const LONG_DEPTH_OF_RUNS: &str =
+    "Let N containers (objects and arrays) be open at once, 0 to 65535.
+Each run has to be made with the same number.";
+
+pub const PART_FROM: &str = "The part begins at the offset N of the text";
+
+pub const LONG_PART_FROM: &str = "The part begins at the offset N of the text. With this option in
+every part, a missing, doubled or misplaced part is told; without it
+in any, the order of the runs is taken on trust.";
+
+pub const WHOLE_FROM: &str = "The text begins at the offset N";
+
+pub const LONG_WHOLE_FROM: &str =
+    "The text begins at the offset N, as where a byte order mark is left
+out.";
+
+pub const WHOLE_TO: &str = "The text ends at the offset N";
+
+pub const LONG_WHOLE_TO: &str = "The text ends at the offset N, which is its size in bytes where it
+begins at 0. The runs have to cover all of it.";
 
 pub const WORKERS: &str = "Read by N workers, 1 to 64";
 
@@ -192,3 +221,35 @@ files the greatest.
 Examples:
   jx seq log.json-seq
   jx seq --quiet < log.json-seq && echo whole";
+
+pub const AFTER_PART: &str =
+    "Output, one run: some KB that say what the part comes to, whatever stands
+before it and behind it. A part may begin and end at any byte, and may be
+empty. It is read once, in constant memory.
+
+Exit status: 0 the run is written, 2 no answer.
+
+Examples:
+  head -c 4096 text.json | jx part --from 0 > 0.run
+  tail -c +4097 text.json | jx part --from 4096 > 1.run";
+
+pub const AFTER_JOIN: &str =
+    "Input, runs one behind another, in the order of their parts. Output, the
+run of all these parts. Runs may be joined in any bracketing.
+
+Exit status: 0 the run is written, 2 no answer.
+
+Examples:
+  cat 0.run 1.run | jx join > front.run
+  cat front.run 2.run | jx join";
+
+pub const AFTER_WHOLE: &str =
+    "Input, runs one behind another, in the order of their parts. Output, one
+line as by 'jx check' on the whole text, with offsets of the whole. It is
+right if each run is that of its part.
+
+Exit status: 0 accepted, 1 refused, 2 no answer.
+
+Examples:
+  cat 0.run 1.run | jx whole --to $(stat -c %s text.json)
+  jx whole --from 3 --to 81920 --file all.run";

@@ -6,10 +6,15 @@ mod arguments;
 mod grammar;
 mod help;
 mod inputs;
+mod options;
+mod order;
+mod parts_arguments;
+mod parts_command;
 mod request;
 mod subcommand;
 
 pub use arg_fault::ArgFault;
 pub use arguments::command_of;
 pub use inputs::{Input, Inputs, input_of, inputs_of, reads_standard_twice};
+pub use order::{Order, PartsOrder, PartsStep};
 pub use request::{Color, Request, Told};

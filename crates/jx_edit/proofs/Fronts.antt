@@ -1,5 +1,5 @@
 -- What stands in front of a text, through edits.
-use Rattle.std.proofs.Common.{◌^◌, nat_lt, ◌≡◌, ℕ, suc, ◌+◌, ◌-◌, ◌≤◌, ◌<◌, List, [], ◌∷◌, ◌++◌, length, take, drop, Bool, true, false, cond, min, refl, sym, ap, subst, ◌∙◌, inl, inr, arith, append_assoc, append-nil, length-append}
+use Rattle.std.proofs.Common.{◌^◌, nat_lt, ◌≡◌, ℕ, suc, ◌+◌, ◌-◌, ◌≤◌, ◌<◌, List, [], ◌∷◌, ◌++◌, length, take, drop, Bool, true, false, cond, min, refl, sym, ap, subst, ◌∙◌, arith, append_assoc, append-nil, length-append}
 use Rattle.std.specs.Prelude.{◌==◌}
 use Rattle.std.specs.List.{slice_range}
 use Rattle.std.proofs.lemmas.Bool.Decides.{nat_tests}
@@ -184,13 +184,20 @@ pub copied : (f : Front) (rest : List ℕ) (start end skip : ℕ) (out : List �
 copied f rest start end skip out h e k order is =
     is ∙ ap (λ (n : ℕ). slice_range rest (start - n) (end - n)) e ∙ slice_behind f rest start end h (subst (λ (n : ℕ). n ≤ start) e k) order
 
+-- what stands from a place behind the front on
+pub piece_behind : (f : Front) (rest out : List ℕ) (at skip : ℕ) → skipped f ≤ 3 → skip ≡ skipped f → skip ≤ at → out ≡ slice_range rest (at - skip) ((at - skip) + length out)
+    → out ≡ slice_range (with_front f rest) at (at + length out)
+piece_behind f rest out at skip h e k is =
+    let far : (at - skip) + length out ≡ (at + length out) - skip = omega (arith, k) in
+    copied f rest at (at + length out) skip out h e k (omega arith) (is ∙ ap (λ (n : ℕ). slice_range rest (at - skip) n) far)
+
 pub edited_at : (f : Front) (rest new more : List ℕ) (start end skip : ℕ) → skipped f ≤ 3 → skip ≡ skipped f → 3 ≤ start → start ≤ end
     → new ≡ edited (start - skip) (end - skip) more rest → with_front f new ≡ edited start end more (with_front f rest)
 edited_at f rest new more start end skip h e three order is =
     ap (with_front f) (is ∙ ap (λ (n : ℕ). edited (start - n) (end - n) more rest) e) ∙ edited_behind f rest more start end h (omega (arith, h, three)) order
 
 pub fronted_behind : (s : Settings) (f : Front) (rest new : ChunkedValue) (more text : List ℕ) (start end skip : ℕ) → IsFronted s f rest → with_front f rest.bytes ≡ text
-    → skip ≡ skipped f → 3 ≤ start → start ≤ end → end ≤ length text → (length text - (end - start)) + length more < 2 ^ 64 → new.depth ≡ rest.depth
+    → skip ≡ skipped f → 3 ≤ start → start ≤ end → end ≤ length text → (length text - (end - start)) + length more < 2 ^ 63 → new.depth ≡ rest.depth
     → new.bytes ≡ edited (start - skip) (end - skip) more rest.bytes → IsFronted s f new
 fronted_behind s f rest new more text start end skip h t e three order within fits deep is =
     let whole : with_front f new.bytes ≡ edited start end more text =
@@ -239,7 +246,7 @@ module _ (s : Settings) (f : Front) (rest : ChunkedValue) (more bytes text : Lis
         ∙ ap (λ (xs : List ℕ). bytes ++ drop far xs) t
         ∙ near_is
 
-    pub fronted_near : end ≤ length text → (length text - (end - start)) + length more < 2 ^ 64 → IsFronted s g new
+    pub fronted_near : end ≤ length text → (length text - (end - start)) + length more < 2 ^ 63 → IsFronted s g new
     fronted_near high fits =
         record {
           depth = deep ∙ h.depth;

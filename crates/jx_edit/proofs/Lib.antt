@@ -1,3 +1,7 @@
 pub mod Fronts
 pub mod Links
+pub mod Scans
+pub mod Parted
+pub mod Positions
+pub mod Seeking
 pub mod Texts

@@ -1,5 +1,5 @@
 -- Where chunks lead, one behind another, through edits and walks.
-use Rattle.std.proofs.Common.{◌≡◌, ℕ, zero, suc, ◌+◌, ◌-◌, ◌^◌, ◌<◌, ◌≤◌, List, [], ◌∷◌, ◌++◌, length, map, take, drop, get_or, set, refl, sym, ap, subst, ◌∙◌, arith, Bool, Some, true, false, add-one, min, append-nil, append_assoc}
+use Rattle.std.proofs.Common.{◌≡◌, ℕ, zero, suc, ◌+◌, ◌-◌, ◌^◌, ◌<◌, ◌≤◌, List, [], ◌∷◌, ◌++◌, length, map, take, drop, get_or, set, refl, sym, ap, subst, ◌∙◌, arith, Some, true, false, add-one, min, append-nil, append_assoc}
 use Rattle.std.specs.Prelude.{reverse}
 use Rattle.std.proofs.lemmas.List.{take_all, take-set, drop_all}
 use Rattle.std.proofs.Math.ListN.{length-set}
@@ -18,7 +18,6 @@ use Rattle.jx_run.specs.ReaderInside.{shifted}
 use Rattle.jx_run.specs.Verdict.{Judged}
 use Rattle.jx_run.proofs.LawProofs.{FirstFaults, Verdicts}
 use Rattle.jx_run.proofs.ReaderSteps.{fed_went, fed_over, low}
-use Rattle.jx_edit.specs.Document.{edited}
 use Rattle.jx_edit.specs.inside.Chunks.{ChunkValue, bytes_of, text_of, loose, loosened, replaced, AreFresh, IsMade}
 use Rattle.jx_edit.specs.inside.Links.{bytes_at, place_behind, AreLinked, IsKept, IsLink, IsWalked}
 use Rattle.jx_edit.specs.inside.Places.{PlaceValue, came_to, origin, read_on}
@@ -64,7 +63,7 @@ linked_replaced d p cs made first last h fresh =
 -- what a text in chunks keeps behind an edit
 pub kept_edited : (cs made new : List ChunkValue) (depth len start end first last : ℕ) (replacement : List ℕ) → start ≤ end → end ≤ length (text_of cs)
     → AreLinked depth origin cs → AreFresh depth made → IsMade start end replacement cs first last made → new ≡ replaced first last made cs
-    → len ≡ (length (text_of cs) - (end - start)) + length replacement → len < 2 ^ 64 → IsKept depth len new
+    → len ≡ (length (text_of cs) - (end - start)) + length replacement → len < 2 ^ 63 → IsKept depth len new
 kept_edited cs made new depth len start end first last replacement h k linked fresh m is long fits =
     record {
       linked = subst (AreLinked depth origin) (sym is) (linked_replaced depth origin cs made first last linked fresh);
@@ -352,7 +351,7 @@ pub loosened_first : (cs : List ChunkValue) (x e : ChunkValue) → x ≡ get_or 
 loosened_first [] x e is made = refl
 loosened_first (c ∷ cs) x e is made = ap (λ (y : ChunkValue). y ∷ cs) (made ∙ ap loose is)
 
-pub kept_fresh : (d : ℕ) (cs : List ChunkValue) (bytes : List ℕ) → AreFresh d cs → text_of cs ≡ bytes → length bytes < 2 ^ 64 → IsKept d (length bytes) cs
+pub kept_fresh : (d : ℕ) (cs : List ChunkValue) (bytes : List ℕ) → AreFresh d cs → text_of cs ≡ bytes → length bytes < 2 ^ 63 → IsKept d (length bytes) cs
 kept_fresh d cs bytes h e fits = record { linked = linked_fresh d origin cs h; long = ap length (sym e); fits = fits }
 
 length_same : (cs ds : List ChunkValue) → map bytes_of cs ≡ map bytes_of ds → length cs ≡ length ds

@@ -1,6 +1,6 @@
 -- The text of chunks, cut at borders between them.
-use Rattle.std.proofs.Common.{◌≡◌, ℕ, ◌+◌, ◌-◌, ◌^◌, ◌≤◌, ◌<◌, List, [], ◌∷◌, ◌++◌, length, take, drop, get_or, refl, sym, ap, subst, ◌∙◌, arith, add-one, append_assoc, append-nil, length-append, take-append-drop}
-use Rattle.std.specs.List.{slice_range}
+use Rattle.std.proofs.Common.{◌≡◌, ℕ, ◌+◌, ◌-◌, ◌^◌, ◌≤◌, ◌<◌, List, [], ◌∷◌, ◌++◌, length, map, take, drop, get_or, refl, sym, ap, subst, ◌∙◌, arith, add-one, append_assoc, append-nil, length-append, take-append-drop}
+use Rattle.std.specs.List.{concat, slice_range}
 use Rattle.std.proofs.lemmas.List.{take-append-le, drop-append-le, at_drop_more, length-take-le, length-drop, take_all}
 use Rattle.std.proofs.lemmas.List.Elements.{All-push, All-same}
 use Rattle.std.proofs.lemmas.List.Concat.{flat_map-append}
@@ -8,6 +8,7 @@ use Rattle.std.proofs.lemmas.List.Folds.{drop_split}
 use Rattle.std.proofs.Math.Seq.{take-add, take-suc, take-append-add, drop-append-add}
 use Rattle.jx_edit.specs.Document.{edited}
 use Rattle.jx_edit.specs.inside.Chunks.{ChunkValue, bytes_of, text_of, loosened, replaced, AreFresh, IsFresh, IsSeam, IsFront, IsBack, IsMade}
+use Rattle.jx_edit.specs.inside.Pieces.{pieces}
 
 -- one more chunk
 pub text_more : (cs : List ChunkValue) (k : ℕ) (d : ChunkValue) → k < length cs → text_of (take (k + 1) cs) ≡ text_of (take k cs) ++ (get_or cs k d).bytes
@@ -38,7 +39,7 @@ text_between cs i j h =
     text_parts cs i
     ∙ ap (λ (t : List ℕ). text_of (take i cs) ++ t) (ap text_of (drop_split cs i j h) ∙ flat_map-append bytes_of (slice_range cs i j) (drop j cs))
 
-take_at : (xs ys zs : List ℕ) (at n : ℕ) → at ≡ length xs + n → n ≤ length ys → take at (xs ++ (ys ++ zs)) ≡ xs ++ take n ys
+pub take_at : (xs ys zs : List ℕ) (at n : ℕ) → at ≡ length xs + n → n ≤ length ys → take at (xs ++ (ys ++ zs)) ≡ xs ++ take n ys
 take_at xs ys zs at n e h =
     ap (λ (i : ℕ). take i (xs ++ (ys ++ zs))) e ∙ take-append-add xs (ys ++ zs) n ∙ ap (λ (t : List ℕ). xs ++ t) (take-append-le n ys zs h)
 
@@ -262,3 +263,44 @@ between_is cs start end before bytes here close far more all out order s t e f =
     f ∙ ap (λ (u : List ℕ). slice_range u (start - bytes) (end - bytes)) e
     ∙ ap (λ (k : ℕ). slice_range ys (start - k) (end - k)) s.long
     ∙ sym (ap (λ (u : List ℕ). slice_range u start end) whole ∙ between_at xs ys zs start end (omega (arith, s.long, s.behind)) order high)
+
+-- what stands from a place in the first of two texts up to its end
+pub rest_in : (xs ys : List ℕ) (at : ℕ) → at ≤ length xs → drop at xs ≡ slice_range (xs ++ ys) at (at + length (drop at xs))
+rest_in xs ys at h =
+    let n : (at + length (drop at xs)) - at ≡ length (drop at xs) = omega arith in
+    sym (take_all (length (drop at xs)) (drop at xs) (omega arith))
+    ∙ sym (take-append-le (length (drop at xs)) (drop at xs) ys (omega arith))
+    ∙ sym (ap (λ (t : List ℕ). take (length (drop at xs)) t) (drop-append-le at xs ys h))
+    ∙ sym (ap (λ (i : ℕ). take i (drop at (xs ++ ys))) n)
+
+-- a chunk, what stands before it and what stands behind it
+pub text_around : (cs : List ChunkValue) (k : ℕ) (c : ChunkValue) → k < length cs → c ≡ get_or cs k c → text_of cs ≡ text_of (take k cs) ++ (c.bytes ++ text_of (drop (k + 1) cs))
+text_around cs k c h is =
+    text_parts cs (k + 1)
+    ∙ ap (λ (t : List ℕ). t ++ text_of (drop (k + 1) cs)) (text_more cs k c h)
+    ∙ append_assoc (text_of (take k cs)) (get_or cs k c).bytes (text_of (drop (k + 1) cs))
+    ∙ ap (λ (x : ChunkValue). text_of (take k cs) ++ (x.bytes ++ text_of (drop (k + 1) cs))) (sym is)
+
+-- what stands from a place in a chunk up to its end
+pub rest_here : (cs : List ChunkValue) (at k before : ℕ) (c : ChunkValue) (xs : List ℕ) → k < length cs → c ≡ get_or cs k c → xs ≡ c.bytes → before ≡ length (text_of (take k cs))
+    → before ≤ at → at - before ≤ length xs → drop (at - before) xs ≡ slice_range (text_of cs) at (at + length (drop (at - before) xs))
+rest_here cs at k before c xs h is same long low here =
+    let first : List ℕ = text_of (take k cs) in
+    let last : List ℕ = text_of (drop (k + 1) cs) in
+    let e : at ≡ length first + (at - before) = omega (arith, long, low) in
+    let whole : text_of cs ≡ first ++ (xs ++ last) = text_around cs k c h is ∙ ap (λ (t : List ℕ). first ++ (t ++ last)) (sym same) in
+    let there : drop at (text_of cs) ≡ drop (at - before) (xs ++ last) =
+    ap (drop at) whole ∙ ap (λ (i : ℕ). drop i (first ++ (xs ++ last))) e ∙ drop-append-add first (xs ++ last) (at - before) in
+    let n : (at + length (drop (at - before) xs)) - at ≡ ((at - before) + length (drop (at - before) xs)) - (at - before) = omega arith in
+    rest_in xs last (at - before) here
+    ∙ sym (ap (λ (i : ℕ). take i (drop (at - before) (xs ++ last))) n)
+    ∙ sym (ap (take ((at + length (drop (at - before) xs)) - at)) there)
+
+-- the bytes of chunks, behind a front
+bytes_together : (cs : List ChunkValue) → concat (map bytes_of cs) ≡ text_of cs
+bytes_together [] = refl
+bytes_together (c ∷ cs) = ap (λ (t : List ℕ). c.bytes ++ t) (bytes_together cs)
+
+pub pieces_are : (front : List ℕ) (cs : List ChunkValue) → concat (pieces front cs) ≡ front ++ text_of cs
+pieces_are [] cs = bytes_together cs
+pieces_are (b ∷ front) cs = ap (λ (t : List ℕ). (b ∷ front) ++ t) (bytes_together cs)

@@ -1,38 +1,74 @@
 // Part of a document, with what reading it comes to.
-ghost use Rattle.std.specs.Prelude.{◌≡◌, ◌≤◌, ◌<◌, ◌++◌, List, ℕ, IfOk, length, true};
-ghost use Rattle.jx_edit.specs.inside.Chunks.{loose, text_of, AreFresh, IsFresh};
+ghost use Rattle.std.specs.Prelude.{◌≡◌, ◌≤◌, ◌<◌, ◌++◌, List, ℕ, IfOk, IfSome, length, true};
+ghost use Rattle.jx_edit.specs.inside.Chunks.{loose, text_of, AreFresh, IsFresh, IsRunOver};
 ghost use Rattle.jx_edit.specs.inside.Leads.{reading_in, IsLedWithin};
 ghost use Rattle.jx_edit.specs.inside.Places.{read_on};
+ghost use Rattle.jx_edit.specs.Positions.{first, position_behind};
+ghost use Rattle.jx_run.specs.OutcomeRun.{IsOutcomeRun};
 
-use crate::led::{Led, follow_run};
+use crate::encoding::Encoding;
+use crate::led::{Led, follow_bytes, follow_run};
+use crate::nesting::nest_deeply;
 use crate::place::Place;
+use crate::position::{Position, behind};
 use jx_lex::Depth;
 use jx_run::{OutcomeRun, Summary};
 use std::alloc::{AllocError, Global};
 use std::marker::Model;
 
 /// Bytes, and the run that is the summary of exactly these, as if they stood at the start of an input: so it stays as it
-/// is wherever they stand.
+/// is wherever they stand. Bytes that nest deeply have none, since it would be larger than they are.
 #[derive(Drop)]
 pub(crate) struct Chunk {
+    depth: Depth,
     bytes: Vec<u8>,
-    run: OutcomeRun,
+    run: Option<OutcomeRun>,
     // where it led when it was last followed
     to: Place,
     // whether it leads there from where the chunk before it leads
     linked: bool,
+    // the position behind its bytes where a text begins with them, by each encoding
+    utf8: Position,
+    utf16: Position,
 }
 
 impl Model for Chunk {
-    ghost use Rattle.std.specs.Prelude.{◌≡◌, ◌≤◌, length};
-    ghost use Rattle.jx_edit.specs.inside.Chunks.{ChunkValue};
-    ghost use Rattle.jx_run.specs.OutcomeRun.{IsOutcomeRun};
+    ghost use Rattle.std.specs.Prelude.{◌≡◌, ◌≤◌, IfSome, length};
+    ghost use Rattle.jx_edit.specs.inside.Chunks.{ChunkValue, IsRunOver};
+    ghost use Rattle.jx_edit.specs.declared.encoding.Encoding.TheVariants.{Utf8, Utf16};
+    ghost use Rattle.jx_edit.specs.Positions.{first, position_behind};
 
     ghost Value = { ChunkValue };
 
-    ghost view = { λ c. record { depth = c.run.depth; bytes = c.bytes.items; to = c.to; linked = c.linked } };
+    ghost view = { λ c. record { depth = c.depth; bytes = c.bytes.items; to = c.to; linked = c.linked } };
 
-    ghost invariant = { λ c. (c.run.start ≡ 0) × IsOutcomeRun c.bytes.items c.run × (length c.to.holders ≤ c.run.depth) };
+    ghost invariant = { λ c. IfSome c.run (IsRunOver c.depth c.bytes.items) × (length c.to.holders ≤ c.depth) × (c.utf8 ≡ position_behind Utf8 first c.bytes.items) × (c.utf16 ≡ position_behind Utf16 first c.bytes.items) };
+}
+
+/// The run over bytes, with no spare room.
+fn run_over(alloc: Global, bytes: &[u8], depth: Depth) -> Result<OutcomeRun, AllocError>
+    ensures start { IfOk result (λ run. run.start ≡ 0) }
+    ensures depth { IfOk result (λ run. run.depth ≡ depth) }
+    ensures of { IfOk result (IsOutcomeRun bytes.now) }
+{
+    let whole = OutcomeRun::of(alloc, bytes, 0, bytes.len(), depth)?;
+    let run = whole.trimmed()?;
+    Ok(run)
+}
+
+/// The same, unless it would be large.
+fn small_run_over(
+    alloc: Global,
+    bytes: &[u8],
+    depth: Depth,
+) -> Result<Option<OutcomeRun>, AllocError>
+    ensures { IfOk result (λ run. IfSome run (IsRunOver depth bytes.now)) }
+{
+    if nest_deeply(bytes) {
+        return Ok(None);
+    }
+    let run = run_over(alloc, bytes, depth)?;
+    Ok(Some(run))
 }
 
 impl Chunk {
@@ -41,13 +77,18 @@ impl Chunk {
         ensures fresh { IfOk result (IsFresh depth) }
         ensures bytes { IfOk result (λ c. c.bytes ≡ bytes.now) }
     {
-        let run = OutcomeRun::of(alloc, bytes, 0, bytes.len(), depth)?;
+        let run = small_run_over(alloc, bytes, depth)?;
+        let utf8 = behind(bytes, Encoding::Utf8);
+        let utf16 = behind(bytes, Encoding::Utf16);
         let bytes = Vec::from_slice(alloc, bytes)?;
         Ok(Chunk {
+            depth,
             bytes,
             run,
             to: Place::origin(alloc),
             linked: false,
+            utf8,
+            utf16,
         })
     }
 
@@ -56,6 +97,16 @@ impl Chunk {
         ensures { result.now ≡ self.now.bytes }
     {
         self.bytes.as_slice()
+    }
+
+    /// The position behind its bytes where a text begins with them.
+    pub(crate) fn moves(&self, encoding: Encoding) -> Position
+        ensures { result ≡ position_behind encoding first self.now.bytes }
+    {
+        match encoding {
+            Encoding::Utf8 => self.utf8,
+            Encoding::Utf16 => self.utf16,
+        }
     }
 
     /// The place that it keeps.
@@ -79,8 +130,17 @@ impl Chunk {
         ensures reads { IfOk result (λ led. reading_in led ≡ read_on self.now.depth from.now self.now.bytes) }
         ensures within { IfOk result (IsLedWithin self.now.depth) }
     {
-        let led = follow_run(from, &self.run)?;
-        Ok(led)
+        match &self.run {
+            Some(run) => {
+                let led = follow_run(from, run)?;
+                Ok(led)
+            }
+            None => {
+                let alloc = *self.bytes.allocator();
+                let read = follow_bytes(alloc, from, &self.bytes, self.depth)?;
+                Ok(read)
+            }
+        }
     }
 
     /// Links it to the place to which it leads, and tells whether it is the one that it kept.

@@ -1,18 +1,26 @@
 // A text in chunks.
-ghost use Rattle.std.specs.Prelude.{◌≡◌, ◌≤◌, ◌<◌, ◌+◌, ◌^◌, ℕ, [], Err, IfErr, IfOk, OnErr, OnOk, length, slice_range};
+ghost use Rattle.std.specs.Prelude.{◌≡◌, ◌≤◌, ◌<◌, ◌+◌, ◌*◌, ◌^◌, ◌++◌, ℕ, [], Err, IfErr, IfOk, OnErr, OnOk, length, slice_range, take};
+ghost use Rattle.std.specs.List.{concat};
 ghost use Rattle.jx_edit.specs.Document.{edited};
 ghost use Rattle.jx_edit.specs.declared.edit_fault.EditFault.TheVariants.{Memory, OutOfBounds};
+ghost use Rattle.jx_edit.specs.Positions.{position_behind, reach};
 ghost use Rattle.jx_run.specs.Verdict.{Judged};
 
 use crate::chunk::{Chunk, chunks_of};
+use crate::chunks::Chunks;
 use crate::edit_fault::EditFault;
+use crate::encoding::Encoding;
+use crate::making::chunks_by;
 use crate::patch::{patch_of, piece_for, replace};
-use crate::seam::between;
+use crate::position::{Position, Reached};
+use crate::seam::{between, rest_at};
+use crate::seek::{position_in, reach_in};
 use crate::walk::walk;
 use jx_lex::Depth;
 use jx_run::Verdict;
 use std::alloc::{AllocError, Global};
 use std::marker::Model;
+use std::thread::Threads;
 
 /// A text in chunks, each with the run over its bytes. An edit reads the chunks that it touches, and no other.
 #[derive(Drop)]
@@ -37,6 +45,9 @@ impl Model for Chunked {
 /// How long the chunks are that an edit makes, where there are so many bytes. Twice the size is read in less than twice the
 /// time, and leaves half as many chunks to look at.
 const SIZE: usize = 16384;
+
+/// The most bytes that a text may have: no slice has more. So twice as many units can be counted.
+pub(crate) const MOST: usize = usize::MAX / 2;
 
 impl Chunked {
     /// A text without a byte. It takes no memory.
@@ -67,6 +78,27 @@ impl Chunked {
         })
     }
 
+    /// The same, where so many workers each make a part of it.
+    pub(crate) fn of_by<R: Threads + Sync>(
+        rt: &R,
+        alloc: Global,
+        bytes: &[u8],
+        depth: Depth,
+        workers: usize,
+    ) -> Result<Chunked, AllocError>
+        ensures depth { IfOk result (λ t. t.depth ≡ depth) }
+        ensures bytes { IfOk result (λ t. t.bytes ≡ bytes.now) }
+    {
+        let piece = piece_for(bytes.len(), SIZE);
+        let chunks = chunks_by(rt, alloc, bytes, piece, depth, workers)?;
+        Ok(Chunked {
+            alloc,
+            depth,
+            len: bytes.len(),
+            chunks,
+        })
+    }
+
     /// Where its memory comes from.
     pub(crate) fn allocator(&self) -> Global {
         self.alloc
@@ -77,6 +109,41 @@ impl Chunked {
         ensures { result ≡ length self.now.bytes }
     {
         self.len
+    }
+
+    /// The bytes from an offset on that stand in one chunk.
+    pub(crate) fn chunk_at(&self, offset: usize) -> &[u8]
+        ensures part { result.now ≡ slice_range self.now.bytes offset (offset + length result.now) }
+        ensures some { offset < length self.now.bytes → 0 < length result.now }
+    {
+        rest_at(&self.chunks, offset)
+    }
+
+    /// Its bytes behind a front, piece by piece.
+    pub(crate) fn chunks_behind<'a>(&'a self, front: &'a [u8]) -> Chunks<'a>
+        ensures { concat result ≡ front.now ++ self.now.bytes }
+    {
+        Chunks::of(front, &self.chunks)
+    }
+
+    /// The position behind so many of its bytes, or behind all, where the first stands at one.
+    pub(crate) fn position_from(&self, from: Position, at: usize, encoding: Encoding) -> Position
+        requires lines { from.line + length self.now.bytes < 2 ^ 64 }
+        requires characters { from.character + 2 * length self.now.bytes < 2 ^ 64 }
+        ensures { result ≡ position_behind encoding from (take at self.now.bytes) }
+    {
+        position_in(&self.chunks, from, at, encoding)
+    }
+
+    /// How many of its bytes, of which the first stands at one position, come before the next position is behind another.
+    pub(crate) fn reach_from(&self, from: Position, to: Position, encoding: Encoding) -> Reached
+        requires lines { from.line + length self.now.bytes < 2 ^ 64 }
+        requires characters { from.character + 2 * length self.now.bytes < 2 ^ 64 }
+        ensures count { result.count ≡ reach encoding from to self.now.bytes }
+        ensures within { result.count ≤ length self.now.bytes }
+        ensures position { result.position ≡ position_behind encoding from (take result.count self.now.bytes) }
+    {
+        reach_in(&self.chunks, from, to, encoding)
     }
 
     /// The verdict on its bytes as a whole text (RFC 8259, section 2) whose first byte has this offset. Only chunks that
@@ -104,7 +171,7 @@ impl Chunked {
         ensures fault { IfErr result (λ fault. fault ≡ Memory) }
     {
         let kept = self.len - (end - start);
-        if usize::MAX - kept < replacement.len() {
+        if MOST < kept.saturating_add(replacement.len()) {
             return Err(EditFault::Memory);
         }
         let len = kept + replacement.len();

@@ -1,18 +1,24 @@
 // A text that is edited.
-ghost use Rattle.std.specs.Prelude.{◌≡◌, ◌≤◌, ◌<◌, ◌+◌, ◌-◌, ◌^◌, [], Err, IfErr, IfOk, OnErr, OnOk, length, slice_range};
+ghost use Rattle.std.specs.Prelude.{◌≡◌, ◌≤◌, ◌<◌, ◌+◌, ◌-◌, ◌^◌, ◌↔◌, IsTrue, [], Err, IfErr, IfOk, OnErr, OnOk, length, slice_index, slice_range, take};
+ghost use Rattle.std.specs.List.{concat};
 ghost use Rattle.jx_edit.specs.Document.{edited};
 ghost use Rattle.jx_edit.specs.declared.edit_fault.EditFault.TheVariants as edit;
 ghost use Rattle.jx_edit.specs.declared.open_fault.OpenFault.TheVariants as opening;
 ghost use Rattle.jx_edit.specs.inside.Fronts.{skipped};
+ghost use Rattle.jx_edit.specs.Positions.{first, is_in_crlf, offset_at, position_at, reach};
 ghost use Rattle.jx_run.specs.declared.settings.NameRule.TheVariants.{Any, Unique};
-ghost use Rattle.jx_run.specs.Settings.{JudgedBy};
+ghost use Rattle.jx_run.specs.Settings.{JudgedBy, byte_order_mark};
 
-use crate::chunked::Chunked;
+use crate::chunked::{Chunked, MOST};
+use crate::chunks::Chunks;
 use crate::edit_fault::EditFault;
+use crate::encoding::Encoding;
 use crate::open_fault::OpenFault;
+use crate::position::{Position, Reached, behind, reach};
 use jx_run::{Front, NameRule, Settings, Verdict, front, fronts_decide_where_texts_begin};
 use std::alloc::{AllocError, Global};
 use std::marker::Model;
+use std::thread::Threads;
 
 /// U+FEFF in UTF-8.
 const BYTE_ORDER_MARK: [u8; 3] = [0xEF, 0xBB, 0xBF];
@@ -47,6 +53,14 @@ fn skipped(front: Front) -> usize
     }
 }
 
+/// The bytes that are skipped.
+fn in_front(front: Front) -> &'static [u8]
+    requires { skipped front ≤ 3 }
+    ensures { result.now ≡ take (skipped front) byte_order_mark }
+{
+    &BYTE_ORDER_MARK[..skipped(front)]
+}
+
 impl Document {
     /// A document of these bytes. Unique names are refused, as a document keeps no names.
     pub fn of(alloc: Global, bytes: &[u8], settings: Settings) -> Result<Document, OpenFault>
@@ -67,11 +81,126 @@ impl Document {
         })
     }
 
+    /// The same, where so many workers each make a part of it, in a thread of its own where one can be made. It has the same
+    /// bytes for every number of workers.
+    pub fn of_by<R: Threads + Sync>(
+        rt: &R,
+        alloc: Global,
+        bytes: &[u8],
+        settings: Settings,
+        workers: usize,
+    ) -> Result<Document, OpenFault>
+        ensures settings { IfOk result (λ d. d.settings ≡ settings) }
+        ensures bytes { IfOk result (λ d. d.bytes ≡ bytes.now) }
+        ensures names { settings.names ≡ Unique → result ≡ Err opening.UniqueNames }
+        ensures any { settings.names ≡ Any → IfErr result (λ fault. fault ≡ opening.Memory) }
+    {
+        let NameRule::Any = settings.names else {
+            return Err(OpenFault::UniqueNames);
+        };
+        let front = front(bytes, settings.mark);
+        let rest = Chunked::of_by(rt, alloc, &bytes[skipped(front)..], settings.depth, workers)?;
+        Ok(Document {
+            settings,
+            front,
+            rest,
+        })
+    }
+
     /// How many bytes it has, with those of a mark in front.
     pub fn len(&self) -> usize
         ensures { result ≡ length self.now.bytes }
     {
         skipped(self.front) + self.rest.len()
+    }
+
+    /// Whether it has no byte.
+    pub fn is_empty(&self) -> bool
+        ensures { IsTrue result ↔ self.now.bytes ≡ [] }
+    {
+        self.len() == 0
+    }
+
+    /// The bytes from an offset on, as far as they stand in one piece: at least one, or none where the offset is the end or
+    /// lies behind it. Nothing is copied.
+    pub fn chunk_at(&self, offset: usize) -> &[u8]
+        ensures part { result.now ≡ slice_range self.now.bytes offset (offset + length result.now) }
+        ensures some { offset < length self.now.bytes → 0 < length result.now }
+    {
+        let mark = in_front(self.front);
+        if offset < mark.len() {
+            return &mark[offset..];
+        }
+        self.rest.chunk_at(offset - mark.len())
+    }
+
+    /// All bytes, piece by piece. Nothing is copied.
+    pub fn chunks(&self) -> Chunks<'_>
+        ensures { concat result ≡ self.now.bytes }
+    {
+        let mark = &BYTE_ORDER_MARK[..skipped(self.front)];
+        self.rest.chunks_behind(mark)
+    }
+
+    /// The position of an offset, or of the end where the offset lies behind it (Language Server Protocol 3.17, "Position").
+    pub fn position_of(&self, offset: usize, encoding: Encoding) -> Position
+        ensures { result ≡ position_at encoding self.now.bytes offset }
+    {
+        let mark = in_front(self.front);
+        let front = behind(&mark[..offset.min(mark.len())], encoding);
+        self.rest
+            .position_from(front, offset.saturating_sub(mark.len()), encoding)
+    }
+
+    /// The offset of a position. Inside of a character it is that of the character. Where the line has fewer units, it is that
+    /// of the line's end, which is LF or CR LF; and where there are fewer lines, the end.
+    pub fn offset_of(&self, position: Position, encoding: Encoding) -> usize
+        ensures at { result ≡ offset_at encoding self.now.bytes position }
+        ensures within { result ≤ length self.now.bytes }
+    {
+        let Reached {
+            count,
+            position: reached,
+        } = self.reach(position, encoding);
+        if reached.character < position.character && self.is_in_crlf(count) {
+            return count.saturating_sub(1);
+        }
+        count
+    }
+
+    /// How many bytes come before the next position is behind one.
+    fn reach(&self, position: Position, encoding: Encoding) -> Reached
+        ensures count { result.count ≡ reach encoding first position self.now.bytes }
+        ensures within { result.count ≤ length self.now.bytes }
+        ensures position { result.position ≡ position_at encoding self.now.bytes result.count }
+    {
+        let mark = in_front(self.front);
+        let front = behind(mark, encoding);
+        if front.is_behind(position) {
+            return reach(mark, Position::first(), position, encoding);
+        }
+        let rest = self.rest.reach_from(front, position, encoding);
+        Reached {
+            count: mark.len() + rest.count,
+            position: rest.position,
+        }
+    }
+
+    /// Whether an offset stands between CR and LF.
+    fn is_in_crlf(&self, offset: usize) -> bool
+        ensures { result ≡ is_in_crlf self.now.bytes offset }
+    {
+        self.byte_at(offset.saturating_sub(1)) == b'\r' && self.byte_at(offset) == b'\n'
+    }
+
+    /// The byte at an offset, or 0 where none stands there.
+    fn byte_at(&self, offset: usize) -> u8
+        ensures { result ≡ slice_index self.now.bytes offset }
+    {
+        match self.chunk_at(offset) {
+            [] => 0,
+            [byte, ..] => *byte,
+        }
     }
 
     /// What it was made with.
@@ -109,7 +238,7 @@ impl Document {
             return Err(EditFault::OutOfBounds);
         }
         let kept = self.len() - (end - start);
-        if usize::MAX - kept < replacement.len() {
+        if MOST < kept.saturating_add(replacement.len()) {
             return Err(EditFault::Memory);
         }
         if start < BYTE_ORDER_MARK.len() {
@@ -124,7 +253,7 @@ impl Document {
     fn edit_front(&mut self, start: usize, end: usize, replacement: &[u8]) -> Result<(), EditFault>
         requires order { start ≤ end }
         requires within { end ≤ length self.old.bytes }
-        requires fits { (length self.old.bytes - (end - start)) + length replacement.now < 2 ^ 64 }
+        requires fits { (length self.old.bytes - (end - start)) + length replacement.now < 2 ^ 63 }
         ensures settings { self.new.settings ≡ self.old.settings }
         ensures ok { OnOk result (self.new.bytes ≡ edited start end replacement.now self.old.bytes) }
         ensures err { OnErr result (self.new ≡ self.old) }

@@ -23,7 +23,7 @@ use Rattle.jx_index.proofs.Walks.{has_row, goes_on}
 
 -- ---- rows
 
-slice_get_seam : (before : List Row) (row : Row) (behind : List Row) → slice_get (before ++ (row ∷ behind)) (length before) ≡ Some row
+pub slice_get_seam : (before : List Row) (row : Row) (behind : List Row) → slice_get (before ++ (row ∷ behind)) (length before) ≡ Some row
 slice_get_seam [] row behind = refl
 slice_get_seam (r ∷ before) row behind = slice_get_seam before row behind
 

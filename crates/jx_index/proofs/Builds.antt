@@ -69,7 +69,7 @@ blanks_read last no_blanks building = refl
 blanks_read last (blank h bs) building = blank_reads last h _ _ building ∙ blanks_read last bs building
 
 -- a structural byte
-data Structural : ℕ → MarkKind → Type 0 where
+pub data Structural : ℕ → MarkKind → Type 0 where
   open_array : Structural 0x5b mark.OpenArray
   open_object : Structural 0x7b mark.OpenObject
   close_array : Structural 0x5d mark.CloseArray
@@ -98,7 +98,7 @@ make_token last k t at end marks marks' ends ends' building m e d =
     ∙ ap (λ x. make last marks' x (on_mark k at (next_end last ends) building)) d
     ∙ ap (λ x. make last marks' ends' (on_mark k at x building)) e
 
-token_is : (k : Kind) (w : List ℕ) → IsToken k w → is_token (mark_of k) ≡ true
+pub token_is : (k : Kind) (w : List ℕ) → IsToken k w → is_token (mark_of k) ≡ true
 token_is kind.Object w h = absurd h
 token_is kind.Array w h = absurd h
 token_is kind.String w h = refl
@@ -262,7 +262,7 @@ empty_over k i j b h =
 
 -- ---- lengths
 
-blanks_length : {i j : ℕ} {t rest : List ℕ} → Blanks i t j rest → i + length t ≡ j + length rest
+pub blanks_length : {i j : ℕ} {t rest : List ℕ} → Blanks i t j rest → i + length t ≡ j + length rest
 blanks_length no_blanks = refl
 blanks_length (blank {i = i} {bytes = bytes} h bs) = (let e : i + suc (length bytes) ≡ suc i + length bytes = omega arith in e) ∙ blanks_length bs
 
@@ -270,18 +270,18 @@ scalar_length : {k : Kind} {i j : ℕ} {t rest : List ℕ} → Scalar k i t j re
 scalar_length {rest = rest} x = omega (arith, ap length x.whole, length-append x.token rest, x.end)
 
 mutual
-  value_length : {i j : ℕ} {t rest : List ℕ} {tree : Tree} → Value i t j rest tree → i + length t ≡ j + length rest
+  pub value_length : {i j : ℕ} {t rest : List ℕ} {tree : Tree} → Value i t j rest tree → i + length t ≡ j + length rest
   value_length (leaf x) = scalar_length x
   value_length (empty_array bs) = omega (arith, blanks_length bs)
   value_length (array xs) = omega (arith, items_length xs)
   value_length (empty_object bs) = omega (arith, blanks_length bs)
   value_length (object xs) = omega (arith, members_length xs)
 
-  items_length : {i j : ℕ} {t rest : List ℕ} {children : Children} → Items i t j rest children → i + length t ≡ j + length rest
+  pub items_length : {i j : ℕ} {t rest : List ℕ} {children : Children} → Items i t j rest children → i + length t ≡ j + length rest
   items_length (last_item bs v cs) = blanks_length bs ∙ value_length v ∙ blanks_length cs
   items_length (item bs v cs xs) = omega (arith, blanks_length bs, value_length v, blanks_length cs, items_length xs)
 
-  members_length : {i j : ℕ} {t rest : List ℕ} {children : Children} → Members i t j rest children → i + length t ≡ j + length rest
+  pub members_length : {i j : ℕ} {t rest : List ℕ} {children : Children} → Members i t j rest children → i + length t ≡ j + length rest
   members_length (last_member bs n cs ds v es) = omega (arith, blanks_length bs, scalar_length n, blanks_length cs, blanks_length ds, value_length v, blanks_length es)
   members_length (member bs n cs ds v es xs) =
       omega (arith, blanks_length bs, scalar_length n, blanks_length cs, blanks_length ds, value_length v, blanks_length es, members_length xs)
@@ -356,12 +356,13 @@ mutual
 pub record IsBuilt (tree : Tree) (b : Building) : Type 0 where
   pub rows_are : b.rows ≡ rows tree
   pub after_are : b.after ≡ afters tree
+  pub none_open : b.opened ≡ []
 
 pub built_is : TokensAreRead → (start limit : ℕ) (bytes : List ℕ) (tree : Tree) → IsDocument start bytes limit tree
     → IsBuilt tree (built_of (start + length bytes) (lex state.Gap start bytes).marks (lex state.Gap start bytes).ends)
 unfolding make lex
 built_is law start limit bytes tree text =
-    let e = whole text.reads in record { rows_are = ap (λ (b : Building). b.rows) e; after_are = ap (λ (b : Building). b.after) e }
+    let e = whole text.reads in record { rows_are = ap (λ (b : Building). b.rows) e; after_are = ap (λ (b : Building). b.after) e; none_open = ap (λ (b : Building). b.opened) e }
   where
     whole : {t : List ℕ} → Document start t tree → built_of (start + length t) (lex state.Gap start t).marks (lex state.Gap start t).ends ≡ with_value tree nothing_built
     whole {t = t} (document {i = i} {l = l} bs v cs) =

@@ -31,12 +31,12 @@ pub record RunNodes (run : TextRunValue) (span : Span) (marks : List Mark) (ends
   pub after_are : AllLow marks → after ≡ (built_of span.end marks ends).after
 
 module _ (text : List ℕ) (span : Span) (ordered : span.start ≤ span.end) (within : span.end ≤ length text) where
-  all_low : length text < 2 ^ 64 → AllLow (lex state.Gap span.start (slice_range text span.start span.end)).marks
+  pub all_low : length text < 2 ^ 64 → AllLow (lex state.Gap span.start (slice_range text span.start span.end)).marks
   all_low fits =
       let end = slice_end text span.start span.end ordered within in
       marks_within state.Gap span.start (slice_range text span.start span.end) (2 ^ 64 - 1) (omega (arith, end))
 
-  is_built : TokensAreRead → (limit : ℕ) (tree : Tree) → IsText text span.start span.end limit tree
+  pub is_built : TokensAreRead → (limit : ℕ) (tree : Tree) → IsText text span.start span.end limit tree
       → IsBuilt tree (built_of span.end (lex state.Gap span.start (slice_range text span.start span.end)).marks (lex state.Gap span.start (slice_range text span.start span.end)).ends)
   is_built law limit tree t =
       let bytes = slice_range text span.start span.end in

@@ -6,9 +6,7 @@ use Rattle.std.specs.declared.cmp.Ordering.TheVariants.{Less, Equal, Greater}
 use Rattle.std.specs.Ordering.{nat_cmp, is_lt, is_eq, ordering_reverse}
 use Rattle.std.specs.Cmp.Lexicographic.{slice_cmp, nat_list_cmp_total}
 use Rattle.std.specs.List.Sorted.{IsStableBy, ties}
-use Rattle.jx_index.specs.declared.row.Row.{Row}
-use Rattle.jx_index.specs.Names.{name_units, is_below}
-use Rattle.jx_index.specs.RowsLead.{is_equal}
+use Rattle.jx_index.specs.Repeats.{has_units}
 
 equal_of : (o : Ordering) → is_eq o ≡ true → o ≡ Equal
 equal_of Less h = absurd (cc)
@@ -20,11 +18,11 @@ ties_of Less = refl
 ties_of Equal = refl
 ties_of Greater = refl
 
-filter_same : (p q : ℕ → Bool) → ((x : ℕ) → p x ≡ q x) → (xs : List ℕ) → filter p xs ≡ filter q xs
+filter_same : {A : Type 0} (p q : A → Bool) → ((x : A) → p x ≡ q x) → (xs : List A) → filter p xs ≡ filter q xs
 filter_same p q h [] = refl
 filter_same p q h (x ∷ xs) = ap (λ b. cond b (x ∷ filter p xs) (filter p xs)) (h x) ∙ ap (λ l. cond (q x) (x ∷ l) l) (filter_same p q h xs)
 
-head_passes : (p : ℕ → Bool) (xs ys : List ℕ) (y : ℕ) → filter p xs ≡ y ∷ ys → p y ≡ true
+head_passes : {A : Type 0} (p : A → Bool) (xs ys : List A) (y : A) → filter p xs ≡ y ∷ ys → p y ≡ true
 head_passes p [] ys y h = absurd (cc)
 head_passes p (x ∷ xs) ys y h = pick (p x) refl h (λ k. head_passes p xs ys y k)
   where
@@ -32,12 +30,16 @@ head_passes p (x ∷ xs) ys y h = pick (p x) refl h (λ k. head_passes p xs ys y
     pick true e k rec = let same : x ≡ y = cc in ap p (sym same) ∙ e
     pick false e k rec = rec k
 
-module _ (text : List ℕ) (rows : List Row) (units : List ℕ) where
+-- a name stands before another by its units
+abbrev pub falls : {A : Type 0} → (A → List ℕ) → A → A → Bool
+falls units_of x y = is_lt (slice_cmp nat_cmp (units_of x) (units_of y))
+
+module _ {A : Type 0} (units_of : A → List ℕ) (units : List ℕ) where
   -- those that have the units are those that tie with one of them
-  equal_ties : (y : ℕ) → is_equal text rows units y ≡ true → (x : ℕ) → is_equal text rows units x ≡ ties (is_below text rows) y x
+  equal_ties : (y : A) → has_units units_of units y ≡ true → (x : A) → has_units units_of units x ≡ ties (falls units_of) y x
   equal_ties y h x =
       let r = slice_cmp nat_cmp in
-      let u = name_units text rows in
+      let u = units_of in
       let e : r (u y) units ≡ Equal = equal_of (r (u y) units) h in
       let b : r (u x) units ≡ r (u x) (u y) =
       nat_list_cmp_total.antisymm (u x) units ∙ ap ordering_reverse (sym (nat_list_cmp_total.congr (u y) units (u x) e)) ∙ sym (nat_list_cmp_total.antisymm (u x) (u y)) in
@@ -46,19 +48,19 @@ module _ (text : List ℕ) (rows : List Row) (units : List ℕ) where
       ∙ ap (λ o. not (is_lt o) && not (is_lt (r (u x) (u y)))) (sym (nat_list_cmp_total.antisymm (u y) (u x)))
 
   -- a stable order keeps them as they were
-  pub equal_kept : (members names : List ℕ) → IsStableBy (is_below text rows) members names → filter (is_equal text rows units) names ≡ filter (is_equal text rows units) members
+  pub equal_kept : (members names : List A) → IsStableBy (falls units_of) members names → filter (has_units units_of units) names ≡ filter (has_units units_of units) members
   equal_kept members names stable = cases (filter p names) (filter p members) refl refl
     where
-      p : ℕ → Bool
-      p = is_equal text rows units
+      p : A → Bool
+      p = has_units units_of units
 
-      from : (y : ℕ) → p y ≡ true → filter p names ≡ filter p members
+      from : (y : A) → p y ≡ true → filter p names ≡ filter p members
       from y h =
-          filter_same p (ties (is_below text rows) y) (equal_ties y h) names
+          filter_same p (ties (falls units_of) y) (equal_ties y h) names
           ∙ stable y
-          ∙ sym (filter_same p (ties (is_below text rows) y) (equal_ties y h) members)
+          ∙ sym (filter_same p (ties (falls units_of) y) (equal_ties y h) members)
 
-      cases : (xs ys : List ℕ) → filter p names ≡ xs → filter p members ≡ ys → filter p names ≡ filter p members
+      cases : (xs ys : List A) → filter p names ≡ xs → filter p members ≡ ys → filter p names ≡ filter p members
       cases [] [] e f = e ∙ sym f
       cases (y ∷ xs) ys e f = from y (head_passes p names xs y e)
       cases [] (y ∷ ys) e f = from y (head_passes p members ys y f)

@@ -10,15 +10,13 @@ use Rattle.std.proofs.lemmas.List.Sorted.{searchable_from_sorted}
 use Rattle.std.proofs.lemmas.Option.{slice_get_past}
 use Rattle.jx_lex.specs.declared.kind.Kind.TheVariants as kind
 use Rattle.jx_index.specs.declared.row.Row.{Row}
-use Rattle.jx_index.specs.inside.LookUp.{rank_of}
 use Rattle.jx_index.specs.Names.{is_below, name_units}
 use Rattle.jx_index.specs.Nodes.{IsObjectAt, kind_at, kind_in, name_at, child_numbers}
-use Rattle.jx_index.specs.Repeats.{IsAmong, start_in, IsRepeatIn, IsRepeat, IsLeast}
+use Rattle.jx_index.specs.Repeats.{IsAmong, has_units, start_in, IsRepeated, IsRepeatIn, IsRepeat, IsLeast}
 use Rattle.jx_index.specs.inside.Ties.{earlier_of, tie_start, IsTieBehind, IsTie, IsRepeatOf, IsRepeatFrom}
-use Rattle.jx_index.specs.RowsLead.{is_equal}
 use Rattle.jx_index.proofs.Halving.{eq_at_one}
 use Rattle.jx_index.proofs.Leasts.{least_same, least_one, least_none, least_either, earlier_assoc, earlier_none}
-use Rattle.jx_index.proofs.Orders.{equal_kept}
+use Rattle.jx_index.proofs.Orders.{falls, equal_kept}
 
 -- ---- units
 
@@ -49,55 +47,75 @@ one_of_rank false h = refl
 
 -- ---- places
 
-index_of : (x : ℕ) (ys : List ℕ) → IsAmong x ys → (j : ℕ) × (j < length ys) × (get_or ys j 0 ≡ x)
-index_of x [] h = absurd h
-index_of x (y ∷ ys) (inl e) = (0, omega arith, e)
-index_of x (y ∷ ys) (inr h) = let i = index_of x ys h in let low = i.1 in (suc i.0, omega (arith, low), i.2)
+-- what is found, with the least of what is left, is the least of all
+abbrev pub Leads : (ℕ → Type 0) → (ℕ → Type 0) → Option ℕ → Type 0
+Leads All Left first = (r : Option ℕ) → IsLeast Left r → IsLeast All (earlier_of first r)
 
-among_drop : (x : ℕ) (ys : List ℕ) → IsAmong x (drop 1 ys) → IsAmong x ys
-among_drop x [] h = absurd h
-among_drop x (y ∷ ys) h = inr h
+pub at_first : (P : ℕ → Type 0) → Leads P P None
+at_first P r h = h
 
-module _ (text : List ℕ) (rows : List Row) where
+pub at_last : (All Left : ℕ → Type 0) (first : Option ℕ) → Leads All Left first → ((n : ℕ) → Left n → ⊥) → IsLeast All first
+at_last All Left first h none = subst (IsLeast All) (earlier_none first) (h None (least_none Left none))
+
+leads_on : (All Left Next : ℕ → Type 0) (Here : ℕ → Type 0) (first t : Option ℕ) → IsLeast Here t → ((n : ℕ) → Here n ⊎ Next n → Left n) → ((n : ℕ) → Left n → Here n ⊎ Next n)
+    → Leads All Left first → Leads All Next (earlier_of first t)
+leads_on All Left Next Here first t here to of h r next =
+    subst (IsLeast All) (sym (earlier_assoc first t r))
+    (h (earlier_of t r) (least_same (λ n. Here n ⊎ Next n) Left to of (earlier_of t r) (least_either Here Next t r here next)))
+
+module _ {A : Type 0} (spare : A) where
+  index_of : (x : A) (ys : List A) → IsAmong x ys → (j : ℕ) × (j < length ys) × (get_or ys j spare ≡ x)
+  index_of x [] h = absurd h
+  index_of x (y ∷ ys) (inl e) = (0, omega arith, e)
+  index_of x (y ∷ ys) (inr h) = let i = index_of x ys h in let low = i.1 in (suc i.0, omega (arith, low), i.2)
+
+  among_drop : (x : A) (ys : List A) → IsAmong x (drop 1 ys) → IsAmong x ys
+  among_drop x [] h = absurd h
+  among_drop x (y ∷ ys) h = inr h
+
+module _ {A : Type 0} (spare : A) (units_of : A → List ℕ) (start_of : A → Option ℕ) where
+  abbrev rank : List ℕ → A → ℕ
+  rank units x = ordering_index (slice_cmp nat_cmp (units_of x) units)
+
   -- ---- each tie is a repeat
 
-  passing : (p : ℕ → Bool) (a b : ℕ) (names : List ℕ) → p a ≡ true → p b ≡ true → IsAmong b (drop 1 (filter p (a ∷ b ∷ names)))
+  passing : (p : A → Bool) (a b : A) (names : List A) → p a ≡ true → p b ≡ true → IsAmong b (drop 1 (filter p (a ∷ b ∷ names)))
   passing p a b names pa pb =
       subst (λ (c : Bool). IsAmong b (drop 1 (cond c (a ∷ filter p (b ∷ names)) (filter p (b ∷ names))))) (sym pa)
       (subst (λ (c : Bool). IsAmong b (cond c (b ∷ filter p names) (filter p names))) (sym pb) (inl refl))
 
-  tie_at : (a b at : ℕ) (c : Bool) → is_eq (slice_cmp nat_cmp (name_units text rows a) (name_units text rows b)) ≡ c
-      → cond c (start_in (name_at rows b)) None ≡ Some at → (c ≡ true) × (start_in (name_at rows b) ≡ Some at)
+  tie_at : (a b : A) (at : ℕ) (c : Bool) → is_eq (slice_cmp nat_cmp (units_of a) (units_of b)) ≡ c
+      → cond c (start_of b) None ≡ Some at → (c ≡ true) × (start_of b ≡ Some at)
   tie_at a b at true e h = (refl, h)
   tie_at a b at false e h = absurd (cc)
 
-  among_more : (p : ℕ → Bool) (x a : ℕ) (names : List ℕ) → IsAmong x (drop 1 (filter p names)) → IsAmong x (drop 1 (filter p (a ∷ names)))
+  among_more : (p : A → Bool) (x a : A) (names : List A) → IsAmong x (drop 1 (filter p names)) → IsAmong x (drop 1 (filter p (a ∷ names)))
   among_more p x a names h = pick (p a)
     where
       pick : (c : Bool) → IsAmong x (drop 1 (cond c (a ∷ filter p names) (filter p names)))
-      pick true = among_drop x (filter p names) h
+      pick true = among_drop spare x (filter p names) h
       pick false = h
 
-  tie_repeats : (a : ℕ) (names : List ℕ) (at : ℕ) → IsTieBehind text rows a names at → IsRepeatIn text rows (a ∷ names) at
+  tie_repeats : (a : A) (names : List A) (at : ℕ) → IsTieBehind units_of start_of a names at → IsRepeated units_of start_of (a ∷ names) at
   tie_repeats a [] at h = absurd h
   tie_repeats a (b ∷ names) at (inl e) =
-      let q = is_eq (slice_cmp nat_cmp (name_units text rows a) (name_units text rows b)) in
+      let q = is_eq (slice_cmp nat_cmp (units_of a) (units_of b)) in
       let t = tie_at a b at q refl e in
-      record { units = name_units text rows b; node = b; behind = passing (is_equal text rows (name_units text rows b)) a b names t.0 (same_units (name_units text rows b)); starts = t.1 }
+      record { units = units_of b; name = b; behind = passing (has_units units_of (units_of b)) a b names t.0 (same_units (units_of b)); starts = t.1 }
   tie_repeats a (b ∷ names) at (inr h) =
       let r = tie_repeats b names at h in
-      record { units = r.units; node = r.node; behind = among_more (is_equal text rows r.units) r.node a (b ∷ names) r.behind; starts = r.starts }
+      record { units = r.units; name = r.name; behind = among_more (has_units units_of r.units) r.name a (b ∷ names) r.behind; starts = r.starts }
 
   -- ---- each repeat is a tie
 
-  tail_rises : (f : ℕ → ℕ) (a : ℕ) (names : List ℕ) → IsNonDecreasingBy f (a ∷ names) → IsNonDecreasingBy f names
+  tail_rises : (f : A → ℕ) (a : A) (names : List A) → IsNonDecreasingBy f (a ∷ names) → IsNonDecreasingBy f names
   tail_rises f a names up = λ i j d le lt. up (suc i) (suc j) d (omega (arith, le)) (omega (arith, lt))
 
   -- what passes has rank 1
-  rank_one : (units : List ℕ) (y : ℕ) → is_equal text rows units y ≡ true → rank_of text rows units y ≡ 1
-  rank_one units y h = ap (λ (o : Ordering). ordering_index o) (equal_of (slice_cmp nat_cmp (name_units text rows y) units) h)
+  rank_one : (units : List ℕ) (y : A) → has_units units_of units y ≡ true → rank units y ≡ 1
+  rank_one units y h = ap (λ (o : Ordering). ordering_index o) (equal_of (slice_cmp nat_cmp (units_of y) units) h)
 
-  filter_passes : (p : ℕ → Bool) (x : ℕ) (names : List ℕ) → IsAmong x (filter p names) → (p x ≡ true) × IsAmong x names
+  filter_passes : (p : A → Bool) (x : A) (names : List A) → IsAmong x (filter p names) → (p x ≡ true) × IsAmong x names
   filter_passes p x [] h = absurd h
   filter_passes p x (b ∷ names) h = pick (p b) refl h (λ k. filter_passes p x names k)
     where
@@ -108,128 +126,119 @@ module _ (text : List ℕ) (rows : List Row) where
       pick false e k rec = ((rec k).0, inr (rec k).1)
 
   -- between two of rank 1 stand only such
-  passes_between : (units : List ℕ) (a b : ℕ) (names : List ℕ) (x : ℕ) → IsNonDecreasingBy (rank_of text rows units) (a ∷ b ∷ names)
-      → is_equal text rows units a ≡ true → is_equal text rows units x ≡ true → IsAmong x names → is_equal text rows units b ≡ true
+  passes_between : (units : List ℕ) (a b : A) (names : List A) (x : A) → IsNonDecreasingBy (rank units) (a ∷ b ∷ names)
+      → has_units units_of units a ≡ true → has_units units_of units x ≡ true → IsAmong x names → has_units units_of units b ≡ true
   passes_between units a b names x up pa px h =
-      let f = rank_of text rows units in
-      let i = index_of x names h in
+      let f = rank units in
+      let i = index_of spare x names h in
       let low = i.1 in
-      let first : f a ≤ f b = up 0 1 0 (omega arith) (omega arith) in
-      let last : f b ≤ f (get_or names i.0 0) = up 1 (suc (suc i.0)) 0 (omega arith) (omega (arith, low)) in
+      let first : f a ≤ f b = up 0 1 spare (omega arith) (omega arith) in
+      let last : f b ≤ f (get_or names i.0 spare) = up 1 (suc (suc i.0)) spare (omega arith) (omega (arith, low)) in
       let one : f a ≡ 1 = rank_one units a pa in
-      let other : f (get_or names i.0 0) ≡ 1 = ap f i.2 ∙ rank_one units x px in
+      let other : f (get_or names i.0 spare) ≡ 1 = ap f i.2 ∙ rank_one units x px in
       let same : f b ≡ 1 = omega (arith, first, last, one, other) in
-      eq_at_one (slice_cmp nat_cmp (name_units text rows b) units) same
+      eq_at_one (slice_cmp nat_cmp (units_of b) units) same
 
-  tie_here : (units : List ℕ) (a b x at : ℕ) → is_equal text rows units a ≡ true → is_equal text rows units b ≡ true → b ≡ x → start_in (name_at rows x) ≡ Some at
-      → tie_start text rows a b ≡ Some at
+  tie_here : (units : List ℕ) (a b x : A) (at : ℕ) → has_units units_of units a ≡ true → has_units units_of units b ≡ true → b ≡ x → start_of x ≡ Some at
+      → tie_start units_of start_of a b ≡ Some at
   tie_here units a b x at pa pb same starts =
-      let q : is_eq (slice_cmp nat_cmp (name_units text rows a) (name_units text rows b)) ≡ true = both_equal (name_units text rows a) (name_units text rows b) units pa pb in
-      ap (λ (c : Bool). cond c (start_in (name_at rows b)) None) q ∙ ap (λ (n : ℕ). start_in (name_at rows n)) same ∙ starts
+      let q : is_eq (slice_cmp nat_cmp (units_of a) (units_of b)) ≡ true = both_equal (units_of a) (units_of b) units pa pb in
+      ap (λ (c : Bool). cond c (start_of b) None) q ∙ ap (λ (n : A). start_of n) same ∙ starts
 
-  behind_first : (units : List ℕ) (a : ℕ) (names : List ℕ) (x at : ℕ) → IsNonDecreasingBy (rank_of text rows units) (a ∷ names)
-      → is_equal text rows units a ≡ true → IsAmong x (filter (is_equal text rows units) names) → start_in (name_at rows x) ≡ Some at → IsTieBehind text rows a names at
+  behind_first : (units : List ℕ) (a : A) (names : List A) (x : A) (at : ℕ) → IsNonDecreasingBy (rank units) (a ∷ names)
+      → has_units units_of units a ≡ true → IsAmong x (filter (has_units units_of units) names) → start_of x ≡ Some at → IsTieBehind units_of start_of a names at
   behind_first units a [] x at up pa h starts = absurd h
   behind_first units a (b ∷ names) x at up pa h starts =
-      pick (is_equal text rows units b) refl h (λ pb k. behind_first units b names x at (tail_rises (rank_of text rows units) a (b ∷ names) up) pb k starts)
+      pick (has_units units_of units b) refl h (λ pb k. behind_first units b names x at (tail_rises (rank units) a (b ∷ names) up) pb k starts)
     where
-      pick : (c : Bool) → is_equal text rows units b ≡ c → IsAmong x (cond c (b ∷ filter (is_equal text rows units) names) (filter (is_equal text rows units) names))
-          → (is_equal text rows units b ≡ true → IsAmong x (filter (is_equal text rows units) names) → IsTieBehind text rows b names at) → IsTieBehind text rows a (b ∷ names) at
+      pick : (c : Bool) → has_units units_of units b ≡ c → IsAmong x (cond c (b ∷ filter (has_units units_of units) names) (filter (has_units units_of units) names))
+          → (has_units units_of units b ≡ true → IsAmong x (filter (has_units units_of units) names) → IsTieBehind units_of start_of b names at) → IsTieBehind units_of start_of a (b ∷ names) at
       pick true e (inl same) rec = inl (tie_here units a b x at pa e same starts)
       pick true e (inr k) rec = inr (rec e k)
       pick false e k rec =
-          let f = filter_passes (is_equal text rows units) x names k in
+          let f = filter_passes (has_units units_of units) x names k in
           let there = passes_between units a b names x up pa f.0 f.1 in
           absurd (cc (e, there))
 
-  repeats_tie : (units : List ℕ) (a : ℕ) (names : List ℕ) (x at : ℕ) → IsNonDecreasingBy (rank_of text rows units) (a ∷ names)
-      → IsAmong x (drop 1 (filter (is_equal text rows units) (a ∷ names))) → start_in (name_at rows x) ≡ Some at → IsTieBehind text rows a names at
-  repeats_tie units a [] x at up h starts = pick (is_equal text rows units a) h
+  repeats_tie : (units : List ℕ) (a : A) (names : List A) (x : A) (at : ℕ) → IsNonDecreasingBy (rank units) (a ∷ names)
+      → IsAmong x (drop 1 (filter (has_units units_of units) (a ∷ names))) → start_of x ≡ Some at → IsTieBehind units_of start_of a names at
+  repeats_tie units a [] x at up h starts = pick (has_units units_of units a) h
     where
       pick : (c : Bool) → IsAmong x (drop 1 (cond c (a ∷ []) [])) → ⊥
       pick true k = k
       pick false k = k
   repeats_tie units a (b ∷ names) x at up h starts =
-      pick (is_equal text rows units a) refl h (λ k. repeats_tie units b names x at (tail_rises (rank_of text rows units) a (b ∷ names) up) k starts)
+      pick (has_units units_of units a) refl h (λ k. repeats_tie units b names x at (tail_rises (rank units) a (b ∷ names) up) k starts)
     where
-      pick : (c : Bool) → is_equal text rows units a ≡ c
-          → IsAmong x (drop 1 (cond c (a ∷ filter (is_equal text rows units) (b ∷ names)) (filter (is_equal text rows units) (b ∷ names))))
-          → (IsAmong x (drop 1 (filter (is_equal text rows units) (b ∷ names))) → IsTieBehind text rows b names at) → IsTieBehind text rows a (b ∷ names) at
+      pick : (c : Bool) → has_units units_of units a ≡ c
+          → IsAmong x (drop 1 (cond c (a ∷ filter (has_units units_of units) (b ∷ names)) (filter (has_units units_of units) (b ∷ names))))
+          → (IsAmong x (drop 1 (filter (has_units units_of units) (b ∷ names))) → IsTieBehind units_of start_of b names at) → IsTieBehind units_of start_of a (b ∷ names) at
       pick true e k rec = behind_first units a (b ∷ names) x at up e k starts
       pick false e k rec = inr (rec k)
 
   -- ---- over a whole list
 
-  ties_are : (names : List ℕ) → IsSortedBy (is_below text rows) names → (at : ℕ) → IsRepeatIn text rows names at → IsTie text rows names at
+  ties_are : (names : List A) → IsSortedBy (falls units_of) names → (at : ℕ) → IsRepeated units_of start_of names at → IsTie units_of start_of names at
   ties_are [] up at r = absurd (r.behind)
   ties_are (a ∷ names) up at r =
-      repeats_tie r.units a names r.node at (searchable_from_sorted nat_list_cmp_total (name_units text rows) (a ∷ names) r.units up) r.behind r.starts
+      repeats_tie r.units a names r.name at (searchable_from_sorted nat_list_cmp_total units_of (a ∷ names) r.units up) r.behind r.starts
 
-  repeats_are : (names : List ℕ) (at : ℕ) → IsTie text rows names at → IsRepeatIn text rows names at
+  repeats_are : (names : List A) (at : ℕ) → IsTie units_of start_of names at → IsRepeated units_of start_of names at
   repeats_are [] at h = absurd h
   repeats_are (a ∷ names) at h = tie_repeats a names at h
 
-  pub first_of_ties : (names : List ℕ) (r : Option ℕ) → IsSortedBy (is_below text rows) names → IsLeast (IsTie text rows names) r → IsLeast (IsRepeatIn text rows names) r
-  first_of_ties names r up h = least_same (IsTie text rows names) (IsRepeatIn text rows names) (repeats_are names) (ties_are names up) r h
+  pub first_of_ties : (names : List A) (r : Option ℕ) → IsSortedBy (falls units_of) names → IsLeast (IsTie units_of start_of names) r → IsLeast (IsRepeated units_of start_of names) r
+  first_of_ties names r up h = least_same (IsTie units_of start_of names) (IsRepeated units_of start_of names) (repeats_are names) (ties_are names up) r h
 
-  -- a stable order keeps which member is the first of its units
-  moved : (xs ys : List ℕ) → ((units : List ℕ) → filter (is_equal text rows units) xs ≡ filter (is_equal text rows units) ys) → (at : ℕ) → IsRepeatIn text rows xs at → IsRepeatIn text rows ys at
-  moved xs ys same at r = record { units = r.units; node = r.node; behind = subst (λ (f : List ℕ). IsAmong r.node (drop 1 f)) (same r.units) r.behind; starts = r.starts }
+  -- a stable order keeps which name is the first of its units
+  moved : (xs ys : List A) → ((units : List ℕ) → filter (has_units units_of units) xs ≡ filter (has_units units_of units) ys) → (at : ℕ) → IsRepeated units_of start_of xs at → IsRepeated units_of start_of ys at
+  moved xs ys same at r = record { units = r.units; name = r.name; behind = subst (λ (f : List A). IsAmong r.name (drop 1 f)) (same r.units) r.behind; starts = r.starts }
 
-  pub first_in_object : (node : ℕ) (names : List ℕ) (r : Option ℕ) → IsObjectAt rows node → IsStableBy (is_below text rows) (child_numbers rows node) names
-      → IsLeast (IsRepeatIn text rows names) r → IsLeast (IsRepeatOf text rows node) r
-  first_in_object node names r is stable h =
-      least_same (IsRepeatIn text rows names) (IsRepeatOf text rows node)
-      (λ at x. (is, moved names (child_numbers rows node) (λ units. equal_kept text rows units (child_numbers rows node) names stable) at x))
-      (λ at x. moved (child_numbers rows node) names (λ units. sym (equal_kept text rows units (child_numbers rows node) names stable)) at x.1) r h
-
-  pub first_in_other : (node : ℕ) → (IsObjectAt rows node → ⊥) → IsLeast (IsRepeatOf text rows node) None
-  first_in_other node other = λ n x. other x.0
+  -- so the first among rising names is the first among the names in their places
+  pub first_in_place : (members names : List A) (r : Option ℕ) → IsStableBy (falls units_of) members names → IsLeast (IsRepeated units_of start_of names) r → IsLeast (IsRepeated units_of start_of members) r
+  first_in_place members names r stable h =
+      least_same (IsRepeated units_of start_of names) (IsRepeated units_of start_of members)
+      (moved names members (λ units. equal_kept units_of units members names stable))
+      (moved members names (λ units. sym (equal_kept units_of units members names stable))) r h
 
   -- ---- step by step
 
-  -- what is found, with the least of what is left, is the least of all
-  abbrev pub Leads : (ℕ → Type 0) → (ℕ → Type 0) → Option ℕ → Type 0
-  Leads All Left first = (r : Option ℕ) → IsLeast Left r → IsLeast All (earlier_of first r)
+  two_left : (names : List A) (at : ℕ) → suc at < length names → drop at names ≡ get_or names at spare ∷ (get_or names (suc at) spare ∷ drop (suc (suc at)) names)
+  two_left names at h = drop-cons names at spare (omega (arith, h)) ∙ ap (λ (xs : List A). get_or names at spare ∷ xs) (drop-cons names (suc at) spare h)
 
-  pub at_first : (P : ℕ → Type 0) → Leads P P None
-  at_first P r h = h
-
-  pub at_last : (All Left : ℕ → Type 0) (first : Option ℕ) → Leads All Left first → ((n : ℕ) → Left n → ⊥) → IsLeast All first
-  at_last All Left first h none = subst (IsLeast All) (earlier_none first) (h None (least_none Left none))
-
-  leads_on : (All Left Next : ℕ → Type 0) (Here : ℕ → Type 0) (first t : Option ℕ) → IsLeast Here t → ((n : ℕ) → Here n ⊎ Next n → Left n) → ((n : ℕ) → Left n → Here n ⊎ Next n)
-      → Leads All Left first → Leads All Next (earlier_of first t)
-  leads_on All Left Next Here first t here to of h r next =
-      subst (IsLeast All) (sym (earlier_assoc first t r))
-      (h (earlier_of t r) (least_same (λ n. Here n ⊎ Next n) Left to of (earlier_of t r) (least_either Here Next t r here next)))
-
-  two_left : (names : List ℕ) (at : ℕ) → suc at < length names → drop at names ≡ get_or names at 0 ∷ (get_or names (suc at) 0 ∷ drop (suc (suc at)) names)
-  two_left names at h = drop-cons names at 0 (omega (arith, h)) ∙ ap (λ (xs : List ℕ). get_or names at 0 ∷ xs) (drop-cons names (suc at) 0 h)
-
-  pub tie_step : (names : List ℕ) (at next a b : ℕ) (first t : Option ℕ) → suc at < length names → next ≡ suc at → a ≡ get_or names at 0 → b ≡ get_or names (suc at) 0
-      → t ≡ tie_start text rows a b → Leads (IsTie text rows names) (IsTie text rows (drop at names)) first
-      → Leads (IsTie text rows names) (IsTie text rows (drop next names)) (earlier_of first t)
+  pub tie_step : (names : List A) (at next : ℕ) (a b : A) (first t : Option ℕ) → suc at < length names → next ≡ suc at → a ≡ get_or names at spare → b ≡ get_or names (suc at) spare
+      → t ≡ tie_start units_of start_of a b → Leads (IsTie units_of start_of names) (IsTie units_of start_of (drop at names)) first
+      → Leads (IsTie units_of start_of names) (IsTie units_of start_of (drop next names)) (earlier_of first t)
   tie_step names at next a b first t low is a_is b_is t_is h =
-      let x = get_or names at 0 in
-      let y = get_or names (suc at) 0 in
+      let x = get_or names at spare in
+      let y = get_or names (suc at) spare in
       let rest = drop (suc (suc at)) names in
       let here : drop at names ≡ x ∷ (y ∷ rest) = two_left names at low in
-      let there : drop next names ≡ y ∷ rest = ap (λ (n : ℕ). drop n names) is ∙ drop-cons names (suc at) 0 low in
-      let t_there : t ≡ tie_start text rows x y = t_is ∙ ap (λ (n : ℕ). tie_start text rows n b) a_is ∙ ap (λ (n : ℕ). tie_start text rows x n) b_is in
-      subst (λ (xs : List ℕ). Leads (IsTie text rows names) (IsTie text rows xs) (earlier_of first t)) (sym there)
-      (subst (λ (o : Option ℕ). Leads (IsTie text rows names) (IsTie text rows (y ∷ rest)) (earlier_of first o)) (sym t_there)
-      (leads_on (IsTie text rows names) (IsTie text rows (x ∷ (y ∷ rest))) (IsTie text rows (y ∷ rest)) (λ n. tie_start text rows x y ≡ Some n) first (tie_start text rows x y)
-      (least_one (tie_start text rows x y)) (λ n k. k) (λ n k. k)
-      (subst (λ (xs : List ℕ). Leads (IsTie text rows names) (IsTie text rows xs) first) here h)))
+      let there : drop next names ≡ y ∷ rest = ap (λ (n : ℕ). drop n names) is ∙ drop-cons names (suc at) spare low in
+      let t_there : t ≡ tie_start units_of start_of x y = t_is ∙ ap (λ (n : A). tie_start units_of start_of n b) a_is ∙ ap (λ (n : A). tie_start units_of start_of x n) b_is in
+      subst (λ (xs : List A). Leads (IsTie units_of start_of names) (IsTie units_of start_of xs) (earlier_of first t)) (sym there)
+      (subst (λ (o : Option ℕ). Leads (IsTie units_of start_of names) (IsTie units_of start_of (y ∷ rest)) (earlier_of first o)) (sym t_there)
+      (leads_on (IsTie units_of start_of names) (IsTie units_of start_of (x ∷ (y ∷ rest))) (IsTie units_of start_of (y ∷ rest)) (λ n. tie_start units_of start_of x y ≡ Some n) first (tie_start units_of start_of x y)
+      (least_one (tie_start units_of start_of x y)) (λ n k. k) (λ n k. k)
+      (subst (λ (xs : List A). Leads (IsTie units_of start_of names) (IsTie units_of start_of xs) first) here h)))
 
-  short : (xs : List ℕ) → length xs ≤ 1 → (n : ℕ) → IsTie text rows xs n → ⊥
+  short : (xs : List A) → length xs ≤ 1 → (n : ℕ) → IsTie units_of start_of xs n → ⊥
   short [] h n k = k
   short (a ∷ []) h n k = k
   short (a ∷ b ∷ xs) h n k = omega (arith, h)
 
-  pub no_more_ties : (names : List ℕ) (at : ℕ) → length (drop at names) ≤ 1 → (n : ℕ) → IsTie text rows (drop at names) n → ⊥
+  pub no_more_ties : (names : List A) (at : ℕ) → length (drop at names) ≤ 1 → (n : ℕ) → IsTie units_of start_of (drop at names) n → ⊥
   no_more_ties names at h = short (drop at names) h
+
+module _ (text : List ℕ) (rows : List Row) where
+  pub first_in_object : (node : ℕ) (names : List ℕ) (r : Option ℕ) → IsObjectAt rows node → IsStableBy (is_below text rows) (child_numbers rows node) names
+      → IsLeast (IsRepeatIn text rows names) r → IsLeast (IsRepeatOf text rows node) r
+  first_in_object node names r is stable h =
+      least_same (IsRepeatIn text rows (child_numbers rows node)) (IsRepeatOf text rows node) (λ at x. (is, x)) (λ at x. x.1) r
+      (first_in_place 0 (name_units text rows) (λ n. start_in (name_at rows n)) (child_numbers rows node) names r stable h)
+
+  pub first_in_other : (node : ℕ) → (IsObjectAt rows node → ⊥) → IsLeast (IsRepeatOf text rows node) None
+  first_in_other node other = λ n x. other x.0
 
   -- ---- object by object
 

@@ -52,7 +52,7 @@ module _ {A : Type 0} where
 -- ---- over rows
 
 -- its name begins somewhere
-abbrev HasStart : List Row → ℕ → Type 0
+abbrev pub HasStart : List Row → ℕ → Type 0
 HasStart table node = (at : ℕ) × (start_in (name_at table node) ≡ Some at)
 
 module _ (text : List ℕ) (table : List Row) (unique : (at : ℕ) → IsRepeat text table at → ⊥)
@@ -68,7 +68,7 @@ module _ (text : List ℕ) (table : List Row) (unique : (at : ℕ) → IsRepeat 
         is_object = is;
         repeats = record {
           units = token;
-          node = two.second;
+          name = two.second;
           behind = subst (λ (xs : List ℕ). IsAmong two.second (drop 1 xs)) (sym two.are) (inl refl);
           starts = starts.1.0.1;
         };
@@ -109,7 +109,7 @@ child_start tree c h =
     (s.0, ap start_in (name_of_child tree c h.0) ∙ s.1)
 
 -- each member of an object has a name
-members_start : (tree : Tree) → Named tree → (object : ℕ) → IsObjectAt (rows tree) object → Each (HasStart (rows tree)) (child_numbers (rows tree) object)
+pub members_start : (tree : Tree) → Named tree → (object : ℕ) → IsObjectAt (rows tree) object → Each (HasStart (rows tree)) (child_numbers (rows tree) object)
 members_start tree named object is =
     let h = node_at tree object (object_row (rows tree) object is) in
     let below = children_of h.inner in

@@ -1,6 +1,7 @@
 pub mod Afters
 pub mod ArrayTokens
 pub mod ByNames
+pub mod Found
 pub mod Indexed
 pub mod Leads
 pub mod Names
@@ -11,6 +12,7 @@ pub mod PointerForm
 pub mod Pointers
 pub mod Repeats
 pub mod Rows
+pub mod RowsAlone
 pub mod RowsLead
 pub mod Settled
 pub mod Standing

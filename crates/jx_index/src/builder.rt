@@ -3,9 +3,17 @@ ghost use Rattle.jx_index.specs.inside.Building.{child_place, parent_in, counted
 ghost use Rattle.jx_index.specs.inside.Built.{built, Fits};
 ghost use Rattle.jx_index.specs.inside.Low.{AllLow};
 
+use crate::in_order::{Marking, take_all};
 use crate::row::{NodeId, Row};
 use jx_lex::{Ends, Kind, Mark, MarkKind, Marks, Span};
 use std::alloc::{AllocError, Global};
+
+/// The rows of a text, and for each the number of the row behind all that stands in it.
+#[derive(Debug, Drop)]
+pub struct Nodes {
+    pub rows: Vec<Row>,
+    pub after: Vec<usize>,
+}
 
 /// An open container: its row, what it is and how many children it has so far.
 #[derive(Clone, Copy, Debug)]
@@ -173,6 +181,29 @@ impl Builder {
             MarkKind::Null => self.add_row(Kind::Null, span),
         }
     }
+
+    /// What is built, without what is open.
+    pub(crate) fn into_nodes(self) -> Nodes
+        ensures rows { result.rows.items ≡ (built self).rows }
+        ensures after { result.after.items ≡ (built self).after }
+    {
+        Nodes {
+            rows: self.rows,
+            after: self.after,
+        }
+    }
+}
+
+impl Marking for Builder {
+    ghost use Rattle.std.specs.Prelude.{◌≡◌};
+    ghost use Rattle.jx_index.specs.inside.Built.{built};
+
+    ghost holds = { λ builder b. built builder ≡ b };
+
+    #[inline(always)]
+    fn take(&mut self, kind: MarkKind, at: usize, end: usize) -> Result<(), AllocError> {
+        self.mark(kind, at, end)
+    }
 }
 
 /// Whether a mark of this kind begins a token, to which an end belongs.
@@ -206,16 +237,9 @@ pub(crate) fn later_ends<'a>(kind: MarkKind, ends: &'a [usize]) -> &'a [usize]
     }
 }
 
-/// The rows of a text, and for each the number of the row behind all that stands in it.
-#[derive(Debug, Drop)]
-pub struct Nodes {
-    pub rows: Vec<Row>,
-    pub after: Vec<usize>,
-}
-
 /// The nodes of a text that ends at `last`, from what is built so far and the marks and the ends of tokens that are left.
 pub(crate) fn nodes_of(
-    mut builder: Builder,
+    builder: Builder,
     marks: &[Mark],
     ends: &[usize],
     last: usize,
@@ -223,16 +247,8 @@ pub(crate) fn nodes_of(
     ensures rows { IfOk result (λ nodes. AllLow marks.now → Fits (built builder) → nodes.rows.items ≡ (make last marks.now ends.now (built builder)).rows) }
     ensures after { IfOk result (λ nodes. AllLow marks.now → Fits (built builder) → nodes.after.items ≡ (make last marks.now ends.now (built builder)).after) }
 {
-    let mut left = ends;
-    for mark in marks {
-        let end = first_end(left, last);
-        left = later_ends(mark.kind, left);
-        builder.mark(mark.kind, mark.at, end)?;
-    }
-    Ok(Nodes {
-        rows: builder.rows,
-        after: builder.after,
-    })
+    let built = take_all(builder, marks, ends, last)?;
+    Ok(built.into_nodes())
 }
 
 /// The end of a mark's token: the next of the ends, or `last` where none is left. A structural byte takes none.
@@ -265,10 +281,7 @@ pub fn nodes_of_track(
         let end = take_end(mark.kind, &mut ends, last);
         builder.mark(mark.kind, mark.at, end)?;
     }
-    Ok(Nodes {
-        rows: builder.rows,
-        after: builder.after,
-    })
+    Ok(builder.into_nodes())
 }
 
 /// The nodes of a text that ends at `last`, from the marks and the ends of tokens of its reading.

@@ -21,7 +21,7 @@ use crate::units::{Spelling, Units, skip};
 use jx_lex::Kind;
 
 /// How many bytes stand before the next slash, or before the end.
-fn token_len(bytes: &[u8]) -> usize
+pub(crate) fn token_len(bytes: &[u8]) -> usize
     ensures within { result ≤ length bytes.now }
     ensures slashless { HasNoSlash (take result bytes.now) }
     ensures next { HasSlash (drop result bytes.now) }

@@ -15,9 +15,9 @@ use crate::builder::{Nodes, nodes_from_marks, nodes_of_track};
 use crate::child_lists::{ChildLists, child_list};
 use crate::children::{Children, children_in};
 use crate::row::{NodeId, Row};
-use crate::row_keeper::RowKeeper;
+use crate::rows_alone::read_nodes;
 use jx_lex::{Depth, Span, tokens_are_read};
-use jx_run::{Pace, Refusal, Started, Summary, TextRun, Verdict, read_into, text_has_one_tree};
+use jx_run::{Pace, Refusal, Started, Summary, TextRun, text_has_one_tree};
 use std::alloc::{AllocError, Global};
 use std::marker::Model;
 
@@ -83,20 +83,10 @@ impl<'a> Indexed<'a> {
         ensures rows { IfOk result (λ read. IfOk read (λ index. (limit : ℕ) (tree : Tree)
             → IsText text.now span.start span.end limit tree → index.rows ≡ rows_of tree)) }
     {
-        tokens_are_read();
-        let told = read_into(
-            alloc,
-            text,
-            span.start,
-            span.end,
-            depth,
-            RowKeeper::new(alloc),
-            pace,
-        )?;
-        match told.verdict {
-            Verdict::Refused(refusal) => Ok(Err(refusal)),
-            Verdict::Accepted => {
-                let nodes = told.keeper.into_nodes(span.end)?;
+        let read = read_nodes(alloc, text, span, depth, pace)?;
+        match read {
+            Err(refusal) => Ok(Err(refusal)),
+            Ok(nodes) => {
                 let index = Indexed::of_nodes(alloc, text, span, nodes)?;
                 Ok(Ok(index))
             }

@@ -13,7 +13,7 @@ ghost use Rattle.jx_index.specs.Repeats.{IsLeast, IsRepeat};
 ghost use Rattle.jx_index.specs.Rows.{rows};
 ghost use Rattle.jx_index.specs.inside.JudgedIn.{IsJudgedIn};
 
-use crate::indexed::Indexed;
+use crate::unique_names::repeated_name;
 use jx_lex::{Depth, Span};
 use jx_run::{
     ElementVerdict, ElementsRun, FrontMark, JudgedElement, NameRule, NoPause, Refusal, Settings,
@@ -32,7 +32,7 @@ fn may_be_refused(rule: NameRule, verdict: ElementVerdict) -> bool
 }
 
 /// The start of the first name that an object repeats in the text at a span.
-fn repeated_name(
+fn repeated_in_text(
     alloc: Global,
     input: &[u8],
     span: Span,
@@ -43,9 +43,9 @@ fn repeated_name(
     requires is_text { (tree : Tree) × IsText input.now span.start span.end depth tree }
     ensures { IfOk result (λ name. (tree : Tree) → IsText input.now span.start span.end depth tree → IsLeast (IsRepeat input.now (rows tree)) name) }
 {
-    let read = Indexed::read(alloc, input, span, depth, &mut NoPause)?;
+    let read = repeated_name(alloc, input, span, depth, &mut NoPause)?;
     match read {
-        Ok(index) => Ok(index.repeated()),
+        Ok(name) => Ok(name),
         Err(_) => unreachable!(),
     }
 }
@@ -63,7 +63,7 @@ fn judged_unless(name: Option<usize>, element: JudgedElement) -> JudgedElement
     }
 }
 
-/// What an element comes to by the rule on names. Only what is otherwise accepted is indexed, and the index is let go.
+/// What an element comes to by the rule on names. Only what is otherwise accepted is read again.
 fn element_by_names(
     alloc: Global,
     input: &[u8],
@@ -76,13 +76,13 @@ fn element_by_names(
     if !may_be_refused(settings.names, element.verdict) {
         return Ok(element);
     }
-    let name = repeated_name(alloc, input, element.span, settings.depth)?;
+    let name = repeated_in_text(alloc, input, element.span, settings.depth)?;
     Ok(judged_unless(name, element))
 }
 
 /// The verdicts on the elements of a text sequence (RFC 7464) by settings, from those whatever names their objects have.
-/// Where names have to be unique (RFC 8259, section 4), each element that is otherwise accepted is indexed for itself, so
-/// that no two indexes stand in memory at once. `Err` where memory is refused.
+/// Where names have to be unique (RFC 8259, section 4), each element that is otherwise accepted is read once more, with the
+/// names of its open objects alone in memory. `Err` where memory is refused.
 pub fn judged_by_names(
     alloc: Global,
     input: &[u8],

@@ -1,9 +1,9 @@
 // Names by their values.
-ghost use Rattle.std.specs.Prelude.{◌≡◌, ◌<◌, ◌↔◌, ◌∷◌, [], take, drop, length, IsTrue, IfOk, IfSome};
+ghost use Rattle.std.specs.Prelude.{◌≡◌, ◌<◌, ◌↔◌, ◌∷◌, [], take, drop, length, Some, IsTrue, IfOk, IfSome};
 ghost use Rattle.std.specs.Ordering.{nat_cmp};
 ghost use Rattle.std.specs.Cmp.Lexicographic.{slice_cmp};
 ghost use Rattle.jx_index.specs.declared.units.Spelling.TheVariants.{InText, InToken};
-ghost use Rattle.jx_index.specs.Names.{name_units, IsInNameOrder};
+ghost use Rattle.jx_index.specs.Names.{is_name, name_units, IsInNameOrder};
 ghost use Rattle.jx_index.specs.Nodes.{IsObjectAt};
 ghost use Rattle.jx_index.specs.Units.{units_at, chars_units};
 ghost use Rattle.jx_index.specs.inside.UnitsLeft.{units_left};
@@ -51,7 +51,7 @@ pub(crate) fn keep(bytes: &[u8], count: usize) -> &[u8]
 
 /// The bytes between the quotation marks of the string at a span.
 #[tactic(auto, unfolding(crate::specs::Units::units_at))]
-fn string_bytes<'a>(text: &'a [u8], span: Span) -> &'a [u8]
+pub(crate) fn string_bytes<'a>(text: &'a [u8], span: Span) -> &'a [u8]
     ensures { chars_units InText 0 result.now ≡ units_at text.now span }
 {
     let string = keep(skip(text, span.start), span.end.saturating_sub(span.start));
@@ -96,7 +96,7 @@ fn same_front(left: &[u8], right: &[u8], spelling: Spelling) -> usize
 }
 
 /// The first byte, where it stands for one unit of its own in a text and in a token.
-fn first_plain(bytes: &[u8], spelling: Spelling) -> Option<u8>
+pub(crate) fn first_plain(bytes: &[u8], spelling: Spelling) -> Option<u8>
     ensures { IfSome result (λ unit. chars_units spelling 0 bytes.now ≡ unit ∷ chars_units spelling 0 (drop 1 bytes.now)) }
 {
     match bytes {
@@ -145,11 +145,29 @@ pub(crate) fn compare_members(text: &[u8], rows: &[Row], first: NodeId, second: 
     )
 }
 
+/// Two names by where they stand in a text, by their units.
+pub(crate) fn compare_names(text: &[u8], first: Span, second: Span) -> Ordering
+    ensures { result ≡ slice_cmp nat_cmp (units_at text.now first) (units_at text.now second) }
+{
+    compare_bytes(
+        string_bytes(text, first),
+        string_bytes(text, second),
+        Spelling::InText,
+    )
+}
+
 /// A member's name against a token as a pointer spells it.
 pub(crate) fn compare_to_token(text: &[u8], rows: &[Row], node: NodeId, token: &[u8]) -> Ordering
     ensures { result ≡ slice_cmp nat_cmp (name_units text.now rows.now node) (chars_units InToken 0 token.now) }
 {
     compare_bytes(name_bytes(text, rows, node), token, Spelling::InToken)
+}
+
+/// Whether the name at a span of a text has the units that a token spells.
+pub(crate) fn is_spelt(text: &[u8], name: Span, token: &[u8]) -> bool
+    ensures { result ≡ is_name text.now (chars_units InToken 0 token.now) (Some name) }
+{
+    compare_bytes(string_bytes(text, name), token, Spelling::InToken).is_eq()
 }
 
 /// Sorts members by the units of their names; equal names keep their order. Where the order holds already, one comparison

@@ -5,7 +5,7 @@ ghost use Rattle.jx_index.specs.ByNames.{RefusesName};
 ghost use Rattle.jx_index.specs.Names.{is_below};
 ghost use Rattle.jx_index.specs.Nodes.{name_at};
 ghost use Rattle.jx_index.specs.Repeats.{start_in, IsLeast, IsRepeat, IsRepeatIn};
-ghost use Rattle.jx_index.specs.inside.Ties.{earlier_of, tie_start, IsRepeatOf, IsTie};
+ghost use Rattle.jx_index.specs.inside.Ties.{earlier_of, row_tie, IsRepeatOf, IsRowTie};
 
 use crate::comparing::{Comparing, Uncounted};
 use crate::indexed::Indexed;
@@ -15,7 +15,7 @@ use jx_run::NameRule;
 use std::cmp::Ordering;
 
 /// The lesser of two offsets, where there are any.
-fn earlier(one: Option<usize>, other: Option<usize>) -> Option<usize>
+pub(crate) fn earlier(one: Option<usize>, other: Option<usize>) -> Option<usize>
     ensures { result ≡ earlier_of one other }
 {
     match one {
@@ -48,7 +48,7 @@ fn start_of_tie<C: Comparing>(
     second: NodeId,
     comparing: &mut C,
 ) -> Option<usize>
-    ensures { result ≡ tie_start text.now rows.now first second }
+    ensures { result ≡ row_tie text.now rows.now first second }
 {
     match comparing.compare(text, rows, first, second) {
         Ordering::Equal => start_of_name(rows, second),
@@ -63,7 +63,7 @@ pub(crate) fn first_tie<C: Comparing>(
     names: &[NodeId],
     comparing: &mut C,
 ) -> Option<usize>
-    ensures { IsLeast (IsTie text.now rows.now names.now) result }
+    ensures { IsLeast (IsRowTie text.now rows.now names.now) result }
 {
     let mut first = None;
     for at in 0..names.len().saturating_sub(1) {
@@ -100,7 +100,7 @@ impl<'a> Indexed<'a> {
     }
 
     /// The start of the first name whose value, as a list of UTF-16 code units, is that of an earlier name of the same
-    /// object; none where no object repeats a name. It takes no memory, and compares each name with one other.
+    /// object. There is none where no object repeats a name. It takes no memory, and compares each name with one other.
     pub fn repeated(&self) -> Option<usize>
         ensures { IsLeast (IsRepeat self.now.text self.now.rows) result }
     {

@@ -112,7 +112,7 @@ Fits-joined d l r f g x = at (over d (uncut d l r)) refl where
       in record { levels = low; opens = h; heights = few; risen = short h; decided = λ n. end_cases (exitless d r.ended (tail_of r) l.opens (base_of d l r.heights) n) }
 
 -- elements of lists that are joined and cut
-EachIn-append : {X : Type 0} (Q : X → Type 0) (xs ys : List X) → EachIn Q xs → EachIn Q ys → EachIn Q (xs ++ ys)
+pub EachIn-append : {X : Type 0} (Q : X → Type 0) (xs ys : List X) → EachIn Q xs → EachIn Q ys → EachIn Q (xs ++ ys)
 EachIn-append Q [] ys a b = b
 EachIn-append Q (x ∷ xs) ys a b = (a.0, EachIn-append Q xs ys a.1 b)
 

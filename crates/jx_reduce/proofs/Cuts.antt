@@ -2,6 +2,7 @@
 use Rattle.std.proofs.Common.{ℕ, zero, suc, ◌+◌, ◌<◌, ◌≤◌, List, [], ◌∷◌, ◌++◌, take, drop, arith}
 use Rattle.jx_reduce.specs.Offsets.{EachIn, RisingFrom}
 use Rattle.jx_reduce.specs.Reductions.{Forms, IsBefore, SpansIn}
+use Rattle.jx_reduce.specs.inside.Structures.{end_of}
 use Rattle.jx_reduce.proofs.Spans.{before_of_spans}
 use Rattle.jx_lex.specs.declared.alphabet.mark.Mark.{Mark}
 
@@ -18,6 +19,10 @@ pub RisingFrom-drop : (n b : ℕ) (ms : List Mark) → RisingFrom b ms → Risin
 RisingFrom-drop zero b ms r = r
 RisingFrom-drop (suc n) b [] r = tt
 RisingFrom-drop (suc n) b (m ∷ ms) r = RisingFrom-drop n b ms (RisingFrom-less (m.at + 1) b ms (omega (arith, r.0)) r.1)
+
+pub rising-split : (b : ℕ) (xs ys : List Mark) → RisingFrom b (xs ++ ys) → RisingFrom b xs × RisingFrom (end_of b xs) ys
+rising-split b [] ys h = (tt, h)
+rising-split b (x ∷ xs) ys h = let r = rising-split (x.at + 1) xs ys h.1 in ((h.0, r.0), r.1)
 
 -- one more mark behind all of them
 pub RisingFrom-push : (b c : ℕ) (ms : List Mark) (m : Mark) → b ≤ m.at → RisingFrom b ms → EachIn (λ n. (c ≤ n.at) × (n.at < m.at)) ms → RisingFrom b (ms ++ m ∷ [])

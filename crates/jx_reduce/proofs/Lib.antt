@@ -14,11 +14,15 @@ mod Places
 mod HolderSets
 mod QuietMarks
 mod Exits
-mod Strings
-mod HeadAndTail
+mod Checked
+mod OfParts
+mod Structures
+mod StructureReads
+mod StructureJoins
+mod StructureShifts
 pub mod Spans
 pub mod Cuts
 mod KnownWords
 mod KnownMoves
-mod Windows
+mod OneByOne
 mod Shifts

@@ -90,7 +90,7 @@ string_leads_to AfterOrColon f Object e = cc
 string_leads_to AfterOrColon f Bottom e = cc
 
 -- where a mark is no fault, its entry leads to the new expectation
-leads : (k : MarkKind) (x : Entry) (f : Expect) (h : Holder) (g : Holder) → next_of k (expect_at x h) h ≡ Some f
+pub leads : (k : MarkKind) (x : Entry) (f : Expect) (h : Holder) (g : Holder) → next_of k (expect_at x h) h ≡ Some f
     → f ≡ expect_at (leads_to k x) (elim (change_of k) [ same ↦ h | added a ↦ a | removed ↦ g ])
 leads OpenArray x f h g e = value_leads ArrayFirst (expect_at x h) f e
 leads CloseArray x f h g e = close_array_leads (expect_at x h) f h e

@@ -6,7 +6,7 @@ use Rattle.jx_reduce.proofs.EachInPlace.{map_kept}
 use Rattle.jx_reduce.specs.Form.{Form}
 use Rattle.jx_reduce.specs.Reduced.{depth_of, form_in}
 use Rattle.jx_reduce.specs.Reductions.{Forms, form_at}
-use Rattle.jx_reduce.specs.inside.Places.{place}
+use Rattle.jx_reduce.specs.Entries.{place}
 use Rattle.jx_reduce.specs.inside.View.{nth, in_order}
 use Rattle.jx_reduce.specs.Marks.{of_nothing}
 use Rattle.jx_reduce.specs.declared.entry.Entry.{Entry}

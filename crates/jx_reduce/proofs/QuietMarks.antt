@@ -1,8 +1,9 @@
 -- A mark that is no fault of any holder standing, ends no level and reaches no new height changes only the open containers and the exit.
-use Rattle.std.proofs.Common.{◌≡◌, ℕ, ◌+◌, ◌-◌, ◌<◌, ◌≤◌, List, [], ◌∷◌, ◌++◌, length, take, get_or, refl, sym, ap, subst, ◌∙◌, arith, Option, Some, None, false, is_some, if◌then◌else◌, ◌||◌, append-nil, inl, inr}
-use Rattle.std.specs.Prelude.{◌⊎◌}
+use Rattle.std.proofs.Common.{◌≡◌, ℕ, ◌+◌, ◌-◌, ◌<◌, ◌≤◌, List, [], ◌∷◌, ◌++◌, length, take, get_or, refl, sym, ap, subst, ◌∙◌, arith, Option, Some, None, true, false, is_some, if◌then◌else◌, ◌||◌, append-nil, inl, inr}
+use Rattle.std.specs.Option.{option_to_list}
+use Rattle.std.specs.Prelude.{◌⊎◌, reverse}
 use Rattle.std.proofs.lemmas.Bool.{le-ltb}
-use Rattle.std.proofs.lemmas.List.{take_all, drop_all}
+use Rattle.std.proofs.lemmas.List.{take_all, drop_all, reverse-append}
 use Rattle.std.specs.Int.Bits.{bit_and}
 use Rattle.jx_reduce.specs.Entries.{leads_to}
 use Rattle.jx_reduce.specs.Fits.{Fits}
@@ -10,12 +11,13 @@ use Rattle.jx_reduce.specs.Form.{Form, fault_of}
 use Rattle.jx_reduce.specs.Join.{Tail, first_of, merged, no_faults, stop_or, with_tail, absorbed, joined_heights, all_faulted, cut, cut_short, base_at, joined}
 use Rattle.jx_reduce.specs.Levels.{with_opens}
 use Rattle.jx_reduce.specs.Marks.{faults_at, end_at, of_change, pushed, of_marks}
-use Rattle.jx_reduce.specs.inside.Quiet.{bit_of, fault_bits, unfaulted, standing, IsAt}
+use Rattle.jx_reduce.specs.inside.Quiet.{bit_of, fault_bits, unfaulted, standing, AreLimits, GoesOn, IsAt, IsPassed}
 use Rattle.jx_reduce.specs.Table.{change_of, same, added, removed}
 use Rattle.jx_reduce.specs.declared.holder.Holder.{Holder}
 use Rattle.jx_reduce.specs.declared.holder.Holder.TheVariants.{Array, Object, Bottom}
 use Rattle.jx_reduce.specs.declared.entry.Entry.{Entry}
 use Rattle.jx_reduce.specs.declared.level.Level.{Level}
+use Rattle.jx_reduce.specs.declared.quiet.Limits.{Limits}
 use Rattle.jx_lex.specs.declared.alphabet.mark.Mark.{Mark}
 use Rattle.jx_lex.specs.declared.alphabet.mark.MarkKind.{MarkKind}
 use Rattle.jx_lex.specs.declared.alphabet.mark.MarkKind.TheVariants.{OpenArray, CloseArray, OpenObject, CloseObject, Comma, String, Number, True, False, Null, Colon}
@@ -23,6 +25,14 @@ use Rattle.jx_reduce.proofs.Along.{fault_of-no_faults}
 use Rattle.jx_reduce.proofs.OneMark.{fault_of-faults_at, end_fault_of-end_at}
 use Rattle.jx_reduce.proofs.Readings.{Fits-of_marks, of_one_more}
 use Rattle.jx_reduce.proofs.HolderSets.{no_fault_of, no_new_fault}
+
+-- containers stand innermost first, and the last of a list is innermost
+pub reversed : (xs ys : List Holder) (h : Holder) → ys ≡ xs ++ h ∷ [] → reverse ys ≡ h ∷ reverse xs
+reversed xs ys h e = ap reverse e ∙ reverse-append xs (h ∷ [])
+
+pub popped : (xs ys : List Holder) (o : Option Holder) → xs ≡ ys ++ option_to_list o → is_some o ≡ true → (h : Holder) × (reverse xs ≡ h ∷ reverse ys)
+popped xs ys None e i = cc
+popped xs ys (Some h) e i = (h, reversed ys xs h e)
 
 first_same : (a b : Option ℕ) → (is_some a ≡ false → b ≡ None) → first_of a b ≡ a
 first_same None b h = h refl
@@ -155,3 +165,43 @@ module _ (d : ℕ) (r : Form) (start : List Holder) (limit b : ℕ) (entry : Ent
       ∙ ap (λ os. pushed d (with_opens r os x) (get_or ms i none)) is
       ∙ quiet-removed d r o ps x (get_or ms i none) (subst (λ os. Fits d (with_opens r os x)) is fits_there) from.goes_on change
       (subst (λ os. bit_and (fault_bits (get_or ms i none).kind x) (standing b os) ≡ 0) is quiet)
+
+-- one mark is passed, where the limits tell that it is quiet
+module _ (d : ℕ) (r : Form) (x : Entry) (l : Limits) (m : Mark) (is : r.exit ≡ Some x) (fits : Fits d r) (on : GoesOn r) (lim : AreLimits d r l)
+    (quiet : bit_and (fault_bits m.kind x) l.standing ≡ 0) where
+  here : (os : List Holder) → r.opens ≡ os → r ≡ with_opens r os x
+  here os e = λ i. record { ended = r.ended; last = r.last; opens = e i; exit = is i; heights = r.heights }
+
+  quiet_here : (os : List Holder) → r.opens ≡ os → bit_and (fault_bits m.kind x) (standing (unfaulted r.last) os) ≡ 0
+  quiet_here os e = ap (bit_and (fault_bits m.kind x)) (sym (lim.standing ∙ ap (λ b. standing b r.opens) lim.base ∙ ap (standing (unfaulted r.last)) e)) ∙ quiet
+
+  pub pushed-same : change_of m.kind ≡ same → pushed d r m ≡ with_opens r r.opens (leads_to m.kind x)
+  pushed-same change =
+      ap (λ f. pushed d f m) (here r.opens refl)
+      ∙ quiet-same d r r.opens x m (subst (Fits d) (here r.opens refl) fits) (on x is) change (quiet_here r.opens refl)
+
+  pub pushed-added : (h : Holder) → change_of m.kind ≡ added h → length r.opens < l.most → pushed d r m ≡ with_opens r (h ∷ r.opens) (leads_to m.kind x)
+  pushed-added h change few =
+      ap (λ f. pushed d f m) (here r.opens refl)
+      ∙ quiet-added d r r.opens x m h (subst (Fits d) (here r.opens refl) fits) (on x is) change (quiet_here r.opens refl) (omega (arith, few, lim.within)) (omega (arith, few, lim.low))
+
+  pub pushed-removed : (o : Holder) (ps : List Holder) → r.opens ≡ o ∷ ps → change_of m.kind ≡ removed → pushed d r m ≡ with_opens r ps (leads_to m.kind x)
+  pushed-removed o ps e change =
+      ap (λ f. pushed d f m) (here (o ∷ ps) e)
+      ∙ quiet-removed d r o ps x m (subst (Fits d) (here (o ∷ ps) e) fits) (on x is) change (quiet_here (o ∷ ps) e)
+
+  pub passed : (q : Form) (k : Limits) (ps : List Holder) → q.ended ≡ r.ended → q.last ≡ r.last → q.opens ≡ ps → q.exit ≡ Some (leads_to m.kind x) → q.heights ≡ r.heights
+      → pushed d r m ≡ with_opens r ps (leads_to m.kind x) → k.most ≡ l.most → k.base ≡ l.base → k.standing ≡ standing l.base ps → IsPassed d r m q k
+  passed q k ps ended last opens exit heights form most base stands =
+      record {
+        form = (λ i. record { ended = ended i; last = last i; opens = opens i; exit = exit i; heights = heights i }) ∙ sym form;
+        ended = ended;
+        last = last;
+        heights = heights;
+        limits = record {
+          within = omega (arith, most, lim.within);
+          low = omega (arith, most, lim.low, ap length ended, ap length heights);
+          base = base ∙ lim.base ∙ ap unfaulted (sym last);
+          standing = stands ∙ ap (λ b. standing b ps) (sym base) ∙ ap (standing k.base) (sym opens);
+        };
+      }

@@ -104,7 +104,7 @@ pub OffsetsIn-pushed : (Q : ℕ → Type 0) (d : ℕ) (r : Form) (m : Mark) → 
 OffsetsIn-pushed Q d r m = in_pushed Q d r m r.exit
 
 -- fewer offsets
-each_more : {X : Type 0} (P Q : X → Type 0) → ((x : X) → P x → Q x) → (xs : List X) → EachIn P xs → EachIn Q xs
+pub each_more : {X : Type 0} (P Q : X → Type 0) → ((x : X) → P x → Q x) → (xs : List X) → EachIn P xs → EachIn Q xs
 each_more P Q h [] a = tt
 each_more P Q h (x ∷ xs) a = (h x a.0, each_more P Q h xs a.1)
 
@@ -146,11 +146,11 @@ OffsetsIn-of_nothing Q x = record { ended = tt; last = none_in Q; heights = tt }
 pub read-append : (d : ℕ) (ms ns : List Mark) (r : Reading) → read d (ms ++ ns) r ≡ read d ns (read d ms r)
 read-append d ms ns r = fold-append (λ reading mark. step d mark reading) r ms ns
 
-read_halted : (d : ℕ) (ms : List Mark) (at : ℕ) → read d ms (stopped at) ≡ stopped at
+pub read_halted : (d : ℕ) (ms : List Mark) (at : ℕ) → read d ms (stopped at) ≡ stopped at
 read_halted d [] at = refl
 read_halted d (m ∷ ms) at = read_halted d ms at
 
-read_deep : (d : ℕ) (ms : List Mark) (at : ℕ) → read d ms (too_deep at) ≡ too_deep at
+pub read_deep : (d : ℕ) (ms : List Mark) (at : ℕ) → read d ms (too_deep at) ≡ too_deep at
 read_deep d [] at = refl
 read_deep d (m ∷ ms) at = read_deep d ms at
 

@@ -10,7 +10,7 @@ use Rattle.jx_reduce.specs.declared.expect.Expect.{Expect}
 use Rattle.jx_lex.specs.declared.alphabet.mark.Mark.{Mark}
 
 -- at most d containers are open
-abbrev IsReadWithin : ℕ → Reading → Type 0
+abbrev pub IsReadWithin : ℕ → Reading → Type 0
 IsReadWithin d (went e s) = length s ≤ d
 IsReadWithin d (stopped at) = Unit {0}
 IsReadWithin d (too_deep at) = Unit {0}
@@ -34,11 +34,11 @@ step_within d m (went e s) h = moved_within d m.at (change_of m.kind) (next_of m
 step_within d m (stopped at) h = tt
 step_within d m (too_deep at) h = tt
 
-read_within : (d : ℕ) (ms : List Mark) (r : Reading) → IsReadWithin d r → IsReadWithin d (read d ms r)
+pub read_within : (d : ℕ) (ms : List Mark) (r : Reading) → IsReadWithin d r → IsReadWithin d (read d ms r)
 read_within d [] r h = h
 read_within d (m ∷ ms) r h = read_within d ms (step d m r) (step_within d m r h)
 
-then_by_within : (d : ℕ) (f g : Expect → List Holder → Reading) (r : Reading) → IsReadWithin d r → ((e : Expect) (s : List Holder) → length s ≤ d → f e s ≡ g e s) → then_by f r ≡ then_by g r
+pub then_by_within : (d : ℕ) (f g : Expect → List Holder → Reading) (r : Reading) → IsReadWithin d r → ((e : Expect) (s : List Holder) → length s ≤ d → f e s ≡ g e s) → then_by f r ≡ then_by g r
 then_by_within d f g (went e s) h k = k e s h
 then_by_within d f g (stopped at) h k = refl
 then_by_within d f g (too_deep at) h k = refl

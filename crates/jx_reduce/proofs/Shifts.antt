@@ -21,7 +21,7 @@ use Rattle.jx_reduce.specs.declared.level.Level.{Level}
 use Rattle.jx_reduce.proofs.Reached.{Reached, halts, reaches, reached, slice_get_none}
 use Rattle.jx_reduce.proofs.Acting.{not_all}
 
-fits : (b at : ℕ) → at < 2 ^ 64 - b → shifted_offset b at ≡ b + at
+pub fits : (b at : ℕ) → at < 2 ^ 64 - b → shifted_offset b at ≡ b + at
 fits b at h = omega arith
 
 -- ---- faults
@@ -131,7 +131,7 @@ some-shifted : (b : ℕ) (o : Option ℕ) → is_some (shifted_fault b o) ≡ is
 some-shifted b None = refl
 some-shifted b (Some i) = refl
 
-all-shifted : (b : ℕ) (f : Level) → all_faulted (shifted_level b f) ≡ all_faulted f
+pub all-shifted : (b : ℕ) (f : Level) → all_faulted (shifted_level b f) ≡ all_faulted f
 all-shifted b f = rw (some-shifted b f.array, some-shifted b f.object, some-shifted b f.bottom)
 
 pub Fits-shifted : (d b : ℕ) (r : Form) → Fits d r → Fits d (shifted_form b r)

@@ -76,7 +76,7 @@ marks_each ms f m x s short =
     (acts-of_marks f.depth (of_nothing x) ms 0 s (Fits-of_nothing f.depth x) (OffsetsIn-of_nothing (λ p. p < 0) x) m.rising short
     ∙ ap (read f.depth ms) (acts-of_nothing f.depth x s))
 
-plain_entry : (e : Expect) (h : Holder) → expect_at (entry_of e) h ≡ e
+pub plain_entry : (e : Expect) (h : Holder) → expect_at (entry_of e) h ≡ e
 plain_entry Value h = refl
 plain_entry ArrayFirst h = refl
 plain_entry ObjectFirst h = refl

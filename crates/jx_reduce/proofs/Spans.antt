@@ -14,11 +14,11 @@ before_of_spans low between high l r a b =
       right = λ x. OffsetsIn_more (λ p. (between ≤ p) × (p < high)) (λ p. between ≤ p) (form_at r x) (λ p h. h.0) (b x);
     }
 
-each_any : {X : Type 0} (Q : X → Type 0) → ((x : X) → Q x) → (xs : List X) → EachIn Q xs
+pub each_any : {X : Type 0} (Q : X → Type 0) → ((x : X) → Q x) → (xs : List X) → EachIn Q xs
 each_any Q h [] = tt
 each_any Q h (x ∷ xs) = (h x, each_any Q h xs)
 
-anywhere : (f : Form) → OffsetsIn (λ p. 0 ≤ p) f
+pub anywhere : (f : Form) → OffsetsIn (λ p. 0 ≤ p) f
 anywhere f =
     record {
       ended = each_any (EndIn (λ p. 0 ≤ p)) (λ e h p i. omega arith) f.ended;

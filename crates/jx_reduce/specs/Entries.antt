@@ -1,4 +1,5 @@
 -- Entries: expectations that may depend on the innermost container.
+use Rattle.std.specs.Prelude.{ℕ}
 use Rattle.jx_reduce.specs.declared.holder.Holder.{Holder}
 use Rattle.jx_reduce.specs.declared.holder.Holder.TheVariants.{Object}
 use Rattle.jx_reduce.specs.declared.expect.Expect.{Expect}
@@ -41,3 +42,14 @@ leads_to ColonMark _ = AnyValue
 leads_to Comma _ = ValueOrName
 leads_to String x = string_leads x
 leads_to _ _ = AnyAfter
+
+-- its place among all entries, counted from 0
+abbrev pub place : Entry → ℕ
+place AnyValue = 0
+place AnyArrayFirst = 1
+place AnyObjectFirst = 2
+place AnyName = 3
+place AnyColon = 4
+place AnyAfter = 5
+place ValueOrName = 6
+place AfterOrColon = 7

@@ -10,7 +10,9 @@ pub mod Levels
 pub mod Reduced
 pub mod Reducer
 pub mod Reductions
-pub mod HeadAndTail
+pub mod Structure
+pub mod Parts
+pub mod Sound
 pub mod Outcome
 pub mod Whole
 pub mod Shift

@@ -1,8 +1,10 @@
 -- What the contracts of this crate's own functions cite, and no public one.
+pub mod Checked
 pub mod Follow
 pub mod KnownInside
 pub mod OpenContainers
-pub mod Places
 pub mod Quiet
+pub mod Reducers
 pub mod Shifted
+pub mod Structures
 pub mod View

@@ -8,7 +8,7 @@ use crate::level::Level;
 /// The first fault of each holder in a level that has ended. No close is allowed where no container is open, so the
 /// bottom always has one.
 #[derive(Clone, Copy, Debug, PartialEq, Eq)]
-pub(crate) struct EndedLevel {
+pub struct EndedLevel {
     pub array: Option<usize>,
     pub object: Option<usize>,
     pub bottom: usize,
@@ -16,7 +16,7 @@ pub(crate) struct EndedLevel {
 
 impl EndedLevel {
     /// The first fault of this holder, if it has one.
-    pub fn fault(self, holder: Holder) -> Option<usize>
+    pub(crate) fn fault(self, holder: Holder) -> Option<usize>
         ensures { result ≡ end_fault_of self holder }
     {
         match holder {
@@ -27,14 +27,14 @@ impl EndedLevel {
     }
 
     /// Whether no holder gets past this level.
-    pub fn is_all(self) -> bool
+    pub(crate) fn is_all(self) -> bool
         ensures { result ≡ (is_some self.array && is_some self.object) }
     {
         self.array.is_some() && self.object.is_some()
     }
 
     /// The same faults, in a level that may have ended or not.
-    pub fn level(self) -> Level
+    pub(crate) fn level(self) -> Level
         ensures { result ≡ level_of self }
     {
         Level {
@@ -45,7 +45,7 @@ impl EndedLevel {
     }
 
     /// The level that no holder gets past, with the end's offset as the fault of those that met none before.
-    pub fn filled(self) -> Level
+    pub(crate) fn filled(self) -> Level
         ensures { result ≡ filled_end self }
     {
         Level {

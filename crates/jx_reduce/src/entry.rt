@@ -1,8 +1,7 @@
 ghost use Rattle.std.specs.Prelude.{◌≡◌, ◌<◌};
-ghost use Rattle.jx_reduce.specs.Entries.{expect_at, leads_to};
+ghost use Rattle.jx_reduce.specs.Entries.{expect_at, leads_to, place};
 ghost use Rattle.jx_reduce.specs.Marks.{fault_at, faults_at, end_at};
 ghost use Rattle.jx_reduce.specs.Reductions.{entry_of};
-ghost use Rattle.jx_reduce.specs.inside.Places.{place};
 
 use crate::ended_level::EndedLevel;
 use crate::expect::Expect;
@@ -14,7 +13,7 @@ use jx_lex::{Mark, MarkKind};
 /// An expectation that may depend on the innermost container. What follows a comma depends on it, and so does what
 /// follows a string behind that comma.
 #[derive(Clone, Copy, Debug, PartialEq, Eq)]
-pub(crate) enum Entry {
+pub enum Entry {
     Value,
     ArrayFirst,
     ObjectFirst,
@@ -49,7 +48,7 @@ impl Entry {
     }
 
     /// The entry that is this expectation in every container.
-    pub fn of(expect: Expect) -> Entry
+    pub(crate) fn of(expect: Expect) -> Entry
         ensures { result ≡ entry_of expect }
     {
         match expect {
@@ -63,7 +62,7 @@ impl Entry {
     }
 
     /// The expectation that this is in the innermost container `top`.
-    pub fn at(self, top: Holder) -> Expect
+    pub(crate) fn at(self, top: Holder) -> Expect
         ensures { result ≡ expect_at self top }
     {
         match self {
@@ -85,7 +84,7 @@ impl Entry {
     }
 
     /// The entry behind a mark, for each holder that the mark is no fault of.
-    pub fn leads_to(self, kind: MarkKind) -> Entry
+    pub(crate) fn leads_to(self, kind: MarkKind) -> Entry
         ensures { result ≡ leads_to kind self }
     {
         match kind {
@@ -113,7 +112,7 @@ impl Entry {
     }
 
     /// The holders that a mark is a fault of.
-    pub fn faults_at(self, mark: Mark) -> Level
+    pub(crate) fn faults_at(self, mark: Mark) -> Level
         ensures { result ≡ faults_at self mark }
     {
         Level {
@@ -124,7 +123,7 @@ impl Entry {
     }
 
     /// The level that a closing mark ends.
-    pub fn end_at(self, mark: Mark) -> EndedLevel
+    pub(crate) fn end_at(self, mark: Mark) -> EndedLevel
         ensures { result ≡ end_at self mark }
     {
         EndedLevel {

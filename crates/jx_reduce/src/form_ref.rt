@@ -3,9 +3,10 @@ use crate::entry::Entry;
 use crate::holder::Holder;
 use crate::level::Level;
 
-/// A reduced form that is borrowed.
+/// The parts of a reduced form, borrowed: the levels that end and the last one, what is open above it, outermost first, and
+/// the exit. Also the offsets at which one container more than ever was open.
 #[derive(Clone, Copy)]
-pub(crate) struct FormRef<'a> {
+pub struct FormRef<'a> {
     pub ended: &'a [EndedLevel],
     pub last: Level,
     pub opens: &'a [Holder],

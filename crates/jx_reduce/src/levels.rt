@@ -1,11 +1,11 @@
 // Levels that are not known to begin in any container.
 
-ghost use Rattle.std.specs.Prelude.{◌≡◌, ◌≤◌, ◌<◌, ◌+◌, ◌^◌, OnOk, IfOk, IsOk, length, reverse, take, vec_len, vec_capacity};
+ghost use Rattle.std.specs.Prelude.{◌≡◌, ◌≤◌, ◌<◌, ◌+◌, ◌^◌, ℕ, None, OnOk, IfOk, IsOk, is_some, length, reverse, take, true, false, vec_len, vec_capacity};
 ghost use Rattle.jx_reduce.specs.Join.{halted, joined, joined_heights};
 ghost use Rattle.jx_reduce.specs.Marks.{pushed, of_change, of_marks, of_nothing};
 ghost use Rattle.jx_reduce.specs.Table.{same, added, removed};
 ghost use Rattle.jx_reduce.specs.Fits.{Fits};
-ghost use Rattle.jx_reduce.specs.inside.Quiet.{GoesOn};
+ghost use Rattle.jx_reduce.specs.inside.Quiet.{AreLimits, GoesOn, IsPassed};
 ghost use Rattle.jx_reduce.specs.inside.Shifted.{shifted_form};
 ghost use Rattle.jx_reduce.specs.Levels.{form_of, borrowed_form, head_of, taken_in, ended_in, IsSameBut, HasRoom};
 
@@ -14,7 +14,7 @@ use crate::entry::Entry;
 use crate::form_ref::FormRef;
 use crate::holder::Holder;
 use crate::level::Level;
-use crate::quiet;
+use crate::quiet::{self, Limits};
 use crate::shift::{Shift, shift_all};
 use jx_lex::{Mark, MarkKind};
 use std::alloc::{AllocError, Global};
@@ -253,6 +253,61 @@ impl Levels {
         taken
     }
 
+    /// What tells of the form whether a mark is quiet.
+    pub fn limits(&self, depth: usize) -> Limits
+        ensures limits { AreLimits depth (form_of self.now) result }
+        ensures room { result.most ≤ vec_capacity self.now.opens }
+    {
+        let known = self.ended.len().saturating_add(self.heights.len());
+        let base = self.last.unfaulted();
+        Limits {
+            most: depth.min(known).min(self.opens.capacity()),
+            base,
+            standing: quiet::standing_in(&self.opens, base),
+        }
+    }
+
+    /// Reads one more mark, if that changes at most the open containers and the exit. Answers whether it did.
+    #[inline(always)]
+    pub fn pass_quiet(&mut self, limits: &mut Limits, mark: Mark) -> bool
+        requires room { limits.old.most ≤ vec_capacity self.old.opens }
+        ensures room { limits.new.most ≤ vec_capacity self.new.opens }
+        ensures went { result ≡ true → is_some self.old.exit ≡ true }
+        ensures read { result ≡ true → (d : ℕ) → Fits d (form_of self.old) → GoesOn (form_of self.old) → AreLimits d (form_of self.old) limits.old
+            → IsPassed d (form_of self.old) mark (form_of self.new) limits.new }
+        ensures same { result ≡ false → (form_of self.new ≡ form_of self.old) × (limits.new ≡ limits.old) }
+    {
+        let Some(entry) = self.exit else {
+            return false;
+        };
+        if quiet::faults(mark.kind, entry) & limits.standing != 0 {
+            return false;
+        }
+        match mark.kind {
+            MarkKind::OpenArray => {
+                if !quiet::enter(&mut self.opens, limits.most, Holder::Array) {
+                    return false;
+                }
+                limits.standing = quiet::ARRAY;
+            }
+            MarkKind::OpenObject => {
+                if !quiet::enter(&mut self.opens, limits.most, Holder::Object) {
+                    return false;
+                }
+                limits.standing = quiet::OBJECT;
+            }
+            MarkKind::CloseArray | MarkKind::CloseObject => {
+                if self.opens.pop().is_none() {
+                    return false;
+                }
+                limits.standing = quiet::standing_in(&self.opens, limits.base);
+            }
+            _ => {}
+        }
+        self.exit = Some(quiet::lead(mark.kind, entry));
+        true
+    }
+
     /// The form of no marks.
     pub fn new(alloc: Global, entry: Entry) -> Levels
         ensures { form_of result ≡ of_nothing entry }
@@ -262,6 +317,19 @@ impl Levels {
             last: Level::NONE,
             opens: Vec::new(alloc),
             exit: Some(entry),
+            heights: Vec::new(alloc),
+        }
+    }
+
+    /// Levels that no mark is read behind.
+    pub fn nowhere(alloc: Global) -> Levels
+        ensures { (form_of result).exit ≡ None }
+    {
+        Levels {
+            ended: Vec::new(alloc),
+            last: Level::NONE,
+            opens: Vec::new(alloc),
+            exit: None,
             heights: Vec::new(alloc),
         }
     }

@@ -104,9 +104,27 @@ static LEADS: [[Entry; 8]; 11] = [
     TO_AFTER,
 ];
 
+/// What tells at a mark whether it is quiet: how many containers may be open behind it, and the holders that a fault may
+/// concern, here and where nothing is open.
+#[derive(Clone, Copy)]
+pub(crate) struct Limits {
+    pub most: usize,
+    pub base: u8,
+    pub standing: u8,
+}
+
+impl Limits {
+    /// Those of no marks.
+    pub const NONE: Limits = Limits {
+        most: 0,
+        base: ALL,
+        standing: ALL,
+    };
+}
+
 /// The holders that a mark of this kind is a fault of.
 #[inline(always)]
-fn faults(kind: MarkKind, entry: Entry) -> u8
+pub(crate) fn faults(kind: MarkKind, entry: Entry) -> u8
     ensures { result ≡ fault_bits kind entry }
 {
     FAULTS[kind as usize][entry as usize]
@@ -114,7 +132,7 @@ fn faults(kind: MarkKind, entry: Entry) -> u8
 
 /// The entry behind a mark of this kind.
 #[inline(always)]
-fn lead(kind: MarkKind, entry: Entry) -> Entry
+pub(crate) fn lead(kind: MarkKind, entry: Entry) -> Entry
     ensures { result ≡ leads_to kind entry }
 {
     LEADS[kind as usize][entry as usize]
@@ -134,7 +152,7 @@ fn bit(holder: Holder) -> u8
 
 /// The holders that a fault may concern: the innermost of the open containers, and where there are none those of the base.
 #[inline(always)]
-fn standing_in(opens: &[Holder], base: u8) -> u8
+pub(crate) fn standing_in(opens: &[Holder], base: u8) -> u8
     ensures { result ≡ standing base (reverse opens.now) }
 {
     match opens.last() {
@@ -145,7 +163,7 @@ fn standing_in(opens: &[Holder], base: u8) -> u8
 
 /// Opens one more container, where fewer than `most` are open, so that no memory is needed. Answers whether it did.
 #[inline(always)]
-fn enter(opens: &mut Vec<Holder>, most: usize, holder: Holder) -> bool
+pub(crate) fn enter(opens: &mut Vec<Holder>, most: usize, holder: Holder) -> bool
     requires { most ≤ vec_capacity opens.old }
     ensures capacity { most ≤ vec_capacity opens.new }
     ensures entered { result ≡ true → (opens.new.items ≡ opens.old.items ++ holder ∷ []) × (length opens.old.items < most) }

@@ -1,19 +1,24 @@
 // What the marks from one expectation come to, for every list of open containers at entry.
 
-ghost use Rattle.std.specs.Prelude.{◌≡◌, ◌≤◌, ◌+◌, [], OnOk, IfOk, IfSome, length, reverse, slice_get};
+ghost use Rattle.std.specs.Prelude.{◌≡◌, ◌≤◌, ◌+◌, ◌++◌, ◌↔◌, [], OnOk, IfOk, IfSome, IsSome, IsTrue, length, reverse, slice_get};
+ghost use Rattle.jx_reduce.specs.Entries.{expect_at};
 ghost use Rattle.jx_reduce.specs.Form.{levels_of, exit_at};
 ghost use Rattle.jx_reduce.specs.Join.{joined};
 ghost use Rattle.jx_reduce.specs.Marks.{of_marks, of_nothing};
-ghost use Rattle.jx_reduce.specs.Fits.{Fits};
-ghost use Rattle.jx_reduce.specs.Levels.{form_of, HasRoomOf};
+ghost use Rattle.jx_reduce.specs.Fits.{Fits, GoesOn};
+ghost use Rattle.jx_reduce.specs.Levels.{borrowed_form, form_of, HasRoomOf};
 ghost use Rattle.jx_reduce.specs.Outcome.{reading_of};
-ghost use Rattle.jx_reduce.specs.inside.Quiet.{GoesOn};
+ghost use Rattle.jx_reduce.specs.Read.{top, went};
+ghost use Rattle.jx_reduce.specs.Offsets.{OffsetsIn};
+ghost use Rattle.jx_reduce.specs.inside.Checked.{IsIn};
 ghost use Rattle.jx_reduce.specs.inside.Shifted.{shifted_form};
 ghost use Rattle.jx_reduce.specs.Whole.{whole_of};
 
 use crate::act::top_of;
+use crate::checks::Bound;
 use crate::entry::Entry;
 use crate::expect::Expect;
+use crate::form_ref::FormRef;
 use crate::holder::Holder;
 use crate::level::Level;
 use crate::levels::Levels;
@@ -39,7 +44,7 @@ pub struct Reduced {
 
 impl Reduced {
     ghost use Rattle.jx_reduce.specs.Reduced.{depth_of, form_in, answer_of};
-    ghost use Rattle.jx_reduce.specs.HeadAndTail.{tail_behind, then_tail};
+    ghost use Rattle.jx_reduce.specs.inside.Structures.{tail_behind};
 
     /// The form of no marks.
     pub(crate) fn new(alloc: Global, entry: Entry, depth: Depth) -> Reduced
@@ -66,6 +71,24 @@ impl Reduced {
         Ok(Reduced { depth, levels })
     }
 
+    /// The form that these levels are.
+    pub(crate) fn with_levels(depth: Depth, levels: Levels) -> Reduced
+        requires fits { Fits depth (form_of levels) }
+        requires goes_on { GoesOn (form_of levels) }
+        ensures depth { depth_of result ≡ depth }
+        ensures form { form_in result ≡ form_of levels }
+    {
+        Reduced { depth, levels }
+    }
+
+    /// The levels that the form is.
+    pub(crate) fn into_levels(self) -> Levels
+        ensures { form_of result ≡ form_in self }
+    {
+        let Reduced { levels, .. } = self;
+        levels
+    }
+
     /// Reads these marks too, each of them once.
     pub(crate) fn read_on(self, marks: &[Mark]) -> Result<Reduced, AllocError>
         ensures depth { IfOk result (λ r. depth_of r ≡ depth_of self) }
@@ -76,27 +99,8 @@ impl Reduced {
         Ok(Reduced { depth, levels })
     }
 
-    /// The form of a head of marks, read from this entry, and of the tail behind it where the head goes on.
-    pub(crate) fn of_head_and_tail(
-        alloc: Global,
-        entry: Entry,
-        head: &[Mark],
-        tail: &Option<Reduced>,
-        depth: Depth,
-    ) -> Result<Reduced, AllocError>
-        requires { IfSome tail.now (λ t. depth_of t ≡ depth) }
-        ensures depth { IfOk result (λ r. depth_of r ≡ depth) }
-        ensures form { IfOk result (λ r. form_in r ≡ then_tail depth (of_marks depth (of_nothing entry) head.now) tail.now) }
-    {
-        let mut reduced = Reduced::of(alloc, entry, head, depth)?;
-        if let Some(tail) = tail {
-            reduced.extend(tail)?;
-        }
-        Ok(reduced)
-    }
-
     /// Extends the form by the tail, where the form has an exit.
-    fn extend(&mut self, tail: &Reduced) -> Result<(), AllocError>
+    pub(crate) fn extend(&mut self, tail: &Reduced) -> Result<(), AllocError>
         requires { depth_of self.old ≡ depth_of tail.now }
         ensures depth { depth_of self.new ≡ depth_of self.old }
         ensures form { OnOk result (form_in self.new ≡ tail_behind (depth_of self.old) (form_in self.old) (form_in tail.now) (form_in self.old).exit) }
@@ -221,22 +225,43 @@ impl Reduced {
     pub fn whole(&self) -> Whole
         ensures { result ≡ whole_of (answer_of self.now []) }
     {
-        let deep = self.levels.height_at(self.depth.containers() as usize);
-        match self.levels.reach(&[]) {
+        self.whole_over(&[])
+    }
+
+    /// What `act` answers, with the number of open containers in place of their list. It takes no memory.
+    pub(crate) fn whole_over(&self, holders: &[Holder]) -> Whole
+        requires { length holders.now ≤ depth_of self.now }
+        ensures { result ≡ whole_of (answer_of self.now (reverse holders.now)) }
+    {
+        let depth = self.depth.containers() as usize;
+        let deep = self.levels.height_at(depth - holders.len());
+        match self.levels.reach(holders) {
             Err(at) => match deep {
                 Some(height) if height < at => Whole::TooDeep(height),
                 _ => Whole::Stopped(at),
             },
-            Ok(_) => match deep {
+            Ok(left) => match deep {
                 Some(height) => Whole::TooDeep(height),
                 None => match self.levels.exit {
-                    Some(entry) => Whole::Went {
-                        expect: entry.at(top_of(&self.levels.opens)),
-                        open: self.levels.opens.len(),
-                    },
+                    Some(entry) => self.went(entry, &holders[..left]),
                     None => unreachable!(),
                 },
             },
+        }
+    }
+
+    /// Where the marks lead from these containers in the last level.
+    fn went(&self, entry: Entry, left: &[Holder]) -> Whole
+        requires { length left.now ≤ depth_of self.now }
+        ensures { result ≡ whole_of (went (expect_at entry (top ((form_in self.now).opens ++ reverse left.now))) ((form_in self.now).opens ++ reverse left.now)) }
+    {
+        let top = match self.levels.opens.last() {
+            Some(holder) => *holder,
+            None => top_of(left),
+        };
+        Whole::Went {
+            expect: entry.at(top),
+            open: left.len() + self.levels.opens.len(),
         }
     }
 
@@ -259,6 +284,32 @@ impl Reduced {
                 heights,
             },
         })
+    }
+
+    /// The form of these levels, where the depth allows them and they go on for some holder.
+    pub(crate) fn of_levels(depth: Depth, levels: Levels) -> Option<Reduced>
+        ensures depth { IfSome result (λ r. depth_of r ≡ depth) }
+        ensures form { IfSome result (λ r. form_in r ≡ form_of levels) }
+        ensures sound { IsSome result ↔ Fits depth (form_of levels) × GoesOn (form_of levels) }
+    {
+        if !levels.fit(depth.containers() as usize) {
+            return None;
+        }
+        Some(Reduced { depth, levels })
+    }
+
+    /// The same form, borrowed.
+    pub(crate) fn borrowed(&self) -> FormRef<'_>
+        ensures { borrowed_form result ≡ form_in self.now }
+    {
+        self.levels.borrowed()
+    }
+
+    /// Whether each offset that is kept may be.
+    pub(crate) fn lies_in(&self, bound: Bound) -> bool
+        ensures { IsTrue result ↔ OffsetsIn (IsIn bound) (form_in self.now) }
+    {
+        self.levels.lie_in(bound)
     }
 
     /// Moves the form so many bytes further on.

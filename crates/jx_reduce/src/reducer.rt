@@ -1,96 +1,51 @@
 // Marks that are reduced as they come.
 
-ghost use Rattle.std.specs.Prelude.{◌≡◌, ◌↔◌, ◌≤◌, ◌<◌, ◌++◌, ℕ, List, [], ◌∷◌, true, IsTrue, OnOk, IfOk};
+ghost use Rattle.std.specs.Prelude.{◌≡◌, ◌↔◌, ◌≤◌, ◌<◌, ◌++◌, ℕ, List, [], ◌∷◌, true, false, IsTrue, OnOk, IfOk};
 ghost use Rattle.jx_reduce.specs.Offsets.{RisingFrom, EachIn};
-ghost use Rattle.jx_reduce.specs.HeadAndTail.{AreHeadAndTail};
-ghost use Rattle.jx_reduce.specs.Reducer.{ReducerValue, HasReduced, IsFront, past};
+ghost use Rattle.jx_reduce.specs.Reducer.{HasReduced, past};
 ghost use Rattle.jx_reduce.specs.Reductions.{IsOf, SpansIn};
+ghost use Rattle.jx_reduce.specs.Structure as structure;
+ghost use Rattle.jx_reduce.specs.Structure.{AreIn};
 ghost use Rattle.jx_lex.specs.declared.alphabet.mark.Mark.{Mark};
 
-use crate::entry::Entry;
-use crate::reduced::Reduced;
-use crate::reductions::{Reductions, head_of};
+use crate::quiet::Limits;
+use crate::reductions::Reductions;
+use crate::structure::{Making, Structure};
 use jx_lex::{Depth, Keeper, Mark};
 use std::alloc::{AllocError, Global};
 use std::marker::Model;
+use std::mem;
 
-/// How many marks are held before they are read. So many stay in the first cache.
-const WINDOW: usize = 512;
-
-/// The structure of marks that are given one by one, in the order of their offsets. The first one or two, up to one that is
-/// no string, are kept, to be read from each entry in the end. Those behind them are read once, window by window, and only
-/// the window is held.
+/// The structure of marks that are given one by one, in the order of their offsets. Each is read at once, and none is held.
 #[derive(Drop)]
 pub struct Reducer {
+    alloc: Global,
     depth: Depth,
-    head: Vec<Mark>,
-    // none until the head is complete
-    tail: Option<Reduced>,
+    making: Making,
+    limits: Limits,
     last: Option<usize>,
-    window: Vec<Mark>,
     rising: bool,
 }
 
 impl Model for Reducer {
+    ghost use Rattle.jx_reduce.specs.Reducer.{ReducerValue};
+
     ghost Value = { ReducerValue };
 
-    ghost view = { λ r. record { depth = r.depth; head = r.head.items; tail = r.tail; last = r.last; window = r.window.items; rising = r.rising } };
+    ghost use Rattle.jx_reduce.specs.inside.Reducers.{reducer_of, IsReducing};
 
-    ghost invariant = { λ r. r.rising ≡ true → (front : List Mark) × IsFront front r.depth r.head.items r.tail r.last };
+    ghost view = { reducer_of };
+
+    ghost invariant = { IsReducing };
 }
 
-/// Whether the offsets of the marks rise, and begin behind that of the last mark before them.
-fn rise(last: Option<usize>, marks: &[Mark]) -> bool
-    ensures { IsTrue result ↔ RisingFrom (past last) marks.now }
+/// Whether an offset lies past the last.
+fn is_past(last: Option<usize>, at: usize) -> bool
+    ensures { IsTrue result ↔ past last ≤ at }
 {
-    let mut last = last;
-    for mark in marks {
-        if let Some(before) = last {
-            if mark.at <= before {
-                return false;
-            }
-        }
-        last = Some(mark.at);
-    }
-    true
-}
-
-/// The offset of the last of these marks, or where there are none, of the last mark before them.
-fn last_of(last: Option<usize>, marks: &[Mark]) -> Option<usize>
-    requires { RisingFrom (past last) marks.now }
-    ensures { (more : List Mark) → RisingFrom (past last) (marks.now ++ more) ↔ RisingFrom (past result) more }
-{
-    match marks.last() {
-        Some(mark) => Some(mark.at),
-        None => last,
-    }
-}
-
-/// Reads the marks of a window as more of the tail. Where there is no tail yet, reads first the rest of the head and
-/// then the beginning of the tail. Gives the tail behind the window.
-fn read_on(
-    head: &mut Vec<Mark>,
-    tail: Option<Reduced>,
-    window: &[Mark],
-    depth: Depth,
-) -> Result<Option<Reduced>, AllocError>
-    ensures { IfOk result (λ next. (front : List Mark) → AreHeadAndTail depth head.old.items tail front → RisingFrom 0 (front ++ window.now) → AreHeadAndTail depth head.new.items next (front ++ window.now)) }
-{
-    if let Some(tail) = tail {
-        return Ok(Some(tail.read_on(window)?));
-    }
-    match head_of(window) {
-        Some((len, kind)) => {
-            head.extend_from_slice(&window[..len])?;
-            let alloc = *head.allocator();
-            let entry = Entry::Value.leads_to(kind);
-            let tail = Reduced::of(alloc, entry, &window[len..], depth)?;
-            Ok(Some(tail))
-        }
-        None => {
-            head.extend_from_slice(window)?;
-            Ok(None)
-        }
+    match last {
+        Some(before) => before < at,
+        None => true,
     }
 }
 
@@ -100,35 +55,81 @@ impl Reducer {
         ensures depth { result.depth ≡ depth }
         ensures none { HasReduced [] result }
     {
+        Reducer::behind(Structure::new(alloc, depth), None)
+    }
+
+    /// A reducer of marks that have come to this structure.
+    fn behind(structure: Structure, last: Option<usize>) -> Reducer
+        requires below { AreIn (λ p. p < past last) structure }
+        ensures { result ≡ record { depth = structure.depth; structure = structure; last = last; rising = true } }
+    {
+        let alloc = structure.allocator();
+        let depth = structure.depth();
+        let making = structure.into_making();
+        let limits = making.levels.limits(depth.containers() as usize);
         Reducer {
+            alloc,
             depth,
-            head: Vec::new(alloc),
-            tail: None,
-            last: None,
-            window: Vec::new(alloc),
+            making,
+            limits,
+            last,
             rising: true,
         }
     }
 
-    /// Reads the window.
-    #[inline(never)]
-    fn flush(&mut self) -> Result<(), AllocError>
-        ensures depth { self.new.depth ≡ self.old.depth }
-        ensures empty { OnOk result (self.new.window ≡ []) }
-        ensures marks { OnOk result ((marks : List Mark) → HasReduced marks self.old → HasReduced marks self.new) }
+    /// The structure so far.
+    fn structure(self) -> Structure
+        requires rising { self.rising ≡ true }
+        ensures same { result ≡ self.structure }
+        ensures depth { self.structure.depth ≡ self.depth }
+        ensures below { AreIn (λ p. p < past self.last) self.structure }
     {
-        if self.rising && rise(self.last, &self.window) {
-            // The tail is lost where memory is refused. Until it is back, nothing is promised of the marks, as where they
-            // don't rise.
-            self.rising = false;
-            let tail = self.tail.take();
-            self.tail = read_on(&mut self.head, tail, &self.window, self.depth)?;
-            self.last = last_of(self.last, &self.window);
-            self.rising = true;
-        } else {
-            self.rising = false;
+        let Reducer {
+            alloc,
+            depth,
+            making,
+            ..
+        } = self;
+        Structure::of_making(alloc, depth, making)
+    }
+
+    /// Reads a mark that changes at most what is open and what may stand next. Answers whether it did.
+    #[inline(always)]
+    fn pass(&mut self, mark: Mark) -> bool
+        ensures depth { self.new.depth ≡ self.old.depth }
+        ensures marks { result ≡ true → (marks : List Mark) → HasReduced marks self.old → HasReduced (marks ++ mark ∷ []) self.new }
+        ensures same { result ≡ false → self.new ≡ self.old }
+    {
+        self.making.levels.pass_quiet(&mut self.limits, mark)
+    }
+
+    /// Whether nothing goes on behind the marks, whatever was open. Then no mark changes anything.
+    #[inline(always)]
+    pub fn is_over(&self) -> bool
+        ensures { IsTrue result → (marks more : List Mark) → HasReduced marks self.now → HasReduced (marks ++ more) self.now }
+    {
+        self.making.levels.exit.is_none() && self.making.first.is_some()
+    }
+
+    /// Reads any other mark. It fails only for want of memory.
+    #[cold]
+    #[inline(never)]
+    fn read(&mut self, mark: Mark) -> Result<(), AllocError>
+        ensures depth { self.new.depth ≡ self.old.depth }
+        ensures marks { OnOk result ((marks : List Mark) → HasReduced marks self.old → HasReduced (marks ++ mark ∷ []) self.new) }
+    {
+        if self.is_over() {
+            return Ok(());
         }
-        self.window.clear();
+        if !self.rising || !is_past(self.last, mark.at) {
+            self.rising = false;
+            return Ok(());
+        }
+        // The structure is lost where memory is refused. Then nothing is promised of the marks, as where they don't rise.
+        let mut lost = Reducer::new(self.alloc, self.depth);
+        lost.rising = false;
+        let structure = mem::replace(self, lost).structure();
+        *self = Reducer::behind(structure.read_on(&[mark])?, Some(mark.at));
         Ok(())
     }
 
@@ -138,35 +139,35 @@ impl Reducer {
         ensures depth { self.new.depth ≡ self.old.depth }
         ensures marks { OnOk result ((marks : List Mark) → HasReduced marks self.old → HasReduced (marks ++ mark ∷ []) self.new) }
     {
-        if self.window.len() >= WINDOW {
-            self.flush()?;
+        if self.pass(mark) {
+            return Ok(());
         }
-        self.window.push(mark)?;
+        self.read(mark)?;
         Ok(())
     }
 
     /// The structure of the marks that it was given. It fails only for want of memory.
+    pub fn into_structure(self) -> Result<Structure, AllocError>
+        ensures depth { IfOk result (λ f. f.depth ≡ self.depth) }
+        ensures reads { (marks : List Mark) → HasReduced marks self → RisingFrom 0 marks → IfOk result (structure.IsOf marks) }
+        ensures offsets { (marks : List Mark) → HasReduced marks self → RisingFrom 0 marks → IfOk result (λ f. (low high : ℕ) → EachIn (λ m. (low ≤ m.at) × (m.at < high)) marks → structure.SpansIn low high f) }
+    {
+        if self.rising {
+            Ok(self.structure())
+        } else {
+            // Marks whose offsets don't rise have no structure.
+            Ok(Structure::new(self.alloc, self.depth))
+        }
+    }
+
+    /// The structure of the marks that it was given, from each expectation. It fails only for want of memory.
     pub fn finish(self) -> Result<Reductions, AllocError>
         ensures depth { IfOk result (λ f. f.depth ≡ self.depth) }
         ensures reads { (marks : List Mark) → HasReduced marks self → RisingFrom 0 marks → IfOk result (IsOf marks) }
         ensures offsets { (marks : List Mark) → HasReduced marks self → RisingFrom 0 marks → IfOk result (λ f. (low high : ℕ) → EachIn (λ m. (low ≤ m.at) × (m.at < high)) marks → SpansIn low high f) }
     {
-        let mut reducer = self;
-        reducer.flush()?;
-        let Reducer {
-            depth,
-            head,
-            tail,
-            window,
-            rising,
-            ..
-        } = reducer;
-        if rising {
-            Reductions::of_head_and_tail(*head.allocator(), &head, &tail, depth)
-        } else {
-            // Marks whose offsets don't rise have no structure.
-            Ok(Reductions::new(*window.allocator(), depth))
-        }
+        let structure = self.into_structure()?;
+        Reductions::of_structure(&structure)
     }
 }
 
@@ -188,6 +189,6 @@ impl Keeper for Reducer {
 
     #[inline(always)]
     fn is_done(&self) -> bool {
-        false
+        self.is_over()
     }
 }

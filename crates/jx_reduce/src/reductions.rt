@@ -6,7 +6,7 @@ ghost use Rattle.jx_reduce.specs.Fits.{IsOfSize};
 ghost use Rattle.jx_reduce.specs.Reduced.{depth_of, form_in};
 ghost use Rattle.jx_reduce.specs.Reductions.{answer, form_at, entry_of, IsJoin, IsBefore, IsOf, SpansIn};
 ghost use Rattle.jx_reduce.specs.inside.Follow.{followed, IsReady, AreReady};
-ghost use Rattle.jx_reduce.specs.HeadAndTail.{EndsWith, AreHeadAndTail};
+ghost use Rattle.jx_reduce.specs.Structure as one;
 ghost use Rattle.jx_reduce.specs.Shift.{shifted};
 ghost use Rattle.jx_reduce.specs.declared.expect.Expect.{Expect};
 ghost use Rattle.jx_reduce.specs.declared.holder.Holder.{Holder};
@@ -15,7 +15,8 @@ ghost use Rattle.jx_lex.specs.declared.alphabet.mark.Mark.{Mark};
 use crate::entry::Entry;
 use crate::expect::Expect;
 use crate::reduced::Reduced;
-use jx_lex::{Depth, JoinFault, Mark, MarkKind};
+use crate::structure::Structure;
+use jx_lex::{Depth, JoinFault, Mark};
 use std::alloc::{AllocError, Global};
 use std::array;
 use std::marker::Model;
@@ -27,22 +28,6 @@ pub struct Reductions {
     depth: Depth,
     /// From each entry, in the order of `Entry::ALL`.
     forms: [Reduced; 8],
-}
-
-/// The marks up to the first that is no string, or up to the second: how many they are, and the last one's kind. Nothing
-/// goes on behind two strings, one after the other.
-pub(crate) fn head_of(marks: &[Mark]) -> Option<(usize, MarkKind)>
-    ensures within { IfSome result (λ head. head.0 ≤ length marks.now) }
-    ensures ends { IfSome result (λ head. EndsWith (take head.0 marks.now) head.1) }
-{
-    let first = marks.first()?;
-    match first.kind {
-        MarkKind::String => {
-            let second = marks.get(1)?;
-            Some((2, second.kind))
-        }
-        kind => Some((1, kind)),
-    }
 }
 
 impl Model for Reductions {
@@ -79,31 +64,21 @@ impl Reductions {
         ensures reads { IfOk result (λ f. IsOf marks.now f) }
         ensures offsets { IfOk result (λ f. (low high : ℕ) → EachIn (λ m. (low ≤ m.at) × (m.at < high)) marks.now → SpansIn low high f) }
     {
-        match head_of(marks) {
-            Some((len, kind)) => {
-                let entry = Entry::Value.leads_to(kind);
-                let tail = Reduced::of(alloc, entry, &marks[len..], depth)?;
-                Reductions::of_head_and_tail(alloc, &marks[..len], &Some(tail), depth)
-            }
-            None => Reductions::of_head_and_tail(alloc, marks, &None, depth),
-        }
+        let structure = Structure::of(alloc, marks, depth)?;
+        Reductions::of_structure(&structure)
     }
 
-    /// The structure of all marks of which these are the head, that is read from each entry, and the tail behind it.
-    pub(crate) fn of_head_and_tail(
-        alloc: Global,
-        head: &[Mark],
-        tail: &Option<Reduced>,
-        depth: Depth,
-    ) -> Result<Reductions, AllocError>
-        requires split { (marks : List Mark) × AreHeadAndTail depth head.now tail.now marks }
-        ensures depth { IfOk result (λ f. f.depth ≡ depth) }
-        ensures reads { IfOk result (λ f. (marks : List Mark) → AreHeadAndTail depth head.now tail.now marks → IsOf marks f) }
-        ensures offsets { IfOk result (λ f. (marks : List Mark) → AreHeadAndTail depth head.now tail.now marks → (low high : ℕ) → EachIn (λ m. (low ≤ m.at) × (m.at < high)) marks → SpansIn low high f) }
+    /// The form of a structure from each entry. It fails only for want of memory.
+    pub fn of_structure(structure: &Structure) -> Result<Reductions, AllocError>
+        ensures depth { IfOk result (λ f. f.depth ≡ structure.now.depth) }
+        ensures answers { IfOk result (λ f. (e : Expect) (s : List Holder) → length s ≤ f.depth → answer f e s ≡ one.answer structure.now e s) }
+        ensures offsets { IfOk result (λ f. (low high : ℕ) → one.SpansIn low high structure.now → SpansIn low high f) }
     {
-        let Reductions { mut forms, .. } = Reductions::new(alloc, depth);
+        // Shows the proof what every structure keeps.
+        let depth = structure.depth;
+        let Reductions { mut forms, .. } = Reductions::new(structure.allocator(), depth);
         for entry in Entry::ALL {
-            forms[entry.index()] = Reduced::of_head_and_tail(alloc, entry, head, tail, depth)?;
+            forms[entry.index()] = structure.from_entry(entry)?;
         }
         Ok(Reductions { depth, forms })
     }

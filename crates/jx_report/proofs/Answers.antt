@@ -1,7 +1,6 @@
 -- The output of an accepted text, from its index.
 use Rattle.std.proofs.Common.{◌≡◌, ℕ, ◌+◌, ◌-◌, ◌≤◌, List, [], ◌∷◌, ◌++◌, length, drop, map, refl, sym, ap, subst, ◌∙◌, arith}
-use Rattle.std.specs.Prelude.{slice_range, string_bytes, String, Vec}
-use Rattle.std.specs.declared.alloc.Global.{Global}
+use Rattle.std.specs.Prelude.{slice_range}
 use Rattle.std.proofs.lemmas.List.{take_all, length-drop}
 use Rattle.jx_run.specs.declared.settings.Settings.{Settings}
 use Rattle.jx_run.specs.declared.verdict.Verdict.{Verdict}
@@ -18,11 +17,11 @@ use Rattle.jx_answer.specs.Sequence.{judged}
 use Rattle.jx_answer.proofs.Verdicts.{all_answered, answered_by}
 use Rattle.jx_run.specs.declared.element_verdict.JudgedElement.{JudgedElement}
 use Rattle.jx_run.specs.MarkAlone.{elements_by}
-use Rattle.jx_task.specs.declared.task.Task.TheVariants.{Index, At, Seq}
+use Rattle.jx_task.specs.declared.task.Task.TheVariants.{Index, Seq}
 use Rattle.jx_report.specs.declared.exit.Exit.{Exit}
 use Rattle.jx_report.specs.declared.exit.Exit.TheVariants.{Good}
 use Rattle.jx_report.specs.Elements.{element_lines, exit_past, exit_past_all, exit_past_judged, judged_line, judged_lines}
-use Rattle.jx_report.specs.Output.{ByVerdict, Output, SaysAccepted, SaysRows}
+use Rattle.jx_report.specs.Output.{AnswersPointers, ByVerdict, Output, SaysAccepted, SaysRows, TextOutput}
 use Rattle.jx_report.specs.Pointers.{PointerLines}
 use Rattle.jx_report.specs.inside.Replies.{verdict_exit, verdict_line}
 
@@ -59,11 +58,11 @@ module _ (text : List ℕ) (settings : Settings) (index : IndexedValue) (judged 
   pub rows_output : (output : List ℕ) (exit : Exit) → SaysRows index.rows output exit → Output Index settings text output exit
   rows_output output exit h = (Accepted, judged, (x.tree, x.is_text, subst (λ (r : List Row). SaysRows r output exit) x.rows_are h))
 
-  pub pointers_output : (pointers : Vec (String Global) Global) (output : List ℕ) (exit : Exit)
-      → ((d : ℕ) (tree : Tree) → IsText index.text index.span.start index.span.end d tree → PointerLines index.text tree (map string_bytes pointers.items) output exit)
-      → Output (At pointers) settings text output exit
+  pub pointers_output : (pointers : List (List ℕ)) (output : List ℕ) (exit : Exit)
+      → ((d : ℕ) (tree : Tree) → IsText index.text index.span.start index.span.end d tree → PointerLines index.text tree pointers output exit)
+      → TextOutput (AnswersPointers pointers settings text) settings text output exit
   pointers_output pointers output exit lines =
-      (Accepted, judged, (x.tree, x.is_text, subst (λ t. PointerLines t x.tree (map string_bytes pointers.items) output exit) x.text (lines settings.depth x.tree text_there)))
+      (Accepted, judged, (x.tree, x.is_text, subst (λ t. PointerLines t x.tree pointers output exit) x.text (lines settings.depth x.tree text_there)))
 
 -- ---- the elements of a text sequence
 

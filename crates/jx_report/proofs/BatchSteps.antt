@@ -1,5 +1,5 @@
 -- The reading of a text goes on part by part.
-use Rattle.std.proofs.Common.{◌≡◌, ℕ, ◌+◌, ◌-◌, ◌≤◌, ◌<◌, List, ◌++◌, length, take, drop, Option, refl, sym, ◌∙◌, ap, subst, arith, append_assoc, append-nil, length-take, inr, Result, Ok, Err, ◌^◌}
+use Rattle.std.proofs.Common.{◌≡◌, ℕ, ◌+◌, ◌-◌, ◌≤◌, List, [], ◌∷◌, ◌++◌, length, take, drop, Option, refl, sym, ◌∙◌, ap, subst, arith, append_assoc, append-nil, length-take, inr, Result, Ok, Err}
 use Rattle.std.specs.Prelude.{OnOk}
 use Rattle.std.specs.Io.KnownBytes.{Consumes, IsAtEnd}
 use Rattle.std.proofs.KnownBytes.{Consumes-trans}
@@ -66,9 +66,7 @@ pub all_taken : (P : List ℕ → Type 0) (text slice part : List ℕ) (a b c : 
     → AllTaken P a c
 all_taken P text slice part a b c taken same before more end = record { text = text ++ slice; read = read_to_end text slice part a b c same before more end; taken = taken }
 
--- a full batch leaves fewer bytes that can be counted
-pub fewer : (old new filled batch : ℕ) (slice part : List ℕ) → new ≡ old + length slice → slice ≡ part → length part ≡ filled → new < 2 ^ 64 → 1 ≤ batch → batch ≤ filled
-    → 2 ^ 64 - new < 2 ^ 64 - old
-fewer old new filled batch slice part total same long fits some full =
-    let all : length slice ≡ filled = ap length same ∙ long in
-    omega (arith, total, all, fits, some, full)
+-- bytes before which no byte stands
+pub none_before : (text batch : List ℕ) (before : ℕ) → before ≡ 0 → before ≡ length text → batch ≡ text ++ batch
+none_before [] batch before none long = refl
+none_before (x ∷ xs) batch before none long = absurd (omega (arith, none, long))

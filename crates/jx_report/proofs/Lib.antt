@@ -9,3 +9,4 @@ mod PointerSteps
 pub mod PutSteps
 mod RowSteps
 mod SequenceSteps
+pub mod OnePointer

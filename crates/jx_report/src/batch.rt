@@ -25,7 +25,7 @@ fn make_room_within(buffer: &mut Vec<u8>, filled: usize, limit: usize) -> Result
 
 /// Reads into the buffer until as many bytes as the limit says were read, or the end of input comes, and answers how many
 /// were.
-pub(crate) fn fill<S: Source>(
+pub fn fill<S: Source>(
     reader: &mut S,
     buffer: &mut Vec<u8>,
     limit: usize,

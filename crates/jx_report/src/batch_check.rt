@@ -5,20 +5,19 @@ ghost use Rattle.jx_run.specs.declared.settings.NameRule.TheVariants.{Any};
 ghost use Rattle.jx_run.specs.declared.settings.Settings.{Settings};
 ghost use Rattle.jx_task.specs.declared.task.Task.{Task};
 ghost use Rattle.jx_report.specs.Output.{Output};
-ghost use Rattle.jx_report.specs.Reports.{IsAnswered, HasTooManyPieces};
+ghost use Rattle.jx_report.specs.Reports.{greatest_length, HasTooManyPieces, IsAnswered};
 ghost use Rattle.jx_report.specs.inside.Batches.{AllTaken, IsFilled, ShowsFront};
 ghost use Rattle.jx_report.specs.inside.Replies.{reply_exit, reply_output};
-ghost use Rattle.jx_report.specs.inside.Sequences.{HasTaken, total_of};
+ghost use Rattle.jx_report.specs.inside.Sequences.{HasTaken, IsReadingOf};
 
 use crate::batch::fill;
 use crate::reply::Reply;
 use crate::report_fault::ReportFault;
 use crate::sequence_check::SequenceCheck;
 use crate::source::Source;
-use crate::text_check::TextCheck;
+use crate::text_check::{TextCheck, is_short};
 use jx_answer::any_names_change_nothing;
 use jx_book::Gate;
-use jx_claim::Cutting;
 use jx_run::Settings;
 use jx_task::{Command, Task};
 use std::alloc::{AllocError, Global};
@@ -26,13 +25,78 @@ use std::sync::Wait;
 use std::thread::Threads;
 use std::{mem, thread};
 
-/// What the bytes of an input come to that are taken in batch by batch. It keeps no byte of them.
+/// How many bytes of an input are read at a time at first, where there are several workers. Long batches take fresh memory,
+/// which costs a short input more than workers gain.
+const FIRST_STEP: usize = 256 * 1024;
+
+/// Behind so many bytes batches are as long as they may be.
+const ENOUGH: u128 = 4 * 1024 * 1024;
+
+/// How many pieces an input may have.
+const MOST_PIECES: u128 = 4_294_967_295;
+
+/// What the bytes of an input that were read come to. It keeps no byte of them.
 #[derive(Drop)]
-pub(crate) enum BatchCheck {
+pub(crate) enum Reading {
     /// The verdict on a text.
     Text(TextCheck),
     /// The verdicts on the elements of a text sequence.
     Elements(SequenceCheck),
+}
+
+impl Reading {
+    /// Reads a batch behind what was read, the first one or behind at least three bytes. So many bytes stand before it.
+    fn read<R: Threads + Wait + Sync, G: Gate + Sync>(
+        &mut self,
+        rt: &R,
+        alloc: Global,
+        command: &Command,
+        batch: &[u8],
+        before: usize,
+        gate: &G,
+    ) -> Result<(), AllocError>
+        requires piece { 1 ≤ command.now.piece }
+        requires few { length batch.now < 2 ^ 32 }
+        requires fits { before + length batch.now < 2 ^ 64 }
+        requires so_far { (text : List ℕ) × ((before ≡ length text) × IsReadingOf command.now.task command.now.settings text self.old) }
+        ensures reads { OnOk result ((text : List ℕ) → before ≡ length text → ShowsFront text
+            → IsReadingOf command.now.task command.now.settings text self.old
+            → IsReadingOf command.now.task command.now.settings (text ++ batch.now) self.new) }
+    {
+        match self {
+            Reading::Text(check) => check.read(rt, alloc, command, batch, before, gate),
+            Reading::Elements(check) => check.read(rt, alloc, command, batch, before, gate),
+        }
+    }
+
+    /// The reply to all bytes, whatever names their objects have.
+    fn into_reply(self, settings: &Settings) -> Result<Reply, AllocError>
+        requires names { settings.now.names ≡ Any }
+        ensures { IfOk result (λ reply. (task : Task) (text : List ℕ) → IsReadingOf task settings.now text self
+            → Output task settings.now text (reply_output reply) (reply_exit reply)) }
+    {
+        any_names_change_nothing();
+        match self {
+            Reading::Text(check) => {
+                let verdict = check.verdict();
+                Ok(Reply::Verdict(verdict))
+            }
+            Reading::Elements(check) => {
+                let elements = check.into_elements(settings)?;
+                Ok(Reply::Elements(elements))
+            }
+        }
+    }
+}
+
+/// An input that is taken in batch by batch.
+#[derive(Drop)]
+pub(crate) struct BatchCheck {
+    reading: Reading,
+    /// How many bytes there were, or the greatest number of 128 bits where there were more.
+    total: u128,
+    /// Whether memory was refused, or there are bytes that no offset names. What follows is counted and not looked at.
+    failed: bool,
 }
 
 impl BatchCheck {
@@ -40,26 +104,19 @@ impl BatchCheck {
     pub fn of(alloc: Global, command: &Command) -> Option<BatchCheck>
         ensures { IfSome result (HasTaken command.now.task command.now.settings []) }
     {
-        match command.task {
-            Task::Check => Some(BatchCheck::Text(TextCheck::new(alloc, command.settings.depth))),
-            Task::Seq => Some(BatchCheck::Elements(SequenceCheck::new(alloc, command))),
-            Task::Index | Task::At(_) => None,
-        }
+        let reading = match command.task {
+            Task::Check => Reading::Text(TextCheck::new(alloc, command.settings.depth)),
+            Task::Seq => Reading::Elements(SequenceCheck::new(alloc, command)),
+            Task::Index | Task::At(_) => return None,
+        };
+        Some(BatchCheck {
+            reading,
+            total: 0,
+            failed: false,
+        })
     }
 
-    /// How many bytes there were.
-    fn total(&self) -> usize
-        ensures total { result ≡ total_of self.now }
-        ensures length { (task : Task) (settings : Settings) (text : List ℕ) → HasTaken task settings text self.now → result ≡ length text }
-    {
-        match self {
-            BatchCheck::Text(check) => check.total(),
-            BatchCheck::Elements(check) => check.total(),
-        }
-    }
-
-    /// Takes in a batch behind what was read, the first one or behind at least three bytes. It is refused, as for want of
-    /// memory, where the bytes are more than can be counted.
+    /// Takes in a batch behind what was read, the first one or behind at least three bytes.
     fn take_in<R: Threads + Wait + Sync, G: Gate + Sync>(
         &mut self,
         rt: &R,
@@ -67,20 +124,38 @@ impl BatchCheck {
         command: &Command,
         batch: &[u8],
         gate: &G,
-    ) -> Result<(), ReportFault>
+    )
         requires piece { 1 ≤ command.now.piece }
         requires few { length batch.now < 2 ^ 32 }
         requires so_far { (text : List ℕ) × HasTaken command.now.task command.now.settings text self.old }
-        ensures taken { OnOk result ((text : List ℕ) → ShowsFront text → HasTaken command.now.task command.now.settings text self.old
-            → HasTaken command.now.task command.now.settings (text ++ batch.now) self.new) }
-        ensures total { OnOk result (total_of self.new ≡ total_of self.old + length batch.now) }
-        ensures fits { OnOk result (total_of self.new < 2 ^ 64) }
-        ensures fault { IfErr result (λ fault. fault ≡ ReportFault.Memory) }
+        ensures taken { (text : List ℕ) → ShowsFront text → HasTaken command.now.task command.now.settings text self.old
+            → HasTaken command.now.task command.now.settings (text ++ batch.now) self.new }
     {
-        match self {
-            BatchCheck::Text(check) => check.take_in(rt, alloc, command, batch, gate),
-            BatchCheck::Elements(check) => check.take_in(rt, alloc, command, batch, gate),
+        let total = self.total.saturating_add(batch.len() as u128);
+        if !self.failed && total <= usize::MAX as u128 {
+            let before = self.total as usize;
+            let read = self.reading.read(rt, alloc, command, batch, before, gate);
+            self.failed = read.is_err();
+        } else {
+            self.failed = true;
         }
+        self.total = total;
+    }
+
+    /// How many bytes are read next, where so many were read before: a whole batch once there were enough bytes.
+    fn next_step(&self, step: usize, batch: usize) -> usize
+        requires { step ≤ batch }
+        ensures { (step ≤ result) × (result ≤ batch) }
+    {
+        if self.total < ENOUGH { step } else { batch }
+    }
+
+    /// Whether the bytes make more pieces than there may be.
+    fn has_too_many_pieces(&self, piece: usize) -> bool
+        ensures { (task : Task) (settings : Settings) (text : List ℕ) → HasTaken task settings text self.now
+            → ((result ≡ true) ↔ (greatest_length piece < length text)) }
+    {
+        self.total > MOST_PIECES * piece as u128
     }
 
     /// The reply to all bytes, whatever names their objects have, unless memory was refused.
@@ -89,17 +164,22 @@ impl BatchCheck {
         ensures { IfOk result (λ reply. (task : Task) (text : List ℕ) → HasTaken task settings.now text self
             → Output task settings.now text (reply_output reply) (reply_exit reply)) }
     {
-        any_names_change_nothing();
-        match self {
-            BatchCheck::Text(check) => {
-                let verdict = check.verdict()?;
-                Ok(Reply::Verdict(verdict))
-            }
-            BatchCheck::Elements(check) => {
-                let elements = check.into_elements(settings)?;
-                Ok(Reply::Elements(elements))
-            }
+        if self.failed {
+            return Err(AllocError);
         }
+        self.reading.into_reply(settings)
+    }
+}
+
+/// How many bytes are read first where a batch may have so many. Workers still have more than one piece in them.
+fn first_step(piece: usize, batch: usize) -> usize
+    requires { 3 ≤ batch }
+    ensures { (3 ≤ result) × (result ≤ batch) }
+{
+    if piece <= FIRST_STEP / 2 {
+        batch.min(FIRST_STEP)
+    } else {
+        batch
     }
 }
 
@@ -125,17 +205,18 @@ fn take_all_alone<R: Threads + Wait + Sync, S: Source + Send, G: Gate + Sync>(
     ensures uncut { IfErr result (λ fault. fault ≢ ReportFault.Pieces) }
 {
     let mut buffer = Vec::new(alloc);
-    loop {
+    for _ in rt.forever() {
         let filled = fill(reader, &mut buffer, batch)?;
-        check.take_in(rt, alloc, command, &buffer[..filled], gate)?;
+        check.take_in(rt, alloc, command, &buffer[..filled], gate);
         if filled < batch {
-            break;
+            return Ok(check);
         }
     }
-    Ok(check)
+    unreachable!()
 }
 
-/// Takes in a batch, while the next one is read into another buffer.
+/// Takes in a batch, while the next one is read into another buffer. Behind a short batch it is read afterwards: that takes
+/// less time than to start a thread.
 fn take_and_fill<R: Threads + Wait + Sync, S: Source + Send, G: Gate + Sync>(
     rt: &R,
     alloc: Global,
@@ -152,10 +233,8 @@ fn take_and_fill<R: Threads + Wait + Sync, S: Source + Send, G: Gate + Sync>(
     requires few { length bytes.now < 2 ^ 32 }
     requires so_far { (text : List ℕ) × HasTaken command.now.task command.now.settings text check.old }
     requires within { vec_len next.old ≤ batch }
-    ensures taken { OnOk result ((text : List ℕ) → ShowsFront text → HasTaken command.now.task command.now.settings text check.old
-        → HasTaken command.now.task command.now.settings (text ++ bytes.now) check.new) }
-    ensures total { OnOk result (total_of check.new ≡ total_of check.old + length bytes.now) }
-    ensures fits { OnOk result (total_of check.new < 2 ^ 64) }
+    ensures taken { (text : List ℕ) → ShowsFront text → HasTaken command.now.task command.now.settings text check.old
+        → HasTaken command.now.task command.now.settings (text ++ bytes.now) check.new }
     ensures room { IfOk result (λ filled. filled ≤ vec_len next.new) }
     ensures within { IfOk result (λ _. vec_len next.new ≤ batch) }
     ensures ok { IfOk result (λ filled. Consumes (S.remaining reader.old) (S.remaining reader.new) (take filled next.new.items)) }
@@ -165,26 +244,26 @@ fn take_and_fill<R: Threads + Wait + Sync, S: Source + Send, G: Gate + Sync>(
     ensures unwritten { IfErr result (λ fault. fault ≢ ReportFault.Write) }
     ensures uncut { IfErr result (λ fault. fault ≢ ReportFault.Pieces) }
 {
-    let (filled, taken) = thread::join_mut(
+    if is_short(bytes.len(), gate) {
+        check.take_in(rt, alloc, command, bytes, gate);
+        return fill(reader, next, batch);
+    }
+    let (filled, _) = thread::join_mut(
         rt,
         &mut || -> Result<usize, ReportFault>
             requires { (S.has_failed reader.now ≡ false) × (vec_len next.now ≤ batch) }
             ensures { IsFilled S.remaining S.has_failed batch reader.entry.now reader.exit.now next.exit.now result }
         { fill(reader, next, batch) },
-        &mut || -> Result<(), ReportFault>
+        &mut ||
             requires { (1 ≤ command.now.piece) × (length bytes.now < 2 ^ 32) × ((text : List ℕ) × HasTaken command.now.task command.now.settings text check.now) }
-            ensures { OnOk result (((text : List ℕ) → ShowsFront text → HasTaken command.entry.now.task command.entry.now.settings text check.entry.now
-                → HasTaken command.entry.now.task command.entry.now.settings (text ++ bytes.entry.now) check.exit.now)
-                × (total_of check.exit.now ≡ total_of check.entry.now + length bytes.entry.now) × (total_of check.exit.now < 2 ^ 64))
-                × IfErr result (λ fault. fault ≡ ReportFault.Memory) }
+            ensures { (text : List ℕ) → ShowsFront text → HasTaken command.entry.now.task command.entry.now.settings text check.entry.now
+                → HasTaken command.entry.now.task command.entry.now.settings (text ++ bytes.entry.now) check.exit.now }
         { check.take_in(rt, alloc, command, bytes, gate) },
     );
-    let filled = filled?;
-    taken?;
-    Ok(filled)
+    filled
 }
 
-/// The same with two buffers: while a batch is taken in, the next one is read.
+/// The same with two buffers: while a batch is taken in, the next one is read. The first batches are shorter.
 fn take_all_beside<R: Threads + Wait + Sync, S: Source + Send, G: Gate + Sync>(
     rt: &R,
     alloc: Global,
@@ -206,23 +285,28 @@ fn take_all_beside<R: Threads + Wait + Sync, S: Source + Send, G: Gate + Sync>(
 {
     let mut bytes = Vec::new(alloc);
     let mut next = Vec::new(alloc);
-    let mut filled = fill(reader, &mut bytes, batch)?;
-    while filled >= batch {
+    let mut step = first_step(command.piece, batch);
+    let mut filled = fill(reader, &mut bytes, step)?;
+    for _ in rt.forever() {
+        if filled < step {
+            check.take_in(rt, alloc, command, &bytes[..filled], gate);
+            return Ok(check);
+        }
+        step = check.next_step(step, batch);
         filled = take_and_fill(
             rt,
             alloc,
             reader,
             command,
             gate,
-            batch,
+            step,
             &mut check,
             &bytes[..filled],
             &mut next,
         )?;
         mem::swap(&mut bytes, &mut next);
     }
-    check.take_in(rt, alloc, command, &bytes[..filled], gate)?;
-    Ok(check)
+    unreachable!()
 }
 
 /// Reads to the end of input, so many bytes at a time. Where there are several workers, a batch is taken in while the
@@ -279,7 +363,7 @@ pub(crate) fn answer_by_batches<R: Threads + Wait + Sync, S: Source + Send, G: G
         (S.remaining reader.new) }
 {
     let check = take_all(rt, alloc, reader, command, gate, batch, check)?;
-    if Cutting::every(check.total(), command.piece).is_err() {
+    if check.has_too_many_pieces(command.piece) {
         return Err(ReportFault::Pieces);
     }
     match check.into_reply(&command.settings) {

@@ -24,6 +24,7 @@ mod words;
 mod write_all;
 mod writing;
 
+pub use batch::fill as fill_buffer;
 pub use end::End;
 pub use exit::Exit;
 pub use laws::outputs_are_one;
@@ -32,3 +33,4 @@ pub use reporting::{report, report_in_batches};
 pub use sink::Sink;
 pub use source::Source;
 pub use write_all::write_all as write_whole;
+pub use writing::write_verdict;

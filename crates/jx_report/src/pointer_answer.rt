@@ -7,12 +7,13 @@ ghost use Rattle.jx_index.specs.Indexed.{IndexedValue};
 ghost use Rattle.jx_index.specs.Pointers.{IsPointer};
 ghost use Rattle.jx_index.specs.Rows.{rows};
 ghost use Rattle.jx_report.specs.Pointers.{exit_after, ArePointersOf, IsAnswerTo, IsFoundFor, PointerLines};
+ghost use Rattle.jx_report.specs.inside.OnePointer.{IsReadPointer, answer_in};
 ghost use Rattle.jx_report.specs.inside.Replies.{exit_past_lines, pointer_lines};
 ghost use Rattle.jx_report.specs.declared.exit.Exit.TheVariants.{Good};
 
 use crate::exit::Exit;
 use jx_answer::Answer;
-use jx_index::{FindFault, Indexed, Pointer, PointerFault};
+use jx_index::{FindFault, Found, Indexed, Pointer, PointerFault};
 use jx_lex::{Kind, Span};
 use std::alloc::{AllocError, Global};
 
@@ -37,6 +38,48 @@ fn pointer_of(spelt: &str) -> Pointer<'_>
     match Pointer::read("") {
         Ok(empty) => empty,
         Err(_) => unreachable!(),
+    }
+}
+
+/// A string that is read as a pointer: the pointer, or the empty one and why the string is none.
+#[derive(Debug, Drop)]
+pub struct ReadPointer<'p> {
+    pub pointer: Pointer<'p>,
+    pub unread: Option<PointerFault>,
+}
+
+/// Reads a string as a pointer once.
+pub fn read_pointer(spelt: &str) -> ReadPointer<'_>
+    ensures { IsReadPointer spelt.now result.pointer result.unread }
+{
+    let unread = match Pointer::read(spelt) {
+        Ok(pointer) => {
+            return ReadPointer {
+                pointer,
+                unread: None,
+            };
+        }
+        Err(fault) => Some(fault),
+    };
+    ReadPointer {
+        pointer: pointer_of(""),
+        unread,
+    }
+}
+
+/// What a string that was read as a pointer comes to in a text that was read once: why it is none, or what was found.
+pub fn answer_in(unread: Option<PointerFault>, found: Result<Found, FindFault>) -> PointerAnswer
+    ensures { result ≡ answer_in unread found }
+{
+    match unread {
+        Some(fault) => PointerAnswer::Unread(fault),
+        None => match found {
+            Ok(found) => PointerAnswer::Found {
+                kind: found.kind,
+                span: found.span,
+            },
+            Err(fault) => PointerAnswer::Lost(fault),
+        },
     }
 }
 

@@ -1,23 +1,27 @@
-ghost use Rattle.std.specs.Prelude.{◌≡◌, ℕ, length, map, string_bytes, IfOk};
+ghost use Rattle.std.specs.Prelude.{◌≡◌, ◌∷◌, [], ℕ, length, map, string_bytes, IfOk, IfSome};
+ghost use Rattle.jx_run.specs.declared.settings.NameRule.TheVariants.{Any};
 ghost use Rattle.std.specs.List.{AllZip};
-ghost use Rattle.jx_task.specs.declared.task.Task.TheVariants.{Seq};
+ghost use Rattle.jx_task.specs.declared.task.Task.TheVariants.{Index, Seq};
 ghost use Rattle.jx_run.specs.Text.{IsText};
 ghost use Rattle.jx_run.specs.Tree.{Tree};
-ghost use Rattle.jx_report.specs.Output.{Output};
+ghost use Rattle.jx_report.specs.Output.{AnswersPointers, Output, TextOutput};
 ghost use Rattle.jx_report.specs.Pointers.{IsFoundFor, PointerLines};
 ghost use Rattle.jx_report.specs.inside.Replies.{reply_exit, reply_output, verdict_exit};
 ghost use Rattle.jx_report.specs.declared.exit.Exit.TheVariants.{Good};
 
 use crate::element_words::exit_of_elements;
 use crate::exit::Exit;
-use crate::pointer_answer::{PointerAnswer, answers_of, exit_of_answers, pointers_of};
+use crate::pointer_answer::{
+    PointerAnswer, answer_in, answers_of, exit_of_answers, pointers_of, read_pointer,
+};
 use jx_answer::{
-    Answer, TextAnswer, find_all, index_text_with, judge_sequence_with, verdict_of_text_with,
+    Answer, TextAnswer, find_all, index_text_with, judge_sequence_with, rows_of_text_with,
+    verdict_of_text_with,
 };
 use jx_book::Gate;
 use jx_claim::{Cutting, Workers};
-use jx_index::{Indexed, Row};
-use jx_run::{JudgedElement, Verdict};
+use jx_index::{Indexed, Row, find_by, look_ups_end_at_rows};
+use jx_run::{JudgedElement, NameRule, Settings, Verdict};
 use jx_task::{Command, Task};
 use std::alloc::{AllocError, Global};
 use std::sync::Wait;
@@ -96,6 +100,67 @@ fn pointers_reply<R: Threads + Sync, G: Gate + Sync>(
     Ok(Reply::Pointers(answers))
 }
 
+/// The reply for one pointer: what it comes to in a text that is read once, without an index.
+fn one_pointer_reply(
+    alloc: Global,
+    settings: &Settings,
+    spelt: &str,
+    text: &[u8],
+) -> Result<Reply, AllocError>
+    requires { settings.now.names ≡ Any }
+    ensures { IfOk result (λ reply. TextOutput (AnswersPointers (spelt.now ∷ []) settings.now text.now) settings.now text.now (reply_output reply) (reply_exit reply)) }
+{
+    // By the contract of this call the proof knows what row a pointer leads to.
+    look_ups_end_at_rows();
+    let read = read_pointer(spelt);
+    match find_by(alloc, text, settings, &read.pointer)? {
+        Err(refusal) => Ok(Reply::Verdict(Verdict::Refused(refusal))),
+        Ok(found) => {
+            let mut answers = Vec::new(alloc);
+            answers.push(answer_in(read.unread, found))?;
+            Ok(Reply::Pointers(answers))
+        }
+    }
+}
+
+/// The only one of some pointers, where there is one.
+fn only_pointer(pointers: &[String]) -> Option<&str>
+    ensures { IfSome result (λ spelt. map string_bytes pointers.now ≡ spelt.now ∷ []) }
+{
+    match pointers {
+        [pointer] => Some(pointer.as_str()),
+        _ => None,
+    }
+}
+
+/// The reply for pointers by an index.
+fn indexed_reply<R: Threads + Wait + Sync, G: Gate + Sync>(
+    rt: &R,
+    alloc: Global,
+    command: &Command,
+    pointers: &[String],
+    text: &[u8],
+    cutting: &Cutting,
+    gate: &G,
+) -> Result<Reply, AllocError>
+    requires cutting { cutting.now.len ≡ length text.now }
+    requires front { cutting.now.front ≡ 0 }
+    ensures { IfOk result (λ reply. TextOutput (AnswersPointers (map string_bytes pointers.now) command.now.settings text.now) command.now.settings text.now (reply_output reply) (reply_exit reply)) }
+{
+    let Command {
+        settings,
+        workers,
+        ..
+    } = *command;
+    match index_text_with(rt, alloc, text, cutting, one_worker(), &settings, gate) {
+        Ok(TextAnswer::Accepted(index)) => pointers_reply(
+            rt, alloc, &index, pointers, workers, gate,
+        ),
+        Ok(TextAnswer::Refused(refusal)) => Ok(Reply::Verdict(Verdict::Refused(refusal))),
+        Err(_) => Err(AllocError),
+    }
+}
+
 /// The reply for a text sequence: what its elements come to. Where there is one worker, it reads the sequence as one piece.
 fn sequence_reply<R: Threads + Wait + Sync, G: Gate + Sync>(
     rt: &R,
@@ -133,8 +198,28 @@ pub(crate) fn one_worker() -> Workers {
     one
 }
 
+/// The reply with the rows of a text, which one worker reads.
+fn rows_reply<R: Threads + Wait + Sync, G: Gate + Sync>(
+    rt: &R,
+    alloc: Global,
+    settings: &Settings,
+    text: &[u8],
+    cutting: &Cutting,
+    gate: &G,
+) -> Result<Reply, AllocError>
+    requires cutting { cutting.now.len ≡ length text.now }
+    requires front { cutting.now.front ≡ 0 }
+    ensures { IfOk result (λ reply. Output Index settings.now text.now (reply_output reply) (reply_exit reply)) }
+{
+    match rows_of_text_with(rt, alloc, text, cutting, one_worker(), settings, gate) {
+        Ok(Ok(rows)) => Ok(Reply::Rows(rows)),
+        Ok(Err(refusal)) => Ok(Reply::Verdict(Verdict::Refused(refusal))),
+        Err(_) => Err(AllocError),
+    }
+}
+
 /// The reply to a command on an input; `Err` where memory is refused. One worker indexes it, in one pass from the start of
-/// the text, which takes less time and memory than the runs of several workers and the rows that are then made of these. As
+/// the text. That takes less time and memory than the runs of several workers and the rows that are then made of these. As
 /// many as the command says answer pointers.
 pub fn reply_to<R: Threads + Wait + Sync, G: Gate + Sync>(
     rt: &R,
@@ -148,11 +233,7 @@ pub fn reply_to<R: Threads + Wait + Sync, G: Gate + Sync>(
     requires front { cutting.now.front ≡ 0 }
     ensures { IfOk result (λ reply. Output command.now.task command.now.settings text.now (reply_output reply) (reply_exit reply)) }
 {
-    let Command {
-        settings,
-        workers,
-        ..
-    } = *command;
+    let settings = command.settings;
     let one = one_worker();
     match &command.task {
         Task::Check => {
@@ -161,19 +242,10 @@ pub fn reply_to<R: Threads + Wait + Sync, G: Gate + Sync>(
                 Err(_) => Err(AllocError),
             }
         }
-        Task::Index => match index_text_with(rt, alloc, text, cutting, one, &settings, gate) {
-            Ok(TextAnswer::Accepted(index)) => Ok(Reply::Rows(index.into_rows())),
-            Ok(TextAnswer::Refused(refusal)) => Ok(Reply::Verdict(Verdict::Refused(refusal))),
-            Err(_) => Err(AllocError),
-        },
-        Task::At(pointers) => match index_text_with(
-            rt, alloc, text, cutting, one, &settings, gate,
-        ) {
-            Ok(TextAnswer::Accepted(index)) => {
-                pointers_reply(rt, alloc, &index, pointers, workers, gate)
-            }
-            Ok(TextAnswer::Refused(refusal)) => Ok(Reply::Verdict(Verdict::Refused(refusal))),
-            Err(_) => Err(AllocError),
+        Task::Index => rows_reply(rt, alloc, &settings, text, cutting, gate),
+        Task::At(pointers) => match (only_pointer(pointers), settings.names) {
+            (Some(pointer), NameRule::Any) => one_pointer_reply(alloc, &settings, pointer, text),
+            _ => indexed_reply(rt, alloc, command, pointers, text, cutting, gate),
         },
         Task::Seq => sequence_reply(rt, alloc, command, text, cutting, gate),
     }

@@ -22,6 +22,12 @@ use std::thread::Threads;
 /// How many bytes of an input are read at a time, at most.
 const BATCH: usize = 8 * 1024 * 1024;
 
+/// The same for several workers and short pieces.
+const SHARED_STEP: usize = 2 * 1024 * 1024;
+
+/// The same for one worker and short pieces: what is read is looked at before it leaves the processor's cache.
+const STEP: usize = 256 * 1024;
+
 /// How many bytes of an output are written at a time, at most.
 const BUFFER: usize = 64 * 1024;
 
@@ -83,16 +89,24 @@ fn answer_to_all<R: Threads + Wait + Sync, S: Source + Send, G: Gate + Sync>(
     }
 }
 
-/// How many bytes are read at a time: as many whole pieces as a batch has room for, or a batch where a piece is no shorter.
-fn batch_of(piece: usize) -> usize
-    requires { 1 ≤ piece }
+/// How many bytes are read at a time: as many whole pieces as a step has room for, where these are two or more. Else as many
+/// as a batch has room for, or a batch where a piece is no shorter.
+fn batch_of(command: &Command) -> usize
+    requires { 1 ≤ command.now.piece }
     ensures some { 1 ≤ result }
     ensures few { result < 2 ^ 32 }
 {
-    if piece < BATCH {
-        BATCH - BATCH % piece
+    let piece = command.piece;
+    let step = if command.workers.count() == 1 {
+        STEP
     } else {
-        BATCH
+        SHARED_STEP
+    };
+    let most = if piece <= step / 2 { step } else { BATCH };
+    if piece < most {
+        most - most % piece
+    } else {
+        most
     }
 }
 
@@ -133,13 +147,13 @@ pub fn report_in_batches<R: Threads + Wait + Sync, S: Source + Send, W: Sink, G:
     Ok(reply.exit())
 }
 
-/// Reads to the end of input, has it answered by the command's workers, and then writes the output through one buffer,
-/// unless the command is quiet; the exit is the same then. No memory is taken once the first byte is written. It may wait
+/// Reads to the end of input, has it answered by the command's workers, and then writes the output through one buffer. A
+/// quiet command writes nothing, and its exit is the same. No memory is taken once the first byte is written. It may wait
 /// for the workers.
 ///
 /// The gate changes no output. One worker asks it as each piece of a batch begins, and the pieces of a batch are numbered
 /// from 0. Each of several workers asks as it begins its part of a batch, whose number is that of the worker, and as it has
-/// read it; the first worker goes on whatever is said. What stands between two record separators is asked for as by
+/// read it. The first worker goes on whatever is said. What stands between two record separators is asked for as by
 /// `judge_batch`, rows are asked for by one worker, and pointers as by `find_all`. Less than a MiB is read by the calling
 /// thread alone where nobody is asked (`Gate::is_asked`). With several workers the reader is also called from another
 /// thread, one call at a time.
@@ -168,13 +182,5 @@ pub fn report<R: Threads + Wait + Sync, S: Source + Send, W: Sink, G: Gate + Syn
     ensures pieces { IsErrOf result ReportFault.Pieces → HasTooManyPieces command.now (S.remaining reader.old)
         (S.remaining reader.new) }
 {
-    report_in_batches(
-        rt,
-        alloc,
-        reader,
-        writer,
-        command,
-        gate,
-        batch_of(command.piece),
-    )
+    report_in_batches(rt, alloc, reader, writer, command, gate, batch_of(command))
 }

@@ -1,5 +1,5 @@
 // An input that is checked batch by batch.
-ghost use Rattle.std.specs.Prelude.{◌≡◌, ◌+◌, ◌<◌, ◌≤◌, ◌^◌, ◌++◌, ℕ, List, [], length, OnOk, IfOk, IfErr};
+ghost use Rattle.std.specs.Prelude.{◌≡◌, ◌+◌, ◌<◌, ◌≤◌, ◌^◌, ◌++◌, ℕ, List, [], length, OnOk};
 ghost use Rattle.jx_run.specs.Reader.{HasRead};
 ghost use Rattle.jx_run.specs.Front.{front_of};
 ghost use Rattle.jx_run.specs.Settings.{JudgedBy};
@@ -10,7 +10,6 @@ ghost use Rattle.jx_run.specs.declared.settings.Settings.{Settings};
 ghost use Rattle.jx_report.specs.inside.Batches.{seen, IsTaken, ShowsFront};
 
 use crate::pieces::feed_pieces;
-use crate::report_fault::ReportFault;
 use jx_answer::{Balance, read_batch};
 use jx_book::Gate;
 use jx_claim::Cutting;
@@ -155,12 +154,8 @@ pub(crate) struct TextCheck {
     reader: TextReader,
     /// How many bytes stand in front of the text.
     front: usize,
-    /// Why no text begins behind what stands in front, where none does. What follows is counted and not looked at.
+    /// Why no text begins behind what stands in front, where none does. What follows is not looked at.
     refused: Option<Refusal>,
-    /// How many bytes there were.
-    total: usize,
-    /// Whether memory was refused. What follows is counted and not looked at.
-    failed: bool,
 }
 
 impl TextCheck {
@@ -172,8 +167,6 @@ impl TextCheck {
             reader: TextReader::Alone(Reader::new(alloc, depth, 0)),
             front: 0,
             refused: None,
-            total: 0,
-            failed: false,
         }
     }
 
@@ -196,57 +189,22 @@ impl TextCheck {
             reader,
             front,
             refused: None,
-            total: front,
-            failed: false,
         }
     }
 
-    /// Where no text begins behind what stands in front of so many bytes.
-    fn refused(alloc: Global, command: &Command, refusal: Refusal, total: usize) -> TextCheck
-        ensures { (settings : Settings) (text : List ℕ) → settings.depth ≡ command.now.settings.depth → length text ≡ total
+    /// Where no text begins behind what stands in front.
+    fn refused(alloc: Global, command: &Command, refusal: Refusal) -> TextCheck
+        ensures { (settings : Settings) (text : List ℕ) → settings.depth ≡ command.now.settings.depth
             → front_of settings.mark text ≡ Refused refusal → IsTaken settings text result }
     {
         TextCheck {
             reader: TextReader::Alone(Reader::new(alloc, command.settings.depth, 0)),
             front: 0,
             refused: Some(refusal),
-            total,
-            failed: false,
         }
     }
 
-    /// Takes in the first batch of an input. A byte order mark that is ignored is skipped in it; whether one stands there
-    /// shows in the first three bytes.
-    fn begin<R: Threads + Wait + Sync, G: Gate + Sync>(
-        rt: &R,
-        alloc: Global,
-        command: &Command,
-        batch: &[u8],
-        gate: &G,
-    ) -> TextCheck
-        requires piece { 1 ≤ command.now.piece }
-        requires few { length batch.now < 2 ^ 32 }
-        ensures taken { IsTaken command.now.settings batch.now result }
-        ensures total { result.total ≡ length batch.now }
-    {
-        match front(batch, command.settings.mark) {
-            Front::Refused(refusal) => TextCheck::refused(alloc, command, refusal, batch.len()),
-            Front::Skip(count) => {
-                let mut check = TextCheck::behind(alloc, command, count, batch.len());
-                check.go_on(rt, alloc, command, &batch[count..batch.len()], gate);
-                check
-            }
-        }
-    }
-
-    /// How many bytes there were.
-    pub fn total(&self) -> usize
-        ensures { result ≡ self.now.total }
-    {
-        self.total
-    }
-
-    /// Reads a batch behind what was read. Where memory is refused, the rest is counted alone.
+    /// Reads a batch behind what was read.
     fn go_on<R: Threads + Wait + Sync, G: Gate + Sync>(
         &mut self,
         rt: &R,
@@ -254,64 +212,78 @@ impl TextCheck {
         command: &Command,
         batch: &[u8],
         gate: &G,
-    )
+    ) -> Result<(), AllocError>
         requires piece { 1 ≤ command.now.piece }
         requires few { length batch.now < 2 ^ 32 }
-        requires fits { self.old.total + length batch.now < 2 ^ 64 }
-        requires so_far { (text : List ℕ) × IsTaken command.now.settings text self.old }
-        ensures taken { (text : List ℕ) → IsTaken command.now.settings text self.old
+        requires so_far { (text : List ℕ) × ((length text + length batch.now < 2 ^ 64) × IsTaken command.now.settings text self.old) }
+        ensures taken { OnOk result ((text : List ℕ) → IsTaken command.now.settings text self.old
             → front_of command.now.settings.mark (text ++ batch.now) ≡ front_of command.now.settings.mark text
-            → IsTaken command.now.settings (text ++ batch.now) self.new }
-        ensures total { self.new.total ≡ self.old.total + length batch.now }
+            → IsTaken command.now.settings (text ++ batch.now) self.new) }
     {
-        if !self.failed && self.refused.is_none() {
-            let read = self.reader.read(rt, alloc, command, batch, gate);
-            self.failed = read.is_err();
+        if self.refused.is_some() {
+            return Ok(());
         }
-        self.total += batch.len();
+        self.reader.read(rt, alloc, command, batch, gate)
     }
 
-    /// Takes in a batch behind what was read, the first one or behind at least three bytes. It is refused, as for want of
-    /// memory, where the bytes are more than can be counted.
-    pub fn take_in<R: Threads + Wait + Sync, G: Gate + Sync>(
+    /// Reads the first batch of an input. A byte order mark that is ignored is skipped in it; whether one stands there shows
+    /// in the first three bytes.
+    fn begin<R: Threads + Wait + Sync, G: Gate + Sync>(
         &mut self,
         rt: &R,
         alloc: Global,
         command: &Command,
         batch: &[u8],
         gate: &G,
-    ) -> Result<(), ReportFault>
+    ) -> Result<(), AllocError>
         requires piece { 1 ≤ command.now.piece }
         requires few { length batch.now < 2 ^ 32 }
-        requires so_far { (text : List ℕ) × IsTaken command.now.settings text self.old }
-        ensures taken { OnOk result ((text : List ℕ) → ShowsFront text → IsTaken command.now.settings text self.old
-            → IsTaken command.now.settings (text ++ batch.now) self.new) }
-        ensures total { OnOk result (self.new.total ≡ self.old.total + length batch.now) }
-        ensures fits { OnOk result (self.new.total < 2 ^ 64) }
-        ensures fault { IfErr result (λ fault. fault ≡ ReportFault.Memory) }
+        ensures taken { OnOk result (IsTaken command.now.settings batch.now self.new) }
     {
-        if usize::MAX - self.total < batch.len() {
-            return Err(ReportFault::Memory);
+        match front(batch, command.settings.mark) {
+            Front::Refused(refusal) => {
+                *self = TextCheck::refused(alloc, command, refusal);
+                Ok(())
+            }
+            Front::Skip(count) => {
+                *self = TextCheck::behind(alloc, command, count, batch.len());
+                self.go_on(rt, alloc, command, &batch[count..batch.len()], gate)
+            }
         }
-        if self.total == 0 {
-            *self = TextCheck::begin(rt, alloc, command, batch, gate);
-        } else {
-            self.go_on(rt, alloc, command, batch, gate);
-        }
-        Ok(())
     }
 
-    /// The verdict on all bytes, unless memory was refused.
-    pub fn verdict(&self) -> Result<Verdict, AllocError>
-        ensures { IfOk result (λ verdict. (settings : Settings) (text : List ℕ) → IsTaken settings text self.now → JudgedBy settings 0 text verdict) }
+    /// Reads a batch behind what was read, the first one or behind at least three bytes. So many bytes stand before it.
+    pub fn read<R: Threads + Wait + Sync, G: Gate + Sync>(
+        &mut self,
+        rt: &R,
+        alloc: Global,
+        command: &Command,
+        batch: &[u8],
+        before: usize,
+        gate: &G,
+    ) -> Result<(), AllocError>
+        requires piece { 1 ≤ command.now.piece }
+        requires few { length batch.now < 2 ^ 32 }
+        requires fits { before + length batch.now < 2 ^ 64 }
+        requires so_far { (text : List ℕ) × ((before ≡ length text) × IsTaken command.now.settings text self.old) }
+        ensures taken { OnOk result ((text : List ℕ) → before ≡ length text → ShowsFront text → IsTaken command.now.settings text self.old
+            → IsTaken command.now.settings (text ++ batch.now) self.new) }
+    {
+        if before == 0 {
+            self.begin(rt, alloc, command, batch, gate)
+        } else {
+            self.go_on(rt, alloc, command, batch, gate)
+        }
+    }
+
+    /// The verdict on all bytes that were read.
+    pub fn verdict(&self) -> Verdict
+        ensures { (settings : Settings) (text : List ℕ) → IsTaken settings text self.now → JudgedBy settings 0 text result }
     {
         fronts_decide_where_texts_begin();
-        if let Some(refusal) = self.refused {
-            return Ok(Verdict::Refused(refusal));
+        match self.refused {
+            Some(refusal) => Verdict::Refused(refusal),
+            None => self.reader.verdict(),
         }
-        if self.failed {
-            return Err(AllocError);
-        }
-        Ok(self.reader.verdict())
     }
 }

@@ -1,13 +1,17 @@
 // A reply is written through one buffer, which is taken before the first byte is written and does not grow.
-ghost use Rattle.std.specs.Prelude.{◌≡◌, ◌≢◌, ◌≤◌, ◌↔◌, ◌++◌, false, true, is_err, vec_capacity, IfErr, IsErrOf, OnErr, OnOk};
+ghost use Rattle.std.specs.Prelude.{◌≡◌, ◌≢◌, ◌≤◌, ◌↔◌, ◌++◌, ℕ, List, false, true, is_err, vec_capacity, IfErr, IfOk, IsErrOf, OnErr, OnOk};
 ghost use Rattle.std.specs.Io.KnownBytes.{Appends};
 ghost use Rattle.jx_report.specs.Elements.{judged_lines};
 ghost use Rattle.jx_report.specs.Ends.{AppendsBeginning};
 ghost use Rattle.jx_report.specs.inside.Replies.{pointer_lines, reply_output, verdict_line};
 ghost use Rattle.jx_report.specs.inside.Room.{HasRoom, IsPut};
+ghost use Rattle.jx_report.specs.Output.{ByVerdict, SaysAccepted};
+ghost use Rattle.jx_report.specs.Reports.{shown_output};
 ghost use Rattle.jx_report.specs.RowWords.{row_lines};
+ghost use Rattle.jx_report.specs.declared.exit.Exit.{Exit};
 
 use crate::element_words::{element_at, push_element};
+use crate::exit::Exit;
 use crate::pointer_answer::{PointerAnswer, answer_at};
 use crate::pointer_words::push_pointer;
 use crate::reply::Reply;
@@ -152,4 +156,32 @@ pub(crate) fn write_reply<W: Sink>(
     };
     write_lines(writer, &mut out, reply)?;
     write_all(writer, &out)
+}
+
+/// Writes the line of a verdict on a text, or nothing where it is quiet, and answers the exit.
+pub fn write_verdict<W: Sink>(
+    alloc: Global,
+    writer: &mut W,
+    verdict: Verdict,
+    quiet: bool,
+) -> Result<Exit, ReportFault>
+    requires { W.has_failed writer.old ≡ false }
+    ensures ok { IfOk result (λ exit. (output : List ℕ) × (ByVerdict SaysAccepted verdict output exit
+        × Appends (W.contents writer.old) (W.contents writer.new) (shown_output quiet output))) }
+    ensures write { IsErrOf result ReportFault.Write ↔ (W.has_failed writer.new ≡ true) }
+    ensures beginning { IsErrOf result ReportFault.Write → (exit : Exit) × ((output : List ℕ) × (ByVerdict SaysAccepted verdict output exit
+        × AppendsBeginning (W.contents writer.old) (W.contents writer.new) (shown_output quiet output))) }
+    // Where the buffer is not to be had, the writer is as it was.
+    ensures unwritten { IfErr result (λ fault. fault ≢ ReportFault.Write → writer.new ≡ writer.old) }
+    ensures unread { IfErr result (λ fault. fault ≢ ReportFault.Read) }
+    ensures uncut { IfErr result (λ fault. fault ≢ ReportFault.Pieces) }
+{
+    let reply = Reply::Verdict(verdict);
+    if quiet {
+        return Ok(reply.exit());
+    }
+    match write_reply(alloc, writer, &reply, LONGEST_LINE) {
+        Ok(()) => Ok(reply.exit()),
+        Err(fault) => Err(fault),
+    }
 }

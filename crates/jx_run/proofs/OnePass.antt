@@ -37,20 +37,33 @@ pub both_begin : (d : ℕ) (m : Mark) (old new : Known) (before after : Seen) �
     → (marks : List Mark) (ends : List ℕ) → BothHaveSeen before marks ends old → BothHaveSeen after (marks ++ m ∷ []) ends new
 both_begin d m old new before after deep reads has others marks ends h = record {
   stack_has = record { read = has marks h.stack_has.read; rest = h.stack_has.rest; depth = h.stack_has.depth ∙ ap (λ (n : ℕ). n ∷ h.stack_has.rest) (sym deep) };
-  other_has = λ sound. others marks h.stack_has.rest (h.other_has (no_fault_before old.depth m old.reading (subst (λ (r : Reading). IsFault r → ⊥) reads sound)));
+  said = h.said;
+  ends = h.ends;
+  rest = h.rest;
+  other_has = λ sound said. others marks h.ends (h.other_has (no_fault_before old.depth m old.reading (subst (λ (r : Reading). IsFault r → ⊥) reads sound)) said);
 }
 
 pub both_end : (at : ℕ) (stack : Known) (before after : Seen) → ((marks : List Mark) (ends : List ℕ) → before marks ends → after marks (ends ++ at ∷ []))
     → (marks : List Mark) (ends : List ℕ) → BothHaveSeen before marks ends stack → BothHaveSeen after marks (ends ++ at ∷ []) stack
 both_end at stack before after others marks ends h = record {
   stack_has = record { read = h.stack_has.read; rest = h.stack_has.rest ++ at ∷ []; depth = ap (λ (es : List ℕ). es ++ at ∷ []) h.stack_has.depth };
-  other_has = λ sound. others marks h.stack_has.rest (h.other_has sound);
+  said = h.said;
+  ends = h.ends ++ at ∷ [];
+  rest = ap (λ (es : List ℕ). es ++ at ∷ []) h.rest;
+  other_has = λ sound said. others marks h.ends (h.other_has sound said);
 }
 
 pub both_done : (stack : Known) (other : Seen) → IsFault stack.reading → WantsNoMore (λ marks ends. BothHaveSeen other marks ends stack)
 both_done stack other fault marks more ends others h = record {
-  stack_has = seen_done stack fault marks more ends others h.stack_has;
-  other_has = λ sound. absurd (sound fault);
+  stack_has = record {
+    read = (seen_done stack fault marks more ends others h.stack_has).read;
+    rest = h.stack_has.rest ++ others;
+    depth = ap (λ (es : List ℕ). es ++ others) h.stack_has.depth;
+  };
+  said = h.said;
+  ends = h.ends ++ others;
+  rest = ap (λ (es : List ℕ). es ++ others) h.rest;
+  other_has = λ sound said. absurd (sound fault);
 }
 
 -- ---- the whole text
@@ -90,21 +103,22 @@ both_fault k other ms es seen done =
     let here : k.reading ≡ read_marks k.depth ms stack_start = seen.stack_has.read in
     stuck k.depth 0 0 k.reading (then ∙ fold-append (λ reading mark. step k.depth mark reading) stack_start ms two ∙ ap (read_marks k.depth two) (sym here))
 
-both_seen : (limit from : ℕ) (bytes : List ℕ) (before after : Seen) (old new : Known) (x : Option LexExit) (w : Whole) → Scanned limit from bytes before after old new x w → before [] []
-    → BothHaveSeen after (lex state.Gap from bytes).marks (old.depth ∷ (lex state.Gap from bytes).ends) new
-both_seen limit from bytes before after old new x w s none =
-    s.sees [] (old.depth ∷ []) (record { stack_has = record { read = s.start; rest = []; depth = refl }; other_has = λ sound. none })
+-- whatever is said of the other keeper
+both_seen : (limit from : ℕ) (bytes : List ℕ) (before after : Seen) (old new : Known) (x : Option LexExit) (w : Whole) → Scanned limit from bytes before after old new x w
+    → (said : ℕ) (ends : List ℕ) → (said ≡ 1 → before [] ends) → BothHaveSeen after (lex state.Gap from bytes).marks (old.depth ∷ said ∷ (ends ++ (lex state.Gap from bytes).ends)) new
+both_seen limit from bytes before after old new x w s said ends seen =
+    s.sees [] (old.depth ∷ said ∷ ends) (record { stack_has = record { read = s.start; rest = said ∷ ends; depth = refl }; said = said; ends = ends; rest = refl; other_has = λ sound. seen })
 
 text_is : (limit from : ℕ) (bytes : List ℕ) → read_text limit from bytes ≡ at_exit (lex state.Gap from bytes).exit (read_marks limit (lex state.Gap from bytes).marks stack_start)
 unfolding read
 text_is limit from bytes = refl
 
-pub both_judged : Verdicts → (limit from : ℕ) (bytes : List ℕ) (before after : Seen) (old new : Known) (x : Option LexExit) (w : Whole) → Scanned limit from bytes before after old new x w → before [] []
+pub both_judged : Verdicts → (limit from : ℕ) (bytes : List ℕ) (before after : Seen) (old new : Known) (x : Option LexExit) (w : Whole) → Scanned limit from bytes before after old new x w
     → Judged from bytes limit (verdict_from (unwrap_or x (exit.State state.Gap)) w)
-both_judged verdict_law limit from bytes before after old new x w s none =
+both_judged verdict_law limit from bytes before after old new x w s =
     let track = lex state.Gap from bytes in
-    let seen : BothHaveSeen after track.marks (old.depth ∷ track.ends) new = both_seen limit from bytes before after old new x w s none in
-    let tied : old.depth ∷ track.ends ≡ new.depth ∷ seen.stack_has.rest = seen.stack_has.depth in
+    let seen : BothHaveSeen after track.marks (old.depth ∷ 0 ∷ track.ends) new = both_seen limit from bytes before after old new x w s 0 [] (λ said. cc) in
+    let tied : old.depth ∷ 0 ∷ track.ends ≡ new.depth ∷ seen.stack_has.rest = seen.stack_has.depth in
     let here : old.depth ≡ limit = s.depth in
     let deep : new.depth ≡ limit = cc in
     let reading : new.reading ≡ read_marks limit track.marks stack_start = seen.stack_has.read ∙ ap (λ (d : ℕ). read_marks d track.marks stack_start) deep in
@@ -114,12 +128,14 @@ both_judged verdict_law limit from bytes before after old new x w s none =
     ∙ ap (verdict_from (unwrap_or x (exit.State state.Gap))) (sym s.whole))
     (verdict_law limit from bytes)
 
-pub other_seen : (limit from : ℕ) (bytes : List ℕ) (before after : Seen) (old new : Known) (x : Option LexExit) (w : Whole) (e : LexExit) → Scanned limit from bytes before after old new x w → before [] []
-    → verdict_from e w ≡ verdict.Accepted → after (lex state.Gap from bytes).marks (lex state.Gap from bytes).ends
-other_seen limit from bytes before after old new x w e s none accepted =
+pub other_seen : (limit from : ℕ) (bytes : List ℕ) (before after : Seen) (old new : Known) (x : Option LexExit) (w : Whole) (e : LexExit) → Scanned limit from bytes before after old new x w
+    → verdict_from e w ≡ verdict.Accepted → (ends : List ℕ) → before [] ends → after (lex state.Gap from bytes).marks (ends ++ (lex state.Gap from bytes).ends)
+other_seen limit from bytes before after old new x w e s accepted ends none =
     let track = lex state.Gap from bytes in
-    let seen : BothHaveSeen after track.marks (old.depth ∷ track.ends) new = both_seen limit from bytes before after old new x w s none in
-    let tied : old.depth ∷ track.ends ≡ new.depth ∷ seen.stack_has.rest = seen.stack_has.depth in
-    let rest : seen.stack_has.rest ≡ track.ends = cc in
-    subst (λ (es : List ℕ). after track.marks es) rest
-    (seen.other_has (accepted_goes e new.reading (ap (verdict_from e) (sym s.whole) ∙ accepted)))
+    let seen : BothHaveSeen after track.marks (old.depth ∷ 1 ∷ (ends ++ track.ends)) new = both_seen limit from bytes before after old new x w s 1 ends (λ said. none) in
+    let tied : old.depth ∷ 1 ∷ (ends ++ track.ends) ≡ new.depth ∷ seen.stack_has.rest = seen.stack_has.depth in
+    let split : seen.stack_has.rest ≡ seen.said ∷ seen.ends = seen.rest in
+    let said : seen.said ≡ 1 = cc in
+    let same : seen.ends ≡ ends ++ track.ends = cc in
+    subst (λ (es : List ℕ). after track.marks es) same
+    (seen.other_has (accepted_goes e new.reading (ap (verdict_from e) (sym s.whole) ∙ accepted)) said)

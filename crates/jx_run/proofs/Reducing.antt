@@ -24,7 +24,7 @@ use Rattle.jx_reduce.specs.declared.expect.Expect.{Expect}
 use Rattle.jx_reduce.specs.declared.holder.Holder.{Holder}
 use Rattle.jx_reduce.specs.Offsets.{EachIn, RisingFrom}
 use Rattle.jx_reduce.specs.Read.{read as read_marks, Reading}
-use Rattle.jx_reduce.specs.Reductions.{Forms, IsBefore, IsOf, SpansIn, answer}
+use Rattle.jx_reduce.specs.Structure.{StructureValue, IsBefore, IsOf, SpansIn, answer}
 use Rattle.jx_run.specs.declared.way.Way.{Way}
 use Rattle.jx_run.specs.Reading.{at_exit, read}
 use Rattle.jx_run.specs.inside.Reduced.{AreInside, AreNumbered, AreReduced, AreRising, AreWaysOf, IsAt, IsReduced, IsWayOf, path_at}
@@ -139,13 +139,13 @@ front_rises xs ys h = (rising_parts 0 xs ys h).0
 
 -- the structures of neighbouring spans may be joined
 abbrev pub Before : Type 0
-Before = (low between high : ℕ) (l r : Forms) → SpansIn low between l → SpansIn between high r → IsBefore l r
+Before = (low between high : ℕ) (l r : StructureValue) → SpansIn low between l → SpansIn between high r → IsBefore l r
 
-pub reduced_before : Before → (limit : ℕ) (xs ys : List Mark) (f g : Forms) → IsReduced limit xs f → IsReduced limit ys g → RisingFrom 0 (xs ++ ys) → IsBefore f g
+pub reduced_before : Before → (limit : ℕ) (xs ys : List Mark) (f g : StructureValue) → IsReduced limit xs f → IsReduced limit ys g → RisingFrom 0 (xs ++ ys) → IsBefore f g
 reduced_before before limit xs ys f g a b h =
     let p = parted xs ys h in before 0 p.between p.high f g (a.offsets 0 p.between p.below) (b.offsets p.between p.high p.above)
 
-pub reduced_more : (limit : ℕ) (xs ys : List Mark) (f g j : Forms) → IsReduced limit xs f → IsReduced limit ys g → j.depth ≡ f.depth
+pub reduced_more : (limit : ℕ) (xs ys : List Mark) (f g j : StructureValue) → IsReduced limit xs f → IsReduced limit ys g → j.depth ≡ f.depth
     → ((ms ns : List Mark) → IsOf ms f → IsOf ns g → IsOf (ms ++ ns) j)
     → ((low high : ℕ) → SpansIn low high f → SpansIn low high g → SpansIn low high j) → IsReduced limit (xs ++ ys) j
 reduced_more limit xs ys f g j a b deep reads spans =
@@ -155,14 +155,14 @@ reduced_more limit xs ys f g j a b deep reads spans =
       offsets = λ low high h. let r = each-append _ xs ys h in spans low high (a.offsets low high r.0) (b.offsets low high r.1);
     }
 
-pub reduced_ok : {E : Type 0} (limit : ℕ) (ms : List Mark) (r : Result Forms E) → IfOk r (λ f. f.depth ≡ limit) → IfOk r (λ f. IsOf ms f)
+pub reduced_ok : {E : Type 0} (limit : ℕ) (ms : List Mark) (r : Result StructureValue E) → IfOk r (λ f. f.depth ≡ limit) → IfOk r (λ f. IsOf ms f)
     → IfOk r (λ f. (low high : ℕ) → EachIn (λ (m : Mark). (low ≤ m.at) × (m.at < high)) ms → SpansIn low high f) → IfOk r (IsReduced limit ms)
 reduced_ok limit ms (Ok f) deep reads offsets = record { depth = deep; reads = reads; offsets = offsets }
 reduced_ok limit ms (Err e) deep reads offsets = tt
 
 -- ---- the structures of segments
 
-pub none_reduced : (limit : ℕ) (ps : List SegmentValue) (slots : List (Option Forms)) → All (λ slot. slot ≡ None) slots → AreReduced limit ps slots
+pub none_reduced : (limit : ℕ) (ps : List SegmentValue) (slots : List (Option StructureValue)) → All (λ slot. slot ≡ None) slots → AreReduced limit ps slots
 none_reduced limit ps slots h n f e =
     let x = get_or_from_slice_get slots n (Some f) None e in
     let y : get_or slots n None ≡ None = h n None (slice_get_within slots n (Some f) e) in
@@ -193,15 +193,15 @@ marks_same ps n p low e = ap (λ (p : SegmentValue). p.marks) (get_or_default ps
 pub ends_same : (ps : List SegmentValue) (n : ℕ) (p : SegmentValue) → n < length ps → p ≡ get_or ps n p → ends_at ps n ≡ p.ends
 ends_same ps n p low e = ap (λ (p : SegmentValue). p.ends) (get_or_default ps n no_segment p low ∙ sym e)
 
-pub slot_if : (limit : ℕ) (ps : List SegmentValue) (slots : List (Option Forms)) (n : ℕ) (d : Option Forms) (p : SegmentValue) → n < length slots → n < length ps
+pub slot_if : (limit : ℕ) (ps : List SegmentValue) (slots : List (Option StructureValue)) (n : ℕ) (d : Option StructureValue) (p : SegmentValue) → n < length slots → n < length ps
     → AreReduced limit ps slots → p ≡ get_or ps n p → IfSome (get_or slots n d) (IsReduced limit p.marks)
 slot_if limit ps slots n d p low low' h e = pick (get_or slots n d) refl
   where
-    pick : (o : Option Forms) → get_or slots n d ≡ o → IfSome o (IsReduced limit p.marks)
+    pick : (o : Option StructureValue) → get_or slots n d ≡ o → IfSome o (IsReduced limit p.marks)
     pick None q = tt
     pick (Some f) q = subst (λ ms. IsReduced limit ms f) (marks_same ps n p low' e) (h n f (slice_get-get_or slots n d low ∙ ap Some q))
 
-pub set_reduced : (limit : ℕ) (ps : List SegmentValue) (slots : List (Option Forms)) (k : ℕ) (o : Option Forms) (p : SegmentValue) → k < length slots → marks_at ps k ≡ p.marks
+pub set_reduced : (limit : ℕ) (ps : List SegmentValue) (slots : List (Option StructureValue)) (k : ℕ) (o : Option StructureValue) (p : SegmentValue) → k < length slots → marks_at ps k ≡ p.marks
     → AreReduced limit ps slots → IsSomeAnd o (IsReduced limit p.marks) → AreReduced limit ps (set slots k o)
 set_reduced limit ps slots k o p low same h new n f e = pick (n == k) refl
   where
@@ -268,10 +268,10 @@ path-none ps link h = none-behind 0 ps ∙ sym h
 pub path-bare : (ps : List SegmentValue) (count : ℕ) (marks : List Mark) → count ≡ length ps → marks ≡ [] → flat_map (marks_at ps) (path_at ps count) ≡ marks
 path-bare ps count marks all bare = ap (λ n. flat_map (marks_at ps) (path_at ps n)) all ∙ ap (flat_map (marks_at ps)) (none-behind 0 ps) ∙ sym bare
 
-pub none_numbered : (limit : ℕ) (ps : List SegmentValue) (numbers : List (Option ℕ)) (fs : List Forms) → All (λ number. number ≡ None) numbers → AreNumbered limit ps numbers fs
+pub none_numbered : (limit : ℕ) (ps : List SegmentValue) (numbers : List (Option ℕ)) (fs : List StructureValue) → All (λ number. number ≡ None) numbers → AreNumbered limit ps numbers fs
 none_numbered limit ps numbers fs h n i e = let none : Some i ≡ None = all_at (λ number. number ≡ None) numbers n (Some i) h e in absurd cc
 
-pub at_above : (limit : ℕ) (marks : List Mark) (olds news : List Forms) (i : ℕ) → IsAbove olds news → IsAt limit marks olds i → IsAt limit marks news i
+pub at_above : (limit : ℕ) (marks : List Mark) (olds news : List StructureValue) (i : ℕ) → IsAbove olds news → IsAt limit marks olds i → IsAt limit marks news i
 at_above limit marks olds news i up h = record { form = h.form; at = up i h.form h.at; of = h.of }
 
 -- what stands in a list stays where more is pushed
@@ -282,13 +282,13 @@ stays_there xs y i x h =
     slice_get-get_or (xs ++ y ∷ []) i x (omega (arith, low, long))
     ∙ ap (λ z. Some z) (get_or_append_left xs (y ∷ []) x i low ∙ get_or_from_slice_get xs i x x h)
 
-pub push_above : (fs : List Forms) (f : Forms) → IsAbove fs (fs ++ f ∷ [])
+pub push_above : (fs : List StructureValue) (f : StructureValue) → IsAbove fs (fs ++ f ∷ [])
 push_above fs f i g h = stays_there fs f i g h
 
-pub pushed_at : (limit : ℕ) (marks : List Mark) (fs : List Forms) (f : Forms) → IsReduced limit marks f → IsAt limit marks (fs ++ f ∷ []) (length fs)
+pub pushed_at : (limit : ℕ) (marks : List Mark) (fs : List StructureValue) (f : StructureValue) → IsReduced limit marks f → IsAt limit marks (fs ++ f ∷ []) (length fs)
 pushed_at limit marks fs f h = record { form = f; at = at_end fs f; of = h }
 
-pub set_numbered : (limit : ℕ) (ps : List SegmentValue) (numbers : List (Option ℕ)) (olds news : List Forms) (k j : ℕ) → k < length numbers → AreNumbered limit ps numbers olds
+pub set_numbered : (limit : ℕ) (ps : List SegmentValue) (numbers : List (Option ℕ)) (olds news : List StructureValue) (k j : ℕ) → k < length numbers → AreNumbered limit ps numbers olds
     → IsAbove olds news → IsAt limit (flat_map (marks_at ps) (path_at ps k)) news j → AreNumbered limit ps (set numbers k (Some j)) news
 set_numbered limit ps numbers olds news k j low h up new n i e = pick (n == k) refl
   where
@@ -309,7 +309,7 @@ set_numbered limit ps numbers olds news k j low h up new n i e = pick (n == k) r
         at_above limit (flat_map (marks_at ps) (path_at ps n)) olds news i up
         (h n i (slice_get-get_or numbers n None low' ∙ ap Some (sym (get_or-set_other numbers k n (Some j) None other) ∙ is)))
 
-pub reduced_within : (limit low high : ℕ) (marks : List Mark) (f : Forms) → IsReduced limit marks f → EachIn (λ (m : Mark). (low ≤ m.at) × (m.at < high)) marks → IsFormWithin limit low high f
+pub reduced_within : (limit low high : ℕ) (marks : List Mark) (f : StructureValue) → IsReduced limit marks f → EachIn (λ (m : Mark). (low ≤ m.at) × (m.at < high)) marks → IsFormWithin limit low high f
 reduced_within limit low high marks f h inside = record { depth = h.depth; offsets = h.offsets low high inside }
 
 pub all_push : {X : Type 0} (P : X → Type 0) (xs : List X) (x : X) → All P xs → P x → All P (xs ++ x ∷ [])
@@ -321,43 +321,43 @@ pub states-many : length all_states ≡ 32
 states-many = refl
 
 module _ (limit : ℕ) (m : Map) where
-  each-above : (olds news : List Forms) → IsAbove olds news → (ss : List LexState) (ws : List Way) → AreWaysOf limit m olds ss ws → AreWaysOf limit m news ss ws
+  each-above : (olds news : List StructureValue) → IsAbove olds news → (ss : List LexState) (ws : List Way) → AreWaysOf limit m olds ss ws → AreWaysOf limit m news ss ws
   each-above olds news up [] [] h = tt
   each-above olds news up [] (w ∷ ws) h = absurd h
   each-above olds news up (s ∷ ss) [] h = absurd h
   each-above olds news up (s ∷ ss) (w ∷ ws) h =
       (record { exit = h.0.exit; marks = at_above limit _ olds news w.structure up h.0.marks }, each-above olds news up ss ws h.1)
 
-  each-more : (fs : List Forms) (ss : List LexState) (ws : List Way) (s : LexState) (w : Way) → AreWaysOf limit m fs ss ws → IsWayOf limit fs (track m s) w
+  each-more : (fs : List StructureValue) (ss : List LexState) (ws : List Way) (s : LexState) (w : Way) → AreWaysOf limit m fs ss ws → IsWayOf limit fs (track m s) w
       → AreWaysOf limit m fs (ss ++ s ∷ []) (ws ++ w ∷ [])
   each-more fs [] [] s w h a = (a, tt)
   each-more fs [] (x ∷ ws) s w h a = absurd h
   each-more fs (t ∷ ss) [] s w h a = absurd h
   each-more fs (t ∷ ss) (x ∷ ws) s w h a = (h.0, each-more fs ss ws s w h.1 a)
 
-  pub each-length : (fs : List Forms) (ss : List LexState) (ws : List Way) → AreWaysOf limit m fs ss ws → length ws ≡ length ss
+  pub each-length : (fs : List StructureValue) (ss : List LexState) (ws : List Way) → AreWaysOf limit m fs ss ws → length ws ≡ length ss
   each-length fs [] [] h = refl
   each-length fs [] (x ∷ ws) h = absurd h
   each-length fs (t ∷ ss) [] h = absurd h
   each-length fs (t ∷ ss) (x ∷ ws) h = ap suc (each-length fs ss ws h.1)
 
-  pub each_there : (fs : List Forms) (ss : List LexState) (ws : List Way) → AreWaysOf limit m fs ss ws → All (λ (w : Way). w.structure < length fs) ws
+  pub each_there : (fs : List StructureValue) (ss : List LexState) (ws : List Way) → AreWaysOf limit m fs ss ws → All (λ (w : Way). w.structure < length fs) ws
   each_there fs [] [] h = All-nil (λ (w : Way). w.structure < length fs)
   each_there fs [] (x ∷ ws) h = absurd h
   each_there fs (t ∷ ss) [] h = absurd h
   each_there fs (t ∷ ss) (x ∷ ws) h =
       All-cons (λ (w : Way). w.structure < length fs) x ws (slice_get_within fs x.structure h.0.marks.form h.0.marks.at) (each_there fs ss ws h.1)
 
-  abbrev WayAt : List Forms → List Way → ℕ → LexState → Type 0
+  abbrev WayAt : List StructureValue → List Way → ℕ → LexState → Type 0
   WayAt fs ws i s = (w : Way) × (slice_get ws i ≡ Some w) × IsWayOf limit fs (track m s) w
 
-  each-at : (fs : List Forms) (ss : List LexState) (ws : List Way) → AreWaysOf limit m fs ss ws → (i : ℕ) (s : LexState) → slice_get ss i ≡ Some s → WayAt fs ws i s
+  each-at : (fs : List StructureValue) (ss : List LexState) (ws : List Way) → AreWaysOf limit m fs ss ws → (i : ℕ) (s : LexState) → slice_get ss i ≡ Some s → WayAt fs ws i s
   each-at fs [] ws h i s g = absurd cc
   each-at fs (t ∷ ss) [] h i s g = absurd h
   each-at fs (t ∷ ss) (x ∷ ws) h zero s g = let e : t ≡ s = cc in subst (WayAt fs (x ∷ ws) 0) e (x, refl, h.0)
   each-at fs (t ∷ ss) (x ∷ ws) h (suc i) s g = each-at fs ss ws h.1 i s g
 
-  pub each_next : (states : List LexState) (i : ℕ) (olds news : List Forms) (ws : List Way) (d : LexState) (w : Way) → i < 32 → states ≡ all_states
+  pub each_next : (states : List LexState) (i : ℕ) (olds news : List StructureValue) (ws : List Way) (d : LexState) (w : Way) → i < 32 → states ≡ all_states
       → AreWaysOf limit m olds (take i all_states) ws → IsAbove olds news → IsWayOf limit news (track m (get_or states i d)) w
       → AreWaysOf limit m news (take (i + 1) all_states) (ws ++ w ∷ [])
   each_next states i olds news ws d w low is h up a =
@@ -367,7 +367,7 @@ module _ (limit : ℕ) (m : Map) where
 
 -- ---- the run of the bytes
 
-outcome_is : (limit : ℕ) (s : LexState) (start : ℕ) (bytes : List ℕ) (t : Track) (x : LexExit) (f : Forms) → t ≡ lex s start bytes → exit_of x ≡ t.exit → IsReduced limit t.marks f
+outcome_is : (limit : ℕ) (s : LexState) (start : ℕ) (bytes : List ℕ) (t : Track) (x : LexExit) (f : StructureValue) → t ≡ lex s start bytes → exit_of x ≡ t.exit → IsReduced limit t.marks f
     → (e : Expect) (o : List Holder) → length o ≤ limit → at_exit (exit_of x) (answer f e o) ≡ read limit s e o start bytes
 unfolding read
 outcome_is limit s start bytes t x f same ends a e o h =

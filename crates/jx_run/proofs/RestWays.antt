@@ -23,7 +23,7 @@ use Rattle.jx_reduce.specs.KnownStack.{IsFault}
 use Rattle.jx_reduce.specs.Offsets.{EachIn, RisingFrom}
 use Rattle.jx_reduce.specs.Read.{Reading, step, read as read_marks}
 use Rattle.jx_reduce.specs.Reducer.{ReducerValue, HasReduced}
-use Rattle.jx_reduce.specs.Reductions.{Forms, IsOf, SpansIn, answer}
+use Rattle.jx_reduce.specs.Structure.{StructureValue, IsOf, SpansIn, answer}
 use Rattle.jx_run.specs.declared.way.Way.{Way}
 use Rattle.jx_run.specs.inside.Joins.{IsAbove}
 use Rattle.jx_run.specs.OutcomeRun.{OutcomeRunValue, exit_at, outcome_in, outcome_of, IsOutcomeRun, IsWellFormed, IsFormWithin}
@@ -38,7 +38,7 @@ use Rattle.jx_run.proofs.Ways.{all_at, at_end, entries_are, exit_is, some_of}
 -- ---- a scan into a reducer
 
 -- what reading comes to from where a scan ended, or wherever if it did not tell, and from the structure of the marks
-pub record Scanned (limit from : ℕ) (bytes : List ℕ) (s : LexState) (old new : ReducerValue) (x : Option LexExit) (f : Forms) : Type 0 where
+pub record Scanned (limit from : ℕ) (bytes : List ℕ) (s : LexState) (old new : ReducerValue) (x : Option LexExit) (f : StructureValue) : Type 0 where
   pub depth : old.depth ≡ limit
   pub none : HasReduced [] old
   pub sees : SeesTrack (λ marks ends. HasTaken marks ends old) (λ marks ends. HasTaken marks ends new) (lex s from bytes)
@@ -69,7 +69,7 @@ read_is : (limit : ℕ) (s : LexState) (e : Expect) (o : List Holder) (from : �
 unfolding read
 read_is limit s e o from bytes = refl
 
-module _ (limit from : ℕ) (bytes : List ℕ) (s : LexState) (old new : ReducerValue) (x : Option LexExit) (f : Forms) (h : Scanned limit from bytes s old new x f) where
+module _ (limit from : ℕ) (bytes : List ℕ) (s : LexState) (old new : ReducerValue) (x : Option LexExit) (f : StructureValue) (h : Scanned limit from bytes s old new x f) where
   abbrev marks : List Mark
   marks = (lex s from bytes).marks
 
@@ -109,34 +109,34 @@ module _ (limit from : ℕ) (bytes : List ℕ) (s : LexState) (old new : Reducer
 
 -- ---- the ways from all states
 
-pub above_many : (olds news : List Forms) → IsAbove olds news → length olds ≤ length news
+pub above_many : (olds news : List StructureValue) → IsAbove olds news → length olds ≤ length news
 above_many [] news up = omega arith
 above_many (f ∷ fs) news up =
     let x = some_of (f ∷ fs) (length fs) (omega arith) in
     let low = slice_get_within news (length fs) x.0 (up (length fs) x.0 x.1) in
     omega (arith, low)
 
-abbrev pub IsThere : List Forms → Way → Type 0
+abbrev pub IsThere : List StructureValue → Way → Type 0
 IsThere fs w = w.structure < max 1 (length fs)
 
-pub there_above : (olds news : List Forms) (ws : List Way) → IsAbove olds news → All (IsThere olds) ws → All (IsThere news) ws
+pub there_above : (olds news : List StructureValue) (ws : List Way) → IsAbove olds news → All (IsThere olds) ws → All (IsThere news) ws
 there_above olds news ws up h k d low =
     let there = h k d low in
     let more = above_many olds news up in
     omega (arith, there, more)
 
-pub there_next : (olds news : List Forms) (ws : List Way) (w : Way) → IsAbove olds news → All (IsThere olds) ws → IsThere news w → All (IsThere news) (ws ++ w ∷ [])
+pub there_next : (olds news : List StructureValue) (ws : List Way) (w : Way) → IsAbove olds news → All (IsThere olds) ws → IsThere news w → All (IsThere news) (ws ++ w ∷ [])
 there_next olds news ws w up h there = all_push (IsThere news) ws w (there_above olds news ws up h) there
 
 module _ (limit start : ℕ) (bytes : List ℕ) (reached : List Way) where
-  way_above : (olds news : List Forms) (s : LexState) (w : Way) → IsAbove olds news → IsReadWay limit start bytes olds s w → IsReadWay limit start bytes news s w
+  way_above : (olds news : List StructureValue) (s : LexState) (w : Way) → IsAbove olds news → IsReadWay limit start bytes olds s w → IsReadWay limit start bytes news s w
   way_above olds news s w up h = record { form = h.form; at = up w.structure h.form h.at; reads = h.reads }
 
-  pub read_above : (olds news : List Forms) (ws : List Way) (s : LexState) → IsAbove olds news → AreReadWays limit start bytes reached olds ws s
+  pub read_above : (olds news : List StructureValue) (ws : List Way) (s : LexState) → IsAbove olds news → AreReadWays limit start bytes reached olds ws s
       → AreReadWays limit start bytes reached news ws s
   read_above olds news ws s up h r = let x = h r in (x.0, x.1, way_above olds news s x.0 up x.2)
 
-  pub read_next : (states : List LexState) (i : ℕ) (d : LexState) (olds news : List Forms) (ws : List Way) (w : Way) → states ≡ all_states → length ws ≡ i → IsAbove olds news
+  pub read_next : (states : List LexState) (i : ℕ) (d : LexState) (olds news : List StructureValue) (ws : List Way) (w : Way) → states ≡ all_states → length ws ≡ i → IsAbove olds news
       → ((s : LexState) → ordinal s < i → AreReadWays limit start bytes reached olds ws s)
       → (Reaches reached (get_or states i d) → IsReadWay limit start bytes news (get_or states i d) w)
       → (s : LexState) → ordinal s < i + 1 → AreReadWays limit start bytes reached news (ws ++ w ∷ []) s

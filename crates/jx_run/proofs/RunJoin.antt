@@ -17,7 +17,7 @@ use Rattle.jx_lex.specs.View.{exit_of}
 use Rattle.jx_reduce.specs.declared.expect.Expect.{Expect}
 use Rattle.jx_reduce.specs.declared.holder.Holder.{Holder}
 use Rattle.jx_reduce.specs.Read.{Reading, top, then_by}
-use Rattle.jx_reduce.specs.Reductions.{Forms, answer, IsJoin, SpansIn}
+use Rattle.jx_reduce.specs.Structure.{StructureValue, answer, IsJoin, SpansIn}
 use Rattle.jx_run.specs.declared.joins.Pair.{Pair}
 use Rattle.jx_run.specs.declared.way.Way.{Way}
 use Rattle.jx_run.specs.inside.Turns.{Turn, wrong, on, enter, leave, turn}
@@ -91,7 +91,7 @@ read-append limit p q s e o at w =
 -- ---- entries
 
 -- from where the left's track ends in a state, the right's entries of that state go on
-state_goes : (t : LexState) (x : LexExit) (f : Forms) (r : Reading) (more : LexState → Expect → List Holder → TextReading)
+state_goes : (t : LexState) (x : LexExit) (f : StructureValue) (r : Reading) (more : LexState → Expect → List Holder → TextReading)
     → ((e : Expect) (o : List Holder) → more t e o ≡ at_exit x (answer f e o))
     → at_exit x (then_by (answer f) r) ≡ and_then (at_exit (LexExit.state t) r) more
 state_goes t x f (Reading.went e o) more h = sym (h e o)
@@ -123,13 +123,13 @@ goes_on_fault limit l right i ends e o w =
 
 -- a span may be widened
 abbrev pub Wider : Type 0
-Wider = (low high less more : ℕ) (f : Forms) → less ≤ low → high ≤ more → SpansIn low high f → SpansIn less more f
+Wider = (low high less more : ℕ) (f : StructureValue) → less ≤ low → high ≤ more → SpansIn low high f → SpansIn less more f
 
-pub stays_within : Wider → (limit low between high : ℕ) (f : Forms) → IsFormWithin limit low between f → between ≤ high → IsFormWithin limit low high f
+pub stays_within : Wider → (limit low between high : ℕ) (f : StructureValue) → IsFormWithin limit low between f → between ≤ high → IsFormWithin limit low high f
 stays_within wider limit low between high f w above =
     record { depth = w.depth; offsets = wider low between low high f (omega arith) above w.offsets }
 
-pub joined_within : Wider → (limit low between high : ℕ) (a b f : Forms) → IsFormWithin limit low between a → IsFormWithin limit between high b → low ≤ between → between ≤ high
+pub joined_within : Wider → (limit low between high : ℕ) (a b f : StructureValue) → IsFormWithin limit low between a → IsFormWithin limit between high b → low ≤ between → between ≤ high
     → GoesOnWith a b f → IsFormWithin limit low high f
 joined_within wider limit low between high a b f w v below above goes =
     record {
@@ -138,7 +138,7 @@ joined_within wider limit low between high a b f w v below above goes =
     }
 
 -- the right's structure, by the left's depth and end
-pub right_within : (limit limit' between start high : ℕ) (f : Forms) → limit ≡ limit' → between ≡ start → IsFormWithin limit' start high f → IsFormWithin limit between high f
+pub right_within : (limit limit' between start high : ℕ) (f : StructureValue) → limit ≡ limit' → between ≡ start → IsFormWithin limit' start high f → IsFormWithin limit between high f
 right_within limit limit' between start high f e i w = record { depth = w.depth ∙ sym e; offsets = subst (λ m. SpansIn m high f) (sym i) w.offsets }
 
 -- ---- ways that go on
@@ -175,20 +175,20 @@ from_there left s w h low =
 
 -- ---- structures of pairs
 
-pub made_of : (left right : OutcomeRunValue) (pair : Pair) (r : ℕ) (a b f : Forms) → pair.right ≡ Some r → slice_get left.structures pair.left ≡ Some a
+pub made_of : (left right : OutcomeRunValue) (pair : Pair) (r : ℕ) (a b f : StructureValue) → pair.right ≡ Some r → slice_get left.structures pair.left ≡ Some a
     → slice_get right.structures r ≡ Some b → GoesOnWith a b f → IsMade left right pair f
 made_of left right pair r a b f is ha hb goes x hx =
     subst (λ o. IsOnward right.structures o x f) (sym is)
     (λ y hy. subst (λ z. GoesOnWith z y f) (one_of left.structures pair.left a x ha hx) (subst (λ z. GoesOnWith a z f) (one_of right.structures r b y hb hy) goes))
 
-pub none_made : (left right : OutcomeRunValue) (pairs : List Pair) (fs : List Forms) → length pairs ≡ 0 → length fs ≡ 0 → AreMade left right pairs fs
+pub none_made : (left right : OutcomeRunValue) (pairs : List Pair) (fs : List StructureValue) → length pairs ≡ 0 → length fs ≡ 0 → AreMade left right pairs fs
 none_made left right pairs fs p f =
     record {
       all = p ∙ sym f;
       each = λ i pair h. let low = slice_get_within pairs i pair h in absurd (omega (arith, low, p));
     }
 
-pub push_made : (left right : OutcomeRunValue) (pairs : List Pair) (fs : List Forms) (pair : Pair) (f : Forms) → AreMade left right pairs fs → IsMade left right pair f
+pub push_made : (left right : OutcomeRunValue) (pairs : List Pair) (fs : List StructureValue) (pair : Pair) (f : StructureValue) → AreMade left right pairs fs → IsMade left right pair f
     → AreMade left right (pairs ++ pair ∷ []) (fs ++ f ∷ [])
 push_made left right pairs fs pair f h made =
     record {
@@ -210,44 +210,44 @@ push_made left right pairs fs pair f h made =
 -- ---- the ways of the joined bytes
 
 module _ (left right : OutcomeRunValue) where
-  each-above : (olds news : List Forms) → IsAbove olds news → (ss : List LexState) (ws : List Way) → AreJoinedWays left right olds ss ws → AreJoinedWays left right news ss ws
+  each-above : (olds news : List StructureValue) → IsAbove olds news → (ss : List LexState) (ws : List Way) → AreJoinedWays left right olds ss ws → AreJoinedWays left right news ss ws
   each-above olds news up [] [] h = tt
   each-above olds news up [] (w ∷ ws) h = absurd h
   each-above olds news up (s ∷ ss) [] h = absurd h
   each-above olds news up (s ∷ ss) (w ∷ ws) h =
       (record { form = h.0.form; at = up w.structure h.0.form h.0.at; goes = h.0.goes }, each-above olds news up ss ws h.1)
 
-  each-more : (fs : List Forms) (ss : List LexState) (ws : List Way) (s : LexState) (w : Way) → AreJoinedWays left right fs ss ws → IsJoinedWay left right fs s w
+  each-more : (fs : List StructureValue) (ss : List LexState) (ws : List Way) (s : LexState) (w : Way) → AreJoinedWays left right fs ss ws → IsJoinedWay left right fs s w
       → AreJoinedWays left right fs (ss ++ s ∷ []) (ws ++ w ∷ [])
   each-more fs [] [] s w h a = (a, tt)
   each-more fs [] (x ∷ ws) s w h a = absurd h
   each-more fs (t ∷ ss) [] s w h a = absurd h
   each-more fs (t ∷ ss) (x ∷ ws) s w h a = (h.0, each-more fs ss ws s w h.1 a)
 
-  pub joined-length : (fs : List Forms) (ss : List LexState) (ws : List Way) → AreJoinedWays left right fs ss ws → length ws ≡ length ss
+  pub joined-length : (fs : List StructureValue) (ss : List LexState) (ws : List Way) → AreJoinedWays left right fs ss ws → length ws ≡ length ss
   joined-length fs [] [] h = refl
   joined-length fs [] (x ∷ ws) h = absurd h
   joined-length fs (t ∷ ss) [] h = absurd h
   joined-length fs (t ∷ ss) (x ∷ ws) h = ap suc (joined-length fs ss ws h.1)
 
-  pub joined_there : (fs : List Forms) (ss : List LexState) (ws : List Way) → AreJoinedWays left right fs ss ws → All (λ (w : Way). w.structure < length fs) ws
+  pub joined_there : (fs : List StructureValue) (ss : List LexState) (ws : List Way) → AreJoinedWays left right fs ss ws → All (λ (w : Way). w.structure < length fs) ws
   joined_there fs [] [] h = All-nil (λ (w : Way). w.structure < length fs)
   joined_there fs [] (x ∷ ws) h = absurd h
   joined_there fs (t ∷ ss) [] h = absurd h
   joined_there fs (t ∷ ss) (x ∷ ws) h =
       All-cons (λ (w : Way). w.structure < length fs) x ws (slice_get_within fs x.structure h.0.form h.0.at) (joined_there fs ss ws h.1)
 
-  abbrev JoinedAt : List Forms → List Way → ℕ → LexState → Type 0
+  abbrev JoinedAt : List StructureValue → List Way → ℕ → LexState → Type 0
   JoinedAt fs ws i s = (w : Way) × (slice_get ws i ≡ Some w) × IsJoinedWay left right fs s w
 
-  joined-at : (fs : List Forms) (ss : List LexState) (ws : List Way) → AreJoinedWays left right fs ss ws → (i : ℕ) (s : LexState) → slice_get ss i ≡ Some s → JoinedAt fs ws i s
+  joined-at : (fs : List StructureValue) (ss : List LexState) (ws : List Way) → AreJoinedWays left right fs ss ws → (i : ℕ) (s : LexState) → slice_get ss i ≡ Some s → JoinedAt fs ws i s
   joined-at fs [] ws h i s g = absurd cc
   joined-at fs (t ∷ ss) [] h i s g = absurd h
   joined-at fs (t ∷ ss) (x ∷ ws) h zero s g = let e : t ≡ s = cc in subst (JoinedAt fs (x ∷ ws) 0) e (x, refl, h.0)
   joined-at fs (t ∷ ss) (x ∷ ws) h (suc i) s g = joined-at fs ss ws h.1 i s g
 
   -- the way from the next state, by what is made of its pair
-  pub joined_by : (states : List LexState) (i : ℕ) (olds news : List Forms) (ws : List Way) (d : LexState) (out : declared_exit.LexExit) (pair : Pair) (n : ℕ)
+  pub joined_by : (states : List LexState) (i : ℕ) (olds news : List StructureValue) (ws : List Way) (d : LexState) (out : declared_exit.LexExit) (pair : Pair) (n : ℕ)
       → i < 32 → states ≡ all_states → AreJoinedWays left right olds (take i all_states) ws → IsAbove olds news → IsMadeAt left right news pair n
       → All (IsFormWithin left.depth left.start right.end) news → GoesThrough left right (get_or states i d) out pair
       → AreJoinedWays left right news (take (i + 1) all_states) (ws ++ record { exit = out; structure = n } ∷ [])
@@ -260,7 +260,7 @@ module _ (left right : OutcomeRunValue) where
       (each-more news (take i all_states) ws (get_or states i d) w (each-above olds news up (take i all_states) ws h) it)
 
   -- and by the structure of its pair
-  pub joined_next : (states : List LexState) (i : ℕ) (olds news : List Forms) (pairs : List Pair) (ws : List Way) (d : LexState) (out : declared_exit.LexExit) (pair : Pair) (n : ℕ)
+  pub joined_next : (states : List LexState) (i : ℕ) (olds news : List StructureValue) (pairs : List Pair) (ws : List Way) (d : LexState) (out : declared_exit.LexExit) (pair : Pair) (n : ℕ)
       → i < 32 → states ≡ all_states → AreJoinedWays left right olds (take i all_states) ws → IsAbove olds news → AreMade left right pairs news
       → All (IsFormWithin left.depth left.start right.end) news → slice_get pairs n ≡ Some pair → GoesThrough left right (get_or states i d) out pair
       → AreJoinedWays left right news (take (i + 1) all_states) (ws ++ record { exit = out; structure = n } ∷ [])
@@ -269,28 +269,28 @@ module _ (left right : OutcomeRunValue) where
 
 -- ---- structures behind those of the left
 
-front-at : (ls fs : List Forms) (n : ℕ) (f : Forms) → slice_get ls n ≡ Some f → slice_get (ls ++ fs) n ≡ Some f
+front-at : (ls fs : List StructureValue) (n : ℕ) (f : StructureValue) → slice_get ls n ≡ Some f → slice_get (ls ++ fs) n ≡ Some f
 front-at [] fs n f h = let low = slice_get_within [] n f h in absurd (omega (arith, low))
 front-at (x ∷ ls) fs zero f h = h
 front-at (x ∷ ls) fs (suc n) f h = front-at ls fs n f h
 
-behind-at : (ls fs : List Forms) (n : ℕ) (f : Forms) → slice_get fs n ≡ Some f → slice_get (ls ++ fs) (length ls + n) ≡ Some f
+behind-at : (ls fs : List StructureValue) (n : ℕ) (f : StructureValue) → slice_get fs n ≡ Some f → slice_get (ls ++ fs) (length ls + n) ≡ Some f
 behind-at [] fs n f h = let e : 0 + n ≡ n = omega arith in ap (slice_get fs) e ∙ h
 behind-at (x ∷ ls) fs n f h =
     let e : suc (length ls) + n ≡ suc (length ls + n) = omega arith in
     ap (slice_get ((x ∷ ls) ++ fs)) e ∙ behind-at ls fs n f h
 
 -- what stands behind others stays where more is put behind it
-pub behind_above : (ls olds news : List Forms) → IsAbove olds news → IsAbove (ls ++ olds) (ls ++ news)
+pub behind_above : (ls olds news : List StructureValue) → IsAbove olds news → IsAbove (ls ++ olds) (ls ++ news)
 behind_above [] olds news up = up
 behind_above (x ∷ ls) olds news up = above (behind_above ls olds news up)
   where
-    above : IsAbove (ls ++ olds) (ls ++ news) → (i : ℕ) (f : Forms) → slice_get (x ∷ (ls ++ olds)) i ≡ Some f → slice_get (x ∷ (ls ++ news)) i ≡ Some f
+    above : IsAbove (ls ++ olds) (ls ++ news) → (i : ℕ) (f : StructureValue) → slice_get (x ∷ (ls ++ olds)) i ≡ Some f → slice_get (x ∷ (ls ++ news)) i ≡ Some f
     above rest zero f h = h
     above rest (suc n) f h = rest n f h
 
 -- what is made of the left alone stands among the structures of the left
-pub made_in_front : (left right : OutcomeRunValue) (fs : List Forms) (pair : Pair) → pair.right ≡ None → pair.left < length left.structures
+pub made_in_front : (left right : OutcomeRunValue) (fs : List StructureValue) (pair : Pair) → pair.right ≡ None → pair.left < length left.structures
     → IsMadeAt left right (left.structures ++ fs) pair pair.left
 made_in_front left right fs pair alone low =
     let a = some_of left.structures pair.left low in
@@ -300,7 +300,7 @@ made_in_front left right fs pair alone low =
       made = λ x h. subst (λ o. IsOnward right.structures o x a.0) (sym alone) (one_of left.structures pair.left a.0 x a.1 h);
     }
 
-pub made_behind : (left right : OutcomeRunValue) (pairs : List Pair) (fs : List Forms) (pair : Pair) (n k : ℕ) → k ≡ length left.structures → AreMade left right pairs fs
+pub made_behind : (left right : OutcomeRunValue) (pairs : List Pair) (fs : List StructureValue) (pair : Pair) (n k : ℕ) → k ≡ length left.structures → AreMade left right pairs fs
     → slice_get pairs n ≡ Some pair → IsMadeAt left right (left.structures ++ fs) pair (k + n)
 made_behind left right pairs fs pair n k count made at =
     let m = made.each n pair at in
@@ -310,7 +310,7 @@ made_behind left right pairs fs pair n k count made at =
       made = m.made;
     }
 
-pub all_within : Wider → (left right : OutcomeRunValue) (fs : List Forms) → IsWellFormed left → left.end ≡ right.start → right.start ≤ right.end
+pub all_within : Wider → (left right : OutcomeRunValue) (fs : List StructureValue) → IsWellFormed left → left.end ≡ right.start → right.start ≤ right.end
     → All (IsFormWithin left.depth left.start right.end) fs → All (IsFormWithin left.depth left.start right.end) (left.structures ++ fs)
 all_within wider left right fs whole mid order within =
     All-append (IsFormWithin left.depth left.start right.end) left.structures fs
@@ -318,14 +318,14 @@ all_within wider left right fs whole mid order within =
 
 -- ---- runs
 
-abbrev pub joined_run : OutcomeRunValue → OutcomeRunValue → List Way → List Forms → OutcomeRunValue
+abbrev pub joined_run : OutcomeRunValue → OutcomeRunValue → List Way → List StructureValue → OutcomeRunValue
 joined_run left right ws fs = record { depth = left.depth; start = left.start; end = right.end; ways = ws; structures = fs }
 
 -- by what two runs show
-pub joined_seen : (l k r q : OutcomeRunValue) (ws : List Way) (fs : List Forms) → l ≡ k → r ≡ q → joined_run l r ws fs ≡ joined_run k q ws fs
+pub joined_seen : (l k r q : OutcomeRunValue) (ws : List Way) (fs : List StructureValue) → l ≡ k → r ≡ q → joined_run l r ws fs ≡ joined_run k q ws fs
 joined_seen l k r q ws fs e f = ap (λ (x : OutcomeRunValue). joined_run x r ws fs) e ∙ ap (λ (x : OutcomeRunValue). joined_run k x ws fs) f
 
-pub joined_whole : (left right : OutcomeRunValue) (ws : List Way) (fs : List Forms) → left.start ≤ right.end → AreJoined left right ws fs → IsWellFormed (joined_run left right ws fs)
+pub joined_whole : (left right : OutcomeRunValue) (ws : List Way) (fs : List StructureValue) → left.start ≤ right.end → AreJoined left right ws fs → IsWellFormed (joined_run left right ws fs)
 joined_whole left right ws fs order a =
     record {
       order = order;
@@ -335,7 +335,7 @@ joined_whole left right ws fs order a =
       within = a.within;
     }
 
-outcome_goes : (l r : OutcomeRunValue) (ws : List Way) (fs : List Forms) → IsWellFormed l → AreJoined l r ws fs → (s : LexState) (e : Expect) (o : List Holder)
+outcome_goes : (l r : OutcomeRunValue) (ws : List Way) (fs : List StructureValue) → IsWellFormed l → AreJoined l r ws fs → (s : LexState) (e : Expect) (o : List Holder)
     → length o ≤ l.depth → outcome (joined_run l r ws fs) s e o ≡ and_then (outcome l s e o) (outcome r)
 outcome_goes l r ws fs whole a s e o h =
     let x = has_entries l whole s in
@@ -370,7 +370,7 @@ and_then-there (too_deep at) f g h = refl
 pub any_rest : (l r : OutcomeRunValue) (ys : List ℕ) → IsOutcomeRun ys r → IsRestOf l ys r
 any_rest l r ys y = record { long = y.long; outcomes = λ s t ends. y.outcomes t }
 
-pub rest_is_of : (l r : OutcomeRunValue) (ws : List Way) (fs : List Forms) → IsWellFormed l → AreJoined l r ws fs → l.depth ≡ r.depth → l.end ≡ r.start
+pub rest_is_of : (l r : OutcomeRunValue) (ws : List Way) (fs : List StructureValue) → IsWellFormed l → AreJoined l r ws fs → l.depth ≡ r.depth → l.end ≡ r.start
     → (xs ys : List ℕ) → IsOutcomeRun xs l → IsRestOf l ys r → IsOutcomeRun (xs ++ ys) (joined_run l r ws fs)
 rest_is_of l r ws fs whole a lr mid xs ys x y =
     record {

@@ -10,12 +10,8 @@ use Rattle.jx_lex.specs.View.{exit_of}
 use Rattle.jx_reduce.specs.declared.expect.Expect.{Expect}
 use Rattle.jx_reduce.specs.declared.expect.Expect.TheVariants as expect
 use Rattle.jx_reduce.specs.declared.holder.Holder.{Holder}
-use Rattle.jx_reduce.specs.declared.whole.Whole.{Whole}
 use Rattle.jx_reduce.specs.Read.{Reading}
-use Rattle.jx_reduce.specs.declared.reduced.Reduced.{Reduced}
-use Rattle.jx_reduce.specs.Form.{acts}
-use Rattle.jx_reduce.specs.Reduced.{answer_of, depth_of, form_in}
-use Rattle.jx_reduce.specs.Reductions.{Forms, answer, entry_of, form_at}
+use Rattle.jx_reduce.specs.Structure.{EntryValue, answer, answer_from}
 use Rattle.jx_reduce.specs.Whole.{whole_of}
 use Rattle.jx_run.specs.declared.verdict.Verdict.TheVariants as verdict
 use Rattle.jx_run.specs.declared.verdict.Refusal.TheVariants as refusal
@@ -47,18 +43,13 @@ same_verdict (exit.Fault i) (Reading.stopped at) = refl
 same_verdict (exit.State s) (Reading.too_deep at) = refl
 same_verdict (exit.Fault i) (Reading.too_deep at) = refl
 
-pub whole_is : (r : Reduced) (f : Forms) (w : Whole) → w ≡ whole_of (answer_of r []) → depth_of r ≡ f.depth → form_in r ≡ form_at f (entry_of expect.Value)
-    → w ≡ whole_of (answer f expect.Value [])
-whole_is r f w h d e = h ∙ ap (λ n. whole_of (acts n (form_in r) [])) d ∙ ap (λ x. whole_of (acts f.depth x [])) e
-
 -- an entry, with where reading ends, comes to what reading comes to
-pub entry_reads : (run : OutcomeRunValue) (s : LexState) (x : Expect) (e : Entries) → entries_at run s ≡ Some e → (r : Reduced) → depth_of r ≡ e.marks.depth
-    → form_in r ≡ form_at e.marks (entry_of x) → (bytes : List ℕ) → IsOutcomeRun bytes run → (o : List Holder) → length o ≤ run.depth
-    → at_exit (exit_at run s) (answer_of r o) ≡ read run.depth s x o run.start bytes
-entry_reads run s x e is r deep form bytes h o short =
-    ap (λ z. at_exit (exit_in z) (answer_of r o)) is
-    ∙ ap (λ n. at_exit (exit_of e.exit) (acts n (form_in r) o)) deep
-    ∙ ap (λ f. at_exit (exit_of e.exit) (acts e.marks.depth f o)) form
+pub entry_reads : (run : OutcomeRunValue) (s : LexState) (x : Expect) (e : Entries) → entries_at run s ≡ Some e → (v : EntryValue) → v ≡ record { structure = e.marks; expect = x }
+    → (bytes : List ℕ) → IsOutcomeRun bytes run → (o : List Holder) → length o ≤ run.depth
+    → at_exit (exit_at run s) (answer_from v o) ≡ read run.depth s x o run.start bytes
+entry_reads run s x e is v same bytes h o short =
+    ap (λ z. at_exit (exit_in z) (answer_from v o)) is
+    ∙ ap (λ (v : EntryValue). at_exit (exit_of e.exit) (answer_from v o)) same
     ∙ sym (ap (λ z. outcome_in z x o) is)
     ∙ h.outcomes s x o short
 

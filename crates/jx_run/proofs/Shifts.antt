@@ -12,7 +12,7 @@ use Rattle.jx_lex.specs.View.{exit_of}
 use Rattle.jx_reduce.specs.declared.expect.Expect.{Expect}
 use Rattle.jx_reduce.specs.declared.holder.Holder.{Holder}
 use Rattle.jx_reduce.specs.Read.{Reading}
-use Rattle.jx_reduce.specs.Reductions.{Forms, answer}
+use Rattle.jx_reduce.specs.Structure.{StructureValue, answer}
 use Rattle.jx_reduce.specs.Shift as marks
 use Rattle.jx_run.specs.declared.way.Way.{Way}
 use Rattle.jx_run.specs.inside.Moved.{moved_exit, moved_way, AreMoved, IsMoved, IsMovedAt}
@@ -62,7 +62,7 @@ exit-moved by end (exit.Fault i) (Reading.too_deep at) low high = refl
 
 -- ---- runs
 
-abbrev pub moved_run : ℕ → OutcomeRunValue → List Forms → OutcomeRunValue
+abbrev pub moved_run : ℕ → OutcomeRunValue → List StructureValue → OutcomeRunValue
 moved_run by run news = record { depth = run.depth; start = by + run.start; end = by + run.end; ways = map (moved_way by) run.ways; structures = news }
 
 ways-moved : (by : ℕ) (ws : List Way) (k : ℕ) (w : Way) → slice_get ws k ≡ Some w → slice_get (map (moved_way by) ws) k ≡ Some (moved_way by w)
@@ -70,7 +70,7 @@ ways-moved by [] k w h = absurd (let l = slice_get_within [] k w h in omega (ari
 ways-moved by (v ∷ ws) zero w h = let e : v ≡ w = cc in ap (λ (u : Way). Some (moved_way by u)) e
 ways-moved by (v ∷ ws) (suc k) w h = ways-moved by ws k w h
 
-pub shifted_whole : (by : ℕ) (run : OutcomeRunValue) (news : List Forms) → IsWellFormed run → length news ≡ length run.structures → AreMoved by run.structures news → IsWellFormed (moved_run by run news)
+pub shifted_whole : (by : ℕ) (run : OutcomeRunValue) (news : List StructureValue) → IsWellFormed run → length news ≡ length run.structures → AreMoved by run.structures news → IsWellFormed (moved_run by run news)
 shifted_whole by run news whole long moved =
     let order = whole.order in
     let few = whole.few in
@@ -92,7 +92,7 @@ shifted_whole by run news whole long moved =
           (record { depth = m.moved.depth ∙ here.depth; offsets = m.moved.offsets run.start run.end here.offsets });
     }
 
-pub shifted_reads : (by : ℕ) (run : OutcomeRunValue) (news : List Forms) → IsWellFormed run → AreMoved by run.structures news → run.end + by < 2 ^ 64
+pub shifted_reads : (by : ℕ) (run : OutcomeRunValue) (news : List StructureValue) → IsWellFormed run → AreMoved by run.structures news → run.end + by < 2 ^ 64
     → (bytes : List ℕ) → IsOutcomeRun bytes run → IsOutcomeRun bytes (moved_run by run news)
 shifted_reads by run news whole moved high bytes h =
     let long = h.long in
@@ -126,10 +126,10 @@ nat_cases (suc a) (suc n) h = pick (nat_cases a n (omega (arith, h)))
     pick (inl k) = inl (omega (arith, k))
     pick (inr k) = inr (ap suc k)
 
-pub put_moved : (by : ℕ) (xs ys : List Forms) (n : ℕ) (f empty g : Forms) → n < length ys → slice_get xs n ≡ Some f → IsMoved by f g
-    → ((at : ℕ) (old : Forms) → at < n → slice_get xs at ≡ Some old → IsMovedAt by ys at old)
+pub put_moved : (by : ℕ) (xs ys : List StructureValue) (n : ℕ) (f empty g : StructureValue) → n < length ys → slice_get xs n ≡ Some f → IsMoved by f g
+    → ((at : ℕ) (old : StructureValue) → at < n → slice_get xs at ≡ Some old → IsMovedAt by ys at old)
     → ((at : ℕ) → n ≤ at → slice_get ys at ≡ slice_get xs at)
-    → ((at : ℕ) (old : Forms) → at < n + 1 → slice_get xs at ≡ Some old → IsMovedAt by (slice_set (slice_set ys n empty) n g) at old)
+    → ((at : ℕ) (old : StructureValue) → at < n + 1 → slice_get xs at ≡ Some old → IsMovedAt by (slice_set (slice_set ys n empty) n g) at old)
     × ((at : ℕ) → n + 1 ≤ at → slice_get (slice_set (slice_set ys n empty) n g) at ≡ slice_get xs at)
 put_moved by xs ys n f empty g low was is moved rest = (
   λ at old below h. pick at old h (nat_cases at n below),
@@ -139,7 +139,7 @@ put_moved by xs ys n f empty g low was is moved rest = (
     apart : (at : ℕ) → (at ≡ n → ⊥) → slice_get (slice_set (slice_set ys n empty) n g) at ≡ slice_get ys at
     apart at other = put_apart (slice_set ys n empty) n at g other ∙ put_apart ys n at empty other
 
-    pick : (at : ℕ) (old : Forms) → slice_get xs at ≡ Some old → (at < n) ⊎ (at ≡ n) → IsMovedAt by (slice_set (slice_set ys n empty) n g) at old
+    pick : (at : ℕ) (old : StructureValue) → slice_get xs at ≡ Some old → (at < n) ⊎ (at ≡ n) → IsMovedAt by (slice_set (slice_set ys n empty) n g) at old
     pick at old h (inl k) = let m = moved at old k h in record { form = m.form; there = apart at (λ e. omega (arith, e, k)) ∙ m.there; moved = m.moved }
     pick at old h (inr k) =
         let same : f ≡ old = one_of xs n f old was (subst (λ i. slice_get xs i ≡ Some old) k h) in

@@ -1,12 +1,13 @@
 -- The entries of a run, and lists that grow at their ends.
-use Rattle.std.proofs.Common.{◌≡◌, ℕ, zero, suc, ◌<◌, ◌≤◌, List, [], ◌∷◌, ◌++◌, length, get_or, Some, None, refl, sym, ap, subst, ◌∙◌, inl, inr, ◌⊎◌, arith, All}
+use Rattle.std.proofs.Common.{◌≡◌, ℕ, zero, suc, ◌+◌, ◌<◌, ◌≤◌, List, [], ◌∷◌, ◌++◌, length, get_or, Some, None, refl, sym, ap, subst, ◌∙◌, inl, inr, ◌⊎◌, arith, All}
 use Rattle.std.specs.Prelude.{slice_get}
+use Rattle.std.proofs.lemmas.Bool.{cases_lt}
 use Rattle.std.proofs.lemmas.Option.{get_or_from_slice_get, slice_get_cases, slice_get_past, slice_get_within}
 use Rattle.jx_lex.specs.declared.alphabet.state.LexState.{LexState}
 use Rattle.jx_lex.specs.Ordinal.{ordinal}
-use Rattle.jx_reduce.specs.Reductions.{Forms}
+use Rattle.jx_reduce.specs.Structure.{StructureValue}
 use Rattle.jx_run.specs.declared.way.Way.{Way}
-use Rattle.jx_run.specs.OutcomeRun.{OutcomeRunValue, Entries, entries_at, entries_of, exit_at, exit_in, with_exit, IsWellFormed}
+use Rattle.jx_run.specs.OutcomeRun.{OutcomeRunValue, Entries, entries_at, entries_of, exit_at, exit_in, with_exit, AreUsed, IsWellFormed}
 use Rattle.jx_lex.specs.View.{exit_of}
 use Rattle.jx_lex.proofs.StateOrder.{ordinal-low}
 
@@ -38,9 +39,24 @@ with_one {X = X} (z ∷ xs) x (suc n) y h = pick (with_one xs x n y h)
     pick (inl k) = inl k
     pick (inr k) = inr (ap suc k.0, k.1)
 
+pub before_one : {X : Type 0} (xs : List X) (x : X) (n : ℕ) (y : X) → slice_get xs n ≡ Some y → slice_get (xs ++ x ∷ []) n ≡ Some y
+before_one [] x n y h = absurd (let l = slice_get_within [] n y h in omega (arith, l))
+before_one (z ∷ xs) x zero y h = h
+before_one (z ∷ xs) x (suc n) y h = before_one xs x n y h
+
+-- one way more, which leads to the one structure more, if there is one
+pub used_more : (ws : List Way) (old new : ℕ) (w : Way) → new ≤ old + 1 → (old < new → new ≡ w.structure + 1) → AreUsed ws old → AreUsed (ws ++ w ∷ []) new
+used_more ws old new w few last used n below = pick (cases_lt n old) where
+  pick : (n < old) ⊎ (old ≤ n) → (k : ℕ) × (v : Way) × (slice_get (ws ++ w ∷ []) k ≡ Some v) × (v.structure ≡ n)
+  pick (inl there) = let u = used n there in (u.0, u.1, before_one ws w u.0 u.1 u.2, u.3)
+  pick (inr here) =
+      let grown : old < new = omega (arith, here, below) in
+      let at = last grown in
+      (length ws, w, at_end ws w, omega (arith, at, few, here, below))
+
 -- ---- entries
 
-pub entries_are : (run : OutcomeRunValue) (s : LexState) (w : Way) (f : Forms) → slice_get run.ways (ordinal s) ≡ Some w → slice_get run.structures w.structure ≡ Some f
+pub entries_are : (run : OutcomeRunValue) (s : LexState) (w : Way) (f : StructureValue) → slice_get run.ways (ordinal s) ≡ Some w → slice_get run.structures w.structure ≡ Some f
     → entries_at run s ≡ Some (record { exit = w.exit; marks = f })
 entries_are run s w f h k = ap (entries_of run.structures) h ∙ ap (with_exit w.exit) k
 

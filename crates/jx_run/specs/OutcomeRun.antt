@@ -8,7 +8,7 @@ use Rattle.jx_lex.specs.Ordinal.{ordinal}
 use Rattle.jx_lex.specs.View.{exit_of}
 use Rattle.jx_reduce.specs.declared.expect.Expect.{Expect}
 use Rattle.jx_reduce.specs.declared.holder.Holder.{Holder}
-use Rattle.jx_reduce.specs.Reductions.{Forms, answer, SpansIn}
+use Rattle.jx_reduce.specs.Structure.{StructureValue, answer, SpansIn}
 use Rattle.jx_run.specs.declared.way.Way.{Way}
 use Rattle.jx_run.specs.Reading.{TextReading, stopped, at_exit, and_then, read}
 use Rattle.jx_run.specs.Tree.{span}
@@ -19,21 +19,21 @@ pub record OutcomeRunValue : Type 0 where
   pub start : ℕ
   pub end : ℕ
   pub ways : List Way
-  pub structures : List Forms
+  pub structures : List StructureValue
 
 -- what reading comes to from one state: where it ends, and what its marks come to
 pub record Entries : Type 0 where
   pub exit : LexExit
-  pub marks : Forms
+  pub marks : StructureValue
 
 abbrev pub outcome_span : OutcomeRunValue → Span
 outcome_span run = span run.start run.end
 
-abbrev pub with_exit : LexExit → Option Forms → Option Entries
+abbrev pub with_exit : LexExit → Option StructureValue → Option Entries
 with_exit exit None = None
 with_exit exit (Some f) = Some (record { exit = exit; marks = f })
 
-abbrev pub entries_of : List Forms → Option Way → Option Entries
+abbrev pub entries_of : List StructureValue → Option Way → Option Entries
 entries_of structures None = None
 entries_of structures (Some w) = with_exit w.exit (slice_get structures w.structure)
 
@@ -68,7 +68,7 @@ pub record IsOutcomeRun (bytes : List ℕ) (run : OutcomeRunValue) : Type 0 wher
       → outcome run s expect holders ≡ read run.depth s expect holders run.start bytes
 
 -- the depth of a structure, and the span in which its offsets lie
-pub record IsFormWithin (limit start end : ℕ) (f : Forms) : Type 0 where
+pub record IsFormWithin (limit start end : ℕ) (f : StructureValue) : Type 0 where
   pub depth : f.depth ≡ limit
   pub offsets : SpansIn start end f
 
@@ -79,6 +79,14 @@ pub record IsWellFormed (run : OutcomeRunValue) : Type 0 where
   pub few : length run.structures ≤ 32
   pub there : All (λ (w : Way). w.structure < length run.structures) run.ways
   pub within : All (IsFormWithin run.depth run.start run.end) run.structures
+
+-- a run over so many bytes from offset 0 on, of its parts
+abbrev pub run_of_parts : ℕ → ℕ → List Way → List StructureValue → OutcomeRunValue
+run_of_parts depth end ways structures = record { depth = depth; start = 0; end = end; ways = ways; structures = structures }
+
+-- a way leads to each of so many structures
+abbrev pub AreUsed : List Way → ℕ → Type 0
+AreUsed ways count = (n : ℕ) → n < count → (k : ℕ) × (w : Way) × (slice_get ways k ≡ Some w) × (w.structure ≡ n)
 
 -- the outcomes are those of the left, and from where it went those of the right
 abbrev pub GoesOn : ℕ → Entries → OutcomeRunValue → Entries → Type 0

@@ -6,7 +6,7 @@ use Rattle.jx_lex.specs.Lex.{lex}
 use Rattle.jx_lex.specs.Map.{Map, track}
 use Rattle.jx_reduce.specs.declared.expect.Expect.{Expect}
 use Rattle.jx_reduce.specs.declared.holder.Holder.{Holder}
-use Rattle.jx_reduce.specs.Reductions.{Forms}
+use Rattle.jx_reduce.specs.Structure.{StructureValue}
 use Rattle.jx_run.specs.declared.way.Way.{Way}
 use Rattle.jx_run.specs.OutcomeRun.{OutcomeRunValue, outcome}
 use Rattle.jx_run.specs.Reading.{read}
@@ -16,7 +16,7 @@ pub record TextRunValue : Type 0 where
   pub depth : ℕ
   pub map : Map
   pub ways : List Way
-  pub structures : List Forms
+  pub structures : List StructureValue
 
 abbrev pub text_span : TextRunValue → Span
 text_span run = span run.map.start run.map.end

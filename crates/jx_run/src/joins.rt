@@ -4,7 +4,7 @@ ghost use Rattle.jx_run.specs.inside.Joins.{AreMade, IsAbove, IsThere};
 ghost use Rattle.jx_run.specs.OutcomeRun.{IsFormWithin};
 
 use crate::outcome_run::OutcomeRun;
-use jx_reduce::Reductions;
+use jx_reduce::Structure;
 use std::alloc::{AllocError, Global};
 
 /// The number of a structure of the left run, and of the one of the right run with which it goes on, if it does.
@@ -18,7 +18,7 @@ pub(crate) struct Pair {
 #[derive(Drop)]
 pub(crate) struct Joins {
     pub(crate) pairs: Vec<Pair>,
-    pub(crate) structures: Vec<Reductions>,
+    pub(crate) structures: Vec<Structure>,
 }
 
 /// Where a pair stands.
@@ -57,6 +57,7 @@ impl Joins {
         ensures few { OnOk result (length self.new.structures.items ≤ length self.old.structures.items + 1) }
         ensures above { OnOk result (IsAbove self.old.structures.items self.new.structures.items) }
         ensures number { IfOk result (λ number. slice_get self.new.pairs.items number ≡ Some pair) }
+        ensures last { IfOk result (λ number. length self.old.structures.items < length self.new.structures.items → length self.new.structures.items ≡ number + 1) }
     {
         if let Some(number) = find(&self.pairs, pair) {
             return Ok(number);
@@ -83,6 +84,7 @@ impl Joins {
         ensures few { OnOk result (length self.new.structures.items ≤ length self.old.structures.items + 1) }
         ensures above { OnOk result (IsAbove self.old.structures.items self.new.structures.items) }
         ensures number { IfOk result (λ number. slice_get self.new.pairs.items number ≡ Some pair) }
+        ensures last { IfOk result (λ number. length self.old.structures.items < length self.new.structures.items → length self.new.structures.items ≡ number + 1) }
     {
         self.structures.push(left.extended(pair, right)?)?;
         self.pairs.push(pair)?;

@@ -51,3 +51,4 @@ pub use shape::Shape;
 pub use started::Started;
 pub use text_run::TextRun;
 pub use verdict::{Refusal, Verdict};
+pub use way::Way;

@@ -1,5 +1,5 @@
 // A text that is read once, from its start to its end, while something else is kept of its tokens.
-ghost use Rattle.std.specs.Prelude.{◌≡◌, ◌≤◌, ◌<◌, [], length, slice_range, IfOk, IfSome, IsNone, OnOk};
+ghost use Rattle.std.specs.Prelude.{◌≡◌, ◌≤◌, ◌<◌, ℕ, List, [], ◌++◌, length, slice_range, IfOk, IfSome, IsNone, OnOk};
 ghost use Rattle.jx_lex.specs.declared.alphabet.state.LexState.TheVariants.{Gap};
 ghost use Rattle.jx_lex.specs.Lex.{lex};
 ghost use Rattle.jx_lex.specs.Seen.{SeesTrack, WantsNoMore};
@@ -108,9 +108,9 @@ pub struct Told<K: Drop> {
 }
 
 /// Reads the bytes from one offset to another as a whole text (RFC 8259, section 2), in one pass from their start.
-/// Gives its tokens to a keeper that has seen nothing so far. It has then seen all marks and ends of an accepted text,
-/// with their offsets; soon behind the first fault it is told nothing more. Only want of memory is refused. It pauses
-/// where the pace says, which changes nothing of that.
+/// Gives its tokens to a keeper that has seen no mark so far, and perhaps some ends. It has then seen all marks and ends
+/// of an accepted text too, with their offsets; soon behind the first fault it is told nothing more. Only want of memory
+/// is refused. It pauses where the pace says, which changes nothing of that.
 pub fn read_into<K: Keeper + Drop, P: Pace>(
     alloc: Global,
     text: &[u8],
@@ -121,10 +121,9 @@ pub fn read_into<K: Keeper + Drop, P: Pace>(
     pace: &mut P,
 ) -> Result<Told<K>, AllocError>
     requires bounds { (from ≤ to) × (to ≤ length text.now) }
-    requires empty { K.has_seen keeper [] [] }
     ensures verdict { IfOk result (λ told. Judged from (slice_range text.now from to) depth told.verdict) }
-    ensures seen { IfOk result (λ told. told.verdict ≡ Accepted
-        → K.has_seen told.keeper (lex Gap from (slice_range text.now from to)).marks (lex Gap from (slice_range text.now from to)).ends) }
+    ensures seen { IfOk result (λ told. told.verdict ≡ Accepted → (ends : List ℕ) → K.has_seen keeper [] ends
+        → K.has_seen told.keeper (lex Gap from (slice_range text.now from to)).marks (ends ++ (lex Gap from (slice_range text.now from to)).ends)) }
 {
     reader_is_grammar();
     let mut both = Beside {

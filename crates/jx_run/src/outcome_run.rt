@@ -1,17 +1,16 @@
 // Runs over parts of a JSON text that keep no marks.
-ghost use Rattle.std.specs.Prelude.{◌≡◌, ◌<◌, ◌≤◌, ◌+◌, ◌-◌, ◌^◌, ℕ, All, List, [], ◌++◌, length, Some, slice_get, slice_range, IfOk, IfErr, OnOk, OnErr};
+ghost use Rattle.std.specs.Prelude.{◌≡◌, ◌<◌, ◌≤◌, ◌+◌, ◌-◌, ◌^◌, ◌↔◌, ℕ, All, List, [], ◌++◌, length, Some, slice_get, slice_range, IsTrue, IfOk, IfErr, OnOk, OnErr};
+ghost use Rattle.std.specs.Option.{SomeIff};
 ghost use Rattle.jx_lex.specs.Map.{IsOf};
 ghost use Rattle.jx_lex.specs.Ordinal.{all_states, ordinal};
 ghost use Rattle.jx_lex.specs.View.{exit_of};
-ghost use Rattle.jx_reduce.specs.Fits.{IsOfSize};
-ghost use Rattle.jx_reduce.specs.Reduced.{answer_of, depth_of, form_in};
-ghost use Rattle.jx_reduce.specs.Reductions.{answer, entry_of, form_at, SpansIn};
+ghost use Rattle.jx_reduce.specs.Structure.{answer, answer_from, IsSmall, SpansIn};
 ghost use Rattle.jx_reduce.specs.Whole.{whole_of};
 ghost use Rattle.jx_reduce.specs.declared.expect.Expect.TheVariants.{Value};
 ghost use Rattle.jx_reduce.specs.declared.holder.Holder.{Holder};
 ghost use Rattle.jx_run.specs.inside.Joins.{AreJoined, AreJoinedWays, AreMade, GoesThrough, IsAbove, IsMade, IsMadeAt, IsThere};
 ghost use Rattle.jx_run.specs.inside.Moved.{AreMoved};
-ghost use Rattle.jx_run.specs.OutcomeRun.{entries_at, exit_at, outcome_span, Entries, IsOutcomeRun, IsFormWithin};
+ghost use Rattle.jx_run.specs.OutcomeRun.{entries_at, exit_at, outcome_span, run_of_parts, AreUsed, Entries, IsOutcomeRun, IsFormWithin, IsWellFormed};
 ghost use Rattle.jx_run.specs.Reading.{at_exit, read};
 ghost use Rattle.jx_run.specs.inside.Rest.{IsRestOf};
 ghost use Rattle.jx_run.specs.Verdict.{Judged};
@@ -24,7 +23,7 @@ use crate::rest::rest_ways;
 use crate::verdict::{Refusal, Verdict};
 use crate::way::{Way, ways_shifted};
 use jx_lex::{ChunkMap, Depth, JoinFault, LexExit, LexState, Span};
-use jx_reduce::{Expect, Reduced, Reductions, Whole, offsets_lie_in_spans};
+use jx_reduce::{EntryView, Expect, Structure, Whole, structures_lie_in_spans};
 use jx_summary::Summary;
 use std::alloc::{AllocError, Global};
 use std::marker::Model;
@@ -35,8 +34,7 @@ const MOST: usize = 32;
 
 /// What reading part of a text comes to, without its marks, from each of the 32 lexical states and six expectations. It
 /// holds for every list of open containers within the depth. It keeps at most 32 structures, whose size the depth
-/// bounds, whatever the length of the text. While it is made from bytes, the marks of their beginning are held too, and
-/// of the rest a short window of marks.
+/// bounds, whatever the length of the text. While it is made from bytes, the marks of their beginning are held too.
 #[derive(Drop)]
 pub struct OutcomeRun {
     depth: Depth,
@@ -44,7 +42,7 @@ pub struct OutcomeRun {
     // those of all states, in their order
     ways: Vec<Way>,
     // those of the ways, and perhaps some that no way has any more
-    structures: Vec<Reductions>,
+    structures: Vec<Structure>,
 }
 
 impl Model for OutcomeRun {
@@ -91,14 +89,14 @@ pub fn verdict_from(exit: LexExit, whole: Whole) -> Verdict
 }
 
 /// The verdict on a whole text, from where its track ends and from the structure of its marks.
-fn verdict_of(exit: LexExit, structure: &Reductions) -> Verdict
+fn verdict_of(exit: LexExit, structure: &Structure) -> Verdict
     ensures { result ≡ verdict_from exit (whole_of (answer structure.now Value [])) }
 {
-    verdict_from(exit, structure.entry(Expect::Value).whole())
+    verdict_from(exit, structure.whole(Expect::Value))
 }
 
 /// The structures of the same marks so many bytes further on. It takes no memory.
-fn structures_shifted(by: usize, depth: Depth, mut structures: Vec<Reductions>) -> Vec<Reductions>
+fn structures_shifted(by: usize, depth: Depth, mut structures: Vec<Structure>) -> Vec<Structure>
     requires fits { All (SpansIn 0 (2 ^ 64 - by)) structures.items }
     ensures long { length result.items ≡ length structures.items }
     ensures moved { AreMoved by structures.items result.items }
@@ -106,15 +104,38 @@ fn structures_shifted(by: usize, depth: Depth, mut structures: Vec<Reductions>) 
     let alloc = *structures.allocator();
     for at in 0..structures.len() {
         // Stands for the structure while that is moved.
-        let empty = Reductions::new(alloc, depth);
+        let empty = Structure::new(alloc, depth);
         let structure = mem::replace(&mut structures[at], empty);
         structures[at] = structure.shifted(by);
     }
     structures
 }
 
+/// Whether each way has the number of one of so many structures.
+fn are_there(ways: &[Way], count: usize) -> bool
+    ensures { IsTrue result ↔ All (λ w. w.structure < count) ways.now }
+{
+    ways.iter().all(|way| way.structure < count)
+}
+
+/// Whether the structure is one of bytes below this offset, within this depth.
+fn is_within(structure: &Structure, depth: Depth, end: usize) -> bool
+    ensures { IsTrue result ↔ IsFormWithin depth 0 end structure.now }
+{
+    structure.depth() == depth && structure.lies_below(end)
+}
+
+/// Whether each structure is one of bytes below this offset, within this depth.
+fn are_within(structures: &[Structure], depth: Depth, end: usize) -> bool
+    ensures { IsTrue result ↔ All (IsFormWithin depth 0 end) structures.now }
+{
+    structures
+        .iter()
+        .all(|structure| is_within(structure, depth, end))
+}
+
 /// Puts structures behind others. Where memory is refused the others stay as they were.
-fn put_behind(structures: &mut Vec<Reductions>, more: Vec<Reductions>) -> Result<(), AllocError>
+fn put_behind(structures: &mut Vec<Structure>, more: Vec<Structure>) -> Result<(), AllocError>
     ensures ok { OnOk result (structures.new.items ≡ structures.old.items ++ more.items) }
     ensures err { OnErr result (structures.new.items ≡ structures.old.items) }
 {
@@ -208,13 +229,13 @@ impl OutcomeRun {
 
     /// What the marks come to from a state and an expectation. With where reading from that state ends, it tells what the
     /// bytes come to over open containers, as many as the depth at most.
-    pub fn entry(&self, state: LexState, expect: Expect) -> &Reduced
-        ensures depth { depth_of result.now ≡ self.now.depth }
+    pub fn entry(&self, state: LexState, expect: Expect) -> EntryView<'_>
+        ensures depth { result.structure.depth ≡ self.now.depth }
         ensures all { length self.now.ways ≡ 32 }
         ensures few { length self.now.structures ≤ 32 }
-        ensures form { (e : Entries) → entries_at self.now state ≡ Some e → form_in result.now ≡ form_at e.marks (entry_of expect) }
-        ensures size { IsOfSize self.now.depth (form_in result.now) }
-        ensures reads { (bytes : List ℕ) → IsOutcomeRun bytes self.now → (holders : List Holder) → length holders ≤ self.now.depth → at_exit (exit_at self.now state) (answer_of result.now holders) ≡ read self.now.depth state expect holders self.now.start bytes }
+        ensures marks { (e : Entries) → entries_at self.now state ≡ Some e → result ≡ record { structure = e.marks; expect = expect } }
+        ensures size { IsSmall self.now.depth result.structure }
+        ensures reads { (bytes : List ℕ) → IsOutcomeRun bytes self.now → (holders : List Holder) → length holders ≤ self.now.depth → at_exit (exit_at self.now state) (answer_from result holders) ≡ read self.now.depth state expect holders self.now.start bytes }
     {
         let way = self.way_from(state);
         let structure = self.structure(way.structure);
@@ -246,7 +267,7 @@ impl OutcomeRun {
         ensures depth { result.depth ≡ self.depth }
         ensures of { (bytes : List ℕ) → IsOutcomeRun bytes self → IsOutcomeRun bytes result }
     {
-        offsets_lie_in_spans();
+        structures_lie_in_spans();
         OutcomeRun {
             depth: self.depth,
             span: Span {
@@ -256,6 +277,65 @@ impl OutcomeRun {
             ways: ways_shifted(by, self.ways),
             structures: structures_shifted(by, self.depth, self.structures),
         }
+    }
+
+    /// The same run with the structures to which its ways lead, and no spare room. It fails only for want of memory.
+    pub fn trimmed(&self) -> Result<OutcomeRun, AllocError>
+        ensures start { IfOk result (λ r. r.start ≡ self.now.start) }
+        ensures end { IfOk result (λ r. r.end ≡ self.now.end) }
+        ensures depth { IfOk result (λ r. r.depth ≡ self.now.depth) }
+        ensures of { IfOk result (λ r. (bytes : List ℕ) → IsOutcomeRun bytes self.now → IsOutcomeRun bytes r) }
+        ensures used { IfOk result (λ r. AreUsed r.ways (length r.structures)) }
+    {
+        // A join copies what ways lead to, and the copies have no spare room.
+        let nothing = OutcomeRun::of(self.allocator(), &[], 0, 0, self.depth)?;
+        let mut trimmed = self.joined(&nothing.shifted(self.span.end))?;
+        trimmed.structures.shrink_to_fit();
+        Ok(trimmed)
+    }
+
+    /// The ways of all states, in the order of `LexState::all`. Each has the number of one of the structures.
+    pub fn ways(&self) -> &[Way]
+        ensures ways { result.now ≡ self.now.ways }
+        ensures kept { IsWellFormed self.now }
+    {
+        // Shows the proof what every run keeps.
+        let _ = &self.depth;
+        &self.ways
+    }
+
+    /// The structures, in the order of their numbers.
+    pub fn structures(&self) -> &[Structure]
+        ensures structures { result.now ≡ self.now.structures }
+        ensures kept { IsWellFormed self.now }
+    {
+        // Shows the proof what every run keeps.
+        let _ = &self.depth;
+        &self.structures
+    }
+
+    /// The run over so many bytes, of which the first has offset 0, that has these parts, where they are well formed: 32 ways,
+    /// each with the number of one of at most 32 structures, of which each has this depth and no offset past the bytes. It
+    /// takes no memory.
+    pub fn of_parts(
+        depth: Depth,
+        end: usize,
+        ways: Vec<Way>,
+        structures: Vec<Structure>,
+    ) -> Option<OutcomeRun>
+        ensures { SomeIff result (IsWellFormed (run_of_parts depth end ways.items structures.items)) (run_of_parts depth end ways.items structures.items) }
+    {
+        let few = ways.len() == MOST && structures.len() <= MOST;
+        if !few || !are_there(&ways, structures.len()) || !are_within(&structures, depth, end) {
+            return None;
+        }
+        let span = Span { start: 0, end };
+        Some(OutcomeRun {
+            depth,
+            span,
+            ways,
+            structures,
+        })
     }
 
     /// The way from this state, whose number is that of one of the structures.
@@ -269,7 +349,7 @@ impl OutcomeRun {
     }
 
     /// The structure with this number.
-    fn structure(&self, number: usize) -> &Reductions
+    fn structure(&self, number: usize) -> &Structure
         requires number { number < length self.now.structures }
         ensures structure { slice_get self.now.structures number ≡ Some result.now }
         ensures within { IsFormWithin self.now.depth self.now.start self.now.end result.now }
@@ -303,7 +383,7 @@ impl OutcomeRun {
     }
 
     /// The structure of the left of a pair, gone on with that of the right.
-    pub(crate) fn extended(&self, pair: Pair, right: &OutcomeRun) -> Result<Reductions, AllocError>
+    pub(crate) fn extended(&self, pair: Pair, right: &OutcomeRun) -> Result<Structure, AllocError>
         requires there { IsThere self.now right.now pair }
         requires neighbours { self.now.end ≡ right.now.start }
         requires depth { self.now.depth ≡ right.now.depth }
@@ -312,13 +392,13 @@ impl OutcomeRun {
     {
         // Shows the proof what the right keeps.
         let _ = &right.depth;
-        offsets_lie_in_spans();
-        let mut marks = self.structure(pair.left).copy()?;
+        structures_lie_in_spans();
+        let marks = self.structure(pair.left).copy()?;
         match pair.right {
             None => Ok(marks),
             Some(number) => {
-                marks.extend(right.structure(number))?;
-                Ok(marks)
+                let joined = marks.extended(right.structure(number))?;
+                Ok(joined)
             }
         }
     }
@@ -333,6 +413,7 @@ impl OutcomeRun {
         ensures depth { IfOk result (λ j. j.depth ≡ self.now.depth) }
         ensures of { IfOk result (λ j. (xs ys : List ℕ) → IsOutcomeRun xs self.now → IsOutcomeRun ys right.now → IsOutcomeRun (xs ++ ys) j) }
         ensures rest { IfOk result (λ j. (xs ys : List ℕ) → IsOutcomeRun xs self.now → IsRestOf self.now ys right.now → IsOutcomeRun (xs ++ ys) j) }
+        ensures used { IfOk result (λ j. AreUsed j.ways (length j.structures)) }
     {
         // Shows the proof what both runs keep.
         let _ = &self.depth;
@@ -380,7 +461,7 @@ impl OutcomeRun {
         self,
         right: &OutcomeRun,
         ways: Vec<Way>,
-        more: Vec<Reductions>,
+        more: Vec<Structure>,
     ) -> Result<OutcomeRun, OutcomeRun>
         requires neighbours { self.end ≡ right.now.start }
         requires depth { self.depth ≡ right.now.depth }
@@ -405,7 +486,7 @@ impl OutcomeRun {
     }
 
     /// The ways of the joined bytes, where the structures of this run keep their numbers, and those behind them.
-    fn further(&self, right: &OutcomeRun) -> Result<(Vec<Way>, Vec<Reductions>), AllocError>
+    fn further(&self, right: &OutcomeRun) -> Result<(Vec<Way>, Vec<Structure>), AllocError>
         requires neighbours { self.now.end ≡ right.now.start }
         requires depth { self.now.depth ≡ right.now.depth }
         ensures few { IfOk result (λ j. length j.1.items ≤ 32) }
@@ -415,7 +496,7 @@ impl OutcomeRun {
         // Shows the proof what both runs keep.
         let _ = &self.depth;
         let _ = &right.depth;
-        offsets_lie_in_spans();
+        structures_lie_in_spans();
         let states = LexState::all();
         let mut joins = Joins::new(self.allocator());
         let mut ways = Vec::with_capacity(self.allocator(), states.len())?;
@@ -466,10 +547,11 @@ impl OutcomeRun {
     }
 
     /// The ways of the joined bytes, and their structures.
-    fn all_onward(&self, right: &OutcomeRun) -> Result<(Vec<Way>, Vec<Reductions>), AllocError>
+    fn all_onward(&self, right: &OutcomeRun) -> Result<(Vec<Way>, Vec<Structure>), AllocError>
         requires neighbours { self.now.end ≡ right.now.start }
         requires depth { self.now.depth ≡ right.now.depth }
         ensures joined { IfOk result (λ j. AreJoined self.now right.now j.0.items j.1.items) }
+        ensures used { IfOk result (λ j. AreUsed j.0.items (length j.1.items)) }
     {
         let states = LexState::all();
         let mut joins = Joins::new(self.allocator());

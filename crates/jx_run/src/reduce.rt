@@ -11,14 +11,14 @@ ghost use Rattle.jx_run.specs.inside.Reduced.{path_at, AreInside, ArePaths, AreR
 
 use crate::way::Way;
 use jx_lex::{ChunkMap, Depth, LexState, Mark, Path, Segment, TrackView};
-use jx_reduce::{Reductions, offsets_lie_in_spans};
+use jx_reduce::{Structure, structures_lie_in_spans};
 use std::alloc::{AllocError, Global};
 
 /// Reduces the marks of a segment, unless that was done before.
 fn fill(
     alloc: Global,
     segment: &Segment,
-    slot: &mut Option<Reductions>,
+    slot: &mut Option<Structure>,
     depth: Depth,
 ) -> Result<(), AllocError>
     requires slot { IfSome slot.old (IsReduced depth segment.now.marks) }
@@ -28,7 +28,7 @@ fn fill(
     if slot.is_some() {
         return Ok(());
     }
-    let reduced = Reductions::of(alloc, segment.marks(), depth)?;
+    let reduced = Structure::of(alloc, segment.marks(), depth)?;
     *slot = Some(reduced);
     Ok(())
 }
@@ -36,20 +36,23 @@ fn fill(
 /// Goes on with the marks of a segment.
 fn take_in(
     alloc: Global,
-    reduced: &mut Reductions,
+    reduced: Structure,
     segment: &Segment,
-    slot: &mut Option<Reductions>,
-) -> Result<(), AllocError>
-    requires slot { IfSome slot.old (IsReduced reduced.old.depth segment.now.marks) }
-    requires rising { (marks : List Mark) × IsReduced reduced.old.depth marks reduced.old × RisingFrom 0 (marks ++ segment.now.marks) }
-    ensures slot { OnOk result (IsSomeAnd slot.new (IsReduced reduced.old.depth segment.now.marks)) }
-    ensures depth { reduced.new.depth ≡ reduced.old.depth }
-    ensures reduced { OnOk result ((marks : List Mark) → IsReduced reduced.old.depth marks reduced.old → IsReduced reduced.old.depth (marks ++ segment.now.marks) reduced.new) }
+    slot: &mut Option<Structure>,
+) -> Result<Structure, AllocError>
+    requires slot { IfSome slot.old (IsReduced reduced.depth segment.now.marks) }
+    requires rising { (marks : List Mark) × IsReduced reduced.depth marks reduced × RisingFrom 0 (marks ++ segment.now.marks) }
+    ensures slot { OnOk result (IsSomeAnd slot.new (IsReduced reduced.depth segment.now.marks)) }
+    ensures depth { IfOk result (λ r. r.depth ≡ reduced.depth) }
+    ensures reduced { IfOk result (λ r. (marks : List Mark) → IsReduced reduced.depth marks reduced → IsReduced reduced.depth (marks ++ segment.now.marks) r) }
 {
-    offsets_lie_in_spans();
+    structures_lie_in_spans();
     fill(alloc, segment, slot, reduced.depth())?;
     match slot {
-        Some(slot) => reduced.extend(slot),
+        Some(slot) => {
+            let more = reduced.extended(slot)?;
+            Ok(more)
+        }
         None => unreachable!(),
     }
 }
@@ -58,10 +61,10 @@ fn take_in(
 fn reduce_path(
     alloc: Global,
     segments: &[Segment],
-    slots: &mut [Option<Reductions>],
+    slots: &mut [Option<Structure>],
     path: Path<'_>,
     depth: Depth,
-) -> Result<Reductions, AllocError>
+) -> Result<Structure, AllocError>
     requires many { length slots.old ≡ length segments.now }
     requires slots { AreReduced depth segments.now slots.old }
     requires within { All (λ n. n < length segments.now) path }
@@ -69,10 +72,10 @@ fn reduce_path(
     ensures slots { OnOk result (AreReduced depth segments.now slots.new) }
     ensures reduced { IfOk result (IsReduced depth (flat_map (marks_at segments.now) path.entry)) }
 {
-    let mut reduced = Reductions::new(alloc, depth);
+    let mut reduced = Structure::new(alloc, depth);
     let mut path = path;
     while let Some(number) = path.next() {
-        take_in(alloc, &mut reduced, &segments[number], &mut slots[number])?;
+        reduced = take_in(alloc, reduced, &segments[number], &mut slots[number])?;
     }
     Ok(reduced)
 }
@@ -129,9 +132,9 @@ fn structure_from(
     alloc: Global,
     map: &ChunkMap,
     state: LexState,
-    slots: &mut [Option<Reductions>],
+    slots: &mut [Option<Structure>],
     depth: Depth,
-) -> Result<Reductions, AllocError>
+) -> Result<Structure, AllocError>
     requires many { length slots.old ≡ length map.now.segments }
     requires slots { AreReduced depth map.now.segments slots.old }
     requires rising { RisingFrom 0 (track map.now state).marks }
@@ -140,10 +143,10 @@ fn structure_from(
 {
     let track = map.entry(state);
     if is_bare(&track) {
-        return Ok(Reductions::new(alloc, depth));
+        return Ok(Structure::new(alloc, depth));
     }
     if let Some(mark) = lone_mark(&track) {
-        return Reductions::of(alloc, &[mark], depth);
+        return Structure::of(alloc, &[mark], depth);
     }
     reduce_path(alloc, map.segments(), slots, track.path(), depth)
 }
@@ -172,10 +175,10 @@ fn number_of_lone(known: Option<Lone>, mark: Option<Mark>) -> Option<usize>
 #[derive(Drop)]
 struct Paths {
     // those of the segments
-    slots: Vec<Option<Reductions>>,
+    slots: Vec<Option<Structure>>,
     // for each segment the number of the structure of the path that begins with it, and last that of the path of none
     numbers: Vec<Option<usize>>,
-    structures: Vec<Reductions>,
+    structures: Vec<Structure>,
     lone: Option<Lone>,
 }
 
@@ -248,7 +251,7 @@ pub(crate) fn all_ways(
     alloc: Global,
     map: &ChunkMap,
     depth: Depth,
-) -> Result<(Vec<Way>, Vec<Reductions>), AllocError>
+) -> Result<(Vec<Way>, Vec<Structure>), AllocError>
     requires rising { AreRising map.now }
     requires inside { AreInside map.now }
     ensures ways { IfOk result (λ r. AreWaysOf depth map.now r.1.items all_states r.0.items) }

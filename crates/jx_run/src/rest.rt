@@ -8,7 +8,7 @@ ghost use Rattle.jx_run.specs.inside.Rest.{AreRead, AreReadWays, IsReadWay, Reac
 
 use crate::way::Way;
 use jx_lex::{Depth, Keeper, LexExit, LexState, Mark, scan};
-use jx_reduce::{Reducer, Reductions};
+use jx_reduce::{Reducer, Structure};
 use std::alloc::{AllocError, Global};
 
 /// The reducer as a keeper. For the proof, the ends that it has seen begin with the depth: so a scan is known to leave the
@@ -36,7 +36,7 @@ impl Keeper for KeptMarks {
 
     #[inline(always)]
     fn is_done(&self) -> bool {
-        false
+        self.reducer.is_over()
     }
 }
 
@@ -48,7 +48,7 @@ fn read_from(
     from: usize,
     to: usize,
     depth: Depth,
-) -> Result<(LexExit, Reductions), AllocError>
+) -> Result<(LexExit, Structure), AllocError>
     requires { (from ≤ to) × (to ≤ length text.now) }
     ensures reads { IfOk result (λ r. AreRead depth from (slice_range text.now from to) state (outcome_of (record { exit = r.0; marks = r.1 }))) }
     ensures within { IfOk result (λ r. IsFormWithin depth from to r.1) }
@@ -57,9 +57,9 @@ fn read_from(
         reducer: Reducer::new(alloc, depth),
     };
     let exit = scan(&mut kept, state, text, from, to)?;
-    let marks = kept.reducer.finish()?;
-    // A reducer always wants more. If it did not, its marks would come to a fault from everywhere, and it would not matter
-    // where the reading ends.
+    let marks = kept.reducer.into_structure()?;
+    // Where the reducer wanted no more, its marks come to a fault from everywhere, and it does not matter where the reading
+    // ends.
     Ok((exit.unwrap_or(LexExit::Fault(from)), marks))
 }
 
@@ -80,7 +80,7 @@ fn read_way(
     from: usize,
     to: usize,
     depth: Depth,
-    structures: &mut Vec<Reductions>,
+    structures: &mut Vec<Structure>,
 ) -> Result<Way, AllocError>
     requires { (from ≤ to) × (to ≤ length text.now) }
     ensures above { OnOk result (IsAbove structures.old.items structures.new.items) }
@@ -106,7 +106,7 @@ fn way_from(
     from: usize,
     to: usize,
     depth: Depth,
-    structures: &mut Vec<Reductions>,
+    structures: &mut Vec<Structure>,
 ) -> Result<Way, AllocError>
     requires { (from ≤ to) × (to ≤ length text.now) }
     ensures above { OnOk result (IsAbove structures.old.items structures.new.items) }
@@ -127,7 +127,7 @@ fn way_from(
 /// There is a structure at least, for ways that lead nowhere.
 fn fill(
     alloc: Global,
-    structures: &mut Vec<Reductions>,
+    structures: &mut Vec<Structure>,
     from: usize,
     to: usize,
     depth: Depth,
@@ -137,7 +137,7 @@ fn fill(
     ensures within { OnOk result (All (IsFormWithin depth from to) structures.old.items → All (IsFormWithin depth from to) structures.new.items) }
 {
     if structures.is_empty() {
-        structures.push(Reductions::new(alloc, depth))?;
+        structures.push(Structure::new(alloc, depth))?;
     }
     Ok(())
 }
@@ -151,7 +151,7 @@ pub(crate) fn rest_ways(
     from: usize,
     to: usize,
     depth: Depth,
-) -> Result<(Vec<Way>, Vec<Reductions>), AllocError>
+) -> Result<(Vec<Way>, Vec<Structure>), AllocError>
     requires { (from ≤ to) × (to ≤ length text.now) }
     ensures all { IfOk result (λ r. length r.0.items ≡ 32) }
     ensures there { IfOk result (λ r. All (λ w. w.structure < length r.1.items) r.0.items) }

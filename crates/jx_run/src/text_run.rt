@@ -3,9 +3,7 @@ ghost use Rattle.std.specs.Prelude.{◌≡◌, ◌≤◌, ℕ, List, length, Som
 ghost use Rattle.jx_lex.specs.declared.alphabet.state.LexState.TheVariants.{Gap};
 ghost use Rattle.jx_lex.specs.Map.{track};
 ghost use Rattle.jx_lex.specs.View.{exit_of};
-ghost use Rattle.jx_reduce.specs.Fits.{IsOfSize};
-ghost use Rattle.jx_reduce.specs.Reduced.{answer_of, depth_of, form_in};
-ghost use Rattle.jx_reduce.specs.Reductions.{form_at, entry_of};
+ghost use Rattle.jx_reduce.specs.Structure.{answer_from, IsSmall};
 ghost use Rattle.jx_reduce.specs.declared.holder.Holder.{Holder};
 ghost use Rattle.jx_run.specs.OutcomeRun.{entries_at, exit_at, Entries};
 ghost use Rattle.jx_run.specs.Reading.{at_exit, read};
@@ -17,7 +15,7 @@ use crate::outcome_run::OutcomeRun;
 use crate::started::Started;
 use crate::verdict::Verdict;
 use jx_lex::{ChunkMap, Depth, Ends, JoinFault, LexExit, LexState, Mark, Marks, Span};
-use jx_reduce::{Expect, Reduced};
+use jx_reduce::{EntryView, Expect};
 use jx_summary::Summary;
 use std::alloc::{AllocError, Global};
 use std::marker::Model;
@@ -86,13 +84,13 @@ impl TextRun {
 
     /// What the marks come to from a state and an expectation. With where reading from that state ends, it tells what the
     /// bytes come to over open containers, as many as the depth at most.
-    pub fn entry(&self, state: LexState, expect: Expect) -> &Reduced
-        ensures depth { depth_of result.now ≡ self.now.depth }
+    pub fn entry(&self, state: LexState, expect: Expect) -> EntryView<'_>
+        ensures depth { result.structure.depth ≡ self.now.depth }
         ensures all { length self.now.ways ≡ 32 }
         ensures few { length self.now.structures ≤ 32 }
-        ensures form { (e : Entries) → entries_at (outcomes_of self.now) state ≡ Some e → form_in result.now ≡ form_at e.marks (entry_of expect) }
-        ensures size { IsOfSize self.now.depth (form_in result.now) }
-        ensures reads { (bytes : List ℕ) → IsTextRun bytes self.now → (holders : List Holder) → length holders ≤ self.now.depth → at_exit (exit_at (outcomes_of self.now) state) (answer_of result.now holders) ≡ read self.now.depth state expect holders self.now.map.start bytes }
+        ensures marks { (e : Entries) → entries_at (outcomes_of self.now) state ≡ Some e → result ≡ record { structure = e.marks; expect = expect } }
+        ensures size { IsSmall self.now.depth result.structure }
+        ensures reads { (bytes : List ℕ) → IsTextRun bytes self.now → (holders : List Holder) → length holders ≤ self.now.depth → at_exit (exit_at (outcomes_of self.now) state) (answer_from result holders) ≡ read self.now.depth state expect holders self.now.map.start bytes }
     {
         self.outcomes.entry(state, expect)
     }

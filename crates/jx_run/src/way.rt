@@ -7,8 +7,8 @@ use jx_lex::LexExit;
 /// What reading comes to from one lexical state: where it ends, and the number of the structure that its marks have.
 #[derive(Clone, Copy)]
 pub struct Way {
-    pub(crate) exit: LexExit,
-    pub(crate) structure: usize,
+    pub exit: LexExit,
+    pub structure: usize,
 }
 
 impl Way {

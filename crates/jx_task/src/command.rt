@@ -10,8 +10,8 @@ use std::alloc::{AllocError, Global};
 #[derive(Debug, Drop)]
 pub struct Command {
     pub task: Task,
-    /// How deep a text may be (RFC 8259, section 9, lets a parser set such a limit), whether a byte order mark may stand in
-    /// front of one (section 8.1), and whether an object may have several members of one name (section 4).
+    /// How deep a text may be: RFC 8259, section 9, lets a parser set such a limit. Also whether a byte order mark may stand
+    /// in front of one (section 8.1), and whether an object may have several members of one name (section 4).
     pub settings: Settings,
     /// How many threads read.
     pub workers: Workers,

@@ -36,7 +36,7 @@ impl<'a, S: Summary, P: Ledger, T: Ledger> Book<'a, S, P, T> {
     /// An empty book, and a share for each worker. The blanks name the ledgers of its totals. It fails only for want of
     /// memory.
     ///
-    /// With it comes the law of the hand-over machine: whatever the workers do in whatever order, each piece is
+    /// With it comes the law of the hand-over machine. Whatever the workers do in whatever order, each piece is
     /// undrawn, in one hand or in one stored block, and in no two of these.
     pub fn open(
         alloc: Global,

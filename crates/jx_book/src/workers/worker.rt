@@ -41,8 +41,8 @@ impl<'a, S: Summary> Unfinished<'a, S> {
 /// Draws pieces until none is left; reads each and puts it into the book, joined with each neighbour that it is handed.
 /// The gate is asked after each step.
 ///
-/// It waits for the book's lock. A stopped worker hands back its seat, its share and what is in its hand: the piece
-/// that it drew last, unread, or runs that have all of it, or nothing. The numbers that its seat got before stay.
+/// It waits for the book's lock. A stopped worker hands back its seat, its share and what is in its hand. That is the
+/// piece that it drew last, unread, or runs that have all of it, or nothing. The numbers that its seat got before stay.
 pub fn work<'a, S: Summary, P: Ledger, T: Ledger, G: Gate, R: Wait>(
     rt: &R,
     alloc: Global,

@@ -43,7 +43,12 @@ struct Asked {
 fn by_marks(alloc: Global, text: &[u8], depth: Depth, asked: &Asked) -> Result<String, LineFault> {
     let run = from_left::<TextRun>(alloc, text, depth)?;
     let entry = run.entry(asked.state, asked.expect);
-    told(alloc, run.exit(asked.state), entry, &asked.holders)
+    told(
+        alloc,
+        run.exit(asked.state),
+        &entry.reduced()?,
+        &asked.holders,
+    )
 }
 
 /// What a run of outcomes tells.
@@ -55,7 +60,12 @@ fn by_outcomes(
 ) -> Result<String, LineFault> {
     let run = from_left::<OutcomeRun>(alloc, text, depth)?;
     let entry = run.entry(asked.state, asked.expect);
-    told(alloc, run.exit(asked.state), entry, &asked.holders)
+    told(
+        alloc,
+        run.exit(asked.state),
+        &entry.reduced()?,
+        &asked.holders,
+    )
 }
 
 /// What runs of both kinds tell.

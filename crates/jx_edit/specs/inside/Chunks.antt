@@ -3,6 +3,7 @@ use Rattle.std.specs.Prelude.{◌≡◌, ◌≤◌, ◌+◌, ℕ, Bool, false, L
 use Rattle.std.specs.List.{flat_map}
 use Rattle.jx_edit.specs.Document.{edited}
 use Rattle.jx_edit.specs.inside.Places.{PlaceValue}
+use Rattle.jx_run.specs.OutcomeRun.{OutcomeRunValue, IsOutcomeRun}
 
 pub record ChunkValue : Type 0 where
   pub depth : ℕ
@@ -22,6 +23,10 @@ bytes_of c = c.bytes
 -- the bytes of chunks, one behind another
 abbrev pub text_of : List ChunkValue → List ℕ
 text_of chunks = flat_map bytes_of chunks
+
+-- it is the run over exactly these bytes, as a text of their own
+abbrev pub IsRunOver : ℕ → List ℕ → OutcomeRunValue → Type 0
+IsRunOver depth bytes run = (run.start ≡ 0) × (run.depth ≡ depth) × IsOutcomeRun bytes run
 
 -- it was read with this depth, and nothing is known of where it leads
 pub record IsFresh (depth : ℕ) (c : ChunkValue) : Type 0 where

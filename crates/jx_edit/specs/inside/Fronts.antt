@@ -1,5 +1,5 @@
 -- A byte order mark that stands in front of a document's text.
-use Rattle.std.specs.Prelude.{◌≡◌, ◌≤◌, ◌<◌, ◌+◌, ◌^◌, ℕ, List, [], ◌++◌, length, take}
+use Rattle.std.specs.Prelude.{◌≡◌, ◌≤◌, ◌<◌, ◌^◌, ℕ, List, ◌++◌, length, take}
 use Rattle.jx_run.specs.declared.settings.Front.{Front}
 use Rattle.jx_run.specs.declared.settings.Front.TheVariants as seen
 use Rattle.jx_run.specs.declared.settings.Settings.{Settings}
@@ -23,4 +23,4 @@ pub record IsFronted (settings : Settings) (front : Front) (rest : ChunkedValue)
   pub names : settings.names ≡ Any
   pub seen : front ≡ front_of settings.mark (with_front front rest.bytes)
   pub short : skipped front ≤ 3
-  pub fits : length (with_front front rest.bytes) < 2 ^ 64
+  pub fits : length (with_front front rest.bytes) < 2 ^ 63

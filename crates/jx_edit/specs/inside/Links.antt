@@ -1,5 +1,5 @@
 -- Where chunks lead, one behind another.
-use Rattle.std.specs.Prelude.{◌≡◌, ◌<◌, ◌^◌, ◌+◌, ℕ, zero, suc, List, [], ◌∷◌, true, length, take}
+use Rattle.std.specs.Prelude.{◌≡◌, ◌<◌, ◌^◌, ℕ, zero, suc, List, [], ◌∷◌, true, length, take}
 use Rattle.jx_run.specs.Reading.{stopped, too_deep, read_text}
 use Rattle.jx_edit.specs.inside.Chunks.{ChunkValue, text_of}
 use Rattle.jx_edit.specs.inside.Places.{PlaceValue, came_to, origin, read_on}
@@ -31,7 +31,7 @@ bytes_at (c ∷ cs) (suc k) = bytes_at cs k
 pub record IsKept (depth len : ℕ) (chunks : List ChunkValue) : Type 0 where
   pub linked : AreLinked depth origin chunks
   pub long : len ≡ length (text_of chunks)
-  pub fits : len < 2 ^ 64
+  pub fits : len < 2 ^ 63
 
 -- the text of so many chunks, which stands from an offset on, was read up to the place that the last of them keeps
 pub record IsWalked (limit start count : ℕ) (chunks : List ChunkValue) : Type 0 where

@@ -1,5 +1,5 @@
 // Commands under refused growths.
-use jx_command::{ArgFault, Input, Inputs, Request, command_of};
+use jx_command::{ArgFault, Input, Inputs, Order, PartsOrder, PartsStep, Request, command_of};
 use jx_hostile_runs::lines::Lines;
 use jx_run::{FrontMark, NameRule};
 use jx_task::Task;
@@ -7,7 +7,7 @@ use std::alloc::{AllocError, Global};
 use std::test::Fail;
 
 // Words behind the program's name, and what they ask for.
-const COMMANDS: [(&[&str], &str); 6] = [
+const COMMANDS: [(&[&str], &str); 7] = [
     (&["chek"], "wrong words"),
     (
         &["at", "/1", "/2", "x"],
@@ -20,6 +20,12 @@ const COMMANDS: [(&[&str], &str); 6] = [
     (
         &["at", "--file", "F", "--pointers", "G"],
         "at; depth 512, mark Refused, names Any, workers 4, piece 65536, file F, pointers G",
+    ),
+    (
+        &[
+            "whole", "--to", "9", "--from", "3", "--file", "F", "--depth", "2",
+        ],
+        "whole 3..9; depth 2, file F",
     ),
     (
         &["check", "F", "-", "G"],
@@ -64,7 +70,8 @@ fn asked_by(alloc: Global, words: &[&str]) -> Result<String, AllocError> {
     let mut all = Vec::from_array(alloc, ["jx"])?;
     all.extend_from_slice(words)?;
     match command_of(alloc, &all) {
-        Ok(request) => line_of(alloc, &request),
+        Ok(Order::Report(request)) => line_of(alloc, &request),
+        Ok(Order::Parts(order)) => line_of_parts(alloc, &order),
         Err(ArgFault::Memory) => Err(AllocError),
         Err(_) => String::from_str(alloc, "wrong words"),
     }
@@ -96,6 +103,19 @@ fn line_of(alloc: Global, request: &Request<'_>) -> Result<String, AllocError> {
         line.push_str(", pointers ")?;
         line.push_str(file)?;
     }
+    Ok(line)
+}
+
+fn line_of_parts(alloc: Global, order: &PartsOrder<'_>) -> Result<String, AllocError> {
+    let mut line = match order.step {
+        PartsStep::Part { .. } => String::from_str(alloc, "part"),
+        PartsStep::Join => String::from_str(alloc, "join"),
+        PartsStep::Whole { from, to, .. } => format!(in alloc; "whole {from}..{to}"),
+    }?;
+    let depth = order.depth.containers();
+    let rest = format!(in alloc; "; depth {depth}")?;
+    line.push_str(&rest)?;
+    add_inputs(&mut line, &Inputs::One(order.input))?;
     Ok(line)
 }
 

@@ -1,29 +1,35 @@
 -- Names that an object repeats, while they are looked for: neighbours in an order by their units.
 use Rattle.std.specs.Prelude.{◌≡◌, ℕ, ◌≤◌, ◌⊎◌, List, [], ◌∷◌, Option, None, Some, min, if◌then◌else◌}
-use Rattle.std.specs.Ordering.{nat_cmp, is_eq}
-use Rattle.std.specs.Cmp.Lexicographic.{slice_cmp}
 use Rattle.jx_index.specs.declared.row.Row.{Row}
 use Rattle.jx_index.specs.Names.{name_units}
 use Rattle.jx_index.specs.Nodes.{IsObjectAt, name_at, child_numbers}
-use Rattle.jx_index.specs.Repeats.{start_in, IsRepeatIn}
+use Rattle.jx_index.specs.Repeats.{has_units, start_in, IsRepeatIn}
 
 abbrev pub earlier_of : Option ℕ → Option ℕ → Option ℕ
 earlier_of None other = other
 earlier_of (Some n) None = Some n
 earlier_of (Some n) (Some k) = Some (min n k)
 
--- where the second name begins, if it has the units of the first
-abbrev pub tie_start : List ℕ → List Row → ℕ → ℕ → Option ℕ
-tie_start text rows a b = if is_eq (slice_cmp nat_cmp (name_units text rows a) (name_units text rows b)) then start_in (name_at rows b) else None
+module _ {A : Type 0} (units_of : A → List ℕ) (start_of : A → Option ℕ) where
+  -- where the second name begins, if it has the units of the first
+  abbrev pub tie_start : A → A → Option ℕ
+  tie_start a b = if has_units units_of (units_of b) a then start_of b else None
 
--- at this offset begins a name that has the units of the one before it in the list
-abbrev pub IsTieBehind : List ℕ → List Row → ℕ → List ℕ → ℕ → Type 0
-IsTieBehind text rows a [] at = ⊥
-IsTieBehind text rows a (b ∷ names) at = (tie_start text rows a b ≡ Some at) ⊎ IsTieBehind text rows b names at
+  -- at this offset begins a name that has the units of the one before it in the list
+  abbrev pub IsTieBehind : A → List A → ℕ → Type 0
+  IsTieBehind a [] at = ⊥
+  IsTieBehind a (b ∷ names) at = (tie_start a b ≡ Some at) ⊎ IsTieBehind b names at
 
-abbrev pub IsTie : List ℕ → List Row → List ℕ → ℕ → Type 0
-IsTie text rows [] at = ⊥
-IsTie text rows (a ∷ names) at = IsTieBehind text rows a names at
+  abbrev pub IsTie : List A → ℕ → Type 0
+  IsTie [] at = ⊥
+  IsTie (a ∷ names) at = IsTieBehind a names at
+
+-- of members by their rows
+abbrev pub row_tie : List ℕ → List Row → ℕ → ℕ → Option ℕ
+row_tie text rows a b = tie_start (name_units text rows) (λ node. start_in (name_at rows node)) a b
+
+abbrev pub IsRowTie : List ℕ → List Row → List ℕ → ℕ → Type 0
+IsRowTie text rows names at = IsTie (name_units text rows) (λ node. start_in (name_at rows node)) names at
 
 -- in an object that has this number
 abbrev pub IsRepeatOf : List ℕ → List Row → ℕ → ℕ → Type 0

@@ -2,13 +2,17 @@
 use Rattle.std.specs.Prelude.{◌≡◌, ℕ, ◌+◌, ◌≤◌, List, [], ◌∷◌, Some, is_some, not, Bool, false, if◌then◌else◌, length}
 use Rattle.jx_reduce.specs.Entries.{expect_at}
 use Rattle.jx_reduce.specs.Fits.{Fits}
+pub use Rattle.jx_reduce.specs.Fits.{GoesOn}
 use Rattle.jx_reduce.specs.Form.{Form}
 use Rattle.jx_reduce.specs.Join.{all_faulted}
+use Rattle.jx_reduce.specs.Marks.{pushed}
 use Rattle.jx_reduce.specs.Table.{next_of}
 use Rattle.jx_reduce.specs.declared.entry.Entry.{Entry}
 use Rattle.jx_reduce.specs.declared.holder.Holder.{Holder}
 use Rattle.jx_reduce.specs.declared.holder.Holder.TheVariants.{Array, Object, Bottom}
 use Rattle.jx_reduce.specs.declared.level.Level.{Level}
+use Rattle.jx_reduce.specs.declared.quiet.Limits.{Limits}
+use Rattle.jx_lex.specs.declared.alphabet.mark.Mark.{Mark}
 use Rattle.jx_lex.specs.declared.alphabet.mark.MarkKind.{MarkKind}
 
 -- a set of holders as a number: a bit for each
@@ -36,10 +40,6 @@ abbrev pub standing : ℕ → List Holder → ℕ
 standing base [] = base
 standing base (o ∷ _) = bit_of o
 
--- where something goes on, some holder has not faulted
-abbrev pub GoesOn : Form → Type 0
-GoesOn r = (x : Entry) → r.exit ≡ Some x → all_faulted r.last ≡ false
-
 -- a form that stands at this entry inside these containers, in which marks are no deeper than this limit
 pub record IsAt (d : ℕ) (r : Form) (os : List Holder) (limit b : ℕ) (x : Entry) : Type 0 where
   pub fits : Fits d r
@@ -49,3 +49,18 @@ pub record IsAt (d : ℕ) (r : Form) (os : List Holder) (limit b : ℕ) (x : Ent
   pub base : b ≡ unfaulted r.last
   pub within : limit ≤ d
   pub low : limit ≤ length r.ended + length r.heights
+
+-- what tells of this form whether a mark is quiet
+pub record AreLimits (d : ℕ) (r : Form) (l : Limits) : Type 0 where
+  pub within : l.most ≤ d
+  pub low : l.most ≤ length r.ended + length r.heights
+  pub base : l.base ≡ unfaulted r.last
+  pub standing : l.standing ≡ standing l.base r.opens
+
+-- a mark was pushed that changed at most the open containers and the exit
+pub record IsPassed (d : ℕ) (r : Form) (m : Mark) (q : Form) (l : Limits) : Type 0 where
+  pub form : q ≡ pushed d r m
+  pub ended : q.ended ≡ r.ended
+  pub last : q.last ≡ r.last
+  pub heights : q.heights ≡ r.heights
+  pub limits : AreLimits d q l

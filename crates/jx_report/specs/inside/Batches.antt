@@ -18,15 +18,14 @@ abbrev pub seen : TextReader → ReaderValue
 seen (Alone r) = r
 seen (Shared r b) = r
 
--- these bytes were taken in from the start of an input, and the text behind what stands in front was read unless memory was refused
+-- these bytes were read from the start of an input, where a text begins behind what stands in front
 pub record IsTaken (settings : Settings) (text : List ℕ) (check : TextCheck) : Type 0 where
-  pub total : check.total ≡ length text
   pub depth : (seen check.reader).depth ≡ settings.depth
   pub start : (seen check.reader).start ≡ check.front
   pub within : check.front ≤ length text
   pub refused : (refusal : Refusal) → check.refused ≡ Some refusal → front_of settings.mark text ≡ Refused refusal
   pub skipped : check.refused ≡ None → front_of settings.mark text ≡ Skip check.front
-  pub read : check.refused ≡ None → check.failed ≡ false → HasRead (drop check.front text) (seen check.reader)
+  pub read : check.refused ≡ None → HasRead (drop check.front text) (seen check.reader)
 
 -- nothing, or at least so many bytes as a byte order mark has, which show whether one stands in front
 abbrev pub ShowsFront : List ℕ → Type 0

@@ -4,7 +4,7 @@ use Rattle.jx_lex.specs.declared.alphabet.lex_exit.LexExit.{LexExit}
 use Rattle.jx_lex.specs.declared.alphabet.lex_exit.LexExit.TheVariants as exit
 use Rattle.jx_reduce.specs.declared.expect.Expect.{Expect}
 use Rattle.jx_reduce.specs.declared.holder.Holder.{Holder}
-use Rattle.jx_reduce.specs.Reductions.{Forms, answer, SpansIn}
+use Rattle.jx_reduce.specs.Structure.{StructureValue, answer, SpansIn}
 use Rattle.jx_reduce.specs.Shift.{shifted}
 use Rattle.jx_run.specs.declared.way.Way.{Way}
 use Rattle.jx_run.specs.declared.element_verdict.ElementVerdict.{ElementVerdict}
@@ -40,17 +40,17 @@ abbrev pub moved_way : ℕ → Way → Way
 moved_way by w = record { exit = moved_exit by w.exit; structure = w.structure }
 
 -- the structure of the same marks so many bytes further on
-pub record IsMoved (by : ℕ) (old new : Forms) : Type 0 where
+pub record IsMoved (by : ℕ) (old new : StructureValue) : Type 0 where
   pub depth : new.depth ≡ old.depth
   pub answers : (expect : Expect) (holders : List Holder) → length holders ≤ old.depth → answer new expect holders ≡ shifted by (answer old expect holders)
   pub offsets : (low high : ℕ) → SpansIn low high old → SpansIn (by + low) (by + high) new
 
 -- it stands in this place
-pub record IsMovedAt (by : ℕ) (news : List Forms) (at : ℕ) (old : Forms) : Type 0 where
-  pub form : Forms
+pub record IsMovedAt (by : ℕ) (news : List StructureValue) (at : ℕ) (old : StructureValue) : Type 0 where
+  pub form : StructureValue
   pub there : slice_get news at ≡ Some form
   pub moved : IsMoved by old form
 
 -- each structure is moved, and stands where it stood
-abbrev pub AreMoved : ℕ → List Forms → List Forms → Type 0
-AreMoved by olds news = (at : ℕ) (old : Forms) → slice_get olds at ≡ Some old → IsMovedAt by news at old
+abbrev pub AreMoved : ℕ → List StructureValue → List StructureValue → Type 0
+AreMoved by olds news = (at : ℕ) (old : StructureValue) → slice_get olds at ≡ Some old → IsMovedAt by news at old

@@ -8,38 +8,38 @@ use Rattle.jx_lex.specs.Lex.{Track}
 use Rattle.jx_lex.specs.Map.{Map, track}
 use Rattle.jx_lex.specs.View.{exit_of, marks_at, path_from}
 use Rattle.jx_reduce.specs.Offsets.{EachIn, RisingFrom}
-use Rattle.jx_reduce.specs.Reductions.{Forms, IsOf, SpansIn}
+use Rattle.jx_reduce.specs.Structure.{StructureValue, IsOf, SpansIn}
 use Rattle.jx_run.specs.declared.reduce.Lone.{Lone}
 use Rattle.jx_run.specs.declared.way.Way.{Way}
 use Rattle.jx_run.specs.OutcomeRun.{IsFormWithin}
 
 -- the structure of these marks, which keeps no offset but theirs
-pub record IsReduced (limit : ℕ) (marks : List Mark) (f : Forms) : Type 0 where
+pub record IsReduced (limit : ℕ) (marks : List Mark) (f : StructureValue) : Type 0 where
   pub depth : f.depth ≡ limit
   pub reads : IsOf marks f
   pub offsets : (low high : ℕ) → EachIn (λ m. (low ≤ m.at) × (m.at < high)) marks → SpansIn low high f
 
 -- those that are there are the structures of their segments
-abbrev pub AreReduced : ℕ → List SegmentValue → List (Option Forms) → Type 0
-AreReduced limit ps slots = (n : ℕ) (f : Forms) → slice_get slots n ≡ Some (Some f) → IsReduced limit (marks_at ps n) f
+abbrev pub AreReduced : ℕ → List SegmentValue → List (Option StructureValue) → Type 0
+AreReduced limit ps slots = (n : ℕ) (f : StructureValue) → slice_get slots n ≡ Some (Some f) → IsReduced limit (marks_at ps n) f
 
 -- the structure in this place is that of these marks
-pub record IsAt (limit : ℕ) (marks : List Mark) (structures : List Forms) (i : ℕ) : Type 0 where
-  pub form : Forms
+pub record IsAt (limit : ℕ) (marks : List Mark) (structures : List StructureValue) (i : ℕ) : Type 0 where
+  pub form : StructureValue
   pub at : slice_get structures i ≡ Some form
   pub of : IsReduced limit marks form
 
 -- what stands in this place is the structure of this mark alone
-abbrev pub IsLoneIn : ℕ → List Forms → Lone → Type 0
+abbrev pub IsLoneIn : ℕ → List StructureValue → Lone → Type 0
 IsLoneIn limit structures lone = IsAt limit (lone.mark ∷ []) structures lone.number
 
 -- the way of a track
-pub record IsWayOf (limit : ℕ) (structures : List Forms) (t : Track) (w : Way) : Type 0 where
+pub record IsWayOf (limit : ℕ) (structures : List StructureValue) (t : Track) (w : Way) : Type 0 where
   pub exit : exit_of w.exit ≡ t.exit
   pub marks : IsAt limit t.marks structures w.structure
 
 -- those of the tracks from these states, in order
-abbrev pub AreWaysOf : ℕ → Map → List Forms → List LexState → List Way → Type 0
+abbrev pub AreWaysOf : ℕ → Map → List StructureValue → List LexState → List Way → Type 0
 AreWaysOf limit m fs [] [] = Unit {0}
 AreWaysOf limit m fs [] (w ∷ ws) = ⊥
 AreWaysOf limit m fs (s ∷ ss) [] = ⊥
@@ -50,11 +50,11 @@ abbrev pub path_at : List SegmentValue → ℕ → List ℕ
 path_at ps n = path_from 0 ps (Ahead n)
 
 -- by the number with which a path begins, the place of its structure, where it was made
-abbrev pub AreNumbered : ℕ → List SegmentValue → List (Option ℕ) → List Forms → Type 0
+abbrev pub AreNumbered : ℕ → List SegmentValue → List (Option ℕ) → List StructureValue → Type 0
 AreNumbered limit ps numbers structures = (n i : ℕ) → slice_get numbers n ≡ Some (Some i) → IsAt limit (flat_map (marks_at ps) (path_at ps n)) structures i
 
 -- what was made of a map so far, the structures of segments and of paths
-pub record ArePaths (limit : ℕ) (m : Map) (slots : List (Option Forms)) (numbers : List (Option ℕ)) (structures : List Forms) : Type 0 where
+pub record ArePaths (limit : ℕ) (m : Map) (slots : List (Option StructureValue)) (numbers : List (Option ℕ)) (structures : List StructureValue) : Type 0 where
   pub slots_all : length slots ≡ length m.segments
   pub numbers_all : length numbers ≡ length m.segments + 1
   pub slots_are : AreReduced limit m.segments slots

@@ -8,7 +8,7 @@ use Rattle.jx_lex.specs.Ordinal.{ordinal}
 use Rattle.jx_reduce.specs.declared.expect.Expect.{Expect}
 use Rattle.jx_reduce.specs.declared.holder.Holder.{Holder}
 use Rattle.jx_reduce.specs.Reducer.{ReducerValue, HasReduced}
-use Rattle.jx_reduce.specs.Reductions.{Forms}
+use Rattle.jx_reduce.specs.Structure.{StructureValue}
 use Rattle.jx_run.specs.declared.way.Way.{Way}
 use Rattle.jx_run.specs.OutcomeRun.{OutcomeRunValue, exit_at, outcome, outcome_of}
 use Rattle.jx_run.specs.Reading.{TextReading, read}
@@ -28,13 +28,13 @@ abbrev pub Reaches : List Way → LexState → Type 0
 Reaches ways s = (k : ℕ) × (k < length ways) × HoldsAt (λ (w : Way). w.exit ≡ exit.State s) ways k
 
 -- the way has the outcomes of reading
-pub record IsReadWay (limit start : ℕ) (bytes : List ℕ) (structures : List Forms) (s : LexState) (w : Way) : Type 0 where
-  pub form : Forms
+pub record IsReadWay (limit start : ℕ) (bytes : List ℕ) (structures : List StructureValue) (s : LexState) (w : Way) : Type 0 where
+  pub form : StructureValue
   pub at : slice_get structures w.structure ≡ Some form
   pub reads : AreRead limit start bytes s (outcome_of (record { exit = w.exit; marks = form }))
 
 -- so has the one of each state that was reached
-abbrev pub AreReadWays : ℕ → ℕ → List ℕ → List Way → List Forms → List Way → LexState → Type 0
+abbrev pub AreReadWays : ℕ → ℕ → List ℕ → List Way → List StructureValue → List Way → LexState → Type 0
 AreReadWays limit start bytes reached structures ways s = Reaches reached s
     → (w : Way) × (slice_get ways (ordinal s) ≡ Some w) × IsReadWay limit start bytes structures s w
 

@@ -4,6 +4,3 @@ pub returns-in_ok-verdict-in-Any : goal.returns-in_ok-verdict-in-Any
 returns-in_ok-verdict-in-Any g c =
     let v = c.in_ok-verdict-in-Any in
     record { verdict = (c.any_names_change_nothing.ensures.verdict c.args.settings.now c.args.text.now v.verdict c.in-Any.is).1 v.ensures.verdict }
-
-pub returns-in_ok-answer-in-Unique : goal.returns-in_ok-answer-in-Unique
-returns-in_ok-answer-in-Unique g c = record { verdict = c.into_verdict.ensures.verdict c.args.settings.now c.args.text.now c.in_ok-answer-in-Unique.ensures.answer }

@@ -10,6 +10,3 @@ returns-in-Any c =
     let settings = c.args.settings.now in
     IfOk-weaker c.verdict_behind_front.result (λ (v : Verdict). JudgedBy settings 0 text v) (λ (v : Verdict). IsVerdictBy settings text v)
     (λ v h. (c.names_are_refused_by_rows.ensures.any settings text v c.in-Any.is).1 h) c.verdict_behind_front.ensures
-
-pub returns-in_ok-answer-in-Unique : goal.returns-in_ok-answer-in-Unique
-returns-in_ok-answer-in-Unique c = c.into_verdict.ensures.verdict c.args.settings.now c.args.text.now c.in_ok-answer-in-Unique.ensures.answer

@@ -1,12 +1,13 @@
-use Rattle.std.proofs.Common.{List, ℕ, subst, sym}
-use Rattle.jx_c.specs.LookUps.{IsSpelt}
-use Rattle.jx_c.specs.Settled.{IsLookUpBy}
+use Rattle.std.proofs.Common.{List, ℕ, subst}
+use Rattle.jx_index.specs.Found.{IsFoundBy}
 use Rattle.jx_c.proofs.look_up.look_up.Goals as goal
 
-pub returns-in_ok-answer-in-Ok : goal.returns-in_ok-answer-in-Ok
-returns-in_ok-answer-in-Ok c =
-    subst (λ (p : List ℕ). IsLookUpBy c.args.settings.now c.args.text.now p c.led_in.result) c.in-Ok.ensures.pointer
-    (c.led_in.ensures c.args.settings.now c.args.text.now (subst (λ (p : List ℕ). IsSpelt p) (sym c.in-Ok.ensures.pointer) c.in-Ok.ensures.spelt) c.in_ok-answer-in-Ok.ensures.answer)
+pub returns-in_ok-found-in-Ok : goal.returns-in_ok-found-in-Ok
+returns-in_ok-found-in-Ok c =
+    let settings = c.args.settings.now in
+    let text = c.args.text.now in
+    c.told.ensures settings text c.args.pointer.now c.in-Ok.ensures.spelt
+    (subst (λ (p : List ℕ). IsFoundBy settings text p c.in_ok-found-in-Ok.found) c.in-Ok.ensures.pointer c.in_ok-found-in-Ok.ensures)
 
 pub returns-in-Err : goal.returns-in-Err
 returns-in-Err c = c.in-Err.ensures.none c.args.settings.now c.args.text.now

@@ -2,9 +2,9 @@ use Rattle.std.proofs.Common.{◌≤◌, ℕ, List, length, sym, ◌∙◌, ap, 
 use Rattle.std.specs.Prelude.{reverse}
 use Rattle.jx_lex.specs.Lex as lexical
 use Rattle.jx_reduce.specs.Outcome.{reading_of}
-use Rattle.jx_reduce.specs.Reduced.{answer_of}
+use Rattle.jx_reduce.specs.Structure.{answer_from}
 use Rattle.jx_reduce.specs.declared.holder.Holder.{Holder}
-use Rattle.jx_run.specs.OutcomeRun.{exit_at, IsOutcomeRun}
+use Rattle.jx_run.specs.OutcomeRun.{exit_at}
 use Rattle.jx_run.specs.Reading.{at_exit, read}
 use Rattle.jx_run.proofs.RunJoin.{read-within}
 use Rattle.jx_edit.specs.inside.Places.{PlaceValue, read_on}
@@ -23,7 +23,7 @@ returns c =
           c.arrived.ensures
           ∙ ap (λ (z : lexical.LexExit). at_exit z (reading_of c.in_ok-outcome.outcome)) c.exit-exit.ensures.exit
           ∙ ap (at_exit (exit_at run state)) c.in_ok-outcome.ensures
-          ∙ ap (λ (xs : List Holder). at_exit (exit_at run state) (answer_of c.entry-reduced.result.now (reverse xs))) c.deref.ensures.value
+          ∙ ap (λ (xs : List Holder). at_exit (exit_at run state) (answer_from c.entry-reduced.result (reverse xs))) c.deref.ensures.value
           ∙ c.entry-reduced.ensures.reads bytes h hs short
           ∙ ap (λ (i : ℕ). read run.depth state expect hs i bytes) c.requires.start
           ∙ ap (λ (p : PlaceValue). read_on run.depth p bytes) c.from.view_is;
@@ -32,7 +32,7 @@ returns c =
           (c.arrived.ensures
           ∙ ap (λ (z : lexical.LexExit). at_exit z (reading_of c.in_ok-outcome.outcome)) c.exit-exit.ensures.exit
           ∙ ap (at_exit (exit_at run state)) c.in_ok-outcome.ensures
-          ∙ ap (λ (xs : List Holder). at_exit (exit_at run state) (answer_of c.entry-reduced.result.now (reverse xs))) c.deref.ensures.value
+          ∙ ap (λ (xs : List Holder). at_exit (exit_at run state) (answer_from c.entry-reduced.result (reverse xs))) c.deref.ensures.value
           ∙ c.entry-reduced.ensures.reads bytes h hs short)
           (read-within run.depth bytes state expect hs run.start short);
     }

@@ -10,7 +10,7 @@ use jx_reduce::{Expect, Holder, Outcome, Reducer, Reductions, next};
 use std::alloc::{AllocError, Global};
 use std::test::Fail;
 
-// More than two windows.
+// So long that most marks are quiet.
 const LONG: usize = 1100;
 
 #[test]

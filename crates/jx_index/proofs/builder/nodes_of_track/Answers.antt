@@ -1,7 +1,7 @@
-use Rattle.std.proofs.Common.{ap, sym, subst}
+use Rattle.std.proofs.Common.{ap, sym, subst, ◌∙◌}
 use Rattle.jx_index.specs.inside.Building.{Building, make}
 use Rattle.jx_index.specs.inside.Built.{built, Fits}
-use Rattle.jx_index.proofs.RowKeeping.{one_further, all_further}
+use Rattle.jx_index.proofs.InOrders.{one_further, all_further}
 use Rattle.jx_index.proofs.builder.nodes_of_track.Goals as goal
 
 pub loop-mark-init : goal.loop-mark-init
@@ -17,7 +17,7 @@ loop-mark-preserved c = λ low.
     c.in-Some.ensures.steps c.take_end-end.ensures.left c.take_end-end.ensures.end c.in_ok-mark.ensures (c.loop-mark.invariant low)
 
 pub returns-clause-rows : goal.returns-clause-rows
-returns-clause-rows c = λ low. ap (λ (b : Building). b.rows) (all_further c.args.last c.loop-mark.marks c.args.marks c.loop-mark.ends c.args.ends (built c.loop-mark.builder) c.in_default.ensures.steps.0 (c.loop-mark.invariant low))
+returns-clause-rows c = λ low. c.into_nodes.ensures.rows ∙ ap (λ (b : Building). b.rows) (all_further c.args.last c.loop-mark.marks c.args.marks c.loop-mark.ends c.args.ends (built c.loop-mark.builder) c.in_default.ensures.steps.0 (c.loop-mark.invariant low))
 
 pub returns-clause-after : goal.returns-clause-after
-returns-clause-after c = λ low. ap (λ (b : Building). b.after) (all_further c.args.last c.loop-mark.marks c.args.marks c.loop-mark.ends c.args.ends (built c.loop-mark.builder) c.in_default.ensures.steps.0 (c.loop-mark.invariant low))
+returns-clause-after c = λ low. c.into_nodes.ensures.after ∙ ap (λ (b : Building). b.after) (all_further c.args.last c.loop-mark.marks c.args.marks c.loop-mark.ends c.args.ends (built c.loop-mark.builder) c.in_default.ensures.steps.0 (c.loop-mark.invariant low))

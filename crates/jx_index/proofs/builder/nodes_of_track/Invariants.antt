@@ -1,7 +1,7 @@
 use Rattle.std.proofs.Common.{length}
 use Rattle.jx_index.specs.inside.Built.{built}
 use Rattle.jx_index.specs.inside.Low.{AllLow}
-use Rattle.jx_index.proofs.RowKeeping.{Halfway}
+use Rattle.jx_index.proofs.InOrders.{Halfway}
 use Rattle.jx_index.proofs.builder.nodes_of_track.Given as goal
 
 abbrev pub invariant-loop-mark : goal.invariant-loop-mark

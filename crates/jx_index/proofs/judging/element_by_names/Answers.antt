@@ -6,8 +6,8 @@ pub returns-then-not-may_be_refused : goal.returns-then-not-may_be_refused
 returns-then-not-may_be_refused c =
     λ p h. left_so c.args.settings.now c.args.input.now p c.args.element h.judged (λ both. absurd (cc (c.may_be_refused.ensures.1 both, c.if-not-may_be_refused.true)))
 
-pub repeated_name-requires : goal.repeated_name-requires
-repeated_name-requires c =
+pub repeated_in_text-requires : goal.repeated_in_text-requires
+repeated_in_text-requires c =
     let text = c.args.input.now in
     let settings = c.args.settings.now in
     let j : JudgedElement = c.args.element in

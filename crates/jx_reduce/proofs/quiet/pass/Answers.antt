@@ -1,7 +1,6 @@
-use Rattle.std.proofs.Common.{◌≡◌, ◌++◌, List, [], ◌∷◌, true, Option, Some, None, is_some, ap, ◌∙◌, sym, arith}
+use Rattle.std.proofs.Common.{◌≡◌, List, ◌∷◌, ap, ◌∙◌, sym, arith}
 use Rattle.std.specs.Prelude.{reverse}
-use Rattle.std.specs.Option.{option_to_list}
-use Rattle.std.proofs.lemmas.List.{reverse-append, length-reverse}
+use Rattle.std.proofs.lemmas.List.{length-reverse}
 use Rattle.jx_reduce.specs.Form.{Form}
 use Rattle.jx_reduce.specs.Levels.{with_opens}
 use Rattle.jx_reduce.specs.inside.Quiet.{standing}
@@ -9,19 +8,12 @@ use Rattle.jx_reduce.specs.Table.{change_of}
 use Rattle.jx_reduce.specs.declared.entry.Entry.{Entry}
 use Rattle.jx_reduce.specs.declared.holder.Holder.{Holder}
 use Rattle.jx_reduce.specs.declared.holder.Holder.TheVariants.{Array, Object}
-use Rattle.jx_reduce.proofs.QuietMarks.{is_same, is_removed, taken-same, taken-added, taken-removed}
+use Rattle.jx_reduce.proofs.QuietMarks.{is_same, is_removed, reversed, popped, taken-same, taken-added, taken-removed}
 use Rattle.jx_reduce.proofs.quiet.pass.Goals as goal
 use Rattle.jx_reduce.proofs.quiet.pass.Goals.{in-OpenArray+else-not-enter, in-OpenObject+else-not-enter-2, in-CloseArray+else-is_none, in_default}
 
 there : (r : Form) (os ps : List Holder) (x y : Entry) → ps ≡ os → y ≡ x → with_opens r os x ≡ with_opens r ps y
 there r os ps x y e h = cc
-
-reversed : (xs ys : List Holder) (h : Holder) → ys ≡ xs ++ h ∷ [] → reverse ys ≡ h ∷ reverse xs
-reversed xs ys h e = ap reverse e ∙ reverse-append xs (h ∷ [])
-
-popped : (xs ys : List Holder) (o : Option Holder) → xs ≡ ys ++ option_to_list o → is_some o ≡ true → (h : Holder) × (reverse xs ≡ h ∷ reverse ys)
-popped xs ys None e i = cc
-popped xs ys (Some h) e i = (h, reversed ys xs h e)
 
 pub loop-taken-preserved : goal.loop-taken-preserved
 loop-taken-preserved c =

@@ -1,21 +1,19 @@
 -- What was taken in and the batch that is held are all that was read.
-use Rattle.std.proofs.Common.{◌≡◌, ◌-◌, ◌^◌, ◌≤◌, ◌<◌, false, take, vec_len}
+use Rattle.std.proofs.Common.{◌≡◌, ◌≤◌, ◌<◌, false, take, vec_len}
 use Rattle.std.specs.Io.KnownBytes.{IsAtEnd}
 use Rattle.jx_report.specs.inside.Batches.{IsPending}
-use Rattle.jx_report.specs.inside.Sequences.{HasTaken, total_of}
+use Rattle.jx_report.specs.inside.Sequences.{HasTaken}
 use Rattle.jx_report.proofs.batch_check.take_all_beside.Given as goal
 
-abbrev pub invariant-loop-filled : goal.invariant-loop-filled
-invariant-loop-filled g l =
+abbrev pub invariant-loop : goal.invariant-loop
+invariant-loop g l =
     record {
-      least : 3 ≤ l.batch;
+      least : 3 ≤ l.step;
+      most : l.step ≤ l.batch;
       held : l.filled ≤ vec_len l.bytes;
-      within : vec_len l.bytes ≤ l.batch;
-      room : vec_len l.next ≤ l.batch;
+      within : vec_len l.bytes ≤ l.step;
+      room : vec_len l.next ≤ l.step;
       going : g.S.Source.has_failed l.reader ≡ false;
-      end : l.filled < l.batch → IsAtEnd (g.S.Source.remaining l.reader);
+      end : l.filled < l.step → IsAtEnd (g.S.Source.remaining l.reader);
       pending : IsPending (λ text. HasTaken l.command.task l.command.settings text l.check) (g.S.Source.remaining l.fn.reader) (g.S.Source.remaining l.reader) (take l.filled l.bytes.items);
     }
-
-abbrev pub decreases-loop-filled : goal.decreases-loop-filled
-decreases-loop-filled g l = 2 ^ 64 - total_of l.check

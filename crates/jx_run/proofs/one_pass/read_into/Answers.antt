@@ -19,7 +19,7 @@ returns-clause-verdict g c =
     } in
     subst (Judged c.args.from bytes c.args.depth)
     (ap (λ (e : LexExit). verdict_from e c.whole.result) (sym c.unwrap_or.ensures) ∙ sym c.verdict_from-verdict.ensures)
-    (both_judged c.reader_is_grammar.ensures.verdict _ _ _ _ _ _ _ _ _ s c.requires.empty)
+    (both_judged c.reader_is_grammar.ensures.verdict _ _ _ _ _ _ _ _ _ s)
 
 pub returns-clause-seen : goal.returns-clause-seen
 returns-clause-seen g c = λ accepted.
@@ -32,4 +32,4 @@ returns-clause-seen g c = λ accepted.
       done = λ e. c.in_ok-exit.ensures.done (ap is_some e);
       whole = c.whole.ensures;
     } in
-    other_seen _ _ _ _ _ _ _ _ _ c.unwrap_or.result s c.requires.empty (sym c.verdict_from-verdict.ensures ∙ accepted)
+    other_seen _ _ _ _ _ _ _ _ _ c.unwrap_or.result s (sym c.verdict_from-verdict.ensures ∙ accepted)

@@ -50,12 +50,12 @@ loop-number-preserved c =
     let marks = marks_same c.args.segments.now c.in-Some.number c.index-segments-number.result low c.index-segments-number.is in
     record {
       slots = set_reduced c.args.depth c.args.segments.now c.loop-number.slots c.in-Some.number c.take_in.new.slot c.index-segments-number.result (omega (arith, low, a, b)) marks c.loop-number.invariant.slots
-          (subst (λ d. IsSomeAnd c.take_in.new.slot (IsReduced d c.index-segments-number.result.marks)) so_far.1.depth c.in_ok-take_in.ensures.slot);
+          (subst (λ d. IsSomeAnd c.take_in.new.slot (IsReduced d c.index-segments-number.result.marks)) so_far.1.depth c.in_ok-reduced.ensures.slot);
       within = rest_within c.loop-number.path c.next.new.self c.in-Some.number (length c.args.segments.now) c.in-Some.ensures.steps c.loop-number.invariant.within;
       so_far = (
         so_far.0 ++ c.index-segments-number.result.marks,
-        subst (λ d. IsReduced d (so_far.0 ++ c.index-segments-number.result.marks) c.take_in.new.reduced) so_far.1.depth
-            (c.in_ok-take_in.ensures.reduced so_far.0 (subst (λ d. IsReduced d so_far.0 c.loop-number.reduced) (sym so_far.1.depth) so_far.1)),
+        subst (λ d. IsReduced d (so_far.0 ++ c.index-segments-number.result.marks) c.in_ok-reduced.reduced) so_far.1.depth
+            (c.in_ok-reduced.ensures.reduced so_far.0 (subst (λ d. IsReduced d so_far.0 c.loop-number.reduced) (sym so_far.1.depth) so_far.1)),
         next_flat (marks_at c.args.segments.now) so_far.0 c.loop-number.path c.next.new.self c.in-Some.number c.index-segments-number.result.marks _ c.in-Some.ensures.steps marks so_far.2,
       );
     }

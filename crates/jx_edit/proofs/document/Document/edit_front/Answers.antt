@@ -1,7 +1,7 @@
-use Rattle.std.proofs.Common.{arith, ◌∙◌, ◌-◌, ap, List, ℕ, ◌++◌, ◌≡◌, drop, length}
+use Rattle.std.proofs.Common.{arith, ◌∙◌, ◌-◌, ap, List, ℕ, ◌++◌, drop, length}
 use Rattle.std.specs.List.{slice_range}
 use Rattle.jx_run.specs.Front.{front_of}
-use Rattle.jx_edit.specs.Document.{edited, DocumentValue}
+use Rattle.jx_edit.specs.Document.{DocumentValue}
 use Rattle.jx_edit.proofs.Fronts.{long, near_text, fronted_near}
 use Rattle.jx_edit.proofs.Texts.{rest_is}
 use Rattle.jx_edit.proofs.document.Document.edit_front.Goals as goal

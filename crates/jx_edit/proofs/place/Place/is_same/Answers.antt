@@ -1,4 +1,4 @@
-use Rattle.std.proofs.Common.{◌≡◌, sym, ◌∙◌, rules}
+use Rattle.std.proofs.Common.{sym, ◌∙◌, rules}
 use Rattle.jx_edit.proofs.Links.{same_place}
 use Rattle.jx_edit.proofs.place.Place.is_same.Goals as goal
 

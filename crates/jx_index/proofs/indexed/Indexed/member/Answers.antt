@@ -3,6 +3,7 @@ use Rattle.std.specs.Prelude.{filter}
 use Rattle.jx_index.specs.declared.row.Row.{Row}
 use Rattle.jx_index.specs.declared.units.Spelling.TheVariants.{InToken}
 use Rattle.jx_index.specs.Leads.{only}
+use Rattle.jx_index.specs.Names.{name_units}
 use Rattle.jx_index.specs.Nodes.{child_numbers}
 use Rattle.jx_index.specs.RowsLead.{is_equal}
 use Rattle.jx_index.specs.Units.{chars_units}
@@ -18,4 +19,4 @@ returns c =
     c.find_name.ensures
     ∙ ap (λ (t : List ℕ). only (filter (is_equal t c.rows.result.now units) names) c.args.token) c.text.ensures
     ∙ ap (λ (r : List Row). only (filter (is_equal v.text r units) names) c.args.token) c.rows.ensures.same
-    ∙ ap (λ (x : List ℕ). only x c.args.token) (equal_kept v.text v.rows units (child_numbers v.rows c.args.object) names c.names.ensures.equal_by_place)
+    ∙ ap (λ (x : List ℕ). only x c.args.token) (equal_kept (name_units v.text v.rows) units (child_numbers v.rows c.args.object) names c.names.ensures.equal_by_place)

@@ -1,16 +1,12 @@
-use Rattle.std.proofs.Common.{arith, ◌∙◌}
-use Rattle.jx_index.proofs.OnePass.{rows_told, nodes_told}
+use Rattle.std.proofs.Common.{◌≡◌, ℕ, ◌∙◌}
+use Rattle.std.proofs.lemmas.Result.{IfOk-at_ok}
+use Rattle.jx_run.specs.Text.{IsText}
+use Rattle.jx_run.specs.Tree.{Tree}
+use Rattle.jx_index.specs.Rows.{rows}
+use Rattle.jx_index.specs.declared.builder.Nodes.{Nodes}
 use Rattle.jx_index.proofs.indexed.Indexed.read.Goals as goal
 
-pub of_nodes-requires : goal.of_nodes-requires
-of_nodes-requires g c =
-    nodes_told c.args.text.now c.args.span c.requires.ordered c.requires.within (record { reads = c.tokens_are_read.ensures.reads; stays = c.tokens_are_read.ensures.stays }) c.args.depth c.in_ok-told.told.verdict c.in_ok-nodes-in-Accepted.nodes.rows.items c.in_ok-nodes-in-Accepted.nodes.after.items
-    (omega arith) c.in_ok-told.ensures.verdict c.in-Accepted.is
-    (λ low. c.in_ok-nodes-in-Accepted.ensures.rows _ _ low (c.in_ok-told.ensures.seen c.in-Accepted.is))
-    (λ low. c.in_ok-nodes-in-Accepted.ensures.after _ _ low (c.in_ok-told.ensures.seen c.in-Accepted.is))
-
-pub returns-in_ok-index-in-Accepted-clause-rows : goal.returns-in_ok-index-in-Accepted-clause-rows
-returns-in_ok-index-in-Accepted-clause-rows g c = λ limit tree t.
-    c.in_ok-index-in-Accepted.ensures.rows
-    ∙ rows_told c.args.text.now c.args.span c.requires.ordered c.requires.within (record { reads = c.tokens_are_read.ensures.reads; stays = c.tokens_are_read.ensures.stays }) limit tree c.in_ok-nodes-in-Accepted.nodes.rows.items (omega arith)
-    (λ low. c.in_ok-nodes-in-Accepted.ensures.rows _ _ low (c.in_ok-told.ensures.seen c.in-Accepted.is)) t
+pub returns-in_ok-index-in-Ok-clause-rows : goal.returns-in_ok-index-in-Ok-clause-rows
+returns-in_ok-index-in-Ok-clause-rows g c = λ limit tree t.
+    c.in_ok-index-in-Ok.ensures.rows
+    ∙ IfOk-at_ok (λ (nodes : Nodes). (limit : ℕ) (tree : Tree) → IsText c.args.text.now c.args.span.start c.args.span.end limit tree → nodes.rows.items ≡ rows tree) c.in-Ok.is c.in_ok-read.ensures.rows limit tree t

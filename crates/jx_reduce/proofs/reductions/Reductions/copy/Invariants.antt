@@ -1,7 +1,7 @@
 use Rattle.std.proofs.Common.{◌≡◌, ◌<◌, map, replicate}
 use Rattle.jx_reduce.specs.Reduced.{depth_of, form_in}
 use Rattle.jx_reduce.specs.Reductions.{form_at}
-use Rattle.jx_reduce.specs.inside.Places.{place}
+use Rattle.jx_reduce.specs.Entries.{place}
 use Rattle.jx_reduce.specs.inside.View.{nth}
 use Rattle.jx_reduce.specs.declared.entry.Entry.{Entry}
 use Rattle.jx_reduce.proofs.reductions.Reductions.copy.Given as goal

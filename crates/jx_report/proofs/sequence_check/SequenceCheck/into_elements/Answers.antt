@@ -6,4 +6,4 @@ pub returns : goal.returns
 returns c = λ text taken.
     let settings : Settings = c.args.settings.now in
     judged_by_any settings text c.judged_by_mark.result.items c.requires.names
-    (c.judged_by_mark.ensures.by_mark text settings.depth taken.front (c.in_ok-elements.ensures settings.depth text (taken.read c.if-self.false)))
+    (c.judged_by_mark.ensures.by_mark text settings.depth taken.front (c.in_ok-elements.ensures settings.depth text taken.read))

@@ -35,3 +35,13 @@ returns-clause-number c =
     let count = c.len.ensures in
     let last : c.len.result - 1 ≡ length ps = omega (arith, all, count) in
     ap (λ n. slice_get c.push-2.new.self.items n) last ∙ ap (λ xs. slice_get xs (length ps)) c.in_ok-push-2.ensures.items ∙ at_end ps c.args.pair
+
+pub returns-clause-last : goal.returns-clause-last
+returns-clause-last c = λ more.
+    let olds = c.args.self.now in
+    let f = c.in_ok-extended.field-0 in
+    let pairs = ap length c.in_ok-push-2.ensures.items ∙ length-append olds.pairs.items (c.args.pair ∷ []) in
+    let structures = ap length c.in_ok-push.ensures.items ∙ length-append olds.structures.items (f ∷ []) in
+    let same = c.requires.made.all in
+    let count = c.len.ensures in
+    omega (arith, pairs, structures, same, count)

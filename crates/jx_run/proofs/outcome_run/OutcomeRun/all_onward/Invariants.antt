@@ -1,7 +1,7 @@
 use Rattle.std.proofs.Common.{◌≤◌, length, take, All}
 use Rattle.jx_lex.specs.Ordinal.{all_states}
 use Rattle.jx_run.specs.inside.Joins.{AreJoinedWays, AreMade}
-use Rattle.jx_run.specs.OutcomeRun.{IsFormWithin}
+use Rattle.jx_run.specs.OutcomeRun.{AreUsed, IsFormWithin}
 use Rattle.jx_run.proofs.outcome_run.OutcomeRun.all_onward.Given as goal
 
 abbrev pub invariant-loop-place : goal.invariant-loop-place
@@ -9,5 +9,6 @@ invariant-loop-place l = record {
   made : AreMade l.self l.right l.joins.pairs.items l.joins.structures.items;
   within : All (IsFormWithin l.self.depth l.self.start l.right.end) l.joins.structures.items;
   few : length l.joins.structures.items ≤ l.place;
+  used : AreUsed l.ways.items (length l.joins.structures.items);
   ways : AreJoinedWays l.self l.right l.joins.structures.items (take l.place all_states) l.ways.items;
 }

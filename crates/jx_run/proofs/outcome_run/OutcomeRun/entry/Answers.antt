@@ -1,17 +1,16 @@
 use Rattle.std.proofs.Common.{◌≡◌, Some, sym, ap, ◌∙◌}
-use Rattle.jx_reduce.specs.Reductions.{entry_of, form_at}
 use Rattle.jx_run.specs.OutcomeRun.{Entries}
 use Rattle.jx_run.proofs.RunVerdict.{entry_reads}
 use Rattle.jx_run.proofs.Ways.{entries_are}
 use Rattle.jx_run.proofs.outcome_run.OutcomeRun.entry.Goals as goal
 
-pub returns-clause-form : goal.returns-clause-form
-returns-clause-form c e h =
+pub returns-clause-marks : goal.returns-clause-marks
+returns-clause-marks c e h =
     let w = c.way_from-way.result in
     let mine : Entries = record { exit = w.exit; marks = c.structure-structure.result.now } in
     let is : Some mine ≡ Some e = sym (entries_are c.args.self.now c.args.state w mine.marks c.way_from-way.ensures.way c.structure-structure.ensures.structure) ∙ h in
     let same : mine ≡ e = cc in
-    c.entry.ensures.form ∙ ap (λ (x : Entries). form_at x.marks (entry_of c.args.expect)) same
+    c.entry.ensures.entry ∙ ap (λ (x : Entries). record { structure = x.marks; expect = c.args.expect }) same
 
 pub returns-clause-reads : goal.returns-clause-reads
 returns-clause-reads c bytes h o short =
@@ -19,4 +18,4 @@ returns-clause-reads c bytes h o short =
     let mine : Entries = record { exit = w.exit; marks = c.structure-structure.result.now } in
     entry_reads c.args.self.now c.args.state c.args.expect mine
     (entries_are c.args.self.now c.args.state w mine.marks c.way_from-way.ensures.way c.structure-structure.ensures.structure)
-    c.entry.result.now c.entry.ensures.depth c.entry.ensures.form bytes h o short
+    c.entry.result c.entry.ensures.entry bytes h o short

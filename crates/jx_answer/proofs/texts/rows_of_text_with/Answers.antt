@@ -1,0 +1,19 @@
+use Rattle.std.proofs.lemmas.Result.{IfErr-weaker, IfOk-weaker}
+use Rattle.jx_index.specs.ByNames.{no_text}
+use Rattle.jx_index.proofs.RowsAlone.{rows_by_any}
+use Rattle.jx_answer.proofs.texts.rows_of_text_with.Goals as goal
+
+pub returns-in-Any-clause-accepted : goal.returns-in-Any-clause-accepted
+returns-in-Any-clause-accepted g c =
+    let read = c.in_ok-rows-in-Any in
+    IfOk-weaker read.rows _ _ (λ rows h. rows_by_any c.args.settings.now c.args.text.now rows.items c.in-Any.is h) read.ensures.accepted
+
+pub returns-in-Any-clause-refused : goal.returns-in-Any-clause-refused
+returns-in-Any-clause-refused g c =
+    let read = c.in_ok-rows-in-Any in
+    IfErr-weaker read.rows _ _ (λ refusal h. no_text h) read.ensures.refused
+
+pub returns-clause-refused : goal.returns-clause-refused
+returns-clause-refused g c =
+    let read = c.in_ok-rows-in-Accepted in
+    IfErr-weaker read.rows _ _ (λ refusal h. no_text h) read.ensures.refused

@@ -1,0 +1,79 @@
+// How many pieces a document has behind many edits.
+use jx_edit::Document;
+use jx_lex::Depth;
+use jx_lines::{LineFault, number_of, settings_of};
+use std::alloc::Global;
+
+/// A piece has this many bytes where a document is made, and less than twice as many.
+const USUAL: usize = 16384;
+
+/// The next number of a row that looks random (xorshift).
+fn next(seed: u64) -> u64 {
+    let mut x = seed;
+    x ^= x << 13;
+    x ^= x >> 7;
+    x ^= x << 17;
+    x
+}
+
+/// What becomes of a document: so many times so many bytes are taken out, and others put in.
+#[derive(Clone, Copy)]
+struct Wear {
+    len: usize,
+    times: usize,
+    put: usize,
+    taken: usize,
+}
+
+fn wear_of(words: &[&str]) -> Result<Wear, LineFault> {
+    let [len, times, put, taken] = words else {
+        return Err(LineFault::NoSuchCall);
+    };
+    Ok(Wear {
+        len: number_of(len)?,
+        times: number_of(times)?,
+        put: number_of(put)?,
+        taken: number_of(taken)?,
+    })
+}
+
+/// The document of so many digits, behind these edits at places that look random.
+fn worn_by(alloc: Global, wear: Wear) -> Result<Document, LineFault> {
+    let settings = settings_of(Depth::default(), "-")?;
+    let text = vec![in alloc; b'1'; wear.len]?;
+    let more = vec![in alloc; b'2'; wear.put]?;
+    let Ok(mut document) = Document::of(alloc, &text, settings) else {
+        return Err(LineFault::Memory);
+    };
+    let mut seed = 88_172_645_463_325_252u64;
+    for _ in 0..wear.times {
+        seed = next(seed);
+        let room = document.len().saturating_sub(wear.taken) as u64;
+        let start = (seed % room.saturating_add(1)) as usize;
+        let end = start.saturating_add(wear.taken);
+        let Ok(()) = document.edit(start, end, &more) else {
+            return Err(LineFault::NoSuchCall);
+        };
+    }
+    Ok(document)
+}
+
+/// How many pieces a document has.
+fn count_of(document: &Document) -> usize {
+    document.chunks().count()
+}
+
+/// `worn LEN TIMES PUT TAKEN`: how long a document of LEN bytes is behind so many edits, and whether it has about as many pieces
+/// as one that is made of as many bytes: at most twice as many and two, and at least half as many.
+pub(crate) fn worn(out: &mut String, alloc: Global, words: &[&str]) -> Result<(), LineFault> {
+    let document = worn_by(alloc, wear_of(words)?)?;
+    let len = document.len();
+    let count = count_of(&document);
+    let whole = len / USUAL;
+    if whole / 2 <= count && count <= whole.saturating_mul(2).saturating_add(2) {
+        write!(out, "{len} bytes in few pieces")?;
+    } else {
+        write!(out, "{len} bytes in {count} pieces")?;
+    }
+    Ok(())
+}

@@ -1,0 +1,9 @@
+-- What holds of an order.
+use Rattle.std.specs.Prelude.{◌≤◌, ⊤}
+use Rattle.jx_command.specs.declared.order.Order.{Order}
+use Rattle.jx_command.specs.declared.order.Order.TheVariants.{Report, Parts}
+
+-- the pieces that a report reads have at least a byte each
+abbrev pub HasPieces : Order → Type 0
+HasPieces (Report request) = 1 ≤ request.command.piece
+HasPieces (Parts order) = ⊤

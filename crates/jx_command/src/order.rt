@@ -1,0 +1,35 @@
+// What the words of the command line ask for: a report, or work on the parts of a text.
+use crate::inputs::Input;
+use crate::request::Request;
+use jx_lex::Depth;
+
+/// What the words of the command line ask for.
+#[derive(Debug, Drop)]
+pub enum Order<'a> {
+    /// A report on what is read.
+    Report(Request<'a>),
+    /// Work on one text that stands in several inputs.
+    Parts(PartsOrder<'a>),
+}
+
+/// Work on the parts of a text.
+#[derive(Clone, Copy, Debug, PartialEq, Eq)]
+pub struct PartsOrder<'a> {
+    /// What is read.
+    pub input: Input<'a>,
+    /// How deep the whole text may be.
+    pub depth: Depth,
+    /// What is done with it.
+    pub step: PartsStep,
+}
+
+/// A step from the parts of a text to its verdict.
+#[derive(Clone, Copy, Debug, PartialEq, Eq)]
+pub enum PartsStep {
+    /// A part is read, and its run is written. Where `from` is told, the part begins at this offset of the text.
+    Part { from: Option<usize> },
+    /// Runs of neighbors are read in order, and their joined run is written.
+    Join,
+    /// Runs are read in order, and the verdict on the text from the one offset to the other is written, unless it is quiet.
+    Whole { from: usize, to: usize, quiet: bool },
+}

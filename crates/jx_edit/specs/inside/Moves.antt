@@ -1,0 +1,10 @@
+-- How far bytes move a position.
+use Rattle.std.specs.Prelude.{ℕ, Bool, ◌+◌, ◌==◌, if◌then◌else◌}
+use Rattle.jx_edit.specs.declared.position.Position.{Position}
+
+-- the position behind bytes that stand at the first one, and that would come to the second from the start of a text
+abbrev pub joined : Position → Position → Position
+joined p q = if q.line == 0 then record { line = p.line; character = p.character + q.character } else record { line = p.line + q.line; character = q.character }
+
+abbrev pub is_feed : ℕ → Bool
+is_feed byte = byte == 10

@@ -1,0 +1,14 @@
+use Rattle.std.proofs.Common.{[], ◌∷◌, ◌++◌, refl, sym}
+use Rattle.jx_index.proofs.FindersKeeping.{seen_as, seen_ends}
+use Rattle.jx_index.proofs.finders.Finders.end_in_order.Goals as goal
+
+pub returns : goal.returns
+returns g c = λ marks ends seen.
+    let text = g.S.Search.bytes in
+    let ps = g.S.Search.pointers in
+    let at = c.args.at in
+    let k = c.args.self.now in
+    let r = c.requires in
+    seen_as text ps marks (ends ++ at ∷ []) k.text.now c.mark.new.self refl (sym r.marks) (sym r.ends)
+    (seen_ends text ps marks ends k.text.now k.seekers c.mark.new.self c.args.mark at c.in_ok-mark.ensures
+    (seen_as text ps marks ends k.text.now k.seekers r.begun r.marks r.ends seen))

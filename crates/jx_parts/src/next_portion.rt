@@ -1,0 +1,47 @@
+// What the next record of a stream says.
+ghost use Rattle.std.specs.Prelude.{◌≡◌, ◌≢◌, ◌↔◌, ℕ, List, Option, false, true, IfOk, IfErr, IsErrOf};
+ghost use Rattle.jx_portion.specs.Portion.{IsPortion, IsRecord};
+ghost use Rattle.jx_report.specs.declared.report_fault.ReportFault.TheVariants.{Read, Write};
+ghost use Rattle.jx_parts.specs.inside.Reading.{IsNext};
+
+use crate::parts_fault::{PartsFault, fault_of_run};
+use crate::record_reading::next_record;
+use jx_lex::Depth;
+use jx_portion::{Portion, decode};
+use jx_report::Source;
+use std::alloc::Global;
+
+/// The portion that a record says, whose number is told where it is refused.
+fn portion_by(alloc: Global, bytes: &[u8], number: usize) -> Result<Portion, PartsFault>
+    ensures reads { IfOk result (λ p. (part : List ℕ) (from : Option ℕ) (depth : ℕ) → IsRecord part from depth bytes.now → IsPortion part from depth p) }
+    ensures unread { IfErr result (λ fault. fault ≢ PartsFault.Report Read) }
+    ensures unwritten { IfErr result (λ fault. fault ≢ PartsFault.Report Write) }
+{
+    match decode(alloc, bytes) {
+        Ok(portion) => Ok(portion),
+        Err(fault) => Err(fault_of_run(fault, number)),
+    }
+}
+
+/// Reads the next record of a stream, which has this number, and answers the portion that it says, or nothing where the stream
+/// ends.
+pub(crate) fn next_portion<S: Source>(
+    alloc: Global,
+    reader: &mut S,
+    depth: Depth,
+    number: usize,
+) -> Result<Option<Portion>, PartsFault>
+    requires unfailed { S.has_failed reader.old ≡ false }
+    ensures ok { IfOk result (IsNext (S.remaining reader.old) (S.remaining reader.new)) }
+    ensures read { IsErrOf result (PartsFault.Report Read) ↔ (S.has_failed reader.new ≡ true) }
+    ensures going { IfOk result (λ _. S.has_failed reader.new ≡ false) }
+    ensures unwritten { IfErr result (λ fault. fault ≢ PartsFault.Report Write) }
+{
+    match next_record(alloc, reader, depth, number)? {
+        None => Ok(None),
+        Some(bytes) => {
+            let portion = portion_by(alloc, &bytes, number)?;
+            Ok(Some(portion))
+        }
+    }
+}

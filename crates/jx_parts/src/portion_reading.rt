@@ -1,0 +1,65 @@
+// The run of a part of a text, which is read batch by batch.
+ghost use Rattle.std.specs.Prelude.{◌≡◌, ◌≢◌, ◌+◌, ◌<◌, ◌≤◌, ◌^◌, ◌↔◌, ◌++◌, ℕ, List, [], Option, length, true, false, IfOk, IfErr, IsErrOf};
+ghost use Rattle.jx_portion.specs.Portion.{IsPortion};
+ghost use Rattle.jx_parts.specs.inside.Reading.{IsRead};
+
+use jx_lex::Depth;
+use jx_portion::Portion;
+use jx_report::{ReportFault, Source, fill_buffer};
+use std::alloc::{AllocError, Global};
+
+/// How many bytes of a part are read at a time.
+pub(crate) const BATCH: usize = 256 * 1024;
+
+/// The run of no bytes, which stand at an offset if it is told.
+fn beginning(alloc: Global, from: Option<usize>, depth: Depth) -> Result<Portion, ReportFault>
+    ensures of { IfOk result (IsPortion [] from depth) }
+    ensures fault { IfErr result (λ fault. fault ≡ ReportFault.Memory) }
+{
+    match Portion::of(alloc, &[], from, depth) {
+        Ok(portion) => Ok(portion),
+        Err(AllocError) => Err(ReportFault::Memory),
+    }
+}
+
+/// The run of a part with more bytes behind it. Memory is refused too where the last of them has no offset.
+fn with_batch(alloc: Global, portion: Portion, batch: &[u8]) -> Result<Portion, ReportFault>
+    ensures below { portion.run.end < 2 ^ 64 }
+    ensures grows { IfOk result (λ p. p.run.end ≡ portion.run.end + length batch.now) }
+    ensures of { IfOk result (λ p. (text : List ℕ) (from : Option ℕ) (depth : ℕ) → IsPortion text from depth portion
+        → IsPortion (text ++ batch.now) from depth p) }
+    ensures fault { IfErr result (λ fault. fault ≡ ReportFault.Memory) }
+{
+    if batch.len() > usize::MAX - portion.end() {
+        return Err(ReportFault::Memory);
+    }
+    match portion.and(alloc, batch) {
+        Ok(portion) => Ok(portion),
+        Err(AllocError) => Err(ReportFault::Memory),
+    }
+}
+
+/// Reads to the end of input, so many bytes at a time, and answers their run.
+pub(crate) fn read_portion<S: Source>(
+    alloc: Global,
+    reader: &mut S,
+    from: Option<usize>,
+    depth: Depth,
+    batch: usize,
+) -> Result<Portion, ReportFault>
+    requires unfailed { S.has_failed reader.old ≡ false }
+    requires some { 1 ≤ batch }
+    ensures ok { IfOk result (IsRead from depth (S.remaining reader.old) (S.remaining reader.new)) }
+    ensures read { IsErrOf result ReportFault.Read ↔ (S.has_failed reader.new ≡ true) }
+    ensures unwritten { IfErr result (λ fault. fault ≢ ReportFault.Write) }
+{
+    let mut buffer = Vec::new(alloc);
+    let mut portion = beginning(alloc, from, depth)?;
+    loop {
+        let filled = fill_buffer(reader, &mut buffer, batch)?;
+        portion = with_batch(alloc, portion, &buffer[..filled])?;
+        if filled < batch {
+            return Ok(portion);
+        }
+    }
+}

@@ -1,0 +1,35 @@
+// A record, as it is written.
+ghost use Rattle.std.specs.Prelude.{◌≡◌, ◌≢◌, ◌↔◌, false, true, IfErr, IsErrOf, OnOk};
+ghost use Rattle.std.specs.Io.KnownBytes.{Appends};
+ghost use Rattle.jx_report.specs.Ends.{AppendsBeginning};
+ghost use Rattle.jx_report.specs.declared.report_fault.ReportFault.TheVariants.{Read, Write};
+ghost use Rattle.jx_parts.specs.inside.Writing.{IsWritten};
+
+use crate::parts_fault::PartsFault;
+use jx_portion::Portion;
+use jx_report::{ReportFault, Sink, write_whole};
+use std::alloc::{AllocError, Global};
+
+/// Writes the record of a portion.
+pub(crate) fn write_record<W: Sink>(
+    alloc: Global,
+    writer: &mut W,
+    portion: &Portion,
+) -> Result<(), PartsFault>
+    requires { W.has_failed writer.old ≡ false }
+    ensures ok { OnOk result (IsWritten (Appends (W.contents writer.old) (W.contents writer.new)) portion.now) }
+    ensures write { IsErrOf result (PartsFault.Report Write) ↔ (W.has_failed writer.new ≡ true) }
+    ensures beginning { IsErrOf result (PartsFault.Report Write)
+        → IsWritten (AppendsBeginning (W.contents writer.old) (W.contents writer.new)) portion.now }
+    ensures unwritten { IfErr result (λ fault. fault ≢ PartsFault.Report Write → writer.new ≡ writer.old) }
+    ensures unread { IfErr result (λ fault. fault ≢ PartsFault.Report Read) }
+{
+    let bytes = match portion.encode(alloc) {
+        Ok(bytes) => bytes,
+        Err(AllocError) => return Err(PartsFault::Report(ReportFault::Memory)),
+    };
+    match write_whole(writer, &bytes) {
+        Ok(()) => Ok(()),
+        Err(fault) => Err(PartsFault::Report(fault)),
+    }
+}

@@ -1,0 +1,108 @@
+// What is written for a part, for the runs of parts, and for the runs of a whole text.
+ghost use Rattle.std.specs.Prelude.{◌≡◌, ◌≢◌, ◌↔◌, true, false, IfOk, IfErr, IsErrOf, OnOk};
+ghost use Rattle.jx_portion.specs.Portion.{IsRecord};
+ghost use Rattle.jx_report.specs.declared.report_fault.ReportFault.TheVariants.{Read, Write};
+ghost use Rattle.jx_parts.specs.Reports.{Joins, SaysWhole, SaysWholeSo, Writes, WritesInPart};
+
+use crate::joining::read_joined;
+use crate::parts_fault::PartsFault;
+use crate::portion_reading::{BATCH, read_portion};
+use crate::record_writing::write_record;
+use jx_lex::Depth;
+use jx_report::{Exit, Sink, Source, write_verdict};
+use std::alloc::Global;
+
+/// Reads a part of a text to its end, batch by batch, and then writes its run. Where `from` is told, the part begins at that
+/// offset of the text. Memory is refused too where its last byte has no offset.
+pub fn report_part<S: Source, W: Sink>(
+    alloc: Global,
+    reader: &mut S,
+    writer: &mut W,
+    from: Option<usize>,
+    depth: Depth,
+) -> Result<(), PartsFault>
+    requires reader { S.has_failed reader.old ≡ false }
+    requires writer { W.has_failed writer.old ≡ false }
+    // All that the reader had was read, and its record was written.
+    ensures ok { OnOk result (Writes (λ text output. IsRecord text from depth output) (S.remaining reader.old) (S.remaining reader.new)
+        (W.contents writer.old) (W.contents writer.new)) }
+    ensures read { IsErrOf result (PartsFault.Report Read) ↔ (S.has_failed reader.new ≡ true) }
+    ensures write { IsErrOf result (PartsFault.Report Write) ↔ (W.has_failed writer.new ≡ true) }
+    // After any other fault the writer is as it was.
+    ensures unwritten { IfErr result (λ fault. fault ≢ PartsFault.Report Write → writer.new ≡ writer.old) }
+    // After a write fault all was read, and a beginning of its record was written.
+    ensures beginning { IsErrOf result (PartsFault.Report Write) → WritesInPart (λ text output. IsRecord text from depth output) (S.remaining reader.old)
+        (S.remaining reader.new) (W.contents writer.old) (W.contents writer.new) }
+{
+    let portion = match read_portion(alloc, reader, from, depth, BATCH) {
+        Ok(portion) => portion,
+        Err(fault) => return Err(PartsFault::Report(fault)),
+    };
+    write_record(alloc, writer, &portion)
+}
+
+/// Reads runs to the end of input, which stand one behind another in the order of their parts, and then writes the run of all
+/// these parts. Each has to be made with this depth, and to begin where the one before it ends, if they tell.
+pub fn report_joined<S: Source, W: Sink>(
+    alloc: Global,
+    reader: &mut S,
+    writer: &mut W,
+    depth: Depth,
+) -> Result<(), PartsFault>
+    requires reader { S.has_failed reader.old ≡ false }
+    requires writer { W.has_failed writer.old ≡ false }
+    // All that the reader had was read; where it was records of parts, that of the parts joined was written.
+    ensures ok { OnOk result (Writes (Joins depth) (S.remaining reader.old) (S.remaining reader.new)
+        (W.contents writer.old) (W.contents writer.new)) }
+    ensures read { IsErrOf result (PartsFault.Report Read) ↔ (S.has_failed reader.new ≡ true) }
+    ensures write { IsErrOf result (PartsFault.Report Write) ↔ (W.has_failed writer.new ≡ true) }
+    // After any other fault the writer is as it was.
+    ensures unwritten { IfErr result (λ fault. fault ≢ PartsFault.Report Write → writer.new ≡ writer.old) }
+    // After a write fault all was read, and a beginning of the output was written.
+    ensures beginning { IsErrOf result (PartsFault.Report Write) → WritesInPart (Joins depth) (S.remaining reader.old) (S.remaining reader.new)
+        (W.contents writer.old) (W.contents writer.new) }
+{
+    let joined = read_joined(alloc, reader, depth)?;
+    write_record(alloc, writer, &joined)
+}
+
+/// Reads runs to the end of input as `report_joined` does, and then writes the line of the verdict on the text that they make, as
+/// a report on this text does, unless it is quiet. They have to cover the bytes of the text from the offset `from` up to the
+/// offset `to`.
+pub fn report_whole<S: Source, W: Sink>(
+    alloc: Global,
+    reader: &mut S,
+    writer: &mut W,
+    depth: Depth,
+    from: usize,
+    to: usize,
+    quiet: bool,
+) -> Result<Exit, PartsFault>
+    requires reader { S.has_failed reader.old ≡ false }
+    requires writer { W.has_failed writer.old ≡ false }
+    // All that the reader had was read; where it was records of parts, the verdict on the parts joined was written.
+    ensures ok { IfOk result (λ exit. Writes (SaysWhole from to depth quiet exit) (S.remaining reader.old) (S.remaining reader.new)
+        (W.contents writer.old) (W.contents writer.new)) }
+    ensures read { IsErrOf result (PartsFault.Report Read) ↔ (S.has_failed reader.new ≡ true) }
+    ensures write { IsErrOf result (PartsFault.Report Write) ↔ (W.has_failed writer.new ≡ true) }
+    // After any other fault the writer is as it was.
+    ensures unwritten { IfErr result (λ fault. fault ≢ PartsFault.Report Write → writer.new ≡ writer.old) }
+    // After a write fault all was read, and a beginning of the line was written.
+    ensures beginning { IsErrOf result (PartsFault.Report Write) → WritesInPart (SaysWholeSo from to depth quiet) (S.remaining reader.old)
+        (S.remaining reader.new) (W.contents writer.old) (W.contents writer.new) }
+{
+    let joined = read_joined(alloc, reader, depth)?;
+    let (start, end) = (joined.start(), joined.end());
+    if start != from || end != to {
+        return Err(PartsFault::Elsewhere {
+            start,
+            end,
+            from,
+            to,
+        });
+    }
+    match write_verdict(alloc, writer, joined.verdict(), quiet) {
+        Ok(exit) => Ok(exit),
+        Err(fault) => Err(PartsFault::Report(fault)),
+    }
+}

@@ -1,0 +1,18 @@
+//! What reading a part of a text comes to, as bytes: records that other machines read and join.
+#![tactic(auto)]
+
+mod choices;
+mod decoding;
+mod encoding;
+mod fault;
+mod fields;
+mod forms;
+mod numbers;
+mod portion;
+mod record;
+mod spelt;
+
+pub use decoding::decode;
+pub use fault::{DecodeFault, Field, RunFault};
+pub use portion::{Mismatch, Portion};
+pub use record::{HEAD, Head, head_of};

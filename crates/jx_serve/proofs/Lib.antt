@@ -1,0 +1,4 @@
+pub mod Documents
+pub mod LastHolding
+pub mod Outlines
+pub mod ValuesAt

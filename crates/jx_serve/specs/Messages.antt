@@ -1,0 +1,8 @@
+-- What the messages of the server are.
+use Rattle.jx_run.specs.declared.settings.FrontMark.TheVariants as mark
+use Rattle.jx_run.specs.declared.settings.NameRule.TheVariants as names
+use Rattle.jx_run.specs.declared.settings.Settings.{Settings}
+
+-- no byte order mark, and no name twice
+abbrev pub message_settings : Settings
+message_settings = record { depth = 512; mark = mark.Refused; names = names.Unique }

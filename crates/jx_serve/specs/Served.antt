@@ -1,0 +1,196 @@
+-- What a server knows of its client, and what it may tell it.
+use Rattle.std.specs.Prelude.{◌≡◌, ◌⊎◌, ℕ, List, Option, None, Some, false, true, fold, map, position, slice_get, slice_set, MatchOption, Vec}
+use Rattle.std.specs.Global.{Global}
+use Rattle.std.specs.Str.{bytes_eq}
+use Rattle.jx_edit.specs.declared.encoding.Encoding.{Encoding}
+use Rattle.jx_edit.specs.Positions.{offset_at}
+use Rattle.jx_index.specs.ByNames.{IsVerdictBy}
+use Rattle.jx_run.specs.declared.settings.Settings.{Settings}
+use Rattle.jx_run.specs.declared.verdict.Refusal.{Refusal}
+use Rattle.jx_run.specs.declared.verdict.Verdict.{Verdict}
+use Rattle.jx_run.specs.declared.verdict.Verdict.TheVariants as verdict
+use Rattle.jx_wire.specs.declared.call.Change.{Change}
+use Rattle.jx_wire.specs.declared.call.Place.{Place}
+use Rattle.jx_serve.specs.Changes.{HeldValue, changed, lose, position as place_of}
+use Rattle.jx_serve.specs.Marks.{told}
+use Rattle.jx_serve.specs.Values.{HasNoValueAt, IsHoverAt, IsOutline}
+use Rattle.jx_serve.specs.declared.reply.Code.TheVariants.{RequestFailed}
+use Rattle.jx_serve.specs.declared.reply.Reply.{Reply}
+use Rattle.jx_serve.specs.declared.reply.Reply.TheVariants.{Nothing, Initialized, Null, Hovered, Outlined, Refused, Published, Closed, Logged}
+use Rattle.jx_serve.specs.declared.server.Phase.{Phase}
+
+-- a document that is open: what its name stands for, how that is spelt in messages, and its bytes
+pub record OpenValue : Type 0 where
+  pub name : List ℕ
+  pub spelt : List ℕ
+  pub held : HeldValue
+
+pub record ServerValue : Type 0 where
+  pub phase : Phase
+  pub encoding : Encoding
+  pub settings : Settings
+  pub documents : List OpenValue
+
+-- the number of the first document of a name
+abbrev pub number_named : List ℕ → List OpenValue → Option ℕ
+number_named name documents = position (λ (d : OpenValue). bytes_eq d.name name) documents
+
+-- ---- what changes make
+
+-- a document behind changes, made in order; where memory was refused its bytes are lost
+pub record IsFollowed (e : Encoding) (changes : List Change) (before after : OpenValue) : Type 0 where
+  pub same_name : after.name ≡ before.name
+  pub same_spelling : after.spelt ≡ before.spelt
+  pub made : (after.held ≡ fold (changed e) before.held changes) ⊎ (after.held.lost ≡ true)
+
+-- changes of the document of this number, and of no other
+pub record AreMadeAt (e : Encoding) (number : ℕ) (changes : List Change) (before after : List OpenValue) : Type 0 where
+  pub document : OpenValue
+  pub now : OpenValue
+  pub was : slice_get before number ≡ Some document
+  pub followed : IsFollowed e changes document now
+  pub others : after ≡ slice_set before number now
+
+-- changes of the first document of a name, if there is one
+abbrev pub AreMade : Encoding → List ℕ → List Change → List OpenValue → List OpenValue → Type 0
+AreMade e name changes before after =
+    MatchOption (number_named name before) (after ≡ before) (λ number. AreMadeAt e number changes before after)
+
+-- its bytes are lost
+abbrev pub lost_open : OpenValue → OpenValue
+lost_open document = record document { held = lose document.held }
+
+abbrev pub all_lost : ServerValue → ServerValue
+all_lost server = record server { documents = map lost_open server.documents }
+
+-- ---- what is published
+
+-- the document has this verdict on exactly its bytes, by its settings; its name is spelt so, and its bytes are not lost
+pub record IsVerdictOn (document : OpenValue) (uri : List ℕ) (verdict : Verdict) : Type 0 where
+  pub is_spelt : document.spelt ≡ uri
+  pub is_known : document.held.lost ≡ false
+  pub is_verdict : IsVerdictBy document.held.settings document.held.bytes verdict
+
+-- what is published is the verdict on this document
+abbrev pub TellsOf : OpenValue → Reply → Type 0
+TellsOf document Nothing = Unit {0}
+TellsOf document (Initialized id utf8) = Unit {0}
+TellsOf document (Null id) = Unit {0}
+TellsOf document (Hovered id hover) = Unit {0}
+TellsOf document (Outlined id uri outline) = Unit {0}
+TellsOf document (Refused id code refusal) = Unit {0}
+TellsOf document (Published uri version mark) = IsVerdictOn document uri.items (told mark)
+TellsOf document (Closed uri) = Unit {0}
+TellsOf document (Logged trouble) = Unit {0}
+
+-- what is published is the verdict on a document that is open
+pub record Tells (server : ServerValue) (reply : Reply) : Type 0 where
+  pub number : ℕ
+  pub document : OpenValue
+  pub is_open : slice_get server.documents number ≡ Some document
+  pub tells : TellsOf document reply
+
+-- it publishes nothing
+abbrev pub IsQuiet : Reply → Type 0
+IsQuiet Nothing = Unit {0}
+IsQuiet (Initialized id utf8) = Unit {0}
+IsQuiet (Null id) = Unit {0}
+IsQuiet (Hovered id hover) = Unit {0}
+IsQuiet (Outlined id uri outline) = Unit {0}
+IsQuiet (Refused id code refusal) = Unit {0}
+IsQuiet (Published uri version mark) = ⊥
+IsQuiet (Closed uri) = Unit {0}
+IsQuiet (Logged trouble) = Unit {0}
+
+abbrev pub TellsVerdict : ServerValue → Reply → Type 0
+TellsVerdict server reply = IsQuiet reply ⊎ Tells server reply
+
+-- what is published has this version
+abbrev pub HasVersion : Option (Vec ℕ Global) → Reply → Type 0
+HasVersion version Nothing = Unit {0}
+HasVersion version (Initialized id utf8) = Unit {0}
+HasVersion version (Null id) = Unit {0}
+HasVersion version (Hovered id hover) = Unit {0}
+HasVersion version (Outlined id uri outline) = Unit {0}
+HasVersion version (Refused id code refusal) = Unit {0}
+HasVersion version (Published uri told mark) = told ≡ version
+HasVersion version (Closed uri) = Unit {0}
+HasVersion version (Logged trouble) = Unit {0}
+
+-- ---- what is answered
+
+-- a request is answered once, with its id, and a notification never
+abbrev pub IsAnswer : Option (Vec ℕ Global) → Reply → Type 0
+IsAnswer (Some id) Nothing = ⊥
+IsAnswer (Some id) (Initialized other utf8) = other ≡ id
+IsAnswer (Some id) (Null other) = other ≡ id
+IsAnswer (Some id) (Hovered other hover) = other ≡ id
+IsAnswer (Some id) (Outlined other uri outline) = other ≡ id
+IsAnswer (Some id) (Refused other code refusal) = other ≡ Some id
+IsAnswer (Some id) (Published uri version mark) = ⊥
+IsAnswer (Some id) (Closed uri) = ⊥
+IsAnswer (Some id) (Logged trouble) = ⊥
+IsAnswer None Nothing = Unit {0}
+IsAnswer None (Initialized other utf8) = ⊥
+IsAnswer None (Null other) = ⊥
+IsAnswer None (Hovered other hover) = ⊥
+IsAnswer None (Outlined other uri outline) = ⊥
+IsAnswer None (Refused other code refusal) = ⊥
+IsAnswer None (Published uri version mark) = Unit {0}
+IsAnswer None (Closed uri) = Unit {0}
+IsAnswer None (Logged trouble) = Unit {0}
+
+-- ---- what is shown
+
+-- the document of a number is there, and something holds of it
+pub record IsOf (documents : List OpenValue) (number : ℕ) (P : OpenValue → Type 0) : Type 0 where
+  pub document : OpenValue
+  pub is_open : slice_get documents number ≡ Some document
+  pub it_holds : P document
+
+abbrev pub IsNull : Reply → Type 0
+IsNull (Null id) = Unit {0}
+IsNull Nothing = ⊥
+IsNull (Initialized id utf8) = ⊥
+IsNull (Hovered id hover) = ⊥
+IsNull (Outlined id uri outline) = ⊥
+IsNull (Refused id code refusal) = ⊥
+IsNull (Published uri version mark) = ⊥
+IsNull (Closed uri) = ⊥
+IsNull (Logged trouble) = ⊥
+
+-- the value at a place of a document, or null where its bytes are lost or no value is there, or that memory was refused
+abbrev pub IsHoverIn : Encoding → Place → Reply → OpenValue → Type 0
+IsHoverIn e place (Hovered id hover) document =
+    (document.held.lost ≡ false) × IsHoverAt e document.held.settings document.held.bytes (offset_at e document.held.bytes (place_of place)) hover
+IsHoverIn e place (Null id) document =
+    (document.held.lost ≡ true) ⊎ HasNoValueAt document.held.settings document.held.bytes (offset_at e document.held.bytes (place_of place))
+IsHoverIn e place (Refused id code refusal) document = code ≡ RequestFailed
+IsHoverIn e place Nothing document = ⊥
+IsHoverIn e place (Initialized id utf8) document = ⊥
+IsHoverIn e place (Outlined id uri outline) document = ⊥
+IsHoverIn e place (Published uri version mark) document = ⊥
+IsHoverIn e place (Closed uri) document = ⊥
+IsHoverIn e place (Logged trouble) document = ⊥
+
+-- the first values of a document, or null where its bytes are lost or no text, or that memory was refused
+abbrev pub IsOutlineIn : Encoding → Reply → OpenValue → Type 0
+IsOutlineIn e (Outlined id uri outline) document =
+    (uri.items ≡ document.spelt) × (document.held.lost ≡ false) × IsOutline e document.held.settings document.held.bytes outline
+IsOutlineIn e (Null id) document = (document.held.lost ≡ true) ⊎ ((refusal : Refusal) × IsVerdictBy document.held.settings document.held.bytes (verdict.Refused refusal))
+IsOutlineIn e (Refused id code refusal) document = code ≡ RequestFailed
+IsOutlineIn e Nothing document = ⊥
+IsOutlineIn e (Initialized id utf8) document = ⊥
+IsOutlineIn e (Hovered id hover) document = ⊥
+IsOutlineIn e (Published uri version mark) document = ⊥
+IsOutlineIn e (Closed uri) document = ⊥
+IsOutlineIn e (Logged trouble) document = ⊥
+
+-- what is answered of the first document of a name; null where there is none
+abbrev pub IsHover : ServerValue → List ℕ → Place → Reply → Type 0
+IsHover server name place reply =
+    MatchOption (number_named name server.documents) (IsNull reply) (λ number. IsOf server.documents number (IsHoverIn server.encoding place reply))
+
+abbrev pub AreSymbols : ServerValue → List ℕ → Reply → Type 0
+AreSymbols server name reply =
+    MatchOption (number_named name server.documents) (IsNull reply) (λ number. IsOf server.documents number (IsOutlineIn server.encoding reply))

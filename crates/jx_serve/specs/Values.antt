@@ -1,0 +1,91 @@
+-- The value at an offset of a document, and how it is shown.
+use Rattle.std.specs.Prelude.{◌≡◌, ℕ, ◌<◌, ◌&&◌, nat_le, nat_lt, List, Bool, true, false, Option, None, Some, Ok, IfSome, map, slice_get, take}
+use Rattle.jx_edit.specs.Positions.{position_at}
+use Rattle.jx_edit.specs.declared.encoding.Encoding.{Encoding}
+use Rattle.jx_index.specs.ByNames.{IsVerdictBy}
+use Rattle.jx_index.specs.Leads.{leads}
+use Rattle.jx_index.specs.Pointers.{tokens}
+use Rattle.jx_index.specs.Rows.{rows}
+use Rattle.jx_index.specs.declared.row.Row.{Row}
+use Rattle.jx_run.specs.Settings.{IsDocumentBy}
+use Rattle.jx_run.specs.Tree.{Tree}
+use Rattle.jx_run.specs.declared.settings.Settings.{Settings}
+use Rattle.jx_run.specs.declared.verdict.Refusal.{Refusal}
+use Rattle.jx_run.specs.declared.verdict.Verdict.TheVariants.{Refused}
+use Rattle.jx_serve.specs.declared.hover.Hover.{Hover}
+use Rattle.jx_serve.specs.declared.symbols.Outline.{Outline}
+use Rattle.jx_serve.specs.declared.symbols.Symbol.{Symbol}
+use Rattle.jx_serve.specs.declared.under_cursor.ValueAt.{ValueAt}
+
+-- ---- the value at an offset
+
+abbrev pub holds : ℕ → Row → Bool
+holds offset row = nat_le row.span.start offset && nat_lt offset row.span.end
+
+abbrev pub holds_in : ℕ → Option Row → Bool
+holds_in offset None = false
+holds_in offset (Some row) = holds offset row
+
+-- whether the span of the row with a number holds an offset
+abbrev pub holds_at : List Row → ℕ → ℕ → Bool
+holds_at table offset number = holds_in offset (slice_get table number)
+
+-- the last row whose span holds an offset. Rows stand in rising order of their starts, a value before those in it, so this is the
+-- innermost of them
+pub record IsInnermost (table : List Row) (offset number : ℕ) : Type 0 where
+  pub here : holds_at table offset number ≡ true
+  pub last : (k : ℕ) → number < k → holds_at table offset k ≡ false
+
+abbrev pub IsInNone : List Row → ℕ → Type 0
+IsInNone table offset = (k : ℕ) → holds_at table offset k ≡ false
+
+-- of a text, the innermost value that holds an offset; the pointer leads to it, if one is told
+pub record IsValueAt (settings : Settings) (bytes : List ℕ) (offset : ℕ) (value : ValueAt) : Type 0 where
+  pub tree : Tree
+  pub is_text : IsDocumentBy settings 0 bytes tree
+  pub number : ℕ
+  pub innermost : IsInnermost (rows tree) offset number
+  pub is_row : slice_get (rows tree) number ≡ Some value.row
+  pub led : IfSome value.pointer (λ pointer. leads bytes tree (tokens pointer.items) ≡ Ok number)
+
+-- no text, or a text in which no value holds an offset
+pub data HasNoValueAt (settings : Settings) (bytes : List ℕ) (offset : ℕ) : Type 0 where
+  no_text : {refusal : Refusal} → IsVerdictBy settings bytes (Refused refusal) → HasNoValueAt settings bytes offset
+  in_none : {tree : Tree} → IsDocumentBy settings 0 bytes tree → IsInNone (rows tree) offset → HasNoValueAt settings bytes offset
+
+abbrev pub IsFoundAt : Settings → List ℕ → ℕ → Option ValueAt → Type 0
+IsFoundAt settings bytes offset None = HasNoValueAt settings bytes offset
+IsFoundAt settings bytes offset (Some value) = IsValueAt settings bytes offset value
+
+-- ---- how it is shown
+
+-- the innermost value at an offset, with the positions of both its ends
+pub record IsHoverAt (e : Encoding) (settings : Settings) (bytes : List ℕ) (offset : ℕ) (hover : Hover) : Type 0 where
+  pub is_value : IsValueAt settings bytes offset hover.value
+  pub start_is : hover.start ≡ position_at e bytes hover.value.row.span.start
+  pub end_is : hover.end ≡ position_at e bytes hover.value.row.span.end
+
+abbrev pub IsHovered : Encoding → Settings → List ℕ → ℕ → Option Hover → Type 0
+IsHovered e settings bytes offset None = HasNoValueAt settings bytes offset
+IsHovered e settings bytes offset (Some hover) = IsHoverAt e settings bytes offset hover
+
+-- ---- the values of a text
+
+-- a row with the positions of both ends of its span
+abbrev pub symbol_of : Encoding → List ℕ → Row → Symbol
+symbol_of e bytes row = record { row = row; start = position_at e bytes row.span.start; end = position_at e bytes row.span.end }
+
+-- at most so many are listed
+abbrev pub most_symbols : ℕ
+most_symbols = 10000
+
+-- the first values of a text, in the order of their starts
+pub record IsOutline (e : Encoding) (settings : Settings) (bytes : List ℕ) (outline : Outline) : Type 0 where
+  pub tree : Tree
+  pub is_text : IsDocumentBy settings 0 bytes tree
+  pub text_is : outline.text.items ≡ bytes
+  pub symbols_are : outline.symbols.items ≡ map (symbol_of e bytes) (take most_symbols (rows tree))
+
+abbrev pub IsOutlined : Encoding → Settings → List ℕ → Option Outline → Type 0
+IsOutlined e settings bytes None = (refusal : Refusal) × IsVerdictBy settings bytes (Refused refusal)
+IsOutlined e settings bytes (Some outline) = IsOutline e settings bytes outline

@@ -1,0 +1,254 @@
+// A document that a client has open.
+ghost use Rattle.std.specs.Prelude.{◌≡◌, ◌≤◌, length, not, false, true, None, IfOk, IfSome, OnErr, OnOk, fold, is_some};
+ghost use Rattle.jx_edit.specs.declared.encoding.Encoding.{Encoding};
+ghost use Rattle.jx_index.specs.ByNames.{IsVerdictBy};
+ghost use Rattle.jx_serve.specs.Changes.{changed, held, lose, position, replaced};
+ghost use Rattle.jx_serve.specs.Values.{IsHovered, IsOutlined};
+ghost use Rattle.jx_serve.specs.inside.Names.{IsHeld};
+ghost use Rattle.jx_edit.specs.Positions.{offset_at};
+
+use crate::hover::Hover;
+use crate::symbols::{Outline, symbols_of};
+use crate::under_cursor::value_at;
+use jx_edit::{Document, EditFault, Encoding, Position};
+use jx_index::{names_are_refused_by_rows, read_rows, verdict_with_unique_names};
+use jx_run::{NameRule, NoPause, Settings, Verdict};
+use jx_wire::{Change, Place};
+use std::alloc::{AllocError, Global};
+use std::marker::Model;
+
+/// The bytes that a client has in a document, unless they are lost: where a change was refused, the client has gone on with
+/// other bytes, and nobody knows these until it sends all of them.
+#[derive(Drop)]
+pub struct Held {
+    alloc: Global,
+    settings: Settings,
+    document: Document,
+    lost: bool,
+}
+
+impl Model for Held {
+    ghost use Rattle.jx_serve.specs.Changes.{HeldValue};
+    ghost use Rattle.jx_serve.specs.inside.Names.{IsHeld};
+
+    ghost Value = { HeldValue };
+
+    ghost view = { λ h. record { settings = h.settings; bytes = h.document.bytes; lost = h.lost } };
+
+    ghost invariant = { λ h. IsHeld h.settings h.document.settings };
+}
+
+/// A document of these bytes, whatever names its objects have.
+fn document_of(alloc: Global, text: &[u8], settings: &Settings) -> Result<Document, AllocError>
+    ensures bytes { IfOk result (λ d. d.bytes ≡ text.now) }
+    ensures settings { IfOk result (λ d. IsHeld settings.now d.settings) }
+{
+    let any = Settings {
+        depth: settings.depth,
+        mark: settings.mark,
+        names: NameRule::Any,
+    };
+    match Document::of(alloc, text, any) {
+        Ok(document) => Ok(document),
+        Err(_) => Err(AllocError),
+    }
+}
+
+impl Held {
+    /// A document of these bytes.
+    pub fn of(alloc: Global, text: &[u8], settings: Settings) -> Result<Held, AllocError>
+        ensures { IfOk result (λ h. h ≡ held settings text.now) }
+    {
+        let document = document_of(alloc, text, &settings)?;
+        Ok(Held {
+            alloc,
+            settings,
+            document,
+            lost: false,
+        })
+    }
+
+    /// Whether its bytes are lost.
+    pub fn is_lost(&self) -> bool
+        ensures { result ≡ self.now.lost }
+    {
+        self.lost
+    }
+
+    /// Its document.
+    pub fn document(&self) -> &Document
+        ensures { result.now.bytes ≡ self.now.bytes }
+    {
+        &self.document
+    }
+
+    /// Forgets the bytes until all of them come.
+    pub fn lose(&mut self)
+        ensures { self.new ≡ lose self.old }
+    {
+        self.lost = true;
+    }
+
+    /// Makes a change. Where memory is refused, the bytes are lost.
+    pub fn change(&mut self, change: &Change, encoding: Encoding) -> Result<(), AllocError>
+        ensures ok { OnOk result (self.new ≡ changed encoding self.old change.now) }
+        ensures err { OnErr result (self.new ≡ lose self.old) }
+    {
+        match change {
+            Change::Whole(text) => self.renew(text),
+            Change::Unknown => {
+                self.lost = true;
+                Ok(())
+            }
+            Change::Range { start, end, text } => {
+                if self.lost {
+                    return Ok(());
+                }
+                let from = self.document.offset_of(position_of(*start), encoding);
+                // What is put in has one place: its offset is not looked for twice.
+                if start == end {
+                    return self.replace(from, from, text);
+                }
+                let to = self.document.offset_of(position_of(*end), encoding);
+                self.replace(from, to, text)
+            }
+        }
+    }
+
+    /// Begins anew with other bytes.
+    fn renew(&mut self, text: &[u8]) -> Result<(), AllocError>
+        ensures ok { OnOk result (self.new ≡ held self.old.settings text.now) }
+        ensures err { OnErr result (self.new ≡ lose self.old) }
+    {
+        match document_of(self.alloc, text, &self.settings) {
+            Ok(document) => {
+                self.document = document;
+                self.lost = false;
+                Ok(())
+            }
+            Err(AllocError) => {
+                self.lost = true;
+                Err(AllocError)
+            }
+        }
+    }
+
+    /// Puts other bytes in the place of those from `start` up to `end`. The bytes are lost where that is no range.
+    fn replace(&mut self, start: usize, end: usize, text: &[u8]) -> Result<(), AllocError>
+        requires { end ≤ length self.old.bytes }
+        ensures ok { OnOk result (self.new ≡ replaced start end text.now self.old) }
+        ensures err { OnErr result (self.new ≡ lose self.old) }
+    {
+        match self.document.edit(start, end, text) {
+            Ok(()) => Ok(()),
+            Err(EditFault::OutOfBounds) => {
+                self.lost = true;
+                Ok(())
+            }
+            Err(EditFault::Memory) => {
+                self.lost = true;
+                Err(AllocError)
+            }
+        }
+    }
+
+    /// Makes changes, each to what the one before it left. Where memory is refused, the bytes are lost.
+    pub fn change_all(&mut self, changes: &[Change], encoding: Encoding) -> Result<(), AllocError>
+        ensures ok { OnOk result (self.new ≡ fold (changed encoding) self.old changes.now) }
+        ensures err { OnErr result (self.new.lost ≡ true) }
+    {
+        for change in changes {
+            self.change(change, encoding)?;
+        }
+        Ok(())
+    }
+
+    /// The innermost value at a place, with its positions (RFC 8259); none where the bytes are lost or refused by the settings,
+    /// or where no value stands there. A copy of all bytes is read.
+    pub fn hover(&self, place: Place, encoding: Encoding) -> Result<Option<Hover>, AllocError>
+        ensures lost { self.now.lost ≡ true → IfOk result (λ hover. hover ≡ None) }
+        ensures value { self.now.lost ≡ false → IfOk result (IsHovered encoding self.now.settings self.now.bytes (offset_at encoding self.now.bytes (position place))) }
+    {
+        if self.lost {
+            return Ok(None);
+        }
+        let offset = self.document.offset_of(position_of(place), encoding);
+        let bytes = self.copy()?;
+        match value_at(self.alloc, &bytes, &self.settings, offset)? {
+            None => Ok(None),
+            Some(value) => {
+                let start = self.document.position_of(value.row.span.start, encoding);
+                let end = self.document.position_of(value.row.span.end, encoding);
+                Ok(Some(Hover { value, start, end }))
+            }
+        }
+    }
+
+    /// The first 10,000 values, with their positions (RFC 8259); none where the bytes are lost or refused by the settings. A
+    /// copy of all bytes is read.
+    pub fn symbols(&self, encoding: Encoding) -> Result<Option<Outline>, AllocError>
+        ensures lost { self.now.lost ≡ true → IfOk result (λ outline. outline ≡ None) }
+        ensures values { self.now.lost ≡ false → IfOk result (IsOutlined encoding self.now.settings self.now.bytes) }
+    {
+        if self.lost {
+            return Ok(None);
+        }
+        let text = self.copy()?;
+        match read_rows(self.alloc, &text, &self.settings)? {
+            Err(_) => Ok(None),
+            Ok(rows) => {
+                let symbols = symbols_of(self.alloc, &self.document, &rows, encoding)?;
+                Ok(Some(Outline { text, symbols }))
+            }
+        }
+    }
+
+    /// All bytes.
+    fn copy(&self) -> Result<Vec<u8>, AllocError>
+        ensures { IfOk result (λ bytes. bytes.items ≡ self.now.bytes) }
+    {
+        match self.document.copy(0, self.document.len()) {
+            Ok(bytes) => Ok(bytes),
+            Err(_) => Err(AllocError),
+        }
+    }
+
+    /// The verdict on the bytes by the settings (RFC 8259); none where they are lost. Where names have to be unique, a copy of
+    /// all bytes is read.
+    pub fn verdict(&mut self) -> Result<Option<Verdict>, AllocError>
+        ensures same { self.new ≡ self.old }
+        ensures lost { IfOk result (λ verdict. is_some verdict ≡ not self.old.lost) }
+        ensures verdict { IfOk result (λ verdict. IfSome verdict (IsVerdictBy self.old.settings self.old.bytes)) }
+    {
+        names_are_refused_by_rows();
+        if self.lost {
+            return Ok(None);
+        }
+        match self.settings.names {
+            NameRule::Any => {
+                let verdict = self.document.verdict()?;
+                Ok(Some(verdict))
+            }
+            NameRule::Unique => {
+                let bytes = self.copy()?;
+                let verdict = verdict_with_unique_names(
+                    self.alloc,
+                    &bytes,
+                    &self.settings,
+                    &mut NoPause,
+                )?;
+                Ok(Some(verdict))
+            }
+        }
+    }
+}
+
+/// A place of a message as a position in a document.
+fn position_of(place: Place) -> Position
+    ensures { result ≡ position place }
+{
+    Position {
+        line: place.line,
+        character: place.character,
+    }
+}

@@ -1,0 +1,24 @@
+//! A language server as a state machine: a message goes in, and a reply comes out. It reads nothing and writes nothing.
+#![tactic(auto)]
+
+mod held;
+mod hover;
+mod mark;
+mod pointer_to;
+mod reply;
+mod reply_words;
+mod server;
+mod sorted_out;
+mod symbols;
+mod under_cursor;
+mod value_words;
+
+pub use held::Held;
+pub use hover::Hover;
+pub use mark::{Mark, mark_of};
+pub use reply::{Code, Reply, Trouble};
+pub use reply_words::{ReplyFault, message_of};
+pub use server::{Phase, Server};
+pub use sorted_out::{answer_to, broken_stream};
+pub use symbols::{Outline, Symbol};
+pub use under_cursor::{ValueAt, value_at};

@@ -1,0 +1,81 @@
+// What the server tells the client.
+use crate::hover::Hover;
+use crate::mark::Mark;
+use crate::symbols::Outline;
+use jx_run::Refusal;
+
+/// Why a request is answered by an error (JSON-RPC 2.0, section 5.1, and the protocol's own).
+#[derive(Clone, Copy, Debug, PartialEq, Eq)]
+pub enum Code {
+    /// The body is no JSON text, or the stream of frames cannot be read on.
+    ParseError,
+    /// It is no request, or comes after `shutdown`.
+    InvalidRequest,
+    /// The server does not know the method.
+    MethodNotFound,
+    /// Its parameters are missing or of a wrong kind.
+    InvalidParams,
+    /// It comes before `initialize`.
+    NotInitialized,
+    /// A growth of memory was refused.
+    RequestFailed,
+}
+
+/// Why a notification was not followed.
+#[derive(Clone, Copy, Debug, PartialEq, Eq)]
+pub enum Trouble {
+    /// Its parameters are missing or of a wrong kind.
+    WrongParameters,
+    /// The document is not open.
+    NotOpen,
+    /// The bytes that the client has are lost.
+    Lost,
+    /// A growth of memory was refused.
+    Memory,
+}
+
+/// What the server tells the client of a message.
+#[derive(Debug, Drop)]
+pub enum Reply {
+    Nothing,
+    /// The answer to `initialize`.
+    Initialized {
+        id: Vec<u8>,
+        utf8: bool,
+    },
+    /// The answer that says no more than that there is one.
+    Null {
+        id: Vec<u8>,
+    },
+    /// The value under a cursor.
+    Hovered {
+        id: Vec<u8>,
+        hover: Hover,
+    },
+    /// The values of a document, whose name is spelt so.
+    Outlined {
+        id: Vec<u8>,
+        uri: Vec<u8>,
+        outline: Outline,
+    },
+    /// An answer by an error. A body that is no JSON text has its refusal.
+    Refused {
+        id: Option<Vec<u8>>,
+        code: Code,
+        refusal: Option<Refusal>,
+    },
+    /// The verdict on a document of this version. What is accepted has no mark.
+    Published {
+        uri: Vec<u8>,
+        version: Option<Vec<u8>>,
+        mark: Option<Mark>,
+    },
+    /// That a document is closed: its mark is taken away.
+    Closed {
+        uri: Vec<u8>,
+    },
+    /// A line for the client's log.
+    Logged {
+        trouble: Trouble,
+    },
+}

@@ -1,0 +1,239 @@
+// Replies as messages.
+ghost use Rattle.std.specs.Prelude.{◌≡◌, IfOk};
+ghost use Rattle.jx_index.specs.ByNames.{IsVerdictBy};
+ghost use Rattle.jx_run.specs.declared.verdict.Verdict.TheVariants.{Accepted};
+ghost use Rattle.jx_serve.specs.Messages.{message_settings};
+
+use crate::mark::Mark;
+use crate::reply::{Code, Reply, Trouble};
+use crate::value_words::{add_all, add_hovered, add_outlined, add_range};
+use jx_index::verdict_with_unique_names;
+use jx_lex::Depth;
+use jx_run::{FrontMark, NameRule, NoPause, Refusal, Settings, Verdict};
+use std::alloc::{AllocError, Global};
+use thiserror::Error;
+
+/// Why a reply was not told.
+#[derive(Clone, Copy, Debug, Error, PartialEq, Eq)]
+pub enum ReplyFault {
+    /// What would be written is no JSON text. It is not written.
+    #[error("a reply is no JSON text")]
+    NoText,
+    /// A growth of memory was refused.
+    #[error("out of memory")]
+    Memory,
+}
+
+impl From<AllocError> for ReplyFault {
+    fn from(_: AllocError) -> ReplyFault {
+        ReplyFault::Memory
+    }
+}
+
+/// The version of the program.
+pub const VERSION: &str = "0.1.0";
+
+fn number_of_code(code: Code) -> &'static str {
+    match code {
+        Code::ParseError => "-32700",
+        Code::InvalidRequest => "-32600",
+        Code::MethodNotFound => "-32601",
+        Code::InvalidParams => "-32602",
+        Code::NotInitialized => "-32002",
+        Code::RequestFailed => "-32803",
+    }
+}
+
+fn words_of_code(code: Code) -> &'static str {
+    match code {
+        Code::ParseError => "no JSON text, or no frame",
+        Code::InvalidRequest => "no request, or none at this time",
+        Code::MethodNotFound => "method not known",
+        Code::InvalidParams => "parameters missing or of a wrong kind",
+        Code::NotInitialized => "not initialized",
+        Code::RequestFailed => "out of memory",
+    }
+}
+
+fn words_of_trouble(trouble: Trouble) -> &'static str {
+    match trouble {
+        Trouble::WrongParameters => "jx: parameters missing or of a wrong kind",
+        Trouble::NotOpen => "jx: document not open",
+        Trouble::Lost => "jx: document lost until its whole text is sent",
+        Trouble::Memory => "jx: out of memory",
+    }
+}
+
+/// The word for a refusal.
+fn code_of_refusal(refusal: Refusal) -> &'static str {
+    match refusal {
+        Refusal::Stopped { .. } => "stopped",
+        Refusal::Truncated => "truncated",
+        Refusal::TooDeep { .. } => "too deep",
+        Refusal::RepeatedName { .. } => "repeated name",
+    }
+}
+
+/// What `jx check` prints for a refusal.
+fn words_of_refusal(alloc: Global, refusal: Refusal) -> Result<String, AllocError> {
+    let words = code_of_refusal(refusal);
+    match refusal {
+        Refusal::Stopped { at } | Refusal::TooDeep { at } | Refusal::RepeatedName { at } => {
+            format!(in alloc; "{words} at {at}")
+        }
+        Refusal::Truncated => String::from_str(alloc, words),
+    }
+}
+
+fn add_initialized(out: &mut Vec<u8>, id: &[u8], utf8: bool) -> Result<(), AllocError> {
+    let encoding: &[u8] = if utf8 {
+        b"\"positionEncoding\":\"utf-8\","
+    } else {
+        b""
+    };
+    add_all(
+        out,
+        &[
+            b"{\"jsonrpc\":\"2.0\",\"id\":",
+            id,
+            b",\"result\":{\"capabilities\":{",
+            encoding,
+            b"\"textDocumentSync\":{\"openClose\":true,\"change\":2},\"hoverProvider\":true,\"documentSymbolProvider\":true},",
+            b"\"serverInfo\":{\"name\":\"jx-lsp\",\"version\":\"",
+            VERSION.as_bytes(),
+            b"\"}}}",
+        ],
+    )
+}
+
+/// How an id is spelt; one that was not read is `null`.
+fn words_of_id(id: &Option<Vec<u8>>) -> &[u8] {
+    match id {
+        Some(id) => id.as_slice(),
+        None => b"null",
+    }
+}
+
+fn add_refused(
+    alloc: Global,
+    out: &mut Vec<u8>,
+    id: &Option<Vec<u8>>,
+    code: Code,
+    refusal: Option<Refusal>,
+) -> Result<(), AllocError> {
+    out.extend_from_slice(b"{\"jsonrpc\":\"2.0\",\"id\":")?;
+    out.extend_from_slice(words_of_id(id))?;
+    add_all(
+        out,
+        &[
+            b",\"error\":{\"code\":",
+            number_of_code(code).as_bytes(),
+            b",\"message\":\"",
+            words_of_code(code).as_bytes(),
+            b"\"",
+        ],
+    )?;
+    if let Some(refusal) = refusal {
+        let words = words_of_refusal(alloc, refusal)?;
+        add_all(out, &[b",\"data\":\"", words.as_bytes(), b"\""])?;
+    }
+    out.extend_from_slice(b"}}")
+}
+
+fn add_mark(alloc: Global, out: &mut Vec<u8>, mark: &Mark) -> Result<(), AllocError> {
+    out.extend_from_slice(b"{")?;
+    add_range(alloc, out, mark.start, mark.end)?;
+    let words = words_of_refusal(alloc, mark.refusal)?;
+    add_all(
+        out,
+        &[
+            b",\"severity\":1,\"code\":\"",
+            code_of_refusal(mark.refusal).as_bytes(),
+            b"\",\"source\":\"jx\",\"message\":\"",
+            words.as_bytes(),
+            b"\"}",
+        ],
+    )
+}
+
+fn add_published(
+    alloc: Global,
+    out: &mut Vec<u8>,
+    uri: &[u8],
+    version: &Option<Vec<u8>>,
+    mark: &Option<Mark>,
+) -> Result<(), AllocError> {
+    add_all(
+        out,
+        &[
+            b"{\"jsonrpc\":\"2.0\",\"method\":\"textDocument/publishDiagnostics\",\"params\":{\"uri\":",
+            uri,
+        ],
+    )?;
+    if let Some(version) = version {
+        add_all(out, &[b",\"version\":", version])?;
+    }
+    out.extend_from_slice(b",\"diagnostics\":[")?;
+    if let Some(mark) = mark {
+        add_mark(alloc, out, mark)?;
+    }
+    out.extend_from_slice(b"]}}")
+}
+
+fn add_logged(out: &mut Vec<u8>, trouble: Trouble) -> Result<(), AllocError> {
+    add_all(
+        out,
+        &[
+            b"{\"jsonrpc\":\"2.0\",\"method\":\"window/logMessage\",\"params\":{\"type\":2,\"message\":\"",
+            words_of_trouble(trouble).as_bytes(),
+            b"\"}}",
+        ],
+    )
+}
+
+fn add_reply(alloc: Global, out: &mut Vec<u8>, reply: &Reply) -> Result<(), AllocError> {
+    match reply {
+        Reply::Nothing => Ok(()),
+        Reply::Initialized { id, utf8 } => add_initialized(out, id, *utf8),
+        Reply::Null { id } => add_all(
+            out,
+            &[b"{\"jsonrpc\":\"2.0\",\"id\":", id, b",\"result\":null}"],
+        ),
+        Reply::Hovered { id, hover } => add_hovered(alloc, out, id, hover),
+        Reply::Outlined { id, uri, outline } => add_outlined(alloc, out, id, uri, outline),
+        Reply::Refused { id, code, refusal } => add_refused(alloc, out, id, *code, *refusal),
+        Reply::Published { uri, version, mark } => add_published(alloc, out, uri, version, mark),
+        Reply::Closed { uri } => add_published(alloc, out, uri, &None, &None),
+        Reply::Logged { trouble } => add_logged(out, *trouble),
+    }
+}
+
+/// How messages are read.
+fn message_settings() -> Settings
+    ensures { result ≡ message_settings }
+{
+    Settings {
+        depth: Depth::default(),
+        mark: FrontMark::Refused,
+        names: NameRule::Unique,
+    }
+}
+
+fn verdict_on(alloc: Global, text: &[u8]) -> Result<Verdict, AllocError>
+    ensures { IfOk result (IsVerdictBy message_settings text.now) }
+{
+    verdict_with_unique_names(alloc, text, &message_settings(), &mut NoPause)
+}
+
+/// The message that tells a reply: a JSON text (RFC 8259) that repeats no name. It is read before it is handed out, and what is no
+/// such text is not.
+pub fn message_of(alloc: Global, reply: &Reply) -> Result<Vec<u8>, ReplyFault>
+    ensures { IfOk result (λ message. IsVerdictBy message_settings message.items Accepted) }
+{
+    let mut message = Vec::new(alloc);
+    add_reply(alloc, &mut message, reply)?;
+    match verdict_on(alloc, &message)? {
+        Verdict::Accepted => Ok(message),
+        Verdict::Refused(_) => Err(ReplyFault::NoText),
+    }
+}

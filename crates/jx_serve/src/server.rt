@@ -1,0 +1,380 @@
+ghost use Rattle.std.specs.Prelude.{◌≡◌, ◌<◌, ℕ, Option, Some, None, IfSome, OnOk, Vec, length, map};
+ghost use Rattle.std.specs.Global.{Global};
+ghost use Rattle.jx_serve.specs.Served.{all_lost, AreMade, AreMadeAt, AreSymbols, HasVersion, IsHover, IsHoverIn, IsOutlineIn, lost_open, number_named, IsAnswer, IsQuiet, OpenValue, TellsOf, TellsVerdict};
+
+use crate::held::Held;
+use crate::mark::mark_of;
+use crate::reply::{Code, Reply, Trouble};
+use jx_edit::Encoding;
+use jx_lex::Depth;
+use jx_run::{FrontMark, NameRule, Settings};
+use jx_wire::{Call, Change, Offer, Place, Request, Uri, Versioned};
+use std::alloc::{AllocError, Global};
+use std::marker::Model;
+
+/// How far a client and the server have come.
+#[derive(Clone, Copy, Debug, PartialEq, Eq)]
+pub enum Phase {
+    /// Before `initialize`.
+    New,
+    Ready,
+    /// Behind `shutdown`.
+    Down,
+    /// Behind `exit`, which is clean behind `shutdown` alone.
+    Ended { clean: bool },
+}
+
+/// A document that is open.
+#[derive(Drop)]
+pub struct Open {
+    uri: Uri,
+    held: Held,
+}
+
+impl Model for Open {
+    ghost use Rattle.jx_serve.specs.Served.{OpenValue};
+
+    ghost Value = { OpenValue };
+
+    ghost view = { λ o. record { name = o.uri.name.items; spelt = o.uri.spelt.items; held = o.held } };
+}
+
+impl Open {
+    /// The verdict on the document.
+    fn published(&mut self, alloc: Global, encoding: Encoding, version: Option<Vec<u8>>) -> Reply
+        ensures same { self.new ≡ self.old }
+        ensures answers { IsAnswer None result }
+        ensures tells { TellsOf self.new result }
+        ensures version { HasVersion version result }
+    {
+        let Ok(uri) = Vec::from_slice(alloc, &self.uri.spelt) else {
+            return logged(Trouble::Memory);
+        };
+        match self.held.verdict() {
+            Err(AllocError) => logged(Trouble::Memory),
+            Ok(None) => logged(Trouble::Lost),
+            Ok(Some(verdict)) => Reply::Published {
+                uri,
+                version,
+                mark: mark_of(self.held.document(), encoding, verdict),
+            },
+        }
+    }
+}
+
+impl Open {
+    /// Forgets its bytes until all of them come.
+    fn lose(&mut self)
+        ensures { self.new ≡ lost_open self.old }
+    {
+        self.held.lose();
+    }
+
+    /// The value at a place of the document, as the answer to a request.
+    fn hovered(&self, id: Vec<u8>, place: Place, encoding: Encoding) -> Reply
+        ensures answers { IsAnswer (Some id) result }
+        ensures quiet { IsQuiet result }
+        ensures shows { IsHoverIn encoding place result self.now }
+    {
+        match self.held.hover(place, encoding) {
+            Ok(Some(hover)) => Reply::Hovered { id, hover },
+            Ok(None) => Reply::Null { id },
+            Err(AllocError) => refused(id, Code::RequestFailed),
+        }
+    }
+
+    /// The values of the document, as the answer to a request.
+    fn outlined(&self, alloc: Global, id: Vec<u8>, encoding: Encoding) -> Reply
+        ensures answers { IsAnswer (Some id) result }
+        ensures quiet { IsQuiet result }
+        ensures shows { IsOutlineIn encoding result self.now }
+    {
+        let Ok(uri) = Vec::from_slice(alloc, &self.uri.spelt) else {
+            return refused(id, Code::RequestFailed);
+        };
+        match self.held.symbols(encoding) {
+            Ok(Some(outline)) => Reply::Outlined { id, uri, outline },
+            Ok(None) => Reply::Null { id },
+            Err(AllocError) => refused(id, Code::RequestFailed),
+        }
+    }
+}
+
+/// What a server knows of its client: how far it has come with it, and which documents it has open.
+#[derive(Drop)]
+pub struct Server {
+    alloc: Global,
+    phase: Phase,
+    encoding: Encoding,
+    settings: Settings,
+    documents: Vec<Open>,
+}
+
+impl Model for Server {
+    ghost use Rattle.jx_serve.specs.Served.{ServerValue};
+
+    ghost Value = { ServerValue };
+
+    ghost view = { λ s. record { phase = s.phase; encoding = s.encoding; settings = s.settings; documents = s.documents.items } };
+}
+
+/// Forgets the bytes of all documents.
+fn lose_all(documents: &mut [Open])
+    ensures { documents.new ≡ map lost_open documents.old }
+{
+    for open in documents.iter_mut() {
+        open.lose();
+    }
+}
+
+/// The settings that a client asks for.
+fn settings_of(offer: Offer) -> Settings {
+    let depth = match offer.depth {
+        Some(depth) if depth <= 65535 => Depth::new(depth as u32),
+        _ => None,
+    };
+    Settings {
+        depth: depth.unwrap_or(Depth::default()),
+        mark: if offer.ignore_bom {
+            FrontMark::Ignored
+        } else {
+            FrontMark::Refused
+        },
+        names: if offer.unique_names {
+            NameRule::Unique
+        } else {
+            NameRule::Any
+        },
+    }
+}
+
+impl Server {
+    /// A server before `initialize`. It takes no memory.
+    pub fn new(alloc: Global) -> Server {
+        Server {
+            alloc,
+            phase: Phase::New,
+            encoding: Encoding::Utf16,
+            settings: Settings {
+                depth: Depth::default(),
+                mark: FrontMark::Refused,
+                names: NameRule::Any,
+            },
+            documents: Vec::new(alloc),
+        }
+    }
+
+    /// How far it has come.
+    pub fn phase(&self) -> Phase {
+        self.phase
+    }
+
+    /// Forgets the bytes of all documents, until the client sends all of them.
+    pub fn lose(&mut self)
+        ensures { self.new ≡ all_lost self.old }
+    {
+        lose_all(&mut self.documents);
+    }
+
+    /// Follows a message, and tells what to answer.
+    pub fn step(&mut self, request: Request) -> Reply
+        ensures answers { IsAnswer request.id result }
+        ensures tells { TellsVerdict self.new result }
+    {
+        let Request { id, call } = request;
+        match id {
+            Some(id) => self.answer(id, call),
+            None => self.follow(call),
+        }
+    }
+
+    /// Answers a request.
+    fn answer(&mut self, id: Vec<u8>, call: Call) -> Reply
+        ensures answers { IsAnswer (Some id) result }
+        ensures quiet { IsQuiet result }
+    {
+        match (self.phase, call) {
+            (Phase::New, Call::Initialize(offer)) => self.initialize(id, offer),
+            (Phase::New, _) => refused(id, Code::NotInitialized),
+            (Phase::Ready, Call::Shutdown) => {
+                self.phase = Phase::Down;
+                Reply::Null { id }
+            }
+            (Phase::Ready, Call::Initialize(_)) => refused(id, Code::InvalidRequest),
+            (Phase::Ready, Call::WrongParameters) => refused(id, Code::InvalidParams),
+            (Phase::Ready, Call::Hover { uri, place }) => self.hover(id, &uri, place),
+            (Phase::Ready, Call::Symbols(uri)) => self.symbols(id, &uri),
+            (Phase::Ready, _) => refused(id, Code::MethodNotFound),
+            (Phase::Down | Phase::Ended { .. }, _) => refused(id, Code::InvalidRequest),
+        }
+    }
+
+    /// Answers with the innermost value at a place of a document, with its pointer. Null where the document is not open, its
+    /// bytes are lost or refused, or no value stands there.
+    pub fn hover(&self, id: Vec<u8>, uri: &Uri, place: Place) -> Reply
+        ensures answers { IsAnswer (Some id) result }
+        ensures quiet { IsQuiet result }
+        ensures shows { IsHover self.now uri.now.name.items place result }
+    {
+        match self.number_of(&uri.name) {
+            None => Reply::Null { id },
+            Some(number) => self.documents[number].hovered(id, place, self.encoding),
+        }
+    }
+
+    /// Answers with the first 10,000 values of a document. Null where it is not open, or its bytes are lost or refused.
+    pub fn symbols(&self, id: Vec<u8>, uri: &Uri) -> Reply
+        ensures answers { IsAnswer (Some id) result }
+        ensures quiet { IsQuiet result }
+        ensures lists { AreSymbols self.now uri.now.name.items result }
+    {
+        match self.number_of(&uri.name) {
+            None => Reply::Null { id },
+            Some(number) => self.documents[number].outlined(self.alloc, id, self.encoding),
+        }
+    }
+
+    fn initialize(&mut self, id: Vec<u8>, offer: Offer) -> Reply
+        ensures answers { IsAnswer (Some id) result }
+        ensures quiet { IsQuiet result }
+    {
+        self.phase = Phase::Ready;
+        self.settings = settings_of(offer);
+        if offer.utf8 {
+            self.encoding = Encoding::Utf8;
+        }
+        Reply::Initialized {
+            id,
+            utf8: offer.utf8,
+        }
+    }
+
+    /// Follows a notification.
+    fn follow(&mut self, call: Call) -> Reply
+        ensures answers { IsAnswer None result }
+        ensures tells { TellsVerdict self.new result }
+    {
+        match (self.phase, call) {
+            (Phase::Ready, Call::Open { document, text }) => self.open(document, text),
+            (Phase::Ready, Call::Change { document, changes }) => self.change(document, &changes),
+            (Phase::Ready, Call::Close(uri)) => self.close(uri),
+            (Phase::Ended { .. }, Call::Exit) => Reply::Nothing,
+            (phase, Call::Exit) => {
+                self.phase = Phase::Ended {
+                    clean: phase == Phase::Down,
+                };
+                Reply::Nothing
+            }
+            _ => Reply::Nothing,
+        }
+    }
+
+    /// The number of the document of a name, if it is open.
+    fn number_of(&self, name: &[u8]) -> Option<usize>
+        ensures first { result ≡ number_named name.now self.now.documents }
+        ensures within { IfSome result (λ number. number < length self.now.documents) }
+    {
+        self.documents
+            .iter()
+            .position(|open| open.uri.name.as_slice() == name)
+    }
+
+    fn open(&mut self, document: Versioned, text: Change) -> Reply
+        ensures answers { IsAnswer None result }
+        ensures tells { TellsVerdict self.new result }
+    {
+        let Versioned { uri, version } = document;
+        if let Some(number) = self.number_of(&uri.name) {
+            let _ = self.documents.remove(number);
+        }
+        match self.add(uri, &text) {
+            Ok(()) => {
+                let last = self.documents.len() - 1;
+                self.publish(last, version)
+            }
+            Err(AllocError) => logged(Trouble::Memory),
+        }
+    }
+
+    /// Adds a document behind those that are open.
+    fn add(&mut self, uri: Uri, text: &Change) -> Result<(), AllocError>
+        ensures { OnOk result (0 < length self.new.documents) }
+    {
+        let encoding = self.encoding;
+        let mut held = Held::of(self.alloc, &[], self.settings)?;
+        held.change(text, encoding)?;
+        self.documents.push(Open { uri, held })?;
+        Ok(())
+    }
+
+    /// Follows the changes of a document, and publishes the verdict behind them.
+    pub fn change(&mut self, document: Versioned, changes: &[Change]) -> Reply
+        ensures answers { IsAnswer None result }
+        ensures tells { TellsVerdict self.new result }
+        ensures made { AreMade self.old.encoding document.uri.name.items changes.now self.old.documents self.new.documents }
+        ensures version { HasVersion document.version result }
+    {
+        let Versioned { uri, version } = document;
+        let Some(number) = self.number_of(&uri.name) else {
+            return logged(Trouble::NotOpen);
+        };
+        match self.change_at(number, changes) {
+            Ok(()) => self.publish(number, version),
+            Err(AllocError) => logged(Trouble::Memory),
+        }
+    }
+
+    /// Changes the document of a number.
+    fn change_at(&mut self, number: usize, changes: &[Change]) -> Result<(), AllocError>
+        requires { number < length self.old.documents }
+        ensures made { AreMadeAt self.old.encoding number changes.now self.old.documents self.new.documents }
+    {
+        let encoding = self.encoding;
+        self.documents[number].held.change_all(changes, encoding)
+    }
+
+    fn close(&mut self, uri: Uri) -> Reply
+        ensures answers { IsAnswer None result }
+        ensures quiet { IsQuiet result }
+    {
+        match self.number_of(&uri.name) {
+            None => logged(Trouble::NotOpen),
+            Some(number) => {
+                let _ = self.documents.remove(number);
+                Reply::Closed { uri: uri.spelt }
+            }
+        }
+    }
+
+    /// Publishes the verdict on a document.
+    fn publish(&mut self, number: usize, version: Option<Vec<u8>>) -> Reply
+        requires { number < length self.old.documents }
+        ensures same { self.new ≡ self.old }
+        ensures answers { IsAnswer None result }
+        ensures tells { TellsVerdict self.new result }
+        ensures version { HasVersion version result }
+    {
+        let encoding = self.encoding;
+        let alloc = self.alloc;
+        self.documents[number].published(alloc, encoding, version)
+    }
+}
+
+fn refused(id: Vec<u8>, code: Code) -> Reply
+    ensures { result ≡ Reply.Refused (Some id) code None }
+{
+    Reply::Refused {
+        id: Some(id),
+        code,
+        refusal: None,
+    }
+}
+
+fn logged(trouble: Trouble) -> Reply
+    ensures answers { IsAnswer None result }
+    ensures quiet { IsQuiet result }
+    ensures of_none { (document : OpenValue) → TellsOf document result }
+    ensures of_any { (version : Option (Vec ℕ Global)) → HasVersion version result }
+{
+    Reply::Logged { trouble }
+}

@@ -1,0 +1,168 @@
+// Values of a document in messages.
+use crate::hover::Hover;
+use crate::symbols::{Outline, Symbol};
+use crate::under_cursor::ValueAt;
+use jx_edit::Position;
+use jx_index::Row;
+use jx_lex::Kind;
+use jx_wire::quoted;
+use std::alloc::{AllocError, Global};
+
+pub(crate) fn add_all(out: &mut Vec<u8>, parts: &[&[u8]]) -> Result<(), AllocError> {
+    for part in parts {
+        out.extend_from_slice(part)?;
+    }
+    Ok(())
+}
+
+fn add_position(alloc: Global, out: &mut Vec<u8>, position: Position) -> Result<(), AllocError> {
+    let Position { line, character } = position;
+    let line = format!(in alloc; "{line}")?;
+    let character = format!(in alloc; "{character}")?;
+    add_all(
+        out,
+        &[
+            b"{\"line\":",
+            line.as_bytes(),
+            b",\"character\":",
+            character.as_bytes(),
+            b"}",
+        ],
+    )
+}
+
+/// Adds the member `range`.
+pub(crate) fn add_range(
+    alloc: Global,
+    out: &mut Vec<u8>,
+    start: Position,
+    end: Position,
+) -> Result<(), AllocError> {
+    out.extend_from_slice(b"\"range\":{\"start\":")?;
+    add_position(alloc, out, start)?;
+    out.extend_from_slice(b",\"end\":")?;
+    add_position(alloc, out, end)?;
+    out.extend_from_slice(b"}")
+}
+
+/// What `jx at` prints for a kind.
+fn word_of_kind(kind: Kind) -> &'static str {
+    match kind {
+        Kind::Object => "object",
+        Kind::Array => "array",
+        Kind::String => "string",
+        Kind::Number => "number",
+        Kind::True => "true",
+        Kind::False => "false",
+        Kind::Null => "null",
+    }
+}
+
+/// What is shown of a value: its kind and its span as `jx at` prints them, and its pointer in a line of its own.
+fn words_of_value(alloc: Global, value: &ValueAt) -> Result<Vec<u8>, AllocError> {
+    let kind = word_of_kind(value.row.kind);
+    let start = value.row.span.start;
+    let end = value.row.span.end;
+    let first = format!(in alloc; "{kind} {start}..{end}")?;
+    let mut words = Vec::from_slice(alloc, first.as_bytes())?;
+    match &value.pointer {
+        None => words.extend_from_slice(b"\nno pointer")?,
+        Some(pointer) => match pointer.as_slice() {
+            [] => words.extend_from_slice(b"\nempty pointer")?,
+            pointer => add_all(&mut words, &[b"\npointer ", pointer])?,
+        },
+    }
+    Ok(words)
+}
+
+/// Adds the answer that shows a value.
+pub(crate) fn add_hovered(
+    alloc: Global,
+    out: &mut Vec<u8>,
+    id: &[u8],
+    hover: &Hover,
+) -> Result<(), AllocError> {
+    let words = words_of_value(alloc, &hover.value)?;
+    let words = quoted(alloc, &words)?;
+    add_all(
+        out,
+        &[
+            b"{\"jsonrpc\":\"2.0\",\"id\":",
+            id,
+            b",\"result\":{\"contents\":{\"kind\":\"plaintext\",\"value\":",
+            &words,
+            b"},",
+        ],
+    )?;
+    add_range(alloc, out, hover.start, hover.end)?;
+    out.extend_from_slice(b"}}")
+}
+
+/// The number of a kind (Language Server Protocol 3.17, "SymbolKind").
+fn symbol_kind(kind: Kind) -> &'static [u8] {
+    match kind {
+        Kind::String => b"15",
+        Kind::Number => b"16",
+        Kind::True | Kind::False => b"17",
+        Kind::Array => b"18",
+        Kind::Object => b"19",
+        Kind::Null => b"21",
+    }
+}
+
+/// Adds the name of a value as a string: that of a member as the text spells it, or the place in an array.
+fn add_name(alloc: Global, out: &mut Vec<u8>, text: &[u8], row: &Row) -> Result<(), AllocError> {
+    if let Some(span) = row.name {
+        return match text.get(span.start..span.end).unwrap_or(&[]) {
+            // Editors refuse an empty name.
+            [] | b"\"\"" => out.extend_from_slice(b"\"\\\"\\\"\""),
+            name => out.extend_from_slice(name),
+        };
+    }
+    if row.parent.is_none() {
+        return out.extend_from_slice(b"\"root\"");
+    }
+    let place = row.place;
+    let place = format!(in alloc; "\"{place}\"")?;
+    out.extend_from_slice(place.as_bytes())
+}
+
+/// Adds a value as a `SymbolInformation`.
+fn add_symbol(
+    alloc: Global,
+    out: &mut Vec<u8>,
+    uri: &[u8],
+    text: &[u8],
+    symbol: &Symbol,
+) -> Result<(), AllocError> {
+    out.extend_from_slice(b"{\"name\":")?;
+    add_name(alloc, out, text, &symbol.row)?;
+    out.extend_from_slice(b",\"kind\":")?;
+    out.extend_from_slice(symbol_kind(symbol.row.kind))?;
+    out.extend_from_slice(b",\"location\":{\"uri\":")?;
+    out.extend_from_slice(uri)?;
+    out.extend_from_slice(b",")?;
+    add_range(alloc, out, symbol.start, symbol.end)?;
+    out.extend_from_slice(b"}}")
+}
+
+/// Adds the answer that lists values.
+pub(crate) fn add_outlined(
+    alloc: Global,
+    out: &mut Vec<u8>,
+    id: &[u8],
+    uri: &[u8],
+    outline: &Outline,
+) -> Result<(), AllocError> {
+    add_all(
+        out,
+        &[b"{\"jsonrpc\":\"2.0\",\"id\":", id, b",\"result\":["],
+    )?;
+    for (number, symbol) in outline.symbols.iter().enumerate() {
+        if 0 < number {
+            out.extend_from_slice(b",")?;
+        }
+        add_symbol(alloc, out, uri, &outline.text, symbol)?;
+    }
+    out.extend_from_slice(b"]}")
+}

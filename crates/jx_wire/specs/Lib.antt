@@ -1,0 +1,5 @@
+pub mod Frames
+pub mod Messages
+pub mod Numbers
+pub mod Strings
+pub mod inside

@@ -1,0 +1,3 @@
+pub mod Escapes
+pub mod Pairs
+pub mod Parts

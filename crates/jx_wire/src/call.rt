@@ -1,0 +1,88 @@
+/// A place in a text, as the protocol tells it: so many lines, and so many code units of the next one. Numbers above 2 to the 32
+/// are that.
+#[derive(Clone, Copy, Debug, PartialEq, Eq)]
+pub struct Place {
+    pub line: usize,
+    pub character: usize,
+}
+
+/// A change of a document.
+#[derive(Debug, Drop)]
+pub enum Change {
+    /// Other bytes stand in the place of all.
+    Whole(Vec<u8>),
+    /// Other bytes stand in the place of those between two positions of the text that the changes before it left.
+    Range {
+        start: Place,
+        end: Place,
+        text: Vec<u8>,
+    },
+    /// No bytes are known: the text has half of a surrogate pair without the other half.
+    Unknown,
+}
+
+/// The name of a document.
+#[derive(Debug, Drop)]
+pub struct Uri {
+    /// What it stands for, in UTF-8.
+    pub name: Vec<u8>,
+    /// How it is spelt in messages, with its quotation marks.
+    pub spelt: Vec<u8>,
+}
+
+/// A document that a message is about.
+#[derive(Debug, Drop)]
+pub struct Versioned {
+    pub uri: Uri,
+    /// The number that spells the version, if there is one.
+    pub version: Option<Vec<u8>>,
+}
+
+/// What a client asks for with `initialize`.
+#[derive(Clone, Copy, Debug)]
+pub struct Offer {
+    /// Whether it can count columns in bytes.
+    pub utf8: bool,
+    /// How many containers may stand open at once, if it says.
+    pub depth: Option<usize>,
+    /// Whether a byte order mark in front of a text is ignored.
+    pub ignore_bom: bool,
+    /// Whether names have to be unique.
+    pub unique_names: bool,
+}
+
+/// What a message calls for.
+#[derive(Debug, Drop)]
+pub enum Call {
+    Initialize(Offer),
+    Shutdown,
+    Exit,
+    Open {
+        document: Versioned,
+        text: Change,
+    },
+    Change {
+        document: Versioned,
+        changes: Vec<Change>,
+    },
+    Close(Uri),
+    /// The value at a place of a document.
+    Hover {
+        uri: Uri,
+        place: Place,
+    },
+    /// The values of a document.
+    Symbols(Uri),
+    /// A request about a document, whose parameters are missing or of a wrong kind.
+    WrongParameters,
+    /// Nothing that this server knows.
+    Other,
+}
+
+/// A message of the client. One with an id is a request, and has to be answered; one without is a notification.
+#[derive(Debug, Drop)]
+pub struct Request {
+    /// The string or the number that spells the id.
+    pub id: Option<Vec<u8>>,
+    pub call: Call,
+}

@@ -1,0 +1,31 @@
+//! The wire of a language server: frames, messages, what the strings of messages stand for, and what messages call for.
+#![tactic(auto)]
+
+mod call;
+mod field;
+mod frame_fault;
+mod frame_reader;
+mod laws;
+mod message;
+mod number;
+mod parameters;
+mod quoting;
+mod request;
+mod request_fault;
+mod string_fault;
+mod strings;
+mod units;
+mod writing;
+
+pub use call::{Call, Change, Offer, Place, Request, Uri, Versioned};
+pub use frame_fault::FrameFault;
+pub use frame_reader::{Fed, FrameReader, Part};
+pub use laws::{bytes_may_be_cut_anywhere, frames_are_read_back};
+pub use message::{Message, Value};
+pub use number::number_of;
+pub use quoting::quoted;
+pub use request::request_of;
+pub use request_fault::RequestFault;
+pub use string_fault::StringFault;
+pub use strings::unescaped;
+pub use writing::framed;

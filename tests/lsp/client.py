@@ -1,0 +1,364 @@
+"""A client of jx-lsp that knows nothing of jx but its command line: it keeps its own copy of each text, and asks jx check what to expect."""
+import json
+import os
+import random
+import subprocess
+import sys
+import tempfile
+
+SERVER = os.environ["JX_LSP_PROGRAM"]
+JX = os.environ["JX_PROGRAM"]
+URI = "file:///home/ann/text.json"
+
+
+def frame(body):
+    """A frame of a message, or of bytes as they are."""
+    if not isinstance(body, bytes):
+        body = json.dumps(body, ensure_ascii=False).encode()
+    return b"Content-Length: %d\r\n\r\n" % len(body) + body
+
+
+def request(number, method, params=None):
+    return frame({"jsonrpc": "2.0", "id": number, "method": method, "params": params})
+
+
+def notification(method, params=None):
+    return frame({"jsonrpc": "2.0", "method": method, "params": params})
+
+
+def opened(text, version=1, uri=URI):
+    document = {"uri": uri, "languageId": "json", "version": version, "text": text}
+    return notification("textDocument/didOpen", {"textDocument": document})
+
+
+def changed(changes, version, uri=URI):
+    return notification("textDocument/didChange", {"textDocument": {"uri": uri, "version": version}, "contentChanges": changes})
+
+
+def bodies(stream):
+    """The bodies of a stream of frames."""
+    while stream:
+        head, _, stream = stream.partition(b"\r\n\r\n")
+        name, _, length = head.partition(b": ")
+        assert name == b"Content-Length", head
+        yield stream[: int(length)]
+        stream = stream[int(length) :]
+
+
+def served(stream):
+    """What the server writes for a stream, what it tells on standard error, and its status."""
+    run = subprocess.run([SERVER], input=stream, capture_output=True, timeout=300)
+    return run.stdout, run.stderr, run.returncode
+
+
+def greeting(options=None, encodings=None):
+    general = {"positionEncodings": encodings} if encodings else {}
+    params = {"processId": None, "rootUri": None, "capabilities": {"general": general}, "initializationOptions": options}
+    return request(0, "initialize", params) + notification("initialized", {})
+
+
+def farewell():
+    return request("end", "shutdown") + notification("exit")
+
+
+def checked(texts, *words):
+    """What jx check prints for each text."""
+    lines = []
+    with tempfile.TemporaryDirectory() as folder:
+        for start in range(0, len(texts), 500):
+            names = []
+            for number, text in enumerate(texts[start : start + 500]):
+                name = os.path.join(folder, "%d.json" % number)
+                with open(name, "wb") as file:
+                    file.write(text.encode())
+                names.append(name)
+            # A name in front tells several files from one.
+            run = subprocess.run([JX, "check", *words, *names, names[0]], capture_output=True, text=True)
+            lines += [line.split(": ", 1)[1] for line in run.stdout.splitlines()[: len(names)]]
+    return lines
+
+
+# ---- positions, as the protocol has them
+
+
+def units(text, encoding):
+    return len(text.encode()) if encoding == "utf-8" else len(text.encode("utf-16-le")) // 2
+
+
+def place(text, at, encoding):
+    """The position of a character."""
+    line = text.count("\n", 0, at)
+    start = text.rfind("\n", 0, at) + 1
+    return {"line": line, "character": units(text[start:at], encoding)}
+
+
+def place_of_byte(text, at, encoding):
+    return place(text, len(text.encode()[:at].decode()), encoding)
+
+
+# ---- a replay of random changes
+
+PIECES = ["{", "}", "[", "]", ",", ":", '"', '"a"', '"é"', '"😀"', "\\u00e9", "\\", "1", "-0.5e3", "true", "null", " ", "\n", "\r\n", "\t", "€", "𝄞", '{"b":[1,2]}', "[[[", "]]]", "x"]
+
+
+def random_change(dice, text, encoding):
+    """A change, and the text behind it."""
+    if dice.random() < 0.02:
+        text = "".join(dice.choice(PIECES) for _ in range(dice.randrange(30)))
+        return {"text": text}, text
+    start = dice.randint(0, len(text))
+    end = min(len(text), start + (dice.randrange(6) if dice.random() < 0.4 else 0))
+    # An end between CR and LF has no position of its own.
+    while 0 < start < len(text) and text[start - 1 : start + 1] == "\r\n":
+        start -= 1
+    while 0 < end < len(text) and text[end - 1 : end + 1] == "\r\n":
+        end += 1
+    new = "".join(dice.choice(PIECES) for _ in range(dice.randrange(4)))
+    change = {"range": {"start": place(text, start, encoding), "end": place(text, end, encoding)}, "text": new}
+    return change, text[:start] + new + text[end:]
+
+
+def diagnostics(stream):
+    for body in bodies(stream):
+        message = json.loads(body)
+        if message.get("method") == "textDocument/publishDiagnostics":
+            yield message["params"]
+        elif "method" in message:
+            raise AssertionError(message)
+
+
+def compare(text, version, said, published, encoding):
+    """Whether what was published is what jx check said of the text."""
+    assert published["version"] == version, (version, published)
+    marks = published["diagnostics"]
+    if said == "accepted":
+        assert marks == [], (text, said, marks)
+        return
+    assert [mark["message"] for mark in marks] == [said], (text, said, marks)
+    if " at " in said:
+        at = int(said.rsplit(" ", 1)[1])
+        assert marks[0]["range"]["start"] == place_of_byte(text, at, encoding), (text, said, marks)
+
+
+def replay(seed, count, encoding, options, words):
+    """Random changes, several in some messages; each verdict is compared with that on the client's own copy."""
+    dice = random.Random(seed)
+    text = '{"a": [1, "é😀"],\r\n "b": null}\n'
+    stream = [greeting(options, ["utf-8", "utf-16"] if encoding == "utf-8" else None), opened(text, 0)]
+    texts = [text]
+    for version in range(1, count + 1):
+        changes = []
+        for _ in range(1 if dice.random() < 0.8 else dice.randrange(1, 4)):
+            change, text = random_change(dice, text, encoding)
+            changes.append(change)
+        if len(text) > 400:
+            text = "[]"
+            changes.append({"text": text})
+        stream.append(changed(changes, version))
+        texts.append(text)
+    out, err, status = served(b"".join(stream) + farewell())
+    assert (err, status) == (b"", 0), (err, status)
+    published = list(diagnostics(out))
+    assert len(published) == len(texts), (len(published), len(texts))
+    for version, (text, said, params) in enumerate(zip(texts, checked(texts, *words), published)):
+        compare(text, version, said, params, encoding)
+    return "%d changes are told as jx check tells them" % count
+
+
+def replays(count):
+    count = int(count)
+    each = count // 4
+    print(replay(1, count - 3 * each, "utf-16", None, []))
+    print(replay(2, each, "utf-8", None, []))
+    print(replay(3, each, "utf-16", {"uniqueNames": True}, ["--unique-names"]))
+    print(replay(4, each, "utf-16", {"depth": 2, "ignoreBom": True}, ["--depth", "2", "--ignore-bom"]))
+
+
+# ---- values, by a parser of its own
+
+BLANKS = ["", "", " ", "\n", "\r\n", "\t"]
+SCALARS = {'"é😀"': "string", '"\\u00e9\\/"': "string", "-0.5e3": "number", "10": "number", "true": "true", "false": "false", "null": "null"}
+NAMES = ['"a"', '"\\u0061"', '"b/c"', '"~"', '"~1"', '"é"', '"😀"', '"\\ud83d\\ude00"', '""', '"\\ud800"', '"\\n"', '"\\""', '"\\\\"', '"0"']
+SYMBOL_KINDS = {"string": 15, "number": 16, "true": 17, "false": 17, "array": 18, "object": 19, "null": 21}
+
+
+class Text:
+    """A text that is made value by value, and its values in the order of their starts."""
+
+    def __init__(self, dice):
+        self.dice = dice
+        self.text = ""
+        self.values = []
+        self.value(None, None, 0, 4)
+        self.blank()
+
+    def blank(self):
+        self.text += self.dice.choice(BLANKS)
+
+    def value(self, parent, name, index, depth):
+        self.blank()
+        value = {"parent": parent, "name": name, "index": index, "start": len(self.text)}
+        self.values.append(value)
+        value["kind"] = self.dice.choice(["array", "object", "scalar"] if depth else ["scalar"])
+        if value["kind"] == "scalar":
+            spelt = self.dice.choice(list(SCALARS))
+            value["kind"] = SCALARS[spelt]
+            self.text += spelt
+        else:
+            opens, closes = "[]" if value["kind"] == "array" else "{}"
+            self.text += opens
+            for index in range(self.dice.randrange(4)):
+                self.text += "," if index else ""
+                self.blank()
+                name = None
+                if value["kind"] == "object":
+                    name = self.dice.choice(NAMES)
+                    self.text += name
+                    self.blank()
+                    self.text += ":"
+                self.value(value, name, index, depth - 1)
+            self.blank()
+            self.text += closes
+        value["end"] = len(self.text)
+
+    def pointer(self, value):
+        """The pointer of a value, or none where no pointer leads to it alone."""
+        tokens = []
+        while value["parent"]:
+            if value["name"] is None:
+                tokens.append(str(value["index"]))
+            else:
+                name = json.loads(value["name"])
+                others = [json.loads(other["name"]) for other in self.values if other["parent"] is value["parent"]]
+                if others.count(name) > 1 or "\ud800" in name:
+                    return None
+                tokens.append(name.replace("~", "~0").replace("/", "~1"))
+            value = value["parent"]
+        return "".join("/" + token for token in reversed(tokens))
+
+    def range(self, value, encoding):
+        return {"start": place(self.text, value["start"], encoding), "end": place(self.text, value["end"], encoding)}
+
+    def hover(self, at, encoding):
+        """What is shown of the innermost value at a character."""
+        there = [value for value in self.values if value["start"] <= at < value["end"]]
+        if not there:
+            return None
+        value = there[-1]
+        pointer = self.pointer(value)
+        words = "no pointer" if pointer is None else "pointer " + pointer if pointer else "empty pointer"
+        start, end = (len(self.text[: value[which]].encode()) for which in ("start", "end"))
+        shown = "%s %d..%d\n%s" % (value["kind"], start, end, words)
+        return {"contents": {"kind": "plaintext", "value": shown}, "range": self.range(value, encoding)}
+
+    def symbol(self, value, encoding):
+        name = "root" if value["parent"] is None else str(value["index"]) if value["name"] is None else json.loads(value["name"]) or '""'
+        return {"name": name, "kind": SYMBOL_KINDS[value["kind"]], "location": {"uri": URI, "range": self.range(value, encoding)}}
+
+
+def about(number, method, **more):
+    return request(number, "textDocument/" + method, {"textDocument": {"uri": URI}, **more})
+
+
+def results(stream):
+    for body in bodies(stream):
+        message = json.loads(body)
+        if "id" in message:
+            yield message["result"]
+
+
+def show(seed, count, encoding):
+    """Random texts, with a hover at several places of each and their outlines."""
+    dice = random.Random(seed)
+    stream, wanted = [greeting(None, ["utf-8"] if encoding == "utf-8" else None)], []
+    for number in range(count):
+        text = Text(dice)
+        stream.append(opened(text.text, number))
+        for at in (dice.randint(0, len(text.text)) for _ in range(6)):
+            # A position between CR and LF is that before both.
+            if text.text[at - 1 : at + 1] == "\r\n":
+                at -= 1
+            stream.append(about(number, "hover", position=place(text.text, at, encoding)))
+            wanted.append(text.hover(at, encoding))
+        stream.append(about(number, "documentSymbol"))
+        wanted.append([text.symbol(value, encoding) for value in text.values])
+    out, err, status = served(b"".join(stream) + farewell())
+    assert (err, status) == (b"", 0), (err, status)
+    for want, got in zip(wanted, list(results(out))[1:-1], strict=True):
+        assert want == got, (want, got)
+    return "%d texts are shown as they are read by hand" % count
+
+
+def shows(count):
+    print(show(5, int(count) // 2, "utf-16"))
+    print(show(6, int(count) // 2, "utf-8"))
+
+
+def outline_of(count):
+    text = "[" + ",".join("0" * int(count)) + "]"
+    out, err, status = served(greeting() + opened(text) + about(1, "documentSymbol") + farewell())
+    print("%d values" % len(list(results(out))[1]))
+
+
+# ---- other sessions
+
+
+def session(folder):
+    """Plays the messages of a file, each line a body, and prints the bodies of what comes back."""
+    with open(os.path.join(folder, "session.in"), "rb") as file:
+        lines = [line.rstrip(b"\n") for line in file if not line.startswith(b"#")]
+    out, err, status = served(b"".join(frame(line) for line in lines))
+    with open(os.path.join(folder, "session.out"), "rb") as file:
+        wanted = b"".join(frame(line.rstrip(b"\n")) for line in file)
+    if out == wanted and (err, status) == (b"", 0):
+        print("as recorded")
+    else:
+        print(out.decode(), err, status)
+
+
+def framed(text):
+    """Prints what is answered to bytes that are no frames, spelt as in a Python bytes literal."""
+    stream = text.encode().decode("unicode_escape").encode("latin-1")
+    out, err, status = served(stream)
+    for body in bodies(out):
+        print(body.decode())
+    print("status %d%s" % (status, err.decode()))
+
+
+def cut(folder):
+    """Plays the recorded session byte by byte: the same bytes come back."""
+    with open(os.path.join(folder, "session.in"), "rb") as file:
+        stream = b"".join(frame(line.rstrip(b"\n")) for line in file if not line.startswith(b"#"))
+    whole = served(stream)
+    server = subprocess.Popen([SERVER], stdin=subprocess.PIPE, stdout=subprocess.PIPE, bufsize=0)
+    for byte in stream:
+        server.stdin.write(bytes([byte]))
+    server.stdin.close()
+    out = server.stdout.read()
+    print("the same" if (out, server.wait(60)) == (whole[0], whole[2]) else "another")
+
+
+def closed_pipe():
+    """A client that reads nothing more: the server ends by itself."""
+    server = subprocess.Popen([SERVER], stdin=subprocess.PIPE, stdout=subprocess.PIPE, stderr=subprocess.PIPE)
+    server.stdout.close()
+    try:
+        server.stdin.write(greeting() + b"".join(opened("[", number) for number in range(1000)))
+        server.stdin.flush()
+    except BrokenPipeError:
+        pass
+    print("status %d" % server.wait(60))
+
+
+def huge(count):
+    """A text of many bytes, and a change in it."""
+    text = "[" + ",".join('{"name":"é😀","value":%d}' % number for number in range(int(count))) + "]"
+    change = {"range": {"start": {"line": 0, "character": 1}, "end": {"line": 0, "character": 1}}, "text": "x"}
+    out, err, status = served(greeting() + opened(text) + changed([change], 2) + farewell())
+    for params in diagnostics(out):
+        print([mark["message"] for mark in params["diagnostics"]])
+    print("status %d%s" % (status, err.decode()))
+
+
+if __name__ == "__main__":
+    globals()[sys.argv[1]](*sys.argv[2:])
