@@ -24,11 +24,11 @@ milliseconds() {
 # least ONE OTHER: the lesser number.
 least() { echo $(($1 < $2 ? $1 : $2)); }
 
-# is_linear WORD..: what the check says of `text` if it takes no more than it may beside `few`, each at the best of up to three
+# is_linear WORD..: what the check says of `text` if it takes no more than it may beside `few`, each at the best of up to twelve
 # times, since other work may get in the way.
 is_linear() {
     local few=99999999 took=99999999
-    for _ in 1 2 3; do
+    for _ in {1..12}; do
         few=$(least "$few" "$(milliseconds few "$@")")
         took=$(least "$took" "$(milliseconds text "$@")")
         if [ "$took" -le $((most * few + slack)) ]; then

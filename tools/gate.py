@@ -2,8 +2,8 @@
 """Runs the parts of the gate one after another, tells how far they are, and counts what passed and what failed.
 
 The parts' own lines go through as they are. A line that begins with `gate: ` gives the time since the start. At the end
-stand two tables: elapsed time of each part, and processor time of each crate's checks. The last line is
-`N passed, M failed`.
+stand two tables: elapsed time of each part, and processor time of each crate's checks. Behind them each failure of a test is
+told again, since it is far up by then. The last line is `N passed, M failed`.
 """
 import collections
 import os
@@ -26,6 +26,9 @@ COUNTS = re.compile(r"(\d+) passed, (\d+) failed$")
 STEP = re.compile(r"^rt: ((\w+)(: its tests)? (proved|NOT PROVED|is kept\b.*|ran\b.*)|(\w+): its tests (passed|FAILED))$")
 # `rt ci` counts a wrong body that it cannot read as no failure: it says nothing of a contract.
 BAD_EDIT = "BAD EDIT"
+# A line that tells a failure, and how many lines from it on tell what was wanted and what came.
+FAILURE = re.compile(r": FAILED\b|^(must-fail|rt): .*\b(NOT TRIED|NOT PROVED|FAILED)\b")
+LINES_OF_A_FAILURE = 12
 SAMPLE_SECONDS = 2.0
 
 
@@ -79,6 +82,7 @@ class Gate:
         self.began = time.monotonic()
         self.passed = self.failed = 0
         self.elapsed = []
+        self.failures = []
 
     def say(self, text):
         print("gate: %s %s" % (clock(time.monotonic() - self.began), text), flush=True)
@@ -95,11 +99,23 @@ class Gate:
             last = line.rstrip("\n")
             print(last, flush=True)
             bad += ": " + BAD_EDIT in last
+            self.note(last)
             if STEP.match(last):
                 self.say(last.removeprefix("rt: "))
         self.count(last, started.wait(), bad)
         self.elapsed.append((name, time.monotonic() - began))
         self.say("ended: %s, in %s" % (name, clock(time.monotonic() - began)))
+
+    def note(self, line):
+        """Keeps the lines of a failure, each failure's by themselves."""
+        if FAILURE.search(line):
+            self.failures.append([line])
+        elif self.failures and len(self.failures[-1]) < LINES_OF_A_FAILURE:
+            self.failures[-1].append(line)
+
+    def tell_failures(self):
+        for lines in self.failures:
+            print("\nfailed:", *lines, sep="\n")
 
     def count(self, last, status, bad):
         """A part that fails and counts no failure counts as one."""
@@ -129,6 +145,7 @@ def main():
     for name, command in PARTS:
         gate.part(name, command)
     gate.tables(sampler.by_crate())
+    gate.tell_failures()
     print("%d passed, %d failed" % (gate.passed, gate.failed))
     return 1 if gate.failed else 0
 
