@@ -3,6 +3,7 @@
 
 Each function is a kind of documents. Prints the last line of tests/*.sh. JX_ROUNDS edits are made at random, 10,000 if left out.
 """
+import ctypes
 import json
 import os
 import random
@@ -242,12 +243,24 @@ def a_paste_of_100_mb():
     kept.agrees("a text put in again", True)
 
 
+class Mallinfo(ctypes.Structure):
+    """The C library's count of what it has handed out, as `malloc.h` has it."""
+
+    _fields_ = [(name, ctypes.c_size_t) for name in "arena ordblks smblks hblks hblkhd usmblks fsmblks uordblks fordblks keepcost".split()]
+
+
+def used():
+    """How many bytes are handed out: those of pages, which the kernel may join and split meanwhile, tell less."""
+    mallinfo = ctypes.CDLL(None).mallinfo2
+    mallinfo.restype = Mallinfo
+    now = mallinfo()
+    return now.uordblks + now.hblkhd
+
+
 def memory_comes_back():
     """Documents that are made, edited and closed or let go, over and over, take no more memory than a few."""
     start = text(random.Random(1), 2_000_000)
 
-    def used():
-        return int(open("/proc/self/statm").read().split()[1]) * os.sysconf("SC_PAGESIZE")
 
     def round_trip():
         with jx.Document(start) as document:
