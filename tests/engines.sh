@@ -6,6 +6,8 @@
 recipes=$root/docs/DISTRIBUTED.md
 megabytes=${JX_ENGINES_MB:-200}
 python=/usr/bin/python3
+# An engine that has not ended by then is ended, in seconds.
+most=600
 
 # Installs what is missing where that may be done, and tells what is skipped.
 find_engines() {
@@ -17,7 +19,7 @@ find_engines() {
     if [ -n "$missing" ] && [ "$(id -u)" = 0 ] && command -v apt-get >/dev/null; then
         echo "engines.sh: installs$missing"
         # shellcheck disable=SC2086
-        { apt-get update && DEBIAN_FRONTEND=noninteractive apt-get install -y --no-install-recommends $missing; } >/dev/null 2>&1
+        { timeout $most apt-get update && DEBIAN_FRONTEND=noninteractive timeout $most apt-get install -y --no-install-recommends $missing; } >/dev/null 2>&1
     fi
 }
 
@@ -28,6 +30,24 @@ has_engine() {
     if "$@" >/dev/null 2>&1; then return 0; fi
     echo "engines.sh: skipped: $name is not here"
     return 1
+}
+
+# What the engines leave lies in the room, none reads the user's settings, and none gives a worker up since the machine is busy.
+settle_engines() {
+    mkdir home tmp
+    export HOME=$room/home TMPDIR=$room/tmp SHELL=/bin/sh PARALLEL_HOME=$room/home/parallel
+    export DASK_DISTRIBUTED__COMM__TIMEOUTS__CONNECT=300s DASK_DISTRIBUTED__COMM__TIMEOUTS__TCP=300s
+    export OMPI_ALLOW_RUN_AS_ROOT=1 OMPI_ALLOW_RUN_AS_ROOT_CONFIRM=1 OMPI_MCA_rmaps_base_oversubscribe=1
+    export OMPI_MCA_plm_rsh_agent=sh OMPI_MCA_btl_vader_backing_directory=$room/tmp
+}
+
+# engine STATUS COMMAND..: what an engine prints; and how it ended where it did not end with this status.
+engine() {
+    local wanted=$1 status=0
+    shift
+    timeout -k 10 $most "$@" >out 2>told </dev/null || status=$?
+    cat out
+    if [ $status != "$wanted" ]; then echo "status $status: $(tail -n 3 told)"; fi
 }
 
 # recipe NAME: writes the block of the page that has this name in one of its first lines.
@@ -43,6 +63,7 @@ make_texts() {
     local row='{"id":1234567,"name":"J\u00f6rg \"Ann\" Weiß","tags":["a",["b",{"c":[]}],null],"at":-12.75e-3,"on":true},'
     { printf '['; yes "$row" | head -c $((megabytes * 1000000)) | head -n -1; printf '{}]'; } >good
     size=$(stat -c %s good)
+    step=$((size / 13 + 1))
     fault=$((size * 2 / 3))
     cp good bad
     # A control character stands in no text, and inside a string nowhere either.
@@ -71,34 +92,43 @@ cuts() {
     { echo 0; shuf -i 1-$((size - 1)) -n 12 --random-source="$recipes"; } | sort -n | awk -v size=$size 'NR > 1 { print at, $1 - at } { at = $1 } END { print at, size - at }'
 }
 
-# parts_of FILE: the runs of these parts of a text, in the order of their lines.
-parts_of() {
-    parallel -k -j4 --halt now,fail=1 --retries 3 --colsep ' ' "tail -c +\$(({1} + 1)) '$1' | head -c {2} | jx part --from {1}"
+# whole_of FILE: what is said of the runs of these parts of a text, in the order of their lines. It is asked when all are there, so that
+# no task is left behind where it ends early.
+whole_of() {
+    timeout $most parallel -k -j4 --halt now,fail=1 --retries 3 --colsep ' ' "tail -c +\$(({1} + 1)) '$1' | head -c {2} | jx part --from {1}" >runs
+    jx whole --to $size <runs 2>&1
+}
+
+# was_killed ENGINE: whether a task has died since there was a file `kill`.
+was_killed() {
+    same "$1: a task was killed" no "$([ -e kill ] && echo yes || echo no)"
+    rm -f kill
 }
 
 gnu_parallel_comes_to_the_verdict() {
     has_engine 'GNU parallel' parallel --version || return
     recipe spread.sh
-    same 'parallel: a text' 'accepted' "$(./spread.sh good : 16000000)"
-    same 'parallel: another text' "stopped at $fault" "$(./spread.sh bad : 16000000)"
+    same 'parallel: a text' 'accepted' "$(engine 0 ./spread.sh good : $step)"
+    same 'parallel: another text' "stopped at $fault" "$(engine 1 ./spread.sh bad : $step)"
     touch kill
-    same 'parallel: a task that is killed and tried again' "stopped at $fault" "$(./spread.sh bad : 16000000 2>/dev/null)"
-    same 'parallel: a task was killed' no "$([ -e kill ] && echo yes || echo no)"
-    same 'parallel: parts that are cut at random bytes' "stopped at $fault" "$(cuts | parts_of bad | jx whole --to $size)"
-    has 'parallel: parts in another order' ' was due' "$(cuts | tac | parts_of good | jx whole --to $size 2>&1)"
-    has 'parallel: a part twice' ' was due' "$(cuts | sed '3p' | parts_of good | jx whole --to $size 2>&1)"
-    has 'parallel: a part is missing' ' was due' "$(cuts | sed '5d' | parts_of good | jx whole --to $size 2>&1)"
-    has 'parallel: the last part is missing' "jx: the runs cover 0.." "$(cuts | sed '$d' | parts_of good | jx whole --to $size 2>&1)"
-    same 'parallel: it cuts by itself' accepted "$(parallel -j4 -k --pipepart --recend '' --block 16M -a good jx part | jx whole --to $size)"
+    same 'parallel: a task that is killed and tried again' "stopped at $fault" "$(engine 1 ./spread.sh bad : $step)"
+    was_killed parallel
+    same 'parallel: parts that are cut at random bytes' "stopped at $fault" "$(cuts | whole_of bad)"
+    has 'parallel: parts in another order' ' was due' "$(cuts | tac | whole_of good)"
+    has 'parallel: a part twice' ' was due' "$(cuts | sed '3p' | whole_of good)"
+    has 'parallel: a part is missing' ' was due' "$(cuts | sed '5d' | whole_of good)"
+    has 'parallel: the last part is missing' "jx: the runs cover 0.." "$(cuts | sed '$d' | whole_of good)"
+    same 'parallel: it cuts by itself' accepted "$(timeout $most parallel -j4 -k --pipepart --recend '' --block $step -a good jx part | jx whole --to $size)"
 }
 
 dask_comes_to_the_verdict() {
+    local said
     has_engine Dask "$python" -c 'import distributed' || return
     recipe dask_parts.py
-    same 'dask: a text' accepted "$("$python" dask_parts.py good 16000000 2>told || tail -n 3 told)"
+    same 'dask: a text' accepted "$(engine 0 "$python" dask_parts.py good $step)"
     touch kill
-    same 'dask: a task that is killed and tried again' "stopped at $fault" "$("$python" dask_parts.py bad 16000000 2>told || tail -n 3 told)"
-    same 'dask: a task was killed' no "$([ -e kill ] && echo yes || echo no)"
+    same 'dask: a task that is killed and tried again' "stopped at $fault" "$(engine 0 "$python" dask_parts.py bad $step)"
+    was_killed dask
     cat >others.py <<'PY'
 import os, random, signal, sys
 from dask.distributed import Client, as_completed
@@ -113,10 +143,10 @@ def dying(path, at, size):
 
 if __name__ == "__main__":
     path, size = os.path.abspath(sys.argv[1]), os.path.getsize(sys.argv[1])
-    client = Client(n_workers=4, threads_per_worker=1, dashboard_address=None)
     cuts = [0, *sorted(random.Random(7).sample(range(1, size), 12)), size]
-    tasks = [client.submit(dying, path, at, end - at) for at, end in zip(cuts, cuts[1:])]
-    came = [future.result() for future in as_completed(tasks)]
+    with Client(n_workers=4, threads_per_worker=1, dashboard_address=None) as client:
+        tasks = [client.submit(dying, path, at, end - at) for at, end in zip(cuts, cuts[1:])]
+        came = [future.result() for future in as_completed(tasks)]
     print(jx(["whole", "--to", str(size)], b"".join(run for _, run in sorted(came))).decode(), end="")
     came.sort(reverse=True)
     try:
@@ -125,37 +155,43 @@ if __name__ == "__main__":
         print(fault)
 PY
     touch kill
-    "$python" others.py bad >out 2>told || tail -n 3 told
-    same 'dask: random cuts, and a worker that is killed' "stopped at $fault" "$(head -n 1 out)"
-    has 'dask: runs in another order' ' was due' "$(tail -n 1 out)"
-    same 'dask: a worker was killed' no "$([ -e kill ] && echo yes || echo no)"
+    said=$(engine 0 "$python" others.py bad)
+    same 'dask: random cuts, and a worker that is killed' "stopped at $fault" "$(head -n 1 <<<"$said")"
+    has 'dask: runs in another order' ' was due' "$(sed -n 2p <<<"$said")"
+    same 'dask: no more lines' 2 "$(wc -l <<<"$said")"
+    was_killed 'dask, a worker'
 }
 
+# mpirun ends a job as soon as a rank ends with a status, which may be before it has passed on what that rank printed. With the parameter it
+# waits for all ranks and has no status, so what is printed and the status are looked at one by one.
 mpi_comes_to_the_verdict() {
+    local ranks waits='--mca orte_abort_on_non_zero_status 0'
     has_engine MPI "$python" -c 'import mpi4py' && has_engine MPI mpirun --version || return
-    local ranks status=0
     recipe mpi_parts.py
-    export OMPI_ALLOW_RUN_AS_ROOT=1 OMPI_ALLOW_RUN_AS_ROOT_CONFIRM=1 OMPI_MCA_rmaps_base_oversubscribe=1
     for ranks in 1 4 7; do
-        same "mpi: $ranks ranks" "stopped at $fault" "$(mpirun -n $ranks "$python" mpi_parts.py bad 2>told || true)"
+        # shellcheck disable=SC2086
+        same "mpi: $ranks ranks" "stopped at $fault" "$(engine 0 mpirun $waits -n $ranks "$python" mpi_parts.py bad)"
     done
-    same 'mpi: a text' accepted "$(mpirun -n 4 "$python" mpi_parts.py good 2>told)"
+    same 'mpi: a text' accepted "$(engine 0 mpirun -n 4 "$python" mpi_parts.py good)"
+    has 'mpi: the status of a text that is refused' 'status 1: ' "$(engine 0 mpirun -n 4 "$python" mpi_parts.py bad)"
     touch kill
-    mpirun -n 4 "$python" mpi_parts.py good >out 2>told || status=$?
-    same 'mpi: a task that is killed ends the job with no verdict' 'yes ' "$([ $status != 0 ] && echo yes) $(cat out)"
+    has 'mpi: a task that is killed ends the job' 'status ' "$(engine 0 mpirun -n 4 "$python" mpi_parts.py good)"
+    same 'mpi: it ends with no verdict' '' "$(cat out)"
+    was_killed mpi
 }
 
 # Hadoop's shuffle is played by sort, and a task that comes twice by its lines.
 hadoop_streaming_comes_to_the_verdict() {
     recipe mapper.sh
     recipe reducer.sh
-    seq 0 16000000 $((size - 1)) >offsets
-    same 'streaming: mappers, a sort and a reducer' "stopped at $fault" "$(shuf offsets | ./mapper.sh bad 16000000 | sort | ./reducer.sh $size)"
-    same 'streaming: a task that comes twice' accepted "$(sed '3p' offsets | ./mapper.sh good 16000000 | sort | ./reducer.sh $size)"
-    has 'streaming: a task that is missing' ' was due' "$(sed '2d' offsets | ./mapper.sh good 16000000 | sort | ./reducer.sh $size 2>&1)"
+    seq 0 $step $((size - 1)) >offsets
+    same 'streaming: mappers, a sort and a reducer' "stopped at $fault" "$(shuf offsets | ./mapper.sh bad $step | sort | ./reducer.sh $size)"
+    same 'streaming: a task that comes twice' accepted "$(sed '3p' offsets | ./mapper.sh good $step | sort | ./reducer.sh $size)"
+    has 'streaming: a task that is missing' ' was due' "$(sed '2d' offsets | ./mapper.sh good $step | sort | ./reducer.sh $size 2>&1)"
 }
 
 find_engines
+settle_engines
 put_jx_on_the_path
 tests make_texts \
     gnu_parallel_comes_to_the_verdict \

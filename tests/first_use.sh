@@ -13,7 +13,8 @@ make_clone() {
     for crate in low left right jx other; do touch "$clone/crates/$crate/src/lib.rt"; done
 }
 
-# make_rt: `rt lib` notes when it begins and ends, and leaves what a check leaves; `rt run` makes a program.
+# make_rt: `rt lib` notes when it begins and ends, and leaves what a check leaves; `rt run` makes a program. In between both wait until the
+# command $UNTIL succeeds, for a minute at most.
 make_rt() {
     mkdir bin
     cat >bin/rt <<'RT'
@@ -24,7 +25,11 @@ if [ "$name" = "$BROKEN" ]; then
     echo "error: $name is wrong"
     exit 1
 fi
-sleep 0.5
+turns=600
+until eval "$UNTIL" || [ $turns = 0 ]; do
+    turns=$((turns - 1))
+    sleep 0.1
+done
 case $1 in
 lib)
     for below in $(sed -n "s/^$name[^:]*: //p" ../../crates.txt); do
@@ -54,7 +59,10 @@ use() {
 
 the_first_use_tells_how_far_it_is() {
     local crate
+    # Each of the two neighbours goes on when both have begun.
+    UNTIL='case $name in left | right) [ "$(grep -cE "^begin (left|right) " "$LOG")" = 2 ] ;; esac'
     same 'the first use: the status is the program'\''s' 'status 1' "$(use check x)"
+    UNTIL=
     same 'the first use: standard output is the program'\''s' 'ran check x' "$(cat out)"
     has 'the first use: it says at once that it builds' 'jx: proves and builds the program for the first time here' "$(head -1 err)"
     for crate in low left right; do
@@ -101,12 +109,14 @@ one_of_two_calls_builds_and_the_other_waits() {
     sleep 1
     touch "$clone/crates/low/src/lib.rt"
     : >"$LOG"
+    UNTIL="cat '$room/err.1' '$room/err.2' | grep -q 'another call'"
     "$clone/jx" check >out.1 2>err.1 &
     first=$!
     "$clone/jx" check >out.2 2>err.2 &
     second=$!
     wait $first
     wait $second
+    UNTIL=
     same 'two calls at once: one builds' 4 "$(grep -c begin "$LOG")"
     same 'two calls at once: one waits' 1 "$(cat err.1 err.2 | grep -c 'another call is building the program')"
     same 'two calls at once: both run' 'ran check ran check' "$(cat out.1 out.2 | flat)"
@@ -151,7 +161,7 @@ a_missing_rt_is_told() {
 
 make_clone
 make_rt
-export LOG=$room/log BROKEN=
+export LOG=$room/log BROKEN= UNTIL=
 tools=$PATH
 PATH=$room/bin:$PATH
 tests the_first_use_tells_how_far_it_is \

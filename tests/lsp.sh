@@ -139,7 +139,7 @@ find_emacs() {
 # edited NAME: neovim edits a text; what it shows after each step is what jx says of the file that it then writes. Prints the steps that differ.
 edited() {
     local step shown line column at bytes number=0
-    JX_LSP_TEXT=$room/$1 timeout 120 "${nvim[@]}" --headless --clean -c "luafile $root/tests/lsp/nvim.lua" >"$1.steps" 2>"$1.told" </dev/null
+    JX_LSP_TEXT=$room/$1 timeout 900 "${nvim[@]}" --headless --clean -c "luafile $root/tests/lsp/nvim.lua" >"$1.steps" 2>"$1.told" </dev/null
     while IFS= read -r step; do
         number=$((number + 1))
         shown=${step#*: }
@@ -177,7 +177,7 @@ emacs_shows_what_jx_says() {
     printf '{"a": "é😀b",\n "c": [1, 2]}\n' >lines.json
     printf '[1, "é😀"' >short.json
     for name in lines.json short.json; do
-        JX_LSP_TEXT=$room/$name timeout 120 "${emacs[@]}" --batch -Q -l "$root/tests/lsp/eglot.el" >"$name.steps" 2>"$name.told" </dev/null
+        JX_LSP_TEXT=$room/$name timeout 900 "${emacs[@]}" --batch -Q -l "$root/tests/lsp/eglot.el" >"$name.steps" 2>"$name.told" </dev/null
         same "emacs edits $name" 11 "$(wc -l <"$name.steps")"
         number=0
         while IFS= read -r step; do

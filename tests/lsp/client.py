@@ -335,19 +335,20 @@ def cut(folder):
         server.stdin.write(bytes([byte]))
     server.stdin.close()
     out = server.stdout.read()
-    print("the same" if (out, server.wait(60)) == (whole[0], whole[2]) else "another")
+    print("the same" if (out, server.wait(300)) == (whole[0], whole[2]) else "another")
 
 
 def closed_pipe():
     """A client that reads nothing more: the server ends by itself."""
     server = subprocess.Popen([SERVER], stdin=subprocess.PIPE, stdout=subprocess.PIPE, stderr=subprocess.PIPE)
     server.stdout.close()
-    try:
-        server.stdin.write(greeting() + b"".join(opened("[", number) for number in range(1000)))
-        server.stdin.flush()
-    except BrokenPipeError:
-        pass
-    print("status %d" % server.wait(60))
+    # What is left to be written when the server ends is dropped here, and not when Python ends, which would tell of it.
+    for write in (lambda: server.stdin.write(greeting() + b"".join(opened("[", number) for number in range(1000))), server.stdin.close):
+        try:
+            write()
+        except BrokenPipeError:
+            pass
+    print("status %d" % server.wait(300))
 
 
 def huge(count):

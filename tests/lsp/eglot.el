@@ -2,11 +2,14 @@
 ;; After each step it writes what it has to NAME.N, so that others can check it. Offsets count bytes from 0.
 (setq native-comp-deferred-compilation nil)
 (require 'eglot)
-(setq eglot-sync-connect 20
+(setq eglot-sync-connect 60
       coding-system-for-read 'utf-8-unix
       coding-system-for-write 'utf-8-unix)
 (defvar jx-name (getenv "JX_LSP_TEXT"))
 (defvar jx-step 0)
+(defvar jx-told -1 "The version of the text that the server told of last.")
+(cl-defmethod eglot-handle-notification :after (_server (_method (eql textDocument/publishDiagnostics)) &key version &allow-other-keys)
+  (setq jx-told (or version jx-told)))
 (find-file jx-name)
 (js-mode)
 (buffer-enable-undo)
@@ -22,14 +25,15 @@
                (flymake-diagnostics) " and ")))
 
 (defun jx-show (step)
-  "Waits for what the server says of the text, and prints it."
+  "Waits until the server tells of this version of the text, a minute at most, and prints what is shown then."
   (eglot--signal-textDocument/didChange)
-  (dotimes (_ 15) (accept-process-output nil 0.1))
+  (let ((end (+ 60 (float-time))))
+    (while (and (< jx-told eglot--versioned-identifier) (< (float-time) end))
+      (accept-process-output nil 0.1)))
   (flymake-start nil)
-  (dotimes (_ 5) (accept-process-output nil 0.1))
   (setq jx-step (1+ jx-step))
   (write-region nil nil (format "%s.%d" jx-name jx-step) nil 'quiet)
-  (princ (format "%d %s: %s\n" jx-step step (jx-shown))))
+  (princ (format "%d %s: %s%s\n" jx-step step (if (< jx-told eglot--versioned-identifier) "late: " "") (jx-shown))))
 
 (defmacro jx-do (step &rest edits)
   "Makes edits, shows what they come to, and undoes them."

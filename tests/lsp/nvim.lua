@@ -19,7 +19,7 @@ vim.lsp.buf_attach_client(buffer, client)
 
 local function show(what)
   local wanted = vim.lsp.util.buf_versions[buffer]
-  local came = vim.wait(20000, function() return seen >= (wanted or 0) end, 5)
+  local came = vim.wait(60000, function() return seen >= (wanted or 0) end, 5)
   step = step + 1
   vim.cmd('silent noautocmd keepalt write! ' .. name .. '.' .. step)
   local lines = {}
@@ -34,7 +34,7 @@ local function keys(words)
   vim.api.nvim_feedkeys(vim.api.nvim_replace_termcodes(words, true, false, true), 'xt', false)
 end
 
-vim.wait(20000, function() return vim.lsp.buf_is_attached(buffer, client) and seen >= 0 end, 5)
+vim.wait(60000, function() return vim.lsp.buf_is_attached(buffer, client) and seen >= 0 end, 5)
 show('opened')
 keys('gg0ix<Esc>')
 show('typed')
