@@ -152,6 +152,29 @@ def edits_at_random():
         holds(kind in Kept.met, "an edit comes to " + kind.name)
 
 
+def edits_over_groups_of_chunks():
+    """Chunks are passed 64 at a time, by what is kept of them: edits at the borders of so many, and over them."""
+    rng, group = random.Random(64), 64 * CHUNK
+    kept = Kept(text(rng, 4 * group))
+    kept.agrees("a document of four groups")
+    for made in range(300):
+        size = len(kept.text)
+        start = min(size, max(0, group * rng.randrange(5) + rng.randrange(-CHUNK, CHUNK + 1)))
+        end = min(size, start + rng.choice((0, 0, 0, 1, 3, CHUNK, 3 * CHUNK, group, 2 * group)))
+        kept.edit(start, end, rng.choice(PARTS) * rng.choice((1, 1, 1, 20000)))
+        if rng.random() < 0.8:
+            kept.agrees("edit %d over groups" % made)
+        while kept.undo and rng.random() < 0.6:
+            kept.take_back()
+            if rng.random() < 0.5:
+                kept.agrees("edit %d over groups, taken back" % made)
+    kept.has_its_bytes("300 edits over groups")
+    while kept.undo:
+        kept.take_back()
+    kept.agrees("all edits over groups taken back")
+    kept.has_its_bytes("all edits over groups taken back")
+
+
 def ranges_that_are_refused():
     rng = random.Random(7464)
     kept = Kept(text(rng, 50_000))
@@ -287,7 +310,7 @@ def memory_comes_back():
     kept.has_its_bytes("10,000 edits and back")
 
 
-for test in (edits_at_random, ranges_that_are_refused, each_byte_typed_and_taken, a_mark_in_front, one_string, nesting_of_65535, brackets_in_front_of_a_million_arrays, a_paste_of_100_mb, memory_comes_back):
+for test in (edits_at_random, edits_over_groups_of_chunks, ranges_that_are_refused, each_byte_typed_and_taken, a_mark_in_front, one_string, nesting_of_65535, brackets_in_front_of_a_million_arrays, a_paste_of_100_mb, memory_comes_back):
     test()
 print("documents.py: %d passed, %d failed" % (passed, failed))
 sys.exit(failed != 0)

@@ -4,4 +4,5 @@ pub mod Scans
 pub mod Parted
 pub mod Positions
 pub mod Seeking
+pub mod Groups
 pub mod Texts

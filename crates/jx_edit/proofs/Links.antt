@@ -1,7 +1,9 @@
 -- Where chunks lead, one behind another, through edits and walks.
-use Rattle.std.proofs.Common.{◌≡◌, ℕ, zero, suc, ◌+◌, ◌-◌, ◌^◌, ◌<◌, ◌≤◌, List, [], ◌∷◌, ◌++◌, length, map, take, drop, get_or, set, refl, sym, ap, subst, ◌∙◌, arith, Some, true, false, add-one, min, append-nil, append_assoc}
+use Rattle.std.proofs.Common.{◌≡◌, ℕ, zero, suc, ◌+◌, ◌-◌, ◌^◌, ◌<◌, ◌≤◌, List, [], ◌∷◌, ◌++◌, length, map, take, drop, get_or, set, refl, sym, ap, subst, ◌∙◌, arith, inl, inr, Some, true, false, add-one, min, append-nil, append_assoc, length-append}
 use Rattle.std.specs.Prelude.{reverse}
-use Rattle.std.proofs.lemmas.List.{take_all, take-set, drop_all}
+use Rattle.std.proofs.lemmas.Bool.{cases_lt}
+use Rattle.std.proofs.lemmas.List.{drop-drop, get_or_default, get_or-append_right, length-take-le, set-append_right, take_all, take-set}
+use borrow.Rule.Slice.PartMut.{put_mid}
 use Rattle.std.proofs.Math.ListN.{length-set}
 use Rattle.jx_run.proofs.RunJoin.{Within}
 use Rattle.jx_edit.specs.declared.led.Led.{Led as TheLed}
@@ -20,8 +22,11 @@ use Rattle.jx_run.proofs.LawProofs.{FirstFaults, Verdicts}
 use Rattle.jx_run.proofs.ReaderSteps.{fed_went, fed_over, low}
 use Rattle.jx_edit.specs.inside.Chunks.{ChunkValue, bytes_of, text_of, loose, loosened, replaced, AreFresh, IsMade}
 use Rattle.jx_edit.specs.inside.Links.{bytes_at, place_behind, AreLinked, IsKept, IsLink, IsWalked}
+use Rattle.jx_edit.specs.inside.Sums.{AreLinkedFrom, AreSums}
+use Rattle.jx_edit.specs.declared.sums.Sum.{Sum}
 use Rattle.jx_edit.specs.inside.Places.{PlaceValue, came_to, origin, read_on}
-use Rattle.jx_edit.proofs.Texts.{length_more, made_length, more_within, text_parts, text_within}
+use Rattle.jx_edit.proofs.Groups.{kept_items, linked_here, linked_more, linked_past, linked_set, linked_set_behind}
+use Rattle.jx_edit.proofs.Texts.{length_more, length_same, made_length, more_within, text_parts, text_take, text_within}
 
 abbrev pub place_in : LexState → Expect → List Holder → PlaceValue
 place_in s e o = record { state = s; expect = e; holders = reverse o }
@@ -61,12 +66,13 @@ linked_replaced d p cs made first last h fresh =
     (linked_loosened d (place_behind p (take last cs)) (place_behind p (take first cs ++ made)) (drop last cs) (linked_drop d p cs last h))
 
 -- what a text in chunks keeps behind an edit
-pub kept_edited : (cs made new : List ChunkValue) (depth len start end first last : ℕ) (replacement : List ℕ) → start ≤ end → end ≤ length (text_of cs)
-    → AreLinked depth origin cs → AreFresh depth made → IsMade start end replacement cs first last made → new ≡ replaced first last made cs
-    → len ≡ (length (text_of cs) - (end - start)) + length replacement → len < 2 ^ 63 → IsKept depth len new
-kept_edited cs made new depth len start end first last replacement h k linked fresh m is long fits =
+pub kept_edited : (cs made new : List ChunkValue) (sums : List Sum) (depth len start end first last : ℕ) (replacement : List ℕ) → start ≤ end → end ≤ length (text_of cs)
+    → AreLinked depth origin cs → AreFresh depth made → IsMade start end replacement cs first last made → new ≡ replaced first last made cs → AreSums new sums
+    → len ≡ (length (text_of cs) - (end - start)) + length replacement → len < 2 ^ 63 → IsKept depth len new sums
+kept_edited cs made new sums depth len start end first last replacement h k linked fresh m is summed long fits =
     record {
       linked = subst (AreLinked depth origin) (sym is) (linked_replaced depth origin cs made first last linked fresh);
+      summed = summed;
       long = long ∙ sym (made_length cs made start end first last replacement h k m) ∙ ap (λ (xs : List ChunkValue). length (text_of xs)) (sym is);
       fits = fits;
     }
@@ -164,9 +170,13 @@ pub record IsRelinked (d : ℕ) (cs new : List ChunkValue) (k : ℕ) (to : Place
   pub linked : AreLinked d origin new
   pub bytes : map bytes_of new ≡ map bytes_of cs
   pub place : place_behind origin (take (k + 1) new) ≡ to
+  pub on : AreLinkedFrom cs 0 k → AreLinkedFrom new 0 (k + 1)
 
-bytes_linked : (cs : List ChunkValue) (k : ℕ) (x c : ChunkValue) (to : PlaceValue) → k < length cs → x ≡ get_or cs k x → c ≡ linked_to x to → map bytes_of (set cs k c) ≡ map bytes_of cs
+pub bytes_linked : (cs : List ChunkValue) (k : ℕ) (x c : ChunkValue) (to : PlaceValue) → k < length cs → x ≡ get_or cs k x → c ≡ linked_to x to → map bytes_of (set cs k c) ≡ map bytes_of cs
 bytes_linked cs k x c to h is made = bytes_set cs k c x h (ap bytes_of made ∙ ap bytes_of is)
+
+pub bytes_loosened : (cs : List ChunkValue) (k : ℕ) (x e : ChunkValue) → k < length cs → x ≡ get_or cs k x → e ≡ loose x → map bytes_of (set cs k e) ≡ map bytes_of cs
+bytes_loosened cs k x e h is made = bytes_set cs k e x h (ap bytes_of made ∙ ap bytes_of is)
 
 place_set : (p : PlaceValue) (cs : List ChunkValue) (k : ℕ) (c : ChunkValue) → k < length cs → place_behind p (take (suc k) (set cs k c)) ≡ c.to
 place_set p [] k c h = absurd (omega (arith, h))
@@ -205,6 +215,7 @@ relinked_same d cs k x c to h is l leads made same =
       linked = linked_same d origin cs k c x h l (link_is d cs k x c to h is l leads made) (ap (λ (y : ChunkValue). y.to) made ∙ same ∙ ap (λ (y : ChunkValue). y.to) is);
       bytes = bytes_linked cs k x c to h is made;
       place = place_linked cs k x c to h made;
+      on = linked_set cs k c h (ap (λ (y : ChunkValue). y.linked) made);
     }
 
 -- where none stands behind it
@@ -215,6 +226,7 @@ relinked_last d cs k x c to h last is l leads made =
       linked = linked_last d origin cs k c (omega (arith, last)) l (link_is d cs k x c to h is l leads made);
       bytes = bytes_linked cs k x c to h is made;
       place = place_linked cs k x c to h made;
+      on = linked_set cs k c h (ap (λ (y : ChunkValue). y.linked) made);
     }
 
 -- where the next one gives its link up
@@ -234,6 +246,7 @@ relinked_next d cs k next x c y e to h n last is l leads made there is_loose =
           ap (λ (i : ℕ). place_behind origin (take (k + 1) (set (set cs k c) i e))) n
           ∙ ap (place_behind origin) (take-set (set cs k c) (k + 1) e)
           ∙ place_linked cs k x c to h made;
+      on = λ before. linked_set_behind (set cs k c) (k + 1) next e (omega (arith, n)) (linked_set cs k c h (ap (λ (y : ChunkValue). y.linked) made) before);
     }
 
 -- ---- the text, read chunk by chunk
@@ -246,16 +259,6 @@ text_suc (c ∷ cs) (suc k) h =
 
 text_at : (cs : List ChunkValue) (k : ℕ) → k < length cs → text_of (take (k + 1) cs) ≡ text_of (take k cs) ++ bytes_at cs k
 text_at cs k h = ap (λ (n : ℕ). text_of (take n cs)) (add-one k) ∙ text_suc cs k h
-
-text_take : (cs ds : List ChunkValue) (k : ℕ) → map bytes_of cs ≡ map bytes_of ds → text_of (take k cs) ≡ text_of (take k ds)
-text_take cs ds zero e = refl
-text_take [] [] (suc k) e = refl
-text_take [] (d ∷ ds) (suc k) e = absurd cc
-text_take (c ∷ cs) [] (suc k) e = absurd cc
-text_take (c ∷ cs) (d ∷ ds) (suc k) e =
-    let a : c.bytes ≡ d.bytes = cc in
-    let b : map bytes_of cs ≡ map bytes_of ds = cc in
-    ap (λ (t : List ℕ). t ++ text_of (take k cs)) a ∙ ap (λ (t : List ℕ). d.bytes ++ t) (text_take cs ds k b)
 
 -- one chunk more
 walked_to : (limit start : ℕ) (cs : List ChunkValue) (k : ℕ) (r : TextReading) → k < length cs → IsWalked limit start k cs
@@ -275,16 +278,57 @@ walked_linked limit start cs k c h is w on =
     let next : place_behind origin (take (k + 1) cs) ≡ c.to = ap (λ (n : ℕ). place_behind origin (take n cs)) (add-one k) ∙ place_suc origin cs k c h ∙ ap (λ (x : ChunkValue). x.to) (sym is) in
     record {
       linked = w.linked;
+      on = linked_more cs 0 k w.on (linked_here cs k c h ∙ sym (ap (λ (x : ChunkValue). x.linked) is) ∙ on);
       reads = walked_to limit start cs k (came_to c.to) h w (sym (link.leads on) ∙ ap (read_on limit p) (sym (bytes_are cs k c h is))) ∙ ap came_to (sym next);
     }
+
+-- where none is left
+pub walked_past : (limit start : ℕ) (cs : List ChunkValue) (k j : ℕ) → length cs ≤ k → length cs ≤ j → IsWalked limit start k cs → IsWalked limit start j cs
+walked_past limit start cs k j h l w =
+    let same : take j cs ≡ take k cs = take_all j cs l ∙ sym (take_all k cs h) in
+    record {
+      linked = w.linked;
+      on = λ i low high. elim (cases_lt i k) [
+        | inl less ↦ w.on i low less
+        | inr past ↦ linked_past cs i (omega (arith, past, h))
+      ];
+      reads = ap (λ (xs : List ChunkValue). read_text limit start (text_of xs)) same ∙ w.reads ∙ ap (λ (xs : List ChunkValue). came_to (place_behind origin xs)) (sym same);
+    }
+
+walked_next : (limit start : ℕ) (cs : List ChunkValue) (k : ℕ) → IsWalked limit start k cs → AreLinkedFrom cs k (k + 1) → IsWalked limit start (k + 1) cs
+walked_next limit start [] k w on = walked_past limit start [] k (k + 1) (omega arith) (omega arith) w
+walked_next limit start (x ∷ cs) k w on = elim (cases_lt k (length (x ∷ cs))) [
+  | inl less ↦ walked_linked limit start (x ∷ cs) k (get_or (x ∷ cs) k x) less (get_or_default (x ∷ cs) k x (get_or (x ∷ cs) k x) less) w (sym (linked_here (x ∷ cs) k x less) ∙ on k (omega arith) (omega arith))
+  | inr past ↦ walked_past limit start (x ∷ cs) k (k + 1) past (omega (arith, past)) w
+]
+
+-- some that were linked
+walked_some : (limit start : ℕ) (cs : List ChunkValue) (k n : ℕ) → IsWalked limit start k cs → AreLinkedFrom cs k (k + n) → IsWalked limit start (k + n) cs
+walked_some limit start cs k zero w on = subst (λ (i : ℕ). IsWalked limit start i cs) (omega arith) w
+walked_some limit start cs k (suc n) w on =
+    subst (λ (i : ℕ). IsWalked limit start i cs) (omega arith)
+    (walked_next limit start cs (k + n) (walked_some limit start cs k n w (λ i low high. on i low (omega (arith, high)))) (λ i low high. on i (omega (arith, low)) (omega (arith, high))))
+
+pub walked_over : (limit start : ℕ) (cs : List ChunkValue) (k j : ℕ) → k ≤ j → IsWalked limit start k cs → AreLinkedFrom cs k j → IsWalked limit start j cs
+walked_over limit start cs k j h w on =
+    let e : k + (j - k) ≡ j = omega (arith, h) in
+    subst (λ (i : ℕ). IsWalked limit start i cs) e (walked_some limit start cs k (j - k) w (subst (AreLinkedFrom cs k) (sym e) on))
+
+-- of all that there are of so many
+pub walked_all : (limit start : ℕ) (cs : List ChunkValue) (k j : ℕ) → k ≡ min j (length cs) → IsWalked limit start k cs → IsWalked limit start j cs
+walked_all limit start cs k j is w = elim (cases_lt k (length cs)) [
+  | inl less ↦ subst (λ (i : ℕ). IsWalked limit start i cs) (omega (arith, is, less)) w
+  | inr past ↦ walked_past limit start cs k j past (omega (arith, past, is)) w
+]
 
 -- one that is linked now
 pub walked_on : (limit start : ℕ) (cs ds : List ChunkValue) (k : ℕ) (to : PlaceValue) → k < length cs → IsWalked limit start k cs
     → came_to to ≡ read_on limit (place_behind origin (take k cs)) (bytes_at cs k) → AreLinked limit origin ds → map bytes_of ds ≡ map bytes_of cs
-    → place_behind origin (take (k + 1) ds) ≡ to → IsWalked limit start (k + 1) ds
-walked_on limit start cs ds k to h w leads linked same next =
+    → place_behind origin (take (k + 1) ds) ≡ to → (AreLinkedFrom cs 0 k → AreLinkedFrom ds 0 (k + 1)) → IsWalked limit start (k + 1) ds
+walked_on limit start cs ds k to h w leads linked same next on =
     record {
       linked = linked;
+      on = on w.on;
       reads = ap (read_text limit start) (text_take ds cs (k + 1) same) ∙ walked_to limit start cs k (came_to to) h w leads ∙ ap came_to (sym next);
     }
 
@@ -338,10 +382,10 @@ unfolding read lex
 read_nothing limit start = refl
 
 pub walked_none : (limit start : ℕ) (cs : List ChunkValue) → AreLinked limit origin cs → IsWalked limit start 0 cs
-walked_none limit start cs h = record { linked = h; reads = read_nothing limit start }
+walked_none limit start cs h = record { linked = h; on = λ i low high. absurd (omega (arith, high)); reads = read_nothing limit start }
 
-pub kept_walked : (d len : ℕ) (cs ds : List ChunkValue) → IsKept d len cs → AreLinked d origin ds → map bytes_of ds ≡ map bytes_of cs → IsKept d len ds
-kept_walked d len cs ds h linked same = record { linked = linked; long = h.long ∙ ap length (sym (text_map ds cs same)); fits = h.fits }
+pub kept_walked : (d len : ℕ) (cs ds : List ChunkValue) (ss ts : List Sum) → IsKept d len cs ss → AreLinked d origin ds → AreSums ds ts → map bytes_of ds ≡ map bytes_of cs → IsKept d len ds ts
+kept_walked d len cs ds ss ts h linked sums same = record { linked = linked; summed = sums; long = h.long ∙ ap length (sym (text_map ds cs same)); fits = h.fits }
 
 pub loosened_none : (cs : List ChunkValue) → length cs ≡ 0 → cs ≡ loosened cs
 loosened_none [] h = refl
@@ -351,27 +395,19 @@ pub loosened_first : (cs : List ChunkValue) (x e : ChunkValue) → x ≡ get_or 
 loosened_first [] x e is made = refl
 loosened_first (c ∷ cs) x e is made = ap (λ (y : ChunkValue). y ∷ cs) (made ∙ ap loose is)
 
-pub kept_fresh : (d : ℕ) (cs : List ChunkValue) (bytes : List ℕ) → AreFresh d cs → text_of cs ≡ bytes → length bytes < 2 ^ 63 → IsKept d (length bytes) cs
-kept_fresh d cs bytes h e fits = record { linked = linked_fresh d origin cs h; long = ap length (sym e); fits = fits }
+pub kept_fresh : (d : ℕ) (cs : List ChunkValue) (ss : List Sum) (bytes : List ℕ) → AreFresh d cs → AreSums cs ss → text_of cs ≡ bytes → length bytes < 2 ^ 63 → IsKept d (length bytes) cs ss
+kept_fresh d cs ss bytes h sums e fits = record { linked = linked_fresh d origin cs h; summed = sums; long = ap length (sym e); fits = fits }
 
-length_same : (cs ds : List ChunkValue) → map bytes_of cs ≡ map bytes_of ds → length cs ≡ length ds
-length_same [] [] e = refl
-length_same [] (d ∷ ds) e = absurd cc
-length_same (c ∷ cs) [] e = absurd cc
-length_same (c ∷ cs) (d ∷ ds) e = let b : map bytes_of cs ≡ map bytes_of ds = cc in ap suc (length_same cs ds b)
-
--- written back into the vector in which they stood
+-- written back into the vectors in which they stood
 pub written : (n : ℕ) (items old new : List ChunkValue) → old ≡ items → n ≡ length old → map bytes_of new ≡ map bytes_of old → take n (new ++ drop (length new) items) ≡ new
-written n items old new is all same =
-    let l : length new ≡ length old = length_same new old same in
-    let m : length old ≡ length items = ap length is in
-    let none : drop (length new) items ≡ [] = drop_all (length new) items (omega (arith, l, m)) in
-    ap (λ (xs : List ChunkValue). take n (new ++ xs)) none ∙ ap (take n) (append-nil new) ∙ take_all n new (omega (arith, l, all))
+written n items old new is all same = kept_items n items old new is all (length_same new old same)
 
-pub kept_written : (d len n : ℕ) (items old new : List ChunkValue) → IsKept d len items → old ≡ items → n ≡ length old → AreLinked d origin new → map bytes_of new ≡ map bytes_of old
-    → IsKept d len (take n (new ++ drop (length new) items))
-kept_written d len n items old new h is all linked same =
-    subst (IsKept d len) (sym (written n items old new is all same)) (kept_walked d len items new h linked (same ∙ ap (map bytes_of) is))
+pub kept_written : (d len n m : ℕ) (items old new : List ChunkValue) (sums those now : List Sum) → IsKept d len items sums → old ≡ items → n ≡ length old → those ≡ sums → m ≡ length those
+    → AreLinked d origin new → map bytes_of new ≡ map bytes_of old → AreSums new now → length now ≡ length those
+    → IsKept d len (take n (new ++ drop (length new) items)) (take m (now ++ drop (length now) sums))
+kept_written d len n m items old new sums those now h is all are some linked same summed count =
+    subst (λ (xs : List ChunkValue). IsKept d len xs (take m (now ++ drop (length now) sums))) (sym (written n items old new is all same))
+    (subst (IsKept d len new) (sym (kept_items m sums those now are some count)) (kept_walked d len items new sums now h linked summed (same ∙ ap (map bytes_of) is)))
 
 pub none_behind : (p : PlaceValue) (cs : List ChunkValue) → length cs ≡ 0 → place_behind p cs ≡ p
 none_behind p [] h = refl
@@ -401,3 +437,27 @@ still_fits start cs ds e fits = omega (arith, fits, ap length (text_map cs ds e)
 
 pub same_place : (s t : LexState) (e f : Expect) (o p : List Holder) → s ≡ t → e ≡ f → o ≡ p → place_in s e o ≡ place_in t f p
 same_place s t e f o p h k l = ap (λ (x : LexState). place_in x e o) h ∙ ap (λ (x : Expect). place_in t x o) k ∙ ap (place_in t f) l
+
+-- ---- as many chunks in the place of some
+
+pub put_is : (cs ys made : List ChunkValue) (first last : ℕ) → first ≤ last → ys ≡ made → put_mid first (last - first) cs ys ≡ (take first cs ++ made) ++ drop last cs
+put_is cs ys made first last h is =
+    ap (λ (xs : List ChunkValue). take first cs ++ (xs ++ drop (last - first) (drop first cs))) is
+    ∙ ap (λ (xs : List ChunkValue). take first cs ++ (made ++ xs)) (drop-drop (last - first) first cs)
+    ∙ ap (λ (n : ℕ). take first cs ++ (made ++ drop n cs)) (omega (arith, h))
+    ∙ sym (append_assoc (take first cs) made (drop last cs))
+
+pub exchanged : (cs ys made : List ChunkValue) (first last : ℕ) (x e : ChunkValue) → first ≤ last → last ≤ length cs → length made ≡ last - first → ys ≡ made
+    → x ≡ get_or (put_mid first (last - first) cs ys) last x → e ≡ loose x → set (put_mid first (last - first) cs ys) last e ≡ replaced first last made cs
+exchanged cs ys made first last x e h k l is there made_loose =
+    let front : List ChunkValue = take first cs ++ made in
+    let rest : List ChunkValue = drop last cs in
+    let whole : put_mid first (last - first) cs ys ≡ front ++ rest = put_is cs ys made first last h is in
+    let long : length front ≡ last = omega (arith, length-append (take first cs) made, length-take-le first cs (omega (arith, h, k)), l, h) in
+    let none : last - last ≡ 0 = omega arith in
+    let here : x ≡ get_or rest 0 x =
+    there ∙ ap (λ (xs : List ChunkValue). get_or xs last x) whole ∙ get_or-append_right front rest last last x long (omega arith) ∙ ap (λ (n : ℕ). get_or rest n x) none in
+    ap (λ (xs : List ChunkValue). set xs last e) whole
+    ∙ set-append_right front rest last last e long (omega arith)
+    ∙ ap (λ (n : ℕ). front ++ set rest n e) none
+    ∙ ap (λ (xs : List ChunkValue). front ++ xs) (loosened_first rest x e here made_loose)

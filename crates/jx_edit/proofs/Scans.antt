@@ -1,11 +1,13 @@
 -- Where bytes lead from a place, by the tokens that a scan finds.
-use Rattle.std.proofs.Common.{◌≡◌, ◌≤◌, ℕ, List, length, ap, ◌∙◌}
+use Rattle.std.proofs.Common.{◌≡◌, ◌≤◌, ℕ, List, [], ◌∷◌, ◌++◌, length, sym, ap, ◌∙◌, arith, length-append}
 use Rattle.std.specs.Prelude.{slice_range}
 use Rattle.jx_lex.specs.declared.alphabet.lex_exit.LexExit.{LexExit}
 use Rattle.jx_lex.specs.declared.alphabet.mark.Mark.{Mark}
+use Rattle.jx_lex.specs.declared.alphabet.mark.MarkKind.TheVariants.{Comma}
 use Rattle.jx_lex.specs.declared.alphabet.state.LexState.{LexState}
 use Rattle.jx_lex.specs.Lex as lexical
 use Rattle.jx_lex.specs.Lex.{lex}
+use Rattle.jx_lex.specs.Seen.{TokenLists, WantsNoMore}
 use Rattle.jx_lex.specs.View.{exit_of}
 use Rattle.jx_reduce.specs.Read.{Reading, read as read_marks}
 use Rattle.jx_run.specs.Reading.{at_exit, read}
@@ -40,3 +42,11 @@ pub scan_leads : (limit : ℕ) (p : PlaceValue) (s : LexState) (bytes : List ℕ
 scan_leads limit p s bytes marks x r l h short is =
     let e : reading_in l ≡ read_on limit p bytes = is ∙ leads limit p s bytes marks x r h in
     (e, led_within limit l (read_on limit p bytes) e (read-within limit bytes p.state p.expect p.holders 0 short))
+
+-- a keeper of all tokens always wants more
+pub wants_more : (t : TokenLists) (marks : List Mark) (ends : List ℕ) → t ≡ record { marks = marks; ends = ends } → WantsNoMore (λ ms es. t ≡ record { marks = ms; ends = es }) → ⊥
+wants_more t marks ends is none =
+    let comma : Mark = record { kind = Comma; at = 0 } in
+    let more : t ≡ record { marks = marks ++ comma ∷ []; ends = ends ++ [] } = none marks (comma ∷ []) ends [] is in
+    let same : length marks ≡ length (marks ++ comma ∷ []) = ap (λ (u : TokenLists). length u.marks) (sym is ∙ more) in
+    omega (arith, same, length-append marks (comma ∷ []))

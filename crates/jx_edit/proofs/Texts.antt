@@ -1,7 +1,8 @@
 -- The text of chunks, cut at borders between them.
-use Rattle.std.proofs.Common.{◌≡◌, ℕ, ◌+◌, ◌-◌, ◌^◌, ◌≤◌, ◌<◌, List, [], ◌∷◌, ◌++◌, length, map, take, drop, get_or, refl, sym, ap, subst, ◌∙◌, arith, add-one, append_assoc, append-nil, length-append, take-append-drop}
+use Rattle.std.proofs.Common.{◌≡◌, ℕ, ◌+◌, ◌-◌, ◌^◌, ◌≤◌, ◌<◌, List, [], ◌∷◌, ◌++◌, length, map, take, drop, get_or, refl, sym, ap, subst, ◌∙◌, arith, inl, inr, suc, zero, add-one, append_assoc, append-nil, length-append, take-append-drop}
 use Rattle.std.specs.List.{concat, slice_range}
-use Rattle.std.proofs.lemmas.List.{take-append-le, drop-append-le, at_drop_more, length-take-le, length-drop, take_all}
+use Rattle.std.proofs.lemmas.Bool.{cases_lt}
+use Rattle.std.proofs.lemmas.List.{take-append-le, drop-append-le, drop-drop, at_drop_more, take-take, length-take-le, length-drop, take_all}
 use Rattle.std.proofs.lemmas.List.Elements.{All-push, All-same}
 use Rattle.std.proofs.lemmas.List.Concat.{flat_map-append}
 use Rattle.std.proofs.lemmas.List.Folds.{drop_split}
@@ -30,6 +31,11 @@ text_within cs k =
     let e : length (text_of cs) ≡ length (text_of (take k cs)) + length (text_of (drop k cs)) = ap length (text_parts cs k) ∙ length-append (text_of (take k cs)) (text_of (drop k cs)) in
     omega (arith, e)
 
+pub text_rises : (cs : List ChunkValue) (i j : ℕ) → i ≤ j → length (text_of (take i cs)) ≤ length (text_of (take j cs))
+text_rises cs i j h =
+    let e : length (text_of (take i (take j cs))) ≡ length (text_of (take i cs)) = ap (λ (xs : List ChunkValue). length (text_of xs)) (take-take i j cs h) in
+    omega (arith, e, text_within (take j cs) i)
+
 pub more_within : (cs : List ChunkValue) (k : ℕ) (d : ChunkValue) → k < length cs → length (text_of (take k cs)) + length (get_or cs k d).bytes ≤ length (text_of cs)
 more_within cs k d h = omega (arith, length_more cs k d h, text_within cs (k + 1))
 
@@ -57,7 +63,7 @@ front_at cs at before bytes here s =
     record {
       within = omega (arith, s.within);
       long = s.long;
-      behind = s.behind;
+      tight = s.tight;
       text = ap (take at) (text_between cs before (before + here) (omega arith)) ∙ take_at (text_of (take before cs)) mid (text_of (drop (before + here) cs)) at (at - bytes) e reach;
     }
 
@@ -84,12 +90,6 @@ back_more cs at before bytes c h is b =
       text = b.text ∙ ap (λ (t : List ℕ). bytes ++ t) step ∙ sym (append_assoc bytes c.bytes (text_of (drop (before + 1) cs)));
     }
 
-drop_drop : (cs : List ChunkValue) (i j : ℕ) → i ≤ length cs → drop j (drop i cs) ≡ drop (i + j) cs
-drop_drop cs i j h =
-    sym (ap (drop (i + j)) (sym (take-append-drop i cs))
-    ∙ ap (λ (n : ℕ). drop (n + j) (take i cs ++ drop i cs)) (sym (length-take-le i cs h))
-    ∙ drop-append-add (take i cs) (drop i cs) j)
-
 regroup : (a f r b z : List ℕ) → (a ++ ((f ++ r) ++ b)) ++ z ≡ ((a ++ f) ++ r) ++ (b ++ z)
 regroup a f r b z =
     ap (λ (t : List ℕ). t ++ z) (sym (append_assoc a (f ++ r) b) ∙ ap (λ (t : List ℕ). t ++ b) (sym (append_assoc a f r))) ∙ append_assoc ((a ++ f) ++ r) b z
@@ -105,31 +105,31 @@ text_replaced cs made first last =
     ∙ ap (λ (t : List ℕ). t ++ text_of (loosened (drop last cs))) (flat_map-append bytes_of (take first cs) made)
     ∙ ap (λ (t : List ℕ). (text_of (take first cs) ++ text_of made) ++ t) (text_loosened (drop last cs))
 
+-- where a place lies behind another, the border behind it does
+pub border_order : (cs : List ChunkValue) (start end first last : ℕ) → start ≤ end → (0 < first → length (text_of (take first cs)) < start) → end ≤ length (text_of (take last cs)) → first ≤ last
+border_order cs start end first last h low high = elim (cases_lt last first) [
+  | inl less ↦ absurd (omega (arith, low (omega (arith, less)), text_rises cs last first (omega (arith, less)), h, high))
+  | inr order ↦ order
+]
+
 -- an edit
-pub made_at : (cs made : List ChunkValue) (start end first offset last : ℕ) (front replacement back : List ℕ) → start ≤ end → IsFront cs start first offset front
-    → IsBack (drop first cs) (end - offset) last back → text_of made ≡ (front ++ replacement) ++ back
-    → IsMade start end replacement cs first (first + last) made
-made_at cs made start end first offset last front replacement back h f b e =
+pub made_at : (cs made : List ChunkValue) (start end first offset last : ℕ) (front replacement back : List ℕ) → start ≤ end → end ≤ length (text_of cs) → IsFront cs start first offset front
+    → IsBack cs end last back → text_of made ≡ (front ++ replacement) ++ back → IsMade start end replacement cs first last made
+made_at cs made start end first offset last front replacement back h k f b e =
     let T : List ℕ = text_of cs in
-    let rest : List ChunkValue = drop first cs in
-    let zs : List ℕ = text_of (drop last rest) in
-    let end_is : end ≡ length (text_of (take first cs)) + (end - offset) = omega (arith, f.long, f.behind) in
-    let behind : drop end T ≡ back ++ zs =
-    ap (drop end) (text_parts cs first)
-    ∙ ap (λ (i : ℕ). drop i (text_of (take first cs) ++ text_of rest)) end_is
-    ∙ drop-append-add (text_of (take first cs)) (text_of rest) (end - offset)
-    ∙ b.text in
-    let long : length (drop first cs) + first ≡ length cs = omega (arith, length-drop first cs, f.within) in
+    let zs : List ℕ = text_of (drop last cs) in
+    let whole : length T ≡ length (text_of (take last cs)) + length zs = ap length (text_parts cs last) ∙ length-append (text_of (take last cs)) zs in
+    let rest : length (drop end T) ≡ length back + length zs = ap length b.text ∙ length-append back zs in
+    let high : end ≤ length (text_of (take last cs)) = omega (arith, whole, rest, length-drop end T, k) in
     record {
-      order = omega arith;
-      within = omega (arith, b.within, long);
+      order = border_order cs start end first last h (λ some. omega (arith, f.tight some, f.long)) high;
+      within = b.within;
       text =
-          text_replaced cs made first (first + last)
-          ∙ ap (λ (t : List ℕ). (text_of (take first cs) ++ t) ++ text_of (drop (first + last) cs)) e
-          ∙ ap (λ (ds : List ChunkValue). (text_of (take first cs) ++ ((front ++ replacement) ++ back)) ++ text_of ds) (sym (drop_drop cs first last f.within))
+          text_replaced cs made first last
+          ∙ ap (λ (t : List ℕ). (text_of (take first cs) ++ t) ++ zs) e
           ∙ regroup (text_of (take first cs)) front replacement back zs
           ∙ ap (λ (t : List ℕ). (t ++ replacement) ++ (back ++ zs)) (sym f.text)
-          ∙ ap (λ (t : List ℕ). (take start T ++ replacement) ++ t) (sym behind);
+          ∙ ap (λ (t : List ℕ). (take start T ++ replacement) ++ t) (sym b.text);
     }
 
 -- what is kept of chunks that are made one by one
@@ -175,12 +175,6 @@ rest_long cs k =
     ap (λ (xs : List ChunkValue). length (text_of (take k cs)) + length (text_of xs)) (rest_is cs k)
     ∙ sym (length-append (text_of (take k cs)) (text_of (drop k cs))) ∙ ap length (sym (text_parts cs k))
 
-pub made_in : (cs made : List ChunkValue) (start end first offset last : ℕ) (front replacement back : List ℕ) → start ≤ end → IsFront cs start first offset front
-    → IsBack (take (length cs - first) (drop first cs)) (end - offset) last back → text_of made ≡ (front ++ replacement) ++ back
-    → IsMade start end replacement cs first (first + last) made
-made_in cs made start end first offset last front replacement back h f b e =
-    made_at cs made start end first offset last front replacement back h f (subst (λ (xs : List ChunkValue). IsBack xs (end - offset) last back) (rest_is cs first) b) e
-
 -- one chunk between two borders
 slice_one : (cs : List ChunkValue) (k : ℕ) (c : ChunkValue) → k < length cs → c ≡ get_or cs k c → length (text_of (slice_range cs k (k + 1))) ≡ length c.bytes
 slice_one cs k c h is =
@@ -204,16 +198,47 @@ next_is cs k bytes c xs h is same long =
     omega (arith, length_more cs k c h, l)
 
 pub seam_here : (cs : List ChunkValue) (at k bytes : ℕ) (c : ChunkValue) (xs : List ℕ) → k < length cs → c ≡ get_or cs k c → xs ≡ c.bytes → bytes ≡ length (text_of (take k cs))
-    → bytes ≤ at → at ≤ bytes + length xs → IsSeam cs at k bytes 1
-seam_here cs at k bytes c xs h is same long low high =
+    → bytes ≤ at → (0 < k → bytes < at) → at ≤ bytes + length xs → IsSeam cs at k bytes 1
+seam_here cs at k bytes c xs h is same long low tight high =
     let l : length xs ≡ length c.bytes = ap length same in
-    record { within = omega arith; long = long; behind = low; reach = omega (arith, slice_one cs k c h is, l) }
+    record { within = omega arith; long = long; behind = low; tight = tight; reach = omega (arith, slice_one cs k c h is, l) }
 
-pub seam_end : (cs : List ChunkValue) (at k bytes : ℕ) → length cs ≤ k → bytes ≡ length (text_of (take k cs)) → bytes ≤ at → at ≤ length (text_of cs) → IsSeam cs at (length cs) bytes 0
-seam_end cs at k bytes h long low high =
+pub seam_end : (cs : List ChunkValue) (at k bytes : ℕ) → length cs ≤ k → bytes ≡ length (text_of (take k cs)) → bytes ≤ at → (0 < k → bytes < at) → at ≤ length (text_of cs) → IsSeam cs at (length cs) bytes 0
+seam_end cs at k bytes h long low tight high =
     let e : length (text_of (take k cs)) ≡ length (text_of cs) = ap (λ (xs : List ChunkValue). length (text_of xs)) (take_all k cs h) in
     let f : length (text_of (take (length cs) cs)) ≡ length (text_of cs) = ap (λ (xs : List ChunkValue). length (text_of xs)) (take_all (length cs) cs (omega arith)) in
-    record { within = omega arith; long = omega (arith, e, f, long); behind = low; reach = omega (arith, e, long, high) }
+    record { within = omega arith; long = omega (arith, e, f, long); behind = low; tight = λ some. tight (omega (arith, some, h)); reach = omega (arith, e, long, high) }
+
+-- in the chunks from a border on
+pub seam_behind : (cs rest : List ChunkValue) (at border size before bytes here : ℕ) → rest ≡ drop border cs → border ≤ length cs → size ≡ length (text_of (take border cs)) → (0 < border → size < at)
+    → IsSeam rest (at - size) before bytes here → IsSeam cs at (border + before) (size + bytes) here
+seam_behind cs rest at border size before bytes here is within long tight s =
+    let count : length rest ≡ length cs - border = ap length is ∙ length-drop border cs in
+    let part : length (text_of (take before rest)) ≡ length (text_of (take before (drop border cs))) = ap (λ (xs : List ChunkValue). length (text_of (take before xs))) is in
+    let both : length (text_of (take (border + before) cs)) ≡ length (text_of (take border cs)) + length (text_of (take before (drop border cs))) =
+    ap (λ (xs : List ChunkValue). length (text_of xs)) (take-add border before cs)
+    ∙ ap length (flat_map-append bytes_of (take border cs) (take before (drop border cs)))
+    ∙ length-append (text_of (take border cs)) (text_of (take before (drop border cs))) in
+    let mid : length (text_of (slice_range rest before (before + here))) ≡ length (text_of (slice_range cs (border + before) ((border + before) + here))) =
+    ap (λ (xs : List ChunkValue). length (text_of (take ((before + here) - before) (drop before xs)))) is
+    ∙ ap (λ (xs : List ChunkValue). length (text_of (take ((before + here) - before) xs))) (drop-drop before border cs)
+    ∙ ap (λ (n : ℕ). length (text_of (take n (drop (border + before) cs)))) (omega arith) in
+    let first : border ≡ 0 → size ≡ 0 = λ none. long ∙ ap (λ (n : ℕ). length (text_of (take n cs))) none in
+    let low : size ≤ at = elim (cases_lt 0 border) [
+      | inl some ↦ omega (arith, tight some)
+      | inr none ↦ omega (arith, first (omega (arith, none)))
+    ] in
+    let near : before ≡ 0 → bytes ≡ 0 = λ none. s.long ∙ ap (λ (n : ℕ). length (text_of (take n rest))) none in
+    record {
+      within = omega (arith, s.within, count, within);
+      long = omega (arith, long, s.long, part, both);
+      behind = omega (arith, s.behind, low);
+      tight = λ some. elim (cases_lt 0 before) [
+        | inl more ↦ omega (arith, s.tight more)
+        | inr none ↦ omega (arith, near (omega (arith, none)), tight (omega (arith, some, none)))
+      ];
+      reach = omega (arith, s.reach, mid, low);
+    }
 
 pub front_is : (cs : List ChunkValue) (at before bytes here : ℕ) (xs ys : List ℕ) → IsSeam cs at before bytes here → xs ≡ text_of (slice_range cs before (before + here))
     → ys ≡ take (at - bytes) xs → IsFront cs at before bytes ys
@@ -228,6 +253,9 @@ take_split : (cs : List ChunkValue) (i j : ℕ) → take (i + j) cs ≡ take i c
 take_split cs i j =
     let e : j ≡ (i + j) - i = omega arith in
     take-add i j cs ∙ ap (λ (n : ℕ). take i cs ++ take n (drop i cs)) e
+
+take_to : (cs : List ChunkValue) (i j : ℕ) → i ≤ j → take j cs ≡ take i cs ++ slice_range cs i j
+take_to cs i j h = let e : j ≡ i + (j - i) = omega (arith, h) in ap (λ (n : ℕ). take n cs) e ∙ take-add i (j - i) cs
 
 pub seam_reach : (cs : List ChunkValue) (at before bytes here : ℕ) → IsSeam cs at before bytes here → at ≤ length (text_of (take (before + here) cs))
 seam_reach cs at before bytes here s =
@@ -249,20 +277,46 @@ between_at xs ys zs start end low order high =
     ∙ take-append-le (end - start) (drop (start - length xs) ys) zs (omega (arith, l))
     ∙ ap (λ (k : ℕ). take k (drop (start - length xs) ys)) n
 
+pub seam_order : (cs : List ChunkValue) (start end before bytes here close far more : ℕ) → start ≤ end → IsSeam cs start before bytes here → IsSeam cs end close far more → before ≤ close + more
+seam_order cs start end before bytes here close far more order s t =
+    border_order cs start end before (close + more) order (λ some. omega (arith, s.tight some, s.long)) (seam_reach cs end close far more t)
+
+pub between_long : (cs : List ChunkValue) (start end before bytes here close far more : ℕ) → start ≤ end → IsSeam cs start before bytes here → IsSeam cs end close far more
+    → end - bytes ≤ length (text_of (slice_range cs before (close + more)))
+between_long cs start end before bytes here close far more order s t =
+    let i : before ≤ close + more = seam_order cs start end before bytes here close far more order s t in
+    let upto : length (text_of (take (close + more) cs)) ≡ length (text_of (take before cs)) + length (text_of (slice_range cs before (close + more))) =
+    ap (λ (ds : List ChunkValue). length (text_of ds)) (take_to cs before (close + more) i)
+    ∙ ap length (flat_map-append bytes_of (take before cs) (slice_range cs before (close + more)))
+    ∙ length-append (text_of (take before cs)) (text_of (slice_range cs before (close + more))) in
+    omega (arith, seam_reach cs end close far more t, upto, s.long)
+
 pub between_is : (cs : List ChunkValue) (start end before bytes here close far more : ℕ) (all out : List ℕ) → start ≤ end → IsSeam cs start before bytes here
-    → IsSeam (take (length cs - before) (drop before cs)) (end - bytes) close far more → all ≡ text_of (take (close + more) (take (length cs - before) (drop before cs)))
-    → out ≡ slice_range all (start - bytes) (end - bytes) → out ≡ slice_range (text_of cs) start end
+    → IsSeam cs end close far more → all ≡ text_of (slice_range cs before (close + more)) → out ≡ slice_range all (start - bytes) (end - bytes) → out ≡ slice_range (text_of cs) start end
 between_is cs start end before bytes here close far more all out order s t e f =
-    let rest : List ChunkValue = take (length cs - before) (drop before cs) in
-    let ys : List ℕ = text_of (take (close + more) rest) in
-    let zs : List ℕ = text_of (drop (close + more) rest) in
+    let i : before ≤ close + more = seam_order cs start end before bytes here close far more order s t in
     let xs : List ℕ = text_of (take before cs) in
-    let whole : text_of cs ≡ xs ++ (ys ++ zs) =
-    text_parts cs before ∙ ap (λ (ds : List ChunkValue). xs ++ text_of ds) (sym (rest_is cs before)) ∙ ap (λ (u : List ℕ). xs ++ u) (text_parts rest (close + more)) in
-    let high : end ≤ length xs + length ys = omega (arith, seam_reach rest (end - bytes) close far more t, s.long) in
+    let ys : List ℕ = text_of (slice_range cs before (close + more)) in
+    let zs : List ℕ = text_of (drop (close + more) cs) in
+    let whole : text_of cs ≡ xs ++ (ys ++ zs) = text_between cs before (close + more) i in
+    let high : end ≤ length xs + length ys = omega (arith, between_long cs start end before bytes here close far more order s t, s.long) in
     f ∙ ap (λ (u : List ℕ). slice_range u (start - bytes) (end - bytes)) e
     ∙ ap (λ (k : ℕ). slice_range ys (start - k) (end - k)) s.long
     ∙ sym (ap (λ (u : List ℕ). slice_range u start end) whole ∙ between_at xs ys zs start end (omega (arith, s.long, s.behind)) order high)
+
+-- from a border between chunks on
+pub rest_behind : (cs rest : List ChunkValue) (at border size : ℕ) (out : List ℕ) → rest ≡ drop border cs → size ≡ length (text_of (take border cs)) → size ≤ at
+    → out ≡ slice_range (text_of rest) (at - size) ((at - size) + length out) → out ≡ slice_range (text_of cs) at (at + length out)
+rest_behind cs rest at border size out is long low part =
+    let n : at ≡ length (text_of (take border cs)) + (at - size) = omega (arith, long, low) in
+    let there : drop at (text_of cs) ≡ drop (at - size) (text_of rest) =
+    ap (drop at) (text_parts cs border)
+    ∙ ap (λ (i : ℕ). drop i (text_of (take border cs) ++ text_of (drop border cs))) n
+    ∙ drop-append-add (text_of (take border cs)) (text_of (drop border cs)) (at - size)
+    ∙ ap (λ (xs : List ChunkValue). drop (at - size) (text_of xs)) (sym is) in
+    part
+    ∙ ap (λ (i : ℕ). take i (drop (at - size) (text_of rest))) (omega arith)
+    ∙ ap (take ((at + length out) - at)) (sym there)
 
 -- what stands from a place in the first of two texts up to its end
 pub rest_in : (xs ys : List ℕ) (at : ℕ) → at ≤ length xs → drop at xs ≡ slice_range (xs ++ ys) at (at + length (drop at xs))
@@ -304,3 +358,20 @@ bytes_together (c ∷ cs) = ap (λ (t : List ℕ). c.bytes ++ t) (bytes_together
 pub pieces_are : (front : List ℕ) (cs : List ChunkValue) → concat (pieces front cs) ≡ front ++ text_of cs
 pieces_are [] cs = bytes_together cs
 pieces_are (b ∷ front) cs = ap (λ (t : List ℕ). (b ∷ front) ++ t) (bytes_together cs)
+
+-- chunks with the same bytes
+pub text_take : (cs ds : List ChunkValue) (k : ℕ) → map bytes_of cs ≡ map bytes_of ds → text_of (take k cs) ≡ text_of (take k ds)
+text_take cs ds zero e = refl
+text_take [] [] (suc k) e = refl
+text_take [] (d ∷ ds) (suc k) e = absurd cc
+text_take (c ∷ cs) [] (suc k) e = absurd cc
+text_take (c ∷ cs) (d ∷ ds) (suc k) e =
+    let a : c.bytes ≡ d.bytes = cc in
+    let b : map bytes_of cs ≡ map bytes_of ds = cc in
+    ap (λ (t : List ℕ). t ++ text_of (take k cs)) a ∙ ap (λ (t : List ℕ). d.bytes ++ t) (text_take cs ds k b)
+
+pub length_same : (cs ds : List ChunkValue) → map bytes_of cs ≡ map bytes_of ds → length cs ≡ length ds
+length_same [] [] e = refl
+length_same [] (d ∷ ds) e = absurd cc
+length_same (c ∷ cs) [] e = absurd cc
+length_same (c ∷ cs) (d ∷ ds) e = let b : map bytes_of cs ≡ map bytes_of ds = cc in ap suc (length_same cs ds b)

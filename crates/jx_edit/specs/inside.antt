@@ -6,3 +6,4 @@ pub mod Moves
 pub mod Parts
 pub mod Pieces
 pub mod Places
+pub mod Sums

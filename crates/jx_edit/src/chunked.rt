@@ -11,10 +11,11 @@ use crate::chunks::Chunks;
 use crate::edit_fault::EditFault;
 use crate::encoding::Encoding;
 use crate::making::chunks_by;
-use crate::patch::{patch_of, piece_for, replace};
+use crate::patch::{patch_of, piece_for, put};
 use crate::position::{Position, Reached};
 use crate::seam::{between, rest_at};
 use crate::seek::{position_in, reach_in};
+use crate::sums::{Sum, sums_of};
 use crate::walk::walk;
 use jx_lex::Depth;
 use jx_run::Verdict;
@@ -29,6 +30,8 @@ pub(crate) struct Chunked {
     depth: Depth,
     len: usize,
     chunks: Vec<Chunk>,
+    // what is kept of each group of chunks
+    sums: Vec<Sum>,
 }
 
 impl Model for Chunked {
@@ -39,30 +42,17 @@ impl Model for Chunked {
 
     ghost view = { λ t. record { depth = t.depth; bytes = text_of t.chunks.items } };
 
-    ghost invariant = { λ t. IsKept t.depth t.len t.chunks.items };
+    ghost invariant = { λ t. IsKept t.depth t.len t.chunks.items t.sums.items };
 }
 
 /// How long the chunks are that an edit makes, where there are so many bytes. Twice the size is read in less than twice the
-/// time, and leaves half as many chunks to look at.
+/// time, and leaves half as many chunks and sums.
 const SIZE: usize = 16384;
 
 /// The most bytes that a text may have: no slice has more. So twice as many units can be counted.
 pub(crate) const MOST: usize = usize::MAX / 2;
 
 impl Chunked {
-    /// A text without a byte. It takes no memory.
-    pub(crate) fn new(alloc: Global, depth: Depth) -> Chunked
-        ensures depth { result.depth ≡ depth }
-        ensures bytes { result.bytes ≡ [] }
-    {
-        Chunked {
-            alloc,
-            depth,
-            len: 0,
-            chunks: Vec::new(alloc),
-        }
-    }
-
     /// The text of these bytes. Only want of memory is refused.
     pub(crate) fn of(alloc: Global, bytes: &[u8], depth: Depth) -> Result<Chunked, AllocError>
         ensures depth { IfOk result (λ t. t.depth ≡ depth) }
@@ -70,11 +60,13 @@ impl Chunked {
     {
         let piece = piece_for(bytes.len(), SIZE);
         let chunks = chunks_of(alloc, bytes, piece, depth)?;
+        let sums = sums_of(alloc, &chunks)?;
         Ok(Chunked {
             alloc,
             depth,
             len: bytes.len(),
             chunks,
+            sums,
         })
     }
 
@@ -91,11 +83,13 @@ impl Chunked {
     {
         let piece = piece_for(bytes.len(), SIZE);
         let chunks = chunks_by(rt, alloc, bytes, piece, depth, workers)?;
+        let sums = sums_of(alloc, &chunks)?;
         Ok(Chunked {
             alloc,
             depth,
             len: bytes.len(),
             chunks,
+            sums,
         })
     }
 
@@ -116,7 +110,7 @@ impl Chunked {
         ensures part { result.now ≡ slice_range self.now.bytes offset (offset + length result.now) }
         ensures some { offset < length self.now.bytes → 0 < length result.now }
     {
-        rest_at(&self.chunks, offset)
+        rest_at(&self.chunks, &self.sums, offset)
     }
 
     /// Its bytes behind a front, piece by piece.
@@ -153,7 +147,13 @@ impl Chunked {
         ensures same { self.new ≡ self.old }
         ensures verdict { IfOk result (Judged start self.old.bytes self.old.depth) }
     {
-        walk(self.alloc, self.depth, start, &mut self.chunks)
+        walk(
+            self.alloc,
+            self.depth,
+            start,
+            &mut self.chunks,
+            &mut self.sums,
+        )
     }
 
     /// Puts other bytes in the place of those from `start` up to `end`. Where that is refused nothing changes.
@@ -176,16 +176,24 @@ impl Chunked {
         }
         let len = kept + replacement.len();
         let chunks = self.chunks.as_slice();
+        let sums = self.sums.as_slice();
         let patch = patch_of(
             self.alloc,
             chunks,
+            sums,
             start,
             end,
             replacement,
             SIZE,
             self.depth,
         )?;
-        replace(&mut self.chunks, patch.first, patch.last, patch.chunks)?;
+        put(
+            &mut self.chunks,
+            &mut self.sums,
+            patch.first,
+            patch.last,
+            patch.chunks,
+        )?;
         self.len = len;
         Ok(())
     }
@@ -196,6 +204,6 @@ impl Chunked {
         requires within { end ≤ length self.now.bytes }
         ensures { IfOk result (λ bytes. bytes.items ≡ slice_range self.now.bytes start end) }
     {
-        between(self.alloc, &self.chunks, start, end)
+        between(self.alloc, &self.chunks, &self.sums, start, end)
     }
 }

@@ -96,9 +96,9 @@ pub(crate) fn follow_bytes(
     ensures within { IfOk result (IsLedWithin depth) }
 {
     let mut tokens = Tokens::new(alloc);
-    // A keeper of all tokens always wants more, so there is an exit.
     let Some(exit) = scan(&mut tokens, from.state, bytes, 0, bytes.len())? else {
-        return Err(AllocError);
+        // A keeper of all tokens always wants more.
+        unreachable!()
     };
     let outcome = read_marks(alloc, from, tokens.marks(), depth)?;
     Ok(arrived(exit, outcome))

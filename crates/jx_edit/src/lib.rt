@@ -17,6 +17,7 @@ mod place;
 mod position;
 mod seam;
 mod seek;
+mod sums;
 mod walk;
 
 pub use chunks::Chunks;

@@ -1,9 +1,11 @@
 // What an edit makes of chunks.
-ghost use Rattle.std.specs.Prelude.{◌≡◌, ◌≤◌, ◌<◌, ◌^◌, ◌++◌, IfOk, OnOk, OnErr, length};
+ghost use Rattle.std.specs.Prelude.{◌≡◌, ◌≤◌, ◌<◌, ◌-◌, ◌^◌, ◌++◌, IfOk, OnOk, OnErr, length};
 ghost use Rattle.jx_edit.specs.inside.Chunks.{loosened, replaced, text_of, AreFresh, IsMade};
+ghost use Rattle.jx_edit.specs.inside.Sums.{AreSums};
 
 use crate::chunk::{Chunk, chunks_of};
 use crate::seam::{back_of, front_of};
+use crate::sums::{GROUP, Sum, groups_for, renew};
 use jx_lex::Depth;
 use std::alloc::{AllocError, Global};
 
@@ -35,6 +37,7 @@ fn few_for(size: usize, before: usize, put: usize) -> usize {
 pub(crate) fn patch_of(
     alloc: Global,
     chunks: &[Chunk],
+    sums: &[Sum],
     start: usize,
     end: usize,
     replacement: &[u8],
@@ -42,18 +45,18 @@ pub(crate) fn patch_of(
     depth: Depth,
 ) -> Result<Patch, AllocError>
     requires fits { length (text_of chunks.now) < 2 ^ 64 }
+    requires sums { AreSums chunks.now sums.now }
     requires order { start ≤ end }
     requires within { end ≤ length (text_of chunks.now) }
     requires size { 0 < size }
     ensures fresh { IfOk result (λ patch. AreFresh depth patch.chunks.items) }
     ensures made { IfOk result (λ patch. IsMade start end replacement.now chunks.now patch.first patch.last patch.chunks.items) }
 {
-    let front = front_of(alloc, chunks, start)?;
-    let rest = &chunks[front.before..];
+    let front = front_of(alloc, chunks, sums, start)?;
     let few = few_for(size, front.bytes.len(), replacement.len());
-    let back = back_of(alloc, rest, end - front.offset, few)?;
+    let back = back_of(alloc, chunks, sums, end, few)?;
     let first = front.before;
-    let last = first + back.before;
+    let last = back.before;
     let mut bytes = front.bytes;
     bytes.extend_from_slice(replacement)?;
     bytes.extend_from_slice(&back.bytes)?;
@@ -76,9 +79,23 @@ fn loosen(chunks: &mut [Chunk])
     chunks[0].unlink();
 }
 
+/// Puts as many chunks in the place of those from `first` up to `last`, and gives up the link of the next one.
+fn exchange(chunks: &mut [Chunk], first: usize, last: usize, made: Vec<Chunk>)
+    requires order { first ≤ last }
+    requires within { last ≤ length chunks.old }
+    requires same { length made.items ≡ last - first }
+    ensures { chunks.new ≡ replaced first last made.items chunks.old }
+{
+    let mut made = made;
+    chunks[first..last].swap_with_slice(&mut made);
+    if last < chunks.len() {
+        chunks[last].unlink();
+    }
+}
+
 /// Puts chunks in the place of those from `first` up to `last`, and gives up the link of the next one. Where memory is
 /// refused nothing changes.
-pub(crate) fn replace(
+fn replace(
     chunks: &mut Vec<Chunk>,
     first: usize,
     last: usize,
@@ -103,5 +120,41 @@ pub(crate) fn replace(
         Ok(()) => {}
         Err(AllocError) => unreachable!(),
     }
+    Ok(())
+}
+
+/// Puts chunks in the place of those from `first` up to `last`, gives up the link of the next one, and makes the sums anew
+/// that are others now: those of the groups in which chunks change, or all behind them where the chunks behind move. Where
+/// memory is refused nothing changes.
+pub(crate) fn put(
+    chunks: &mut Vec<Chunk>,
+    sums: &mut Vec<Sum>,
+    first: usize,
+    last: usize,
+    made: Vec<Chunk>,
+) -> Result<(), AllocError>
+    requires order { first ≤ last }
+    requires within { last ≤ length chunks.old.items }
+    requires sums { AreSums chunks.old.items sums.old.items }
+    requires fits { length (text_of (replaced first last made.items chunks.old.items)) < 2 ^ 64 }
+    ensures ok { OnOk result (chunks.new.items ≡ replaced first last made.items chunks.old.items) }
+    ensures err { OnErr result (chunks.new.items ≡ chunks.old.items) }
+    ensures sums { AreSums chunks.new.items sums.new.items }
+{
+    if made.len() == last - first {
+        exchange(chunks, first, last, made);
+        let end = (last / GROUP + 1).min(sums.len());
+        renew(chunks, sums, first / GROUP, end);
+        return Ok(());
+    }
+    // All that can fail comes first.
+    sums.reserve(groups_for(made.len()))?;
+    replace(chunks, first, last, made)?;
+    let end = groups_for(chunks.len());
+    match sums.resize(end, Sum::unknown()) {
+        Ok(()) => {}
+        Err(AllocError) => unreachable!(),
+    }
+    renew(chunks, sums, first / GROUP, end);
     Ok(())
 }

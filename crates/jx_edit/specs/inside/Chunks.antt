@@ -1,5 +1,5 @@
 -- The chunks of which a document is made.
-use Rattle.std.specs.Prelude.{◌≡◌, ◌≤◌, ◌+◌, ℕ, Bool, false, List, [], ◌∷◌, ◌++◌, All, length, take, drop, slice_range}
+use Rattle.std.specs.Prelude.{◌≡◌, ◌≤◌, ◌<◌, ◌+◌, ℕ, Bool, false, List, [], ◌∷◌, ◌++◌, All, length, take, drop, slice_range}
 use Rattle.std.specs.List.{flat_map}
 use Rattle.jx_edit.specs.Document.{edited}
 use Rattle.jx_edit.specs.inside.Places.{PlaceValue}
@@ -36,18 +36,19 @@ pub record IsFresh (depth : ℕ) (c : ChunkValue) : Type 0 where
 abbrev pub AreFresh : ℕ → List ChunkValue → Type 0
 AreFresh depth chunks = All (IsFresh depth) chunks
 
--- a place lies in the chunk, or in none, that stands behind so many chunks, which have so many bytes
+-- a place lies in the chunk, or in none, that stands behind so many chunks, which have so many bytes; a border belongs to the chunk before it
 pub record IsSeam (chunks : List ChunkValue) (at before bytes here : ℕ) : Type 0 where
   pub within : before + here ≤ length chunks
   pub long : bytes ≡ length (text_of (take before chunks))
   pub behind : bytes ≤ at
+  pub tight : 0 < before → bytes < at
   pub reach : at ≤ bytes + length (text_of (slice_range chunks before (before + here)))
 
 -- the bytes up to a place, behind so many chunks, which have so many bytes
 pub record IsFront (chunks : List ChunkValue) (at before offset : ℕ) (bytes : List ℕ) : Type 0 where
   pub within : before ≤ length chunks
   pub long : offset ≡ length (text_of (take before chunks))
-  pub behind : offset ≤ at
+  pub tight : 0 < before → offset < at
   pub text : take at (text_of chunks) ≡ text_of (take before chunks) ++ bytes
 
 -- the bytes from a place up to where so many chunks end

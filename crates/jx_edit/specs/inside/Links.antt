@@ -3,6 +3,8 @@ use Rattle.std.specs.Prelude.{◌≡◌, ◌<◌, ◌^◌, ℕ, zero, suc, List,
 use Rattle.jx_run.specs.Reading.{stopped, too_deep, read_text}
 use Rattle.jx_edit.specs.inside.Chunks.{ChunkValue, text_of}
 use Rattle.jx_edit.specs.inside.Places.{PlaceValue, came_to, origin, read_on}
+use Rattle.jx_edit.specs.inside.Sums.{AreLinkedFrom, AreSums}
+use Rattle.jx_edit.specs.declared.sums.Sum.{Sum}
 use Rattle.jx_edit.specs.declared.walk.Step.{Step as TheStep}
 use Rattle.jx_edit.specs.declared.walk.Step.TheVariants as step
 
@@ -28,14 +30,16 @@ bytes_at (c ∷ cs) zero = c.bytes
 bytes_at (c ∷ cs) (suc k) = bytes_at cs k
 
 -- what a text in chunks keeps
-pub record IsKept (depth len : ℕ) (chunks : List ChunkValue) : Type 0 where
+pub record IsKept (depth len : ℕ) (chunks : List ChunkValue) (sums : List Sum) : Type 0 where
   pub linked : AreLinked depth origin chunks
+  pub summed : AreSums chunks sums
   pub long : len ≡ length (text_of chunks)
   pub fits : len < 2 ^ 63
 
--- the text of so many chunks, which stands from an offset on, was read up to the place that the last of them keeps
+-- so many chunks are linked, and their text, which stands from an offset on, was read up to the place that the last of them keeps
 pub record IsWalked (limit start count : ℕ) (chunks : List ChunkValue) : Type 0 where
   pub linked : AreLinked limit origin chunks
+  pub on : AreLinkedFrom chunks 0 count
   pub reads : read_text limit start (text_of (take count chunks)) ≡ came_to (place_behind origin (take count chunks))
 
 -- what became of the reading with so many chunks

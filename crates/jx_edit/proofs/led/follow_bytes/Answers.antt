@@ -1,13 +1,17 @@
-use Rattle.std.proofs.Common.{◌≡◌, [], ◌∙◌, length, ap, subst}
-use Rattle.std.specs.Prelude.{IfSome, Option, slice_range}
+use Rattle.std.proofs.Common.{◌≡◌, [], ◌∙◌, length, ap, refl, subst, sym}
+use Rattle.std.specs.Prelude.{IfSome, IsNone, Option, slice_range}
 use Rattle.jx_lex.specs.declared.alphabet.lex_exit.LexExit.{LexExit}
 use Rattle.jx_lex.specs.Lex.{lex}
 use Rattle.jx_lex.specs.Seen.{TokenLists}
 use Rattle.jx_lex.specs.View.{exit_of}
 use Rattle.jx_reduce.specs.Outcome.{reading_of}
 use Rattle.jx_edit.specs.inside.Places.{PlaceValue}
-use Rattle.jx_edit.proofs.Scans.{scan_leads}
+use Rattle.jx_edit.proofs.Scans.{scan_leads, wants_more}
 use Rattle.jx_edit.proofs.led.follow_bytes.Goals as goal
+
+pub unreachable-requires : goal.unreachable-requires
+unreachable-requires c =
+    wants_more c.scan.new.keeper _ _ (c.in_ok-exit.ensures.seen [] [] c.new-tokens.ensures) (c.in_ok-exit.ensures.done (subst (λ (o : Option LexExit). IsNone o) (sym c.in_default.is) refl))
 
 pub returns : goal.returns
 returns c =

@@ -1,23 +1,19 @@
-use Rattle.std.proofs.Common.{arith, subst, sym, length, ◌≡◌, ◌+◌, ◌-◌, List, ℕ}
-use Rattle.std.specs.List.{slice_range}
-use Rattle.jx_edit.specs.inside.Chunks.{text_of}
-use Rattle.jx_edit.proofs.Texts.{next_fits, next_is, rest_here, rest_is}
+use Rattle.std.proofs.Common.{arith}
+use Rattle.jx_edit.proofs.Groups.{border_low}
+use Rattle.jx_edit.proofs.Texts.{rest_is, rest_long, rest_behind}
 use Rattle.jx_edit.proofs.seam.rest_at.Goals as goal
 
-pub overflow_add-before : goal.overflow_add-before
-overflow_add-before c =
-    omega (arith, next_fits c.args.chunks.now c.loop-place.place c.loop-place.before c.index-chunks-place.result c.bytes-bytes.result.now c.loop-place-test.true c.index-chunks-place.is c.bytes-bytes.ensures c.loop-place.invariant.0 c.requires.fits)
+pub returns-clause-part : goal.returns-clause-part
+returns-clause-part c =
+    let b = c.border_before-border.result in
+    rest_behind c.args.chunks.now _ c.args.at b.before b.bytes c.rest_in.result.now (rest_is c.args.chunks.now b.before) c.border_before-border.ensures.long
+    (border_low c.args.chunks.now c.saturating_add.result c.args.at b.before b.bytes (omega arith) c.border_before-border.ensures) c.rest_in.ensures.part
 
-pub loop-place-preserved : goal.loop-place-preserved
-loop-place-preserved c = (
-  next_is c.args.chunks.now c.loop-place.place c.loop-place.before c.index-chunks-place.result c.bytes-bytes.result.now c.loop-place-test.true c.index-chunks-place.is c.bytes-bytes.ensures c.loop-place.invariant.0,
-  omega arith,
-)
+pub rest_in-requires : goal.rest_in-requires
+rest_in-requires c = record { fits = omega (arith, rest_long c.args.chunks.now c.border_before-border.result.before, c.requires.fits) }
 
-pub returns-then-here-bytes-clause-part : goal.returns-then-here-bytes-clause-part
-returns-then-here-bytes-clause-part c =
-    let bytes = c.bytes-bytes.result.now in
-    let here = c.args.at - c.loop-place.before in
-    subst (λ (t : List ℕ). t ≡ slice_range (text_of c.args.chunks.now) c.args.at (c.args.at + length t)) (sym (rest_is bytes here))
-    (rest_here c.args.chunks.now c.args.at c.loop-place.place c.loop-place.before c.index-chunks-place.result bytes c.loop-place-test.true c.index-chunks-place.is c.bytes-bytes.ensures
-    c.loop-place.invariant.0 c.loop-place.invariant.1 (omega arith))
+pub returns-clause-some : goal.returns-clause-some
+returns-clause-some c =
+    let b = c.border_before-border.result in
+    let low = border_low c.args.chunks.now c.saturating_add.result c.args.at b.before b.bytes (omega arith) c.border_before-border.ensures in
+    λ some. c.rest_in.ensures.some (omega (arith, rest_long c.args.chunks.now b.before, c.border_before-border.ensures.long, low, some))

@@ -18,7 +18,7 @@ link_at-requires-clause-leads c = sym c.in_ok-led.ensures.reads ∙ ap reading_i
 pub returns-in-On-clause-reached : goal.returns-in-On-clause-reached
 returns-in-On-clause-reached c =
     walked_on c.args.depth c.args.start c.args.chunks.now c.link_at.new.chunks c.args.number c.in-On.place c.requires.number c.requires.walked
-    (sym (ap reading_in c.in-On.is) ∙ c.in_ok-led.ensures.reads) c.link_at.ensures.linked c.link_at.ensures.bytes c.link_at.ensures.place
+    (sym (ap reading_in c.in-On.is) ∙ c.in_ok-led.ensures.reads) c.link_at.ensures.linked c.link_at.ensures.bytes c.link_at.ensures.place c.link_at.ensures.on
 
 pub returns-in-Stopped-clause-reached : goal.returns-in-Stopped-clause-reached
 returns-in-Stopped-clause-reached c =

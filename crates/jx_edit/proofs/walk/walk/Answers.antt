@@ -1,51 +1,67 @@
-use Rattle.std.proofs.Common.{arith, ◌∙◌, ◌+◌, ap, sym, subst, refl}
+use Rattle.std.proofs.Common.{arith, false, ◌∙◌, ◌+◌, ◌*◌, ap, sym, subst, refl, List, ℕ}
+use Rattle.std.specs.Prelude.{IfSome, IsNone, Option}
 use Rattle.std.proofs.lemmas.List.{take_all}
-use Rattle.jx_run.specs.Reading.{stopped, too_deep}
+use Rattle.jx_run.specs.declared.verdict.Refusal.{Refusal}
+use Rattle.jx_run.specs.declared.verdict.Verdict.TheVariants.{Refused}
 use Rattle.jx_run.specs.Verdict.{Judged}
-use Rattle.jx_edit.specs.inside.Chunks.{text_of, ChunkValue}
-use Rattle.jx_edit.specs.inside.Links.{place_behind, IsReached}
+use Rattle.jx_edit.specs.inside.Chunks.{text_of}
+use Rattle.jx_edit.specs.inside.Links.{place_behind}
 use Rattle.jx_edit.specs.inside.Places.{origin}
-use Rattle.jx_edit.proofs.Links.{walked_none, offset_none, offset_more, offset_fits, still_fits, judged_at, judged_end}
+use Rattle.jx_edit.specs.inside.Sums.{size_before}
+use Rattle.jx_edit.proofs.Groups.{border_fits, border_more, size_same, sum}
+use Rattle.jx_edit.proofs.Links.{walked_none, offset_none, still_fits, judged_end, text_map}
 use Rattle.jx_edit.proofs.walk.walk.Goals as goal
 
-pub loop-number-init : goal.loop-number-init
-loop-number-init c = (walked_none c.args.depth c.args.start c.args.chunks.now c.requires.linked, refl, offset_none c.args.start c.args.chunks.now)
+pub loop-group-init : goal.loop-group-init
+loop-group-init c = record {
+  walked = walked_none c.args.depth c.args.start c.args.chunks.now c.requires.linked;
+  same = refl;
+  offset_is = offset_none c.args.start c.args.chunks.now;
+  sums_are = c.requires.sums;
+  count = refl;
+}
 
 pub overflow_add-next : goal.overflow_add-next
 overflow_add-next c =
+    let cs = c.loop-group.chunks in
+    let i = c.loop-group.invariant in
     omega (
       arith,
-      offset_fits c.args.start c.loop-number.offset c.loop-number.number c.loop-number.chunks c.args.chunks.now c.index-chunks-number.result c.bytes.result.now (omega arith) c.index-chunks-number.is
-          (c.bytes.ensures ∙ ap (λ (x : ChunkValue). x.bytes) (sym c.index-chunks-number.is))
-          c.loop-number.invariant.2 c.loop-number.invariant.1 c.requires.fits,
+      border_fits cs c.loop-group.sums c.loop-group.group (size_before cs (c.loop-group.group * 64)) (sum 0 false) (omega (arith, c.loop-group-test.true, i.count)) i.sums_are refl,
+      i.offset_is,
+      still_fits c.args.start cs c.args.chunks.now i.same c.requires.fits,
     )
 
-pub go_on-requires-clause-fits : goal.go_on-requires-clause-fits
-go_on-requires-clause-fits c = still_fits c.args.start c.loop-number.chunks c.args.chunks.now c.loop-number.invariant.1 c.requires.fits
+pub pass_group-requires-clause-fits : goal.pass_group-requires-clause-fits
+pass_group-requires-clause-fits c = still_fits c.args.start c.loop-group.chunks c.args.chunks.now c.loop-group.invariant.same c.requires.fits
 
-pub loop-number-preserved : goal.loop-number-preserved
-loop-number-preserved c = (
-  subst (IsReached c.args.depth c.args.start (c.loop-number.number + 1) c.go_on.new.chunks) c.in-On.is c.in_ok-step.ensures.reached,
-  c.in_ok-step.ensures.bytes ∙ c.loop-number.invariant.1,
-  offset_more c.args.start c.loop-number.offset c.loop-number.number c.loop-number.chunks c.go_on.new.chunks c.index-chunks-number.result c.bytes.result.now (omega arith) c.index-chunks-number.is
-      (c.bytes.ensures ∙ ap (λ (x : ChunkValue). x.bytes) (sym c.index-chunks-number.is))
-      c.loop-number.invariant.2 c.in_ok-step.ensures.bytes,
-)
+pub loop-group-preserved : goal.loop-group-preserved
+loop-group-preserved c =
+    let cs = c.loop-group.chunks in
+    let i = c.loop-group.invariant in
+    let next = (c.loop-group.group + 1) * 64 in
+    record {
+      walked = c.in_ok-refused.ensures.walked (subst (λ (o : Option Refusal). IsNone o) (sym c.in_default.is) refl);
+      same = c.in_ok-refused.ensures.bytes ∙ i.same;
+      offset_is =
+          omega (
+            arith,
+            border_more cs c.loop-group.sums c.loop-group.group (size_before cs (c.loop-group.group * 64)) (sum 0 false) (omega (arith, c.loop-group-test.true, i.count)) i.sums_are refl,
+            i.offset_is,
+            size_same c.pass_group.new.chunks cs next c.in_ok-refused.ensures.bytes,
+          );
+      sums_are = c.in_ok-refused.ensures.sums;
+      count = c.in_ok-refused.ensures.count ∙ i.count;
+    }
 
-pub returns-in-Stopped-clause-verdict : goal.returns-in-Stopped-clause-verdict
-returns-in-Stopped-clause-verdict c =
-    judged_at c.reader_is_grammar.ensures.verdict c.args.depth c.args.start c.go_on.new.chunks c.args.chunks.now (c.loop-number.number + 1) (stopped c.in-Stopped.at)
-    (c.in_ok-step.ensures.bytes ∙ c.loop-number.invariant.1) refl
-    (subst (IsReached c.args.depth c.args.start (c.loop-number.number + 1) c.go_on.new.chunks) c.in-Stopped.is c.in_ok-step.ensures.reached)
-
-pub returns-in-TooDeep-clause-verdict : goal.returns-in-TooDeep-clause-verdict
-returns-in-TooDeep-clause-verdict c =
-    judged_at c.reader_is_grammar.ensures.verdict c.args.depth c.args.start c.go_on.new.chunks c.args.chunks.now (c.loop-number.number + 1) (too_deep c.in-TooDeep.at)
-    (c.in_ok-step.ensures.bytes ∙ c.loop-number.invariant.1) refl
-    (subst (IsReached c.args.depth c.args.start (c.loop-number.number + 1) c.go_on.new.chunks) c.in-TooDeep.is c.in_ok-step.ensures.reached)
+pub returns-in-Some-clause-verdict : goal.returns-in-Some-clause-verdict
+returns-in-Some-clause-verdict c =
+    subst (λ (t : List ℕ). Judged c.args.start t c.args.depth (Refused c.in-Some.refusal)) (text_map c.loop-group.chunks c.args.chunks.now c.loop-group.invariant.same)
+    (subst (λ (o : Option Refusal). IfSome o (λ r. Judged c.args.start (text_of c.loop-group.chunks) c.args.depth (Refused r))) c.in-Some.is c.in_ok-refused.ensures.refused)
 
 pub returns-clause-verdict : goal.returns-clause-verdict
 returns-clause-verdict c =
     subst (Judged c.args.start (text_of c.args.chunks.now) c.args.depth) (sym c.verdict_behind.ensures)
-    (judged_end c.reader_is_grammar.ensures.verdict c.args.depth c.args.start c.loop-number.chunks c.args.chunks.now c.loop-number.number (place_behind origin c.loop-number.chunks) c.loop-number.invariant.1
-    (omega arith) c.loop-number.invariant.0 (ap (place_behind origin) (sym (take_all c.loop-number.number c.loop-number.chunks (omega arith)))))
+    (judged_end c.reader_is_grammar.ensures.verdict c.args.depth c.args.start c.loop-group.chunks c.args.chunks.now (c.loop-group.group * 64) (place_behind origin c.loop-group.chunks)
+    c.loop-group.invariant.same (omega (arith, c.loop-group.invariant.sums_are.covers)) c.loop-group.invariant.walked
+    (ap (place_behind origin) (sym (take_all (c.loop-group.group * 64) c.loop-group.chunks (omega (arith, c.loop-group.invariant.sums_are.covers))))))

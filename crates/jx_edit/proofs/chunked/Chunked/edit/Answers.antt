@@ -5,9 +5,9 @@ use Rattle.jx_edit.proofs.chunked.Chunked.edit.Goals as goal
 
 pub invariant_of-self-2 : goal.invariant_of-self-2
 invariant_of-self-2 c =
-    kept_edited c.self.inside.chunks.items c.in_ok-patch.patch.chunks.items c.replace.new.chunks.items c.self.inside.depth _ c.args.start c.args.end c.in_ok-patch.patch.first
+    kept_edited c.self.inside.chunks.items c.in_ok-patch.patch.chunks.items c.put.new.chunks.items c.put.new.sums.items c.self.inside.depth _ c.args.start c.args.end c.in_ok-patch.patch.first
     c.in_ok-patch.patch.last c.args.replacement.now c.requires.order (omega (arith, c.requires.within, ap (λ (v : ChunkedValue). length v.bytes) c.self.view_is)) c.self.invariant.linked
     c.in_ok-patch.ensures.fresh
     (subst (λ (xs : List ChunkValue). IsMade c.args.start c.args.end c.args.replacement.now xs c.in_ok-patch.patch.first c.in_ok-patch.patch.last c.in_ok-patch.patch.chunks.items)
     c.as_slice-chunks.ensures.value c.in_ok-patch.ensures.made)
-    c.in_ok-replace.ensures.ok (omega (arith, c.self.invariant.long)) (omega arith)
+    c.in_ok-put.ensures.ok c.in_ok-put.ensures.sums (omega (arith, c.self.invariant.long)) (omega arith)

@@ -8,8 +8,9 @@ chunked_as depth bytes = record { depth = depth; bytes = bytes }
 
 pub invariant_of-self : goal.invariant_of-self
 invariant_of-self c =
-    kept_written c.self.inside.depth c.self.inside.len c.self.inside.chunks.len c.self.inside.chunks.items c.deref_mut.result.now c.walk.new.chunks c.self.invariant c.deref_mut.ensures.value
-    (omega (arith, c.deref_mut.ensures.len)) c.walk.ensures.linked c.walk.ensures.bytes
+    kept_written c.self.inside.depth c.self.inside.len c.self.inside.chunks.len c.self.inside.sums.len c.self.inside.chunks.items c.deref_mut.result.now c.walk.new.chunks
+    c.self.inside.sums.items c.deref_mut-2.result.now c.walk.new.sums c.self.invariant c.deref_mut.ensures.value
+    (omega (arith, c.deref_mut.ensures.len)) c.deref_mut-2.ensures.value (omega (arith, c.deref_mut-2.ensures.len)) c.walk.ensures.linked c.walk.ensures.bytes c.walk.ensures.sums c.walk.ensures.count
 
 pub returns-clause-same : goal.returns-clause-same
 returns-clause-same c =

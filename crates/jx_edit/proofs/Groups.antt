@@ -1,0 +1,343 @@
+-- What is kept of groups of chunks, through edits and walks.
+use Rattle.std.proofs.Common.{◌≡◌, ℕ, zero, suc, ◌+◌, ◌-◌, ◌*◌, ◌<◌, ◌≤◌, Bool, true, false, List, [], ◌∷◌, ◌++◌, length, map, take, drop, get_or, set, min, refl, sym, ap, subst, ◌∙◌, arith, inl, inr, length-append, append_assoc, append-nil}
+use Rattle.std.specs.Prelude.{◌&&◌, replicate}
+use Rattle.std.proofs.lemmas.Bool.{cases_eq, cases_lt, false≢true}
+use Rattle.std.proofs.lemmas.List.{drop_all, take_all, take_min, take-take, drop-drop, length-set, length-take-le, get_or-set_same, get_or-set_other, get_or_append_left, get_or-take, length-drop, length-replicate, length-take}
+use Rattle.std.proofs.lemmas.List.Concat.{flat_map-append}
+use Rattle.std.proofs.Math.Seq.{take-add, take-append-add, drop-append-add}
+use Rattle.jx_edit.specs.inside.Chunks.{ChunkValue, bytes_of, text_of, loosened, replaced}
+use Rattle.jx_edit.specs.inside.Sums.{size_before, is_linked_at, AreLinkedFrom, IsSum, AreSums, AreSumsBut, IsBorder}
+use Rattle.jx_edit.specs.declared.sums.Sum.{Sum}
+use Rattle.jx_edit.proofs.Texts.{text_take, text_within}
+
+abbrev pub sum : ℕ → Bool → Sum
+sum bytes linked = record { bytes = bytes; linked = linked }
+
+-- ---- whether the chunk at a place is linked
+
+pub linked_here : (cs : List ChunkValue) (k : ℕ) (d : ChunkValue) → k < length cs → is_linked_at cs k ≡ (get_or cs k d).linked
+linked_here [] k d h = absurd (omega (arith, h))
+linked_here (c ∷ cs) zero d h = refl
+linked_here (c ∷ cs) (suc k) d h = linked_here cs k d (omega (arith, h))
+
+pub linked_past : (cs : List ChunkValue) (k : ℕ) → length cs ≤ k → is_linked_at cs k ≡ true
+linked_past [] k h = refl
+linked_past (c ∷ cs) zero h = absurd (omega (arith, h))
+linked_past (c ∷ cs) (suc k) h = linked_past cs k (omega (arith, h))
+
+linked_set_here : (cs : List ChunkValue) (k : ℕ) (c : ChunkValue) → k < length cs → is_linked_at (set cs k c) k ≡ c.linked
+linked_set_here [] k c h = absurd (omega (arith, h))
+linked_set_here (x ∷ cs) zero c h = refl
+linked_set_here (x ∷ cs) (suc k) c h = linked_set_here cs k c (omega (arith, h))
+
+linked_set_other : (cs : List ChunkValue) (k j : ℕ) (c : ChunkValue) → (j ≡ k → ⊥) → is_linked_at (set cs k c) j ≡ is_linked_at cs j
+linked_set_other [] k j c h = refl
+linked_set_other (x ∷ cs) zero zero c h = absurd (h refl)
+linked_set_other (x ∷ cs) zero (suc j) c h = refl
+linked_set_other (x ∷ cs) (suc k) zero c h = refl
+linked_set_other (x ∷ cs) (suc k) (suc j) c h = linked_set_other cs k j c (λ e. h (ap suc e))
+
+linked_take : (cs : List ChunkValue) (n k : ℕ) → k < n → is_linked_at (take n cs) k ≡ is_linked_at cs k
+linked_take cs zero k h = absurd (omega (arith, h))
+linked_take [] (suc n) k h = refl
+linked_take (c ∷ cs) (suc n) zero h = refl
+linked_take (c ∷ cs) (suc n) (suc k) h = linked_take cs n k (omega (arith, h))
+
+linked_drop : (cs : List ChunkValue) (n k : ℕ) → is_linked_at (drop n cs) k ≡ is_linked_at cs (n + k)
+linked_drop cs zero k = ap (is_linked_at cs) (omega arith)
+linked_drop [] (suc n) k = refl
+linked_drop (c ∷ cs) (suc n) k =
+    let e : suc n + k ≡ suc (n + k) = omega arith in
+    linked_drop cs n k ∙ sym (ap (is_linked_at (c ∷ cs)) e)
+
+-- all before it, and it
+pub linked_more : (cs : List ChunkValue) (i k : ℕ) → AreLinkedFrom cs i k → is_linked_at cs k ≡ true → AreLinkedFrom cs i (k + 1)
+linked_more cs i k h on j low high = elim (cases_lt j k) [
+  | inl less ↦ h j low less
+  | inr more ↦ let same : j ≡ k = omega (arith, more, high) in subst (λ (n : ℕ). is_linked_at cs n ≡ true) (sym same) on
+]
+
+-- one chunk more is linked
+pub linked_set : (cs : List ChunkValue) (k : ℕ) (c : ChunkValue) → k < length cs → c.linked ≡ true → AreLinkedFrom cs 0 k → AreLinkedFrom (set cs k c) 0 (k + 1)
+linked_set cs k c h on all =
+    linked_more (set cs k c) 0 k (λ j low high. linked_set_other cs k j c (λ e. omega (arith, e, high)) ∙ all j low high) (linked_set_here cs k c h ∙ on)
+
+-- and then the link of a chunk behind it is given up
+pub linked_set_behind : (cs : List ChunkValue) (k n : ℕ) (c : ChunkValue) → k ≤ n → AreLinkedFrom cs 0 k → AreLinkedFrom (set cs n c) 0 k
+linked_set_behind cs k n c h all j low high = linked_set_other cs n j c (λ e. omega (arith, e, high, h)) ∙ all j low high
+
+-- ---- sums of chunks with the same bytes
+
+pub size_same : (cs ds : List ChunkValue) (k : ℕ) → map bytes_of cs ≡ map bytes_of ds → size_before cs k ≡ size_before ds k
+size_same cs ds k e = ap length (text_take cs ds k e)
+
+sum_same : (cs ds : List ChunkValue) (g : ℕ) (s : Sum) → map bytes_of ds ≡ map bytes_of cs → IsSum cs g s
+    → (s.linked ≡ true → AreLinkedFrom ds (g * 64) ((g + 1) * 64)) → IsSum ds g s
+sum_same cs ds g s e h on =
+    record { bytes = omega (arith, h.bytes, size_same ds cs ((g + 1) * 64) e, size_same ds cs (g * 64) e); linked = on }
+
+-- one chunk is linked
+pub sums_linked : (cs : List ChunkValue) (ss : List Sum) (k : ℕ) (c : ChunkValue) → k < length cs → map bytes_of (set cs k c) ≡ map bytes_of cs → c.linked ≡ true → AreSums cs ss → AreSums (set cs k c) ss
+sums_linked cs ss k c h e on sums =
+    record {
+      covers = omega (arith, sums.covers, length-set cs k c);
+      each = λ g s l. sum_same cs (set cs k c) g (get_or ss g s) e (sums.each g s l) (λ t j low high. still j ((sums.each g s l).linked t j low high));
+    }
+  where
+    still : (j : ℕ) → is_linked_at cs j ≡ true → is_linked_at (set cs k c) j ≡ true
+    still j all = elim (cases_eq j k) [
+      | inl same ↦ ap (is_linked_at (set cs k c)) same ∙ linked_set_here cs k c h ∙ on
+      | inr apart ↦ linked_set_other cs k j c apart ∙ all
+    ]
+
+-- another sum for a group
+sums_set : (cs ds : List ChunkValue) (ss : List Sum) (g : ℕ) (s : Sum) → length cs ≡ length ds → g < length ss → AreSums cs ss → IsSum ds g s
+    → ((i : ℕ) (d : Sum) → i < length ss → (i ≡ g → ⊥) → IsSum ds i (get_or ss i d)) → AreSums ds (set ss g s)
+sums_set cs ds ss g s l here sums is others =
+    let count : length (set ss g s) ≡ length ss = length-set ss g s in
+    record { covers = omega (arith, sums.covers, l, count); each = λ i d m. at i d (omega (arith, m, count)) }
+  where
+    at : (i : ℕ) (d : Sum) → i < length ss → IsSum ds i (get_or (set ss g s) i d)
+    at i d m = elim (cases_eq i g) [
+      | inl same ↦ subst (λ (n : ℕ). IsSum ds n (get_or (set ss g s) n d)) (sym same) (subst (IsSum ds g) (sym (get_or-set_same ss g s d here)) is)
+      | inr apart ↦ subst (IsSum ds i) (sym (get_or-set_other ss g i s d apart)) (others i d m apart)
+    ]
+
+-- the sum of a group in which a link is given up
+abbrev pub not_linked : Sum → Sum
+not_linked s = sum s.bytes false
+
+pub sums_loosened : (cs : List ChunkValue) (ss : List Sum) (k g : ℕ) (c : ChunkValue) (x : Sum) → g * 64 ≤ k → k < (g + 1) * 64 → g < length ss → map bytes_of (set cs k c) ≡ map bytes_of cs
+    → AreSums cs ss → AreSums (set cs k c) (set ss g (not_linked (get_or ss g x)))
+sums_loosened cs ss k g c x low high here e sums =
+    sums_set cs (set cs k c) ss g (not_linked (get_or ss g x)) (sym (length-set cs k c)) here sums
+    (sum_same cs (set cs k c) g (not_linked (get_or ss g x)) e (record { bytes = (sums.each g x here).bytes; linked = λ t. absurd (false≢true t) }) (λ t. absurd (false≢true t)))
+    (λ i d m apart.
+    sum_same cs (set cs k c) i (get_or ss i d) e (sums.each i d m)
+    (λ t j a b. linked_set_other cs k j c (λ q. apart (omega (arith, a, b, q, low, high))) ∙ (sums.each i d m).linked t j a b))
+
+-- all chunks of a group are linked
+abbrev pub all_linked : Sum → Sum
+all_linked s = sum s.bytes true
+
+pub sums_passed : (cs : List ChunkValue) (ss : List Sum) (g : ℕ) (x : Sum) → g < length ss → AreLinkedFrom cs 0 ((g + 1) * 64) → AreSums cs ss → AreSums cs (set ss g (all_linked (get_or ss g x)))
+sums_passed cs ss g x here on sums =
+    sums_set cs cs ss g (all_linked (get_or ss g x)) refl here sums
+    (record { bytes = (sums.each g x here).bytes; linked = λ t j low high. on j (omega arith) high })
+    (λ i d m apart. sums.each i d m)
+
+-- ---- sums that are made
+
+-- before its first chunk
+pub sum_none : (cs : List ChunkValue) (g first : ℕ) → first ≡ min (g * 64) (length cs) → size_before cs first ≡ size_before cs (g * 64) + 0
+sum_none cs g first is =
+    let e : size_before cs first ≡ size_before cs (g * 64) = ap (size_before cs) is ∙ ap (λ (xs : List ChunkValue). length (text_of xs)) (take_min (g * 64) cs) in
+    omega (arith, e)
+
+-- behind its last one
+pub sum_all : (cs : List ChunkValue) (g place bytes : ℕ) (linked : Bool) → place ≡ min ((g + 1) * 64) (length cs) → size_before cs place ≡ size_before cs (g * 64) + bytes
+    → (linked ≡ true → AreLinkedFrom cs (g * 64) place) → IsSum cs g (sum bytes linked)
+sum_all cs g place bytes linked is long on =
+    let e : size_before cs place ≡ size_before cs ((g + 1) * 64) = ap (size_before cs) is ∙ ap (λ (xs : List ChunkValue). length (text_of xs)) (take_min ((g + 1) * 64) cs) in
+    record { bytes = omega (arith, e, long); linked = λ t j low high. there t j low high }
+  where
+    there : linked ≡ true → (j : ℕ) → g * 64 ≤ j → j < (g + 1) * 64 → is_linked_at cs j ≡ true
+    there t j low high = elim (cases_lt j place) [
+      | inl less ↦ on t j low less
+      | inr past ↦ linked_past cs j (omega (arith, past, high, is))
+    ]
+
+both_of : (a b : Bool) → (a && b) ≡ true → (a ≡ true) × (b ≡ true)
+both_of true true e = (refl, refl)
+both_of true false e = absurd (false≢true e)
+both_of false b e = absurd (false≢true e)
+
+-- one chunk more, where all before it are linked and it is
+pub both_linked : (cs : List ChunkValue) (i k : ℕ) (a b : Bool) → (a ≡ true → AreLinkedFrom cs i k) → b ≡ is_linked_at cs k → (a && b) ≡ true → AreLinkedFrom cs i (k + 1)
+both_linked cs i k a b h is t = let both = both_of a b t in linked_more cs i k (h both.0) (sym is ∙ both.1)
+
+-- one sum is made anew
+pub sums_more : (cs : List ChunkValue) (ss : List Sum) (g end : ℕ) (s : Sum) → g < length ss → IsSum cs g s → AreSumsBut g end cs ss → AreSumsBut (g + 1) end cs (set ss g s)
+sums_more cs ss g end s here is but =
+    let l : length (set ss g s) ≡ length ss = length-set ss g s in
+    record {
+      covers = omega (arith, but.covers, l);
+      before = λ i d k m. at i d (λ apart. but.before i d (omega (arith, k, l)) (omega (arith, apart, m)));
+      behind = λ i d k m. at i d (λ apart. but.behind i d (omega (arith, k, l)) m);
+    }
+  where
+    at : (i : ℕ) (d : Sum) → ((i ≡ g → ⊥) → IsSum cs i (get_or ss i d)) → IsSum cs i (get_or (set ss g s) i d)
+    at i d h = elim (cases_eq i g) [
+      | inl same ↦ subst (λ (n : ℕ). IsSum cs n (get_or (set ss g s) n d)) (sym same) (subst (IsSum cs g) (sym (get_or-set_same ss g s d here)) is)
+      | inr apart ↦ subst (IsSum cs i) (sym (get_or-set_other ss g i s d apart)) (h apart)
+    ]
+
+-- all of them are
+pub sums_made : (cs : List ChunkValue) (ss : List Sum) (g end : ℕ) → end ≤ g → AreSumsBut g end cs ss → AreSums cs ss
+sums_made cs ss g end h but = record { covers = but.covers; each = at }
+  where
+    at : (i : ℕ) (d : Sum) → i < length ss → IsSum cs i (get_or ss i d)
+    at i d k = elim (cases_lt i g) [
+      | inl less ↦ but.before i d k less
+      | inr more ↦ but.behind i d k (omega (arith, more, h))
+    ]
+
+-- none is known
+pub sums_unknown : (cs : List ChunkValue) (ss : List Sum) (count : ℕ) → length ss ≡ count → length cs < count * 64 → AreSumsBut 0 count cs ss
+sums_unknown cs ss count l h =
+    record { covers = omega (arith, l, h); before = λ i d k m. absurd (omega (arith, m)); behind = λ i d k m. absurd (omega (arith, k, l, m)) }
+
+-- ---- sums behind an edit
+
+sum_front : (cs ds : List ChunkValue) (n g : ℕ) (s : Sum) → take n ds ≡ take n cs → (g + 1) * 64 ≤ n → IsSum cs g s → IsSum ds g s
+sum_front cs ds n g s e h is =
+    record {
+      bytes = omega (arith, is.bytes, same ((g + 1) * 64) h, same (g * 64) (omega (arith, h)));
+      linked = λ t j low high.
+          sym (linked_take ds n j (omega (arith, h, high))) ∙ ap (λ (xs : List ChunkValue). is_linked_at xs j) e ∙ linked_take cs n j (omega (arith, h, high)) ∙ is.linked t j low high;
+    }
+  where
+    same : (k : ℕ) → k ≤ n → size_before ds k ≡ size_before cs k
+    same k l = ap (λ (xs : List ChunkValue). length (text_of xs)) (sym (take-take k n ds l) ∙ ap (take k) e ∙ take-take k n cs l)
+
+-- so many chunks, and some more
+size_add : (cs : List ChunkValue) (m n : ℕ) → m ≤ n → size_before cs n ≡ size_before cs m + length (text_of (take (n - m) (drop m cs)))
+size_add cs m n h =
+    let e : n ≡ m + (n - m) = omega (arith, h) in
+    ap (size_before cs) e
+    ∙ ap (λ (xs : List ChunkValue). length (text_of xs)) (take-add m (n - m) cs)
+    ∙ ap length (flat_map-append bytes_of (take m cs) (take (n - m) (drop m cs)))
+    ∙ length-append (text_of (take m cs)) (text_of (take (n - m) (drop m cs)))
+
+sum_back : (cs ds : List ChunkValue) (m g : ℕ) (s : Sum) → drop m ds ≡ drop m cs → m ≤ g * 64 → IsSum cs g s → IsSum ds g s
+sum_back cs ds m g s e h is =
+    record {
+      bytes =
+          omega (
+            arith,
+            is.bytes,
+            size_add cs m ((g + 1) * 64) (omega (arith, h)),
+            size_add cs m (g * 64) h,
+            size_add ds m ((g + 1) * 64) (omega (arith, h)),
+            size_add ds m (g * 64) h,
+            same ((g + 1) * 64 - m),
+            same (g * 64 - m),
+          );
+      linked = λ t j low high.
+          let n : j ≡ m + (j - m) = omega (arith, h, low) in
+          ap (is_linked_at ds) n ∙ sym (linked_drop ds m (j - m)) ∙ ap (λ (xs : List ChunkValue). is_linked_at xs (j - m)) e ∙ linked_drop cs m (j - m) ∙ sym (ap (is_linked_at cs) n) ∙ is.linked t j low high;
+    }
+  where
+    same : (k : ℕ) → length (text_of (take k (drop m ds))) ≡ length (text_of (take k (drop m cs)))
+    same k = ap (λ (xs : List ChunkValue). length (text_of (take k xs))) e
+
+-- the chunks before an edit
+replaced_front : (cs made : List ChunkValue) (first last : ℕ) → first ≤ length cs → take first (replaced first last made cs) ≡ take first cs
+replaced_front cs made first last h =
+    let a : length (take first cs) ≡ first = length-take-le first cs h in
+    let z : first ≡ length (take first cs) + 0 = omega (arith, a) in
+    ap (take first) (append_assoc (take first cs) made (loosened (drop last cs)))
+    ∙ ap (λ (n : ℕ). take n (take first cs ++ (made ++ loosened (drop last cs)))) z
+    ∙ take-append-add (take first cs) (made ++ loosened (drop last cs)) 0
+    ∙ append-nil (take first cs)
+
+drop_loosened : (cs : List ChunkValue) → drop 1 (loosened cs) ≡ drop 1 cs
+drop_loosened [] = refl
+drop_loosened (c ∷ cs) = refl
+
+-- those behind it, but for the next one, where it changes no number of chunks
+replaced_back : (cs made : List ChunkValue) (first last : ℕ) → first ≤ last → last ≤ length cs → length made ≡ last - first → drop (last + 1) (replaced first last made cs) ≡ drop (last + 1) cs
+replaced_back cs made first last h k l =
+    let a : length (take first cs) ≡ first = length-take-le first cs (omega (arith, h, k)) in
+    let b : length (take first cs ++ made) ≡ length (take first cs) + length made = length-append (take first cs) made in
+    let n : last + 1 ≡ length (take first cs ++ made) + 1 = omega (arith, a, b, l, h) in
+    ap (λ (i : ℕ). drop i ((take first cs ++ made) ++ loosened (drop last cs))) n
+    ∙ drop-append-add (take first cs ++ made) (loosened (drop last cs)) 1
+    ∙ drop_loosened (drop last cs)
+    ∙ drop-drop 1 last cs
+
+length_loosened : (cs : List ChunkValue) → length (loosened cs) ≡ length cs
+length_loosened [] = refl
+length_loosened (c ∷ cs) = refl
+
+-- how many chunks there are behind an edit
+pub length_replaced : (cs made : List ChunkValue) (first last : ℕ) → first ≤ last → last ≤ length cs → length (replaced first last made cs) ≡ first + length made + (length cs - last)
+length_replaced cs made first last h k =
+    let a : length (take first cs) ≡ first = length-take-le first cs (omega (arith, h, k)) in
+    omega (
+      arith,
+      a,
+      length-append (take first cs ++ made) (loosened (drop last cs)),
+      length-append (take first cs) made,
+      length_loosened (drop last cs),
+      length-drop last cs,
+    )
+
+-- where as many are put in, the sums of the groups in which there is a change are wrong
+pub sums_exchanged : (cs ds made : List ChunkValue) (ss : List Sum) (first last g end : ℕ) → first ≤ last → last ≤ length cs → length made ≡ last - first → ds ≡ replaced first last made cs
+    → g * 64 ≤ first → ((i : ℕ) → i < length ss → end ≤ i → last + 1 ≤ i * 64) → AreSums cs ss → AreSumsBut g end ds ss
+sums_exchanged cs ds made ss first last g end h k l is low high sums =
+    let count : length ds ≡ length cs = let e = ap length is in omega (arith, e, length_replaced cs made first last h k, l, h, k) in
+    record {
+      covers = omega (arith, count, sums.covers);
+      before = λ i d m n. sum_front cs ds first i (get_or ss i d) (ap (take first) is ∙ replaced_front cs made first last (omega (arith, h, k))) (omega (arith, n, low)) (sums.each i d m);
+      behind = λ i d m n. sum_back cs ds (last + 1) i (get_or ss i d) (ap (drop (last + 1)) is ∙ replaced_back cs made first last h k l) (high i m n) (sums.each i d m);
+    }
+
+-- else those of all groups from there on
+pub sums_moved : (cs ds made : List ChunkValue) (ss ts : List Sum) (first last g end n : ℕ) (x : Sum) → first ≤ last → last ≤ length cs → ds ≡ replaced first last made cs → g * 64 ≤ first
+    → length ds < end * 64 → n ≡ length ss → ts ≡ take end ss ++ replicate (end - n) x → AreSums cs ss → AreSumsBut g end ds ts
+sums_moved cs ds made ss ts first last g end n x h k is low enough had kept sums =
+    let a : length (take end ss) ≡ min end (length ss) = length-take end ss in
+    let l : length ts ≡ end =
+    let e = ap length kept in
+    omega (arith, e, length-append (take end ss) (replicate (end - n) x), a, length-replicate (end - n) x, had) in
+    record {
+      covers = omega (arith, l, enough);
+      before = λ i d m early.
+          let there : i < length ss = omega (arith, sums.covers, early, low, h, k) in
+          let within : i < length (take end ss) = omega (arith, a, m, l, there) in
+          let same : get_or ts i d ≡ get_or ss i d =
+          ap (λ (xs : List Sum). get_or xs i d) kept ∙ get_or_append_left (take end ss) (replicate (end - n) x) d i within ∙ get_or-take end ss i d (omega (arith, m, l)) in
+          subst (IsSum ds i) (sym same)
+          (sum_front cs ds first i (get_or ss i d) (ap (take first) is ∙ replaced_front cs made first last (omega (arith, h, k))) (omega (arith, early, low)) (sums.each i d there));
+      behind = λ i d m early. absurd (omega (arith, m, l, early));
+    }
+
+-- ---- borders between groups
+
+-- the next group begins
+pub border_more : (cs : List ChunkValue) (ss : List Sum) (g bytes : ℕ) (d : Sum) → g < length ss → AreSums cs ss → bytes ≡ size_before cs (g * 64)
+    → bytes + (get_or ss g d).bytes ≡ size_before cs ((g + 1) * 64)
+border_more cs ss g bytes d h sums long = omega (arith, (sums.each g d h).bytes, long)
+
+pub border_fits : (cs : List ChunkValue) (ss : List Sum) (g bytes : ℕ) (d : Sum) → g < length ss → AreSums cs ss → bytes ≡ size_before cs (g * 64)
+    → bytes + (get_or ss g d).bytes ≤ length (text_of cs)
+border_fits cs ss g bytes d h sums long = omega (arith, border_more cs ss g bytes d h sums long, text_within cs ((g + 1) * 64))
+
+pub border_here : (cs : List ChunkValue) (at g before bytes : ℕ) → before ≡ min (g * 64) (length cs) → bytes ≡ size_before cs (g * 64) → (0 < g → bytes < at) → IsBorder cs at before bytes
+border_here cs at g before bytes is long tight =
+    let e : size_before cs before ≡ size_before cs (g * 64) = ap (size_before cs) is ∙ ap (λ (xs : List ChunkValue). length (text_of xs)) (take_min (g * 64) cs) in
+    record { within = omega (arith, is); long = omega (arith, e, long); tight = λ some. tight (omega (arith, some, is)) }
+
+pub border_end : (cs : List ChunkValue) (ss : List Sum) (at g bytes : ℕ) → length ss ≤ g → AreSums cs ss → bytes ≡ size_before cs (g * 64) → (0 < g → bytes < at) → IsBorder cs at (length cs) bytes
+border_end cs ss at g bytes h sums long tight =
+    let e : size_before cs (length cs) ≡ size_before cs (g * 64) =
+    ap (λ (xs : List ChunkValue). length (text_of xs)) (take_all (length cs) cs (omega arith) ∙ sym (take_all (g * 64) cs (omega (arith, sums.covers, h)))) in
+    record { within = omega arith; long = omega (arith, e, long); tight = λ some. tight (omega (arith, some, sums.covers, h)) }
+
+-- the place lies behind it
+pub border_low : (cs : List ChunkValue) (at far before bytes : ℕ) → at ≤ far + 1 → IsBorder cs at before bytes → bytes ≤ far
+border_low cs at far before bytes h b =
+    let none : before ≡ 0 → bytes ≡ 0 = λ e. b.long ∙ ap (size_before cs) e in
+    elim (cases_lt 0 before) [
+      | inl some ↦ omega (arith, b.tight some, h)
+      | inr e ↦ omega (arith, none (omega (arith, e)))
+    ]
+
+-- ---- written back into the vector in which they stood
+
+pub kept_items : {X : Type 0} (n : ℕ) (items old new : List X) → old ≡ items → n ≡ length old → length new ≡ length old → take n (new ++ drop (length new) items) ≡ new
+kept_items n items old new is all same =
+    let m : length old ≡ length items = ap length is in
+    ap (λ (xs : List _). take n (new ++ xs)) (drop_all (length new) items (omega (arith, same, m))) ∙ ap (take n) (append-nil new) ∙ take_all n new (omega (arith, same, all))
