@@ -215,9 +215,8 @@ fn take_all_alone<R: Threads + Wait + Sync, S: Source + Send, G: Gate + Sync>(
     unreachable!()
 }
 
-/// Takes in a batch, while the next one is read into another buffer. Behind a short batch it is read afterwards: that takes
-/// less time than to start a thread.
-fn take_and_fill<R: Threads + Wait + Sync, S: Source + Send, G: Gate + Sync>(
+/// Takes in a batch, while the next one is read into another buffer.
+fn take_beside<R: Threads + Wait + Sync, S: Source + Send, G: Gate + Sync>(
     rt: &R,
     alloc: Global,
     reader: &mut S,
@@ -244,10 +243,6 @@ fn take_and_fill<R: Threads + Wait + Sync, S: Source + Send, G: Gate + Sync>(
     ensures unwritten { IfErr result (λ fault. fault ≢ ReportFault.Write) }
     ensures uncut { IfErr result (λ fault. fault ≢ ReportFault.Pieces) }
 {
-    if is_short(bytes.len(), gate) {
-        check.take_in(rt, alloc, command, bytes, gate);
-        return fill(reader, next, batch);
-    }
     let (filled, _) = thread::join_mut(
         rt,
         &mut || -> Result<usize, ReportFault>
@@ -261,6 +256,50 @@ fn take_and_fill<R: Threads + Wait + Sync, S: Source + Send, G: Gate + Sync>(
         { check.take_in(rt, alloc, command, bytes, gate) },
     );
     filled
+}
+
+/// Takes in a batch of so many bytes of a buffer, and reads the next one into that. Where workers read the batch, the next one
+/// is read meanwhile. Behind a short one it is read afterwards: that takes less time than to start a thread, and no second
+/// buffer.
+fn take_and_fill<R: Threads + Wait + Sync, S: Source + Send, G: Gate + Sync>(
+    rt: &R,
+    alloc: Global,
+    reader: &mut S,
+    command: &Command,
+    gate: &G,
+    batch: usize,
+    check: &mut BatchCheck,
+    bytes: &mut Vec<u8>,
+    filled: usize,
+    next: &mut Vec<u8>,
+) -> Result<usize, ReportFault>
+    requires reader { S.has_failed reader.old ≡ false }
+    requires piece { 1 ≤ command.now.piece }
+    requires few { batch < 2 ^ 32 }
+    requires so_far { (text : List ℕ) × HasTaken command.now.task command.now.settings text check.old }
+    requires held { filled ≤ vec_len bytes.old }
+    requires within { vec_len bytes.old ≤ batch }
+    requires room { vec_len next.old ≤ batch }
+    ensures taken { (text : List ℕ) → ShowsFront text → HasTaken command.now.task command.now.settings text check.old
+        → HasTaken command.now.task command.now.settings (text ++ take filled bytes.old.items) check.new }
+    ensures held { IfOk result (λ filled. filled ≤ vec_len bytes.new) }
+    ensures within { IfOk result (λ _. vec_len bytes.new ≤ batch) }
+    ensures room { IfOk result (λ _. vec_len next.new ≤ batch) }
+    ensures ok { IfOk result (λ filled. Consumes (S.remaining reader.old) (S.remaining reader.new) (take filled bytes.new.items)) }
+    ensures end { IfOk result (λ filled. filled < batch → IsAtEnd (S.remaining reader.new)) }
+    ensures read { IsErrOf result ReportFault.Read ↔ (S.has_failed reader.new ≡ true) }
+    ensures going { IfOk result (λ _. S.has_failed reader.new ≡ false) }
+    ensures unwritten { IfErr result (λ fault. fault ≢ ReportFault.Write) }
+    ensures uncut { IfErr result (λ fault. fault ≢ ReportFault.Pieces) }
+{
+    if is_short(filled, gate) {
+        check.take_in(rt, alloc, command, &bytes[..filled], gate);
+        return fill(reader, bytes, batch);
+    }
+    let slice = &bytes[..filled];
+    let more = take_beside(rt, alloc, reader, command, gate, batch, check, slice, next)?;
+    mem::swap(bytes, next);
+    Ok(more)
 }
 
 /// The same with two buffers: while a batch is taken in, the next one is read. The first batches are shorter.
@@ -294,17 +333,8 @@ fn take_all_beside<R: Threads + Wait + Sync, S: Source + Send, G: Gate + Sync>(
         }
         step = check.next_step(step, batch);
         filled = take_and_fill(
-            rt,
-            alloc,
-            reader,
-            command,
-            gate,
-            step,
-            &mut check,
-            &bytes[..filled],
-            &mut next,
+            rt, alloc, reader, command, gate, step, &mut check, &mut bytes, filled, &mut next,
         )?;
-        mem::swap(&mut bytes, &mut next);
     }
     unreachable!()
 }

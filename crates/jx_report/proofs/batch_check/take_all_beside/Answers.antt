@@ -1,5 +1,4 @@
-use Rattle.std.proofs.Common.{ℕ, ◌≤◌, [], length, take, ap, inl, refl, sym, subst, rules, arith, vec_len, Vec, Global}
-use Rattle.std.specs.Io.KnownBytes.{Consumes}
+use Rattle.std.proofs.Common.{◌≤◌, [], length, take, ap, inl, refl, rules, arith}
 use Rattle.std.proofs.KnownBytes.{Consumes-nil}
 use Rattle.std.proofs.lemmas.List.{places}
 use Rattle.jx_report.specs.inside.Sequences.{HasTaken}
@@ -32,14 +31,14 @@ loop-preserved g c =
     let now = c.in_ok-filled-2.ensures in
     let p = c.loop.invariant.pending in
     let more = taken_more (λ text. HasTaken c.args.command.now.task c.args.command.now.settings text c.take_and_fill.new.check) p.text _ (take filled items) filled _ _ _ (now.taken p.text p.shows p.taken)
-    (ap (take filled) c.deref-in-loop.ensures.value) (length_front filled items room) (omega (arith, least, full)) p.before p.after in
+    refl (length_front filled items room) (omega (arith, least, full)) p.before p.after in
     let longer = c.next_step-step.ensures in
     record {
       least = omega (arith, least, longer.0);
       most = longer.1;
-      held = subst (λ (v : Vec ℕ Global). c.in_ok-filled-2.filled ≤ vec_len v) (sym c.swap.ensures.x_after) now.room;
-      within = subst (λ (v : Vec ℕ Global). vec_len v ≤ c.next_step-step.result) (sym c.swap.ensures.x_after) now.within;
-      room = subst (λ (v : Vec ℕ Global). vec_len v ≤ c.next_step-step.result) (sym c.swap.ensures.y_after) (omega (arith, c.loop.invariant.within, longer.0));
+      held = now.held;
+      within = now.within;
+      room = now.room;
       going = now.going;
       end = now.end;
       pending = record {
@@ -48,7 +47,7 @@ loop-preserved g c =
         taken = more.1.1.0;
         between = _;
         before = more.1.1.1;
-        after = subst (λ (v : Vec ℕ Global). Consumes (g.S.Source.remaining c.loop.reader) (g.S.Source.remaining c.take_and_fill.new.reader) (take c.in_ok-filled-2.filled v.items)) (sym c.swap.ensures.x_after) now.ok;
+        after = now.ok;
       };
     }
 
