@@ -1,7 +1,7 @@
 mod Answers
+mod AnyNames
 mod BatchSteps
 mod ElementSteps
-mod FoundSteps
 mod FrontSteps
 mod LineSteps
 mod OneOutput
@@ -9,4 +9,4 @@ mod PointerSteps
 pub mod PutSteps
 mod RowSteps
 mod SequenceSteps
-pub mod OnePointer
+pub mod PointerReplies

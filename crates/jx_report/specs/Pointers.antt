@@ -1,17 +1,14 @@
 -- What pointers come to in a text (RFC 6901), and the lines that are written for them.
 use Rattle.std.specs.Prelude.{◌≡◌, ℕ, List, [], ◌∷◌, ◌++◌, Ok, Err, codes, decimal}
-use Rattle.std.specs.List.{AllZip}
 use Rattle.jx_lex.specs.declared.kind.Kind.{Kind}
 use Rattle.jx_summary.specs.declared.span.Span.{Span}
 use Rattle.jx_run.specs.Tree.{Tree}
 use Rattle.jx_index.specs.declared.find_fault.FindFault.TheVariants.{NoSuchMember, NameRepeated, NotAnIndex, PastEnd, AfterLast, NotAContainer}
 use Rattle.jx_index.specs.declared.pointer.PointerFault.TheVariants.{NoSlash, BadEscape}
-use Rattle.jx_index.specs.Indexed.{IndexedValue}
 use Rattle.jx_index.specs.Leads.{leads}
 use Rattle.jx_index.specs.PointerFaults.{IsFaultOf}
 use Rattle.jx_index.specs.Pointers.{IsPointer, tokens}
 use Rattle.jx_index.specs.Rows.{rows}
-use Rattle.jx_answer.specs.declared.find_answer.Answer.{Answer}
 use Rattle.jx_answer.specs.Found as found
 use Rattle.jx_report.specs.declared.exit.Exit.{Exit}
 use Rattle.jx_report.specs.declared.exit.Exit.TheVariants.{Good, Bad}
@@ -55,13 +52,3 @@ pub data PointerLines (text : List ℕ) (tree : Tree) : List (List ℕ) → List
   one_more : {pointers : List (List ℕ)} {output : List ℕ} {exit : Exit} → PointerLines text tree pointers output exit
       → (pointer : List ℕ) (answer : PointerAnswer) → IsAnswerTo text tree pointer answer
       → PointerLines text tree (pointers ++ pointer ∷ []) (output ++ line (answer_words answer)) (exit_after exit answer)
-
--- ---- looked up together
-
--- at each place the pointer that is spelt there, where that is one
-abbrev pub ArePointersOf : List (List ℕ) → List (List ℕ) → Type 0
-ArePointersOf spelt pointers = AllZip (λ s p. IsPointer s → p ≡ s) spelt pointers
-
--- what is found for these words, where they are a pointer
-abbrev pub IsFoundFor : IndexedValue → List ℕ → Answer → Type 0
-IsFoundFor index spelt answer = IsPointer spelt → found.IsAnswerTo index spelt answer

@@ -1,6 +1,6 @@
 -- What the contracts of this crate's own functions cite, and no public one.
 pub mod Batches
-pub mod OnePointer
+pub mod ReadPointers
 pub mod Replies
 pub mod Room
 pub mod Sequences

@@ -9,6 +9,7 @@ mod exit;
 mod laws;
 mod pieces;
 mod pointer_answer;
+mod pointer_reply;
 mod pointer_words;
 mod read_all;
 mod reply;

@@ -1,19 +1,13 @@
 // Pointers looked up in a text (RFC 6901).
-ghost use Rattle.std.specs.Prelude.{◌≡◌, ◌<◌, ℕ, Some, length, map, slice_get, string_bytes, IfOk};
-ghost use Rattle.std.specs.List.{AllZip};
-ghost use Rattle.jx_run.specs.Text.{IsText};
-ghost use Rattle.jx_run.specs.Tree.{Tree};
-ghost use Rattle.jx_index.specs.Indexed.{IndexedValue};
-ghost use Rattle.jx_index.specs.Pointers.{IsPointer};
-ghost use Rattle.jx_index.specs.Rows.{rows};
-ghost use Rattle.jx_report.specs.Pointers.{exit_after, ArePointersOf, IsAnswerTo, IsFoundFor, PointerLines};
-ghost use Rattle.jx_report.specs.inside.OnePointer.{IsReadPointer, answer_in};
-ghost use Rattle.jx_report.specs.inside.Replies.{exit_past_lines, pointer_lines};
+ghost use Rattle.std.specs.Prelude.{◌≡◌, ◌<◌, Some, length, map, slice_get, string_bytes, IfOk};
+ghost use Rattle.jx_report.specs.Pointers.{exit_after};
+ghost use Rattle.jx_report.specs.inside.ReadPointers.{answer_by, answer_in, each_answer, AreReadPointers, IsReadPointer};
+ghost use Rattle.jx_report.specs.inside.Replies.{exit_past_lines};
 ghost use Rattle.jx_report.specs.declared.exit.Exit.TheVariants.{Good};
 
 use crate::exit::Exit;
 use jx_answer::Answer;
-use jx_index::{FindFault, Found, Indexed, Pointer, PointerFault};
+use jx_index::{FindFault, Found, Pointer, PointerFault};
 use jx_lex::{Kind, Span};
 use std::alloc::{AllocError, Global};
 
@@ -28,13 +22,8 @@ pub enum PointerAnswer {
     Lost(FindFault),
 }
 
-/// The pointer that a string spells, or the empty pointer where it spells none.
-fn pointer_of(spelt: &str) -> Pointer<'_>
-    ensures { IsPointer spelt.now → result ≡ spelt.now }
-{
-    if let Ok(pointer) = Pointer::read(spelt) {
-        return pointer;
-    }
+/// The empty pointer.
+fn empty_pointer() -> Pointer<'static> {
     match Pointer::read("") {
         Ok(empty) => empty,
         Err(_) => unreachable!(),
@@ -52,18 +41,15 @@ pub struct ReadPointer<'p> {
 pub fn read_pointer(spelt: &str) -> ReadPointer<'_>
     ensures { IsReadPointer spelt.now result.pointer result.unread }
 {
-    let unread = match Pointer::read(spelt) {
-        Ok(pointer) => {
-            return ReadPointer {
-                pointer,
-                unread: None,
-            };
-        }
-        Err(fault) => Some(fault),
-    };
-    ReadPointer {
-        pointer: pointer_of(""),
-        unread,
+    match Pointer::read(spelt) {
+        Ok(pointer) => ReadPointer {
+            pointer,
+            unread: None,
+        },
+        Err(fault) => ReadPointer {
+            pointer: empty_pointer(),
+            unread: Some(fault),
+        },
     }
 }
 
@@ -83,48 +69,69 @@ pub fn answer_in(unread: Option<PointerFault>, found: Result<Found, FindFault>) 
     }
 }
 
-/// The pointers that strings spell, in order. Where a string spells none, the empty pointer stands in its place.
-pub fn pointers_of<'p>(alloc: Global, spelt: &'p [String]) -> Result<Vec<Pointer<'p>>, AllocError>
-    ensures { IfOk result (λ pointers. ArePointersOf (map string_bytes spelt.now) pointers.items) }
-{
-    let mut pointers = Vec::with_capacity(alloc, spelt.len())?;
-    for word in spelt {
-        pointers.push(pointer_of(word.as_str()))?;
-    }
-    Ok(pointers)
+/// Strings that are read as pointers, in their order: the pointers, with the empty one for each string that spells none, and
+/// why those spell none.
+#[derive(Debug, Drop)]
+pub struct ReadPointers<'p> {
+    pub pointers: Vec<Pointer<'p>>,
+    pub unread: Vec<Option<PointerFault>>,
 }
 
-/// What a string comes to as a pointer into an indexed text: why it is none, or what was found for it.
-fn answer_to(spelt: &str, found: Answer) -> PointerAnswer
-    ensures { (index : IndexedValue) (limit : ℕ) (tree : Tree) → IsFoundFor index spelt.now found → index.rows ≡ rows tree
-        → IsText index.text index.span.start index.span.end limit tree → IsAnswerTo index.text tree spelt.now result }
+/// Reads each string as a pointer once.
+pub fn read_pointers<'p>(alloc: Global, spelt: &'p [String]) -> Result<ReadPointers<'p>, AllocError>
+    ensures { IfOk result (λ read. AreReadPointers (map string_bytes spelt.now) read.pointers.items read.unread.items) }
 {
-    match Pointer::read(spelt) {
-        Err(fault) => PointerAnswer::Unread(fault),
-        Ok(_) => match found {
+    let mut pointers = Vec::with_capacity(alloc, spelt.len())?;
+    let mut unread = Vec::with_capacity(alloc, spelt.len())?;
+    for word in spelt {
+        let read = read_pointer(word.as_str());
+        pointers.push(read.pointer)?;
+        unread.push(read.unread)?;
+    }
+    Ok(ReadPointers { pointers, unread })
+}
+
+/// What strings that were read as pointers come to in a text that was read once, in their order.
+pub fn answers_in(
+    alloc: Global,
+    unread: &[Option<PointerFault>],
+    found: &[Result<Found, FindFault>],
+) -> Result<Vec<PointerAnswer>, AllocError>
+    requires { length unread.now ≡ length found.now }
+    ensures { IfOk result (λ answers. answers.items ≡ each_answer answer_in unread.now found.now) }
+{
+    let mut answers = Vec::with_capacity(alloc, unread.len())?;
+    for at in 0..unread.len() {
+        answers.push(answer_in(unread[at], found[at]))?;
+    }
+    Ok(answers)
+}
+
+/// What a string that was read as a pointer comes to by an index: why it is none, or what was found for it.
+fn answer_by(unread: Option<PointerFault>, found: Answer) -> PointerAnswer
+    ensures { result ≡ answer_by unread found }
+{
+    match unread {
+        Some(fault) => PointerAnswer::Unread(fault),
+        None => match found {
             Answer::Found { kind, span, .. } => PointerAnswer::Found { kind, span },
             Answer::Fault(fault) => PointerAnswer::Lost(fault),
         },
     }
 }
 
-/// What strings come to as pointers into an indexed text, in their order: why each is none, or what was found for it.
-pub fn answers_of(
+/// What strings that were read as pointers come to by an index, in their order.
+pub fn answers_by(
     alloc: Global,
-    index: &Indexed,
-    pointers: &[String],
+    unread: &[Option<PointerFault>],
     found: &[Answer],
 ) -> Result<Vec<PointerAnswer>, AllocError>
-    requires found { AllZip (IsFoundFor index.now) (map string_bytes pointers.now) found.now }
-    ensures { IfOk result (λ answers. (limit : ℕ) (tree : Tree)
-        → IsText index.now.text index.now.span.start index.now.span.end limit tree
-        → PointerLines index.now.text tree (map string_bytes pointers.now) (pointer_lines answers.items) (exit_past_lines Good answers.items)) }
+    requires { length unread.now ≡ length found.now }
+    ensures { IfOk result (λ answers. answers.items ≡ each_answer answer_by unread.now found.now) }
 {
-    // By the contract of this call the proof knows that the index has the rows of the text's tree.
-    let _ = index.rows();
-    let mut answers = Vec::with_capacity(alloc, pointers.len())?;
-    for at in 0..pointers.len() {
-        answers.push(answer_to(pointers[at].as_str(), found[at]))?;
+    let mut answers = Vec::with_capacity(alloc, unread.len())?;
+    for at in 0..unread.len() {
+        answers.push(answer_by(unread[at], found[at]))?;
     }
     Ok(answers)
 }

@@ -33,7 +33,7 @@ const BUFFER: usize = 64 * 1024;
 
 /// Reads to the end of input, and has it answered by the command's workers. While a text or the elements of a sequence are
 /// judged, one batch of the input is kept at a time. For rows and pointers the whole input is kept, and also wherever names
-/// have to be unique, which needs indexes.
+/// have to be unique.
 fn answer_to_input<R: Threads + Wait + Sync, S: Source + Send, G: Gate + Sync>(
     rt: &R,
     alloc: Global,
@@ -154,9 +154,10 @@ pub fn report_in_batches<R: Threads + Wait + Sync, S: Source + Send, W: Sink, G:
 /// The gate changes no output. One worker asks it as each piece of a batch begins, and the pieces of a batch are numbered
 /// from 0. Each of several workers asks as it begins its part of a batch, whose number is that of the worker, and as it has
 /// read it. The first worker goes on whatever is said. What stands between two record separators is asked for as by
-/// `judge_batch`, rows are asked for by one worker, and pointers as by `find_all`. Less than a MiB is read by the calling
-/// thread alone where nobody is asked (`Gate::is_asked`). With several workers the reader is also called from another
-/// thread, one call at a time.
+/// `judge_batch`. Rows are asked for by one worker, and so are names that have to be unique. Up to 16 pointers are looked up
+/// with no question, and more as by `find_all`, in an index that is asked for as rows are. Less than a MiB is read by the
+/// calling thread alone where nobody is asked (`Gate::is_asked`). With several workers the reader is also called from
+/// another thread, one call at a time.
 pub fn report<R: Threads + Wait + Sync, S: Source + Send, W: Sink, G: Gate + Sync>(
     rt: &R,
     alloc: Global,

@@ -1,23 +1,31 @@
--- The reply for one pointer into a text that is read once.
+-- The replies for one pointer and for several into a text that is read once, and for many by its index.
 use Rattle.std.proofs.Common.{◌≡◌, ℕ, List, [], ◌∷◌, append-nil, refl, sym, ap, subst, ◌∙◌}
 use Rattle.std.specs.Prelude.{Option, None, Some, Result, Ok, Err}
+use Rattle.std.specs.List.{AllZip}
 use Rattle.jx_run.specs.declared.settings.Settings.{Settings}
 use Rattle.jx_run.specs.declared.verdict.Verdict.TheVariants.{Accepted}
+use Rattle.jx_run.specs.Text.{IsText}
 use Rattle.jx_run.specs.Tree.{Tree}
 use Rattle.jx_index.specs.declared.find_fault.FindFault.{FindFault}
 use Rattle.jx_index.specs.declared.finder.Found.{Found}
 use Rattle.jx_index.specs.declared.pointer.PointerFault.{PointerFault}
-use Rattle.jx_index.specs.Found.{found_of, IsFoundBy}
-use Rattle.jx_index.specs.Leads.{HasRow, Numbered, led, number_of}
+use Rattle.jx_index.specs.ByNames.{IsVerdictBy}
+use Rattle.jx_index.specs.Found.{AreFoundIn, found_of, IsFoundBy}
+use Rattle.jx_index.specs.Indexed.{IndexedValue}
+use Rattle.jx_index.specs.Leads.{HasRow, Numbered, leads, led, number_of}
 use Rattle.jx_index.specs.Pointers.{tokens}
 use Rattle.jx_index.specs.Rows.{rows}
+use Rattle.jx_answer.specs.declared.find_answer.Answer.{Answer}
+use Rattle.jx_answer.specs.declared.find_answer.Answer.TheVariants as indexed
+use Rattle.jx_answer.specs.Found as found
 use Rattle.jx_report.specs.declared.exit.Exit.TheVariants.{Good}
 use Rattle.jx_report.specs.declared.pointer_answer.PointerAnswer.{PointerAnswer}
-use Rattle.jx_report.specs.inside.OnePointer.{IsReadPointer, answer_in}
+use Rattle.jx_report.specs.inside.ReadPointers.{AreReadPointers, IsReadPointer, answer_by, answer_in, each_answer}
 use Rattle.jx_report.specs.inside.Replies.{exit_past_lines, pointer_lines}
 use Rattle.jx_report.specs.Output.{AnswersPointers, TextOutput}
 use Rattle.jx_report.specs.Pointers.{IsAnswerTo, answer_words, exit_after, PointerLines, no_pointer, one_more}
 use Rattle.jx_report.specs.Words.{line}
+use Rattle.jx_report.proofs.PointerSteps.{lines_for}
 
 -- what the laws of the index say of a node that a look-up ends at
 abbrev pub EndsAtRows : Type 0
@@ -35,7 +43,7 @@ module _ (law : EndsAtRows) (text : List ℕ) (tree : Tree) (spelt pointer : Lis
       }
   answered (Err fault) e h = (h.0, sym (ap (λ (p : List ℕ). number_of (led text tree (tokens p))) h.1) ∙ ap number_of e)
 
-  answer_is : (unread : Option PointerFault) (found : Result Found FindFault) → IsReadPointer spelt pointer unread → found ≡ found_of (led text tree (tokens pointer))
+  pub answer_is : (unread : Option PointerFault) (found : Result Found FindFault) → IsReadPointer spelt pointer unread → found ≡ found_of (led text tree (tokens pointer))
       → IsAnswerTo text tree spelt (answer_in unread found)
   answer_is (Some fault) found h e = h
   answer_is None found h e =
@@ -53,3 +61,36 @@ pub pointer_reply : EndsAtRows → (settings : Settings) (text spelt pointer : L
 pointer_reply law settings text spelt pointer unread found items read h e =
     subst (λ (xs : List PointerAnswer). TextOutput (AnswersPointers (spelt ∷ []) settings text) settings text (pointer_lines xs) (exit_past_lines Good xs)) (sym e)
     (Accepted, h.0, (h.1.tree, h.1.is_text, one_line text h.1.tree spelt (answer_in unread found) (answer_is law text h.1.tree spelt pointer unread found read h.1.found_is)))
+
+-- ---- several
+
+pub pointers_reply : EndsAtRows → (settings : Settings) (text : List ℕ) (spelt pointers : List (List ℕ)) (unread : List (Option PointerFault))
+    (found : List (Result Found FindFault)) (items : List PointerAnswer) → AreReadPointers spelt pointers unread → IsVerdictBy settings text Accepted
+    → AreFoundIn settings text pointers found → items ≡ each_answer answer_in unread found
+    → TextOutput (AnswersPointers spelt settings text) settings text (pointer_lines items) (exit_past_lines Good items)
+pointers_reply law settings text spelt pointers unread found items read accepted x e =
+    let lines =
+    lines_for text x.tree answer_in (λ (p : List ℕ) (one : Result Found FindFault). one ≡ found_of (led text x.tree (tokens p))) (answer_is law text x.tree)
+    spelt pointers unread found items read x.found_are e in
+    (Accepted, accepted, (x.tree, x.is_text, lines))
+
+-- ---- by an index
+
+module _ (index : IndexedValue) (limit : ℕ) (tree : Tree) (t : IsText index.text index.span.start index.span.end limit tree) (rows_are : index.rows ≡ rows tree) where
+  by_index : (spelt pointer : List ℕ) (unread : Option PointerFault) (one : Answer) → IsReadPointer spelt pointer unread → found.IsAnswerTo index pointer one
+      → IsAnswerTo index.text tree spelt (answer_by unread one)
+  by_index spelt pointer (Some fault) one h k = h
+  by_index spelt pointer None (indexed.Found node kind span) h k =
+      record {
+        is_pointer = h.0;
+        node = node;
+        leads_there = ap (λ (p : List ℕ). leads index.text tree (tokens p)) (sym h.1) ∙ sym (k.0 limit tree t);
+        there = subst (λ rs. found.HasRowAt rs node kind span) rows_are k.1;
+      }
+  by_index spelt pointer None (indexed.Fault fault) h k = (h.0, ap (λ (p : List ℕ). leads index.text tree (tokens p)) (sym h.1) ∙ sym (k limit tree t))
+
+  pub index_lines : (spelt pointers : List (List ℕ)) (unread : List (Option PointerFault)) (told : List Answer) (items : List PointerAnswer)
+      → AreReadPointers spelt pointers unread → AllZip (found.IsAnswerTo index) pointers told → items ≡ each_answer answer_by unread told
+      → PointerLines index.text tree spelt (pointer_lines items) (exit_past_lines Good items)
+  index_lines spelt pointers unread told items read answered e =
+      lines_for index.text tree answer_by (found.IsAnswerTo index) by_index spelt pointers unread told items read answered e

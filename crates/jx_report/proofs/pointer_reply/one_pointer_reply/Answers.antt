@@ -5,9 +5,9 @@ use Rattle.jx_index.specs.declared.find_fault.FindFault.{FindFault}
 use Rattle.jx_index.specs.declared.finder.Found.{Found}
 use Rattle.jx_index.specs.Found.{IsFoundBy}
 use Rattle.jx_report.specs.declared.pointer_answer.PointerAnswer.{PointerAnswer}
-use Rattle.jx_report.specs.inside.OnePointer.{answer_in}
-use Rattle.jx_report.proofs.OnePointer.{pointer_reply}
-use Rattle.jx_report.proofs.reply.one_pointer_reply.Goals as goal
+use Rattle.jx_report.specs.inside.ReadPointers.{answer_in}
+use Rattle.jx_report.proofs.PointerReplies.{pointer_reply}
+use Rattle.jx_report.proofs.pointer_reply.one_pointer_reply.Goals as goal
 
 pub returns-in_ok-push-in-Ok : goal.returns-in_ok-push-in-Ok
 returns-in_ok-push-in-Ok c =

@@ -1,0 +1,14 @@
+use Rattle.jx_report.specs.inside.ReadPointers.{answer_in}
+use Rattle.jx_report.proofs.PointerSteps.{answers_done, answers_step, no_answers}
+use Rattle.jx_report.proofs.pointer_answer.answers_in.Goals as goal
+
+pub loop-at-init : goal.loop-at-init
+loop-at-init c = no_answers answer_in c.args.unread.now c.args.found.now c.in_ok-answers.answers.items c.in_ok-answers.ensures.items
+
+pub loop-at-preserved : goal.loop-at-preserved
+loop-at-preserved c =
+    answers_step answer_in c.args.unread.now c.args.found.now c.loop-at.at _ _ c.loop-at.answers.items c.push.new.self.items c.answer_in.result
+    c.loop-at-test.true c.requires c.loop-at.invariant c.answer_in.ensures c.in_ok-push.ensures.items
+
+pub returns : goal.returns
+returns c = answers_done answer_in c.args.unread.now c.args.found.now c.loop-at.at c.loop-at.answers.items c.loop-at-test.false c.requires c.loop-at.invariant

@@ -1,0 +1,115 @@
+"""Looks up lists of 1, 2, 16 and 17 pointers: up to 16 are looked up while a text is read, more in its index. Each list has the answers that
+stand in `pointers` beside this file, with unique names too. Then long pointers, and a list of a million. The last line is `N passed, M failed`."""
+import os
+import pathlib
+import re
+import subprocess
+
+HERE = pathlib.Path(__file__).resolve().parent
+PROGRAM = os.environ.get("JX_PROGRAM", HERE.parent / "crates" / "jx" / "out" / "jx")
+COUNTS = [1, 2, 16, 17]
+DEEP = 65535
+failed = passed = 0
+
+
+def spelt(line):
+    return re.sub(rb"\\x(..)", lambda byte: bytes.fromhex(byte[1].decode()), line)
+
+
+def same(name, wanted, got):
+    global failed, passed
+    if wanted == got:
+        passed += 1
+        return
+    failed += 1
+    print("pointers.py: FAILED: %s\n--- wanted\n%s\n--- got\n%s" % (name, wanted[:2000], got[:2000]))
+
+
+def looked_up(text, words, pointers):
+    pathlib.Path("text").write_bytes(text)
+    done = subprocess.run([PROGRAM, "at", "--file", "text", *words, "--", *pointers], capture_output=True)
+    return done.stdout, done.returncode
+
+
+def of_lines(answers):
+    """What is written for these answers, and the status."""
+    return b"".join(answer + b"\n" for answer in answers), int(any(not answer.startswith(b"found ") for answer in answers))
+
+
+def lists(lines, count):
+    """Lists of so many lines, which begin at different ones, so that each line is in one."""
+    return [[lines[(first + place) % len(lines)] for place in range(count)] for first in range(0, len(lines), count)]
+
+
+def of_text(settings, repeated, text, lines):
+    for count in COUNTS:
+        for part in lists(lines, count):
+            words = ["--ignore-bom"] if settings == b"b" else []
+            pointers = [pointer for _, pointer in part]
+            wanted = of_lines([answer for answer, _ in part])
+            name = "%d pointers from %r on into %r" % (count, pointers[0], text)
+            same(name, wanted, looked_up(text, words, pointers))
+            same(name + " by one worker", wanted, looked_up(text, [*words, "--workers", "1"], pointers))
+            unique = wanted if repeated == b"-" else (b"repeated name at %s\n" % repeated, 1)
+            same(name + " with unique names", unique, looked_up(text, [*words, "--unique-names"], pointers))
+
+
+def of_refused(answer, text):
+    for count in COUNTS:
+        for words in ([], ["--unique-names"]):
+            same("%d pointers into %r" % (count, text), (answer + b"\n", 1), looked_up(text, words, [b"", b"x", b"/a", b"/~", b"/0"] * 3 + [b"/b"] * 2))
+
+
+def tables():
+    texts = []
+    for line in (HERE / "pointers").read_bytes().splitlines():
+        if line.startswith(b"text "):
+            _, settings, repeated, text = line.split(b" ", 3)
+            texts.append((settings, repeated, spelt(text), []))
+        elif line.startswith(b"refused "):
+            answer, _, text = line.removeprefix(b"refused ").partition(b":")
+            of_refused(answer, spelt(text))
+        elif line and not line.startswith(b"#"):
+            answer, _, pointer = line.partition(b":")
+            texts[-1][3].append((answer, spelt(pointer)))
+    for one in texts:
+        of_text(*one)
+
+
+def of_a_list(name, text, words, lines):
+    """The pointers are lines of a file, as some are longer than a word may be."""
+    pathlib.Path("list").write_bytes(b"".join(pointer + b"\n" for _, pointer in lines))
+    same(name, of_lines([answer for answer, _ in lines]), looked_up(text, [*words, "--pointers", "list"], []))
+
+
+def long_pointers():
+    """As many tokens as containers may be open, one less and one more, and one that leaves the way at its last token."""
+    shapes = [(b"[", b"]", b"/0", b"/1", b"past end"), (b'{"a":', b"}", b"/a", b"/b", b"no such member")]
+    for opened, closed, token, other, why in shapes:
+        text = opened * DEEP + b"7" + closed * DEEP
+        middle = len(opened) * DEEP
+        lines = [
+            (b"found number %d..%d" % (middle, middle + 1), token * DEEP),
+            (b"found %s %d..%d" % (b"array" if opened == b"[" else b"object", middle - len(opened), middle + 2), token * (DEEP - 1)),
+            (b"not a container at token %d" % DEEP, token * (DEEP + 1)),
+            (b"%s at token %d" % (why, DEEP - 1), token * (DEEP - 1) + other),
+            (b"%s at token 0" % why, other * DEEP),
+        ]
+        for count in COUNTS:
+            of_a_list("%d pointers of %d tokens" % (count, DEEP), text, ["--depth", str(DEEP)], lists(lines, count)[0])
+
+
+def a_million_pointers():
+    text, lines = b"[", []
+    for number in range(1000):
+        text += b'{"n":%d},' % number
+        end = len(text) - 2
+        lines.append((b"found number %d..%d" % (end - len(str(number)), end), b"/%d/n" % number))
+    text = text[:-1] + b"]"
+    lines += [(b"past end at token 0", b"/1000/n"), (b"no slash", b"n"), (b"no such member at token 1", b"/7/m")]
+    of_a_list("a million pointers", text, [], [lines[place * 7 % len(lines)] for place in range(1000000)])
+
+
+for test in (tables, long_pointers, a_million_pointers):
+    test()
+print("%d passed, %d failed" % (passed, failed))
