@@ -45,8 +45,10 @@ class Cursor:
     def optional(self, what):
         return what() if self.flag() else None
 
-    def several(self, what):
-        return [what() for _ in range(self.number())]
+    def several(self, what, most=1 << 64):
+        count = self.number()
+        need(count <= most, "parts")
+        return [what() for _ in range(count)]
 
     def way(self):
         end = ("fault", self.number()) if self.flag() else ("state", self.one_of(STATES, "state"))
@@ -104,10 +106,10 @@ def decode(data):
     need(hashlib.sha256(data[:-32]).digest() == data[-32:], "damaged")
     body = Cursor(data[24:-32])
     run = {"depth": depth, "from": body.optional(body.number), "length": body.number()}
-    run["ways"], run["structures"] = body.several(body.way), body.several(body.structure)
+    run["ways"], run["structures"] = body.several(body.way), body.several(body.structure, 32)
     need(body.at == len(body.data), "rest")
     need((run["from"] or 0) + run["length"] < 1 << 64, "parts")
-    need(len(run["ways"]) == 32 and len(run["structures"]) <= 32, "parts")
+    need(len(run["ways"]) == 32, "parts")
     need(all(place < len(run["structures"]) for _, place in run["ways"]), "parts")
     for structure in run["structures"]:
         check_structure(depth, run["length"], structure)

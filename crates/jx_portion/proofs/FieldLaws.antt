@@ -1,7 +1,8 @@
 -- The fields of a record: what is read is spelt so, and what is spelt so is read.
-use Rattle.std.proofs.Common.{◌≡◌, ℕ, zero, suc, Bool, true, false, cond, eqb, List, [], ◌∷◌, ◌++◌, length, Some, Ok, Err, refl, sym, ap, subst, ◌∙◌, append_assoc}
+use Rattle.std.proofs.Common.{◌≡◌, ℕ, zero, suc, ◌≤◌, Bool, true, false, cond, eqb, ltb, List, [], ◌∷◌, ◌++◌, length, Some, Ok, Err, refl, sym, ap, subst, ◌∙◌, append_assoc}
 use Rattle.std.specs.Prelude.{slice_get}
-use Rattle.std.proofs.lemmas.Bool.{eqb-true}
+use Rattle.std.specs.List.{flat_map}
+use Rattle.std.proofs.lemmas.Bool.{eqb-true, le-ltb}
 use Rattle.std.proofs.lemmas.List.{append-nil, nil_from_length}
 use Rattle.jx_lex.specs.Ordinal.{all_states, ordinal}
 use Rattle.jx_lex.proofs.StateOrder.{state-at}
@@ -17,12 +18,12 @@ use Rattle.jx_portion.specs.declared.fault.Field.TheVariants as field
 use Rattle.jx_portion.specs.declared.fault.RunFault.{RunFault}
 use Rattle.jx_portion.specs.declared.fault.RunFault.TheVariants.{Malformed}
 use Rattle.jx_portion.specs.Choices.{entries, holders, holder_number, kinds, kind_number}
-use Rattle.jx_portion.specs.Fields.{FormFields, RunFields}
-use Rattle.jx_portion.specs.Reading.{◌>>=◌, ended_at, entry_at, exit_at, form_at, holder_at, kind_at, level_at, mark_at, number_at, optional_at, rest_at, run_at, several_at, state_at, structure_at, way_at}
+use Rattle.jx_portion.specs.Fields.{FormFields, RunFields, StructureFields}
+use Rattle.jx_portion.specs.Reading.{◌>>=◌, ended_at, entry_at, exit_at, form_at, holder_at, kind_at, level_at, many_at, mark_at, number_at, optional_at, rest_at, run_at, several_at, state_at, structure_at, structures_at, way_at}
 use Rattle.jx_portion.specs.Spelling as spelt
 use Rattle.jx_portion.specs.Spelling.{number, optional, several, AreSpelt, IfThere, Any, IsNumber, EndedFits, ExitFits, FormFits, LevelFits, MarkFits, RestFits, RunFits, StructureFits, WayFits}
 use Rattle.jx_reduce.specs.Entries.{place}
-use Rattle.jx_portion.proofs.Laws.{IsBytes, Law, Took, bind_ok, choice_law, in_front, number_law, ok_is, optional_law, several_law, three, two}
+use Rattle.jx_portion.proofs.Laws.{IsBytes, Law, Took, bind_ok, choice_law, guard_err, in_front, many_again, number_law, ok_is, optional_law, several_law, three, two}
 
 -- ---- choices
 
@@ -192,16 +193,31 @@ guard_ended : {A : Type 0} (b : Bool) (d : RunFault) (x y : A) → cond b (Ok x)
 guard_ended true d x y e = (refl, cc)
 guard_ended false d x y e = absurd cc
 
+structures_takes : (bytes : List ℕ) (x : List StructureFields × List ℕ) → IsBytes bytes → structures_at bytes ≡ Ok x → Took (several spelt.structure) (AreSpelt StructureFits) bytes x
+unfolding structures_at several_at
+structures_takes bytes x bs e =
+    let a = bind_ok (number_at bytes) (λ count. cond (ltb 32 count.0) (Err (Malformed field.Parts)) (many_at structure_at count.0 count.1)) x e in
+    let g = guard_err (ltb 32 a.0.0) (Malformed field.Parts) (many_at structure_at a.0.0 a.0.1) x a.2 in
+    structure_list.takes bytes x bs (rw a.1 g.1)
+
+structures_again : (xs : List StructureFields) (rest : List ℕ) → length xs ≤ 32 → AreSpelt StructureFits xs → structures_at (several spelt.structure xs ++ rest) ≡ Ok (xs, rest)
+unfolding structures_at
+structures_again xs rest few h =
+    let behind = flat_map spelt.structure xs ++ rest in
+    let regrouped : several spelt.structure xs ++ rest ≡ number (length xs) ++ behind = append_assoc (number (length xs)) (flat_map spelt.structure xs) rest in
+    let low : ltb 32 (length xs) ≡ false = le-ltb _ _ few in
+    ap structures_at regrouped ∙ rw (number_law.again (length xs) behind h.0, low) (many_again spelt.structure structure_at StructureFits structure_law xs rest h.1)
+
 pub run_takes : (bytes : List ℕ) (x : RunFields) → IsBytes bytes → run_at bytes ≡ Ok x → (bytes ≡ spelt.run x) × RunFits x
 unfolding run_at
 run_takes bytes x bs e =
-    let a = bind_ok (optional_at number_at bytes) (λ from. number_at from.1 >>= λ end. several_at way_at end.1 >>= λ ways. several_at structure_at ways.1 >>= λ structures.
+    let a = bind_ok (optional_at number_at bytes) (λ from. number_at from.1 >>= λ end. several_at way_at end.1 >>= λ ways. structures_at ways.1 >>= λ structures.
     cond (eqb (length structures.1) 0) (Ok (record { from = from.0; end = end.0; ways = ways.0; structures = structures.0 })) (Err (Malformed field.Rest))) x e in
-    let b = bind_ok (number_at a.0.1) (λ end. several_at way_at end.1 >>= λ ways. several_at structure_at ways.1 >>= λ structures.
+    let b = bind_ok (number_at a.0.1) (λ end. several_at way_at end.1 >>= λ ways. structures_at ways.1 >>= λ structures.
     cond (eqb (length structures.1) 0) (Ok (record { from = a.0.0; end = end.0; ways = ways.0; structures = structures.0 })) (Err (Malformed field.Rest))) x a.2 in
-    let c = bind_ok (several_at way_at b.0.1) (λ ways. several_at structure_at ways.1 >>= λ structures.
+    let c = bind_ok (several_at way_at b.0.1) (λ ways. structures_at ways.1 >>= λ structures.
     cond (eqb (length structures.1) 0) (Ok (record { from = a.0.0; end = b.0.0; ways = ways.0; structures = structures.0 })) (Err (Malformed field.Rest))) x b.2 in
-    let d = bind_ok (several_at structure_at c.0.1) (λ structures.
+    let d = bind_ok (structures_at c.0.1) (λ structures.
     cond (eqb (length structures.1) 0) (Ok (record { from = a.0.0; end = b.0.0; ways = c.0.0; structures = structures.0 })) (Err (Malformed field.Rest))) x c.2 in
     let made : RunFields = record { from = a.0.0; end = b.0.0; ways = c.0.0; structures = d.0.0 } in
     let g = guard_ended (eqb (length d.0.1) 0) (Malformed field.Rest) made x d.2 in
@@ -209,16 +225,16 @@ run_takes bytes x bs e =
     let ta = maybe_number.takes bytes a.0 bs a.1 in
     let tb = number_law.takes a.0.1 b.0 ta.1 b.1 in
     let tc = way_list.takes b.0.1 c.0 tb.1 c.1 in
-    let td = structure_list.takes c.0.1 d.0 tc.1 d.1 in
+    let td = structures_takes c.0.1 d.0 tc.1 d.1 in
     let e1 = in_front bytes (optional number a.0.0) a.0.1 (number b.0.0) b.0.1 ta.0 tb.0 in
     let e2 = in_front bytes (optional number a.0.0 ++ number b.0.0) b.0.1 (several spelt.way c.0.0) c.0.1 e1 tc.0 in
     let e0 = in_front bytes (optional number a.0.0 ++ number b.0.0 ++ several spelt.way c.0.0) c.0.1 (several spelt.structure d.0.0) d.0.1 e2 td.0 in
     let whole : bytes ≡ spelt.run made = e0 ∙ ap (λ (t : List ℕ). spelt.run made ++ t) nothing ∙ append-nil (spelt.run made) in
     subst (λ (y : RunFields). (bytes ≡ spelt.run y) × RunFits y) g.1 (whole, (ta.2, tb.2, tc.2, td.2))
 
-pub run_again : (r : RunFields) → RunFits r → run_at (spelt.run r) ≡ Ok r
+pub run_again : (r : RunFields) → length r.structures ≤ 32 → RunFits r → run_at (spelt.run r) ≡ Ok r
 unfolding run_at
-run_again r h =
+run_again r few h =
     let a = optional number r.from in
     let b = number r.end in
     let c = several spelt.way r.ways in
@@ -229,5 +245,5 @@ run_again r h =
       maybe_number.again r.from (b ++ (c ++ (d ++ []))) h.0,
       number_law.again r.end (c ++ (d ++ [])) h.1,
       way_list.again r.ways (d ++ []) h.2,
-      structure_list.again r.structures [] h.3,
+      structures_again r.structures [] few h.3,
     ) refl

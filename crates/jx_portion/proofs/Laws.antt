@@ -39,6 +39,10 @@ pub guard_ok : {A : Type 0} (b : Bool) (d : RunFault) (x y : A) → cond b (Err 
 guard_ok true d x y e = absurd cc
 guard_ok false d x y e = (refl, cc)
 
+pub guard_err : {A : Type 0} (b : Bool) (d : RunFault) (r : Result A RunFault) (y : A) → cond b (Err d) r ≡ Ok y → (b ≡ false) × (r ≡ Ok y)
+guard_err true d r y e = absurd cc
+guard_err false d r y e = (refl, e)
+
 abbrev pub done : {A : Type 0} → A → Result A RunFault
 done x = Ok x
 
@@ -159,7 +163,7 @@ many_takes {A = A} spell at fits law (suc n) bytes x bs e =
     let made : List A × List ℕ = (a.0.0 ∷ b.0.0, b.0.1) in
     subst (λ (y : List A × List ℕ). Took (flat_map spell) (λ xs. (length xs ≡ suc n) × AllByRecursion fits xs) bytes y) (ok_is made x b.2) (rw flat_map-cons whole, second.1, (ap suc second.2.0, (first.2, second.2.1)))
 
-many_again : {A : Type 0} (spell : A → List ℕ) (at : List ℕ → Result (A × List ℕ) RunFault) (fits : A → Type 0) → Law spell at fits
+pub many_again : {A : Type 0} (spell : A → List ℕ) (at : List ℕ → Result (A × List ℕ) RunFault) (fits : A → Type 0) → Law spell at fits
     → (xs : List A) (rest : List ℕ) → AllByRecursion fits xs → many_at at (length xs) (flat_map spell xs ++ rest) ≡ Ok (xs, rest)
 unfolding many_at
 many_again spell at fits law [] rest h = refl

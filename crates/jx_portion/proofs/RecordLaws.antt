@@ -1,5 +1,5 @@
 -- A record as a whole: what is read is spelt so, and what is spelt so is read.
-use Rattle.std.proofs.Common.{◌≡◌, ℕ, ◌+◌, ◌-◌, ◌/◌, ◌^◌, ◌<◌, ◌≤◌, Bool, true, false, cond, ltb, eqb, ◌||◌, List, ◌++◌, length, take, drop, Result, Ok, Err, refl, sym, ap, subst, ◌∙◌, append_assoc, arith}
+use Rattle.std.proofs.Common.{◌≡◌, ℕ, ◌+◌, ◌-◌, ◌/◌, ◌^◌, ◌<◌, ◌≤◌, Bool, true, false, cond, ltb, eqb, ◌||◌, List, ◌++◌, length, take, drop, Ok, Err, refl, sym, ap, subst, ◌∙◌, append_assoc, arith}
 use Rattle.std.specs.Prelude.{bytes_eq}
 use Rattle.std.proofs.lemmas.Bool.{eqb-true, ltb-false, le-ltb}
 use Rattle.std.proofs.lemmas.List.{take_at, drop_at, take-append-drop, length-append, length-take}
@@ -13,12 +13,8 @@ use Rattle.jx_portion.specs.declared.record.Head.{Head}
 use Rattle.jx_portion.specs.Fields.{RunFields}
 use Rattle.jx_portion.specs.Reading.{◌>>=◌, body_at, depth_at, head_at, number_at, record_at, run_at, sealed_at, tag_at}
 use Rattle.jx_portion.specs.Spelling.{head, number, run, sealed, spelling, tag, RunFits}
-use Rattle.jx_portion.proofs.Laws.{IsBytes, IsBytes-take, bind_ok, in_front, length-number, number_law, ok_is}
+use Rattle.jx_portion.proofs.Laws.{IsBytes, IsBytes-take, bind_ok, guard_err, in_front, length-number, number_law, ok_is}
 use Rattle.jx_portion.proofs.FieldLaws.{run_again, run_takes}
-
-guard_err : {A : Type 0} (b : Bool) (d : RunFault) (r : Result A RunFault) (y : A) → cond b (Err d) r ≡ Ok y → (b ≡ false) × (r ≡ Ok y)
-guard_err true d r y e = absurd cc
-guard_err false d r y e = (refl, e)
 
 guard_else : {A : Type 0} (b c : Bool) (d f : RunFault) (x y : A) → cond b (Ok x) (cond c (Err d) (Err f)) ≡ Ok y → (b ≡ true) × (x ≡ y)
 guard_else true c d f x y e = (refl, cc)
@@ -185,6 +181,6 @@ record_takes bytes x bs e =
       depth = ta.depth;
     })
 
-pub record_again : (depth : ℕ) (r : RunFields) → depth ≤ 65535 → RunFits r → 56 + length (run r) < 2 ^ 64 → record_at (spelling depth r) ≡ Ok (depth, r)
+pub record_again : (depth : ℕ) (r : RunFields) → depth ≤ 65535 → length r.structures ≤ 32 → RunFits r → 56 + length (run r) < 2 ^ 64 → record_at (spelling depth r) ≡ Ok (depth, r)
 unfolding record_at
-record_again depth r d fits s = rw (body_again depth (run r) s d, run_again r fits) refl
+record_again depth r d few fits s = rw (body_again depth (run r) s d, run_again r few fits) refl

@@ -166,7 +166,9 @@ pub is_found : (bytes : List ℕ) (r : Result PortionValue DecodeFault) → IsBy
 is_found bytes r bs h = found_by bytes r (record_at bytes) bs refl h
 
 pub is_only : (bytes : List ℕ) (r : Result PortionValue DecodeFault) → IsAnswer r (record_at bytes) → (d : ℕ) (x : RunFields) → IsSpelt d x bytes → IsAnswer r (Ok (d, x))
-is_only bytes r h d x s = subst (IsAnswer r) (ap record_at s.spelt ∙ record_again d x s.depth s.fits s.size) h
+is_only bytes r h d x s =
+    let few : length x.structures ≤ 32 = omega (arith, s.run_is.run.few, length-map x.structures (structure_in d)) in
+    subst (IsAnswer r) (ap record_at s.spelt ∙ record_again d x s.depth few s.fits s.size) h
 
 portion_of : (r : Result PortionValue DecodeFault) (d : ℕ) (x : RunFields) (xs : List ℕ) (f : Option ℕ) → IsAnswer r (Ok (d, x)) → IsPortion xs f d (portion_in d x) → IfOk r (IsPortion xs f d)
 portion_of (Ok p) d x xs f h is = subst (IsPortion xs f d) (sym h.0) is

@@ -143,13 +143,19 @@ structure_at bytes = do
   rest ← optional_at rest_at string.1
   Ok (record { string = string.0; rest = rest.0 }, rest.1)
 
+-- no more structures than a run may have
+unfoldable pub structures_at : List ℕ → Result (List StructureFields × List ℕ) RunFault
+structures_at bytes = do
+  count ← number_at bytes
+  if nat_lt 32 count.0 then Err (Malformed field.Parts) else many_at structure_at count.0 count.1
+
 -- between the head and the digest
 unfoldable pub run_at : List ℕ → Result RunFields RunFault
 run_at bytes = do
   from ← optional_at number_at bytes
   end ← number_at from.1
   ways ← several_at way_at end.1
-  structures ← several_at structure_at ways.1
+  structures ← structures_at ways.1
   if length structures.1 == 0 then Ok (record { from = from.0; end = end.0; ways = ways.0; structures = structures.0 }) else Err (Malformed field.Rest)
 
 -- ---- a record as a whole

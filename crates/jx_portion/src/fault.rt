@@ -24,7 +24,7 @@ pub enum Field {
     Entry,
     /// Bytes stand behind the last field.
     Rest,
-    /// Each field is well formed, but no run has these parts.
+    /// No run has these parts: too many structures, or fields of which each is well formed.
     Parts,
 }
 

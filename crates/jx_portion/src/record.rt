@@ -1,7 +1,7 @@
 // A record as a whole: its head, what it says of a run, and its digest.
 ghost use Rattle.std.specs.Prelude.{◌≡◌, ◌≤◌, map, IfOk};
 ghost use Rattle.jx_portion.specs.Fields.{run_fields, structure_fields};
-ghost use Rattle.jx_portion.specs.Reading.{body_at, depth_at, head_at, many_at, record_at, run_at, sealed_at, several_at, structure_at, tag_at, Gives};
+ghost use Rattle.jx_portion.specs.Reading.{body_at, depth_at, head_at, many_at, record_at, run_at, sealed_at, structure_at, structures_at, tag_at, Gives};
 ghost use Rattle.jx_portion.specs.Spelling.{head};
 
 use crate::fault::{DecodeFault, Field, RunFault};
@@ -18,6 +18,9 @@ pub const HEAD: usize = 24;
 
 /// How many bytes the digest has.
 pub(crate) const DIGEST: usize = 32;
+
+/// How many structures a run may have.
+const STRUCTURES: usize = 32;
 
 /// The first eight bytes of a record: 89, `jxrun`, a line feed and the version.
 pub(crate) const TAG: usize = 0x896A_7872_756E_0A01;
@@ -134,15 +137,19 @@ fn many_structures(
     Ok((structures, rest))
 }
 
-/// Reads how many structures there are, and each of them.
-#[tactic(auto, unfolding(crate::specs::Reading::several_at))]
+/// Reads how many structures there are, and each of them. More than a run may have are not read: each takes a hundred times the
+/// room of its two bytes.
+#[tactic(auto, unfolding(crate::specs::Reading::structures_at))]
 fn several_structures(
     alloc: Global,
     bytes: &[u8],
 ) -> Result<(Vec<StructureParts>, &[u8]), DecodeFault>
-    ensures { Gives (λ x. (map structure_fields x.0.items, x.1.now)) result (several_at structure_at bytes.now) }
+    ensures { Gives (λ x. (map structure_fields x.0.items, x.1.now)) result (structures_at bytes.now) }
 {
     let (count, rest) = usize::read(bytes)?;
+    if count > STRUCTURES {
+        return Err(DecodeFault::Fault(RunFault::Malformed(Field::Parts)));
+    }
     many_structures(alloc, count, rest)
 }
 
