@@ -3,7 +3,7 @@
 
     hostile.py PROGRAM
 
-What is wanted comes from record.py, which reads docs/FORMAT.md alone. The program may take 256 MiB of addresses and ten seconds. Prints what
+What is wanted comes from record.py, which reads docs/FORMAT.md alone. The program may take 256 MiB of addresses and a minute. Prints what
 differs, and the line of tests/*.sh.
 """
 import concurrent.futures
@@ -23,7 +23,7 @@ PROGRAM = sys.argv[1]
 ADDRESSES = 256 << 20
 # What the program takes where a record is small.
 PROGRAM_ALONE = 8 << 20
-SECONDS = 10
+SECONDS = 60
 HEAD, DIGEST = 24, 32
 WHOLE_TOKENS = ("Gap", "Zero", "Int", "Frac", "Exp")
 VALUES = (lambda byte: byte ^ 1, lambda byte: byte ^ 0x80, lambda byte: 0, lambda byte: 0xFF)
