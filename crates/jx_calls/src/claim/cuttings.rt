@@ -22,13 +22,8 @@ fn pieces_of(alloc: Global, cutting: &Cutting) -> Result<String, AllocError> {
     Ok(told)
 }
 
-/// The pieces of a cutting and of its copy, without the first so many bytes.
-fn push_behind(
-    out: &mut String,
-    alloc: Global,
-    cutting: Cutting,
-    fronts: &[&str],
-) -> Result<(), LineFault> {
+/// The cutting without the first so many bytes.
+fn behind(cutting: Cutting, fronts: &[&str]) -> Result<Cutting, LineFault> {
     let mut cutting = cutting;
     for front in fronts {
         let front = number_of(front)?;
@@ -37,11 +32,15 @@ fn push_behind(
         }
         cutting = cutting.without_front(front);
     }
+    Ok(cutting)
+}
+
+/// The pieces of a cutting and of its copy.
+fn push_pieces(out: &mut String, alloc: Global, cutting: &Cutting) -> Result<(), AllocError> {
     let mut ways = Ways::new(alloc);
-    ways.add("itself", pieces_of(alloc, &cutting)?)?;
+    ways.add("itself", pieces_of(alloc, cutting)?)?;
     ways.add("a copy", pieces_of(alloc, &cutting.copy(alloc)?)?)?;
-    ways.push_to(out)?;
-    Ok(())
+    ways.push_to(out)
 }
 
 /// The pieces, or why there are none.
@@ -52,7 +51,11 @@ fn push_cutting(
     fronts: &[&str],
 ) -> Result<(), LineFault> {
     match cutting {
-        Ok(cutting) => push_behind(out, alloc, cutting, fronts),
+        Ok(cutting) => {
+            let cutting = behind(cutting, fronts)?;
+            push_pieces(out, alloc, &cutting)?;
+            Ok(())
+        }
         Err(CutFault::Memory) => Err(LineFault::Memory),
         Err(fault) => {
             write!(out, "{fault}")?;

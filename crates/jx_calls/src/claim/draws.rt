@@ -3,7 +3,7 @@ ghost use Rattle.std.specs.Prelude.{◌≡◌};
 ghost use Rattle.jx_claim.specs.Claimed.{AllSeats};
 
 use jx_claim::{ClaimSeat, Claims, Workers};
-use jx_lines::{LineFault, push_word};
+use jx_lines::LineFault;
 use std::alloc::{AllocError, Global};
 
 /// How many pieces there are, and how many workers.
@@ -58,10 +58,17 @@ pub(crate) fn seats(out: &mut String, alloc: Global, words: &[&str]) -> Result<(
     };
     let (pieces, workers) = terms_of(pieces, workers).ok_or(LineFault::NoSuchCall)?;
     let (_claims, seats) = Claims::open(alloc, pieces, workers)?;
-    for seat in &seats {
+    push_seats(out, &seats)?;
+    Ok(())
+}
+
+fn push_seats(out: &mut String, seats: &[ClaimSeat]) -> Result<(), AllocError> {
+    for seat in seats {
+        if !out.is_empty() {
+            out.push_str(" ")?;
+        }
         let number = seat.number();
-        let word = format!(in alloc; "{number}")?;
-        push_word(out, word.as_str())?;
+        write!(out, "{number}")?;
         if seat.spent() {
             out.push_str(" spent")?;
         }

@@ -4,7 +4,7 @@ use jx_lines::{
     LineFault, bytes_of, depth_of, push_elements, push_rows, push_span, push_verdict, settings_of,
 };
 use jx_run::Verdict;
-use std::alloc::Global;
+use std::alloc::{AllocError, Global};
 
 /// `text DEPTH SETTINGS TEXT`: the verdict, and where the text is accepted its span and all rows.
 pub(crate) fn text(out: &mut String, alloc: Global, words: &[&str]) -> Result<(), LineFault> {
@@ -13,15 +13,19 @@ pub(crate) fn text(out: &mut String, alloc: Global, words: &[&str]) -> Result<()
     };
     let settings = settings_of(depth_of(depth)?, settings)?;
     let text = bytes_of(alloc, text)?;
-    match TextAnswer::read(alloc, &text, &settings)? {
+    push_answer(out, &TextAnswer::read(alloc, &text, &settings)?)?;
+    Ok(())
+}
+
+fn push_answer(out: &mut String, answer: &TextAnswer<'_>) -> Result<(), AllocError> {
+    match answer {
         TextAnswer::Accepted(index) => {
             out.push_str("accepted ")?;
             push_span(out, index.span())?;
-            push_rows(out, index.rows())?;
+            push_rows(out, index.rows())
         }
-        TextAnswer::Refused(refusal) => push_verdict(out, Verdict::Refused(refusal))?,
+        TextAnswer::Refused(refusal) => push_verdict(out, Verdict::Refused(*refusal)),
     }
-    Ok(())
 }
 
 /// `judged DEPTH SETTINGS TEXT`: the elements of a sequence.

@@ -1,5 +1,6 @@
 // The children of values, the members of objects by their names, and names that are repeated.
 use crate::index::pointers::index_of;
+use crate::reduce::outcomes::push_offset;
 use jx_index::{Indexed, NodeId, Pointer};
 use jx_lex::Kind;
 use jx_lines::{LineFault, bytes_of, push_numbers, text_of};
@@ -35,16 +36,22 @@ pub(crate) fn children(out: &mut String, alloc: Global, words: &[&str]) -> Resul
         return Err(LineFault::NoSuchCall);
     };
     let text = bytes_of(alloc, text)?;
-    let pointer = text_of(alloc, pointer)?;
     let index = index_of(alloc, &text)?;
-    let Ok(pointer) = Pointer::read(pointer.as_str()) else {
-        return Err(LineFault::NoSuchCall);
-    };
-    let Ok(node) = index.find(&pointer) else {
-        return Err(LineFault::NoSuchCall);
-    };
+    let node = node_of(alloc, &index, pointer)?;
     push_children(out, alloc, &index, node)?;
     Ok(())
+}
+
+/// The node to which the pointer that a word spells leads.
+fn node_of(alloc: Global, index: &Indexed<'_>, pointer: &str) -> Result<NodeId, LineFault> {
+    let spelt = text_of(alloc, pointer)?;
+    let Ok(pointer) = Pointer::read(spelt.as_str()) else {
+        return Err(LineFault::NoSuchCall);
+    };
+    match index.find(&pointer) {
+        Ok(node) => Ok(node),
+        Err(_) => Err(LineFault::NoSuchCall),
+    }
 }
 
 /// `names TEXT`: the numbers of the rows of the outermost object's members, by rising names.
@@ -69,11 +76,13 @@ pub(crate) fn repeated(out: &mut String, alloc: Global, words: &[&str]) -> Resul
     };
     let text = bytes_of(alloc, text)?;
     let index = index_of(alloc, &text)?;
+    push_repeated(out, &index)?;
+    Ok(())
+}
+
+fn push_repeated(out: &mut String, index: &Indexed<'_>) -> Result<(), AllocError> {
     let repeated = index.repeated();
-    match repeated {
-        Some(at) => write!(out, "{at}")?,
-        None => out.push_str("-")?,
-    }
+    push_offset(out, repeated)?;
     if index.refused_name(NameRule::Unique) != repeated {
         out.push_str("; refuses another")?;
     }

@@ -1,5 +1,5 @@
 // The rows of texts, read in one pass, with pauses and by runs.
-ghost use Rattle.std.specs.Prelude.{◌≡◌, ◌≤◌, length};
+ghost use Rattle.std.specs.Prelude.{◌≡◌, ◌≤◌, IfOk, length};
 
 use crate::index::pauses::EachByte;
 use jx_index::{Indexed, TextAnswer};
@@ -8,18 +8,30 @@ use jx_lines::{LineFault, Ways, bytes_of, depth_of, push_rows, push_verdict, spa
 use jx_run::{NoPause, Pace, Refusal, Summary, TextRun, Verdict};
 use std::alloc::{AllocError, Global};
 
+/// The rows of a text that is accepted.
+fn push_index(out: &mut String, index: &Indexed<'_>) -> Result<(), AllocError> {
+    push_verdict(out, Verdict::Accepted)?;
+    push_rows(out, index.rows())
+}
+
 /// The verdict, and the rows where the text is accepted.
-pub(crate) fn push_read(
-    out: &mut String,
-    read: &Result<Indexed<'_>, Refusal>,
-) -> Result<(), AllocError> {
+fn told_of_read(alloc: Global, read: &Result<Indexed<'_>, Refusal>) -> Result<String, AllocError> {
+    let mut told = String::new(alloc);
     match read {
-        Ok(index) => {
-            push_verdict(out, Verdict::Accepted)?;
-            push_rows(out, index.rows())
-        }
-        Err(refusal) => push_verdict(out, Verdict::Refused(*refusal)),
+        Ok(index) => push_index(&mut told, index)?,
+        Err(refusal) => push_verdict(&mut told, Verdict::Refused(*refusal))?,
     }
+    Ok(told)
+}
+
+/// The same of an answer.
+fn told_of_answer(alloc: Global, answer: &TextAnswer<'_>) -> Result<String, AllocError> {
+    let mut told = String::new(alloc);
+    match answer {
+        TextAnswer::Accepted(index) => push_index(&mut told, index)?,
+        TextAnswer::Refused(refusal) => push_verdict(&mut told, Verdict::Refused(*refusal))?,
+    }
+    Ok(told)
 }
 
 /// What one pass over a span gives, with these pauses.
@@ -33,10 +45,7 @@ fn in_one_pass<P: Pace>(
     requires ordered { span.start ≤ span.end }
     requires within { span.end ≤ length text.now }
 {
-    let read = Indexed::read(alloc, text, span, depth, pace)?;
-    let mut told = String::new(alloc);
-    push_read(&mut told, &read)?;
-    Ok(told)
+    told_of_read(alloc, &Indexed::read(alloc, text, span, depth, pace)?)
 }
 
 /// What a run over a span gives, started.
@@ -51,15 +60,11 @@ fn by_started_run(
 {
     let run = TextRun::of(alloc, text, span.start, span.end, depth)?;
     let started = run.started()?;
-    let mut told = String::new(alloc);
-    match started.verdict() {
-        Verdict::Accepted => {
-            let index = Indexed::build(alloc, text, &started)?;
-            push_read(&mut told, &Ok(index))?;
-        }
-        refused => push_verdict(&mut told, refused)?,
-    }
-    Ok(told)
+    let read = match started.verdict() {
+        Verdict::Accepted => Ok(Indexed::build(alloc, text, &started)?),
+        Verdict::Refused(refusal) => Err(refusal),
+    };
+    told_of_read(alloc, &read)
 }
 
 /// What a run over the end of a text gives.
@@ -72,10 +77,7 @@ fn by_run_to_end(
     requires within { start ≤ length text.now }
 {
     let run = TextRun::of(alloc, text, start, text.len(), depth)?;
-    let answer = TextAnswer::of_run(alloc, text, &run)?;
-    let mut told = String::new(alloc);
-    push_answer(&mut told, answer)?;
-    Ok(told)
+    told_of_answer(alloc, &TextAnswer::of_run(alloc, text, &run)?)
 }
 
 /// What one pass over the end of a text gives.
@@ -88,16 +90,24 @@ fn in_one_pass_to_end(
     requires within { start ≤ length text.now }
 {
     let answer = TextAnswer::read_from(alloc, text, start, depth, &mut NoPause)?;
-    let mut told = String::new(alloc);
-    push_answer(&mut told, answer)?;
-    Ok(told)
+    told_of_answer(alloc, &answer)
 }
 
-fn push_answer(out: &mut String, answer: TextAnswer<'_>) -> Result<(), AllocError> {
-    match answer {
-        TextAnswer::Accepted(index) => push_read(out, &Ok(index)),
-        TextAnswer::Refused(refusal) => push_read(out, &Err(refusal)),
-    }
+/// Both ways to read the end of a text.
+fn add_to_end(
+    ways: &mut Ways,
+    alloc: Global,
+    text: &[u8],
+    start: usize,
+    depth: Depth,
+) -> Result<(), AllocError>
+    requires within { start ≤ length text.now }
+{
+    ways.add(
+        "by a run to the end",
+        by_run_to_end(alloc, text, start, depth)?,
+    )?;
+    ways.add("to the end", in_one_pass_to_end(alloc, text, start, depth)?)
 }
 
 /// All ways to read a span.
@@ -121,14 +131,21 @@ fn read_by_ways(
     )?;
     ways.add("by a run", by_started_run(alloc, text, span, depth)?)?;
     if span.end == text.len() {
-        let start = span.start;
-        ways.add(
-            "by a run to the end",
-            by_run_to_end(alloc, text, start, depth)?,
-        )?;
-        ways.add("to the end", in_one_pass_to_end(alloc, text, start, depth)?)?;
+        add_to_end(ways, alloc, text, span.start, depth)?;
     }
     Ok(())
+}
+
+/// The span that a word asks for, or else that of the whole text.
+fn span_of(words: &[&str], len: usize) -> Result<Span, LineFault>
+    ensures ordered { IfOk result (λ span. span.start ≤ span.end) }
+    ensures within { IfOk result (λ span. span.end ≤ len) }
+{
+    match words {
+        [] => Ok(Span { start: 0, end: len }),
+        [word] => span_within(word, len),
+        _ => Err(LineFault::NoSuchCall),
+    }
 }
 
 /// `rows DEPTH TEXT [S..E]`: the verdict and all rows, in one pass, with a pause behind each byte, and by runs.
@@ -138,21 +155,9 @@ pub(crate) fn rows(out: &mut String, alloc: Global, words: &[&str]) -> Result<()
     };
     let depth = depth_of(depth)?;
     let text = bytes_of(alloc, text)?;
+    let span = span_of(span, text.len())?;
     let mut ways = Ways::new(alloc);
-    match span {
-        [] => {
-            let span = Span {
-                start: 0,
-                end: text.len(),
-            };
-            read_by_ways(&mut ways, alloc, &text, span, depth)?;
-        }
-        [span] => {
-            let span = span_within(span, text.len())?;
-            read_by_ways(&mut ways, alloc, &text, span, depth)?;
-        }
-        _ => return Err(LineFault::NoSuchCall),
-    }
+    read_by_ways(&mut ways, alloc, &text, span, depth)?;
     ways.push_to(out)?;
     Ok(())
 }

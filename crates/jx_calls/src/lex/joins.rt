@@ -48,11 +48,14 @@ pub(crate) fn kept(out: &mut String, alloc: Global, words: &[&str]) -> Result<()
     let least = number_of(least)?;
     let joined = joined_at(alloc, &text, start, cut, end)?;
     let kept = joined.map.stored().saturating_sub(joined.left);
-    if joined.right >= least as u128 {
-        write!(out, "keeps {kept} of at least {least}")?;
-    } else {
-        let right = joined.right;
-        write!(out, "keeps {kept} of {right}")?;
-    }
+    push_kept(out, kept, joined.right, least)?;
     Ok(())
+}
+
+fn push_kept(out: &mut String, kept: u128, right: u128, least: usize) -> Result<(), AllocError> {
+    if right >= least as u128 {
+        write!(out, "keeps {kept} of at least {least}")
+    } else {
+        write!(out, "keeps {kept} of {right}")
+    }
 }

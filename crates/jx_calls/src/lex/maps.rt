@@ -60,11 +60,23 @@ pub(crate) fn cut(out: &mut String, alloc: Global, words: &[&str]) -> Result<(),
     let state = state_of(alloc, state)?;
     let mut ways = Ways::new(alloc);
     for cut in 0..=text.len() {
-        let way = format!(in alloc; "cut at {cut}")?;
-        ways.add(way.as_str(), shown_at(alloc, &text, cut, state)?)?;
+        add_cut(&mut ways, alloc, &text, cut, state)?;
     }
     ways.push_to(out)?;
     Ok(())
+}
+
+fn add_cut(
+    ways: &mut Ways,
+    alloc: Global,
+    text: &[u8],
+    cut: usize,
+    state: LexState,
+) -> Result<(), AllocError>
+    requires { cut ≤ length text.now }
+{
+    let way = format!(in alloc; "cut at {cut}")?;
+    ways.add(way.as_str(), shown_at(alloc, text, cut, state)?)
 }
 
 /// What a join holds too many of, or another span than that of both: nothing where it is right.
@@ -94,21 +106,23 @@ pub(crate) fn shown(out: &mut String, alloc: Global, words: &[&str]) -> Result<(
     let span = span_within(span, text.len())?;
     let most = number_of(most)?;
     let map = ChunkMap::of(alloc, &text, span.start, span.end)?;
-    let shown = shown_by(alloc, &map)?;
-    let stored = map.stored();
-    if stored <= most as u128 {
-        write!(out, "shows {shown}, holds at most {most}")?;
-    } else {
-        write!(out, "shows {shown}, holds {stored}")?;
-    }
+    push_shown(out, shown_by(alloc, &map)?, map.stored(), most)?;
     Ok(())
+}
+
+fn push_shown(out: &mut String, shown: usize, stored: u128, most: usize) -> Result<(), AllocError> {
+    if stored <= most as u128 {
+        write!(out, "shows {shown}, holds at most {most}")
+    } else {
+        write!(out, "shows {shown}, holds {stored}")
+    }
 }
 
 /// How many marks the views from all states show together.
 fn shown_by(alloc: Global, map: &ChunkMap) -> Result<usize, AllocError> {
     let mut shown = 0usize;
-    for state in LexState::all() {
-        let track = Track::of_view(alloc, &map.entry(state))?;
+    for state in &LexState::all() {
+        let track = Track::of_view(alloc, &map.entry(*state))?;
         shown = shown.saturating_add(track.marks.len());
     }
     Ok(shown)

@@ -1,8 +1,8 @@
 // Scans into keepers, one of which wants no more after some marks.
 ghost use Rattle.std.specs.Prelude.{◌≡◌, length, min};
 
-use crate::lex::track::{Track, push_exit};
-use jx_lex::{Keeper, LexExit, LexState, Mark, Tokens};
+use crate::lex::track::{push_exit, push_track};
+use jx_lex::{Keeper, LexState, Mark, Tokens};
 use jx_lines::{LineFault, bytes_of, number_of, state_of};
 use std::alloc::{AllocError, Global};
 
@@ -56,24 +56,10 @@ fn push_tokens(
 ) -> Result<(), LineFault> {
     let mut tokens = Tokens::new(alloc);
     match jx_lex::scan(&mut tokens, state, text, 0, text.len())? {
-        Some(exit) => push_kept(out, alloc, &tokens, exit)?,
+        Some(exit) => push_track(out, tokens.marks(), tokens.ends(), exit)?,
         None => out.push_str("wants no more")?,
     }
     Ok(())
-}
-
-fn push_kept(
-    out: &mut String,
-    alloc: Global,
-    tokens: &Tokens,
-    exit: LexExit,
-) -> Result<(), AllocError> {
-    let track = Track {
-        marks: Vec::from_slice(alloc, tokens.marks())?,
-        ends: Vec::from_slice(alloc, tokens.ends())?,
-        exit,
-    };
-    track.push_to(out)
 }
 
 /// How many marks were kept, and the exit, if more were wanted.

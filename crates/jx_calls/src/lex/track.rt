@@ -4,7 +4,7 @@ use jx_lines::push_numbers;
 use std::alloc::{AllocError, Global};
 
 /// The marks of a track, its ends and its exit.
-#[derive(Debug, Drop, PartialEq)]
+#[derive(Drop, PartialEq)]
 pub(crate) struct Track {
     pub(crate) marks: Vec<Mark>,
     pub(crate) ends: Vec<usize>,
@@ -66,12 +66,22 @@ impl Track {
 
     /// `Number@7 CloseArray@8; ends 8; exit Gap`.
     pub(crate) fn push_to(&self, out: &mut String) -> Result<(), AllocError> {
-        push_marks(out, &self.marks)?;
-        out.push_str("; ends ")?;
-        push_numbers(out, &self.ends)?;
-        out.push_str("; ")?;
-        push_exit(out, self.exit)
+        push_track(out, &self.marks, &self.ends, self.exit)
     }
+}
+
+/// The same of marks, ends and an exit.
+pub(crate) fn push_track(
+    out: &mut String,
+    marks: &[Mark],
+    ends: &[usize],
+    exit: LexExit,
+) -> Result<(), AllocError> {
+    push_marks(out, marks)?;
+    out.push_str("; ends ")?;
+    push_numbers(out, ends)?;
+    out.push_str("; ")?;
+    push_exit(out, exit)
 }
 
 fn ends_of(alloc: Global, view: &TrackView<'_>) -> Result<Vec<usize>, AllocError> {

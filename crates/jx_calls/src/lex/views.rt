@@ -3,7 +3,7 @@ ghost use Rattle.std.specs.Prelude.{◌≡◌, ◌≤◌, length};
 
 use crate::lex::joins::joined_at;
 use crate::lex::track::Track;
-use jx_lex::{ChunkMap, LexState, Mark};
+use jx_lex::{ChunkMap, LexState, Mark, Span};
 use jx_lines::{LineFault, bytes_of, push_span, span_within};
 use std::alloc::{AllocError, Global};
 
@@ -23,24 +23,29 @@ fn goes_along(map: &ChunkMap, state: LexState, marks: &[Mark]) -> bool {
 
 /// The first state from which the map's view is not what steps over these bytes give.
 fn odd_state(alloc: Global, map: &ChunkMap, bytes: &[u8]) -> Result<Option<LexState>, AllocError> {
-    for state in LexState::all() {
-        let plain = Track::by_steps(alloc, state, bytes, map.span().start)?;
-        let seen = Track::of_view(alloc, &map.entry(state))?;
-        if seen != plain || !goes_along(map, state, &plain.marks) {
-            return Ok(Some(state));
+    for state in &LexState::all() {
+        if !is_by_steps(alloc, map, *state, bytes)? {
+            return Ok(Some(*state));
         }
     }
     Ok(None)
 }
 
-/// Tells whether all views are as steps give, and else from which state the first is not.
-fn push_odd(
-    out: &mut String,
+/// Whether the map's view from a state is what steps over these bytes give.
+fn is_by_steps(
     alloc: Global,
     map: &ChunkMap,
+    state: LexState,
     bytes: &[u8],
-) -> Result<(), AllocError> {
-    match odd_state(alloc, map, bytes)? {
+) -> Result<bool, AllocError> {
+    let plain = Track::by_steps(alloc, state, bytes, map.span().start)?;
+    let seen = Track::of_view(alloc, &map.entry(state))?;
+    Ok(seen == plain && goes_along(map, state, &plain.marks))
+}
+
+/// Tells whether all views are as steps give, and else from which state the first is not.
+fn push_odd(out: &mut String, odd: Option<LexState>) -> Result<(), AllocError> {
+    match odd {
         None => out.push_str("as by steps"),
         Some(state) => write!(out, "other than by steps from {state:?}"),
     }
@@ -52,18 +57,24 @@ pub(crate) fn maps(out: &mut String, alloc: Global, words: &[&str]) -> Result<()
         return Err(LineFault::NoSuchCall);
     };
     let text = bytes_of(alloc, text)?;
-    let whole = ChunkMap::of(alloc, &text, 0, text.len())?;
-    let mut odd = odd_state(alloc, &whole, &text)?;
+    push_odd(out, odd_anywhere(alloc, &text)?)?;
+    Ok(())
+}
+
+/// The first state from which the whole shows something else than steps give, or else the join at a cut.
+fn odd_anywhere(alloc: Global, text: &[u8]) -> Result<Option<LexState>, AllocError> {
+    let mut odd = odd_in_one(alloc, text)?;
     for cut in 0..=text.len() {
         if odd.is_none() {
-            odd = odd_at(alloc, &text, cut)?;
+            odd = odd_at(alloc, text, cut)?;
         }
     }
-    match odd {
-        None => out.push_str("as by steps")?,
-        Some(state) => write!(out, "other than by steps from {state:?}")?,
-    }
-    Ok(())
+    Ok(odd)
+}
+
+fn odd_in_one(alloc: Global, text: &[u8]) -> Result<Option<LexState>, AllocError> {
+    let whole = ChunkMap::of(alloc, text, 0, text.len())?;
+    odd_state(alloc, &whole, text)
 }
 
 /// The first state from which the join at a cut shows something else than steps give.
@@ -82,7 +93,7 @@ pub(crate) fn views(out: &mut String, alloc: Global, words: &[&str]) -> Result<(
     let text = bytes_of(alloc, text)?;
     let span = span_within(span, text.len())?;
     let map = ChunkMap::of(alloc, &text, span.start, span.end)?;
-    push_odd(out, alloc, &map, &text[span.start..span.end])?;
+    push_odd(out, odd_state(alloc, &map, &text[span.start..span.end])?)?;
     Ok(())
 }
 
@@ -95,8 +106,13 @@ pub(crate) fn beginning(out: &mut String, alloc: Global, words: &[&str]) -> Resu
     let span = span_within(span, text.len())?;
     let map = ChunkMap::of_beginning(alloc, &text, span.start, span.end)?;
     let read = map.span();
+    let odd = odd_state(alloc, &map, &text[read.start..read.end])?;
+    push_beginning(out, read, odd)?;
+    Ok(())
+}
+
+fn push_beginning(out: &mut String, read: Span, odd: Option<LexState>) -> Result<(), AllocError> {
     push_span(out, read)?;
     out.push_str(" ")?;
-    push_odd(out, alloc, &map, &text[read.start..read.end])?;
-    Ok(())
+    push_odd(out, odd)
 }

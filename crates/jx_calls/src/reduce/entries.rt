@@ -10,19 +10,30 @@ use jx_lines::{LineFault, depth_of, expect_of, holders_of, number_of, push_numbe
 use jx_reduce::{Holder, Level, Reduced, Reductions};
 use std::alloc::{AllocError, Global};
 
-/// The structure of marks, joined at the cut of a word, if there is one.
+/// The structure of the marks that a word spells, joined at the cut of another word, if there is one.
 fn structure_by(
     alloc: Global,
-    marks: &[Mark],
-    depth: Depth,
+    depth: &str,
+    marks: &str,
     cut: Option<&&str>,
+) -> Result<Reductions, LineFault> {
+    let depth = depth_of(depth)?;
+    let marks = marks_of(alloc, marks)?;
+    match cut {
+        Some(cut) => joined_by(alloc, &marks, number_of(cut)?, depth),
+        None => Ok(structure_of(alloc, &marks, depth, Maker::AtOnce)?),
+    }
+}
+
+/// The structures of the marks in front of a cut and behind it, joined, if there are so many marks.
+fn joined_by(
+    alloc: Global,
+    marks: &[Mark],
+    cut: usize,
+    depth: Depth,
 ) -> Result<Reductions, LineFault>
     requires rising { RisingFrom 0 marks.now }
 {
-    let Some(cut) = cut else {
-        return Ok(structure_of(alloc, marks, depth, Maker::AtOnce)?);
-    };
-    let cut = number_of(cut)?;
     if cut > marks.len() {
         return Err(LineFault::NoSuchCall);
     }
@@ -34,9 +45,9 @@ pub(crate) fn reduce(out: &mut String, alloc: Global, words: &[&str]) -> Result<
     let [depth, expect, marks, cut @ ..] = words else {
         return Err(LineFault::NoSuchCall);
     };
-    let marks = marks_of(alloc, marks)?;
-    let all = structure_by(alloc, &marks, depth_of(depth)?, cut.first())?;
-    push_entry(out, all.entry(expect_of(alloc, expect)?))?;
+    let expect = expect_of(alloc, expect)?;
+    let all = structure_by(alloc, depth, marks, cut.first())?;
+    push_entry(out, all.entry(expect))?;
     Ok(())
 }
 
@@ -99,10 +110,10 @@ pub(crate) fn act(out: &mut String, alloc: Global, words: &[&str]) -> Result<(),
     let [depth, expect, holders, marks, cut @ ..] = words else {
         return Err(LineFault::NoSuchCall);
     };
-    let marks = marks_of(alloc, marks)?;
-    let all = structure_by(alloc, &marks, depth_of(depth)?, cut.first())?;
+    let expect = expect_of(alloc, expect)?;
+    let all = structure_by(alloc, depth, marks, cut.first())?;
     let holders = holders_of(alloc, holders)?;
-    push_act(out, all.entry(expect_of(alloc, expect)?), &holders)
+    push_act(out, all.entry(expect), &holders)
 }
 
 /// The structure of the marks so many bytes further on.
@@ -125,15 +136,30 @@ pub(crate) fn further(out: &mut String, alloc: Global, words: &[&str]) -> Result
     let [by, depth, expect, holders, marks] = words else {
         return Err(LineFault::NoSuchCall);
     };
+    let expect = expect_of(alloc, expect)?;
+    let far = far_structure_by(alloc, by, depth, marks)?;
+    let holders = holders_of(alloc, holders)?;
+    push_far(out, far.entry(expect), &holders)
+}
+
+/// The structure of the marks that a word spells, so many bytes further on.
+fn far_structure_by(
+    alloc: Global,
+    by: &str,
+    depth: &str,
+    marks: &str,
+) -> Result<Reductions, LineFault> {
+    let depth = depth_of(depth)?;
     let by = number_of(by)?;
     if by >= 4294967296 {
         return Err(LineFault::NoSuchCall);
     }
     let marks = marks_of(alloc, marks)?;
-    let far = further_on(alloc, &marks, depth_of(depth)?, by)?;
-    let holders = holders_of(alloc, holders)?;
-    let entry = far.entry(expect_of(alloc, expect)?);
-    push_act(out, entry, &holders)?;
+    Ok(further_on(alloc, &marks, depth, by)?)
+}
+
+fn push_far(out: &mut String, entry: &Reduced, holders: &[Holder]) -> Result<(), LineFault> {
+    push_act(out, entry, holders)?;
     out.push_str("; heights ")?;
     push_numbers(out, entry.heights())?;
     Ok(())

@@ -4,7 +4,7 @@ ghost use Rattle.jx_reduce.specs.Offsets.{RisingFrom};
 
 use crate::reduce::marks::marks_of;
 use crate::reduce::structures::{Maker, joined_at};
-use crate::reduce::table::{EXPECTS, holder_lists, read_by_table};
+use crate::reduce::table::{EXPECTS, HOLDER_LISTS, read_by_table};
 use jx_lex::{Depth, Mark};
 use jx_lines::{LineFault, depth_of};
 use jx_reduce::{Expect, Holder, Reduced, Reductions};
@@ -17,7 +17,7 @@ fn is_entry_as_table(
     marks: &[Mark],
     expect: Expect,
 ) -> Result<bool, AllocError> {
-    for holders in holder_lists() {
+    for holders in &HOLDER_LISTS {
         if !is_over_as_table(alloc, entry, marks, expect, holders)? {
             return Ok(false);
         }
@@ -43,8 +43,8 @@ fn is_over_as_table(
 
 /// Whether the structure answers as the table does, from each expectation.
 fn is_as_table(alloc: Global, all: &Reductions, marks: &[Mark]) -> Result<bool, AllocError> {
-    for expect in EXPECTS {
-        if !is_entry_as_table(alloc, all.entry(expect), marks, expect)? {
+    for expect in &EXPECTS {
+        if !is_entry_as_table(alloc, all.entry(*expect), marks, *expect)? {
             return Ok(false);
         }
     }

@@ -1,16 +1,16 @@
 // What the entries and exits of runs come to.
 ghost use Rattle.std.specs.Prelude.{◌≡◌, ◌≤◌, length};
 
-use crate::lex::track::{Track, push_exit};
+use crate::lex::track::{push_exit, push_track};
 use crate::reduce::outcomes::push_outcome;
 use crate::run::joins::from_left;
-use jx_lex::{Depth, LexExit, LexState};
+use jx_lex::{Depth, LexExit, LexState, Span};
 use jx_lines::{
     LineFault, Ways, bytes_of, depth_of, expect_of, holders_of, number_of, push_span, push_verdict,
     state_of,
 };
 use jx_reduce::{Expect, Holder, Reduced};
-use jx_run::{OutcomeRun, Started, Summary, TextRun};
+use jx_run::{OutcomeRun, Started, Summary, TextRun, Verdict};
 use std::alloc::{AllocError, Global};
 
 /// The exit, how many levels the entry has, and what it comes to over these open containers.
@@ -107,28 +107,21 @@ pub(crate) fn started(out: &mut String, alloc: Global, words: &[&str]) -> Result
     };
     let text = bytes_of(alloc, text)?;
     let run = from_left::<TextRun>(alloc, &text, depth_of(depth)?)?;
-    let started = run.started()?;
+    push_run(out, &run)?;
+    Ok(())
+}
+
+fn push_run(out: &mut String, run: &TextRun) -> Result<(), AllocError> {
+    push_started(out, &run.started()?, run.exit(LexState::Gap))
+}
+
+fn push_started(out: &mut String, started: &Started, exit: LexExit) -> Result<(), AllocError> {
     push_verdict(out, started.verdict())?;
     out.push_str("; ")?;
     push_span(out, started.span())?;
     let depth = started.depth().containers();
     write!(out, "; depth {depth}; ")?;
-    push_track(out, alloc, &started, run.exit(LexState::Gap))
-}
-
-fn push_track(
-    out: &mut String,
-    alloc: Global,
-    started: &Started,
-    exit: LexExit,
-) -> Result<(), LineFault> {
-    let track = Track {
-        marks: Vec::from_slice(alloc, started.marks())?,
-        ends: Vec::from_slice(alloc, started.ends())?,
-        exit,
-    };
-    track.push_to(out)?;
-    Ok(())
+    push_track(out, started.marks(), started.ends(), exit)
 }
 
 /// The run over a text, so many bytes further on.
@@ -147,10 +140,19 @@ pub(crate) fn moved(out: &mut String, alloc: Global, words: &[&str]) -> Result<(
     };
     let text = bytes_of(alloc, text)?;
     let run = moved_by(alloc, &text, depth_of(depth)?, number_of(by)?)?;
-    push_span(out, run.span())?;
-    out.push_str("; ")?;
-    push_exit(out, run.exit(LexState::Gap))?;
-    out.push_str("; ")?;
-    push_verdict(out, run.verdict())?;
+    push_moved(out, run.span(), run.exit(LexState::Gap), run.verdict())?;
     Ok(())
+}
+
+fn push_moved(
+    out: &mut String,
+    span: Span,
+    exit: LexExit,
+    verdict: Verdict,
+) -> Result<(), AllocError> {
+    push_span(out, span)?;
+    out.push_str("; ")?;
+    push_exit(out, exit)?;
+    out.push_str("; ")?;
+    push_verdict(out, verdict)
 }

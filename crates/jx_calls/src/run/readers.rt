@@ -7,6 +7,9 @@ use std::alloc::{AllocError, Global};
 /// How many bytes a line may have a reader read, and at most where it starts.
 const FAR: usize = 1 << 40;
 
+/// Of how many bytes the slices are that a reader is fed.
+const SIZES: [usize; 4] = [1, 2, 3, 100];
+
 /// Feeds a text by slices of so many bytes, and gives the verdict.
 fn fed(reader: &mut Reader, text: &[u8], size: usize) -> Result<Verdict, AllocError> {
     for slice in text.chunks(size.max(1)) {
@@ -25,17 +28,30 @@ pub(crate) fn push_fed(
     depth: Depth,
 ) -> Result<(), AllocError> {
     let mut reader = Reader::new(alloc, depth, 0);
-    for size in [1usize, 2, 3, 100] {
-        reader.reset(0);
-        let mut told = String::new(alloc);
-        push_verdict(&mut told, fed(&mut reader, text, size)?)?;
-        if reader.end() != text.len() || reader.depth() != depth {
-            told.push_str(", elsewhere")?;
-        }
+    for size in &SIZES {
+        let told = fed_from_start(alloc, &mut reader, text, *size)?;
         let way = format!(in alloc; "by slices of {size}")?;
         ways.add(way.as_str(), told)?;
     }
     Ok(())
+}
+
+/// Feeds a text from its start by slices of so many bytes, and tells the verdict.
+fn fed_from_start(
+    alloc: Global,
+    reader: &mut Reader,
+    text: &[u8],
+    size: usize,
+) -> Result<String, AllocError> {
+    let depth = reader.depth();
+    reader.reset(0);
+    let verdict = fed(reader, text, size)?;
+    let mut told = String::new(alloc);
+    push_verdict(&mut told, verdict)?;
+    if reader.end() != text.len() || reader.depth() != depth {
+        told.push_str(", elsewhere")?;
+    }
+    Ok(told)
 }
 
 /// Begins at an offset, or goes on where the word is `-`.
@@ -60,10 +76,22 @@ pub(crate) fn reader(out: &mut String, alloc: Global, words: &[&str]) -> Result<
             return Err(LineFault::NoSuchCall);
         };
         begin(&mut reader, start)?;
-        let text = bytes_of(alloc, text)?;
-        let verdict = fed(&mut reader, &text, size)?;
-        push_read(out, verdict, reader.end())?;
+        read_next(out, alloc, &mut reader, text, size)?;
     }
+    Ok(())
+}
+
+/// Feeds the text of a word, and tells the verdict and the end.
+fn read_next(
+    out: &mut String,
+    alloc: Global,
+    reader: &mut Reader,
+    text: &str,
+    size: usize,
+) -> Result<(), LineFault> {
+    let text = bytes_of(alloc, text)?;
+    let verdict = fed(reader, &text, size)?;
+    push_read(out, verdict, reader.end())?;
     Ok(())
 }
 
