@@ -1,16 +1,26 @@
-/* Checks whether bytes are a JSON text (RFC 8259), and tells at which byte they stop being one.
+/* Checks whether bytes are a JSON text (RFC 8259), and tells at which byte they stop being one. Version 0.2.0.
  *
  * Every call returns a status. Any status but JX_OK leaves the caller's structs unchanged. Offsets and sizes count bytes,
  * depths count containers.
  *
  * Ownership: the caller owns all memory that it passes, and no call but jx_index_new keeps a pointer to it. A document and an
  * index are memory of the library: what its calls that end in _new take, those that end in _free give back. A pointer must
- * not be null, not even one to bytes with the size 0, but in the calls on documents and indexes, which answer it. What a call
- * writes to must not overlap anything else that it is passed.
+ * not be null, not even one to bytes with the size 0, but for settings, and in the calls on documents and indexes, which answer
+ * it. What a call writes to must not overlap anything else that it is passed.
  *
  * Threads: calls share no state, so any number of threads may call at once, each with its own structs. One call at a time
  * may use a struct that it writes to, a document or an index. No call starts a thread or waits for one. Do not call from a signal
  * handler.
+ *
+ * Names that end in _non_null are what the library exports for the call below them, which answers null pointers: call that one.
+ * Only a language that does not read this header declares them, and passes no null pointer.
+ *
+ * Since 0.1.0 each call has one name, and its settings may be null:
+ *   jx_check, jx_rows, jx_at and jx_elements took a depth, and take settings: {depth, 0} says the same.
+ *   jx_check_with, jx_rows_with, jx_at_with and jx_elements_with are these calls now.
+ *   jx_reader_start took a depth, and takes settings; jx_reader_start_with is this call now.
+ *   jx_at_all, jx_index_new and jx_document_new take null settings too.
+ * Look for a depth that is written 0 or NULL: as settings, it stands for the default depth.
  */
 #ifndef JX_H
 #define JX_H
@@ -58,11 +68,17 @@ enum {
     JX_UNIQUE_NAMES = 2
 };
 
-/* Settings of the calls whose names end in _with. With flags 0 they do what the calls that take a depth do. */
+/* What a call holds a text to. Null in place of settings stands for {JX_DEPTH_DEFAULT, 0}. */
 typedef struct jx_settings {
     uint32_t depth; /* how many containers may be open at once, at most JX_DEPTH_MAX */
     uint32_t flags; /* the sum of flags, 0 for none */
 } jx_settings;
+
+/* The settings that null stands for, or those that are passed. */
+static inline const jx_settings *jx_settings_or_default(const jx_settings *settings) {
+    static const jx_settings usual = {JX_DEPTH_DEFAULT, 0};
+    return settings == NULL ? &usual : settings;
+}
 
 /* Kinds of verdicts. Elements of sequences have two more. */
 enum {
@@ -78,17 +94,16 @@ typedef struct jx_verdict {
     uint32_t kind; /* JX_ACCEPTED .. JX_REPEATED_NAME */
 } jx_verdict;
 
+uint32_t jx_check_non_null(const uint8_t *text, size_t size, const jx_settings *settings, jx_verdict *verdict);
+
 /* Checks whether the bytes are a JSON text (RFC 8259, section 2). The offset of a refusal is the length of the longest
  * beginning of a text.
  *
- * Allocates nothing. Returns JX_OK or JX_DEPTH_TOO_GREAT. */
-uint32_t jx_check(const uint8_t *text, size_t size, uint32_t depth, jx_verdict *verdict);
-
-/* Does the same by settings.
- *
  * Allocates nothing without JX_UNIQUE_NAMES; with it, memory in proportion to the names of the objects that are open at
  * once, freed before the call returns. Returns JX_OK, JX_DEPTH_TOO_GREAT, JX_UNKNOWN_FLAG, or JX_NO_MEMORY with JX_UNIQUE_NAMES. */
-uint32_t jx_check_with(const uint8_t *text, size_t size, const jx_settings *settings, jx_verdict *verdict);
+static inline uint32_t jx_check(const uint8_t *text, size_t size, const jx_settings *settings, jx_verdict *verdict) {
+    return jx_check_non_null(text, size, jx_settings_or_default(settings), verdict);
+}
 
 /* Reads a text slice by slice. Its size is fixed, and it keeps no byte of the text. The words are private to the library. A
  * started reader may be copied. It needs no cleanup. */
@@ -96,16 +111,15 @@ typedef struct jx_reader {
     uint64_t words[1031];
 } jx_reader;
 
-/* Starts a text, whatever the reader held.
- *
- * Allocates nothing. Returns JX_OK or JX_DEPTH_TOO_GREAT. */
-uint32_t jx_reader_start(jx_reader *reader, uint32_t depth);
+uint32_t jx_reader_start_non_null(jx_reader *reader, const jx_settings *settings);
 
-/* Does the same by settings. Slices may cut an ignored byte order mark anywhere. A reader keeps no names, so it refuses
- * JX_UNIQUE_NAMES.
+/* Starts a text, whatever the reader held. Slices may cut an ignored byte order mark anywhere. A reader keeps no names, so it
+ * refuses JX_UNIQUE_NAMES.
  *
  * Allocates nothing. Returns JX_OK, JX_DEPTH_TOO_GREAT, JX_UNKNOWN_FLAG or JX_NO_UNIQUE_NAMES. */
-uint32_t jx_reader_start_with(jx_reader *reader, const jx_settings *settings);
+static inline uint32_t jx_reader_start(jx_reader *reader, const jx_settings *settings) {
+    return jx_reader_start_non_null(reader, jx_settings_or_default(settings));
+}
 
 /* Feeds the next bytes of the text. Bytes behind a fault are counted, not read. A slice may have any size, including 0, and
  * may end anywhere, including inside a character.
@@ -113,8 +127,8 @@ uint32_t jx_reader_start_with(jx_reader *reader, const jx_settings *settings);
  * Allocates nothing. Returns JX_OK, JX_NOT_STARTED or JX_TOO_MANY_BYTES. */
 uint32_t jx_reader_feed(jx_reader *reader, const uint8_t *bytes, size_t size);
 
-/* Gives the verdict on all bytes fed so far, as one text: that of jx_check, or of jx_check_with after
- * jx_reader_start_with. Offsets count from the first byte fed. The reader may be fed on.
+/* Gives the verdict on all bytes fed so far, as one text: that of jx_check by the reader's settings. Offsets count from the
+ * first byte fed. The reader may be fed on.
  *
  * Allocates nothing. Returns JX_OK or JX_NOT_STARTED. */
 uint32_t jx_reader_verdict(const jx_reader *reader, jx_verdict *verdict);
@@ -161,18 +175,19 @@ typedef struct jx_answer {
     uint32_t kind;    /* JX_OBJECT .. JX_NULL; 0 if nothing was found */
 } jx_answer;
 
+uint32_t jx_at_non_null(const uint8_t *text, size_t size, const uint8_t *pointer, size_t pointer_size,
+                        const jx_settings *settings, jx_answer *answer);
+
 /* Finds the value that a JSON Pointer (RFC 6901) names in a JSON text. A malformed pointer is reported before the text is
  * read.
  *
- * Reads the text once. Allocates memory in proportion to the pointer and to how deep the text nests, and frees it. Returns
- * JX_OK, JX_NO_MEMORY or JX_DEPTH_TOO_GREAT. */
-uint32_t jx_at(const uint8_t *text, size_t size, const uint8_t *pointer, size_t pointer_size, uint32_t depth, jx_answer *answer);
-
-/* Does the same by settings. With JX_UNIQUE_NAMES it reads the text twice, and allocates as jx_check_with does.
- *
- * Returns JX_OK, JX_NO_MEMORY, JX_DEPTH_TOO_GREAT or JX_UNKNOWN_FLAG. */
-uint32_t jx_at_with(const uint8_t *text, size_t size, const uint8_t *pointer, size_t pointer_size, const jx_settings *settings,
-                    jx_answer *answer);
+ * Reads the text once, or twice with JX_UNIQUE_NAMES. Allocates memory in proportion to the pointer and to how deep the text
+ * nests, with JX_UNIQUE_NAMES also what jx_check does, and frees it. Returns JX_OK, JX_NO_MEMORY, JX_DEPTH_TOO_GREAT or
+ * JX_UNKNOWN_FLAG. */
+static inline uint32_t jx_at(const uint8_t *text, size_t size, const uint8_t *pointer, size_t pointer_size,
+                             const jx_settings *settings, jx_answer *answer) {
+    return jx_at_non_null(text, size, pointer, pointer_size, jx_settings_or_default(settings), answer);
+}
 
 /* The bytes of a pointer. */
 typedef struct jx_pointer {
@@ -180,14 +195,19 @@ typedef struct jx_pointer {
     size_t size;
 } jx_pointer;
 
-/* Finds the values that many pointers name in one text, each as jx_at_with does. Writes as many answers as fit, in the order
- * of the pointers, and leaves the rest of `answers` unchanged. `pointers` and `answers` must not be null.
+uint32_t jx_at_all_non_null(const uint8_t *text, size_t size, const jx_settings *settings, const jx_pointer *pointers,
+                            size_t count, jx_answer *answers, size_t room);
+
+/* Finds the values that many pointers name in one text, each as jx_at does. Writes as many answers as fit, in the order of the
+ * pointers, and leaves the rest of `answers` unchanged. `pointers` and `answers` must not be null.
  *
- * Reads the text once, and indexes it unless there is only one pointer. Allocates memory in proportion to the count of its
- * values and frees it; for one pointer as jx_at_with does. Returns JX_OK, JX_NO_MEMORY, JX_DEPTH_TOO_GREAT or
- * JX_UNKNOWN_FLAG. */
-uint32_t jx_at_all(const uint8_t *text, size_t size, const jx_settings *settings, const jx_pointer *pointers, size_t count,
-                   jx_answer *answers, size_t room);
+ * Reads the text once for all of them, or twice with JX_UNIQUE_NAMES. Allocates memory in proportion to the pointers and to how
+ * deep the text nests, with JX_UNIQUE_NAMES also what jx_check does, and frees it. Returns JX_OK, JX_NO_MEMORY,
+ * JX_DEPTH_TOO_GREAT or JX_UNKNOWN_FLAG. */
+static inline uint32_t jx_at_all(const uint8_t *text, size_t size, const jx_settings *settings, const jx_pointer *pointers,
+                                 size_t count, jx_answer *answers, size_t room) {
+    return jx_at_all_non_null(text, size, jx_settings_or_default(settings), pointers, count, answers, room);
+}
 
 /* A value of a text. */
 typedef struct jx_row {
@@ -198,19 +218,20 @@ typedef struct jx_row {
     uint32_t kind; /* JX_OBJECT .. JX_NULL */
 } jx_row;
 
-/* Lists all values of a JSON text in the order of their starts. Writes as many rows as fit to `rows` and leaves the rest of
- * it unchanged; writes how many there are to `count`, 0 if the bytes are not a text. A first call with room 0 tells how much
- * room a second one needs; `rows` must not be null in either.
- *
- * Allocates memory in proportion to the count of values and frees it. Returns JX_OK, JX_NO_MEMORY or JX_DEPTH_TOO_GREAT. */
-uint32_t jx_rows(const uint8_t *text, size_t size, uint32_t depth, jx_row *rows, size_t room, size_t *count, jx_verdict *verdict);
+uint32_t jx_rows_non_null(const uint8_t *text, size_t size, const jx_settings *settings, jx_row *rows, size_t room,
+                          size_t *count, jx_verdict *verdict);
 
-/* Does the same by settings. Spans count the bytes of an ignored byte order mark. A text refused for a duplicate name has
- * no rows.
+/* Lists all values of a JSON text in the order of their starts. Writes as many rows as fit to `rows` and leaves the rest of
+ * it unchanged; writes how many there are to `count`, 0 if the text is refused, also for a duplicate name. A first call with
+ * room 0 tells how much room a second one needs; `rows` must not be null in either. Spans count the bytes of an ignored byte
+ * order mark.
  *
- * Returns JX_OK, JX_NO_MEMORY, JX_DEPTH_TOO_GREAT or JX_UNKNOWN_FLAG. */
-uint32_t jx_rows_with(const uint8_t *text, size_t size, const jx_settings *settings, jx_row *rows, size_t room, size_t *count,
-                      jx_verdict *verdict);
+ * Allocates memory in proportion to the count of values and frees it. Returns JX_OK, JX_NO_MEMORY, JX_DEPTH_TOO_GREAT or
+ * JX_UNKNOWN_FLAG. */
+static inline uint32_t jx_rows(const uint8_t *text, size_t size, const jx_settings *settings, jx_row *rows, size_t room,
+                               size_t *count, jx_verdict *verdict) {
+    return jx_rows_non_null(text, size, jx_settings_or_default(settings), rows, room, count, verdict);
+}
 
 /* The index of a text, for many calls over it.
  *
@@ -219,13 +240,12 @@ uint32_t jx_rows_with(const uint8_t *text, size_t size, const jx_settings *setti
  *
  * The index keeps a pointer to the text. Until the index is freed, the text must stay where it is, and nothing may change it.
  *
- * Null pointers are answered, and change nothing: JX_NO_INDEX where `index` is null, else JX_NULL_POINTER. Bytes of the size
- * 0 may be null. */
+ * Null pointers are answered, and change nothing: JX_NO_INDEX where `index` is null, else JX_NULL_POINTER. Settings may be
+ * null, and so may bytes of the size 0. */
 typedef struct jx_index {
     void *inside;
 } jx_index;
 
-/* What the library exports: the calls below, for pointers of which none is null. Call those. */
 uint32_t jx_index_new_non_null(const uint8_t *text, size_t size, const jx_settings *settings, jx_index *index, jx_verdict *verdict);
 uint32_t jx_index_find_non_null(jx_index *index, const uint8_t *pointer, size_t pointer_size, jx_answer *answer);
 uint32_t jx_index_row_non_null(jx_index *index, size_t number, jx_row *row);
@@ -240,11 +260,11 @@ static inline uint32_t jx_index_new(const uint8_t *text, size_t size, const jx_s
                                     jx_verdict *verdict) {
     static const uint8_t none[1] = {0};
     if (index == NULL) return JX_NO_INDEX;
-    if (settings == NULL || verdict == NULL || (text == NULL && size != 0)) return JX_NULL_POINTER;
-    return jx_index_new_non_null(text == NULL ? none : text, size, settings, index, verdict);
+    if (verdict == NULL || (text == NULL && size != 0)) return JX_NULL_POINTER;
+    return jx_index_new_non_null(text == NULL ? none : text, size, jx_settings_or_default(settings), index, verdict);
 }
 
-/* Finds the value that a JSON Pointer (RFC 6901) names, as jx_at_with does by the settings of the index. In an object it
+/* Finds the value that a JSON Pointer (RFC 6901) names, as jx_at does by the settings of the index. In an object it
  * looks at as many names as a binary search needs, in an array at one element.
  *
  * Allocates nothing. Returns JX_OK, JX_NO_INDEX or JX_NULL_POINTER. */
@@ -283,22 +303,23 @@ typedef struct jx_element {
     jx_verdict verdict; /* JX_ACCEPTED .. JX_REPEATED_NAME; offsets count from the sequence's start */
 } jx_element;
 
+uint32_t jx_elements_non_null(const uint8_t *sequence, size_t size, const jx_settings *settings, jx_element *elements,
+                              size_t room, size_t *count);
+
 /* Lists all elements of a JSON text sequence (RFC 7464, section 2.1) in order, each with its verdict. Writes as many as fit
  * to `elements` and leaves the rest of it unchanged; writes how many there are to `count`. A record separator is the byte
  * 1E. There is no element between two in a row, nor behind one at the end, so there is at most one more element than record
- * separators. A first call with room 0 tells how many; `elements` must not be null in either.
+ * separators. A first call with room 0 tells how many; `elements` must not be null in either. JX_IGNORE_MARK skips a byte
+ * order mark that is alone before the first record separator; in an element a mark is refused. JX_UNIQUE_NAMES refuses an
+ * element at its first duplicate name.
  *
- * Allocates memory in proportion to the count of elements and to the sizes of the first and the last one, and frees it.
- * Returns JX_OK, JX_NO_MEMORY or JX_DEPTH_TOO_GREAT. */
-uint32_t jx_elements(const uint8_t *sequence, size_t size, uint32_t depth, jx_element *elements, size_t room, size_t *count);
-
-/* Does the same by settings. JX_IGNORE_MARK skips a byte order mark that is alone before the first record separator; in an
- * element a mark is refused. JX_UNIQUE_NAMES refuses an element at its first duplicate name, and allocates memory in
- * proportion to the names of the objects that are open at once.
- *
- * Returns JX_OK, JX_NO_MEMORY, JX_DEPTH_TOO_GREAT or JX_UNKNOWN_FLAG. */
-uint32_t jx_elements_with(const uint8_t *sequence, size_t size, const jx_settings *settings, jx_element *elements, size_t room,
-                          size_t *count);
+ * Allocates memory in proportion to the count of elements and to the sizes of the first and the last one, with JX_UNIQUE_NAMES
+ * also to the names of the objects that are open at once, and frees it. Returns JX_OK, JX_NO_MEMORY, JX_DEPTH_TOO_GREAT or
+ * JX_UNKNOWN_FLAG. */
+static inline uint32_t jx_elements(const uint8_t *sequence, size_t size, const jx_settings *settings, jx_element *elements,
+                                   size_t room, size_t *count) {
+    return jx_elements_non_null(sequence, size, jx_settings_or_default(settings), elements, room, count);
+}
 
 /* A text that is edited, and the verdict on all of it after each edit (RFC 8259). An edit and its verdict read what is near
  * the edit, not the whole text.
@@ -307,13 +328,12 @@ uint32_t jx_elements_with(const uint8_t *sequence, size_t size, const jx_setting
  * Free it once. It may be moved, also to another thread. Do not use a copy of it after a call on another copy: a copy that is
  * used, or freed, once the document was freed leads to memory that is gone.
  *
- * Null pointers are answered, and change nothing: JX_NO_DOCUMENT where `document` is null, else JX_NULL_POINTER. Bytes of
- * the size 0 may be null. */
+ * Null pointers are answered, and change nothing: JX_NO_DOCUMENT where `document` is null, else JX_NULL_POINTER. Settings may
+ * be null, and so may bytes of the size 0. */
 typedef struct jx_document {
     void *inside;
 } jx_document;
 
-/* What the library exports: the calls below, for pointers of which none is null. Call those. */
 uint32_t jx_document_new_non_null(const uint8_t *text, size_t size, const jx_settings *settings, jx_document *document);
 uint32_t jx_document_edit_non_null(jx_document *document, size_t start, size_t end, const uint8_t *replacement, size_t size);
 uint32_t jx_document_verdict_non_null(jx_document *document, jx_verdict *verdict);
@@ -329,8 +349,8 @@ void jx_document_free_non_null(jx_document *document);
 static inline uint32_t jx_document_new(const uint8_t *text, size_t size, const jx_settings *settings, jx_document *document) {
     static const uint8_t none[1] = {0};
     if (document == NULL) return JX_NO_DOCUMENT;
-    if (settings == NULL || (text == NULL && size != 0)) return JX_NULL_POINTER;
-    return jx_document_new_non_null(text == NULL ? none : text, size, settings, document);
+    if (text == NULL && size != 0) return JX_NULL_POINTER;
+    return jx_document_new_non_null(text == NULL ? none : text, size, jx_settings_or_default(settings), document);
 }
 
 /* Puts `size` other bytes in the place of those from `start` up to, but not including, `end`. Offsets count the bytes of an
@@ -346,7 +366,7 @@ static inline uint32_t jx_document_edit(jx_document *document, size_t start, siz
     return jx_document_edit_non_null(document, start, end, replacement == NULL ? none : replacement, size);
 }
 
-/* Gives the verdict on all bytes, as one text: that of jx_check_with by the document's settings. Takes up what edits changed
+/* Gives the verdict on all bytes, as one text: that of jx_check by the document's settings. Takes up what edits changed
  * since the last verdict, so there may be several edits before one.
  *
  * May allocate. Returns JX_OK, JX_NO_MEMORY, JX_NO_DOCUMENT or JX_NULL_POINTER. */
@@ -412,14 +432,14 @@ uint32_t jx_run_of(const uint8_t *part, size_t size, uint64_t from, uint32_t dep
 uint32_t jx_run_join(const uint8_t *left, size_t left_size, const uint8_t *right, size_t right_size, uint8_t *run, size_t room,
                      size_t *run_size);
 
-/* Gives the verdict on the run's bytes as a whole text, that of jx_check on them. They must be those from `start` up to, but
- * not including, `end`: so a part that was lost is told, and no verdict is given on less than the text. Offsets count from
- * the text's start. A run that was made with JX_NO_FROM starts at 0.
+/* Gives the verdict on the run's bytes as a whole text, that of jx_check by the run's depth and no flag. They must be those from
+ * `start` up to, but not including, `end`: so a part that was lost is told, and no verdict is given on less than the text.
+ * Offsets count from the text's start. A run that was made with JX_NO_FROM starts at 0.
  *
  * Allocates memory in proportion to the run and frees it. Returns JX_OK, JX_NO_MEMORY, JX_NOT_A_RUN or JX_NOT_NEIGHBOURS. */
 uint32_t jx_run_verdict(const uint8_t *run, size_t run_size, size_t start, size_t end, jx_verdict *verdict);
 
-/* Returns the version: 10,000 times its first number, plus 100 times the second, plus the third. 100 is 0.1.0. */
+/* Returns the version: 10,000 times its first number, plus 100 times the second, plus the third. 200 is 0.2.0. */
 uint32_t jx_version(void);
 
 #ifdef __cplusplus

@@ -1,5 +1,5 @@
 #!/usr/bin/env python3
-"""Edits of documents beside jx.verdict, which is jx_check_with, on the bytes that are kept here, and beside json.loads.
+"""Edits of documents beside jx.verdict, which is jx_check, on the bytes that are kept here, and beside json.loads.
 
 Each function is a kind of documents. Prints the last line of tests/*.sh. JX_ROUNDS edits are made at random, 10,000 if left out.
 """

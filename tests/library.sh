@@ -47,7 +47,7 @@ c_programs_come_to_what_the_table_says() {
 
 c_plus_plus_takes_the_header() {
     if command -v g++ >/dev/null; then
-        printf '#include "jx.h"\nint main() { jx_verdict v; return (int)jx_check((const uint8_t *)"1", 1, JX_DEPTH_DEFAULT, &v); }\n' >check.cc
+        printf '#include "jx.h"\nint main() { jx_verdict v; return (int)jx_check((const uint8_t *)"1", 1, NULL, &v); }\n' >check.cc
         same 'C++17 takes the header' '' "$(g++ -std=c++17 -Wall -Wextra -Werror -I"$root/include" check.cc -L"$library" -ljx -o check 2>&1)"
         ./check
         same 'C++17 calls it' 0 $?

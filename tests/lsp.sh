@@ -17,7 +17,7 @@ it_is_there() {
 }
 
 words_are_read() {
-    same 'the version' 'jx-lsp 0.1.0, status 0' "$("$JX_LSP_PROGRAM" --version), status $?"
+    same 'the version' 'jx-lsp 0.2.0, status 0' "$("$JX_LSP_PROGRAM" --version), status $?"
     has 'help' 'Usage: jx-lsp [--stdio]' "$("$JX_LSP_PROGRAM" --help)"
     same 'wrong words' 'jx-lsp: wrong words; see jx-lsp --help, status 2' "$("$JX_LSP_PROGRAM" --port 1 2>&1 </dev/null), status $?"
     same 'no input, as an exit without shutdown' 'status 1' "$("$JX_LSP_PROGRAM" </dev/null; echo "status $?")"

@@ -1,5 +1,5 @@
-"""Looks up lists of 1, 2, 16 and 17 pointers: up to 16 are looked up while a text is read, more in its index. Each list has the answers that
-stand in `pointers` beside this file, with unique names too. Then long pointers, and a list of a million. The last line is `N passed, M failed`."""
+"""Looks up lists of 1, 2, 16 and 17 pointers. Each list has the answers that stand in `pointers` beside this file, with unique names too.
+Then long pointers, and a list of a million. The last line is `N passed, M failed`."""
 import os
 import pathlib
 import re

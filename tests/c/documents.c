@@ -1,4 +1,4 @@
-/* Documents: what each status says, edits beside jx_check_with on the same bytes, and each request for memory refused in turn:
+/* Documents: what each status says, edits beside jx_check on the same bytes, and each request for memory refused in turn:
  * documents FILE. Linked with --wrap=malloc and --wrap=realloc. */
 #include "jx.h"
 
@@ -59,7 +59,7 @@ static int agrees(jx_document *document, const kept *k) {
     size_t size = 99;
     if (jx_document_size(document, &size) != JX_OK || size != k->size) return 0;
     if (jx_document_copy(document, 0, copy, size) != JX_OK || memcmp(copy, k->bytes, size) != 0) return 0;
-    if (jx_check_with(k->bytes, k->size, &k->settings, &wanted) != JX_OK) exit(2);
+    if (jx_check(k->bytes, k->size, &k->settings, &wanted) != JX_OK) exit(2);
     return jx_document_verdict(document, &told) == JX_OK && same(&told, &wanted);
 }
 
@@ -108,7 +108,10 @@ static void null_pointers(void) {
     jx_verdict verdict = {99, 99};
     size_t size = 99;
     jx_document_free(NULL);
-    expect(jx_document_new(bytes("1"), 1, NULL, &document) == JX_NULL_POINTER && document.inside == NULL, "null settings", 0);
+    expect(jx_document_new(bytes("\xEF\xBB\xBF" "1"), 4, NULL, &document) == JX_OK && document.inside != NULL, "null settings", 0);
+    expect(jx_document_verdict(&document, &verdict) == JX_OK && verdict.kind == JX_STOPPED && verdict.offset == 0, "they refuse a mark", 0);
+    jx_document_free(&document);
+    verdict = (jx_verdict){99, 99};
     expect(jx_document_new(NULL, 1, &usual, &document) == JX_NULL_POINTER && document.inside == NULL, "a null text of a byte", 0);
     expect(jx_document_new(NULL, 0, &usual, &document) == JX_OK && document.inside != NULL, "a null text of no byte", 0);
     const uint32_t told[] = {

@@ -47,7 +47,7 @@ static void rows(void) {
     jx_verdict verdict = {77, 99};
     memset(all, 0x5A, sizeof all);
     before = all[5];
-    expect(jx_rows(bytes(text), 17, 3, all, 6, &count, &verdict) == JX_OK && verdict.kind == JX_ACCEPTED, "rows: the verdict");
+    expect(jx_rows(bytes(text), 17, &(jx_settings){3, 0}, all, 6, &count, &verdict) == JX_OK && verdict.kind == JX_ACCEPTED, "rows: the verdict");
     expect(count == 5, "rows: how many, with the root");
     expect(is_row(&all[0], JX_OBJECT, 0, 17, SIZE_MAX, 0, 0, 0), "rows: the root");
     expect(is_row(&all[1], JX_ARRAY, 5, 16, 0, 0, 1, 4), "rows: the array");
@@ -57,19 +57,19 @@ static void rows(void) {
     expect(memcmp(&all[5], &before, sizeof before) == 0, "rows: behind the last");
     memset(all, 0x5A, sizeof all);
     count = 99;
-    expect(jx_rows(bytes(text), 17, 3, all, 2, &count, &verdict) == JX_OK && count == 5, "rows: room for two");
+    expect(jx_rows(bytes(text), 17, &(jx_settings){3, 0}, all, 2, &count, &verdict) == JX_OK && count == 5, "rows: room for two");
     expect(is_row(&all[1], JX_ARRAY, 5, 16, 0, 0, 1, 4) && memcmp(&all[2], &before, sizeof before) == 0, "rows: two are put");
-    expect(jx_rows(bytes(text), 17, 3, all, 0, &count, &verdict) == JX_OK && count == 5, "rows: no room");
-    expect(jx_rows(bytes(text), 17, 2, all, 6, &count, &verdict) == JX_OK && count == 0 && verdict.kind == JX_TOO_DEEP && verdict.offset == 8, "rows: too deep");
-    expect(jx_rows(bytes("nulx"), 4, 2, all, 6, &count, &verdict) == JX_OK && count == 0 && verdict.kind == JX_STOPPED && verdict.offset == 3, "rows: stopped");
+    expect(jx_rows(bytes(text), 17, &(jx_settings){3, 0}, all, 0, &count, &verdict) == JX_OK && count == 5, "rows: no room");
+    expect(jx_rows(bytes(text), 17, &(jx_settings){2, 0}, all, 6, &count, &verdict) == JX_OK && count == 0 && verdict.kind == JX_TOO_DEEP && verdict.offset == 8, "rows: too deep");
+    expect(jx_rows(bytes("nulx"), 4, &(jx_settings){2, 0}, all, 6, &count, &verdict) == JX_OK && count == 0 && verdict.kind == JX_STOPPED && verdict.offset == 3, "rows: stopped");
     count = 99;
     verdict.kind = 98;
-    expect(jx_rows(bytes(text), 17, 65536, all, 6, &count, &verdict) == JX_DEPTH_TOO_GREAT && count == 99 && verdict.kind == 98, "rows: too great a depth");
+    expect(jx_rows(bytes(text), 17, &(jx_settings){65536, 0}, all, 6, &count, &verdict) == JX_DEPTH_TOO_GREAT && count == 99 && verdict.kind == 98, "rows: too great a depth");
 }
 
 static jx_answer at(const char *in, const char *pointer) {
     jx_answer answer = {{77, 77}, 77, 77, 77};
-    expect(jx_at(bytes(in), strlen(in), bytes(pointer), strlen(pointer), JX_DEPTH_DEFAULT, &answer) == JX_OK, "a pointer is answered");
+    expect(jx_at(bytes(in), strlen(in), bytes(pointer), strlen(pointer), NULL, &answer) == JX_OK, "a pointer is answered");
     return answer;
 }
 
@@ -101,9 +101,9 @@ static void pointers(void) {
     expect(fails("[10,20]", "/\xC3", JX_NOT_UTF8, 0), "no UTF-8");
     expect(fails("[10,2x]", "/1", JX_TEXT_STOPPED, 5), "no text");
     expect(fails("[10,2", "/1", JX_TEXT_TRUNCATED, 0), "half a text");
-    expect(jx_at(bytes("[[]]"), 4, bytes("/0"), 2, 1, &answer) == JX_OK && answer.outcome == JX_TEXT_TOO_DEEP && answer.at == 1, "a deep text");
+    expect(jx_at(bytes("[[]]"), 4, bytes("/0"), 2, &(jx_settings){1, 0}, &answer) == JX_OK && answer.outcome == JX_TEXT_TOO_DEEP && answer.at == 1, "a deep text");
     answer.outcome = 77;
-    expect(jx_at(bytes("1"), 1, bytes(""), 0, 65536, &answer) == JX_DEPTH_TOO_GREAT && answer.outcome == 77, "a pointer at too great a depth");
+    expect(jx_at(bytes("1"), 1, bytes(""), 0, &(jx_settings){65536, 0}, &answer) == JX_DEPTH_TOO_GREAT && answer.outcome == 77, "a pointer at too great a depth");
 }
 
 /* Each request refused in turn: there is no memory, and nothing has changed. */
@@ -117,7 +117,7 @@ static void refusals(void) {
         memset(all, 0x5A, sizeof all);
         memcpy(before, all, sizeof all);
         granted = requests;
-        status = jx_rows(bytes(text), 17, 3, all, 5, &count, &verdict);
+        status = jx_rows(bytes(text), 17, &(jx_settings){3, 0}, all, 5, &count, &verdict);
         granted = -1;
         if (status == JX_OK) break;
         expect(status == JX_NO_MEMORY && memcmp(all, before, sizeof all) == 0 && count == 99 && verdict.kind == 98 && verdict.offset == 77, "rows without memory");
@@ -127,13 +127,13 @@ static void refusals(void) {
     for (uint32_t status = JX_NO_MEMORY; status != JX_OK; requests++) {
         jx_answer answer = {{77, 77}, 77, 77, 77};
         granted = requests;
-        status = jx_at(bytes(text), 17, bytes("/a/1/b"), 6, 3, &answer);
+        status = jx_at(bytes(text), 17, bytes("/a/1/b"), 6, &(jx_settings){3, 0}, &answer);
         granted = -1;
         expect(status == JX_OK ? answer.outcome == JX_FOUND : status == JX_NO_MEMORY && answer.outcome == 77 && answer.at == 77, "a pointer without memory");
     }
     jx_verdict verdict;
     granted = 0;
-    expect(jx_check(bytes(text), 17, 3, &verdict) == JX_OK && verdict.kind == JX_ACCEPTED, "a check takes no memory");
+    expect(jx_check(bytes(text), 17, &(jx_settings){3, 0}, &verdict) == JX_OK && verdict.kind == JX_ACCEPTED, "a check takes no memory");
     granted = -1;
 }
 
@@ -141,7 +141,7 @@ int main(void) {
     rows();
     pointers();
     refusals();
-    expect(jx_version() == 100, "the version");
+    expect(jx_version() == 200, "the version");
     printf("indexed: %d passed, %d failed\n", passed, failed);
     return failed != 0;
 }

@@ -1,4 +1,4 @@
-/* Many pointers at once, and indexes that are kept: beside jx_at_with and jx_rows_with on the same bytes, what each status says,
+/* Many pointers at once, and indexes that are kept: beside jx_at and jx_rows on the same bytes, what each status says,
  * and each request for memory refused in turn. Linked with --wrap=malloc and --wrap=realloc. */
 #include "jx.h"
 
@@ -11,7 +11,8 @@ void *__real_realloc(void *block, size_t size);
 void *__wrap_malloc(size_t size);
 void *__wrap_realloc(void *block, size_t size);
 
-enum { COUNT = 16, ROOM = 64 };
+/* How many pointers there are, and as many again, each of which there is twice. */
+enum { COUNT = 16, MANY = 2 * COUNT, ROOM = 64 };
 
 static int passed;
 static int failed;
@@ -59,17 +60,18 @@ static int is_same_row(const jx_row *a, const jx_row *b) {
            a->name.end == b->name.end && a->parent == b->parent && a->place == b->place;
 }
 
-static void fill(jx_pointer *pointers) {
-    for (size_t at = 0; at < COUNT; at++) {
-        pointers[at].bytes = bytes(spelt[at]);
-        pointers[at].size = strlen(spelt[at]);
+static void fill(jx_pointer *pointers, size_t count) {
+    for (size_t at = 0; at < count; at++) {
+        pointers[at].bytes = bytes(spelt[at % COUNT]);
+        pointers[at].size = strlen(spelt[at % COUNT]);
     }
 }
 
-/* One text by one sum of flags: the answers are those of jx_at_with, the rows those of jx_rows_with. */
+/* One text by one sum of flags: the answers are those of jx_at, the rows those of jx_rows. */
 static void one_text(const char *text, const jx_settings *settings, size_t line) {
-    jx_pointer pointers[COUNT];
+    jx_pointer pointers[MANY];
     jx_answer answers[COUNT + 1];
+    jx_answer many[MANY];
     jx_answer before;
     jx_row rows[ROOM];
     jx_verdict verdict = {77, 99};
@@ -77,12 +79,14 @@ static void one_text(const char *text, const jx_settings *settings, size_t line)
     jx_index index = {0};
     size_t count = 99;
     const size_t size = strlen(text);
-    fill(pointers);
+    fill(pointers, MANY);
     memset(answers, 0x5A, sizeof answers);
     before = answers[COUNT];
     expect(jx_at_all(bytes(text), size, settings, pointers, COUNT, answers, COUNT + 1) == JX_OK, "many pointers are answered", line);
     expect(is_same(&answers[COUNT], &before), "the rest of the buffer is as it was", line);
-    expect(jx_check_with(bytes(text), size, settings, &verdict) == JX_OK, "the text is checked", line);
+    expect(jx_at_all(bytes(text), size, settings, pointers, MANY, many, MANY) == JX_OK, "more pointers are answered", line);
+    expect(jx_at_all(bytes(text), size, settings, pointers, COUNT + 1, answers, COUNT) == JX_OK, "one more pointer than answers", line);
+    expect(jx_check(bytes(text), size, settings, &verdict) == JX_OK, "the text is checked", line);
     expect(jx_index_new(bytes(text), size, settings, &index, &told) == JX_OK, "an index is made, or none", line);
     expect(told.kind == verdict.kind && told.offset == verdict.offset, "its verdict is that of a check", line);
     expect((index.inside != NULL) == (verdict.kind == JX_ACCEPTED), "there is an index exactly of a text", line);
@@ -90,15 +94,16 @@ static void one_text(const char *text, const jx_settings *settings, size_t line)
         jx_answer wanted = {{77, 77}, 77, 77, 77};
         jx_answer found = {{77, 77}, 77, 77, 77};
         jx_answer alone = {{77, 77}, 77, 77, 77};
-        if (jx_at_with(bytes(text), size, pointers[at].bytes, pointers[at].size, settings, &wanted) != JX_OK) exit(2);
+        if (jx_at(bytes(text), size, pointers[at].bytes, pointers[at].size, settings, &wanted) != JX_OK) exit(2);
         expect(is_same(&answers[at], &wanted), "among many, a pointer is answered as alone", line * 100 + at);
+        expect(is_same(&many[at], &wanted) && is_same(&many[COUNT + at], &wanted), "among more, too", line * 100 + at);
         expect(jx_at_all(bytes(text), size, settings, &pointers[at], 1, &alone, 1) == JX_OK && is_same(&alone, &wanted), "one of one", line * 100 + at);
         if (index.inside != NULL) {
             expect(jx_index_find(&index, pointers[at].bytes, pointers[at].size, &found) == JX_OK, "an index answers", line * 100 + at);
             expect(is_same(&found, &wanted), "an index answers the same", line * 100 + at);
         }
     }
-    if (jx_rows_with(bytes(text), size, settings, rows, ROOM, &count, &told) != JX_OK || count > ROOM) exit(2);
+    if (jx_rows(bytes(text), size, settings, rows, ROOM, &count, &told) != JX_OK || count > ROOM) exit(2);
     for (size_t at = 0; at < count; at++) {
         jx_row row;
         expect(jx_index_row(&index, at, &row) == JX_OK && is_same_row(&row, &rows[at]), "a row", line * 100 + at);
@@ -120,7 +125,7 @@ static void answers_by_hand(void) {
         {{0, 51}, 0, JX_FOUND, JX_OBJECT}, {{5, 16}, 0, JX_FOUND, JX_ARRAY}, {{13, 14}, 0, JX_FOUND, JX_NUMBER}, {{0, 0}, 3, JX_NOT_A_CONTAINER, 0},
         {{20, 24}, 0, JX_FOUND, JX_NULL},  {{31, 35}, 0, JX_FOUND, JX_TRUE}, {{42, 50}, 0, JX_FOUND, JX_STRING}, {{0, 0}, 0, JX_NO_SUCH_MEMBER, 0},
     };
-    fill(pointers);
+    fill(pointers, COUNT);
     memset(answers, 0x5A, sizeof answers);
     expect(jx_at_all(bytes(texts[0]), strlen(texts[0]), &usual, pointers, COUNT, answers, COUNT) == JX_OK, "many pointers", 0);
     for (size_t at = 0; at < sizeof wanted / sizeof wanted[0]; at++) {
@@ -137,7 +142,7 @@ static void buffers(void) {
     jx_pointer pointers[COUNT];
     jx_answer answers[COUNT];
     jx_answer before;
-    fill(pointers);
+    fill(pointers, COUNT);
     memset(answers, 0x5A, sizeof answers);
     before = answers[2];
     expect(jx_at_all(bytes("[1]"), 3, &usual, pointers, COUNT, answers, 2) == JX_OK, "room for two", 0);
@@ -170,7 +175,8 @@ static void statuses(void) {
     expect(jx_index_new(bytes("1"), 1, &usual, NULL, &verdict) == JX_NO_INDEX && jx_index_new(NULL, 1, NULL, NULL, NULL) == JX_NO_INDEX, "a null index", 0);
     expect(jx_index_find(NULL, bytes(""), 0, &answer) == JX_NO_INDEX && jx_index_row(NULL, 0, &row) == JX_NO_INDEX, "a null index", 1);
     expect(jx_index_new(NULL, 1, &usual, &index, &verdict) == JX_NULL_POINTER, "a null text of a byte", 0);
-    expect(jx_index_new(bytes("1"), 1, NULL, &index, &verdict) == JX_NULL_POINTER, "null settings", 0);
+    expect(jx_index_new(bytes("\xEF\xBB\xBF" "1"), 4, NULL, &index, &verdict) == JX_OK && verdict.kind == JX_STOPPED && verdict.offset == 0, "null settings", 0);
+    verdict = (jx_verdict){77, 99};
     expect(jx_index_new(bytes("1"), 1, &usual, &index, NULL) == JX_NULL_POINTER && index.inside == NULL && verdict.kind == 99, "a null verdict", 0);
     expect(jx_index_new(NULL, 0, &usual, &index, &verdict) == JX_OK && index.inside == NULL && verdict.kind == JX_TRUNCATED, "a null text of no byte", 0);
     expect(jx_index_new(bytes("[1]"), 3, &usual, &index, &verdict) == JX_OK && index.inside != NULL && verdict.kind == JX_ACCEPTED, "an index", 0);
@@ -189,28 +195,33 @@ static void statuses(void) {
 static void refusals(void) {
     const jx_settings settings[] = {{JX_DEPTH_DEFAULT, 0}, {JX_DEPTH_DEFAULT, JX_UNIQUE_NAMES}};
     static const char *const text = "{\"a\":[1,{\"b\":2}],\"c\":{\"d\":[],\"e\":[[3]]}}";
-    jx_pointer pointers[COUNT];
-    jx_answer answers[COUNT];
-    jx_answer before[COUNT];
-    fill(pointers);
-    for (size_t at = 0; at < 2; at++) {
+    const size_t counts[] = {COUNT, MANY};
+    jx_pointer pointers[MANY];
+    jx_answer answers[MANY];
+    jx_answer before[MANY];
+    fill(pointers, MANY);
+    for (size_t both = 0; both < 4; both++) {
+        const size_t at = both % 2;
+        const size_t count = counts[both / 2];
         long nth = 0;
         for (uint32_t status = JX_NO_MEMORY; status != JX_OK; nth++) {
             memset(answers, 0x5A, sizeof answers);
             memcpy(before, answers, sizeof answers);
             granted = nth;
-            status = jx_at_all(bytes(text), strlen(text), &settings[at], pointers, COUNT, answers, COUNT);
+            status = jx_at_all(bytes(text), strlen(text), &settings[at], pointers, count, answers, count);
             granted = -1;
             if (status == JX_OK) break;
             expect(status == JX_NO_MEMORY && memcmp(answers, before, sizeof answers) == 0, "many pointers without memory", (size_t)nth);
             if (nth == 100000) exit(2);
         }
-        expect(nth > 3 && answers[2].outcome == JX_FOUND, "they ask for memory", at);
+        expect(nth > 3 && answers[2].outcome == JX_FOUND && answers[count - COUNT + 2].outcome == JX_FOUND, "they ask for memory", both);
+    }
+    for (size_t at = 0; at < 2; at++) {
+        long nth = 0;
         jx_index index = {0};
         jx_verdict verdict = {77, 99};
         if (jx_index_new(bytes("[1]"), 3, &settings[at], &index, &verdict) != JX_OK) exit(2);
         verdict.kind = 99;
-        nth = 0;
         for (uint32_t status = JX_NO_MEMORY; status != JX_OK; nth++) {
             jx_row row;
             granted = nth;

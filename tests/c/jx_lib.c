@@ -16,7 +16,7 @@ static double now(void) {
 
 static int fed(const uint8_t *text, size_t size, size_t slice, jx_verdict *verdict) {
     static jx_reader reader;
-    if (jx_reader_start(&reader, JX_DEPTH_DEFAULT) != JX_OK) return 0;
+    if (jx_reader_start(&reader, NULL) != JX_OK) return 0;
     for (size_t at = 0; at < size; at += slice) {
         const size_t rest = size - at;
         if (jx_reader_feed(&reader, text + at, rest < slice ? rest : slice) != JX_OK) return 0;
@@ -43,7 +43,7 @@ int main(int count, char **words) {
     double best = 1e9;
     for (int round = 0; round < rounds; round++) {
         const double start = now();
-        const int is_read = is_fed ? fed(text, size, slice, &verdict) : jx_check(text, size, JX_DEPTH_DEFAULT, &verdict) == JX_OK;
+        const int is_read = is_fed ? fed(text, size, slice, &verdict) : jx_check(text, size, NULL, &verdict) == JX_OK;
         const double seconds = now() - start;
         if (!is_read) return 2;
         if (seconds < best) best = seconds;

@@ -44,7 +44,7 @@ static size_t elements(const uint8_t *bytes, size_t size, uint32_t depth, jx_ele
     uint8_t *copy = malloc(size + (size == 0));
     if (copy == NULL) exit(2);
     memcpy(copy, bytes, size);
-    expect(jx_elements(copy, size, depth, found, room, &count) == JX_OK, "a sequence is read", line);
+    expect(jx_elements(copy, size, &(jx_settings){depth, 0}, found, room, &count) == JX_OK, "a sequence is read", line);
     free(copy);
     return count;
 }
@@ -53,7 +53,7 @@ static size_t elements(const uint8_t *bytes, size_t size, uint32_t depth, jx_ele
  * number or a literal. */
 static jx_verdict wanted(const uint8_t *bytes, size_t size, uint32_t depth, size_t at) {
     jx_verdict verdict;
-    if (jx_check(bytes, size, depth, &verdict) != JX_OK) exit(2);
+    if (jx_check(bytes, size, &(jx_settings){depth, 0}, &verdict) != JX_OK) exit(2);
     if (verdict.kind == JX_STOPPED || verdict.kind == JX_TOO_DEEP) verdict.offset += at;
     if (verdict.kind == JX_ACCEPTED && strchr("0123456789el", bytes[size - 1]) != NULL) verdict.kind = JX_MAY_BE_CUT;
     return verdict;
@@ -171,7 +171,7 @@ static void refusals(void) {
         memset(all, 0x5A, sizeof all);
         memcpy(before, all, sizeof all);
         granted = requests;
-        status = jx_elements(text, sizeof text - 1, 3, all, 3, &count);
+        status = jx_elements(text, sizeof text - 1, &(jx_settings){3, 0}, all, 3, &count);
         granted = -1;
         if (status == JX_OK) break;
         expect(status == JX_NO_MEMORY && memcmp(all, before, sizeof all) == 0 && count == 99, "elements without memory", 0);
@@ -179,7 +179,7 @@ static void refusals(void) {
     expect(requests > 0 && count == 3, "elements ask for memory", 0);
     memset(all, 0x5A, sizeof all);
     count = 99;
-    expect(jx_elements(text, sizeof text - 1, 65536, all, 3, &count) == JX_DEPTH_TOO_GREAT, "too great a depth", 0);
+    expect(jx_elements(text, sizeof text - 1, &(jx_settings){65536, 0}, all, 3, &count) == JX_DEPTH_TOO_GREAT, "too great a depth", 0);
     expect(memcmp(all, before, sizeof all) == 0 && count == 99, "nothing has changed", 0);
 }
 

@@ -51,7 +51,7 @@ static jx_verdict wanted(const uint8_t *text, size_t size, uint32_t depth) {
         return (jx_verdict){count, JX_STOPPED};
     }
     jx_verdict verdict;
-    if (jx_check(text + count, size - count, depth, &verdict) != JX_OK) exit(2);
+    if (jx_check(text + count, size - count, &(jx_settings){depth, 0}, &verdict) != JX_OK) exit(2);
     if (verdict.kind == JX_STOPPED || verdict.kind == JX_TOO_DEEP) verdict.offset += count;
     return verdict;
 }
@@ -75,13 +75,13 @@ static void indexed(const uint8_t *text, size_t size, size_t front, uint32_t dep
     size_t others = 0;
     jx_verdict other;
     jx_answer root;
-    expect(jx_rows_with(text, size, &settings, all, 64, &count, &verdict) == JX_OK && same(&verdict, &whole), "the verdict on rows", line);
-    expect(jx_at_with(text, size, bytes(""), 0, &settings, &root) == JX_OK, "the root is asked for", line);
+    expect(jx_rows(text, size, &settings, all, 64, &count, &verdict) == JX_OK && same(&verdict, &whole), "the verdict on rows", line);
+    expect(jx_at(text, size, bytes(""), 0, &settings, &root) == JX_OK, "the root is asked for", line);
     if (whole.kind != JX_ACCEPTED) {
         expect(count == 0 && root.outcome != JX_FOUND && (size_t)root.at == whole.offset, "no text has no rows", line);
         return;
     }
-    if (jx_rows(text + front, size - front, depth, behind, 64, &others, &other) != JX_OK) exit(2);
+    if (jx_rows(text + front, size - front, &(jx_settings){depth, 0}, behind, 64, &others, &other) != JX_OK) exit(2);
     expect(count == others && count > 0, "as many rows as behind the mark", line);
     for (size_t n = 0; n < count && n < 64; n++) {
         expect(all[n].kind == behind[n].kind && all[n].parent == behind[n].parent && all[n].place == behind[n].place, "a row", line);
@@ -101,19 +101,18 @@ static void beginnings(const uint8_t *text, size_t size, uint32_t depth, size_t 
     jx_reader other;
     memset(&reader, 0xA5, sizeof reader);
     memset(&other, 0xA5, sizeof other);
-    expect(jx_reader_start_with(&reader, &ignoring) == JX_OK, "a reader starts", line);
-    expect(jx_reader_start_with(&other, &plain) == JX_OK, "a plain reader starts", line);
+    expect(jx_reader_start(&reader, &ignoring) == JX_OK, "a reader starts", line);
+    expect(jx_reader_start(&other, &plain) == JX_OK, "a plain reader starts", line);
     for (size_t end = 0;; end++) {
         uint8_t *copy = copied(text, end);
         const jx_verdict verdict = wanted(copy, end, depth);
         jx_verdict told;
         jx_verdict without;
-        expect(jx_check_with(copy, end, &ignoring, &told) == JX_OK && same(&told, &verdict), "a beginning", line);
+        expect(jx_check(copy, end, &ignoring, &told) == JX_OK && same(&told, &verdict), "a beginning", line);
         expect(jx_reader_verdict(&reader, &told) == JX_OK && same(&told, &verdict), "slices of one byte come to the same", line);
-        expect(jx_check_with(copy, end, &unique, &told) == JX_OK && same(&told, &verdict), "no name is repeated", line);
-        expect(jx_check(copy, end, depth, &without) == JX_OK, "it is checked without settings", line);
-        expect(jx_check_with(copy, end, &plain, &told) == JX_OK && same(&told, &without), "no flag changes nothing", line);
-        expect(jx_reader_verdict(&other, &told) == JX_OK && same(&told, &without), "nor in slices", line);
+        expect(jx_check(copy, end, &unique, &told) == JX_OK && same(&told, &verdict), "no name is repeated", line);
+        expect(jx_check(copy, end, &plain, &without) == JX_OK, "it is checked without flags", line);
+        expect(jx_reader_verdict(&other, &told) == JX_OK && same(&told, &without), "without flags slices come to the same", line);
         free(copy);
         if (end == size) break;
         uint8_t *slice = copied(text + end, 1);
@@ -129,7 +128,7 @@ static void halves(const uint8_t *text, size_t size, uint32_t depth, size_t line
     for (size_t cut = 0; cut <= size; cut++) {
         jx_reader reader;
         jx_verdict fed;
-        expect(jx_reader_start_with(&reader, &settings) == JX_OK, "a reader starts", line);
+        expect(jx_reader_start(&reader, &settings) == JX_OK, "a reader starts", line);
         expect(jx_reader_feed(&reader, text, cut) == JX_OK, "the first half is read", line);
         expect(jx_reader_feed(&reader, text + cut, size - cut) == JX_OK, "the second half is read", line);
         expect(jx_reader_verdict(&reader, &fed) == JX_OK && same(&fed, &verdict), "two halves come to the same", line);
@@ -193,7 +192,7 @@ static void marks(void) {
     for (size_t n = 0; n < sizeof all / sizeof all[0]; n++) {
         const jx_settings settings = {512, JX_IGNORE_MARK};
         jx_verdict told;
-        expect(jx_check_with(bytes(all[n].text), all[n].size, &settings, &told) == JX_OK && is(&told, all[n].kind, all[n].offset), "a mark", n);
+        expect(jx_check(bytes(all[n].text), all[n].size, &settings, &told) == JX_OK && is(&told, all[n].kind, all[n].offset), "a mark", n);
         beginnings(bytes(all[n].text), all[n].size, 512, n);
         halves(bytes(all[n].text), all[n].size, 512, n);
     }
@@ -227,11 +226,11 @@ static void names(void) {
         jx_row rows[16];
         size_t count = 99;
         jx_answer root;
-        expect(jx_check_with(bytes(all[n].text), size, &unique, &told) == JX_OK && is(&told, all[n].kind, all[n].offset), "names", n);
-        expect(jx_check_with(bytes(all[n].text), size, &any, &told) == JX_OK && (is_repeated ? is(&told, JX_ACCEPTED, 0) : is(&told, all[n].kind, all[n].offset)), "any names", n);
-        expect(jx_rows_with(bytes(all[n].text), size, &unique, rows, 16, &count, &told) == JX_OK && is(&told, all[n].kind, all[n].offset), "rows by names", n);
+        expect(jx_check(bytes(all[n].text), size, &unique, &told) == JX_OK && is(&told, all[n].kind, all[n].offset), "names", n);
+        expect(jx_check(bytes(all[n].text), size, &any, &told) == JX_OK && (is_repeated ? is(&told, JX_ACCEPTED, 0) : is(&told, all[n].kind, all[n].offset)), "any names", n);
+        expect(jx_rows(bytes(all[n].text), size, &unique, rows, 16, &count, &told) == JX_OK && is(&told, all[n].kind, all[n].offset), "rows by names", n);
         expect((count == 0) == (all[n].kind != JX_ACCEPTED), "rows only where names are unique", n);
-        expect(jx_at_with(bytes(all[n].text), size, bytes(""), 0, &unique, &root) == JX_OK && root.outcome == told_as[all[n].kind] && root.at == all[n].offset, "a pointer by names", n);
+        expect(jx_at(bytes(all[n].text), size, bytes(""), 0, &unique, &root) == JX_OK && root.outcome == told_as[all[n].kind] && root.at == all[n].offset, "a pointer by names", n);
     }
 }
 
@@ -248,19 +247,19 @@ static void sequences(void) {
     const jx_settings ignoring = {9, JX_IGNORE_MARK};
     jx_element all[8];
     size_t count = 0;
-    expect(jx_elements_with(bytes(text), size, &plain, all, 8, &count) == JX_OK && count == 6, "with the mark", 0);
+    expect(jx_elements(bytes(text), size, &plain, all, 8, &count) == JX_OK && count == 6, "with the mark", 0);
     expect(is_element(&all[0], 0, 3, JX_UNMARKED, 0) && is_element(&all[1], 4, 18, JX_ACCEPTED, 0), "a mark is an element", 0);
-    expect(jx_elements_with(bytes(text), size, &ignoring, all, 8, &count) == JX_OK && count == 5, "without the mark", 0);
+    expect(jx_elements(bytes(text), size, &ignoring, all, 8, &count) == JX_OK && count == 5, "without the mark", 0);
     expect(is_element(&all[0], 4, 18, JX_ACCEPTED, 0), "any names", 0);
-    expect(jx_elements_with(bytes(text), size, &both, all, 8, &count) == JX_OK && count == 5, "with both flags", 0);
+    expect(jx_elements(bytes(text), size, &both, all, 8, &count) == JX_OK && count == 5, "with both flags", 0);
     expect(is_element(&all[0], 4, 18, JX_REPEATED_NAME, 11), "a repeated name", 0);
     expect(is_element(&all[1], 19, 25, JX_STOPPED, 19), "a mark in an element", 0);
     expect(is_element(&all[2], 26, 27, JX_TRUNCATED, 0), "half an array", 0);
     expect(is_element(&all[3], 28, 35, JX_ACCEPTED, 0), "an object", 0);
     expect(is_element(&all[4], 36, 37, JX_MAY_BE_CUT, 0), "a number", 0);
-    expect(jx_elements_with(bytes("\xEF\xBB\xBF"), 3, &both, all, 8, &count) == JX_OK && count == 0, "a mark and no more", 0);
-    expect(jx_elements_with(bytes("\xEF\xBB\x1E" "1 "), 5, &both, all, 8, &count) == JX_OK && count == 2 && is_element(&all[0], 0, 2, JX_UNMARKED, 0), "half a mark", 0);
-    expect(jx_elements_with(bytes("\xEF\xBB\xBF \x1E" "1 "), 7, &both, all, 8, &count) == JX_OK && count == 2 && is_element(&all[0], 0, 4, JX_UNMARKED, 0), "a mark not alone", 0);
+    expect(jx_elements(bytes("\xEF\xBB\xBF"), 3, &both, all, 8, &count) == JX_OK && count == 0, "a mark and no more", 0);
+    expect(jx_elements(bytes("\xEF\xBB\x1E" "1 "), 5, &both, all, 8, &count) == JX_OK && count == 2 && is_element(&all[0], 0, 2, JX_UNMARKED, 0), "half a mark", 0);
+    expect(jx_elements(bytes("\xEF\xBB\xBF \x1E" "1 "), 7, &both, all, 8, &count) == JX_OK && count == 2 && is_element(&all[0], 0, 4, JX_UNMARKED, 0), "a mark not alone", 0);
 }
 
 /* Settings that there are not: named statuses, and nothing has changed. */
@@ -285,13 +284,13 @@ static void refusals(void) {
         size_t count = 99;
         memset(&reader, 0x5A, sizeof reader);
         before = reader;
-        expect(jx_reader_start_with(&reader, &all[n].settings) == all[n].of_reader && memcmp(&reader, &before, sizeof reader) == 0, "a reader does not start", n);
-        expect(jx_check_with(bytes("1"), 1, &all[n].settings, &verdict) == status && (status == JX_OK || is(&verdict, 98, 77)), "a check", n);
+        expect(jx_reader_start(&reader, &all[n].settings) == all[n].of_reader && memcmp(&reader, &before, sizeof reader) == 0, "a reader does not start", n);
+        expect(jx_check(bytes("1"), 1, &all[n].settings, &verdict) == status && (status == JX_OK || is(&verdict, 98, 77)), "a check", n);
         verdict = (jx_verdict){77, 98};
-        expect(jx_at_with(bytes("1"), 1, bytes(""), 0, &all[n].settings, &answer) == status && (status == JX_OK || answer.outcome == 77), "a pointer", n);
-        expect(jx_rows_with(bytes("1"), 1, &all[n].settings, &row, 1, &count, &verdict) == status && (status == JX_OK || (row.kind == 77 && count == 99 && is(&verdict, 98, 77))), "rows", n);
+        expect(jx_at(bytes("1"), 1, bytes(""), 0, &all[n].settings, &answer) == status && (status == JX_OK || answer.outcome == 77), "a pointer", n);
+        expect(jx_rows(bytes("1"), 1, &all[n].settings, &row, 1, &count, &verdict) == status && (status == JX_OK || (row.kind == 77 && count == 99 && is(&verdict, 98, 77))), "rows", n);
         count = 99;
-        expect(jx_elements_with(bytes("\x1E" "1"), 2, &all[n].settings, &element, 1, &count) == status && (status == JX_OK || (element.verdict.kind == 77 && count == 99)), "elements", n);
+        expect(jx_elements(bytes("\x1E" "1"), 2, &all[n].settings, &element, 1, &count) == status && (status == JX_OK || (element.verdict.kind == 77 && count == 99)), "elements", n);
     }
 }
 
@@ -307,16 +306,16 @@ static int is_unchanged(int call, uint32_t *status) {
     size_t count = 99;
     switch (call) {
     case 0:
-        *status = jx_check_with(bytes(text), size, &settings, &verdict);
+        *status = jx_check(bytes(text), size, &settings, &verdict);
         return is(&verdict, 98, 77);
     case 1:
-        *status = jx_rows_with(bytes(text), size, &settings, &row, 1, &count, &verdict);
+        *status = jx_rows(bytes(text), size, &settings, &row, 1, &count, &verdict);
         return is(&verdict, 98, 77) && count == 99 && row.kind == 77;
     case 2:
-        *status = jx_at_with(bytes(text), size, bytes("/a/1"), 4, &settings, &answer);
+        *status = jx_at(bytes(text), size, bytes("/a/1"), 4, &settings, &answer);
         return answer.outcome == 77;
     default:
-        *status = jx_elements_with(bytes(text), size, &settings, &element, 1, &count);
+        *status = jx_elements(bytes(text), size, &settings, &element, 1, &count);
         return count == 99 && element.verdict.kind == 77;
     }
 }
@@ -338,10 +337,49 @@ static void memory(void) {
     jx_reader reader;
     jx_verdict verdict;
     granted = 0;
-    expect(jx_check_with(bytes("\xEF\xBB\xBF[]"), 5, &settings, &verdict) == JX_OK && is(&verdict, JX_ACCEPTED, 0), "a mark takes no memory", 0);
-    expect(jx_reader_start_with(&reader, &settings) == JX_OK && jx_reader_feed(&reader, bytes("\xEF\xBB\xBF[]"), 5) == JX_OK, "nor in a reader", 0);
+    expect(jx_check(bytes("\xEF\xBB\xBF[]"), 5, &settings, &verdict) == JX_OK && is(&verdict, JX_ACCEPTED, 0), "a mark takes no memory", 0);
+    expect(jx_reader_start(&reader, &settings) == JX_OK && jx_reader_feed(&reader, bytes("\xEF\xBB\xBF[]"), 5) == JX_OK, "nor in a reader", 0);
     expect(jx_reader_verdict(&reader, &verdict) == JX_OK && is(&verdict, JX_ACCEPTED, 0), "which has its verdict", 0);
     granted = -1;
+}
+
+/* So many arrays in one another. */
+static void nested(uint8_t *into, size_t depth) {
+    memset(into, '[', depth);
+    memset(into + depth, ']', depth);
+}
+
+/* Null settings are the default depth and no flag. */
+static void null_settings(void) {
+    static uint8_t text[2 * (JX_DEPTH_DEFAULT + 1)];
+    static jx_row rows[JX_DEPTH_DEFAULT + 1];
+    const char *const names = "{\"a\":1,\"a\":2}";
+    const jx_pointer root = {bytes(""), 0};
+    for (size_t more = 0; more < 2; more++) {
+        const size_t depth = JX_DEPTH_DEFAULT + more;
+        const jx_verdict wanted = more ? (jx_verdict){JX_DEPTH_DEFAULT, JX_TOO_DEEP} : (jx_verdict){0, JX_ACCEPTED};
+        const uint32_t outcome = more ? JX_TEXT_TOO_DEEP : JX_FOUND;
+        jx_reader reader;
+        jx_verdict told;
+        jx_answer answer;
+        jx_element element;
+        size_t count = 0;
+        nested(text, depth);
+        expect(jx_check(text, 2 * depth, NULL, &told) == JX_OK && same(&told, &wanted), "a check without settings", more);
+        expect(jx_reader_start(&reader, NULL) == JX_OK && jx_reader_feed(&reader, text, 2 * depth) == JX_OK, "a reader without settings", more);
+        expect(jx_reader_verdict(&reader, &told) == JX_OK && same(&told, &wanted), "its verdict", more);
+        expect(jx_at(text, 2 * depth, bytes(""), 0, NULL, &answer) == JX_OK && answer.outcome == outcome, "a pointer without settings", more);
+        expect(jx_at_all(text, 2 * depth, NULL, &root, 1, &answer, 1) == JX_OK && answer.outcome == outcome, "pointers without settings", more);
+        expect(jx_rows(text, 2 * depth, NULL, rows, JX_DEPTH_DEFAULT + 1, &count, &told) == JX_OK && same(&told, &wanted), "rows without settings", more);
+        expect(count == (more ? 0 : JX_DEPTH_DEFAULT), "how many", more);
+        memmove(text + 1, text, 2 * depth - 1);
+        text[0] = 0x1E;
+        expect(jx_elements(text, 2 * depth, NULL, &element, 1, &count) == JX_OK && count == 1, "elements without settings", more);
+        expect(is_element(&element, 1, 2 * depth, more ? JX_TOO_DEEP : JX_TRUNCATED, more ? depth : 0), "which are cut", more);
+    }
+    jx_verdict told;
+    expect(jx_check(bytes(names), strlen(names), NULL, &told) == JX_OK && is(&told, JX_ACCEPTED, 0), "any names", 0);
+    expect(jx_check(mark, 3, NULL, &told) == JX_OK && is(&told, JX_STOPPED, 0), "no mark", 0);
 }
 
 int main(int count, char **words) {
@@ -350,6 +388,7 @@ int main(int count, char **words) {
     marks();
     names();
     sequences();
+    null_settings();
     refusals();
     memory();
     printf("settings: %d passed, %d failed\n", passed, failed);

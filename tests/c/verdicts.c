@@ -54,13 +54,13 @@ static uint8_t *copied(const uint8_t *bytes, size_t size) {
 static void beginnings(const uint8_t *bytes, size_t size, uint32_t depth, const jx_verdict *wanted, size_t line) {
     jx_reader reader;
     memset(&reader, 0xA5, sizeof reader);
-    expect(jx_reader_start(&reader, depth) == JX_OK, "a reader starts", line);
+    expect(jx_reader_start(&reader, &(jx_settings){depth, 0}) == JX_OK, "a reader starts", line);
     const int is_fault = wanted->kind == JX_STOPPED || wanted->kind == JX_TOO_DEEP;
     for (size_t end = 0;; end++) {
         uint8_t *text = copied(bytes, end);
         jx_verdict whole;
         jx_verdict fed;
-        expect(jx_check(text, end, depth, &whole) == JX_OK, "a beginning is checked", line);
+        expect(jx_check(text, end, &(jx_settings){depth, 0}, &whole) == JX_OK, "a beginning is checked", line);
         expect(jx_reader_verdict(&reader, &fed) == JX_OK && same(&whole, &fed), "slices of one byte come to the same", line);
         if (is_fault && end > wanted->offset) {
             expect(same(&whole, wanted), "the fault stays", line);
@@ -79,7 +79,7 @@ static void halves(const uint8_t *bytes, size_t size, uint32_t depth, const jx_v
     for (size_t cut = 0; cut <= size; cut++) {
         jx_reader reader;
         jx_verdict fed;
-        expect(jx_reader_start(&reader, depth) == JX_OK, "a reader starts", line);
+        expect(jx_reader_start(&reader, &(jx_settings){depth, 0}) == JX_OK, "a reader starts", line);
         expect(jx_reader_feed(&reader, bytes, cut) == JX_OK, "the first half is read", line);
         expect(jx_reader_feed(&reader, bytes + cut, size - cut) == JX_OK, "the second half is read", line);
         expect(jx_reader_verdict(&reader, &fed) == JX_OK && same(&fed, wanted), "two halves come to the same", line);
@@ -102,7 +102,7 @@ static void each_of_table(const char *file) {
         wanted.kind = kind_of(word);
         const size_t size = spelt(row + at + 1, bytes);
         jx_verdict told;
-        expect(jx_check(bytes, size, depth, &told) == JX_OK && same(&told, &wanted), "the verdict", line);
+        expect(jx_check(bytes, size, &(jx_settings){depth, 0}, &told) == JX_OK && same(&told, &wanted), "the verdict", line);
         beginnings(bytes, size, depth, &wanted, line);
         halves(bytes, size, depth, &wanted, line);
     }
@@ -121,9 +121,9 @@ static void deep(void) {
         if (n == 65535) break;
         size += strlen(opening);
     }
-    expect(jx_check(text, size, JX_DEPTH_MAX, &told) == JX_OK && told.kind == JX_TRUNCATED, "the greatest depth", 0);
-    expect(jx_check(text, size + 1, JX_DEPTH_MAX, &told) == JX_OK && told.kind == JX_TOO_DEEP && told.offset == size, "one more", 0);
-    expect(jx_reader_start(&reader, JX_DEPTH_MAX) == JX_OK, "a deep reader starts", 0);
+    expect(jx_check(text, size, &(jx_settings){JX_DEPTH_MAX, 0}, &told) == JX_OK && told.kind == JX_TRUNCATED, "the greatest depth", 0);
+    expect(jx_check(text, size + 1, &(jx_settings){JX_DEPTH_MAX, 0}, &told) == JX_OK && told.kind == JX_TOO_DEEP && told.offset == size, "one more", 0);
+    expect(jx_reader_start(&reader, &(jx_settings){JX_DEPTH_MAX, 0}) == JX_OK, "a deep reader starts", 0);
     expect(jx_reader_feed(&reader, text, size) == JX_OK, "a deep beginning is read", 0);
     expect(jx_reader_feed(&reader, (const uint8_t *)"0", 1) == JX_OK, "its scalar is read", 0);
     for (int n = 65534; n >= 0; n--) {
@@ -142,9 +142,9 @@ static void refusals(void) {
     jx_verdict told = unset;
     memset(&reader, 0, sizeof reader);
     before = reader;
-    expect(jx_check((const uint8_t *)"1", 1, 65536, &told) == JX_DEPTH_TOO_GREAT && same(&told, &unset), "too great a depth", 0);
-    expect(jx_check((const uint8_t *)"1", 1, UINT32_MAX, &told) == JX_DEPTH_TOO_GREAT && same(&told, &unset), "the greatest number", 0);
-    expect(jx_reader_start(&reader, 65536) == JX_DEPTH_TOO_GREAT && memcmp(&reader, &before, sizeof reader) == 0, "it does not start", 0);
+    expect(jx_check((const uint8_t *)"1", 1, &(jx_settings){65536, 0}, &told) == JX_DEPTH_TOO_GREAT && same(&told, &unset), "too great a depth", 0);
+    expect(jx_check((const uint8_t *)"1", 1, &(jx_settings){UINT32_MAX, 0}, &told) == JX_DEPTH_TOO_GREAT && same(&told, &unset), "the greatest number", 0);
+    expect(jx_reader_start(&reader, &(jx_settings){65536, 0}) == JX_DEPTH_TOO_GREAT && memcmp(&reader, &before, sizeof reader) == 0, "it does not start", 0);
     expect(jx_reader_feed(&reader, (const uint8_t *)"1", 1) == JX_NOT_STARTED && memcmp(&reader, &before, sizeof reader) == 0, "it is not fed", 0);
     expect(jx_reader_verdict(&reader, &told) == JX_NOT_STARTED && same(&told, &unset), "it has no verdict", 0);
 }
@@ -158,7 +158,7 @@ static void garbage(void) {
     const char *const text = "}]]}[{\"a\":[1,[2,{}]]}]]]]}}}}";
     uint32_t number = 1;
     jx_reader started;
-    jx_reader_start(&started, 9);
+    jx_reader_start(&started, &(jx_settings){9, 0});
     room.behind = 0x5A5A5A5A5A5A5A5AU;
     for (int round = 0; round < 2000; round++) {
         uint8_t *bytes = (uint8_t *)&room.reader;

@@ -48,19 +48,32 @@ fn table() -> Vec<Row> {
     .collect()
 }
 
+/// What bytes come to where no memory is wanting.
+fn judged(text: &[u8], settings: impl Into<Settings>) -> Result<(), Refusal> {
+    check(text, settings).map_err(|fault| match fault {
+        Fault::Refused(refusal) => refusal,
+        Fault::OutOfMemory => panic!("out of memory"),
+    })
+}
+
 #[test]
 fn verdicts() {
     for one in table() {
-        assert_eq!(check(&one.text, one.depth), one.wanted, "line {}", one.line);
+        assert_eq!(
+            judged(&one.text, one.depth),
+            one.wanted,
+            "line {}",
+            one.line
+        );
     }
 }
 
 #[test]
 fn slices_of_one_byte_come_to_the_same() {
     for one in table() {
-        let mut reader = Reader::new(one.depth);
+        let mut reader = Reader::new(one.depth).unwrap();
         for end in 0..=one.text.len() {
-            let whole = check(&one.text[..end], one.depth);
+            let whole = judged(&one.text[..end], one.depth);
             assert_eq!(reader.verdict(), whole, "line {}, {end} bytes", one.line);
             match one.wanted {
                 Err(Refusal::Stopped { at } | Refusal::TooDeep { at }) if end > at => {
@@ -83,11 +96,7 @@ fn slices_of_one_byte_come_to_the_same() {
 #[test]
 fn documents_come_to_the_same() {
     for one in table() {
-        let settings = Settings {
-            depth: one.depth,
-            ..Settings::default()
-        };
-        let mut document = Document::new(b"", &settings).unwrap();
+        let mut document = Document::new(b"", one.depth).unwrap();
         let mut kept = Vec::new();
         let half = one.text.len() / 2;
         let (front, back) = one.text.split_at(half);
@@ -96,14 +105,14 @@ fn documents_come_to_the_same() {
         for (at, byte) in typed.chain(put) {
             document.edit(at..at, &[*byte]).unwrap();
             kept.insert(at, *byte);
-            let wanted = check(&kept, one.depth).map_err(Fault::Refused);
+            let wanted = check(&kept, one.depth);
             assert_eq!(document.verdict(), wanted, "line {}, {kept:?}", one.line);
         }
         assert_eq!(document.copy(..).unwrap(), one.text, "line {}", one.line);
         while let Some(last) = kept.pop() {
             assert_eq!(document.copy(kept.len()..).unwrap(), [last]);
             document.edit(kept.len().., b"").unwrap();
-            let wanted = check(&kept, one.depth).map_err(Fault::Refused);
+            let wanted = check(&kept, one.depth);
             assert_eq!(document.verdict(), wanted, "line {}, {kept:?}", one.line);
         }
         assert!(document.is_empty());
@@ -116,9 +125,9 @@ fn documents_refuse_what_they_cannot_do() {
         unique_names: true,
         ..Settings::default()
     };
-    let refused = Document::new(b"1", &unique).map(|_| ());
+    let refused = Document::new(b"1", unique).map(|_| ());
     assert_eq!(refused, Err(OpenError::NoUniqueNames));
-    let mut document = Document::new(b"[1]", &Settings::default()).unwrap();
+    let mut document = Document::new(b"[1]", Settings::default()).unwrap();
     #[allow(clippy::reversed_empty_ranges)]
     for range in [2..1, 0..4, 4..4, usize::MAX..usize::MAX, 3..0] {
         let told = Err(EditError::OutOfBounds);
@@ -137,7 +146,7 @@ fn documents_refuse_what_they_cannot_do() {
 fn documents_go_to_other_threads_and_are_freed() {
     let text = format!("[{}0]", "[1,2],".repeat(20_000));
     for _ in 0..50 {
-        let mut document = Document::new(text.as_bytes(), &Settings::default()).unwrap();
+        let mut document = Document::new(text.as_bytes(), jx::DEPTH).unwrap();
         let worker = std::thread::spawn(move || {
             document.edit(50_000..50_000, b" ").unwrap();
             (document.verdict(), document)
@@ -150,9 +159,9 @@ fn documents_go_to_other_threads_and_are_freed() {
 
 #[test]
 fn a_reader_starts_again() {
-    let mut reader = Reader::new(0);
+    let mut reader = Reader::new(0).unwrap();
     for one in table() {
-        reader.start(one.depth);
+        reader.start(one.depth).unwrap();
         reader.feed(&one.text).unwrap();
         assert_eq!(reader.verdict(), one.wanted, "line {}", one.line);
     }
@@ -162,9 +171,9 @@ fn a_reader_starts_again() {
 fn deep_texts() {
     let mut text = vec![b'['; 65535];
     text.resize(131_070, b']');
-    assert_eq!(check(&text, u16::MAX), Ok(()));
+    assert_eq!(judged(&text, u16::MAX), Ok(()));
     assert_eq!(
-        check(&text, u16::MAX - 1),
+        judged(&text, u16::MAX - 1),
         Err(Refusal::TooDeep { at: 65534 })
     );
 }
@@ -192,12 +201,16 @@ fn each_row_stands_in_its_parent() {
 
 /// What bytes come to as an element that stands from an offset on.
 fn wanted(bytes: &[u8], depth: u16, start: usize) -> ElementVerdict {
-    match check(bytes, depth) {
+    match judged(bytes, depth) {
         Ok(()) if b"0123456789el".contains(bytes.last().unwrap()) => ElementVerdict::MayBeCut,
         Ok(()) => ElementVerdict::Accepted,
         Err(Refusal::Truncated) => ElementVerdict::Refused(Refusal::Truncated),
-        Err(Refusal::Stopped { at }) => ElementVerdict::Refused(Refusal::Stopped { at: start + at }),
-        Err(Refusal::TooDeep { at }) => ElementVerdict::Refused(Refusal::TooDeep { at: start + at }),
+        Err(Refusal::Stopped { at }) => {
+            ElementVerdict::Refused(Refusal::Stopped { at: start + at })
+        }
+        Err(Refusal::TooDeep { at }) => {
+            ElementVerdict::Refused(Refusal::TooDeep { at: start + at })
+        }
         Err(Refusal::RepeatedName { .. }) => panic!("any names are accepted"),
     }
 }
@@ -238,7 +251,7 @@ fn behind_mark(text: &[u8], depth: u16) -> Result<(), Refusal> {
         1 | 2 => return Err(Refusal::Stopped { at: agreed }),
         count => count,
     };
-    check(&text[count..], depth).map_err(|refusal| match refusal {
+    judged(&text[count..], depth).map_err(|refusal| match refusal {
         Refusal::Stopped { at } => Refusal::Stopped { at: count + at },
         Refusal::TooDeep { at } => Refusal::TooDeep { at: count + at },
         other => other,
@@ -254,11 +267,10 @@ fn marks_may_be_cut() {
             unique_names: false,
         };
         for text in [one.text.clone(), [&MARK, &one.text[..]].concat()] {
-            let mut reader = settings.reader().unwrap();
+            let mut reader = Reader::new(settings).unwrap();
             for end in 0..=text.len() {
                 let wanted = behind_mark(&text[..end], one.depth);
-                let told = settings.check(&text[..end]);
-                assert_eq!(told, wanted.map_err(Fault::Refused), "line {}", one.line);
+                assert_eq!(judged(&text[..end], settings), wanted, "line {}", one.line);
                 assert_eq!(reader.verdict(), wanted, "line {}, {end} bytes", one.line);
                 if let Some(byte) = text.get(end) {
                     reader.feed(&[*byte]).unwrap();
@@ -269,18 +281,54 @@ fn marks_may_be_cut() {
 }
 
 #[test]
-fn settings_that_are_the_default_change_nothing() {
+fn a_depth_stands_for_settings() {
     for one in table() {
         let settings = Settings {
             depth: one.depth,
             ..Settings::default()
         };
-        let told = settings.check(&one.text);
-        assert_eq!(told, one.wanted.map_err(Fault::Refused), "line {}", one.line);
-        assert_eq!(settings.rows(&one.text), jx::rows(&one.text, one.depth));
-        assert_eq!(settings.find(&one.text, ""), jx::find(&one.text, "", one.depth));
-        let reader = settings.reader().unwrap();
+        assert_eq!(Settings::from(one.depth), settings);
+        assert_eq!(
+            judged(&one.text, &settings),
+            one.wanted,
+            "line {}",
+            one.line
+        );
+        assert_eq!(
+            jx::rows(&one.text, settings),
+            jx::rows(&one.text, one.depth)
+        );
+        assert_eq!(
+            jx::find(&one.text, "", settings),
+            jx::find(&one.text, "", one.depth)
+        );
+        let reader = Reader::new(settings).unwrap();
         assert_eq!(reader.verdict(), Err(Refusal::Truncated));
+    }
+}
+
+#[test]
+fn many_pointers_are_answered_as_one() {
+    let spelt = [
+        "", "/a", "/a/1", "/a/2", "/a/-", "/a/01", "/b", "/b/x", "/c", "a", "/~2",
+    ];
+    for text in [
+        &br#"{"a":[1,true],"b":null,"b":0}"#[..],
+        b"{\"a\":[",
+        b"nulx",
+    ] {
+        for unique_names in [false, true] {
+            let settings = Settings {
+                unique_names,
+                ..Settings::default()
+            };
+            for count in [0, 1, 2, 16, 17, 40] {
+                let pointers: Vec<&str> = spelt.iter().copied().cycle().take(count).collect();
+                let told = jx::find_all(text, &pointers, settings).unwrap();
+                let alone = pointers.iter().map(|one| jx::find(text, one, settings));
+                assert_eq!(told, alone.collect::<Vec<_>>(), "{count} pointers");
+            }
+        }
     }
 }
 
@@ -293,14 +341,17 @@ fn names_are_compared_by_value() {
     };
     let repeated = Refusal::RepeatedName { at: 10 };
     let text = b"\xEF\xBB\xBF{\"a\":1,\"\\u0061\":2}";
-    assert_eq!(settings.check(text), Err(Fault::Refused(repeated)));
-    assert_eq!(settings.rows(text), Err(Fault::Refused(repeated)));
-    assert_eq!(settings.find(text, "/a"), Err(FindError::Refused(repeated)));
-    assert_eq!(settings.reader().map(|_| ()), Err(NoUniqueNames));
+    assert_eq!(check(text, settings), Err(Fault::Refused(repeated)));
+    assert_eq!(jx::rows(text, settings), Err(Fault::Refused(repeated)));
+    assert_eq!(
+        jx::find(text, "/a", settings),
+        Err(FindError::Refused(repeated))
+    );
+    assert_eq!(Reader::new(settings).map(|_| ()), Err(NoUniqueNames));
     let text = b"\xEF\xBB\xBF[{\"a\":1},{\"a\":2}]";
-    assert_eq!(settings.check(text), Ok(()));
-    assert_eq!(settings.rows(text).unwrap()[0].span, 3..20);
-    assert_eq!(settings.find(text, "/1/a").unwrap().span, 17..18);
+    assert_eq!(check(text, settings), Ok(()));
+    assert_eq!(jx::rows(text, settings).unwrap()[0].span, 3..20);
+    assert_eq!(jx::find(text, "/1/a", settings).unwrap().span, 17..18);
 }
 
 #[test]
@@ -311,10 +362,13 @@ fn a_mark_alone_is_no_element() {
         ..Settings::default()
     };
     let sequence = b"\xEF\xBB\xBF\x1E{\"a\":1,\"a\":2}\n\x1E[]";
-    let all = settings.elements(sequence).unwrap();
+    let all = elements(sequence, settings).unwrap();
     let found: Vec<_> = all.iter().map(|e| (e.span.clone(), e.verdict)).collect();
     let repeated = ElementVerdict::Refused(Refusal::RepeatedName { at: 11 });
-    assert_eq!(found, [(4..18, repeated), (19..21, ElementVerdict::Accepted)]);
+    assert_eq!(
+        found,
+        [(4..18, repeated), (19..21, ElementVerdict::Accepted)]
+    );
     assert_eq!(elements(sequence, jx::DEPTH).unwrap().len(), 3);
 }
 
@@ -360,7 +414,10 @@ fn runs_that_do_not_meet_are_told() {
         Run::of(b"12", Some(u64::MAX - 1), 512),
         Err(RunError::TooManyBytes)
     );
-    assert_eq!(Run::of(b"", Some(u64::MAX), 512), Err(RunError::TooManyBytes));
+    assert_eq!(
+        Run::of(b"", Some(u64::MAX), 512),
+        Err(RunError::TooManyBytes)
+    );
     for end in 0..left.as_bytes().len() {
         let cut = Run::try_from(&left.as_bytes()[..end]);
         assert_eq!(cut, Err(RunError::NotARun), "{end} bytes");
@@ -371,7 +428,12 @@ fn runs_that_do_not_meet_are_told() {
 fn a_run_with_more_bytes_than_are_tried_first_is_whole() {
     let deep = "[".repeat(60_000) + &"]".repeat(60_000);
     let part = |range: std::ops::Range<usize>| {
-        Run::of(deep[range.clone()].as_bytes(), Some(range.start as u64), 60_000).unwrap()
+        Run::of(
+            deep[range.clone()].as_bytes(),
+            Some(range.start as u64),
+            60_000,
+        )
+        .unwrap()
     };
     let left = part(0..90_000);
     let right = part(90_000..120_000);

@@ -29,7 +29,7 @@ def elements(data: Any, *, depth: int = DEPTH_DEFAULT, ignore_bom: bool = False,
     room, count = separators + 1, ctypes.c_size_t()
     found = (CElement * room)()
     with held(seen) as (address, size):
-        done(LIBRARY.jx_elements_with(address, size, ctypes.byref(asked), found, room, ctypes.byref(count)))
+        done(LIBRARY.jx_elements_non_null(address, size, ctypes.byref(asked), found, room, ctypes.byref(count)))
     return [
         Element(seen[each.span.start : each.span.end], each.span.start, each.span.end, Verdict._of(each.verdict))
         for each in found[: count.value]

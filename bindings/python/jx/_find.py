@@ -51,7 +51,7 @@ def get(
     answer = CAnswer()
     with held(data) as (address, size), held(words) as (pointer_address, pointer_size):
         done(
-            LIBRARY.jx_at_with(
+            LIBRARY.jx_at_non_null(
                 address, size, pointer_address, pointer_size, ctypes.byref(asked), ctypes.byref(answer)
             )
         )
@@ -95,7 +95,7 @@ def get_all(
     ignore_bom: bool = False,
     unique_names: bool = False,
 ) -> List[Any]:
-    """The bytes of the values that pointers lead to, in order. The text is read and indexed once for the call.
+    """The bytes of the values that pointers lead to, in order. They are looked up in one reading of the text.
 
     The words are those of `get`.
     """
@@ -107,7 +107,7 @@ def get_all(
     spelt = (CPointer * count)(*(CPointer(word, len(word)) for word in words))
     answers = (CAnswer * count)()
     with held(data) as (address, size):
-        done(LIBRARY.jx_at_all(address, size, ctypes.byref(asked), spelt, count, answers, count))
+        done(LIBRARY.jx_at_all_non_null(address, size, ctypes.byref(asked), spelt, count, answers, count))
     whole = view(data)
     _told(whole, "", answers[count - 1], None)
     return [_told(whole, pointer, answers[at], default) for at, pointer in enumerate(named)]

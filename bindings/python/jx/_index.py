@@ -55,7 +55,7 @@ class Index:
             self._rows = (CRow * room)()
             with held(self._view) as (address, size):
                 done(
-                    LIBRARY.jx_rows_with(
+                    LIBRARY.jx_rows_non_null(
                         address, size, ctypes.byref(asked), self._rows, room, ctypes.byref(count), ctypes.byref(answer)
                     )
                 )

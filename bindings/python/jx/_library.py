@@ -79,14 +79,14 @@ class CElement(ctypes.Structure):
 _POINTER = ctypes.c_void_p
 _SIZE = ctypes.c_size_t
 _CALLS: dict[str, list[Any]] = {
-    "jx_check_with": [_POINTER, _SIZE, _POINTER, _POINTER],
-    "jx_reader_start_with": [_POINTER, _POINTER],
+    "jx_check_non_null": [_POINTER, _SIZE, _POINTER, _POINTER],
+    "jx_reader_start_non_null": [_POINTER, _POINTER],
     "jx_reader_feed": [_POINTER, _POINTER, _SIZE],
     "jx_reader_verdict": [_POINTER, _POINTER],
-    "jx_at_with": [_POINTER, _SIZE, _POINTER, _SIZE, _POINTER, _POINTER],
-    "jx_at_all": [_POINTER, _SIZE, _POINTER, _POINTER, _SIZE, _POINTER, _SIZE],
-    "jx_rows_with": [_POINTER, _SIZE, _POINTER, _POINTER, _SIZE, _POINTER, _POINTER],
-    "jx_elements_with": [_POINTER, _SIZE, _POINTER, _POINTER, _SIZE, _POINTER],
+    "jx_at_non_null": [_POINTER, _SIZE, _POINTER, _SIZE, _POINTER, _POINTER],
+    "jx_at_all_non_null": [_POINTER, _SIZE, _POINTER, _POINTER, _SIZE, _POINTER, _SIZE],
+    "jx_rows_non_null": [_POINTER, _SIZE, _POINTER, _POINTER, _SIZE, _POINTER, _POINTER],
+    "jx_elements_non_null": [_POINTER, _SIZE, _POINTER, _POINTER, _SIZE, _POINTER],
     "jx_document_new_non_null": [_POINTER, _SIZE, _POINTER, _POINTER],
     "jx_document_edit_non_null": [_POINTER, _SIZE, _SIZE, _POINTER, _SIZE],
     "jx_document_verdict_non_null": [_POINTER, _POINTER],

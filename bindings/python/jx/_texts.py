@@ -20,7 +20,7 @@ def verdict(data: Any, *, depth: int = DEPTH_DEFAULT, ignore_bom: bool = False, 
     asked = settings(depth, ignore_bom, unique_names)
     answer = CVerdict()
     with held(data) as (address, size):
-        done(LIBRARY.jx_check_with(address, size, ctypes.byref(asked), ctypes.byref(answer)))
+        done(LIBRARY.jx_check_non_null(address, size, ctypes.byref(asked), ctypes.byref(answer)))
     return Verdict._of(answer)
 
 
@@ -38,7 +38,7 @@ class Reader:
         asked = settings(depth, ignore_bom, False)
         self._reader = CReader()
         self._size = 0
-        done(LIBRARY.jx_reader_start_with(ctypes.byref(self._reader), ctypes.byref(asked)))
+        done(LIBRARY.jx_reader_start_non_null(ctypes.byref(self._reader), ctypes.byref(asked)))
 
     def feed(self, chunk: Any) -> None:
         """Reads the bytes behind those it was fed before. A chunk may end anywhere, also inside a character."""

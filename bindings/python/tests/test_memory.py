@@ -23,7 +23,7 @@ class Refusals(unittest.TestCase):
         calls = (
             (8 << 20, "jx.verdict(text, unique_names=True)"),
             (100 << 20, "jx.Index(text)"),
-            (100 << 20, "jx.get_all(text, ['/0'])"),
+            (8 << 20, "jx.get_all(text, ['/0'], unique_names=True)"),
             (1 << 20, "jx.elements(b'\\x1e' * 1_000_000)"),
             (4 << 20, "jx.Document(text)"),
         )

@@ -84,7 +84,7 @@ fn main() -> Result<(), Box<dyn Error>> {
     let checked = started.elapsed();
     let before = used();
     let started = Instant::now();
-    let mut document = Document::new(&text, &Settings::default())?;
+    let mut document = Document::new(&text, Settings::default())?;
     document.verdict()?;
     let made = started.elapsed();
     let share = (used() - before) as f64 / text.len() as f64;

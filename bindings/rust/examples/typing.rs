@@ -13,7 +13,7 @@ fn main() -> Result<(), Box<dyn Error>> {
         None => format!("[{}0]", record.repeat(2_300_000)).into_bytes(),
     };
     let started = Instant::now();
-    let mut document = Document::new(&text, &Settings::default())?;
+    let mut document = Document::new(&text, Settings::default())?;
     let said = told(&mut document);
     println!(
         "{} bytes read in {:?}: {said}",

@@ -11,7 +11,7 @@ fn main() -> Result<(), Box<dyn Error>> {
     let file = env::args_os().nth(1).ok_or("values FILE")?;
     let text = fs::read(file)?;
     let started = Instant::now();
-    let index = Index::new(&text, &Settings::default())?;
+    let index = Index::new(&text, Settings::default())?;
     let made = started.elapsed();
     let mut out = io::stdout().lock();
     let mut count = 0;

@@ -12,7 +12,7 @@ use std::ops::{Bound, RangeBounds};
 /// ```
 /// use jx::{Document, Fault, Refusal, Settings};
 ///
-/// let mut document = Document::new(br#"{"a":1}"#, &Settings::default())?;
+/// let mut document = Document::new(br#"{"a":1}"#, Settings::default())?;
 /// document.verdict()?;
 /// document.edit(5..6, b"tru")?;
 /// assert_eq!(document.verdict(), Err(Fault::Refused(Refusal::Stopped { at: 8 })));
@@ -25,7 +25,7 @@ use std::ops::{Bound, RangeBounds};
 /// It may go to another thread:
 ///
 /// ```
-/// let mut document = jx::Document::new(b"[1,2]", &jx::Settings::default())?;
+/// let mut document = jx::Document::new(b"[1,2]", jx::DEPTH)?;
 /// let verdict = std::thread::spawn(move || document.verdict()).join().unwrap();
 /// assert_eq!(verdict, Ok(()));
 /// # Ok::<(), jx::OpenError>(())
@@ -108,7 +108,7 @@ impl EditError {
 
 impl Document {
     /// A document of a copy of the bytes, held to these settings. Names can't have to be unique, since it keeps none.
-    pub fn new(text: &[u8], settings: &Settings) -> Result<Document, OpenError> {
+    pub fn new(text: &[u8], settings: impl Into<Settings>) -> Result<Document, OpenError> {
         let document = Document {
             raw: UnsafeCell::new(raw::Document::default()),
         };
@@ -117,7 +117,7 @@ impl Document {
             raw::jx_document_new_non_null(
                 text.as_ptr(),
                 text.len(),
-                &settings.raw(),
+                &settings.into().raw(),
                 document.raw.get(),
             )
         };
@@ -136,7 +136,7 @@ impl Document {
     /// ```
     /// use jx::{Document, EditError, Settings};
     ///
-    /// let mut document = Document::new(b"[1]", &Settings::default())?;
+    /// let mut document = Document::new(b"[1]", Settings::default())?;
     /// document.edit(2..2, b",2")?;
     /// assert_eq!(document.edit(5..6, b""), Err(EditError::OutOfBounds));
     /// assert_eq!(document.copy(..)?, b"[1,2]");
@@ -160,7 +160,7 @@ impl Document {
         })
     }
 
-    /// The verdict on all bytes as one text: the same as [`Settings::check`] tells by the settings that it was made with. It
+    /// The verdict on all bytes as one text: the same as [`check`](crate::check) tells by the settings that it was made with. It
     /// takes up what edits changed since the last one, so there may be several edits before.
     pub fn verdict(&mut self) -> Result<(), Fault> {
         let mut verdict = raw::Verdict {

@@ -56,16 +56,16 @@ impl Error for OutOfMemory {}
 /// Fills a buffer; gives how many elements there are.
 fn fill(
     sequence: &[u8],
-    settings: &Settings,
+    settings: &raw::Settings,
     buffer: &mut [raw::Element],
 ) -> Result<usize, OutOfMemory> {
     let mut count = 0;
     // SAFETY: each pointer and size are those of one slice, and all are borrowed for the call alone.
     let status = unsafe {
-        raw::jx_elements_with(
+        raw::jx_elements_non_null(
             sequence.as_ptr(),
             sequence.len(),
-            &settings.raw(),
+            settings,
             buffer.as_mut_ptr(),
             buffer.len(),
             &mut count,
@@ -78,7 +78,7 @@ fn fill(
     Ok(count)
 }
 
-/// The elements of a JSON text sequence (RFC 7464) in order, each with where it stands and what it comes to. Between record
+/// The elements of a JSON text sequence (RFC 7464) by settings, in order, each with where it stands and what it comes to. Between record
 /// separators in a row stands none, and none behind one at the end.
 ///
 /// ```
@@ -91,15 +91,11 @@ fn fill(
 /// assert_eq!(all[2].verdict, ElementVerdict::Refused(Refusal::Stopped { at: 15 }));
 /// # Ok::<(), jx::OutOfMemory>(())
 /// ```
-pub fn elements(sequence: &[u8], depth: u16) -> Result<Vec<Element>, OutOfMemory> {
-    elements_with(sequence, &Settings::of_depth(depth))
-}
-
-/// The same by settings.
-pub(crate) fn elements_with(
+pub fn elements(
     sequence: &[u8],
-    settings: &Settings,
+    settings: impl Into<Settings>,
 ) -> Result<Vec<Element>, OutOfMemory> {
+    let settings = settings.into().raw();
     // An element needs a record separator, but for one: there is room for all of them.
     let marks = sequence.iter().filter(|byte| **byte == 0x1E).count();
     let mut buffer = Vec::new();
@@ -107,7 +103,7 @@ pub(crate) fn elements_with(
         .try_reserve_exact(marks + 1)
         .map_err(|_| OutOfMemory)?;
     buffer.resize(marks + 1, raw::Element::default());
-    let count = fill(sequence, settings, &mut buffer)?;
+    let count = fill(sequence, &settings, &mut buffer)?;
     let found = buffer[..count].iter();
     Ok(found
         .map(|element| Element {

@@ -28,3 +28,9 @@ impl Error for Fault {
         }
     }
 }
+
+impl From<Refusal> for Fault {
+    fn from(refusal: Refusal) -> Fault {
+        Fault::Refused(refusal)
+    }
+}

@@ -114,7 +114,7 @@ impl Error for FindError {
     }
 }
 
-/// What a pointer (RFC 6901) leads to in a JSON text.
+/// What a pointer (RFC 6901) leads to in a JSON text by settings.
 ///
 /// ```
 /// use jx::{find, FindError};
@@ -126,25 +126,16 @@ impl Error for FindError {
 /// assert_eq!(find(text, "users", jx::DEPTH), Err(FindError::NoSlash));
 /// # Ok::<(), FindError>(())
 /// ```
-pub fn find(text: &[u8], pointer: &str, depth: u16) -> Result<Found, FindError> {
-    find_with(text, pointer, &Settings::of_depth(depth))
-}
-
-/// The same by settings.
-pub(crate) fn find_with(
-    text: &[u8],
-    pointer: &str,
-    settings: &Settings,
-) -> Result<Found, FindError> {
+pub fn find(text: &[u8], pointer: &str, settings: impl Into<Settings>) -> Result<Found, FindError> {
     let mut answer = raw::Answer::default();
     // SAFETY: each pointer and size are those of one slice, and all are borrowed for the call alone.
     let status = unsafe {
-        raw::jx_at_with(
+        raw::jx_at_non_null(
             text.as_ptr(),
             text.len(),
             pointer.as_ptr(),
             pointer.len(),
-            &settings.raw(),
+            &settings.into().raw(),
             &mut answer,
         )
     };
@@ -155,11 +146,22 @@ pub(crate) fn find_with(
     Found::of(&answer)
 }
 
-/// What each of many pointers leads to, by settings.
-pub(crate) fn find_all_with(
+/// What each of many pointers leads to, in their order. The text is read once for all of them, and twice where names have to be
+/// unique.
+///
+/// ```
+/// use jx::{find_all, FindError};
+///
+/// let text = br#"{"a":1,"b":[true]}"#;
+/// let found = find_all(text, &["/b/0", "/c"], jx::DEPTH)?;
+/// assert_eq!(&text[found[0].clone().unwrap().span], b"true");
+/// assert_eq!(found[1], Err(FindError::NoSuchMember { token: 0 }));
+/// # Ok::<(), jx::OutOfMemory>(())
+/// ```
+pub fn find_all(
     text: &[u8],
     pointers: &[&str],
-    settings: &Settings,
+    settings: impl Into<Settings>,
 ) -> Result<Vec<Result<Found, FindError>>, OutOfMemory> {
     let spelt = collected(pointers.iter().map(|pointer| raw::Pointer {
         bytes: pointer.as_ptr(),
@@ -168,10 +170,10 @@ pub(crate) fn find_all_with(
     let mut answers = collected(pointers.iter().map(|_| raw::Answer::default()))?;
     // SAFETY: each pointer and size are those of one slice, and all are borrowed for the call alone.
     let status = unsafe {
-        raw::jx_at_all(
+        raw::jx_at_all_non_null(
             text.as_ptr(),
             text.len(),
-            &settings.raw(),
+            &settings.into().raw(),
             spelt.as_ptr(),
             spelt.len(),
             answers.as_mut_ptr(),

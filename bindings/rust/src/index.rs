@@ -14,7 +14,7 @@ use std::ops::Range;
 /// use jx::{FindError, Index, Settings};
 ///
 /// let text = br#"{"users":[{"name":"Ann"},{"name":"Bo"}]}"#;
-/// let index = Index::new(text, &Settings::default())?;
+/// let index = Index::new(text, Settings::default())?;
 /// assert_eq!(index.find("/users/1/name")?.bytes, br#""Bo""#);
 /// assert_eq!(index.find("/users/2").unwrap_err(), FindError::PastEnd { token: 1 });
 /// assert_eq!(index.rows().count(), 6);
@@ -27,7 +27,7 @@ use std::ops::Range;
 /// ```compile_fail
 /// let index = {
 ///     let text = b"[1,2]".to_vec();
-///     jx::Index::new(&text, &jx::Settings::default()).unwrap()
+///     jx::Index::new(&text, jx::DEPTH).unwrap()
 /// };
 /// index.find("/1").unwrap();
 /// ```
@@ -69,7 +69,7 @@ impl fmt::Debug for Index<'_> {
 
 impl<'a> Index<'a> {
     /// Reads a text by settings and indexes it.
-    pub fn new(text: &'a [u8], settings: &Settings) -> Result<Index<'a>, Fault> {
+    pub fn new(text: &'a [u8], settings: impl Into<Settings>) -> Result<Index<'a>, Fault> {
         let index = Index {
             text,
             raw: UnsafeCell::new(raw::Index::default()),
@@ -84,7 +84,7 @@ impl<'a> Index<'a> {
             raw::jx_index_new_non_null(
                 text.as_ptr(),
                 text.len(),
-                &settings.raw(),
+                &settings.into().raw(),
                 index.raw.get(),
                 &mut verdict,
             )

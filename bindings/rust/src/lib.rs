@@ -1,13 +1,15 @@
 //! Whether bytes are a JSON text (RFC 8259), and at which byte they stop being one.
 //!
 //! ```
+//! use jx::Refusal;
+//!
 //! assert_eq!(jx::check(br#"{"a":[1,2]}"#, jx::DEPTH), Ok(()));
-//! assert_eq!(jx::check(b"nulx", jx::DEPTH), Err(jx::Refusal::Stopped { at: 3 }));
+//! assert_eq!(jx::check(b"nulx", jx::DEPTH), Err(Refusal::Stopped { at: 3 }.into()));
 //! ```
 //!
-//! Offsets count bytes from the text's start. A depth is how many containers may stand open at once: that of a scalar is 0,
-//! and that of a container one more than that of its deepest child. [`Settings`] say more than a depth. [`check`] and
-//! [`Reader`] take no memory; nothing starts a thread.
+//! Offsets count bytes from the text's start. Each call takes [`Settings`], or a depth in their place: how many containers may
+//! stand open at once. The depth of a scalar is 0, and that of a container one more than that of its deepest child.
+//! [`Reader`] takes no memory, nor does [`check`] where names need not be unique; nothing starts a thread.
 
 #![deny(missing_docs, unsafe_op_in_unsafe_fn)]
 
@@ -26,7 +28,7 @@ mod settings;
 pub use document::{Document, EditError, OpenError};
 pub use elements::{elements, Element, ElementVerdict, OutOfMemory};
 pub use fault::Fault;
-pub use find::{find, FindError, Found};
+pub use find::{find, find_all, FindError, Found};
 pub use index::{Index, Value};
 pub use reader::{Reader, TooManyBytes};
 pub use refusal::Refusal;
@@ -37,31 +39,36 @@ pub use settings::{NoUniqueNames, Settings};
 /// The depth that the program `jx` takes where none is named.
 pub const DEPTH: u16 = 512;
 
-/// Tells whether the bytes are a JSON text (RFC 8259, section 2) with at most so many containers open at once, and if not,
-/// where they stop being one.
+/// Tells whether the bytes are a JSON text (RFC 8259, section 2) by settings, and if not, where they stop being one. It takes
+/// memory only where names have to be unique.
 ///
 /// ```
-/// use jx::Refusal;
+/// use jx::{Refusal, Settings};
 ///
 /// assert_eq!(jx::check(b"[[]]", 2), Ok(()));
-/// assert_eq!(jx::check(b"[[]]", 1), Err(Refusal::TooDeep { at: 1 }));
-/// assert_eq!(jx::check(b"[1", 2), Err(Refusal::Truncated));
+/// assert_eq!(jx::check(b"[[]]", 1), Err(Refusal::TooDeep { at: 1 }.into()));
+/// assert_eq!(jx::check(b"[1", Settings::default()), Err(Refusal::Truncated.into()));
 /// ```
-pub fn check(text: &[u8], depth: u16) -> Result<(), Refusal> {
+pub fn check(text: &[u8], settings: impl Into<Settings>) -> Result<(), Fault> {
     let mut verdict = raw::Verdict {
         offset: 0,
         kind: raw::TRUNCATED,
     };
-    // SAFETY: the pointer and the size are those of one slice, and the verdict is borrowed for the call alone.
-    let status = unsafe { raw::jx_check(text.as_ptr(), text.len(), depth.into(), &mut verdict) };
+    let settings = settings.into().raw();
+    // SAFETY: the pointer and the size are those of one slice, and the others are borrowed for the call alone.
+    let status =
+        unsafe { raw::jx_check_non_null(text.as_ptr(), text.len(), &settings, &mut verdict) };
+    if status == raw::NO_MEMORY {
+        return Err(Fault::OutOfMemory);
+    }
     debug_assert_eq!(status, raw::OK);
-    Refusal::of(verdict)
+    Refusal::of(verdict).map_err(Fault::Refused)
 }
 
 /// The library's version: its three numbers.
 ///
 /// ```
-/// assert_eq!(jx::version(), (0, 1, 0));
+/// assert_eq!(jx::version(), (0, 2, 0));
 /// ```
 pub fn version() -> (u32, u32, u32) {
     // SAFETY: the call takes nothing.

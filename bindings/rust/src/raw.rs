@@ -1,4 +1,4 @@
-//! The calls of `jx.h`, as that file declares them.
+//! What the library exports, as `jx.h` declares it: for pointers of which none is null.
 
 use std::ffi::c_void;
 use std::ptr;
@@ -117,14 +117,13 @@ pub const UNMARKED: u32 = 5;
 pub const REPEATED_NAME: u32 = 6;
 
 extern "C" {
-    pub fn jx_check(text: *const u8, size: usize, depth: u32, verdict: *mut Verdict) -> u32;
-    pub fn jx_check_with(
+    pub fn jx_check_non_null(
         text: *const u8,
         size: usize,
         settings: *const Settings,
         verdict: *mut Verdict,
     ) -> u32;
-    pub fn jx_at_with(
+    pub fn jx_at_non_null(
         text: *const u8,
         size: usize,
         pointer: *const u8,
@@ -132,7 +131,7 @@ extern "C" {
         settings: *const Settings,
         answer: *mut Answer,
     ) -> u32;
-    pub fn jx_at_all(
+    pub fn jx_at_all_non_null(
         text: *const u8,
         size: usize,
         settings: *const Settings,
@@ -156,7 +155,7 @@ extern "C" {
     ) -> u32;
     pub fn jx_index_row_non_null(index: *mut Index, number: usize, row: *mut Row) -> u32;
     pub fn jx_index_free_non_null(index: *mut Index);
-    pub fn jx_rows_with(
+    pub fn jx_rows_non_null(
         text: *const u8,
         size: usize,
         settings: *const Settings,
@@ -165,7 +164,7 @@ extern "C" {
         count: *mut usize,
         verdict: *mut Verdict,
     ) -> u32;
-    pub fn jx_elements_with(
+    pub fn jx_elements_non_null(
         sequence: *const u8,
         size: usize,
         settings: *const Settings,
@@ -174,8 +173,7 @@ extern "C" {
         count: *mut usize,
     ) -> u32;
     pub fn jx_version() -> u32;
-    pub fn jx_reader_start(reader: *mut Reader, depth: u32) -> u32;
-    pub fn jx_reader_start_with(reader: *mut Reader, settings: *const Settings) -> u32;
+    pub fn jx_reader_start_non_null(reader: *mut Reader, settings: *const Settings) -> u32;
     pub fn jx_reader_feed(reader: *mut Reader, bytes: *const u8, size: usize) -> u32;
     pub fn jx_reader_verdict(reader: *const Reader, verdict: *mut Verdict) -> u32;
     pub fn jx_document_new_non_null(

@@ -11,23 +11,23 @@ use std::io;
 /// use jx::{Reader, Refusal};
 /// use std::io::Write;
 ///
-/// let mut reader = Reader::new(jx::DEPTH);
+/// let mut reader = Reader::new(jx::DEPTH)?;
 /// reader.write_all(b"{\"a\":")?;
 /// assert_eq!(reader.verdict(), Err(Refusal::Truncated));
 /// reader.write_all(b"[1,2]}")?;
 /// assert_eq!(reader.verdict(), Ok(()));
 /// reader.write_all(b"]")?;
 /// assert_eq!(reader.verdict(), Err(Refusal::Stopped { at: 11 }));
-/// # Ok::<(), std::io::Error>(())
+/// # Ok::<(), Box<dyn std::error::Error>>(())
 /// ```
 ///
 /// Whatever writes into an [`io::Write`] feeds one, as [`io::copy`] does:
 ///
 /// ```
-/// let mut reader = jx::Reader::new(jx::DEPTH);
+/// let mut reader = jx::Reader::new(jx::DEPTH)?;
 /// std::io::copy(&mut &b"[1,2]"[..], &mut reader)?;
 /// assert_eq!(reader.verdict(), Ok(()));
-/// # Ok::<(), std::io::Error>(())
+/// # Ok::<(), Box<dyn std::error::Error>>(())
 /// ```
 #[derive(Clone)]
 pub struct Reader {
@@ -47,44 +47,46 @@ impl fmt::Display for TooManyBytes {
 impl Error for TooManyBytes {}
 
 impl Reader {
-    /// A reader at the start of a text with at most so many containers open at once.
-    pub fn new(depth: u16) -> Reader {
+    /// A reader at the start of a text by settings. A byte order mark that is ignored may come in any number of slices. Names
+    /// can't have to be unique, since a reader keeps none.
+    ///
+    /// ```
+    /// let settings = jx::Settings { ignore_mark: true, ..jx::Settings::default() };
+    /// let mut reader = jx::Reader::new(settings)?;
+    /// reader.feed(b"\xEF\xBB")?;
+    /// assert_eq!(reader.verdict(), Err(jx::Refusal::Truncated));
+    /// reader.feed(b"\xBF1")?;
+    /// assert_eq!(reader.verdict(), Ok(()));
+    /// # Ok::<(), Box<dyn std::error::Error>>(())
+    /// ```
+    pub fn new(settings: impl Into<Settings>) -> Result<Reader, NoUniqueNames> {
         let mut reader = Reader {
             raw: raw::Reader { words: [0; 1031] },
         };
-        reader.start(depth);
-        reader
+        reader.start(settings)?;
+        Ok(reader)
     }
 
-    /// A reader at the start of a text by settings.
-    pub(crate) fn with(settings: &Settings) -> Result<Reader, NoUniqueNames> {
-        let mut reader = Reader {
-            raw: raw::Reader { words: [0; 1031] },
-        };
+    /// Begins another text. Where the settings are refused, the reader stays as it was.
+    ///
+    /// ```
+    /// let mut reader = jx::Reader::new(jx::DEPTH)?;
+    /// reader.feed(b"nulx")?;
+    /// reader.start(0)?;
+    /// reader.feed(b"null")?;
+    /// assert_eq!(reader.verdict(), Ok(()));
+    /// # Ok::<(), Box<dyn std::error::Error>>(())
+    /// ```
+    pub fn start(&mut self, settings: impl Into<Settings>) -> Result<(), NoUniqueNames> {
+        let settings = settings.into().raw();
         // SAFETY: both are borrowed for the call alone; whatever stands in the reader may stand there.
-        match unsafe { raw::jx_reader_start_with(&mut reader.raw, &settings.raw()) } {
+        match unsafe { raw::jx_reader_start_non_null(&mut self.raw, &settings) } {
             raw::NO_UNIQUE_NAMES => Err(NoUniqueNames),
             status => {
                 debug_assert_eq!(status, raw::OK);
-                Ok(reader)
+                Ok(())
             }
         }
-    }
-
-    /// Begins another text, of which a byte order mark is no part.
-    ///
-    /// ```
-    /// let mut reader = jx::Reader::new(jx::DEPTH);
-    /// reader.feed(b"nulx")?;
-    /// reader.start(0);
-    /// reader.feed(b"null")?;
-    /// assert_eq!(reader.verdict(), Ok(()));
-    /// # Ok::<(), jx::TooManyBytes>(())
-    /// ```
-    pub fn start(&mut self, depth: u16) {
-        // SAFETY: the reader is borrowed for the call alone; whatever stands in it may stand there.
-        let status = unsafe { raw::jx_reader_start(&mut self.raw, depth.into()) };
-        debug_assert_eq!(status, raw::OK);
     }
 
     /// Reads the bytes behind all that it was fed. Behind a fault they are counted and not looked at. A slice may end
@@ -100,8 +102,8 @@ impl Reader {
         }
     }
 
-    /// The verdict on all bytes that it was fed, as one text: the same as [`check`](crate::check) tells, or
-    /// [`Settings::check`] where [`Settings::reader`] made it. It may be fed on.
+    /// The verdict on all bytes that it was fed, as one text: the same as [`check`](crate::check) tells by its settings. It may
+    /// be fed on.
     pub fn verdict(&self) -> Result<(), Refusal> {
         let mut verdict = raw::Verdict {
             offset: 0,

@@ -59,7 +59,7 @@ impl Row {
 }
 
 /// Fills a buffer; gives how many rows there are.
-fn fill(text: &[u8], settings: &Settings, buffer: &mut [raw::Row]) -> Result<usize, Fault> {
+fn fill(text: &[u8], settings: &raw::Settings, buffer: &mut [raw::Row]) -> Result<usize, Fault> {
     let mut count = 0;
     let mut verdict = raw::Verdict {
         offset: 0,
@@ -67,10 +67,10 @@ fn fill(text: &[u8], settings: &Settings, buffer: &mut [raw::Row]) -> Result<usi
     };
     // SAFETY: each pointer and size are those of one slice, and all are borrowed for the call alone.
     let status = unsafe {
-        raw::jx_rows_with(
+        raw::jx_rows_non_null(
             text.as_ptr(),
             text.len(),
-            &settings.raw(),
+            settings,
             buffer.as_mut_ptr(),
             buffer.len(),
             &mut count,
@@ -87,7 +87,7 @@ fn fill(text: &[u8], settings: &Settings, buffer: &mut [raw::Row]) -> Result<usi
     }
 }
 
-/// All values of a JSON text (RFC 8259), in the order of their starts, so that each stands before its children.
+/// All values of a JSON text (RFC 8259) by settings, in the order of their starts, so that each stands before its children.
 ///
 /// ```
 /// use jx::{rows, Kind};
@@ -101,12 +101,8 @@ fn fill(text: &[u8], settings: &Settings, buffer: &mut [raw::Row]) -> Result<usi
 /// assert_eq!(all[3].parent, Some(1));
 /// # Ok::<(), jx::Fault>(())
 /// ```
-pub fn rows(text: &[u8], depth: u16) -> Result<Vec<Row>, Fault> {
-    rows_with(text, &Settings::of_depth(depth))
-}
-
-/// The same by settings.
-pub(crate) fn rows_with(text: &[u8], settings: &Settings) -> Result<Vec<Row>, Fault> {
+pub fn rows(text: &[u8], settings: impl Into<Settings>) -> Result<Vec<Row>, Fault> {
+    let settings = settings.into().raw();
     // The text is read again where there are more rows than room: in most texts a value takes eight bytes and more.
     let mut buffer = Vec::new();
     let mut room = text.len() / 8 + 1;
@@ -115,7 +111,7 @@ pub(crate) fn rows_with(text: &[u8], settings: &Settings) -> Result<Vec<Row>, Fa
             .try_reserve_exact(room)
             .map_err(|_| Fault::OutOfMemory)?;
         buffer.resize(room, raw::Row::default());
-        let count = fill(text, settings, &mut buffer)?;
+        let count = fill(text, &settings, &mut buffer)?;
         if count <= room {
             return Ok(buffer[..count].iter().map(Row::of).collect());
         }

@@ -1,23 +1,16 @@
-use crate::elements::{elements_with, Element, OutOfMemory};
-use crate::fault::Fault;
-use crate::find::{find_all_with, find_with, FindError, Found};
-use crate::index::Index;
 use crate::raw;
-use crate::reader::Reader;
-use crate::refusal::Refusal;
-use crate::rows::{rows_with, Row};
 use std::error::Error;
 use std::fmt;
 
-/// What a text is held to besides the grammar. Those that are the default are what the calls go by that are told a depth.
+/// What a text is held to besides the grammar. A depth in their place stands for it and the default of the others.
 ///
 /// ```
-/// use jx::{Fault, Refusal, Settings};
+/// use jx::{check, Fault, Refusal, Settings};
 ///
 /// let settings = Settings { ignore_mark: true, unique_names: true, ..Settings::default() };
-/// assert_eq!(settings.check(b"\xEF\xBB\xBF{\"a\":1}"), Ok(()));
+/// assert_eq!(check(b"\xEF\xBB\xBF{\"a\":1}", settings), Ok(()));
 /// assert_eq!(
-///     settings.check(b"\xEF\xBB\xBF{\"a\":1,\"\\u0061\":2}"),
+///     check(b"\xEF\xBB\xBF{\"a\":1,\"\\u0061\":2}", settings),
 ///     Err(Fault::Refused(Refusal::RepeatedName { at: 10 }))
 /// );
 /// ```
@@ -36,7 +29,24 @@ pub struct Settings {
 impl Default for Settings {
     /// [`DEPTH`](crate::DEPTH), a mark is refused, and any names are accepted.
     fn default() -> Settings {
-        Settings::of_depth(crate::DEPTH)
+        Settings::from(crate::DEPTH)
+    }
+}
+
+impl From<u16> for Settings {
+    /// This depth, a mark is refused, and any names are accepted.
+    fn from(depth: u16) -> Settings {
+        Settings {
+            depth,
+            ignore_mark: false,
+            unique_names: false,
+        }
+    }
+}
+
+impl From<&Settings> for Settings {
+    fn from(settings: &Settings) -> Settings {
+        *settings
     }
 }
 
@@ -53,14 +63,6 @@ impl fmt::Display for NoUniqueNames {
 impl Error for NoUniqueNames {}
 
 impl Settings {
-    pub(crate) fn of_depth(depth: u16) -> Settings {
-        Settings {
-            depth,
-            ignore_mark: false,
-            unique_names: false,
-        }
-    }
-
     pub(crate) fn raw(&self) -> raw::Settings {
         let mark = if self.ignore_mark {
             raw::IGNORE_MARK
@@ -76,76 +78,5 @@ impl Settings {
             depth: self.depth.into(),
             flags: mark | names,
         }
-    }
-
-    /// The same as [`check`](crate::check) by these settings. It takes memory only where names have to be unique.
-    pub fn check(&self, text: &[u8]) -> Result<(), Fault> {
-        let mut verdict = raw::Verdict {
-            offset: 0,
-            kind: raw::TRUNCATED,
-        };
-        // SAFETY: the pointer and the size are those of one slice, and the others are borrowed for the call alone.
-        let status =
-            unsafe { raw::jx_check_with(text.as_ptr(), text.len(), &self.raw(), &mut verdict) };
-        if status == raw::NO_MEMORY {
-            return Err(Fault::OutOfMemory);
-        }
-        debug_assert_eq!(status, raw::OK);
-        Refusal::of(verdict).map_err(Fault::Refused)
-    }
-
-    /// A reader at the start of a text by these settings. A mark that is ignored may come in any number of slices. Names
-    /// can't have to be unique, since a reader keeps none.
-    ///
-    /// ```
-    /// let settings = jx::Settings { ignore_mark: true, ..jx::Settings::default() };
-    /// let mut reader = settings.reader()?;
-    /// reader.feed(b"\xEF\xBB")?;
-    /// assert_eq!(reader.verdict(), Err(jx::Refusal::Truncated));
-    /// reader.feed(b"\xBF1")?;
-    /// assert_eq!(reader.verdict(), Ok(()));
-    /// # Ok::<(), Box<dyn std::error::Error>>(())
-    /// ```
-    pub fn reader(&self) -> Result<Reader, NoUniqueNames> {
-        Reader::with(self)
-    }
-
-    /// The same as [`find`](crate::find) by these settings.
-    pub fn find(&self, text: &[u8], pointer: &str) -> Result<Found, FindError> {
-        find_with(text, pointer, self)
-    }
-
-    /// What each of many pointers leads to, in their order. The text is read and indexed once.
-    ///
-    /// ```
-    /// use jx::{FindError, Settings};
-    ///
-    /// let text = br#"{"a":1,"b":[true]}"#;
-    /// let found = Settings::default().find_all(text, &["/b/0", "/c"])?;
-    /// assert_eq!(&text[found[0].clone().unwrap().span], b"true");
-    /// assert_eq!(found[1], Err(FindError::NoSuchMember { token: 0 }));
-    /// # Ok::<(), jx::OutOfMemory>(())
-    /// ```
-    pub fn find_all(
-        &self,
-        text: &[u8],
-        pointers: &[&str],
-    ) -> Result<Vec<Result<Found, FindError>>, OutOfMemory> {
-        find_all_with(text, pointers, self)
-    }
-
-    /// An index of a text, for many look-ups over it: [`Index::new`].
-    pub fn index<'a>(&self, text: &'a [u8]) -> Result<Index<'a>, Fault> {
-        Index::new(text, self)
-    }
-
-    /// The same as [`rows`](crate::rows) by these settings.
-    pub fn rows(&self, text: &[u8]) -> Result<Vec<Row>, Fault> {
-        rows_with(text, self)
-    }
-
-    /// The same as [`elements`](crate::elements) by these settings.
-    pub fn elements(&self, sequence: &[u8]) -> Result<Vec<Element>, OutOfMemory> {
-        elements_with(sequence, self)
     }
 }

@@ -3,8 +3,8 @@ ghost use Rattle.std.specs.Prelude.{◌≤◌};
 
 use crate::fault::Fault;
 use crate::input::open;
-use jx_answer::verdict_of_text_with;
-use jx_book::OpenGate;
+use jx_answer::verdict_of_text;
+use jx_book::{Crew, OpenGate};
 use jx_claim::Cutting;
 use jx_command::{Color, Input, Inputs, input_of};
 use jx_explain::{Marking, explained};
@@ -12,7 +12,6 @@ use jx_files::Status;
 use jx_report::{End, ReportFault, write_whole};
 use jx_run::Verdict;
 use jx_task::Command;
-use std::alloc::AllocError;
 use std::io::{IsTerminal, Read};
 use std::sync::Wait;
 use std::thread::Threads;
@@ -56,16 +55,13 @@ fn verdict_on<R: Threads + Wait + Sync>(
     let Ok(cutting) = Cutting::every(text.len(), command.piece) else {
         return Err(Fault::Report(ReportFault::Pieces));
     };
-    verdict_of_text_with(
-        threads,
-        rt.alloc(),
-        text,
-        &cutting,
-        command.workers,
-        &command.settings,
-        &OpenGate,
-    )
-    .map_err(|_| Fault::Memory(AllocError))
+    let crew = Crew {
+        rt: threads,
+        alloc: rt.alloc(),
+        workers: command.workers,
+        gate: &OpenGate,
+    };
+    Ok(verdict_of_text(&crew, text, &cutting, &command.settings)?)
 }
 
 /// How what is told is marked.

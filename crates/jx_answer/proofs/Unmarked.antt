@@ -2,12 +2,12 @@
 use Rattle.std.proofs.Common.{◌≡◌, ℕ, List, [], length, refl, sym, ap, subst, ◌∙◌}
 use Rattle.std.specs.Prelude.{◌↔◌}
 use Rattle.std.specs.List.{AllZip}
-use Rattle.jx_run.specs.declared.settings.FrontMark.{FrontMark}
-use Rattle.jx_run.specs.declared.settings.FrontMark.TheVariants as on_mark
-use Rattle.jx_run.specs.declared.settings.NameRule.TheVariants.{Any}
-use Rattle.jx_run.specs.declared.settings.Settings.{Settings}
-use Rattle.jx_run.specs.declared.verdict.Verdict.{Verdict}
-use Rattle.jx_run.specs.declared.verdict.Verdict.TheVariants.{Accepted, Refused}
+use Rattle.jx_run.specs.declared.texts.settings.FrontMark.{FrontMark}
+use Rattle.jx_run.specs.declared.texts.settings.FrontMark.TheVariants as on_mark
+use Rattle.jx_run.specs.declared.texts.settings.NameRule.TheVariants.{Any}
+use Rattle.jx_run.specs.declared.texts.settings.Settings.{Settings}
+use Rattle.jx_run.specs.declared.texts.verdict.Verdict.{Verdict}
+use Rattle.jx_run.specs.declared.texts.verdict.Verdict.TheVariants.{Accepted, Refused}
 use Rattle.jx_run.specs.Settings.{IsFront, IsDocumentBy, JudgedBy}
 use Rattle.jx_run.specs.Text.{IsDocument}
 use Rattle.jx_run.specs.Tree.{Tree, span}

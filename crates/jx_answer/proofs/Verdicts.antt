@@ -1,10 +1,10 @@
 -- Verdicts on elements are the answers on them less their indexes.
 use Rattle.std.proofs.Common.{◌≡◌, ℕ, List, [], ◌∷◌, map, Option, None, Some, refl, sym, ap, ◌∙◌}
 use Rattle.std.specs.List.{AllZip}
-use Rattle.jx_run.specs.declared.element_verdict.ElementVerdict.{ElementVerdict}
-use Rattle.jx_run.specs.declared.element_verdict.ElementVerdict.TheVariants as verdict
-use Rattle.jx_run.specs.declared.element_verdict.JudgedElement.{JudgedElement}
-use Rattle.jx_run.specs.declared.settings.Settings.{Settings}
+use Rattle.jx_run.specs.declared.sequences.element_verdict.ElementVerdict.{ElementVerdict}
+use Rattle.jx_run.specs.declared.sequences.element_verdict.ElementVerdict.TheVariants as verdict
+use Rattle.jx_run.specs.declared.sequences.element_verdict.JudgedElement.{JudgedElement}
+use Rattle.jx_run.specs.declared.texts.settings.Settings.{Settings}
 use Rattle.jx_run.specs.Elements.{Part, part_span}
 use Rattle.jx_run.specs.ElementVerdict.{IsClosedText, IsJudgedElement, IsVerdictOn}
 use Rattle.jx_index.specs.ByNames.{IsJudgedBy, IsRefusedName, judged_unless}

@@ -1,6 +1,6 @@
 -- The answer on a text.
 use Rattle.std.specs.Prelude.{◌≡◌, ℕ, List, length}
-use Rattle.jx_run.specs.declared.verdict.Verdict.TheVariants.{Accepted, Refused}
+use Rattle.jx_run.specs.declared.texts.verdict.Verdict.TheVariants.{Accepted, Refused}
 use Rattle.jx_run.specs.Tree.{Tree, span}
 use Rattle.jx_run.specs.Text.{IsDocument}
 use Rattle.jx_run.specs.Verdict.{Judged}

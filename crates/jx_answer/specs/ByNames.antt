@@ -1,7 +1,7 @@
 -- What a rule on the names of objects makes of answers on elements.
 use Rattle.std.specs.Prelude.{◌≡◌, ℕ, Option, None, Some}
-use Rattle.jx_run.specs.declared.settings.NameRule.{NameRule}
-use Rattle.jx_run.specs.declared.verdict.Refusal.TheVariants.{RepeatedName}
+use Rattle.jx_run.specs.declared.texts.settings.NameRule.{NameRule}
+use Rattle.jx_run.specs.declared.texts.verdict.Refusal.TheVariants.{RepeatedName}
 use Rattle.jx_index.specs.ByNames.{RefusesName}
 use Rattle.jx_answer.specs.declared.element.ElementAnswer.{ElementAnswer}
 use Rattle.jx_answer.specs.declared.element.ElementAnswer.TheVariants as answer

@@ -1,11 +1,11 @@
 -- The answers on a JSON text sequence (RFC 7464, sections 2.1 and 2.4).
 use Rattle.std.specs.Prelude.{◌≡◌, ℕ, ◌<◌, List}
 use Rattle.std.specs.List.{AllZip}
-use Rattle.jx_run.specs.declared.verdict.Verdict.TheVariants.{Refused}
+use Rattle.jx_run.specs.declared.texts.verdict.Verdict.TheVariants.{Refused}
 use Rattle.jx_run.specs.Elements.{Part, part_span, elements}
-use Rattle.jx_run.specs.declared.element_verdict.ElementVerdict.{ElementVerdict}
-use Rattle.jx_run.specs.declared.element_verdict.ElementVerdict.TheVariants as verdict
-use Rattle.jx_run.specs.declared.element_verdict.JudgedElement.{JudgedElement}
+use Rattle.jx_run.specs.declared.sequences.element_verdict.ElementVerdict.{ElementVerdict}
+use Rattle.jx_run.specs.declared.sequences.element_verdict.ElementVerdict.TheVariants as verdict
+use Rattle.jx_run.specs.declared.sequences.element_verdict.JudgedElement.{JudgedElement}
 use Rattle.jx_run.specs.Tree.{Tree}
 use Rattle.jx_run.specs.Unclosed.{EndsUnclosed, IsAccepted, end_of}
 use Rattle.jx_run.specs.Verdict.{Judged}

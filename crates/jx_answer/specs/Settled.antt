@@ -2,7 +2,7 @@
 -- separator; where names have to be unique, an element that repeats one is refused.
 use Rattle.std.specs.Prelude.{◌≡◌, ℕ, List}
 use Rattle.std.specs.List.{AllZip}
-use Rattle.jx_run.specs.declared.settings.Settings.{Settings}
+use Rattle.jx_run.specs.declared.texts.settings.Settings.{Settings}
 use Rattle.jx_run.specs.Elements.{Part, part_span}
 use Rattle.jx_run.specs.MarkAlone.{elements_by}
 use Rattle.jx_answer.specs.declared.element.Element.{Element}

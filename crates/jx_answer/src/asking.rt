@@ -1,7 +1,11 @@
 // One thread that reads a text by pieces.
+ghost use Rattle.std.specs.Prelude.{◌≡◌, ◌+◌, ◌<◌, ◌^◌, ◌++◌, ℕ, List, length, IsErr, OnErr, OnOk};
+ghost use Rattle.jx_run.specs.Reader.{HasFailed, HasRead};
+
 use jx_book::{Event, Gate, Go};
 use jx_claim::{Cutting, PieceNo};
-use jx_run::Pace;
+use jx_run::{Pace, Reader};
+use std::alloc::AllocError;
 
 /// Reads the pieces of a cutting in order, as one worker, and asks a gate as each is begun, until it says stop. The rest
 /// is then read without a question. Where there is one piece, or none, it asks nothing.
@@ -47,5 +51,33 @@ impl<'g, G: Gate> Pace for Asking<'g, G> {
         }
         self.next += 1;
         self.cutting.piece(piece).end
+    }
+}
+
+/// Lets a reader go on with a text, as one worker on this thread, and asks the gate as each piece of the cutting begins, until
+/// it says stop. A cutting of at most one piece asks no gate.
+pub fn read_pieces<G: Gate>(
+    reader: &mut Reader,
+    text: &[u8],
+    cutting: &Cutting,
+    gate: &G,
+) -> Result<(), AllocError>
+    requires fits { reader.old.start + reader.old.count + length text.now < 2 ^ 64 }
+    ensures settings { reader.new.settings ≡ reader.old.settings }
+    ensures start { reader.new.start ≡ reader.old.start }
+    ensures reads { OnOk result ((bytes : List ℕ) → HasRead bytes reader.old → HasRead (bytes ++ text.now) reader.new) }
+    ensures count { OnOk result (reader.new.count ≡ reader.old.count + length text.now) }
+    ensures err { OnErr result (HasFailed reader.new) }
+    ensures failed { HasFailed reader.old → IsErr result }
+{
+    let mut asking = Asking::new(cutting, gate);
+    let mut done = 0;
+    loop {
+        let stop = asking.next_stop(done, text.len());
+        if stop <= done || stop >= text.len() {
+            return reader.feed(&text[done..text.len()]);
+        }
+        reader.feed(&text[done..stop])?;
+        done = stop;
     }
 }

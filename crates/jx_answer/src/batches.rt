@@ -3,8 +3,9 @@ ghost use Rattle.std.specs.Prelude.{◌≡◌, ◌+◌, ◌<◌, ◌≤◌, ◌^
 ghost use Rattle.jx_run.specs.Reader.{HasFailed, HasRead};
 ghost use Rattle.jx_answer.specs.inside.Parts.{IsRunOf, IsPartRun, IsWithin, GoesOn};
 
-use jx_book::{Event, Gate, Go};
-use jx_claim::{PieceNo, Workers};
+use crate::asking::read_pieces;
+use jx_book::{Crew, Event, Gate, Go};
+use jx_claim::{Cutting, PieceNo, Workers};
 use jx_fork::call_each;
 use jx_lex::{Depth, Span};
 use jx_run::{OutcomeRun, Reader, Summary};
@@ -20,6 +21,9 @@ const SHARES: usize = 256;
 const FIRST_STEP: usize = 32;
 
 const LEAST_STEP: usize = 4;
+
+/// How many bytes several workers share, at the least.
+const LEAST_SHARED: usize = 1024 * 1024;
 
 /// How much of a batch one worker reads from where the text stands, while the others make runs of the rest. What a run costs
 /// depends on the text. So the front grows where a part was not done before it, and shrinks where all were.
@@ -95,9 +99,9 @@ impl Race {
 
 /// A part of a batch that one worker reads.
 #[derive(Clone, Copy)]
-struct Part {
-    worker: u8,
-    span: Span,
+pub(crate) struct Part {
+    pub worker: u8,
+    pub span: Span,
 }
 
 /// A part, and its run, as of a text of its own, where one was made.
@@ -120,12 +124,11 @@ fn run_of(alloc: Global, batch: &[u8], span: Span, depth: Depth) -> Option<Outco
 }
 
 /// Reads one part, unless the gate says stop.
-fn read_part<G: Gate>(
-    alloc: Global,
+fn read_part<R, G: Gate>(
+    crew: &Crew<'_, R, G>,
     batch: &[u8],
     part: Part,
     depth: Depth,
-    gate: &G,
     race: &Race,
 ) -> PartRun
     requires within { IsWithin batch.now part.span }
@@ -134,12 +137,12 @@ fn read_part<G: Gate>(
     let worker = part.worker as usize;
     let piece = PieceNo(part.worker as u32);
     let span = part.span;
-    if gate.pass(Event::Drew { worker, piece }) == Go::Stop {
+    if crew.gate.pass(Event::Drew { worker, piece }) == Go::Stop {
         return PartRun { span, run: None };
     }
-    let run = run_of(alloc, batch, span, depth);
+    let run = run_of(crew.alloc, batch, span, depth);
     race.part_ends();
-    let _ = gate.pass(Event::Stored { worker });
+    let _ = crew.gate.pass(Event::Stored { worker });
     PartRun { span, run }
 }
 
@@ -167,81 +170,40 @@ fn parts_from(
     Ok(parts)
 }
 
-/// Reads the parts from an offset on, each in a thread of its own where one can be made.
-fn read_each<R: Threads + Sync, G: Gate + Sync>(
-    rt: &R,
-    alloc: Global,
+/// Reads the parts from an offset on, each in a thread of its own where one can be made. Where memory is refused there are
+/// none.
+fn read_parts<R: Threads + Sync, G: Gate + Sync>(
+    crew: &Crew<'_, R, G>,
     batch: &[u8],
     front: usize,
-    size: usize,
     depth: Depth,
-    gate: &G,
     race: &Race,
-) -> Result<Vec<PartRun>, AllocError>
+) -> Vec<PartRun>
     requires front { front ≤ length batch.now }
-    requires size { 1 ≤ size }
-    ensures { IfOk result (λ runs. All (IsPartRun batch.now depth) runs.items) }
+    ensures { All (IsPartRun batch.now depth) result.items }
 {
-    let parts = parts_from(alloc, batch, front, size)?;
-    call_each(
-        rt,
-        alloc,
+    let others = (crew.workers.count() as usize).max(2) - 1;
+    let size = (batch.len() - front).div_ceil(others).max(1);
+    let Ok(parts) = parts_from(crew.alloc, batch, front, size) else {
+        return Vec::new(crew.alloc);
+    };
+    let runs = call_each(
+        crew.rt,
+        crew.alloc,
         parts,
         &|part: Part| -> PartRun
             requires { IsWithin batch.now part.span }
             ensures { IsPartRun batch.entry.now depth result }
-        { read_part(alloc, batch, part, depth, gate, race) },
-    )
-}
-
-/// The same, where there is memory for it; no part else.
-fn read_parts<R: Threads + Sync, G: Gate + Sync>(
-    rt: &R,
-    alloc: Global,
-    batch: &[u8],
-    front: usize,
-    size: usize,
-    depth: Depth,
-    gate: &G,
-    race: &Race,
-) -> Vec<PartRun>
-    requires front { front ≤ length batch.now }
-    requires size { 1 ≤ size }
-    ensures { All (IsPartRun batch.now depth) result.items }
-{
-    match read_each(rt, alloc, batch, front, size, depth, gate, race) {
-        Ok(parts) => parts,
-        Err(AllocError) => Vec::new(alloc),
+        { read_part(crew, batch, part, depth, race) },
+    );
+    match runs {
+        Ok(runs) => runs,
+        Err(AllocError) => Vec::new(crew.alloc),
     }
 }
 
-/// Reads the front of a batch behind what was read.
-fn read_front<G: Gate>(
-    reader: &mut Reader,
-    batch: &[u8],
-    front: usize,
-    gate: &G,
-    race: &Race,
-) -> Result<(), AllocError>
-    requires front { front ≤ length batch.now }
-    requires fits { reader.old.start + reader.old.count + length batch.now < 2 ^ 64 }
-    ensures on { OnOk result (GoesOn batch.now front reader.old reader.new) }
-    ensures depth { reader.new.depth ≡ reader.old.depth }
-    ensures start { reader.new.start ≡ reader.old.start }
-    ensures err { OnErr result (HasFailed reader.new) }
-    ensures failed { HasFailed reader.old → IsErr result }
-{
-    let worker = 0;
-    let piece = PieceNo(0);
-    let _ = gate.pass(Event::Drew { worker, piece });
-    reader.feed(&batch[0..front])?;
-    race.front_ends();
-    let _ = gate.pass(Event::Stored { worker });
-    Ok(())
-}
-
-/// Goes on behind what is done by a part's run, or by its bytes where there is none. A part that begins elsewhere is left
-/// out.
+/// Goes on behind what is done by a part's run, or by its bytes where there is none, or where a byte order mark may still
+/// stand before them. A part that begins elsewhere is left out.
 fn go_on(
     reader: &mut Reader,
     batch: &[u8],
@@ -249,9 +211,9 @@ fn go_on(
     part: &PartRun,
 ) -> Result<usize, AllocError>
     requires done { done ≤ length batch.now }
-    requires part { IsPartRun batch.now reader.old.depth part.now }
+    requires part { IsPartRun batch.now reader.old.settings.depth part.now }
     requires fits { reader.old.start + reader.old.count + length batch.now < 2 ^ 64 + done }
-    ensures depth { reader.new.depth ≡ reader.old.depth }
+    ensures settings { reader.new.settings ≡ reader.old.settings }
     ensures start { reader.new.start ≡ reader.old.start }
     ensures within { IfOk result (λ end. end ≤ length batch.now) }
     ensures count { IfOk result (λ end. reader.new.count + done ≡ reader.old.count + end) }
@@ -264,8 +226,8 @@ fn go_on(
         return Ok(done);
     }
     match &part.run {
-        Some(run) => reader.follow(run)?,
-        None => reader.feed(&batch[span.start..span.end])?,
+        Some(run) if !reader.is_in_front() => reader.follow(run)?,
+        _ => reader.feed(&batch[span.start..span.end])?,
     }
     Ok(span.end)
 }
@@ -278,9 +240,9 @@ fn go_on_by(
     parts: &[PartRun],
 ) -> Result<(), AllocError>
     requires front { front ≤ length batch.now }
-    requires parts { All (IsPartRun batch.now reader.old.depth) parts.now }
+    requires parts { All (IsPartRun batch.now reader.old.settings.depth) parts.now }
     requires fits { reader.old.start + reader.old.count + length batch.now < 2 ^ 64 + front }
-    ensures depth { reader.new.depth ≡ reader.old.depth }
+    ensures settings { reader.new.settings ≡ reader.old.settings }
     ensures start { reader.new.start ≡ reader.old.start }
     ensures count { OnOk result (reader.new.count + front ≡ reader.old.count + length batch.now) }
     ensures reads { OnOk result ((bytes : List ℕ) → HasRead (bytes ++ take front batch.now) reader.old → HasRead (bytes ++ batch.now) reader.new) }
@@ -294,60 +256,28 @@ fn go_on_by(
     reader.feed(&batch[done..batch.len()])
 }
 
-/// Reads the front of a batch behind what was read, while other workers make runs of what stands behind it.
-fn read_both<R: Threads + Sync, G: Gate + Sync>(
-    rt: &R,
-    alloc: Global,
-    batch: &[u8],
-    front: usize,
-    size: usize,
-    depth: Depth,
-    gate: &G,
-    race: &Race,
-    reader: &mut Reader,
-) -> Result<Vec<PartRun>, AllocError>
-    requires front { front ≤ length batch.now }
-    requires size { 1 ≤ size }
-    requires fits { reader.old.start + reader.old.count + length batch.now < 2 ^ 64 }
-    ensures depth { reader.new.depth ≡ reader.old.depth }
-    ensures start { reader.new.start ≡ reader.old.start }
-    ensures front { IfOk result (λ _. GoesOn batch.now front reader.old reader.new) }
-    ensures parts { IfOk result (λ parts. All (IsPartRun batch.now depth) parts.items) }
-    ensures err { OnErr result (HasFailed reader.new) }
-    ensures failed { HasFailed reader.old → IsErr result }
-{
-    let (read, parts) = thread::join_mut(
-        rt,
-        &mut || -> Result<(), AllocError>
-            requires { (front ≤ length batch.now) × (reader.now.start + reader.now.count + length batch.now < 2 ^ 64) }
-            ensures { (reader.exit.now.depth ≡ reader.entry.now.depth) × (reader.exit.now.start ≡ reader.entry.now.start) × OnOk result (GoesOn batch.entry.now front reader.entry.now reader.exit.now)
-                × OnErr result (HasFailed reader.exit.now) × (HasFailed reader.entry.now → IsErr result) }
-        { read_front(reader, batch, front, gate, race) },
-        &mut || -> Vec<PartRun>
-            requires { (front ≤ length batch.now) × (1 ≤ size) }
-            ensures { All (IsPartRun batch.entry.now depth) result.items }
-        { read_parts(rt, alloc, batch, front, size, depth, gate, race) },
-    );
-    read?;
-    Ok(parts)
+/// Whether so few bytes are read by the calling thread alone. To start workers takes longer, unless somebody is asked as they
+/// go on.
+pub fn is_short<G: Gate>(len: usize, gate: &G) -> bool {
+    len < LEAST_SHARED && !gate.is_asked()
 }
 
-/// Reads a batch of a text, which stands behind the bytes that the reader has read, by that many workers. The first reads
-/// on from where the reader stands. The others make runs of the parts behind that, which the reader then follows. The
-/// gate is asked as each of them begins its part, and the number of a piece is that of its worker. The calling thread reads
-/// a part that a worker was not let read, or had no memory for. Behind a fault no byte is looked at. Only want of memory is
-/// refused, and from then on every batch is.
+/// Reads a batch of a text, which stands behind the bytes that the reader has read, by the crew. Pieces have so many bytes.
+/// A batch of one piece is read on the calling thread, and asks no gate. One worker reads piece by piece, and asks the gate
+/// as each begins, until it says stop. Of several workers, the first reads on from where the reader stands. The others make
+/// runs of the parts behind that, which the reader then follows. The gate is asked as each of them begins its part, and the
+/// number of a piece is that of its worker. The calling thread reads a part that a worker was not let read, or had no memory
+/// for. Behind a fault no byte is looked at. Only want of memory is refused, and from then on every batch is.
 pub fn read_batch<R: Threads + Sync, G: Gate + Sync>(
-    rt: &R,
-    alloc: Global,
+    crew: &Crew<'_, R, G>,
     reader: &mut Reader,
     balance: &mut Balance,
     batch: &[u8],
-    workers: Workers,
-    gate: &G,
+    piece: usize,
 ) -> Result<(), AllocError>
+    requires piece { 1 ≤ piece }
     requires fits { reader.old.start + reader.old.count + length batch.now < 2 ^ 64 }
-    ensures depth { reader.new.depth ≡ reader.old.depth }
+    ensures settings { reader.new.settings ≡ reader.old.settings }
     ensures start { reader.new.start ≡ reader.old.start }
     // For every number of workers and every gate, the reader goes on with the bytes of the batch.
     ensures reads { OnOk result ((bytes : List ℕ) → HasRead bytes reader.old → HasRead (bytes ++ batch.now) reader.new) }
@@ -355,15 +285,39 @@ pub fn read_batch<R: Threads + Sync, G: Gate + Sync>(
     ensures err { OnErr result (HasFailed reader.new) }
     ensures failed { HasFailed reader.old → IsErr result }
 {
-    let others = workers.count() as usize - 1;
-    if others == 0 || reader.is_done() {
+    if crew.workers.count() == 1 {
+        let Ok(cutting) = Cutting::every(batch.len(), piece) else {
+            return reader.feed(batch);
+        };
+        return read_pieces(reader, batch, &cutting, crew.gate);
+    }
+    if batch.len() <= piece || is_short(batch.len(), crew.gate) || reader.is_done() {
         return reader.feed(batch);
     }
     let front = balance.front(batch.len());
-    let size = (batch.len() - front).div_ceil(others).max(1);
-    let depth = reader.depth();
+    let depth = reader.settings().depth;
     let race = Race::new();
-    let parts = read_both(rt, alloc, batch, front, size, depth, gate, &race, reader)?;
+    let (read, parts) = thread::join_mut(
+        crew.rt,
+        &mut || -> Result<(), AllocError>
+            requires { (front ≤ length batch.now) × (reader.now.start + reader.now.count + length batch.now < 2 ^ 64) }
+            ensures { (reader.exit.now.settings ≡ reader.entry.now.settings) × (reader.exit.now.start ≡ reader.entry.now.start) × OnOk result (GoesOn batch.entry.now front reader.entry.now reader.exit.now)
+                × OnErr result (HasFailed reader.exit.now) × (HasFailed reader.entry.now → IsErr result) }
+        {
+            let worker = 0;
+            let piece = PieceNo(0);
+            let _ = crew.gate.pass(Event::Drew { worker, piece });
+            reader.feed(&batch[0..front])?;
+            race.front_ends();
+            let _ = crew.gate.pass(Event::Stored { worker });
+            Ok(())
+        },
+        &mut || -> Vec<PartRun>
+            requires { front ≤ length batch.now }
+            ensures { All (IsPartRun batch.entry.now depth) result.items }
+        { read_parts(crew, batch, front, depth, &race) },
+    );
+    read?;
     balance.learn(race.was_late());
     go_on_by(reader, batch, front, &parts)
 }

@@ -2,7 +2,7 @@
 ghost use Rattle.std.specs.Prelude.{◌≡◌, ℕ, List};
 ghost use Rattle.std.specs.List.{AllZip};
 ghost use Rattle.jx_run.specs.Elements.{Part};
-ghost use Rattle.jx_run.specs.declared.settings.Settings.{Settings};
+ghost use Rattle.jx_run.specs.declared.texts.settings.Settings.{Settings};
 ghost use Rattle.jx_answer.specs.ByNames.{IsByNames, RefusesNameIn};
 ghost use Rattle.jx_answer.specs.Sequence.{IsElement};
 ghost use Rattle.jx_answer.specs.Settled.{IsElementBy};

@@ -6,20 +6,14 @@ ghost use Rattle.jx_run.specs.SequenceRead.{StartsWithSeparator};
 ghost use Rattle.std.specs.List.{AllZip};
 ghost use Rattle.jx_answer.specs.inside.ElementParts.{AreOfPart, AreUpTo, IsElementsPart, IsJudgedPart};
 
-use jx_book::{Event, Gate, Go};
+use crate::batches::Part;
+use jx_book::{Crew, Event, Gate, Go};
 use jx_claim::PieceNo;
 use jx_fork::call_each;
 use jx_lex::{Depth, Span};
 use jx_run::{ElementsRun, JudgedElement, Summary, separated_part};
 use std::alloc::{AllocError, Global};
 use std::thread::Threads;
-
-/// A part of a batch, from a record separator up to another one or to the end, and the worker who judges it.
-#[derive(Clone, Copy)]
-struct ElementsPart {
-    worker: u8,
-    span: Span,
-}
 
 /// A part, and the verdicts on its elements, where its worker came to them.
 #[derive(Drop)]
@@ -41,8 +35,9 @@ fn next_part(batch: &[u8], from: usize) -> usize
     }
 }
 
-/// The parts of a batch that begins with a record separator, each of so many bytes or longer, but for the last one.
-fn element_parts(alloc: Global, batch: &[u8], size: usize) -> Result<Vec<ElementsPart>, AllocError>
+/// The parts of a batch that begins with a record separator, each of so many bytes or longer, but for the last one. Each
+/// goes from a record separator up to another one or to the end.
+fn element_parts(alloc: Global, batch: &[u8], size: usize) -> Result<Vec<Part>, AllocError>
     requires starts { StartsWithSeparator batch.now }
     requires size { 1 ≤ size }
     ensures { IfOk result (λ parts. All (λ p. IsElementsPart batch.now p.span) parts.items) }
@@ -53,7 +48,7 @@ fn element_parts(alloc: Global, batch: &[u8], size: usize) -> Result<Vec<Element
     while at < batch.len() {
         let end = next_part(batch, at + size.min(batch.len() - at));
         let span = Span { start: at, end };
-        parts.push(ElementsPart { worker, span })?;
+        parts.push(Part { worker, span })?;
         worker = worker.saturating_add(1);
         at = end;
     }
@@ -81,13 +76,12 @@ fn judged_there(
 }
 
 /// Judges one part, unless the gate says stop.
-fn judge_part<G: Gate>(
-    alloc: Global,
+fn judge_part<R, G: Gate>(
+    crew: &Crew<'_, R, G>,
     batch: &[u8],
     before: usize,
-    part: ElementsPart,
+    part: Part,
     depth: Depth,
-    gate: &G,
 ) -> JudgedPart
     requires part { IsElementsPart batch.now part.span }
     requires fits { before + length batch.now < 2 ^ 64 }
@@ -96,39 +90,37 @@ fn judge_part<G: Gate>(
     let worker = part.worker as usize;
     let piece = PieceNo(part.worker as u32);
     let span = part.span;
-    if gate.pass(Event::Drew { worker, piece }) == Go::Stop {
+    if crew.gate.pass(Event::Drew { worker, piece }) == Go::Stop {
         return JudgedPart {
             span,
             elements: None,
         };
     }
-    let elements = judged_there(alloc, batch, before, span, depth).ok();
-    let _ = gate.pass(Event::Stored { worker });
+    let elements = judged_there(crew.alloc, batch, before, span, depth).ok();
+    let _ = crew.gate.pass(Event::Stored { worker });
     JudgedPart { span, elements }
 }
 
 /// Judges the parts, each in a thread of its own where one can be made.
 fn judge_parts<R: Threads + Sync, G: Gate + Sync>(
-    rt: &R,
-    alloc: Global,
+    crew: &Crew<'_, R, G>,
     batch: &[u8],
     before: usize,
-    parts: Vec<ElementsPart>,
+    parts: Vec<Part>,
     depth: Depth,
-    gate: &G,
 ) -> Result<Vec<JudgedPart>, AllocError>
     requires parts { All (λ p. IsElementsPart batch.now p.span) parts.items }
     requires fits { before + length batch.now < 2 ^ 64 }
     ensures { IfOk result (λ judged. All (IsJudgedPart batch.now before depth) judged.items) }
 {
     call_each(
-        rt,
-        alloc,
+        crew.rt,
+        crew.alloc,
         parts,
-        &|part: ElementsPart| -> JudgedPart
+        &|part: Part| -> JudgedPart
             requires { IsElementsPart batch.now part.span × (before + length batch.now < 2 ^ 64) }
             ensures { IsJudgedPart batch.entry.now before depth result }
-        { judge_part(alloc, batch, before, part, depth, gate) },
+        { judge_part(crew, batch, before, part, depth) },
     )
 }
 
@@ -208,23 +200,19 @@ pub(crate) fn judge_alone(
     run.into_elements_behind(before)
 }
 
-/// Lets so many workers judge the elements of a batch that begins with a record separator and stands behind so many bytes.
+/// Lets the workers judge the elements of a batch that begins with a record separator and stands behind so many bytes.
 pub(crate) fn judge_by_parts<R: Threads + Sync, G: Gate + Sync>(
-    rt: &R,
-    alloc: Global,
+    crew: &Crew<'_, R, G>,
     batch: &[u8],
     before: usize,
-    workers: usize,
     depth: Depth,
-    gate: &G,
 ) -> Result<Vec<JudgedElement>, AllocError>
     requires starts { StartsWithSeparator batch.now }
     requires fits { before + length batch.now < 2 ^ 64 }
-    requires some { 1 ≤ workers }
     ensures { IfOk result (λ judged. AllZip (IsJudgedElement depth) (elements_of before batch.now) judged.items) }
 {
-    let size = batch.len().div_ceil(workers).max(1);
-    let parts = element_parts(alloc, batch, size)?;
-    let judged = judge_parts(rt, alloc, batch, before, parts, depth, gate)?;
-    in_order(alloc, batch, before, depth, &judged)
+    let size = batch.len().div_ceil(crew.workers.count() as usize).max(1);
+    let parts = element_parts(crew.alloc, batch, size)?;
+    let judged = judge_parts(crew, batch, before, parts, depth)?;
+    in_order(crew.alloc, batch, before, depth, &judged)
 }

@@ -1,10 +1,10 @@
 ghost use Rattle.std.specs.Prelude.{◌≡◌, ◌↔◌, ℕ, List, map};
 ghost use Rattle.std.specs.List.{AllZip};
-ghost use Rattle.jx_run.specs.declared.element_verdict.JudgedElement.{JudgedElement};
-ghost use Rattle.jx_run.specs.declared.settings.FrontMark.TheVariants.{Refused};
-ghost use Rattle.jx_run.specs.declared.settings.NameRule.TheVariants.{Any};
-ghost use Rattle.jx_run.specs.declared.settings.Settings.{Settings};
-ghost use Rattle.jx_run.specs.declared.verdict.Verdict.{Verdict};
+ghost use Rattle.jx_run.specs.declared.sequences.element_verdict.JudgedElement.{JudgedElement};
+ghost use Rattle.jx_run.specs.declared.texts.settings.FrontMark.TheVariants.{Refused};
+ghost use Rattle.jx_run.specs.declared.texts.settings.NameRule.TheVariants.{Any};
+ghost use Rattle.jx_run.specs.declared.texts.settings.Settings.{Settings};
+ghost use Rattle.jx_run.specs.declared.texts.verdict.Verdict.{Verdict};
 ghost use Rattle.jx_run.specs.Elements.{Part, elements as elements_of};
 ghost use Rattle.jx_run.specs.ElementVerdict.{IsJudgedElement};
 ghost use Rattle.jx_run.specs.Settings.{JudgedBy};

@@ -2,7 +2,6 @@
 //! lead to in an index.
 #![tactic(auto)]
 
-mod answered;
 mod asking;
 mod batches;
 mod by_names;
@@ -10,19 +9,18 @@ mod element;
 mod element_parts;
 mod fault;
 mod find_answer;
-mod found;
 mod judging;
 mod laws;
 mod lookups;
 mod sequences;
 mod texts;
 
-pub use batches::{Balance, read_batch};
+pub use asking::read_pieces;
+pub use batches::{Balance, is_short, read_batch};
 pub use element::{Element, ElementAnswer};
 pub use fault::Fault;
 pub use find_answer::Answer;
-pub use found::find_all;
-pub use judging::{judge_batch, judge_sequence, judge_sequence_with};
+pub use judging::{judge_batch, judge_sequence};
 pub use jx_index::TextAnswer;
 pub use laws::{
     answers_are_one, answers_by_settings_are_one, any_names_change_nothing,
@@ -30,7 +28,6 @@ pub use laws::{
     verdicts_are_answers_without_indexes, verdicts_by_settings_are_one,
     verdicts_on_elements_are_one,
 };
+pub use lookups::find_all;
 pub use sequences::{index_sequence, index_sequence_with};
-pub use texts::{
-    index_text, index_text_with, rows_of_text_with, verdict_of_text, verdict_of_text_with,
-};
+pub use texts::{index_text, index_text_with, rows_of_text, verdict_of_text};

@@ -1,11 +1,11 @@
-// What several workers answer together.
+// Pointers that several workers answer together.
 ghost use Rattle.std.specs.Prelude.{◌≡◌, ◌<◌, ◌≤◌, All, length, None, IfOk, vec_len, false};
 ghost use Rattle.std.specs.List.{AllZip};
 ghost use Rattle.jx_answer.specs.Found.{AreAnswered, ArePlaced, IsAnswerTo, IsAnswerAt};
 
-use crate::answered::Answered;
+use crate::fault::Fault;
 use crate::find_answer::Answer;
-use jx_book::{Event, Gate, Go};
+use jx_book::{Crew, Event, Gate, Go};
 use jx_claim::{ClaimSeat, Claims, Cutting, Workers};
 use jx_fork::call_each;
 use jx_index::{Indexed, Pointer};
@@ -16,39 +16,65 @@ use std::thread::Threads;
 /// How many pieces a list of pointers is cut into at the most.
 const MOST_PIECES: usize = 65536;
 
+/// The answer to the pointer at a place in the list of all pointers.
+#[derive(Clone, Copy, Debug)]
+struct Answered {
+    at: usize,
+    answer: Answer,
+}
+
 /// Pointers that are to be looked up in an index.
 #[derive(Clone, Copy, Debug)]
-pub struct Lookups<'i> {
-    pub index: &'i Indexed<'i>,
-    pub pointers: &'i [Pointer<'i>],
+struct Lookups<'i> {
+    index: &'i Indexed<'i>,
+    pointers: &'i [Pointer<'i>],
+}
+
+/// Answers pointers in their order, as `Indexed::find` does, by that many workers, who draw pieces of the list. It waits
+/// for the workers. The gate is asked after each draw and may stop the worker; the calling thread answers what is left. One
+/// worker draws as each of several does. A list of at most one pointer starts no worker and asks no gate: the calling
+/// thread answers. Only want of memory is a fault.
+pub fn find_all<'i, R: Threads + Sync, G: Gate + Sync>(
+    rt: &R,
+    alloc: Global,
+    index: &'i Indexed<'i>,
+    pointers: &'i [Pointer<'i>],
+    workers: Workers,
+    gate: &G,
+) -> Result<Vec<Answer>, Fault>
+    ensures answers { IfOk result (λ answers. AllZip (IsAnswerTo index.now) pointers.now answers.items) }
+{
+    let crew = Crew {
+        rt,
+        alloc,
+        workers,
+        gate,
+    };
+    let lookups = Lookups { index, pointers };
+    let answers = lookups.answers(&crew)?;
+    Ok(answers)
 }
 
 impl<'i> Lookups<'i> {
     /// The answers in the order of the pointers; what the workers left is answered here.
-    pub fn answers<R: Threads + Sync, G: Gate + Sync>(
+    fn answers<R: Threads + Sync, G: Gate + Sync>(
         &self,
-        rt: &R,
-        alloc: Global,
-        workers: Workers,
-        gate: &G,
+        crew: &Crew<'_, R, G>,
     ) -> Result<Vec<Answer>, AllocError>
         ensures answers { IfOk result (λ answers. AllZip (IsAnswerTo self.now.index.now) self.now.pointers.now answers.items) }
     {
-        let mut places = nothing(alloc, self.pointers.len())?;
+        let mut places = nothing(crew.alloc, self.pointers.len())?;
         if self.pointers.len() > 1 {
-            let found = self.found(rt, alloc, workers, gate)?;
+            let found = self.found(crew)?;
             self.place_all(&mut places, &found);
         }
-        self.in_order(alloc, &places)
+        self.in_order(crew.alloc, &places)
     }
 
     /// What each worker found.
     fn found<R: Threads + Sync, G: Gate + Sync>(
         &self,
-        rt: &R,
-        alloc: Global,
-        workers: Workers,
-        gate: &G,
+        crew: &Crew<'_, R, G>,
     ) -> Result<Vec<Vec<Answered>>, AllocError>
         ensures found { IfOk result (λ v. All (λ f. AreAnswered self.now.index.now self.now.pointers.now f.items) v.items) }
     {
@@ -56,19 +82,17 @@ impl<'i> Lookups<'i> {
         let Ok(cutting) = Cutting::every(len, len.div_ceil(MOST_PIECES).max(1)) else {
             unreachable!()
         };
-        let (claims, seats) = Claims::open(alloc, cutting.count(), workers)?;
-        self.by_seats(rt, alloc, &cutting, &claims, seats, gate)
+        let (claims, seats) = Claims::open(crew.alloc, cutting.count(), crew.workers)?;
+        self.by_seats(crew, &cutting, &claims, seats)
     }
 
     /// Lets each worker draw, in a thread of its own where one can be made.
     fn by_seats<R: Threads + Sync, G: Gate + Sync>(
         &self,
-        rt: &R,
-        alloc: Global,
+        crew: &Crew<'_, R, G>,
         cutting: &Cutting,
         claims: &Claims,
         seats: Vec<ClaimSeat>,
-        gate: &G,
     ) -> Result<Vec<Vec<Answered>>, AllocError>
         requires cutting { cutting.now.len ≡ length self.now.pointers.now }
         requires claims { claims.now.pieces ≡ length cutting.now.pieces }
@@ -77,24 +101,23 @@ impl<'i> Lookups<'i> {
     {
         let lookups = self;
         call_each(
-            rt,
-            alloc,
+            crew.rt,
+            crew.alloc,
             seats,
             &|seat: ClaimSeat| -> Vec<Answered>
                 requires { (cutting.now.len ≡ length lookups.now.pointers.now) × (claims.now.pieces ≡ length cutting.now.pieces) × ((seat.id ≡ claims.now.id) × (seat.spent ≡ false)) }
                 ensures { AreAnswered lookups.entry.now.index.now lookups.entry.now.pointers.now result.items }
-            { lookups.by_seat(alloc, cutting, claims, seat, gate) },
+            { lookups.by_seat(crew, cutting, claims, seat) },
         )
     }
 
     /// Draws pieces until none is left, the gate says stop or memory is refused, and answers the pointers in each.
-    fn by_seat<G: Gate>(
+    fn by_seat<R, G: Gate>(
         &self,
-        alloc: Global,
+        crew: &Crew<'_, R, G>,
         cutting: &Cutting,
         claims: &Claims,
         seat: ClaimSeat,
-        gate: &G,
     ) -> Vec<Answered>
         requires cutting { cutting.now.len ≡ length self.now.pointers.now }
         requires claims { claims.now.pieces ≡ length cutting.now.pieces }
@@ -103,13 +126,13 @@ impl<'i> Lookups<'i> {
         ensures found { AreAnswered self.now.index.now self.now.pointers.now result.items }
     {
         let mut seat = seat;
-        let mut found = Vec::new(alloc);
+        let mut found = Vec::new(crew.alloc);
         let worker = seat.number();
         for _ in 0..cutting.count() {
             let Some(piece) = claims.draw(&mut seat) else {
                 return found;
             };
-            if gate.pass(Event::Drew { worker, piece }) == Go::Stop {
+            if crew.gate.pass(Event::Drew { worker, piece }) == Go::Stop {
                 return found;
             }
             if self.answer_piece(cutting.piece(piece), &mut found).is_err() {

@@ -14,8 +14,9 @@ ghost use Rattle.jx_answer.specs.inside.Pushed.{IsReadable, IsShown, PushesEach,
 use crate::by_names::elements_by_names;
 use crate::element::{Element, ElementAnswer};
 use crate::fault::Fault;
+use crate::laws::settings_that_are_off_change_no_answer;
 use crate::texts::read_text;
-use jx_book::Gate;
+use jx_book::{Crew, Gate};
 use jx_claim::{Cutting, Workers};
 use jx_index::Indexed;
 use jx_lex::{Depth, Kind, Span};
@@ -46,9 +47,8 @@ pub fn index_sequence<'a, R: Threads + Wait + Sync, G: Gate + Sync>(
     // For every cutting, number of workers and gate, these are the answers on the elements of the bytes.
     ensures elements { IfOk result (λ elements. AreElements text.entry.now depth elements.items) }
 {
-    let run = read_text::<SeqRun, R, G>(rt, alloc, text, cutting, workers, depth, gate)?;
-    let elements = elements_of(alloc, text, run.run())?;
-    Ok(elements)
+    settings_that_are_off_change_no_answer();
+    index_sequence_with(rt, alloc, text, cutting, workers, &depth.into(), gate)
 }
 
 /// The same by settings. Where a byte order mark is ignored, one that stands alone before the first record separator is no
@@ -67,25 +67,29 @@ pub fn index_sequence_with<'a, R: Threads + Wait + Sync, G: Gate + Sync>(
     requires front { cutting.now.front ≡ 0 }
     ensures elements { IfOk result (λ elements. AreElementsBy settings.now text.entry.now elements.items) }
 {
-    let elements = index_by_mark(rt, alloc, text, cutting, workers, settings, gate)?;
+    let crew = Crew {
+        rt,
+        alloc,
+        workers,
+        gate,
+    };
+    let elements = index_by_mark(&crew, text, cutting, settings)?;
     Ok(elements_by_names(settings.names, elements))
 }
 
 /// The same whatever names the objects have.
 fn index_by_mark<'a, R: Threads + Wait + Sync, G: Gate + Sync>(
-    rt: &R,
-    alloc: Global,
+    crew: &Crew<'_, R, G>,
     text: &'a [u8],
     cutting: &Cutting,
-    workers: Workers,
     settings: &Settings,
-    gate: &G,
-) -> Result<Vec<Element<'a>>, Fault>
+) -> Result<Vec<Element<'a>>, AllocError>
     requires cutting { cutting.now.len ≡ length text.now }
     requires front { cutting.now.front ≡ 0 }
     ensures elements { IfOk result (λ elements. AllZip (IsElement text.entry.now settings.now.depth) (elements_by settings.now.mark text.entry.now) elements.items) }
 {
-    let elements = index_sequence(rt, alloc, text, cutting, workers, settings.depth, gate)?;
+    let run = read_text::<SeqRun, R, G>(crew, text, cutting, settings.depth)?;
+    let elements = elements_of(crew.alloc, text, run.run())?;
     match settings.mark {
         FrontMark::Refused => Ok(elements),
         FrontMark::Ignored => Ok(without_mark(front(text, FrontMark::Ignored), elements)),

@@ -8,8 +8,8 @@ use Rattle.jx_summary.specs.declared.span.Span.{Span}
 use Rattle.jx_book.specs.Spans.{span, span_len}
 use Rattle.jx_book.specs.Shares.{ShareValue}
 use Rattle.jx_claim.specs.Cut.{drawn_len, piece_len, no_span}
-use Rattle.jx_book.specs.declared.workers.hand.Hand.{Hand}
-use Rattle.jx_book.specs.declared.workers.hand.Hand.TheVariants.{Nothing, Piece, One, Two}
+use Rattle.jx_book.specs.declared.workers.worker.Hand.{Hand}
+use Rattle.jx_book.specs.declared.workers.worker.Hand.TheVariants.{Nothing, Piece, One, Two}
 use Rattle.jx_book.specs.Worked.{HandedOver, HasSpan, IsLeft, Within, Worked}
 
 -- the piece that was read

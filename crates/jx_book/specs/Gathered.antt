@@ -1,10 +1,7 @@
 -- A run over a text from an offset on, or over all of it.
-use Rattle.std.specs.Prelude.{◌≡◌, ℕ, ◌<◌, List, length, All, Option, None, Some}
+use Rattle.std.specs.Prelude.{◌≡◌, ℕ, ◌<◌, List, length, Option, None, Some}
 use Rattle.jx_summary.specs.declared.span.Span.{Span}
-use Rattle.jx_book.specs.declared.workers.book_end.BookEnd.{BookEnd}
-use Rattle.jx_book.specs.declared.workers.book_end.BookEnd.TheVariants.{Gathered, Empty, Stopped, Other}
 use Rattle.jx_book.specs.Runs.{HeldValue}
-use Rattle.jx_book.specs.Shares.{IsOf}
 
 -- it covers the text from an offset on
 pub record IsRest {S : Type 0} (text : List ℕ) (depth start : ℕ) (h : HeldValue S) : Type 0 where
@@ -20,10 +17,3 @@ IsWhole text depth h = IsRest text depth 0 h
 abbrev pub IsGathered : {S : Type 0} → List Span → List ℕ → ℕ → ℕ → Option (HeldValue S) → Type 0
 IsGathered ps text depth front None = length ps ≡ 0
 IsGathered ps text depth front (Some h) = (0 < length ps) × IsRest text depth front h
-
--- what workers left of this text from the front on, and of this depth
-abbrev pub IsBookEnd : {S : Type 0} → List ℕ → ℕ → ℕ → BookEnd S → Type 0
-IsBookEnd text depth front (Gathered h) = IsRest text depth front h
-IsBookEnd text depth front Empty = Unit {0}
-IsBookEnd text depth front (Stopped c) = All (λ r. IsOf text depth r) c
-IsBookEnd text depth front Other = Unit {0}

@@ -1,7 +1,7 @@
 -- What a join of two runs gives.
 use Rattle.std.specs.Prelude.{◌≡◌, ◌≢◌, ◌⊎◌, ℕ, ◌-◌, ◌<◌, ◌≤◌, List, length, slice_range, if◌then◌else◌, nat_lt}
-use Rattle.jx_book.specs.declared.stored.held_fault.HeldFault.{HeldFault}
-use Rattle.jx_book.specs.declared.stored.held_fault.HeldFault.TheVariants.{Memory, Other}
+use Rattle.jx_book.specs.declared.stored.held.HeldFault.{HeldFault}
+use Rattle.jx_book.specs.declared.stored.held.HeldFault.TheVariants.{Memory, Other}
 use Rattle.jx_summary.specs.declared.span.Span.{Span}
 use Rattle.jx_book.specs.Runs.{HeldValue, run_len}
 

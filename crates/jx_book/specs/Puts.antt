@@ -1,10 +1,10 @@
 -- What a put does to a state.
 use Rattle.std.specs.Prelude.{◌≡◌, ℕ, ◌+◌, ◌<◌, ◌≤◌, ◌^◌, ◌⊎◌, List, length, insert, remove, All, Any, Some, slice_get, slice_index_or}
 use Rattle.jx_summary.specs.declared.span.Span.{Span}
-use Rattle.jx_book.specs.declared.stored.put.Put.{Put}
-use Rattle.jx_book.specs.declared.stored.put.Put.TheVariants.{Stored, Touches, Overlaps, Full, Memory}
-use Rattle.jx_book.specs.declared.stored.position.Position.{Position}
-use Rattle.jx_book.specs.declared.stored.position.Position.TheVariants.{Overlapping, Left, Right, Free}
+use Rattle.jx_book.specs.declared.stored.state.Put.{Put}
+use Rattle.jx_book.specs.declared.stored.state.Put.TheVariants.{Stored, Touches, Overlaps, Full, Memory}
+use Rattle.jx_book.specs.declared.stored.state.Position.{Position}
+use Rattle.jx_book.specs.declared.stored.state.Position.TheVariants.{Overlapping, Left, Right, Free}
 use Rattle.jx_book.specs.Spans.{Overlap, Before}
 use Rattle.jx_book.specs.HandOver.{Stores, Takes}
 use Rattle.jx_book.specs.Runs.{HeldValue, StateValue, state, run_len, spans_of}

@@ -1,9 +1,9 @@
 -- What shares have put and taken, and what a book gives when it is finished.
 use Rattle.std.specs.Prelude.{◌≡◌, ◌⊎◌, ℕ, ◌+◌, ◌<◌, ◌≤◌, List, length}
-use Rattle.jx_book.specs.declared.stored.put.Put.{Put}
-use Rattle.jx_book.specs.declared.stored.put.Put.TheVariants.{Stored, Touches, Overlaps, Full, Memory}
-use Rattle.jx_book.specs.declared.lock.finish_fault.FinishFault.{FinishFault}
-use Rattle.jx_book.specs.declared.lock.finish_fault.FinishFault.TheVariants.{Other}
+use Rattle.jx_book.specs.declared.stored.state.Put.{Put}
+use Rattle.jx_book.specs.declared.stored.state.Put.TheVariants.{Stored, Touches, Overlaps, Full, Memory}
+use Rattle.jx_book.specs.declared.lock.book.FinishFault.{FinishFault}
+use Rattle.jx_book.specs.declared.lock.book.FinishFault.TheVariants.{Other}
 use Rattle.jx_book.specs.Spans.{Touch}
 use Rattle.jx_book.specs.Joined.{IsOtherRun}
 use Rattle.jx_book.specs.Runs.{HeldValue, run_len}

@@ -3,10 +3,10 @@ use Rattle.std.specs.Prelude.{◌≡◌, ℕ, ◌+◌, ◌<◌, ◌≤◌, List,
 use Rattle.jx_summary.specs.declared.span.Span.{Span}
 use Rattle.jx_claim.specs.Claimed.{SeatValue}
 use Rattle.jx_claim.specs.Cut.{drawn_len, piece_len, span, no_span}
-use Rattle.jx_book.specs.declared.workers.cause.Cause.{Cause}
-use Rattle.jx_book.specs.declared.workers.cause.Cause.TheVariants.{Gate, Memory, Overlap, Other, Full}
-use Rattle.jx_book.specs.declared.workers.hand.Hand.{Hand}
-use Rattle.jx_book.specs.declared.workers.hand.Hand.TheVariants.{Nothing, Piece, One, Two}
+use Rattle.jx_book.specs.declared.workers.worker.Cause.{Cause}
+use Rattle.jx_book.specs.declared.workers.worker.Cause.TheVariants.{Gate, Memory, Overlap, Other, Full}
+use Rattle.jx_book.specs.declared.workers.worker.Hand.{Hand}
+use Rattle.jx_book.specs.declared.workers.worker.Hand.TheVariants.{Nothing, Piece, One, Two}
 use Rattle.jx_book.specs.Runs.{run_len}
 use Rattle.jx_book.specs.Shares.{ShareValue}
 

@@ -3,7 +3,4 @@ pub(crate) mod assembling;
 pub(crate) mod closed;
 pub(crate) mod gaps;
 pub(crate) mod held;
-pub(crate) mod held_fault;
-pub(crate) mod position;
-pub(crate) mod put;
 pub(crate) mod state;

@@ -5,14 +5,16 @@ use Rattle.jx_index.specs.declared.find_fault.FindFault.{FindFault}
 use Rattle.jx_index.specs.declared.finder.Found as finder
 use Rattle.jx_index.specs.Found.{found_of, value_of}
 use Rattle.jx_index.specs.Leads.{Numbered, led}
-use Rattle.jx_index.specs.Pointers.{tokens}
+use Rattle.jx_index.specs.declared.pointer.PointerFault.{PointerFault}
+use Rattle.jx_index.specs.declared.pointer.PointerFault.TheVariants.{NoSlash, BadEscape}
+use Rattle.jx_index.specs.PointerFaults.{IsFaultOf}
+use Rattle.jx_index.specs.Pointers.{IsPointer, tokens}
 use Rattle.jx_index.specs.Rows.{rows}
 use Rattle.jx_index.specs.ByNames.{IsVerdictBy, RefusesName, a_text}
-use Rattle.jx_run.specs.declared.settings.Settings.{Settings}
-use Rattle.jx_run.specs.declared.verdict.Verdict.TheVariants.{Accepted}
+use Rattle.jx_run.specs.declared.texts.settings.Settings.{Settings}
+use Rattle.jx_run.specs.declared.texts.verdict.Verdict.TheVariants.{Accepted}
 use Rattle.jx_run.specs.Settings.{IsDocumentBy}
-use Rattle.jx_c.specs.LookUps.{IsFoundIn, IsLed, IsSpelt}
-use Rattle.jx_c.specs.Settled.{IsLookUpBy}
+use Rattle.jx_c.specs.LookUps.{IsFoundIn, IsLed, IsLookUp, IsSpelt}
 use Rattle.jx_c.specs.declared.look_up.LookUp.{LookUp}
 use Rattle.jx_c.specs.declared.look_up.LookUp.TheVariants.{Found, Lost, BadPointer, NotUtf8, NoText}
 
@@ -33,9 +35,14 @@ module _ (text : List ℕ) (tree : Tree) (pointer : List ℕ) where
   lost_at fault (Ok c) e = absurd (cc)
   lost_at fault (Err other) e = let same : other ≡ fault = cc in cc
 
-  pub in_bytes : (settings : Settings) → IsDocumentBy settings 0 text tree → RefusesName settings.names text (rows tree) None → IsSpelt pointer → (l : LookUp) → IsLed text tree pointer l → IsLookUpBy settings text pointer l
+  pub in_bytes : (settings : Settings) → IsDocumentBy settings 0 text tree → RefusesName settings.names text (rows tree) None → IsSpelt pointer → (l : LookUp) → IsLed text tree pointer l → IsLookUp settings text pointer l
   in_bytes settings d n s (Found kind place) h = (s, (tree, d, n, h))
   in_bytes settings d n s (Lost fault) h = (s, (tree, d, n, h))
   in_bytes settings d n s (BadPointer fault) h = absurd h
   in_bytes settings d n s NotUtf8 h = absurd h
   in_bytes settings d n s (NoText refused) h = absurd h
+
+-- what is refused as a pointer is none
+pub no_pointer : (text : List ℕ) (fault : PointerFault) → IsFaultOf text fault → IsPointer text → ⊥
+no_pointer text NoSlash lost pointer = lost pointer.slash
+no_pointer text (BadEscape at) bad pointer = pointer.escapes at bad.here

@@ -1,16 +1,11 @@
 pub mod Alls
 pub mod AnyNames
-pub mod Deciding
-pub mod Feeds
 pub mod Filled
 pub mod Holding
-pub mod HoldingIndex
 pub mod Led
 pub mod LedIndex
 pub mod Moves
-pub mod Oks
-pub mod Plain
-pub mod Reading
+pub mod ReaderSteps
 pub mod Records
 pub mod Unboxing
 pub mod Words

@@ -3,7 +3,7 @@ use Rattle.std.specs.Prelude.{◌≡◌, ℕ, Err, Ok, Result}
 use Rattle.jx_edit.specs.Document.{DocumentValue}
 use Rattle.jx_edit.specs.declared.edit_fault.EditFault.{EditFault}
 use Rattle.jx_edit.specs.declared.edit_fault.EditFault.TheVariants.{Memory, OutOfBounds}
-use Rattle.jx_run.specs.declared.verdict.Verdict.{Verdict}
+use Rattle.jx_run.specs.declared.texts.verdict.Verdict.{Verdict}
 use Rattle.jx_run.specs.Settings.{JudgedBy}
 use Rattle.jx_c.specs.Verdict.{shown}
 use Rattle.jx_c.specs.declared.verdict.JxVerdict.{JxVerdict}

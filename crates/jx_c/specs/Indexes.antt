@@ -1,14 +1,20 @@
 -- What the calls on indexes tell.
-use Rattle.std.specs.Prelude.{◌≡◌, ℕ, ◌≤◌, List, Option, None, Some, drop, length, slice_get}
-use Rattle.jx_run.specs.declared.settings.Settings.{Settings}
-use Rattle.jx_run.specs.declared.verdict.Verdict.{Verdict}
-use Rattle.jx_run.specs.declared.verdict.Verdict.TheVariants.{Accepted, Refused}
+use Rattle.std.specs.Prelude.{◌≡◌, ℕ, ◌≤◌, List, Option, None, Some, Result, Ok, MatchResult, Vec, drop, length, slice_get}
+use Rattle.std.specs.List.{AllZip}
+use Rattle.std.specs.declared.alloc.Global.{Global}
+use Rattle.jx_run.specs.declared.texts.settings.Settings.{Settings}
+use Rattle.jx_run.specs.declared.texts.verdict.Refusal.{Refusal}
+use Rattle.jx_run.specs.declared.texts.verdict.Verdict.{Verdict}
+use Rattle.jx_run.specs.declared.texts.verdict.Verdict.TheVariants.{Accepted, Refused}
 use Rattle.jx_index.specs.ByNames.{IsVerdictBy}
+use Rattle.jx_index.specs.Found.{IsFoundBy}
 use Rattle.jx_index.specs.Indexed.{IndexedValue}
 use Rattle.jx_index.specs.Settled.{IsIndexBy}
+use Rattle.jx_index.specs.declared.find_fault.FindFault.{FindFault}
+use Rattle.jx_index.specs.declared.finder.Found.{Found}
 use Rattle.jx_index.specs.declared.row.Row.{Row}
+use Rattle.jx_c.specs.LookUps.{IsAnswerOf, IsLookUp, IsSpelt}
 use Rattle.jx_c.specs.Rows.{shown_row}
-use Rattle.jx_c.specs.Settled.{IsAnswerWith, IsLookUpBy}
 use Rattle.jx_c.specs.Verdict.{shown}
 use Rattle.jx_c.specs.declared.all.JxPointer.{JxPointer}
 use Rattle.jx_c.specs.declared.look_up.JxAnswer.{JxAnswer}
@@ -31,11 +37,11 @@ IsMadeBy settings text held told = (verdict : Verdict) × IsVerdictBy settings t
 
 -- what the pointer comes to in the text, of whatever text and settings the index is
 abbrev pub IsLookUpIn : IndexedValue → List ℕ → LookUp → Type 0
-IsLookUpIn index pointer look_up = (settings : Settings) (text : List ℕ) → IsIndexOf settings text index → IsLookUpBy settings text pointer look_up
+IsLookUpIn index pointer look_up = (settings : Settings) (text : List ℕ) → IsIndexOf settings text index → IsLookUp settings text pointer look_up
 
 -- the same as C sees it
 abbrev pub IsAnswerIn : IndexedValue → List ℕ → JxAnswer → Type 0
-IsAnswerIn index pointer told_as = (settings : Settings) (text : List ℕ) → IsIndexOf settings text index → IsAnswerWith settings text pointer told_as
+IsAnswerIn index pointer told_as = (settings : Settings) (text : List ℕ) → IsIndexOf settings text index → IsAnswerOf settings text pointer told_as
 
 abbrev shown_if_any : Option Row → Option JxRow
 shown_if_any None = None
@@ -47,13 +53,17 @@ row_at index number = shown_if_any (slice_get index.rows number)
 
 -- ---- many pointers in one text
 
--- it tells what the first of the pointers comes to
-abbrev pub IsFirstAnswer : Settings → List ℕ → List JxPointer → JxAnswer → Type 0
-IsFirstAnswer settings text pointers answer = (pointer : JxPointer) → slice_get pointers 0 ≡ Some pointer → IsAnswerWith settings text pointer.bytes.now answer
+-- what was found for each of them that is a pointer
+abbrev pub AreFound : Settings → List ℕ → List JxPointer → List (Result Found FindFault) → Type 0
+AreFound settings text = AllZip (λ (pointer : JxPointer) (found : Result Found FindFault). IsSpelt pointer.bytes.now → IsFoundBy settings text pointer.bytes.now (Ok found))
+
+-- what reading the text for them came to: that, or the refusal
+abbrev pub IsReadFor : Settings → List ℕ → List JxPointer → Result (Vec (Result Found FindFault) Global) Refusal → Type 0
+IsReadFor settings text pointers read = MatchResult read (λ all. AreFound settings text pointers all.items) (λ refusal. IsVerdictBy settings text (Refused refusal))
 
 -- each answer for which there is room tells what the pointer of its number comes to, and the rest of the buffer is as it was
-pub record AreAnswersWith (settings : Settings) (text : List ℕ) (pointers : List JxPointer) (old new : List JxAnswer) : Type 0 where
+pub record AreAnswersOf (settings : Settings) (text : List ℕ) (pointers : List JxPointer) (old new : List JxAnswer) : Type 0 where
   pub long : length new ≡ length old
   pub told : (n : ℕ) (pointer : JxPointer) (answer : JxAnswer) → slice_get pointers n ≡ Some pointer → slice_get new n ≡ Some answer
-      → IsAnswerWith settings text pointer.bytes.now answer
+      → IsAnswerOf settings text pointer.bytes.now answer
   pub rest : (n : ℕ) → length pointers ≤ n → drop n new ≡ drop n old

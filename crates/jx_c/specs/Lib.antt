@@ -2,15 +2,12 @@ pub mod Buffers
 pub mod Containers
 pub mod Document
 pub mod Elements
-pub mod Front
 pub mod Held
-pub mod HeldIndex
 pub mod Indexes
 pub mod LookUps
 pub mod Reader
 pub mod Rows
 pub mod Runs
 pub mod Settings
-pub mod Settled
 pub mod Stack
 pub mod Verdict

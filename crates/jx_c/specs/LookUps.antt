@@ -1,19 +1,25 @@
 -- What the bytes of a pointer come to in bytes (RFC 6901), and how C sees it.
-use Rattle.std.specs.Prelude.{◌≡◌, ℕ, List, Ok, Err}
+use Rattle.std.specs.Prelude.{◌≡◌, ℕ, List, None, Result, Ok, Err}
+use Rattle.std.specs.List.{AllZip}
 use Rattle.std.specs.Str.{IsUtf8}
 use Rattle.jx_lex.specs.declared.kind.Kind.{Kind}
 use Rattle.jx_summary.specs.declared.span.Span.{Span}
-use Rattle.jx_run.specs.declared.verdict.Refusal.TheVariants as refusal
-use Rattle.jx_run.specs.declared.verdict.Verdict.TheVariants as verdict
+use Rattle.jx_run.specs.declared.texts.settings.Settings.{Settings}
+use Rattle.jx_run.specs.declared.texts.verdict.Refusal.TheVariants as refusal
+use Rattle.jx_run.specs.declared.texts.verdict.Verdict.TheVariants as verdict
 use Rattle.jx_run.specs.Laws.{span_of}
-use Rattle.jx_run.specs.Text.{IsDocument}
+use Rattle.jx_run.specs.Settings.{IsDocumentBy}
 use Rattle.jx_run.specs.Tree.{Tree}
-use Rattle.jx_run.specs.Verdict.{Judged}
+use Rattle.jx_index.specs.ByNames.{IsVerdictBy, RefusesName}
+use Rattle.jx_index.specs.declared.find_fault.FindFault.{FindFault}
 use Rattle.jx_index.specs.declared.find_fault.FindFault.TheVariants.{NoSuchMember, NameRepeated, NotAnIndex, PastEnd, AfterLast, NotAContainer}
+use Rattle.jx_index.specs.declared.finder.Found as finder
+use Rattle.jx_index.specs.Found.{IsFoundBy}
 use Rattle.jx_index.specs.declared.pointer.PointerFault.TheVariants.{NoSlash, BadEscape}
 use Rattle.jx_index.specs.Leads.{Numbered, kind_of, led}
 use Rattle.jx_index.specs.PointerFaults.{IsFaultOf}
 use Rattle.jx_index.specs.Pointers.{IsPointer, tokens}
+use Rattle.jx_index.specs.Rows.{rows}
 use Rattle.jx_c.specs.Rows.{kind_in, shown_span}
 use Rattle.jx_c.specs.declared.look_up.JxAnswer.{JxAnswer}
 use Rattle.jx_c.specs.declared.look_up.LookUp.{LookUp}
@@ -38,13 +44,25 @@ IsLed text tree pointer (NoText refused) = ⊥
 abbrev pub IsSpelt : List ℕ → Type 0
 IsSpelt pointer = IsUtf8 pointer × IsPointer pointer
 
--- in any bytes: the same in their tree, or why there is no text, or first of all why there is no pointer
-abbrev pub IsLookUp : List ℕ → ℕ → List ℕ → LookUp → Type 0
-IsLookUp text depth pointer (Found kind span) = IsSpelt pointer × (tree : Tree) × IsDocument 0 text depth tree × IsLed text tree pointer (Found kind span)
-IsLookUp text depth pointer (Lost fault) = IsSpelt pointer × (tree : Tree) × IsDocument 0 text depth tree × IsLed text tree pointer (Lost fault)
-IsLookUp text depth pointer (BadPointer fault) = IsUtf8 pointer × IsFaultOf pointer fault
-IsLookUp text depth pointer NotUtf8 = IsUtf8 pointer → ⊥
-IsLookUp text depth pointer (NoText refused) = IsSpelt pointer × Judged 0 text depth (verdict.Refused refused)
+-- it is the pointer that the bytes spell, if they spell one
+abbrev pub IsPointerOf : List ℕ → List ℕ → Type 0
+IsPointerOf pointer read = IsSpelt pointer → read ≡ pointer
+
+-- what each pointer leads to in an accepted text
+abbrev pub AreFoundBy : Settings → List ℕ → List (List ℕ) → List (Result finder.Found FindFault) → Type 0
+AreFoundBy settings text pointers all = AllZip (λ (pointer : List ℕ) (found : Result finder.Found FindFault). IsFoundBy settings text pointer (Ok found)) pointers all
+
+-- in a text by settings: what its tokens lead to, or why they lead nowhere
+abbrev pub IsLedBy : Settings → List ℕ → List ℕ → LookUp → Type 0
+IsLedBy settings text pointer look_up = (tree : Tree) × IsDocumentBy settings 0 text tree × RefusesName settings.names text (rows tree) None × IsLed text tree pointer look_up
+
+-- in any bytes: the same, or why there is no text, or first of all why there is no pointer
+abbrev pub IsLookUp : Settings → List ℕ → List ℕ → LookUp → Type 0
+IsLookUp settings text pointer (Found kind span) = IsSpelt pointer × IsLedBy settings text pointer (Found kind span)
+IsLookUp settings text pointer (Lost fault) = IsSpelt pointer × IsLedBy settings text pointer (Lost fault)
+IsLookUp settings text pointer (BadPointer fault) = IsUtf8 pointer × IsFaultOf pointer fault
+IsLookUp settings text pointer NotUtf8 = IsUtf8 pointer → ⊥
+IsLookUp settings text pointer (NoText refusal) = IsSpelt pointer × IsVerdictBy settings text (verdict.Refused refusal)
 
 abbrev pub told : ℕ → ℕ → JxAnswer
 told outcome at = record { span = record { start = 0; end = 0 }; at = at; outcome = outcome; kind = 0 }
@@ -66,5 +84,5 @@ shown_look_up (NoText (refusal.TooDeep at)) = told 12 at
 shown_look_up (NoText (refusal.RepeatedName at)) = told 13 at
 
 -- it shows what the pointer comes to
-abbrev pub IsAnswerOf : List ℕ → ℕ → List ℕ → JxAnswer → Type 0
-IsAnswerOf text depth pointer told_as = (look_up : LookUp) × (IsLookUp text depth pointer look_up × (told_as ≡ shown_look_up look_up))
+abbrev pub IsAnswerOf : Settings → List ℕ → List ℕ → JxAnswer → Type 0
+IsAnswerOf settings text pointer told_as = (look_up : LookUp) × (IsLookUp settings text pointer look_up × (told_as ≡ shown_look_up look_up))

@@ -3,11 +3,12 @@ use Rattle.std.specs.Prelude.{◌≡◌, ℕ, ◌-◌, ◌^◌, List, length, Op
 use Rattle.jx_lex.specs.declared.kind.Kind.{Kind}
 use Rattle.jx_lex.specs.declared.kind.Kind.TheVariants.{Object, Array, String, Number, True, False, Null}
 use Rattle.jx_summary.specs.declared.span.Span.{Span}
-use Rattle.jx_run.specs.declared.verdict.Verdict.{Verdict}
-use Rattle.jx_run.specs.declared.verdict.Verdict.TheVariants.{Accepted, Refused}
-use Rattle.jx_run.specs.Text.{IsDocument}
+use Rattle.jx_run.specs.declared.texts.settings.Settings.{Settings}
+use Rattle.jx_run.specs.declared.texts.verdict.Verdict.{Verdict}
+use Rattle.jx_run.specs.declared.texts.verdict.Verdict.TheVariants.{Accepted, Refused}
+use Rattle.jx_run.specs.Settings.{IsDocumentBy}
 use Rattle.jx_run.specs.Tree.{Tree}
-use Rattle.jx_run.specs.Verdict.{Judged}
+use Rattle.jx_index.specs.ByNames.{IsVerdictBy}
 use Rattle.jx_index.specs.declared.row.Row.{Row}
 use Rattle.jx_index.specs.Rows.{rows}
 use Rattle.jx_c.specs.Buffers.{IsFilled}
@@ -41,10 +42,10 @@ abbrev pub shown_row : Row → JxRow
 shown_row r = record { span = shown_span r.span; name = name_in r.name; parent = parent_in r.parent; place = r.place; kind = kind_in r.kind }
 
 -- by the verdict: the rows of the text's tree and how many they are, or none
-abbrev pub AreRows : List ℕ → ℕ → List JxRow → List JxRow → ℕ → Verdict → Type 0
-AreRows bytes depth old new count Accepted = (tree : Tree) × IsDocument 0 bytes depth tree × (count ≡ length (rows tree)) × IsFilled shown_row old new (rows tree)
-AreRows bytes depth old new count (Refused refusal) = (count ≡ 0) × (new ≡ old)
+abbrev pub AreRows : Settings → List ℕ → List JxRow → List JxRow → ℕ → Verdict → Type 0
+AreRows settings bytes old new count Accepted = (tree : Tree) × IsDocumentBy settings 0 bytes tree × (count ≡ length (rows tree)) × IsFilled shown_row old new (rows tree)
+AreRows settings bytes old new count (Refused refusal) = (count ≡ 0) × (new ≡ old)
 
--- the verdict on the bytes, and by it their rows
-abbrev pub AreRowsOf : List ℕ → ℕ → List JxRow → List JxRow → ℕ → JxVerdict → Type 0
-AreRowsOf bytes depth old new count told = (verdict : Verdict) × Judged 0 bytes depth verdict × (told ≡ shown verdict) × AreRows bytes depth old new count verdict
+-- the verdict by settings on the bytes, and by it their rows
+abbrev pub AreRowsOf : Settings → List ℕ → List JxRow → List JxRow → ℕ → JxVerdict → Type 0
+AreRowsOf settings bytes old new count told = (verdict : Verdict) × IsVerdictBy settings bytes verdict × (told ≡ shown verdict) × AreRows settings bytes old new count verdict

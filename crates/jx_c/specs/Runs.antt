@@ -2,7 +2,7 @@
 use Rattle.std.specs.Prelude.{◌≡◌, ℕ, ◌<◌, ◌≤◌, ◌==◌, List, ◌++◌, length, drop, Option, None, Some, if◌then◌else◌}
 use Rattle.jx_portion.specs.Portion.{IsRecord}
 use Rattle.jx_run.specs.Verdict.{Judged}
-use Rattle.jx_run.specs.declared.verdict.Verdict.{Verdict}
+use Rattle.jx_run.specs.declared.texts.verdict.Verdict.{Verdict}
 use Rattle.jx_c.specs.Verdict.{shown}
 use Rattle.jx_c.specs.declared.verdict.JxVerdict.{JxVerdict}
 

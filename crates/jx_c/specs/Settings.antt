@@ -1,10 +1,10 @@
 -- Settings as C names them: a depth, and a sum of flags.
 use Rattle.std.specs.Prelude.{ℕ, ◌==◌, ◌/◌, ◌%◌, if◌then◌else◌}
-use Rattle.jx_run.specs.declared.settings.FrontMark.{FrontMark}
-use Rattle.jx_run.specs.declared.settings.FrontMark.TheVariants.{Refused, Ignored}
-use Rattle.jx_run.specs.declared.settings.NameRule.{NameRule}
-use Rattle.jx_run.specs.declared.settings.NameRule.TheVariants.{Any, Unique}
-use Rattle.jx_run.specs.declared.settings.Settings.{Settings}
+use Rattle.jx_run.specs.declared.texts.settings.FrontMark.{FrontMark}
+use Rattle.jx_run.specs.declared.texts.settings.FrontMark.TheVariants.{Refused, Ignored}
+use Rattle.jx_run.specs.declared.texts.settings.NameRule.{NameRule}
+use Rattle.jx_run.specs.declared.texts.settings.NameRule.TheVariants.{Any, Unique}
+use Rattle.jx_run.specs.declared.texts.settings.Settings.{Settings}
 use Rattle.jx_c.specs.declared.settings.JxSettings.{JxSettings}
 
 -- a byte order mark is ignored where the flags have 1

@@ -1,9 +1,10 @@
 -- Verdicts as C sees them: a kind, and an offset where the kind has one.
 use Rattle.std.specs.Prelude.{◌≡◌, ℕ, List}
-use Rattle.jx_run.specs.declared.verdict.Verdict.{Verdict}
-use Rattle.jx_run.specs.declared.verdict.Verdict.TheVariants.{Accepted, Refused}
-use Rattle.jx_run.specs.declared.verdict.Refusal.TheVariants.{Stopped, Truncated, TooDeep, RepeatedName}
-use Rattle.jx_run.specs.Verdict.{Judged}
+use Rattle.jx_run.specs.declared.texts.settings.Settings.{Settings}
+use Rattle.jx_run.specs.declared.texts.verdict.Verdict.{Verdict}
+use Rattle.jx_run.specs.declared.texts.verdict.Verdict.TheVariants.{Accepted, Refused}
+use Rattle.jx_run.specs.declared.texts.verdict.Refusal.TheVariants.{Stopped, Truncated, TooDeep, RepeatedName}
+use Rattle.jx_index.specs.ByNames.{IsVerdictBy}
 use Rattle.jx_c.specs.declared.verdict.JxVerdict.{JxVerdict}
 
 abbrev pub shown : Verdict → JxVerdict
@@ -13,6 +14,6 @@ shown (Refused Truncated) = record { offset = 0; kind = 2 }
 shown (Refused (TooDeep at)) = record { offset = at; kind = 3 }
 shown (Refused (RepeatedName at)) = record { offset = at; kind = 6 }
 
--- it shows the verdict on these bytes
-abbrev pub IsVerdictOn : List ℕ → ℕ → JxVerdict → Type 0
-IsVerdictOn bytes depth v = (verdict : Verdict) × (Judged 0 bytes depth verdict × (v ≡ shown verdict))
+-- it shows the verdict by settings on these bytes
+abbrev pub IsVerdictOn : Settings → List ℕ → JxVerdict → Type 0
+IsVerdictOn settings bytes v = (verdict : Verdict) × (IsVerdictBy settings bytes verdict × (v ≡ shown verdict))

@@ -1,19 +1,17 @@
-// What many pointers lead to in one text, which is indexed for more than one.
+// What many pointers lead to in one text, which is read once for all of them.
 ghost use Rattle.std.specs.Prelude.{◌≡◌, ◌⊎◌, ◌<◌, ◌≤◌, ℕ, List, IfErr, IfOk, Some, length, slice_get};
-ghost use Rattle.jx_run.specs.declared.settings.Settings.{Settings};
-ghost use Rattle.jx_run.specs.declared.verdict.Verdict.TheVariants.{Refused};
-ghost use Rattle.jx_index.specs.ByNames.{IsVerdictBy};
-ghost use Rattle.jx_index.specs.Settled.{IsAnswerBy};
-ghost use Rattle.jx_c.specs.Indexes.{AreAnswersWith, IsFirstAnswer};
+ghost use Rattle.std.specs.List.{AllZip};
+ghost use Rattle.jx_run.specs.declared.texts.settings.Settings.{Settings};
+ghost use Rattle.jx_c.specs.Indexes.{AreAnswersOf, IsReadFor};
+ghost use Rattle.jx_c.specs.LookUps.{IsLookUp, IsPointerOf, IsSpelt};
 ghost use Rattle.jx_c.specs.Settings.{settings_in};
-ghost use Rattle.jx_c.specs.Settled.{IsLookUpBy};
 ghost use Rattle.jx_c.specs.declared.all.JxPointer.{JxPointer};
 
-use crate::index::look_up_in;
-use crate::look_up::{JxAnswer, LookUp, look_up, shown_look_up, spelt};
+use crate::by_names::find_each_by_names;
+use crate::look_up::{JxAnswer, LookUp, shown_look_up, spelt, told};
 use crate::settings::{JxSettings, settings_in};
 use crate::status::{DEPTH_TOO_GREAT, NO_MEMORY, OK, UNKNOWN_FLAG};
-use jx_index::TextAnswer;
+use jx_index::{FindFault, Found, Pointer};
 use jx_run::{Refusal, Settings};
 use std::alloc::{AllocError, Global};
 
@@ -24,24 +22,22 @@ pub struct JxPointer<'p> {
     pub bytes: &'p [u8],
 }
 
-/// What a pointer comes to in bytes that are refused.
-fn look_up_in_refused(refusal: Refusal, pointer: &[u8]) -> LookUp
-    ensures { (settings : Settings) (text : List ℕ) → IsVerdictBy settings text (Refused refusal) → IsLookUpBy settings text pointer.now result }
-{
-    match spelt(pointer) {
-        Ok(_) => LookUp::NoText(refusal),
-        Err(none) => none,
+/// The empty pointer.
+fn empty_pointer() -> Pointer<'static> {
+    match Pointer::read("") {
+        Ok(empty) => empty,
+        Err(_) => unreachable!(),
     }
 }
 
-/// What a pointer comes to, by what reading the bytes came to.
-fn look_up_by(read: &TextAnswer, pointer: &[u8]) -> LookUp
-    ensures { (settings : Settings) (text : List ℕ) → IsAnswerBy settings text read.now → IsLookUpBy settings text pointer.now result }
+/// The pointer that bytes spell; where they spell none, the empty one.
+fn pointer_or_empty<'p>(pointer: JxPointer<'p>) -> Pointer<'p>
+    ensures { IsPointerOf pointer.entry.bytes.now result }
 {
-    match read {
-        TextAnswer::Accepted(index) => look_up_in(index, pointer),
-        TextAnswer::Refused(refusal) => look_up_in_refused(*refusal, pointer),
-    }
+    let Ok(read) = spelt(pointer.bytes) else {
+        return empty_pointer();
+    };
+    read
 }
 
 /// The pointer with this number.
@@ -52,42 +48,87 @@ fn pointer_at<'p>(pointers: &[JxPointer<'p>], number: usize) -> JxPointer<'p>
     pointers[number]
 }
 
-/// Puts the answers into the buffer, as many as it has room for.
-fn answer_all(read: &TextAnswer, pointers: &[JxPointer], answers: &mut [JxAnswer])
-    ensures { (settings : Settings) (text : List ℕ) → IsAnswerBy settings text read.now → AreAnswersWith settings text pointers.now answers.old answers.new }
+/// The pointers that are spelt, in order, with the empty one for each that is none.
+fn pointers_of<'p>(
+    alloc: Global,
+    pointers: &[JxPointer<'p>],
+) -> Result<Vec<Pointer<'p>>, AllocError>
+    ensures { IfOk result (λ all. AllZip (λ p. IsPointerOf p.bytes.now) pointers.now all.items) }
 {
-    let count = answers.len().min(pointers.len());
-    for at in 0..count {
-        answers[at] = shown_look_up(look_up_by(read, pointer_at(pointers, at).bytes));
+    let mut all = Vec::with_capacity(alloc, pointers.len())?;
+    for at in 0..pointers.len() {
+        all.push(pointer_or_empty(pointer_at(pointers, at)))?;
     }
+    Ok(all)
 }
 
-/// The answer to the first pointer. The text is read without an index.
-fn first_answer(
+/// Reads a text for pointers: what was found for each of them, in order, or the refusal. For one that is no pointer,
+/// something stands among what was found.
+fn read_for(
     alloc: Global,
     text: &[u8],
     settings: &Settings,
     pointers: &[JxPointer],
-) -> Result<JxAnswer, AllocError>
-    requires { 0 < length pointers.now }
-    ensures { IfOk result (IsFirstAnswer settings.now text.now pointers.now) }
+) -> Result<Result<Vec<Result<Found, FindFault>>, Refusal>, AllocError>
+    ensures { IfOk result (IsReadFor settings.now text.now pointers.now) }
 {
-    let found = look_up(alloc, text, pointer_at(pointers, 0).bytes, settings)?;
-    Ok(shown_look_up(found))
+    let all = pointers_of(alloc, pointers)?;
+    find_each_by_names(alloc, text, settings, &all)
 }
 
-/// Puts an answer into the buffer, if it has room.
-fn put_first(answers: &mut [JxAnswer], answer: JxAnswer)
-    ensures { (settings : Settings) (text : List ℕ) (pointers : List JxPointer) → length pointers ≡ 1 → IsFirstAnswer settings text pointers answer
-        → AreAnswersWith settings text pointers answers.old answers.new }
+/// What was found with this number.
+fn found_at(all: &[Result<Found, FindFault>], number: usize) -> Result<Found, FindFault>
+    requires { number < length all.now }
+    ensures { slice_get all.now number ≡ Some result }
 {
-    if answers.len() == 0 {
-        return;
+    all[number]
+}
+
+/// What the pointer with this number comes to, if it is one.
+fn told_at(read: &Result<Vec<Result<Found, FindFault>>, Refusal>, number: usize) -> LookUp
+    requires { IfOk read.now (λ all. number < length all.items) }
+    ensures { (settings : Settings) (text : List ℕ) (pointers : List JxPointer) (pointer : JxPointer) → IsReadFor settings text pointers read.now
+        → slice_get pointers number ≡ Some pointer → IsSpelt pointer.bytes.now → IsLookUp settings text pointer.bytes.now result }
+{
+    match read {
+        Ok(all) => told(Ok(found_at(all, number))),
+        Err(refusal) => told(Err(*refusal)),
     }
-    answers[0] = answer;
 }
 
-/// Puts the answers into the buffer. Only for more than one pointer the text is indexed.
+/// What the bytes with this number come to.
+fn look_up_at(
+    read: &Result<Vec<Result<Found, FindFault>>, Refusal>,
+    pointer: JxPointer,
+    number: usize,
+) -> LookUp
+    requires { IfOk read.now (λ all. number < length all.items) }
+    ensures { (settings : Settings) (text : List ℕ) (pointers : List JxPointer) → IsReadFor settings text pointers read.now
+        → slice_get pointers number ≡ Some pointer.entry → IsLookUp settings text pointer.entry.bytes.now result }
+{
+    match spelt(pointer.bytes) {
+        Ok(_) => told_at(read, number),
+        Err(none) => none,
+    }
+}
+
+/// Puts the answers into the buffer, as many as it has room for.
+fn answer_all(
+    read: &Result<Vec<Result<Found, FindFault>>, Refusal>,
+    pointers: &[JxPointer],
+    answers: &mut [JxAnswer],
+)
+    requires { IfOk read.now (λ all. length all.items ≡ length pointers.now) }
+    ensures { (settings : Settings) (text : List ℕ) → IsReadFor settings text pointers.now read.now → AreAnswersOf settings text pointers.now answers.old answers.new }
+{
+    let count = answers.len().min(pointers.len());
+    for at in 0..count {
+        let pointer = pointer_at(pointers, at);
+        answers[at] = shown_look_up(look_up_at(read, pointer, at));
+    }
+}
+
+/// Reads a text and puts the answers into the buffer.
 fn answer_each(
     alloc: Global,
     text: &[u8],
@@ -95,30 +136,25 @@ fn answer_each(
     pointers: &[JxPointer],
     answers: &mut [JxAnswer],
 ) -> Result<(), AllocError>
-    ensures answers { IfOk result (λ _. AreAnswersWith settings.now text.now pointers.now answers.old answers.new) }
+    ensures answers { IfOk result (λ _. AreAnswersOf settings.now text.now pointers.now answers.old answers.new) }
     ensures unchanged { IfErr result (λ _. answers.new ≡ answers.old) }
 {
-    if pointers.len() == 1 {
-        let answer = first_answer(alloc, text, settings, pointers)?;
-        put_first(answers, answer);
-        return Ok(());
-    }
-    let read = TextAnswer::read(alloc, text, settings)?;
+    let read = read_for(alloc, text, settings, pointers)?;
     answer_all(&read, pointers, answers);
     Ok(())
 }
 
-/// What each of many pointers leads to in one text, as `jx_at_with` tells it: as many answers as the buffer has room for. The
-/// text is read once, and indexed for more than one pointer.
+/// What each of many pointers leads to in one text, as `jx_at` tells it: as many answers as the buffer has room for. The text is
+/// read once for all of them, and twice where names have to be unique.
 #[unsafe(no_mangle)]
-pub extern "C" fn jx_at_all(
+pub extern "C" fn jx_at_all_non_null(
     alloc: Global,
     text: &[u8],
     settings: &JxSettings,
     pointers: &[JxPointer],
     answers: &mut [JxAnswer],
 ) -> u32
-    ensures answers { result ≡ OK → AreAnswersWith (settings_in settings.now) text.now pointers.now answers.old answers.new }
+    ensures answers { result ≡ OK → AreAnswersOf (settings_in settings.now) text.now pointers.now answers.old answers.new }
     ensures depth { 65535 < settings.now.depth → result ≡ DEPTH_TOO_GREAT }
     ensures flags { settings.now.depth ≤ 65535 → 3 < settings.now.flags → result ≡ UNKNOWN_FLAG }
     ensures status { settings.now.depth ≤ 65535 → settings.now.flags ≤ 3 → (result ≡ OK) ⊎ (result ≡ NO_MEMORY) }

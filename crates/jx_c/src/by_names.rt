@@ -1,11 +1,12 @@
-// The look-up of a pointer by the rule on names, without an index.
-ghost use Rattle.std.specs.Prelude.{◌≡◌, IfOk};
-ghost use Rattle.jx_run.specs.declared.settings.NameRule.TheVariants.{Any, Unique};
-ghost use Rattle.jx_run.specs.declared.verdict.Verdict.TheVariants.{Accepted};
+// The look-up of pointers by the rule on names, without an index.
+ghost use Rattle.std.specs.Prelude.{◌≡◌, ◌⊎◌, IfOk, IfSome, MatchResult, None};
+ghost use Rattle.jx_run.specs.declared.texts.settings.NameRule.TheVariants.{Any};
+ghost use Rattle.jx_run.specs.declared.texts.verdict.Verdict.TheVariants.{Accepted, Refused};
 ghost use Rattle.jx_index.specs.ByNames.{IsVerdictBy};
 ghost use Rattle.jx_index.specs.Found.{IsFoundBy};
+ghost use Rattle.jx_c.specs.LookUps.{AreFoundBy};
 
-use jx_index::{FindFault, Found, Pointer, find_by, verdict_with_unique_names};
+use jx_index::{FindFault, Found, Pointer, find_by, find_each_by, verdict_with_unique_names};
 use jx_run::{NameRule, NoPause, Refusal, Settings, Verdict};
 use std::alloc::{AllocError, Global};
 
@@ -20,32 +21,22 @@ fn with_any_names(settings: &Settings) -> Settings
     }
 }
 
-/// The same as `find_by_names` in a text that is known to be accepted.
-fn find_in_accepted(
+/// The refusal of a text whose names have to be unique, if it is refused. It is asked for first, as no pass both compares
+/// names and looks pointers up.
+fn refused_by_names(
     alloc: Global,
     text: &[u8],
     settings: &Settings,
-    pointer: &Pointer,
-) -> Result<Result<Result<Found, FindFault>, Refusal>, AllocError>
-    requires accepted { IsVerdictBy settings.now text.now Accepted }
-    ensures { IfOk result (IsFoundBy settings.now text.now pointer.now) }
+) -> Result<Option<Refusal>, AllocError>
+    ensures refused { IfOk result (λ told. IfSome told (λ refusal. IsVerdictBy settings.now text.now (Refused refusal))) }
+    ensures accepted { IfOk result (λ told. told ≡ None → (settings.now.names ≡ Any) ⊎ IsVerdictBy settings.now text.now Accepted) }
 {
-    find_by(alloc, text, &with_any_names(settings), pointer)
-}
-
-/// The same where names have to be unique: first it is told whether they are.
-fn find_with_unique_names(
-    alloc: Global,
-    text: &[u8],
-    settings: &Settings,
-    pointer: &Pointer,
-) -> Result<Result<Result<Found, FindFault>, Refusal>, AllocError>
-    requires unique { settings.now.names ≡ Unique }
-    ensures { IfOk result (IsFoundBy settings.now text.now pointer.now) }
-{
+    if settings.names == NameRule::Any {
+        return Ok(None);
+    }
     match verdict_with_unique_names(alloc, text, settings, &mut NoPause)? {
-        Verdict::Refused(refusal) => Ok(Err(refusal)),
-        Verdict::Accepted => find_in_accepted(alloc, text, settings, pointer),
+        Verdict::Refused(refusal) => Ok(Some(refusal)),
+        Verdict::Accepted => Ok(None),
     }
 }
 
@@ -58,8 +49,23 @@ pub fn find_by_names(
 ) -> Result<Result<Result<Found, FindFault>, Refusal>, AllocError>
     ensures { IfOk result (IsFoundBy settings.now text.now pointer.now) }
 {
-    match settings.names {
-        NameRule::Any => find_by(alloc, text, settings, pointer),
-        NameRule::Unique => find_with_unique_names(alloc, text, settings, pointer),
+    match refused_by_names(alloc, text, settings)? {
+        Some(refusal) => Ok(Err(refusal)),
+        None => find_by(alloc, text, &with_any_names(settings), pointer),
+    }
+}
+
+/// The same for several pointers.
+pub fn find_each_by_names(
+    alloc: Global,
+    text: &[u8],
+    settings: &Settings,
+    pointers: &[Pointer],
+) -> Result<Result<Vec<Result<Found, FindFault>>, Refusal>, AllocError>
+    ensures { IfOk result (λ read. MatchResult read (λ found. AreFoundBy settings.now text.now pointers.now found.items) (λ refusal. IsVerdictBy settings.now text.now (Refused refusal))) }
+{
+    match refused_by_names(alloc, text, settings)? {
+        Some(refusal) => Ok(Err(refusal)),
+        None => find_each_by(alloc, text, &with_any_names(settings), pointers),
     }
 }

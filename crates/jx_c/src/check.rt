@@ -3,7 +3,6 @@ ghost use Rattle.std.specs.Prelude.{◌≡◌, ◌⊎◌, ◌<◌, ◌≤◌, If
 ghost use Rattle.jx_run.specs.Settings.{JudgedBy};
 ghost use Rattle.jx_index.specs.ByNames.{IsVerdictBy};
 ghost use Rattle.jx_c.specs.Settings.{settings_in};
-ghost use Rattle.jx_c.specs.Settled.{IsVerdictWith};
 ghost use Rattle.jx_c.specs.Verdict.{IsVerdictOn};
 
 use crate::reader::JxReader;
@@ -11,43 +10,16 @@ use crate::settings::{JxSettings, settings_in};
 use crate::status::{DEPTH_TOO_GREAT, NO_MEMORY, OK, UNKNOWN_FLAG};
 use crate::verdict::{JxVerdict, shown};
 use jx_index::{names_are_refused_by_rows, verdict_with_unique_names};
-use jx_run::{Front, NameRule, NoPause, Settings, Verdict, front};
+use jx_run::{NameRule, NoPause, Settings, Verdict};
 use std::alloc::{AllocError, Global};
 
-/// Whether the bytes are a JSON text (RFC 8259) with at most so many containers open at once, and if not, where they stop
-/// being one. It takes no memory.
-#[unsafe(no_mangle)]
-pub extern "C" fn jx_check(text: &[u8], depth: u32, verdict: &mut JxVerdict) -> u32
-    ensures judged { result ≡ OK → IsVerdictOn text.now depth verdict.new }
-    ensures depth { 65535 < depth → result ≡ DEPTH_TOO_GREAT }
-    ensures status { depth ≤ 65535 → (result ≡ OK) ⊎ (result ≡ NO_MEMORY) }
-    ensures unchanged { (result ≡ OK → ⊥) → verdict.new ≡ verdict.old }
-{
-    if depth > 65535 {
-        return DEPTH_TOO_GREAT;
-    }
-    let mut reader = JxReader::new(depth as u16, 0);
-    match reader.read(text) {
-        Ok(()) => {
-            *verdict = shown(reader.verdict());
-            OK
-        }
-        Err(AllocError) => NO_MEMORY,
-    }
-}
-
 /// The verdict on a text by settings, whatever names its objects have. It takes no memory.
-fn verdict_behind_front(text: &[u8], settings: &Settings) -> Result<Verdict, AllocError>
-    ensures { IfOk result (λ verdict. JudgedBy settings.now 0 text.now verdict) }
+fn verdict_with_any_names(text: &[u8], settings: &Settings) -> Result<Verdict, AllocError>
+    ensures { IfOk result (JudgedBy settings.now 0 text.now) }
 {
-    match front(text, settings.mark) {
-        Front::Refused(refusal) => Ok(Verdict::Refused(refusal)),
-        Front::Skip(count) => {
-            let mut reader = JxReader::new(settings.depth.containers() as u16, count);
-            reader.read(&text[count..text.len()])?;
-            Ok(reader.verdict())
-        }
-    }
+    let mut reader = JxReader::new(settings);
+    reader.feed(text)?;
+    Ok(reader.verdict())
 }
 
 /// The verdict on a text by settings. It takes memory only where names have to be unique.
@@ -56,21 +28,21 @@ fn verdict_by(alloc: Global, text: &[u8], settings: &Settings) -> Result<Verdict
 {
     names_are_refused_by_rows();
     match settings.names {
-        NameRule::Any => verdict_behind_front(text, settings),
+        NameRule::Any => verdict_with_any_names(text, settings),
         NameRule::Unique => verdict_with_unique_names(alloc, text, settings, &mut NoPause),
     }
 }
 
-/// The same as `jx_check` by settings: a byte order mark may be ignored (RFC 8259, section 8.1), and names may have to be
-/// unique (section 4). It takes memory only where they have to be.
+/// Whether the bytes are a JSON text (RFC 8259) by settings, and if not, where they stop being one. A byte order mark may be
+/// ignored (section 8.1), and names may have to be unique (section 4). It takes memory only where they have to be.
 #[unsafe(no_mangle)]
-pub extern "C" fn jx_check_with(
+pub extern "C" fn jx_check_non_null(
     alloc: Global,
     text: &[u8],
     settings: &JxSettings,
     verdict: &mut JxVerdict,
 ) -> u32
-    ensures judged { result ≡ OK → IsVerdictWith (settings_in settings.now) text.now verdict.new }
+    ensures judged { result ≡ OK → IsVerdictOn (settings_in settings.now) text.now verdict.new }
     ensures depth { 65535 < settings.now.depth → result ≡ DEPTH_TOO_GREAT }
     ensures flags { settings.now.depth ≤ 65535 → 3 < settings.now.flags → result ≡ UNKNOWN_FLAG }
     ensures status { settings.now.depth ≤ 65535 → settings.now.flags ≤ 3 → (result ≡ OK) ⊎ (result ≡ NO_MEMORY) }

@@ -2,7 +2,7 @@
 // have these names without `_non_null`, and answer null pointers.
 ghost use Rattle.std.specs.Prelude.{◌≡◌, ◌⊎◌, ◌<◌, ◌≤◌, ◌+◌, IfOk, None, Some, length, slice_range};
 ghost use Rattle.jx_edit.specs.Document.{DocumentValue, edited};
-ghost use Rattle.jx_run.specs.declared.settings.NameRule.TheVariants.{Any};
+ghost use Rattle.jx_run.specs.declared.texts.settings.NameRule.TheVariants.{Any};
 ghost use Rattle.jx_c.specs.Document.{IsVerdictOf, status_in};
 ghost use Rattle.jx_c.specs.Settings.{settings_in};
 
@@ -11,17 +11,11 @@ use crate::settings::{JxSettings, settings_in};
 use crate::status::{
     DEPTH_TOO_GREAT, NO_DOCUMENT, NO_MEMORY, NO_UNIQUE_NAMES, OK, OUT_OF_BOUNDS, UNKNOWN_FLAG,
 };
+use crate::unboxed::sent;
 use crate::verdict::{JxVerdict, shown};
 use jx_edit::{Document, EditFault};
 use jx_run::{NameRule, Settings};
 use std::alloc::{AllocError, Global};
-
-/// Gives the value back, and is there for those alone that may go to another thread: C may hand a document to one.
-pub fn sent<T: Send>(value: T) -> T
-    ensures { result ≡ value }
-{
-    value
-}
 
 /// A document of these bytes.
 fn boxed(alloc: Global, text: &[u8], settings: Settings) -> Result<Box<Document>, AllocError>

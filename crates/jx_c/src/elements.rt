@@ -3,7 +3,6 @@ ghost use Rattle.std.specs.Prelude.{◌≡◌, ◌⊎◌, ◌<◌, ◌≤◌};
 ghost use Rattle.jx_c.specs.Buffers.{IsFilled};
 ghost use Rattle.jx_c.specs.Elements.{AreElementsOf, shown_element, shown_verdict};
 ghost use Rattle.jx_c.specs.Settings.{settings_in};
-ghost use Rattle.jx_c.specs.Settled.{AreElementsWith};
 
 use crate::places::{JxSpan, shown_span};
 use crate::settings::{JxSettings, settings_in};
@@ -67,37 +66,18 @@ fn fill(elements: &mut [JxElement], from: &[JudgedElement])
     }
 }
 
-/// The elements of a JSON text sequence (RFC 7464, section 2.1) in order, each with where it stands and what it comes to.
-/// As many as the buffer has room for are put there, and `count` tells how many there are.
+/// The elements of a JSON text sequence (RFC 7464, section 2.1) by settings in order, each with where it stands and what it
+/// comes to. As many as the buffer has room for are put there, and `count` tells how many there are. A byte order mark that is
+/// alone before the first record separator may be ignored and is no element. Names may have to be unique (RFC 8259, section 4).
 #[unsafe(no_mangle)]
-pub extern "C" fn jx_elements(
-    alloc: Global,
-    sequence: &[u8],
-    depth: u32,
-    elements: &mut [JxElement],
-    count: &mut usize,
-) -> u32
-    ensures elements { result ≡ OK → AreElementsOf sequence.now depth elements.old elements.new count.new }
-    ensures depth { 65535 < depth → result ≡ DEPTH_TOO_GREAT }
-    ensures status { depth ≤ 65535 → (result ≡ OK) ⊎ (result ≡ NO_MEMORY) }
-    ensures unchanged_elements { (result ≡ OK → ⊥) → elements.new ≡ elements.old }
-    ensures unchanged_count { (result ≡ OK → ⊥) → count.new ≡ count.old }
-{
-    let settings = JxSettings { depth, flags: 0 };
-    jx_elements_with(alloc, sequence, &settings, elements, count)
-}
-
-/// Does the same by settings. A byte order mark that is alone before the first record separator may be ignored and is
-/// no element. Names may have to be unique (RFC 8259, section 4).
-#[unsafe(no_mangle)]
-pub extern "C" fn jx_elements_with(
+pub extern "C" fn jx_elements_non_null(
     alloc: Global,
     sequence: &[u8],
     settings: &JxSettings,
     elements: &mut [JxElement],
     count: &mut usize,
 ) -> u32
-    ensures elements { result ≡ OK → AreElementsWith (settings_in settings.now) sequence.now elements.old elements.new count.new }
+    ensures elements { result ≡ OK → AreElementsOf (settings_in settings.now) sequence.now elements.old elements.new count.new }
     ensures depth { 65535 < settings.now.depth → result ≡ DEPTH_TOO_GREAT }
     ensures flags { settings.now.depth ≤ 65535 → 3 < settings.now.flags → result ≡ UNKNOWN_FLAG }
     ensures status { settings.now.depth ≤ 65535 → settings.now.flags ≤ 3 → (result ≡ OK) ⊎ (result ≡ NO_MEMORY) }

@@ -19,8 +19,9 @@ pub struct JxDocument {
 
 impl Model for JxDocument {
     ghost use Rattle.jx_c.specs.Held.{held_at};
+    ghost use Rattle.jx_edit.specs.contracts.document.Document as document;
 
-    ghost also_owns = { λ d. held_at d.inside d.held };
+    ghost also_owns = { λ d. held_at document.the_row d.inside d.held };
 }
 
 impl JxDocument {

@@ -18,9 +18,10 @@ pub struct JxIndex {
 }
 
 impl Model for JxIndex {
-    ghost use Rattle.jx_c.specs.HeldIndex.{held_at};
+    ghost use Rattle.jx_c.specs.Held.{held_at};
+    ghost use Rattle.jx_c.specs.contracts.catalog.Catalog as catalog;
 
-    ghost also_owns = { λ d. held_at d.inside d.held };
+    ghost also_owns = { λ d. held_at catalog.the_row d.inside d.held };
 }
 
 impl JxIndex {

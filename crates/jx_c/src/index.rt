@@ -3,8 +3,8 @@
 ghost use Rattle.std.specs.Prelude.{◌≡◌, ◌⊎◌, ◌<◌, ◌≤◌, ℕ, List, IfOk, IfErr, None, Some};
 ghost use Rattle.jx_run.specs.Text.{IsText};
 ghost use Rattle.jx_run.specs.Tree.{Tree};
-ghost use Rattle.jx_run.specs.declared.settings.Settings.{Settings};
-ghost use Rattle.jx_run.specs.declared.verdict.Verdict.TheVariants.{Refused};
+ghost use Rattle.jx_run.specs.declared.texts.settings.Settings.{Settings};
+ghost use Rattle.jx_run.specs.declared.texts.verdict.Verdict.TheVariants.{Refused};
 ghost use Rattle.jx_index.specs.ByNames.{IsVerdictBy};
 ghost use Rattle.jx_index.specs.Indexed.{IndexedValue};
 ghost use Rattle.jx_c.specs.Indexes.{IsAnswerIn, IsIndexOf, IsLookUpIn, IsMadeBy, row_at};
@@ -13,12 +13,12 @@ ghost use Rattle.jx_c.specs.Settings.{settings_in};
 ghost use Rattle.jx_c.specs.declared.places.JxRow.{JxRow};
 
 use crate::catalog::Catalog;
-use crate::document::sent;
 use crate::held_index::JxIndex;
 use crate::look_up::{JxAnswer, LookUp, shown_look_up, spelt};
 use crate::places::{JxRow, shown_row};
 use crate::settings::{JxSettings, settings_in};
 use crate::status::{DEPTH_TOO_GREAT, NO_INDEX, NO_MEMORY, OK, OUT_OF_BOUNDS, UNKNOWN_FLAG};
+use crate::unboxed::sent;
 use crate::verdict::{JxVerdict, shown};
 use jx_index::{Indexed, Pointer, TextAnswer, indexes_stand_behind_fronts, look_ups_end_at_rows};
 use jx_run::{Refusal, Settings, Verdict, text_by_settings_has_one_tree};
@@ -120,7 +120,7 @@ fn led(index: &Indexed, pointer: &Pointer) -> LookUp
 }
 
 /// What the bytes of a pointer come to in an index.
-pub fn look_up_in(index: &Indexed, pointer: &[u8]) -> LookUp
+fn look_up_in(index: &Indexed, pointer: &[u8]) -> LookUp
     ensures { IsLookUpIn index.now pointer.now result }
 {
     indexes_stand_behind_fronts();

@@ -7,8 +7,6 @@ mod catalog;
 mod check;
 mod document;
 mod elements;
-mod feeding;
-mod front;
 mod held;
 mod held_index;
 mod index;

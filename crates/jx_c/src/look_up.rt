@@ -1,21 +1,20 @@
 // What a pointer leads to in a text.
 ghost use Rattle.std.specs.Prelude.{◌≡◌, ◌⊎◌, ◌<◌, ◌≤◌, ℕ, List, IfOk, IfErr};
 ghost use Rattle.jx_run.specs.Tree.{Tree};
-ghost use Rattle.jx_run.specs.declared.settings.Settings.{Settings};
-ghost use Rattle.jx_c.specs.LookUps.{IsAnswerOf, IsLed, IsSpelt, shown_look_up};
+ghost use Rattle.jx_run.specs.declared.texts.settings.Settings.{Settings};
+ghost use Rattle.jx_c.specs.LookUps.{IsAnswerOf, IsLed, IsLookUp, IsSpelt, shown_look_up};
 ghost use Rattle.jx_c.specs.Settings.{settings_in};
 ghost use Rattle.jx_index.specs.Found.{IsFoundBy, found_of};
 ghost use Rattle.jx_index.specs.Leads.{led};
 ghost use Rattle.jx_index.specs.Pointers.{tokens};
-ghost use Rattle.jx_c.specs.Settled.{IsAnswerWith, IsLookUpBy};
 
 use crate::by_names::find_by_names;
 use crate::places::{JxSpan, kind_in, shown_span};
 use crate::settings::{JxSettings, settings_in};
 use crate::status::{DEPTH_TOO_GREAT, NO_MEMORY, OK, UNKNOWN_FLAG};
-use jx_index::{FindFault, Found, Pointer, PointerFault, names_are_refused_by_rows};
+use jx_index::{FindFault, Found, Pointer, PointerFault};
 use jx_lex::{Kind, Span};
-use jx_run::{Refusal, Settings, a_refused_mark_changes_nothing, text_by_settings_has_one_tree};
+use jx_run::{Refusal, Settings, text_by_settings_has_one_tree};
 use std::alloc::{AllocError, Global};
 use std::str;
 
@@ -128,8 +127,8 @@ fn look_up_of(found: Result<Found, FindFault>) -> LookUp
 }
 
 /// What a pointer comes to, by the refusal of the bytes or by what was found in them.
-fn told(read: Result<Result<Found, FindFault>, Refusal>) -> LookUp
-    ensures { (settings : Settings) (text pointer : List ℕ) → IsSpelt pointer → IsFoundBy settings text pointer read → IsLookUpBy settings text pointer result }
+pub fn told(read: Result<Result<Found, FindFault>, Refusal>) -> LookUp
+    ensures { (settings : Settings) (text pointer : List ℕ) → IsSpelt pointer → IsFoundBy settings text pointer read → IsLookUp settings text pointer result }
 {
     text_by_settings_has_one_tree();
     match read {
@@ -142,7 +141,8 @@ fn told(read: Result<Result<Found, FindFault>, Refusal>) -> LookUp
 pub fn spelt(pointer: &[u8]) -> Result<Pointer<'_>, LookUp>
     ensures pointer { IfOk result (λ p. p ≡ pointer.now) }
     ensures spelt { IfOk result (λ _. IsSpelt pointer.now) }
-    ensures none { IfErr result (λ l. (settings : Settings) (text : List ℕ) → IsLookUpBy settings text pointer.now l) }
+    ensures unspelt { IfErr result (λ _. IsSpelt pointer.now → ⊥) }
+    ensures none { IfErr result (λ l. (settings : Settings) (text : List ℕ) → IsLookUp settings text pointer.now l) }
 {
     let Ok(text) = str::from_utf8(pointer) else {
         return Err(LookUp::NotUtf8);
@@ -160,7 +160,7 @@ pub fn look_up(
     pointer: &[u8],
     settings: &Settings,
 ) -> Result<LookUp, AllocError>
-    ensures { IfOk result (IsLookUpBy settings.now text.now pointer.now) }
+    ensures { IfOk result (IsLookUp settings.now text.now pointer.now) }
 {
     match spelt(pointer) {
         Ok(read) => {
@@ -171,37 +171,17 @@ pub fn look_up(
     }
 }
 
-/// What a pointer (RFC 6901) leads to in a JSON text (RFC 8259). A pointer that is none is told before the text is read.
+/// What a pointer (RFC 6901) leads to in a JSON text (RFC 8259) by settings. A pointer that is none is told before the text is
+/// read.
 #[unsafe(no_mangle)]
-pub extern "C" fn jx_at(
-    alloc: Global,
-    text: &[u8],
-    pointer: &[u8],
-    depth: u32,
-    answer: &mut JxAnswer,
-) -> u32
-    ensures answer { result ≡ OK → IsAnswerOf text.now depth pointer.now answer.new }
-    ensures depth { 65535 < depth → result ≡ DEPTH_TOO_GREAT }
-    ensures status { depth ≤ 65535 → (result ≡ OK) ⊎ (result ≡ NO_MEMORY) }
-    ensures unchanged { (result ≡ OK → ⊥) → answer.new ≡ answer.old }
-{
-    a_refused_mark_changes_nothing();
-    names_are_refused_by_rows();
-    let settings = JxSettings { depth, flags: 0 };
-    jx_at_with(alloc, text, pointer, &settings, answer)
-}
-
-/// The same by settings: a byte order mark may be ignored (RFC 8259, section 8.1), and names may have to be unique
-/// (section 4).
-#[unsafe(no_mangle)]
-pub extern "C" fn jx_at_with(
+pub extern "C" fn jx_at_non_null(
     alloc: Global,
     text: &[u8],
     pointer: &[u8],
     settings: &JxSettings,
     answer: &mut JxAnswer,
 ) -> u32
-    ensures answer { result ≡ OK → IsAnswerWith (settings_in settings.now) text.now pointer.now answer.new }
+    ensures answer { result ≡ OK → IsAnswerOf (settings_in settings.now) text.now pointer.now answer.new }
     ensures depth { 65535 < settings.now.depth → result ≡ DEPTH_TOO_GREAT }
     ensures flags { settings.now.depth ≤ 65535 → 3 < settings.now.flags → result ≡ UNKNOWN_FLAG }
     ensures status { settings.now.depth ≤ 65535 → settings.now.flags ≤ 3 → (result ≡ OK) ⊎ (result ≡ NO_MEMORY) }

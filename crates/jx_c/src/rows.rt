@@ -1,20 +1,19 @@
 // The rows of a text.
 ghost use Rattle.std.specs.Prelude.{◌≡◌, ◌⊎◌, ◌<◌, ◌≤◌, ℕ, List, IfOk, IfErr};
-ghost use Rattle.jx_run.specs.declared.settings.Settings.{Settings};
-ghost use Rattle.jx_run.specs.declared.verdict.Verdict.TheVariants.{Refused};
+ghost use Rattle.jx_run.specs.declared.texts.settings.Settings.{Settings};
+ghost use Rattle.jx_run.specs.declared.texts.verdict.Verdict.TheVariants.{Refused};
 ghost use Rattle.jx_c.specs.Buffers.{IsFilled};
 ghost use Rattle.jx_c.specs.Rows.{AreRowsOf, shown_row};
 ghost use Rattle.jx_c.specs.Settings.{settings_in};
 ghost use Rattle.jx_index.specs.ByNames.{IsVerdictBy};
 ghost use Rattle.jx_index.specs.RowsAlone.{AreRowsBy};
-ghost use Rattle.jx_c.specs.Settled.{AreRowsWith};
 
 use crate::places::{JxRow, shown_row};
 use crate::settings::{JxSettings, settings_in};
 use crate::status::{DEPTH_TOO_GREAT, NO_MEMORY, OK, UNKNOWN_FLAG};
 use crate::verdict::{JxVerdict, shown};
-use jx_index::{Row, names_are_refused_by_rows, read_rows};
-use jx_run::{Refusal, Verdict, a_refused_mark_changes_nothing};
+use jx_index::{Row, read_rows};
+use jx_run::{Refusal, Verdict};
 use std::alloc::{AllocError, Global};
 
 /// Puts the rows into the buffer, as many as it has room for.
@@ -35,7 +34,7 @@ fn tell(
     verdict: &mut JxVerdict,
 )
     ensures { (settings : Settings) (bytes : List ℕ) → IfOk read (λ all. AreRowsBy settings bytes all.items)
-        → IfErr read (λ refusal. IsVerdictBy settings bytes (Refused refusal)) → AreRowsWith settings bytes rows.old rows.new count.new verdict.new }
+        → IfErr read (λ refusal. IsVerdictBy settings bytes (Refused refusal)) → AreRowsOf settings bytes rows.old rows.new count.new verdict.new }
 {
     match read {
         Ok(made) => {
@@ -51,34 +50,10 @@ fn tell(
     }
 }
 
-/// The rows of a JSON text (RFC 8259): all its values in the order of their starts. As many as the buffer has room for are
-/// put there, and `count` tells how many there are; where the bytes are no text there are none.
+/// The rows of a JSON text (RFC 8259) by settings: all its values in the order of their starts. As many as the buffer has room
+/// for are put there, and `count` tells how many there are; where the text is refused there are none.
 #[unsafe(no_mangle)]
-pub extern "C" fn jx_rows(
-    alloc: Global,
-    text: &[u8],
-    depth: u32,
-    rows: &mut [JxRow],
-    count: &mut usize,
-    verdict: &mut JxVerdict,
-) -> u32
-    ensures rows { result ≡ OK → AreRowsOf text.now depth rows.old rows.new count.new verdict.new }
-    ensures depth { 65535 < depth → result ≡ DEPTH_TOO_GREAT }
-    ensures status { depth ≤ 65535 → (result ≡ OK) ⊎ (result ≡ NO_MEMORY) }
-    ensures unchanged_rows { (result ≡ OK → ⊥) → rows.new ≡ rows.old }
-    ensures unchanged_count { (result ≡ OK → ⊥) → count.new ≡ count.old }
-    ensures unchanged_verdict { (result ≡ OK → ⊥) → verdict.new ≡ verdict.old }
-{
-    a_refused_mark_changes_nothing();
-    names_are_refused_by_rows();
-    let settings = JxSettings { depth, flags: 0 };
-    jx_rows_with(alloc, text, &settings, rows, count, verdict)
-}
-
-/// The same by settings: a byte order mark may be ignored (RFC 8259, section 8.1), and names may have to be unique
-/// (section 4).
-#[unsafe(no_mangle)]
-pub extern "C" fn jx_rows_with(
+pub extern "C" fn jx_rows_non_null(
     alloc: Global,
     text: &[u8],
     settings: &JxSettings,
@@ -86,7 +61,7 @@ pub extern "C" fn jx_rows_with(
     count: &mut usize,
     verdict: &mut JxVerdict,
 ) -> u32
-    ensures rows { result ≡ OK → AreRowsWith (settings_in settings.now) text.now rows.old rows.new count.new verdict.new }
+    ensures rows { result ≡ OK → AreRowsOf (settings_in settings.now) text.now rows.old rows.new count.new verdict.new }
     ensures depth { 65535 < settings.now.depth → result ≡ DEPTH_TOO_GREAT }
     ensures flags { settings.now.depth ≤ 65535 → 3 < settings.now.flags → result ≡ UNKNOWN_FLAG }
     ensures status { settings.now.depth ≤ 65535 → settings.now.flags ≤ 3 → (result ≡ OK) ⊎ (result ≡ NO_MEMORY) }

@@ -7,14 +7,13 @@ ghost use Rattle.jx_reduce.specs.Bits.{holder_of};
 ghost use Rattle.jx_reduce.specs.KnownStack.{HasRead, IsFault};
 ghost use Rattle.jx_reduce.specs.Read.{changed, step, top, without_top};
 ghost use Rattle.jx_reduce.specs.Table.{added};
-ghost use Rattle.jx_reduce.specs.Whole.{whole_of};
 ghost use Rattle.jx_run.specs.Kept.{HasSeen};
 ghost use Rattle.jx_c.specs.Containers.{holders};
 ghost use Rattle.jx_c.specs.Stack.{code_of, stage_in, holders_of, known_of};
 
-use jx_lex::{Keeper, Mark, MarkKind};
+use jx_lex::{Mark, MarkKind, TokenSink};
 use jx_reduce::{Expect, Holder, Whole, next};
-use jx_run::readings_go_on;
+use jx_run::{OpenStack, readings_go_on};
 use std::alloc::AllocError;
 
 /// Half of what a word counts to.
@@ -222,20 +221,6 @@ impl JxStack {
         }
     }
 
-    /// What the marks have come to.
-    pub fn whole(&self) -> Whole
-        ensures { result ≡ whole_of (known_of self.now).reading }
-    {
-        match stage_of(self.stage) {
-            Stage::Going(expect) => Whole::Went {
-                expect,
-                open: self.open_count(),
-            },
-            Stage::Stopped => Whole::Stopped(self.at),
-            Stage::TooDeep => Whole::TooDeep(self.at),
-        }
-    }
-
     /// Opens a container where the depth allows it; else the mark is too deep.
     #[inline(always)]
     fn enter(&mut self, holder: Holder, expect: Expect, at: usize)
@@ -285,7 +270,7 @@ impl JxStack {
     }
 }
 
-impl Keeper for JxStack {
+impl TokenSink for JxStack {
     ghost has_seen = { λ stack marks ends. HasSeen marks ends (known_of stack) };
 
     #[inline(always)]
@@ -303,5 +288,24 @@ impl Keeper for JxStack {
     fn is_done(&self) -> bool {
         readings_go_on();
         self.is_faulty()
+    }
+}
+
+impl OpenStack for JxStack {
+    ghost known = { λ stack. known_of stack };
+
+    ghost sees = { λ stack marks ends seen. seen };
+
+    ghost is_seen = { λ stack marks ends seen. seen };
+
+    fn whole(&self) -> Whole {
+        match stage_of(self.stage) {
+            Stage::Going(expect) => Whole::Went {
+                expect,
+                open: self.open_count(),
+            },
+            Stage::Stopped => Whole::Stopped(self.at),
+            Stage::TooDeep => Whole::TooDeep(self.at),
+        }
     }
 }

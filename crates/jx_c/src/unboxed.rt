@@ -33,3 +33,10 @@ impl<T: Drop, A: Allocator> Unboxed<T, A> {
         unsafe { Box::from_raw(alloc, at) }
     }
 }
+
+/// Gives the value back, and is there for those alone that may go to another thread: C may hand a document or an index to one.
+pub fn sent<T: Send>(value: T) -> T
+    ensures { result ≡ value }
+{
+    value
+}

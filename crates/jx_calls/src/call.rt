@@ -1,6 +1,6 @@
 // Which call a line names.
 use crate::{claim, index, lex, reduce, run, words};
-use jx_lines::{LineFault, words_of};
+use jx_lines::{Line, words_of};
 use std::alloc::{AllocError, Global};
 
 /// A call that a line may name.
@@ -15,6 +15,8 @@ enum Call {
     Cut,
     Maps,
     Views,
+    Grown,
+    Upto,
     Beginning,
     Scan,
     Reduce,
@@ -25,6 +27,8 @@ enum Call {
     Verdict,
     Cuts,
     Reader,
+    Slices,
+    Follows,
     Run,
     Started,
     Moved,
@@ -48,7 +52,7 @@ enum Call {
 }
 
 /// Each call and its name.
-const CALLS: [(&str, Call); 39] = [
+const CALLS: [(&str, Call); 43] = [
     ("class", Call::Class),
     ("step", Call::Step),
     ("steps", Call::Steps),
@@ -58,6 +62,8 @@ const CALLS: [(&str, Call); 39] = [
     ("cut", Call::Cut),
     ("maps", Call::Maps),
     ("views", Call::Views),
+    ("grown", Call::Grown),
+    ("upto", Call::Upto),
     ("beginning", Call::Beginning),
     ("scan", Call::Scan),
     ("reduce", Call::Reduce),
@@ -68,6 +74,8 @@ const CALLS: [(&str, Call); 39] = [
     ("verdict", Call::Verdict),
     ("cuts", Call::Cuts),
     ("reader", Call::Reader),
+    ("slices", Call::Slices),
+    ("follows", Call::Follows),
     ("run", Call::Run),
     ("started", Call::Started),
     ("moved", Call::Moved),
@@ -97,66 +105,62 @@ impl Call {
     }
 }
 
-/// What the call that a line names answers.
-fn called(alloc: Global, line: &str) -> Result<String, LineFault> {
-    let words = words_of(alloc, line)?;
-    let (name, words) = words.split_first().ok_or(LineFault::NoSuchCall)?;
-    let call = Call::named(name).ok_or(LineFault::NoSuchCall)?;
-    let mut out = String::new(alloc);
-    make(&mut out, alloc, call, words)?;
-    Ok(out)
-}
-
-/// Makes the call with these words.
-fn make(out: &mut String, alloc: Global, call: Call, words: &[&str]) -> Result<(), LineFault> {
+/// Makes the call with the words of a line.
+fn make(line: &mut Line<'_>, call: Call) {
     match call {
-        Call::Class => lex::steps::class(out, alloc, words),
-        Call::Step => lex::steps::step(out, alloc, words),
-        Call::Steps => lex::steps::steps(out, alloc, words),
-        Call::Map => lex::maps::map(out, alloc, words),
-        Call::Shown => lex::maps::shown(out, alloc, words),
-        Call::Kept => lex::joins::kept(out, alloc, words),
-        Call::Cut => lex::maps::cut(out, alloc, words),
-        Call::Maps => lex::views::maps(out, alloc, words),
-        Call::Views => lex::views::views(out, alloc, words),
-        Call::Beginning => lex::views::beginning(out, alloc, words),
-        Call::Scan => lex::scans::scan(out, alloc, words),
-        Call::Reduce => reduce::entries::reduce(out, alloc, words),
-        Call::Act => reduce::entries::act(out, alloc, words),
-        Call::Further => reduce::entries::further(out, alloc, words),
-        Call::Joins => reduce::joins::joins(out, alloc, words),
-        Call::Stack => reduce::stacks::stack(out, alloc, words),
-        Call::Verdict => run::verdicts::verdict(out, alloc, words),
-        Call::Cuts => run::verdicts::cuts(out, alloc, words),
-        Call::Reader => run::readers::reader(out, alloc, words),
-        Call::Run => run::entries::run(out, alloc, words),
-        Call::Started => run::entries::started(out, alloc, words),
-        Call::Moved => run::entries::moved(out, alloc, words),
-        Call::Parts => run::parts::parts(out, alloc, words),
-        Call::Elements => run::elements::elements(out, alloc, words),
-        Call::Behind => run::elements::behind(out, alloc, words),
-        Call::Front => run::fronts::fronted(out, alloc, words),
-        Call::Rows => index::readings::rows(out, alloc, words),
-        Call::Text => index::answers::text(out, alloc, words),
-        Call::Judged => index::answers::judged(out, alloc, words),
-        Call::Find => index::pointers::find(out, alloc, words),
-        Call::Children => index::nodes::children(out, alloc, words),
-        Call::Names => index::nodes::names(out, alloc, words),
-        Call::Repeated => index::nodes::repeated(out, alloc, words),
-        Call::Every => claim::cuttings::every(out, alloc, words),
-        Call::At => claim::cuttings::at(out, alloc, words),
-        Call::Workers => claim::cuttings::workers(out, alloc, words),
-        Call::Draws => claim::draws::draws(out, alloc, words),
-        Call::Seats => claim::draws::seats(out, alloc, words),
-        Call::Words => words::words(out, alloc, words),
+        Call::Class => lex::steps::class(line),
+        Call::Step => lex::steps::step(line),
+        Call::Steps => lex::steps::steps(line),
+        Call::Map => lex::maps::map(line),
+        Call::Shown => lex::maps::shown(line),
+        Call::Kept => lex::joins::kept(line),
+        Call::Cut => lex::maps::cut(line),
+        Call::Maps => lex::views::maps(line),
+        Call::Views => lex::views::views(line),
+        Call::Grown => lex::views::grown(line),
+        Call::Upto => lex::views::upto(line),
+        Call::Beginning => lex::views::beginning(line),
+        Call::Scan => lex::scans::scan(line),
+        Call::Reduce => reduce::entries::reduce(line),
+        Call::Act => reduce::entries::act(line),
+        Call::Further => reduce::entries::further(line),
+        Call::Joins => reduce::joins::joins(line),
+        Call::Stack => reduce::stacks::stack(line),
+        Call::Verdict => run::verdicts::verdict(line),
+        Call::Cuts => run::verdicts::cuts(line),
+        Call::Reader => run::readers::reader(line),
+        Call::Slices => run::readers::slices(line),
+        Call::Follows => run::readers::follows(line),
+        Call::Run => run::entries::run(line),
+        Call::Started => run::entries::started(line),
+        Call::Moved => run::entries::moved(line),
+        Call::Parts => run::parts::parts(line),
+        Call::Elements => run::elements::elements(line),
+        Call::Behind => run::elements::behind(line),
+        Call::Front => run::fronts::fronted(line),
+        Call::Rows => index::readings::rows(line),
+        Call::Text => index::answers::text(line),
+        Call::Judged => index::answers::judged(line),
+        Call::Find => index::pointers::find(line),
+        Call::Children => index::nodes::children(line),
+        Call::Names => index::nodes::names(line),
+        Call::Repeated => index::nodes::repeated(line),
+        Call::Every => claim::cuttings::every(line),
+        Call::At => claim::cuttings::at(line),
+        Call::Workers => claim::cuttings::workers(line),
+        Call::Draws => claim::draws::draws(line),
+        Call::Seats => claim::draws::seats(line),
+        Call::Words => words::words(line),
     }
 }
 
 /// What a line's call answers, or that there is no such call.
 pub fn answer_to(alloc: Global, line: &str) -> Result<String, AllocError> {
-    match called(alloc, line) {
-        Ok(answer) => Ok(answer),
-        Err(LineFault::NoSuchCall) => String::from_str(alloc, "no such call"),
-        Err(LineFault::Memory) => Err(AllocError),
+    let words = words_of(alloc, line)?;
+    let mut line = Line::new(alloc, &words);
+    match Call::named(line.word()) {
+        Some(call) => make(&mut line, call),
+        None => line.refuse(),
     }
+    line.answer()
 }

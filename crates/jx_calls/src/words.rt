@@ -2,8 +2,9 @@
 use jx_claim::CutFault;
 use jx_index::{FindFault, PointerFault};
 use jx_lex::{ChunkMap, JoinFault};
-use jx_lines::LineFault;
+use jx_lines::{Line, Out};
 use std::alloc::{AllocError, Global};
+use std::fmt::Display;
 
 const FIND_FAULTS: [FindFault; 6] = [
     FindFault::NoSuchMember { token: 0 },
@@ -27,41 +28,23 @@ const CUT_FAULTS: [CutFault; 4] = [
 ];
 
 /// `words`: each fault's words, one after another.
-pub(crate) fn words(out: &mut String, alloc: Global, words: &[&str]) -> Result<(), LineFault> {
-    let [] = words else {
-        return Err(LineFault::NoSuchCall);
-    };
-    push_join_fault(out, alloc)?;
-    push_find_faults(out)?;
-    push_pointer_faults(out)?;
-    push_cut_faults(out)?;
-    Ok(())
+pub(crate) fn words(line: &mut Line<'_>) {
+    let told = push_join_fault(&mut line.out, line.alloc);
+    line.settle(told);
+    push_faults(&mut line.out, &FIND_FAULTS);
+    push_faults(&mut line.out, &POINTER_FAULTS);
+    push_faults(&mut line.out, &CUT_FAULTS);
 }
 
-fn push_join_fault(out: &mut String, alloc: Global) -> Result<(), AllocError> {
+fn push_join_fault(out: &mut Out, alloc: Global) -> Result<(), AllocError> {
     let left = ChunkMap::of(alloc, b"[1]", 0, 1)?;
     let right = ChunkMap::of(alloc, b"[1]", 1, 3)?;
-    let fault = JoinFault { left, right };
-    write!(out, "{fault}")
-}
-
-fn push_find_faults(out: &mut String) -> Result<(), AllocError> {
-    for fault in &FIND_FAULTS {
-        write!(out, "; {fault}")?;
-    }
+    out.put(JoinFault { left, right });
     Ok(())
 }
 
-fn push_pointer_faults(out: &mut String) -> Result<(), AllocError> {
-    for fault in &POINTER_FAULTS {
-        write!(out, "; {fault}")?;
+fn push_faults<T: Display>(out: &mut Out, faults: &[T]) {
+    for fault in faults {
+        out.put(format_args!("; {fault}"));
     }
-    Ok(())
-}
-
-fn push_cut_faults(out: &mut String) -> Result<(), AllocError> {
-    for fault in &CUT_FAULTS {
-        write!(out, "; {fault}")?;
-    }
-    Ok(())
 }

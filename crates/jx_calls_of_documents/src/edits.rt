@@ -1,6 +1,6 @@
 // What is told of a document behind each of its edits.
 use jx_edit::{Document, OpenFault};
-use jx_lines::{LineFault, bytes_of, depth_of, number_of, push_text, push_verdict, settings_of};
+use jx_lines::{Line, LineFault, Out, bytes_of, number_of, push_text, push_verdict};
 use std::alloc::{AllocError, Global};
 use std::thread::Threads;
 
@@ -50,85 +50,91 @@ fn is_at_each(document: &Document, bytes: &[u8]) -> bool {
 }
 
 /// Tells the verdict and the bytes, or that they are not told alike by each way.
-fn push_state(out: &mut String, alloc: Global, document: &mut Document) -> Result<(), LineFault> {
-    push_verdict(out, document.verdict()?)?;
+fn push_state(out: &mut Out, alloc: Global, document: &mut Document) -> Result<(), AllocError> {
+    push_verdict(out, document.verdict()?);
     let bytes = pieces_of(alloc, document)?;
-    out.push_str(" ")?;
-    push_text(out, &bytes)?;
+    out.push_str(" ");
+    push_text(out, &bytes);
     let Ok(copy) = document.copy(0, document.len()) else {
-        out.push_str(", and no copy")?;
+        out.push_str(", and no copy");
         return Ok(());
     };
     let same = copy.as_slice() == bytes.as_slice();
     if !same || !is_at_each(document, &bytes) || document.is_empty() != bytes.is_empty() {
-        out.push_str(", by another way else")?;
+        out.push_str(", by another way else");
     }
     Ok(())
 }
 
 /// The document of a text, or the fault in words.
-fn told_document(
-    out: &mut String,
-    made: Result<Document, OpenFault>,
-) -> Result<Option<Document>, AllocError> {
+fn made_or_told(out: &mut Out, made: Result<Document, OpenFault>) -> Option<Document> {
     match made {
-        Ok(document) => Ok(Some(document)),
+        Ok(document) => Some(document),
         Err(fault) => {
-            write!(out, "{fault}")?;
-            Ok(None)
+            out.put(fault);
+            None
         }
     }
 }
 
-/// Makes an edit, and tells a refusal.
-fn push_edit(out: &mut String, document: &mut Document, edit: &Edit) -> Result<(), AllocError> {
-    match document.edit(edit.start, edit.end, &edit.replacement) {
-        Ok(()) => Ok(()),
-        Err(fault) => write!(out, "{fault}, "),
+/// Makes the edit that the next word spells, and tells a refusal.
+fn push_edit(line: &mut Line<'_>, document: &mut Document) {
+    match edit_of(line.alloc, line.word()) {
+        Ok(edit) => {
+            if let Err(fault) = document.edit(edit.start, edit.end, &edit.replacement) {
+                line.out.put(format_args!("{fault}, "));
+            }
+        }
+        Err(fault) => line.note(fault),
     }
 }
 
 /// `document DEPTH SETTINGS TEXT EDIT..`: the verdict and the bytes, behind no edit and behind each of them.
-pub(crate) fn document(out: &mut String, alloc: Global, words: &[&str]) -> Result<(), LineFault> {
-    let [depth, settings, text, edits @ ..] = words else {
-        return Err(LineFault::NoSuchCall);
-    };
-    let settings = settings_of(depth_of(depth)?, settings)?;
-    let text = bytes_of(alloc, text)?;
-    let Some(mut document) = told_document(out, Document::of(alloc, &text, settings))? else {
-        return Ok(());
-    };
-    push_state(out, alloc, &mut document)?;
-    for word in edits {
-        let edit = edit_of(alloc, word)?;
-        out.push_str("; ")?;
-        push_edit(out, &mut document, &edit)?;
-        push_state(out, alloc, &mut document)?;
+pub(crate) fn document(line: &mut Line<'_>) {
+    let depth = line.depth();
+    let settings = line.settings(depth);
+    let text = line.text();
+    let made = Document::of(line.alloc, &text, settings);
+    if let Some(mut document) = made_or_told(&mut line.out, made) {
+        push_states(line, &mut document);
     }
-    Ok(())
+}
+
+fn push_states(line: &mut Line<'_>, document: &mut Document) {
+    let told = push_state(&mut line.out, line.alloc, document);
+    line.settle(told);
+    for _ in 0..line.count() {
+        line.out.push_str("; ");
+        push_edit(line, document);
+        let told = push_state(&mut line.out, line.alloc, document);
+        line.settle(told);
+    }
 }
 
 /// `workers COUNT DEPTH SETTINGS TEXT`: the verdict on the document that so many workers make, and how many bytes it has.
-pub(crate) fn workers<R: Threads + Sync>(
-    out: &mut String,
-    rt: &R,
+pub(crate) fn workers<R: Threads + Sync>(line: &mut Line<'_>, rt: &R) {
+    let count = line.number();
+    let depth = line.depth();
+    let settings = line.settings(depth);
+    let text = line.text();
+    let made = Document::of_by(rt, line.alloc, &text, settings, count);
+    if let Some(mut document) = made_or_told(&mut line.out, made) {
+        let told = push_made(&mut line.out, line.alloc, &mut document, &text);
+        line.settle(told);
+    }
+}
+
+fn push_made(
+    out: &mut Out,
     alloc: Global,
-    words: &[&str],
-) -> Result<(), LineFault> {
-    let [count, depth, settings, text] = words else {
-        return Err(LineFault::NoSuchCall);
-    };
-    let settings = settings_of(depth_of(depth)?, settings)?;
-    let text = bytes_of(alloc, text)?;
-    let made = Document::of_by(rt, alloc, &text, settings, number_of(count)?);
-    let Some(mut document) = told_document(out, made)? else {
-        return Ok(());
-    };
-    push_verdict(out, document.verdict()?)?;
-    let bytes = pieces_of(alloc, &document)?;
-    write!(out, " {} bytes", bytes.len())?;
-    if bytes.as_slice() != text.as_slice() {
-        out.push_str(", and others")?;
+    document: &mut Document,
+    text: &[u8],
+) -> Result<(), AllocError> {
+    push_verdict(out, document.verdict()?);
+    let bytes = pieces_of(alloc, document)?;
+    out.put(format_args!(" {} bytes", bytes.len()));
+    if bytes.as_slice() != text {
+        out.push_str(", and others");
     }
     Ok(())
 }

@@ -1,15 +1,17 @@
 // The positions of editors.
 use jx_edit::{Document, Encoding, Position};
 use jx_lex::Depth;
-use jx_lines::{LineFault, bytes_of, number_of, settings_of};
-use std::alloc::Global;
+use jx_lines::{Line, LineFault, number_of};
 
 /// The encoding of this name, as the protocol spells it.
-fn encoding_of(word: &str) -> Result<Encoding, LineFault> {
-    match word {
-        "utf-8" => Ok(Encoding::Utf8),
-        "utf-16" => Ok(Encoding::Utf16),
-        _ => Err(LineFault::NoSuchCall),
+fn next_encoding(line: &mut Line<'_>) -> Encoding {
+    match line.word() {
+        "utf-8" => Encoding::Utf8,
+        "utf-16" => Encoding::Utf16,
+        _ => {
+            line.refuse();
+            Encoding::Utf8
+        }
     }
 }
 
@@ -22,43 +24,63 @@ fn position_of(word: &str) -> Result<Position, LineFault> {
     })
 }
 
-/// The document of a text by settings.
-fn document_of(alloc: Global, settings: &str, text: &str) -> Result<Document, LineFault> {
-    let settings = settings_of(Depth::default(), settings)?;
-    let text = bytes_of(alloc, text)?;
-    Document::of(alloc, &text, settings).map_err(|_| LineFault::NoSuchCall)
+fn next_position(line: &mut Line<'_>) -> Position {
+    let read = position_of(line.word());
+    let start = Position {
+        line: 0,
+        character: 0,
+    };
+    line.read_or(read, start)
+}
+
+/// The document of settings and a text.
+fn next_document(line: &mut Line<'_>) -> Option<Document> {
+    let settings = line.settings(Depth::default());
+    let text = line.text();
+    match Document::of(line.alloc, &text, settings) {
+        Ok(document) => Some(document),
+        Err(_) => {
+            line.refuse();
+            None
+        }
+    }
 }
 
 /// `positions ENCODING SETTINGS TEXT`: the position of each offset up to the end.
-pub(crate) fn positions(out: &mut String, alloc: Global, words: &[&str]) -> Result<(), LineFault> {
-    let [encoding, settings, text] = words else {
-        return Err(LineFault::NoSuchCall);
-    };
-    let encoding = encoding_of(encoding)?;
-    let document = document_of(alloc, settings, text)?;
+pub(crate) fn positions(line: &mut Line<'_>) {
+    let encoding = next_encoding(line);
+    if let Some(document) = next_document(line) {
+        push_positions(line, &document, encoding);
+    }
+}
+
+fn push_positions(line: &mut Line<'_>, document: &Document, encoding: Encoding) {
     for offset in 0..=document.len() {
         if offset > 0 {
-            out.push_str(" ")?;
+            line.out.push_str(" ");
         }
-        let position = document.position_of(offset, encoding);
-        write!(out, "{}:{}", position.line, position.character)?;
+        let Position {
+            line: at,
+            character,
+        } = document.position_of(offset, encoding);
+        line.out.put(format_args!("{at}:{character}"));
     }
-    Ok(())
 }
 
 /// `offsets ENCODING SETTINGS TEXT POSITION..`: the offset of each position.
-pub(crate) fn offsets(out: &mut String, alloc: Global, words: &[&str]) -> Result<(), LineFault> {
-    let [encoding, settings, text, positions @ ..] = words else {
-        return Err(LineFault::NoSuchCall);
-    };
-    let encoding = encoding_of(encoding)?;
-    let document = document_of(alloc, settings, text)?;
-    for word in positions {
-        let offset = document.offset_of(position_of(word)?, encoding);
-        if !out.is_empty() {
-            out.push_str(" ")?;
-        }
-        write!(out, "{offset}")?;
+pub(crate) fn offsets(line: &mut Line<'_>) {
+    let encoding = next_encoding(line);
+    if let Some(document) = next_document(line) {
+        push_offsets(line, &document, encoding);
     }
-    Ok(())
+}
+
+fn push_offsets(line: &mut Line<'_>, document: &Document, encoding: Encoding) {
+    for _ in 0..line.count() {
+        let offset = document.offset_of(next_position(line), encoding);
+        if !line.out.is_empty() {
+            line.out.push_str(" ");
+        }
+        line.out.put(offset);
+    }
 }

@@ -1,7 +1,8 @@
 // How many pieces a document has behind many edits.
 use jx_edit::Document;
 use jx_lex::Depth;
-use jx_lines::{LineFault, number_of, settings_of};
+use jx_lines::{Line, LineFault, Out};
+use jx_run::Settings;
 use std::alloc::Global;
 
 /// A piece has this many bytes where a document is made, and less than twice as many.
@@ -25,21 +26,9 @@ struct Wear {
     taken: usize,
 }
 
-fn wear_of(words: &[&str]) -> Result<Wear, LineFault> {
-    let [len, times, put, taken] = words else {
-        return Err(LineFault::NoSuchCall);
-    };
-    Ok(Wear {
-        len: number_of(len)?,
-        times: number_of(times)?,
-        put: number_of(put)?,
-        taken: number_of(taken)?,
-    })
-}
-
 /// The document of so many digits, behind these edits at places that look random.
 fn worn_by(alloc: Global, wear: Wear) -> Result<Document, LineFault> {
-    let settings = settings_of(Depth::default(), "-")?;
+    let settings = Settings::from(Depth::default());
     let text = vec![in alloc; b'1'; wear.len]?;
     let more = vec![in alloc; b'2'; wear.put]?;
     let Ok(mut document) = Document::of(alloc, &text, settings) else {
@@ -65,15 +54,24 @@ fn count_of(document: &Document) -> usize {
 
 /// `worn LEN TIMES PUT TAKEN`: how long a document of LEN bytes is behind so many edits, and whether it has about as many pieces
 /// as one that is made of as many bytes: at most twice as many and two, and at least half as many.
-pub(crate) fn worn(out: &mut String, alloc: Global, words: &[&str]) -> Result<(), LineFault> {
-    let document = worn_by(alloc, wear_of(words)?)?;
-    let len = document.len();
-    let count = count_of(&document);
+pub(crate) fn worn(line: &mut Line<'_>) {
+    let wear = Wear {
+        len: line.number(),
+        times: line.number(),
+        put: line.number(),
+        taken: line.number(),
+    };
+    match worn_by(line.alloc, wear) {
+        Ok(document) => push_count(&mut line.out, document.len(), count_of(&document)),
+        Err(fault) => line.note(fault),
+    }
+}
+
+fn push_count(out: &mut Out, len: usize, count: usize) {
     let whole = len / USUAL;
     if whole / 2 <= count && count <= whole.saturating_mul(2).saturating_add(2) {
-        write!(out, "{len} bytes in few pieces")?;
+        out.put(format_args!("{len} bytes in few pieces"));
     } else {
-        write!(out, "{len} bytes in {count} pieces")?;
+        out.put(format_args!("{len} bytes in {count} pieces"));
     }
-    Ok(())
 }

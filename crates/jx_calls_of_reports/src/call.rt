@@ -1,6 +1,6 @@
 // The calls, each by the name that a line begins with.
 
-#[derive(Clone, Copy, Debug, PartialEq, Eq)]
+#[derive(Clone, Copy)]
 pub enum Call {
     Report,
     Ends,
@@ -10,19 +10,17 @@ pub enum Call {
     Words,
 }
 
-/// Each call and its name.
-const CALLS: [(&str, Call); 6] = [
-    ("report", Call::Report),
-    ("ends", Call::Ends),
-    ("command", Call::Command),
-    ("lines", Call::Lines),
-    ("example", Call::Example),
-    ("words", Call::Words),
-];
-
 impl Call {
     /// The call of this name.
     pub fn named(name: &str) -> Option<Call> {
-        CALLS.iter().find(|call| call.0 == name).map(|call| call.1)
+        match name {
+            "report" => Some(Call::Report),
+            "ends" => Some(Call::Ends),
+            "command" => Some(Call::Command),
+            "lines" => Some(Call::Lines),
+            "example" => Some(Call::Example),
+            "words" => Some(Call::Words),
+            _ => None,
+        }
     }
 }

@@ -2,32 +2,75 @@
 use jx_command::{
     ArgFault, Input, Inputs, Order, PartsOrder, PartsStep, Request, Told, command_of,
 };
-use jx_lines::{LineFault, push_text, text_of};
+use jx_lines::{Line, LineFault, Out, push_text, text_of};
 use jx_run::Settings;
 use jx_task::{Command, Task};
 use std::alloc::{AllocError, Global};
 
-/// The words of a line behind the program's name. `''` is the empty word.
-fn owned_of(alloc: Global, words: &[&str]) -> Result<Vec<String>, LineFault> {
-    let mut owned = Vec::new(alloc);
-    owned.push(String::from_str(alloc, "jx")?)?;
-    for word in words {
-        if *word == "''" {
-            owned.push(String::new(alloc))?;
-        } else {
-            owned.push(text_of(alloc, word)?)?;
-        }
+/// The text that a word spells. `''` is the empty word.
+fn owned_of(alloc: Global, word: &str) -> Result<String, LineFault> {
+    if word == "''" {
+        return Ok(String::new(alloc));
+    }
+    text_of(alloc, word)
+}
+
+/// The program's name, and the words of a line that are left.
+fn owned(line: &mut Line<'_>) -> Vec<String> {
+    let all = all_of(line);
+    line.read_or(all, Vec::new(line.alloc))
+}
+
+fn all_of(line: &mut Line<'_>) -> Result<Vec<String>, LineFault> {
+    let mut owned = Vec::new(line.alloc);
+    owned.push(String::from_str(line.alloc, "jx")?)?;
+    for _ in 0..line.count() {
+        owned.push(owned_of(line.alloc, line.word())?)?;
     }
     Ok(owned)
 }
 
+/// The words as they are told to the program.
+fn words_of(alloc: Global, owned: &[String]) -> Result<Vec<&str>, AllocError> {
+    owned.iter().map(|word| word.as_str()).collect(alloc)
+}
+
 /// `command WORD..`: all that the words ask for, or what is said of them in one line, and a tip behind it if one is given.
-pub fn command(alloc: Global, words: &[&str], out: &mut String) -> Result<(), LineFault> {
-    let owned = owned_of(alloc, words)?;
-    let words: Vec<&str> = owned.iter().map(|word| word.as_str()).collect(alloc)?;
+pub fn command(line: &mut Line<'_>) {
+    let owned = owned(line);
+    let told = push_command(&mut line.out, line.alloc, &owned);
+    line.settle(told);
+}
+
+fn push_command(out: &mut Out, alloc: Global, owned: &[String]) -> Result<(), AllocError> {
+    let words = words_of(alloc, owned)?;
     match command_of(alloc, &words) {
-        Ok(Order::Report(request)) => push_request(out, &request)?,
-        Ok(Order::Parts(order)) => push_parts(out, &order)?,
+        Ok(Order::Report(request)) => push_request(out, &request),
+        Ok(Order::Parts(order)) => push_parts(out, &order),
+        Err(fault) => push_fault(out, alloc, &fault)?,
+    }
+    Ok(())
+}
+
+/// `lines LINES WORD..`: the task of the words' command where the lines of a file of pointers are added to it.
+pub fn lines(line: &mut Line<'_>) {
+    let lines = text_of(line.alloc, line.word());
+    let lines = line.read_or(lines, String::new(line.alloc));
+    let owned = owned(line);
+    let told = push_lines(&mut line.out, line.alloc, lines.as_str(), &owned);
+    line.settle(told);
+}
+
+fn push_lines(
+    out: &mut Out,
+    alloc: Global,
+    lines: &str,
+    owned: &[String],
+) -> Result<(), AllocError> {
+    let words = words_of(alloc, owned)?;
+    match command_of(alloc, &words) {
+        Ok(Order::Report(request)) => push_task(out, &command_with(alloc, request, lines)?.task),
+        Ok(Order::Parts(order)) => push_parts(out, &order),
         Err(fault) => push_fault(out, alloc, &fault)?,
     }
     Ok(())
@@ -40,114 +83,92 @@ fn command_with(alloc: Global, request: Request<'_>, lines: &str) -> Result<Comm
     Ok(command)
 }
 
-/// `lines LINES WORD..`: the task of the words' command where the lines of a file of pointers are added to it.
-pub fn lines(alloc: Global, words: &[&str], out: &mut String) -> Result<(), LineFault> {
-    let (lines, rest) = words.split_first().ok_or(LineFault::NoSuchCall)?;
-    let lines = text_of(alloc, lines)?;
-    let owned = owned_of(alloc, rest)?;
-    let words: Vec<&str> = owned.iter().map(|word| word.as_str()).collect(alloc)?;
-    match command_of(alloc, &words) {
-        Ok(Order::Report(request)) => {
-            let command = command_with(alloc, request, lines.as_str())?;
-            push_task(out, &command.task)?;
-        }
-        Ok(Order::Parts(order)) => push_parts(out, &order)?,
-        Err(fault) => push_fault(out, alloc, &fault)?,
-    }
-    Ok(())
-}
-
-fn push_task(out: &mut String, task: &Task) -> Result<(), AllocError> {
+fn push_task(out: &mut Out, task: &Task) {
     match task {
         Task::Check => out.push_str("check"),
         Task::Index => out.push_str("index"),
         Task::Seq => out.push_str("seq"),
         Task::At(pointers) => {
-            out.push_str("at")?;
+            out.push_str("at");
             for pointer in pointers {
-                out.push_str(" ")?;
-                push_text(out, pointer.as_bytes())?;
+                push_file(out, " ", pointer.as_str());
             }
-            Ok(())
         }
     }
 }
 
-fn push_settings(out: &mut String, settings: &Settings) -> Result<(), AllocError> {
+fn push_settings(out: &mut Out, settings: &Settings) {
     let (depth, mark, names) = (settings.depth.containers(), settings.mark, settings.names);
-    write!(out, "; depth {depth}, mark {mark:?}, names {names:?}")
+    out.put(format_args!("; depth {depth}, mark {mark:?}, names {names:?}"));
 }
 
-fn push_file(out: &mut String, name: &str, file: &str) -> Result<(), AllocError> {
-    out.push_str(name)?;
-    push_text(out, file.as_bytes())
+fn push_file(out: &mut Out, name: &str, file: &str) {
+    out.push_str(name);
+    push_text(out, file.as_bytes());
 }
 
-fn push_request(out: &mut String, request: &Request) -> Result<(), AllocError> {
+fn push_request(out: &mut Out, request: &Request) {
     let command: &Command = &request.command;
-    push_task(out, &command.task)?;
-    push_settings(out, &command.settings)?;
+    push_task(out, &command.task);
+    push_settings(out, &command.settings);
     let (workers, piece) = (command.workers.count(), command.piece);
-    write!(out, ", workers {workers}, piece {piece}")?;
+    out.put(format_args!(", workers {workers}, piece {piece}"));
     if command.quiet {
-        out.push_str(", quiet")?;
+        out.push_str(", quiet");
     }
-    push_inputs(out, &request.inputs)?;
-    push_told(out, request.told)?;
-    match request.pointers {
-        Some(file) => push_file(out, "; pointers ", file),
-        None => Ok(()),
+    push_inputs(out, &request.inputs);
+    push_told(out, request.told);
+    if let Some(file) = request.pointers {
+        push_file(out, "; pointers ", file);
     }
 }
 
-fn push_parts(out: &mut String, order: &PartsOrder) -> Result<(), AllocError> {
+fn push_parts(out: &mut Out, order: &PartsOrder) {
     match order.step {
-        PartsStep::Part { from: None } => out.push_str("part")?,
-        PartsStep::Part { from: Some(from) } => write!(out, "part from {from}")?,
-        PartsStep::Join => out.push_str("join")?,
+        PartsStep::Part { from: None } => out.push_str("part"),
+        PartsStep::Part { from: Some(from) } => out.put(format_args!("part from {from}")),
+        PartsStep::Join => out.push_str("join"),
         PartsStep::Whole { from, to, quiet } => {
-            write!(out, "whole {from}..{to}")?;
+            out.put(format_args!("whole {from}..{to}"));
             if quiet {
-                out.push_str(", quiet")?;
+                out.push_str(", quiet");
             }
         }
     }
-    let depth = order.depth.containers();
-    write!(out, "; depth {depth}")?;
-    push_inputs(out, &Inputs::One(order.input))
+    out.put(format_args!("; depth {}", order.depth.containers()));
+    push_inputs(out, &Inputs::One(order.input));
 }
 
 /// The files that are read, and nothing for standard input alone.
-fn push_inputs(out: &mut String, inputs: &Inputs) -> Result<(), AllocError> {
+fn push_inputs(out: &mut Out, inputs: &Inputs) {
     match inputs {
-        Inputs::One(Input::Standard) => Ok(()),
+        Inputs::One(Input::Standard) => (),
         Inputs::One(Input::File(file)) => push_file(out, "; file ", *file),
         Inputs::Several(words) => {
-            out.push_str("; files")?;
+            out.push_str("; files");
             for word in words {
-                push_file(out, " ", *word)?;
+                push_file(out, " ", *word);
             }
-            Ok(())
         }
     }
 }
 
-fn push_told(out: &mut String, told: Told) -> Result<(), AllocError> {
+fn push_told(out: &mut Out, told: Told) {
     match told {
-        Told::Lines => Ok(()),
-        Told::Explained(color) => write!(out, "; explained, color {color:?}"),
+        Told::Lines => (),
+        Told::Explained(color) => out.put(format_args!("; explained, color {color:?}")),
     }
 }
 
 /// The first line of what is said, and its tip.
-fn push_fault(out: &mut String, alloc: Global, fault: &ArgFault) -> Result<(), AllocError> {
+fn push_fault(out: &mut Out, alloc: Global, fault: &ArgFault) -> Result<(), AllocError> {
     let text = fault.to_string(alloc)?;
     let first = text.as_str().split('\n').next().unwrap_or("");
-    out.push_str(first)?;
+    out.push_str(first);
     for line in text.as_str().split('\n') {
         if let Some(tip) = line.strip_prefix("  tip: ") {
-            out.push_str("; tip: ")?;
-            out.push_str(tip)?;
+            out.push_str("; tip: ");
+            out.push_str(tip);
         }
     }
     Ok(())

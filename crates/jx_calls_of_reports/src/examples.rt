@@ -5,119 +5,111 @@ use jx_examples::{
     ExampleFault, LookUp, check, check_on_own_threads, lines_of_values, look_up, whole_elements,
 };
 use jx_index::Pointer;
-use jx_lines::{LineFault, bytes_of, push_span, push_verdict, text_of};
+use jx_lex::Span;
+use jx_lines::{Line, Out, push_span, push_verdict, text_of};
 use jx_run::Verdict;
-use std::alloc::{AllocError, Global};
+use std::alloc::AllocError;
 use std::sync::Wait;
 use std::thread::Threads;
 
-/// The examples, each by its name.
-#[derive(Clone, Copy, Debug)]
-enum ExampleName {
-    Check,
-    OwnThreads,
-    LookUp,
-    Elements,
-    Lines,
-}
-
-const EXAMPLES: [(&str, ExampleName); 5] = [
-    ("check", ExampleName::Check),
-    ("check_on_own_threads", ExampleName::OwnThreads),
-    ("look_up", ExampleName::LookUp),
-    ("whole_elements", ExampleName::Elements),
-    ("lines_of_values", ExampleName::Lines),
-];
-
-fn example_named(name: &str) -> Option<ExampleName> {
-    EXAMPLES
-        .iter()
-        .find(|example| example.0 == name)
-        .map(|example| example.1)
-}
-
 /// What an example gives, where memory is not refused.
-fn given<T: Drop>(answer: Result<T, ExampleFault>) -> Result<T, LineFault> {
+fn given<T: Drop>(answer: Result<T, ExampleFault>) -> Result<T, AllocError> {
     match answer {
         Ok(value) => Ok(value),
-        Err(_) => Err(LineFault::Memory),
+        Err(_) => Err(AllocError),
     }
 }
 
 /// `example NAME TEXT [POINTER]`: what an example gives that two workers read.
-pub fn example<R: Threads + Wait + Sync>(
-    rt: &R,
-    alloc: Global,
-    words: &[&str],
-    out: &mut String,
-) -> Result<(), LineFault> {
-    let [name, text, rest @ ..] = words else {
-        return Err(LineFault::NoSuchCall);
+pub fn example<R: Threads + Wait + Sync>(line: &mut Line<'_>, rt: &R) {
+    let name = line.word();
+    let text = line.text();
+    let Some(workers) = Workers::new(2) else {
+        return line.refuse();
     };
-    let example = example_named(name).ok_or(LineFault::NoSuchCall)?;
-    let text = bytes_of(alloc, text)?;
-    let workers = Workers::new(2).ok_or(LineFault::NoSuchCall)?;
-    match example {
-        ExampleName::Check => push_verdict(out, given(check(rt, alloc, &text, workers))?)?,
-        ExampleName::OwnThreads => push_verdict(
-            out,
-            given(check_on_own_threads(rt, alloc, &text))?,
-        )?,
-        ExampleName::LookUp => push_look_up(rt, alloc, &text, rest, workers, out)?,
-        ExampleName::Elements => push_elements(rt, alloc, &text, workers, out)?,
-        ExampleName::Lines => push_lines(rt, alloc, &text, workers, out)?,
+    match name {
+        "check" => push_check(line, rt, &text, workers),
+        "check_on_own_threads" => push_check_on_own_threads(line, rt, &text),
+        "look_up" => push_look_up(line, rt, &text, workers),
+        "whole_elements" => push_elements(line, rt, &text, workers),
+        "lines_of_values" => push_lines(line, rt, &text, workers),
+        _ => line.refuse(),
     }
-    Ok(())
+}
+
+fn push_check<R: Threads + Wait + Sync>(
+    line: &mut Line<'_>,
+    rt: &R,
+    text: &[u8],
+    workers: Workers,
+) {
+    let verdict = given(check(rt, line.alloc, text, workers));
+    if let Some(verdict) = line.keep(verdict) {
+        push_verdict(&mut line.out, verdict);
+    }
+}
+
+fn push_check_on_own_threads<R: Threads + Wait + Sync>(line: &mut Line<'_>, rt: &R, text: &[u8]) {
+    let verdict = given(check_on_own_threads(rt, line.alloc, text));
+    if let Some(verdict) = line.keep(verdict) {
+        push_verdict(&mut line.out, verdict);
+    }
 }
 
 fn push_look_up<R: Threads + Wait + Sync>(
+    line: &mut Line<'_>,
     rt: &R,
-    alloc: Global,
     text: &[u8],
-    rest: &[&str],
     workers: Workers,
-    out: &mut String,
-) -> Result<(), LineFault> {
-    let [pointer] = rest else {
-        return Err(LineFault::NoSuchCall);
-    };
-    let spelt = text_of(alloc, pointer)?;
+) {
+    let spelt = text_of(line.alloc, line.word());
+    let spelt = line.read_or(spelt, String::new(line.alloc));
     let Ok(pointer) = Pointer::read(spelt.as_str()) else {
-        return Err(LineFault::NoSuchCall);
+        return line.refuse();
     };
-    match given(look_up(rt, alloc, text, &pointer, workers))? {
-        LookUp::Found(span) => push_span(out, span)?,
-        LookUp::Lost(fault) => write!(out, "{fault}")?,
-        LookUp::Refused(refusal) => push_verdict(out, Verdict::Refused(refusal))?,
+    let led = given(look_up(rt, line.alloc, text, &pointer, workers));
+    if let Some(led) = line.keep(led) {
+        push_led(&mut line.out, led);
     }
-    Ok(())
+}
+
+fn push_led(out: &mut Out, led: LookUp) {
+    match led {
+        LookUp::Found(span) => push_span(out, span),
+        LookUp::Lost(fault) => out.put(fault),
+        LookUp::Refused(refusal) => push_verdict(out, Verdict::Refused(refusal)),
+    }
 }
 
 fn push_elements<R: Threads + Wait + Sync>(
+    line: &mut Line<'_>,
     rt: &R,
-    alloc: Global,
     text: &[u8],
     workers: Workers,
-    out: &mut String,
-) -> Result<(), LineFault> {
-    let spans = given(whole_elements(rt, alloc, text, workers))?;
-    for (number, span) in spans.iter().enumerate() {
-        if number > 0 {
-            out.push_str(" ")?;
-        }
-        push_span(out, *span)?;
+) {
+    let spans = given(whole_elements(rt, line.alloc, text, workers));
+    if let Some(spans) = line.keep(spans) {
+        push_spans(&mut line.out, &spans);
     }
-    Ok(())
+}
+
+fn push_spans(out: &mut Out, spans: &[Span]) {
+    for span in spans {
+        if !out.is_empty() {
+            out.push_str(" ");
+        }
+        push_span(out, *span);
+    }
 }
 
 fn push_lines<R: Threads + Wait + Sync>(
+    line: &mut Line<'_>,
     rt: &R,
-    alloc: Global,
     text: &[u8],
     workers: Workers,
-    out: &mut String,
-) -> Result<(), LineFault> {
-    let lines = given(lines_of_values(rt, alloc, text, workers))?;
-    push_output(out, &lines)?;
-    Ok(())
+) {
+    let lines = given(lines_of_values(rt, line.alloc, text, workers));
+    if let Some(lines) = line.keep(lines) {
+        push_output(&mut line.out, &lines);
+    }
 }

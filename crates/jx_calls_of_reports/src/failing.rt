@@ -1,9 +1,9 @@
 // What reports answer and write whose ends fail.
 use crate::outcome::{Outcome, outcome_of, push_outcome};
 use crate::reader::Giving;
-use crate::reports::{Asked, Way, asked_by, ways_of, workers_of};
+use crate::reports::{Asked, Way, next_asked, ways_of, workers_of};
 use crate::writer::{Refusal, Taking};
-use jx_lines::LineFault;
+use jx_lines::{Line, LineFault, Out};
 use jx_report::ReportFault;
 use std::alloc::Global;
 use std::io;
@@ -13,19 +13,28 @@ use std::thread::Threads;
 /// How many reports failed by their reader and by their writer, and the first that did not answer as it has to.
 #[derive(Drop)]
 struct Failures {
+    alloc: Global,
     reads: usize,
     writes: usize,
-    other: Option<String>,
+    other: Option<Out>,
 }
 
 impl Failures {
-    fn note(&mut self, alloc: Global, outcome: &Outcome, is_right: bool) -> Result<(), LineFault> {
+    fn note(&mut self, outcome: &Outcome, is_right: bool) {
         if !is_right && self.other.is_none() {
-            let mut told = String::new(alloc);
-            push_outcome(&mut told, outcome)?;
+            let mut told = Out::new(self.alloc);
+            push_outcome(&mut told, outcome);
             self.other = Some(told);
         }
-        Ok(())
+    }
+
+    fn push_to(&self, out: &mut Out) {
+        let (reads, writes) = (self.reads, self.writes);
+        out.put(format_args!("; {reads} reads fail, {writes} writes"));
+        if let Some(told) = &self.other {
+            out.push_str("; but ");
+            out.push(told);
+        }
     }
 }
 
@@ -33,37 +42,39 @@ impl Failures {
 /// reader, which gives a byte a call, fails at each call in turn by each of two kinds of error, and of those whose writer, which
 /// takes one byte a call or three, fails or takes no byte at each call in turn. Behind a read fault nothing has to be written, and
 /// behind a write fault what the calls before have taken.
-pub fn ends<R: Threads + Wait + Sync>(
+pub fn ends<R: Threads + Wait + Sync>(line: &mut Line<'_>, rt: &R) {
+    let Some(mut asked) = next_asked(line) else {
+        return;
+    };
+    let told = push_ends(&mut line.out, rt, line.alloc, &mut asked);
+    if let Err(fault) = told {
+        line.note(fault);
+    }
+}
+
+fn push_ends<R: Threads + Wait + Sync>(
+    out: &mut Out,
     rt: &R,
     alloc: Global,
-    words: &[&str],
-    out: &mut String,
+    asked: &mut Asked,
 ) -> Result<(), LineFault> {
-    let mut asked = asked_by(alloc, words)?;
     let ways = ways_of(alloc, &asked.options)?;
     let way = ways.first().ok_or(LineFault::NoSuchCall)?;
     asked.command.workers = workers_of(way.workers)?;
     asked.command.piece = way.piece;
-    let whole = outcome_by(rt, alloc, &asked, way, Giving::whole(), Taking::whole())?;
-    push_outcome(out, &whole)?;
+    let whole = outcome_by(rt, alloc, asked, way, Giving::whole(), Taking::whole())?;
+    push_outcome(out, &whole);
     let mut failures = Failures {
+        alloc,
         reads: 0,
         writes: 0,
         other: None,
     };
-    fail_reads(rt, alloc, &asked, way, &mut failures)?;
-    for most in [1, 3] {
-        fail_writes(rt, alloc, &asked, way, &whole.output, most, &mut failures)?;
+    fail_reads(&mut failures, rt, asked, way)?;
+    for most in &[1, 3] {
+        fail_writes(&mut failures, rt, asked, way, &whole.output, *most)?;
     }
-    push_failures(out, &failures)
-}
-
-fn push_failures(out: &mut String, failures: &Failures) -> Result<(), LineFault> {
-    let (reads, writes) = (failures.reads, failures.writes);
-    write!(out, "; {reads} reads fail, {writes} writes")?;
-    if let Some(told) = &failures.other {
-        write!(out, "; but {told}")?;
-    }
+    failures.push_to(out);
     Ok(())
 }
 
@@ -76,33 +87,25 @@ fn outcome_by<R: Threads + Wait + Sync>(
     giving: Giving,
     taking: Taking,
 ) -> Result<Outcome, LineFault> {
-    outcome_of(
-        rt,
-        alloc,
-        &asked.command,
-        &asked.text,
-        giving,
-        taking,
-        way.batch,
-    )
+    let (command, text) = (&asked.command, &asked.text);
+    outcome_of(rt, alloc, command, text, giving, taking, way.batch).ok_or(LineFault::NoSuchCall)
 }
 
 /// Reports whose reader fails: at each byte in turn, and where it would meet the end.
 fn fail_reads<R: Threads + Wait + Sync>(
+    failures: &mut Failures,
     rt: &R,
-    alloc: Global,
     asked: &Asked,
     way: &Way,
-    failures: &mut Failures,
 ) -> Result<(), LineFault> {
     for before in 0..=asked.text.len() {
         let call = before.saturating_add(1);
-        for kind in [io::ErrorKind::Other, io::ErrorKind::Interrupted] {
-            let giving = Giving::failing_at(call, kind);
-            let outcome = outcome_by(rt, alloc, asked, way, giving, Taking::whole())?;
+        for kind in &[io::ErrorKind::Other, io::ErrorKind::Interrupted] {
+            let giving = Giving::failing_at(call, *kind);
+            let outcome = outcome_by(rt, failures.alloc, asked, way, giving, Taking::whole())?;
             let is_right = outcome.answer == Err(ReportFault::Read) && outcome.output.is_empty();
             failures.reads = failures.reads.saturating_add(1);
-            failures.note(alloc, &outcome, is_right)?;
+            failures.note(&outcome, is_right);
         }
     }
     Ok(())
@@ -118,30 +121,29 @@ fn is_beginning(outcome: &Outcome, output: &[u8], taken: usize) -> bool {
 
 /// Reports whose writer takes so many bytes a call, and fails at each call in turn that the output needs.
 fn fail_writes<R: Threads + Wait + Sync>(
+    failures: &mut Failures,
     rt: &R,
-    alloc: Global,
     asked: &Asked,
     way: &Way,
     output: &[u8],
     most: usize,
-    failures: &mut Failures,
 ) -> Result<(), LineFault> {
     for before in 0..output.len() {
         let taken = before.saturating_mul(most);
         if taken >= output.len() {
             break;
         }
-        for refusal in [Refusal::Error, Refusal::TakesNone] {
+        for refusal in &[Refusal::Error, Refusal::TakesNone] {
             let taking = Taking {
                 most,
                 fails_at: before.saturating_add(1),
-                refusal,
+                refusal: *refusal,
             };
-            let outcome = outcome_by(rt, alloc, asked, way, Giving::whole(), taking)?;
+            let outcome = outcome_by(rt, failures.alloc, asked, way, Giving::whole(), taking)?;
             let is_right = outcome.answer == Err(ReportFault::Write)
                 && is_beginning(&outcome, output, taken);
             failures.writes = failures.writes.saturating_add(1);
-            failures.note(alloc, &outcome, is_right)?;
+            failures.note(&outcome, is_right);
         }
     }
     Ok(())

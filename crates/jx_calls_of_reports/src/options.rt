@@ -3,7 +3,7 @@ use crate::reader::{Giving, giving_of};
 use crate::writer::{Taking, taking_of};
 use jx_lex::Depth;
 use jx_lines::{LineFault, depth_of, number_of, settings_of};
-use jx_run::{FrontMark, NameRule, Settings};
+use jx_run::Settings;
 use std::alloc::{AllocError, Global};
 
 /// What a report is asked with. Lists are all gone through, each number beside each of the others.
@@ -19,7 +19,7 @@ pub struct Options {
     pub taking: Taking,
 }
 
-#[derive(Clone, Copy, Debug)]
+#[derive(Clone, Copy)]
 enum Name {
     Depth,
     Set,
@@ -32,22 +32,20 @@ enum Name {
     Writer,
 }
 
-/// Each option and its name.
-const NAMES: [(&str, Name); 9] = [
-    ("depth", Name::Depth),
-    ("set", Name::Set),
-    ("workers", Name::Workers),
-    ("piece", Name::Piece),
-    ("batch", Name::Batch),
-    ("quiet", Name::Quiet),
-    ("zeros", Name::Zeros),
-    ("reader", Name::Reader),
-    ("writer", Name::Writer),
-];
-
 impl Name {
     fn named(word: &str) -> Option<Name> {
-        NAMES.iter().find(|name| name.0 == word).map(|name| name.1)
+        match word {
+            "depth" => Some(Name::Depth),
+            "set" => Some(Name::Set),
+            "workers" => Some(Name::Workers),
+            "piece" => Some(Name::Piece),
+            "batch" => Some(Name::Batch),
+            "quiet" => Some(Name::Quiet),
+            "zeros" => Some(Name::Zeros),
+            "reader" => Some(Name::Reader),
+            "writer" => Some(Name::Writer),
+            _ => None,
+        }
     }
 }
 
@@ -55,11 +53,7 @@ impl Options {
     /// The default depth, five workers who read a byte at a time, and ends that give and take all at once.
     fn new(alloc: Global) -> Result<Options, AllocError> {
         Ok(Options {
-            settings: Settings {
-                depth: Depth::default(),
-                mark: FrontMark::Refused,
-                names: NameRule::Any,
-            },
+            settings: Settings::from(Depth::default()),
             workers: vec![in alloc; 5]?,
             pieces: vec![in alloc; 1]?,
             batches: Vec::new(alloc),

@@ -4,10 +4,10 @@ ghost use Rattle.std.specs.Prelude.{◌≤◌, ◌<◌};
 use crate::reader::{Giver, Giving};
 use crate::writer::{Taker, Taking};
 use jx_book::{Event, Gate, Go};
-use jx_lines::LineFault;
+use jx_lines::Out;
 use jx_report::{End, Exit, ReportFault, Sink, Source, report, report_in_batches};
 use jx_task::Command;
-use std::alloc::{AllocError, Global};
+use std::alloc::Global;
 use std::sync::Wait;
 use std::thread::Threads;
 
@@ -22,7 +22,7 @@ impl Gate for Passing {
 }
 
 /// What a report answered, what it wrote, and which of its ends has failed.
-#[derive(Debug, Drop)]
+#[derive(Drop)]
 pub struct Outcome {
     pub answer: Result<Exit, ReportFault>,
     pub output: Vec<u8>,
@@ -32,7 +32,8 @@ pub struct Outcome {
     pub writer_failed: bool,
 }
 
-/// What a report comes to between such ends, which reads so many bytes at a time if they are told.
+/// What a report comes to between such ends, which reads so many bytes at a time if they are told. There is none for a piece or a
+/// batch of no bytes, and for a batch of more than 4 GiB.
 pub fn outcome_of<R: Threads + Wait + Sync>(
     rt: &R,
     alloc: Global,
@@ -41,17 +42,17 @@ pub fn outcome_of<R: Threads + Wait + Sync>(
     giving: Giving,
     taking: Taking,
     batch: Option<usize>,
-) -> Result<Outcome, LineFault> {
+) -> Option<Outcome> {
     if command.piece == 0 {
-        return Err(LineFault::NoSuchCall);
+        return None;
     }
     let Some(batch) = batch else {
-        return Ok(reported(rt, alloc, command, text, giving, taking));
+        return Some(reported(rt, alloc, command, text, giving, taking));
     };
     if batch == 0 || batch > 4_294_967_295 {
-        return Err(LineFault::NoSuchCall);
+        return None;
     }
-    Ok(reported_in_batches(rt, alloc, command, text, giving, taking, batch))
+    Some(reported_in_batches(rt, alloc, command, text, giving, taking, batch))
 }
 
 /// What an answer comes to with its ends.
@@ -119,22 +120,21 @@ fn reported_in_batches<R: Threads + Wait + Sync>(
 const LONG: usize = 32768;
 
 /// What was written, with `|` for a line feed, or `-` for nothing.
-pub fn push_output(out: &mut String, output: &[u8]) -> Result<(), AllocError> {
-    let count = output.len();
-    if count == 0 {
-        return out.push_str("-");
+pub fn push_output(out: &mut Out, output: &[u8]) {
+    match output.len() {
+        0 => out.push_str("-"),
+        count if count > LONG => out.put(format_args!("{count} bytes")),
+        _ => push_lines(out, output),
     }
-    if count > LONG {
-        return write!(out, "{count} bytes");
-    }
+}
+
+fn push_lines(out: &mut Out, output: &[u8]) {
     for byte in output {
-        if *byte == b'\n' {
-            out.push_str("|")?;
-        } else {
-            out.push(char::from(*byte))?;
+        match byte {
+            b'\n' => out.push_str("|"),
+            _ => out.put(char::from(*byte)),
         }
     }
-    Ok(())
 }
 
 fn answer_word(answer: Result<Exit, ReportFault>) -> &'static str {
@@ -156,10 +156,10 @@ fn is_told(outcome: &Outcome) -> bool {
 }
 
 /// The exit or the fault, and what was written.
-pub fn push_outcome(out: &mut String, outcome: &Outcome) -> Result<(), AllocError> {
+pub fn push_outcome(out: &mut Out, outcome: &Outcome) {
     if !is_told(outcome) {
-        out.push_str("not as its ends tell: ")?;
+        out.push_str("not as its ends tell: ");
     }
-    out.push_str(answer_word(outcome.answer))?;
-    push_output(out, &outcome.output)
+    out.push_str(answer_word(outcome.answer));
+    push_output(out, &outcome.output);
 }

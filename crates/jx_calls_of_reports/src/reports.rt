@@ -2,7 +2,7 @@
 use crate::options::{Options, options_of};
 use crate::outcome::{outcome_of, push_outcome};
 use jx_claim::Workers;
-use jx_lines::{LineFault, Ways, bytes_of, text_of};
+use jx_lines::{Line, LineFault, Out, Ways, bytes_of, texts_of};
 use jx_task::{Command, Task};
 use std::alloc::{AllocError, Global};
 use std::sync::Wait;
@@ -13,18 +13,10 @@ fn task_of(alloc: Global, word: &str, pointers: &[&str]) -> Result<Task, LineFau
     match word {
         "check" => Ok(Task::Check),
         "index" => Ok(Task::Index),
-        "at" => Ok(Task::At(spelt_of(alloc, pointers)?)),
+        "at" => Ok(Task::At(texts_of(alloc, pointers)?)),
         "seq" => Ok(Task::Seq),
         _ => Err(LineFault::NoSuchCall),
     }
-}
-
-fn spelt_of(alloc: Global, words: &[&str]) -> Result<Vec<String>, LineFault> {
-    let mut spelt = Vec::new(alloc);
-    for word in words {
-        spelt.push(text_of(alloc, word)?)?;
-    }
-    Ok(spelt)
 }
 
 /// As many workers as that.
@@ -44,7 +36,17 @@ pub struct Asked {
 }
 
 /// `TASK OPTIONS TEXT [POINTER..]`
-pub fn asked_by(alloc: Global, words: &[&str]) -> Result<Asked, LineFault> {
+pub fn next_asked(line: &mut Line<'_>) -> Option<Asked> {
+    match asked_by(line.alloc, line.rest()) {
+        Ok(asked) => Some(asked),
+        Err(fault) => {
+            line.note(fault);
+            None
+        }
+    }
+}
+
+fn asked_by(alloc: Global, words: &[&str]) -> Result<Asked, LineFault> {
     let [task, options, text, pointers @ ..] = words else {
         return Err(LineFault::NoSuchCall);
     };
@@ -103,31 +105,42 @@ pub fn ways_of(alloc: Global, options: &Options) -> Result<Vec<Way>, AllocError>
 }
 
 /// `report TASK OPTIONS TEXT [POINTER..]`: the exit or the fault of a report, and what it writes.
-pub fn report<R: Threads + Wait + Sync>(
+pub fn report<R: Threads + Wait + Sync>(line: &mut Line<'_>, rt: &R) {
+    let Some(mut asked) = next_asked(line) else {
+        return;
+    };
+    let mut told = Ways::new(line.alloc);
+    if let Err(fault) = add_ways(&mut told, rt, line.alloc, &mut asked) {
+        line.note(fault);
+    }
+    told.push_to(&mut line.out);
+}
+
+fn add_ways<R: Threads + Wait + Sync>(
+    told: &mut Ways,
     rt: &R,
     alloc: Global,
-    words: &[&str],
-    out: &mut String,
+    asked: &mut Asked,
 ) -> Result<(), LineFault> {
-    let mut asked = asked_by(alloc, words)?;
-    let mut told = Ways::new(alloc);
     let ways = ways_of(alloc, &asked.options)?;
     for way in &ways {
         asked.command.workers = workers_of(way.workers)?;
         asked.command.piece = way.piece;
-        add_way(rt, alloc, &asked, way, &mut told)?;
+        let answer = told_of(rt, alloc, asked, way).ok_or(LineFault::NoSuchCall)?;
+        let (count, piece, batch) = (way.workers, way.piece, way.batch.unwrap_or(0));
+        let way = format_args!("{count} workers, pieces of {piece}, batches of {batch}");
+        told.add(way, answer);
     }
-    told.push_to(out)?;
     Ok(())
 }
 
-fn add_way<R: Threads + Wait + Sync>(
+/// What a report answers and writes in one way.
+fn told_of<R: Threads + Wait + Sync>(
     rt: &R,
     alloc: Global,
     asked: &Asked,
     way: &Way,
-    told: &mut Ways,
-) -> Result<(), LineFault> {
+) -> Option<Out> {
     let (giving, taking) = (asked.options.giving, asked.options.taking);
     let outcome = outcome_of(
         rt,
@@ -138,10 +151,7 @@ fn add_way<R: Threads + Wait + Sync>(
         taking,
         way.batch,
     )?;
-    let mut answer = String::new(alloc);
-    push_outcome(&mut answer, &outcome)?;
-    let (count, piece, batch) = (way.workers, way.piece, way.batch.unwrap_or(0));
-    let name = format!(in alloc; "{count} workers, pieces of {piece}, batches of {batch}")?;
-    told.add(&name, answer)?;
-    Ok(())
+    let mut told = Out::new(alloc);
+    push_outcome(&mut told, &outcome);
+    Some(told)
 }

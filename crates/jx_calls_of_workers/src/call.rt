@@ -1,6 +1,6 @@
 // The calls, each by the name that a line begins with.
 
-#[derive(Clone, Copy, Debug, PartialEq, Eq)]
+#[derive(Clone, Copy)]
 pub enum Call {
     Text,
     Seq,
@@ -15,35 +15,20 @@ pub enum Call {
 }
 
 impl Call {
-    fn name<'a>(self) -> &'a str {
-        match self {
-            Call::Text => "text",
-            Call::Seq => "seq",
-            Call::All => "all",
-            Call::Puts => "puts",
-            Call::Join => "join",
-            Call::Finish => "finish",
-            Call::Work => "work",
-            Call::Scarce => "scarce",
-            Call::Read => "read",
-            Call::Words => "words",
-        }
-    }
-
     /// The call of this name.
     pub fn named(word: &str) -> Option<Call> {
-        let all = [
-            Call::Text,
-            Call::Seq,
-            Call::All,
-            Call::Puts,
-            Call::Join,
-            Call::Finish,
-            Call::Work,
-            Call::Scarce,
-            Call::Read,
-            Call::Words,
-        ];
-        all.into_iter().find(|one| one.name() == word)
+        match word {
+            "text" => Some(Call::Text),
+            "seq" => Some(Call::Seq),
+            "all" => Some(Call::All),
+            "puts" => Some(Call::Puts),
+            "join" => Some(Call::Join),
+            "finish" => Some(Call::Finish),
+            "work" => Some(Call::Work),
+            "scarce" => Some(Call::Scarce),
+            "read" => Some(Call::Read),
+            "words" => Some(Call::Words),
+            _ => None,
+        }
     }
 }

@@ -11,45 +11,25 @@ use crate::scarce::Scarce;
 use crate::sequences::seq;
 use crate::stops::work;
 use crate::texts::text;
-use jx_lines::{LineFault, is_call, words_of};
+use jx_lines::{Line, is_call, words_of};
 use std::alloc::{AllocError, Global};
 use std::sync::Wait;
 use std::thread::Threads;
 
-/// Makes a call with its words, and writes what it answers.
-fn make<R: Threads + Wait + Sync>(
-    rt: &R,
-    alloc: Global,
-    call: Call,
-    rest: &[&str],
-    out: &mut String,
-) -> Result<(), LineFault> {
+/// Makes a call with the words of a line.
+fn make<R: Threads + Wait + Sync>(line: &mut Line<'_>, rt: &R, call: Call) {
     match call {
-        Call::Text => text(rt, alloc, rest, out),
-        Call::Seq => seq(rt, alloc, rest, out),
-        Call::All => all(rt, alloc, rest, out),
-        Call::Puts => puts(rt, alloc, rest, out),
-        Call::Join => join(alloc, rest, out),
-        Call::Finish => finish(rt, alloc, rest, out),
-        Call::Work => work::<Copied, R>(rt, alloc, rest, out),
-        Call::Scarce => work::<Scarce, R>(rt, alloc, rest, out),
-        Call::Read => read(rt, alloc, rest, out),
-        Call::Words => words(alloc, rest, out),
+        Call::Text => text(line, rt),
+        Call::Seq => seq(line, rt),
+        Call::All => all(line, rt),
+        Call::Puts => puts(line, rt),
+        Call::Join => join(line),
+        Call::Finish => finish(line, rt),
+        Call::Work => work::<Copied, R>(line, rt),
+        Call::Scarce => work::<Scarce, R>(line, rt),
+        Call::Read => read(line, rt),
+        Call::Words => words(line),
     }
-}
-
-/// What the call of a line answers.
-fn answer<R: Threads + Wait + Sync>(
-    rt: &R,
-    alloc: Global,
-    line: &str,
-) -> Result<String, LineFault> {
-    let all = words_of(alloc, line)?;
-    let (name, rest) = all.split_first().ok_or(LineFault::NoSuchCall)?;
-    let call = Call::named(name).ok_or(LineFault::NoSuchCall)?;
-    let mut out = String::new(alloc);
-    make(rt, alloc, call, rest, &mut out)?;
-    Ok(out)
 }
 
 /// What a line is answered: a line that is no call by itself, and a call that there is not by the words for that.
@@ -61,9 +41,11 @@ pub fn answer_to<R: Threads + Wait + Sync>(
     if !is_call(line) {
         return String::from_str(alloc, line);
     }
-    match answer(rt, alloc, line) {
-        Ok(out) => Ok(out),
-        Err(LineFault::NoSuchCall) => String::from_str(alloc, "no such call"),
-        Err(LineFault::Memory) => Err(AllocError),
+    let words = words_of(alloc, line)?;
+    let mut line = Line::new(alloc, &words);
+    match Call::named(line.word()) {
+        Some(call) => make(&mut line, rt, call),
+        None => line.refuse(),
     }
+    line.answer()
 }

@@ -2,7 +2,7 @@
 ghost use Rattle.std.specs.Prelude.{◌≡◌, IfOk};
 
 use jx_claim::{CutFault, Cutting, Workers};
-use jx_lines::{LineFault, cuts_of, number_of};
+use jx_lines::{Line, LineFault, cuts_of};
 use std::alloc::{AllocError, Global};
 
 /// A cut behind each byte but the last of so many.
@@ -16,7 +16,12 @@ fn behind_each_byte(alloc: Global, len: usize) -> Result<Vec<usize>, AllocError>
 
 /// Each list of cuts that a word asks for. Beyond the words that all programs know, `bytes` is a cut behind each byte. It is
 /// one of the ways too where there are several.
-pub fn cut_lists(alloc: Global, word: &str, len: usize) -> Result<Vec<Vec<usize>>, LineFault> {
+pub fn cut_lists(line: &mut Line<'_>, word: &str, len: usize) -> Vec<Vec<usize>> {
+    let lists = lists_of(line.alloc, word, len);
+    line.read_or(lists, Vec::new(line.alloc))
+}
+
+fn lists_of(alloc: Global, word: &str, len: usize) -> Result<Vec<Vec<usize>>, LineFault> {
     let mut all = if word == "bytes" {
         Vec::new(alloc)
     } else {
@@ -51,11 +56,6 @@ pub fn workers_of(count: usize) -> Result<Workers, LineFault> {
 /// How many workers read a text that is cut by one of so many lists: one, two and five where there is one list, and else two.
 pub fn worker_counts(lists: usize) -> &'static [usize] {
     if lists == 1 { &[1, 2, 5] } else { &[2] }
-}
-
-/// As many workers as a word says.
-pub fn workers_named(word: &str) -> Result<Workers, LineFault> {
-    workers_of(number_of(word)?)
 }
 
 /// How a text is read: where it is cut, and by how many workers.

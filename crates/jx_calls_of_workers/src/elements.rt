@@ -1,6 +1,6 @@
 // What is answered on elements, in words.
 use jx_answer::{Element, ElementAnswer};
-use jx_lines::push_element;
+use jx_lines::{Out, push_elements};
 use jx_run::{ElementVerdict, JudgedElement};
 use std::alloc::{AllocError, Global};
 
@@ -15,22 +15,14 @@ fn verdict_of(answer: &ElementAnswer) -> ElementVerdict {
 }
 
 /// Each element and its verdict, or `-` where there is none.
-pub fn told_of(alloc: Global, elements: &[JudgedElement]) -> Result<String, AllocError> {
-    if elements.is_empty() {
-        return String::from_str(alloc, "-");
-    }
-    let mut told = String::new(alloc);
-    for (number, element) in elements.iter().enumerate() {
-        if number > 0 {
-            told.push_str("; ")?;
-        }
-        push_element(&mut told, element)?;
-    }
-    Ok(told)
+pub fn told_of(alloc: Global, elements: &[JudgedElement]) -> Out {
+    let mut told = Out::new(alloc);
+    push_elements(&mut told, elements);
+    told
 }
 
 /// The same of elements with their indexes.
-pub fn told_of_answers(alloc: Global, elements: &[Element]) -> Result<String, AllocError> {
+pub fn told_of_answers(alloc: Global, elements: &[Element]) -> Result<Out, AllocError> {
     let mut judged = Vec::new(alloc);
     for element in elements {
         judged.push(JudgedElement {
@@ -38,5 +30,5 @@ pub fn told_of_answers(alloc: Global, elements: &[Element]) -> Result<String, Al
             verdict: verdict_of(&element.answer),
         })?;
     }
-    told_of(alloc, &judged)
+    Ok(told_of(alloc, &judged))
 }

@@ -7,7 +7,7 @@ use crate::runs::read;
 use jx_book::{Book, FinishFault, Share};
 use jx_claim::Workers;
 use jx_lex::{Depth, Span};
-use jx_lines::{LineFault, bytes_of, depth_of, span_within};
+use jx_lines::{Line, LineFault, Out, span_within};
 use std::alloc::Global;
 use std::marker::Brand;
 use std::sync::Wait;
@@ -15,23 +15,18 @@ use std::sync::ledger::{Blank, Ledger};
 
 /// `finish TEXT DEPTH SPANS TEXT DEPTH S..E`: puts the runs of the spans in the one text, finishes the book with the other, and
 /// tells the gaps of a part, or that a run is of another text or depth.
-pub fn finish<R: Wait>(
-    rt: &R,
-    alloc: Global,
-    words: &[&str],
-    out: &mut String,
-) -> Result<(), LineFault> {
-    let [text, depth, spans, other, other_depth, part] = words else {
-        return Err(LineFault::NoSuchCall);
-    };
-    let text = bytes_of(alloc, text)?;
-    let spans = spans_of(alloc, spans, text.len())?;
-    let depths = (depth_of(depth)?, depth_of(other_depth)?);
-    let other = bytes_of(alloc, other)?;
-    let part = span_within(part, usize::MAX)?;
-    let told = finished_as(rt, alloc, &text, &spans, &other, depths, part)?;
-    out.push_str(told.as_str())?;
-    Ok(())
+pub fn finish<R: Wait>(line: &mut Line<'_>, rt: &R) {
+    let text = line.text();
+    let depth = line.depth();
+    let spans = spans_of(line.alloc, line.word(), text.len());
+    let spans = line.read_or(spans, Vec::new(line.alloc));
+    let other = line.text();
+    let depths = (depth, line.depth());
+    let part = line.span(usize::MAX);
+    match finished_as(rt, line.alloc, &text, &spans, &other, depths, part) {
+        Ok(told) => line.out.push(&told),
+        Err(fault) => line.note(fault),
+    }
 }
 
 fn spans_of(alloc: Global, word: &str, len: usize) -> Result<Vec<Span>, LineFault> {
@@ -50,7 +45,7 @@ fn finished_as<R: Wait>(
     other: &[u8],
     depths: (Depth, Depth),
     part: Span,
-) -> Result<String, LineFault> {
+) -> Result<Out, LineFault> {
     let workers = Workers::new(1).ok_or(LineFault::NoSuchCall)?;
     let (put, taken) = (Blank::new(1), Blank::new(1));
     filled::<Brand, Brand, R>(
@@ -70,7 +65,7 @@ fn filled<'a, P: Ledger, T: Ledger, R: Wait>(
     put: Blank,
     taken: Blank,
     workers: Workers,
-) -> Result<String, LineFault>
+) -> Result<Out, LineFault>
     requires workers { workers ≡ 1 }
     requires put { (put.name ≡ P.name) × (put.parts ≡ P.parts) × (put.parts ≡ 1) }
     requires taken { (taken.name ≡ T.name) × (taken.parts ≡ T.parts) × (taken.parts ≡ 1) }
@@ -80,9 +75,16 @@ fn filled<'a, P: Ledger, T: Ledger, R: Wait>(
     put_all(rt, alloc, &book, &mut share, text, depths.0, spans)?;
     shares.push(share)?;
     match book.finish(other, depths.1, shares) {
-        Ok(closed) => Ok(gaps_of(alloc, &closed, part)?),
-        Err(FinishFault::Other(_)) => Ok(String::from_str(alloc, "other")?),
+        Ok(closed) => Ok(gaps_of(alloc, &closed, part)),
+        Err(FinishFault::Other(_)) => Ok(other_of(alloc)),
     }
+}
+
+/// What a book answers that has a run of another text or depth.
+fn other_of(alloc: Global) -> Out {
+    let mut told = Out::new(alloc);
+    told.push_str("other");
+    told
 }
 
 /// Puts a run for each span.

@@ -2,20 +2,8 @@
 use jx_answer::Answer;
 use jx_index::{FindFault, Indexed, NodeId};
 use jx_lex::{Kind, Span};
-use jx_lines::push_span;
-use std::alloc::{AllocError, Global};
-
-fn kind_word(kind: Kind) -> &'static str {
-    match kind {
-        Kind::Object => "object",
-        Kind::Array => "array",
-        Kind::String => "string",
-        Kind::Number => "number",
-        Kind::True => "true",
-        Kind::False => "false",
-        Kind::Null => "null",
-    }
-}
+use jx_lines::{Out, push_found};
+use std::alloc::Global;
 
 /// Whether the node's row has this kind and this span.
 fn is_row_of(index: &Indexed, node: NodeId, kind: Kind, span: Span) -> bool {
@@ -41,32 +29,29 @@ pub fn found_at(index: &Indexed, node: Result<NodeId, FindFault>) -> Answer {
 }
 
 /// `found KIND S..E`, or why the pointer leads nowhere.
-fn push_found(out: &mut String, index: &Indexed, answer: &Answer) -> Result<(), AllocError> {
+fn push_answer(out: &mut Out, index: &Indexed, answer: &Answer) {
     match answer {
         Answer::Found { node, kind, span } => {
             if !is_row_of(index, *node, *kind, *span) {
-                out.push_str("another row: ")?;
+                out.push_str("another row: ");
             }
-            out.push_str("found ")?;
-            out.push_str(kind_word(*kind))?;
-            out.push_str(" ")?;
-            push_span(out, *span)
+            push_found(out, *kind, *span);
         }
-        Answer::Fault(fault) => write!(out, "{fault}"),
+        Answer::Fault(fault) => out.put(*fault),
     }
 }
 
 /// The answers, or `-` where there is none.
-pub fn told_of(alloc: Global, index: &Indexed, answers: &[Answer]) -> Result<String, AllocError> {
+pub fn told_of(alloc: Global, index: &Indexed, answers: &[Answer]) -> Out {
+    let mut told = Out::new(alloc);
     if answers.is_empty() {
-        return String::from_str(alloc, "-");
+        told.push_str("-");
     }
-    let mut told = String::new(alloc);
     for (number, answer) in answers.iter().enumerate() {
         if number > 0 {
-            told.push_str("; ")?;
+            told.push_str("; ");
         }
-        push_found(&mut told, index, answer)?;
+        push_answer(&mut told, index, answer);
     }
-    Ok(told)
+    told
 }

@@ -1,9 +1,9 @@
 // Gates that stop workers.
 use jx_book::{Event, Gate, Go};
-use jx_lines::{LineFault, number_of};
+use jx_lines::{Line, LineFault, number_of};
 
 /// The step at which workers are stopped.
-#[derive(Clone, Copy, Debug, PartialEq, Eq)]
+#[derive(Clone, Copy)]
 pub enum StopOn {
     Nothing,
     Everything,
@@ -30,7 +30,12 @@ impl Gate for StopOn {
 }
 
 /// `open`, `shut`, `stored`, `took`, `drew:PIECE` or `worker:SEAT`.
-pub fn gate_of(word: &str) -> Result<StopOn, LineFault> {
+pub fn next_gate(line: &mut Line<'_>) -> StopOn {
+    let read = gate_of(line.word());
+    line.read_or(read, StopOn::Nothing)
+}
+
+fn gate_of(word: &str) -> Result<StopOn, LineFault> {
     match word.split_once(":") {
         Some(("drew", number)) => Ok(StopOn::Drew(number_of(number)?)),
         Some(("worker", number)) => Ok(StopOn::Worker(number_of(number)?)),

@@ -1,13 +1,12 @@
 // What a stopped worker holds, in words.
 use jx_book::{Cause, Hand, WorkerStop};
 use jx_lex::Span;
-use jx_lines::push_span;
+use jx_lines::{Out, push_span};
 use jx_run::Summary;
-use std::alloc::AllocError;
 use std::sync::ledger::Ledger;
 
 /// A hand, without the runs themselves.
-#[derive(Clone, Copy, Debug)]
+#[derive(Clone, Copy)]
 pub enum Holding {
     Nothing,
     Piece(u32),
@@ -16,7 +15,7 @@ pub enum Holding {
 }
 
 /// How a worker ended.
-#[derive(Clone, Copy, Debug)]
+#[derive(Clone, Copy)]
 pub enum Ended {
     /// No piece was left.
     Whole,
@@ -37,26 +36,26 @@ pub fn stop_of<S: Summary, P: Ledger, T: Ledger>(stop: &WorkerStop<'_, S, P, T>)
     Ended::Stopped(stop.cause, holding_of(&stop.hand))
 }
 
-fn push_holding(out: &mut String, holding: Holding) -> Result<(), AllocError> {
+fn push_holding(out: &mut Out, holding: Holding) {
     match holding {
         Holding::Nothing => out.push_str("nothing"),
-        Holding::Piece(number) => write!(out, "piece {number}"),
+        Holding::Piece(number) => out.put(format_args!("piece {number}")),
         Holding::One(span) => push_span(out, span),
         Holding::Two(left, right) => {
-            push_span(out, left)?;
-            out.push_str(" and ")?;
-            push_span(out, right)
+            push_span(out, left);
+            out.push_str(" and ");
+            push_span(out, right);
         }
     }
 }
 
 /// `ended`, or the cause and what was held.
-pub fn push_ended(out: &mut String, ended: Ended) -> Result<(), AllocError> {
+pub fn push_ended(out: &mut Out, ended: Ended) {
     match ended {
         Ended::Whole => out.push_str("ended"),
         Ended::Stopped(cause, holding) => {
-            write!(out, "{cause:?}, ")?;
-            push_holding(out, holding)
+            out.put(format_args!("{cause:?}, "));
+            push_holding(out, holding);
         }
     }
 }

@@ -5,27 +5,25 @@ use crate::copied::Copied;
 use crate::runs::push_run;
 use jx_book::{Held, HeldFault};
 use jx_lex::Depth;
-use jx_lines::{LineFault, Meeting, bytes_of, depth_of, meeting_within, push_text};
+use jx_lines::{Line, Meeting, Out, push_text};
 use std::alloc::{AllocError, Global};
 
 /// `join TEXT DEPTH TEXT DEPTH S..C..E`: the run of the one text from S up to C, joined with that of the other from C up to E.
-pub fn join(alloc: Global, words: &[&str], out: &mut String) -> Result<(), LineFault> {
-    let [text, depth, other_text, other_depth, meeting] = words else {
-        return Err(LineFault::NoSuchCall);
-    };
-    let text = bytes_of(alloc, text)?;
-    let other = bytes_of(alloc, other_text)?;
-    let meeting = meeting_within(meeting, other.len())?;
+pub fn join(line: &mut Line<'_>) {
+    let text = line.text();
+    let depth = line.depth();
+    let other = line.text();
+    let other_depth = line.depth();
+    let meeting = line.meeting(other.len());
     if meeting.cut > text.len() {
-        return Err(LineFault::NoSuchCall);
+        return line.refuse();
     }
-    let left = (text.as_slice(), depth_of(depth)?);
-    let right = (other.as_slice(), depth_of(other_depth)?);
-    match joined(alloc, left, right, meeting)? {
-        Ok(run) => push_joined(out, &run)?,
-        Err(fault) => push_fault(out, &fault)?,
+    let left = (text.as_slice(), depth);
+    let right = (other.as_slice(), other_depth);
+    let joined = joined(line.alloc, left, right, meeting);
+    if let Some(joined) = line.keep(joined) {
+        push_joined(&mut line.out, &joined);
     }
-    Ok(())
 }
 
 fn joined<'a>(
@@ -42,20 +40,22 @@ fn joined<'a>(
     Ok(first.join(second))
 }
 
-/// The span and the bytes of a run, and the text that it carries.
-fn push_joined(out: &mut String, run: &Held<'_, Copied>) -> Result<(), AllocError> {
-    push_run(out, run)?;
-    out.push_str(" in ")?;
-    push_text(out, run.text())
+/// The span and the bytes of a run, and the text that it carries, or why there is none.
+fn push_joined(out: &mut Out, joined: &Result<Held<'_, Copied>, HeldFault<'_, Copied>>) {
+    match joined {
+        Ok(run) => {
+            push_run(out, run);
+            out.push_str(" in ");
+            push_text(out, run.text());
+        }
+        Err(HeldFault::Memory(left, right)) => push_both(out, "memory: ", left, right),
+        Err(HeldFault::Other(left, right)) => push_both(out, "other: ", left, right),
+    }
 }
 
-fn push_fault(out: &mut String, fault: &HeldFault<'_, Copied>) -> Result<(), AllocError> {
-    let (word, left, right) = match fault {
-        HeldFault::Memory(left, right) => ("memory: ", left, right),
-        HeldFault::Other(left, right) => ("other: ", left, right),
-    };
-    out.push_str(word)?;
-    push_run(out, left)?;
-    out.push_str(" and ")?;
-    push_run(out, right)
+fn push_both(out: &mut Out, fault: &str, left: &Held<'_, Copied>, right: &Held<'_, Copied>) {
+    out.push_str(fault);
+    push_run(out, left);
+    out.push_str(" and ");
+    push_run(out, right);
 }

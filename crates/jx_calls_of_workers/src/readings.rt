@@ -2,41 +2,57 @@
 ghost use Rattle.std.specs.Prelude.{◌≡◌, length, IfOk};
 
 use crate::copied::Copied;
-use crate::cuttings::{cut_lists, cutting_at, way_of, workers_named};
-use crate::gates::{StopOn, gate_of};
+use crate::cuttings::{cut_lists, cutting_at, way_of, workers_of};
+use crate::gates::{StopOn, next_gate};
 use crate::runs::push_run;
-use jx_book::{Held, read_whole};
-use jx_claim::{Cutting, Workers};
+use jx_book::{Crew, Held, read_whole};
+use jx_claim::Cutting;
 use jx_lex::Depth;
-use jx_lines::{LineFault, Ways, bytes_of, settings_of};
+use jx_lines::{Line, LineFault, Out, Ways};
 use jx_run::{Front, FrontMark, front};
-use std::alloc::{AllocError, Global};
+use std::alloc::AllocError;
 use std::sync::Wait;
 use std::thread::Threads;
 
 /// `read CUTS WORKERS GATE SETTINGS TEXT`: the span and the bytes of the run that workers read. A byte order mark that is ignored
 /// is left out.
-pub fn read<R: Threads + Wait + Sync>(
-    rt: &R,
-    alloc: Global,
-    words: &[&str],
-    out: &mut String,
-) -> Result<(), LineFault> {
-    let [cuts, workers, gate, settings, text] = words else {
-        return Err(LineFault::NoSuchCall);
+pub fn read<R: Threads + Wait + Sync>(line: &mut Line<'_>, rt: &R) {
+    let cuts = line.word();
+    let workers = workers_of(line.number());
+    let gate = next_gate(line);
+    let settings = line.settings(Depth::default());
+    let text = line.text();
+    let Ok(workers) = workers else {
+        return line.refuse();
     };
-    let workers = workers_named(workers)?;
-    let gate = gate_of(gate)?;
-    let settings = settings_of(Depth::default(), settings)?;
-    let text = bytes_of(alloc, text)?;
-    let mut ways = Ways::new(alloc);
-    for cuts in cut_lists(alloc, cuts, text.len())? {
-        let cutting = cutting_at(alloc, text.len(), &cuts)?;
-        let cutting = behind_front(cutting, &text, settings.mark)?;
-        let way = way_of(alloc, &cuts, workers)?;
-        ways.add(&way, read_by(rt, alloc, &text, &cutting, workers, gate)?)?;
+    let crew = Crew {
+        rt,
+        alloc: line.alloc,
+        workers,
+        gate: &gate,
+    };
+    let mut ways = Ways::new(line.alloc);
+    let lists = cut_lists(line, cuts, text.len());
+    for cuts in &lists {
+        if let Err(fault) = add_cut(&mut ways, &crew, &text, cuts, settings.mark) {
+            line.note(fault);
+        }
     }
-    ways.push_to(out)?;
+    ways.push_to(&mut line.out);
+}
+
+fn add_cut<R: Threads + Wait + Sync>(
+    ways: &mut Ways,
+    crew: &Crew<'_, R, StopOn>,
+    text: &[u8],
+    cuts: &[usize],
+    mark: FrontMark,
+) -> Result<(), LineFault> {
+    let cutting = cutting_at(crew.alloc, text.len(), cuts)?;
+    let cutting = behind_front(cutting, text, mark)?;
+    let told = read_by(crew, text, &cutting)?;
+    let way = way_of(crew.alloc, cuts, crew.workers)?;
+    ways.add(way.as_str(), told);
     Ok(())
 }
 
@@ -53,18 +69,14 @@ fn behind_front(cutting: Cutting, text: &[u8], mark: FrontMark) -> Result<Cuttin
 }
 
 fn read_by<R: Threads + Wait + Sync>(
-    rt: &R,
-    alloc: Global,
+    crew: &Crew<'_, R, StopOn>,
     text: &[u8],
     cutting: &Cutting,
-    workers: Workers,
-    gate: StopOn,
-) -> Result<String, AllocError>
+) -> Result<Out, AllocError>
     requires { cutting.now.len ≡ length text.now }
 {
-    let depth = Depth::default();
-    let run: Held<'_, Copied> = read_whole(rt, alloc, text, cutting, workers, depth, &gate)?;
-    let mut told = String::new(alloc);
-    push_run(&mut told, &run)?;
+    let run: Held<'_, Copied> = read_whole(crew, text, cutting, Depth::default())?;
+    let mut told = Out::new(crew.alloc);
+    push_run(&mut told, &run);
     Ok(told)
 }

@@ -4,8 +4,8 @@ ghost use Rattle.std.specs.Prelude.{◌≡◌, ◌<◌, ◌≤◌, length, IfOk,
 use crate::copied::Copied;
 use jx_book::Held;
 use jx_lex::{Depth, Span};
-use jx_lines::{LineFault, push_span, push_text};
-use std::alloc::{AllocError, Global};
+use jx_lines::{LineFault, Out, push_span, push_text};
+use std::alloc::Global;
 
 /// The run of a part of a text, which has to have bytes.
 pub fn read<'a>(
@@ -35,22 +35,21 @@ pub fn filled<'a>(run: Held<'a, Copied>) -> Option<Held<'a, Copied>>
 }
 
 /// `S..E`, and the bytes that the run was read from.
-pub fn push_run(out: &mut String, run: &Held<'_, Copied>) -> Result<(), AllocError> {
-    push_span(out, run.span())?;
-    out.push_str(" of bytes ")?;
-    push_text(out, run.run().bytes())
+pub fn push_run(out: &mut Out, run: &Held<'_, Copied>) {
+    push_span(out, run.span());
+    out.push_str(" of bytes ");
+    push_text(out, run.run().bytes());
 }
 
 /// The spans of runs, or `-` for none.
-pub fn push_runs(out: &mut String, runs: &[Held<'_, Copied>]) -> Result<(), AllocError> {
+pub fn push_runs(out: &mut Out, runs: &[Held<'_, Copied>]) {
     if runs.is_empty() {
-        return out.push_str("-");
+        out.push_str("-");
     }
     for (number, run) in runs.iter().enumerate() {
         if number > 0 {
-            out.push_str(",")?;
+            out.push_str(",");
         }
-        push_run(out, run)?;
+        push_run(out, run);
     }
-    Ok(())
 }

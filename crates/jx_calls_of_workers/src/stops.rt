@@ -1,13 +1,13 @@
 // Where a worker stops, and what it holds then.
 ghost use Rattle.std.specs.Prelude.{◌≡◌, ◌≤◌, length, IfOk};
 
-use crate::cuttings::workers_named;
-use crate::gates::{StopOn, gate_of};
+use crate::cuttings::workers_of;
+use crate::gates::{StopOn, next_gate};
 use crate::holding::{Ended, push_ended, stop_of};
 use jx_book::{Book, Held, Share};
 use jx_claim::{Claims, Cutting, Workers};
 use jx_lex::{Depth, Span};
-use jx_lines::{LineFault, bytes_of, depth_of, number_of, span_within};
+use jx_lines::{Line, LineFault};
 use jx_run::Summary;
 use std::alloc::{AllocError, Global};
 use std::marker::Brand;
@@ -23,42 +23,48 @@ struct Before {
 }
 
 /// `[TEXT S..E DEPTH]`
-fn before_of(alloc: Global, words: &[&str]) -> Result<Before, LineFault> {
-    if words.is_empty() {
-        return Ok(Before {
-            text: Vec::new(alloc),
+fn next_before(line: &mut Line<'_>) -> Before {
+    if line.count() == 0 {
+        return Before {
+            text: Vec::new(line.alloc),
             span: Span { start: 0, end: 0 },
             depth: Depth::default(),
-        });
+        };
     }
-    let [text, span, depth] = words else {
-        return Err(LineFault::NoSuchCall);
-    };
-    let text = bytes_of(alloc, text)?;
-    let span = span_within(span, text.len())?;
-    let depth = depth_of(depth)?;
-    Ok(Before { text, span, depth })
+    let text = line.text();
+    let span = line.span(text.len());
+    let depth = line.depth();
+    Before { text, span, depth }
 }
 
 /// `work SIZE SEATS GATE TEXT [TEXT S..E DEPTH]`: why the worker of the last seat stops, which alone reads the first text in
 /// pieces of SIZE bytes, and what it holds then. A run of the other text stands in the book before.
-pub fn work<S: Summary, R: Wait>(
+pub fn work<S: Summary, R: Wait>(line: &mut Line<'_>, rt: &R) {
+    let size = line.number();
+    let seats = line.number();
+    let gate = next_gate(line);
+    let text = line.text();
+    let before = next_before(line);
+    match worked::<S, R>(rt, line.alloc, &text, size, &before, gate, seats) {
+        Ok(ended) => push_ended(&mut line.out, ended),
+        Err(fault) => line.note(fault),
+    }
+}
+
+/// How the worker of the last of so many seats ends, over pieces of so many bytes.
+fn worked<S: Summary, R: Wait>(
     rt: &R,
     alloc: Global,
-    words: &[&str],
-    out: &mut String,
-) -> Result<(), LineFault> {
-    let [size, seats, gate, text, before @ ..] = words else {
-        return Err(LineFault::NoSuchCall);
-    };
-    let text = bytes_of(alloc, text)?;
-    let cutting = pieces_of(text.len(), number_of(size)?)?;
-    let workers = workers_named(seats)?;
-    let gate = gate_of(gate)?;
-    let before = before_of(alloc, before)?;
-    let ended = ended_by::<S, R>(rt, alloc, &text, &cutting, &before, gate, workers)?;
-    push_ended(out, ended)?;
-    Ok(())
+    text: &[u8],
+    size: usize,
+    before: &Before,
+    gate: StopOn,
+    seats: usize,
+) -> Result<Ended, LineFault> {
+    let workers = workers_of(seats)?;
+    let cutting = pieces_of(text.len(), size)?;
+    let ended = ended_by::<S, R>(rt, alloc, text, &cutting, before, gate, workers)?;
+    Ok(ended)
 }
 
 /// A text of so many bytes in pieces of that many.

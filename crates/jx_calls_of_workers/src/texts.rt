@@ -2,10 +2,10 @@
 ghost use Rattle.std.specs.Prelude.{◌≡◌, length};
 
 use crate::cuttings::{cut_lists, cutting_at, way_of, worker_counts, workers_of};
-use jx_answer::{TextAnswer, index_text, index_text_with, verdict_of_text, verdict_of_text_with};
-use jx_book::{OpenGate, read_whole};
-use jx_claim::{Cutting, Workers};
-use jx_lines::{LineFault, Ways, bytes_of, depth_of, push_rows, push_verdict, settings_of};
+use jx_answer::{TextAnswer, index_text, index_text_with, verdict_of_text};
+use jx_book::{Crew, OpenGate, read_whole};
+use jx_claim::Cutting;
+use jx_lines::{Line, LineFault, Out, Ways, push_rows, push_verdict};
 use jx_run::{FrontMark, NameRule, Settings, TextRun, Verdict};
 use std::alloc::{AllocError, Global};
 use std::sync::Wait;
@@ -20,54 +20,54 @@ struct TextWays {
 }
 
 impl TextWays {
-    fn add_verdict(&mut self, way: &str, verdict: Verdict) -> Result<(), AllocError> {
-        let mut told = String::new(self.alloc);
-        push_verdict(&mut told, verdict)?;
-        self.verdicts.add(way, told)
+    fn new(alloc: Global) -> TextWays {
+        TextWays {
+            alloc,
+            verdicts: Ways::new(alloc),
+            rows: Ways::new(alloc),
+        }
     }
 
-    fn add_answer(&mut self, way: &str, answer: TextAnswer) -> Result<(), AllocError> {
-        let mut told = String::new(self.alloc);
+    fn add_verdict(&mut self, way: &str, verdict: Verdict) {
+        let mut told = Out::new(self.alloc);
+        push_verdict(&mut told, verdict);
+        self.verdicts.add(way, told);
+    }
+
+    fn add_answer(&mut self, way: &str, answer: TextAnswer<'_>) {
+        let mut told = Out::new(self.alloc);
         if let TextAnswer::Accepted(index) = &answer {
-            push_rows(&mut told, index.rows())?;
+            push_rows(&mut told, index.rows());
         }
-        self.rows.add(way, told)?;
-        self.add_verdict(way, answer.into_verdict())
+        self.rows.add(way, told);
+        self.add_verdict(way, answer.into_verdict());
     }
 }
 
 /// `text DEPTH SETTINGS CUTS TEXT`: the verdict on a text and its rows, by one, two and five workers, or by two at several cuts.
-pub fn text<R: Threads + Wait + Sync>(
-    rt: &R,
-    alloc: Global,
-    words: &[&str],
-    out: &mut String,
-) -> Result<(), LineFault> {
-    let [depth, settings, cuts, text] = words else {
-        return Err(LineFault::NoSuchCall);
-    };
-    let settings = settings_of(depth_of(depth)?, settings)?;
-    let text = bytes_of(alloc, text)?;
-    let mut ways = TextWays {
-        alloc,
-        verdicts: Ways::new(alloc),
-        rows: Ways::new(alloc),
-    };
-    let lists = cut_lists(alloc, cuts, text.len())?;
-    let counts = worker_counts(lists.len());
-    for cuts in lists {
-        add_cut(rt, alloc, &mut ways, &text, &cuts, counts, &settings)?;
+pub fn text<R: Threads + Wait + Sync>(line: &mut Line<'_>, rt: &R) {
+    let depth = line.depth();
+    let settings = line.settings(depth);
+    let cuts = line.word();
+    let text = line.text();
+    let lists = cut_lists(line, cuts, text.len());
+    let mut ways = TextWays::new(line.alloc);
+    for cuts in &lists {
+        let counts = worker_counts(lists.len());
+        let done = add_cut(&mut ways, rt, line.alloc, &text, cuts, counts, &settings);
+        if let Err(fault) = done {
+            line.note(fault);
+        }
     }
-    ways.verdicts.push_to(out)?;
-    ways.rows.push_to(out)?;
-    Ok(())
+    ways.verdicts.push_to(&mut line.out);
+    ways.rows.push_to(&mut line.out);
 }
 
 /// The answers on a text that is cut there.
 fn add_cut<R: Threads + Wait + Sync>(
+    ways: &mut TextWays,
     rt: &R,
     alloc: Global,
-    ways: &mut TextWays,
     text: &[u8],
     cuts: &[usize],
     counts: &[usize],
@@ -75,108 +75,77 @@ fn add_cut<R: Threads + Wait + Sync>(
 ) -> Result<(), LineFault> {
     let cutting = cutting_at(alloc, text.len(), cuts)?;
     for count in counts {
-        let workers = workers_of(*count)?;
-        let way = way_of(alloc, cuts, workers)?;
-        index_with(rt, alloc, ways, &way, text, &cutting, workers, settings)?;
-        judge_with(rt, alloc, ways, &way, text, &cutting, workers, settings)?;
-        if settings.mark == FrontMark::Refused && settings.names == NameRule::Any {
-            index(rt, alloc, ways, &way, text, &cutting, workers, settings)?;
-            judge(rt, alloc, ways, &way, text, &cutting, workers, settings)?;
-            judge_run(rt, alloc, ways, &way, text, &cutting, workers, settings)?;
-        }
+        let crew = Crew {
+            rt,
+            alloc,
+            workers: workers_of(*count)?,
+            gate: &OpenGate,
+        };
+        let way = way_of(alloc, cuts, crew.workers)?;
+        add_crew(ways, &way, &crew, text, &cutting, settings)?;
     }
     Ok(())
 }
 
-fn index_with<R: Threads + Wait + Sync>(
-    rt: &R,
-    alloc: Global,
+/// The answers of a crew.
+fn add_crew<R: Threads + Wait + Sync>(
     ways: &mut TextWays,
     way: &str,
+    crew: &Crew<'_, R, OpenGate>,
     text: &[u8],
     cutting: &Cutting,
-    workers: Workers,
     settings: &Settings,
-) -> Result<(), LineFault>
+) -> Result<(), AllocError>
     requires { (cutting.now.len ≡ length text.now) × (cutting.now.front ≡ 0) }
 {
+    ways.add_answer(way, indexed_with(crew, text, cutting, settings)?);
+    ways.add_verdict(way, verdict_of_text(crew, text, cutting, settings)?);
+    if settings.mark == FrontMark::Refused && settings.names == NameRule::Any {
+        ways.add_answer(way, indexed(crew, text, cutting, settings)?);
+        ways.add_verdict(way, verdict_of_run(crew, text, cutting, settings)?);
+    }
+    Ok(())
+}
+
+fn indexed_with<'a, R: Threads + Wait + Sync>(
+    crew: &Crew<'_, R, OpenGate>,
+    text: &'a [u8],
+    cutting: &Cutting,
+    settings: &Settings,
+) -> Result<TextAnswer<'a>, AllocError>
+    requires { (cutting.now.len ≡ length text.now) × (cutting.now.front ≡ 0) }
+{
+    let (rt, alloc, workers) = (crew.rt, crew.alloc, crew.workers);
     match index_text_with(rt, alloc, text, cutting, workers, settings, &OpenGate) {
-        Ok(answer) => Ok(ways.add_answer(way, answer)?),
-        Err(_) => Err(LineFault::Memory),
+        Ok(answer) => Ok(answer),
+        Err(_) => Err(AllocError),
     }
 }
 
-fn judge_with<R: Threads + Wait + Sync>(
-    rt: &R,
-    alloc: Global,
-    ways: &mut TextWays,
-    way: &str,
-    text: &[u8],
+fn indexed<'a, R: Threads + Wait + Sync>(
+    crew: &Crew<'_, R, OpenGate>,
+    text: &'a [u8],
     cutting: &Cutting,
-    workers: Workers,
     settings: &Settings,
-) -> Result<(), LineFault>
+) -> Result<TextAnswer<'a>, AllocError>
     requires { (cutting.now.len ≡ length text.now) × (cutting.now.front ≡ 0) }
 {
-    match verdict_of_text_with(rt, alloc, text, cutting, workers, settings, &OpenGate) {
-        Ok(verdict) => Ok(ways.add_verdict(way, verdict)?),
-        Err(_) => Err(LineFault::Memory),
-    }
-}
-
-fn index<R: Threads + Wait + Sync>(
-    rt: &R,
-    alloc: Global,
-    ways: &mut TextWays,
-    way: &str,
-    text: &[u8],
-    cutting: &Cutting,
-    workers: Workers,
-    settings: &Settings,
-) -> Result<(), LineFault>
-    requires { (cutting.now.len ≡ length text.now) × (cutting.now.front ≡ 0) }
-{
+    let (rt, alloc, workers) = (crew.rt, crew.alloc, crew.workers);
     match index_text(rt, alloc, text, cutting, workers, settings.depth, &OpenGate) {
-        Ok(answer) => Ok(ways.add_answer(way, answer)?),
-        Err(_) => Err(LineFault::Memory),
-    }
-}
-
-fn judge<R: Threads + Wait + Sync>(
-    rt: &R,
-    alloc: Global,
-    ways: &mut TextWays,
-    way: &str,
-    text: &[u8],
-    cutting: &Cutting,
-    workers: Workers,
-    settings: &Settings,
-) -> Result<(), LineFault>
-    requires { (cutting.now.len ≡ length text.now) × (cutting.now.front ≡ 0) }
-{
-    match verdict_of_text(rt, alloc, text, cutting, workers, settings.depth, &OpenGate) {
-        Ok(verdict) => Ok(ways.add_verdict(way, verdict)?),
-        Err(_) => Err(LineFault::Memory),
+        Ok(answer) => Ok(answer),
+        Err(_) => Err(AllocError),
     }
 }
 
 /// The verdict of the run that the workers read.
-fn judge_run<R: Threads + Wait + Sync>(
-    rt: &R,
-    alloc: Global,
-    ways: &mut TextWays,
-    way: &str,
+fn verdict_of_run<R: Threads + Wait + Sync>(
+    crew: &Crew<'_, R, OpenGate>,
     text: &[u8],
     cutting: &Cutting,
-    workers: Workers,
     settings: &Settings,
-) -> Result<(), LineFault>
+) -> Result<Verdict, AllocError>
     requires { cutting.now.len ≡ length text.now }
 {
-    let depth = settings.depth;
-    let run = read_whole::<TextRun, R, OpenGate>(
-        rt, alloc, text, cutting, workers, depth, &OpenGate,
-    )?;
-    ways.add_verdict(way, run.run().verdict())?;
-    Ok(())
+    let run = read_whole::<TextRun, R, OpenGate>(crew, text, cutting, settings.depth)?;
+    Ok(run.run().verdict())
 }

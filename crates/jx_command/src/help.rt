@@ -1,6 +1,6 @@
 // What the program says of itself. No line is longer than 79 characters, and the manual page has the same words.
 
-pub const VERSION: &str = "0.1.0";
+pub const VERSION: &str = "0.2.0";
 
 pub const ABOUT: &str = "Validates and indexes JSON texts (RFC 8259) and text sequences (RFC 7464)";
 

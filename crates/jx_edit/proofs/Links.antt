@@ -13,6 +13,7 @@ use Rattle.jx_lex.specs.declared.alphabet.state.LexState.{LexState}
 use Rattle.jx_lex.specs.Lex.{lex}
 use Rattle.jx_reduce.specs.declared.expect.Expect.{Expect}
 use Rattle.jx_reduce.specs.declared.holder.Holder.{Holder}
+use Rattle.jx_run.specs.Reader as fed_by
 use Rattle.jx_run.specs.Reader.{is_fault}
 use Rattle.jx_run.specs.Laws.{verdict_of}
 use Rattle.jx_run.specs.Reading.{TextReading, went, stopped, too_deep, and_then, read, read_text}
@@ -20,7 +21,7 @@ use Rattle.jx_run.specs.ReaderInside.{shifted}
 use Rattle.jx_run.specs.Verdict.{Judged}
 use Rattle.jx_run.proofs.LawProofs.{FirstFaults, Verdicts}
 use Rattle.jx_run.proofs.ReaderSteps.{fed_went, fed_over, low}
-use Rattle.jx_edit.specs.inside.Chunks.{ChunkValue, bytes_of, text_of, loose, loosened, replaced, AreFresh, IsMade}
+use Rattle.jx_edit.specs.inside.Chunks.{ChunkValue, bytes_of, text_of, open_ended, loosened, replaced, AreFresh, IsMade}
 use Rattle.jx_edit.specs.inside.Links.{bytes_at, place_behind, AreLinked, IsKept, IsLink, IsWalked}
 use Rattle.jx_edit.specs.inside.Sums.{AreLinkedFrom, AreSums}
 use Rattle.jx_edit.specs.declared.sums.Sum.{Sum}
@@ -57,7 +58,7 @@ pub linked_fresh : (d : ℕ) (p : PlaceValue) (cs : List ChunkValue) → AreFres
 linked_fresh d p [] h = tt
 linked_fresh d p (c ∷ cs) h =
     let f = h zero c (omega arith) in
-    (record { depth = f.depth_is; leads = λ e. let no : true ≡ false = sym e ∙ f.loose in cc }, linked_fresh d c.to cs (λ k x l. h (suc k) x (omega (arith, l))))
+    (record { depth = f.depth_is; leads = λ e. let no : true ≡ false = sym e ∙ f.open_ended in cc }, linked_fresh d c.to cs (λ k x l. h (suc k) x (omega (arith, l))))
 
 linked_replaced : (d : ℕ) (p : PlaceValue) (cs made : List ChunkValue) (first last : ℕ) → AreLinked d p cs → AreFresh d made → AreLinked d p (replaced first last made cs)
 linked_replaced d p cs made first last h fresh =
@@ -175,7 +176,7 @@ pub record IsRelinked (d : ℕ) (cs new : List ChunkValue) (k : ℕ) (to : Place
 pub bytes_linked : (cs : List ChunkValue) (k : ℕ) (x c : ChunkValue) (to : PlaceValue) → k < length cs → x ≡ get_or cs k x → c ≡ linked_to x to → map bytes_of (set cs k c) ≡ map bytes_of cs
 bytes_linked cs k x c to h is made = bytes_set cs k c x h (ap bytes_of made ∙ ap bytes_of is)
 
-pub bytes_loosened : (cs : List ChunkValue) (k : ℕ) (x e : ChunkValue) → k < length cs → x ≡ get_or cs k x → e ≡ loose x → map bytes_of (set cs k e) ≡ map bytes_of cs
+pub bytes_loosened : (cs : List ChunkValue) (k : ℕ) (x e : ChunkValue) → k < length cs → x ≡ get_or cs k x → e ≡ open_ended x → map bytes_of (set cs k e) ≡ map bytes_of cs
 bytes_loosened cs k x e h is made = bytes_set cs k e x h (ap bytes_of made ∙ ap bytes_of is)
 
 place_set : (p : PlaceValue) (cs : List ChunkValue) (k : ℕ) (c : ChunkValue) → k < length cs → place_behind p (take (suc k) (set cs k c)) ≡ c.to
@@ -200,7 +201,7 @@ linked_last d p (y ∷ z ∷ cs) zero c h l i = absurd (omega (arith, h))
 linked_last d p (y ∷ cs) (suc k) c h l i = (l.0, linked_last d y.to cs k c (omega (arith, h)) l.1 i)
 
 linked_next : (d : ℕ) (p : PlaceValue) (cs : List ChunkValue) (k : ℕ) (c e x : ChunkValue) → suc k < length cs → AreLinked d p cs → IsLink d (place_behind p (take k cs)) c
-    → e ≡ loose (get_or (set cs k c) (suc k) x) → AreLinked d p (set (set cs k c) (suc k) e)
+    → e ≡ open_ended (get_or (set cs k c) (suc k) x) → AreLinked d p (set (set cs k c) (suc k) e)
 linked_next d p [] k c e x h l i is = absurd (omega (arith, h))
 linked_next d p (y ∷ []) zero c e x h l i is = absurd (omega (arith, h))
 linked_next d p (y ∷ z ∷ cs) zero c e x h l i is =
@@ -231,17 +232,17 @@ relinked_last d cs k x c to h last is l leads made =
 
 -- where the next one gives its link up
 pub relinked_next : (d : ℕ) (cs : List ChunkValue) (k next : ℕ) (x c y e : ChunkValue) (to : PlaceValue) → k < length cs → next ≡ k + 1 → next < length cs → x ≡ get_or cs k x → AreLinked d origin cs
-    → read_on d (place_behind origin (take k cs)) (bytes_at cs k) ≡ came_to to → c ≡ linked_to x to → y ≡ get_or (set cs k c) next y → e ≡ loose y
+    → read_on d (place_behind origin (take k cs)) (bytes_at cs k) ≡ came_to to → c ≡ linked_to x to → y ≡ get_or (set cs k c) next y → e ≡ open_ended y
     → IsRelinked d cs (set (set cs k c) next e) k to
-relinked_next d cs k next x c y e to h n last is l leads made there is_loose =
+relinked_next d cs k next x c y e to h n last is l leads made there is_open_ended =
     let m : next ≡ suc k = n ∙ add-one k in
     let at : get_or (set cs k c) next y ≡ get_or (set cs k c) (suc k) y = ap (λ (i : ℕ). get_or (set cs k c) i y) m in
     let all : length (set cs k c) ≡ length cs = length-set cs k c in
     record {
       linked =
           subst (λ (i : ℕ). AreLinked d origin (set (set cs k c) i e)) (sym m)
-          (linked_next d origin cs k c e y (omega (arith, last, m)) l (link_is d cs k x c to h is l leads made) (is_loose ∙ ap loose (there ∙ at)));
-      bytes = bytes_set (set cs k c) next e y (omega (arith, last, all)) (ap bytes_of is_loose ∙ ap bytes_of there) ∙ bytes_linked cs k x c to h is made;
+          (linked_next d origin cs k c e y (omega (arith, last, m)) l (link_is d cs k x c to h is l leads made) (is_open_ended ∙ ap open_ended (there ∙ at)));
+      bytes = bytes_set (set cs k c) next e y (omega (arith, last, all)) (ap bytes_of is_open_ended ∙ ap bytes_of there) ∙ bytes_linked cs k x c to h is made;
       place =
           ap (λ (i : ℕ). place_behind origin (take (k + 1) (set (set cs k c) i e))) n
           ∙ ap (place_behind origin) (take-set (set cs k c) (k + 1) e)
@@ -355,13 +356,13 @@ too_deep_at law limit start cs k at offset sum h w fits leads here is =
 
 -- ---- verdicts
 
-over : (r : TextReading) → is_fault (Some r) ≡ true → (more : LexState → Expect → List Holder → TextReading) → and_then r more ≡ r
+over : (r : TextReading) → is_fault (Some (fed_by.reads r)) ≡ true → (more : LexState → Expect → List Holder → TextReading) → and_then r more ≡ r
 over (went s e o) f more = cc
 over (stopped at) f more = refl
 over (too_deep at) f more = refl
 
 -- a fault behind so many chunks is that of the whole text
-pub judged_at : Verdicts → (limit start : ℕ) (cs ds : List ChunkValue) (k : ℕ) (r : TextReading) → map bytes_of cs ≡ map bytes_of ds → is_fault (Some r) ≡ true
+pub judged_at : Verdicts → (limit start : ℕ) (cs ds : List ChunkValue) (k : ℕ) (r : TextReading) → map bytes_of cs ≡ map bytes_of ds → is_fault (Some (fed_by.reads r)) ≡ true
     → read_text limit start (text_of (take k cs)) ≡ r → Judged start (text_of ds) limit (verdict_of r)
 judged_at law limit start cs ds k r same fault h =
     let whole : read_text limit start (text_of cs) ≡ r =
@@ -391,9 +392,9 @@ pub loosened_none : (cs : List ChunkValue) → length cs ≡ 0 → cs ≡ loosen
 loosened_none [] h = refl
 loosened_none (c ∷ cs) h = absurd (omega (arith, h))
 
-pub loosened_first : (cs : List ChunkValue) (x e : ChunkValue) → x ≡ get_or cs 0 x → e ≡ loose x → set cs 0 e ≡ loosened cs
+pub loosened_first : (cs : List ChunkValue) (x e : ChunkValue) → x ≡ get_or cs 0 x → e ≡ open_ended x → set cs 0 e ≡ loosened cs
 loosened_first [] x e is made = refl
-loosened_first (c ∷ cs) x e is made = ap (λ (y : ChunkValue). y ∷ cs) (made ∙ ap loose is)
+loosened_first (c ∷ cs) x e is made = ap (λ (y : ChunkValue). y ∷ cs) (made ∙ ap open_ended is)
 
 pub kept_fresh : (d : ℕ) (cs : List ChunkValue) (ss : List Sum) (bytes : List ℕ) → AreFresh d cs → AreSums cs ss → text_of cs ≡ bytes → length bytes < 2 ^ 63 → IsKept d (length bytes) cs ss
 kept_fresh d cs ss bytes h sums e fits = record { linked = linked_fresh d origin cs h; summed = sums; long = ap length (sym e); fits = fits }
@@ -448,8 +449,8 @@ put_is cs ys made first last h is =
     ∙ sym (append_assoc (take first cs) made (drop last cs))
 
 pub exchanged : (cs ys made : List ChunkValue) (first last : ℕ) (x e : ChunkValue) → first ≤ last → last ≤ length cs → length made ≡ last - first → ys ≡ made
-    → x ≡ get_or (put_mid first (last - first) cs ys) last x → e ≡ loose x → set (put_mid first (last - first) cs ys) last e ≡ replaced first last made cs
-exchanged cs ys made first last x e h k l is there made_loose =
+    → x ≡ get_or (put_mid first (last - first) cs ys) last x → e ≡ open_ended x → set (put_mid first (last - first) cs ys) last e ≡ replaced first last made cs
+exchanged cs ys made first last x e h k l is there made_open_ended =
     let front : List ChunkValue = take first cs ++ made in
     let rest : List ChunkValue = drop last cs in
     let whole : put_mid first (last - first) cs ys ≡ front ++ rest = put_is cs ys made first last h is in
@@ -460,4 +461,4 @@ exchanged cs ys made first last x e h k l is there made_loose =
     ap (λ (xs : List ChunkValue). set xs last e) whole
     ∙ set-append_right front rest last last e long (omega arith)
     ∙ ap (λ (n : ℕ). front ++ set rest n e) none
-    ∙ ap (λ (xs : List ChunkValue). front ++ xs) (loosened_first rest x e here made_loose)
+    ∙ ap (λ (xs : List ChunkValue). front ++ xs) (loosened_first rest x e here made_open_ended)

@@ -43,7 +43,7 @@ scan_leads limit p s bytes marks x r l h short is =
     let e : reading_in l ≡ read_on limit p bytes = is ∙ leads limit p s bytes marks x r h in
     (e, led_within limit l (read_on limit p bytes) e (read-within limit bytes p.state p.expect p.holders 0 short))
 
--- a keeper of all tokens always wants more
+-- a sink of all tokens always wants more
 pub wants_more : (t : TokenLists) (marks : List Mark) (ends : List ℕ) → t ≡ record { marks = marks; ends = ends } → WantsNoMore (λ ms es. t ≡ record { marks = ms; ends = es }) → ⊥
 wants_more t marks ends is none =
     let comma : Mark = record { kind = Comma; at = 0 } in

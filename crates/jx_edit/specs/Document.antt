@@ -1,6 +1,6 @@
 -- What a contract sees of a document, and of an edit.
 use Rattle.std.specs.Prelude.{ℕ, List, ◌++◌, take, drop}
-use Rattle.jx_run.specs.declared.settings.Settings.{Settings}
+use Rattle.jx_run.specs.declared.texts.settings.Settings.{Settings}
 
 pub record DocumentValue : Type 0 where
   pub settings : Settings

@@ -1,6 +1,6 @@
 // Part of a document, with what reading it comes to.
 ghost use Rattle.std.specs.Prelude.{◌≡◌, ◌≤◌, ◌<◌, ◌++◌, List, ℕ, IfOk, IfSome, length, true};
-ghost use Rattle.jx_edit.specs.inside.Chunks.{loose, text_of, AreFresh, IsFresh, IsRunOver};
+ghost use Rattle.jx_edit.specs.inside.Chunks.{open_ended, text_of, AreFresh, IsFresh, IsRunOver};
 ghost use Rattle.jx_edit.specs.inside.Leads.{reading_in, IsLedWithin};
 ghost use Rattle.jx_edit.specs.inside.Places.{read_on};
 ghost use Rattle.jx_edit.specs.Positions.{first, position_behind};
@@ -157,7 +157,7 @@ impl Chunk {
 
     /// Gives its link up.
     pub(crate) fn unlink(&mut self)
-        ensures { self.new ≡ loose self.old }
+        ensures { self.new ≡ open_ended self.old }
     {
         self.linked = false;
     }

@@ -6,7 +6,7 @@ ghost use Rattle.jx_edit.specs.declared.edit_fault.EditFault.TheVariants as edit
 ghost use Rattle.jx_edit.specs.declared.open_fault.OpenFault.TheVariants as opening;
 ghost use Rattle.jx_edit.specs.inside.Fronts.{skipped};
 ghost use Rattle.jx_edit.specs.Positions.{first, is_in_crlf, offset_at, position_at, reach};
-ghost use Rattle.jx_run.specs.declared.settings.NameRule.TheVariants.{Any, Unique};
+ghost use Rattle.jx_run.specs.declared.texts.settings.NameRule.TheVariants.{Any, Unique};
 ghost use Rattle.jx_run.specs.Settings.{JudgedBy, byte_order_mark};
 
 use crate::chunked::{Chunked, MOST};

@@ -97,7 +97,7 @@ pub(crate) fn follow_bytes(
 {
     let mut tokens = Tokens::new(alloc);
     let Some(exit) = scan(&mut tokens, from.state, bytes, 0, bytes.len())? else {
-        // A keeper of all tokens always wants more.
+        // A sink of all tokens always wants more.
         unreachable!()
     };
     let outcome = read_marks(alloc, from, tokens.marks(), depth)?;

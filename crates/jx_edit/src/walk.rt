@@ -6,7 +6,7 @@ ghost use Rattle.jx_edit.specs.inside.Links.{bytes_at, place_behind, AreLinked, 
 ghost use Rattle.jx_edit.specs.inside.Places.{came_to, origin, read_on};
 ghost use Rattle.jx_edit.specs.inside.Sums.{AreLinkedFrom, AreSums};
 ghost use Rattle.jx_run.specs.Laws.{verdict_of};
-ghost use Rattle.jx_run.specs.declared.verdict.Verdict.TheVariants.{Refused};
+ghost use Rattle.jx_run.specs.declared.texts.verdict.Verdict.TheVariants.{Refused};
 ghost use Rattle.jx_run.specs.Verdict.{Judged};
 
 use crate::chunk::Chunk;

@@ -1,7 +1,7 @@
 ghost use Rattle.std.specs.Prelude.{IfOk};
 ghost use Rattle.jx_task.specs.declared.task.Task.{Task};
-ghost use Rattle.jx_run.specs.declared.settings.FrontMark.{FrontMark};
-ghost use Rattle.jx_run.specs.declared.settings.NameRule.{NameRule};
+ghost use Rattle.jx_run.specs.declared.texts.settings.FrontMark.{FrontMark};
+ghost use Rattle.jx_run.specs.declared.texts.settings.NameRule.{NameRule};
 ghost use Rattle.jx_report.specs.declared.exit.Exit.{Exit};
 ghost use Rattle.jx_report.specs.Output.{Output};
 

@@ -2,11 +2,11 @@ ghost use Rattle.std.specs.Prelude.{IfOk};
 ghost use Rattle.jx_run.specs.Verdict.{Judged};
 
 use crate::example_fault::ExampleFault;
-use jx_answer::verdict_of_text;
-use jx_book::OpenGate;
+use jx_answer::{any_names_change_nothing, verdict_of_text};
+use jx_book::{Crew, OpenGate};
 use jx_claim::{Cutting, Workers};
 use jx_lex::Depth;
-use jx_run::Verdict;
+use jx_run::{Verdict, a_refused_mark_changes_nothing};
 use std::alloc::Global;
 use std::sync::Wait;
 use std::thread::Threads;
@@ -20,7 +20,14 @@ pub fn check<R: Threads + Wait + Sync>(
 ) -> Result<Verdict, ExampleFault>
     ensures { IfOk result (Judged 0 text.now 512) }
 {
+    a_refused_mark_changes_nothing();
+    any_names_change_nothing();
     let cutting = Cutting::every(text.len(), 65536)?;
-    let depth = Depth::default();
-    Ok(verdict_of_text(rt, alloc, text, &cutting, workers, depth, &OpenGate)?)
+    let crew = Crew {
+        rt,
+        alloc,
+        workers,
+        gate: &OpenGate,
+    };
+    Ok(verdict_of_text(&crew, text, &cutting, &Depth::default().into())?)
 }

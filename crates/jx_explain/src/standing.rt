@@ -7,7 +7,7 @@ ghost use Rattle.jx_explain.specs.Choices.{are_named, choices_of};
 ghost use Rattle.jx_explain.specs.Standing.{StandsBehind};
 
 use crate::choice::{Choices, choices_for};
-use jx_lex::{Depth, Keeper, LexExit, LexState, Mark, scan};
+use jx_lex::{Depth, LexExit, LexState, Mark, TokenSink, scan};
 use jx_reduce::{Expect, Holder, KnownStack};
 use jx_run::reader_is_grammar;
 use std::alloc::{AllocError, Global};
@@ -32,7 +32,7 @@ struct Watching {
     token: usize,
 }
 
-impl Keeper for Watching {
+impl TokenSink for Watching {
     ghost use Rattle.jx_run.specs.Kept.{HasSeen};
 
     ghost has_seen = { λ watching marks ends. HasSeen marks ends watching.stack };

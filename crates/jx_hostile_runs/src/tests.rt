@@ -1,5 +1,4 @@
-// Growths that are refused in turn, lists by chance, and long texts.
+// Growths that are refused in turn, and lists by chance.
 mod growths;
 mod likeness;
 mod marks;
-mod texts;

@@ -1,10 +1,10 @@
 -- What the rule on names makes of texts.
 use Rattle.std.proofs.Common.{◌≡◌, ℕ, List, Option, None, Some, refl, sym, subst}
-use Rattle.jx_run.specs.declared.settings.NameRule.{NameRule}
-use Rattle.jx_run.specs.declared.settings.NameRule.TheVariants.{Any}
-use Rattle.jx_run.specs.declared.settings.Settings.{Settings}
-use Rattle.jx_run.specs.declared.verdict.Verdict.{Verdict}
-use Rattle.jx_run.specs.declared.verdict.Verdict.TheVariants.{Accepted, Refused}
+use Rattle.jx_run.specs.declared.texts.settings.NameRule.{NameRule}
+use Rattle.jx_run.specs.declared.texts.settings.NameRule.TheVariants.{Any}
+use Rattle.jx_run.specs.declared.texts.settings.Settings.{Settings}
+use Rattle.jx_run.specs.declared.texts.verdict.Verdict.{Verdict}
+use Rattle.jx_run.specs.declared.texts.verdict.Verdict.TheVariants.{Accepted, Refused}
 use Rattle.jx_run.specs.Settings.{JudgedBy, a_text as judged_text}
 use Rattle.jx_index.specs.declared.row.Row.{Row}
 use Rattle.jx_index.specs.ByNames.{RefusesName, IsVerdictBy, a_text, repeated_name, no_text}

@@ -1,176 +1,184 @@
 -- What finders for several pointers hold of the marks and ends that they were told.
-use Rattle.std.proofs.Common.{◌≡◌, ℕ, ◌≤◌, List, [], ◌∷◌, ◌++◌, length, map, refl, sym, ap, subst, ◌∙◌, true, false, Option, None, Some, arith}
-use Rattle.std.specs.List.{AllZip}
+use Rattle.std.proofs.Common.{◌≡◌, ℕ, suc, ◌+◌, ◌<◌, ◌≤◌, List, [], ◌∷◌, ◌++◌, length, drop, map, reverse, refl, sym, ap, subst, ◌∙◌, true, false, Option, None, Some, arith, get_or, drop-cons}
+use Rattle.std.proofs.Math.ListN.{drop_of_length-le}
 use Rattle.jx_lex.specs.declared.alphabet.mark.Mark.{Mark}
-use Rattle.jx_index.specs.declared.seekers.Seeker.{Seeker}
-use Rattle.jx_index.specs.declared.seekers.Seekers.{Seekers}
-use Rattle.jx_index.specs.Pointers.{tokens}
+use Rattle.jx_index.specs.declared.finder.Cursor.{Cursor}
+use Rattle.jx_index.specs.declared.seeker.Seeker.{Seeker}
+use Rattle.jx_index.specs.declared.trie.Edge.{Edge}
 use Rattle.jx_index.specs.inside.Building.{is_token, next_end, ends_after}
-use Rattle.jx_index.specs.inside.Finding.{Finding, nothing_met, seek}
-use Rattle.jx_index.specs.inside.FinderSeen.{ComesTo, HasEnded}
+use Rattle.jx_index.specs.inside.Finding.{Finding, met_at, noted, nothing_met}
 use Rattle.jx_index.specs.inside.FindersSeen.{FindersHaveSeen}
-use Rattle.jx_index.specs.inside.Found.{tokens_of}
-use Rattle.jx_index.specs.inside.Seeking.{Sight, sight, sights, sights_of, behind, told, all_told, AreReady, EachHasPlaces, HasMet, IsNew, IsSight}
+use Rattle.jx_index.specs.inside.Found.{finding}
+use Rattle.jx_index.specs.inside.Seeking.{HaveMet, IsReady, IsSight}
+use Rattle.jx_index.specs.inside.Trie.{seek_all, sought, IsNextIn, IsTrie}
 use Rattle.jx_index.proofs.FinderKeeping.{all_noted, begins, begun_noted, end_waits, ends_token, nothing_told, takes, waits}
-use Rattle.jx_index.proofs.Seeking.{behind_none}
+use Rattle.jx_index.proofs.Showing.{shows_all, shows_mark, shows_nothing}
 
--- ---- for each pointer
+-- what is told of a text comes to this, and leaves a seeker ready
+pub record Goes (edges : List Edge) (g : Finding → Finding) (k next : Seeker) : Type 0 where
+  pub noted : IsTrie edges → IsReady edges k → finding next.state ≡ g (finding k.state)
+  pub ready : IsTrie edges → IsReady edges k → IsReady edges next
 
-module _ (P Q : List ℕ → Sight → Type 0) where
-  each_still : ((p : List ℕ) (x : Sight) → P p x → Q p x) → (ps : List (List ℕ)) (xs : List Sight) → AllZip P ps xs → AllZip Q ps xs
-  each_still f [] [] h = tt
-  each_still f [] (x ∷ xs) h = absurd h
-  each_still f (p ∷ ps) [] h = absurd h
-  each_still f (p ∷ ps) (x ∷ xs) h = (f p x h.0, each_still f ps xs h.1)
-
-  each_after : (g : Sight → Sight) → ((p : List ℕ) (x : Sight) → P p x → Q p (g x)) → (ps : List (List ℕ)) (xs : List Sight) → AllZip P ps xs → AllZip Q ps (map g xs)
-  each_after g f [] [] h = tt
-  each_after g f [] (x ∷ xs) h = absurd h
-  each_after g f (p ∷ ps) [] h = absurd h
-  each_after g f (p ∷ ps) (x ∷ xs) h = (f p x h.0, each_after g f ps xs h.1)
-
-module _ (text : List ℕ) (marks : List Mark) (ends : List ℕ) (begun : Option Mark) (left : List Mark) (left_ends : List ℕ) where
-  places_of : (quiet : ℕ) (ps : List (List ℕ)) (ss : List Seeker) → AllZip (IsSight text marks ends begun left left_ends) ps (sights_of quiet ss) → EachHasPlaces ss
-  places_of quiet [] [] h = tt
-  places_of quiet [] (s ∷ ss) h = absurd h
-  places_of quiet (p ∷ ps) [] h = tt
-  places_of quiet (p ∷ ps) (s ∷ ss) h = (h.0.places, places_of quiet ps ss h.1)
-
--- what is told of a text comes to this
-abbrev pub Steps : (Sight → Sight) → Seekers → Seekers → Type 0
-Steps g k next = AreReady k → AreReady next × (sights next ≡ map g (sights k))
-
-module _ (text : List ℕ) (ps : List (List ℕ)) (marks : List Mark) (ends : List ℕ) (own : List ℕ) (k : Seekers) where
-  pub ready : (begun : Option Mark) (left : List Mark) (left_ends : List ℕ) → FindersHaveSeen text ps marks ends own k begun left left_ends → AreReady k
-  ready begun left left_ends h = (h.calm, places_of text marks ends begun left left_ends k.quiet ps k.all.items h.each)
-
+module _ (text : List ℕ) (edges : List Edge) (marks : List Mark) (ends : List ℕ) (own : List ℕ) (own_edges : List Edge) (k : Seeker) where
   pub seen_as : {begun begun' : Option Mark} {left left' : List Mark} {left_ends left_ends' : List ℕ} → begun ≡ begun' → left ≡ left' → left_ends ≡ left_ends'
-      → FindersHaveSeen text ps marks ends own k begun left left_ends → FindersHaveSeen text ps marks ends own k begun' left' left_ends'
+      → FindersHaveSeen text edges marks ends own own_edges k begun left left_ends → FindersHaveSeen text edges marks ends own own_edges k begun' left' left_ends'
   seen_as {begun} {begun'} {left} {left'} {left_ends} {left_ends'} e g i h =
-      subst (λ (x : Option Mark). FindersHaveSeen text ps marks ends own k x left' left_ends') e
-      (subst (λ (x : List Mark). FindersHaveSeen text ps marks ends own k begun x left_ends') g (subst (λ (x : List ℕ). FindersHaveSeen text ps marks ends own k begun left x) i h))
+      subst (λ (x : Option Mark). FindersHaveSeen text edges marks ends own own_edges k x left' left_ends') e
+      (subst (λ (x : List Mark). FindersHaveSeen text edges marks ends own own_edges k begun x left_ends') g
+      (subst (λ (x : List ℕ). FindersHaveSeen text edges marks ends own own_edges k begun left x) i h))
 
   -- ---- out of order
 
-  pub seen_waits : (begun : Option Mark) (left : List Mark) (left_ends : List ℕ) (m : Mark) → FindersHaveSeen text ps marks ends own k begun left left_ends
-      → FindersHaveSeen text ps (marks ++ m ∷ []) ends own k begun (left ++ m ∷ []) left_ends
+  pub seen_waits : (begun : Option Mark) (left : List Mark) (left_ends : List ℕ) (m : Mark) → FindersHaveSeen text edges marks ends own own_edges k begun left left_ends
+      → FindersHaveSeen text edges (marks ++ m ∷ []) ends own own_edges k begun (left ++ m ∷ []) left_ends
   seen_waits begun left left_ends m h = record {
     text_is = h.text_is;
-    calm = h.calm;
-    each = each_still (IsSight text marks ends begun left left_ends) (IsSight text (marks ++ m ∷ []) ends begun (left ++ m ∷ []) left_ends)
-        (λ p x s. record { tokens_are = s.tokens_are; places = s.places; comes = waits text (tokens_of x.wanted) marks ends begun left left_ends x.finding m s.comes }) ps (sights k) h.each;
+    edges_are = h.edges_are;
+    trie = h.trie;
+    ready = h.ready;
+    each = λ ts path way. let s = h.each ts path way in record { one = s.one; below = s.below; shows = s.shows; comes = waits text ts marks ends begun left left_ends s.one m s.comes };
   }
 
-  pub seen_end_waits : (begun : Option Mark) (left : List Mark) (left_ends : List ℕ) (at : ℕ) → FindersHaveSeen text ps marks ends own k begun left left_ends
-      → FindersHaveSeen text ps marks (ends ++ at ∷ []) own k begun left (left_ends ++ at ∷ [])
+  pub seen_end_waits : (begun : Option Mark) (left : List Mark) (left_ends : List ℕ) (at : ℕ) → FindersHaveSeen text edges marks ends own own_edges k begun left left_ends
+      → FindersHaveSeen text edges marks (ends ++ at ∷ []) own own_edges k begun left (left_ends ++ at ∷ [])
   seen_end_waits begun left left_ends at h = record {
     text_is = h.text_is;
-    calm = h.calm;
-    each = each_still (IsSight text marks ends begun left left_ends) (IsSight text marks (ends ++ at ∷ []) begun left (left_ends ++ at ∷ []))
-        (λ p x s. record { tokens_are = s.tokens_are; places = s.places; comes = end_waits text (tokens_of x.wanted) marks ends begun left left_ends x.finding at s.comes }) ps (sights k) h.each;
+    edges_are = h.edges_are;
+    trie = h.trie;
+    ready = h.ready;
+    each = λ ts path way. let s = h.each ts path way in record { one = s.one; below = s.below; shows = s.shows; comes = end_waits text ts marks ends begun left left_ends s.one at s.comes };
   }
 
   -- ---- in order
 
-  pub seen_begins : (m : Mark) → is_token m.kind ≡ true → FindersHaveSeen text ps marks ends own k None [] [] → FindersHaveSeen text ps (marks ++ m ∷ []) ends own k (Some m) [] []
+  pub seen_begins : (m : Mark) → is_token m.kind ≡ true → FindersHaveSeen text edges marks ends own own_edges k None [] []
+      → FindersHaveSeen text edges (marks ++ m ∷ []) ends own own_edges k (Some m) [] []
   seen_begins m token h = record {
     text_is = h.text_is;
-    calm = h.calm;
-    each = each_still (IsSight text marks ends None [] []) (IsSight text (marks ++ m ∷ []) ends (Some m) [] [])
-        (λ p x s. record { tokens_are = s.tokens_are; places = s.places; comes = begins text (tokens_of x.wanted) marks ends x.finding m token s.comes }) ps (sights k) h.each;
+    edges_are = h.edges_are;
+    trie = h.trie;
+    ready = h.ready;
+    each = λ ts path way. let s = h.each ts path way in record { one = s.one; below = s.below; shows = s.shows; comes = begins text ts marks ends s.one m token s.comes };
   }
 
-  pub seen_takes : (next : Seekers) (m : Mark) → is_token m.kind ≡ false → Steps (told own m.kind m.at 0) k next
-      → FindersHaveSeen text ps marks ends own k None [] [] → FindersHaveSeen text ps (marks ++ m ∷ []) ends own next None [] []
-  seen_takes next m plain step h =
-      let s = step (ready None [] [] h) in
-      record {
-        text_is = h.text_is;
-        calm = s.0.0;
-        each =
-            subst (AllZip (IsSight text (marks ++ m ∷ []) ends None [] []) ps) (sym (s.1 ∙ ap (λ (t : List ℕ). map (told t m.kind m.at 0) (sights k)) h.text_is))
-            (each_after (IsSight text marks ends None [] []) (IsSight text (marks ++ m ∷ []) ends None [] []) (told text m.kind m.at 0)
-            (λ p x s. record { tokens_are = s.tokens_are; places = s.places; comes = takes text (tokens_of x.wanted) marks ends x.finding m plain s.comes }) ps (sights k) h.each);
-      }
+  module _ (next : Seeker) (m : Mark) (at : ℕ) (step : Goes own_edges (sought own own_edges m.kind m.at at) k next) (begun : Option Mark) (h : FindersHaveSeen text edges marks ends own own_edges k begun [] []) where
+    goes_on : Goes edges (sought text edges m.kind m.at at) k next
+    goes_on = subst (λ (es : List Edge). Goes es (sought text es m.kind m.at at) k next) h.edges_are
+        (subst (λ (t : List ℕ). Goes own_edges (sought t own_edges m.kind m.at at) k next) h.text_is step)
 
-  pub seen_ends : (next : Seekers) (m : Mark) (at : ℕ) → Steps (told own m.kind m.at at) k next
-      → FindersHaveSeen text ps marks ends own k (Some m) [] [] → FindersHaveSeen text ps marks (ends ++ at ∷ []) own next None [] []
-  seen_ends next m at step h =
-      let s = step (ready (Some m) [] [] h) in
-      record {
-        text_is = h.text_is;
-        calm = s.0.0;
-        each =
-            subst (AllZip (IsSight text marks (ends ++ at ∷ []) None [] []) ps) (sym (s.1 ∙ ap (λ (t : List ℕ). map (told t m.kind m.at at) (sights k)) h.text_is))
-            (each_after (IsSight text marks ends (Some m) [] []) (IsSight text marks (ends ++ at ∷ []) None [] []) (told text m.kind m.at at)
-            (λ p x s. record { tokens_are = s.tokens_are; places = s.places; comes = ends_token text (tokens_of x.wanted) marks ends x.finding m at s.comes }) ps (sights k) h.each);
-      }
+    finding_is : finding next.state ≡ sought text edges m.kind m.at at (finding k.state)
+    finding_is = goes_on.noted h.trie h.ready
 
--- ---- at the end of the text
+    ready_on : IsReady edges next
+    ready_on = goes_on.ready h.trie h.ready
 
--- what waits comes to the same as all
-record IsLeft (text : List ℕ) (last : ℕ) (marks : List Mark) (ends : List ℕ) (left : List Mark) (left_ends : List ℕ) (p : List ℕ) (x : Sight) : Type 0 where
-  tokens_are : tokens_of x.wanted ≡ tokens p
-  same : seek text (tokens_of x.wanted) last left left_ends x.finding ≡ seek text (tokens_of x.wanted) last marks ends (nothing_met (length (tokens_of x.wanted)))
-
-abbrev IsMet : List ℕ → ℕ → List Mark → List ℕ → List ℕ → Sight → Type 0
-IsMet text last marks ends p x = HasEnded text (tokens p) last marks ends x.wanted x.finding.met
-
-module _ (text : List ℕ) (last : ℕ) (marks : List Mark) (ends : List ℕ) where
-  met_of : (quiet : ℕ) (ps : List (List ℕ)) (ss : List Seeker) → AllZip (IsMet text last marks ends) ps (sights_of quiet ss) → AllZip (HasMet text last marks ends) ps ss
-  met_of quiet [] [] h = tt
-  met_of quiet [] (s ∷ ss) h = absurd h
-  met_of quiet (p ∷ ps) [] h = absurd h
-  met_of quiet (p ∷ ps) (s ∷ ss) h = (record { wanted_are = h.0.wanted_are; met_are = h.0.met_are }, met_of quiet ps ss h.1)
-
-  met_when_told : (left : List Mark) (left_ends : List ℕ) (p : List ℕ) (x : Sight) → IsLeft text last marks ends left left_ends p x → IsMet text last marks ends p (all_told text last left left_ends x)
-  met_when_told left left_ends p x h = record {
-    wanted_are = h.tokens_are;
-    met_are = ap (λ (f : Finding). f.met) h.same ∙ ap (λ (ts : List (List ℕ)). (seek text ts last marks ends (nothing_met (length ts))).met) h.tokens_are;
+  pub seen_takes : (next : Seeker) (m : Mark) → is_token m.kind ≡ false → Goes own_edges (sought own own_edges m.kind m.at 0) k next
+      → FindersHaveSeen text edges marks ends own own_edges k None [] [] → FindersHaveSeen text edges (marks ++ m ∷ []) ends own own_edges next None [] []
+  seen_takes next m plain step h = record {
+    text_is = h.text_is;
+    edges_are = h.edges_are;
+    trie = h.trie;
+    ready = ready_on next m 0 step None h;
+    each = λ ts path way.
+        let s = h.each ts path way in
+        let t = shows_mark text edges h.trie ts path way s.below (finding k.state) s.one s.shows m.kind m.at 0 in
+        subst (λ (f : Finding). IsSight text (marks ++ m ∷ []) ends None [] [] f ts path) (sym (finding_is next m 0 step None h))
+        (record { one = noted text ts m.kind m.at 0 s.one; below = t.below; shows = t.shows; comes = takes text ts marks ends s.one m plain s.comes });
   }
 
-module _ (text : List ℕ) (ps : List (List ℕ)) (last : ℕ) (marks : List Mark) (ends : List ℕ) (own : List ℕ) (k : Seekers) (left : List Mark) (left_ends : List ℕ) where
-  all_met : (next : Seekers) → own ≡ text → AllZip (IsLeft text last marks ends left left_ends) ps (sights k) → sights next ≡ map (all_told own last left left_ends) (sights k)
-      → AllZip (HasMet text last marks ends) ps next.all.items
-  all_met next same h told_are =
-      met_of text last marks ends next.quiet ps next.all.items
-      (subst (AllZip (IsMet text last marks ends) ps) (sym (told_are ∙ ap (λ (t : List ℕ). map (all_told t last left left_ends) (sights k)) same))
-      (each_after (IsLeft text last marks ends left left_ends) (IsMet text last marks ends) (all_told text last left left_ends) (met_when_told text last marks ends left left_ends) ps (sights k) h))
+  pub seen_ends : (next : Seeker) (m : Mark) (at : ℕ) → Goes own_edges (sought own own_edges m.kind m.at at) k next
+      → FindersHaveSeen text edges marks ends own own_edges k (Some m) [] [] → FindersHaveSeen text edges marks (ends ++ at ∷ []) own own_edges next None [] []
+  seen_ends next m at step h = record {
+    text_is = h.text_is;
+    edges_are = h.edges_are;
+    trie = h.trie;
+    ready = ready_on next m at step (Some m) h;
+    each = λ ts path way.
+        let s = h.each ts path way in
+        let t = shows_mark text edges h.trie ts path way s.below (finding k.state) s.one s.shows m.kind m.at at in
+        subst (λ (f : Finding). IsSight text marks (ends ++ at ∷ []) None [] [] f ts path) (sym (finding_is next m at step (Some m) h))
+        (record { one = noted text ts m.kind m.at at s.one; below = t.below; shows = t.shows; comes = ends_token text ts marks ends s.one m at s.comes });
+  }
 
-  -- no token has begun
-  pub met_at_end : (next : Seekers) → Steps (all_told own last left left_ends) k next → FindersHaveSeen text ps marks ends own k None left left_ends
-      → AllZip (HasMet text last marks ends) ps next.all.items
-  met_at_end next step h =
-      all_met next h.text_is
-      (each_still (IsSight text marks ends None left left_ends) (IsLeft text last marks ends left left_ends)
-      (λ p x s. record { tokens_are = s.tokens_are; same = all_noted text (tokens_of x.wanted) marks ends None left left_ends x.finding last s.comes }) ps (sights k) h.each)
-      (step (ready text ps marks ends own k None left left_ends h)).1
+  -- ---- at the end of the text
 
--- a token has begun
-pub met_behind_token : (text : List ℕ) (ps : List (List ℕ)) (last : ℕ) (marks : List Mark) (ends : List ℕ) (own : List ℕ) (k : Seekers) (m : Mark) (left : List Mark) (left_ends : List ℕ)
-    (end : ℕ) (after : List ℕ) (told_one next : Seekers)
-    → end ≡ next_end last left_ends → after ≡ ends_after m.kind left_ends → Steps (told own m.kind m.at end) k told_one → Steps (all_told own last left after) told_one next
-    → FindersHaveSeen text ps marks ends own k (Some m) left left_ends → AllZip (HasMet text last marks ends) ps next.all.items
-met_behind_token text ps last marks ends own k m left left_ends end after told_one next e a step steps h =
-    let s = step (ready text ps marks ends own k (Some m) left left_ends h) in
-    all_met text ps last marks ends own told_one left after next h.text_is
-    (subst (AllZip (IsLeft text last marks ends left after) ps) (sym (s.1 ∙ ap (λ (t : List ℕ). map (told t m.kind m.at end) (sights k)) h.text_is))
-    (each_after (IsSight text marks ends (Some m) left left_ends) (IsLeft text last marks ends left after) (told text m.kind m.at end)
-    (λ p x s. record {
-      tokens_are = s.tokens_are;
-      same = begun_noted text (tokens_of x.wanted) marks ends m left left_ends x.finding last end after (told text m.kind m.at end x).finding s.comes e a refl;
-    }) ps (sights k) h.each))
-    (steps s.0).1
+  module _ (last : ℕ) (left : List Mark) (left_ends : List ℕ) where
+    -- no token has begun
+    pub met_at_end : (next : Seeker) → (IsTrie own_edges → IsReady own_edges k → finding next.state ≡ seek_all own own_edges last left left_ends (finding k.state))
+        → FindersHaveSeen text edges marks ends own own_edges k None left left_ends → HaveMet text edges last marks ends next.state.met.items
+    met_at_end next told h = λ ts path way.
+        let s = h.each ts path way in
+        let is : finding next.state ≡ seek_all text edges last left left_ends (finding k.state) =
+        subst (λ (es : List Edge). IsTrie es → IsReady es k → finding next.state ≡ seek_all text es last left left_ends (finding k.state)) h.edges_are
+        (subst (λ (t : List ℕ). IsTrie own_edges → IsReady own_edges k → finding next.state ≡ seek_all t own_edges last left left_ends (finding k.state)) h.text_is told) h.trie h.ready in
+        let t = shows_all text edges h.trie ts path way last left left_ends s.below (finding k.state) s.one s.shows in
+        ap (λ (f : Finding). map (met_at f.met) path) is
+        ∙ sym t.shows.met
+        ∙ ap (λ (f : Finding). f.met) (all_noted text ts marks ends None left left_ends s.one last s.comes)
+
+    -- a token has begun
+    pub met_behind_token : (m : Mark) (end : ℕ) (after : List ℕ) (one_more next : Seeker) → end ≡ next_end last left_ends → after ≡ ends_after m.kind left_ends
+        → Goes own_edges (sought own own_edges m.kind m.at end) k one_more
+        → (IsTrie own_edges → IsReady own_edges one_more → finding next.state ≡ seek_all own own_edges last left after (finding one_more.state))
+        → FindersHaveSeen text edges marks ends own own_edges k (Some m) left left_ends → HaveMet text edges last marks ends next.state.met.items
+    met_behind_token m end after one_more next e a step told h = λ ts path way.
+        let s = h.each ts path way in
+        let first : Goes edges (sought text edges m.kind m.at end) k one_more =
+        subst (λ (es : List Edge). Goes es (sought text es m.kind m.at end) k one_more) h.edges_are
+        (subst (λ (t : List ℕ). Goes own_edges (sought t own_edges m.kind m.at end) k one_more) h.text_is step) in
+        let is : finding next.state ≡ seek_all text edges last left after (finding one_more.state) =
+        subst (λ (es : List Edge). IsTrie es → IsReady es one_more → finding next.state ≡ seek_all text es last left after (finding one_more.state)) h.edges_are
+        (subst (λ (t : List ℕ). IsTrie own_edges → IsReady own_edges one_more → finding next.state ≡ seek_all t own_edges last left after (finding one_more.state)) h.text_is told)
+        h.trie (first.ready h.trie h.ready) in
+        let t = shows_mark text edges h.trie ts path way s.below (finding k.state) s.one s.shows m.kind m.at end in
+        let u = shows_all text edges h.trie ts path way last left after t.below (sought text edges m.kind m.at end (finding k.state)) (noted text ts m.kind m.at end s.one) t.shows in
+        ap (λ (f : Finding). map (met_at f.met) path) (is ∙ ap (seek_all text edges last left after) (first.noted h.trie h.ready))
+        ∙ sym u.shows.met
+        ∙ ap (λ (f : Finding). f.met) (begun_noted text ts marks ends m left left_ends s.one last end after (noted text ts m.kind m.at end s.one) s.comes e a refl)
 
 -- ---- at the start
 
-pub all_new : (text : List ℕ) (quiet : ℕ) → quiet ≡ 0 → (ps : List (List ℕ)) (ss : List Seeker) → AllZip IsNew ps ss → AllZip (IsSight text [] [] None [] []) ps (sights_of quiet ss)
-all_new text quiet none [] [] h = tt
-all_new text quiet none [] (s ∷ ss) h = absurd h
-all_new text quiet none (p ∷ ps) [] h = absurd h
-all_new text quiet none (p ∷ ps) (s ∷ ss) h =
-    let ts = tokens_of s.wanted.items in
-    let few : quiet ≤ 1 = omega (arith, none) in
-    let one : IsSight text [] [] None [] [] p (sight s) =
-    record { tokens_are = h.0.tokens_are; places = h.0.places; comes = subst (λ (f : Finding). ComesTo text ts [] [] None [] [] f) (sym h.0.nothing) (nothing_told text ts) } in
-    (subst (IsSight text [] [] None [] [] p) (sym (behind_none quiet (sight s) few)) one, all_new text quiet none ps ss h.1)
+pub all_new : (text : List ℕ) (edges : List Edge) (own : List ℕ) (own_edges : List Edge) (k : Seeker) → own ≡ text → own_edges ≡ edges → IsTrie edges → IsReady edges k
+    → finding k.state ≡ nothing_met (length edges) → FindersHaveSeen text edges [] [] own own_edges k None [] []
+all_new text edges own own_edges k same_text same_edges trie ready nothing = record {
+  text_is = same_text;
+  edges_are = same_edges;
+  trie = trie;
+  ready = ready;
+  each = λ ts path way.
+      subst (λ (f : Finding). IsSight text [] [] None [] [] f ts path) (sym nothing)
+      (record { one = nothing_met (length ts); below = 0; shows = shows_nothing text edges trie ts path way; comes = nothing_told text ts });
+}
+
+ready_in : (edges : List Edge) (xs : List Cursor) (next : ℕ) → next ≡ 0 → IsNextIn edges xs next
+ready_in edges [] next z = tt
+ready_in edges (c ∷ xs) next z = λ i e is p low. absurd (omega (arith, low, z))
+
+pub ready_anew : (edges : List Edge) (k : Seeker) → k.next ≡ 0 → IsReady edges k
+ready_anew edges k z = ready_in edges (reverse k.state.opened.items) k.next z
+
+-- ---- one mark after another
+
+module _ (text : List ℕ) (edges : List Edge) where
+  seek_one : (last : ℕ) (m : Mark) (more : List Mark) (ends : List ℕ) (f : Finding)
+      → seek_all text edges last (m ∷ more) ends f ≡ seek_all text edges last more (ends_after m.kind ends) (sought text edges m.kind m.at (next_end last ends) f)
+  unfolding seek_all
+  seek_one last m more ends f = refl
+
+  pub all_step : (last i : ℕ) (marks : List Mark) (left after : List ℕ) (end : ℕ) (f next : Finding) (d : Mark) → i < length marks
+      → after ≡ ends_after (get_or marks i d).kind left
+      → end ≡ next_end last left
+      → next ≡ sought text edges (get_or marks i d).kind (get_or marks i d).at end f
+      → seek_all text edges last (drop (i + 1) marks) after next ≡ seek_all text edges last (drop i marks) left f
+  all_step last i marks left after end f next d h a n e =
+      ap (λ x. seek_all text edges last (drop (i + 1) marks) x next) a
+      ∙ ap (λ x. seek_all text edges last (drop (i + 1) marks) (ends_after (get_or marks i d).kind left) x)
+      (e ∙ ap (λ x. sought text edges (get_or marks i d).kind (get_or marks i d).at x f) n)
+      ∙ ap (λ n. seek_all text edges last (drop n marks) (ends_after (get_or marks i d).kind left) (sought text edges (get_or marks i d).kind (get_or marks i d).at (next_end last left) f))
+      (let s : i + 1 ≡ suc i = omega arith in s)
+      ∙ sym (seek_one last (get_or marks i d) (drop (suc i) marks) left f)
+      ∙ sym (ap (λ x. seek_all text edges last x left f) (drop-cons marks i d h))
+
+  pub all_done : (last i : ℕ) (marks : List Mark) (left : List ℕ) (f : Finding) → length marks ≤ i → seek_all text edges last (drop i marks) left f ≡ f
+  unfolding seek_all
+  all_done last i marks left f h = ap (λ x. seek_all text edges last x left f) (drop_of_length-le marks h)

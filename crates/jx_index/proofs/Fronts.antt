@@ -1,8 +1,8 @@
 -- What an answer on the bytes behind a front says of all bytes.
 use Rattle.std.proofs.Common.{ℕ, List}
-use Rattle.jx_run.specs.declared.settings.Settings.{Settings}
-use Rattle.jx_run.specs.declared.verdict.Verdict.{Verdict}
-use Rattle.jx_run.specs.declared.verdict.Verdict.TheVariants.{Accepted, Refused}
+use Rattle.jx_run.specs.declared.texts.settings.Settings.{Settings}
+use Rattle.jx_run.specs.declared.texts.verdict.Verdict.{Verdict}
+use Rattle.jx_run.specs.declared.texts.verdict.Verdict.TheVariants.{Accepted, Refused}
 use Rattle.jx_run.specs.Settings.{JudgedBy}
 use Rattle.jx_run.specs.Verdict.{Judged}
 use Rattle.jx_index.specs.Indexed.{IndexedValue}

@@ -1,4 +1,4 @@
--- What is built of the marks and ends that a keeper was told.
+-- What is built of the marks and ends that a sink was told.
 use Rattle.std.proofs.Common.{◌≡◌, ℕ, ◌<◌, ◌-◌, ◌^◌, List, [], ◌∷◌, ◌++◌, drop, refl, sym, ap, subst, ◌∙◌, cond, Bool, true, false, Option, None, Some, append_assoc, append-nil}
 use Rattle.std.proofs.lemmas.List.Elements.{All-nil, All-cons, All-head, All-tail, All-append}
 use Rattle.jx_lex.specs.declared.alphabet.mark.Mark.{Mark}
@@ -141,7 +141,7 @@ begun_made marks ends m left left_ends b last end after next h e a n =
     ∙ sym (make_one last m left left_ends b)
     ∙ all_made marks ends (Some m) left left_ends b last h
 
--- ---- what stands in a keeper's fields
+-- ---- what stands in a sink's fields
 
 pub stands_as : {marks : List Mark} {ends : List ℕ} {begun begun' : Option Mark} {left left' : List Mark} {left_ends left_ends' : List ℕ} {b : Building}
     → begun ≡ begun' → left ≡ left' → left_ends ≡ left_ends' → ComeTo marks ends begun left left_ends b → ComeTo marks ends begun' left' left_ends' b

@@ -44,7 +44,14 @@ pub mod Reaches
 pub mod FinderKeeping
 pub mod FinderSteps
 pub mod FindIn
-pub mod Seeking
+pub mod Tests
+pub mod Digits
+pub mod Ways
+pub mod Lookups
+pub mod Climbs
+pub mod Nexts
+pub mod Levels
+pub mod Showing
 pub mod FindersKeeping
 pub mod FindEach
 pub mod FoundFronts

@@ -50,7 +50,7 @@ module _ {A : Type 0} (spare : A) (p : A → Bool) where
           let up = r.ordered in
           record { first = suc r.first; second = suc r.second; ordered = omega (arith, up); within = omega (arith, low); first_passes = r.first_passes; second_passes = r.second_passes }
 
-same_units : (x units : List ℕ) → is_eq (slice_cmp nat_cmp x units) ≡ true → x ≡ units
+pub same_units : (x units : List ℕ) → is_eq (slice_cmp nat_cmp x units) ≡ true → x ≡ units
 same_units x units h = (bytes_eq-Decides x units).0 (sym (is_eq-slice_cmp x units) ∙ h)
 
 -- so no name is repeated

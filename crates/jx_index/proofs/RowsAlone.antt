@@ -1,10 +1,10 @@
 -- The rows of a text alone are those of its tree, also behind a front.
 use Rattle.std.proofs.Common.{◌≡◌, ℕ, List, Option, None, Some, length, refl, sym, subst}
-use Rattle.jx_run.specs.declared.settings.NameRule.{NameRule}
-use Rattle.jx_run.specs.declared.settings.NameRule.TheVariants.{Any, Unique}
-use Rattle.jx_run.specs.declared.settings.Settings.{Settings}
-use Rattle.jx_run.specs.declared.verdict.Verdict.{Verdict}
-use Rattle.jx_run.specs.declared.verdict.Verdict.TheVariants.{Accepted}
+use Rattle.jx_run.specs.declared.texts.settings.NameRule.{NameRule}
+use Rattle.jx_run.specs.declared.texts.settings.NameRule.TheVariants.{Any, Unique}
+use Rattle.jx_run.specs.declared.texts.settings.Settings.{Settings}
+use Rattle.jx_run.specs.declared.texts.verdict.Verdict.{Verdict}
+use Rattle.jx_run.specs.declared.texts.verdict.Verdict.TheVariants.{Accepted}
 use Rattle.jx_run.specs.Text.{IsText}
 use Rattle.jx_run.specs.Tree.{Tree, span}
 use Rattle.jx_run.specs.Verdict.{Judged}

@@ -1,7 +1,7 @@
 -- The answer on a text by settings: its index, or the refusal. Offsets count all bytes, those of a front too.
 use Rattle.std.specs.Prelude.{◌≡◌, ℕ, List, length, slice_range}
-use Rattle.jx_run.specs.declared.settings.Settings.{Settings}
-use Rattle.jx_run.specs.declared.verdict.Verdict.TheVariants.{Accepted, Refused}
+use Rattle.jx_run.specs.declared.texts.settings.Settings.{Settings}
+use Rattle.jx_run.specs.declared.texts.verdict.Verdict.TheVariants.{Accepted, Refused}
 use Rattle.jx_run.specs.Settings.{IsDocumentBy, JudgedBy}
 use Rattle.jx_run.specs.Text.{IsText}
 use Rattle.jx_run.specs.Tree.{Tree, span}

@@ -12,7 +12,9 @@ pub mod Low
 pub mod NameKeys
 pub mod NameLists
 pub mod OpenNames
+pub mod Growing
 pub mod InOrder
 pub mod Seeking
 pub mod Ties
+pub mod Trie
 pub mod UnitsLeft

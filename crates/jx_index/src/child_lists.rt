@@ -5,7 +5,6 @@ ghost use Rattle.jx_index.specs.ChildLists.{HaveChildLists, IsAdded, child_list}
 ghost use Rattle.jx_index.specs.Walk.{IsForward, IsBounded, walk_children};
 
 use crate::children::children_in;
-use crate::comparing::Uncounted;
 use crate::names::sort_members;
 use crate::row::{NodeId, Row};
 use jx_lex::Kind;
@@ -38,7 +37,7 @@ fn collect_members(
 {
     members.clear();
     add_children(after, object, members)?;
-    sort_members(text, rows, members, &mut Uncounted)?;
+    sort_members(text, rows, members)?;
     Ok(())
 }
 

@@ -1,6 +1,6 @@
 // What a pointer leads to, noted as the marks of a text come, without rows.
 ghost use Rattle.std.specs.Prelude.{◌≡◌, ◌+◌, ◌-◌, ◌^◌, ◌<◌, Some, reverse, IfOk};
-ghost use Rattle.jx_index.specs.inside.Finding.{is_element, is_member, one_deeper, met_more, met_ended, meet, shut, counted, target, leaf_at, begin_at, end_in, naming, string_at, on_path, noted, nothing_met};
+ghost use Rattle.jx_index.specs.inside.Finding.{is_element, is_member, one_deeper, met_more, met_ended, meet, shut, counted, target, leaf_at, begin_at, end_in, naming, string_at, on_path, noted, nothing_met, skip_over};
 ghost use Rattle.jx_index.specs.inside.Found.{finding, is_noted, tokens_of, HavePlaces, HasRoom};
 
 use crate::names::is_spelt;
@@ -174,11 +174,16 @@ impl State {
         }
     }
 
-    /// A value of one token.
-    fn leaf(&mut self, wanted: &[Wanted], kind: Kind, span: Span) -> Result<(), AllocError>
-        ensures { IfOk result (λ _. HavePlaces wanted.now → finding self.new ≡ leaf_at (target (tokens_of wanted.now) (finding self.old)) kind span (finding self.old)) }
+    /// A value of one token, to which so many tokens lead, where they do.
+    pub(crate) fn leaf(
+        &mut self,
+        target: Option<usize>,
+        kind: Kind,
+        span: Span,
+    ) -> Result<(), AllocError>
+        ensures room { IfOk result (λ _. HasRoom (reverse self.old.opened.items)) }
+        ensures noted { IfOk result (λ _. finding self.new ≡ leaf_at target kind span (finding self.old)) }
     {
-        let target = self.target(wanted);
         count_child(&mut self.opened)?;
         self.name = None;
         if let Some(level) = target {
@@ -187,17 +192,17 @@ impl State {
         Ok(())
     }
 
-    /// A container begins. What stands in it is skipped where no tokens lead to it.
-    fn begin(
+    /// A container begins, to which so many tokens lead. What stands in it is skipped where none do.
+    pub(crate) fn begin(
         &mut self,
-        wanted: &[Wanted],
+        target: Option<usize>,
         kind: Kind,
         is_object: bool,
         at: usize,
     ) -> Result<(), AllocError>
-        ensures { IfOk result (λ _. HavePlaces wanted.now → finding self.new ≡ begin_at (target (tokens_of wanted.now) (finding self.old)) kind is_object at (finding self.old)) }
+        ensures room { IfOk result (λ _. HasRoom (reverse self.old.opened.items)) }
+        ensures noted { IfOk result (λ _. finding self.new ≡ begin_at target kind is_object at (finding self.old)) }
     {
-        let target = self.target(wanted);
         count_child(&mut self.opened)?;
         self.name = None;
         let Some(level) = target else {
@@ -214,17 +219,40 @@ impl State {
         Ok(())
     }
 
+    /// A value of one token, for the tokens of a pointer.
+    fn leaf_of(&mut self, wanted: &[Wanted], kind: Kind, span: Span) -> Result<(), AllocError>
+        ensures { IfOk result (λ _. HavePlaces wanted.now → finding self.new ≡ leaf_at (target (tokens_of wanted.now) (finding self.old)) kind span (finding self.old)) }
+    {
+        let target = self.target(wanted);
+        self.leaf(target, kind, span)
+    }
+
+    /// A container begins, for the tokens of a pointer.
+    fn begin_of(
+        &mut self,
+        wanted: &[Wanted],
+        kind: Kind,
+        is_object: bool,
+        at: usize,
+    ) -> Result<(), AllocError>
+        ensures { IfOk result (λ _. HavePlaces wanted.now → finding self.new ≡ begin_at (target (tokens_of wanted.now) (finding self.old)) kind is_object at (finding self.old)) }
+    {
+        let target = self.target(wanted);
+        self.begin(target, kind, is_object, at)
+    }
+
     /// The innermost open container ends, if there is one.
-    fn end(&mut self, end: usize)
+    pub(crate) fn end(&mut self, end: usize)
         ensures { finding self.new ≡ end_in end (reverse self.old.opened.items) (finding self.old) }
     {
         if let Some(top) = self.opened.pop() {
             shut(&mut self.met, top.level, end);
+            self.name = None;
         }
     }
 
     /// How many tokens lead to the object whose member's name comes next, if one does.
-    fn naming(&self) -> Option<usize>
+    pub(crate) fn naming(&self) -> Option<usize>
         ensures { result ≡ naming (reverse self.now.opened.items) self.now.name }
     {
         match (self.opened.last(), self.name) {
@@ -238,7 +266,7 @@ impl State {
         ensures { IfOk result (λ _. HavePlaces wanted.now → finding self.new ≡ string_at (naming (reverse self.old.opened.items) self.old.name) text.now (tokens_of wanted.now) span (finding self.old)) }
     {
         match self.naming() {
-            None => self.leaf(wanted, Kind::String, span),
+            None => self.leaf_of(wanted, Kind::String, span),
             Some(level) => {
                 self.name = Some(target_of_name(text, wanted, level, span));
                 Ok(())
@@ -259,19 +287,33 @@ impl State {
     {
         let span = Span { start: at, end };
         match kind {
-            MarkKind::OpenArray => self.begin(wanted, Kind::Array, false, at),
-            MarkKind::OpenObject => self.begin(wanted, Kind::Object, true, at),
+            MarkKind::OpenArray => self.begin_of(wanted, Kind::Array, false, at),
+            MarkKind::OpenObject => self.begin_of(wanted, Kind::Object, true, at),
             MarkKind::CloseArray | MarkKind::CloseObject => {
                 self.end(one_more(at)?);
                 Ok(())
             }
             MarkKind::Colon | MarkKind::Comma => Ok(()),
             MarkKind::String => self.string(text, wanted, span),
-            MarkKind::Number => self.leaf(wanted, Kind::Number, span),
-            MarkKind::True => self.leaf(wanted, Kind::True, span),
-            MarkKind::False => self.leaf(wanted, Kind::False, span),
-            MarkKind::Null => self.leaf(wanted, Kind::Null, span),
+            MarkKind::Number => self.leaf_of(wanted, Kind::Number, span),
+            MarkKind::True => self.leaf_of(wanted, Kind::True, span),
+            MarkKind::False => self.leaf_of(wanted, Kind::False, span),
+            MarkKind::Null => self.leaf_of(wanted, Kind::Null, span),
         }
+    }
+
+    /// A mark where something is skipped.
+    #[inline(always)]
+    pub(crate) fn pass(&mut self, kind: MarkKind) -> Result<(), AllocError>
+        requires { 0 < self.old.skipped }
+        ensures { IfOk result (λ _. finding self.new ≡ record (finding self.old) { skipped = skip_over kind (self.old.skipped - 1) }) }
+    {
+        match kind {
+            MarkKind::OpenArray | MarkKind::OpenObject => self.skipped = one_more(self.skipped)?,
+            MarkKind::CloseArray | MarkKind::CloseObject => self.skipped -= 1,
+            _ => {}
+        }
+        Ok(())
     }
 
     /// One mark more, and the end that belongs to it where it begins a token. Only want of memory is refused.
@@ -288,11 +330,6 @@ impl State {
         if self.skipped == 0 {
             return self.on_path(text, wanted, kind, at, end);
         }
-        match kind {
-            MarkKind::OpenArray | MarkKind::OpenObject => self.skipped = one_more(self.skipped)?,
-            MarkKind::CloseArray | MarkKind::CloseObject => self.skipped -= 1,
-            _ => {}
-        }
-        Ok(())
+        self.pass(kind)
     }
 }

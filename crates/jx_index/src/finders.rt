@@ -1,23 +1,28 @@
 // What several pointers lead to, found as a scan tells the tokens of a text.
-ghost use Rattle.std.specs.Prelude.{◌≡◌, ◌++◌, ◌∷◌, [], ℕ, List, Some, None, IsTrue, IfOk, map};
-ghost use Rattle.std.specs.List.{AllZip};
+ghost use Rattle.std.specs.Prelude.{◌≡◌, ◌++◌, ◌∷◌, [], ℕ, List, length, Some, None, IsTrue, IfOk};
 ghost use Rattle.jx_lex.specs.declared.alphabet.mark.Mark.{Mark};
 ghost use Rattle.jx_index.specs.inside.FindersSeen.{FindersHaveSeen};
-ghost use Rattle.jx_index.specs.inside.Seeking.{all_told, sights, AreReady, HasMet, IsNew};
+ghost use Rattle.jx_index.specs.inside.Finding.{nothing_met};
+ghost use Rattle.jx_index.specs.inside.Found.{finding};
+ghost use Rattle.jx_index.specs.inside.Seeking.{HaveMet, IsReady};
+ghost use Rattle.jx_index.specs.inside.Trie.{seek_all, IsTrie};
 
 use crate::builder::{first_end, has_end, later_ends};
-use crate::seekers::{Seeker, Seekers};
-use jx_lex::{Keeper, Mark};
+use crate::finder::Met;
+use crate::seeker::Seeker;
+use crate::trie::Edge;
+use jx_lex::{Mark, TokenSink};
 use std::alloc::{AllocError, Global};
 use std::marker::{Brand, PhantomData};
 
-/// Which bytes a text has, and which pointers are looked up in it. A call picks both.
+/// Which bytes a text has, and which edges the trie of the pointers that are looked up in it. A call picks both.
 pub trait Search {
     ghost use Rattle.std.specs.Prelude.{ℕ, List};
+    ghost use Rattle.jx_index.specs.declared.trie.Edge.{Edge};
 
     ghost bytes: { List ℕ };
 
-    ghost pointers: { List (List ℕ) };
+    ghost edges: { List Edge };
 }
 
 impl Search for Brand {
@@ -25,7 +30,7 @@ impl Search for Brand {
 
     ghost bytes = { [] };
 
-    ghost pointers = { [] };
+    ghost edges = { [] };
 }
 
 /// Finders for several pointers, which are told the tokens of a text from its start. A scan tells the end of a token before
@@ -33,8 +38,9 @@ impl Search for Brand {
 #[derive(Drop)]
 pub struct Finders<'a, 'p, S> {
     text: &'a [u8],
-    seekers: Seekers<'p>,
-    /// A token that has begun, and that the seekers were not told of yet.
+    edges: &'a [Edge<'p>],
+    seeker: Seeker,
+    /// A token that has begun, and that the seeker was not told of yet.
     begun: Option<Mark>,
     marks: Vec<Mark>,
     ends: Vec<usize>,
@@ -43,34 +49,43 @@ pub struct Finders<'a, 'p, S> {
 
 /// Notes the marks that are left and their ends; the text ends at `last`.
 fn note_rest(
-    seekers: &mut Seekers,
+    seeker: &mut Seeker,
     text: &[u8],
+    edges: &[Edge],
     marks: &[Mark],
     ends: &[usize],
     last: usize,
 ) -> Result<(), AllocError>
-    ensures { IfOk result (λ _. AreReady seekers.old → AreReady seekers.new × (sights seekers.new ≡ map (all_told text.now last marks.now ends.now) (sights seekers.old))) }
+    ensures { IfOk result (λ _. IsTrie edges.now → IsReady edges.now seeker.old → finding seeker.new.state ≡ seek_all text.now edges.now last marks.now ends.now (finding seeker.old.state)) }
 {
     let mut left = ends;
     for mark in marks {
         let end = first_end(left, last);
         left = later_ends(mark.kind, left);
-        seekers.mark(text, mark.kind, mark.at, end)?;
+        seeker.mark(text, edges, mark.kind, mark.at, end)?;
     }
     Ok(())
 }
 
 impl<'a, 'p, S: Search> Finders<'a, 'p, S> {
     /// Finders that have been told no mark and no end yet.
-    pub fn new(alloc: Global, text: &'a [u8], seekers: Seekers<'p>) -> Finders<'a, 'p, S>
+    pub fn new(
+        alloc: Global,
+        text: &'a [u8],
+        edges: &'a [Edge<'p>],
+        seeker: Seeker,
+    ) -> Finders<'a, 'p, S>
         requires text { text.now ≡ S.bytes }
-        requires awake { seekers.quiet ≡ 0 }
-        requires new { AllZip IsNew S.pointers seekers.all.items }
-        ensures { FindersHaveSeen S.bytes S.pointers [] [] result.text.now result.seekers result.begun result.marks.items result.ends.items }
+        requires edges { edges.now ≡ S.edges }
+        requires trie { IsTrie S.edges }
+        requires next { seeker.next ≡ 0 }
+        requires nothing { finding seeker.state ≡ nothing_met (length S.edges) }
+        ensures { FindersHaveSeen S.bytes S.edges [] [] result.text.now result.edges.now result.seeker result.begun result.marks.items result.ends.items }
     {
         Finders {
             text,
-            seekers,
+            edges,
+            seeker,
             begun: None,
             marks: Vec::new(alloc),
             ends: Vec::new(alloc),
@@ -93,14 +108,15 @@ impl<'a, 'p, S: Search> Finders<'a, 'p, S> {
         requires begun { self.old.begun ≡ None }
         requires marks { self.old.marks.items ≡ [] }
         requires ends { self.old.ends.items ≡ [] }
-        ensures { IfOk result (λ _. (marks : List Mark) (ends : List ℕ) → FindersHaveSeen S.bytes S.pointers marks ends self.old.text.now self.old.seekers self.old.begun self.old.marks.items self.old.ends.items
-            → FindersHaveSeen S.bytes S.pointers (marks ++ mark ∷ []) ends self.new.text.now self.new.seekers self.new.begun self.new.marks.items self.new.ends.items) }
+        ensures { IfOk result (λ _. (marks : List Mark) (ends : List ℕ) → FindersHaveSeen S.bytes S.edges marks ends self.old.text.now self.old.edges.now self.old.seeker self.old.begun self.old.marks.items self.old.ends.items
+            → FindersHaveSeen S.bytes S.edges (marks ++ mark ∷ []) ends self.new.text.now self.new.edges.now self.new.seeker self.new.begun self.new.marks.items self.new.ends.items) }
     {
         if has_end(mark.kind) {
             self.begun = Some(mark);
             return Ok(());
         }
-        self.seekers.mark(self.text, mark.kind, mark.at, 0)?;
+        self.seeker
+            .mark(self.text, self.edges, mark.kind, mark.at, 0)?;
         Ok(())
     }
 
@@ -110,36 +126,44 @@ impl<'a, 'p, S: Search> Finders<'a, 'p, S> {
         requires begun { self.old.begun ≡ Some mark }
         requires marks { self.old.marks.items ≡ [] }
         requires ends { self.old.ends.items ≡ [] }
-        ensures { IfOk result (λ _. (marks : List Mark) (ends : List ℕ) → FindersHaveSeen S.bytes S.pointers marks ends self.old.text.now self.old.seekers self.old.begun self.old.marks.items self.old.ends.items
-            → FindersHaveSeen S.bytes S.pointers marks (ends ++ at ∷ []) self.new.text.now self.new.seekers self.new.begun self.new.marks.items self.new.ends.items) }
+        ensures { IfOk result (λ _. (marks : List Mark) (ends : List ℕ) → FindersHaveSeen S.bytes S.edges marks ends self.old.text.now self.old.edges.now self.old.seeker self.old.begun self.old.marks.items self.old.ends.items
+            → FindersHaveSeen S.bytes S.edges marks (ends ++ at ∷ []) self.new.text.now self.new.edges.now self.new.seeker self.new.begun self.new.marks.items self.new.ends.items) }
     {
-        self.seekers.mark(self.text, mark.kind, mark.at, at)?;
+        self.seeker
+            .mark(self.text, self.edges, mark.kind, mark.at, at)?;
         self.begun = None;
         Ok(())
     }
 
-    /// What was met for each pointer up to the end of the text, which ends at `last`.
-    pub fn finish(self, last: usize) -> Result<Vec<Seeker<'p>>, AllocError>
-        ensures { IfOk result (λ all. (marks : List Mark) (ends : List ℕ) → FindersHaveSeen S.bytes S.pointers marks ends self.entry.text.now self.entry.seekers self.entry.begun self.entry.marks.items self.entry.ends.items
-            → AllZip (HasMet S.bytes last marks ends) S.pointers all.items) }
+    /// What was met at each node up to the end of the text, which ends at `last`.
+    pub fn finish(self, last: usize) -> Result<Vec<Met>, AllocError>
+        ensures { IfOk result (λ met. (marks : List Mark) (ends : List ℕ) → FindersHaveSeen S.bytes S.edges marks ends self.entry.text.now self.entry.edges.now self.entry.seeker self.entry.begun self.entry.marks.items self.entry.ends.items
+            → HaveMet S.bytes S.edges last marks ends met.items) }
     {
-        let mut seekers = self.seekers;
+        let mut seeker = self.seeker;
         let Some(mark) = self.begun else {
-            note_rest(&mut seekers, self.text, &self.marks, &self.ends, last)?;
-            return Ok(seekers.all);
+            note_rest(
+                &mut seeker,
+                self.text,
+                self.edges,
+                &self.marks,
+                &self.ends,
+                last,
+            )?;
+            return Ok(seeker.state.met);
         };
         let end = first_end(&self.ends, last);
-        seekers.mark(self.text, mark.kind, mark.at, end)?;
+        seeker.mark(self.text, self.edges, mark.kind, mark.at, end)?;
         let left = later_ends(mark.kind, &self.ends);
-        note_rest(&mut seekers, self.text, &self.marks, left, last)?;
-        Ok(seekers.all)
+        note_rest(&mut seeker, self.text, self.edges, &self.marks, left, last)?;
+        Ok(seeker.state.met)
     }
 }
 
-impl<'a, 'p, S: Search> Keeper for Finders<'a, 'p, S> {
+impl<'a, 'p, S: Search> TokenSink for Finders<'a, 'p, S> {
     ghost use Rattle.jx_index.specs.inside.FindersSeen.{FindersHaveSeen};
 
-    ghost has_seen = { λ k marks ends. FindersHaveSeen S.bytes S.pointers marks ends k.text.now k.seekers k.begun k.marks.items k.ends.items };
+    ghost has_seen = { λ k marks ends. FindersHaveSeen S.bytes S.edges marks ends k.text.now k.edges.now k.seeker k.begun k.marks.items k.ends.items };
 
     #[inline(always)]
     fn begin(&mut self, mark: Mark) -> Result<(), AllocError> {

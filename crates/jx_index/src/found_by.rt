@@ -1,6 +1,6 @@
 // The look-up of a pointer in a text by settings, without an index.
 ghost use Rattle.std.specs.Prelude.{◌≡◌, ◌≤◌, length, IfOk};
-ghost use Rattle.jx_run.specs.declared.settings.NameRule.TheVariants.{Any};
+ghost use Rattle.jx_run.specs.declared.texts.settings.NameRule.TheVariants.{Any};
 ghost use Rattle.jx_index.specs.Found.{IsFoundBy, IsFoundFrom};
 
 use crate::find_fault::FindFault;

@@ -1,54 +1,74 @@
 // The look-up of several pointers (RFC 6901, section 4) in a text that is read once, without an index.
-ghost use Rattle.std.specs.Prelude.{◌≡◌, ◌≤◌, length, slice_range, IfOk, IfErr};
+ghost use Rattle.std.specs.Prelude.{◌≡◌, ◌≤◌, ℕ, All, List, length, slice_range, IfOk, IfErr};
 ghost use Rattle.std.specs.List.{AllZip};
-ghost use Rattle.jx_run.specs.declared.settings.NameRule.TheVariants.{Any};
-ghost use Rattle.jx_run.specs.declared.verdict.Verdict.TheVariants.{Accepted, Refused};
+ghost use Rattle.jx_run.specs.declared.texts.settings.NameRule.TheVariants.{Any};
+ghost use Rattle.jx_run.specs.declared.texts.verdict.Verdict.TheVariants.{Accepted, Refused};
 ghost use Rattle.jx_run.specs.Verdict.{Judged};
 ghost use Rattle.jx_index.specs.ByNames.{IsVerdictBy};
 ghost use Rattle.jx_index.specs.Found.{AreFoundIn, FindsIn};
 ghost use Rattle.jx_index.specs.inside.Seeking.{IsReadOf};
+ghost use Rattle.jx_index.specs.inside.Trie.{HasWay, IsTrie};
 
 use crate::find_fault::FindFault;
-use crate::finder::Found;
+use crate::finder::{Found, Met};
 use crate::finders::{Finders, Search};
 use crate::found_in::read;
 use crate::laws::{indexes_stand_behind_fronts, names_are_refused_by_rows};
 use crate::pointer::Pointer;
-use crate::seekers::{Seeker, Seekers};
+use crate::seeker::Seeker;
+use crate::trie::{Edge, met_along};
+use crate::trie_build::trie_of;
+use crate::wanted::wanted_of;
 use jx_lex::{Depth, Span, tokens_are_read};
 use jx_run::{Front, NoPause, Pace, Refusal, Settings, Verdict, front, read_into};
 use std::alloc::{AllocError, Global};
 use std::marker::Brand;
 
-/// What a pointer leads to, by what was met for it.
-fn read_one(seeker: &Seeker) -> Result<Found, FindFault>
-    ensures { IsReadOf seeker.now result }
+/// What a pointer leads to, by what was met at the nodes of a trie.
+fn read_one(
+    alloc: Global,
+    edges: &[Edge],
+    met: &[Met],
+    pointer: &Pointer,
+) -> Result<Result<Found, FindFault>, AllocError>
+    ensures { IfOk result (IsReadOf edges.now met.now pointer.now) }
 {
-    read(&seeker.wanted, &seeker.state.met)
+    let along = met_along(alloc, edges, met, pointer)?;
+    let wanted = wanted_of(alloc, pointer)?;
+    Ok(read(&wanted, &along))
 }
 
 /// What each pointer leads to, in order.
-fn read_each(alloc: Global, seekers: &[Seeker]) -> Result<Vec<Result<Found, FindFault>>, AllocError>
-    ensures { IfOk result (λ found. AllZip IsReadOf seekers.now found.items) }
+fn read_each(
+    alloc: Global,
+    edges: &[Edge],
+    met: &[Met],
+    pointers: &[Pointer],
+) -> Result<Vec<Result<Found, FindFault>>, AllocError>
+    ensures { IfOk result (λ found. AllZip (IsReadOf edges.now met.now) pointers.now found.items) }
 {
-    let mut found = Vec::with_capacity(alloc, seekers.len())?;
-    for seeker in seekers {
-        found.push(read_one(seeker))?;
+    let mut found = Vec::with_capacity(alloc, pointers.len())?;
+    for pointer in pointers {
+        let one = read_one(alloc, edges, met, pointer)?;
+        found.push(one)?;
     }
     Ok(found)
 }
 
-/// The same as `find_each_in`, of a text and pointers that the call picks.
+/// The same as `find_each_in`, of a text and a trie of the pointers that the call picks.
 fn find_each_of<S: Search, P: Pace>(
     alloc: Global,
     text: &[u8],
     span: Span,
     depth: Depth,
+    edges: &[Edge],
     pointers: &[Pointer],
     pace: &mut P,
 ) -> Result<Result<Vec<Result<Found, FindFault>>, Refusal>, AllocError>
     requires bytes { text.now ≡ S.bytes }
-    requires pointers { pointers.now ≡ S.pointers }
+    requires edges { edges.now ≡ S.edges }
+    requires trie { IsTrie S.edges }
+    requires ways { All (λ (pointer : List ℕ). HasWay S.edges pointer) pointers.now }
     requires ordered { span.start ≤ span.end }
     requires within { span.end ≤ length text.now }
     ensures accepted { IfOk result (λ read. IfOk read (λ _. Judged span.start (slice_range text.now span.start span.end) depth Accepted)) }
@@ -56,14 +76,14 @@ fn find_each_of<S: Search, P: Pace>(
     ensures found { IfOk result (λ read. IfOk read (λ found. AllZip (FindsIn text.now span.start span.end) pointers.now found.items)) }
 {
     tokens_are_read();
-    let seekers = Seekers::new(alloc, pointers)?;
-    let finders: Finders<'_, '_, S> = Finders::new(alloc, text, seekers);
+    let seeker = Seeker::new(alloc, edges.len())?;
+    let finders: Finders<'_, '_, S> = Finders::new(alloc, text, edges, seeker);
     let told = read_into(alloc, text, span.start, span.end, depth, finders, pace)?;
     match told.verdict {
         Verdict::Refused(refusal) => Ok(Err(refusal)),
         Verdict::Accepted => {
-            let all = told.keeper.finish(span.end)?;
-            let found = read_each(alloc, &all)?;
+            let met = told.sink.finish(span.end)?;
+            let found = read_each(alloc, edges, &met, pointers)?;
             Ok(Ok(found))
         }
     }
@@ -87,7 +107,8 @@ pub fn find_each_in<P: Pace>(
     ensures refused { IfOk result (λ read. IfErr read (λ refusal. Judged span.start (slice_range text.now span.start span.end) depth (Refused refusal))) }
     ensures found { IfOk result (λ read. IfOk read (λ found. AllZip (FindsIn text.now span.start span.end) pointers.now found.items)) }
 {
-    find_each_of::<Brand, P>(alloc, text, span, depth, pointers, pace)
+    let edges = trie_of(alloc, pointers)?;
+    find_each_of::<Brand, P>(alloc, text, span, depth, &edges, pointers, pace)
 }
 
 /// Reads a JSON text (RFC 8259) by settings on the calling thread in one pass, and looks pointers up in it (RFC 6901,

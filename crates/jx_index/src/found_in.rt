@@ -1,6 +1,6 @@
 // The look-up of a pointer (RFC 6901, section 4) in a text that is read once, without an index.
 ghost use Rattle.std.specs.Prelude.{◌≡◌, ◌≤◌, ◌<◌, Some, length, slice_get, slice_range, IfOk, IfErr};
-ghost use Rattle.jx_run.specs.declared.verdict.Verdict.TheVariants.{Accepted, Refused};
+ghost use Rattle.jx_run.specs.declared.texts.verdict.Verdict.TheVariants.{Accepted, Refused};
 ghost use Rattle.jx_run.specs.Verdict.{Judged};
 ghost use Rattle.jx_index.specs.declared.units.Spelling.TheVariants.{InToken};
 ghost use Rattle.jx_index.specs.Units.{chars_units};
@@ -11,7 +11,7 @@ ghost use Rattle.jx_index.specs.inside.Found.{tokens_of};
 use crate::array_token::{Place, place_of_token};
 use crate::find_fault::FindFault;
 use crate::finder::{Found, Met, Wanted};
-use crate::finder_keeper::Finder;
+use crate::finder_sink::Finder;
 use crate::pointer::Pointer;
 use crate::units::{Spelling, Units};
 use jx_lex::{Depth, Kind, Span, tokens_are_read};
@@ -103,7 +103,7 @@ pub fn find_in<P: Pace>(
     match told.verdict {
         Verdict::Refused(refusal) => Ok(Err(refusal)),
         Verdict::Accepted => {
-            let ended = told.keeper.into_ended(span.end)?;
+            let ended = told.sink.into_ended(span.end)?;
             Ok(Ok(read(&ended.wanted, &ended.met)))
         }
     }

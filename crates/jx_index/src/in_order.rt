@@ -7,7 +7,7 @@ ghost use Rattle.jx_index.specs.inside.InOrder.{HasSeen};
 ghost use Rattle.jx_index.specs.inside.Low.{AllLow};
 
 use crate::builder::{first_end, has_end, later_ends};
-use jx_lex::{Keeper, Mark, MarkKind};
+use jx_lex::{Mark, MarkKind, TokenSink};
 use std::alloc::{AllocError, Global};
 
 /// Takes the marks of a text in order, each with the end of its token. `holds` says what building it may stand for.
@@ -49,7 +49,7 @@ pub struct InOrder<B: Drop> {
 }
 
 impl<B: Marking + Drop> InOrder<B> {
-    /// A keeper that has been told no mark and no end yet.
+    /// A sink that has been told no mark and no end yet.
     pub fn new(alloc: Global, builder: B) -> InOrder<B>
         requires { B.holds builder nothing_built }
         ensures { HasSeen (B.holds result.builder) [] [] result.begun result.marks.items result.ends.items }
@@ -121,10 +121,10 @@ impl<B: Marking + Drop> InOrder<B> {
     }
 }
 
-impl<B: Marking + Drop> Keeper for InOrder<B> {
+impl<B: Marking + Drop> TokenSink for InOrder<B> {
     ghost use Rattle.jx_index.specs.inside.InOrder.{HasSeen};
 
-    ghost has_seen = { λ keeper marks ends. HasSeen (B.holds keeper.builder) marks ends keeper.begun keeper.marks.items keeper.ends.items };
+    ghost has_seen = { λ sink marks ends. HasSeen (B.holds sink.builder) marks ends sink.begun sink.marks.items sink.ends.items };
 
     #[inline(always)]
     fn begin(&mut self, mark: Mark) -> Result<(), AllocError> {

@@ -1,6 +1,6 @@
 ghost use Rattle.std.specs.Prelude.{◌≡◌, ◌<◌, ◌≤◌, ℕ, length, slice_get, slice_range, Some, IfOk, IfErr};
 ghost use Rattle.std.specs.List.Sorted.{IsPermutation, IsSortedBy, IsStableBy};
-ghost use Rattle.jx_run.specs.declared.verdict.Verdict.TheVariants.{Accepted, Refused};
+ghost use Rattle.jx_run.specs.declared.texts.verdict.Verdict.TheVariants.{Accepted, Refused};
 ghost use Rattle.jx_run.specs.Started.{IsStarted};
 ghost use Rattle.jx_run.specs.Text.{IsText};
 ghost use Rattle.jx_run.specs.TextRun.{IsTextRun, text_span};

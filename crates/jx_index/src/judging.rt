@@ -1,8 +1,8 @@
 // Elements of a text sequence, by a rule on the names of objects.
 ghost use Rattle.std.specs.Prelude.{◌≡◌, ◌≤◌, ◌↔◌, IsTrue, IfOk, length};
 ghost use Rattle.std.specs.List.{AllZip};
-ghost use Rattle.jx_run.specs.declared.element_verdict.ElementVerdict.TheVariants.{Accepted};
-ghost use Rattle.jx_run.specs.declared.settings.NameRule.TheVariants.{Unique};
+ghost use Rattle.jx_run.specs.declared.sequences.element_verdict.ElementVerdict.TheVariants.{Accepted};
+ghost use Rattle.jx_run.specs.declared.texts.settings.NameRule.TheVariants.{Unique};
 ghost use Rattle.jx_run.specs.Elements.{Part, elements as elements_of};
 ghost use Rattle.jx_run.specs.ElementVerdict.{IsJudgedElement};
 ghost use Rattle.jx_run.specs.MarkAlone.{elements_by};

@@ -2,11 +2,11 @@ ghost use Rattle.std.specs.Prelude.{◌≡◌, ◌<◌, ◌↔◌, ℕ, suc, Lis
 ghost use Rattle.std.specs.List.Sorted.{IsStrictlyIncreasing};
 ghost use Rattle.std.specs.Str.{IsUtf8};
 ghost use Rattle.jx_lex.specs.Token.{IsString};
-ghost use Rattle.jx_run.specs.declared.settings.Front.TheVariants.{Skip};
-ghost use Rattle.jx_run.specs.declared.settings.NameRule.TheVariants.{Any};
-ghost use Rattle.jx_run.specs.declared.settings.Settings.{Settings};
-ghost use Rattle.jx_run.specs.declared.verdict.Verdict.{Verdict};
-ghost use Rattle.jx_run.specs.declared.verdict.Verdict.TheVariants.{Accepted};
+ghost use Rattle.jx_run.specs.declared.texts.settings.Front.TheVariants.{Skip};
+ghost use Rattle.jx_run.specs.declared.texts.settings.NameRule.TheVariants.{Any};
+ghost use Rattle.jx_run.specs.declared.texts.settings.Settings.{Settings};
+ghost use Rattle.jx_run.specs.declared.texts.verdict.Verdict.{Verdict};
+ghost use Rattle.jx_run.specs.declared.texts.verdict.Verdict.TheVariants.{Accepted};
 ghost use Rattle.jx_run.specs.Front.{front_of};
 ghost use Rattle.jx_run.specs.Settings.{JudgedBy};
 ghost use Rattle.jx_run.specs.Text.{IsDocument, IsText};

@@ -8,7 +8,6 @@ ghost use Rattle.jx_index.specs.Nodes.{IsObjectAt};
 ghost use Rattle.jx_index.specs.Units.{units_at, chars_units};
 ghost use Rattle.jx_index.specs.inside.UnitsLeft.{units_left};
 
-use crate::comparing::Comparing;
 use crate::row::{NodeId, Row};
 use crate::units::{Spelling, Units, skip};
 use jx_lex::{Kind, Span};
@@ -127,7 +126,7 @@ fn compare_rests(left: &[u8], right: &[u8], spelling: Spelling) -> Ordering
 }
 
 /// A name against another name or a token, as they are spelt. Bytes decide as long as each of them stands for one unit.
-fn compare_bytes(name: &[u8], other: &[u8], spelling: Spelling) -> Ordering
+pub(crate) fn compare_bytes(name: &[u8], other: &[u8], spelling: Spelling) -> Ordering
     ensures { result ≡ slice_cmp nat_cmp (chars_units InText 0 name.now) (chars_units spelling 0 other.now) }
 {
     let same = same_front(name, other, spelling);
@@ -172,15 +171,14 @@ pub(crate) fn is_spelt(text: &[u8], name: Span, token: &[u8]) -> bool
 
 /// Sorts members by the units of their names; equal names keep their order. Where the order holds already, one comparison
 /// for each two neighbours is all that it costs, and up to 20 members take no memory.
-pub(crate) fn sort_members<C: Comparing>(
+pub(crate) fn sort_members(
     text: &[u8],
     rows: &[Row],
     members: &mut Vec<NodeId>,
-    comparing: &mut C,
 ) -> Result<(), AllocError>
     ensures { IfOk result (λ _. IsInNameOrder text.now rows.now members.old.items members.new.items) }
 {
-    members.sort_by(|a, b| comparing.compare(text, rows, *a, *b))?;
+    members.sort_by(|a, b| compare_members(text, rows, *a, *b))?;
     Ok(())
 }
 

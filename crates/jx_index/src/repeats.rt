@@ -7,9 +7,8 @@ ghost use Rattle.jx_index.specs.Nodes.{name_at};
 ghost use Rattle.jx_index.specs.Repeats.{start_in, IsLeast, IsRepeat, IsRepeatIn};
 ghost use Rattle.jx_index.specs.inside.Ties.{earlier_of, row_tie, IsRepeatOf, IsRowTie};
 
-use crate::comparing::{Comparing, Uncounted};
 use crate::indexed::Indexed;
-use crate::names::is_object;
+use crate::names::{compare_members, is_object};
 use crate::row::{NodeId, Row};
 use jx_run::NameRule;
 use std::cmp::Ordering;
@@ -41,49 +40,33 @@ fn start_of_name(rows: &[Row], node: NodeId) -> Option<usize>
 }
 
 /// Where the second name begins, if it has the units of the first.
-fn start_of_tie<C: Comparing>(
-    text: &[u8],
-    rows: &[Row],
-    first: NodeId,
-    second: NodeId,
-    comparing: &mut C,
-) -> Option<usize>
+fn start_of_tie(text: &[u8], rows: &[Row], first: NodeId, second: NodeId) -> Option<usize>
     ensures { result ≡ row_tie text.now rows.now first second }
 {
-    match comparing.compare(text, rows, first, second) {
+    match compare_members(text, rows, first, second) {
         Ordering::Equal => start_of_name(rows, second),
         Ordering::Less | Ordering::Greater => None,
     }
 }
 
 /// The least start of a name that has the units of the one before it.
-pub(crate) fn first_tie<C: Comparing>(
-    text: &[u8],
-    rows: &[Row],
-    names: &[NodeId],
-    comparing: &mut C,
-) -> Option<usize>
+fn first_tie(text: &[u8], rows: &[Row], names: &[NodeId]) -> Option<usize>
     ensures { IsLeast (IsRowTie text.now rows.now names.now) result }
 {
     let mut first = None;
     for at in 0..names.len().saturating_sub(1) {
-        let tie = start_of_tie(text, rows, names[at], names[at + 1], comparing);
+        let tie = start_of_tie(text, rows, names[at], names[at + 1]);
         first = earlier(first, tie);
     }
     first
 }
 
 /// The same, which is the first name that is not the first of its units, where the names rise.
-fn first_repeat<C: Comparing>(
-    text: &[u8],
-    rows: &[Row],
-    names: &[NodeId],
-    comparing: &mut C,
-) -> Option<usize>
+fn first_repeat(text: &[u8], rows: &[Row], names: &[NodeId]) -> Option<usize>
     requires { IsSortedBy (is_below text.now rows.now) names.now }
     ensures { IsLeast (IsRepeatIn text.now rows.now names.now) result }
 {
-    first_tie(text, rows, names, comparing)
+    first_tie(text, rows, names)
 }
 
 impl<'a> Indexed<'a> {
@@ -96,7 +79,7 @@ impl<'a> Indexed<'a> {
             return None;
         }
         let names = self.names(NodeId::new(node));
-        first_repeat(self.text(), self.rows(), names, &mut Uncounted)
+        first_repeat(self.text(), self.rows(), names)
     }
 
     /// The start of the first name whose value, as a list of UTF-16 code units, is that of an earlier name of the same

@@ -1,9 +1,8 @@
 // The rows of a text, without what look-ups want besides.
 ghost use Rattle.std.specs.Prelude.{◌≡◌, ◌≤◌, ℕ, length, slice_range, IfOk, IfErr};
-ghost use Rattle.jx_run.specs.declared.verdict.Verdict.TheVariants.{Accepted, Refused};
+ghost use Rattle.jx_run.specs.declared.texts.verdict.Verdict.TheVariants.{Accepted, Refused};
 ghost use Rattle.jx_run.specs.Settings.{JudgedBy};
 ghost use Rattle.jx_run.specs.Text.{IsText};
-ghost use Rattle.jx_run.specs.TextRun.{IsTextRun};
 ghost use Rattle.jx_run.specs.Tree.{Tree};
 ghost use Rattle.jx_run.specs.Verdict.{Judged};
 ghost use Rattle.jx_index.specs.ByNames.{IsVerdictBy};
@@ -12,15 +11,13 @@ ghost use Rattle.jx_index.specs.Rows.{rows as rows_of};
 ghost use Rattle.jx_index.specs.RowsAlone.{AreRowsBy, AreRowsFrom, AreRowsRead};
 ghost use Rattle.jx_index.specs.Settled.{rest_from};
 
-use crate::builder::{Builder, Nodes, nodes_of_track};
+use crate::builder::{Builder, Nodes};
 use crate::in_order::InOrder;
 use crate::laws::indexes_stand_behind_fronts;
 use crate::row::Row;
 use crate::unique_names::verdict_with_unique_names;
 use jx_lex::{Depth, Span, tokens_are_read};
-use jx_run::{
-    Front, NameRule, NoPause, Pace, Refusal, Settings, Summary, TextRun, Verdict, front, read_into,
-};
+use jx_run::{Front, NameRule, NoPause, Pace, Refusal, Settings, Verdict, front, read_into};
 use std::alloc::{AllocError, Global};
 
 /// The nodes of the text at a span, in one pass that keeps nothing else; the refusal where it is no text.
@@ -41,12 +38,12 @@ pub(crate) fn read_nodes<P: Pace>(
 {
     tokens_are_read();
     let builder = Builder::new(alloc);
-    let keeper = InOrder::new(alloc, builder);
-    let told = read_into(alloc, text, span.start, span.end, depth, keeper, pace)?;
+    let sink = InOrder::new(alloc, builder);
+    let told = read_into(alloc, text, span.start, span.end, depth, sink, pace)?;
     match told.verdict {
         Verdict::Refused(refusal) => Ok(Err(refusal)),
         Verdict::Accepted => {
-            let built = told.keeper.finish(span.end)?;
+            let built = told.sink.finish(span.end)?;
             Ok(Ok(built.into_nodes()))
         }
     }
@@ -71,28 +68,6 @@ pub fn rows_from<P: Pace>(
     match read {
         Ok(nodes) => Ok(Ok(nodes.rows)),
         Err(refusal) => Ok(Err(refusal)),
-    }
-}
-
-/// The rows of a text, or the refusal, by a run over the end of some bytes. `Err` where memory is refused.
-pub fn rows_of_run(
-    alloc: Global,
-    text: &[u8],
-    run: &TextRun,
-) -> Result<Result<Vec<Row>, Refusal>, AllocError>
-    requires ordered { run.now.map.start ≤ length text.now }
-    requires end { run.now.map.end ≡ length text.now }
-    requires of { IsTextRun (rest_from run.now.map.start text.now) run.now }
-    ensures accepted { IfOk result (λ read. IfOk read (λ rows. AreRowsFrom run.now.map.start text.now run.now.depth rows.items)) }
-    ensures refused { IfOk result (λ read. IfErr read (λ refusal. Judged run.now.map.start (rest_from run.now.map.start text.now) run.now.depth (Refused refusal))) }
-{
-    tokens_are_read();
-    match run.verdict() {
-        Verdict::Refused(refusal) => Ok(Err(refusal)),
-        Verdict::Accepted => {
-            let nodes = nodes_of_track(alloc, run.marks(), run.ends(), run.span().end)?;
-            Ok(Ok(nodes.rows))
-        }
     }
 }
 

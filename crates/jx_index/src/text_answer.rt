@@ -1,6 +1,6 @@
 ghost use Rattle.std.specs.Prelude.{◌≡◌, ◌≤◌, ℕ, List, length, IfOk};
 ghost use Rattle.jx_run.specs.TextRun.{IsTextRun};
-ghost use Rattle.jx_run.specs.declared.settings.Settings.{Settings};
+ghost use Rattle.jx_run.specs.declared.texts.settings.Settings.{Settings};
 ghost use Rattle.jx_index.specs.ByNames.{IsVerdictBy};
 ghost use Rattle.jx_index.specs.Settled.{IsAnswerBy, IsAnswerFrom, IsReadBy, rest_from};
 

@@ -1,7 +1,7 @@
 // Texts whose objects may repeat no name, read without an index.
 ghost use Rattle.std.specs.Prelude.{◌≡◌, ◌≤◌, ℕ, length, slice_range, IfOk, IfErr};
-ghost use Rattle.jx_run.specs.declared.settings.NameRule.TheVariants.{Unique};
-ghost use Rattle.jx_run.specs.declared.verdict.Verdict.TheVariants.{Accepted, Refused};
+ghost use Rattle.jx_run.specs.declared.texts.settings.NameRule.TheVariants.{Unique};
+ghost use Rattle.jx_run.specs.declared.texts.verdict.Verdict.TheVariants.{Accepted, Refused};
 ghost use Rattle.jx_run.specs.Text.{IsText};
 ghost use Rattle.jx_run.specs.Tree.{Tree};
 ghost use Rattle.jx_run.specs.Verdict.{Judged};
@@ -70,12 +70,12 @@ fn repeated_name_of<S: Source, P: Pace>(
         names: OpenNames::new(alloc, text),
         source: PhantomData,
     };
-    let keeper = InOrder::new(alloc, names);
-    let told = read_into(alloc, text, span.start, span.end, depth, keeper, pace)?;
+    let sink = InOrder::new(alloc, names);
+    let told = read_into(alloc, text, span.start, span.end, depth, sink, pace)?;
     match told.verdict {
         Verdict::Refused(refusal) => Ok(Err(refusal)),
         Verdict::Accepted => {
-            let all = told.keeper.finish(span.end)?;
+            let all = told.sink.finish(span.end)?;
             Ok(Ok(all.names.first()))
         }
     }

@@ -1,4 +1,4 @@
--- What a keeper has seen grows as the reading of a stretch goes on.
+-- What a sink has seen grows as the reading of a stretch goes on.
 use Rattle.std.proofs.Common.{◌≡◌, ℕ, suc, ◌+◌, ◌≤◌, ◌<◌, List, [], ◌∷◌, ◌++◌, length, get_or, refl, ap, sym, subst, ◌∙◌, arith, append-nil, append_assoc, Option, Some, None}
 use Rattle.std.specs.Prelude.{slice_range}
 use Rattle.jx_lex.specs.declared.alphabet.state.LexState.{LexState}

@@ -1,4 +1,4 @@
--- What a keeper of tokens has seen, and how it grows.
+-- What a sink of tokens has seen, and how it grows.
 use Rattle.std.specs.Prelude.{◌≡◌, ℕ, ◌+◌, List, [], ◌∷◌, ◌++◌, length, Some}
 use Rattle.jx_lex.specs.declared.alphabet.state.LexState.{LexState}
 use Rattle.jx_lex.specs.declared.alphabet.mark.Mark.{Mark}
@@ -9,7 +9,7 @@ use Rattle.jx_lex.specs.Lex as reading
 use Rattle.jx_lex.specs.Lex.{Track, lex}
 use Rattle.jx_lex.specs.Moves.{move}
 
--- which marks and ends a keeper may have seen
+-- which marks and ends a sink may have seen
 abbrev pub Seen : Type 1
 Seen = List Mark → List ℕ → Type 0
 

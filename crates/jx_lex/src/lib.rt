@@ -25,6 +25,6 @@ pub use map::link::Link;
 pub use map::path::Path;
 pub use map::segment::Segment;
 pub use map::track_view::TrackView;
-pub use scanner::keeper::Keeper;
 pub use scanner::scan;
+pub use scanner::sink::TokenSink;
 pub use scanner::tokens::Tokens;

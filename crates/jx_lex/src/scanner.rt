@@ -10,7 +10,7 @@ ghost use Rattle.jx_lex.specs.View.{exit_of};
 
 pub(crate) mod ahead;
 pub(crate) mod byte_sets;
-pub(crate) mod keeper;
+pub(crate) mod sink;
 pub(crate) mod string_chars;
 pub(crate) mod token_rest;
 pub(crate) mod tokens;
@@ -22,40 +22,44 @@ use crate::alphabet::machine::cell_at;
 use crate::alphabet::mark::{Mark, MarkKind};
 use crate::alphabet::state::LexState;
 use crate::scanner::ahead::Ahead;
-use crate::scanner::keeper::Keeper;
+use crate::scanner::sink::TokenSink;
 use crate::scanner::string_chars::string_end_ahead;
 use crate::scanner::token_rest::{gap_end, literal_end, more_digits, number_rest};
 use std::alloc::AllocError;
 
 /// Takes in what one byte does: its mark and its end are seen. Gives the next state, or none at a fault.
 #[inline(always)]
-fn take_in<K: Keeper>(keeper: &mut K, cell: Cell, at: usize) -> Result<Option<LexState>, AllocError>
+fn take_in<K: TokenSink>(
+    sink: &mut K,
+    cell: Cell,
+    at: usize,
+) -> Result<Option<LexState>, AllocError>
     requires { at + 1 < 2 ^ 64 }
-    ensures seen { OnOk result (Grows (K.has_seen keeper.old) (K.has_seen keeper.new) (with_mark ((step_of cell).begin) at []) (with_end ((step_of cell).end) at [])) }
+    ensures seen { OnOk result (Grows (K.has_seen sink.old) (K.has_seen sink.new) (with_mark ((step_of cell).begin) at []) (with_end ((step_of cell).end) at [])) }
     ensures next { IfOk result (λ next. next ≡ (step_of cell).next) }
 {
     match cell {
         Cell::Go(next) => Ok(Some(next)),
         Cell::Begin(next, kind) => {
-            keeper.begin(Mark { kind, at })?;
+            sink.begin(Mark { kind, at })?;
             Ok(Some(next))
         }
         Cell::Close => {
-            keeper.end(at + 1)?;
+            sink.end(at + 1)?;
             Ok(Some(LexState::Gap))
         }
         Cell::End(next) => {
-            keeper.end(at)?;
+            sink.end(at)?;
             Ok(Some(next))
         }
         Cell::EndThenBegin(next, kind) => {
-            keeper.end(at)?;
-            keeper.begin(Mark { kind, at })?;
+            sink.end(at)?;
+            sink.begin(Mark { kind, at })?;
             Ok(Some(next))
         }
         Cell::Fault => Ok(None),
         Cell::EndThenFault => {
-            keeper.end(at)?;
+            sink.end(at)?;
             Ok(None)
         }
     }
@@ -63,71 +67,71 @@ fn take_in<K: Keeper>(keeper: &mut K, cell: Cell, at: usize) -> Result<Option<Le
 
 /// Takes in a token's first byte, and gives the next state.
 #[inline(always)]
-fn begin<K: Keeper>(
-    keeper: &mut K,
+fn begin<K: TokenSink>(
+    sink: &mut K,
     kind: MarkKind,
     next: LexState,
     at: usize,
 ) -> Result<LexState, AllocError>
-    ensures seen { OnOk result (Grows (K.has_seen keeper.old) (K.has_seen keeper.new) (record { kind = kind; at = at } ∷ []) []) }
+    ensures seen { OnOk result (Grows (K.has_seen sink.old) (K.has_seen sink.new) (record { kind = kind; at = at } ∷ []) []) }
     ensures next { IfOk result (λ n. n ≡ next) }
 {
-    keeper.begin(Mark { kind, at })?;
+    sink.begin(Mark { kind, at })?;
     Ok(next)
 }
 
 /// Takes in what a byte does in a state. Between tokens, where most bytes begin one, a branch for each class of bytes is
 /// faster than the table.
 #[inline(always)]
-fn take_byte<K: Keeper>(
-    keeper: &mut K,
+fn take_byte<K: TokenSink>(
+    sink: &mut K,
     state: LexState,
     byte: u8,
     at: usize,
 ) -> Result<Option<LexState>, AllocError>
     requires { at + 1 < 2 ^ 64 }
-    ensures seen { OnOk result (Grows (K.has_seen keeper.old) (K.has_seen keeper.new) (with_mark ((move state byte).begin) at []) (with_end ((move state byte).end) at [])) }
+    ensures seen { OnOk result (Grows (K.has_seen sink.old) (K.has_seen sink.new) (with_mark ((move state byte).begin) at []) (with_end ((move state byte).end) at [])) }
     ensures next { IfOk result (λ next. next ≡ (move state byte).next) }
 {
     let begun = match (state, class_of(byte)) {
-        (LexState::Gap, Class::Quote) => begin(keeper, MarkKind::String, LexState::Str, at)?,
-        (LexState::Gap, Class::Minus) => begin(keeper, MarkKind::Number, LexState::Minus, at)?,
-        (LexState::Gap, Class::Zero) => begin(keeper, MarkKind::Number, LexState::Zero, at)?,
-        (LexState::Gap, Class::Digit) => begin(keeper, MarkKind::Number, LexState::Int, at)?,
-        (LexState::Gap, Class::LowT) => begin(keeper, MarkKind::True, LexState::T, at)?,
-        (LexState::Gap, Class::LowF) => begin(keeper, MarkKind::False, LexState::F, at)?,
-        (LexState::Gap, Class::LowN) => begin(keeper, MarkKind::Null, LexState::N, at)?,
-        (LexState::Gap, Class::OpenArray) => begin(keeper, MarkKind::OpenArray, LexState::Gap, at)?,
+        (LexState::Gap, Class::Quote) => begin(sink, MarkKind::String, LexState::Str, at)?,
+        (LexState::Gap, Class::Minus) => begin(sink, MarkKind::Number, LexState::Minus, at)?,
+        (LexState::Gap, Class::Zero) => begin(sink, MarkKind::Number, LexState::Zero, at)?,
+        (LexState::Gap, Class::Digit) => begin(sink, MarkKind::Number, LexState::Int, at)?,
+        (LexState::Gap, Class::LowT) => begin(sink, MarkKind::True, LexState::T, at)?,
+        (LexState::Gap, Class::LowF) => begin(sink, MarkKind::False, LexState::F, at)?,
+        (LexState::Gap, Class::LowN) => begin(sink, MarkKind::Null, LexState::N, at)?,
+        (LexState::Gap, Class::OpenArray) => begin(sink, MarkKind::OpenArray, LexState::Gap, at)?,
         (LexState::Gap, Class::CloseArray) => {
-            begin(keeper, MarkKind::CloseArray, LexState::Gap, at)?
+            begin(sink, MarkKind::CloseArray, LexState::Gap, at)?
         }
         (LexState::Gap, Class::OpenObject) => {
-            begin(keeper, MarkKind::OpenObject, LexState::Gap, at)?
+            begin(sink, MarkKind::OpenObject, LexState::Gap, at)?
         }
         (LexState::Gap, Class::CloseObject) => {
-            begin(keeper, MarkKind::CloseObject, LexState::Gap, at)?
+            begin(sink, MarkKind::CloseObject, LexState::Gap, at)?
         }
-        (LexState::Gap, Class::Colon) => begin(keeper, MarkKind::Colon, LexState::Gap, at)?,
-        (LexState::Gap, Class::Comma) => begin(keeper, MarkKind::Comma, LexState::Gap, at)?,
-        _ => return take_in(keeper, cell_at(state, byte), at),
+        (LexState::Gap, Class::Colon) => begin(sink, MarkKind::Colon, LexState::Gap, at)?,
+        (LexState::Gap, Class::Comma) => begin(sink, MarkKind::Comma, LexState::Gap, at)?,
+        _ => return take_in(sink, cell_at(state, byte), at),
     };
     Ok(Some(begun))
 }
 
 /// Reads a name's colon, if it stands there, and gives its end.
 #[inline(always)]
-fn colon<K: Keeper>(
-    keeper: &mut K,
+fn colon<K: TokenSink>(
+    sink: &mut K,
     text: &[u8],
     from: usize,
     to: usize,
 ) -> Result<usize, AllocError>
     requires { (from ≤ to) × (to ≤ length text.now) }
     ensures bounds { IfOk result (λ end. (from ≤ end) × (end ≤ to)) }
-    ensures read { IfOk result (λ end. GoesTo (K.has_seen keeper.old) (K.has_seen keeper.new) (lex state.Gap from (slice_range text.now from end)) state.Gap) }
+    ensures read { IfOk result (λ end. GoesTo (K.has_seen sink.old) (K.has_seen sink.new) (lex state.Gap from (slice_range text.now from end)) state.Gap) }
 {
     if from < to && text[from] == b':' {
-        keeper.begin(Mark {
+        sink.begin(Mark {
             kind: MarkKind::Colon,
             at: from,
         })?;
@@ -139,8 +143,8 @@ fn colon<K: Keeper>(
 /// Reads the rest of a string, with the quotation mark that ends it and a colon behind it, from the state inside the string
 /// on.
 #[inline(always)]
-fn string_rest<K: Keeper>(
-    keeper: &mut K,
+fn string_rest<K: TokenSink>(
+    sink: &mut K,
     last: &mut LexState,
     text: &[u8],
     from: usize,
@@ -151,14 +155,14 @@ fn string_rest<K: Keeper>(
     requires sound { IsSound text.now ahead.old }
     requires inside { last.old ≡ state.Str }
     ensures bounds { IfOk result (λ end. (from ≤ end) × (end ≤ to)) }
-    ensures read { IfOk result (λ end. GoesTo (K.has_seen keeper.old) (K.has_seen keeper.new) (lex state.Str from (slice_range text.now from end)) last.new) }
+    ensures read { IfOk result (λ end. GoesTo (K.has_seen sink.old) (K.has_seen sink.new) (lex state.Str from (slice_range text.now from end)) last.new) }
     ensures sound { OnOk result (IsSound text.now ahead.new) }
 {
     let end = string_end_ahead(text, from, to, ahead);
     if end < to && text[end] == b'"' {
-        keeper.end(end + 1)?;
+        sink.end(end + 1)?;
         *last = LexState::Gap;
-        let behind = colon(keeper, text, end + 1, to)?;
+        let behind = colon(sink, text, end + 1, to)?;
         return Ok(behind);
     }
     Ok(end)
@@ -180,8 +184,8 @@ fn may_end(state: LexState) -> bool
 
 /// Reads the comma that ends a number, if it stands there, and gives its end.
 #[inline(always)]
-fn comma<K: Keeper>(
-    keeper: &mut K,
+fn comma<K: TokenSink>(
+    sink: &mut K,
     state: &mut LexState,
     text: &[u8],
     from: usize,
@@ -189,11 +193,11 @@ fn comma<K: Keeper>(
 ) -> Result<usize, AllocError>
     requires { (from ≤ to) × (to ≤ length text.now) }
     ensures bounds { IfOk result (λ end. (from ≤ end) × (end ≤ to)) }
-    ensures read { IfOk result (λ end. GoesTo (K.has_seen keeper.old) (K.has_seen keeper.new) (lex state.old from (slice_range text.now from end)) state.new) }
+    ensures read { IfOk result (λ end. GoesTo (K.has_seen sink.old) (K.has_seen sink.new) (lex state.old from (slice_range text.now from end)) state.new) }
 {
     if from < to && text[from] == b',' && may_end(*state) {
-        keeper.end(from)?;
-        keeper.begin(Mark {
+        sink.end(from)?;
+        sink.begin(Mark {
             kind: MarkKind::Comma,
             at: from,
         })?;
@@ -205,8 +209,8 @@ fn comma<K: Keeper>(
 
 /// Reads the rest of a number, with a comma behind it, and gives its end.
 #[inline(always)]
-fn number<K: Keeper>(
-    keeper: &mut K,
+fn number<K: TokenSink>(
+    sink: &mut K,
     state: &mut LexState,
     text: &[u8],
     from: usize,
@@ -214,17 +218,17 @@ fn number<K: Keeper>(
 ) -> Result<usize, AllocError>
     requires { (from ≤ to) × (to ≤ length text.now) }
     ensures bounds { IfOk result (λ end. (from ≤ end) × (end ≤ to)) }
-    ensures read { IfOk result (λ end. GoesTo (K.has_seen keeper.old) (K.has_seen keeper.new) (lex state.old from (slice_range text.now from end)) state.new) }
+    ensures read { IfOk result (λ end. GoesTo (K.has_seen sink.old) (K.has_seen sink.new) (lex state.old from (slice_range text.now from end)) state.new) }
 {
     let end = number_rest(text, state, from, to);
-    let behind = comma(keeper, state, text, end, to)?;
+    let behind = comma(sink, state, text, end, to)?;
     Ok(behind)
 }
 
 /// Reads the rest of a literal, if it stands there whole, and gives its end.
 #[inline(always)]
-fn literal<K: Keeper>(
-    keeper: &mut K,
+fn literal<K: TokenSink>(
+    sink: &mut K,
     state: &mut LexState,
     text: &[u8],
     from: usize,
@@ -232,13 +236,13 @@ fn literal<K: Keeper>(
 ) -> Result<usize, AllocError>
     requires { (from ≤ to) × (to ≤ length text.now) }
     ensures bounds { IfOk result (λ end. (from ≤ end) × (end ≤ to)) }
-    ensures read { IfOk result (λ end. GoesTo (K.has_seen keeper.old) (K.has_seen keeper.new) (lex state.old from (slice_range text.now from end)) state.new) }
+    ensures read { IfOk result (λ end. GoesTo (K.has_seen sink.old) (K.has_seen sink.new) (lex state.old from (slice_range text.now from end)) state.new) }
 {
     let end = literal_end(text, *state, from, to);
     if end == from {
         return Ok(from);
     }
-    keeper.end(end)?;
+    sink.end(end)?;
     *state = LexState::Gap;
     Ok(end)
 }
@@ -246,8 +250,8 @@ fn literal<K: Keeper>(
 /// Reads on from the state to which this byte led, over the rest of a token or over blanks. Gives their end, and sets the
 /// state behind them.
 #[inline(always)]
-fn read_rest<K: Keeper>(
-    keeper: &mut K,
+fn read_rest<K: TokenSink>(
+    sink: &mut K,
     state: &mut LexState,
     text: &[u8],
     byte: u8,
@@ -258,18 +262,18 @@ fn read_rest<K: Keeper>(
     requires bounds { (from ≤ to) × (to ≤ length text.now) }
     requires sound { IsSound text.now ahead.old }
     ensures bounds { IfOk result (λ end. (from ≤ end) × (end ≤ to)) }
-    ensures read { IfOk result (λ end. GoesTo (K.has_seen keeper.old) (K.has_seen keeper.new) (lex state.old from (slice_range text.now from end)) state.new) }
+    ensures read { IfOk result (λ end. GoesTo (K.has_seen sink.old) (K.has_seen sink.new) (lex state.old from (slice_range text.now from end)) state.new) }
     ensures sound { OnOk result (IsSound text.now ahead.new) }
 {
     match *state {
-        LexState::Str => string_rest(keeper, state, text, from, to, ahead),
+        LexState::Str => string_rest(sink, state, text, from, to, ahead),
         LexState::Gap => Ok(gap_end(text, byte, from, to)),
         LexState::Minus | LexState::Zero | LexState::Int => {
-            let end = number(keeper, state, text, from, to)?;
+            let end = number(sink, state, text, from, to)?;
             Ok(end)
         }
         LexState::T | LexState::F | LexState::N => {
-            let end = literal(keeper, state, text, from, to)?;
+            let end = literal(sink, state, text, from, to)?;
             Ok(end)
         }
         _ => Ok(more_digits(text, *state, from, to)),
@@ -290,36 +294,36 @@ fn known_ahead(state: LexState) -> Ahead
     }
 }
 
-/// Reads the bytes of a text from one offset to another, from a known lexical state, into a keeper. What the keeper has
+/// Reads the bytes of a text from one offset to another, from a known lexical state, into a sink. What the sink has
 /// seen grows by the marks and ends of that reading, with their offsets in the text.
 ///
-/// Returns where the reading ends, or none where the keeper wanted no more before. Then the rest was not looked at, and
-/// what the keeper has seen stands for it too. Where memory is refused, the keeper is of no more use.
-pub fn scan<K: Keeper>(
-    keeper: &mut K,
+/// Returns where the reading ends, or none where the sink wanted no more before. Then the rest was not looked at, and
+/// what the sink has seen stands for it too. Where memory is refused, the sink is of no more use.
+pub fn scan<K: TokenSink>(
+    sink: &mut K,
     state: LexState,
     text: &[u8],
     from: usize,
     to: usize,
 ) -> Result<Option<LexExit>, AllocError>
     requires { (from ≤ to) × (to ≤ length text.now) }
-    ensures seen { OnOk result (SeesTrack (K.has_seen keeper.old) (K.has_seen keeper.new) (lex state from (slice_range text.now from to))) }
+    ensures seen { OnOk result (SeesTrack (K.has_seen sink.old) (K.has_seen sink.new) (lex state from (slice_range text.now from to))) }
     ensures exit { IfOk result (λ exit. IfSome exit (λ e. exit_of e ≡ (lex state from (slice_range text.now from to)).exit)) }
-    ensures done { IfOk result (λ exit. IsNone exit → WantsNoMore (K.has_seen keeper.new)) }
+    ensures done { IfOk result (λ exit. IsNone exit → WantsNoMore (K.has_seen sink.new)) }
 {
     let mut state = state;
     let mut i = from;
     let mut ahead = known_ahead(state);
     while i < to {
-        if keeper.is_done() {
+        if sink.is_done() {
             return Ok(None);
         }
         let byte = text[i];
-        let Some(next) = take_byte(keeper, state, byte, i)? else {
+        let Some(next) = take_byte(sink, state, byte, i)? else {
             return Ok(Some(LexExit::Fault(i)));
         };
         state = next;
-        let end = read_rest(keeper, &mut state, text, byte, i + 1, to, &mut ahead)?;
+        let end = read_rest(sink, &mut state, text, byte, i + 1, to, &mut ahead)?;
         i = end;
     }
     Ok(Some(LexExit::State(state)))

@@ -25,18 +25,20 @@ mod cuts;
 mod line;
 mod names;
 mod numbers;
+mod out;
 mod spelt;
 mod texts;
 mod ways;
 
 pub use answers::{
     push_element, push_elements, push_found, push_numbers, push_row, push_rows, push_span,
-    push_verdict, push_word,
+    push_verdict,
 };
 pub use cuts::cuts_of;
-pub use line::{LineFault, is_call, words_of};
-pub use names::{expect_of, holders_of, settings_of, state_of};
-pub use numbers::{Meeting, depth_of, meeting_within, number_of, numbers_of, span_within};
+pub use line::{Line, LineFault, is_call, words_of};
+pub use names::settings_of;
+pub use numbers::{Meeting, depth_of, meeting_within, number_of, span_within};
+pub use out::Out;
 pub use spelt::push_text;
-pub use texts::{bytes_of, text_of};
+pub use texts::{bytes_of, text_of, texts_of};
 pub use ways::Ways;

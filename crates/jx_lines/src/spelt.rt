@@ -1,21 +1,20 @@
 // How a word spells bytes.
-use std::alloc::AllocError;
+use crate::out::Out;
 
-fn push_byte(out: &mut String, byte: u8) -> Result<(), AllocError> {
+fn push_byte(out: &mut Out, byte: u8) {
     match byte {
         b'\\' => out.push_str("\\x5C"),
-        0x21..=0x7E => out.push(char::from(byte)),
-        _ => write!(out, "\\x{byte:02X}"),
+        0x21..=0x7E => out.put(char::from(byte)),
+        _ => out.put(format_args!("\\x{byte:02X}")),
     }
 }
 
 /// The word that spells these bytes.
-pub fn push_text(out: &mut String, bytes: &[u8]) -> Result<(), AllocError> {
+pub fn push_text(out: &mut Out, bytes: &[u8]) {
     if bytes.is_empty() {
-        return out.push_str("\\-");
+        out.push_str("\\-");
     }
     for byte in bytes {
-        push_byte(out, *byte)?;
+        push_byte(out, *byte);
     }
-    Ok(())
 }

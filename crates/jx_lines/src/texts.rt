@@ -150,3 +150,12 @@ pub fn text_of(alloc: Global, word: &str) -> Result<String, LineFault> {
         Err(_) => Err(LineFault::NoSuchCall),
     }
 }
+
+/// The texts that words spell.
+pub fn texts_of(alloc: Global, words: &[&str]) -> Result<Vec<String>, LineFault> {
+    let mut texts = Vec::new(alloc);
+    for word in words {
+        texts.push(text_of(alloc, word)?)?;
+    }
+    Ok(texts)
+}

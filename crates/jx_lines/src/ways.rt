@@ -1,14 +1,16 @@
 // Answers that are asked for in several ways.
-use std::alloc::{AllocError, Global};
+use crate::out::Out;
+use std::alloc::Global;
+use std::fmt::Display;
 
 /// What a call answers that is made in several ways, and whether all ways answer the same.
 #[derive(Drop)]
 pub struct Ways {
     alloc: Global,
     /// The first way's answer.
-    first: Option<String>,
-    /// The first other answer, and the way that gave it.
-    other: Option<String>,
+    first: Option<Out>,
+    /// The first other answer, behind the way that gave it.
+    other: Option<Out>,
 }
 
 impl Ways {
@@ -21,25 +23,31 @@ impl Ways {
         }
     }
 
-    /// One more way, and what it answers. It fails only for want of memory.
-    pub fn add(&mut self, way: &str, answer: String) -> Result<(), AllocError> {
+    /// One more way, and what it answers.
+    pub fn add<W: Display + Drop>(&mut self, way: W, answer: Out) {
         match &self.first {
             None => self.first = Some(answer),
             Some(first) => {
-                if *first != answer && self.other.is_none() {
-                    let told = format!(in self.alloc; "differs: {way}: {answer}")?;
-                    self.other = Some(told);
+                if self.other.is_none() && *first != answer {
+                    self.other = Some(differs(self.alloc, way, &answer));
                 }
             }
         }
-        Ok(())
     }
 
     /// Writes the answer, if all ways gave the same one, and else the first other one with its way.
-    pub fn push_to(self, out: &mut String) -> Result<(), AllocError> {
-        match self.other.or(self.first) {
-            Some(answer) => out.push_str(answer.as_str()),
-            None => out.push_str("asked in no way"),
+    pub fn push_to(&self, out: &mut Out) {
+        match (&self.first, &self.other) {
+            (_, Some(told)) | (Some(told), None) => out.push(told),
+            (None, None) => out.push_str("asked in no way"),
         }
     }
+}
+
+/// Tells that a way gives another answer than the first one.
+fn differs<W: Display + Drop>(alloc: Global, way: W, answer: &Out) -> Out {
+    let mut told = Out::new(alloc);
+    told.put(format_args!("differs: {way}: "));
+    told.push(answer);
+    told
 }

@@ -7,7 +7,7 @@ use Rattle.jx_report.specs.declared.exit.Exit.{Exit}
 use Rattle.jx_report.specs.Ends.{ReadsToEnd, AppendsBeginning}
 use Rattle.jx_report.specs.Output.{ByVerdict, SaysAccepted}
 use Rattle.jx_report.specs.Reports.{shown_output}
-use Rattle.jx_run.specs.declared.verdict.Verdict.{Verdict}
+use Rattle.jx_run.specs.declared.texts.verdict.Verdict.{Verdict}
 use Rattle.jx_run.specs.Verdict.{Judged}
 use Rattle.jx_parts.specs.Records.{AreRecords}
 

@@ -9,7 +9,7 @@ use crate::parts_fault::{PartsFault, RunRefusal};
 use jx_lex::Depth;
 use jx_portion::{Mismatch, Portion};
 use jx_report::{ReportFault, Source};
-use std::alloc::{AllocError, Global};
+use std::alloc::Global;
 
 /// Why a run, which has this number, does not stand behind those before it.
 fn fault_by(mismatch: Mismatch, joined: &Portion, next: &Portion, number: usize) -> PartsFault
@@ -42,10 +42,10 @@ fn join_next(joined: Portion, next: Portion, number: usize) -> Result<Portion, P
 {
     match joined.meets(&next) {
         Err(mismatch) => Err(fault_by(mismatch, &joined, &next, number)),
-        Ok(()) => match joined.join(next) {
-            Ok(whole) => Ok(whole),
-            Err(AllocError) => Err(PartsFault::Report(ReportFault::Memory)),
-        },
+        Ok(()) => {
+            let whole = joined.join(next)?;
+            Ok(whole)
+        }
     }
 }
 

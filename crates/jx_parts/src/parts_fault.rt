@@ -4,6 +4,7 @@ ghost use Rattle.jx_report.specs.declared.report_fault.ReportFault.TheVariants.{
 
 use jx_portion::{DecodeFault, RunFault};
 use jx_report::ReportFault;
+use std::alloc::AllocError;
 use thiserror::Error;
 
 /// Why work on the parts of a text gives no answer. Nothing was written, unless writing failed.
@@ -29,6 +30,29 @@ pub enum PartsFault {
         from: usize,
         to: usize,
     },
+}
+
+impl From<ReportFault> for PartsFault {
+    ghost use Rattle.std.specs.Prelude.{◌≡◌};
+    ghost use Rattle.jx_parts.specs.declared.parts_fault.PartsFault.TheVariants.{Report};
+
+    ghost from_gives = { λ fault parts. parts ≡ Report fault };
+
+    fn from(fault: ReportFault) -> PartsFault {
+        PartsFault::Report(fault)
+    }
+}
+
+impl From<AllocError> for PartsFault {
+    ghost use Rattle.std.specs.Prelude.{◌≡◌};
+    ghost use Rattle.jx_parts.specs.declared.parts_fault.PartsFault.TheVariants.{Report};
+    ghost use Rattle.jx_report.specs.declared.report_fault.ReportFault.TheVariants.{Memory};
+
+    ghost from_gives = { λ _ parts. parts ≡ Report Memory };
+
+    fn from(_: AllocError) -> PartsFault {
+        PartsFault::Report(ReportFault::Memory)
+    }
 }
 
 /// Why a run is not taken.

@@ -11,32 +11,17 @@ use std::alloc::{AllocError, Global};
 /// How many bytes of a part are read at a time.
 pub(crate) const BATCH: usize = 256 * 1024;
 
-/// The run of no bytes, which stand at an offset if it is told.
-fn beginning(alloc: Global, from: Option<usize>, depth: Depth) -> Result<Portion, ReportFault>
-    ensures of { IfOk result (IsPortion [] from depth) }
-    ensures fault { IfErr result (λ fault. fault ≡ ReportFault.Memory) }
-{
-    match Portion::of(alloc, &[], from, depth) {
-        Ok(portion) => Ok(portion),
-        Err(AllocError) => Err(ReportFault::Memory),
-    }
-}
-
 /// The run of a part with more bytes behind it. Memory is refused too where the last of them has no offset.
-fn with_batch(alloc: Global, portion: Portion, batch: &[u8]) -> Result<Portion, ReportFault>
+fn with_batch(alloc: Global, portion: Portion, batch: &[u8]) -> Result<Portion, AllocError>
     ensures below { portion.run.end < 2 ^ 64 }
     ensures grows { IfOk result (λ p. p.run.end ≡ portion.run.end + length batch.now) }
     ensures of { IfOk result (λ p. (text : List ℕ) (from : Option ℕ) (depth : ℕ) → IsPortion text from depth portion
         → IsPortion (text ++ batch.now) from depth p) }
-    ensures fault { IfErr result (λ fault. fault ≡ ReportFault.Memory) }
 {
     if batch.len() > usize::MAX - portion.end() {
-        return Err(ReportFault::Memory);
+        return Err(AllocError);
     }
-    match portion.and(alloc, batch) {
-        Ok(portion) => Ok(portion),
-        Err(AllocError) => Err(ReportFault::Memory),
-    }
+    portion.and(alloc, batch)
 }
 
 /// Reads to the end of input, so many bytes at a time, and answers their run.
@@ -54,7 +39,7 @@ pub(crate) fn read_portion<S: Source>(
     ensures unwritten { IfErr result (λ fault. fault ≢ ReportFault.Write) }
 {
     let mut buffer = Vec::new(alloc);
-    let mut portion = beginning(alloc, from, depth)?;
+    let mut portion = Portion::of(alloc, &[], from, depth)?;
     loop {
         let filled = fill_buffer(reader, &mut buffer, batch)?;
         portion = with_batch(alloc, portion, &buffer[..filled])?;

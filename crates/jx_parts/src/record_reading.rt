@@ -83,18 +83,13 @@ fn read_behind<S: Source>(
     ensures unwritten { IfErr result (λ fault. fault ≢ PartsFault.Report Write) }
 {
     let missing = size - bytes.len();
-    let mut rest = match read_up_to(alloc, reader, missing) {
-        Ok(rest) => rest,
-        Err(fault) => return Err(PartsFault::Report(fault)),
-    };
+    let mut rest = read_up_to(alloc, reader, missing)?;
     if rest.len() < missing {
         let why = RunRefusal::CutShort;
         return Err(PartsFault::Run { number, why });
     }
-    match bytes.append(&mut rest) {
-        Ok(()) => Ok(bytes),
-        Err(_) => Err(PartsFault::Report(ReportFault::Memory)),
-    }
+    bytes.append(&mut rest)?;
+    Ok(bytes)
 }
 
 /// Reads the next record of a stream, which has this number, or nothing where the stream ends. No more of it is looked at than
@@ -111,10 +106,7 @@ pub(crate) fn next_record<S: Source>(
     ensures going { IfOk result (λ _. S.has_failed reader.new ≡ false) }
     ensures unwritten { IfErr result (λ fault. fault ≢ PartsFault.Report Write) }
 {
-    let head = match read_up_to(alloc, reader, HEAD) {
-        Ok(head) => head,
-        Err(fault) => return Err(PartsFault::Report(fault)),
-    };
+    let head = read_up_to(alloc, reader, HEAD)?;
     if head.is_empty() {
         return Ok(None);
     }

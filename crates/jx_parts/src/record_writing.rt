@@ -7,8 +7,8 @@ ghost use Rattle.jx_parts.specs.inside.Writing.{IsWritten};
 
 use crate::parts_fault::PartsFault;
 use jx_portion::Portion;
-use jx_report::{ReportFault, Sink, write_whole};
-use std::alloc::{AllocError, Global};
+use jx_report::{Sink, write_whole};
+use std::alloc::Global;
 
 /// Writes the record of a portion.
 pub(crate) fn write_record<W: Sink>(
@@ -24,12 +24,7 @@ pub(crate) fn write_record<W: Sink>(
     ensures unwritten { IfErr result (λ fault. fault ≢ PartsFault.Report Write → writer.new ≡ writer.old) }
     ensures unread { IfErr result (λ fault. fault ≢ PartsFault.Report Read) }
 {
-    let bytes = match portion.encode(alloc) {
-        Ok(bytes) => bytes,
-        Err(AllocError) => return Err(PartsFault::Report(ReportFault::Memory)),
-    };
-    match write_whole(writer, &bytes) {
-        Ok(()) => Ok(()),
-        Err(fault) => Err(PartsFault::Report(fault)),
-    }
+    let bytes = portion.encode(alloc)?;
+    write_whole(writer, &bytes)?;
+    Ok(())
 }

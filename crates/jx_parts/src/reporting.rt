@@ -34,10 +34,7 @@ pub fn report_part<S: Source, W: Sink>(
     ensures beginning { IsErrOf result (PartsFault.Report Write) → WritesInPart (λ text output. IsRecord text from depth output) (S.remaining reader.old)
         (S.remaining reader.new) (W.contents writer.old) (W.contents writer.new) }
 {
-    let portion = match read_portion(alloc, reader, from, depth, BATCH) {
-        Ok(portion) => portion,
-        Err(fault) => return Err(PartsFault::Report(fault)),
-    };
+    let portion = read_portion(alloc, reader, from, depth, BATCH)?;
     write_record(alloc, writer, &portion)
 }
 
@@ -101,8 +98,6 @@ pub fn report_whole<S: Source, W: Sink>(
             to,
         });
     }
-    match write_verdict(alloc, writer, joined.verdict(), quiet) {
-        Ok(exit) => Ok(exit),
-        Err(fault) => Err(PartsFault::Report(fault)),
-    }
+    let exit = write_verdict(alloc, writer, joined.verdict(), quiet)?;
+    Ok(exit)
 }

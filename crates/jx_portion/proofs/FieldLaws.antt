@@ -19,9 +19,9 @@ use Rattle.jx_portion.specs.declared.fault.RunFault.{RunFault}
 use Rattle.jx_portion.specs.declared.fault.RunFault.TheVariants.{Malformed}
 use Rattle.jx_portion.specs.Choices.{entries, holders, holder_number, kinds, kind_number}
 use Rattle.jx_portion.specs.Fields.{FormFields, RunFields, StructureFields}
-use Rattle.jx_portion.specs.Reading.{◌>>=◌, ended_at, entry_at, exit_at, form_at, holder_at, kind_at, level_at, many_at, mark_at, number_at, optional_at, rest_at, run_at, several_at, state_at, structure_at, structures_at, way_at}
+use Rattle.jx_portion.specs.Reading.{◌>>=◌, ended_at, entry_at, exit_at, form_at, holder_at, kind_at, level_at, many_at, mark_at, number_at, optional_at, rest_at, run_at, several_at, state_at, structure_at, structures_at, transition_at}
 use Rattle.jx_portion.specs.Spelling as spelt
-use Rattle.jx_portion.specs.Spelling.{number, optional, several, AreSpelt, IfThere, Any, IsNumber, EndedFits, ExitFits, FormFits, LevelFits, MarkFits, RestFits, RunFits, StructureFits, WayFits}
+use Rattle.jx_portion.specs.Spelling.{number, optional, several, AreSpelt, IfThere, Any, IsNumber, EndedFits, ExitFits, FormFits, LevelFits, MarkFits, RestFits, RunFits, StructureFits, TransitionFits}
 use Rattle.jx_reduce.specs.Entries.{place}
 use Rattle.jx_portion.proofs.Laws.{IsBytes, Law, Took, bind_ok, choice_law, guard_err, in_front, many_again, number_law, ok_is, optional_law, several_law, three, two}
 
@@ -108,9 +108,9 @@ exit_again (exits.Fault at) rest h = rw (number_law.again at rest h) refl
 exit_law : Law spelt.exit exit_at ExitFits
 exit_law = record { takes = exit_takes; again = exit_again }
 
-way_law : Law spelt.way way_at WayFits
-unfolding way_at
-way_law = two spelt.exit exit_at ExitFits number number_at IsNumber exit_law number_law (λ e n. record { exit = e; structure = n }) (λ w. w.exit) (λ w. w.structure) (λ w. refl) (λ e n. refl) (λ e n. refl)
+transition_law : Law spelt.transition transition_at TransitionFits
+unfolding transition_at
+transition_law = two spelt.exit exit_at ExitFits number number_at IsNumber exit_law number_law (λ e n. record { exit = e; structure = n }) (λ w. w.exit) (λ w. w.structure) (λ w. refl) (λ e n. refl) (λ e n. refl)
 
 -- ---- forms and structures
 
@@ -183,8 +183,8 @@ structure_law = two (optional number) (optional_at number_at) (IfThere IsNumber)
 
 -- ---- all between the head and the digest
 
-way_list : Law (several spelt.way) (several_at way_at) (AreSpelt WayFits)
-way_list = several_law spelt.way way_at WayFits way_law
+transition_list : Law (several spelt.transition) (several_at transition_at) (AreSpelt TransitionFits)
+transition_list = several_law spelt.transition transition_at TransitionFits transition_law
 
 structure_list : Law (several spelt.structure) (several_at structure_at) (AreSpelt StructureFits)
 structure_list = several_law spelt.structure structure_at StructureFits structure_law
@@ -211,24 +211,24 @@ structures_again xs rest few h =
 pub run_takes : (bytes : List ℕ) (x : RunFields) → IsBytes bytes → run_at bytes ≡ Ok x → (bytes ≡ spelt.run x) × RunFits x
 unfolding run_at
 run_takes bytes x bs e =
-    let a = bind_ok (optional_at number_at bytes) (λ from. number_at from.1 >>= λ end. several_at way_at end.1 >>= λ ways. structures_at ways.1 >>= λ structures.
-    cond (eqb (length structures.1) 0) (Ok (record { from = from.0; end = end.0; ways = ways.0; structures = structures.0 })) (Err (Malformed field.Rest))) x e in
-    let b = bind_ok (number_at a.0.1) (λ end. several_at way_at end.1 >>= λ ways. structures_at ways.1 >>= λ structures.
-    cond (eqb (length structures.1) 0) (Ok (record { from = a.0.0; end = end.0; ways = ways.0; structures = structures.0 })) (Err (Malformed field.Rest))) x a.2 in
-    let c = bind_ok (several_at way_at b.0.1) (λ ways. structures_at ways.1 >>= λ structures.
-    cond (eqb (length structures.1) 0) (Ok (record { from = a.0.0; end = b.0.0; ways = ways.0; structures = structures.0 })) (Err (Malformed field.Rest))) x b.2 in
+    let a = bind_ok (optional_at number_at bytes) (λ from. number_at from.1 >>= λ end. several_at transition_at end.1 >>= λ transitions. structures_at transitions.1 >>= λ structures.
+    cond (eqb (length structures.1) 0) (Ok (record { from = from.0; end = end.0; transitions = transitions.0; structures = structures.0 })) (Err (Malformed field.Rest))) x e in
+    let b = bind_ok (number_at a.0.1) (λ end. several_at transition_at end.1 >>= λ transitions. structures_at transitions.1 >>= λ structures.
+    cond (eqb (length structures.1) 0) (Ok (record { from = a.0.0; end = end.0; transitions = transitions.0; structures = structures.0 })) (Err (Malformed field.Rest))) x a.2 in
+    let c = bind_ok (several_at transition_at b.0.1) (λ transitions. structures_at transitions.1 >>= λ structures.
+    cond (eqb (length structures.1) 0) (Ok (record { from = a.0.0; end = b.0.0; transitions = transitions.0; structures = structures.0 })) (Err (Malformed field.Rest))) x b.2 in
     let d = bind_ok (structures_at c.0.1) (λ structures.
-    cond (eqb (length structures.1) 0) (Ok (record { from = a.0.0; end = b.0.0; ways = c.0.0; structures = structures.0 })) (Err (Malformed field.Rest))) x c.2 in
-    let made : RunFields = record { from = a.0.0; end = b.0.0; ways = c.0.0; structures = d.0.0 } in
+    cond (eqb (length structures.1) 0) (Ok (record { from = a.0.0; end = b.0.0; transitions = c.0.0; structures = structures.0 })) (Err (Malformed field.Rest))) x c.2 in
+    let made : RunFields = record { from = a.0.0; end = b.0.0; transitions = c.0.0; structures = d.0.0 } in
     let g = guard_ended (eqb (length d.0.1) 0) (Malformed field.Rest) made x d.2 in
     let nothing : d.0.1 ≡ [] = nil_from_length d.0.1 (eqb-true _ _ g.0) in
     let ta = maybe_number.takes bytes a.0 bs a.1 in
     let tb = number_law.takes a.0.1 b.0 ta.1 b.1 in
-    let tc = way_list.takes b.0.1 c.0 tb.1 c.1 in
+    let tc = transition_list.takes b.0.1 c.0 tb.1 c.1 in
     let td = structures_takes c.0.1 d.0 tc.1 d.1 in
     let e1 = in_front bytes (optional number a.0.0) a.0.1 (number b.0.0) b.0.1 ta.0 tb.0 in
-    let e2 = in_front bytes (optional number a.0.0 ++ number b.0.0) b.0.1 (several spelt.way c.0.0) c.0.1 e1 tc.0 in
-    let e0 = in_front bytes (optional number a.0.0 ++ number b.0.0 ++ several spelt.way c.0.0) c.0.1 (several spelt.structure d.0.0) d.0.1 e2 td.0 in
+    let e2 = in_front bytes (optional number a.0.0 ++ number b.0.0) b.0.1 (several spelt.transition c.0.0) c.0.1 e1 tc.0 in
+    let e0 = in_front bytes (optional number a.0.0 ++ number b.0.0 ++ several spelt.transition c.0.0) c.0.1 (several spelt.structure d.0.0) d.0.1 e2 td.0 in
     let whole : bytes ≡ spelt.run made = e0 ∙ ap (λ (t : List ℕ). spelt.run made ++ t) nothing ∙ append-nil (spelt.run made) in
     subst (λ (y : RunFields). (bytes ≡ spelt.run y) × RunFits y) g.1 (whole, (ta.2, tb.2, tc.2, td.2))
 
@@ -237,13 +237,13 @@ unfolding run_at
 run_again r few h =
     let a = optional number r.from in
     let b = number r.end in
-    let c = several spelt.way r.ways in
+    let c = several spelt.transition r.transitions in
     let d = several spelt.structure r.structures in
     let regrouped : spelt.run r ≡ a ++ (b ++ (c ++ (d ++ []))) =
     sym (append-nil (spelt.run r)) ∙ append_assoc (a ++ b ++ c) d [] ∙ append_assoc (a ++ b) c (d ++ []) ∙ append_assoc a b (c ++ (d ++ [])) in
     ap run_at regrouped ∙ rw (
       maybe_number.again r.from (b ++ (c ++ (d ++ []))) h.0,
       number_law.again r.end (c ++ (d ++ [])) h.1,
-      way_list.again r.ways (d ++ []) h.2,
+      transition_list.again r.transitions (d ++ []) h.2,
       structures_again r.structures [] few h.3,
     ) refl

@@ -15,7 +15,7 @@ use Rattle.jx_reduce.specs.declared.parts.StructureRef.{StructureRef}
 use Rattle.jx_run.specs.OutcomeRun.{OutcomeRunValue, run_of_parts, IsFormWithin, IsOutcomeRun, IsWellFormed}
 use Rattle.jx_portion.specs.Fields.{RunFields, StructureFields, behind_fields, behind_seen, run_fields, structure_fields, structure_seen}
 use Rattle.jx_portion.specs.Portion.{PortionValue, portion_in, structure_in, IsAnswer, IsMemory, IsPortion, IsRecord, IsRun, IsSpelt, OnlyParts}
-use Rattle.jx_run.specs.declared.way.Way.{Way}
+use Rattle.jx_run.specs.declared.runs.transition.Transition.{Transition}
 use Rattle.jx_portion.specs.declared.fault.DecodeFault.{DecodeFault}
 use Rattle.jx_portion.specs.declared.fault.DecodeFault.TheVariants as refused
 use Rattle.jx_portion.specs.declared.fault.RunFault.{RunFault}
@@ -80,10 +80,10 @@ structures_again d (s ∷ ss) a b =
     ap (λ (x : StructureValue). x ∷ map (structure_in d) (map fields_of ss)) e ∙ ap (λ (xs : List StructureValue). s ∷ xs) (structures_again d ss a.1 b.1)
 
 abbrev with_start : OutcomeRunValue → ℕ → OutcomeRunValue
-with_start v n = record { depth = v.depth; start = n; end = v.end; ways = v.ways; structures = v.structures }
+with_start v n = record { depth = v.depth; start = n; end = v.end; transitions = v.transitions; structures = v.structures }
 
-run_again : (v : OutcomeRunValue) → v.start ≡ 0 → map (structure_in v.depth) (map fields_of v.structures) ≡ v.structures → run_of_parts v.depth v.end v.ways (map (structure_in v.depth) (map fields_of v.structures)) ≡ v
-run_again v start e = ap (run_of_parts v.depth v.end v.ways) e ∙ ap (λ (n : ℕ). with_start v n) (sym start)
+run_again : (v : OutcomeRunValue) → v.start ≡ 0 → map (structure_in v.depth) (map fields_of v.structures) ≡ v.structures → run_of_parts v.depth v.end v.transitions (map (structure_in v.depth) (map fields_of v.structures)) ≡ v
+run_again v start e = ap (run_of_parts v.depth v.end v.transitions) e ∙ ap (λ (n : ℕ). with_start v n) (sym start)
 
 pub encoded : (from : Option ℕ) (v : OutcomeRunValue) (r : List ℕ) → v.start ≡ 0 → IsWellFormed v → unwrap_or from 0 + v.end < 2 ^ 64 → AllByRecursion IsSaid v.structures → RunFits (run_said from v)
     → v.depth ≤ 65535 → 56 + length (run (run_said from v)) < 2 ^ 64 → r ≡ spelling v.depth (run_said from v) → (bytes : List ℕ) → IsOutcomeRun bytes v → IsRecord bytes from v.depth r
@@ -126,12 +126,12 @@ parts_are d (p ∷ ps) = ap (λ (x : StructureValue). x ∷ map (structure_in d)
 abbrev pub with_from : Option ℕ → OutcomeRunValue → PortionValue
 with_from from v = record { from = from; run = v }
 
-pub read_is : (d : ℕ) (from : Option ℕ) (end : ℕ) (ways : List Way) (ps : List StructureParts) (ss : List StructureValue) (v : OutcomeRunValue) → ss ≡ map (structure_of_parts d) ps → AllByRecursion IsSound ss
-    → IsWellFormed (run_of_parts d end ways ss) → v ≡ run_of_parts d end ways ss → unwrap_or from 0 + end < 2 ^ 64
-    → (with_from from v ≡ portion_in d (record { from = from; end = end; ways = ways; structures = map structure_fields ps })) × IsRun d (record { from = from; end = end; ways = ways; structures = map structure_fields ps })
-read_is d from end ways ps ss v e sound kept v-is place =
+pub read_is : (d : ℕ) (from : Option ℕ) (end : ℕ) (transitions : List Transition) (ps : List StructureParts) (ss : List StructureValue) (v : OutcomeRunValue) → ss ≡ map (structure_of_parts d) ps → AllByRecursion IsSound ss
+    → IsWellFormed (run_of_parts d end transitions ss) → v ≡ run_of_parts d end transitions ss → unwrap_or from 0 + end < 2 ^ 64
+    → (with_from from v ≡ portion_in d (record { from = from; end = end; transitions = transitions; structures = map structure_fields ps })) × IsRun d (record { from = from; end = end; transitions = transitions; structures = map structure_fields ps })
+read_is d from end transitions ps ss v e sound kept v-is place =
     let same : ss ≡ map (structure_in d) (map structure_fields ps) = e ∙ sym (parts_are d ps) in
-    (ap (with_from from) (v-is ∙ ap (run_of_parts d end ways) same), record { structures = subst (AllByRecursion IsSound) same sound; run = subst (λ (l : List StructureValue). IsWellFormed (run_of_parts d end ways l)) same kept; place = place })
+    (ap (with_from from) (v-is ∙ ap (run_of_parts d end transitions) same), record { structures = subst (AllByRecursion IsSound) same sound; run = subst (λ (l : List StructureValue). IsWellFormed (run_of_parts d end transitions l)) same kept; place = place })
 
 pub only_weaker : (e : DecodeFault) (P Q : Type 0) → (Q → P) → OnlyParts e P → OnlyParts e Q
 only_weaker refused.Memory P Q f h = tt
@@ -140,8 +140,8 @@ only_weaker (refused.Fault g) P Q f h = (h.0, λ q. h.1 (f q))
 pub sound_again : (d : ℕ) (r : RunParts) → IsRun d (run_fields r) → AllByRecursion IsSound (map (structure_of_parts d) r.structures.items)
 sound_again d r h = subst (AllByRecursion IsSound) (parts_are d r.structures.items) h.structures
 
-pub kept_again : (d : ℕ) (r : RunParts) (ss : List StructureValue) → ss ≡ map (structure_of_parts d) r.structures.items → IsRun d (run_fields r) → IsWellFormed (run_of_parts d r.end r.ways.items ss)
-kept_again d r ss e h = subst (λ (l : List StructureValue). IsWellFormed (run_of_parts d r.end r.ways.items l)) (parts_are d r.structures.items ∙ sym e) h.run
+pub kept_again : (d : ℕ) (r : RunParts) (ss : List StructureValue) → ss ≡ map (structure_of_parts d) r.structures.items → IsRun d (run_fields r) → IsWellFormed (run_of_parts d r.end r.transitions.items ss)
+kept_again d r ss e h = subst (λ (l : List StructureValue). IsWellFormed (run_of_parts d r.end r.transitions.items l)) (parts_are d r.structures.items ∙ sym e) h.run
 
 -- ---- what reading a record answers
 

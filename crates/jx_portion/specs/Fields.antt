@@ -11,7 +11,7 @@ use Rattle.jx_reduce.specs.declared.parts.RestParts.{RestParts}
 use Rattle.jx_reduce.specs.declared.parts.RestRef.{RestRef}
 use Rattle.jx_reduce.specs.declared.parts.StructureParts.{StructureParts}
 use Rattle.jx_reduce.specs.declared.parts.StructureRef.{StructureRef}
-use Rattle.jx_run.specs.declared.way.Way.{Way}
+use Rattle.jx_run.specs.declared.runs.transition.Transition.{Transition}
 use Rattle.jx_portion.specs.declared.record.RunParts.{RunParts}
 
 -- open containers stand outermost first
@@ -33,7 +33,7 @@ pub record StructureFields : Type 0 where
 pub record RunFields : Type 0 where
   pub from : Option ℕ
   pub end : ℕ
-  pub ways : List Way
+  pub transitions : List Transition
   pub structures : List StructureFields
 
 abbrev pub form_fields : FormParts → FormFields
@@ -50,7 +50,7 @@ abbrev pub structure_fields : StructureParts → StructureFields
 structure_fields p = record { string = p.string; rest = behind_fields p.rest }
 
 abbrev pub run_fields : RunParts → RunFields
-run_fields p = record { from = p.from; end = p.end; ways = p.ways.items; structures = map structure_fields p.structures.items }
+run_fields p = record { from = p.from; end = p.end; transitions = p.transitions.items; structures = map structure_fields p.structures.items }
 
 -- the same of borrowed parts
 abbrev pub form_seen : FormRef → FormFields

@@ -64,7 +64,7 @@ abbrev pub structure_in : ℕ → StructureFields → StructureValue
 structure_in d s = record { depth = d; head = string_head s.string ++ fields_head s.rest; tail = fields_tail s.rest }
 
 abbrev pub portion_in : ℕ → RunFields → PortionValue
-portion_in d r = record { from = r.from; run = run_of_parts d r.end r.ways (map (structure_in d) r.structures) }
+portion_in d r = record { from = r.from; run = run_of_parts d r.end r.transitions (map (structure_in d) r.structures) }
 
 -- a run has these parts
 pub record IsRun (d : ℕ) (r : RunFields) : Type 0 where

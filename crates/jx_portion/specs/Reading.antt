@@ -9,7 +9,7 @@ use Rattle.jx_portion.specs.declared.fault.RunFault.{RunFault}
 use Rattle.jx_portion.specs.declared.fault.RunFault.TheVariants.{CutShort, Damaged, Malformed, NotARun, OtherVersion}
 use Rattle.jx_reduce.specs.declared.ended_level.EndedLevel.{EndedLevel}
 use Rattle.jx_reduce.specs.declared.entry.Entry.{Entry}
-use Rattle.jx_run.specs.declared.way.Way.{Way}
+use Rattle.jx_run.specs.declared.runs.transition.Transition.{Transition}
 use Rattle.jx_portion.specs.Choices.{entries, flags, holders, kinds}
 use Rattle.sha2.specs.Sha256.{sha256}
 use Rattle.jx_portion.specs.Spelling.{tag}
@@ -116,8 +116,8 @@ exit_at bytes = do
       state ← state_at flag.1
       Ok (exits.State state.0, state.1))
 
-unfoldable pub way_at : List ℕ → Result (Way × List ℕ) RunFault
-way_at bytes = do
+unfoldable pub transition_at : List ℕ → Result (Transition × List ℕ) RunFault
+transition_at bytes = do
   exit ← exit_at bytes
   structure ← number_at exit.1
   Ok (record { exit = exit.0; structure = structure.0 }, structure.1)
@@ -154,9 +154,9 @@ unfoldable pub run_at : List ℕ → Result RunFields RunFault
 run_at bytes = do
   from ← optional_at number_at bytes
   end ← number_at from.1
-  ways ← several_at way_at end.1
-  structures ← structures_at ways.1
-  if length structures.1 == 0 then Ok (record { from = from.0; end = end.0; ways = ways.0; structures = structures.0 }) else Err (Malformed field.Rest)
+  transitions ← several_at transition_at end.1
+  structures ← structures_at transitions.1
+  if length structures.1 == 0 then Ok (record { from = from.0; end = end.0; transitions = transitions.0; structures = structures.0 }) else Err (Malformed field.Rest)
 
 -- ---- a record as a whole
 

@@ -10,7 +10,7 @@ use Rattle.jx_lex.specs.declared.alphabet.mark.Mark.{Mark}
 use Rattle.jx_reduce.specs.declared.level.Level.{Level}
 use Rattle.jx_reduce.specs.declared.ended_level.EndedLevel.{EndedLevel}
 use Rattle.jx_reduce.specs.declared.entry.Entry.{Entry}
-use Rattle.jx_run.specs.declared.way.Way.{Way}
+use Rattle.jx_run.specs.declared.runs.transition.Transition.{Transition}
 use Rattle.jx_portion.specs.Fields.{FormFields, RestFields, StructureFields, RunFields}
 use Rattle.jx_reduce.specs.declared.holder.Holder.{Holder}
 use Rattle.jx_portion.specs.Choices.{holder_number, kind_number}
@@ -49,8 +49,8 @@ abbrev pub exit : LexExit → List ℕ
 exit (State s) = 0 ∷ ordinal s ∷ []
 exit (Fault at) = 1 ∷ number at
 
-abbrev pub way : Way → List ℕ
-way w = exit w.exit ++ number w.structure
+abbrev pub transition : Transition → List ℕ
+transition w = exit w.exit ++ number w.structure
 
 abbrev pub form : FormFields → List ℕ
 form f = several ended f.ended ++ level f.last ++ several holder f.opens ++ optional entry f.exit ++ several number f.heights
@@ -63,7 +63,7 @@ structure s = optional number s.string ++ optional rest s.rest
 
 -- between the head and the digest
 abbrev pub run : RunFields → List ℕ
-run r = optional number r.from ++ number r.end ++ several way r.ways ++ several structure r.structures
+run r = optional number r.from ++ number r.end ++ several transition r.transitions ++ several structure r.structures
 
 -- ---- a record as a whole
 
@@ -107,8 +107,8 @@ abbrev pub ExitFits : LexExit → Type 0
 ExitFits (State s) = Unit {0}
 ExitFits (Fault at) = IsNumber at
 
-abbrev pub WayFits : Way → Type 0
-WayFits w = ExitFits w.exit × IsNumber w.structure
+abbrev pub TransitionFits : Transition → Type 0
+TransitionFits w = ExitFits w.exit × IsNumber w.structure
 
 -- what one byte tells
 abbrev pub Any : {A : Type 0} → A → Type 0
@@ -124,4 +124,4 @@ abbrev pub StructureFits : StructureFields → Type 0
 StructureFits s = IfThere IsNumber s.string × IfThere RestFits s.rest
 
 abbrev pub RunFits : RunFields → Type 0
-RunFits r = IfThere IsNumber r.from × IsNumber r.end × AreSpelt WayFits r.ways × AreSpelt StructureFits r.structures
+RunFits r = IfThere IsNumber r.from × IsNumber r.end × AreSpelt TransitionFits r.transitions × AreSpelt StructureFits r.structures

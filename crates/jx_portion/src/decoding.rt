@@ -42,14 +42,14 @@ fn portion_of(alloc: Global, depth: Depth, parts: RunParts) -> Result<Portion, D
     let RunParts {
         from,
         end,
-        ways,
+        transitions,
         structures,
     } = parts;
     let structures = structures_of(alloc, depth, structures)?;
     if from.unwrap_or(0).checked_add(end).is_none() {
         return Err(DecodeFault::Fault(RunFault::Malformed(Field::Parts)));
     }
-    match OutcomeRun::of_parts(depth, end, ways, structures) {
+    match OutcomeRun::of_parts(depth, end, transitions, structures) {
         Some(run) => Ok(Portion { from, run }),
         None => Err(DecodeFault::Fault(RunFault::Malformed(Field::Parts))),
     }

@@ -49,7 +49,7 @@ fn body_of(alloc: Global, from: Option<usize>, whole: &OutcomeRun) -> Result<Vec
     let mut body = Vec::new(alloc);
     put_optional(from, &mut body)?;
     whole.span().end.put(&mut body)?;
-    put_several(whole.ways(), &mut body)?;
+    put_several(whole.transitions(), &mut body)?;
     put_structures(whole.structures(), &mut body)?;
     Ok(body)
 }

@@ -1,14 +1,14 @@
-// The fields of structures and ways.
+// The fields of structures and transitions.
 ghost use Rattle.std.specs.Prelude.{◌≡◌};
-ghost use Rattle.jx_portion.specs.Reading.{ended_at, exit_at, level_at, mark_at, way_at};
-ghost use Rattle.jx_portion.specs.Spelling.{ended, exit, level, mark, way, EndedFits, ExitFits, LevelFits, MarkFits, WayFits};
+ghost use Rattle.jx_portion.specs.Reading.{ended_at, exit_at, level_at, mark_at, transition_at};
+ghost use Rattle.jx_portion.specs.Spelling.{ended, exit, level, mark, transition, EndedFits, ExitFits, LevelFits, MarkFits, TransitionFits};
 
 use crate::choices::flag_of;
 use crate::fault::DecodeFault;
 use crate::spelt::{Spelt, put_optional, read_optional};
 use jx_lex::{LexExit, LexState, Mark, MarkKind};
 use jx_reduce::{EndedLevel, Level};
-use jx_run::Way;
+use jx_run::Transition;
 use std::alloc::AllocError;
 
 impl Spelt for Level {
@@ -118,22 +118,22 @@ impl Spelt for LexExit {
     }
 }
 
-impl Spelt for Way {
-    ghost spelling = { way };
+impl Spelt for Transition {
+    ghost spelling = { transition };
 
-    ghost reading = { way_at };
+    ghost reading = { transition_at };
 
-    ghost fits = { WayFits };
+    ghost fits = { TransitionFits };
 
     fn put(self, out: &mut Vec<u8>) -> Result<(), AllocError> {
         self.exit.put(out)?;
         self.structure.put(out)
     }
 
-    #[tactic(auto, unfolding(crate::specs::Reading::way_at))]
-    fn read(bytes: &[u8]) -> Result<(Way, &[u8]), DecodeFault> {
+    #[tactic(auto, unfolding(crate::specs::Reading::transition_at))]
+    fn read(bytes: &[u8]) -> Result<(Transition, &[u8]), DecodeFault> {
         let (exit, rest) = LexExit::read(bytes)?;
         let (structure, rest) = usize::read(rest)?;
-        Ok((Way { exit, structure }, rest))
+        Ok((Transition { exit, structure }, rest))
     }
 }

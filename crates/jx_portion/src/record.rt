@@ -9,7 +9,7 @@ use crate::forms::structure_of;
 use crate::spelt::{Spelt, read_optional, read_several};
 use jx_lex::Depth;
 use jx_reduce::StructureParts;
-use jx_run::Way;
+use jx_run::Transition;
 use sha2::{Digest, Sha256};
 use std::alloc::Global;
 
@@ -37,7 +37,7 @@ pub struct Head {
 pub(crate) struct RunParts {
     pub(crate) from: Option<usize>,
     pub(crate) end: usize,
-    pub(crate) ways: Vec<Way>,
+    pub(crate) transitions: Vec<Transition>,
     pub(crate) structures: Vec<StructureParts>,
 }
 
@@ -160,7 +160,7 @@ fn run_of(alloc: Global, bytes: &[u8]) -> Result<RunParts, DecodeFault>
 {
     let (from, rest) = read_optional(bytes)?;
     let (end, rest) = usize::read(rest)?;
-    let (ways, rest) = read_several(alloc, rest)?;
+    let (transitions, rest) = read_several(alloc, rest)?;
     let (structures, rest) = several_structures(alloc, rest)?;
     if !rest.is_empty() {
         return Err(DecodeFault::Fault(RunFault::Malformed(Field::Rest)));
@@ -168,7 +168,7 @@ fn run_of(alloc: Global, bytes: &[u8]) -> Result<RunParts, DecodeFault>
     Ok(RunParts {
         from,
         end,
-        ways,
+        transitions,
         structures,
     })
 }

@@ -12,7 +12,7 @@ use crate::holder::Holder;
 use crate::moves::next;
 use crate::open_containers::OpenContainers;
 use crate::whole::Whole;
-use jx_lex::{Depth, Keeper, Mark, MarkKind};
+use jx_lex::{Depth, Mark, MarkKind};
 use std::alloc::{AllocError, Global};
 use std::marker::Model;
 
@@ -220,27 +220,5 @@ impl KnownStack {
     {
         self.step_all(marks)?;
         Ok(())
-    }
-}
-
-impl Keeper for KnownStack {
-    ghost use Rattle.jx_reduce.specs.KnownStack.{HasRead};
-
-    ghost has_seen = { λ stack marks ends. HasRead marks stack };
-
-    #[inline(always)]
-    fn begin(&mut self, mark: Mark) -> Result<(), AllocError> {
-        self.push(mark)?;
-        Ok(())
-    }
-
-    #[inline(always)]
-    fn end(&mut self, _at: usize) -> Result<(), AllocError> {
-        Ok(())
-    }
-
-    #[inline(always)]
-    fn is_done(&self) -> bool {
-        KnownStack::is_done(self)
     }
 }

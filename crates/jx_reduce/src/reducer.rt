@@ -11,7 +11,7 @@ ghost use Rattle.jx_lex.specs.declared.alphabet.mark.Mark.{Mark};
 use crate::quiet::Limits;
 use crate::reductions::Reductions;
 use crate::structure::{Making, Structure};
-use jx_lex::{Depth, Keeper, Mark};
+use jx_lex::{Depth, Mark};
 use std::alloc::{AllocError, Global};
 use std::marker::Model;
 use std::mem;
@@ -168,27 +168,5 @@ impl Reducer {
     {
         let structure = self.into_structure()?;
         Reductions::of_structure(&structure)
-    }
-}
-
-impl Keeper for Reducer {
-    ghost use Rattle.jx_reduce.specs.Reducer.{HasReduced};
-
-    ghost has_seen = { λ reducer marks ends. HasReduced marks reducer };
-
-    #[inline(always)]
-    fn begin(&mut self, mark: Mark) -> Result<(), AllocError> {
-        self.push(mark)?;
-        Ok(())
-    }
-
-    #[inline(always)]
-    fn end(&mut self, _at: usize) -> Result<(), AllocError> {
-        Ok(())
-    }
-
-    #[inline(always)]
-    fn is_done(&self) -> bool {
-        self.is_over()
     }
 }

@@ -1,9 +1,9 @@
 -- In a text that is accepted by settings, what is written for pointers whatever names its objects have is what is written by settings.
 use Rattle.std.proofs.Common.{◌≡◌, ℕ, List, refl}
-use Rattle.jx_run.specs.declared.settings.NameRule.TheVariants.{Any}
-use Rattle.jx_run.specs.declared.settings.Settings.{Settings}
-use Rattle.jx_run.specs.declared.verdict.Verdict.{Verdict}
-use Rattle.jx_run.specs.declared.verdict.Verdict.TheVariants.{Accepted, Refused}
+use Rattle.jx_run.specs.declared.texts.settings.NameRule.TheVariants.{Any}
+use Rattle.jx_run.specs.declared.texts.settings.Settings.{Settings}
+use Rattle.jx_run.specs.declared.texts.verdict.Verdict.{Verdict}
+use Rattle.jx_run.specs.declared.texts.verdict.Verdict.TheVariants.{Accepted, Refused}
 use Rattle.jx_run.specs.Settings.{IsDocumentBy}
 use Rattle.jx_run.specs.Tree.{Tree}
 use Rattle.jx_index.specs.ByNames.{IsVerdictBy, a_text}

@@ -2,7 +2,6 @@ mod Answers
 mod AnyNames
 mod BatchSteps
 mod ElementSteps
-mod FrontSteps
 mod LineSteps
 mod OneOutput
 mod PointerSteps

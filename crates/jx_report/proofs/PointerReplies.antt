@@ -1,26 +1,20 @@
--- The replies for one pointer and for several into a text that is read once, and for many by its index.
+-- The replies for one pointer and for several into a text that is read once.
 use Rattle.std.proofs.Common.{◌≡◌, ℕ, List, [], ◌∷◌, append-nil, refl, sym, ap, subst, ◌∙◌}
 use Rattle.std.specs.Prelude.{Option, None, Some, Result, Ok, Err}
-use Rattle.std.specs.List.{AllZip}
-use Rattle.jx_run.specs.declared.settings.Settings.{Settings}
-use Rattle.jx_run.specs.declared.verdict.Verdict.TheVariants.{Accepted}
-use Rattle.jx_run.specs.Text.{IsText}
+use Rattle.jx_run.specs.declared.texts.settings.Settings.{Settings}
+use Rattle.jx_run.specs.declared.texts.verdict.Verdict.TheVariants.{Accepted}
 use Rattle.jx_run.specs.Tree.{Tree}
 use Rattle.jx_index.specs.declared.find_fault.FindFault.{FindFault}
 use Rattle.jx_index.specs.declared.finder.Found.{Found}
 use Rattle.jx_index.specs.declared.pointer.PointerFault.{PointerFault}
 use Rattle.jx_index.specs.ByNames.{IsVerdictBy}
 use Rattle.jx_index.specs.Found.{AreFoundIn, found_of, IsFoundBy}
-use Rattle.jx_index.specs.Indexed.{IndexedValue}
-use Rattle.jx_index.specs.Leads.{HasRow, Numbered, leads, led, number_of}
+use Rattle.jx_index.specs.Leads.{HasRow, Numbered, led, number_of}
 use Rattle.jx_index.specs.Pointers.{tokens}
 use Rattle.jx_index.specs.Rows.{rows}
-use Rattle.jx_answer.specs.declared.find_answer.Answer.{Answer}
-use Rattle.jx_answer.specs.declared.find_answer.Answer.TheVariants as indexed
-use Rattle.jx_answer.specs.Found as found
 use Rattle.jx_report.specs.declared.exit.Exit.TheVariants.{Good}
 use Rattle.jx_report.specs.declared.pointer_answer.PointerAnswer.{PointerAnswer}
-use Rattle.jx_report.specs.inside.ReadPointers.{AreReadPointers, IsReadPointer, answer_by, answer_in, each_answer}
+use Rattle.jx_report.specs.inside.ReadPointers.{AreReadPointers, IsReadPointer, answer_in, each_answer}
 use Rattle.jx_report.specs.inside.Replies.{exit_past_lines, pointer_lines}
 use Rattle.jx_report.specs.Output.{AnswersPointers, TextOutput}
 use Rattle.jx_report.specs.Pointers.{IsAnswerTo, answer_words, exit_after, PointerLines, no_pointer, one_more}
@@ -73,24 +67,3 @@ pointers_reply law settings text spelt pointers unread found items read accepted
     lines_for text x.tree answer_in (λ (p : List ℕ) (one : Result Found FindFault). one ≡ found_of (led text x.tree (tokens p))) (answer_is law text x.tree)
     spelt pointers unread found items read x.found_are e in
     (Accepted, accepted, (x.tree, x.is_text, lines))
-
--- ---- by an index
-
-module _ (index : IndexedValue) (limit : ℕ) (tree : Tree) (t : IsText index.text index.span.start index.span.end limit tree) (rows_are : index.rows ≡ rows tree) where
-  by_index : (spelt pointer : List ℕ) (unread : Option PointerFault) (one : Answer) → IsReadPointer spelt pointer unread → found.IsAnswerTo index pointer one
-      → IsAnswerTo index.text tree spelt (answer_by unread one)
-  by_index spelt pointer (Some fault) one h k = h
-  by_index spelt pointer None (indexed.Found node kind span) h k =
-      record {
-        is_pointer = h.0;
-        node = node;
-        leads_there = ap (λ (p : List ℕ). leads index.text tree (tokens p)) (sym h.1) ∙ sym (k.0 limit tree t);
-        there = subst (λ rs. found.HasRowAt rs node kind span) rows_are k.1;
-      }
-  by_index spelt pointer None (indexed.Fault fault) h k = (h.0, ap (λ (p : List ℕ). leads index.text tree (tokens p)) (sym h.1) ∙ sym (k limit tree t))
-
-  pub index_lines : (spelt pointers : List (List ℕ)) (unread : List (Option PointerFault)) (told : List Answer) (items : List PointerAnswer)
-      → AreReadPointers spelt pointers unread → AllZip (found.IsAnswerTo index) pointers told → items ≡ each_answer answer_by unread told
-      → PointerLines index.text tree spelt (pointer_lines items) (exit_past_lines Good items)
-  index_lines spelt pointers unread told items read answered e =
-      lines_for index.text tree answer_by (found.IsAnswerTo index) by_index spelt pointers unread told items read answered e

@@ -1,26 +1,17 @@
 -- A text sequence is read batch by batch.
-use Rattle.std.proofs.Common.{◌≡◌, ◌≢◌, ℕ, ◌+◌, ◌-◌, ◌≤◌, List, [], ◌∷◌, ◌++◌, length, Bool, Option, sym, ap, subst, ◌∙◌, inl, inr, arith, append-nil}
+use Rattle.std.proofs.Common.{◌≡◌, ℕ, ◌+◌, ◌-◌, ◌≤◌, List, [], ◌∷◌, ◌++◌, length, take, drop, refl, sym, ap, ◌∙◌, arith, append_assoc, append-nil}
 use Rattle.std.specs.Prelude.{slice_range}
-use Rattle.std.specs.List.{AllZip}
-use Rattle.std.proofs.lemmas.List.{take_all, length-append}
-use Rattle.std.proofs.lemmas.List.Edits.{length-between}
-use Rattle.jx_summary.specs.declared.span.Span.{Span}
-use Rattle.jx_run.specs.declared.element_verdict.JudgedElement.{JudgedElement}
-use Rattle.jx_run.specs.declared.settings.Front.{Front}
-use Rattle.jx_run.specs.declared.settings.FrontMark.TheVariants.{Ignored}
-use Rattle.jx_run.specs.declared.verdict.Verdict.{Verdict}
-use Rattle.jx_run.specs.Elements.{Part}
+use lib.Seq.{take-add}
+use Rattle.std.proofs.lemmas.List.{take_all}
+use Rattle.jx_run.specs.declared.texts.settings.FrontMark.{FrontMark}
 use Rattle.jx_run.specs.Front.{front_of}
-use Rattle.jx_run.specs.SequenceRead.{ended_there, listed}
-use Rattle.jx_report.specs.inside.Batches.{ShowsFront}
-use Rattle.jx_report.proofs.BatchSteps.{up_to}
-use Rattle.jx_report.proofs.FrontSteps.{front_stays}
 
--- the element that goes on, as one that ends, comes behind the others
-pub with_ended : (R : Part → JudgedElement → Type 0) (ps : List Part) (js next : List JudgedElement) (s t : Span) (v : Verdict) (loose : Bool) (o : Option JudgedElement)
-    → AllZip R ps (js ++ listed (ended_there s v loose)) → t ≡ s → o ≡ ended_there t v loose → next ≡ js ++ listed o → AllZip R ps next
-with_ended R ps js next s t v loose o z same is e =
-    subst (λ (xs : List JudgedElement). AllZip R ps xs) (sym (e ∙ ap (λ (x : Option JudgedElement). js ++ listed x) (is ∙ ap (λ (y : Span). ended_there y v loose) same))) z
+-- the part up to an offset, and what stands from there up to another
+up_to : (bytes text : List ℕ) (done end : ℕ) → done ≤ end → (bytes ++ take done text) ++ slice_range text done end ≡ bytes ++ take end text
+up_to bytes text done end h =
+    let sum : done + (end - done) ≡ end = omega (arith, h) in
+    append_assoc bytes (take done text) (take (end - done) (drop done text))
+    ∙ ap (λ xs. bytes ++ xs) (sym (take-add done (end - done) text) ∙ ap (λ (n : ℕ). take n text) sum)
 
 -- what stands before, between and behind two offsets
 pub three_parts : (text bytes : List ℕ) (i j : ℕ) → i ≤ j → j ≤ length bytes
@@ -32,24 +23,10 @@ three_parts text bytes i j h k =
     ∙ up_to text bytes j (length bytes) k
     ∙ ap (λ (xs : List ℕ). text ++ xs) (take_all (length bytes) bytes (omega arith))
 
--- what stands in front shows in the first batch
-pub fronts : (text batch : List ℕ) (total : ℕ) (old new : Front) → total ≡ length text → ShowsFront text → old ≡ front_of Ignored text → (total ≡ 0 → new ≡ front_of Ignored batch)
-    → (total ≢ 0 → new ≡ old) → new ≡ front_of Ignored (text ++ batch)
-fronts [] batch total old new long (inl z) is first later = first long
-fronts (x ∷ xs) batch total old new long (inl z) is first later = absurd (omega (arith, z))
-fronts text batch total old new long (inr h) is first later =
-    let more : total ≢ 0 = omega (arith, long, h) in
-    later more ∙ is ∙ sym (front_stays Ignored text batch h)
-
-pub first_long : (text bytes : List ℕ) (i : ℕ) → i ≤ length bytes → length (text ++ slice_range bytes 0 i) ≡ length text + i
-first_long text bytes i h =
-    let part : length (slice_range bytes 0 i) ≡ i - 0 = length-between bytes 0 i h in
-    let sum = length-append text (slice_range bytes 0 i) in
-    omega (arith, part, sum)
-
-pub parts_long : (text bytes : List ℕ) (i j : ℕ) → i ≤ j → j ≤ length bytes
-    → length ((text ++ slice_range bytes 0 i) ++ slice_range bytes i j) + length (slice_range bytes j (length bytes)) ≡ length text + length bytes
-parts_long text bytes i j h k =
-    sym (length-append ((text ++ slice_range bytes 0 i) ++ slice_range bytes i j) (slice_range bytes j (length bytes)))
-    ∙ ap length (three_parts text bytes i j h k)
-    ∙ length-append text bytes
+-- what stands in front of a text shows in its first three bytes
+pub front_shows : ((m : FrontMark) (text more : List ℕ) → 3 ≤ length text → front_of m (text ++ more) ≡ front_of m text)
+    → (m : FrontMark) (text : List ℕ) → front_of m (take 3 text) ≡ front_of m text
+front_shows stays m [] = refl
+front_shows stays m (a ∷ []) = refl
+front_shows stays m (a ∷ b ∷ []) = refl
+front_shows stays m (a ∷ b ∷ c ∷ more) = sym (stays m (a ∷ b ∷ c ∷ []) more (omega arith))

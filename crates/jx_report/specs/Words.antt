@@ -3,8 +3,8 @@ use Rattle.std.specs.Prelude.{ℕ, List, [], ◌∷◌, ◌++◌, codes, decimal
 use Rattle.jx_lex.specs.declared.kind.Kind.{Kind}
 use Rattle.jx_lex.specs.declared.kind.Kind.TheVariants.{Object, Array, String, Number, True, False, Null}
 use Rattle.jx_summary.specs.declared.span.Span.{Span}
-use Rattle.jx_run.specs.declared.verdict.Refusal.{Refusal}
-use Rattle.jx_run.specs.declared.verdict.Refusal.TheVariants.{Stopped, Truncated, TooDeep, RepeatedName}
+use Rattle.jx_run.specs.declared.texts.verdict.Refusal.{Refusal}
+use Rattle.jx_run.specs.declared.texts.verdict.Refusal.TheVariants.{Stopped, Truncated, TooDeep, RepeatedName}
 
 -- words, then LF
 abbrev pub line : List ℕ → List ℕ

@@ -3,4 +3,3 @@ pub mod Batches
 pub mod ReadPointers
 pub mod Replies
 pub mod Room
-pub mod Sequences

@@ -1,34 +1,31 @@
 //! Reports: an input is read to its end, answered by several workers, and the output for it is written.
 #![tactic(auto)]
 
-mod batch;
-mod batch_check;
+mod answering;
 mod element_words;
 mod end;
 mod exit;
 mod laws;
-mod pieces;
 mod pointer_answer;
 mod pointer_reply;
 mod pointer_words;
 mod read_all;
+mod reading;
 mod reply;
 mod report_fault;
 mod reporting;
 mod row_words;
-mod sequence_check;
 mod sequence_reader;
 mod sink;
 mod source;
-mod text_check;
 mod words;
 mod write_all;
 mod writing;
 
-pub use batch::fill as fill_buffer;
 pub use end::End;
 pub use exit::Exit;
 pub use laws::outputs_are_one;
+pub use read_all::fill as fill_buffer;
 pub use report_fault::ReportFault;
 pub use reporting::{report, report_in_batches};
 pub use sink::Sink;

@@ -1,12 +1,11 @@
 // Pointers looked up in a text (RFC 6901).
 ghost use Rattle.std.specs.Prelude.{◌≡◌, ◌<◌, Some, length, map, slice_get, string_bytes, IfOk};
 ghost use Rattle.jx_report.specs.Pointers.{exit_after};
-ghost use Rattle.jx_report.specs.inside.ReadPointers.{answer_by, answer_in, each_answer, AreReadPointers, IsReadPointer};
+ghost use Rattle.jx_report.specs.inside.ReadPointers.{answer_in, each_answer, AreReadPointers, IsReadPointer};
 ghost use Rattle.jx_report.specs.inside.Replies.{exit_past_lines};
 ghost use Rattle.jx_report.specs.declared.exit.Exit.TheVariants.{Good};
 
 use crate::exit::Exit;
-use jx_answer::Answer;
 use jx_index::{FindFault, Found, Pointer, PointerFault};
 use jx_lex::{Kind, Span};
 use std::alloc::{AllocError, Global};
@@ -103,35 +102,6 @@ pub fn answers_in(
     let mut answers = Vec::with_capacity(alloc, unread.len())?;
     for at in 0..unread.len() {
         answers.push(answer_in(unread[at], found[at]))?;
-    }
-    Ok(answers)
-}
-
-/// What a string that was read as a pointer comes to by an index: why it is none, or what was found for it.
-fn answer_by(unread: Option<PointerFault>, found: Answer) -> PointerAnswer
-    ensures { result ≡ answer_by unread found }
-{
-    match unread {
-        Some(fault) => PointerAnswer::Unread(fault),
-        None => match found {
-            Answer::Found { kind, span, .. } => PointerAnswer::Found { kind, span },
-            Answer::Fault(fault) => PointerAnswer::Lost(fault),
-        },
-    }
-}
-
-/// What strings that were read as pointers come to by an index, in their order.
-pub fn answers_by(
-    alloc: Global,
-    unread: &[Option<PointerFault>],
-    found: &[Answer],
-) -> Result<Vec<PointerAnswer>, AllocError>
-    requires { length unread.now ≡ length found.now }
-    ensures { IfOk result (λ answers. answers.items ≡ each_answer answer_by unread.now found.now) }
-{
-    let mut answers = Vec::with_capacity(alloc, unread.len())?;
-    for at in 0..unread.len() {
-        answers.push(answer_by(unread[at], found[at]))?;
     }
     Ok(answers)
 }

@@ -1,4 +1,4 @@
-ghost use Rattle.std.specs.Prelude.{◌≡◌, ◌≢◌, ◌+◌, ◌<◌, ◌≤◌, ◌↔◌, false, true, length, take, drop, is_err, OnOk, IfOk, IfErr, IsErrOf, vec_len};
+ghost use Rattle.std.specs.Prelude.{◌≡◌, ◌≢◌, ◌+◌, ◌<◌, ◌≤◌, ◌↔◌, false, true, length, take, drop, vec_len, is_err, OnOk, IfOk, IfErr, IsErrOf};
 ghost use Rattle.std.specs.Io.KnownBytes.{Consumes, IsAtEnd};
 ghost use Rattle.jx_report.specs.Ends.{ReadsToEnd};
 
@@ -9,27 +9,30 @@ use std::io;
 
 /// The least room that is made for a read, in bytes. From here up to the greatest, room is made for as many bytes as there
 /// are already.
-pub(crate) const LEAST_STEP: usize = 16 * 1024;
+const LEAST_STEP: usize = 16 * 1024;
 
 /// The greatest room that is made for a read, in bytes.
-pub(crate) const GREATEST_STEP: usize = 1024 * 1024;
+const GREATEST_STEP: usize = 1024 * 1024;
 
-/// Lengthens `text` by zeros, unless it is longer than `filled` already.
-fn make_room(text: &mut Vec<u8>, filled: usize) -> Result<(), AllocError>
-    requires { filled ≤ vec_len text.old }
-    ensures room { OnOk result (filled < vec_len text.new) }
-    ensures front { take filled text.new.items ≡ take filled text.old.items }
+/// Lengthens the buffer by zeros, up to the limit, unless it is longer than `filled` already.
+fn make_room_within(buffer: &mut Vec<u8>, filled: usize, limit: usize) -> Result<(), AllocError>
+    requires filled { filled ≤ vec_len buffer.old }
+    requires within { vec_len buffer.old ≤ limit }
+    requires more { filled < limit }
+    ensures room { OnOk result (filled < vec_len buffer.new) }
+    ensures within { OnOk result (vec_len buffer.new ≤ limit) }
+    ensures front { take filled buffer.new.items ≡ take filled buffer.old.items }
 {
-    if filled < text.len() {
+    if filled < buffer.len() {
         return Ok(());
     }
-    let step = filled.clamp(LEAST_STEP, GREATEST_STEP);
-    text.reserve(step)?;
-    text.resize(filled + step, 0)
+    let step = filled.clamp(LEAST_STEP, GREATEST_STEP).min(limit - filled);
+    buffer.reserve(step)?;
+    buffer.resize(filled + step, 0)
 }
 
 /// Reads once, into the part of `text` from `at` on.
-pub(crate) fn read_at<R: Source>(reader: &mut R, text: &mut [u8], at: usize) -> io::Result<usize>
+fn read_at<R: Source>(reader: &mut R, text: &mut [u8], at: usize) -> io::Result<usize>
     requires room { at < length text.old }
     requires unfailed { R.has_failed reader.old ≡ false }
     ensures front { take at text.new ≡ take at text.old }
@@ -42,6 +45,37 @@ pub(crate) fn read_at<R: Source>(reader: &mut R, text: &mut [u8], at: usize) -> 
     reader.read(&mut text[at..])
 }
 
+/// Reads into the buffer until as many bytes as the limit says were read, or the end of input comes, and answers how many
+/// were.
+pub fn fill<S: Source>(
+    reader: &mut S,
+    buffer: &mut Vec<u8>,
+    limit: usize,
+) -> Result<usize, ReportFault>
+    requires unfailed { S.has_failed reader.old ≡ false }
+    requires within { vec_len buffer.old ≤ limit }
+    ensures room { IfOk result (λ filled. filled ≤ vec_len buffer.new) }
+    ensures within { IfOk result (λ _. vec_len buffer.new ≤ limit) }
+    ensures ok { IfOk result (λ filled. Consumes (S.remaining reader.old) (S.remaining reader.new)
+        (take filled buffer.new.items)) }
+    ensures end { IfOk result (λ filled. filled < limit → IsAtEnd (S.remaining reader.new)) }
+    ensures read { IsErrOf result ReportFault.Read ↔ (S.has_failed reader.new ≡ true) }
+    ensures going { IfOk result (λ _. S.has_failed reader.new ≡ false) }
+    ensures unwritten { IfErr result (λ fault. fault ≢ ReportFault.Write) }
+    ensures uncut { IfErr result (λ fault. fault ≢ ReportFault.Pieces) }
+{
+    let mut filled = 0;
+    while filled < limit {
+        make_room_within(buffer, filled, limit)?;
+        match read_at(reader, buffer, filled) {
+            Ok(0) => return Ok(filled),
+            Ok(count) => filled += count,
+            Err(_) => return Err(ReportFault::Read),
+        }
+    }
+    Ok(filled)
+}
+
 /// Reads to the end of input, and answers all bytes that it had.
 pub fn read_all<R: Source>(alloc: Global, reader: &mut R) -> Result<Vec<u8>, ReportFault>
     requires { R.has_failed reader.old ≡ false }
@@ -51,17 +85,7 @@ pub fn read_all<R: Source>(alloc: Global, reader: &mut R) -> Result<Vec<u8>, Rep
     ensures uncut { IfErr result (λ fault. fault ≢ ReportFault.Pieces) }
 {
     let mut text = Vec::new(alloc);
-    let mut filled = 0;
-    loop {
-        if make_room(&mut text, filled).is_err() {
-            return Err(ReportFault::Memory);
-        }
-        match read_at(reader, &mut text, filled) {
-            Ok(0) => break,
-            Ok(count) => filled += count,
-            Err(_) => return Err(ReportFault::Read),
-        }
-    }
+    let filled = fill(reader, &mut text, usize::MAX)?;
     text.truncate(filled);
     Ok(text)
 }

@@ -7,13 +7,13 @@ use crate::element_words::exit_of_elements;
 use crate::exit::Exit;
 use crate::pointer_answer::{PointerAnswer, exit_of_answers};
 use crate::pointer_reply::reply_for_pointers;
-use jx_answer::{judge_sequence_with, rows_of_text_with, verdict_of_text_with};
-use jx_book::Gate;
-use jx_claim::{Cutting, Workers};
+use jx_answer::{judge_sequence, rows_of_text, verdict_of_text};
+use jx_book::{Crew, Gate};
+use jx_claim::Cutting;
 use jx_index::Row;
 use jx_run::{JudgedElement, Settings, Verdict};
 use jx_task::{Command, Task};
-use std::alloc::{AllocError, Global};
+use std::alloc::AllocError;
 use std::sync::Wait;
 use std::thread::Threads;
 
@@ -56,89 +56,61 @@ fn exit_of_verdict(verdict: Verdict) -> Exit
 
 /// The reply for a text sequence: what its elements come to. Where there is one worker, it reads the sequence as one piece.
 fn sequence_reply<R: Threads + Wait + Sync, G: Gate + Sync>(
-    rt: &R,
-    alloc: Global,
-    command: &Command,
+    crew: &Crew<'_, R, G>,
+    settings: &Settings,
     text: &[u8],
     cutting: &Cutting,
-    gate: &G,
 ) -> Result<Reply, AllocError>
     requires cutting { cutting.now.len ≡ length text.now }
     requires front { cutting.now.front ≡ 0 }
-    ensures { IfOk result (λ reply. Output Seq command.now.settings text.now (reply_output reply) (reply_exit reply)) }
+    ensures { IfOk result (λ reply. Output Seq settings.now text.now (reply_output reply) (reply_exit reply)) }
 {
-    let Command {
-        settings,
-        workers,
-        ..
-    } = *command;
     let whole = Cutting::every(text.len(), text.len().max(1));
     let cutting = match &whole {
-        Ok(whole) if workers.count() == 1 => whole,
+        Ok(whole) if crew.workers.count() == 1 => whole,
         _ => cutting,
     };
-    match judge_sequence_with(rt, alloc, text, cutting, workers, &settings, gate) {
-        Ok(elements) => Ok(Reply::Elements(elements)),
-        Err(_) => Err(AllocError),
-    }
-}
-
-/// One worker.
-pub(crate) fn one_worker() -> Workers {
-    let Some(one) = Workers::new(1) else {
-        unreachable!()
-    };
-    one
+    let elements = judge_sequence(crew, text, cutting, settings)?;
+    Ok(Reply::Elements(elements))
 }
 
 /// The reply with the rows of a text, which one worker reads.
 fn rows_reply<R: Threads + Wait + Sync, G: Gate + Sync>(
-    rt: &R,
-    alloc: Global,
+    crew: &Crew<'_, R, G>,
     settings: &Settings,
     text: &[u8],
     cutting: &Cutting,
-    gate: &G,
 ) -> Result<Reply, AllocError>
     requires cutting { cutting.now.len ≡ length text.now }
     requires front { cutting.now.front ≡ 0 }
     ensures { IfOk result (λ reply. Output Index settings.now text.now (reply_output reply) (reply_exit reply)) }
 {
-    match rows_of_text_with(rt, alloc, text, cutting, one_worker(), settings, gate) {
-        Ok(Ok(rows)) => Ok(Reply::Rows(rows)),
-        Ok(Err(refusal)) => Ok(Reply::Verdict(Verdict::Refused(refusal))),
-        Err(_) => Err(AllocError),
+    match rows_of_text(crew, text, cutting, settings)? {
+        Ok(rows) => Ok(Reply::Rows(rows)),
+        Err(refusal) => Ok(Reply::Verdict(Verdict::Refused(refusal))),
     }
 }
 
 /// The reply to a command on an input; `Err` where memory is refused. One worker reads the text, in one pass from its start.
-/// That takes less time and memory than the runs of several workers and the rows that are then made of these. As many as the
-/// command says look pointers up in an index.
+/// That takes less time and memory than the runs of several workers and the rows that are then made of these.
 pub fn reply_to<R: Threads + Wait + Sync, G: Gate + Sync>(
-    rt: &R,
-    alloc: Global,
+    crew: &Crew<'_, R, G>,
     command: &Command,
     text: &[u8],
     cutting: &Cutting,
-    gate: &G,
 ) -> Result<Reply, AllocError>
     requires cutting { cutting.now.len ≡ length text.now }
     requires front { cutting.now.front ≡ 0 }
     ensures { IfOk result (λ reply. Output command.now.task command.now.settings text.now (reply_output reply) (reply_exit reply)) }
 {
-    let settings = command.settings;
-    let one = one_worker();
+    let settings = &command.settings;
     match &command.task {
         Task::Check => {
-            match verdict_of_text_with(rt, alloc, text, cutting, one, &settings, gate) {
-                Ok(verdict) => Ok(Reply::Verdict(verdict)),
-                Err(_) => Err(AllocError),
-            }
+            let verdict = verdict_of_text(crew, text, cutting, settings)?;
+            Ok(Reply::Verdict(verdict))
         }
-        Task::Index => rows_reply(rt, alloc, &settings, text, cutting, gate),
-        Task::At(pointers) => {
-            reply_for_pointers(rt, alloc, command, pointers, text, cutting, gate)
-        }
-        Task::Seq => sequence_reply(rt, alloc, command, text, cutting, gate),
+        Task::Index => rows_reply(crew, settings, text, cutting),
+        Task::At(pointers) => reply_for_pointers(crew, settings, pointers, text, cutting),
+        Task::Seq => sequence_reply(crew, settings, text, cutting),
     }
 }

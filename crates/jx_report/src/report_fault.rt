@@ -1,3 +1,6 @@
+ghost use Rattle.std.specs.Prelude.{◌≡◌};
+
+use std::alloc::AllocError;
 use thiserror::Error;
 
 /// Why a report gave no answer.
@@ -15,4 +18,14 @@ pub enum ReportFault {
     /// The input has more than 4,294,967,295 pieces. Nothing was written, and memory was taken for the reading alone.
     #[error("jx: too many pieces")]
     Pieces,
+}
+
+impl From<AllocError> for ReportFault {
+    ghost use Rattle.jx_report.specs.declared.report_fault.ReportFault.TheVariants.{Memory};
+
+    ghost from_gives = { λ _ fault. fault ≡ Memory };
+
+    fn from(_: AllocError) -> ReportFault {
+        ReportFault::Memory
+    }
 }

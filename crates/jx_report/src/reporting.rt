@@ -1,21 +1,15 @@
 ghost use Rattle.std.specs.Prelude.{◌≡◌, ◌≢◌, ◌<◌, ◌≤◌, ◌^◌, ◌↔◌, true, false, IfOk, IfErr, IsErrOf};
-ghost use Rattle.jx_report.specs.Output.{Output};
-ghost use Rattle.jx_report.specs.Reports.{IsAnswered, Reports, ReportsInPart, HasTooManyPieces};
-ghost use Rattle.jx_report.specs.inside.Replies.{reply_exit, reply_output};
+ghost use Rattle.jx_report.specs.Reports.{Reports, ReportsInPart, HasTooManyPieces};
 
-use crate::batch_check::{BatchCheck, answer_by_batches};
+use crate::answering::answer_to_input;
 use crate::exit::Exit;
-use crate::read_all::read_all;
-use crate::reply::{Reply, reply_to};
 use crate::report_fault::ReportFault;
 use crate::sink::Sink;
 use crate::source::Source;
-use crate::writing::write_reply;
-use jx_book::Gate;
-use jx_claim::Cutting;
-use jx_run::NameRule;
+use crate::writing::show_reply;
+use jx_book::{Crew, Gate};
 use jx_task::Command;
-use std::alloc::{AllocError, Global};
+use std::alloc::Global;
 use std::sync::Wait;
 use std::thread::Threads;
 
@@ -31,70 +25,11 @@ const STEP: usize = 256 * 1024;
 /// How many bytes of an output are written at a time, at most.
 const BUFFER: usize = 64 * 1024;
 
-/// Reads to the end of input, and has it answered by the command's workers. While a text or the elements of a sequence are
-/// judged, one batch of the input is kept at a time. For rows and pointers the whole input is kept, and also wherever names
-/// have to be unique.
-fn answer_to_input<R: Threads + Wait + Sync, S: Source + Send, G: Gate + Sync>(
-    rt: &R,
-    alloc: Global,
-    reader: &mut S,
-    command: &Command,
-    gate: &G,
-    batch: usize,
-) -> Result<Reply, ReportFault>
-    requires reader { S.has_failed reader.old ≡ false }
-    requires piece { 1 ≤ command.now.piece }
-    requires some { 1 ≤ batch }
-    requires few { batch < 2 ^ 32 }
-    ensures ok { IfOk result (λ reply. IsAnswered (Output command.now.task command.now.settings) command.now.piece (S.remaining reader.old)
-        (S.remaining reader.new) (reply_output reply) (reply_exit reply)) }
-    ensures read { IsErrOf result ReportFault.Read ↔ (S.has_failed reader.new ≡ true) }
-    ensures unwritten { IfErr result (λ fault. fault ≢ ReportFault.Write) }
-    ensures pieces { IsErrOf result ReportFault.Pieces → HasTooManyPieces command.now (S.remaining reader.old)
-        (S.remaining reader.new) }
-{
-    match command.settings.names {
-        NameRule::Unique => answer_to_all(rt, alloc, reader, command, gate),
-        NameRule::Any => match BatchCheck::of(alloc, command) {
-            Some(check) => answer_by_batches(rt, alloc, reader, command, gate, batch, check),
-            None => answer_to_all(rt, alloc, reader, command, gate),
-        },
-    }
-}
-
-/// Reads to the end of input, keeps all of it, and has it answered by the command's workers.
-fn answer_to_all<R: Threads + Wait + Sync, S: Source + Send, G: Gate + Sync>(
-    rt: &R,
-    alloc: Global,
-    reader: &mut S,
-    command: &Command,
-    gate: &G,
-) -> Result<Reply, ReportFault>
-    requires reader { S.has_failed reader.old ≡ false }
-    requires piece { 1 ≤ command.now.piece }
-    ensures ok { IfOk result (λ reply. IsAnswered (Output command.now.task command.now.settings) command.now.piece (S.remaining reader.old)
-        (S.remaining reader.new) (reply_output reply) (reply_exit reply)) }
-    ensures read { IsErrOf result ReportFault.Read ↔ (S.has_failed reader.new ≡ true) }
-    ensures unwritten { IfErr result (λ fault. fault ≢ ReportFault.Write) }
-    ensures pieces { IsErrOf result ReportFault.Pieces → HasTooManyPieces command.now (S.remaining reader.old)
-        (S.remaining reader.new) }
-{
-    let text = read_all(alloc, reader)?;
-    let Ok(cutting) = Cutting::every(text.len(), command.piece) else {
-        return Err(ReportFault::Pieces);
-    };
-    match reply_to(rt, alloc, command, &text, &cutting, gate) {
-        Ok(reply) => Ok(reply),
-        Err(AllocError) => Err(ReportFault::Memory),
-    }
-}
-
 /// How many bytes are read at a time: as many whole pieces as a step has room for, where these are two or more. Else as many
 /// as a batch has room for, or a batch where a piece is no shorter.
 fn batch_of(command: &Command) -> usize
     requires { 1 ≤ command.now.piece }
-    ensures some { 1 ≤ result }
-    ensures few { result < 2 ^ 32 }
+    ensures { 1 ≤ result }
 {
     let piece = command.piece;
     let step = if command.workers.count() == 1 {
@@ -110,7 +45,7 @@ fn batch_of(command: &Command) -> usize
     }
 }
 
-/// `report` where a batch has so many bytes: 1 to 4,294,967,295. Batches are what a text or the elements of a sequence are judged
+/// `report` where a batch has so many bytes, at least one. Batches are what a text or the elements of a sequence are judged
 /// by; their length changes no output.
 pub fn report_in_batches<R: Threads + Wait + Sync, S: Source + Send, W: Sink, G: Gate + Sync>(
     rt: &R,
@@ -125,7 +60,6 @@ pub fn report_in_batches<R: Threads + Wait + Sync, S: Source + Send, W: Sink, G:
     requires writer { W.has_failed writer.old ≡ false }
     requires piece { 1 ≤ command.now.piece }
     requires some { 1 ≤ batch }
-    requires few { batch < 2 ^ 32 }
     // All that the reader had was read, and its whole output was written.
     ensures ok { IfOk result (λ exit. Reports command.now (S.remaining reader.old) (S.remaining reader.new)
         (W.contents writer.old) (W.contents writer.new) exit) }
@@ -140,11 +74,14 @@ pub fn report_in_batches<R: Threads + Wait + Sync, S: Source + Send, W: Sink, G:
     ensures pieces { IsErrOf result ReportFault.Pieces → HasTooManyPieces command.now (S.remaining reader.old)
         (S.remaining reader.new) }
 {
-    let reply = answer_to_input(rt, alloc, reader, command, gate, batch)?;
-    if !command.quiet {
-        write_reply(alloc, writer, &reply, BUFFER)?;
-    }
-    Ok(reply.exit())
+    let crew = Crew {
+        rt,
+        alloc,
+        workers: command.workers,
+        gate,
+    };
+    let reply = answer_to_input(&crew, reader, command, batch)?;
+    show_reply(alloc, writer, &reply, command.quiet, BUFFER)
 }
 
 /// Reads to the end of input, has it answered by the command's workers, and then writes the output through one buffer. A
@@ -154,10 +91,9 @@ pub fn report_in_batches<R: Threads + Wait + Sync, S: Source + Send, W: Sink, G:
 /// The gate changes no output. One worker asks it as each piece of a batch begins, and the pieces of a batch are numbered
 /// from 0. Each of several workers asks as it begins its part of a batch, whose number is that of the worker, and as it has
 /// read it. The first worker goes on whatever is said. What stands between two record separators is asked for as by
-/// `judge_batch`. Rows are asked for by one worker, and so are names that have to be unique. Up to 16 pointers are looked up
-/// with no question, and more as by `find_all`, in an index that is asked for as rows are. Less than a MiB is read by the
-/// calling thread alone where nobody is asked (`Gate::is_asked`). With several workers the reader is also called from
-/// another thread, one call at a time.
+/// `judge_batch`. Rows are asked for by one worker, and so are names that have to be unique. Pointers are looked up with no
+/// question. Less than a MiB is read by the calling thread alone where nobody is asked (`Gate::is_asked`). With several
+/// workers the reader is also called from another thread, one call at a time.
 pub fn report<R: Threads + Wait + Sync, S: Source + Send, W: Sink, G: Gate + Sync>(
     rt: &R,
     alloc: Global,
@@ -183,5 +119,12 @@ pub fn report<R: Threads + Wait + Sync, S: Source + Send, W: Sink, G: Gate + Syn
     ensures pieces { IsErrOf result ReportFault.Pieces → HasTooManyPieces command.now (S.remaining reader.old)
         (S.remaining reader.new) }
 {
-    report_in_batches(rt, alloc, reader, writer, command, gate, batch_of(command))
+    let crew = Crew {
+        rt,
+        alloc,
+        workers: command.workers,
+        gate,
+    };
+    let reply = answer_to_input(&crew, reader, command, batch_of(command))?;
+    show_reply(alloc, writer, &reply, command.quiet, BUFFER)
 }

@@ -3,7 +3,7 @@ ghost use Rattle.std.specs.Prelude.{◌≡◌, ◌≢◌, ◌≤◌, ◌↔◌, 
 ghost use Rattle.std.specs.Io.KnownBytes.{Appends};
 ghost use Rattle.jx_report.specs.Elements.{judged_lines};
 ghost use Rattle.jx_report.specs.Ends.{AppendsBeginning};
-ghost use Rattle.jx_report.specs.inside.Replies.{pointer_lines, reply_output, verdict_line};
+ghost use Rattle.jx_report.specs.inside.Replies.{pointer_lines, reply_exit, reply_output, verdict_line};
 ghost use Rattle.jx_report.specs.inside.Room.{HasRoom, IsPut};
 ghost use Rattle.jx_report.specs.Output.{ByVerdict, SaysAccepted};
 ghost use Rattle.jx_report.specs.Reports.{shown_output};
@@ -136,7 +136,7 @@ fn write_lines<W: Sink>(writer: &mut W, out: &mut Vec<u8>, reply: &Reply) -> Res
 }
 
 /// Writes a reply through a buffer of so many bytes, or of as many as the longest line has where that is more.
-pub(crate) fn write_reply<W: Sink>(
+fn write_reply<W: Sink>(
     alloc: Global,
     writer: &mut W,
     reply: &Reply,
@@ -151,11 +151,32 @@ pub(crate) fn write_reply<W: Sink>(
     ensures unread { IfErr result (λ fault. fault ≢ ReportFault.Read) }
     ensures uncut { IfErr result (λ fault. fault ≢ ReportFault.Pieces) }
 {
-    let Ok(mut out) = Vec::with_capacity(alloc, size.max(LONGEST_LINE)) else {
-        return Err(ReportFault::Memory);
-    };
+    let mut out = Vec::with_capacity(alloc, size.max(LONGEST_LINE))?;
     write_lines(writer, &mut out, reply)?;
     write_all(writer, &out)
+}
+
+/// Writes a reply, or nothing where it is quiet, and answers the exit.
+pub(crate) fn show_reply<W: Sink>(
+    alloc: Global,
+    writer: &mut W,
+    reply: &Reply,
+    quiet: bool,
+    size: usize,
+) -> Result<Exit, ReportFault>
+    requires { W.has_failed writer.old ≡ false }
+    ensures ok { IfOk result (λ exit. (exit ≡ reply_exit reply.now) × Appends (W.contents writer.old) (W.contents writer.new) (shown_output quiet (reply_output reply.now))) }
+    ensures write { IsErrOf result ReportFault.Write ↔ (W.has_failed writer.new ≡ true) }
+    ensures beginning { IsErrOf result ReportFault.Write → AppendsBeginning (W.contents writer.old) (W.contents writer.new) (shown_output quiet (reply_output reply.now)) }
+    // Where the buffer is not to be had, the writer is as it was.
+    ensures unwritten { IfErr result (λ fault. fault ≢ ReportFault.Write → writer.new ≡ writer.old) }
+    ensures unread { IfErr result (λ fault. fault ≢ ReportFault.Read) }
+    ensures uncut { IfErr result (λ fault. fault ≢ ReportFault.Pieces) }
+{
+    if !quiet {
+        write_reply(alloc, writer, reply, size)?;
+    }
+    Ok(reply.exit())
 }
 
 /// Writes the line of a verdict on a text, or nothing where it is quiet, and answers the exit.
@@ -176,12 +197,5 @@ pub fn write_verdict<W: Sink>(
     ensures unread { IfErr result (λ fault. fault ≢ ReportFault.Read) }
     ensures uncut { IfErr result (λ fault. fault ≢ ReportFault.Pieces) }
 {
-    let reply = Reply::Verdict(verdict);
-    if quiet {
-        return Ok(reply.exit());
-    }
-    match write_reply(alloc, writer, &reply, LONGEST_LINE) {
-        Ok(()) => Ok(reply.exit()),
-        Err(fault) => Err(fault),
-    }
+    show_reply(alloc, writer, &Reply::Verdict(verdict), quiet, LONGEST_LINE)
 }

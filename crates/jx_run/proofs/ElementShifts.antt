@@ -2,7 +2,7 @@
 use Rattle.std.proofs.Common.{◌≡◌, ℕ, suc, ◌+◌, ◌^◌, ◌<◌, ◌≤◌, List, [], ◌∷◌, ◌++◌, length, map, sym, ◌∙◌, ap, subst, arith, Option, None, Some, Bool, true, false, cond}
 use Rattle.std.specs.List.{AllZip}
 use Rattle.std.proofs.lemmas.List.{map-append}
-use Rattle.jx_run.specs.declared.element_verdict.JudgedElement.{JudgedElement}
+use Rattle.jx_run.specs.declared.sequences.element_verdict.JudgedElement.{JudgedElement}
 use Rattle.jx_run.specs.Elements.{Part, part, is_separator, before_separator, after_separators, filled, has_bytes}
 use Rattle.jx_run.specs.ElementsRun.{PartRunValue, MarkedElementsValue, IsPartRun, last_part}
 use Rattle.jx_run.specs.inside.MarkedElements.{AreMarked, IsSummaryOf}

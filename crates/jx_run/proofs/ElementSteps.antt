@@ -4,11 +4,11 @@ use Rattle.std.proofs.lemmas.List.Elements.{filter-append}
 use Rattle.std.specs.List.{AllZip}
 use Rattle.std.specs.Prelude.{slice_get}
 use Rattle.jx_summary.specs.declared.span.Span.{Span}
-use Rattle.jx_run.specs.declared.element_verdict.ElementVerdict.{ElementVerdict}
-use Rattle.jx_run.specs.declared.element_verdict.ElementVerdict.TheVariants as element
-use Rattle.jx_run.specs.declared.element_verdict.JudgedElement.{JudgedElement}
-use Rattle.jx_run.specs.declared.verdict.Verdict.{Verdict}
-use Rattle.jx_run.specs.declared.verdict.Verdict.TheVariants.{Accepted, Refused}
+use Rattle.jx_run.specs.declared.sequences.element_verdict.ElementVerdict.{ElementVerdict}
+use Rattle.jx_run.specs.declared.sequences.element_verdict.ElementVerdict.TheVariants as element
+use Rattle.jx_run.specs.declared.sequences.element_verdict.JudgedElement.{JudgedElement}
+use Rattle.jx_run.specs.declared.texts.verdict.Verdict.{Verdict}
+use Rattle.jx_run.specs.declared.texts.verdict.Verdict.TheVariants.{Accepted, Refused}
 use Rattle.jx_run.specs.Elements.{Part, part, before_separator, after_separators, filled, has_bytes, elements}
 use Rattle.jx_run.specs.ElementVerdict.{IsVerdictOn, IsJudgedElement, told}
 use Rattle.jx_run.specs.ElementsRun.{PartRunValue, MarkedElementsValue, IsPartRun}
@@ -49,8 +49,8 @@ ends-left xs (y ∷ ys) h = absurd (omega arith)
 not_true : {A : Type 0} → false ≡ true → A
 not_true h = absurd (cc)
 
-text_told : (p : Part) (limit : ℕ) → 0 < p.at → Judged p.at p.bytes limit Accepted → (tree : Tree) → IsDocument p.at p.bytes limit tree → (loose : Bool) → loose ≡ ends_open p.bytes
-    → IsVerdictOn p limit (told Accepted loose)
+text_told : (p : Part) (limit : ℕ) → 0 < p.at → Judged p.at p.bytes limit Accepted → (tree : Tree) → IsDocument p.at p.bytes limit tree → (open_ended : Bool) → open_ended ≡ ends_open p.bytes
+    → IsVerdictOn p limit (told Accepted open_ended)
 text_told p limit low j tree d true h =
     (low, record { tree = tree; accepted = record { judged = j; is_text = d }; unclosed = (element_shows p limit tree d).1 (sym h) })
 text_told p limit low j tree d false h =
@@ -59,34 +59,34 @@ text_told p limit low j tree d false h =
 tree_in : {at limit : ℕ} {bytes : List ℕ} → Judged at bytes limit Accepted → (tree : Tree) × IsDocument at bytes limit tree
 tree_in (a_text {tree = tree} d) = (tree, d)
 
-pub verdict_told : (p : Part) (limit : ℕ) (v : Verdict) (loose : Bool) → 0 < p.at → Judged p.at p.bytes limit v → loose ≡ ends_open p.bytes → IsVerdictOn p limit (told v loose)
-verdict_told p limit Accepted loose low j h = let t = tree_in j in text_told p limit low j t.0 t.1 loose h
-verdict_told p limit (Refused r) loose low j h = (low, j)
+pub verdict_told : (p : Part) (limit : ℕ) (v : Verdict) (open_ended : Bool) → 0 < p.at → Judged p.at p.bytes limit v → open_ended ≡ ends_open p.bytes → IsVerdictOn p limit (told v open_ended)
+verdict_told p limit Accepted open_ended low j h = let t = tree_in j in text_told p limit low j t.0 t.1 open_ended h
+verdict_told p limit (Refused r) open_ended low j h = (low, j)
 
-pub judged_element : (limit at : ℕ) (bytes : List ℕ) (start end : ℕ) (v : Verdict) (loose : Bool) (t : ElementVerdict) → start ≡ at → end ≡ at + length bytes → 0 < at
-    → Judged at bytes limit v → loose ≡ ends_open bytes → t ≡ told v loose → IsJudgedElement limit (part at bytes) (record { span = record { start = start; end = end }; verdict = t })
-judged_element limit at bytes start end v loose t s e low j is h =
+pub judged_element : (limit at : ℕ) (bytes : List ℕ) (start end : ℕ) (v : Verdict) (open_ended : Bool) (t : ElementVerdict) → start ≡ at → end ≡ at + length bytes → 0 < at
+    → Judged at bytes limit v → open_ended ≡ ends_open bytes → t ≡ told v open_ended → IsJudgedElement limit (part at bytes) (record { span = record { start = start; end = end }; verdict = t })
+judged_element limit at bytes start end v open_ended t s e low j is h =
     record {
       span_is = ap (λ n. span n end) s ∙ ap (span at) e;
-      verdict_is = subst (IsVerdictOn (part at bytes) limit) (sym h) (verdict_told (part at bytes) limit v loose low j is);
+      verdict_is = subst (IsVerdictOn (part at bytes) limit) (sym h) (verdict_told (part at bytes) limit v open_ended low j is);
     }
 
 -- ---- two neighbouring parts
 
-pub loose_right : (xs ys : List ℕ) (r : PartRunValue) (place : Span) → place ≡ outcome_span r.outcomes → place.start < place.end → IsPartRun ys r → r.loose ≡ ends_open (xs ++ ys)
-loose_right xs ys r place e low k =
+pub open_ended_right : (xs ys : List ℕ) (r : PartRunValue) (place : Span) → place ≡ outcome_span r.outcomes → place.start < place.end → IsPartRun ys r → r.open_ended ≡ ends_open (xs ++ ys)
+open_ended_right xs ys r place e low k =
     let start : place.start ≡ r.outcomes.start = ap (λ (s : Span). s.start) e in
     let end : place.end ≡ r.outcomes.end = ap (λ (s : Span). s.end) e in
     let long = k.outcomes.long in
-    k.loose ∙ sym (ends-right xs ys (omega (arith, start, end, long, low)))
+    k.open_ended ∙ sym (ends-right xs ys (omega (arith, start, end, long, low)))
 
-pub loose_left : (xs ys : List ℕ) (l r : PartRunValue) (place : Span) → place ≡ outcome_span r.outcomes → place.end ≤ place.start → IsPartRun xs l → IsPartRun ys r
-    → l.loose ≡ ends_open (xs ++ ys)
-loose_left xs ys l r place e low h k =
+pub open_ended_left : (xs ys : List ℕ) (l r : PartRunValue) (place : Span) → place ≡ outcome_span r.outcomes → place.end ≤ place.start → IsPartRun xs l → IsPartRun ys r
+    → l.open_ended ≡ ends_open (xs ++ ys)
+open_ended_left xs ys l r place e low h k =
     let start : place.start ≡ r.outcomes.start = ap (λ (s : Span). s.start) e in
     let end : place.end ≡ r.outcomes.end = ap (λ (s : Span). s.end) e in
     let long = k.outcomes.long in
-    h.loose ∙ sym (ends-left xs ys (omega (arith, start, end, long, low)))
+    h.open_ended ∙ sym (ends-left xs ys (omega (arith, start, end, long, low)))
 
 -- ---- what stands behind a mark
 

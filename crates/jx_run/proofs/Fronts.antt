@@ -2,16 +2,19 @@
 use Rattle.std.proofs.Common.{◌≡◌, ◌≢◌, ℕ, zero, suc, ◌+◌, ◌-◌, ◌<◌, ◌≤◌, List, [], ◌∷◌, ◌++◌, length, get_or, take, drop, Bool, true, false, cond, append_assoc, refl, sym, ap, subst, ◌∙◌, inl, inr, ◌⊎◌, arith}
 use Rattle.std.specs.Prelude.{◌==◌}
 use Rattle.std.proofs.lemmas.Bool.Decides.{Decides-eqb, nat_tests, not_from_Decides}
+use Rattle.std.proofs.lemmas.List.{length-append}
 use Rattle.jx_lex.specs.Classes.{class_at}
 use Rattle.jx_lex.specs.declared.alphabet.state.LexState.TheVariants as state
 use Rattle.jx_reduce.specs.declared.expect.Expect.TheVariants as expect
-use Rattle.jx_run.specs.declared.settings.Front.TheVariants as seen
-use Rattle.jx_run.specs.declared.settings.FrontMark.{FrontMark}
-use Rattle.jx_run.specs.declared.settings.FrontMark.TheVariants as on_mark
-use Rattle.jx_run.specs.declared.settings.Settings.{Settings}
-use Rattle.jx_run.specs.declared.verdict.Verdict.{Verdict}
-use Rattle.jx_run.specs.declared.verdict.Verdict.TheVariants as verdict
-use Rattle.jx_run.specs.declared.verdict.Refusal.TheVariants as refusal
+use Rattle.jx_run.specs.declared.texts.settings.Front.{Front}
+use Rattle.jx_run.specs.declared.texts.settings.Front.TheVariants as seen
+use Rattle.jx_run.specs.declared.texts.settings.FrontMark.{FrontMark}
+use Rattle.jx_run.specs.declared.texts.settings.FrontMark.TheVariants as on_mark
+use Rattle.jx_run.specs.declared.texts.settings.Settings.{Settings}
+use Rattle.jx_run.specs.declared.texts.verdict.Verdict.{Verdict}
+use Rattle.jx_run.specs.declared.texts.verdict.Verdict.TheVariants as verdict
+use Rattle.jx_run.specs.declared.texts.verdict.Refusal.{Refusal}
+use Rattle.jx_run.specs.declared.texts.verdict.Refusal.TheVariants as refusal
 use Rattle.jx_run.specs.Front.{agreed, front_by, front_of, IsTold}
 use Rattle.jx_run.specs.Laws.{IsAccepting, IsNoFault, verdict_of}
 use Rattle.jx_run.specs.Reading.{TextReading, went, read_text}
@@ -191,7 +194,7 @@ module _ (s : Settings) (start m : ℕ) (bytes rest : List ℕ) (long : length b
       (by.stopped (λ tree d. never tree (of tree d)) (longest k l) (omega (arith, lt, long)) (λ e c. b e (begins_of e (suc k) (subst (λ i. BeginsBy (at_depth s e) (take i bytes)) next c))))
 
 -- bytes that don't begin as a mark does
-judged_other : TokensAreRead → (s : Settings) (start : ℕ) (bytes : List ℕ) → IsOther bytes → (v : Verdict) → Judged start bytes s.depth v → JudgedBy s start bytes v
+pub judged_other : TokensAreRead → (s : Settings) (start : ℕ) (bytes : List ℕ) → IsOther bytes → (v : Verdict) → Judged start bytes s.depth v → JudgedBy s start bytes v
 judged_other law s start bytes other v j =
     let e : start ≡ start + 0 = omega arith in
     let none : (n : ℕ) → n ≡ 0 + n = λ n. omega arith in
@@ -203,32 +206,33 @@ judged_other law s start bytes other v j =
     (λ e n b. begins_unmarked law (at_depth s e) bytes n other (subst (λ i. BeginsBy (at_depth s e) (take i bytes)) (sym (none n)) b))
     v (subst (λ i. Judged i bytes s.depth v) e j)
 
-judged_marked : TokensAreRead → (s : Settings) → s.mark ≡ on_mark.Ignored → (rest : List ℕ) (v : Verdict) → Judged 3 rest s.depth v → JudgedBy s 0 (byte_order_mark ++ rest) v
-judged_marked law s is rest v j =
+judged_marked : TokensAreRead → (s : Settings) (start : ℕ) → s.mark ≡ on_mark.Ignored → (rest : List ℕ) (v : Verdict) → Judged (start + 3) rest s.depth v
+    → JudgedBy s start (byte_order_mark ++ rest) v
+judged_marked law s start is rest v j =
     let three : (n : ℕ) → suc (suc (suc n)) ≡ 3 + n = λ n. omega arith in
-    judged_behind s 0 3 (byte_order_mark ++ rest) rest (three (length rest))
+    judged_behind s start 3 (byte_order_mark ++ rest) rest (three (length rest))
     (λ tree d. record { front = byte_order_mark; rest = rest; is_front = ignored s is; whole = refl; text = d })
-    (λ tree d. let m = marked law s 0 (0xbb ∷ 0xbf ∷ rest) tree d in let is : 0xef ∷ 0xbb ∷ 0xbf ∷ rest ≡ 0xef ∷ 0xbb ∷ 0xbf ∷ m.0 = m.1 in let same : rest ≡ m.0 = cc in subst (λ x. IsDocument 3 x s.depth tree) (sym same) m.2)
+    (λ tree d. let m = marked law s start (0xbb ∷ 0xbf ∷ rest) tree d in let is : 0xef ∷ 0xbb ∷ 0xbf ∷ rest ≡ 0xef ∷ 0xbb ∷ 0xbf ∷ m.0 = m.1 in let same : rest ≡ m.0 = cc in subst (λ x. IsDocument (start + 3) x s.depth tree) (sym same) m.2)
     (λ e n b. subst (λ i. BeginsBy (at_depth s e) (take i (byte_order_mark ++ rest))) (three n) (begins_marked law (at_depth s e) is (take n rest) b))
     (λ e n b. behind_mark law (at_depth s e) (take n rest) (subst (λ i. BeginsBy (at_depth s e) (take i (byte_order_mark ++ rest))) (sym (three n)) b))
     v j
 
 -- ---- a part of the mark
 
-module _ (law : TokensAreRead) (s : Settings) (is : s.mark ≡ on_mark.Ignored) where
-  one_cut : JudgedBy s 0 (0xef ∷ []) (verdict.Refused refusal.Truncated)
+module _ (law : TokensAreRead) (s : Settings) (start : ℕ) (is : s.mark ≡ on_mark.Ignored) where
+  one_cut : JudgedBy s start (0xef ∷ []) (verdict.Refused refusal.Truncated)
   one_cut =
-      by.cut_short (λ tree d. let m = marked law s 0 [] tree d in let e : 0xef ∷ [] ≡ 0xef ∷ 0xbb ∷ 0xbf ∷ m.0 = m.1 in cc)
+      by.cut_short (λ tree d. let m = marked law s start [] tree d in let e : 0xef ∷ [] ≡ 0xef ∷ 0xbb ∷ 0xbf ∷ m.0 = m.1 in cc)
       (record { within = omega arith; begins = begins_part law s is (0xef ∷ []) (0xbb ∷ 0xbf ∷ []) refl; greatest = λ n lt le b. omega (arith, lt, le) })
 
-  two_cut : JudgedBy s 0 (0xef ∷ 0xbb ∷ []) (verdict.Refused refusal.Truncated)
+  two_cut : JudgedBy s start (0xef ∷ 0xbb ∷ []) (verdict.Refused refusal.Truncated)
   two_cut =
-      by.cut_short (λ tree d. let m = marked law s 0 (0xbb ∷ []) tree d in let e : 0xef ∷ 0xbb ∷ [] ≡ 0xef ∷ 0xbb ∷ 0xbf ∷ m.0 = m.1 in cc)
+      by.cut_short (λ tree d. let m = marked law s start (0xbb ∷ []) tree d in let e : 0xef ∷ 0xbb ∷ [] ≡ 0xef ∷ 0xbb ∷ 0xbf ∷ m.0 = m.1 in cc)
       (record { within = omega arith; begins = begins_part law s is (0xef ∷ 0xbb ∷ []) (0xbf ∷ []) refl; greatest = λ n lt le b. omega (arith, lt, le) })
 
-  one_other : (c : ℕ) (t : List ℕ) → (c ≡ 0xbb → ⊥) → JudgedBy s 0 (0xef ∷ c ∷ t) (verdict.Refused (refusal.Stopped 1))
+  one_other : (c : ℕ) (t : List ℕ) → (c ≡ 0xbb → ⊥) → JudgedBy s start (0xef ∷ c ∷ t) (verdict.Refused (refusal.Stopped (start + 1)))
   one_other c t other =
-      by.stopped {k = 1} (λ tree d. let m = marked law s 0 (c ∷ t) tree d in let e : 0xef ∷ c ∷ t ≡ 0xef ∷ 0xbb ∷ 0xbf ∷ m.0 = m.1 in let same : c ≡ 0xbb = cc in other same)
+      by.stopped {k = 1} (λ tree d. let m = marked law s start (c ∷ t) tree d in let e : 0xef ∷ c ∷ t ≡ 0xef ∷ 0xbb ∷ 0xbf ∷ m.0 = m.1 in let same : c ≡ 0xbb = cc in other same)
       (record { within = omega arith; begins = begins_part law s is (0xef ∷ []) (0xbb ∷ 0xbf ∷ []) refl; greatest = greatest })
       (omega arith) (λ e b. no_second law (at_depth s e) c [] other b)
     where
@@ -237,9 +241,9 @@ module _ (law : TokensAreRead) (s : Settings) (is : s.mark ≡ on_mark.Ignored) 
       greatest (suc zero) lt le b = omega (arith, lt)
       greatest (suc (suc n)) lt le b = no_second law s c (take n t) other b
 
-  two_other : (c : ℕ) (t : List ℕ) → (c ≡ 0xbf → ⊥) → JudgedBy s 0 (0xef ∷ 0xbb ∷ c ∷ t) (verdict.Refused (refusal.Stopped 2))
+  two_other : (c : ℕ) (t : List ℕ) → (c ≡ 0xbf → ⊥) → JudgedBy s start (0xef ∷ 0xbb ∷ c ∷ t) (verdict.Refused (refusal.Stopped (start + 2)))
   two_other c t other =
-      by.stopped {k = 2} (λ tree d. let m = marked law s 0 (0xbb ∷ c ∷ t) tree d in let e : 0xef ∷ 0xbb ∷ c ∷ t ≡ 0xef ∷ 0xbb ∷ 0xbf ∷ m.0 = m.1 in let same : c ≡ 0xbf = cc in other same)
+      by.stopped {k = 2} (λ tree d. let m = marked law s start (0xbb ∷ c ∷ t) tree d in let e : 0xef ∷ 0xbb ∷ c ∷ t ≡ 0xef ∷ 0xbb ∷ 0xbf ∷ m.0 = m.1 in let same : c ≡ 0xbf = cc in other same)
       (record { within = omega arith; begins = begins_part law s is (0xef ∷ 0xbb ∷ []) (0xbf ∷ []) refl; greatest = greatest })
       (omega arith) (λ e b. no_third law (at_depth s e) c [] other b)
     where
@@ -308,51 +312,161 @@ agreed_differs (x ∷ xs) (m ∷ ms) (suc i) d e low h other = agreed_differs xs
 
 -- ---- the front tells the verdict
 
-abbrev Told : List ℕ → ℕ → ℕ → Type 0
-Told text n count = IsTold on_mark.Ignored text (front_by n count)
+-- a refusal of bytes that stand further on
+abbrev pub further : ℕ → Refusal → Refusal
+further by (refusal.Stopped at) = refusal.Stopped (by + at)
+further by refusal.Truncated = refusal.Truncated
+further by (refusal.TooDeep at) = refusal.TooDeep (by + at)
+further by (refusal.RepeatedName at) = refusal.RepeatedName (by + at)
 
-other_told : TokensAreRead → (text : List ℕ) (count : ℕ) → IsOther text → Told text 0 count
-other_told law text count other = (omega arith, λ s v is j. judged_other law s 0 text other v j)
+-- what a front tells of bytes that stand from an offset on
+abbrev pub IsToldFrom : ℕ → FrontMark → List ℕ → Front → Type 0
+IsToldFrom start m text (seen.Skip n) =
+    (n ≤ length text) × ((s : Settings) (v : Verdict) → s.mark ≡ m → Judged (start + n) (drop n text) s.depth v → JudgedBy s start text v)
+IsToldFrom start m text (seen.Refused r) = (s : Settings) → s.mark ≡ m → JudgedBy s start text (verdict.Refused (further start r))
 
 -- agreed w [] doesn't compute before w is known
 pub none_agreed : (w : List ℕ) → agreed w [] ≡ 0
 none_agreed [] = refl
 none_agreed (b ∷ w) = refl
 
-all_told : TokensAreRead → (d : ℕ) (w : List ℕ) → d ≡ 0xbf → Told (0xef ∷ 0xbb ∷ d ∷ w) (suc (suc (suc (agreed w [])))) (suc (suc (suc (length w))))
-all_told law d w same =
-    subst (λ n. Told (0xef ∷ 0xbb ∷ d ∷ w) (suc (suc (suc n))) (suc (suc (suc (length w))))) (sym (none_agreed w))
-    (subst (λ b. Told (0xef ∷ 0xbb ∷ b ∷ w) 3 (suc (suc (suc (length w))))) (sym same) (omega arith, λ s v is j. judged_marked law s is w v j))
+module _ (law : TokensAreRead) (start : ℕ) where
+  abbrev Told : List ℕ → ℕ → ℕ → Type 0
+  Told text n count = IsToldFrom start on_mark.Ignored text (front_by n count)
 
-second : TokensAreRead → (u : List ℕ) → Told (0xef ∷ u) (suc (agreed u (0xbb ∷ 0xbf ∷ []))) (suc (length u))
-second law [] = λ s is. one_cut law s is
-second law (c ∷ t) = pick (c == 0xbb) refl
-  where
-    third : (t : List ℕ) → Told (0xef ∷ 0xbb ∷ t) (suc (suc (agreed t (0xbf ∷ [])))) (suc (suc (length t)))
-    third [] = λ s is. two_cut law s is
-    third (d ∷ w) = last (d == 0xbf) refl
-      where
-        last : (x : Bool) → (d == 0xbf) ≡ x → Told (0xef ∷ 0xbb ∷ d ∷ w) (suc (suc (cond x (suc (agreed w [])) 0))) (suc (suc (suc (length w))))
-        last true q = all_told law d w (grind (arith, nat_tests))
-        last false q =
-            let more : (2 == suc (suc (suc (length w)))) ≡ false = grind (arith, nat_tests) in
-            let other : d ≢ 0xbf = not_from_Decides (d == 0xbf) (Decides-eqb d 0xbf) q in
-            subst (λ b. IsTold on_mark.Ignored (0xef ∷ 0xbb ∷ d ∷ w) (cond b (seen.Refused refusal.Truncated) (seen.Refused (refusal.Stopped 2)))) (sym more) (λ s is. two_other law s is d w other)
+  zero_at : start + 0 ≡ start
+  zero_at = omega arith
 
-    pick : (x : Bool) → (c == 0xbb) ≡ x → Told (0xef ∷ c ∷ t) (suc (cond x (suc (agreed t (0xbf ∷ []))) 0)) (suc (suc (length t)))
-    pick true q = let same : c ≡ 0xbb = grind (arith, nat_tests) in subst (λ b. Told (0xef ∷ b ∷ t) (suc (suc (agreed t (0xbf ∷ [])))) (suc (suc (length t)))) (sym same) (third t)
-    pick false q =
-        let more : (1 == suc (suc (length t))) ≡ false = grind (arith, nat_tests) in
-        let other : c ≢ 0xbb = not_from_Decides (c == 0xbb) (Decides-eqb c 0xbb) q in
-        subst (λ b. IsTold on_mark.Ignored (0xef ∷ c ∷ t) (cond b (seen.Refused refusal.Truncated) (seen.Refused (refusal.Stopped 1)))) (sym more) (λ s is. one_other law s is c t other)
+  other_told : (text : List ℕ) (count : ℕ) → IsOther text → Told text 0 count
+  other_told text count other = (omega arith, λ s v is j. judged_other law s start text other v (subst (λ i. Judged i text s.depth v) zero_at j))
+
+  all_told : (d : ℕ) (w : List ℕ) → d ≡ 0xbf → Told (0xef ∷ 0xbb ∷ d ∷ w) (suc (suc (suc (agreed w [])))) (suc (suc (suc (length w))))
+  all_told d w same =
+      subst (λ n. Told (0xef ∷ 0xbb ∷ d ∷ w) (suc (suc (suc n))) (suc (suc (suc (length w))))) (sym (none_agreed w))
+      (subst (λ b. Told (0xef ∷ 0xbb ∷ b ∷ w) 3 (suc (suc (suc (length w))))) (sym same) (omega arith, λ s v is j. judged_marked law s start is w v j))
+
+  second : (u : List ℕ) → Told (0xef ∷ u) (suc (agreed u (0xbb ∷ 0xbf ∷ []))) (suc (length u))
+  second [] = λ s is. one_cut law s start is
+  second (c ∷ t) = pick (c == 0xbb) refl
+    where
+      third : (t : List ℕ) → Told (0xef ∷ 0xbb ∷ t) (suc (suc (agreed t (0xbf ∷ [])))) (suc (suc (length t)))
+      third [] = λ s is. two_cut law s start is
+      third (d ∷ w) = last (d == 0xbf) refl
+        where
+          last : (x : Bool) → (d == 0xbf) ≡ x → Told (0xef ∷ 0xbb ∷ d ∷ w) (suc (suc (cond x (suc (agreed w [])) 0))) (suc (suc (suc (length w))))
+          last true q = all_told d w (grind (arith, nat_tests))
+          last false q =
+              let more : (2 == suc (suc (suc (length w)))) ≡ false = grind (arith, nat_tests) in
+              let other : d ≢ 0xbf = not_from_Decides (d == 0xbf) (Decides-eqb d 0xbf) q in
+              subst (λ b. IsToldFrom start on_mark.Ignored (0xef ∷ 0xbb ∷ d ∷ w) (cond b (seen.Refused refusal.Truncated) (seen.Refused (refusal.Stopped 2)))) (sym more) (λ s is. two_other law s start is d w other)
+
+      pick : (x : Bool) → (c == 0xbb) ≡ x → Told (0xef ∷ c ∷ t) (suc (cond x (suc (agreed t (0xbf ∷ []))) 0)) (suc (suc (length t)))
+      pick true q = let same : c ≡ 0xbb = grind (arith, nat_tests) in subst (λ b. Told (0xef ∷ b ∷ t) (suc (suc (agreed t (0xbf ∷ [])))) (suc (suc (length t)))) (sym same) (third t)
+      pick false q =
+          let more : (1 == suc (suc (length t))) ≡ false = grind (arith, nat_tests) in
+          let other : c ≢ 0xbb = not_from_Decides (c == 0xbb) (Decides-eqb c 0xbb) q in
+          subst (λ b. IsToldFrom start on_mark.Ignored (0xef ∷ c ∷ t) (cond b (seen.Refused refusal.Truncated) (seen.Refused (refusal.Stopped 1)))) (sym more) (λ s is. one_other law s start is c t other)
+
+  pub told_from : (m : FrontMark) (text : List ℕ) → IsToldFrom start m text (front_of m text)
+  told_from on_mark.Refused text = (omega arith, λ s v is j. refused_judged s start text is v (subst (λ i. Judged i text s.depth v) zero_at j))
+  told_from on_mark.Ignored [] = other_told [] 0 (λ x h. cc)
+  told_from on_mark.Ignored (a ∷ u) = pick (a == 0xef) refl
+    where
+      pick : (x : Bool) → (a == 0xef) ≡ x → Told (a ∷ u) (cond x (suc (agreed u (0xbb ∷ 0xbf ∷ []))) 0) (suc (length u))
+      pick true q = let same : a ≡ 0xef = grind (arith, nat_tests) in subst (λ b. Told (b ∷ u) (suc (agreed u (0xbb ∷ 0xbf ∷ []))) (suc (length u))) (sym same) (second u)
+      pick false q =
+          let other : a ≢ 0xef = not_from_Decides (a == 0xef) (Decides-eqb a 0xef) q in
+          other_told (a ∷ u) (suc (length u)) (λ x h. let same : a ≡ 0xef = cc in other same)
 
 pub front_told : TokensAreRead → (m : FrontMark) (text : List ℕ) → IsTold m text (front_of m text)
-front_told law on_mark.Refused text = (omega arith, λ s v is j. refused_judged s 0 text is v j)
-front_told law on_mark.Ignored [] = other_told law [] 0 (λ x h. cc)
-front_told law on_mark.Ignored (a ∷ u) = pick (a == 0xef) refl
+front_told law m text = at_zero (front_of m text) (told_from law 0 m text)
   where
-    pick : (x : Bool) → (a == 0xef) ≡ x → Told (a ∷ u) (cond x (suc (agreed u (0xbb ∷ 0xbf ∷ []))) 0) (suc (length u))
-    pick true q = let same : a ≡ 0xef = grind (arith, nat_tests) in subst (λ b. Told (b ∷ u) (suc (agreed u (0xbb ∷ 0xbf ∷ []))) (suc (length u))) (sym same) (second law u)
-    pick false q =
-        let other : a ≢ 0xef = not_from_Decides (a == 0xef) (Decides-eqb a 0xef) q in
-        other_told law (a ∷ u) (suc (length u)) (λ x h. let same : a ≡ 0xef = cc in other same)
+    none : (r : Refusal) → further 0 r ≡ r
+    none (refusal.Stopped at) = let e : 0 + at ≡ at = omega arith in ap (λ i. refusal.Stopped i) e
+    none refusal.Truncated = refl
+    none (refusal.TooDeep at) = let e : 0 + at ≡ at = omega arith in ap (λ i. refusal.TooDeep i) e
+    none (refusal.RepeatedName at) = let e : 0 + at ≡ at = omega arith in ap (λ i. refusal.RepeatedName i) e
+
+    at_zero : (f : Front) → IsToldFrom 0 m text f → IsTold m text f
+    at_zero (seen.Skip n) h = (h.0, λ s v is j. h.1 s v is (let e : n ≡ 0 + n = omega arith in subst (λ i. Judged i (drop n text) s.depth v) e j))
+    at_zero (seen.Refused r) h = λ s is. subst (λ x. JudgedBy s 0 text (verdict.Refused x)) (none r) (h s is)
+
+-- ---- a front and more bytes
+
+pub agreed_short : (xs ms : List ℕ) → agreed xs ms ≤ length xs
+agreed_short [] ms = omega arith
+agreed_short (x ∷ xs) [] = omega arith
+agreed_short (x ∷ xs) (m ∷ ms) = pick (x == m) (agreed_short xs ms)
+  where
+    pick : (b : Bool) → agreed xs ms ≤ length xs → cond b (suc (agreed xs ms)) 0 ≤ suc (length xs)
+    pick true h = omega arith
+    pick false h = omega arith
+
+-- more bytes change nothing of it behind the first that differs, and behind all
+pub agreed_on : (xs ms more : List ℕ) → (agreed xs ms < length xs) ⊎ (agreed xs ms ≡ length ms) → agreed (xs ++ more) ms ≡ agreed xs ms
+agreed_on [] ms more (inl h) = absurd (omega (arith, h))
+agreed_on [] [] more (inr h) = none_agreed more
+agreed_on [] (m ∷ ms) more (inr h) = absurd (omega (arith, h))
+agreed_on (x ∷ xs) [] more h = refl
+agreed_on (x ∷ xs) (m ∷ ms) more h = pick (x == m) (agreed_on xs ms more) h
+  where
+    pick : (b : Bool) → ((agreed xs ms < length xs) ⊎ (agreed xs ms ≡ length ms) → agreed (xs ++ more) ms ≡ agreed xs ms)
+        → (cond b (suc (agreed xs ms)) 0 < suc (length xs)) ⊎ (cond b (suc (agreed xs ms)) 0 ≡ suc (length ms)) → cond b (suc (agreed (xs ++ more) ms)) 0 ≡ cond b (suc (agreed xs ms)) 0
+    pick true on (inl k) = ap suc (on (inl (omega (arith, k))))
+    pick true on (inr k) = ap suc (on (inr (omega (arith, k))))
+    pick false on k = refl
+
+agreed_low : (xs ms : List ℕ) → agreed xs ms ≤ length ms
+agreed_low [] ms = omega arith
+agreed_low (x ∷ xs) [] = omega arith
+agreed_low (x ∷ xs) (m ∷ ms) = pick (x == m) (agreed_low xs ms)
+  where
+    pick : (b : Bool) → agreed xs ms ≤ length ms → cond b (suc (agreed xs ms)) 0 ≤ suc (length ms)
+    pick true h = omega arith
+    pick false h = omega arith
+
+-- the first three bytes decide what the front is
+pub front_stays : (m : FrontMark) (text more : List ℕ) → 3 ≤ length text → front_of m (text ++ more) ≡ front_of m text
+front_stays on_mark.Refused text more h = refl
+front_stays on_mark.Ignored text more h =
+    let n : agreed text byte_order_mark ≤ 3 = agreed_low text byte_order_mark in
+    ap (λ k. front_by k (length (text ++ more))) (agreed_on text byte_order_mark more (reach (agreed text byte_order_mark == 3) refl n))
+    ∙ same (agreed text byte_order_mark) (length (text ++ more)) (length text) n (omega (arith, h, length-append text more)) h
+  where
+    reach : (b : Bool) → (agreed text byte_order_mark == 3) ≡ b → agreed text byte_order_mark ≤ 3 → (agreed text byte_order_mark < length text) ⊎ (agreed text byte_order_mark ≡ 3)
+    reach true q n = inr (grind (arith, nat_tests))
+    reach false q n = let other : agreed text byte_order_mark ≢ 3 = grind (arith, nat_tests) in inl (omega (arith, other, n, h))
+
+    apart : (n p : ℕ) → n < p → (n == p) ≡ false
+    apart n p low = grind (arith, nat_tests)
+
+    same : (n p q : ℕ) → n ≤ 3 → 3 ≤ p → 3 ≤ q → front_by n p ≡ front_by n q
+    same zero p q n a b = refl
+    same (suc zero) p q n a b = ap (λ x. cond x (seen.Refused refusal.Truncated) (seen.Refused (refusal.Stopped 1))) (apart 1 p (omega (arith, a)) ∙ sym (apart 1 q (omega (arith, b))))
+    same (suc (suc zero)) p q n a b = ap (λ x. cond x (seen.Refused refusal.Truncated) (seen.Refused (refusal.Stopped 2))) (apart 2 p (omega (arith, a)) ∙ sym (apart 2 q (omega (arith, b))))
+    same (suc (suc (suc zero))) p q n a b = refl
+    same (suc (suc (suc (suc k)))) p q n a b = absurd (omega (arith, n))
+
+-- where all bytes agree, they are the first ones of the other list
+pub all_of : (xs ms : List ℕ) → agreed xs ms ≡ length xs → xs ≡ take (length xs) ms
+all_of [] ms e = refl
+all_of (x ∷ xs) [] e = absurd (omega (arith, e))
+all_of (x ∷ xs) (m ∷ ms) e = pick (x == m) refl (all_of xs ms) e
+  where
+    pick : (b : Bool) → (x == m) ≡ b → (agreed xs ms ≡ length xs → xs ≡ take (length xs) ms) → cond b (suc (agreed xs ms)) 0 ≡ suc (length xs) → x ∷ xs ≡ m ∷ take (length xs) ms
+    pick true q more h =
+        let same : x ≡ m = grind (arith, nat_tests) in
+        ap (λ (y : ℕ). y ∷ xs) same ∙ ap (λ (t : List ℕ). m ∷ t) (more (omega (arith, h)))
+    pick false q more h = absurd (omega (arith, h))
+
+-- behind the first bytes of the mark
+pub agreed_behind : (bytes slice : List ℕ) → agreed bytes byte_order_mark ≡ length bytes → length bytes < 3
+    → agreed (bytes ++ slice) byte_order_mark ≡ length bytes + agreed slice (drop (length bytes) byte_order_mark)
+agreed_behind bytes slice part cut =
+    subst (λ (xs : List ℕ). agreed (xs ++ slice) byte_order_mark ≡ length bytes + agreed slice (drop (length bytes) byte_order_mark)) (sym (all_of bytes byte_order_mark part)) (go (length bytes) cut)
+  where
+    go : (n : ℕ) → n < 3 → agreed (take n byte_order_mark ++ slice) byte_order_mark ≡ n + agreed slice (drop n byte_order_mark)
+    go zero low = omega arith
+    go (suc zero) low = omega arith
+    go (suc (suc zero)) low = omega arith
+    go (suc (suc (suc n))) low = absurd (omega (arith, low))

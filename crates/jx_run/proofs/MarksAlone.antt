@@ -6,10 +6,10 @@ use Rattle.std.proofs.lemmas.Bool.Decides.{nat_tests, Decides-eqb, not_from_Deci
 use Rattle.std.proofs.lemmas.List.{length-take-le}
 use Rattle.std.proofs.lemmas.List.Elements.{All-head}
 use Rattle.jx_summary.specs.declared.span.Span.{Span}
-use Rattle.jx_run.specs.declared.settings.Front.TheVariants as seen
-use Rattle.jx_run.specs.declared.settings.FrontMark.TheVariants as on_mark
-use Rattle.jx_run.specs.declared.verdict.Refusal.{Refusal}
-use Rattle.jx_run.specs.declared.verdict.Refusal.TheVariants as refusal
+use Rattle.jx_run.specs.declared.texts.settings.Front.TheVariants as seen
+use Rattle.jx_run.specs.declared.texts.settings.FrontMark.TheVariants as on_mark
+use Rattle.jx_run.specs.declared.texts.verdict.Refusal.{Refusal}
+use Rattle.jx_run.specs.declared.texts.verdict.Refusal.TheVariants as refusal
 use Rattle.jx_run.specs.Elements.{Part, part, part_span, elements}
 use Rattle.jx_run.specs.Front.{agreed, front_by}
 use Rattle.jx_run.specs.MarkAlone.{elements_by, is_mark_alone, part_of, without_mark}

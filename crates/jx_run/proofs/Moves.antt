@@ -5,13 +5,13 @@ use Rattle.std.specs.List.{AllZip}
 use Rattle.jx_summary.specs.declared.span.Span.{Span}
 use Rattle.jx_lex.specs.declared.alphabet.state.LexState.TheVariants as state
 use Rattle.jx_reduce.specs.declared.expect.Expect.TheVariants as expect
-use Rattle.jx_run.specs.declared.element_verdict.ElementVerdict.{ElementVerdict}
-use Rattle.jx_run.specs.declared.element_verdict.ElementVerdict.TheVariants as element
-use Rattle.jx_run.specs.declared.element_verdict.JudgedElement.{JudgedElement}
-use Rattle.jx_run.specs.declared.verdict.Refusal.{Refusal}
-use Rattle.jx_run.specs.declared.verdict.Refusal.TheVariants as refusal
-use Rattle.jx_run.specs.declared.verdict.Verdict.{Verdict}
-use Rattle.jx_run.specs.declared.verdict.Verdict.TheVariants.{Accepted, Refused}
+use Rattle.jx_run.specs.declared.sequences.element_verdict.ElementVerdict.{ElementVerdict}
+use Rattle.jx_run.specs.declared.sequences.element_verdict.ElementVerdict.TheVariants as element
+use Rattle.jx_run.specs.declared.sequences.element_verdict.JudgedElement.{JudgedElement}
+use Rattle.jx_run.specs.declared.texts.verdict.Refusal.{Refusal}
+use Rattle.jx_run.specs.declared.texts.verdict.Refusal.TheVariants as refusal
+use Rattle.jx_run.specs.declared.texts.verdict.Verdict.{Verdict}
+use Rattle.jx_run.specs.declared.texts.verdict.Verdict.TheVariants.{Accepted, Refused}
 use Rattle.jx_run.specs.Elements.{Part, part, is_separator, before_separator, after_separators, filled, has_bytes, elements}
 use Rattle.jx_run.specs.ElementVerdict.{IsClosedText, IsUnclosedText, IsVerdictOn, IsJudgedElement}
 use Rattle.jx_run.specs.Laws.{is_end, verdict_of}

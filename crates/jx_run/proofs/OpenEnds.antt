@@ -107,23 +107,23 @@ behind o (blank {b = b} {i = i} {j = j} {bytes = bytes} h bs) e =
 -- ---- texts
 
 abbrev pub Shows : Tree → ℕ → Bool → Type 0
-Shows tree end loose = (EndsUnclosed tree end → loose ≡ true) × (loose ≡ true → EndsUnclosed tree end)
+Shows tree end open_ended = (EndsUnclosed tree end → open_ended ≡ true) × (open_ended ≡ true → EndsUnclosed tree end)
 
 not_true : {A : Type 0} → false ≡ true → A
 not_true h = absurd (cc)
 
-node_shows : (kind : Kind) (i j k : ℕ) (u : List ℕ) (below : Children) (loose : Bool) → Behind (is_unclosed kind) j k u → loose ≡ last_open (is_unclosed kind) u
-    → Shows (node kind (span i j) below) k loose
-node_shows kind i j k u below loose (nothing e h) is = ((λ x. is ∙ h ∙ x.0), (λ t. (sym (is ∙ h) ∙ t, e)))
-node_shows kind i j k u below loose (blanks low h) is = ((λ x. let e = x.1 in absurd (omega (arith, e, low))), (λ t. not_true (sym (is ∙ h) ∙ t)))
+node_shows : (kind : Kind) (i j k : ℕ) (u : List ℕ) (below : Children) (open_ended : Bool) → Behind (is_unclosed kind) j k u → open_ended ≡ last_open (is_unclosed kind) u
+    → Shows (node kind (span i j) below) k open_ended
+node_shows kind i j k u below open_ended (nothing e h) is = ((λ x. is ∙ h ∙ x.0), (λ t. (sym (is ∙ h) ∙ t, e)))
+node_shows kind i j k u below open_ended (blanks low h) is = ((λ x. let e = x.1 in absurd (omega (arith, e, low))), (λ t. not_true (sym (is ∙ h) ∙ t)))
 
-value_shows : {i j : ℕ} (k : ℕ) {t : List ℕ} (u : List ℕ) {tree : Tree} → Value i t j u tree → (loose : Bool) → Behind (kind_open tree) j k u → loose ≡ last_open (kind_open tree) u
-    → Shows tree k loose
-value_shows {i = i} {j = j} k u (leaf {kind = kind} x) loose h e = node_shows kind i j k u no_children loose h e
-value_shows {i = i} {j = j} k u (empty_array bs) loose h e = node_shows Array i j k u no_children loose h e
-value_shows {i = i} {j = j} k u (array {children = below} xs) loose h e = node_shows Array i j k u below loose h e
-value_shows {i = i} {j = j} k u (empty_object bs) loose h e = node_shows Object i j k u no_children loose h e
-value_shows {i = i} {j = j} k u (object {children = below} xs) loose h e = node_shows Object i j k u below loose h e
+value_shows : {i j : ℕ} (k : ℕ) {t : List ℕ} (u : List ℕ) {tree : Tree} → Value i t j u tree → (open_ended : Bool) → Behind (kind_open tree) j k u → open_ended ≡ last_open (kind_open tree) u
+    → Shows tree k open_ended
+value_shows {i = i} {j = j} k u (leaf {kind = kind} x) open_ended h e = node_shows kind i j k u no_children open_ended h e
+value_shows {i = i} {j = j} k u (empty_array bs) open_ended h e = node_shows Array i j k u no_children open_ended h e
+value_shows {i = i} {j = j} k u (array {children = below} xs) open_ended h e = node_shows Array i j k u below open_ended h e
+value_shows {i = i} {j = j} k u (empty_object bs) open_ended h e = node_shows Object i j k u no_children open_ended h e
+value_shows {i = i} {j = j} k u (object {children = below} xs) open_ended h e = node_shows Object i j k u below open_ended h e
 
 document_shows : {i : ℕ} {t : List ℕ} {tree : Tree} → Document i t tree → Shows tree (i + length t) (ends_open t)
 document_shows {i = i} {t = t} {tree = tree} (document {l = l} {t1 = t1} {t2 = t2} bs v cs) =

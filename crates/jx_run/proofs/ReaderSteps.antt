@@ -26,22 +26,18 @@ use Rattle.jx_reduce.specs.KnownStack.{Known, IsFault, HasRead as StackHasRead, 
 use Rattle.jx_reduce.specs.Read.{Reading, top, read as read_marks, step as mark_step}
 use Rattle.jx_reduce.specs.Whole.{whole_of}
 use Rattle.jx_run.specs.Kept.{HasSeen}
-use Rattle.jx_run.specs.Laws.{IsFaultAt, verdict_of}
+use Rattle.jx_run.specs.Laws.{IsFaultAt}
 use Rattle.jx_run.specs.Reading.{TextReading, went, stopped, too_deep, at_exit, and_then, read, read_text}
 use Rattle.jx_run.specs.ReaderInside.{outcome_at, HasMarks, IsOfUse, offset_at, settled, shifted, IsLow, GoesOn}
-use Rattle.jx_run.specs.Reader.{ReaderValue, HasRead}
-use Rattle.jx_run.specs.Verdict.{Judged}
-use Rattle.jx_run.specs.Whole.{verdict_from}
-use Rattle.jx_run.specs.declared.reader.Progress.{Progress}
-use Rattle.jx_run.specs.declared.reader.Progress.TheVariants.{Going, Stopped, TooDeep}
-use Rattle.jx_run.specs.declared.verdict.Verdict.{Verdict}
-use Rattle.jx_run.specs.declared.verdict.Verdict.TheVariants as verdict
-use Rattle.jx_run.specs.declared.verdict.Refusal.TheVariants as refusal
+use Rattle.jx_run.specs.OutcomeRun.{OutcomeRunValue, exit_at}
+use Rattle.jx_run.specs.Reader.{reads}
+use Rattle.jx_run.specs.declared.readers.progress.Progress.{Progress}
+use Rattle.jx_run.specs.declared.readers.progress.Progress.TheVariants.{Front, Going, Stopped, TooDeep, Failed}
+use Rattle.jx_run.specs.declared.texts.settings.FrontMark.{FrontMark}
 use Rattle.jx_run.specs.inside.Turns.{Turn, wrong, on, enter, leave, turn}
 use Rattle.jx_run.proofs.Fused.{after_turn, after_mark, in_next, run, read-run}
-use Rattle.jx_run.proofs.LawProofs.{FirstFaults, Verdicts}
+use Rattle.jx_run.proofs.LawProofs.{FirstFaults}
 use Rattle.jx_run.proofs.RunJoin.{read-append}
-use Rattle.jx_run.proofs.RunVerdict.{same_verdict}
 
 -- ---- the same bytes further on
 
@@ -79,14 +75,6 @@ read-shift limit b s e o xs =
 
 -- ---- a slice behind the bytes that were read
 
-pub went_of : (x : lexical.LexExit) (r : Reading) (s : LexState) (e : Expect) (o : List Holder) → at_exit x r ≡ went s e o → (x ≡ lexical.state s) × (r ≡ Reading.went e o)
-went_of (lexical.state t) (Reading.went f p) s e o h = (cc, cc)
-went_of (lexical.fault i) (Reading.went f p) s e o h = cc
-went_of (lexical.state t) (Reading.stopped at) s e o h = cc
-went_of (lexical.fault i) (Reading.stopped at) s e o h = cc
-went_of (lexical.state t) (Reading.too_deep at) s e o h = cc
-went_of (lexical.fault i) (Reading.too_deep at) s e o h = cc
-
 pub fed_went : (limit from : ℕ) (bytes slice : List ℕ) (s : LexState) (e : Expect) (o : List Holder) → read_text limit from bytes ≡ went s e o
     → read_text limit from (bytes ++ slice) ≡ shifted (from + length bytes) (read limit s e o 0 slice)
 fed_went limit from bytes slice s e o h =
@@ -120,17 +108,20 @@ low first_fault_law limit from b bytes (too_deep at) h fits =
 fits : (b at : ℕ) → b + at < 2 ^ 64 → offset_at b at ≡ b + at
 fits b at h = omega arith
 
-settle_at : (b : ℕ) (x : Option LexExit) (r : Reading) (t : lexical.LexExit) → IfSome x (λ e. exit_of e ≡ t) → (x ≡ None → IsFault r) → IsLow b (at_exit t r)
-    → outcome_at (settled b x (whole_of r)) r ≡ Some (shifted b (at_exit t r))
-settle_at b (Some (exit.State s)) (Reading.went e o) t is none l = ap (λ (z : lexical.LexExit). Some (shifted b (at_exit z (Reading.went e o)))) is
+-- of a scan that comes to this
+abbrev Settles : ℕ → Option LexExit → Reading → lexical.LexExit → Type 0
+Settles b x r t = outcome_at (settled b x (whole_of r)) r ≡ Some (reads (shifted b (at_exit t r)))
+
+settle_at : (b : ℕ) (x : Option LexExit) (r : Reading) (t : lexical.LexExit) → IfSome x (λ e. exit_of e ≡ t) → (x ≡ None → IsFault r) → IsLow b (at_exit t r) → Settles b x r t
+settle_at b (Some (exit.State s)) (Reading.went e o) t is none l = ap (λ (z : lexical.LexExit). Some (reads (shifted b (at_exit z (Reading.went e o))))) is
 settle_at b (Some (exit.Fault at)) (Reading.went e o) t is none l =
     let m : b + at < 2 ^ 64 = subst (λ (z : lexical.LexExit). IsLow b (at_exit z (Reading.went e o))) (sym is) l in
-    ap (λ (k : ℕ). Some (stopped k)) (fits b at m) ∙ ap (λ (z : lexical.LexExit). Some (shifted b (at_exit z (Reading.went e o)))) is
+    ap (λ (k : ℕ). Some (reads (stopped k))) (fits b at m) ∙ ap (λ (z : lexical.LexExit). Some (reads (shifted b (at_exit z (Reading.went e o))))) is
 settle_at b None (Reading.went e o) t is none l = absurd (none refl)
-settle_at b x (Reading.stopped at) (lexical.state s) is none l = ap (λ (k : ℕ). Some (stopped k)) (fits b at l)
-settle_at b x (Reading.stopped at) (lexical.fault i) is none l = ap (λ (k : ℕ). Some (stopped k)) (fits b at l)
-settle_at b x (Reading.too_deep at) (lexical.state s) is none l = ap (λ (k : ℕ). Some (too_deep k)) (fits b at l)
-settle_at b x (Reading.too_deep at) (lexical.fault i) is none l = ap (λ (k : ℕ). Some (too_deep k)) (fits b at l)
+settle_at b x (Reading.stopped at) (lexical.state s) is none l = ap (λ (k : ℕ). Some (reads (stopped k))) (fits b at l)
+settle_at b x (Reading.stopped at) (lexical.fault i) is none l = ap (λ (k : ℕ). Some (reads (stopped k))) (fits b at l)
+settle_at b x (Reading.too_deep at) (lexical.state s) is none l = ap (λ (k : ℕ). Some (reads (too_deep k))) (fits b at l)
+settle_at b x (Reading.too_deep at) (lexical.fault i) is none l = ap (λ (k : ℕ). Some (reads (too_deep k))) (fits b at l)
 
 -- no mark is allowed twice where it says no more
 pub stuck : (d i j : ℕ) (r : Reading) → r ≡ read_marks d (record { kind = kind.Colon; at = i } ∷ record { kind = kind.Colon; at = j } ∷ []) r → IsFault r
@@ -154,12 +145,12 @@ no_fault (Reading.went f o) e n h i = i
 no_fault (Reading.stopped at) e n h i = cc
 no_fault (Reading.too_deep at) e n h i = cc
 
-use_of : (b : ℕ) (x : Option LexExit) (w : Whole) (d : ℕ) (k : Known) → w ≡ whole_of k.reading → HasMarks d k → IsOfUse (settled b x w) d k
-use_of b x (whole.Stopped at) d k h m = m
-use_of b x (whole.TooDeep at) d k h m = m
-use_of b (Some (exit.State s)) (whole.Went e n) d k h m = (m, no_fault k.reading e n h)
-use_of b (Some (exit.Fault at)) (whole.Went e n) d k h m = m
-use_of b None (whole.Went e n) d k h m = tt
+use_of : (b : ℕ) (x : Option LexExit) (w : Whole) (d : ℕ) (k : Known) → w ≡ whole_of k.reading → HasMarks d k → (mark : FrontMark) → IsOfUse (settled b x w) mark d k
+use_of b x (whole.Stopped at) d k h m mark = m
+use_of b x (whole.TooDeep at) d k h m mark = m
+use_of b (Some (exit.State s)) (whole.Went e n) d k h m mark = (m, no_fault k.reading e n h)
+use_of b (Some (exit.Fault at)) (whole.Went e n) d k h m mark = m
+use_of b None (whole.Went e n) d k h m mark = tt
 
 pub goes_on : (old new : Known) (ms : List Mark) (track : lexical.Track) (b : ℕ) (x : Option LexExit) (w : Whole) → StackHasRead ms old
     → SeesTrack (λ marks ends. HasSeen marks ends old) (λ marks ends. HasSeen marks ends new) track
@@ -171,22 +162,13 @@ goes_on old new ms track b x w h sees is done whole_is =
     let deep : new.depth ≡ old.depth = cc in
     let reading : new.reading ≡ read_marks old.depth track.marks old.reading =
     seen.read ∙ ap (λ (d : ℕ). read_marks d (ms ++ track.marks) stack_start) deep ∙ fold-append (λ reading mark. mark_step old.depth mark reading) stack_start ms track.marks ∙ ap (read_marks old.depth track.marks) (sym h) in
-    let at_new : IsLow b (at_exit track.exit new.reading) → outcome_at (settled b x w) new.reading ≡ Some (shifted b (at_exit track.exit new.reading)) =
+    let at_new : IsLow b (at_exit track.exit new.reading) → outcome_at (settled b x w) new.reading ≡ Some (reads (shifted b (at_exit track.exit new.reading))) =
     λ l. ap (λ (v : Whole). outcome_at (settled b x v) new.reading) whole_is
     ∙ settle_at b x new.reading track.exit is (λ e. done_fault new _ _ seen (done e)) l in
     record {
       of_use = use_of b x w old.depth new whole_is (record { depth_is = deep; marks = ms ++ track.marks; read = seen.read });
-      outcome = subst (λ (r : Reading). IsLow b (at_exit track.exit r) → outcome_at (settled b x w) new.reading ≡ Some (shifted b (at_exit track.exit r))) reading at_new;
+      outcome = subst (λ (r : Reading). IsLow b (at_exit track.exit r) → outcome_at (settled b x w) new.reading ≡ Some (reads (shifted b (at_exit track.exit r)))) reading at_new;
     }
-
--- ---- a reader that is fed
-
--- what the stack came to, and where the reading stands
-pub at_state : (limit from : ℕ) (bytes : List ℕ) (s : LexState) (r : Reading) → (IsFault r → ⊥) → Some (at_exit (lexical.state s) r) ≡ Some (read_text limit from bytes)
-    → (e : Expect) × (o : List Holder) × (r ≡ Reading.went e o) × (read_text limit from bytes ≡ went s e o)
-at_state limit from bytes s (Reading.went e o) f h = (e, o, refl, sym cc)
-at_state limit from bytes s (Reading.stopped at) f h = absurd (f tt)
-at_state limit from bytes s (Reading.too_deep at) f h = absurd (f tt)
 
 -- what the text comes to is what the stack came to, behind the lexical state
 pub read_is : (limit d : ℕ) (s : LexState) (e : Expect) (o : List Holder) (xs : List ℕ) (r : Reading) → d ≡ limit → r ≡ Reading.went e o
@@ -195,40 +177,6 @@ unfolding read
 read_is limit d s e o xs r i j =
     ap (λ (k : ℕ). at_exit (lex s 0 xs).exit (read_marks k (lex s 0 xs).marks (Reading.went e o))) (sym i)
     ∙ ap (λ (q : Reading). at_exit (lex s 0 xs).exit (read_marks d (lex s 0 xs).marks q)) (sym j)
-
-pub fed_slice : FirstFaults → (limit from count : ℕ) (bytes slice : List ℕ) (s : LexState) (old new : Known) (p : Progress) → old.depth ≡ limit → (IsFault old.reading → ⊥)
-    → GoesOn old (lex s 0 slice) (read_marks old.depth (lex s 0 slice).marks old.reading) (from + count) p new
-    → count ≡ length bytes → from + count + length slice < 2 ^ 64 → Some (at_exit (lexical.state s) old.reading) ≡ Some (read_text limit from bytes)
-    → outcome_at p new.reading ≡ Some (read_text limit from (bytes ++ slice))
-fed_slice first_fault_law limit from count bytes slice s old new p deep going goes long fit h =
-    let a = at_state limit from bytes s old.reading going h in
-    let base : from + length bytes ≡ from + count = omega arith in
-    let text : read_text limit from (bytes ++ slice) ≡ shifted (from + count) (at_exit (lex s 0 slice).exit (read_marks old.depth (lex s 0 slice).marks old.reading)) =
-    fed_went limit from bytes slice s a.0 a.1 a.3
-    ∙ ap (λ (b : ℕ). shifted b (read limit s a.0 a.1 0 slice)) base
-    ∙ ap (shifted (from + count)) (read_is limit old.depth s a.0 a.1 slice old.reading deep a.2) in
-    let all : length (bytes ++ slice) ≡ length bytes + length slice = length-append bytes slice in
-    let fits_all : from + length (bytes ++ slice) < 2 ^ 64 = omega arith in
-    goes.outcome (low first_fault_law limit from (from + count) (bytes ++ slice) _ text fits_all) ∙ ap (λ (o : TextReading). Some o) (sym text)
-
-pub fed_stopped : (limit from at : ℕ) (bytes slice : List ℕ) (r : Reading) (p : Progress) → p ≡ Stopped at → outcome_at p r ≡ Some (read_text limit from bytes)
-    → outcome_at p r ≡ Some (read_text limit from (bytes ++ slice))
-fed_stopped limit from at bytes slice r p is h =
-    let e : Some (stopped at) ≡ Some (read_text limit from bytes) = ap (λ (q : Progress). outcome_at q r) (sym is) ∙ h in
-    let f : read_text limit from bytes ≡ stopped at = cc in
-    h ∙ ap (λ (o : TextReading). Some o) (f ∙ sym (fed_over limit from bytes slice (stopped at) (λ more. refl) f))
-
-pub fed_too_deep : (limit from at : ℕ) (bytes slice : List ℕ) (r : Reading) (p : Progress) → p ≡ TooDeep at → outcome_at p r ≡ Some (read_text limit from bytes)
-    → outcome_at p r ≡ Some (read_text limit from (bytes ++ slice))
-fed_too_deep limit from at bytes slice r p is h =
-    let e : Some (too_deep at) ≡ Some (read_text limit from bytes) = ap (λ (q : Progress). outcome_at q r) (sym is) ∙ h in
-    let f : read_text limit from bytes ≡ too_deep at = cc in
-    h ∙ ap (λ (o : TextReading). Some o) (f ∙ sym (fed_over limit from bytes slice (too_deep at) (λ more. refl) f))
-
--- at the start nothing is read
-pub at_start : (limit from : ℕ) (r : Reading) → r ≡ stack_start → outcome_at (Going state.Gap) r ≡ Some (read_text limit from [])
-unfolding read lex
-at_start limit from r h = ap (λ (q : Reading). Some (at_exit (lexical.state state.Gap) q)) h
 
 pub slice_all : (xs : List ℕ) → slice_range xs 0 (length xs) ≡ xs
 slice_all xs = take_all _ xs (omega arith)
@@ -249,25 +197,71 @@ seen_done k f marks more ends others seen =
       depth = ap (λ (es : List ℕ). es ++ others) seen.depth;
     }
 
--- ---- verdicts
+-- ---- what a run comes to
 
-pub judged_going : Verdicts → (v : ReaderValue) (p : Progress) (s : LexState) (r : Reading) (w : Whole) (bytes : List ℕ) (x : Verdict) → p ≡ Going s → outcome_at p r ≡ v.outcome → w ≡ whole_of r
-    → x ≡ verdict_from (exit.State s) w → HasRead bytes v → Judged v.start bytes v.depth x
-judged_going verdict_law v p s r w bytes x is same all from h =
-    let e : Some (at_exit (lexical.state s) r) ≡ Some (read_text v.depth v.start bytes) = ap (λ (q : Progress). outcome_at q r) (sym is) ∙ same ∙ h.outcome in
-    let f : read_text v.depth v.start bytes ≡ at_exit (lexical.state s) r = cc in
-    subst (Judged v.start bytes v.depth) (ap verdict_of f ∙ same_verdict (exit.State s) r ∙ ap (verdict_from (exit.State s)) (sym all) ∙ sym from) (verdict_law v.depth v.start bytes)
+went_of : (x : lexical.LexExit) (r : Reading) (s : LexState) (e : Expect) (o : List Holder) → at_exit x r ≡ went s e o → r ≡ Reading.went e o
+went_of (lexical.state t) (Reading.went f p) s e o h = cc
+went_of (lexical.fault i) (Reading.went f p) s e o h = cc
+went_of (lexical.state t) (Reading.stopped at) s e o h = cc
+went_of (lexical.fault i) (Reading.stopped at) s e o h = cc
+went_of (lexical.state t) (Reading.too_deep at) s e o h = cc
+went_of (lexical.fault i) (Reading.too_deep at) s e o h = cc
 
-pub judged_stopped : Verdicts → (v : ReaderValue) (p : Progress) (at : ℕ) (r : Reading) (bytes : List ℕ) → p ≡ Stopped at → outcome_at p r ≡ v.outcome → HasRead bytes v
-    → Judged v.start bytes v.depth (verdict.Refused (refusal.Stopped at))
-judged_stopped verdict_law v p at r bytes is same h =
-    let e : Some (stopped at) ≡ Some (read_text v.depth v.start bytes) = ap (λ (q : Progress). outcome_at q r) (sym is) ∙ same ∙ h.outcome in
-    let f : read_text v.depth v.start bytes ≡ stopped at = cc in
-    subst (Judged v.start bytes v.depth) (ap verdict_of f) (verdict_law v.depth v.start bytes)
+-- a fault of the marks comes before one of the lexical machine
+pub at_stopped : (x : lexical.LexExit) (at : ℕ) → at_exit x (Reading.stopped at) ≡ stopped at
+at_stopped (lexical.state s) at = refl
+at_stopped (lexical.fault i) at = refl
 
-pub judged_too_deep : Verdicts → (v : ReaderValue) (p : Progress) (at : ℕ) (r : Reading) (bytes : List ℕ) → p ≡ TooDeep at → outcome_at p r ≡ v.outcome → HasRead bytes v
-    → Judged v.start bytes v.depth (verdict.Refused (refusal.TooDeep at))
-judged_too_deep verdict_law v p at r bytes is same h =
-    let e : Some (too_deep at) ≡ Some (read_text v.depth v.start bytes) = ap (λ (q : Progress). outcome_at q r) (sym is) ∙ same ∙ h.outcome in
-    let f : read_text v.depth v.start bytes ≡ too_deep at = cc in
-    subst (Judged v.start bytes v.depth) (ap verdict_of f) (verdict_law v.depth v.start bytes)
+pub at_too_deep : (x : lexical.LexExit) (at : ℕ) → at_exit x (Reading.too_deep at) ≡ too_deep at
+at_too_deep (lexical.state s) at = refl
+at_too_deep (lexical.fault i) at = refl
+
+-- what its entry answers is what the marks of its bytes come to behind the stack
+pub run_is : (run : OutcomeRunValue) (s : LexState) (e : Expect) (o : List Holder) (more : List ℕ) (old : Known) (x : LexExit) (q answer : Reading) → run.depth ≡ old.depth → run.start ≡ 0
+    → old.reading ≡ Reading.went e o → exit_of x ≡ exit_at run s → q ≡ answer → at_exit (exit_at run s) answer ≡ read run.depth s e o run.start more
+    → at_exit (lex s 0 more).exit (read_marks old.depth (lex s 0 more).marks old.reading) ≡ at_exit (exit_of x) q
+run_is run s e o more old x q answer deep zero stands exits answers reads_as =
+    sym (
+    ap (λ z. at_exit z q) exits
+    ∙ ap (at_exit (exit_at run s)) answers
+    ∙ reads_as
+    ∙ ap (λ (i : ℕ). read run.depth s e o i more) zero
+    ∙ read_is run.depth old.depth s e o more old.reading (sym deep) stands)
+
+module _ (b : ℕ) (old new : Known) (track : lexical.Track) (kept : new.depth ≡ old.depth) where
+  abbrev pub led_to : Reading
+  led_to = read_marks old.depth track.marks old.reading
+
+  pub run_goes : (t : LexState) (e : Expect) (o : List Holder) (ms : List Mark) → StackHasRead ms old → at_exit track.exit led_to ≡ went t e o → new.reading ≡ Reading.went e o
+      → GoesOn old track led_to b (Going t) new
+  run_goes t e o ms h is now =
+      let taken : new.reading ≡ read_marks new.depth (ms ++ track.marks) stack_start =
+      now ∙ sym (went_of track.exit led_to t e o is) ∙ ap (read_marks old.depth track.marks) h ∙ sym (fold-append (λ reading mark. mark_step old.depth mark reading) stack_start ms track.marks)
+      ∙ ap (λ (d : ℕ). read_marks d (ms ++ track.marks) stack_start) (sym kept) in
+      record {
+        of_use = λ mark. (record { depth_is = kept; marks = ms ++ track.marks; read = taken }, λ fault. subst IsFault now fault);
+        outcome = λ l. ap (λ (q : Reading). outcome_at (Going t) q) now ∙ ap (λ (z : TextReading). Some (reads (shifted b z))) (sym is);
+      }
+
+  -- behind a fault the stack is at its start again
+  pub run_stops : (at : ℕ) → at_exit track.exit led_to ≡ stopped at → new.reading ≡ stack_start → GoesOn old track led_to b (Stopped (offset_at b at)) new
+  run_stops at is now =
+      record {
+        of_use = λ mark. record { depth_is = kept; marks = []; read = now };
+        outcome = λ l. ap (λ (k : ℕ). Some (reads (stopped k))) (fits b at (subst (IsLow b) is l)) ∙ ap (λ (z : TextReading). Some (reads (shifted b z))) (sym is);
+      }
+
+  pub run_is_too_deep : (at : ℕ) → at_exit track.exit led_to ≡ too_deep at → new.reading ≡ stack_start → GoesOn old track led_to b (TooDeep (offset_at b at)) new
+  run_is_too_deep at is now =
+      record {
+        of_use = λ mark. record { depth_is = kept; marks = []; read = now };
+        outcome = λ l. ap (λ (k : ℕ). Some (reads (too_deep k))) (fits b at (subst (IsLow b) is l)) ∙ ap (λ (z : TextReading). Some (reads (shifted b z))) (sym is);
+      }
+
+-- a stack of use has the reader's depth
+pub depth_of : (p : Progress) (m : FrontMark) (d : ℕ) (k : Known) → (p ≡ Failed → ⊥) → IsOfUse p m d k → k.depth ≡ d
+depth_of (Front n) m d k other u = u.depth_is
+depth_of (Going s) m d k other u = u.0.depth_is
+depth_of (Stopped at) m d k other u = u.depth_is
+depth_of (TooDeep at) m d k other u = u.depth_is
+depth_of Failed m d k other u = absurd (other refl)

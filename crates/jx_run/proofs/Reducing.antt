@@ -1,4 +1,4 @@
--- The ways that are made of a chunk map, and their structures.
+-- The transitions that are made of a chunk map, and their structures.
 use Rattle.std.proofs.Common.{◌≡◌, ◌≢◌, ℕ, zero, suc, ◌+◌, ◌<◌, ◌≤◌, List, [], ◌∷◌, ◌++◌, length, get_or, take, Option, Some, None, Bool, true, false, Result, Ok, Err, set, flat_map, append_assoc, refl, sym, ap, subst, ◌∙◌, inl, inr, ◌⊎◌, arith, All}
 use Rattle.std.specs.Prelude.{◌==◌, slice_get, IfOk, IfSome, IsSomeAnd, OnOk}
 use Rattle.std.proofs.lemmas.Bool.Decides.{Decides-eqb, nat_tests, not_from_Decides}
@@ -25,13 +25,13 @@ use Rattle.jx_reduce.specs.declared.holder.Holder.{Holder}
 use Rattle.jx_reduce.specs.Offsets.{EachIn, RisingFrom}
 use Rattle.jx_reduce.specs.Read.{read as read_marks, Reading}
 use Rattle.jx_reduce.specs.Structure.{StructureValue, IsBefore, IsOf, SpansIn, answer}
-use Rattle.jx_run.specs.declared.way.Way.{Way}
+use Rattle.jx_run.specs.declared.runs.transition.Transition.{Transition}
 use Rattle.jx_run.specs.Reading.{at_exit, read}
-use Rattle.jx_run.specs.inside.Reduced.{AreInside, AreNumbered, AreReduced, AreRising, AreWaysOf, IsAt, IsReduced, IsWayOf, path_at}
+use Rattle.jx_run.specs.inside.Reduced.{AreInside, AreNumbered, AreReduced, AreRising, AreTransitionsOf, IsAt, IsReduced, IsTransitionOf, path_at}
 use Rattle.jx_run.specs.inside.Joins.{IsAbove}
 use Rattle.jx_run.specs.OutcomeRun.{OutcomeRunValue, IsOutcomeRun, IsFormWithin, outcome_in}
 use Rattle.jx_lex.proofs.StateOrder.{state-at}
-use Rattle.jx_run.proofs.Ways.{all_at, at_end, entries_are}
+use Rattle.jx_run.proofs.Transitions.{all_at, at_end, entries_are}
 
 -- ---- the marks of the lexical machine rise, and lie where the bytes do
 
@@ -168,7 +168,7 @@ none_reduced limit ps slots h n f e =
     let y : get_or slots n None ≡ None = h n None (slice_get_within slots n (Some f) e) in
     absurd cc
 
--- the next number on the way
+-- the next number on the path
 pub first_within : (path more : List ℕ) (n m : ℕ) → path ≡ n ∷ more → All (λ i. i < m) path → n < m
 first_within path more n m e h = let a : All (λ i. i < m) (n ∷ more) = subst (All (λ i. i < m)) e h in a 0 0 (omega arith)
 
@@ -315,53 +315,53 @@ reduced_within limit low high marks f h inside = record { depth = h.depth; offse
 pub all_push : {X : Type 0} (P : X → Type 0) (xs : List X) (x : X) → All P xs → P x → All P (xs ++ x ∷ [])
 all_push P xs x h p = All-append P xs (x ∷ []) h (All-cons P x [] p (All-nil P))
 
--- ---- the ways of all states
+-- ---- the transitions of all states
 
 pub states-many : length all_states ≡ 32
 states-many = refl
 
 module _ (limit : ℕ) (m : Map) where
-  each-above : (olds news : List StructureValue) → IsAbove olds news → (ss : List LexState) (ws : List Way) → AreWaysOf limit m olds ss ws → AreWaysOf limit m news ss ws
+  each-above : (olds news : List StructureValue) → IsAbove olds news → (ss : List LexState) (ws : List Transition) → AreTransitionsOf limit m olds ss ws → AreTransitionsOf limit m news ss ws
   each-above olds news up [] [] h = tt
   each-above olds news up [] (w ∷ ws) h = absurd h
   each-above olds news up (s ∷ ss) [] h = absurd h
   each-above olds news up (s ∷ ss) (w ∷ ws) h =
       (record { exit = h.0.exit; marks = at_above limit _ olds news w.structure up h.0.marks }, each-above olds news up ss ws h.1)
 
-  each-more : (fs : List StructureValue) (ss : List LexState) (ws : List Way) (s : LexState) (w : Way) → AreWaysOf limit m fs ss ws → IsWayOf limit fs (track m s) w
-      → AreWaysOf limit m fs (ss ++ s ∷ []) (ws ++ w ∷ [])
+  each-more : (fs : List StructureValue) (ss : List LexState) (ws : List Transition) (s : LexState) (w : Transition) → AreTransitionsOf limit m fs ss ws → IsTransitionOf limit fs (track m s) w
+      → AreTransitionsOf limit m fs (ss ++ s ∷ []) (ws ++ w ∷ [])
   each-more fs [] [] s w h a = (a, tt)
   each-more fs [] (x ∷ ws) s w h a = absurd h
   each-more fs (t ∷ ss) [] s w h a = absurd h
   each-more fs (t ∷ ss) (x ∷ ws) s w h a = (h.0, each-more fs ss ws s w h.1 a)
 
-  pub each-length : (fs : List StructureValue) (ss : List LexState) (ws : List Way) → AreWaysOf limit m fs ss ws → length ws ≡ length ss
+  pub each-length : (fs : List StructureValue) (ss : List LexState) (ws : List Transition) → AreTransitionsOf limit m fs ss ws → length ws ≡ length ss
   each-length fs [] [] h = refl
   each-length fs [] (x ∷ ws) h = absurd h
   each-length fs (t ∷ ss) [] h = absurd h
   each-length fs (t ∷ ss) (x ∷ ws) h = ap suc (each-length fs ss ws h.1)
 
-  pub each_there : (fs : List StructureValue) (ss : List LexState) (ws : List Way) → AreWaysOf limit m fs ss ws → All (λ (w : Way). w.structure < length fs) ws
-  each_there fs [] [] h = All-nil (λ (w : Way). w.structure < length fs)
+  pub each_there : (fs : List StructureValue) (ss : List LexState) (ws : List Transition) → AreTransitionsOf limit m fs ss ws → All (λ (w : Transition). w.structure < length fs) ws
+  each_there fs [] [] h = All-nil (λ (w : Transition). w.structure < length fs)
   each_there fs [] (x ∷ ws) h = absurd h
   each_there fs (t ∷ ss) [] h = absurd h
   each_there fs (t ∷ ss) (x ∷ ws) h =
-      All-cons (λ (w : Way). w.structure < length fs) x ws (slice_get_within fs x.structure h.0.marks.form h.0.marks.at) (each_there fs ss ws h.1)
+      All-cons (λ (w : Transition). w.structure < length fs) x ws (slice_get_within fs x.structure h.0.marks.form h.0.marks.at) (each_there fs ss ws h.1)
 
-  abbrev WayAt : List StructureValue → List Way → ℕ → LexState → Type 0
-  WayAt fs ws i s = (w : Way) × (slice_get ws i ≡ Some w) × IsWayOf limit fs (track m s) w
+  abbrev TransitionAt : List StructureValue → List Transition → ℕ → LexState → Type 0
+  TransitionAt fs ws i s = (w : Transition) × (slice_get ws i ≡ Some w) × IsTransitionOf limit fs (track m s) w
 
-  each-at : (fs : List StructureValue) (ss : List LexState) (ws : List Way) → AreWaysOf limit m fs ss ws → (i : ℕ) (s : LexState) → slice_get ss i ≡ Some s → WayAt fs ws i s
+  each-at : (fs : List StructureValue) (ss : List LexState) (ws : List Transition) → AreTransitionsOf limit m fs ss ws → (i : ℕ) (s : LexState) → slice_get ss i ≡ Some s → TransitionAt fs ws i s
   each-at fs [] ws h i s g = absurd cc
   each-at fs (t ∷ ss) [] h i s g = absurd h
-  each-at fs (t ∷ ss) (x ∷ ws) h zero s g = let e : t ≡ s = cc in subst (WayAt fs (x ∷ ws) 0) e (x, refl, h.0)
+  each-at fs (t ∷ ss) (x ∷ ws) h zero s g = let e : t ≡ s = cc in subst (TransitionAt fs (x ∷ ws) 0) e (x, refl, h.0)
   each-at fs (t ∷ ss) (x ∷ ws) h (suc i) s g = each-at fs ss ws h.1 i s g
 
-  pub each_next : (states : List LexState) (i : ℕ) (olds news : List StructureValue) (ws : List Way) (d : LexState) (w : Way) → i < 32 → states ≡ all_states
-      → AreWaysOf limit m olds (take i all_states) ws → IsAbove olds news → IsWayOf limit news (track m (get_or states i d)) w
-      → AreWaysOf limit m news (take (i + 1) all_states) (ws ++ w ∷ [])
+  pub each_next : (states : List LexState) (i : ℕ) (olds news : List StructureValue) (ws : List Transition) (d : LexState) (w : Transition) → i < 32 → states ≡ all_states
+      → AreTransitionsOf limit m olds (take i all_states) ws → IsAbove olds news → IsTransitionOf limit news (track m (get_or states i d)) w
+      → AreTransitionsOf limit m news (take (i + 1) all_states) (ws ++ w ∷ [])
   each_next states i olds news ws d w low is h up a =
-      subst (λ ss. AreWaysOf limit m news ss (ws ++ w ∷ []))
+      subst (λ ss. AreTransitionsOf limit m news ss (ws ++ w ∷ []))
       (ap (λ ss. take i all_states ++ get_or ss i d ∷ []) is ∙ sym (take-suc all_states i d low) ∙ ap (λ n. take n all_states) (let n : suc i ≡ i + 1 = omega arith in n))
       (each-more news (take i all_states) ws (get_or states i d) w (each-above olds news up (take i all_states) ws h) a)
 
@@ -377,12 +377,12 @@ outcome_is limit s start bytes t x f same ends a e o h =
     ∙ ap (λ (t : Track). at_exit t.exit (read_marks limit t.marks (Reading.went e o))) same
 
 pub outcomes_are_of : (run : OutcomeRunValue) (map : Map) (bytes : List ℕ) → run.start ≡ map.start → run.end ≡ map.end → Map.IsOf bytes map
-    → AreWaysOf run.depth map run.structures all_states run.ways → IsOutcomeRun bytes run
+    → AreTransitionsOf run.depth map run.structures all_states run.transitions → IsOutcomeRun bytes run
 outcomes_are_of run map bytes start end h a =
     record {
       long = end ∙ h.long ∙ ap (λ n. n + length bytes) (sym start);
       outcomes = λ s e o short.
-          let w = each-at run.depth map run.structures all_states run.ways a (ordinal s) s (state-at s) in
+          let w = each-at run.depth map run.structures all_states run.transitions a (ordinal s) s (state-at s) in
           let k = (w.2).marks in
           ap (λ z. outcome_in z e o) (entries_are run s w.0 k.form w.1 k.at)
           ∙ outcome_is run.depth s map.start bytes (track map s) (w.0).exit k.form (h.tracks s) (w.2).exit k.of e o short

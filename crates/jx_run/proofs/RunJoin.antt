@@ -18,17 +18,17 @@ use Rattle.jx_reduce.specs.declared.expect.Expect.{Expect}
 use Rattle.jx_reduce.specs.declared.holder.Holder.{Holder}
 use Rattle.jx_reduce.specs.Read.{Reading, top, then_by}
 use Rattle.jx_reduce.specs.Structure.{StructureValue, answer, IsJoin, SpansIn}
-use Rattle.jx_run.specs.declared.joins.Pair.{Pair}
-use Rattle.jx_run.specs.declared.way.Way.{Way}
+use Rattle.jx_run.specs.declared.runs.joins.Pair.{Pair}
+use Rattle.jx_run.specs.declared.runs.transition.Transition.{Transition}
 use Rattle.jx_run.specs.inside.Turns.{Turn, wrong, on, enter, leave, turn}
 use Rattle.jx_run.specs.Reading.{TextReading, went, stopped, too_deep, at_exit, and_then, read}
-use Rattle.jx_run.specs.inside.Joins.{AreJoined, AreJoinedWays, AreMade, GoesOnWith, GoesThrough, IsAbove, IsJoinedWay, IsMade, IsMadeAt, IsOnward}
+use Rattle.jx_run.specs.inside.Joins.{AreJoined, AreJoinedTransitions, AreMade, GoesOnWith, GoesThrough, IsAbove, IsJoinedTransition, IsMade, IsMadeAt, IsOnward}
 use Rattle.jx_run.specs.OutcomeRun.{OutcomeRunValue, Entries, entries_at, exit_at, exit_in, outcome_in, outcome, GoesOn, IsOutcomeRun, IsWellFormed, IsFormWithin}
 use Rattle.jx_run.specs.inside.Rest.{IsRestOf}
 use Rattle.jx_run.proofs.Completion.{run-append}
 use Rattle.jx_run.proofs.Reducing.{push_above, states-many}
 use Rattle.jx_lex.proofs.StateOrder.{state-at}
-use Rattle.jx_run.proofs.Ways.{all_at, at_end, entries_are, has_entries, one_of, some_of, with_one}
+use Rattle.jx_run.proofs.Transitions.{all_at, at_end, entries_are, has_entries, one_of, some_of, with_one}
 use Rattle.jx_run.proofs.Fused.{after_turn, after_mark, in_next, run, read-run}
 
 -- ---- no reading comes to more open containers than the depth
@@ -141,9 +141,9 @@ joined_within wider limit low between high a b f w v below above goes =
 pub right_within : (limit limit' between start high : ℕ) (f : StructureValue) → limit ≡ limit' → between ≡ start → IsFormWithin limit' start high f → IsFormWithin limit between high f
 right_within limit limit' between start high f e i w = record { depth = w.depth ∙ sym e; offsets = subst (λ m. SpansIn m high f) (sym i) w.offsets }
 
--- ---- ways that go on
+-- ---- transitions that go on
 
-pub through_fault : (left right : OutcomeRunValue) (s : LexState) (w : Way) (i : ℕ) → slice_get left.ways (ordinal s) ≡ Some w → w.structure < length left.structures
+pub through_fault : (left right : OutcomeRunValue) (s : LexState) (w : Transition) (i : ℕ) → slice_get left.transitions (ordinal s) ≡ Some w → w.structure < length left.structures
     → w.exit ≡ exit.Fault i → GoesThrough left right s w.exit (record { left = w.structure; right = None })
 through_fault left right s w i h low ends e f is deep made =
     let a = some_of left.structures w.structure low in
@@ -153,8 +153,8 @@ through_fault left right s w i h low ends e f is deep made =
     subst (λ g. GoesOn left.depth e right (record { exit = w.exit; marks = g })) (sym (made a.0 a.1))
     (subst (λ x. GoesOn left.depth x right entries) same (goes_on_fault left.depth entries right i ends))
 
-pub through_state : (left right : OutcomeRunValue) (s t : LexState) (w u : Way) → slice_get left.ways (ordinal s) ≡ Some w → w.structure < length left.structures
-    → w.exit ≡ exit.State t → slice_get right.ways (ordinal t) ≡ Some u → u.structure < length right.structures
+pub through_state : (left right : OutcomeRunValue) (s t : LexState) (w u : Transition) → slice_get left.transitions (ordinal s) ≡ Some w → w.structure < length left.structures
+    → w.exit ≡ exit.State t → slice_get right.transitions (ordinal t) ≡ Some u → u.structure < length right.structures
     → GoesThrough left right s u.exit (record { left = w.structure; right = Some u.structure })
 through_state left right s t w u h low ends k below e f is deep made =
     let a = some_of left.structures w.structure low in
@@ -167,7 +167,7 @@ through_state left right s t w u h low ends k below e f is deep made =
     subst (λ x. GoesOn left.depth x right (record { exit = u.exit; marks = f })) same
     (goes_on_state left.depth entries next (record { exit = u.exit; marks = f }) right t ends (entries_are right t u b.0 k b.1) (sym goes.depth ∙ deep) refl goes.joined)
 
-pub from_there : (left : OutcomeRunValue) (s : LexState) (w : Way) → slice_get left.ways (ordinal s) ≡ Some w → w.structure < length left.structures
+pub from_there : (left : OutcomeRunValue) (s : LexState) (w : Transition) → slice_get left.transitions (ordinal s) ≡ Some w → w.structure < length left.structures
     → (e : Entries) × (entries_at left s ≡ Some e)
 from_there left s w h low =
     let a = some_of left.structures w.structure low in
@@ -207,63 +207,63 @@ push_made left right pairs fs pair f h made =
           made = subst (λ q. IsMade left right q f) e.1 made;
         }
 
--- ---- the ways of the joined bytes
+-- ---- the transitions of the joined bytes
 
 module _ (left right : OutcomeRunValue) where
-  each-above : (olds news : List StructureValue) → IsAbove olds news → (ss : List LexState) (ws : List Way) → AreJoinedWays left right olds ss ws → AreJoinedWays left right news ss ws
+  each-above : (olds news : List StructureValue) → IsAbove olds news → (ss : List LexState) (ws : List Transition) → AreJoinedTransitions left right olds ss ws → AreJoinedTransitions left right news ss ws
   each-above olds news up [] [] h = tt
   each-above olds news up [] (w ∷ ws) h = absurd h
   each-above olds news up (s ∷ ss) [] h = absurd h
   each-above olds news up (s ∷ ss) (w ∷ ws) h =
       (record { form = h.0.form; at = up w.structure h.0.form h.0.at; goes = h.0.goes }, each-above olds news up ss ws h.1)
 
-  each-more : (fs : List StructureValue) (ss : List LexState) (ws : List Way) (s : LexState) (w : Way) → AreJoinedWays left right fs ss ws → IsJoinedWay left right fs s w
-      → AreJoinedWays left right fs (ss ++ s ∷ []) (ws ++ w ∷ [])
+  each-more : (fs : List StructureValue) (ss : List LexState) (ws : List Transition) (s : LexState) (w : Transition) → AreJoinedTransitions left right fs ss ws → IsJoinedTransition left right fs s w
+      → AreJoinedTransitions left right fs (ss ++ s ∷ []) (ws ++ w ∷ [])
   each-more fs [] [] s w h a = (a, tt)
   each-more fs [] (x ∷ ws) s w h a = absurd h
   each-more fs (t ∷ ss) [] s w h a = absurd h
   each-more fs (t ∷ ss) (x ∷ ws) s w h a = (h.0, each-more fs ss ws s w h.1 a)
 
-  pub joined-length : (fs : List StructureValue) (ss : List LexState) (ws : List Way) → AreJoinedWays left right fs ss ws → length ws ≡ length ss
+  pub joined-length : (fs : List StructureValue) (ss : List LexState) (ws : List Transition) → AreJoinedTransitions left right fs ss ws → length ws ≡ length ss
   joined-length fs [] [] h = refl
   joined-length fs [] (x ∷ ws) h = absurd h
   joined-length fs (t ∷ ss) [] h = absurd h
   joined-length fs (t ∷ ss) (x ∷ ws) h = ap suc (joined-length fs ss ws h.1)
 
-  pub joined_there : (fs : List StructureValue) (ss : List LexState) (ws : List Way) → AreJoinedWays left right fs ss ws → All (λ (w : Way). w.structure < length fs) ws
-  joined_there fs [] [] h = All-nil (λ (w : Way). w.structure < length fs)
+  pub joined_there : (fs : List StructureValue) (ss : List LexState) (ws : List Transition) → AreJoinedTransitions left right fs ss ws → All (λ (w : Transition). w.structure < length fs) ws
+  joined_there fs [] [] h = All-nil (λ (w : Transition). w.structure < length fs)
   joined_there fs [] (x ∷ ws) h = absurd h
   joined_there fs (t ∷ ss) [] h = absurd h
   joined_there fs (t ∷ ss) (x ∷ ws) h =
-      All-cons (λ (w : Way). w.structure < length fs) x ws (slice_get_within fs x.structure h.0.form h.0.at) (joined_there fs ss ws h.1)
+      All-cons (λ (w : Transition). w.structure < length fs) x ws (slice_get_within fs x.structure h.0.form h.0.at) (joined_there fs ss ws h.1)
 
-  abbrev JoinedAt : List StructureValue → List Way → ℕ → LexState → Type 0
-  JoinedAt fs ws i s = (w : Way) × (slice_get ws i ≡ Some w) × IsJoinedWay left right fs s w
+  abbrev JoinedAt : List StructureValue → List Transition → ℕ → LexState → Type 0
+  JoinedAt fs ws i s = (w : Transition) × (slice_get ws i ≡ Some w) × IsJoinedTransition left right fs s w
 
-  joined-at : (fs : List StructureValue) (ss : List LexState) (ws : List Way) → AreJoinedWays left right fs ss ws → (i : ℕ) (s : LexState) → slice_get ss i ≡ Some s → JoinedAt fs ws i s
+  joined-at : (fs : List StructureValue) (ss : List LexState) (ws : List Transition) → AreJoinedTransitions left right fs ss ws → (i : ℕ) (s : LexState) → slice_get ss i ≡ Some s → JoinedAt fs ws i s
   joined-at fs [] ws h i s g = absurd cc
   joined-at fs (t ∷ ss) [] h i s g = absurd h
   joined-at fs (t ∷ ss) (x ∷ ws) h zero s g = let e : t ≡ s = cc in subst (JoinedAt fs (x ∷ ws) 0) e (x, refl, h.0)
   joined-at fs (t ∷ ss) (x ∷ ws) h (suc i) s g = joined-at fs ss ws h.1 i s g
 
-  -- the way from the next state, by what is made of its pair
-  pub joined_by : (states : List LexState) (i : ℕ) (olds news : List StructureValue) (ws : List Way) (d : LexState) (out : declared_exit.LexExit) (pair : Pair) (n : ℕ)
-      → i < 32 → states ≡ all_states → AreJoinedWays left right olds (take i all_states) ws → IsAbove olds news → IsMadeAt left right news pair n
+  -- the transition from the next state, by what is made of its pair
+  pub joined_by : (states : List LexState) (i : ℕ) (olds news : List StructureValue) (ws : List Transition) (d : LexState) (out : declared_exit.LexExit) (pair : Pair) (n : ℕ)
+      → i < 32 → states ≡ all_states → AreJoinedTransitions left right olds (take i all_states) ws → IsAbove olds news → IsMadeAt left right news pair n
       → All (IsFormWithin left.depth left.start right.end) news → GoesThrough left right (get_or states i d) out pair
-      → AreJoinedWays left right news (take (i + 1) all_states) (ws ++ record { exit = out; structure = n } ∷ [])
+      → AreJoinedTransitions left right news (take (i + 1) all_states) (ws ++ record { exit = out; structure = n } ∷ [])
   joined_by states i olds news ws d out pair n low is h up m within goes =
-      let w : Way = record { exit = out; structure = n } in
+      let w : Transition = record { exit = out; structure = n } in
       let in_span : IsFormWithin left.depth left.start right.end m.form = all_at (IsFormWithin left.depth left.start right.end) news n m.form within m.at in
-      let it : IsJoinedWay left right news (get_or states i d) w = record { form = m.form; at = m.at; goes = λ e is. goes e m.form is in_span.depth m.made } in
-      subst (λ ss. AreJoinedWays left right news ss (ws ++ w ∷ []))
+      let it : IsJoinedTransition left right news (get_or states i d) w = record { form = m.form; at = m.at; goes = λ e is. goes e m.form is in_span.depth m.made } in
+      subst (λ ss. AreJoinedTransitions left right news ss (ws ++ w ∷ []))
       (ap (λ ss. take i all_states ++ get_or ss i d ∷ []) is ∙ sym (take-suc all_states i d low) ∙ ap (λ n. take n all_states) (let n : suc i ≡ i + 1 = omega arith in n))
       (each-more news (take i all_states) ws (get_or states i d) w (each-above olds news up (take i all_states) ws h) it)
 
   -- and by the structure of its pair
-  pub joined_next : (states : List LexState) (i : ℕ) (olds news : List StructureValue) (pairs : List Pair) (ws : List Way) (d : LexState) (out : declared_exit.LexExit) (pair : Pair) (n : ℕ)
-      → i < 32 → states ≡ all_states → AreJoinedWays left right olds (take i all_states) ws → IsAbove olds news → AreMade left right pairs news
+  pub joined_next : (states : List LexState) (i : ℕ) (olds news : List StructureValue) (pairs : List Pair) (ws : List Transition) (d : LexState) (out : declared_exit.LexExit) (pair : Pair) (n : ℕ)
+      → i < 32 → states ≡ all_states → AreJoinedTransitions left right olds (take i all_states) ws → IsAbove olds news → AreMade left right pairs news
       → All (IsFormWithin left.depth left.start right.end) news → slice_get pairs n ≡ Some pair → GoesThrough left right (get_or states i d) out pair
-      → AreJoinedWays left right news (take (i + 1) all_states) (ws ++ record { exit = out; structure = n } ∷ [])
+      → AreJoinedTransitions left right news (take (i + 1) all_states) (ws ++ record { exit = out; structure = n } ∷ [])
   joined_next states i olds news pairs ws d out pair n low is h up made within at goes =
       joined_by states i olds news ws d out pair n low is h up (made.each n pair at) within goes
 
@@ -318,14 +318,14 @@ all_within wider left right fs whole mid order within =
 
 -- ---- runs
 
-abbrev pub joined_run : OutcomeRunValue → OutcomeRunValue → List Way → List StructureValue → OutcomeRunValue
-joined_run left right ws fs = record { depth = left.depth; start = left.start; end = right.end; ways = ws; structures = fs }
+abbrev pub joined_run : OutcomeRunValue → OutcomeRunValue → List Transition → List StructureValue → OutcomeRunValue
+joined_run left right ws fs = record { depth = left.depth; start = left.start; end = right.end; transitions = ws; structures = fs }
 
 -- by what two runs show
-pub joined_seen : (l k r q : OutcomeRunValue) (ws : List Way) (fs : List StructureValue) → l ≡ k → r ≡ q → joined_run l r ws fs ≡ joined_run k q ws fs
+pub joined_seen : (l k r q : OutcomeRunValue) (ws : List Transition) (fs : List StructureValue) → l ≡ k → r ≡ q → joined_run l r ws fs ≡ joined_run k q ws fs
 joined_seen l k r q ws fs e f = ap (λ (x : OutcomeRunValue). joined_run x r ws fs) e ∙ ap (λ (x : OutcomeRunValue). joined_run k x ws fs) f
 
-pub joined_whole : (left right : OutcomeRunValue) (ws : List Way) (fs : List StructureValue) → left.start ≤ right.end → AreJoined left right ws fs → IsWellFormed (joined_run left right ws fs)
+pub joined_whole : (left right : OutcomeRunValue) (ws : List Transition) (fs : List StructureValue) → left.start ≤ right.end → AreJoined left right ws fs → IsWellFormed (joined_run left right ws fs)
 joined_whole left right ws fs order a =
     record {
       order = order;
@@ -335,7 +335,7 @@ joined_whole left right ws fs order a =
       within = a.within;
     }
 
-outcome_goes : (l r : OutcomeRunValue) (ws : List Way) (fs : List StructureValue) → IsWellFormed l → AreJoined l r ws fs → (s : LexState) (e : Expect) (o : List Holder)
+outcome_goes : (l r : OutcomeRunValue) (ws : List Transition) (fs : List StructureValue) → IsWellFormed l → AreJoined l r ws fs → (s : LexState) (e : Expect) (o : List Holder)
     → length o ≤ l.depth → outcome (joined_run l r ws fs) s e o ≡ and_then (outcome l s e o) (outcome r)
 outcome_goes l r ws fs whole a s e o h =
     let x = has_entries l whole s in
@@ -345,7 +345,7 @@ outcome_goes l r ws fs whole a s e o h =
     ∙ k.goes x.0 x.1 e o h
     ∙ ap (λ z. and_then (outcome_in z e o) (outcome r)) (sym x.1)
 
--- an outcome that goes on does so from the state in which its way ends
+-- an outcome that goes on does so from the state in which its transition ends
 went-ends : (x : LexExit) (r : Reading) (t : LexState) (e : Expect) (o : List Holder) → at_exit x r ≡ went t e o → x ≡ LexExit.state t
 went-ends (LexExit.state s) (Reading.went e' o') t e o h = cc
 went-ends (LexExit.fault i) (Reading.went e' o') t e o h = cc
@@ -370,7 +370,7 @@ and_then-there (too_deep at) f g h = refl
 pub any_rest : (l r : OutcomeRunValue) (ys : List ℕ) → IsOutcomeRun ys r → IsRestOf l ys r
 any_rest l r ys y = record { long = y.long; outcomes = λ s t ends. y.outcomes t }
 
-pub rest_is_of : (l r : OutcomeRunValue) (ws : List Way) (fs : List StructureValue) → IsWellFormed l → AreJoined l r ws fs → l.depth ≡ r.depth → l.end ≡ r.start
+pub rest_is_of : (l r : OutcomeRunValue) (ws : List Transition) (fs : List StructureValue) → IsWellFormed l → AreJoined l r ws fs → l.depth ≡ r.depth → l.end ≡ r.start
     → (xs ys : List ℕ) → IsOutcomeRun xs l → IsRestOf l ys r → IsOutcomeRun (xs ++ ys) (joined_run l r ws fs)
 rest_is_of l r ws fs whole a lr mid xs ys x y =
     record {

@@ -13,8 +13,8 @@ use Rattle.jx_reduce.specs.declared.holder.Holder.{Holder}
 use Rattle.jx_reduce.specs.Read.{Reading}
 use Rattle.jx_reduce.specs.Structure.{EntryValue, answer, answer_from}
 use Rattle.jx_reduce.specs.Whole.{whole_of}
-use Rattle.jx_run.specs.declared.verdict.Verdict.TheVariants as verdict
-use Rattle.jx_run.specs.declared.verdict.Refusal.TheVariants as refusal
+use Rattle.jx_run.specs.declared.texts.verdict.Verdict.TheVariants as verdict
+use Rattle.jx_run.specs.declared.texts.verdict.Refusal.TheVariants as refusal
 use Rattle.jx_run.specs.Laws.{is_end, verdict_of}
 use Rattle.jx_run.specs.Reading.{at_exit, and_then, read}
 use Rattle.jx_run.specs.OutcomeRun.{OutcomeRunValue, Entries, entries_at, exit_at, exit_in, outcome, outcome_in, outcome_of, GoesOn, IsOutcomeRun}

@@ -5,17 +5,22 @@ use Rattle.std.specs.List.{AllZip}
 use Rattle.std.proofs.lemmas.Bool.Decides.{nat_tests}
 use Rattle.std.proofs.lemmas.List.{get_or-drop, length-drop}
 use Rattle.std.proofs.lemmas.List.Elements.{filter-append}
-use Rattle.jx_run.specs.declared.element_verdict.ElementVerdict.TheVariants as element
-use Rattle.jx_run.specs.declared.element_verdict.JudgedElement.{JudgedElement}
-use Rattle.jx_run.specs.declared.verdict.Verdict.{Verdict}
+use Rattle.jx_run.specs.declared.sequences.element_verdict.ElementVerdict.TheVariants as element
+use Rattle.jx_run.specs.declared.sequences.element_verdict.JudgedElement.{JudgedElement}
+use Rattle.jx_run.specs.declared.texts.settings.FrontMark.TheVariants as on_mark
+use Rattle.jx_run.specs.declared.texts.settings.Settings.{Settings}
+use Rattle.jx_run.specs.declared.texts.verdict.Verdict.{Verdict}
 use Rattle.jx_run.specs.Elements.{Part, part, is_separator, before_separator, after_separators, parts, filled, has_bytes, elements}
 use Rattle.jx_run.specs.ElementVerdict.{IsJudgedElement, told}
 use Rattle.jx_run.specs.Reader.{ReaderValue, HasRead}
+use Rattle.jx_run.specs.Settings.{JudgedBy}
 use Rattle.jx_run.specs.SequenceRead.{AreRead, EndsWithSeparator, HasNoSeparator, StartsWithSeparator, ended_there, listed}
 use Rattle.jx_run.specs.Tree.{span}
 use Rattle.jx_run.specs.Unclosed.{ends_open, last_open}
 use Rattle.jx_run.specs.Verdict.{Judged}
 use Rattle.jx_run.proofs.ElementSteps.{judged_element}
+use Rattle.jx_run.proofs.Fronts.{judged_refused}
+use Rattle.jx_run.proofs.Lexical.{TokensAreRead}
 use Rattle.jx_run.proofs.OpenEnds.{last_open-append}
 use Rattle.jx_run.proofs.Parts.{last-ends, longer, parts-append, unmarked-before}
 use Rattle.jx_run.proofs.PartedJoins.{AllZip-append}
@@ -84,12 +89,12 @@ module _ (limit : ℕ) where
   abbrev R : Part → JudgedElement → Type 0
   R = IsJudgedElement limit
 
-  pub begun : (reader : ReaderValue) → reader.depth ≡ limit → reader.start ≡ 0 → HasRead [] reader → AreRead limit [] [] reader false
-  begun reader deep start read = record { ended = []; last = part 0 []; parts = refl; done = tt; depth = deep; start = start; read = read; opens = refl }
+  pub begun : (reader : ReaderValue) → reader.settings.depth ≡ limit → reader.settings.mark ≡ on_mark.Refused → reader.start ≡ 0 → HasRead [] reader → AreRead limit [] [] reader false
+  begun reader deep mark start read = record { ended = []; last = part 0 []; parts = refl; done = tt; depth = deep; mark = mark; start = start; read = read; opens = refl }
 
-  pub gone_on : (bytes more : List ℕ) (done : List JudgedElement) (old new : ReaderValue) (loose next : Bool) → AreRead limit bytes done old loose → HasNoSeparator more → new.depth ≡ old.depth
-      → new.start ≡ old.start → ((xs : List ℕ) → HasRead xs old → HasRead (xs ++ more) new) → next ≡ last_open loose more → AreRead limit (bytes ++ more) done new next
-  gone_on bytes more done old new loose next h none deep start reads is =
+  pub gone_on : (bytes more : List ℕ) (done : List JudgedElement) (old new : ReaderValue) (open_ended next : Bool) → AreRead limit bytes done old open_ended → HasNoSeparator more → new.settings ≡ old.settings
+      → new.start ≡ old.start → ((xs : List ℕ) → HasRead xs old → HasRead (xs ++ more) new) → next ≡ last_open open_ended more → AreRead limit (bytes ++ more) done new next
+  gone_on bytes more done old new open_ended next h none same start reads is =
       record {
         ended = h.ended;
         last = longer h.last more;
@@ -98,38 +103,39 @@ module _ (limit : ℕ) where
             ∙ ap (λ (t : List ℕ). h.ended ++ longer h.last t ∷ after_separators (0 + length bytes) more) none
             ∙ ap (λ ps. h.ended ++ longer h.last more ∷ ps) (unmarked-after more (0 + length bytes) none);
         done = h.done;
-        depth = deep ∙ h.depth;
+        depth = ap (λ (s : Settings). s.depth) same ∙ h.depth;
+        mark = ap (λ (s : Settings). s.mark) same ∙ h.mark;
         start = start ∙ h.start;
         read = reads h.last.bytes h.read;
         opens = is ∙ ap (λ (b : Bool). last_open b more) h.opens ∙ sym (last_open-append false h.last.bytes more);
       }
 
-  pub reached : (bytes : List ℕ) (done : List JudgedElement) (reader : ReaderValue) (loose : Bool) → AreRead limit bytes done reader loose → reader.start + reader.count ≡ length bytes
-  reached bytes done reader loose h =
+  pub reached : (bytes : List ℕ) (done : List JudgedElement) (reader : ReaderValue) (open_ended : Bool) → AreRead limit bytes done reader open_ended → reader.start + reader.count ≡ length bytes
+  reached bytes done reader open_ended h =
       let end : h.last.at + length h.last.bytes ≡ length bytes = ends_there_all bytes h.ended h.last h.parts in
       let start = h.start in
       let long = h.read.count in
       omega (arith, end, start, long)
 
   -- the last element, where it ends
-  last_one : (p : Part) (reader : ReaderValue) (loose : Bool) (v : Verdict) → reader.depth ≡ limit → reader.start ≡ p.at → HasRead p.bytes reader → loose ≡ ends_open p.bytes
-      → ((xs : List ℕ) → HasRead xs reader → Judged reader.start xs reader.depth v) → AllZip R (filled (p ∷ [])) (listed (ended_there (span reader.start (reader.start + reader.count)) v loose))
-  last_one p reader loose v deep start read is judged =
+  last_one : (p : Part) (reader : ReaderValue) (open_ended : Bool) (v : Verdict) → reader.settings.depth ≡ limit → reader.start ≡ p.at → HasRead p.bytes reader → open_ended ≡ ends_open p.bytes
+      → ((xs : List ℕ) → HasRead xs reader → Judged reader.start xs reader.settings.depth v) → AllZip R (filled (p ∷ [])) (listed (ended_there (span reader.start (reader.start + reader.count)) v open_ended))
+  last_one p reader open_ended v deep start read is judged =
       pick (reader.start == reader.start + reader.count) (reader.start == 0) refl refl
     where
       long : reader.count ≡ length p.bytes
       long = read.count
 
-      here : (e : JudgedElement) → e ≡ record { span = span reader.start (reader.start + reader.count); verdict = told v loose } → 0 < p.at → IsJudgedElement limit p e
+      here : (e : JudgedElement) → e ≡ record { span = span reader.start (reader.start + reader.count); verdict = told v open_ended } → 0 < p.at → IsJudgedElement limit p e
       here e same marked =
           subst (λ (x : JudgedElement). IsJudgedElement limit p x) (sym same)
-          (judged_element limit p.at p.bytes reader.start (reader.start + reader.count) v loose (told v loose) start (omega (arith, start, long)) marked
-          (subst (λ (d : ℕ). Judged p.at p.bytes d v) deep (subst (λ (n : ℕ). Judged n p.bytes reader.depth v) start (judged p.bytes read))) is refl)
+          (judged_element limit p.at p.bytes reader.start (reader.start + reader.count) v open_ended (told v open_ended) start (omega (arith, start, long)) marked
+          (subst (λ (d : ℕ). Judged p.at p.bytes d v) deep (subst (λ (n : ℕ). Judged n p.bytes reader.settings.depth v) start (judged p.bytes read))) is refl)
 
       pick : (x y : Bool) → (reader.start == reader.start + reader.count) ≡ x → (reader.start == 0) ≡ y
           → AllZip R (filled (p ∷ []))
           (listed (cond x None (cond y (Some (record { span = span reader.start (reader.start + reader.count); verdict = element.Unmarked }))
-          (Some (record { span = span reader.start (reader.start + reader.count); verdict = told v loose })))))
+          (Some (record { span = span reader.start (reader.start + reader.count); verdict = told v open_ended })))))
       pick true y e f =
           let same : reader.start ≡ reader.start + reader.count = grind (arith, nat_tests) in
           no_reading R p (omega (arith, same, long))
@@ -146,17 +152,17 @@ module _ (limit : ℕ) where
           let marked : reader.start ≢ 0 = grind (arith, nat_tests) in
           one_reading R p _ (omega (arith, other, long)) (here _ refl (omega (arith, marked, start)))
 
-  pub ended : (bytes : List ℕ) (done : List JudgedElement) (reader : ReaderValue) (loose : Bool) (v : Verdict) → AreRead limit bytes done reader loose
-      → ((xs : List ℕ) → HasRead xs reader → Judged reader.start xs reader.depth v)
-      → AllZip R (elements 0 bytes) (done ++ listed (ended_there (span reader.start (reader.start + reader.count)) v loose))
-  ended bytes done reader loose v h judged =
-      subst (λ ps. AllZip R ps (done ++ listed (ended_there (span reader.start (reader.start + reader.count)) v loose))) (sym (ap filled h.parts ∙ filter-append has_bytes h.ended (h.last ∷ [])))
-      (AllZip-append R (filled h.ended) (filled (h.last ∷ [])) done _ h.done (last_one h.last reader loose v h.depth h.start h.read h.opens judged))
+  pub ended : TokensAreRead → (bytes : List ℕ) (done : List JudgedElement) (reader : ReaderValue) (open_ended : Bool) (v : Verdict) → AreRead limit bytes done reader open_ended
+      → ((xs : List ℕ) → HasRead xs reader → JudgedBy reader.settings reader.start xs v)
+      → AllZip R (elements 0 bytes) (done ++ listed (ended_there (span reader.start (reader.start + reader.count)) v open_ended))
+  ended law bytes done reader open_ended v h judged =
+      subst (λ ps. AllZip R ps (done ++ listed (ended_there (span reader.start (reader.start + reader.count)) v open_ended))) (sym (ap filled h.parts ∙ filter-append has_bytes h.ended (h.last ∷ [])))
+      (AllZip-append R (filled h.ended) (filled (h.last ∷ [])) done _ h.done (last_one h.last reader open_ended v h.depth h.start h.read h.opens (λ xs read. judged_refused law reader.settings reader.start xs h.mark v (judged xs read))))
 
   pub marked : (bytes more : List ℕ) (done behind : List JudgedElement) (reader : ReaderValue) → AllZip R (elements 0 bytes) done → StartsWithSeparator more → EndsWithSeparator more
-      → AllZip R (elements (length bytes) more) behind → reader.depth ≡ limit → reader.start ≡ length bytes + length more → HasRead [] reader
+      → AllZip R (elements (length bytes) more) behind → reader.settings.depth ≡ limit → reader.settings.mark ≡ on_mark.Refused → reader.start ≡ length bytes + length more → HasRead [] reader
       → AreRead limit (bytes ++ more) (done ++ behind) reader false
-  marked bytes more done behind reader h starts ends k deep start read =
+  marked bytes more done behind reader h starts ends k deep mark start read =
       let n = length bytes in
       let front = after_separators n ends.0 in
       let here : after_separators n more ≡ front ++ part (n + length more) [] ∷ [] = ends-empty ends.0 more n ends.1 in
@@ -176,6 +182,7 @@ module _ (limit : ℕ) where
             subst (λ ps. AllZip R ps (done ++ behind)) (sym (filter-append has_bytes (parts 0 bytes) front))
             (AllZip-append R (elements 0 bytes) (filled front) done behind h (subst (λ ps. AllZip R ps behind) (first ∙ last) k));
         depth = deep;
+        mark = mark;
         start = start;
         read = read;
         opens = refl;

@@ -14,8 +14,8 @@ use Rattle.jx_reduce.specs.declared.holder.Holder.{Holder}
 use Rattle.jx_reduce.specs.Read.{Reading}
 use Rattle.jx_reduce.specs.Structure.{StructureValue, answer}
 use Rattle.jx_reduce.specs.Shift as marks
-use Rattle.jx_run.specs.declared.way.Way.{Way}
-use Rattle.jx_run.specs.inside.Moved.{moved_exit, moved_way, AreMoved, IsMoved, IsMovedAt}
+use Rattle.jx_run.specs.declared.runs.transition.Transition.{Transition}
+use Rattle.jx_run.specs.inside.Moved.{moved_exit, moved_transition, AreMoved, IsMoved, IsMovedAt}
 use Rattle.jx_run.specs.OutcomeRun.{OutcomeRunValue, outcome_in, outcome, IsOutcomeRun, IsWellFormed, IsFormWithin}
 use Rattle.jx_run.specs.Reading.{stopped, at_exit, read}
 use Rattle.jx_run.specs.ReaderInside.{offset_at, shifted}
@@ -23,7 +23,7 @@ use Rattle.jx_run.proofs.FaultPlaces.{Below, read-below}
 use Rattle.jx_run.proofs.Moves.{shifted-twice}
 use Rattle.jx_run.proofs.ReaderSteps.{read-shift}
 use Rattle.jx_lex.proofs.StateOrder.{ordinal-low}
-use Rattle.jx_run.proofs.Ways.{all_at, entries_are, one_of, some_of}
+use Rattle.jx_run.proofs.Transitions.{all_at, entries_are, one_of, some_of}
 
 -- ---- lists in which one is put
 
@@ -63,26 +63,26 @@ exit-moved by end (exit.Fault i) (Reading.too_deep at) low high = refl
 -- ---- runs
 
 abbrev pub moved_run : ℕ → OutcomeRunValue → List StructureValue → OutcomeRunValue
-moved_run by run news = record { depth = run.depth; start = by + run.start; end = by + run.end; ways = map (moved_way by) run.ways; structures = news }
+moved_run by run news = record { depth = run.depth; start = by + run.start; end = by + run.end; transitions = map (moved_transition by) run.transitions; structures = news }
 
-ways-moved : (by : ℕ) (ws : List Way) (k : ℕ) (w : Way) → slice_get ws k ≡ Some w → slice_get (map (moved_way by) ws) k ≡ Some (moved_way by w)
-ways-moved by [] k w h = absurd (let l = slice_get_within [] k w h in omega (arith, l))
-ways-moved by (v ∷ ws) zero w h = let e : v ≡ w = cc in ap (λ (u : Way). Some (moved_way by u)) e
-ways-moved by (v ∷ ws) (suc k) w h = ways-moved by ws k w h
+transitions-moved : (by : ℕ) (ws : List Transition) (k : ℕ) (w : Transition) → slice_get ws k ≡ Some w → slice_get (map (moved_transition by) ws) k ≡ Some (moved_transition by w)
+transitions-moved by [] k w h = absurd (let l = slice_get_within [] k w h in omega (arith, l))
+transitions-moved by (v ∷ ws) zero w h = let e : v ≡ w = cc in ap (λ (u : Transition). Some (moved_transition by u)) e
+transitions-moved by (v ∷ ws) (suc k) w h = transitions-moved by ws k w h
 
 pub shifted_whole : (by : ℕ) (run : OutcomeRunValue) (news : List StructureValue) → IsWellFormed run → length news ≡ length run.structures → AreMoved by run.structures news → IsWellFormed (moved_run by run news)
 shifted_whole by run news whole long moved =
     let order = whole.order in
     let few = whole.few in
-    let same = length-map run.ways (moved_way by) in
+    let same = length-map run.transitions (moved_transition by) in
     record {
       order = omega (arith, order);
       all = same ∙ whole.all;
       few = omega (arith, few, long);
       there = λ k d low.
-          let w = some_of run.ways k (omega (arith, low, same)) in
-          let there = all_at (λ (w : Way). w.structure < length run.structures) run.ways k w.0 whole.there w.1 in
-          subst (λ (v : Way). v.structure < length news) (sym (get_or_from_slice_get (map (moved_way by) run.ways) k (moved_way by w.0) d (ways-moved by run.ways k w.0 w.1)))
+          let w = some_of run.transitions k (omega (arith, low, same)) in
+          let there = all_at (λ (w : Transition). w.structure < length run.structures) run.transitions k w.0 whole.there w.1 in
+          subst (λ (v : Transition). v.structure < length news) (sym (get_or_from_slice_get (map (moved_transition by) run.transitions) k (moved_transition by w.0) d (transitions-moved by run.transitions k w.0 w.1)))
           (let m : (w.0).structure < length news = omega (arith, there, long) in m);
       within = λ k d low.
           let f = some_of run.structures k (omega (arith, low, long)) in
@@ -99,15 +99,15 @@ shifted_reads by run news whole moved high bytes h =
     record {
       long = omega (arith, long);
       outcomes = λ s e o short.
-          let w = some_of run.ways (ordinal s) (let n = whole.all in let m = ordinal-low s in omega (arith, n, m)) in
-          let f = some_of run.structures (w.0).structure (all_at (λ (w : Way). w.structure < length run.structures) run.ways (ordinal s) w.0 whole.there w.1) in
+          let w = some_of run.transitions (ordinal s) (let n = whole.all in let m = ordinal-low s in omega (arith, n, m)) in
+          let f = some_of run.structures (w.0).structure (all_at (λ (w : Transition). w.structure < length run.structures) run.transitions (ordinal s) w.0 whole.there w.1) in
           let here = all_at (IsFormWithin run.depth run.start run.end) run.structures (w.0).structure f.0 whole.within f.1 in
           let m = moved (w.0).structure f.0 f.1 in
           let old : outcome run s e o ≡ at_exit (exit_of (w.0).exit) (answer f.0 e o) = ap (λ x. outcome_in x e o) (entries_are run s w.0 f.0 w.1 f.1) in
           let reads : at_exit (exit_of (w.0).exit) (answer f.0 e o) ≡ read run.depth s e o run.start bytes = sym old ∙ h.outcomes s e o short in
           let low : Below run.end (at_exit (exit_of (w.0).exit) (answer f.0 e o)) =
           subst (Below run.end) (sym reads) (subst (λ n. Below n (read run.depth s e o run.start bytes)) (sym long) (read-below run.depth s e o run.start bytes)) in
-          ap (λ x. outcome_in x e o) (entries_are (moved_run by run news) s (moved_way by w.0) m.form (ways-moved by run.ways (ordinal s) w.0 w.1) m.there)
+          ap (λ x. outcome_in x e o) (entries_are (moved_run by run news) s (moved_transition by w.0) m.form (transitions-moved by run.transitions (ordinal s) w.0 w.1) m.there)
           ∙ ap (at_exit (exit_of (moved_exit by (w.0).exit))) (m.moved.answers e o (subst (λ d. length o ≤ d) (sym here.depth) short))
           ∙ exit-moved by run.end (w.0).exit (answer f.0 e o) low high
           ∙ ap (shifted by) reads

@@ -6,10 +6,10 @@ use Rattle.jx_run.specs.TextRun.{TextRunValue, IsTextRun, outcomes_of}
 
 -- what a text run shows of its map and its outcomes
 abbrev pub text_run : Map.Map → OutcomeRunValue → TextRunValue
-text_run map run = record { depth = run.depth; map = map; ways = run.ways; structures = run.structures }
+text_run map run = record { depth = run.depth; map = map; transitions = run.transitions; structures = run.structures }
 
 outcomes_same : (map : Map.Map) (run : OutcomeRunValue) → run.start ≡ map.start → run.end ≡ map.end → run ≡ outcomes_of (text_run map run)
-outcomes_same map run start end = λ i. record { depth = run.depth; start = start i; end = end i; ways = run.ways; structures = run.structures }
+outcomes_same map run start end = λ i. record { depth = run.depth; start = start i; end = end i; transitions = run.transitions; structures = run.structures }
 
 pub map_is_of : (map : Map.Map) (run : OutcomeRunValue) (bytes : List ℕ) → IsTextRun bytes (text_run map run) → Map.IsOf bytes map
 map_is_of map run bytes h = record { long = h.long; tracks = h.tracks }

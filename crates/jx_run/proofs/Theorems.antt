@@ -7,8 +7,8 @@ use Rattle.jx_lex.specs.TokenStates.{IsFinal, final_gap, final_zero, final_int, 
 use Rattle.jx_reduce.specs.declared.expect.Expect.{Expect}
 use Rattle.jx_reduce.specs.declared.expect.Expect.TheVariants as expect
 use Rattle.jx_reduce.specs.declared.holder.Holder.{Holder}
-use Rattle.jx_run.specs.declared.verdict.Verdict.TheVariants as verdict
-use Rattle.jx_run.specs.declared.verdict.Refusal.TheVariants as refusal
+use Rattle.jx_run.specs.declared.texts.verdict.Verdict.TheVariants as verdict
+use Rattle.jx_run.specs.declared.texts.verdict.Refusal.TheVariants as refusal
 use Rattle.jx_run.specs.Reading.{TextReading, went, stopped, too_deep, and_then, is_final}
 use Rattle.jx_run.specs.Tree.{Tree, depth}
 use Rattle.jx_run.specs.Text.{Document, document, IsDocument, Begins}

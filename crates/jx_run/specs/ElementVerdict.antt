@@ -1,10 +1,10 @@
 -- What an element of a JSON text sequence comes to (RFC 7464, sections 2.1 and 2.4).
 use Rattle.std.specs.Prelude.{◌≡◌, ℕ, ◌<◌, Bool, true, false}
-use Rattle.jx_run.specs.declared.element_verdict.ElementVerdict.{ElementVerdict}
-use Rattle.jx_run.specs.declared.element_verdict.ElementVerdict.TheVariants as element
-use Rattle.jx_run.specs.declared.element_verdict.JudgedElement.{JudgedElement}
-use Rattle.jx_run.specs.declared.verdict.Verdict.{Verdict}
-use Rattle.jx_run.specs.declared.verdict.Verdict.TheVariants.{Accepted, Refused}
+use Rattle.jx_run.specs.declared.sequences.element_verdict.ElementVerdict.{ElementVerdict}
+use Rattle.jx_run.specs.declared.sequences.element_verdict.ElementVerdict.TheVariants as element
+use Rattle.jx_run.specs.declared.sequences.element_verdict.JudgedElement.{JudgedElement}
+use Rattle.jx_run.specs.declared.texts.verdict.Verdict.{Verdict}
+use Rattle.jx_run.specs.declared.texts.verdict.Verdict.TheVariants.{Accepted, Refused}
 use Rattle.jx_run.specs.Elements.{Part, part_span}
 use Rattle.jx_run.specs.Tree.{Tree}
 use Rattle.jx_run.specs.Unclosed.{EndsUnclosed, IsAccepted, end_of}
@@ -37,4 +37,4 @@ pub record IsJudgedElement (limit : ℕ) (p : Part) (e : JudgedElement) : Type 0
 abbrev pub told : Verdict → Bool → ElementVerdict
 told Accepted true = element.MayBeCut
 told Accepted false = element.Accepted
-told (Refused refusal) loose = element.Refused refusal
+told (Refused refusal) open_ended = element.Refused refusal

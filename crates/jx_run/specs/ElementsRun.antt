@@ -2,7 +2,7 @@
 -- is the summary of bytes.
 use Rattle.std.specs.Prelude.{◌≡◌, ℕ, Bool, List, Option}
 use Rattle.jx_summary.specs.declared.span.Span.{Span}
-use Rattle.jx_run.specs.declared.element_verdict.JudgedElement.{JudgedElement}
+use Rattle.jx_run.specs.declared.sequences.element_verdict.JudgedElement.{JudgedElement}
 use Rattle.jx_run.specs.ElementVerdict.{IsJudgedElement}
 use Rattle.jx_run.specs.OutcomeRun.{OutcomeRunValue, IsOutcomeRun, outcome_span}
 use Rattle.jx_run.specs.Parted as parted
@@ -11,11 +11,11 @@ use Rattle.jx_run.specs.Unclosed.{ends_open}
 -- a part of an element, or all of it: its outcomes, and whether its last byte is open
 pub record PartRunValue : Type 0 where
   pub outcomes : OutcomeRunValue
-  pub loose : Bool
+  pub open_ended : Bool
 
 pub record IsPartRun (bytes : List ℕ) (run : PartRunValue) : Type 0 where
   pub outcomes : IsOutcomeRun bytes run.outcomes
-  pub loose : run.loose ≡ ends_open bytes
+  pub open_ended : run.open_ended ≡ ends_open bytes
 
 -- pieces are such parts, and of a finished one the element is kept with what it comes to
 abbrev pub MarkedElementsValue : Type 0

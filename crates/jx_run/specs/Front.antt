@@ -1,13 +1,13 @@
 -- What stands in front of a text, and what it says of the verdict.
 use Rattle.std.specs.Prelude.{◌≡◌, ◌==◌, ℕ, suc, ◌≤◌, List, [], ◌∷◌, length, drop, if◌then◌else◌}
-use Rattle.jx_run.specs.declared.settings.Front.{Front}
-use Rattle.jx_run.specs.declared.settings.Front.TheVariants as seen
-use Rattle.jx_run.specs.declared.settings.FrontMark.{FrontMark}
-use Rattle.jx_run.specs.declared.settings.FrontMark.TheVariants as on_mark
-use Rattle.jx_run.specs.declared.settings.Settings.{Settings}
-use Rattle.jx_run.specs.declared.verdict.Verdict.{Verdict}
-use Rattle.jx_run.specs.declared.verdict.Verdict.TheVariants.{Refused}
-use Rattle.jx_run.specs.declared.verdict.Refusal.TheVariants.{Stopped, Truncated}
+use Rattle.jx_run.specs.declared.texts.settings.Front.{Front}
+use Rattle.jx_run.specs.declared.texts.settings.Front.TheVariants as seen
+use Rattle.jx_run.specs.declared.texts.settings.FrontMark.{FrontMark}
+use Rattle.jx_run.specs.declared.texts.settings.FrontMark.TheVariants as on_mark
+use Rattle.jx_run.specs.declared.texts.settings.Settings.{Settings}
+use Rattle.jx_run.specs.declared.texts.verdict.Verdict.{Verdict}
+use Rattle.jx_run.specs.declared.texts.verdict.Verdict.TheVariants.{Refused}
+use Rattle.jx_run.specs.declared.texts.verdict.Refusal.TheVariants.{Stopped, Truncated}
 use Rattle.jx_run.specs.Settings.{byte_order_mark, JudgedBy}
 use Rattle.jx_run.specs.Verdict.{Judged}
 

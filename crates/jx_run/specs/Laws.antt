@@ -5,9 +5,10 @@ use Rattle.jx_lex.specs.declared.alphabet.state.LexState.{LexState}
 use Rattle.jx_reduce.specs.declared.expect.Expect.{Expect}
 use Rattle.jx_reduce.specs.declared.expect.Expect.TheVariants as expect
 use Rattle.jx_reduce.specs.declared.holder.Holder.{Holder}
-use Rattle.jx_run.specs.declared.verdict.Verdict.{Verdict}
-use Rattle.jx_run.specs.declared.verdict.Verdict.TheVariants.{Accepted, Refused}
-use Rattle.jx_run.specs.declared.verdict.Refusal.TheVariants.{Stopped, Truncated, TooDeep}
+use Rattle.jx_run.specs.declared.texts.verdict.Verdict.{Verdict}
+use Rattle.jx_run.specs.declared.texts.verdict.Verdict.TheVariants.{Accepted, Refused}
+use Rattle.jx_run.specs.declared.texts.verdict.Refusal.TheVariants.{Stopped, Truncated, TooDeep}
+use Rattle.jx_run.specs.Reader.{Outcome, in_front, reads}
 use Rattle.jx_run.specs.Reading.{TextReading, went, stopped, too_deep, read_text, is_final}
 use Rattle.jx_run.specs.Text.{Begins}
 use Rattle.jx_run.specs.Tree.{Tree, node}
@@ -43,6 +44,11 @@ abbrev pub verdict_of : TextReading → Verdict
 verdict_of (went s e o) = if is_end s e o then Accepted else Refused Truncated
 verdict_of (stopped at) = Refused (Stopped at)
 verdict_of (too_deep at) = Refused (TooDeep at)
+
+-- the same with what may stand in front; what begins a byte order mark begins a text
+abbrev pub verdict_on : Outcome → Verdict
+verdict_on (in_front n) = Refused Truncated
+verdict_on (reads r) = verdict_of r
 
 -- the same of reading bytes that stand from an offset on, within a depth
 

@@ -1,8 +1,8 @@
 -- A byte order mark that stands alone before the first record separator of a sequence.
 use Rattle.std.specs.Prelude.{◌==◌, ◌&&◌, ℕ, Bool, List, [], ◌∷◌, length, slice_range, if◌then◌else◌}
 use Rattle.jx_summary.specs.declared.span.Span.{Span}
-use Rattle.jx_run.specs.declared.settings.FrontMark.{FrontMark}
-use Rattle.jx_run.specs.declared.settings.FrontMark.TheVariants as on_mark
+use Rattle.jx_run.specs.declared.texts.settings.FrontMark.{FrontMark}
+use Rattle.jx_run.specs.declared.texts.settings.FrontMark.TheVariants as on_mark
 use Rattle.jx_run.specs.Elements.{Part, part, elements}
 use Rattle.jx_run.specs.Front.{agreed}
 use Rattle.jx_run.specs.Settings.{byte_order_mark}

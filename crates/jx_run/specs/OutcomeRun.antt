@@ -9,16 +9,16 @@ use Rattle.jx_lex.specs.View.{exit_of}
 use Rattle.jx_reduce.specs.declared.expect.Expect.{Expect}
 use Rattle.jx_reduce.specs.declared.holder.Holder.{Holder}
 use Rattle.jx_reduce.specs.Structure.{StructureValue, answer, SpansIn}
-use Rattle.jx_run.specs.declared.way.Way.{Way}
+use Rattle.jx_run.specs.declared.runs.transition.Transition.{Transition}
 use Rattle.jx_run.specs.Reading.{TextReading, stopped, at_exit, and_then, read}
 use Rattle.jx_run.specs.Tree.{span}
 
--- one way for each state, in the order of the states, and the structures of their marks; ways may have one structure
+-- one transition for each state, in the order of the states, and the structures of their marks; transitions may have one structure
 pub record OutcomeRunValue : Type 0 where
   pub depth : ℕ
   pub start : ℕ
   pub end : ℕ
-  pub ways : List Way
+  pub transitions : List Transition
   pub structures : List StructureValue
 
 -- what reading comes to from one state: where it ends, and what its marks come to
@@ -33,13 +33,13 @@ abbrev pub with_exit : LexExit → Option StructureValue → Option Entries
 with_exit exit None = None
 with_exit exit (Some f) = Some (record { exit = exit; marks = f })
 
-abbrev pub entries_of : List StructureValue → Option Way → Option Entries
+abbrev pub entries_of : List StructureValue → Option Transition → Option Entries
 entries_of structures None = None
 entries_of structures (Some w) = with_exit w.exit (slice_get structures w.structure)
 
 -- the entries of a state
 abbrev pub entries_at : OutcomeRunValue → LexState → Option Entries
-entries_at run s = entries_of run.structures (slice_get run.ways (ordinal s))
+entries_at run s = entries_of run.structures (slice_get run.transitions (ordinal s))
 
 -- what reading from an expectation comes to, over open containers, innermost first
 abbrev pub outcome_of : Entries → Expect → List Holder → TextReading
@@ -75,18 +75,18 @@ pub record IsFormWithin (limit start end : ℕ) (f : StructureValue) : Type 0 wh
 -- what every run keeps
 pub record IsWellFormed (run : OutcomeRunValue) : Type 0 where
   pub order : run.start ≤ run.end
-  pub all : length run.ways ≡ 32
+  pub all : length run.transitions ≡ 32
   pub few : length run.structures ≤ 32
-  pub there : All (λ (w : Way). w.structure < length run.structures) run.ways
+  pub there : All (λ (w : Transition). w.structure < length run.structures) run.transitions
   pub within : All (IsFormWithin run.depth run.start run.end) run.structures
 
 -- a run over so many bytes from offset 0 on, of its parts
-abbrev pub run_of_parts : ℕ → ℕ → List Way → List StructureValue → OutcomeRunValue
-run_of_parts depth end ways structures = record { depth = depth; start = 0; end = end; ways = ways; structures = structures }
+abbrev pub run_of_parts : ℕ → ℕ → List Transition → List StructureValue → OutcomeRunValue
+run_of_parts depth end transitions structures = record { depth = depth; start = 0; end = end; transitions = transitions; structures = structures }
 
--- a way leads to each of so many structures
-abbrev pub AreUsed : List Way → ℕ → Type 0
-AreUsed ways count = (n : ℕ) → n < count → (k : ℕ) × (w : Way) × (slice_get ways k ≡ Some w) × (w.structure ≡ n)
+-- a transition leads to each of so many structures
+abbrev pub AreUsed : List Transition → ℕ → Type 0
+AreUsed transitions count = (n : ℕ) → n < count → (k : ℕ) × (w : Transition) × (slice_get transitions k ≡ Some w) × (w.structure ≡ n)
 
 -- the outcomes are those of the left, and from where it went those of the right
 abbrev pub GoesOn : ℕ → Entries → OutcomeRunValue → Entries → Type 0

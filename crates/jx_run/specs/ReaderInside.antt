@@ -1,5 +1,5 @@
 -- The reading in a reader.
-use Rattle.std.specs.Prelude.{◌≡◌, ℕ, ◌+◌, ◌-◌, ◌^◌, ◌<◌, min, List, Option, Some, None}
+use Rattle.std.specs.Prelude.{◌≡◌, ℕ, ◌+◌, ◌-◌, ◌^◌, ◌<◌, min, List, [], Option, Some, None}
 use Rattle.jx_lex.specs.declared.alphabet.lex_exit.LexExit.{LexExit}
 use Rattle.jx_lex.specs.declared.alphabet.lex_exit.LexExit.TheVariants as exit
 use Rattle.jx_lex.specs.declared.alphabet.mark.Mark.{Mark}
@@ -8,20 +8,32 @@ use Rattle.jx_reduce.specs.KnownStack.{Known, IsFault, HasRead}
 use Rattle.jx_reduce.specs.Read.{Reading}
 use Rattle.jx_reduce.specs.declared.whole.Whole.{Whole}
 use Rattle.jx_reduce.specs.declared.whole.Whole.TheVariants as whole
+use Rattle.jx_run.specs.declared.texts.settings.FrontMark.{FrontMark}
+use Rattle.jx_run.specs.declared.texts.settings.FrontMark.TheVariants.{Ignored}
+use Rattle.jx_run.specs.declared.texts.settings.Settings.{Settings}
 use Rattle.jx_run.specs.Reading.{TextReading, stopped, too_deep, at_exit}
-use Rattle.jx_run.specs.Reader.{ReaderValue}
-use Rattle.jx_run.specs.declared.reader.Progress.{Progress}
-use Rattle.jx_run.specs.declared.reader.Progress.TheVariants.{Going, Stopped, TooDeep, Failed}
-use Rattle.jx_run.specs.declared.reader.Reader.TheInside.{Inside}
+use Rattle.jx_run.specs.Reader.{Outcome, in_front, reads, read_by, ReaderValue}
+use Rattle.jx_run.specs.declared.readers.progress.Progress.{Progress}
+use Rattle.jx_run.specs.declared.readers.progress.Progress.TheVariants.{Front, Going, Stopped, TooDeep, Failed}
+use Rattle.jx_run.specs.declared.readers.reader.Reader.TheInside.{Inside}
 
-abbrev pub outcome_at : Progress → Reading → Option TextReading
-outcome_at (Going s) r = Some (at_exit (lexical.state s) r)
-outcome_at (Stopped at) r = Some (stopped at)
-outcome_at (TooDeep at) r = Some (too_deep at)
+abbrev pub outcome_at : Progress → Reading → Option Outcome
+outcome_at (Front n) r = Some (in_front n)
+outcome_at (Going s) r = Some (reads (at_exit (lexical.state s) r))
+outcome_at (Stopped at) r = Some (reads (stopped at))
+outcome_at (TooDeep at) r = Some (reads (too_deep at))
 outcome_at Failed r = None
 
 abbrev pub reader_of : Inside → ReaderValue
-reader_of a = record { depth = a.depth; start = a.start; count = a.count; outcome = outcome_at a.progress a.kept.stack.reading }
+reader_of a = record { settings = a.settings; start = a.start; count = a.count; outcome = outcome_at a.progress a.kept.stack.reading }
+
+-- fewer bytes than a byte order mark's
+abbrev pub IsCut : Progress → Type 0
+IsCut (Front n) = n < 3
+IsCut (Going s) = Unit {0}
+IsCut (Stopped at) = Unit {0}
+IsCut (TooDeep at) = Unit {0}
+IsCut Failed = Unit {0}
 
 -- the stack has read some marks within the depth
 pub record HasMarks (depth : ℕ) (stack : Known) : Type 0 where
@@ -29,16 +41,29 @@ pub record HasMarks (depth : ℕ) (stack : Known) : Type 0 where
   pub marks : List Mark
   pub read : HasRead marks stack
 
+-- a mark is ignored, and the stack has read none
+pub record IsFresh (mark : FrontMark) (depth : ℕ) (stack : Known) : Type 0 where
+  pub ignored : mark ≡ Ignored
+  pub depth_is : stack.depth ≡ depth
+  pub read : HasRead [] stack
+
 -- unless memory was refused, the stack is of use; it has met no fault while the reading goes on
-abbrev pub IsOfUse : Progress → ℕ → Known → Type 0
-IsOfUse (Going s) depth stack = HasMarks depth stack × (IsFault stack.reading → ⊥)
-IsOfUse (Stopped at) depth stack = HasMarks depth stack
-IsOfUse (TooDeep at) depth stack = HasMarks depth stack
-IsOfUse Failed depth stack = Unit {0}
+abbrev pub IsOfUse : Progress → FrontMark → ℕ → Known → Type 0
+IsOfUse (Front n) mark depth stack = IsFresh mark depth stack
+IsOfUse (Going s) mark depth stack = HasMarks depth stack × (IsFault stack.reading → ⊥)
+IsOfUse (Stopped at) mark depth stack = HasMarks depth stack
+IsOfUse (TooDeep at) mark depth stack = HasMarks depth stack
+IsOfUse Failed mark depth stack = Unit {0}
+
+-- this far the reading of these bytes came, which stand from an offset on
+pub record IsReadTo (settings : Settings) (start : ℕ) (bytes : List ℕ) (progress : Progress) (stack : Known) : Type 0 where
+  pub outcome : outcome_at progress stack.reading ≡ Some (read_by settings.mark settings.depth start bytes)
+  pub of_use : IsOfUse progress settings.mark settings.depth stack
 
 pub record IsLawful (a : Inside) : Type 0 where
   pub fits : a.start + a.count < 2 ^ 64
-  pub of_use : IsOfUse a.progress a.depth a.kept.stack
+  pub cut : IsCut a.progress
+  pub of_use : IsOfUse a.progress a.settings.mark a.settings.depth a.kept.stack
 
 -- an offset in a slice that stands from another offset on
 abbrev pub offset_at : ℕ → ℕ → ℕ
@@ -66,5 +91,5 @@ IsLow base (too_deep at) = base + at < 2 ^ 64
 
 -- the reading of a slice, whose offsets count from its start, goes on behind the stack's reading
 pub record GoesOn (old : Known) (track : lexical.Track) (read : Reading) (base : ℕ) (progress : Progress) (new : Known) : Type 0 where
-  pub of_use : IsOfUse progress old.depth new
-  pub outcome : IsLow base (at_exit track.exit read) → outcome_at progress new.reading ≡ Some (shifted base (at_exit track.exit read))
+  pub of_use : (mark : FrontMark) → IsOfUse progress mark old.depth new
+  pub outcome : IsLow base (at_exit track.exit read) → outcome_at progress new.reading ≡ Some (reads (shifted base (at_exit track.exit read)))

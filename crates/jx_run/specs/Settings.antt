@@ -1,11 +1,11 @@
 -- Texts, beginnings and verdicts by settings: a byte order mark may stand in front of a text where it is ignored.
 use Rattle.std.specs.Prelude.{◌≡◌, ◌⊎◌, ℕ, suc, ◌+◌, ◌≤◌, ◌<◌, List, [], ◌∷◌, ◌++◌, length, take}
-use Rattle.jx_run.specs.declared.settings.FrontMark.{FrontMark}
-use Rattle.jx_run.specs.declared.settings.FrontMark.TheVariants as on_mark
-use Rattle.jx_run.specs.declared.settings.Settings.{Settings}
-use Rattle.jx_run.specs.declared.verdict.Verdict.{Verdict}
-use Rattle.jx_run.specs.declared.verdict.Verdict.TheVariants.{Accepted, Refused}
-use Rattle.jx_run.specs.declared.verdict.Refusal.TheVariants.{Stopped, Truncated, TooDeep}
+use Rattle.jx_run.specs.declared.texts.settings.FrontMark.{FrontMark}
+use Rattle.jx_run.specs.declared.texts.settings.FrontMark.TheVariants as on_mark
+use Rattle.jx_run.specs.declared.texts.settings.Settings.{Settings}
+use Rattle.jx_run.specs.declared.texts.verdict.Verdict.{Verdict}
+use Rattle.jx_run.specs.declared.texts.verdict.Verdict.TheVariants.{Accepted, Refused}
+use Rattle.jx_run.specs.declared.texts.verdict.Refusal.TheVariants.{Stopped, Truncated, TooDeep}
 use Rattle.jx_run.specs.Tree.{Tree}
 use Rattle.jx_run.specs.Text.{IsDocument}
 

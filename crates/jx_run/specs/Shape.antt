@@ -1,7 +1,7 @@
 -- What a run over part of a JSON text sequence shows.
 use Rattle.std.specs.Prelude.{None, Some}
-use Rattle.jx_run.specs.declared.shape.Shape.{Shape}
-use Rattle.jx_run.specs.declared.shape.Shape.TheVariants.{Plain, Marked}
+use Rattle.jx_run.specs.declared.runs.shape.Shape.{Shape}
+use Rattle.jx_run.specs.declared.runs.shape.Shape.TheVariants.{Plain, Marked}
 use Rattle.jx_run.specs.SeqRun.{SeqRunValue}
 
 -- all that the run holds

@@ -7,7 +7,7 @@ use Rattle.jx_lex.specs.Map.{Map, track}
 use Rattle.jx_reduce.specs.declared.expect.Expect.{Expect}
 use Rattle.jx_reduce.specs.declared.holder.Holder.{Holder}
 use Rattle.jx_reduce.specs.Structure.{StructureValue}
-use Rattle.jx_run.specs.declared.way.Way.{Way}
+use Rattle.jx_run.specs.declared.runs.transition.Transition.{Transition}
 use Rattle.jx_run.specs.OutcomeRun.{OutcomeRunValue, outcome}
 use Rattle.jx_run.specs.Reading.{read}
 use Rattle.jx_run.specs.Tree.{span}
@@ -15,7 +15,7 @@ use Rattle.jx_run.specs.Tree.{span}
 pub record TextRunValue : Type 0 where
   pub depth : ℕ
   pub map : Map
-  pub ways : List Way
+  pub transitions : List Transition
   pub structures : List StructureValue
 
 abbrev pub text_span : TextRunValue → Span
@@ -23,7 +23,7 @@ text_span run = span run.map.start run.map.end
 
 -- its outcomes alone
 abbrev pub outcomes_of : TextRunValue → OutcomeRunValue
-outcomes_of run = record { depth = run.depth; start = run.map.start; end = run.map.end; ways = run.ways; structures = run.structures }
+outcomes_of run = record { depth = run.depth; start = run.map.start; end = run.map.end; transitions = run.transitions; structures = run.structures }
 
 -- the run is the summary of these bytes: from each state the marks, the ends and the exit are those of the lexical machine,
 -- and from each state, each expectation and every list of open containers within the depth the outcome is that of reading

@@ -1,9 +1,9 @@
 -- The verdict on a list of bytes that stands from an offset on: whether it is a text (RFC 8259, section 2) within a depth
 -- (section 9), and if not, where the longest part that still begins one ends.
 use Rattle.std.specs.Prelude.{ℕ, suc, ◌+◌, ◌≤◌, ◌<◌, List, length, take}
-use Rattle.jx_run.specs.declared.verdict.Verdict.{Verdict}
-use Rattle.jx_run.specs.declared.verdict.Verdict.TheVariants.{Accepted, Refused}
-use Rattle.jx_run.specs.declared.verdict.Refusal.TheVariants.{Stopped, Truncated, TooDeep}
+use Rattle.jx_run.specs.declared.texts.verdict.Verdict.{Verdict}
+use Rattle.jx_run.specs.declared.texts.verdict.Verdict.TheVariants.{Accepted, Refused}
+use Rattle.jx_run.specs.declared.texts.verdict.Refusal.TheVariants.{Stopped, Truncated, TooDeep}
 use Rattle.jx_run.specs.Tree.{Tree}
 use Rattle.jx_run.specs.Text.{Begins, IsDocument}
 

@@ -6,9 +6,9 @@ use Rattle.jx_lex.specs.declared.alphabet.state.LexState.{LexState}
 use Rattle.jx_reduce.specs.declared.expect.Expect.{Expect}
 use Rattle.jx_reduce.specs.declared.whole.Whole.{Whole}
 use Rattle.jx_reduce.specs.declared.whole.Whole.TheVariants as whole
-use Rattle.jx_run.specs.declared.verdict.Verdict.{Verdict}
-use Rattle.jx_run.specs.declared.verdict.Verdict.TheVariants.{Accepted, Refused}
-use Rattle.jx_run.specs.declared.verdict.Refusal.TheVariants.{Stopped, Truncated, TooDeep}
+use Rattle.jx_run.specs.declared.texts.verdict.Verdict.{Verdict}
+use Rattle.jx_run.specs.declared.texts.verdict.Verdict.TheVariants.{Accepted, Refused}
+use Rattle.jx_run.specs.declared.texts.verdict.Refusal.TheVariants.{Stopped, Truncated, TooDeep}
 use Rattle.jx_run.specs.Laws.{is_end}
 
 -- a whole text may end here, with so many containers open

@@ -6,5 +6,4 @@ pub mod Moved
 pub mod PartedJoins
 pub mod Reduced
 pub mod Rest
-pub mod RunReaderInside
 pub mod Turns

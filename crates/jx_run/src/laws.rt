@@ -1,41 +1,29 @@
 // The theorems on which verdicts rest, each on a function that does nothing: for every list of bytes, wherever in an
 // input it stands, and for every depth.
 
-ghost use Rattle.std.specs.Prelude.{◌≡◌, ◌<◌, ◌+◌, ◌^◌, ◌++◌, ◌↔◌, ℕ, suc, Bool, List, [], All, IfSome, None, Option, Some, drop, false, length, take, true};
+ghost use Rattle.std.specs.Prelude.{◌≡◌, ◌≤◌, ◌<◌, ◌+◌, ◌++◌, ◌↔◌, ℕ, suc, Bool, List, [], All, drop, false, length, take};
 ghost use Rattle.std.specs.List.{AllZip};
-ghost use Rattle.jx_lex.specs.declared.alphabet.lex_exit.LexExit.{LexExit};
-ghost use Rattle.jx_lex.specs.declared.alphabet.mark.Mark.{Mark};
-ghost use Rattle.jx_lex.specs.declared.alphabet.state.LexState.{LexState};
-ghost use Rattle.jx_lex.specs.Lex.{Track, lex};
-ghost use Rattle.jx_lex.specs.Seen.{SeesTrack, WantsNoMore};
-ghost use Rattle.jx_lex.specs.View.{exit_of};
-ghost use Rattle.jx_reduce.specs.declared.whole.Whole.{Whole};
-ghost use Rattle.jx_reduce.specs.KnownStack.{HasRead, IsFault, Known};
-ghost use Rattle.jx_reduce.specs.Read.{Reading, read};
-ghost use Rattle.jx_reduce.specs.Whole.{whole_of};
+ghost use Rattle.jx_lex.specs.Seen.{WantsNoMore};
+ghost use Rattle.jx_reduce.specs.KnownStack.{IsFault, Known};
 ghost use Rattle.jx_run.specs.Tree.{Tree, span};
 ghost use Rattle.jx_run.specs.Grammar.{Value};
 ghost use Rattle.jx_run.specs.Text.{Begins, IsDocument, Reads};
-ghost use Rattle.jx_run.specs.Reading.{TextReading, at_exit, read_text};
+ghost use Rattle.jx_run.specs.Reading.{read_text};
 ghost use Rattle.jx_run.specs.Kept.{HasSeen};
-ghost use Rattle.jx_run.specs.Reader.{is_fault, HasRead as HasReadText, ReaderValue};
+ghost use Rattle.jx_run.specs.Reader.{HasRead as HasReadText, ReaderValue, read_by};
 ghost use Rattle.jx_run.specs.Elements.{elements};
 ghost use Rattle.jx_run.specs.ElementVerdict.{IsJudgedElement};
 ghost use Rattle.jx_run.specs.SequenceRead.{AreRead, EndsWithSeparator, HasNoSeparator, StartsWithSeparator, ended_there, listed};
 ghost use Rattle.jx_run.specs.Unclosed.{last_open};
-ghost use Rattle.jx_run.specs.declared.element_verdict.JudgedElement.{JudgedElement};
-ghost use Rattle.jx_run.specs.ReaderInside.{GoesOn, outcome_at, settled};
-ghost use Rattle.jx_run.specs.Whole.{verdict_from};
-ghost use Rattle.jx_run.specs.Laws.{Accepts, BeginsAtSomeDepth, FaultsAt, FaultsTooDeep, MeetsNoFault, span_of, verdict_of};
+ghost use Rattle.jx_run.specs.declared.sequences.element_verdict.JudgedElement.{JudgedElement};
+ghost use Rattle.jx_run.specs.Laws.{Accepts, BeginsAtSomeDepth, FaultsAt, FaultsTooDeep, MeetsNoFault, span_of, verdict_of, verdict_on};
 ghost use Rattle.jx_run.specs.Verdict.{IsLongestBeginning, Judged};
 ghost use Rattle.jx_run.specs.Front.{front_of, IsTold};
 ghost use Rattle.jx_run.specs.Settings.{BeginsBy, IsDocumentBy, JudgedBy};
-ghost use Rattle.jx_run.specs.declared.reader.Progress.{Progress};
-ghost use Rattle.jx_run.specs.declared.reader.Progress.TheVariants.{Going};
-ghost use Rattle.jx_run.specs.declared.settings.FrontMark.{FrontMark};
-ghost use Rattle.jx_run.specs.declared.settings.FrontMark.TheVariants.{Refused};
-ghost use Rattle.jx_run.specs.declared.settings.Settings.{Settings};
-ghost use Rattle.jx_run.specs.declared.verdict.Verdict.{Verdict};
+ghost use Rattle.jx_run.specs.declared.texts.settings.FrontMark.{FrontMark};
+ghost use Rattle.jx_run.specs.declared.texts.settings.FrontMark.TheVariants.{Refused};
+ghost use Rattle.jx_run.specs.declared.texts.settings.Settings.{Settings};
+ghost use Rattle.jx_run.specs.declared.texts.verdict.Verdict.{Verdict};
 
 use jx_lex::tokens_are_read;
 
@@ -43,7 +31,7 @@ use jx_lex::tokens_are_read;
 /// exactly the texts. Its first fault lies just past the longest beginning of a text.
 ///
 /// The fault is one of depth exactly where the bytes up to and with it begin a deeper text. So what the reading comes to
-/// is the verdict that the grammar gives.
+/// is the verdict that the grammar gives, also where a byte order mark in front of the text is ignored.
 pub fn reader_is_grammar()
     ensures begins { (limit at : ℕ) (bytes : List ℕ) → MeetsNoFault limit at bytes ↔ Begins bytes limit }
     ensures sound { (limit at : ℕ) (bytes : List ℕ) → Accepts limit at bytes → (tree : Tree) × IsDocument at bytes limit tree }
@@ -51,6 +39,7 @@ pub fn reader_is_grammar()
     ensures first_fault { (limit at i : ℕ) (bytes : List ℕ) → FaultsAt limit at bytes i → (k : ℕ) × (i ≡ at + k) × IsLongestBeginning bytes limit k }
     ensures too_deep { (limit at k : ℕ) (bytes : List ℕ) → FaultsAt limit at bytes (at + k) → FaultsTooDeep limit at bytes ↔ BeginsAtSomeDepth (take (suc k) bytes) }
     ensures verdict { (limit at : ℕ) (bytes : List ℕ) → Judged at bytes limit (verdict_of (read_text limit at bytes)) }
+    ensures by_settings { (settings : Settings) (at : ℕ) (bytes : List ℕ) → JudgedBy settings at bytes (verdict_on (read_by settings.mark settings.depth at bytes)) }
 {
     tokens_are_read();
 }
@@ -102,49 +91,39 @@ pub fn a_refused_mark_changes_nothing()
     tokens_are_read();
 }
 
-/// What stands in front of a text decides where the verdict by settings begins, or refuses the text.
+/// What stands in front of a text decides where the verdict by settings begins, or refuses the text. Its first three bytes
+/// decide what that is.
 pub fn fronts_decide_where_texts_begin()
     ensures told { (mark : FrontMark) (text : List ℕ) → IsTold mark text (front_of mark text) }
+    ensures stays { (mark : FrontMark) (text more : List ℕ) → 3 ≤ length text → front_of mark (text ++ more) ≡ front_of mark text }
 {
     tokens_are_read();
 }
 
-/// How a reading goes on that is fed slice by slice, over a stack that knows all open containers.
-///
-/// A scan that reads a slice with the stack goes on behind the stack's reading, and its outcome is that of all bytes so
-/// far. No byte behind a fault changes the outcome, and a stack that met a fault wants no more. Where the bytes led,
-/// with what the stack came to, tells the verdict.
+/// A stack that met a fault wants no more: no byte behind it changes what the marks have come to.
 pub fn readings_go_on()
-    ensures scanned { (old new : Known) (marks : List Mark) (track : Track) (base : ℕ) (exit : Option LexExit) (whole : Whole) → HasRead marks old
-        → SeesTrack (λ marks ends. HasSeen marks ends old) (λ marks ends. HasSeen marks ends new) track
-        → IfSome exit (λ e. exit_of e ≡ track.exit) → (exit ≡ None → WantsNoMore (λ marks ends. HasSeen marks ends new)) → whole ≡ whole_of new.reading
-        → GoesOn old track (read old.depth track.marks old.reading) base (settled base exit whole) new }
-    ensures fed { (limit from count : ℕ) (bytes slice : List ℕ) (s : LexState) (old new : Known) (progress : Progress) → old.depth ≡ limit → (IsFault old.reading → ⊥)
-        → GoesOn old (lex s 0 slice) (read old.depth (lex s 0 slice).marks old.reading) (from + count) progress new → count ≡ length bytes → from + count + length slice < 2 ^ 64
-        → outcome_at (Going s) old.reading ≡ Some (read_text limit from bytes) → outcome_at progress new.reading ≡ Some (read_text limit from (bytes ++ slice)) }
-    ensures passed { (limit from : ℕ) (bytes more : List ℕ) (outcome : Option TextReading) → is_fault outcome ≡ true
-        → outcome ≡ Some (read_text limit from bytes) → outcome ≡ Some (read_text limit from (bytes ++ more)) }
     ensures done { (stack : Known) → IsFault stack.reading → WantsNoMore (λ marks ends. HasSeen marks ends stack) }
-    ensures verdict { (exit : LexExit) (reading : Reading) → verdict_of (at_exit (exit_of exit) reading) ≡ verdict_from exit (whole_of reading) }
-{
-    reader_is_grammar();
-}
+{}
 
 /// How a text sequence is read part by part, cut at some of its record separators (RFC 7464, section 2).
 ///
 /// Bytes without a separator go on with the open element. Where it ends, it comes behind those that ended. Bytes that
 /// begin and end with a separator bring their own elements, and a new one that has no byte yet.
 pub fn sequences_are_read_part_by_part()
-    ensures begun { (limit : ℕ) (reader : ReaderValue) → reader.depth ≡ limit → reader.start ≡ 0 → HasReadText [] reader → AreRead limit [] [] reader false }
-    ensures gone_on { (limit : ℕ) (bytes more : List ℕ) (done : List JudgedElement) (old new : ReaderValue) (loose next : Bool) → AreRead limit bytes done old loose
-        → HasNoSeparator more → new.depth ≡ old.depth → new.start ≡ old.start → ((xs : List ℕ) → HasReadText xs old → HasReadText (xs ++ more) new)
-        → next ≡ last_open loose more → AreRead limit (bytes ++ more) done new next }
-    ensures reached { (limit : ℕ) (bytes : List ℕ) (done : List JudgedElement) (reader : ReaderValue) (loose : Bool) → AreRead limit bytes done reader loose
+    ensures begun { (limit : ℕ) (reader : ReaderValue) → reader.settings.depth ≡ limit → reader.settings.mark ≡ Refused → reader.start ≡ 0 → HasReadText [] reader
+        → AreRead limit [] [] reader false }
+    ensures gone_on { (limit : ℕ) (bytes more : List ℕ) (done : List JudgedElement) (old new : ReaderValue) (open_ended next : Bool) → AreRead limit bytes done old open_ended
+        → HasNoSeparator more → new.settings ≡ old.settings → new.start ≡ old.start → ((xs : List ℕ) → HasReadText xs old → HasReadText (xs ++ more) new)
+        → next ≡ last_open open_ended more → AreRead limit (bytes ++ more) done new next }
+    ensures reached { (limit : ℕ) (bytes : List ℕ) (done : List JudgedElement) (reader : ReaderValue) (open_ended : Bool) → AreRead limit bytes done reader open_ended
         → reader.start + reader.count ≡ length bytes }
-    ensures ended { (limit : ℕ) (bytes : List ℕ) (done : List JudgedElement) (reader : ReaderValue) (loose : Bool) (verdict : Verdict) → AreRead limit bytes done reader loose
-        → ((xs : List ℕ) → HasReadText xs reader → Judged reader.start xs reader.depth verdict)
-        → AllZip (IsJudgedElement limit) (elements 0 bytes) (done ++ listed (ended_there (span reader.start (reader.start + reader.count)) verdict loose)) }
+    ensures ended { (limit : ℕ) (bytes : List ℕ) (done : List JudgedElement) (reader : ReaderValue) (open_ended : Bool) (verdict : Verdict) → AreRead limit bytes done reader open_ended
+        → ((xs : List ℕ) → HasReadText xs reader → JudgedBy reader.settings reader.start xs verdict)
+        → AllZip (IsJudgedElement limit) (elements 0 bytes) (done ++ listed (ended_there (span reader.start (reader.start + reader.count)) verdict open_ended)) }
     ensures marked { (limit : ℕ) (bytes more : List ℕ) (done behind : List JudgedElement) (reader : ReaderValue) → AllZip (IsJudgedElement limit) (elements 0 bytes) done
         → StartsWithSeparator more → EndsWithSeparator more → AllZip (IsJudgedElement limit) (elements (length bytes) more) behind
-        → reader.depth ≡ limit → reader.start ≡ length bytes + length more → HasReadText [] reader → AreRead limit (bytes ++ more) (done ++ behind) reader false }
-{}
+        → reader.settings.depth ≡ limit → reader.settings.mark ≡ Refused → reader.start ≡ length bytes + length more → HasReadText [] reader
+        → AreRead limit (bytes ++ more) (done ++ behind) reader false }
+{
+    tokens_are_read();
+}

@@ -14,8 +14,8 @@ use Rattle.jx_index.specs.declared.text_answer.TextAnswer.{TextAnswer}
 use Rattle.jx_index.specs.declared.text_answer.TextAnswer.TheVariants as answer
 use Rattle.jx_run.specs.Text.{IsText}
 use Rattle.jx_run.specs.Tree.{Tree}
-use Rattle.jx_run.specs.declared.settings.Settings.{Settings}
-use Rattle.jx_run.specs.declared.verdict.Refusal.{Refusal}
+use Rattle.jx_run.specs.declared.texts.settings.Settings.{Settings}
+use Rattle.jx_run.specs.declared.texts.verdict.Refusal.{Refusal}
 use Rattle.jx_wire.specs.declared.call.Place.{Place}
 use Rattle.jx_serve.specs.Changes.{HeldValue, position}
 use Rattle.jx_serve.specs.Values.{HasNoValueAt, no_text, in_none, IsFoundAt, IsHovered, IsInNone, IsInnermost, IsValueAt}

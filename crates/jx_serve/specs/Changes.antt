@@ -4,7 +4,7 @@ use Rattle.jx_edit.specs.Document.{edited}
 use Rattle.jx_edit.specs.Positions.{offset_at}
 use Rattle.jx_edit.specs.declared.encoding.Encoding.{Encoding}
 use Rattle.jx_edit.specs.declared.position.Position.{Position}
-use Rattle.jx_run.specs.declared.settings.Settings.{Settings}
+use Rattle.jx_run.specs.declared.texts.settings.Settings.{Settings}
 use Rattle.jx_wire.specs.declared.call.Change.{Change}
 use Rattle.jx_wire.specs.declared.call.Change.TheVariants.{Whole, Range, Unknown}
 use Rattle.jx_wire.specs.declared.call.Place.{Place}

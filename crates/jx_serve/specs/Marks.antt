@@ -1,7 +1,7 @@
 -- How a verdict is shown.
 use Rattle.std.specs.Prelude.{Option, None, Some}
-use Rattle.jx_run.specs.declared.verdict.Verdict.{Verdict}
-use Rattle.jx_run.specs.declared.verdict.Verdict.TheVariants.{Accepted, Refused}
+use Rattle.jx_run.specs.declared.texts.verdict.Verdict.{Verdict}
+use Rattle.jx_run.specs.declared.texts.verdict.Verdict.TheVariants.{Accepted, Refused}
 use Rattle.jx_serve.specs.declared.mark.Mark.{Mark}
 
 -- the verdict that a mark, or that none, tells

@@ -1,7 +1,7 @@
 -- What the messages of the server are.
-use Rattle.jx_run.specs.declared.settings.FrontMark.TheVariants as mark
-use Rattle.jx_run.specs.declared.settings.NameRule.TheVariants as names
-use Rattle.jx_run.specs.declared.settings.Settings.{Settings}
+use Rattle.jx_run.specs.declared.texts.settings.FrontMark.TheVariants as mark
+use Rattle.jx_run.specs.declared.texts.settings.NameRule.TheVariants as names
+use Rattle.jx_run.specs.declared.texts.settings.Settings.{Settings}
 
 -- no byte order mark, and no name twice
 abbrev pub message_settings : Settings

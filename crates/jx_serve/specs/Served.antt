@@ -5,10 +5,10 @@ use Rattle.std.specs.Str.{bytes_eq}
 use Rattle.jx_edit.specs.declared.encoding.Encoding.{Encoding}
 use Rattle.jx_edit.specs.Positions.{offset_at}
 use Rattle.jx_index.specs.ByNames.{IsVerdictBy}
-use Rattle.jx_run.specs.declared.settings.Settings.{Settings}
-use Rattle.jx_run.specs.declared.verdict.Refusal.{Refusal}
-use Rattle.jx_run.specs.declared.verdict.Verdict.{Verdict}
-use Rattle.jx_run.specs.declared.verdict.Verdict.TheVariants as verdict
+use Rattle.jx_run.specs.declared.texts.settings.Settings.{Settings}
+use Rattle.jx_run.specs.declared.texts.verdict.Refusal.{Refusal}
+use Rattle.jx_run.specs.declared.texts.verdict.Verdict.{Verdict}
+use Rattle.jx_run.specs.declared.texts.verdict.Verdict.TheVariants as verdict
 use Rattle.jx_wire.specs.declared.call.Change.{Change}
 use Rattle.jx_wire.specs.declared.call.Place.{Place}
 use Rattle.jx_serve.specs.Changes.{HeldValue, changed, lose, position as place_of}

@@ -9,9 +9,9 @@ use Rattle.jx_index.specs.Rows.{rows}
 use Rattle.jx_index.specs.declared.row.Row.{Row}
 use Rattle.jx_run.specs.Settings.{IsDocumentBy}
 use Rattle.jx_run.specs.Tree.{Tree}
-use Rattle.jx_run.specs.declared.settings.Settings.{Settings}
-use Rattle.jx_run.specs.declared.verdict.Refusal.{Refusal}
-use Rattle.jx_run.specs.declared.verdict.Verdict.TheVariants.{Refused}
+use Rattle.jx_run.specs.declared.texts.settings.Settings.{Settings}
+use Rattle.jx_run.specs.declared.texts.verdict.Refusal.{Refusal}
+use Rattle.jx_run.specs.declared.texts.verdict.Verdict.TheVariants.{Refused}
 use Rattle.jx_serve.specs.declared.hover.Hover.{Hover}
 use Rattle.jx_serve.specs.declared.symbols.Outline.{Outline}
 use Rattle.jx_serve.specs.declared.symbols.Symbol.{Symbol}

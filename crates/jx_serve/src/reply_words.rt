@@ -1,7 +1,7 @@
 // Replies as messages.
 ghost use Rattle.std.specs.Prelude.{◌≡◌, IfOk};
 ghost use Rattle.jx_index.specs.ByNames.{IsVerdictBy};
-ghost use Rattle.jx_run.specs.declared.verdict.Verdict.TheVariants.{Accepted};
+ghost use Rattle.jx_run.specs.declared.texts.verdict.Verdict.TheVariants.{Accepted};
 ghost use Rattle.jx_serve.specs.Messages.{message_settings};
 
 use crate::mark::Mark;
@@ -31,7 +31,7 @@ impl From<AllocError> for ReplyFault {
 }
 
 /// The version of the program.
-pub const VERSION: &str = "0.1.0";
+pub const VERSION: &str = "0.2.0";
 
 fn number_of_code(code: Code) -> &'static str {
     match code {

@@ -1,10 +1,10 @@
 -- How the messages of the wire are read.
 use Rattle.std.specs.Prelude.{ℕ, List}
 use Rattle.jx_index.specs.ByNames.{IsVerdictBy}
-use Rattle.jx_run.specs.declared.settings.FrontMark.TheVariants as mark
-use Rattle.jx_run.specs.declared.settings.NameRule.TheVariants as names
-use Rattle.jx_run.specs.declared.settings.Settings.{Settings}
-use Rattle.jx_run.specs.declared.verdict.Verdict.TheVariants.{Accepted, Refused}
+use Rattle.jx_run.specs.declared.texts.settings.FrontMark.TheVariants as mark
+use Rattle.jx_run.specs.declared.texts.settings.NameRule.TheVariants as names
+use Rattle.jx_run.specs.declared.texts.settings.Settings.{Settings}
+use Rattle.jx_run.specs.declared.texts.verdict.Verdict.TheVariants.{Accepted, Refused}
 use Rattle.jx_wire.specs.declared.request_fault.RequestFault.{RequestFault}
 use Rattle.jx_wire.specs.declared.request_fault.RequestFault.TheVariants.{NoText, NoRequest, WrongParameters, Memory}
 

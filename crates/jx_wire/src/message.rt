@@ -1,6 +1,6 @@
 ghost use Rattle.std.specs.Prelude.{◌≡◌, ◌<◌, ℕ, IfOk, IfErr, IfSome, length};
 ghost use Rattle.jx_index.specs.ByNames.{IsVerdictBy};
-ghost use Rattle.jx_run.specs.declared.verdict.Verdict.TheVariants.{Accepted, Refused};
+ghost use Rattle.jx_run.specs.declared.texts.verdict.Verdict.TheVariants.{Accepted, Refused};
 ghost use Rattle.jx_wire.specs.Messages.{wire_settings};
 
 use crate::number::number_of;

@@ -1,6 +1,6 @@
 ghost use Rattle.std.specs.Prelude.{ℕ, List, IfOk, IfErr};
 ghost use Rattle.jx_index.specs.ByNames.{IsVerdictBy};
-ghost use Rattle.jx_run.specs.declared.verdict.Verdict.TheVariants.{Accepted};
+ghost use Rattle.jx_run.specs.declared.texts.verdict.Verdict.TheVariants.{Accepted};
 ghost use Rattle.jx_wire.specs.Messages.{wire_settings, IsFaultOf};
 
 use crate::call::{Call, Request};

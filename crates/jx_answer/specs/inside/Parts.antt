@@ -23,7 +23,7 @@ IsPartRun batch depth part = IsWithin batch part.span × IfSome part.run (IsRunO
 -- the reader went on with the batch up to this offset
 pub record GoesOn (batch : List ℕ) (done : ℕ) (old new : ReaderValue) : Type 0 where
   pub within : done ≤ length batch
-  pub depth : new.depth ≡ old.depth
+  pub settings : new.settings ≡ old.settings
   pub start : new.start ≡ old.start
   pub count : new.count ≡ old.count + done
   pub reads : (bytes : List ℕ) → HasRead bytes old → HasRead (bytes ++ take done batch) new

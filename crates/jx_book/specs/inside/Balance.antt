@@ -4,9 +4,9 @@ use Rattle.std.specs.declared.result.Result.{Result}
 use Rattle.jx_summary.specs.declared.span.Span.{Span}
 use Rattle.jx_claim.specs.Claimed.{TableId, SeatValue}
 use Rattle.jx_claim.specs.Cut.{drawn_len}
-use Rattle.jx_book.specs.declared.workers.worker_end.WorkerEnd.{WorkerEnd}
-use Rattle.jx_book.specs.declared.workers.worker_stop.WorkerStop.{WorkerStop}
-use Rattle.jx_book.specs.declared.workers.job.Job.{Job}
+use Rattle.jx_book.specs.declared.workers.worker.WorkerEnd.{WorkerEnd}
+use Rattle.jx_book.specs.declared.workers.worker.WorkerStop.{WorkerStop}
+use Rattle.jx_book.specs.declared.workers.reading.Job.{Job}
 use Rattle.jx_book.specs.Shares.{ShareValue, share}
 use Rattle.jx_book.specs.Worked.{hand_len}
 

@@ -3,18 +3,19 @@ ghost use Rattle.jx_book.specs.Runs.{IsApart, run_len};
 ghost use Rattle.jx_book.specs.Shares.{share, IsShared, IsOther, IsOf, IsSizedAsStored};
 ghost use Rattle.jx_book.specs.HandOver.{Core};
 
-use crate::lock::finish_fault::FinishFault;
 use crate::lock::locked::Locked;
 use crate::lock::share::Share;
 use crate::stored::closed::Closed;
 use crate::stored::held::Held;
-use crate::stored::put::Put;
+use crate::stored::state::Put;
 use jx_claim::Workers;
 use jx_summary::{Depth, Summary};
 use std::alloc::{AllocError, Global};
+use std::fmt::Debug;
 use std::marker::Model;
 use std::sync::ledger::{Blank, Ledger};
 use std::sync::{Mutex, Wait, ledger};
+use thiserror::Error;
 
 /// Runs that threads put. `P` and `T` name the ledgers of the bytes put and of the bytes taken out.
 #[derive(Drop)]
@@ -89,6 +90,16 @@ impl<'a, S: Summary, P: Ledger, T: Ledger> Book<'a, S, P, T> {
         let runs = locked.into_inner().into_runs(shares);
         carry_all(runs, text, depth)
     }
+}
+
+/// Why a book was not finished.
+#[derive(Debug, Drop, Error)]
+#[error_bound(S: Debug)]
+pub enum FinishFault<'a, S: Summary> {
+    /// A stored run has another depth, lies outside the text handed in, or has other bytes at its span there. From
+    /// `gather`, it may also begin before the cutting's front.
+    #[error("a stored run is of another text or depth")]
+    Other(Held<'a, S>),
 }
 
 /// A share for each worker.

@@ -5,8 +5,7 @@ ghost use Rattle.jx_book.specs.Runs.{IsApart, run_len};
 ghost use Rattle.jx_book.specs.Shares.{IsOtherFrom, IsOf, IsSizedAsStored};
 ghost use Rattle.jx_book.specs.Gathered.{IsGathered, IsRest};
 
-use crate::lock::book::Book;
-use crate::lock::finish_fault::FinishFault;
+use crate::lock::book::{Book, FinishFault};
 use crate::lock::share::Share;
 use crate::stored::held::Held;
 use jx_claim::{ClaimSeat, Claims, Cutting};

@@ -5,8 +5,7 @@ ghost use Rattle.jx_book.specs.Shares.{IsShared};
 
 use crate::lock::share::Share;
 use crate::stored::held::Held;
-use crate::stored::put::Put;
-use crate::stored::state::BookState;
+use crate::stored::state::{BookState, Put};
 use jx_summary::Summary;
 use std::alloc::Global;
 use std::sync::ledger;

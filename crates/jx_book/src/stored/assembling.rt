@@ -3,8 +3,7 @@ ghost use Rattle.jx_book.specs.Shares.{IsOf};
 ghost use Rattle.jx_book.specs.Gathered.{IsRest};
 
 use crate::stored::closed::Closed;
-use crate::stored::held::Held;
-use crate::stored::held_fault::HeldFault;
+use crate::stored::held::{Held, HeldFault};
 use jx_summary::{Depth, Summary};
 use std::alloc::{AllocError, Global};
 

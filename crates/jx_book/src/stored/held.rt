@@ -2,16 +2,29 @@ ghost use Rattle.std.specs.Prelude.{◌≡◌, ◌≢◌, ◌≤◌, length, sli
 ghost use Rattle.jx_book.specs.Runs.{HeldValue, held};
 ghost use Rattle.jx_book.specs.Joined.{IsJoin, IsJoinFault, IsCommon, IsOtherRun};
 
-use crate::stored::held_fault::HeldFault;
 use jx_summary::{Depth, JoinFault, Span, Summary};
 use std::alloc::{AllocError, Global};
+use std::fmt::Debug;
 use std::marker::Model;
+use thiserror::Error;
 
 /// A run with the text that it was read from. It is the summary of exactly the bytes of its span in that text.
 #[derive(Debug, Drop)]
 pub struct Held<'a, S: Summary> {
     run: S,
     text: &'a [u8],
+}
+
+/// Why two runs were not joined. Both are handed back, the left one first.
+#[derive(Debug, Drop, Error)]
+#[error_bound(S: Debug)]
+pub enum HeldFault<'a, S: Summary> {
+    /// There was no memory.
+    #[error("no memory to join two runs")]
+    Memory(Held<'a, S>, Held<'a, S>),
+    /// They were read from different texts, or at different depths.
+    #[error("the runs are of two texts or two depths")]
+    Other(Held<'a, S>, Held<'a, S>),
 }
 
 impl<'a, S: Summary> Model for Held<'a, S> {

@@ -3,11 +3,36 @@ ghost use Rattle.jx_book.specs.Runs.{StateValue, IsLawful};
 ghost use Rattle.jx_book.specs.Puts.{IsPut, IsPosition, IsFree, IsNeighbour, NoOverlap};
 
 use crate::stored::held::Held;
-use crate::stored::position::Position;
-use crate::stored::put::Put;
 use jx_summary::{Span, Summary};
 use std::alloc::{AllocFailed, Global};
 use std::marker::Model;
+
+/// What became of a run that was put. The first that fits is answered.
+#[derive(Drop)]
+pub enum Put<'a, S: Summary> {
+    /// A stored run has a byte of it: the run.
+    Overlaps(Held<'a, S>),
+    /// In place of `Touches` or `Stored`, since a total would pass the greatest `u128`: the run.
+    Full(Held<'a, S>),
+    /// The run, and a neighbour that was taken out, the left one if both sides touch.
+    Touches(Held<'a, S>, Held<'a, S>),
+    /// In place of `Stored`, for want of memory: the run.
+    Memory(Held<'a, S>),
+    /// The run stands among the others now.
+    Stored,
+}
+
+/// Where a run belongs among the stored ones.
+pub(crate) enum Position {
+    /// It overlaps one.
+    Overlapping,
+    /// The run with this number ends where it begins.
+    Left(usize),
+    /// The run with this number begins where it ends, and none touches it on the left.
+    Right(usize),
+    /// It touches none, and stands before the run with this number.
+    Free(usize),
+}
 
 /// Runs in rising order, no two overlapping or touching, and how many bytes were put and taken out.
 #[derive(Drop)]

@@ -3,7 +3,7 @@ ghost use Rattle.jx_summary.specs.declared.span.Span.{Span};
 ghost use Rattle.jx_claim.specs.Claimed.{TableId, AreFresh};
 ghost use Rattle.jx_claim.specs.Cut.{drawn_len};
 ghost use Rattle.jx_book.specs.Shares.{share};
-ghost use Rattle.jx_book.specs.Gathered.{IsRest, IsBookEnd};
+ghost use Rattle.jx_book.specs.Gathered.{IsRest};
 ghost use Rattle.jx_book.specs.inside.Balance.{Balances, IsFresh, IsHandedBack};
 
 use crate::lock::book::Book;
@@ -11,13 +11,8 @@ use crate::lock::gathering::gather;
 use crate::lock::share::Share;
 use crate::stored::assembling::assemble;
 use crate::stored::held::Held;
-use crate::workers::book_end::BookEnd;
 use crate::workers::gate::Gate;
-use crate::workers::job::Job;
-use crate::workers::returned::Returned;
-use crate::workers::worker::work;
-use crate::workers::worker_end::WorkerEnd;
-use crate::workers::worker_stop::WorkerStop;
+use crate::workers::worker::{WorkerEnd, WorkerStop, work};
 use jx_claim::{ClaimSeat, Claims, Cutting, Workers};
 use jx_fork::call_each;
 use jx_summary::{Depth, Summary};
@@ -27,26 +22,59 @@ use std::sync::Wait;
 use std::sync::ledger::{Blank, Ledger};
 use std::thread::Threads;
 
-/// Reads a text from the cutting's front on by that many workers, each in a thread of its own where one can be made. It
-/// waits for them, and fails only for want of memory.
+/// Who reads: the runtime that makes threads, the memory that they take, how many workers there are, and the gate that
+/// they ask.
+pub struct Crew<'c, R, G> {
+    pub rt: &'c R,
+    pub alloc: Global,
+    pub workers: Workers,
+    pub gate: &'c G,
+}
+
+// What is lent need not be what may be let go.
+impl<'c, R, G> Drop for Crew<'c, R, G> {
+    fn drop(self) {
+        let Crew {
+            rt: _,
+            alloc: _,
+            workers: _,
+            gate: _,
+        } = self;
+    }
+}
+
+/// What a worker begins with.
+#[derive(Drop)]
+struct Job<P: Ledger, T: Ledger> {
+    seat: ClaimSeat,
+    share: Share<P, T>,
+}
+
+/// What the workers handed back, and whether each of them ended.
+#[derive(Drop)]
+struct Returned<P: Ledger, T: Ledger> {
+    seats: Vec<ClaimSeat>,
+    shares: Vec<Share<P, T>>,
+    ended: bool,
+}
+
+/// Reads a text from the cutting's front on by the crew, each worker in a thread of its own where one can be made. It waits
+/// for them, and fails only for want of memory.
 ///
 /// Where a worker stopped, the calling thread reads what is missing, each gap as one piece. Where there is no piece, it
 /// gives the empty run.
 pub fn read_whole<'a, S: Summary + Send, R: Threads + Wait + Sync, G: Gate + Sync>(
-    rt: &R,
-    alloc: Global,
+    crew: &Crew<'_, R, G>,
     text: &'a [u8],
     cutting: &Cutting,
-    workers: Workers,
     depth: Depth,
-    gate: &G,
 ) -> Result<Held<'a, S>, AllocError>
     requires { cutting.now.len ≡ length text.now }
     ensures { IfOk result (λ h. IsRest text.entry.now depth cutting.now.front h) }
 {
-    let put = Blank::new(u64::from(workers.count()));
-    let taken = Blank::new(u64::from(workers.count()));
-    read_with::<S, Brand, Brand, R, G>(rt, alloc, text, cutting, workers, depth, gate, put, taken)
+    let put = Blank::new(u64::from(crew.workers.count()));
+    let taken = Blank::new(u64::from(crew.workers.count()));
+    read_with::<S, Brand, Brand, R, G>(crew, text, cutting, depth, put, taken)
 }
 
 /// The same, with blanks for the ledgers of a book.
@@ -58,78 +86,34 @@ fn read_with<
     R: Threads + Wait + Sync,
     G: Gate + Sync,
 >(
-    rt: &R,
-    alloc: Global,
+    crew: &Crew<'_, R, G>,
     text: &'a [u8],
     cutting: &Cutting,
-    workers: Workers,
     depth: Depth,
-    gate: &G,
     put: Blank,
     taken: Blank,
 ) -> Result<Held<'a, S>, AllocError>
     requires cutting { cutting.now.len ≡ length text.now }
-    requires put { (put.name ≡ P.name) × (put.parts ≡ P.parts) × (put.parts ≡ workers) }
-    requires taken { (taken.name ≡ T.name) × (taken.parts ≡ T.parts) × (taken.parts ≡ workers) }
+    requires put { (put.name ≡ P.name) × (put.parts ≡ P.parts) × (put.parts ≡ crew.now.workers) }
+    requires taken { (taken.name ≡ T.name) × (taken.parts ≡ T.parts) × (taken.parts ≡ crew.now.workers) }
     ensures { IfOk result (λ h. IsRest text.entry.now depth cutting.now.front h) }
 {
-    match read_by_workers::<S, P, T, R, G>(
-        rt, alloc, text, cutting, workers, depth, gate, put, taken,
-    )? {
-        BookEnd::Gathered(run) => Ok(run),
-        BookEnd::Stopped(closed) => assemble(alloc, closed, text, cutting.front(), depth),
-        BookEnd::Empty | BookEnd::Other => {
-            Held::read(alloc, text, cutting.front(), text.len(), depth)
-        }
-    }
-}
-
-/// Lets all workers work, and gathers what they left.
-pub(crate) fn read_by_workers<
-    'a,
-    S: Summary + Send,
-    P: Ledger + Send + Sync,
-    T: Ledger + Send + Sync,
-    R: Threads + Wait + Sync,
-    G: Gate + Sync,
->(
-    rt: &R,
-    alloc: Global,
-    text: &'a [u8],
-    cutting: &Cutting,
-    workers: Workers,
-    depth: Depth,
-    gate: &G,
-    put: Blank,
-    taken: Blank,
-) -> Result<BookEnd<'a, S>, AllocError>
-    requires cutting { cutting.now.len ≡ length text.now }
-    requires put { (put.name ≡ P.name) × (put.parts ≡ P.parts) × (put.parts ≡ workers) }
-    requires taken { (taken.name ≡ T.name) × (taken.parts ≡ T.parts) × (taken.parts ≡ workers) }
-    ensures { IfOk result (λ o. IsBookEnd text.entry.now depth cutting.now.front o) }
-{
-    let _count = workers.count();
-    let (book, shares) = Book::<S, P, T>::open(alloc, put, taken, workers)?;
-    let (claims, seats) = Claims::open(alloc, cutting.count(), workers)?;
-    let jobs = pair(alloc, &claims, seats, shares)?;
-    let ends = work_all(rt, alloc, &book, text, cutting, &claims, jobs, depth, gate)?;
+    let alloc = crew.alloc;
+    let (book, shares) = Book::<S, P, T>::open(alloc, put, taken, crew.workers)?;
+    let (claims, ends) = work_all(crew, &book, text, cutting, shares, depth)?;
     let Returned {
         seats,
         shares,
         ended,
     } = collect(alloc, cutting, &claims, ends)?;
     if ended {
-        match gather(book, claims, text, cutting, depth, seats, shares) {
-            Ok(Some(run)) => Ok(BookEnd::Gathered(run)),
-            Ok(None) => Ok(BookEnd::Empty),
-            Err(_) => Ok(BookEnd::Other),
+        if let Ok(Some(run)) = gather(book, claims, text, cutting, depth, seats, shares) {
+            return Ok(run);
         }
-    } else {
-        match book.finish(text, depth, shares) {
-            Ok(closed) => Ok(BookEnd::Stopped(closed)),
-            Err(_) => Ok(BookEnd::Other),
-        }
+    } else if let Ok(closed) = book.finish(text, depth, shares) {
+        return assemble(alloc, closed, text, cutting.front(), depth);
     }
+    Held::read(alloc, text, cutting.front(), text.len(), depth)
 }
 
 /// A seat and a share for each worker.
@@ -155,7 +139,7 @@ fn pair<P: Ledger, T: Ledger>(
     Ok(jobs)
 }
 
-/// Lets each worker work, in a thread of its own where one can be made.
+/// Opens the claims, and lets each worker work with its share, in a thread of its own where one can be made.
 fn work_all<
     'a,
     S: Summary + Send,
@@ -164,54 +148,45 @@ fn work_all<
     R: Threads + Wait + Sync,
     G: Gate + Sync,
 >(
-    rt: &R,
-    alloc: Global,
+    crew: &Crew<'_, R, G>,
     book: &Book<'a, S, P, T>,
     text: &'a [u8],
     cutting: &Cutting,
-    claims: &Claims,
-    jobs: Vec<Job<P, T>>,
+    shares: Vec<Share<P, T>>,
     depth: Depth,
-    gate: &G,
-) -> Result<Vec<Result<WorkerEnd<P, T>, WorkerStop<'a, S, P, T>>>, AllocError>
+) -> Result<
+    (
+        Claims,
+        Vec<Result<WorkerEnd<P, T>, WorkerStop<'a, S, P, T>>>,
+    ),
+    AllocError,
+>
     requires cutting { cutting.now.len ≡ length text.now }
-    requires claims { claims.now.pieces ≡ length cutting.now.pieces }
-    requires jobs { All (λ j. IsFresh claims.now.id j) jobs.items }
-    ensures len { IfOk result (λ v. vec_len v ≡ vec_len jobs) }
-    ensures each { IfOk result (λ v. All (λ r. Balances cutting.now.pieces claims.now.id r) v.items) }
+    requires len { vec_len shares ≡ crew.now.workers }
+    requires shares { All (λ s. s ≡ share 0 0) shares.items }
+    ensures claims { IfOk result (λ r. (r.0.pieces ≡ length cutting.now.pieces) × (r.0.workers ≡ vec_len shares)) }
+    ensures len { IfOk result (λ r. vec_len r.1 ≡ vec_len shares) }
+    ensures each { IfOk result (λ r. All (λ e. Balances cutting.now.pieces r.0.id e) r.1.items) }
 {
-    call_each(
-        rt,
-        alloc,
+    let _count = crew.workers.count();
+    let (open_claims, seats) = Claims::open(crew.alloc, cutting.count(), crew.workers)?;
+    let jobs = pair(crew.alloc, &open_claims, seats, shares)?;
+    let claims = &open_claims;
+    let ends = call_each(
+        crew.rt,
+        crew.alloc,
         jobs,
         &|job: Job<P, T>| -> Result<WorkerEnd<P, T>, WorkerStop<S, P, T>>
             requires { (cutting.now.len ≡ length text.now) × (claims.now.pieces ≡ length cutting.now.pieces) × IsFresh claims.now.id job }
             ensures { Balances cutting.entry.now.pieces claims.entry.now.id result }
-        { work_one(rt, alloc, book, text, cutting, claims, job, depth, gate) },
-    )
-}
-
-/// Lets one worker work.
-fn work_one<'a, S: Summary, P: Ledger, T: Ledger, R: Wait, G: Gate>(
-    rt: &R,
-    alloc: Global,
-    book: &Book<'a, S, P, T>,
-    text: &'a [u8],
-    cutting: &Cutting,
-    claims: &Claims,
-    job: Job<P, T>,
-    depth: Depth,
-    gate: &G,
-) -> Result<WorkerEnd<P, T>, WorkerStop<'a, S, P, T>>
-    requires cutting { cutting.now.len ≡ length text.now }
-    requires claims { claims.now.pieces ≡ length cutting.now.pieces }
-    requires job { IsFresh claims.now.id job }
-    ensures { Balances cutting.now.pieces claims.now.id result }
-{
-    let Job { seat, share } = job;
-    work(
-        rt, alloc, book, text, cutting, claims, seat, share, depth, gate,
-    )
+        {
+            let Job { seat, share } = job;
+            work(
+                crew.rt, crew.alloc, book, text, cutting, claims, seat, share, depth, crew.gate,
+            )
+        },
+    )?;
+    Ok((open_claims, ends))
 }
 
 /// The seats and shares of all workers, and whether each of them ended.

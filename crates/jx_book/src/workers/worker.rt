@@ -6,20 +6,79 @@ ghost use Rattle.jx_book.specs.Worked.{hand_len, HandedOver, HasSpan, IsLeft, Ma
 
 use crate::lock::book::Book;
 use crate::lock::share::Share;
-use crate::stored::held::Held;
-use crate::stored::held_fault::HeldFault;
-use crate::stored::put::Put;
-use crate::workers::cause::Cause;
-use crate::workers::event::Event;
-use crate::workers::gate::{Gate, Go};
-use crate::workers::hand::Hand;
-use crate::workers::worker_end::WorkerEnd;
-use crate::workers::worker_stop::WorkerStop;
-use jx_claim::{ClaimSeat, Claims, Cutting};
+use crate::stored::held::{Held, HeldFault};
+use crate::stored::state::Put;
+use crate::workers::gate::{Event, Gate, Go};
+use jx_claim::{ClaimSeat, Claims, Cutting, PieceNo};
 use jx_summary::{Depth, Summary};
 use std::alloc::Global;
 use std::sync::Wait;
 use std::sync::ledger::Ledger;
+
+/// A worker that handed over all that it drew, until no piece was left.
+#[derive(Drop)]
+pub struct WorkerEnd<P: Ledger, T: Ledger> {
+    pub seat: ClaimSeat,
+    pub share: Share<P, T>,
+}
+
+/// Why a worker stopped.
+#[derive(Clone, Copy, Debug, PartialEq, Eq)]
+pub enum Cause {
+    /// The gate said so.
+    Gate,
+    /// There was no memory to read, to join or to store.
+    Memory,
+    /// The book had a run with a byte of the one in hand.
+    Overlap,
+    /// A neighbour was of another text or depth.
+    Other,
+    /// A total of the book would have passed the greatest `u128`.
+    Full,
+}
+
+/// What a stopped worker holds: nobody else has it.
+#[derive(Drop)]
+pub enum Hand<'a, S: Summary> {
+    Nothing,
+    /// A piece that it drew and did not read.
+    Piece(PieceNo),
+    /// A run that was not put.
+    One(Held<'a, S>),
+    /// Two neighbours that were not joined, the left one first.
+    Two(Held<'a, S>, Held<'a, S>),
+}
+
+/// A worker that stopped before its end, with what it held.
+#[derive(Drop)]
+pub struct WorkerStop<'a, S: Summary, P: Ledger, T: Ledger> {
+    pub seat: ClaimSeat,
+    pub share: Share<P, T>,
+    pub hand: Hand<'a, S>,
+    pub cause: Cause,
+}
+
+impl<'a, S: Summary, P: Ledger, T: Ledger> WorkerStop<'a, S, P, T> {
+    /// A stopped worker with its seat, its share, what is in its hand and why it stopped.
+    pub(crate) fn new(
+        seat: ClaimSeat,
+        share: Share<P, T>,
+        hand: Hand<'a, S>,
+        cause: Cause,
+    ) -> WorkerStop<'a, S, P, T>
+        ensures seat { result.seat ≡ seat }
+        ensures share { result.share ≡ share }
+        ensures hand { result.hand ≡ hand.entry }
+        ensures cause { result.cause ≡ cause }
+    {
+        WorkerStop {
+            seat,
+            share,
+            hand,
+            cause,
+        }
+    }
+}
 
 /// A run that was not handed over.
 #[derive(Drop)]

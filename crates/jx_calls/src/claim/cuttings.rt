@@ -2,104 +2,88 @@
 ghost use Rattle.std.specs.Prelude.{◌≡◌, ◌≤◌};
 
 use jx_claim::{CutFault, Cutting, PieceNo, Workers};
-use jx_lines::{LineFault, Ways, number_of, numbers_of, push_span};
-use std::alloc::{AllocError, Global};
+use jx_lines::{Line, LineFault, Out, Ways, push_span};
+use std::alloc::Global;
 
 /// At most how many pieces a line lists.
 const LISTED: u32 = 100;
 
 /// Where the pieces begin and end together, how many they are, and if they are few, all of them.
-fn pieces_of(alloc: Global, cutting: &Cutting) -> Result<String, AllocError> {
-    let mut told = String::new(alloc);
+fn pieces_of(alloc: Global, cutting: &Cutting) -> Out {
+    let mut told = Out::new(alloc);
     let (front, len, count) = (cutting.front(), cutting.len(), cutting.count());
-    write!(told, "{front}..{len} in {count}")?;
+    told.put(format_args!("{front}..{len} in {count}"));
     if count <= LISTED {
         for number in 0..count {
-            told.push_str(" ")?;
-            push_span(&mut told, cutting.piece(PieceNo(number)))?;
+            told.push_str(" ");
+            push_span(&mut told, cutting.piece(PieceNo(number)));
         }
     }
-    Ok(told)
+    told
 }
 
-/// The cutting without the first so many bytes.
-fn behind(cutting: Cutting, fronts: &[&str]) -> Result<Cutting, LineFault> {
+/// The cutting without the first so many bytes, for each word that is left.
+fn behind(line: &mut Line<'_>, cutting: Cutting) -> Cutting {
     let mut cutting = cutting;
-    for front in fronts {
-        let front = number_of(front)?;
+    for _ in 0..line.count() {
+        let front = line.number();
         if front < cutting.front() || front > cutting.len() {
-            return Err(LineFault::NoSuchCall);
+            line.refuse();
+        } else {
+            cutting = cutting.without_front(front);
         }
-        cutting = cutting.without_front(front);
     }
-    Ok(cutting)
+    cutting
 }
 
 /// The pieces of a cutting and of its copy.
-fn push_pieces(out: &mut String, alloc: Global, cutting: &Cutting) -> Result<(), AllocError> {
-    let mut ways = Ways::new(alloc);
-    ways.add("itself", pieces_of(alloc, cutting)?)?;
-    ways.add("a copy", pieces_of(alloc, &cutting.copy(alloc)?)?)?;
-    ways.push_to(out)
+fn push_pieces(line: &mut Line<'_>, cutting: &Cutting) {
+    let mut ways = Ways::new(line.alloc);
+    ways.add("itself", pieces_of(line.alloc, cutting));
+    let copy = cutting.copy(line.alloc);
+    if let Some(copy) = line.keep(copy) {
+        ways.add("a copy", pieces_of(line.alloc, &copy));
+    }
+    ways.push_to(&mut line.out);
 }
 
 /// The pieces, or why there are none.
-fn push_cutting(
-    out: &mut String,
-    alloc: Global,
-    cutting: Result<Cutting, CutFault>,
-    fronts: &[&str],
-) -> Result<(), LineFault> {
+fn push_cutting(line: &mut Line<'_>, cutting: Result<Cutting, CutFault>) {
     match cutting {
         Ok(cutting) => {
-            let cutting = behind(cutting, fronts)?;
-            push_pieces(out, alloc, &cutting)?;
-            Ok(())
+            let cutting = behind(line, cutting);
+            push_pieces(line, &cutting);
         }
-        Err(CutFault::Memory) => Err(LineFault::Memory),
-        Err(fault) => {
-            write!(out, "{fault}")?;
-            Ok(())
-        }
+        Err(CutFault::Memory) => line.note(LineFault::Memory),
+        Err(fault) => line.out.put(fault),
     }
 }
 
 /// `every LEN SIZE [FRONT]..`: pieces of so many bytes, without the first so many bytes, one front after another.
-pub(crate) fn every(out: &mut String, alloc: Global, words: &[&str]) -> Result<(), LineFault> {
-    let [len, size, fronts @ ..] = words else {
-        return Err(LineFault::NoSuchCall);
-    };
-    let (len, size) = (number_of(len)?, number_of(size)?);
+pub(crate) fn every(line: &mut Line<'_>) {
+    let len = line.number();
+    let size = line.number();
     if size == 0 {
-        return Err(LineFault::NoSuchCall);
+        return line.refuse();
     }
-    push_cutting(out, alloc, Cutting::every(len, size), fronts)
+    push_cutting(line, Cutting::every(len, size));
 }
 
 /// `at LEN CUTS [FRONT]..`: pieces that meet at the cuts.
-pub(crate) fn at(out: &mut String, alloc: Global, words: &[&str]) -> Result<(), LineFault> {
-    let [len, cuts, fronts @ ..] = words else {
-        return Err(LineFault::NoSuchCall);
-    };
-    let len = number_of(len)?;
-    let cuts = numbers_of(alloc, cuts)?;
-    push_cutting(out, alloc, Cutting::at(alloc, len, &cuts), fronts)
+pub(crate) fn at(line: &mut Line<'_>) {
+    let len = line.number();
+    let cuts = line.numbers();
+    let cutting = Cutting::at(line.alloc, len, &cuts);
+    push_cutting(line, cutting);
 }
 
 /// `workers N`: so many workers, or `-`.
-pub(crate) fn workers(out: &mut String, _alloc: Global, words: &[&str]) -> Result<(), LineFault> {
-    let [count] = words else {
-        return Err(LineFault::NoSuchCall);
-    };
-    let Ok(count) = count.parse::<u8>() else {
-        return Err(LineFault::NoSuchCall);
+pub(crate) fn workers(line: &mut Line<'_>) {
+    let Ok(count) = u8::try_from(line.number()) else {
+        return line.refuse();
     };
     match Workers::new(count) {
-        Some(workers) => {
-            let count = workers.count();
-            write!(out, "{count}")?;
-        }
-        None => out.push_str("-")?,
+        Some(workers) => line.out.put(workers.count()),
+        None => line.out.push_str("-"),
     }
-    Ok(())
 }

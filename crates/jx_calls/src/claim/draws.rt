@@ -3,23 +3,18 @@ ghost use Rattle.std.specs.Prelude.{◌≡◌};
 ghost use Rattle.jx_claim.specs.Claimed.{AllSeats};
 
 use jx_claim::{ClaimSeat, Claims, Workers};
-use jx_lines::LineFault;
+use jx_lines::{Line, Out};
 use std::alloc::{AllocError, Global};
 
 /// How many pieces there are, and how many workers.
-fn terms_of(pieces: &str, workers: &str) -> Option<(u32, Workers)> {
-    let pieces = pieces.parse::<u32>().ok()?;
-    let workers = workers.parse::<u8>().ok()?;
+fn terms(line: &mut Line<'_>) -> Option<(u32, Workers)> {
+    let pieces = u32::try_from(line.number()).ok()?;
+    let workers = u8::try_from(line.number()).ok()?;
     Some((pieces, Workers::new(workers)?))
 }
 
 /// What the seats of these letters draw, one after another; one that got nothing, or is not there, is passed over.
-fn push_draws(
-    out: &mut String,
-    claims: &Claims,
-    seats: &mut Vec<ClaimSeat>,
-    letters: &[u8],
-) -> Result<(), AllocError>
+fn push_draws(out: &mut Out, claims: &Claims, seats: &mut Vec<ClaimSeat>, letters: &[u8])
     requires { AllSeats claims.now seats.old.items }
     ensures { AllSeats claims.now seats.new.items }
 {
@@ -27,51 +22,56 @@ fn push_draws(
         let place = usize::from(letter.saturating_sub(b'A'));
         if place < seats.len() && !seats[place].spent() {
             match claims.draw(&mut seats[place]) {
-                Some(piece) => {
-                    let number = piece.0;
-                    write!(out, "{number} ")?;
-                }
-                None => out.push_str("- ")?,
+                Some(piece) => out.put(format_args!("{} ", piece.0)),
+                None => out.push_str("- "),
             }
         }
     }
+}
+
+fn push_drawn(
+    out: &mut Out,
+    alloc: Global,
+    pieces: u32,
+    workers: Workers,
+    letters: &[u8],
+) -> Result<(), AllocError> {
+    let (claims, mut seats) = Claims::open(alloc, pieces, workers)?;
+    push_draws(out, &claims, &mut seats, letters);
+    let drawn = claims.close(seats).pieces;
+    out.put(format_args!("of {drawn}"));
     Ok(())
 }
 
 /// `draws PIECES WORKERS SEATS`: what seats draw, by their letters `A`, `B` and so on, and how many pieces closing tells.
-pub(crate) fn draws(out: &mut String, alloc: Global, words: &[&str]) -> Result<(), LineFault> {
-    let [pieces, workers, letters] = words else {
-        return Err(LineFault::NoSuchCall);
+pub(crate) fn draws(line: &mut Line<'_>) {
+    let Some((pieces, workers)) = terms(line) else {
+        return line.refuse();
     };
-    let (pieces, workers) = terms_of(pieces, workers).ok_or(LineFault::NoSuchCall)?;
-    let (claims, mut seats) = Claims::open(alloc, pieces, workers)?;
-    push_draws(out, &claims, &mut seats, letters.as_bytes())?;
-    let drawn = claims.close(seats).pieces;
-    write!(out, "of {drawn}")?;
-    Ok(())
+    let letters = line.word().as_bytes();
+    let told = push_drawn(&mut line.out, line.alloc, pieces, workers, letters);
+    line.settle(told);
 }
 
 /// `seats PIECES WORKERS`: the numbers of fresh seats.
-pub(crate) fn seats(out: &mut String, alloc: Global, words: &[&str]) -> Result<(), LineFault> {
-    let [pieces, workers] = words else {
-        return Err(LineFault::NoSuchCall);
+pub(crate) fn seats(line: &mut Line<'_>) {
+    let Some((pieces, workers)) = terms(line) else {
+        return line.refuse();
     };
-    let (pieces, workers) = terms_of(pieces, workers).ok_or(LineFault::NoSuchCall)?;
-    let (_claims, seats) = Claims::open(alloc, pieces, workers)?;
-    push_seats(out, &seats)?;
-    Ok(())
+    let opened = Claims::open(line.alloc, pieces, workers);
+    if let Some((_claims, seats)) = line.keep(opened) {
+        push_seats(&mut line.out, &seats);
+    }
 }
 
-fn push_seats(out: &mut String, seats: &[ClaimSeat]) -> Result<(), AllocError> {
+fn push_seats(out: &mut Out, seats: &[ClaimSeat]) {
     for seat in seats {
         if !out.is_empty() {
-            out.push_str(" ")?;
+            out.push_str(" ");
         }
-        let number = seat.number();
-        write!(out, "{number}")?;
+        out.put(seat.number());
         if seat.spent() {
-            out.push_str(" spent")?;
+            out.push_str(" spent");
         }
     }
-    Ok(())
 }

@@ -1,93 +1,82 @@
 // The children of values, the members of objects by their names, and names that are repeated.
-use crate::index::pointers::index_of;
+use crate::index::pointers::read_index;
 use crate::reduce::outcomes::push_offset;
 use jx_index::{Indexed, NodeId, Pointer};
 use jx_lex::Kind;
-use jx_lines::{LineFault, bytes_of, push_numbers, text_of};
+use jx_lines::{Line, Out, text_of};
 use jx_run::NameRule;
-use std::alloc::{AllocError, Global};
 
-/// The numbers of all children.
-fn push_children(
-    out: &mut String,
-    alloc: Global,
-    index: &Indexed<'_>,
-    node: NodeId,
-) -> Result<(), AllocError> {
-    let mut numbers = Vec::new(alloc);
+/// The number of a node, behind a comma unless it is the first.
+fn push_node(out: &mut Out, node: NodeId) {
+    if !out.is_empty() {
+        out.push_str(",");
+    }
+    out.put(node.number());
+}
+
+/// `children TEXT POINTER`: the numbers of the rows of all children, in order, or `-`.
+pub(crate) fn children(line: &mut Line<'_>) {
+    let text = line.text();
+    if let Some(index) = read_index(line, &text) {
+        push_children(line, &index);
+    }
+}
+
+fn push_children(line: &mut Line<'_>, index: &Indexed<'_>) {
+    let Some(node) = node(line, index) else {
+        return line.refuse();
+    };
     for child in index.children(node) {
-        numbers.push(child.number())?;
+        push_node(&mut line.out, child);
     }
-    push_numbers(out, &numbers)
-}
-
-/// The numbers of nodes.
-fn push_nodes(out: &mut String, alloc: Global, nodes: &[NodeId]) -> Result<(), AllocError> {
-    let mut numbers = Vec::new(alloc);
-    for node in nodes {
-        numbers.push(node.number())?;
-    }
-    push_numbers(out, &numbers)
-}
-
-/// `children TEXT POINTER`: the numbers of the rows of all children, in order.
-pub(crate) fn children(out: &mut String, alloc: Global, words: &[&str]) -> Result<(), LineFault> {
-    let [text, pointer] = words else {
-        return Err(LineFault::NoSuchCall);
-    };
-    let text = bytes_of(alloc, text)?;
-    let index = index_of(alloc, &text)?;
-    let node = node_of(alloc, &index, pointer)?;
-    push_children(out, alloc, &index, node)?;
-    Ok(())
-}
-
-/// The node to which the pointer that a word spells leads.
-fn node_of(alloc: Global, index: &Indexed<'_>, pointer: &str) -> Result<NodeId, LineFault> {
-    let spelt = text_of(alloc, pointer)?;
-    let Ok(pointer) = Pointer::read(spelt.as_str()) else {
-        return Err(LineFault::NoSuchCall);
-    };
-    match index.find(&pointer) {
-        Ok(node) => Ok(node),
-        Err(_) => Err(LineFault::NoSuchCall),
+    if line.out.is_empty() {
+        line.out.push_str("-");
     }
 }
 
-/// `names TEXT`: the numbers of the rows of the outermost object's members, by rising names.
-pub(crate) fn names(out: &mut String, alloc: Global, words: &[&str]) -> Result<(), LineFault> {
-    let [text] = words else {
-        return Err(LineFault::NoSuchCall);
-    };
-    let text = bytes_of(alloc, text)?;
-    let index = index_of(alloc, &text)?;
+/// The node to which the pointer leads that the next word spells.
+fn node(line: &mut Line<'_>, index: &Indexed<'_>) -> Option<NodeId> {
+    let spelt = text_of(line.alloc, line.word()).ok()?;
+    let pointer = Pointer::read(spelt.as_str()).ok()?;
+    index.find(&pointer).ok()
+}
+
+/// `names TEXT`: the numbers of the rows of the outermost object's members, by rising names, or `-`.
+pub(crate) fn names(line: &mut Line<'_>) {
+    let text = line.text();
+    if let Some(index) = read_index(line, &text) {
+        push_names(line, &index);
+    }
+}
+
+fn push_names(line: &mut Line<'_>, index: &Indexed<'_>) {
     let root = index.root();
     if index.row(root).kind != Kind::Object {
-        return Err(LineFault::NoSuchCall);
+        return line.refuse();
     }
-    push_nodes(out, alloc, index.names(root))?;
-    Ok(())
+    for node in index.names(root) {
+        push_node(&mut line.out, *node);
+    }
+    if line.out.is_empty() {
+        line.out.push_str("-");
+    }
 }
 
 /// `repeated TEXT`: where the first name stands that an object repeats, or `-`.
-pub(crate) fn repeated(out: &mut String, alloc: Global, words: &[&str]) -> Result<(), LineFault> {
-    let [text] = words else {
-        return Err(LineFault::NoSuchCall);
-    };
-    let text = bytes_of(alloc, text)?;
-    let index = index_of(alloc, &text)?;
-    push_repeated(out, &index)?;
-    Ok(())
+pub(crate) fn repeated(line: &mut Line<'_>) {
+    let text = line.text();
+    if let Some(index) = read_index(line, &text) {
+        push_repeated(&mut line.out, &index);
+    }
 }
 
-fn push_repeated(out: &mut String, index: &Indexed<'_>) -> Result<(), AllocError> {
+fn push_repeated(out: &mut Out, index: &Indexed<'_>) {
     let repeated = index.repeated();
-    push_offset(out, repeated)?;
+    push_offset(out, repeated);
     if index.refused_name(NameRule::Unique) != repeated {
-        out.push_str("; refuses another")?;
+        out.push_str("; refuses another");
     }
     if index.refused_name(NameRule::Any).is_some() {
-        out.push_str("; refuses without the rule")?;
+        out.push_str("; refuses without the rule");
     }
-    Ok(())
 }

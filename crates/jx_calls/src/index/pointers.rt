@@ -1,19 +1,38 @@
 // What pointers lead to.
+ghost use Rattle.std.specs.Prelude.{◌≡◌, length};
+
 use jx_index::{FindFault, Found, Indexed, Pointer, Row, find_each_in, find_in};
 use jx_lex::{Depth, Span};
-use jx_lines::{LineFault, bytes_of, push_found, text_of};
-use jx_run::NoPause;
+use jx_lines::{Line, Out, push_found};
+use jx_run::{NoPause, Refusal};
 use std::alloc::{AllocError, Global};
 
-/// The index of a text within the default depth.
-pub(crate) fn index_of(alloc: Global, text: &[u8]) -> Result<Indexed<'_>, LineFault> {
-    let span = Span {
+/// What a pointer leads to.
+type Led = Result<Found, FindFault>;
+
+/// The span of all of a text.
+fn whole(text: &[u8]) -> Span
+    ensures start { result.start ≡ 0 }
+    ensures end { result.end ≡ length text.now }
+{
+    Span {
         start: 0,
         end: text.len(),
-    };
-    match Indexed::read(alloc, text, span, Depth::default(), &mut NoPause)? {
-        Ok(index) => Ok(index),
-        Err(_) => Err(LineFault::NoSuchCall),
+    }
+}
+
+fn index_of(alloc: Global, text: &[u8]) -> Result<Result<Indexed<'_>, Refusal>, AllocError> {
+    Indexed::read(alloc, text, whole(text), Depth::default(), &mut NoPause)
+}
+
+/// The index of a text within the default depth. A refused text makes it no such call.
+pub(crate) fn read_index<'t>(line: &mut Line<'_>, text: &'t [u8]) -> Option<Indexed<'t>> {
+    match line.keep(index_of(line.alloc, text))? {
+        Ok(index) => Some(index),
+        Err(_) => {
+            line.refuse();
+            None
+        }
     }
 }
 
@@ -31,136 +50,112 @@ fn pointers_of(alloc: Global, words: &[String]) -> Result<Vec<Pointer<'_>>, Allo
     Ok(pointers)
 }
 
-/// What pointers lead to in a text by one pass over it for all of them, in order, without words that are none.
-fn find_all_at_once(
-    alloc: Global,
-    text: &[u8],
-    words: &[String],
-) -> Result<Vec<Result<Found, FindFault>>, LineFault> {
+/// What pointers lead to in a text by one pass over it for all of them, in order, without words that are none. A refused text has
+/// no answers.
+fn find_all_at_once(alloc: Global, text: &[u8], words: &[String]) -> Result<Vec<Led>, AllocError> {
     let pointers = pointers_of(alloc, words)?;
-    let span = Span {
-        start: 0,
-        end: text.len(),
-    };
-    match find_each_in(alloc, text, span, Depth::default(), &pointers, &mut NoPause)? {
+    let depth = Depth::default();
+    match find_each_in(alloc, text, whole(text), depth, &pointers, &mut NoPause)? {
         Ok(found) => Ok(found),
-        Err(_) => Err(LineFault::NoSuchCall),
+        Err(_) => Ok(Vec::new(alloc)),
     }
 }
 
 /// The kind and the span of a row, if they are those that are wanted.
-fn push_row_as(
-    out: &mut String,
-    row: &Row,
-    wanted: &Result<Found, FindFault>,
-) -> Result<(), AllocError> {
+fn push_row_as(out: &mut Out, row: &Row, wanted: &Led) {
     match wanted {
-        Ok(found) if found.kind == row.kind && found.span == row.span => push_found(out, row),
+        Ok(found) if found.kind == row.kind && found.span == row.span => {
+            push_found(out, row.kind, row.span);
+        }
         _ => out.push_str(DIFFER),
     }
 }
 
 /// What a pointer leads to in an index, if that is wanted.
-fn push_in_index(
-    out: &mut String,
-    index: &Indexed<'_>,
-    pointer: &Pointer<'_>,
-    wanted: &Result<Found, FindFault>,
-) -> Result<(), AllocError> {
+fn push_in_index(out: &mut Out, index: &Indexed<'_>, pointer: &Pointer<'_>, wanted: &Led) {
     match index.find(pointer) {
         Ok(node) => push_row_as(out, index.row(node), wanted),
-        Err(fault) if *wanted == Err(fault) => write!(out, "{fault}"),
+        Err(fault) if *wanted == Err(fault) => out.put(fault),
         Err(_) => out.push_str(DIFFER),
     }
 }
 
 /// What a pointer leads to in an index, if one pass over the text for it alone comes to this too.
 fn push_agreed(
-    out: &mut String,
+    out: &mut Out,
     alloc: Global,
-    text: &[u8],
     index: &Indexed<'_>,
     pointer: &Pointer<'_>,
-    wanted: &Result<Found, FindFault>,
+    wanted: &Led,
 ) -> Result<(), AllocError> {
-    let span = Span {
-        start: 0,
-        end: text.len(),
-    };
-    let passed = find_in(alloc, text, span, Depth::default(), pointer, &mut NoPause)?;
-    if passed != Ok(*wanted) {
-        return out.push_str(DIFFER);
+    let text = index.text();
+    let depth = Depth::default();
+    if find_in(alloc, text, whole(text), depth, pointer, &mut NoPause)? == Ok(*wanted) {
+        push_in_index(out, index, pointer, wanted);
+    } else {
+        out.push_str(DIFFER);
     }
-    push_in_index(out, index, pointer, wanted)
+    Ok(())
 }
 
 /// The kind and the span of the value to which a pointer leads, or why it leads to none. An index of the text, one pass over
 /// it for this pointer and one for all, of which the next answer is taken, have to agree.
 fn push_led(
-    out: &mut String,
+    out: &mut Out,
     alloc: Global,
-    text: &[u8],
     index: &Indexed<'_>,
     pointer: &str,
-    all: &mut &[Result<Found, FindFault>],
+    all: &mut &[Led],
 ) -> Result<(), AllocError> {
     let pointer = match Pointer::read(pointer) {
         Ok(pointer) => pointer,
-        Err(fault) => return write!(out, "{fault}"),
+        Err(fault) => {
+            out.put(fault);
+            return Ok(());
+        }
     };
     let [first, rest @ ..] = *all else {
-        return out.push_str(DIFFER);
+        out.push_str(DIFFER);
+        return Ok(());
     };
     *all = rest;
-    push_agreed(out, alloc, text, index, &pointer, first)
+    push_agreed(out, alloc, index, &pointer, first)
 }
 
 /// What each pointer leads to.
 fn push_each(
-    out: &mut String,
+    out: &mut Out,
     alloc: Global,
-    text: &[u8],
     index: &Indexed<'_>,
     pointers: &[String],
-    found: &[Result<Found, FindFault>],
+    found: &[Led],
 ) -> Result<(), AllocError> {
     let mut all = found;
     for pointer in pointers {
         if !out.is_empty() {
-            out.push_str("; ")?;
+            out.push_str("; ");
         }
-        push_led(out, alloc, text, index, pointer.as_str(), &mut all)?;
+        push_led(out, alloc, index, pointer.as_str(), &mut all)?;
     }
     Ok(())
 }
 
 fn push_all(
-    out: &mut String,
+    out: &mut Out,
     alloc: Global,
-    text: &[u8],
+    index: &Indexed<'_>,
     pointers: &[String],
-) -> Result<(), LineFault> {
-    let found = find_all_at_once(alloc, text, pointers)?;
-    let index = index_of(alloc, text)?;
-    push_each(out, alloc, text, &index, pointers, &found)?;
-    Ok(())
-}
-
-/// The texts that words spell.
-fn texts_of(alloc: Global, words: &[&str]) -> Result<Vec<String>, LineFault> {
-    let mut texts = Vec::with_capacity(alloc, words.len())?;
-    for word in words {
-        texts.push(text_of(alloc, word)?)?;
-    }
-    Ok(texts)
+) -> Result<(), AllocError> {
+    let found = find_all_at_once(alloc, index.text(), pointers)?;
+    push_each(out, alloc, index, pointers, &found)
 }
 
 /// `find TEXT POINTER..`
-pub(crate) fn find(out: &mut String, alloc: Global, words: &[&str]) -> Result<(), LineFault> {
-    let [text, pointers @ ..] = words else {
-        return Err(LineFault::NoSuchCall);
-    };
-    let pointers = texts_of(alloc, pointers)?;
-    let text = bytes_of(alloc, text)?;
-    push_all(out, alloc, &text, &pointers)
+pub(crate) fn find(line: &mut Line<'_>) {
+    let text = line.text();
+    let pointers = line.texts();
+    if let Some(index) = read_index(line, &text) {
+        let told = push_all(&mut line.out, line.alloc, &index, &pointers);
+        line.settle(told);
+    }
 }

@@ -1,37 +1,33 @@
 // The rows of texts, read in one pass, with pauses and by runs.
-ghost use Rattle.std.specs.Prelude.{◌≡◌, ◌≤◌, IfOk, length};
+ghost use Rattle.std.specs.Prelude.{◌≡◌, ◌≤◌, length};
 
 use crate::index::pauses::EachByte;
 use jx_index::{Indexed, TextAnswer};
 use jx_lex::{Depth, Span};
-use jx_lines::{LineFault, Ways, bytes_of, depth_of, push_rows, push_verdict, span_within};
+use jx_lines::{Line, Out, Ways, push_rows, push_verdict};
 use jx_run::{NoPause, Pace, Refusal, Summary, TextRun, Verdict};
 use std::alloc::{AllocError, Global};
 
 /// The rows of a text that is accepted.
-fn push_index(out: &mut String, index: &Indexed<'_>) -> Result<(), AllocError> {
-    push_verdict(out, Verdict::Accepted)?;
-    push_rows(out, index.rows())
+fn told_of_index(alloc: Global, index: &Indexed<'_>) -> Out {
+    let mut told = Out::new(alloc);
+    push_verdict(&mut told, Verdict::Accepted);
+    push_rows(&mut told, index.rows());
+    told
+}
+
+fn told_of_refusal(alloc: Global, refusal: Refusal) -> Out {
+    let mut told = Out::new(alloc);
+    push_verdict(&mut told, Verdict::Refused(refusal));
+    told
 }
 
 /// The verdict, and the rows where the text is accepted.
-fn told_of_read(alloc: Global, read: &Result<Indexed<'_>, Refusal>) -> Result<String, AllocError> {
-    let mut told = String::new(alloc);
-    match read {
-        Ok(index) => push_index(&mut told, index)?,
-        Err(refusal) => push_verdict(&mut told, Verdict::Refused(*refusal))?,
-    }
-    Ok(told)
-}
-
-/// The same of an answer.
-fn told_of_answer(alloc: Global, answer: &TextAnswer<'_>) -> Result<String, AllocError> {
-    let mut told = String::new(alloc);
+fn told_of_answer(alloc: Global, answer: &TextAnswer<'_>) -> Out {
     match answer {
-        TextAnswer::Accepted(index) => push_index(&mut told, index)?,
-        TextAnswer::Refused(refusal) => push_verdict(&mut told, Verdict::Refused(*refusal))?,
+        TextAnswer::Accepted(index) => told_of_index(alloc, index),
+        TextAnswer::Refused(refusal) => told_of_refusal(alloc, *refusal),
     }
-    Ok(told)
 }
 
 /// What one pass over a span gives, with these pauses.
@@ -41,43 +37,35 @@ fn in_one_pass<P: Pace>(
     span: Span,
     depth: Depth,
     pace: &mut P,
-) -> Result<String, AllocError>
+) -> Result<Out, AllocError>
     requires ordered { span.start ≤ span.end }
     requires within { span.end ≤ length text.now }
 {
-    told_of_read(alloc, &Indexed::read(alloc, text, span, depth, pace)?)
+    match Indexed::read(alloc, text, span, depth, pace)? {
+        Ok(index) => Ok(told_of_index(alloc, &index)),
+        Err(refusal) => Ok(told_of_refusal(alloc, refusal)),
+    }
 }
 
 /// What a run over a span gives, started.
-fn by_started_run(
-    alloc: Global,
-    text: &[u8],
-    span: Span,
-    depth: Depth,
-) -> Result<String, AllocError>
+fn by_started_run(alloc: Global, text: &[u8], span: Span, depth: Depth) -> Result<Out, AllocError>
     requires ordered { span.start ≤ span.end }
     requires within { span.end ≤ length text.now }
 {
     let run = TextRun::of(alloc, text, span.start, span.end, depth)?;
     let started = run.started()?;
-    let read = match started.verdict() {
-        Verdict::Accepted => Ok(Indexed::build(alloc, text, &started)?),
-        Verdict::Refused(refusal) => Err(refusal),
-    };
-    told_of_read(alloc, &read)
+    match started.verdict() {
+        Verdict::Accepted => Ok(told_of_index(alloc, &Indexed::build(alloc, text, &started)?)),
+        Verdict::Refused(refusal) => Ok(told_of_refusal(alloc, refusal)),
+    }
 }
 
 /// What a run over the end of a text gives.
-fn by_run_to_end(
-    alloc: Global,
-    text: &[u8],
-    start: usize,
-    depth: Depth,
-) -> Result<String, AllocError>
+fn by_run_to_end(alloc: Global, text: &[u8], start: usize, depth: Depth) -> Result<Out, AllocError>
     requires within { start ≤ length text.now }
 {
     let run = TextRun::of(alloc, text, start, text.len(), depth)?;
-    told_of_answer(alloc, &TextAnswer::of_run(alloc, text, &run)?)
+    Ok(told_of_answer(alloc, &TextAnswer::of_run(alloc, text, &run)?))
 }
 
 /// What one pass over the end of a text gives.
@@ -86,11 +74,11 @@ fn in_one_pass_to_end(
     text: &[u8],
     start: usize,
     depth: Depth,
-) -> Result<String, AllocError>
+) -> Result<Out, AllocError>
     requires within { start ≤ length text.now }
 {
     let answer = TextAnswer::read_from(alloc, text, start, depth, &mut NoPause)?;
-    told_of_answer(alloc, &answer)
+    Ok(told_of_answer(alloc, &answer))
 }
 
 /// Both ways to read the end of a text.
@@ -103,15 +91,15 @@ fn add_to_end(
 ) -> Result<(), AllocError>
     requires within { start ≤ length text.now }
 {
-    ways.add(
-        "by a run to the end",
-        by_run_to_end(alloc, text, start, depth)?,
-    )?;
-    ways.add("to the end", in_one_pass_to_end(alloc, text, start, depth)?)
+    let told = by_run_to_end(alloc, text, start, depth)?;
+    ways.add("by a run to the end", told);
+    let told = in_one_pass_to_end(alloc, text, start, depth)?;
+    ways.add("to the end", told);
+    Ok(())
 }
 
 /// All ways to read a span.
-fn read_by_ways(
+fn add_span(
     ways: &mut Ways,
     alloc: Global,
     text: &[u8],
@@ -121,43 +109,37 @@ fn read_by_ways(
     requires ordered { span.start ≤ span.end }
     requires within { span.end ≤ length text.now }
 {
-    ways.add(
-        "in one pass",
-        in_one_pass(alloc, text, span, depth, &mut NoPause)?,
-    )?;
-    ways.add(
-        "with pauses",
-        in_one_pass(alloc, text, span, depth, &mut EachByte)?,
-    )?;
-    ways.add("by a run", by_started_run(alloc, text, span, depth)?)?;
-    if span.end == text.len() {
-        add_to_end(ways, alloc, text, span.start, depth)?;
-    }
+    let told = in_one_pass(alloc, text, span, depth, &mut NoPause)?;
+    ways.add("in one pass", told);
+    let told = in_one_pass(alloc, text, span, depth, &mut EachByte)?;
+    ways.add("with pauses", told);
+    let told = by_started_run(alloc, text, span, depth)?;
+    ways.add("by a run", told);
     Ok(())
 }
 
 /// The span that a word asks for, or else that of the whole text.
-fn span_of(words: &[&str], len: usize) -> Result<Span, LineFault>
-    ensures ordered { IfOk result (λ span. span.start ≤ span.end) }
-    ensures within { IfOk result (λ span. span.end ≤ len) }
+fn span(line: &mut Line<'_>, len: usize) -> Span
+    ensures ordered { result.start ≤ result.end }
+    ensures within { result.end ≤ len }
 {
-    match words {
-        [] => Ok(Span { start: 0, end: len }),
-        [word] => span_within(word, len),
-        _ => Err(LineFault::NoSuchCall),
+    if line.count() == 0 {
+        return Span { start: 0, end: len };
     }
+    line.span(len)
 }
 
 /// `rows DEPTH TEXT [S..E]`: the verdict and all rows, in one pass, with a pause behind each byte, and by runs.
-pub(crate) fn rows(out: &mut String, alloc: Global, words: &[&str]) -> Result<(), LineFault> {
-    let [depth, text, span @ ..] = words else {
-        return Err(LineFault::NoSuchCall);
-    };
-    let depth = depth_of(depth)?;
-    let text = bytes_of(alloc, text)?;
-    let span = span_of(span, text.len())?;
-    let mut ways = Ways::new(alloc);
-    read_by_ways(&mut ways, alloc, &text, span, depth)?;
-    ways.push_to(out)?;
-    Ok(())
+pub(crate) fn rows(line: &mut Line<'_>) {
+    let depth = line.depth();
+    let text = line.text();
+    let span = span(line, text.len());
+    let mut ways = Ways::new(line.alloc);
+    let done = add_span(&mut ways, line.alloc, &text, span, depth);
+    line.settle(done);
+    if span.end == text.len() {
+        let done = add_to_end(&mut ways, line.alloc, &text, span.start, depth);
+        line.settle(done);
+    }
+    ways.push_to(&mut line.out);
 }

@@ -2,7 +2,7 @@
 ghost use Rattle.std.specs.Prelude.{◌≡◌, ◌≤◌, length, IfOk};
 
 use jx_lex::ChunkMap;
-use jx_lines::{LineFault, Meeting, bytes_of, meeting_within, number_of};
+use jx_lines::{Line, Out};
 use std::alloc::{AllocError, Global};
 
 /// The map of both sides of a cut, and how many marks the left one and the right one held.
@@ -39,23 +39,22 @@ pub(crate) fn joined_at(
 }
 
 /// `kept TEXT S..C..E LEAST`: how many marks the join keeps of the right, which has to hold at least so many.
-pub(crate) fn kept(out: &mut String, alloc: Global, words: &[&str]) -> Result<(), LineFault> {
-    let [text, meeting, least] = words else {
-        return Err(LineFault::NoSuchCall);
-    };
-    let text = bytes_of(alloc, text)?;
-    let Meeting { start, cut, end } = meeting_within(meeting, text.len())?;
-    let least = number_of(least)?;
-    let joined = joined_at(alloc, &text, start, cut, end)?;
-    let kept = joined.map.stored().saturating_sub(joined.left);
-    push_kept(out, kept, joined.right, least)?;
-    Ok(())
+pub(crate) fn kept(line: &mut Line<'_>) {
+    let text = line.text();
+    let meeting = line.meeting(text.len());
+    let least = line.number();
+    let joined = joined_at(line.alloc, &text, meeting.start, meeting.cut, meeting.end);
+    if let Some(joined) = line.keep(joined) {
+        push_kept(&mut line.out, &joined, least as u128);
+    }
 }
 
-fn push_kept(out: &mut String, kept: u128, right: u128, least: usize) -> Result<(), AllocError> {
-    if right >= least as u128 {
-        write!(out, "keeps {kept} of at least {least}")
+fn push_kept(out: &mut Out, joined: &Joined, least: u128) {
+    let kept = joined.map.stored().saturating_sub(joined.left);
+    let right = joined.right;
+    if right >= least {
+        out.put(format_args!("keeps {kept} of at least {least}"));
     } else {
-        write!(out, "keeps {kept} of {right}")
+        out.put(format_args!("keeps {kept} of {right}"));
     }
 }

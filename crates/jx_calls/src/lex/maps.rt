@@ -3,119 +3,145 @@ ghost use Rattle.std.specs.Prelude.{◌≤◌, length};
 
 use crate::lex::joins::{Joined, joined_at};
 use crate::lex::track::Track;
-use jx_lex::{ChunkMap, LexState};
-use jx_lines::{
-    LineFault, Meeting, Ways, bytes_of, meeting_within, number_of, span_within, state_of,
-};
+use jx_lex::{ChunkMap, LexState, Span};
+use jx_lines::{Line, LineFault, Meeting, Out, Ways, meeting_within, span_within};
 use std::alloc::{AllocError, Global};
 
 /// `map TEXT S..E STATE`, or `map TEXT S..C..E STATE` of two maps that are joined at C.
-pub(crate) fn map(out: &mut String, alloc: Global, words: &[&str]) -> Result<(), LineFault> {
-    let [text, span, state] = words else {
-        return Err(LineFault::NoSuchCall);
-    };
-    let text = bytes_of(alloc, text)?;
-    let state = state_of(alloc, state)?;
-    match span_within(span, text.len()) {
-        Ok(span) => {
-            let map = ChunkMap::of(alloc, &text, span.start, span.end)?;
-            push_view(out, alloc, &map, state)?;
-        }
-        Err(_) => {
-            let Meeting { start, cut, end } = meeting_within(span, text.len())?;
-            let joined = joined_at(alloc, &text, start, cut, end)?;
-            push_view(out, alloc, &joined.map, state)?;
-            push_excess(out, &joined, start, end)?;
-        }
+pub(crate) fn map(line: &mut Line<'_>) {
+    let text = line.text();
+    let word = line.word();
+    let state = line.state();
+    let told = push_map(&mut line.out, line.alloc, &text, word, state);
+    match told {
+        Ok(()) => (),
+        Err(fault) => line.note(fault),
+    }
+}
+
+fn push_map(
+    out: &mut Out,
+    alloc: Global,
+    text: &[u8],
+    word: &str,
+    state: LexState,
+) -> Result<(), LineFault> {
+    match span_within(word, text.len()) {
+        Ok(span) => push_one(out, alloc, text, span, state)?,
+        Err(_) => push_both(out, alloc, text, meeting_within(word, text.len())?, state)?,
     }
     Ok(())
 }
 
+fn push_one(
+    out: &mut Out,
+    alloc: Global,
+    text: &[u8],
+    span: Span,
+    state: LexState,
+) -> Result<(), AllocError>
+    requires ordered { span.start ≤ span.end }
+    requires within { span.end ≤ length text.now }
+{
+    let map = ChunkMap::of(alloc, text, span.start, span.end)?;
+    push_view(out, alloc, &map, state)
+}
+
+fn push_both(
+    out: &mut Out,
+    alloc: Global,
+    text: &[u8],
+    meeting: Meeting,
+    state: LexState,
+) -> Result<(), AllocError>
+    requires left { meeting.start ≤ meeting.cut }
+    requires right { meeting.cut ≤ meeting.end }
+    requires within { meeting.end ≤ length text.now }
+{
+    let Meeting { start, cut, end } = meeting;
+    let joined = joined_at(alloc, text, start, cut, end)?;
+    push_view(out, alloc, &joined.map, state)?;
+    push_excess(out, &joined, start, end);
+    Ok(())
+}
+
 fn push_view(
-    out: &mut String,
+    out: &mut Out,
     alloc: Global,
     map: &ChunkMap,
     state: LexState,
 ) -> Result<(), AllocError> {
     let view = map.entry(state);
-    Track::of_view(alloc, &view)?.push_to(out)
+    Track::of_view(alloc, &view)?.push_to(out);
+    Ok(())
 }
 
 /// What the join at a cut of the whole text shows.
-fn shown_at(alloc: Global, text: &[u8], cut: usize, state: LexState) -> Result<String, AllocError>
+fn shown_at(alloc: Global, text: &[u8], cut: usize, state: LexState) -> Result<Out, AllocError>
     requires { cut ≤ length text.now }
 {
-    let mut shown = String::new(alloc);
     let joined = joined_at(alloc, text, 0, cut, text.len())?;
+    let mut shown = Out::new(alloc);
     push_view(&mut shown, alloc, &joined.map, state)?;
     Ok(shown)
 }
 
 /// `cut TEXT STATE`: what joins at each cut show.
-pub(crate) fn cut(out: &mut String, alloc: Global, words: &[&str]) -> Result<(), LineFault> {
-    let [text, state] = words else {
-        return Err(LineFault::NoSuchCall);
-    };
-    let text = bytes_of(alloc, text)?;
-    let state = state_of(alloc, state)?;
-    let mut ways = Ways::new(alloc);
-    for cut in 0..=text.len() {
-        add_cut(&mut ways, alloc, &text, cut, state)?;
-    }
-    ways.push_to(out)?;
-    Ok(())
+pub(crate) fn cut(line: &mut Line<'_>) {
+    let text = line.text();
+    let state = line.state();
+    let mut ways = Ways::new(line.alloc);
+    let done = add_cuts(&mut ways, line.alloc, &text, state);
+    line.settle(done);
+    ways.push_to(&mut line.out);
 }
 
-fn add_cut(
+fn add_cuts(
     ways: &mut Ways,
     alloc: Global,
     text: &[u8],
-    cut: usize,
     state: LexState,
-) -> Result<(), AllocError>
-    requires { cut ≤ length text.now }
-{
-    let way = format!(in alloc; "cut at {cut}")?;
-    ways.add(way.as_str(), shown_at(alloc, text, cut, state)?)
+) -> Result<(), AllocError> {
+    for cut in 0..=text.len() {
+        let shown = shown_at(alloc, text, cut, state)?;
+        ways.add(format_args!("cut at {cut}"), shown);
+    }
+    Ok(())
 }
 
 /// What a join holds too many of, or another span than that of both: nothing where it is right.
-fn push_excess(
-    out: &mut String,
-    joined: &Joined,
-    start: usize,
-    end: usize,
-) -> Result<(), AllocError> {
+fn push_excess(out: &mut Out, joined: &Joined, start: usize, end: usize) {
     let stored = joined.map.stored();
     if stored > joined.left.saturating_add(joined.right) {
-        write!(out, "; holds {stored}, more than both")?;
+        out.put(format_args!("; holds {stored}, more than both"));
     }
     let span = joined.map.span();
     if span.start != start || span.end != end {
-        write!(out, "; stands at {span:?}")?;
+        out.put(format_args!("; stands at {span:?}"));
     }
-    Ok(())
 }
 
 /// `shown TEXT S..E MOST`: how many marks all views show, of a map that holds at most so many.
-pub(crate) fn shown(out: &mut String, alloc: Global, words: &[&str]) -> Result<(), LineFault> {
-    let [text, span, most] = words else {
-        return Err(LineFault::NoSuchCall);
-    };
-    let text = bytes_of(alloc, text)?;
-    let span = span_within(span, text.len())?;
-    let most = number_of(most)?;
-    let map = ChunkMap::of(alloc, &text, span.start, span.end)?;
-    push_shown(out, shown_by(alloc, &map)?, map.stored(), most)?;
-    Ok(())
+pub(crate) fn shown(line: &mut Line<'_>) {
+    let text = line.text();
+    let span = line.span(text.len());
+    let most = line.number();
+    let map = ChunkMap::of(line.alloc, &text, span.start, span.end);
+    if let Some(map) = line.keep(map) {
+        let told = push_shown(&mut line.out, line.alloc, &map, most);
+        line.settle(told);
+    }
 }
 
-fn push_shown(out: &mut String, shown: usize, stored: u128, most: usize) -> Result<(), AllocError> {
+fn push_shown(out: &mut Out, alloc: Global, map: &ChunkMap, most: usize) -> Result<(), AllocError> {
+    let shown = shown_by(alloc, map)?;
+    let stored = map.stored();
     if stored <= most as u128 {
-        write!(out, "shows {shown}, holds at most {most}")
+        out.put(format_args!("shows {shown}, holds at most {most}"));
     } else {
-        write!(out, "shows {shown}, holds {stored}")
+        out.put(format_args!("shows {shown}, holds {stored}"));
     }
+    Ok(())
 }
 
 /// How many marks the views from all states show together.

@@ -1,9 +1,9 @@
-// Scans into keepers, one of which wants no more after some marks.
+// Scans into sinks, one of which wants no more after some marks.
 ghost use Rattle.std.specs.Prelude.{◌≡◌, length, min};
 
 use crate::lex::track::{push_exit, push_track};
-use jx_lex::{Keeper, LexState, Mark, Tokens};
-use jx_lines::{LineFault, bytes_of, number_of, state_of};
+use jx_lex::{LexState, Mark, TokenSink, Tokens};
+use jx_lines::{Line, Out};
 use std::alloc::{AllocError, Global};
 
 /// Counts marks up to a limit, and wants no more then.
@@ -13,7 +13,7 @@ struct FirstMarks {
     count: usize,
 }
 
-impl Keeper for FirstMarks {
+impl TokenSink for FirstMarks {
     ghost has_seen = { λ k marks ends. k.count ≡ min k.limit (length marks) };
 
     fn begin(&mut self, _mark: Mark) -> Result<(), AllocError> {
@@ -32,50 +32,43 @@ impl Keeper for FirstMarks {
     }
 }
 
-/// `scan STATE TEXT`, or `scan STATE TEXT LIMIT` into a keeper that wants no more marks than so many.
-pub(crate) fn scan(out: &mut String, alloc: Global, words: &[&str]) -> Result<(), LineFault> {
-    match words {
-        [state, text] => {
-            let text = bytes_of(alloc, text)?;
-            push_tokens(out, alloc, state_of(alloc, state)?, &text)
-        }
-        [state, text, limit] => {
-            let text = bytes_of(alloc, text)?;
-            push_first(out, state_of(alloc, state)?, &text, number_of(limit)?)
-        }
-        _ => Err(LineFault::NoSuchCall),
-    }
+/// `scan STATE TEXT`, or `scan STATE TEXT LIMIT` into a sink that wants no more marks than so many.
+pub(crate) fn scan(line: &mut Line<'_>) {
+    let state = line.state();
+    let text = line.text();
+    let told = if line.count() == 0 {
+        push_tokens(&mut line.out, line.alloc, state, &text)
+    } else {
+        let limit = line.number();
+        push_first(&mut line.out, state, &text, limit)
+    };
+    line.settle(told);
 }
 
 /// All marks and ends, and the exit.
 fn push_tokens(
-    out: &mut String,
+    out: &mut Out,
     alloc: Global,
     state: LexState,
     text: &[u8],
-) -> Result<(), LineFault> {
+) -> Result<(), AllocError> {
     let mut tokens = Tokens::new(alloc);
     match jx_lex::scan(&mut tokens, state, text, 0, text.len())? {
-        Some(exit) => push_track(out, tokens.marks(), tokens.ends(), exit)?,
-        None => out.push_str("wants no more")?,
+        Some(exit) => push_track(out, tokens.marks(), tokens.ends(), exit),
+        None => out.push_str("wants no more"),
     }
     Ok(())
 }
 
 /// How many marks were kept, and the exit, if more were wanted.
-fn push_first(
-    out: &mut String,
-    state: LexState,
-    text: &[u8],
-    limit: usize,
-) -> Result<(), LineFault> {
+fn push_first(out: &mut Out, state: LexState, text: &[u8], limit: usize) -> Result<(), AllocError> {
     let mut first = FirstMarks { limit, count: 0 };
     let exit = jx_lex::scan(&mut first, state, text, 0, text.len())?;
     let count = first.count;
-    write!(out, "{count} marks; ")?;
+    out.put(format_args!("{count} marks; "));
     match exit {
-        Some(exit) => push_exit(out, exit)?,
-        None => out.push_str("wants no more")?,
+        Some(exit) => push_exit(out, exit),
+        None => out.push_str("wants no more"),
     }
     Ok(())
 }

@@ -1,56 +1,49 @@
 // The classes of bytes, and single steps of the lexical states.
 use crate::lex::track::Track;
 use jx_lex::class_of;
-use jx_lines::{LineFault, bytes_of, state_of};
-use std::alloc::Global;
+use jx_lines::{Line, Out};
 use std::fmt::Debug;
 
-/// The only byte that a word spells.
-fn byte_of(alloc: Global, word: &str) -> Result<u8, LineFault> {
-    let bytes = bytes_of(alloc, word)?;
-    match bytes.as_slice() {
-        [byte] => Ok(*byte),
-        _ => Err(LineFault::NoSuchCall),
+/// The only byte that the next word spells.
+fn byte(line: &mut Line<'_>) -> u8 {
+    match line.text().as_slice() {
+        [byte] => *byte,
+        _ => {
+            line.refuse();
+            0
+        }
     }
 }
 
 /// `class BYTE`
-pub(crate) fn class(out: &mut String, alloc: Global, words: &[&str]) -> Result<(), LineFault> {
-    let [byte] = words else {
-        return Err(LineFault::NoSuchCall);
-    };
-    let class = class_of(byte_of(alloc, byte)?);
-    write!(out, "{class:?}")?;
-    Ok(())
+pub(crate) fn class(line: &mut Line<'_>) {
+    let class = class_of(byte(line));
+    line.out.put(format_args!("{class:?}"));
 }
 
 /// A name and what it stands for, `-` where it is nothing.
-fn push_part<T: Debug>(out: &mut String, name: &str, part: &Option<T>) -> Result<(), LineFault> {
+fn push_part<T: Debug>(out: &mut Out, name: &str, part: &Option<T>) {
     match part {
-        Some(part) => write!(out, "{name} {part:?}")?,
-        None => write!(out, "{name} -")?,
+        Some(part) => out.put(format_args!("{name} {part:?}")),
+        None => out.put(format_args!("{name} -")),
     }
-    Ok(())
 }
 
 /// `step STATE BYTE`: where a token ends, which mark begins, and the next state.
-pub(crate) fn step(out: &mut String, alloc: Global, words: &[&str]) -> Result<(), LineFault> {
-    let [state, byte] = words else {
-        return Err(LineFault::NoSuchCall);
-    };
-    let step = jx_lex::step(state_of(alloc, state)?, byte_of(alloc, byte)?);
-    push_part(out, "end", &step.end)?;
-    push_part(out, "; mark", &step.begin)?;
-    push_part(out, "; next", &step.next)
+pub(crate) fn step(line: &mut Line<'_>) {
+    let state = line.state();
+    let step = jx_lex::step(state, byte(line));
+    push_part(&mut line.out, "end", &step.end);
+    push_part(&mut line.out, "; mark", &step.begin);
+    push_part(&mut line.out, "; next", &step.next);
 }
 
 /// `steps STATE TEXT`: one step after another.
-pub(crate) fn steps(out: &mut String, alloc: Global, words: &[&str]) -> Result<(), LineFault> {
-    let [state, text] = words else {
-        return Err(LineFault::NoSuchCall);
-    };
-    let state = state_of(alloc, state)?;
-    let text = bytes_of(alloc, text)?;
-    Track::by_steps(alloc, state, &text, 0)?.push_to(out)?;
-    Ok(())
+pub(crate) fn steps(line: &mut Line<'_>) {
+    let state = line.state();
+    let text = line.text();
+    let track = Track::by_steps(line.alloc, state, &text, 0);
+    if let Some(track) = line.keep(track) {
+        track.push_to(&mut line.out);
+    }
 }

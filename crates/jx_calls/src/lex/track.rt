@@ -1,6 +1,6 @@
 // What reading from one state gives: marks, ends and an exit.
 use jx_lex::{LexExit, LexState, Mark, TokenEnd, TrackView, step};
-use jx_lines::push_numbers;
+use jx_lines::{Out, push_numbers};
 use std::alloc::{AllocError, Global};
 
 /// The marks of a track, its ends and its exit.
@@ -65,23 +65,18 @@ impl Track {
     }
 
     /// `Number@7 CloseArray@8; ends 8; exit Gap`.
-    pub(crate) fn push_to(&self, out: &mut String) -> Result<(), AllocError> {
-        push_track(out, &self.marks, &self.ends, self.exit)
+    pub(crate) fn push_to(&self, out: &mut Out) {
+        push_track(out, &self.marks, &self.ends, self.exit);
     }
 }
 
 /// The same of marks, ends and an exit.
-pub(crate) fn push_track(
-    out: &mut String,
-    marks: &[Mark],
-    ends: &[usize],
-    exit: LexExit,
-) -> Result<(), AllocError> {
-    push_marks(out, marks)?;
-    out.push_str("; ends ")?;
-    push_numbers(out, ends)?;
-    out.push_str("; ")?;
-    push_exit(out, exit)
+pub(crate) fn push_track(out: &mut Out, marks: &[Mark], ends: &[usize], exit: LexExit) {
+    push_marks(out, marks);
+    out.push_str("; ends ");
+    push_numbers(out, ends);
+    out.push_str("; ");
+    push_exit(out, exit);
 }
 
 fn ends_of(alloc: Global, view: &TrackView<'_>) -> Result<Vec<usize>, AllocError> {
@@ -93,24 +88,23 @@ fn ends_of(alloc: Global, view: &TrackView<'_>) -> Result<Vec<usize>, AllocError
 }
 
 /// `Number@7 CloseArray@8`, or `-` for no marks.
-pub(crate) fn push_marks(out: &mut String, marks: &[Mark]) -> Result<(), AllocError> {
+fn push_marks(out: &mut Out, marks: &[Mark]) {
     if marks.is_empty() {
-        return out.push_str("-");
+        out.push_str("-");
     }
     for (place, mark) in marks.iter().enumerate() {
         if place > 0 {
-            out.push_str(" ")?;
+            out.push_str(" ");
         }
         let (kind, at) = (mark.kind, mark.at);
-        write!(out, "{kind:?}@{at}")?;
+        out.put(format_args!("{kind:?}@{at}"));
     }
-    Ok(())
 }
 
 /// `exit Gap` or `fault at 7`.
-pub(crate) fn push_exit(out: &mut String, exit: LexExit) -> Result<(), AllocError> {
+pub(crate) fn push_exit(out: &mut Out, exit: LexExit) {
     match exit {
-        LexExit::State(state) => write!(out, "exit {state:?}"),
-        LexExit::Fault(at) => write!(out, "fault at {at}"),
+        LexExit::State(state) => out.put(format_args!("exit {state:?}")),
+        LexExit::Fault(at) => out.put(format_args!("fault at {at}")),
     }
 }

@@ -4,7 +4,7 @@ ghost use Rattle.std.specs.Prelude.{◌≡◌, ◌≤◌, length};
 use crate::lex::joins::joined_at;
 use crate::lex::track::Track;
 use jx_lex::{ChunkMap, LexState, Mark, Span};
-use jx_lines::{LineFault, bytes_of, push_span, span_within};
+use jx_lines::{Line, Out, push_span};
 use std::alloc::{AllocError, Global};
 
 /// Whether the segments on the view's path have these marks.
@@ -44,21 +44,20 @@ fn is_by_steps(
 }
 
 /// Tells whether all views are as steps give, and else from which state the first is not.
-fn push_odd(out: &mut String, odd: Option<LexState>) -> Result<(), AllocError> {
+fn push_odd(out: &mut Out, odd: Option<LexState>) {
     match odd {
         None => out.push_str("as by steps"),
-        Some(state) => write!(out, "other than by steps from {state:?}"),
+        Some(state) => out.put(format_args!("other than by steps from {state:?}")),
     }
 }
 
 /// `maps TEXT`: the views of the whole, and at each cut those of the join.
-pub(crate) fn maps(out: &mut String, alloc: Global, words: &[&str]) -> Result<(), LineFault> {
-    let [text] = words else {
-        return Err(LineFault::NoSuchCall);
-    };
-    let text = bytes_of(alloc, text)?;
-    push_odd(out, odd_anywhere(alloc, &text)?)?;
-    Ok(())
+pub(crate) fn maps(line: &mut Line<'_>) {
+    let text = line.text();
+    let odd = odd_anywhere(line.alloc, &text);
+    if let Some(odd) = line.keep(odd) {
+        push_odd(&mut line.out, odd);
+    }
 }
 
 /// The first state from which the whole shows something else than steps give, or else the join at a cut.
@@ -86,33 +85,95 @@ fn odd_at(alloc: Global, text: &[u8], cut: usize) -> Result<Option<LexState>, Al
 }
 
 /// `views TEXT S..E`: the views of one map.
-pub(crate) fn views(out: &mut String, alloc: Global, words: &[&str]) -> Result<(), LineFault> {
-    let [text, span] = words else {
-        return Err(LineFault::NoSuchCall);
-    };
-    let text = bytes_of(alloc, text)?;
-    let span = span_within(span, text.len())?;
-    let map = ChunkMap::of(alloc, &text, span.start, span.end)?;
-    push_odd(out, odd_state(alloc, &map, &text[span.start..span.end])?)?;
-    Ok(())
+pub(crate) fn views(line: &mut Line<'_>) {
+    let text = line.text();
+    let span = line.span(text.len());
+    let odd = odd_in_part(line.alloc, &text, span);
+    if let Some(odd) = line.keep(odd) {
+        push_odd(&mut line.out, odd);
+    }
+}
+
+fn odd_in_part(alloc: Global, text: &[u8], span: Span) -> Result<Option<LexState>, AllocError>
+    requires ordered { span.start ≤ span.end }
+    requires within { span.end ≤ length text.now }
+{
+    let map = ChunkMap::of(alloc, text, span.start, span.end)?;
+    odd_state(alloc, &map, &text[span.start..span.end])
+}
+
+/// So many copies of a unit, and a text behind them.
+fn grown_to(alloc: Global, unit: &[u8], count: usize, end: &[u8]) -> Result<Vec<u8>, AllocError> {
+    let mut text = Vec::new(alloc);
+    for _ in 0..count {
+        text.extend_from_slice(unit)?;
+    }
+    text.extend_from_slice(end)?;
+    Ok(text)
+}
+
+fn odd_behind(
+    alloc: Global,
+    unit: &[u8],
+    counts: Span,
+    end: &[u8],
+) -> Result<Option<LexState>, AllocError> {
+    let mut odd = None;
+    for count in counts.start..counts.end {
+        let text = grown_to(alloc, unit, count, end)?;
+        odd = odd.or(odd_in_one(alloc, &text)?);
+    }
+    Ok(odd)
+}
+
+/// `grown UNIT S..E TEXT`: the views of a text behind each number of copies of a unit, from S on and below E.
+pub(crate) fn grown(line: &mut Line<'_>) {
+    let unit = line.text();
+    let counts = line.span(usize::MAX);
+    let end = line.text();
+    let odd = odd_behind(line.alloc, &unit, counts, &end);
+    if let Some(odd) = line.keep(odd) {
+        push_odd(&mut line.out, odd);
+    }
+}
+
+fn odd_up_to(alloc: Global, text: &[u8], ends: Span) -> Result<Option<LexState>, AllocError>
+    requires { ends.end ≤ length text.now }
+{
+    let mut odd = None;
+    for end in ends.start..ends.end {
+        odd = odd.or(odd_in_part(alloc, text, Span { start: 0, end })?);
+    }
+    Ok(odd)
+}
+
+/// `upto TEXT S..E`: the views of the maps of a text up to each offset, from S on and below E.
+pub(crate) fn upto(line: &mut Line<'_>) {
+    let text = line.text();
+    let ends = line.span(text.len());
+    let odd = odd_up_to(line.alloc, &text, ends);
+    if let Some(odd) = line.keep(odd) {
+        push_odd(&mut line.out, odd);
+    }
 }
 
 /// `beginning TEXT S..E`: where the map of a beginning ends, and its views.
-pub(crate) fn beginning(out: &mut String, alloc: Global, words: &[&str]) -> Result<(), LineFault> {
-    let [text, span] = words else {
-        return Err(LineFault::NoSuchCall);
-    };
-    let text = bytes_of(alloc, text)?;
-    let span = span_within(span, text.len())?;
-    let map = ChunkMap::of_beginning(alloc, &text, span.start, span.end)?;
-    let read = map.span();
-    let odd = odd_state(alloc, &map, &text[read.start..read.end])?;
-    push_beginning(out, read, odd)?;
-    Ok(())
+pub(crate) fn beginning(line: &mut Line<'_>) {
+    let text = line.text();
+    let span = line.span(text.len());
+    let told = push_beginning(&mut line.out, line.alloc, &text, span);
+    line.settle(told);
 }
 
-fn push_beginning(out: &mut String, read: Span, odd: Option<LexState>) -> Result<(), AllocError> {
-    push_span(out, read)?;
-    out.push_str(" ")?;
-    push_odd(out, odd)
+fn push_beginning(out: &mut Out, alloc: Global, text: &[u8], span: Span) -> Result<(), AllocError>
+    requires ordered { span.start ≤ span.end }
+    requires within { span.end ≤ length text.now }
+{
+    let map = ChunkMap::of_beginning(alloc, text, span.start, span.end)?;
+    let read = map.span();
+    let odd = odd_state(alloc, &map, &text[read.start..read.end])?;
+    push_span(out, read);
+    out.push_str(" ");
+    push_odd(out, odd);
+    Ok(())
 }

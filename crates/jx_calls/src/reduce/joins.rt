@@ -2,11 +2,11 @@
 ghost use Rattle.std.specs.Prelude.{◌≡◌, ◌≤◌, length};
 ghost use Rattle.jx_reduce.specs.Offsets.{RisingFrom};
 
-use crate::reduce::marks::marks_of;
+use crate::reduce::marks::marks;
 use crate::reduce::structures::{Maker, joined_at};
 use crate::reduce::table::{EXPECTS, HOLDER_LISTS, read_by_table};
 use jx_lex::{Depth, Mark};
-use jx_lines::{LineFault, depth_of};
+use jx_lines::{Line, Out};
 use jx_reduce::{Expect, Holder, Reduced, Reductions};
 use std::alloc::{AllocError, Global};
 
@@ -53,7 +53,7 @@ fn is_as_table(alloc: Global, all: &Reductions, marks: &[Mark]) -> Result<bool, 
 
 /// Tells where joins of structures that are made so answer otherwise than the table.
 fn push_odd_cuts(
-    out: &mut String,
+    out: &mut Out,
     alloc: Global,
     marks: &[Mark],
     depth: Depth,
@@ -64,7 +64,7 @@ fn push_odd_cuts(
     for cut in 0..=marks.len() {
         let both = joined_at(alloc, marks, cut, depth, maker)?;
         if !is_as_table(alloc, &both, marks)? {
-            write!(out, "; otherwise cut at {cut}")?;
+            out.put(format_args!("; otherwise cut at {cut}"));
         }
     }
     Ok(())
@@ -72,14 +72,12 @@ fn push_odd_cuts(
 
 /// `joins DEPTH MARKS`: whether structures of both parts at each cut, made at once and one by one, answer as the table does
 /// when they are joined.
-pub(crate) fn joins(out: &mut String, alloc: Global, words: &[&str]) -> Result<(), LineFault> {
-    let [depth, marks] = words else {
-        return Err(LineFault::NoSuchCall);
-    };
-    let depth = depth_of(depth)?;
-    let marks = marks_of(alloc, marks)?;
-    out.push_str("as by the table")?;
-    push_odd_cuts(out, alloc, &marks, depth, Maker::AtOnce)?;
-    push_odd_cuts(out, alloc, &marks, depth, Maker::OneByOne)?;
-    Ok(())
+pub(crate) fn joins(line: &mut Line<'_>) {
+    let depth = line.depth();
+    let marks = marks(line);
+    line.out.push_str("as by the table");
+    let told = push_odd_cuts(&mut line.out, line.alloc, &marks, depth, Maker::AtOnce);
+    line.settle(told);
+    let told = push_odd_cuts(&mut line.out, line.alloc, &marks, depth, Maker::OneByOne);
+    line.settle(told);
 }

@@ -3,7 +3,7 @@ ghost use Rattle.std.specs.Prelude.{◌≡◌, ◌≤◌, ◌<◌, ◌^◌, ℕ,
 ghost use Rattle.jx_reduce.specs.Offsets.{EachIn, RisingFrom};
 
 use jx_lex::{Mark, MarkKind};
-use jx_lines::LineFault;
+use jx_lines::{Line, LineFault};
 use std::alloc::Global;
 
 /// The kind of mark that this letter stands for.
@@ -43,8 +43,21 @@ fn mark_of(spelt: &str) -> Option<Mark>
     Some(Mark { kind, at })
 }
 
-/// The marks that a word spells. Their offsets rise, and are below 2^32.
-pub(crate) fn marks_of(alloc: Global, word: &str) -> Result<Vec<Mark>, LineFault>
+/// The marks that the next word spells. Their offsets rise, and are below 2^32.
+pub(crate) fn marks(line: &mut Line<'_>) -> Vec<Mark>
+    ensures rising { RisingFrom 0 result.items }
+    ensures low { EachIn (λ m. (0 ≤ m.at) × (m.at < 2 ^ 32)) result.items }
+{
+    match marks_of(line.alloc, line.word()) {
+        Ok(marks) => marks,
+        Err(fault) => {
+            line.note(fault);
+            Vec::new(line.alloc)
+        }
+    }
+}
+
+fn marks_of(alloc: Global, word: &str) -> Result<Vec<Mark>, LineFault>
     ensures rising { IfOk result (λ marks. RisingFrom 0 marks.items) }
     ensures low { IfOk result (λ marks. EachIn (λ m. (0 ≤ m.at) × (m.at < 2 ^ 32)) marks.items) }
 {

@@ -3,41 +3,28 @@ ghost use Rattle.std.specs.Prelude.{◌≡◌, ◌≤◌, ◌<◌, ◌+◌, ◌^
 
 use crate::run::joins::cut_twice;
 use jx_lex::Depth;
-use jx_lines::{LineFault, Ways, bytes_of, depth_of, push_elements};
+use jx_lines::{Line, Out, Ways, push_elements};
 use jx_run::{ElementsRun, JudgedElement, Summary};
 use std::alloc::{AllocError, Global};
 
-fn add_elements(
-    ways: &mut Ways,
-    alloc: Global,
-    way: &str,
-    elements: &[JudgedElement],
-) -> Result<(), AllocError> {
-    let mut told = String::new(alloc);
-    push_elements(&mut told, elements)?;
-    ways.add(way, told)
-}
-
 /// The elements of runs of three parts that meet at two cuts.
-fn add_cut(
-    ways: &mut Ways,
+fn told_of_cut(
     alloc: Global,
     text: &[u8],
     first: usize,
     second: usize,
     depth: Depth,
-) -> Result<(), AllocError>
+) -> Result<Out, AllocError>
     requires ordered { first ≤ second }
     requires within { second ≤ length text.now }
 {
+    let mut told = Out::new(alloc);
     let run = cut_twice::<ElementsRun>(alloc, text, first, second, depth)?;
-    let odd = run.depth() != depth;
-    let elements = run.into_elements()?;
-    let way = format!(in alloc; "cut at {first},{second}")?;
-    if odd {
-        return ways.add(way.as_str(), String::from_str(alloc, "another depth")?);
+    if run.depth() != depth {
+        told.push_str("another depth: ");
     }
-    add_elements(ways, alloc, way.as_str(), &elements)
+    push_elements(&mut told, &run.into_elements()?);
+    Ok(told)
 }
 
 /// The elements of both sides of a cut, of which the right was read as a sequence of its own and moved.
@@ -58,18 +45,15 @@ fn elements_of_both(
 }
 
 /// `elements DEPTH TEXT`: at each pair of cuts.
-pub(crate) fn elements(out: &mut String, alloc: Global, words: &[&str]) -> Result<(), LineFault> {
-    let [depth, text] = words else {
-        return Err(LineFault::NoSuchCall);
-    };
-    let depth = depth_of(depth)?;
-    let text = bytes_of(alloc, text)?;
-    let mut ways = Ways::new(alloc);
+pub(crate) fn elements(line: &mut Line<'_>) {
+    let depth = line.depth();
+    let text = line.text();
+    let mut ways = Ways::new(line.alloc);
     for second in 0..=text.len() {
-        add_cuts_up_to(&mut ways, alloc, &text, second, depth)?;
+        let done = add_cuts_up_to(&mut ways, line.alloc, &text, second, depth);
+        line.settle(done);
     }
-    ways.push_to(out)?;
-    Ok(())
+    ways.push_to(&mut line.out);
 }
 
 fn add_cuts_up_to(
@@ -82,22 +66,22 @@ fn add_cuts_up_to(
     requires { second ≤ length text.now }
 {
     for first in 0..=second {
-        add_cut(ways, alloc, text, first, second, depth)?;
+        let told = told_of_cut(alloc, text, first, second, depth)?;
+        ways.add(format_args!("cut at {first},{second}"), told);
     }
     Ok(())
 }
 
 /// `behind DEPTH TEXT TEXT`: the second text was read as a sequence of its own, and stands behind the first.
-pub(crate) fn behind(out: &mut String, alloc: Global, words: &[&str]) -> Result<(), LineFault> {
-    let [depth, left, right] = words else {
-        return Err(LineFault::NoSuchCall);
-    };
-    let left = bytes_of(alloc, left)?;
-    let right = bytes_of(alloc, right)?;
+pub(crate) fn behind(line: &mut Line<'_>) {
+    let depth = line.depth();
+    let left = line.text();
+    let right = line.text();
     if left.len() >= 1 << 40 || right.len() >= 1 << 40 {
-        return Err(LineFault::NoSuchCall);
+        return line.refuse();
     }
-    let elements = elements_of_both(alloc, &left, &right, depth_of(depth)?)?;
-    push_elements(out, &elements)?;
-    Ok(())
+    let elements = elements_of_both(line.alloc, &left, &right, depth);
+    if let Some(elements) = line.keep(elements) {
+        push_elements(&mut line.out, &elements);
+    }
 }

@@ -1,35 +1,14 @@
 // What the entries and exits of runs come to.
-ghost use Rattle.std.specs.Prelude.{◌≡◌, ◌≤◌, length};
+ghost use Rattle.std.specs.Prelude.{◌<◌, ◌+◌, ◌^◌, length};
 
 use crate::lex::track::{push_exit, push_track};
 use crate::reduce::outcomes::push_outcome;
 use crate::run::joins::from_left;
-use jx_lex::{Depth, LexExit, LexState, Span};
-use jx_lines::{
-    LineFault, Ways, bytes_of, depth_of, expect_of, holders_of, number_of, push_span, push_verdict,
-    state_of,
-};
+use jx_lex::{Depth, LexExit, LexState};
+use jx_lines::{Line, Out, Ways, push_span, push_verdict};
 use jx_reduce::{Expect, Holder, Reduced};
-use jx_run::{OutcomeRun, Started, Summary, TextRun, Verdict};
+use jx_run::{OutcomeRun, Started, Summary, TextRun};
 use std::alloc::{AllocError, Global};
-
-/// The exit, how many levels the entry has, and what it comes to over these open containers.
-fn told(
-    alloc: Global,
-    exit: LexExit,
-    entry: &Reduced,
-    holders: &[Holder],
-) -> Result<String, LineFault> {
-    if holders.len() > entry.depth().containers() as usize {
-        return Err(LineFault::NoSuchCall);
-    }
-    let mut told = String::new(alloc);
-    push_exit(&mut told, exit)?;
-    let levels = entry.level_count();
-    write!(told, "; levels {levels}; ")?;
-    push_outcome(&mut told, &entry.act(holders)?)?;
-    Ok(told)
-}
 
 /// An entry of a run, and the open containers that it is asked for.
 #[derive(Drop)]
@@ -39,120 +18,113 @@ struct Asked {
     holders: Vec<Holder>,
 }
 
+impl Asked {
+    /// The exit, how many levels the entry has, and what it comes to over the open containers, of which there are no more than its
+    /// depth.
+    fn told_of(&self, alloc: Global, exit: LexExit, entry: &Reduced) -> Result<Out, AllocError> {
+        let mut told = Out::new(alloc);
+        push_exit(&mut told, exit);
+        told.put(format_args!("; levels {}; ", entry.level_count()));
+        if self.holders.len() <= entry.depth().containers() as usize {
+            push_outcome(&mut told, &entry.act(&self.holders)?);
+        }
+        Ok(told)
+    }
+}
+
 /// What a run that keeps its marks tells.
-fn by_marks(alloc: Global, text: &[u8], depth: Depth, asked: &Asked) -> Result<String, LineFault> {
+fn by_marks(alloc: Global, text: &[u8], depth: Depth, asked: &Asked) -> Result<Out, AllocError> {
     let run = from_left::<TextRun>(alloc, text, depth)?;
-    let entry = run.entry(asked.state, asked.expect);
-    told(
-        alloc,
-        run.exit(asked.state),
-        &entry.reduced()?,
-        &asked.holders,
-    )
+    let entry = run.entry(asked.state, asked.expect).reduced()?;
+    asked.told_of(alloc, run.exit(asked.state), &entry)
 }
 
 /// What a run of outcomes tells.
-fn by_outcomes(
+fn by_outcomes(alloc: Global, text: &[u8], depth: Depth, asked: &Asked) -> Result<Out, AllocError> {
+    let run = from_left::<OutcomeRun>(alloc, text, depth)?;
+    let entry = run.entry(asked.state, asked.expect).reduced()?;
+    asked.told_of(alloc, run.exit(asked.state), &entry)
+}
+
+/// What runs of both kinds tell.
+fn add_both(
+    ways: &mut Ways,
     alloc: Global,
     text: &[u8],
     depth: Depth,
     asked: &Asked,
-) -> Result<String, LineFault> {
-    let run = from_left::<OutcomeRun>(alloc, text, depth)?;
-    let entry = run.entry(asked.state, asked.expect);
-    told(
-        alloc,
-        run.exit(asked.state),
-        &entry.reduced()?,
-        &asked.holders,
-    )
-}
-
-/// What runs of both kinds tell.
-fn by_both(alloc: Global, text: &[u8], depth: Depth, asked: &Asked) -> Result<Ways, LineFault> {
-    let mut ways = Ways::new(alloc);
-    ways.add("by marks", by_marks(alloc, text, depth, asked)?)?;
-    ways.add("by outcomes", by_outcomes(alloc, text, depth, asked)?)?;
-    Ok(ways)
-}
-
-/// The entry that three words ask for.
-fn question(alloc: Global, state: &str, expect: &str, holders: &str) -> Result<Asked, LineFault> {
-    let state = state_of(alloc, state)?;
-    let expect = expect_of(alloc, expect)?;
-    let holders = holders_of(alloc, holders)?;
-    Ok(Asked {
-        state,
-        expect,
-        holders,
-    })
+) -> Result<(), AllocError> {
+    ways.add("by marks", by_marks(alloc, text, depth, asked)?);
+    ways.add("by outcomes", by_outcomes(alloc, text, depth, asked)?);
+    Ok(())
 }
 
 /// `run DEPTH STATE EXPECT HOLDERS TEXT`: what runs of both kinds, of single bytes joined from the left, tell of one entry.
-pub(crate) fn run(out: &mut String, alloc: Global, words: &[&str]) -> Result<(), LineFault> {
-    let [depth, state, expect, holders, text] = words else {
-        return Err(LineFault::NoSuchCall);
+pub(crate) fn run(line: &mut Line<'_>) {
+    let depth = line.depth();
+    let asked = Asked {
+        state: line.state(),
+        expect: line.expect(),
+        holders: line.holders(),
     };
-    let depth = depth_of(depth)?;
-    let text = bytes_of(alloc, text)?;
-    let asked = question(alloc, state, expect, holders)?;
-    by_both(alloc, &text, depth, &asked)?.push_to(out)?;
-    Ok(())
+    if asked.holders.len() > depth.containers() as usize {
+        line.refuse();
+    }
+    let text = line.text();
+    let mut ways = Ways::new(line.alloc);
+    let done = add_both(&mut ways, line.alloc, &text, depth, &asked);
+    line.settle(done);
+    ways.push_to(&mut line.out);
 }
 
 /// `started DEPTH TEXT`: the run of the text, started: verdict, span, depth, marks and ends.
-pub(crate) fn started(out: &mut String, alloc: Global, words: &[&str]) -> Result<(), LineFault> {
-    let [depth, text] = words else {
-        return Err(LineFault::NoSuchCall);
-    };
-    let text = bytes_of(alloc, text)?;
-    let run = from_left::<TextRun>(alloc, &text, depth_of(depth)?)?;
-    push_run(out, &run)?;
+pub(crate) fn started(line: &mut Line<'_>) {
+    let depth = line.depth();
+    let text = line.text();
+    let told = push_run(&mut line.out, line.alloc, &text, depth);
+    line.settle(told);
+}
+
+fn push_run(out: &mut Out, alloc: Global, text: &[u8], depth: Depth) -> Result<(), AllocError> {
+    let run = from_left::<TextRun>(alloc, text, depth)?;
+    push_started(out, &run.started()?, run.exit(LexState::Gap));
     Ok(())
 }
 
-fn push_run(out: &mut String, run: &TextRun) -> Result<(), AllocError> {
-    push_started(out, &run.started()?, run.exit(LexState::Gap))
-}
-
-fn push_started(out: &mut String, started: &Started, exit: LexExit) -> Result<(), AllocError> {
-    push_verdict(out, started.verdict())?;
-    out.push_str("; ")?;
-    push_span(out, started.span())?;
-    let depth = started.depth().containers();
-    write!(out, "; depth {depth}; ")?;
-    push_track(out, started.marks(), started.ends(), exit)
+fn push_started(out: &mut Out, started: &Started, exit: LexExit) {
+    push_verdict(out, started.verdict());
+    out.push_str("; ");
+    push_span(out, started.span());
+    out.put(format_args!("; depth {}; ", started.depth().containers()));
+    push_track(out, started.marks(), started.ends(), exit);
 }
 
 /// The run over a text, so many bytes further on.
-fn moved_by(alloc: Global, text: &[u8], depth: Depth, by: usize) -> Result<OutcomeRun, LineFault> {
+fn moved_by(alloc: Global, text: &[u8], depth: Depth, by: usize) -> Result<OutcomeRun, AllocError>
+    requires near { by + length text.now < 2 ^ 63 }
+{
     let run = OutcomeRun::of(alloc, text, 0, text.len(), depth)?;
-    if by >= 1 << 40 || text.len() >= 1 << 40 {
-        return Err(LineFault::NoSuchCall);
-    }
     Ok(run.shifted(by))
 }
 
 /// `moved BY DEPTH TEXT`: the run over a text where it stands so many bytes further on: span, exit from between tokens, verdict.
-pub(crate) fn moved(out: &mut String, alloc: Global, words: &[&str]) -> Result<(), LineFault> {
-    let [by, depth, text] = words else {
-        return Err(LineFault::NoSuchCall);
-    };
-    let text = bytes_of(alloc, text)?;
-    let run = moved_by(alloc, &text, depth_of(depth)?, number_of(by)?)?;
-    push_moved(out, run.span(), run.exit(LexState::Gap), run.verdict())?;
-    Ok(())
+pub(crate) fn moved(line: &mut Line<'_>) {
+    let by = line.number();
+    let depth = line.depth();
+    let text = line.text();
+    if by >= 1 << 40 || text.len() >= 1 << 40 {
+        return line.refuse();
+    }
+    let run = moved_by(line.alloc, &text, depth, by);
+    if let Some(run) = line.keep(run) {
+        push_moved(&mut line.out, &run);
+    }
 }
 
-fn push_moved(
-    out: &mut String,
-    span: Span,
-    exit: LexExit,
-    verdict: Verdict,
-) -> Result<(), AllocError> {
-    push_span(out, span)?;
-    out.push_str("; ")?;
-    push_exit(out, exit)?;
-    out.push_str("; ")?;
-    push_verdict(out, verdict)
+fn push_moved(out: &mut Out, run: &OutcomeRun) {
+    push_span(out, run.span());
+    out.push_str("; ");
+    push_exit(out, run.exit(LexState::Gap));
+    out.push_str("; ");
+    push_verdict(out, run.verdict());
 }

@@ -1,22 +1,20 @@
 // A byte order mark in front of a text.
-use jx_lines::{LineFault, bytes_of, depth_of, push_verdict, settings_of};
+use jx_lines::{Line, Out, push_verdict};
 use jx_run::{Front, OutcomeRun, Settings, Summary, Verdict, front};
 use std::alloc::{AllocError, Global};
 
 /// `front DEPTH SETTINGS TEXT`: how many bytes stand in front of the text and the verdict on what stands behind them, or why
 /// there is no text.
-pub(crate) fn fronted(out: &mut String, alloc: Global, words: &[&str]) -> Result<(), LineFault> {
-    let [depth, settings, text] = words else {
-        return Err(LineFault::NoSuchCall);
-    };
-    let settings = settings_of(depth_of(depth)?, settings)?;
-    let text = bytes_of(alloc, text)?;
-    push_front(out, alloc, &settings, &text)?;
-    Ok(())
+pub(crate) fn fronted(line: &mut Line<'_>) {
+    let depth = line.depth();
+    let settings = line.settings(depth);
+    let text = line.text();
+    let told = push_front(&mut line.out, line.alloc, &settings, &text);
+    line.settle(told);
 }
 
 fn push_front(
-    out: &mut String,
+    out: &mut Out,
     alloc: Global,
     settings: &Settings,
     text: &[u8],
@@ -24,12 +22,13 @@ fn push_front(
     match front(text, settings.mark) {
         Front::Skip(count) => {
             let run = OutcomeRun::of(alloc, text, count, text.len(), settings.depth)?;
-            write!(out, "from {count}: ")?;
-            push_verdict(out, run.verdict())
+            out.put(format_args!("from {count}: "));
+            push_verdict(out, run.verdict());
         }
         Front::Refused(refusal) => {
-            out.push_str("refused: ")?;
-            push_verdict(out, Verdict::Refused(refusal))
+            out.push_str("refused: ");
+            push_verdict(out, Verdict::Refused(refusal));
         }
     }
+    Ok(())
 }

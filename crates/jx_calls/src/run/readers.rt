@@ -1,7 +1,10 @@
-// Readers that are fed texts by small slices.
+// Readers that are fed texts by small slices, and that follow runs.
+ghost use Rattle.std.specs.Prelude.{◌<◌, ◌+◌, ◌^◌, length};
+ghost use Rattle.jx_run.specs.Reader.{IsInFront};
+
 use jx_lex::Depth;
-use jx_lines::{LineFault, Ways, bytes_of, depth_of, number_of, push_verdict};
-use jx_run::{Reader, Verdict};
+use jx_lines::{Line, Out, Ways, number_of, push_verdict};
+use jx_run::{OutcomeRun, Reader, Settings, Summary, Verdict};
 use std::alloc::{AllocError, Global};
 
 /// How many bytes a line may have a reader read, and at most where it starts.
@@ -21,17 +24,16 @@ fn fed(reader: &mut Reader, text: &[u8], size: usize) -> Result<Verdict, AllocEr
 }
 
 /// Adds the verdicts of a reader that is fed by slices of 1, 2, 3 and 100 bytes.
-pub(crate) fn push_fed(
+pub(crate) fn add_fed(
     ways: &mut Ways,
     alloc: Global,
     text: &[u8],
     depth: Depth,
 ) -> Result<(), AllocError> {
-    let mut reader = Reader::new(alloc, depth, 0);
+    let mut reader = Reader::new(alloc, &Settings::from(depth), 0);
     for size in &SIZES {
         let told = fed_from_start(alloc, &mut reader, text, *size)?;
-        let way = format!(in alloc; "by slices of {size}")?;
-        ways.add(way.as_str(), told)?;
+        ways.add(format_args!("by slices of {size}"), told);
     }
     Ok(())
 }
@@ -42,63 +44,137 @@ fn fed_from_start(
     reader: &mut Reader,
     text: &[u8],
     size: usize,
-) -> Result<String, AllocError> {
-    let depth = reader.depth();
+) -> Result<Out, AllocError> {
+    let settings = reader.settings();
     reader.reset(0);
     let verdict = fed(reader, text, size)?;
-    let mut told = String::new(alloc);
-    push_verdict(&mut told, verdict)?;
-    if reader.end() != text.len() || reader.depth() != depth {
-        told.push_str(", elsewhere")?;
+    let mut told = Out::new(alloc);
+    push_verdict(&mut told, verdict);
+    if reader.end() != text.len() || reader.settings() != settings {
+        told.push_str(", elsewhere");
     }
     Ok(told)
 }
 
-/// Begins at an offset, or goes on where the word is `-`.
-fn begin(reader: &mut Reader, start: &str) -> Result<(), LineFault> {
-    if start == "-" {
-        return Ok(());
+/// Begins at an offset, or goes on where the next word is `-`.
+fn begin(line: &mut Line<'_>, reader: &mut Reader) {
+    let word = line.word();
+    if word == "-" {
+        return;
     }
-    reader.reset(number_of(start)?);
-    Ok(())
+    let start = line.read_or(number_of(word), 0);
+    reader.reset(start);
 }
 
 /// `reader DEPTH SIZE [START TEXT]..`: one reader that begins at START, or goes on where it is `-`, and is fed TEXT by slices of
 /// so many bytes: the verdict and the end behind each text.
-pub(crate) fn reader(out: &mut String, alloc: Global, words: &[&str]) -> Result<(), LineFault> {
-    let [depth, size, texts @ ..] = words else {
-        return Err(LineFault::NoSuchCall);
-    };
-    let size = number_of(size)?;
-    let mut reader = Reader::new(alloc, depth_of(depth)?, 0);
-    for pair in texts.chunks(2) {
-        let [start, text] = pair else {
-            return Err(LineFault::NoSuchCall);
-        };
-        begin(&mut reader, start)?;
-        read_next(out, alloc, &mut reader, text, size)?;
+pub(crate) fn reader(line: &mut Line<'_>) {
+    let settings = Settings::from(line.depth());
+    let size = line.number();
+    let mut reader = Reader::new(line.alloc, &settings, 0);
+    for _ in 0..line.count() / 2 {
+        begin(line, &mut reader);
+        read_next(line, &mut reader, size);
     }
-    Ok(())
 }
 
-/// Feeds the text of a word, and tells the verdict and the end.
-fn read_next(
-    out: &mut String,
-    alloc: Global,
-    reader: &mut Reader,
-    text: &str,
-    size: usize,
-) -> Result<(), LineFault> {
-    let text = bytes_of(alloc, text)?;
-    let verdict = fed(reader, &text, size)?;
-    push_read(out, verdict, reader.end())?;
-    Ok(())
+/// Feeds the text of the next word, and tells the verdict and the end.
+fn read_next(line: &mut Line<'_>, reader: &mut Reader, size: usize) {
+    let text = line.text();
+    let verdict = fed(reader, &text, size);
+    if line.keep(verdict).is_some() {
+        push_part(&mut line.out);
+        push_read(&mut line.out, reader);
+    }
 }
 
-fn push_read(out: &mut String, verdict: Verdict, end: usize) -> Result<(), AllocError> {
+/// Parts what is told of one text from what is told of the one before.
+fn push_part(out: &mut Out) {
     if !out.is_empty() {
-        out.push_str("; ")?;
+        out.push_str("; ");
     }
-    push_verdict(out, verdict)?;
-    write!(out, ", end {end}")
+}
+
+/// The verdict and the end, and whether a byte order mark may begin or go on with the next byte.
+fn push_read(out: &mut Out, reader: &Reader) {
+    push_verdict(out, reader.verdict());
+    out.put(format_args!(", end {}", reader.end()));
+    if reader.is_in_front() {
+        out.push_str(", in front");
+    }
+}
+
+/// Feeds a text as one slice.
+fn feed(reader: &mut Reader, text: &[u8]) -> Result<(), AllocError> {
+    if reader.end() < FAR && text.len() < FAR {
+        reader.feed(text)?;
+    }
+    Ok(())
+}
+
+/// `slices DEPTH SETTINGS TEXT..`: one reader that is fed the texts, each as one slice: what it has read behind each.
+pub(crate) fn slices(line: &mut Line<'_>) {
+    let depth = line.depth();
+    let settings = line.settings(depth);
+    let mut reader = Reader::new(line.alloc, &settings, 0);
+    for _ in 0..line.count() {
+        let text = line.text();
+        line.settle(feed(&mut reader, &text));
+        push_part(&mut line.out);
+        push_read(&mut line.out, &reader);
+    }
+}
+
+/// Follows the run of a text.
+fn follow_run(alloc: Global, reader: &mut Reader, text: &[u8]) -> Result<(), AllocError>
+    requires behind { IsInFront reader.old → ⊥ }
+    requires near { reader.old.start + reader.old.count + length text.now < 2 ^ 64 }
+{
+    let run = OutcomeRun::of(alloc, text, 0, text.len(), reader.settings().depth)?;
+    reader.follow(&run)
+}
+
+/// Follows the run of a text, or is fed it where a byte order mark may stand in it.
+fn follow(alloc: Global, reader: &mut Reader, text: &[u8]) -> Result<(), AllocError> {
+    if reader.is_in_front() {
+        return feed(reader, text);
+    }
+    if reader.end() < FAR && text.len() < FAR {
+        follow_run(alloc, reader, text)?;
+    }
+    Ok(())
+}
+
+fn told_of(alloc: Global, reader: &Reader) -> Out {
+    let mut told = Out::new(alloc);
+    push_read(&mut told, reader);
+    told
+}
+
+/// `follows DEPTH SETTINGS TEXT TEXT..`: a reader that is fed the first text and follows the run of each other one, unless a byte
+/// order mark may stand in it, and a reader that is fed all: what they have read behind each.
+pub(crate) fn follows(line: &mut Line<'_>) {
+    let depth = line.depth();
+    let settings = line.settings(depth);
+    let mut follower = Reader::new(line.alloc, &settings, 0);
+    let mut fed = Reader::new(line.alloc, &settings, 0);
+    let first = line.text();
+    line.settle(feed(&mut follower, &first));
+    line.settle(feed(&mut fed, &first));
+    push_both(line, &follower, &fed);
+    for _ in 0..line.count() {
+        let text = line.text();
+        let done = follow(line.alloc, &mut follower, &text);
+        line.settle(done);
+        line.settle(feed(&mut fed, &text));
+        push_both(line, &follower, &fed);
+    }
+}
+
+fn push_both(line: &mut Line<'_>, follower: &Reader, fed: &Reader) {
+    push_part(&mut line.out);
+    let mut ways = Ways::new(line.alloc);
+    ways.add("followed", told_of(line.alloc, follower));
+    ways.add("fed", told_of(line.alloc, fed));
+    ways.push_to(&mut line.out);
 }

@@ -2,9 +2,9 @@
 ghost use Rattle.std.specs.Prelude.{◌≤◌, length};
 
 use crate::run::joins::{by_halves, cut_at, from_left, from_right};
-use crate::run::readers::push_fed;
+use crate::run::readers::add_fed;
 use jx_lex::Depth;
-use jx_lines::{LineFault, Ways, bytes_of, depth_of, push_verdict};
+use jx_lines::{Line, Out, Ways, push_verdict};
 use jx_run::{OutcomeRun, Summary, TextRun, Verdict};
 use std::alloc::{AllocError, Global};
 
@@ -13,11 +13,11 @@ trait Judge: Summary {
     /// The verdict on its bytes.
     fn judge(&self) -> Verdict;
 
-    /// Adds the verdict on its bytes to the ways.
-    fn add_to(&self, alloc: Global, ways: &mut Ways, way: &str) -> Result<(), AllocError> {
-        let mut told = String::new(alloc);
-        push_verdict(&mut told, self.judge())?;
-        ways.add(way, told)
+    /// The verdict on its bytes, in words.
+    fn told(&self, alloc: Global) -> Out {
+        let mut told = Out::new(alloc);
+        push_verdict(&mut told, self.judge());
+        told
     }
 }
 
@@ -45,9 +45,9 @@ fn judge_joins<J: Judge>(
     depth: Depth,
 ) -> Result<(), AllocError> {
     let whole = J::of(alloc, text, 0, text.len(), depth)?;
-    whole.add_to(alloc, ways, "as one run")?;
+    ways.add("as one run", whole.told(alloc));
     let halves = by_halves::<J>(alloc, text, 0, text.len(), depth)?;
-    halves.add_to(alloc, ways, "by halves")?;
+    ways.add("by halves", halves.told(alloc));
     if text.len() <= SHORT {
         judge_bytes::<J>(ways, alloc, text, depth)
     } else {
@@ -63,9 +63,10 @@ fn judge_bytes<J: Judge>(
     depth: Depth,
 ) -> Result<(), AllocError> {
     let left = from_left::<J>(alloc, text, depth)?;
-    left.add_to(alloc, ways, "from the left")?;
+    ways.add("from the left", left.told(alloc));
     let right = from_right::<J>(alloc, text, depth)?;
-    right.add_to(alloc, ways, "from the right")
+    ways.add("from the right", right.told(alloc));
+    Ok(())
 }
 
 /// The verdict of the runs on both sides of each 97th byte, joined.
@@ -93,24 +94,27 @@ fn judge_cut<J: Judge>(
 ) -> Result<(), AllocError>
     requires { cut ≤ length text.now }
 {
-    let way = format!(in alloc; "cut at {cut}")?;
     let run = cut_at::<J>(alloc, text, cut, depth)?;
-    run.add_to(alloc, ways, way.as_str())
+    ways.add(format_args!("cut at {cut}"), run.told(alloc));
+    Ok(())
+}
+
+/// The verdict by runs of both kinds.
+fn judge_runs(ways: &mut Ways, alloc: Global, text: &[u8], depth: Depth) -> Result<(), AllocError> {
+    judge_joins::<TextRun>(ways, alloc, text, depth)?;
+    judge_joins::<OutcomeRun>(ways, alloc, text, depth)
 }
 
 /// `verdict DEPTH TEXT`: by runs, joined from the left, from the right and by halves, and by a reader of small slices.
-pub(crate) fn verdict(out: &mut String, alloc: Global, words: &[&str]) -> Result<(), LineFault> {
-    let [depth, text] = words else {
-        return Err(LineFault::NoSuchCall);
-    };
-    let depth = depth_of(depth)?;
-    let text = bytes_of(alloc, text)?;
-    let mut ways = Ways::new(alloc);
-    judge_joins::<TextRun>(&mut ways, alloc, &text, depth)?;
-    judge_joins::<OutcomeRun>(&mut ways, alloc, &text, depth)?;
-    push_fed(&mut ways, alloc, &text, depth)?;
-    ways.push_to(out)?;
-    Ok(())
+pub(crate) fn verdict(line: &mut Line<'_>) {
+    let depth = line.depth();
+    let text = line.text();
+    let mut ways = Ways::new(line.alloc);
+    let done = judge_runs(&mut ways, line.alloc, &text, depth);
+    line.settle(done);
+    let done = add_fed(&mut ways, line.alloc, &text, depth);
+    line.settle(done);
+    ways.push_to(&mut line.out);
 }
 
 /// The verdict of the runs on both sides of each cut, joined.
@@ -127,15 +131,13 @@ fn judge_cuts<J: Judge>(
 }
 
 /// `cuts DEPTH TEXT`: by runs that are joined at each cut, and by a reader.
-pub(crate) fn cuts(out: &mut String, alloc: Global, words: &[&str]) -> Result<(), LineFault> {
-    let [depth, text] = words else {
-        return Err(LineFault::NoSuchCall);
-    };
-    let depth = depth_of(depth)?;
-    let text = bytes_of(alloc, text)?;
-    let mut ways = Ways::new(alloc);
-    push_fed(&mut ways, alloc, &text, depth)?;
-    judge_cuts::<OutcomeRun>(&mut ways, alloc, &text, depth)?;
-    ways.push_to(out)?;
-    Ok(())
+pub(crate) fn cuts(line: &mut Line<'_>) {
+    let depth = line.depth();
+    let text = line.text();
+    let mut ways = Ways::new(line.alloc);
+    let done = add_fed(&mut ways, line.alloc, &text, depth);
+    line.settle(done);
+    let done = judge_cuts::<OutcomeRun>(&mut ways, line.alloc, &text, depth);
+    line.settle(done);
+    ways.push_to(&mut line.out);
 }

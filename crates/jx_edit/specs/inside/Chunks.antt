@@ -31,7 +31,7 @@ IsRunOver depth bytes run = (run.start ≡ 0) × (run.depth ≡ depth) × IsOutc
 -- it was read with this depth, and nothing is known of where it leads
 pub record IsFresh (depth : ℕ) (c : ChunkValue) : Type 0 where
   pub depth_is : c.depth ≡ depth
-  pub loose : c.linked ≡ false
+  pub open_ended : c.linked ≡ false
 
 abbrev pub AreFresh : ℕ → List ChunkValue → Type 0
 AreFresh depth chunks = All (IsFresh depth) chunks
@@ -57,13 +57,13 @@ pub record IsBack (chunks : List ChunkValue) (at before : ℕ) (bytes : List ℕ
   pub text : drop at (text_of chunks) ≡ bytes ++ text_of (drop before chunks)
 
 -- its link is given up
-abbrev pub loose : ChunkValue → ChunkValue
-loose c = record { depth = c.depth; bytes = c.bytes; to = c.to; linked = false }
+abbrev pub open_ended : ChunkValue → ChunkValue
+open_ended c = record { depth = c.depth; bytes = c.bytes; to = c.to; linked = false }
 
 -- that of the first one
 abbrev pub loosened : List ChunkValue → List ChunkValue
 loosened [] = []
-loosened (c ∷ cs) = loose c ∷ cs
+loosened (c ∷ cs) = open_ended c ∷ cs
 
 -- the chunks `made` in the place of those from `first` up to `last`; what follows them may lead elsewhere
 abbrev pub replaced : ℕ → ℕ → List ChunkValue → List ChunkValue → List ChunkValue

@@ -1,9 +1,9 @@
 -- A byte order mark that stands in front of a document's text.
 use Rattle.std.specs.Prelude.{◌≡◌, ◌≤◌, ◌<◌, ◌^◌, ℕ, List, ◌++◌, length, take}
-use Rattle.jx_run.specs.declared.settings.Front.{Front}
-use Rattle.jx_run.specs.declared.settings.Front.TheVariants as seen
-use Rattle.jx_run.specs.declared.settings.Settings.{Settings}
-use Rattle.jx_run.specs.declared.settings.NameRule.TheVariants.{Any}
+use Rattle.jx_run.specs.declared.texts.settings.Front.{Front}
+use Rattle.jx_run.specs.declared.texts.settings.Front.TheVariants as seen
+use Rattle.jx_run.specs.declared.texts.settings.Settings.{Settings}
+use Rattle.jx_run.specs.declared.texts.settings.NameRule.TheVariants.{Any}
 use Rattle.jx_run.specs.Front.{front_of}
 use Rattle.jx_run.specs.Settings.{byte_order_mark}
 use Rattle.jx_edit.specs.inside.Chunks.{ChunkedValue}

@@ -3,7 +3,7 @@ use Rattle.std.specs.Prelude.{◌≡◌, ◌+◌, List, [], true, false}
 use Rattle.jx_summary.specs.declared.span.Span.{Span}
 use Rattle.jx_claim.specs.Claimed.{TableId, SeatValue}
 use Rattle.jx_claim.specs.Cut.{drawn_len}
-use Rattle.jx_book.specs.declared.workers.worker_end.WorkerEnd.{WorkerEnd}
+use Rattle.jx_book.specs.declared.workers.worker.WorkerEnd.{WorkerEnd}
 use Rattle.jx_book.specs.Shares.{share}
 use Rattle.jx_examples.specs.declared.own_threads.Hands.{Hands}
 

@@ -3,10 +3,10 @@ ghost use Rattle.std.specs.Prelude.{◌≡◌, length};
 
 use crate::tests::answers::{ToldElement, are_judged, are_told, is_worked, worked_verdict};
 use jx_answer::{
-    Fault, TextAnswer, index_sequence, index_sequence_with, index_text, index_text_with,
-    judge_sequence_with, verdict_of_text_with,
+    Element, Fault, TextAnswer, index_sequence, index_sequence_with, index_text, index_text_with,
+    judge_sequence, verdict_of_text,
 };
-use jx_book::{Gate, Held, OpenGate, read_whole};
+use jx_book::{Crew, Gate, Held, OpenGate, read_whole};
 use jx_claim::{Cutting, Workers};
 use jx_hostile_runs::inputs::Worked;
 use jx_index::Indexed;
@@ -24,7 +24,7 @@ pub enum TextCall {
     Plain,
     /// `index_text_with`, by which one worker reads the text in one pass.
     Index,
-    /// `verdict_of_text_with`, by which one worker puts the run of each piece into a book where any names may stand.
+    /// `verdict_of_text`, by which one worker reads the text piece by piece, and several put the run of each into a book.
     Verdict,
     /// `read_whole`, by which one worker puts the run of each piece into a book, and `Indexed::of_run`.
     Run,
@@ -48,16 +48,13 @@ pub fn answer_of<'a>(
     }
 }
 
-/// The answer on a text by its run, which workers make piece by piece and join in a book. So does one worker, on the calling
-/// thread, where the cutting has two pieces or more behind the mark.
+/// The answer on a text by its run, which a crew makes piece by piece and joins in a book. So does one worker, on the calling thread,
+/// where the cutting has two pieces or more behind the mark.
 pub fn answer_by_run<'a, R: Threads + Wait + Sync, G: Gate + Sync>(
-    rt: &R,
-    alloc: Global,
+    crew: &Crew<'_, R, G>,
     text: &'a [u8],
     cutting: Cutting,
-    workers: Workers,
     settings: &Settings,
-    gate: &G,
 ) -> Result<TextAnswer<'a>, AllocError>
     requires cutting { cutting.len ≡ length text.now }
     requires front { cutting.front ≡ 0 }
@@ -66,11 +63,43 @@ pub fn answer_by_run<'a, R: Threads + Wait + Sync, G: Gate + Sync>(
         Front::Refused(refusal) => Ok(TextAnswer::Refused(refusal)),
         Front::Skip(count) => {
             let rest = cutting.without_front(count.min(text.len()));
-            let depth = settings.depth;
-            let run = read_whole::<TextRun, R, G>(rt, alloc, text, &rest, workers, depth, gate)?;
-            let answer = answer_of(alloc, &run)?;
-            Ok(answer.by_names(settings.names))
+            let run = read_whole::<TextRun, R, G>(crew, text, &rest, settings.depth)?;
+            Ok(answer_of(crew.alloc, &run)?.by_names(settings.names))
         }
+    }
+}
+
+/// The answer of `index_text_with`.
+pub fn indexed<'a, R: Threads + Wait + Sync, G: Gate + Sync>(
+    crew: &Crew<'_, R, G>,
+    text: &'a [u8],
+    cutting: &Cutting,
+    settings: &Settings,
+) -> Result<TextAnswer<'a>, AllocError>
+    requires cutting { cutting.now.len ≡ length text.now }
+    requires front { cutting.now.front ≡ 0 }
+{
+    let (rt, alloc, workers, gate) = (crew.rt, crew.alloc, crew.workers, crew.gate);
+    match index_text_with(rt, alloc, text, cutting, workers, settings, gate) {
+        Ok(answer) => Ok(answer),
+        Err(Fault::Memory) => Err(AllocError),
+    }
+}
+
+/// The answer of `index_text`.
+fn indexed_within<'a, R: Threads + Wait + Sync, G: Gate + Sync>(
+    crew: &Crew<'_, R, G>,
+    text: &'a [u8],
+    cutting: &Cutting,
+    depth: Depth,
+) -> Result<TextAnswer<'a>, AllocError>
+    requires cutting { cutting.now.len ≡ length text.now }
+    requires front { cutting.now.front ≡ 0 }
+{
+    let (rt, alloc, workers, gate) = (crew.rt, crew.alloc, crew.workers, crew.gate);
+    match index_text(rt, alloc, text, cutting, workers, depth, gate) {
+        Ok(answer) => Ok(answer),
+        Err(Fault::Memory) => Err(AllocError),
     }
 }
 
@@ -95,39 +124,32 @@ pub fn index_of<'a, R: Threads + Wait + Sync>(
 
 /// Whether a call by these settings answers rightly on a worked text.
 pub fn is_right<R: Threads + Wait + Sync, G: Gate + Sync>(
-    rt: &R,
-    alloc: Global,
+    crew: &Crew<'_, R, G>,
     call: TextCall,
     worked: &Worked,
     cutting: Cutting,
-    workers: Workers,
     settings: &Settings,
-    gate: &G,
-) -> Result<bool, Fault>
+) -> Result<bool, AllocError>
     requires cutting { cutting.len ≡ length worked.now.text.now }
     requires front { cutting.front ≡ 0 }
 {
     let text = worked.text;
     let names = settings.names;
-    match call {
-        TextCall::Plain => {
-            let depth = settings.depth;
-            let answer = index_text(rt, alloc, text, &cutting, workers, depth, gate)?;
-            Ok(is_worked(&answer, worked, NameRule::Any))
-        }
-        TextCall::Index => {
-            let answer = index_text_with(rt, alloc, text, &cutting, workers, settings, gate)?;
-            Ok(is_worked(&answer, worked, names))
-        }
-        TextCall::Verdict => {
-            let verdict = verdict_of_text_with(rt, alloc, text, &cutting, workers, settings, gate)?;
-            Ok(verdict == worked_verdict(worked, names))
-        }
-        TextCall::Run => match answer_by_run(rt, alloc, text, cutting, workers, settings, gate) {
-            Ok(answer) => Ok(is_worked(&answer, worked, names)),
-            Err(AllocError) => Err(Fault::Memory),
-        },
+    if call == TextCall::Verdict {
+        let verdict = verdict_of_text(crew, text, &cutting, settings)?;
+        return Ok(verdict == worked_verdict(worked, names));
     }
+    let answer = match call {
+        TextCall::Plain => indexed_within(crew, text, &cutting, settings.depth)?,
+        TextCall::Run => answer_by_run(crew, text, cutting, settings)?,
+        _ => indexed(crew, text, &cutting, settings)?,
+    };
+    let names = if call == TextCall::Plain {
+        NameRule::Any
+    } else {
+        names
+    };
+    Ok(is_worked(&answer, worked, names))
 }
 
 /// Those, and the one that takes no settings.
@@ -145,7 +167,7 @@ pub enum SequenceCall {
     Plain,
     /// `index_sequence_with`.
     Index,
-    /// `judge_sequence_with`.
+    /// `judge_sequence`.
     Judge,
 }
 
@@ -159,34 +181,46 @@ pub const ALL_SEQUENCE_CALLS: [SequenceCall; 3] = [
     SequenceCall::Judge,
 ];
 
+/// The elements of `index_sequence_with`, or of `index_sequence`, which takes no settings but the depth.
+fn elements_by<'a, R: Threads + Wait + Sync, G: Gate + Sync>(
+    crew: &Crew<'_, R, G>,
+    is_plain: bool,
+    text: &'a [u8],
+    cutting: &Cutting,
+    settings: &Settings,
+) -> Result<Vec<Element<'a>>, AllocError>
+    requires cutting { cutting.now.len ≡ length text.now }
+    requires front { cutting.now.front ≡ 0 }
+{
+    let (rt, alloc, workers, gate) = (crew.rt, crew.alloc, crew.workers, crew.gate);
+    let elements = if is_plain {
+        index_sequence(rt, alloc, text, cutting, workers, settings.depth, gate)
+    } else {
+        index_sequence_with(rt, alloc, text, cutting, workers, settings, gate)
+    };
+    match elements {
+        Ok(elements) => Ok(elements),
+        Err(Fault::Memory) => Err(AllocError),
+    }
+}
+
 /// Whether a call by these settings tells these elements, and if it has them, their rows.
 pub fn tells<R: Threads + Wait + Sync, G: Gate + Sync>(
-    rt: &R,
-    alloc: Global,
+    crew: &Crew<'_, R, G>,
     call: SequenceCall,
     text: &[u8],
     want: &[ToldElement],
     cutting: &Cutting,
-    workers: Workers,
     settings: &Settings,
-    gate: &G,
-) -> Result<bool, Fault>
+) -> Result<bool, AllocError>
     requires cutting { cutting.now.len ≡ length text.now }
     requires front { cutting.now.front ≡ 0 }
 {
-    match call {
-        SequenceCall::Plain => {
-            let depth = settings.depth;
-            let elements = index_sequence(rt, alloc, text, cutting, workers, depth, gate)?;
-            Ok(are_told(&elements, want))
-        }
-        SequenceCall::Index => {
-            let elements = index_sequence_with(rt, alloc, text, cutting, workers, settings, gate)?;
-            Ok(are_told(&elements, want))
-        }
-        SequenceCall::Judge => {
-            let elements = judge_sequence_with(rt, alloc, text, cutting, workers, settings, gate)?;
-            Ok(are_judged(&elements, want))
-        }
+    if call == SequenceCall::Judge {
+        let elements = judge_sequence(crew, text, cutting, settings)?;
+        return Ok(are_judged(&elements, want));
     }
+    let is_plain = call == SequenceCall::Plain;
+    let elements = elements_by(crew, is_plain, text, cutting, settings)?;
+    Ok(are_told(&elements, want))
 }

@@ -1,18 +1,20 @@
 // Every single cut and every pair of cuts: the answer is that of one piece, with all its rows. One worker reads a text in one
 // pass over the pieces, and by runs of the pieces, which are joined in a book; a sequence it reads by such runs alone.
+ghost use Rattle.std.specs.Prelude.{◌≡◌, IfOk};
+
 use crate::tests::answers::{ToldElement, are_equal, verdict_in};
-use crate::tests::calls::{SEQUENCE_CALLS, answer_by_run, tells};
+use crate::tests::calls::{SEQUENCE_CALLS, answer_by_run, indexed, tells};
 use crate::tests::inputs::{
     MARKED_FIVE_ROWS, MARKED_SEQUENCES, MARKS, REPEATED_SEQUENCES, RULES, SEQUENCES, SHORT,
     WorkedSequence,
 };
-use jx_answer::{TextAnswer, index_text_with, verdict_of_text_with};
-use jx_book::OpenGate;
+use jx_answer::{TextAnswer, verdict_of_text};
+use jx_book::{Crew, OpenGate};
 use jx_claim::{Cutting, Workers};
 use jx_hostile_runs::inputs::{FIVE_ROWS, settings};
 use jx_lex::Depth;
 use jx_run::{FrontMark, NameRule, Settings};
-use std::alloc::Global;
+use std::alloc::{AllocError, Global};
 use std::process::Abort;
 use std::sync::Wait;
 use std::test::Fail;
@@ -20,8 +22,8 @@ use std::thread::Threads;
 
 #[test]
 fn short_texts_are_answered_alike_at_every_pair_of_cuts(rt: HostRuntime) -> Result<(), Fail> {
-    for names in RULES {
-        check_short(&rt, rt.alloc(), FrontMark::Refused, names)?;
+    for names in &RULES {
+        check_short(&rt, rt.alloc(), FrontMark::Refused, *names)?;
     }
     Ok(())
 }
@@ -30,8 +32,8 @@ fn short_texts_are_answered_alike_at_every_pair_of_cuts(rt: HostRuntime) -> Resu
 fn short_texts_behind_marks_are_answered_alike_at_every_pair_of_cuts(
     rt: HostRuntime,
 ) -> Result<(), Fail> {
-    for names in RULES {
-        check_short(&rt, rt.alloc(), FrontMark::Ignored, names)?;
+    for names in &RULES {
+        check_short(&rt, rt.alloc(), FrontMark::Ignored, *names)?;
     }
     Ok(())
 }
@@ -40,9 +42,9 @@ const DEPTHS: [u32; 5] = [0, 1, 2, 512, 65535];
 
 #[test]
 fn short_texts_are_answered_alike_at_every_cut_by_two_workers(rt: HostRuntime) -> Result<(), Fail> {
-    for text in SHORT {
-        for containers in DEPTHS {
-            let depth = Depth::new(containers).ok_or("a depth")?;
+    for text in &SHORT {
+        for containers in &DEPTHS {
+            let depth = Depth::new(*containers).ok_or("a depth")?;
             check_by_two(&rt, rt.alloc(), text, depth)?;
         }
     }
@@ -90,66 +92,78 @@ fn texts_with_one_byte_replaced_behind_an_ignored_mark_are_answered_alike(
     check_replaced(&rt, rt.alloc(), MARKED_FIVE_ROWS, FrontMark::Ignored)
 }
 
-// The answer of one worker that reads a text in one piece.
-fn answer_of_one_piece<'a, R: Threads + Wait + Sync>(
-    rt: &R,
-    alloc: Global,
-    text: &'a [u8],
-    settings: &Settings,
-) -> Result<TextAnswer<'a>, Fail> {
-    let workers = Workers::new(1).ok_or("one worker")?;
-    let cutting = Cutting::at(alloc, text.len(), &[])?;
-    let answer = index_text_with(rt, alloc, text, &cutting, workers, settings, &OpenGate)?;
-    Ok(answer)
+// A crew that no gate stops.
+fn crew_of<'c, R>(rt: &'c R, alloc: Global, workers: Workers) -> Crew<'c, R, OpenGate> {
+    Crew {
+        rt,
+        alloc,
+        workers,
+        gate: &OpenGate,
+    }
 }
 
-// Whether so many workers give the answer on a text that is cut there, with its rows and without them.
+/// So many bytes that are cut there. Cuts are within the bytes and rise, so that only memory can be refused.
+fn cutting_at(alloc: Global, len: usize, cuts: &[usize]) -> Result<Cutting, AllocError>
+    ensures len { IfOk result (λ cutting. cutting.len ≡ len) }
+    ensures front { IfOk result (λ cutting. cutting.front ≡ 0) }
+{
+    match Cutting::at(alloc, len, cuts) {
+        Ok(cutting) => Ok(cutting),
+        Err(_) => Err(AllocError),
+    }
+}
+
+// The answer of a crew that reads a text in one piece.
+fn answer_of_one_piece<'a, R: Threads + Wait + Sync>(
+    crew: &Crew<'_, R, OpenGate>,
+    text: &'a [u8],
+    settings: &Settings,
+) -> Result<TextAnswer<'a>, AllocError> {
+    let cutting = cutting_at(crew.alloc, text.len(), &[])?;
+    indexed(crew, text, &cutting, settings)
+}
+
+// Whether a crew gives the answer on a text that is cut there, with its rows and without them.
 fn is_told_at<R: Threads + Wait + Sync>(
-    rt: &R,
-    alloc: Global,
+    crew: &Crew<'_, R, OpenGate>,
     text: &[u8],
     cuts: &[usize],
     settings: &Settings,
-    count: u8,
     whole: &TextAnswer<'_>,
-) -> Result<bool, Fail> {
-    let workers = Workers::new(count).ok_or("workers")?;
-    let cutting = Cutting::at(alloc, text.len(), cuts)?;
-    let answer = index_text_with(rt, alloc, text, &cutting, workers, settings, &OpenGate)?;
-    let verdict = verdict_of_text_with(rt, alloc, text, &cutting, workers, settings, &OpenGate)?;
+) -> Result<bool, AllocError> {
+    let cutting = cutting_at(crew.alloc, text.len(), cuts)?;
+    let answer = indexed(crew, text, &cutting, settings)?;
+    let verdict = verdict_of_text(crew, text, &cutting, settings)?;
     Ok(are_equal(&answer, whole) && verdict == verdict_in(whole))
 }
 
-// Whether one worker that joins the runs of the pieces in a book gives the answer on a text that is cut there.
+// Whether a crew that joins the runs of the pieces in a book gives the answer on a text that is cut there.
 fn is_joined_at<R: Threads + Wait + Sync>(
-    rt: &R,
-    alloc: Global,
+    crew: &Crew<'_, R, OpenGate>,
     text: &[u8],
     cuts: &[usize],
     settings: &Settings,
     whole: &TextAnswer<'_>,
-) -> Result<bool, Fail> {
-    let workers = Workers::new(1).ok_or("one worker")?;
-    let cutting = Cutting::at(alloc, text.len(), cuts)?;
-    let answer = answer_by_run(rt, alloc, text, cutting, workers, settings, &OpenGate)?;
+) -> Result<bool, AllocError> {
+    let cutting = cutting_at(crew.alloc, text.len(), cuts)?;
+    let answer = answer_by_run(crew, text, cutting, settings)?;
     Ok(are_equal(&answer, whole))
 }
 
-// The first cut behind this one, or this one alone, at which the answer of one worker is another one.
+// The first cut behind this one, or this one alone, at which the answer is another one.
 fn other_second_cut<R: Threads + Wait + Sync>(
-    rt: &R,
-    alloc: Global,
+    crew: &Crew<'_, R, OpenGate>,
     text: &[u8],
     first: usize,
     settings: &Settings,
     whole: &TextAnswer<'_>,
-) -> Result<Option<usize>, Fail> {
+) -> Result<Option<usize>, AllocError> {
     for second in first..text.len() {
         let pair = [first, second];
         let count = if second == first { 1 } else { 2 };
         let cuts = &pair[..count];
-        if !is_told_at(rt, alloc, text, cuts, settings, 1, whole)?
-            || !is_joined_at(rt, alloc, text, cuts, settings, whole)?
+        if !is_told_at(crew, text, cuts, settings, whole)?
+            || !is_joined_at(crew, text, cuts, settings, whole)?
         {
             return Ok(Some(second));
         }
@@ -157,49 +171,49 @@ fn other_second_cut<R: Threads + Wait + Sync>(
     Ok(None)
 }
 
-// The first cuts, one or two of them, at which the answer of one worker is another than in one piece. One cut stands twice.
+// The first cuts, one or two of them, at which the answer is another than in one piece. One cut stands twice.
 fn other_cuts<R: Threads + Wait + Sync>(
-    rt: &R,
-    alloc: Global,
+    crew: &Crew<'_, R, OpenGate>,
     text: &[u8],
     settings: &Settings,
-) -> Result<Option<(usize, usize)>, Fail> {
-    let whole = answer_of_one_piece(rt, alloc, text, settings)?;
+) -> Result<Option<(usize, usize)>, AllocError> {
+    let whole = answer_of_one_piece(crew, text, settings)?;
     for first in 1..text.len() {
-        if let Some(second) = other_second_cut(rt, alloc, text, first, settings, &whole)? {
+        if let Some(second) = other_second_cut(crew, text, first, settings, &whole)? {
             return Ok(Some((first, second)));
         }
     }
     Ok(None)
 }
 
-// Short texts at every pair of cuts, within each depth.
+// Short texts at every pair of cuts by one worker, within each depth.
 fn check_short<R: Abort + Threads + Wait + Sync>(
     rt: &R,
     alloc: Global,
     mark: FrontMark,
     names: NameRule,
 ) -> Result<(), Fail> {
-    for text in SHORT {
-        for containers in DEPTHS {
-            let settings = settings(Depth::new(containers).ok_or("a depth")?, mark, names);
-            let other = other_cuts(rt, alloc, text, &settings)?;
+    let crew = crew_of(rt, alloc, Workers::new(1).ok_or("one worker")?);
+    for text in &SHORT {
+        for containers in &DEPTHS {
+            let settings = settings(Depth::new(*containers).ok_or("a depth")?, mark, names);
+            let other = other_cuts(&crew, text, &settings)?;
             assert_eq!(rt; other, None, "{text:?} by {settings:?}");
         }
     }
     Ok(())
 }
 
-// The first single cut at which two workers answer something else than is answered in one piece.
+// The first single cut at which two workers answer something else than one does in one piece.
 fn other_cut_of_two<R: Threads + Wait + Sync>(
-    rt: &R,
-    alloc: Global,
+    one: &Crew<'_, R, OpenGate>,
+    two: &Crew<'_, R, OpenGate>,
     text: &[u8],
     settings: &Settings,
-) -> Result<Option<usize>, Fail> {
-    let whole = answer_of_one_piece(rt, alloc, text, settings)?;
+) -> Result<Option<usize>, AllocError> {
+    let whole = answer_of_one_piece(one, text, settings)?;
     for cut in 1..text.len() {
-        if !is_told_at(rt, alloc, text, &[cut], settings, 2, &whole)? {
+        if !is_told_at(two, text, &[cut], settings, &whole)? {
             return Ok(Some(cut));
         }
     }
@@ -213,10 +227,12 @@ fn check_by_two<R: Abort + Threads + Wait + Sync>(
     text: &[u8],
     depth: Depth,
 ) -> Result<(), Fail> {
-    for mark in MARKS {
-        for names in RULES {
-            let settings = settings(depth, mark, names);
-            let other = other_cut_of_two(rt, alloc, text, &settings)?;
+    let one = crew_of(rt, alloc, Workers::new(1).ok_or("one worker")?);
+    let two = crew_of(rt, alloc, Workers::new(2).ok_or("two workers")?);
+    for mark in &MARKS {
+        for names in &RULES {
+            let settings = settings(depth, *mark, *names);
+            let other = other_cut_of_two(&one, &two, text, &settings)?;
             assert_eq!(rt; other, None, "{text:?} by {settings:?}");
         }
     }
@@ -225,38 +241,33 @@ fn check_by_two<R: Abort + Threads + Wait + Sync>(
 
 // Whether a sequence that is cut there has these elements, with their rows and without them.
 fn has_elements_at<R: Threads + Wait + Sync>(
-    rt: &R,
-    alloc: Global,
+    crew: &Crew<'_, R, OpenGate>,
     text: &[u8],
     cuts: &[usize],
     settings: &Settings,
     want: &[ToldElement],
-) -> Result<bool, Fail> {
-    let workers = Workers::new(1).ok_or("one worker")?;
-    let cutting = Cutting::at(alloc, text.len(), cuts)?;
+) -> Result<bool, AllocError> {
+    let cutting = cutting_at(crew.alloc, text.len(), cuts)?;
     let mut tell = true;
-    for call in SEQUENCE_CALLS {
-        tell = tells(
-            rt, alloc, call, text, want, &cutting, workers, settings, &OpenGate,
-        )? && tell;
+    for call in &SEQUENCE_CALLS {
+        tell = tells(crew, *call, text, want, &cutting, settings)? && tell;
     }
     Ok(tell)
 }
 
 // The first cut behind this one, or this one alone, at which a sequence has other elements.
 fn other_second_sequence_cut<R: Threads + Wait + Sync>(
-    rt: &R,
-    alloc: Global,
+    crew: &Crew<'_, R, OpenGate>,
     text: &[u8],
     first: usize,
     settings: &Settings,
     want: &[ToldElement],
-) -> Result<Option<usize>, Fail> {
+) -> Result<Option<usize>, AllocError> {
     for second in first..text.len() {
         let pair = [first, second];
         let count = if second == first { 1 } else { 2 };
         let cuts = &pair[..count];
-        if !has_elements_at(rt, alloc, text, cuts, settings, want)? {
+        if !has_elements_at(crew, text, cuts, settings, want)? {
             return Ok(Some(second));
         }
     }
@@ -265,58 +276,69 @@ fn other_second_sequence_cut<R: Threads + Wait + Sync>(
 
 // The first cuts, one or two of them, at which a sequence has other elements. One cut stands twice, and none is 0.
 fn other_sequence_cuts<R: Threads + Wait + Sync>(
-    rt: &R,
-    alloc: Global,
+    crew: &Crew<'_, R, OpenGate>,
     text: &[u8],
     settings: &Settings,
     want: &[ToldElement],
-) -> Result<Option<(usize, usize)>, Fail> {
-    if !has_elements_at(rt, alloc, text, &[], settings, want)? {
+) -> Result<Option<(usize, usize)>, AllocError> {
+    if !has_elements_at(crew, text, &[], settings, want)? {
         return Ok(Some((0, 0)));
     }
     for first in 1..text.len() {
-        if let Some(second) = other_second_sequence_cut(rt, alloc, text, first, settings, want)? {
+        if let Some(second) = other_second_sequence_cut(crew, text, first, settings, want)? {
             return Ok(Some((first, second)));
         }
     }
     Ok(None)
 }
 
-// Sequences at every pair of cuts.
+// Sequences at every pair of cuts by one worker.
 fn check_sequences<R: Abort + Threads + Wait + Sync>(
     rt: &R,
     alloc: Global,
     sequences: &[WorkedSequence],
     settings: &Settings,
 ) -> Result<(), Fail> {
+    let crew = crew_of(rt, alloc, Workers::new(1).ok_or("one worker")?);
     for (text, want) in sequences {
-        let other = other_sequence_cuts(rt, alloc, text, settings, want)?;
+        let other = other_sequence_cuts(&crew, text, settings, want)?;
         assert_eq!(rt; other, None, "{text:?} by {settings:?}");
     }
     Ok(())
 }
 
-// The first single cut at which one worker answers something else than in one pass over one piece: in one pass over both, or by
-// runs that it joins, by either rule for names.
+/// Whether a crew answers on a text that is cut there as in one pass over one piece: in one pass over both, and by runs that it joins,
+/// by either rule for names.
+fn is_alike_at<R: Threads + Wait + Sync>(
+    crew: &Crew<'_, R, OpenGate>,
+    text: &[u8],
+    cut: usize,
+    any: &Settings,
+    want: &TextAnswer<'_>,
+    want_unique: &TextAnswer<'_>,
+) -> Result<bool, AllocError> {
+    let cutting = cutting_at(crew.alloc, text.len(), &[cut])?;
+    let told = indexed(crew, text, &cutting, any)?;
+    let answer = answer_by_run(crew, text, cutting, any)?;
+    Ok(
+        are_equal(&told, want)
+            && are_equal(&answer, want)
+            && are_equal(&answer.by_names(NameRule::Unique), want_unique),
+    )
+}
+
+// The first single cut at which one worker answers something else.
 fn other_cut<R: Threads + Wait + Sync>(
-    rt: &R,
-    alloc: Global,
+    crew: &Crew<'_, R, OpenGate>,
     text: &[u8],
     mark: FrontMark,
-) -> Result<Option<usize>, Fail> {
-    let workers = Workers::new(1).ok_or("one worker")?;
+) -> Result<Option<usize>, AllocError> {
     let any = settings(Depth::default(), mark, NameRule::Any);
     let unique = settings(Depth::default(), mark, NameRule::Unique);
-    let want = answer_of_one_piece(rt, alloc, text, &any)?;
-    let want_unique = answer_of_one_piece(rt, alloc, text, &unique)?;
+    let want = answer_of_one_piece(crew, text, &any)?;
+    let want_unique = answer_of_one_piece(crew, text, &unique)?;
     for cut in 1..text.len() {
-        let cutting = Cutting::at(alloc, text.len(), &[cut])?;
-        let told = index_text_with(rt, alloc, text, &cutting, workers, &any, &OpenGate)?;
-        let answer = answer_by_run(rt, alloc, text, cutting, workers, &any, &OpenGate)?;
-        if !are_equal(&told, &want)
-            || !are_equal(&answer, &want)
-            || !are_equal(&answer.by_names(NameRule::Unique), &want_unique)
-        {
+        if !is_alike_at(crew, text, cut, &any, &want, &want_unique)? {
             return Ok(Some(cut));
         }
     }
@@ -330,11 +352,12 @@ fn check_replaced<R: Abort + Threads + Wait + Sync>(
     bytes: &[u8],
     mark: FrontMark,
 ) -> Result<(), Fail> {
+    let crew = crew_of(rt, alloc, Workers::new(1).ok_or("one worker")?);
     for place in 0..bytes.len() {
         for byte in 0..=255u8 {
             let mut text = Vec::from_slice(alloc, bytes)?;
             *text.get_mut(place).ok_or("a byte")? = byte;
-            let other = other_cut(rt, alloc, &text, mark)?;
+            let other = other_cut(&crew, &text, mark)?;
             assert_eq!(rt; other, None, "{byte} at {place}, {mark:?}");
         }
     }

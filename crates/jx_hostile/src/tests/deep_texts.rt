@@ -1,6 +1,6 @@
 // Deep, unclosed and over-closed texts, in small pieces and by many workers.
-use jx_answer::{TextAnswer, index_text_with, verdict_of_text_with};
-use jx_book::OpenGate;
+use jx_answer::{TextAnswer, index_text_with, verdict_of_text};
+use jx_book::{Crew, OpenGate};
 use jx_claim::{Cutting, Workers};
 use jx_hostile_runs::inputs::settings;
 use jx_index::Row;
@@ -27,8 +27,12 @@ const OFF_AND_ON: [Setting; 2] = [
 
 #[test]
 fn deep_and_unclosed_texts_have_their_verdicts(rt: HostRuntime) -> Result<(), Fail> {
-    for count in [1, 5, 64] {
-        check_all(&rt, rt.alloc(), Reading { piece: 7, count }, &ALL)?;
+    for count in &[1, 5, 64] {
+        let reading = Reading {
+            piece: 7,
+            count: *count,
+        };
+        check_all(&rt, rt.alloc(), reading, &ALL)?;
     }
     Ok(())
 }
@@ -48,9 +52,9 @@ fn a_text_as_deep_as_may_be_has_all_its_rows(rt: HostRuntime) -> Result<(), Fail
     let alloc = rt.alloc();
     let text = repeated(alloc, &[(b'[', 600), (b']', 600)])?;
     let depth = Depth::new(600).ok_or("a depth")?;
-    for piece in [1, 7] {
-        for (mark, names) in ALL {
-            check_rows(&rt, alloc, &text, piece, &settings(depth, mark, names))?;
+    for piece in &[1, 7] {
+        for (mark, names) in &ALL {
+            check_rows(&rt, alloc, &text, *piece, &settings(depth, *mark, *names))?;
         }
     }
     Ok(())
@@ -81,7 +85,13 @@ fn verdict<R: Threads + Wait + Sync>(
 ) -> Result<Verdict, Fail> {
     let cutting = Cutting::every(text.len(), reading.piece.max(1))?;
     let workers = Workers::new(reading.count).ok_or("workers")?;
-    let verdict = verdict_of_text_with(rt, alloc, text, &cutting, workers, settings, &OpenGate)?;
+    let crew = Crew {
+        rt,
+        alloc,
+        workers,
+        gate: &OpenGate,
+    };
+    let verdict = verdict_of_text(&crew, text, &cutting, settings)?;
     Ok(verdict)
 }
 
@@ -183,10 +193,10 @@ fn check_all<R: Abort + Threads + Wait + Sync>(
     reading: Reading,
     by: &[Setting],
 ) -> Result<(), Fail> {
-    for deep in TEXTS {
+    for deep in &TEXTS {
         let text = repeated(alloc, deep.parts)?;
         for containers in deep.depths {
-            let want = verdict_within(&deep, *containers);
+            let want = verdict_within(deep, *containers);
             check(rt, alloc, &text, reading, *containers, by, want)?;
         }
     }

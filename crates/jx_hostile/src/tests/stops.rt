@@ -7,6 +7,7 @@ use crate::tests::inputs::{
     MARKED_SEQUENCES, MARKED_TEXTS, MARKS, REPEATED_SEQUENCES, RULES, SEQUENCES, WorkedSequence,
 };
 use jx_answer::find_all;
+use jx_book::Crew;
 use jx_claim::{Cutting, Workers};
 use jx_hostile_runs::gates::{MANY, StopFrom};
 use jx_hostile_runs::inputs::{TEXTS, UNSORTED, Worked, settings};
@@ -29,8 +30,8 @@ const TEXT_LISTS: [(&[Worked], FrontMark); 3] = [
 
 #[test]
 fn texts_are_answered_alike_where_workers_stop(rt: HostRuntime) -> Result<(), Fail> {
-    for (texts, mark) in TEXT_LISTS {
-        check_texts(&rt, rt.alloc(), texts, mark)?;
+    for (texts, mark) in &TEXT_LISTS {
+        check_texts(&rt, rt.alloc(), texts, *mark)?;
     }
     Ok(())
 }
@@ -50,8 +51,8 @@ fn sequences_are_answered_alike_where_workers_stop(rt: HostRuntime) -> Result<()
 
 #[test]
 fn look_ups_are_answered_alike_where_workers_stop(rt: HostRuntime) -> Result<(), Fail> {
-    for count in [1, 2, 5] {
-        check_look_ups(&rt, rt.alloc(), count)?;
+    for count in &[1, 2, 5] {
+        check_look_ups(&rt, rt.alloc(), *count)?;
     }
     Ok(())
 }
@@ -69,8 +70,14 @@ fn check_call<R: Abort + Threads + Wait + Sync>(
     let begun = AtomicBool::new(true);
     for number in 0..MANY {
         let gate = StopFrom::new(number, &begun);
+        let crew = Crew {
+            rt,
+            alloc,
+            workers,
+            gate: &gate,
+        };
         let cutting = Cutting::every(worked.text.len(), 1)?;
-        let right = is_right(rt, alloc, call, worked, cutting, workers, settings, &gate)?;
+        let right = is_right(&crew, call, worked, cutting, settings)?;
         assert!(rt;
             right,
             "{call:?} on {worked:?} by {settings:?} and {count}, stopped at {number}"
@@ -91,16 +98,10 @@ fn check_text<R: Abort + Threads + Wait + Sync>(
     count: u8,
 ) -> Result<(), Fail> {
     let depth = Depth::new(worked.containers).ok_or("a depth")?;
-    for names in RULES {
-        for call in TEXT_CALLS {
-            check_call(
-                rt,
-                alloc,
-                call,
-                worked,
-                &settings(depth, mark, names),
-                count,
-            )?;
+    for names in &RULES {
+        let settings = settings(depth, mark, *names);
+        for call in &TEXT_CALLS {
+            check_call(rt, alloc, *call, worked, &settings, count)?;
         }
     }
     Ok(())
@@ -113,8 +114,8 @@ fn check_texts<R: Abort + Threads + Wait + Sync>(
     mark: FrontMark,
 ) -> Result<(), Fail> {
     for worked in texts {
-        for count in [1, 2, 5] {
-            check_text(rt, alloc, worked, mark, count)?;
+        for count in &[1, 2, 5] {
+            check_text(rt, alloc, worked, mark, *count)?;
         }
     }
     Ok(())
@@ -135,9 +136,13 @@ fn check_sequence<R: Abort + Threads + Wait + Sync>(
     let begun = AtomicBool::new(true);
     for number in 0..MANY {
         let gate = StopFrom::new(number, &begun);
-        let told = tells(
-            rt, alloc, call, text, want, &cutting, workers, settings, &gate,
-        )?;
+        let crew = Crew {
+            rt,
+            alloc,
+            workers,
+            gate: &gate,
+        };
+        let told = tells(&crew, call, text, want, &cutting, settings)?;
         assert!(rt;
             told,
             "{call:?} on {text:?} by {settings:?} and {count}, stopped at {number}"
@@ -157,9 +162,9 @@ fn check_sequences<R: Abort + Threads + Wait + Sync>(
     settings: &Settings,
 ) -> Result<(), Fail> {
     for (text, want) in sequences {
-        for call in SEQUENCE_CALLS {
-            for count in [1, 2, 5] {
-                check_sequence(rt, alloc, call, text, want, settings, count)?;
+        for call in &SEQUENCE_CALLS {
+            for count in &[1, 2, 5] {
+                check_sequence(rt, alloc, *call, text, want, settings, *count)?;
             }
         }
     }

@@ -53,13 +53,13 @@ const COMMANDS: [(&[&str], &str); 7] = [
 #[test]
 fn commands_under_a_refused_growth(rt: HostRuntime) -> Result<(), Fail> {
     let mut lines = Lines::of(&rt);
-    for (words, want) in COMMANDS {
+    for (words, want) in &COMMANDS {
         if lines.takes_next() {
             let asked = match asked_by(rt.alloc(), words) {
                 Ok(asked) => asked,
                 Err(AllocError) => asked_by(rt.alloc(), words)?,
             };
-            assert_eq!(rt; asked.as_str(), want);
+            assert_eq!(rt; asked.as_str(), *want);
         }
     }
     Ok(())

@@ -137,9 +137,9 @@ const REPORTS: [Case; 13] = [
 #[test]
 fn reports_by_one_worker_under_a_refused_growth(rt: HostRuntime) -> Result<(), Fail> {
     let mut lines = Lines::of(&rt);
-    for case in REPORTS {
+    for case in &REPORTS {
         if lines.takes_next() {
-            check(&rt, rt.alloc(), case, 1)?;
+            check(&rt, rt.alloc(), *case, 1)?;
         }
     }
     Ok(())
@@ -148,9 +148,9 @@ fn reports_by_one_worker_under_a_refused_growth(rt: HostRuntime) -> Result<(), F
 #[test]
 fn reports_by_two_workers_under_a_refused_growth(rt: HostRuntime) -> Result<(), Fail> {
     let mut lines = Lines::of(&rt);
-    for case in REPORTS {
+    for case in &REPORTS {
         if lines.takes_next() {
-            check(&rt, rt.alloc(), case, 2)?;
+            check(&rt, rt.alloc(), *case, 2)?;
         }
     }
     Ok(())
@@ -179,9 +179,9 @@ const BATCHES: [Case; 4] = [
 #[test]
 fn batches_by_one_worker_under_a_refused_growth(rt: HostRuntime) -> Result<(), Fail> {
     let mut lines = Lines::of(&rt);
-    for case in BATCHES {
+    for case in &BATCHES {
         if lines.takes_next() {
-            check_in_batches(&rt, rt.alloc(), case, 1)?;
+            check_in_batches(&rt, rt.alloc(), *case, 1)?;
         }
     }
     Ok(())
@@ -190,9 +190,9 @@ fn batches_by_one_worker_under_a_refused_growth(rt: HostRuntime) -> Result<(), F
 #[test]
 fn batches_by_two_workers_under_a_refused_growth(rt: HostRuntime) -> Result<(), Fail> {
     let mut lines = Lines::of(&rt);
-    for case in BATCHES {
+    for case in &BATCHES {
         if lines.takes_next() {
-            check_in_batches(&rt, rt.alloc(), case, 2)?;
+            check_in_batches(&rt, rt.alloc(), *case, 2)?;
         }
     }
     Ok(())

@@ -48,13 +48,11 @@ const MARK_IGNORED: [Case; 5] = [
 
 #[test]
 fn workers_who_stop_change_no_verdict(rt: HostRuntime) -> Result<(), Fail> {
-    for (mark, cases) in [
-        (FrontMark::Refused, MARK_REFUSED),
-        (FrontMark::Ignored, MARK_IGNORED),
-    ] {
-        for case in cases {
-            check_text(&rt, rt.alloc(), mark, case)?;
-        }
+    for case in &MARK_REFUSED {
+        check_text(&rt, rt.alloc(), FrontMark::Refused, *case)?;
+    }
+    for case in &MARK_IGNORED {
+        check_text(&rt, rt.alloc(), FrontMark::Ignored, *case)?;
     }
     Ok(())
 }
@@ -67,8 +65,8 @@ fn workers_who_stop_in_a_sequence_change_no_verdict(rt: HostRuntime) -> Result<(
         b"1..5 accepted\n6..10 accepted\n11..20 accepted\n21..23 accepted\n24..28 truncated\n",
         Exit::Bad,
     );
-    for count in [2u8, 5] {
-        let mut sequence = command(Task::Seq, 2, FrontMark::Refused, count)?;
+    for count in &[2u8, 5] {
+        let mut sequence = command(Task::Seq, 2, FrontMark::Refused, *count)?;
         sequence.piece = 1;
         let events = stopped_from_each(&rt, rt.alloc(), &sequence, 12, case)?;
         assert!(rt; events > 6);
@@ -157,8 +155,8 @@ fn check_text<R: Abort + Threads + Wait + Sync>(
     mark: FrontMark,
     case: Case,
 ) -> Result<(), Fail> {
-    for count in [1u8, 2, 5] {
-        check_stops(rt, alloc, mark, count, case)?;
+    for count in &[1u8, 2, 5] {
+        check_stops(rt, alloc, mark, *count, case)?;
     }
     Ok(())
 }

@@ -2,7 +2,7 @@
 use jx_lex::LexState;
 use jx_reduce::Expect;
 use jx_run::{OutcomeRun, SeqRun, Shape, Started, Summary, TextRun};
-use std::alloc::Global;
+use std::alloc::{AllocError, Global};
 
 /// A run that can be compared with another.
 pub trait Likeness: Summary {
@@ -95,19 +95,12 @@ impl Likeness for SeqRun {
     }
 }
 
-/// Whether a run over part of a text is like the one that reading that part at once gives, which is asked for twice where memory
-/// is refused.
-pub fn is_as_read<S: Likeness>(alloc: Global, text: &[u8], run: &S) -> bool {
+/// Whether a run over part of a text is like the one that reading that part at once gives.
+pub fn is_as_read<S: Likeness>(alloc: Global, text: &[u8], run: &S) -> Result<bool, AllocError> {
     let span = run.span();
-    let depth = run.depth();
     if span.end < span.start || text.len() < span.end {
-        return false;
+        return Ok(false);
     }
-    match S::of(alloc, text, span.start, span.end, depth) {
-        Ok(read) => run.is_like(&read),
-        Err(_) => match S::of(alloc, text, span.start, span.end, depth) {
-            Ok(read) => run.is_like(&read),
-            Err(_) => false,
-        },
-    }
+    let read = S::of(alloc, text, span.start, span.end, run.depth())?;
+    Ok(run.is_like(&read))
 }

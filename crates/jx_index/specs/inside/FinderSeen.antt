@@ -3,7 +3,7 @@ use Rattle.std.specs.Prelude.{◌≡◌, ℕ, List, [], ◌∷◌, ◌++◌, Opt
 use Rattle.jx_lex.specs.declared.alphabet.mark.Mark.{Mark}
 use Rattle.jx_index.specs.declared.finder.Met.{Met}
 use Rattle.jx_index.specs.declared.finder.Wanted.{Wanted}
-use Rattle.jx_index.specs.declared.finder_keeper.Finder.{Finder}
+use Rattle.jx_index.specs.declared.finder_sink.Finder.{Finder}
 use Rattle.jx_index.specs.inside.Finding.{Finding, nothing_met, seek}
 use Rattle.jx_index.specs.inside.Found.{finding, tokens_of, HavePlaces}
 use Rattle.jx_index.specs.inside.InOrder.{waiting, IsBegun}

@@ -108,7 +108,7 @@ begin_at (Some level) kind is_object at f =
 
 abbrev pub end_in : ℕ → List Cursor → Finding → Finding
 end_in end [] f = f
-end_in end (top ∷ outer) f = record { met = shut end top.level f.met; opened = outer; skipped = f.skipped; name = f.name }
+end_in end (top ∷ outer) f = record { met = shut end top.level f.met; opened = outer; skipped = f.skipped; name = None }
 
 -- a string is a name where a member of an object begins: how many tokens lead to that object
 abbrev pub naming : List Cursor → Option (Option ℕ) → Option ℕ

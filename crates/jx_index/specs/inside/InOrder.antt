@@ -1,4 +1,4 @@
--- What is built of the tokens that a keeper was told.
+-- What is built of the tokens that a sink was told.
 use Rattle.std.specs.Prelude.{◌≡◌, ℕ, List, ◌∷◌, ◌++◌, Option, None, Some, true}
 use Rattle.jx_lex.specs.declared.alphabet.mark.Mark.{Mark}
 use Rattle.jx_index.specs.inside.Building.{Building, nothing_built, is_token, make}

@@ -1,6 +1,6 @@
 -- Judged elements, with where they lie in the input.
 use Rattle.std.specs.Prelude.{◌≡◌, ℕ, ◌+◌, ◌≤◌, List, length, slice_range}
-use Rattle.jx_run.specs.declared.element_verdict.JudgedElement.{JudgedElement}
+use Rattle.jx_run.specs.declared.sequences.element_verdict.JudgedElement.{JudgedElement}
 use Rattle.jx_run.specs.Elements.{Part}
 use Rattle.jx_run.specs.ElementVerdict.{IsJudgedElement}
 

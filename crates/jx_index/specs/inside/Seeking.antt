@@ -1,82 +1,35 @@
--- What is held for several pointers of the tokens of one reading.
-use Rattle.std.specs.Prelude.{◌≡◌, ℕ, ◌+◌, ◌-◌, ◌<◌, List, [], ◌∷◌, length, map, Option, Result}
-use Rattle.std.specs.List.{AllZip}
+-- What is held for the pointers of a trie of the tokens of one reading.
+use Rattle.std.specs.Prelude.{◌≡◌, ℕ, List, reverse, length, map, Option, Result}
 use Rattle.jx_lex.specs.declared.alphabet.mark.Mark.{Mark}
-use Rattle.jx_lex.specs.declared.alphabet.mark.MarkKind.{MarkKind}
-use Rattle.jx_index.specs.declared.finder.Wanted.{Wanted}
-use Rattle.jx_index.specs.declared.seekers.Seeker.{Seeker}
-use Rattle.jx_index.specs.declared.seekers.Seekers.{Seekers}
-use Rattle.jx_index.specs.Pointers.{tokens}
 use Rattle.jx_index.specs.declared.find_fault.FindFault.{FindFault}
 use Rattle.jx_index.specs.declared.finder.Found.{Found}
-use Rattle.jx_index.specs.inside.Finding.{Finding, met_at, nothing_met, noted, read_root, seek}
-use Rattle.jx_index.specs.inside.FinderSeen.{ComesTo, HasEnded}
-use Rattle.jx_index.specs.inside.Found.{finding, tokens_of, HavePlaces}
+use Rattle.jx_index.specs.declared.finder.Met.{Met}
+use Rattle.jx_index.specs.declared.finder.Wanted.{Wanted}
+use Rattle.jx_index.specs.declared.seeker.Seeker.{Seeker}
+use Rattle.jx_index.specs.declared.trie.Edge.{Edge}
+use Rattle.jx_index.specs.Pointers.{tokens}
+use Rattle.jx_index.specs.inside.Finding.{Finding, met_at, nothing_met, read_root, seek}
+use Rattle.jx_index.specs.inside.FinderSeen.{ComesTo}
+use Rattle.jx_index.specs.inside.Found.{tokens_of}
+use Rattle.jx_index.specs.inside.Trie.{IsNextIn, IsTrie, IsWay, Shows}
 
--- the tokens of one pointer, and what was noted for them
-pub record Sight : Type 0 where
+abbrev pub IsReady : List Edge → Seeker → Type 0
+IsReady edges k = IsNextIn edges (reverse k.state.opened.items) k.next
+
+-- what is noted for all shows, along a path, what these marks and ends, of which some wait, come to for its tokens
+pub record IsSight (text : List ℕ) (marks : List Mark) (ends : List ℕ) (begun : Option Mark) (left : List Mark) (left_ends : List ℕ) (all : Finding) (ts : List (List ℕ)) (path : List ℕ) : Type 0 where
+  pub one : Finding
+  pub below : ℕ
+  pub shows : Shows path below all one
+  pub comes : ComesTo text ts marks ends begun left left_ends one
+
+-- what was met along each path when these marks and ends were told
+abbrev pub HaveMet : List ℕ → List Edge → ℕ → List Mark → List ℕ → List Met → Type 0
+HaveMet text edges last marks ends met = (ts : List (List ℕ)) (path : List ℕ) → IsWay edges 0 ts path
+    → map (met_at met) path ≡ (seek text ts last marks ends (nothing_met (length ts))).met
+
+-- what a pointer's tokens lead to, by what was met along their way
+pub record IsReadOf (edges : List Edge) (met : List Met) (pointer : List ℕ) (found : Result Found FindFault) : Type 0 where
   pub wanted : List Wanted
-  pub finding : Finding
-
-abbrev pub sight : Seeker → Sight
-sight s = record { wanted = s.wanted.items; finding = finding s.state }
-
--- where all skip, containers that began since are counted once for all
-abbrev pub behind : ℕ → Sight → Sight
-behind quiet x = record x { finding = record x.finding { skipped = x.finding.skipped + (quiet - 1) } }
-
-abbrev pub sights_of : ℕ → List Seeker → List Sight
-sights_of quiet all = map (λ (s : Seeker). behind quiet (sight s)) all
-
-abbrev pub sights : Seekers → List Sight
-sights k = sights_of k.quiet k.all.items
-
--- ---- what may be told
-
-abbrev pub EachSkips : List Seeker → Type 0
-EachSkips [] = Unit {0}
-EachSkips (s ∷ all) = (0 < s.state.skipped) × EachSkips all
-
-abbrev pub EachHasPlaces : List Seeker → Type 0
-EachHasPlaces [] = Unit {0}
-EachHasPlaces (s ∷ all) = HavePlaces s.wanted.items × EachHasPlaces all
-
-abbrev pub IsCalm : ℕ → List Seeker → Type 0
-IsCalm quiet all = 0 < quiet → EachSkips all
-
-abbrev pub AreReady : Seekers → Type 0
-AreReady k = IsCalm k.quiet k.all.items × EachHasPlaces k.all.items
-
--- ---- one mark
-
-abbrev pub told : List ℕ → MarkKind → ℕ → ℕ → Sight → Sight
-told text kind at end x = record x { finding = noted text (tokens_of x.wanted) kind at end x.finding }
-
-abbrev pub IsTold : List ℕ → MarkKind → ℕ → ℕ → Seeker → Seeker → Type 0
-IsTold text kind at end s t = HavePlaces s.wanted.items → sight t ≡ told text kind at end (sight s)
-
--- marks and ends, where the text ends at `last`
-abbrev pub all_told : List ℕ → ℕ → List Mark → List ℕ → Sight → Sight
-all_told text last marks ends x = record x { finding = seek text (tokens_of x.wanted) last marks ends x.finding }
-
--- ---- by pointers
-
--- nothing was met yet where the pointer's tokens lead
-pub record IsNew (pointer : List ℕ) (s : Seeker) : Type 0 where
-  pub tokens_are : tokens_of s.wanted.items ≡ tokens pointer
-  pub places : HavePlaces s.wanted.items
-  pub nothing : finding s.state ≡ nothing_met (length (tokens_of s.wanted.items))
-
--- what these marks and ends, of which some wait, come to for a pointer
-pub record IsSight (text : List ℕ) (marks : List Mark) (ends : List ℕ) (begun : Option Mark) (left : List Mark) (left_ends : List ℕ) (pointer : List ℕ) (x : Sight) : Type 0 where
-  pub tokens_are : tokens_of x.wanted ≡ tokens pointer
-  pub places : HavePlaces x.wanted
-  pub comes : ComesTo text (tokens_of x.wanted) marks ends begun left left_ends x.finding
-
--- what was met for a pointer when these marks and ends were told
-abbrev pub HasMet : List ℕ → ℕ → List Mark → List ℕ → List ℕ → Seeker → Type 0
-HasMet text last marks ends pointer s = HasEnded text (tokens pointer) last marks ends s.wanted.items s.state.met.items
-
--- what the tokens lead to, by what was met
-abbrev pub IsReadOf : Seeker → Result Found FindFault → Type 0
-IsReadOf s found = found ≡ read_root (met_at s.state.met.items 0) s.state.met.items (tokens_of s.wanted.items)
+  pub wanted_are : tokens_of wanted ≡ tokens pointer
+  pub reads : IsTrie edges → (path : List ℕ) → IsWay edges 0 (tokens pointer) path → found ≡ read_root (met_at (map (met_at met) path) 0) (map (met_at met) path) (tokens_of wanted)

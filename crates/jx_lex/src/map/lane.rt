@@ -8,7 +8,7 @@ use crate::alphabet::mark::Mark;
 use crate::alphabet::state::TokenEnd;
 use crate::map::link::Link;
 use crate::map::segment::Segment;
-use crate::scanner::keeper::Keeper;
+use crate::scanner::sink::TokenSink;
 use crate::scanner::tokens::Tokens;
 use std::alloc::{AllocError, Global};
 use std::marker::Model;

@@ -8,8 +8,8 @@ ghost use Rattle.jx_lex.specs.inside.Step.{link_at};
 use crate::alphabet::mark::Mark;
 use crate::alphabet::state::LexState;
 use crate::map::link::Link;
-use crate::scanner::keeper::Keeper;
 use crate::scanner::scan;
+use crate::scanner::sink::TokenSink;
 use std::alloc::{AllocError, Global};
 use std::marker::Model;
 
@@ -118,7 +118,7 @@ impl Tokens {
     }
 }
 
-impl Keeper for Tokens {
+impl TokenSink for Tokens {
     ghost use Rattle.std.specs.Prelude.{◌≡◌};
 
     ghost has_seen = { λ t marks ends. t ≡ record { marks = marks; ends = ends } };

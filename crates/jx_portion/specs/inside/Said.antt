@@ -33,4 +33,4 @@ pub record IsSaid (s : StructureValue) : Type 0 where
   pub same : structure_in s.depth (fields_of s) ≡ s
 
 abbrev pub run_said : Option ℕ → OutcomeRunValue → RunFields
-run_said from v = record { from = from; end = v.end; ways = v.ways; structures = map fields_of v.structures }
+run_said from v = record { from = from; end = v.end; transitions = v.transitions; structures = map fields_of v.structures }

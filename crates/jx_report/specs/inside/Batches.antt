@@ -1,49 +1,48 @@
 -- An input that is read batch by batch.
-use Rattle.std.specs.Prelude.{◌≡◌, ◌≢◌, ◌⊎◌, ◌↔◌, ℕ, ◌+◌, ◌<◌, ◌≤◌, List, ◌++◌, length, take, drop, Option, Some, None, Bool, false, true, Vec, Result, vec_len, IfOk, IfErr, IsErrOf}
+use Rattle.std.specs.Prelude.{◌≡◌, ◌≢◌, ◌↔◌, ℕ, ◌+◌, ◌<◌, ◌≤◌, List, ◌++◌, take, Option, Bool, false, true, Vec, Result, vec_len, IfOk, IfErr, IsErrOf}
 use Rattle.std.specs.Global.{Global}
 use Rattle.std.specs.Io.KnownBytes.{Consumes, IsAtEnd}
-use Rattle.jx_run.specs.declared.settings.Front.TheVariants.{Refused, Skip}
-use Rattle.jx_run.specs.declared.settings.Settings.{Settings}
-use Rattle.jx_run.specs.declared.verdict.Refusal.{Refusal}
-use Rattle.jx_run.specs.Front.{front_of}
-use Rattle.jx_run.specs.Reader.{ReaderValue, HasRead}
-use Rattle.jx_report.specs.declared.text_check.TextReader.{TextReader}
-use Rattle.jx_report.specs.declared.text_check.TextReader.TheVariants.{Alone, Shared}
-use Rattle.jx_report.specs.declared.text_check.TextCheck.{TextCheck}
+use Rattle.jx_run.specs.declared.texts.settings.Settings.{Settings}
+use Rattle.jx_run.specs.Reader.{HasRead}
+use Rattle.jx_run.specs.SequenceRead.{AreRead}
+use Rattle.jx_task.specs.declared.task.Task.{Task}
+use Rattle.jx_task.specs.declared.task.Task.TheVariants.{Check, Seq}
+use Rattle.jx_report.specs.declared.reading.Reading.{Reading}
+use Rattle.jx_report.specs.declared.reading.Reading.TheVariants.{Text, Elements}
 use Rattle.jx_report.specs.declared.report_fault.ReportFault.{ReportFault}
 use Rattle.jx_report.specs.declared.report_fault.ReportFault.TheVariants.{Read, Write, Pieces}
-use Rattle.jx_report.specs.Ends.{ReadsToEnd}
+use Rattle.jx_report.specs.declared.sequence_reader.SequenceReader.{SequenceReader}
 
-abbrev pub seen : TextReader → ReaderValue
-seen (Alone r) = r
-seen (Shared r b) = r
+-- ---- what was read
 
--- these bytes were read from the start of an input, where a text begins behind what stands in front
-pub record IsTaken (settings : Settings) (text : List ℕ) (check : TextCheck) : Type 0 where
-  pub depth : (seen check.reader).depth ≡ settings.depth
-  pub start : (seen check.reader).start ≡ check.front
-  pub within : check.front ≤ length text
-  pub refused : (refusal : Refusal) → check.refused ≡ Some refusal → front_of settings.mark text ≡ Refused refusal
-  pub skipped : check.refused ≡ None → front_of settings.mark text ≡ Skip check.front
-  pub read : check.refused ≡ None → HasRead (drop check.front text) (seen check.reader)
+-- the reader has read the elements of these bytes
+abbrev pub AreReadBy : ℕ → List ℕ → SequenceReader → Type 0
+AreReadBy limit text sequence = AreRead limit text sequence.judged.items sequence.reader sequence.open_ended
 
--- nothing, or at least so many bytes as a byte order mark has, which show whether one stands in front
-abbrev pub ShowsFront : List ℕ → Type 0
-ShowsFront text = (length text ≡ 0) ⊎ (3 ≤ length text)
+-- the text begins with these bytes, which are as many as a byte order mark has, or all that there are
+abbrev pub BeginsWith : Vec ℕ Global → List ℕ → Type 0
+BeginsWith first text = first.items ≡ take 3 text
 
--- the reader gave all that it had, and that was taken in
-pub record AllTaken (HasTaken : List ℕ → Type 0) (unread left : Option (List ℕ)) : Type 0 where
-  pub text : List ℕ
-  pub read : ReadsToEnd unread left text
-  pub taken : HasTaken text
+-- the same, and it shows whether a byte order mark stands in front of them
+pub record IsSequenceRead (limit : ℕ) (text : List ℕ) (sequence : SequenceReader) : Type 0 where
+  pub first : BeginsWith sequence.first text
+  pub read : AreReadBy limit text sequence
 
--- the reader went on with the text up to this offset
-pub record GoesOn (text : List ℕ) (done : ℕ) (old new : ReaderValue) : Type 0 where
-  pub within : done ≤ length text
-  pub depth : new.depth ≡ old.depth
-  pub start : new.start ≡ old.start
-  pub count : new.count ≡ old.count + done
-  pub reads : (bytes : List ℕ) → HasRead bytes old → HasRead (bytes ++ take done text) new
+-- these bytes were read from the start of an input, for what the task asks of them
+abbrev pub IsReadingOf : Task → Settings → List ℕ → Reading → Type 0
+IsReadingOf task settings text (Text reader balance) = (task ≡ Check) × ((reader.settings ≡ settings) × ((reader.start ≡ 0) × HasRead text reader))
+IsReadingOf task settings text (Elements sequence) = (task ≡ Seq) × IsSequenceRead settings.depth text sequence
+
+-- how many bytes were read
+abbrev pub end_of : Reading → ℕ
+end_of (Text reader balance) = reader.start + reader.count
+end_of (Elements sequence) = sequence.reader.start + sequence.reader.count
+
+-- whatever was read before, the batch was read behind it
+pub record ReadsOn (batch : List ℕ) (old new : Reading) : Type 0 where
+  pub reads : (task : Task) (settings : Settings) (text : List ℕ) → IsReadingOf task settings text old → IsReadingOf task settings (text ++ batch) new
+
+-- ---- what was read ahead
 
 -- so many bytes were read into the buffer, up to the limit, or to the end of input; or the reading failed where the fault says so
 pub record IsFilled {R : Type 0} (remaining : R → Option (List ℕ)) (has_failed : R → Bool) (limit : ℕ) (old new : R) (buffer : Vec ℕ Global) (result : Result ℕ ReportFault) : Type 0 where
@@ -57,10 +56,9 @@ pub record IsFilled {R : Type 0} (remaining : R → Option (List ℕ)) (has_fail
   pub uncut : IfErr result (λ fault. fault ≢ Pieces)
 
 -- a batch stands behind what was taken in, and both are all that was read
-pub record IsPending (HasTaken : List ℕ → Type 0) (unread left : Option (List ℕ)) (pending : List ℕ) : Type 0 where
+pub record IsPending (IsTaken : List ℕ → Type 0) (unread left : Option (List ℕ)) (pending : List ℕ) : Type 0 where
   pub text : List ℕ
-  pub shows : ShowsFront text
-  pub taken : HasTaken text
+  pub taken : IsTaken text
   pub between : Option (List ℕ)
   pub before : Consumes unread between text
   pub after : Consumes between left pending

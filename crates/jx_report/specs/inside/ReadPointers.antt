@@ -5,8 +5,6 @@ use Rattle.jx_index.specs.declared.finder.Found.{Found}
 use Rattle.jx_index.specs.declared.pointer.PointerFault.{PointerFault}
 use Rattle.jx_index.specs.PointerFaults.{IsFaultOf}
 use Rattle.jx_index.specs.Pointers.{IsPointer}
-use Rattle.jx_answer.specs.declared.find_answer.Answer.{Answer}
-use Rattle.jx_answer.specs.declared.find_answer.Answer.TheVariants as indexed
 use Rattle.jx_report.specs.declared.pointer_answer.PointerAnswer.{PointerAnswer}
 use Rattle.jx_report.specs.declared.pointer_answer.PointerAnswer.TheVariants as answer
 
@@ -31,12 +29,6 @@ abbrev pub answer_in : Option PointerFault → Result Found FindFault → Pointe
 answer_in (Some fault) found = answer.Unread fault
 answer_in None (Ok found) = answer.Found found.kind found.span
 answer_in None (Err fault) = answer.Lost fault
-
--- by what was found in an index
-abbrev pub answer_by : Option PointerFault → Answer → PointerAnswer
-answer_by (Some fault) found = answer.Unread fault
-answer_by None (indexed.Found node kind span) = answer.Found kind span
-answer_by None (indexed.Fault fault) = answer.Lost fault
 
 -- the answer at each place
 module _ {A : Type 0} (answer_of : Option PointerFault → A → PointerAnswer) where

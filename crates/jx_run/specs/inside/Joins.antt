@@ -4,8 +4,8 @@ use Rattle.jx_lex.specs.declared.alphabet.lex_exit.LexExit.{LexExit}
 use Rattle.jx_lex.specs.declared.alphabet.state.LexState.{LexState}
 use Rattle.jx_lex.specs.Ordinal.{all_states}
 use Rattle.jx_reduce.specs.Structure.{StructureValue, IsJoin, SpansIn}
-use Rattle.jx_run.specs.declared.joins.Pair.{Pair}
-use Rattle.jx_run.specs.declared.way.Way.{Way}
+use Rattle.jx_run.specs.declared.runs.joins.Pair.{Pair}
+use Rattle.jx_run.specs.declared.runs.transition.Transition.{Transition}
 use Rattle.jx_run.specs.OutcomeRun.{OutcomeRunValue, Entries, entries_at, GoesOn, IsFormWithin}
 
 -- the marks of one go on with those of the other
@@ -50,21 +50,21 @@ abbrev pub GoesThrough : OutcomeRunValue → OutcomeRunValue → LexState → Le
 GoesThrough left right s exit pair = (e : Entries) (f : StructureValue) → entries_at left s ≡ Some e → f.depth ≡ left.depth → IsMade left right pair f
     → GoesOn left.depth e right (record { exit = exit; marks = f })
 
--- the way has what reading from this state comes to in the joined bytes
-pub record IsJoinedWay (left right : OutcomeRunValue) (structures : List StructureValue) (s : LexState) (w : Way) : Type 0 where
+-- the transition has what reading from this state comes to in the joined bytes
+pub record IsJoinedTransition (left right : OutcomeRunValue) (structures : List StructureValue) (s : LexState) (w : Transition) : Type 0 where
   pub form : StructureValue
   pub at : slice_get structures w.structure ≡ Some form
   pub goes : (e : Entries) → entries_at left s ≡ Some e → GoesOn left.depth e right (record { exit = w.exit; marks = form })
 
 -- so it is with those from these states, in order
-abbrev pub AreJoinedWays : OutcomeRunValue → OutcomeRunValue → List StructureValue → List LexState → List Way → Type 0
-AreJoinedWays left right fs [] [] = Unit {0}
-AreJoinedWays left right fs [] (w ∷ ws) = ⊥
-AreJoinedWays left right fs (s ∷ ss) [] = ⊥
-AreJoinedWays left right fs (s ∷ ss) (w ∷ ws) = IsJoinedWay left right fs s w × AreJoinedWays left right fs ss ws
+abbrev pub AreJoinedTransitions : OutcomeRunValue → OutcomeRunValue → List StructureValue → List LexState → List Transition → Type 0
+AreJoinedTransitions left right fs [] [] = Unit {0}
+AreJoinedTransitions left right fs [] (w ∷ ws) = ⊥
+AreJoinedTransitions left right fs (s ∷ ss) [] = ⊥
+AreJoinedTransitions left right fs (s ∷ ss) (w ∷ ws) = IsJoinedTransition left right fs s w × AreJoinedTransitions left right fs ss ws
 
--- the ways of the joined bytes, and their structures
-pub record AreJoined (left right : OutcomeRunValue) (ways : List Way) (structures : List StructureValue) : Type 0 where
-  pub each : AreJoinedWays left right structures all_states ways
+-- the transitions of the joined bytes, and their structures
+pub record AreJoined (left right : OutcomeRunValue) (transitions : List Transition) (structures : List StructureValue) : Type 0 where
+  pub each : AreJoinedTransitions left right structures all_states transitions
   pub few : length structures ≤ 32
   pub within : All (IsFormWithin left.depth left.start right.end) structures

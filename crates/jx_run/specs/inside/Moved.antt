@@ -6,12 +6,12 @@ use Rattle.jx_reduce.specs.declared.expect.Expect.{Expect}
 use Rattle.jx_reduce.specs.declared.holder.Holder.{Holder}
 use Rattle.jx_reduce.specs.Structure.{StructureValue, answer, SpansIn}
 use Rattle.jx_reduce.specs.Shift.{shifted}
-use Rattle.jx_run.specs.declared.way.Way.{Way}
-use Rattle.jx_run.specs.declared.element_verdict.ElementVerdict.{ElementVerdict}
-use Rattle.jx_run.specs.declared.element_verdict.ElementVerdict.TheVariants as element
-use Rattle.jx_run.specs.declared.element_verdict.JudgedElement.{JudgedElement}
-use Rattle.jx_run.specs.declared.verdict.Refusal.{Refusal}
-use Rattle.jx_run.specs.declared.verdict.Refusal.TheVariants.{Stopped, Truncated, TooDeep, RepeatedName}
+use Rattle.jx_run.specs.declared.runs.transition.Transition.{Transition}
+use Rattle.jx_run.specs.declared.sequences.element_verdict.ElementVerdict.{ElementVerdict}
+use Rattle.jx_run.specs.declared.sequences.element_verdict.ElementVerdict.TheVariants as element
+use Rattle.jx_run.specs.declared.sequences.element_verdict.JudgedElement.{JudgedElement}
+use Rattle.jx_run.specs.declared.texts.verdict.Refusal.{Refusal}
+use Rattle.jx_run.specs.declared.texts.verdict.Refusal.TheVariants.{Stopped, Truncated, TooDeep, RepeatedName}
 use Rattle.jx_run.specs.ReaderInside.{offset_at}
 use Rattle.jx_run.specs.Tree.{span}
 
@@ -36,8 +36,8 @@ abbrev pub moved_exit : ℕ → LexExit → LexExit
 moved_exit by (exit.State s) = exit.State s
 moved_exit by (exit.Fault at) = exit.Fault (offset_at by at)
 
-abbrev pub moved_way : ℕ → Way → Way
-moved_way by w = record { exit = moved_exit by w.exit; structure = w.structure }
+abbrev pub moved_transition : ℕ → Transition → Transition
+moved_transition by w = record { exit = moved_exit by w.exit; structure = w.structure }
 
 -- the structure of the same marks so many bytes further on
 pub record IsMoved (by : ℕ) (old new : StructureValue) : Type 0 where

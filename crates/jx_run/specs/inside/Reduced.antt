@@ -9,8 +9,8 @@ use Rattle.jx_lex.specs.Map.{Map, track}
 use Rattle.jx_lex.specs.View.{exit_of, marks_at, path_from}
 use Rattle.jx_reduce.specs.Offsets.{EachIn, RisingFrom}
 use Rattle.jx_reduce.specs.Structure.{StructureValue, IsOf, SpansIn}
-use Rattle.jx_run.specs.declared.reduce.Lone.{Lone}
-use Rattle.jx_run.specs.declared.way.Way.{Way}
+use Rattle.jx_run.specs.declared.runs.reduce.Lone.{Lone}
+use Rattle.jx_run.specs.declared.runs.transition.Transition.{Transition}
 use Rattle.jx_run.specs.OutcomeRun.{IsFormWithin}
 
 -- the structure of these marks, which keeps no offset but theirs
@@ -33,17 +33,17 @@ pub record IsAt (limit : ℕ) (marks : List Mark) (structures : List StructureVa
 abbrev pub IsLoneIn : ℕ → List StructureValue → Lone → Type 0
 IsLoneIn limit structures lone = IsAt limit (lone.mark ∷ []) structures lone.number
 
--- the way of a track
-pub record IsWayOf (limit : ℕ) (structures : List StructureValue) (t : Track) (w : Way) : Type 0 where
+-- the transition of a track
+pub record IsTransitionOf (limit : ℕ) (structures : List StructureValue) (t : Track) (w : Transition) : Type 0 where
   pub exit : exit_of w.exit ≡ t.exit
   pub marks : IsAt limit t.marks structures w.structure
 
 -- those of the tracks from these states, in order
-abbrev pub AreWaysOf : ℕ → Map → List StructureValue → List LexState → List Way → Type 0
-AreWaysOf limit m fs [] [] = Unit {0}
-AreWaysOf limit m fs [] (w ∷ ws) = ⊥
-AreWaysOf limit m fs (s ∷ ss) [] = ⊥
-AreWaysOf limit m fs (s ∷ ss) (w ∷ ws) = IsWayOf limit fs (track m s) w × AreWaysOf limit m fs ss ws
+abbrev pub AreTransitionsOf : ℕ → Map → List StructureValue → List LexState → List Transition → Type 0
+AreTransitionsOf limit m fs [] [] = Unit {0}
+AreTransitionsOf limit m fs [] (w ∷ ws) = ⊥
+AreTransitionsOf limit m fs (s ∷ ss) [] = ⊥
+AreTransitionsOf limit m fs (s ∷ ss) (w ∷ ws) = IsTransitionOf limit fs (track m s) w × AreTransitionsOf limit m fs ss ws
 
 -- the path that begins with the segment of this number; there is none behind the last
 abbrev pub path_at : List SegmentValue → ℕ → List ℕ

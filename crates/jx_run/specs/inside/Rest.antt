@@ -1,4 +1,4 @@
--- The rest of a piece, which is read only from the states in which ways of its beginning end.
+-- The rest of a piece, which is read only from the states in which transitions of its beginning end.
 use Rattle.std.specs.Prelude.{◌≡◌, ℕ, ◌+◌, ◌<◌, ◌≤◌, List, ◌∷◌, length, HoldsAt, Some, slice_get}
 use Rattle.jx_lex.specs.declared.alphabet.lex_exit.LexExit.TheVariants as exit
 use Rattle.jx_lex.specs.declared.alphabet.mark.Mark.{Mark}
@@ -9,7 +9,7 @@ use Rattle.jx_reduce.specs.declared.expect.Expect.{Expect}
 use Rattle.jx_reduce.specs.declared.holder.Holder.{Holder}
 use Rattle.jx_reduce.specs.Reducer.{ReducerValue, HasReduced}
 use Rattle.jx_reduce.specs.Structure.{StructureValue}
-use Rattle.jx_run.specs.declared.way.Way.{Way}
+use Rattle.jx_run.specs.declared.runs.transition.Transition.{Transition}
 use Rattle.jx_run.specs.OutcomeRun.{OutcomeRunValue, exit_at, outcome, outcome_of}
 use Rattle.jx_run.specs.Reading.{TextReading, read}
 
@@ -17,26 +17,26 @@ use Rattle.jx_run.specs.Reading.{TextReading, read}
 abbrev pub AreRead : ℕ → ℕ → List ℕ → LexState → (Expect → List Holder → TextReading) → Type 0
 AreRead limit start bytes s outcomes = (expect : Expect) (holders : List Holder) → length holders ≤ limit → outcomes expect holders ≡ read limit s expect holders start bytes
 
--- the right has the outcomes of reading these bytes from each state in which a way of the left ends; from the other states,
+-- the right has the outcomes of reading these bytes from each state in which a transition of the left ends; from the other states,
 -- to which nothing leads, it may have any
 pub record IsRestOf (left : OutcomeRunValue) (bytes : List ℕ) (right : OutcomeRunValue) : Type 0 where
   pub long : right.end ≡ right.start + length bytes
   pub outcomes : (s t : LexState) → exit_at left s ≡ LexExit.state t → AreRead right.depth right.start bytes t (outcome right t)
 
--- one of the ways ends in this state
-abbrev pub Reaches : List Way → LexState → Type 0
-Reaches ways s = (k : ℕ) × (k < length ways) × HoldsAt (λ (w : Way). w.exit ≡ exit.State s) ways k
+-- one of the transitions ends in this state
+abbrev pub Reaches : List Transition → LexState → Type 0
+Reaches transitions s = (k : ℕ) × (k < length transitions) × HoldsAt (λ (w : Transition). w.exit ≡ exit.State s) transitions k
 
--- the way has the outcomes of reading
-pub record IsReadWay (limit start : ℕ) (bytes : List ℕ) (structures : List StructureValue) (s : LexState) (w : Way) : Type 0 where
+-- the transition has the outcomes of reading
+pub record IsReadTransition (limit start : ℕ) (bytes : List ℕ) (structures : List StructureValue) (s : LexState) (w : Transition) : Type 0 where
   pub form : StructureValue
   pub at : slice_get structures w.structure ≡ Some form
   pub reads : AreRead limit start bytes s (outcome_of (record { exit = w.exit; marks = form }))
 
 -- so has the one of each state that was reached
-abbrev pub AreReadWays : ℕ → ℕ → List ℕ → List Way → List StructureValue → List Way → LexState → Type 0
-AreReadWays limit start bytes reached structures ways s = Reaches reached s
-    → (w : Way) × (slice_get ways (ordinal s) ≡ Some w) × IsReadWay limit start bytes structures s w
+abbrev pub AreReadTransitions : ℕ → ℕ → List ℕ → List Transition → List StructureValue → List Transition → LexState → Type 0
+AreReadTransitions limit start bytes reached structures transitions s = Reaches reached s
+    → (w : Transition) × (slice_get transitions (ordinal s) ≡ Some w) × IsReadTransition limit start bytes structures s w
 
 -- what a reducer has seen of the tokens of a scan; the ends are of no account, but that they begin with the depth, which
 -- therefore stays

@@ -7,7 +7,7 @@ abbrev pub invariant-loop-part : goal.invariant-loop-part
 invariant-loop-part l =
     record {
       within : l.done ≤ length l.batch;
-      depth : l.reader.depth ≡ l.initial.reader.depth;
+      settings : l.reader.settings ≡ l.initial.reader.settings;
       start : l.reader.start ≡ l.initial.reader.start;
       count : l.reader.count + l.front ≡ l.initial.reader.count + l.done;
       reads : (bytes : List ℕ) → HasRead (bytes ++ take l.front l.batch) l.initial.reader → HasRead (bytes ++ take l.done l.batch) l.reader;

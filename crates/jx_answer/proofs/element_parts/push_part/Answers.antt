@@ -1,6 +1,6 @@
 use Rattle.std.proofs.Common.{◌≡◌, List, ◌++◌, sym, subst}
 use Rattle.std.specs.Prelude.{IfSome}
-use Rattle.jx_run.specs.declared.element_verdict.JudgedElement.{JudgedElement}
+use Rattle.jx_run.specs.declared.sequences.element_verdict.JudgedElement.{JudgedElement}
 use Rattle.jx_answer.specs.inside.ElementParts.{AreOfPart, AreUpTo}
 use Rattle.jx_answer.proofs.ElementParts.{up_to_end}
 use Rattle.jx_answer.proofs.element_parts.push_part.Goals as goal

@@ -1,7 +1,7 @@
 use Rattle.std.proofs.Common.{◌≡◌, List, Vec, Global, length, ap, subst, ◌∙◌}
 use Rattle.std.specs.Prelude.{IfOk, Result}
-use Rattle.jx_run.specs.declared.verdict.Refusal.{Refusal}
-use Rattle.jx_run.specs.declared.verdict.Verdict.TheVariants as verdict
+use Rattle.jx_run.specs.declared.texts.verdict.Refusal.{Refusal}
+use Rattle.jx_run.specs.declared.texts.verdict.Verdict.TheVariants as verdict
 use Rattle.jx_index.specs.RowsAlone.{AreRowsBy}
 use Rattle.jx_index.specs.Rows.{rows}
 use Rattle.jx_index.specs.declared.row.Row.{Row}

@@ -11,7 +11,7 @@ use Rattle.jx_edit.proofs.led.follow_bytes.Goals as goal
 
 pub unreachable-requires : goal.unreachable-requires
 unreachable-requires c =
-    wants_more c.scan.new.keeper _ _ (c.in_ok-exit.ensures.seen [] [] c.new-tokens.ensures) (c.in_ok-exit.ensures.done (subst (λ (o : Option LexExit). IsNone o) (sym c.in_default.is) refl))
+    wants_more c.scan.new.sink _ _ (c.in_ok-exit.ensures.seen [] [] c.new-tokens.ensures) (c.in_ok-exit.ensures.done (subst (λ (o : Option LexExit). IsNone o) (sym c.in_default.is) refl))
 
 pub returns : goal.returns
 returns c =

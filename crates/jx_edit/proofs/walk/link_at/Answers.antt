@@ -1,6 +1,6 @@
 use Rattle.std.proofs.Common.{arith, ap, sym, set, false, ◌≡◌, ◌∙◌, ◌+◌, ◌/◌, refl}
 use Rattle.std.proofs.Math.ListN.{length-set}
-use Rattle.jx_edit.specs.inside.Chunks.{loose, ChunkValue}
+use Rattle.jx_edit.specs.inside.Chunks.{open_ended, ChunkValue}
 use Rattle.jx_edit.specs.inside.Places.{origin}
 use Rattle.jx_edit.proofs.Groups.{sum, sums_linked, sums_loosened}
 use Rattle.jx_edit.proofs.Links.{bytes_linked, bytes_loosened, link_of, linked_to, relinked_same, relinked_last, relinked_next}
@@ -49,19 +49,19 @@ pub returns-then-next-chunks-clause-linked : goal.returns-then-next-chunks-claus
 returns-then-next-chunks-clause-linked c =
     (relinked_next c.args.depth c.args.chunks.now c.args.number (c.args.number + 1) c.index-chunks-number.result c.link.new.self c.index-chunks-next.result c.unlink.new.self c.args.to
     c.requires.number refl (omega (arith, length-set c.args.chunks.now c.args.number c.link.new.self)) c.index-chunks-number.is c.requires.linked c.requires.leads
-    (c.link.ensures.linked ∙ ap (λ (y : ChunkValue). linked_to y c.args.to) (sym c.index-chunks-number.is)) c.index-chunks-next.is (c.unlink.ensures ∙ ap loose (sym c.index-chunks-next.is))).linked
+    (c.link.ensures.linked ∙ ap (λ (y : ChunkValue). linked_to y c.args.to) (sym c.index-chunks-number.is)) c.index-chunks-next.is (c.unlink.ensures ∙ ap open_ended (sym c.index-chunks-next.is))).linked
 
 pub returns-then-next-chunks-clause-bytes : goal.returns-then-next-chunks-clause-bytes
 returns-then-next-chunks-clause-bytes c =
     (relinked_next c.args.depth c.args.chunks.now c.args.number (c.args.number + 1) c.index-chunks-number.result c.link.new.self c.index-chunks-next.result c.unlink.new.self c.args.to
     c.requires.number refl (omega (arith, length-set c.args.chunks.now c.args.number c.link.new.self)) c.index-chunks-number.is c.requires.linked c.requires.leads
-    (c.link.ensures.linked ∙ ap (λ (y : ChunkValue). linked_to y c.args.to) (sym c.index-chunks-number.is)) c.index-chunks-next.is (c.unlink.ensures ∙ ap loose (sym c.index-chunks-next.is))).bytes
+    (c.link.ensures.linked ∙ ap (λ (y : ChunkValue). linked_to y c.args.to) (sym c.index-chunks-number.is)) c.index-chunks-next.is (c.unlink.ensures ∙ ap open_ended (sym c.index-chunks-next.is))).bytes
 
 pub returns-then-next-chunks-clause-place : goal.returns-then-next-chunks-clause-place
 returns-then-next-chunks-clause-place c =
     (relinked_next c.args.depth c.args.chunks.now c.args.number (c.args.number + 1) c.index-chunks-number.result c.link.new.self c.index-chunks-next.result c.unlink.new.self c.args.to
     c.requires.number refl (omega (arith, length-set c.args.chunks.now c.args.number c.link.new.self)) c.index-chunks-number.is c.requires.linked c.requires.leads
-    (c.link.ensures.linked ∙ ap (λ (y : ChunkValue). linked_to y c.args.to) (sym c.index-chunks-number.is)) c.index-chunks-next.is (c.unlink.ensures ∙ ap loose (sym c.index-chunks-next.is))).place
+    (c.link.ensures.linked ∙ ap (λ (y : ChunkValue). linked_to y c.args.to) (sym c.index-chunks-number.is)) c.index-chunks-next.is (c.unlink.ensures ∙ ap open_ended (sym c.index-chunks-next.is))).place
 
 pub returns-then-link-clause-on : goal.returns-then-link-clause-on
 returns-then-link-clause-on c =
@@ -78,7 +78,7 @@ pub returns-then-next-chunks-clause-on : goal.returns-then-next-chunks-clause-on
 returns-then-next-chunks-clause-on c =
     (relinked_next c.args.depth c.args.chunks.now c.args.number (c.args.number + 1) c.index-chunks-number.result c.link.new.self c.index-chunks-next.result c.unlink.new.self c.args.to
     c.requires.number refl (omega (arith, length-set c.args.chunks.now c.args.number c.link.new.self)) c.index-chunks-number.is c.requires.linked c.requires.leads
-    (c.link.ensures.linked ∙ ap (λ (y : ChunkValue). linked_to y c.args.to) (sym c.index-chunks-number.is)) c.index-chunks-next.is (c.unlink.ensures ∙ ap loose (sym c.index-chunks-next.is))).on
+    (c.link.ensures.linked ∙ ap (λ (y : ChunkValue). linked_to y c.args.to) (sym c.index-chunks-number.is)) c.index-chunks-next.is (c.unlink.ensures ∙ ap open_ended (sym c.index-chunks-next.is))).on
 
 pub returns-then-link-clause-sums : goal.returns-then-link-clause-sums
 returns-then-link-clause-sums c =
@@ -100,7 +100,7 @@ returns-then-next-chunks-clause-sums c =
     let linked : c.link.new.self ≡ linked_to c.index-chunks-number.result c.args.to = c.link.ensures.linked ∙ ap (λ (y : ChunkValue). linked_to y c.args.to) (sym c.index-chunks-number.is) in
     sums_loosened cs c.args.sums.now next group c.unlink.new.self (sum 0 false) (omega arith) (omega arith)
     (omega (arith, c.if-next-chunks.true, length-set c.args.chunks.now c.args.number c.link.new.self, c.requires.sums.covers))
-    (bytes_loosened cs next c.index-chunks-next.result c.unlink.new.self c.if-next-chunks.true c.index-chunks-next.is (c.unlink.ensures ∙ ap loose (sym c.index-chunks-next.is)))
+    (bytes_loosened cs next c.index-chunks-next.result c.unlink.new.self c.if-next-chunks.true c.index-chunks-next.is (c.unlink.ensures ∙ ap open_ended (sym c.index-chunks-next.is)))
     (sums_linked c.args.chunks.now c.args.sums.now c.args.number c.link.new.self c.requires.number
     (bytes_linked c.args.chunks.now c.args.number c.index-chunks-number.result c.link.new.self c.args.to c.requires.number c.index-chunks-number.is linked)
     (ap (λ (y : ChunkValue). y.linked) linked) c.requires.sums)

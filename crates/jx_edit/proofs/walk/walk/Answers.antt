@@ -1,8 +1,8 @@
 use Rattle.std.proofs.Common.{arith, false, ◌∙◌, ◌+◌, ◌*◌, ap, sym, subst, refl, List, ℕ}
 use Rattle.std.specs.Prelude.{IfSome, IsNone, Option}
 use Rattle.std.proofs.lemmas.List.{take_all}
-use Rattle.jx_run.specs.declared.verdict.Refusal.{Refusal}
-use Rattle.jx_run.specs.declared.verdict.Verdict.TheVariants.{Refused}
+use Rattle.jx_run.specs.declared.texts.verdict.Refusal.{Refusal}
+use Rattle.jx_run.specs.declared.texts.verdict.Verdict.TheVariants.{Refused}
 use Rattle.jx_run.specs.Verdict.{Judged}
 use Rattle.jx_edit.specs.inside.Chunks.{text_of}
 use Rattle.jx_edit.specs.inside.Links.{place_behind}

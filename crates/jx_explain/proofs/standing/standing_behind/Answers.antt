@@ -19,7 +19,7 @@ returns c =
       stands = record {
         open_ones = reverse c.in_ok-expect.holders.items;
         reading =
-            behind c.args.depth c.args.from bytes c.new.result c.scan.new.keeper.stack c.in-State.state c.in_ok-expect.expect (reverse c.in_ok-expect.holders.items)
+            behind c.args.depth c.args.from bytes c.new.result c.scan.new.sink.stack c.in-State.state c.in_ok-expect.expect (reverse c.in_ok-expect.holders.items)
             c.new.ensures.depth c.new.ensures.reads c.in_ok-exit.ensures.seen exit c.in_ok-expect.ensures.standing;
         innermost = c.innermost.ensures;
       };

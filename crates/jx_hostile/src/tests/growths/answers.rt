@@ -6,8 +6,7 @@ use crate::tests::inputs::{
     ELEMENTS, MARKED_FIVE, MARKED_NUMBER, MARKED_REPEATED, NUMBER_ALONE, UNIQUE_NAMES,
     WorkedSequence,
 };
-use jx_answer::Fault;
-use jx_book::OpenGate;
+use jx_book::{Crew, OpenGate};
 use jx_claim::{Cutting, Workers};
 use jx_hostile_runs::inputs::{
     FIVE, NESTED_ARRAYS, REPEATED_NAME, REPEATED_SEQUENCE, SEQUENCE, TOO_DEEP, UNSORTED_NAMES,
@@ -16,7 +15,7 @@ use jx_hostile_runs::inputs::{
 use jx_hostile_runs::lines::Lines;
 use jx_lex::Depth;
 use jx_run::{FrontMark, NameRule, Settings};
-use std::alloc::Global;
+use std::alloc::{AllocError, Global};
 use std::env::Env;
 use std::process::Abort;
 use std::sync::Wait;
@@ -77,13 +76,13 @@ fn check_texts<R: Abort + Env + Threads + Wait + Sync>(
     count: u8,
 ) -> Result<(), Fail> {
     let mut lines = Lines::of(rt);
-    for (worked, mark, names) in SETTLED_TEXTS {
+    for (worked, mark, names) in &SETTLED_TEXTS {
         let depth = Depth::new(worked.containers).ok_or("a depth")?;
-        let settings = settings(depth, mark, names);
-        for call in ALL_TEXT_CALLS {
-            let is_meant = call != TextCall::Plain || mark == FrontMark::Refused;
+        let settings = settings(depth, *mark, *names);
+        for call in &ALL_TEXT_CALLS {
+            let is_meant = *call != TextCall::Plain || *mark == FrontMark::Refused;
             if is_meant && lines.takes_next() {
-                check_text(rt, alloc, call, &worked, &settings, count)?;
+                check_text(rt, alloc, *call, worked, &settings, count)?;
             }
         }
     }
@@ -99,14 +98,17 @@ fn check_text<R: Abort + Threads + Wait + Sync>(
     settings: &Settings,
     count: u8,
 ) -> Result<(), Fail> {
-    let workers = Workers::new(count).ok_or("workers")?;
+    let crew = Crew {
+        rt,
+        alloc,
+        workers: Workers::new(count).ok_or("workers")?,
+        gate: &OpenGate,
+    };
     let first = Cutting::every(worked.text.len(), 1)?;
     let again = Cutting::every(worked.text.len(), 1)?;
-    let right = match is_right(rt, alloc, call, worked, first, workers, settings, &OpenGate) {
+    let right = match is_right(&crew, call, worked, first, settings) {
         Ok(right) => right,
-        Err(Fault::Memory) => {
-            is_right(rt, alloc, call, worked, again, workers, settings, &OpenGate)?
-        }
+        Err(AllocError) => is_right(&crew, call, worked, again, settings)?,
     };
     assert!(rt; right, "{call:?} on {worked:?} by {settings:?} and {count}");
     Ok(())
@@ -119,12 +121,12 @@ fn check_sequences<R: Abort + Env + Threads + Wait + Sync>(
     count: u8,
 ) -> Result<(), Fail> {
     let mut lines = Lines::of(rt);
-    for (sequence, mark, names) in SETTLED_SEQUENCES {
-        let settings = settings(Depth::default(), mark, names);
-        for call in ALL_SEQUENCE_CALLS {
-            let is_meant = call != SequenceCall::Plain || mark == FrontMark::Refused;
+    for (sequence, mark, names) in &SETTLED_SEQUENCES {
+        let settings = settings(Depth::default(), *mark, *names);
+        for call in &ALL_SEQUENCE_CALLS {
+            let is_meant = *call != SequenceCall::Plain || *mark == FrontMark::Refused;
             if is_meant && lines.takes_next() {
-                check_sequence(rt, alloc, call, sequence, &settings, count)?;
+                check_sequence(rt, alloc, *call, *sequence, &settings, count)?;
             }
         }
     }
@@ -141,15 +143,16 @@ fn check_sequence<R: Abort + Threads + Wait + Sync>(
     count: u8,
 ) -> Result<(), Fail> {
     let (text, want) = sequence;
-    let workers = Workers::new(count).ok_or("workers")?;
+    let crew = Crew {
+        rt,
+        alloc,
+        workers: Workers::new(count).ok_or("workers")?,
+        gate: &OpenGate,
+    };
     let cutting = Cutting::every(text.len(), 1)?;
-    let told = match tells(
-        rt, alloc, call, text, want, &cutting, workers, settings, &OpenGate,
-    ) {
+    let told = match tells(&crew, call, text, want, &cutting, settings) {
         Ok(told) => told,
-        Err(Fault::Memory) => tells(
-            rt, alloc, call, text, want, &cutting, workers, settings, &OpenGate,
-        )?,
+        Err(AllocError) => tells(&crew, call, text, want, &cutting, settings)?,
     };
     assert!(rt; told, "{call:?} on {text:?} by {settings:?} and {count}");
     Ok(())

@@ -68,40 +68,40 @@ const LOOK_UPS: [(&[u8], [&str; 3], [LookUp; 3]); 5] = [
 #[test]
 fn look_ups_under_a_refused_growth(rt: HostRuntime) -> Result<(), Fail> {
     let mut lines = Lines::of(&rt);
-    for (text, spelt, want) in LOOK_UPS {
-        for count in [1, 2] {
+    for look_up in &LOOK_UPS {
+        for count in &[1, 2] {
             if lines.takes_next() {
-                check(&rt, rt.alloc(), text, spelt, want, count)?;
+                check(&rt, rt.alloc(), look_up, *count)?;
             }
         }
     }
     Ok(())
 }
 
+// Three pointers into a text.
+fn pointers_of<'p>(spelt: &[&'p str; 3]) -> Option<[Pointer<'p>; 3]> {
+    let [first, second, third] = *spelt;
+    let first = Pointer::read(first).ok()?;
+    let second = Pointer::read(second).ok()?;
+    let third = Pointer::read(third).ok()?;
+    Some([first, second, third])
+}
+
 // Three pointers into a text, looked up by that many workers.
 fn check<R: Abort + Threads + Wait + Sync>(
     rt: &R,
     alloc: Global,
-    text: &[u8],
-    spelt: [&str; 3],
-    want: [LookUp; 3],
+    look_up: &(&[u8], [&str; 3], [LookUp; 3]),
     count: u8,
 ) -> Result<(), Fail> {
+    let (text, spelt, want) = look_up;
     let workers = Workers::new(count).ok_or("workers")?;
+    let pointers = pointers_of(spelt).ok_or("three pointers")?;
     let index = index_of(rt, alloc, text)?;
-    let [first, second, third] = spelt;
-    let (Ok(first), Ok(second), Ok(third)) = (
-        Pointer::read(first),
-        Pointer::read(second),
-        Pointer::read(third),
-    ) else {
-        return Err("three pointers".into());
-    };
-    let pointers = [first, second, third];
     let found = match find_all(rt, alloc, &index, &pointers, workers, &OpenGate) {
         Ok(found) => found,
         Err(Fault::Memory) => find_all(rt, alloc, &index, &pointers, workers, &OpenGate)?,
     };
-    assert!(rt; are_found(&found, &want), "{text:?} by {count}");
+    assert!(rt; are_found(&found, want), "{text:?} by {count}");
     Ok(())
 }

@@ -1,5 +1,5 @@
 // Held runs, books and their workers under refused growths.
-ghost use Rattle.std.specs.Prelude.{◌≡◌, ◌<◌, ◌≤◌, IfOk, IfSome, false, length, vec_len};
+ghost use Rattle.std.specs.Prelude.{◌≡◌, ◌<◌, ◌≤◌, IfSome, false, length, vec_len};
 
 use crate::inputs::{FIVE_ROWS, NESTED, REPEATED, SEQUENCE, UNSORTED, WIDE};
 use crate::lines::Lines;
@@ -40,7 +40,7 @@ const INPUTS: [(Runs, &[u8]); 7] = [
 #[test]
 fn held_runs_under_a_refused_growth(rt: HostRuntime) -> Result<(), Fail> {
     let mut lines = Lines::of(&rt);
-    for (runs, text) in INPUTS {
+    for (runs, text) in &INPUTS {
         match runs {
             Runs::Texts => check_joins::<TextRun, _>(&rt, rt.alloc(), &mut lines, text)?,
             Runs::Outcomes => check_joins::<OutcomeRun, _>(&rt, rt.alloc(), &mut lines, text)?,
@@ -53,7 +53,7 @@ fn held_runs_under_a_refused_growth(rt: HostRuntime) -> Result<(), Fail> {
 #[test]
 fn states_of_a_book_under_a_refused_growth(rt: HostRuntime) -> Result<(), Fail> {
     let mut lines = Lines::of(&rt);
-    for (runs, text) in INPUTS {
+    for (runs, text) in &INPUTS {
         if lines.takes_next() {
             match runs {
                 Runs::Texts => check_state::<TextRun, _>(&rt, rt.alloc(), text)?,
@@ -68,7 +68,7 @@ fn states_of_a_book_under_a_refused_growth(rt: HostRuntime) -> Result<(), Fail> 
 #[test]
 fn puts_under_a_refused_growth(rt: HostRuntime) -> Result<(), Fail> {
     let mut lines = Lines::of(&rt);
-    for (runs, text) in INPUTS {
+    for (runs, text) in &INPUTS {
         if lines.takes_next() {
             match runs {
                 Runs::Texts => check_puts::<TextRun, _>(&rt, rt.alloc(), text)?,
@@ -83,7 +83,7 @@ fn puts_under_a_refused_growth(rt: HostRuntime) -> Result<(), Fail> {
 #[test]
 fn workers_under_a_refused_growth(rt: HostRuntime) -> Result<(), Fail> {
     let mut lines = Lines::of(&rt);
-    for (runs, text) in INPUTS {
+    for (runs, text) in &INPUTS {
         if lines.takes_next() {
             match runs {
                 Runs::Texts => check::<TextRun, _>(&rt, rt.alloc(), text)?,
@@ -95,24 +95,8 @@ fn workers_under_a_refused_growth(rt: HostRuntime) -> Result<(), Fail> {
     Ok(())
 }
 
-/// The run of a part, asked for twice where it is refused.
-fn run_of<S: Likeness>(
-    alloc: Global,
-    text: &[u8],
-    start: usize,
-    end: usize,
-) -> Result<Held<'_, S>, AllocError>
-    requires { (start ≤ end) × (end ≤ length text.now) }
-    ensures { IfOk result (λ h. h.span ≡ record { start = start; end = end }) }
-{
-    match Held::read(alloc, text, start, end, Depth::default()) {
-        Ok(run) => Ok(run),
-        Err(_) => Held::read(alloc, text, start, end, Depth::default()),
-    }
-}
-
 /// Whether a run is the one that its span gives in the text that it carries.
-fn is_as_held<S: Likeness>(alloc: Global, run: &Held<'_, S>) -> bool {
+fn is_as_held<S: Likeness>(alloc: Global, run: &Held<'_, S>) -> Result<bool, AllocError> {
     is_as_read(alloc, run.text(), run.run())
 }
 
@@ -121,26 +105,39 @@ fn joined<'a, S: Likeness>(
     alloc: Global,
     left: Held<'a, S>,
     right: Held<'a, S>,
-) -> Option<Held<'a, S>>
+) -> Result<Option<Held<'a, S>>, AllocError>
     requires { left.span.end ≡ right.span.start }
 {
     let spans = (left.span(), right.span());
     match left.join(right) {
-        Ok(run) => Some(run),
+        Ok(run) => Ok(Some(run)),
         Err(HeldFault::Memory(left, right)) => {
             if (left.span(), right.span()) != spans
-                || !is_as_held(alloc, &left)
-                || !is_as_held(alloc, &right)
+                || !is_as_held(alloc, &left)?
+                || !is_as_held(alloc, &right)?
             {
-                return None;
+                return Ok(None);
             }
-            left.join(right).ok()
+            Ok(left.join(right).ok())
         }
-        Err(HeldFault::Other(_, _)) => None,
+        Err(HeldFault::Other(_, _)) => Ok(None),
     }
 }
 
-// Held runs over both sides of each cut of a text, and their join.
+/// Whether the join of both sides of a cut is as it has to be.
+fn is_joined_at<S: Likeness>(alloc: Global, text: &[u8], cut: usize) -> Result<bool, AllocError>
+    requires { cut ≤ length text.now }
+{
+    let depth = Depth::default();
+    let left = Held::<S>::read(alloc, text, 0, cut, depth)?;
+    let right = Held::<S>::read(alloc, text, cut, text.len(), depth)?;
+    match joined(alloc, left, right)? {
+        Some(run) => is_as_held(alloc, &run),
+        None => Ok(false),
+    }
+}
+
+// Held runs over both sides of each cut of a text, and their join. Where something else is refused, all of it is made again.
 fn check_joins<S: Likeness, R: Abort>(
     rt: &R,
     alloc: Global,
@@ -149,23 +146,30 @@ fn check_joins<S: Likeness, R: Abort>(
 ) -> Result<(), Fail> {
     for cut in 0..=text.len() {
         if lines.takes_next() {
-            let left = run_of::<S>(alloc, text, 0, cut)?;
-            let right = run_of::<S>(alloc, text, cut, text.len())?;
-            let run = joined(alloc, left, right).ok_or("two sides as they were, and their join")?;
-            assert!(rt; is_as_held(alloc, &run), "{text:?} cut at {cut}");
+            let right = match is_joined_at::<S>(alloc, text, cut) {
+                Ok(right) => right,
+                Err(AllocError) => is_joined_at::<S>(alloc, text, cut)?,
+            };
+            assert!(rt; right, "{text:?} cut at {cut}");
         }
     }
     Ok(())
 }
 
-// Whether these are runs of so many bytes of a text, every second one, each as it was read.
-fn are_every_second<S: Likeness>(alloc: Global, runs: &[Held<'_, S>], count: usize) -> bool {
-    runs.len() == count
-        && runs.iter().enumerate().all(|(place, run)| {
-            let start = place.saturating_mul(2);
-            let end = start.saturating_add(1);
-            run.span() == Span { start, end } && is_as_held(alloc, run)
-        })
+/// Whether these are runs of so many bytes of a text, every second one, each as it was read.
+fn are_every_second<S: Likeness>(
+    alloc: Global,
+    runs: &[Held<'_, S>],
+    count: usize,
+) -> Result<bool, AllocError> {
+    for (place, run) in runs.iter().enumerate() {
+        let start = place.saturating_mul(2);
+        let end = start.saturating_add(1);
+        if run.span() != (Span { start, end }) || !is_as_held(alloc, run)? {
+            return Ok(false);
+        }
+    }
+    Ok(runs.len() == count)
 }
 
 /// Whether the run stands in the state then, in which so many stood. Where it is refused, the state is as it was, and
@@ -175,38 +179,45 @@ fn is_stored<'a, S: Likeness>(
     state: &mut BookState<'a, S>,
     run: Held<'a, S>,
     count: usize,
-) -> bool
+) -> Result<bool, AllocError>
     requires { run.span.start < run.span.end }
 {
     let place = run.span();
     let before = (state.total_put(), state.total_taken());
     match state.put(run) {
-        Put::Stored => true,
+        Put::Stored => Ok(true),
         Put::Memory(run) => {
             let after = (state.total_put(), state.total_taken());
-            run.span() == place
-                && is_as_held(alloc, &run)
+            let same = run.span() == place
+                && is_as_held(alloc, &run)?
                 && after == before
-                && are_every_second(alloc, state.runs(), count)
-                && matches!(state.put(run), Put::Stored)
+                && are_every_second(alloc, state.runs(), count)?;
+            Ok(same && matches!(state.put(run), Put::Stored))
         }
-        _ => false,
+        _ => Ok(false),
     }
+}
+
+/// Whether every second byte of a text stands in a state then, each put for itself.
+fn are_stored<S: Likeness>(alloc: Global, text: &[u8]) -> Result<bool, AllocError> {
+    let mut state = BookState::<S>::new(alloc);
+    let count = text.len() / 2;
+    for place in 0..count {
+        let run = Held::read(alloc, text, 2 * place, 2 * place + 1, Depth::default())?;
+        if !is_stored(alloc, &mut state, run, place)? {
+            return Ok(false);
+        }
+    }
+    are_every_second(alloc, state.runs(), count)
 }
 
 // Every second byte of a text, put into a state.
 fn check_state<S: Likeness, R: Abort>(rt: &R, alloc: Global, text: &[u8]) -> Result<(), Fail> {
-    let mut state = BookState::<S>::new(alloc);
-    let count = text.len() / 2;
-    for place in 0..count {
-        let run = run_of::<S>(alloc, text, 2 * place, 2 * place + 1)?;
-        assert!(rt;
-            is_stored(alloc, &mut state, run, place),
-            "the byte at {}",
-            2 * place
-        );
-    }
-    assert!(rt; are_every_second(alloc, state.runs(), count), "{text:?}");
+    let stored = match are_stored::<S>(alloc, text) {
+        Ok(stored) => stored,
+        Err(AllocError) => are_stored::<S>(alloc, text)?,
+    };
+    assert!(rt; stored, "{text:?}");
     Ok(())
 }
 
@@ -221,7 +232,7 @@ fn both_of<'a, S: Likeness>(
     if left.span().end != right.span().start {
         return None;
     }
-    let run = joined(alloc, left, right)?;
+    let run = joined(alloc, left, right).ok()??;
     if run.span().start < run.span().end {
         Some(run)
     } else {
@@ -237,21 +248,19 @@ fn is_put<'a, S: Likeness, P: Ledger, T: Ledger, R: Wait>(
     book: &Book<'a, S, P, T>,
     share: &mut Share<P, T>,
     run: Held<'a, S>,
-) -> bool
+) -> Result<bool, AllocError>
     requires { run.span.start < run.span.end }
 {
     let place = run.span();
     let before = (share.total_put(), share.total_taken());
     match book.put(rt, share, run) {
-        Put::Stored => true,
+        Put::Stored => Ok(true),
         Put::Memory(run) => {
             let after = (share.total_put(), share.total_taken());
-            run.span() == place
-                && is_as_held(alloc, &run)
-                && after == before
-                && matches!(book.put(rt, share, run), Put::Stored)
+            let same = run.span() == place && is_as_held(alloc, &run)? && after == before;
+            Ok(same && matches!(book.put(rt, share, run), Put::Stored))
         }
-        _ => false,
+        _ => Ok(false),
     }
 }
 
@@ -274,8 +283,8 @@ fn are_put<'a, S: Likeness, P: Ledger, T: Ledger, R: Wait>(
     };
     let count = text.len() / 2;
     for place in 0..count {
-        let run = run_of::<S>(alloc, text, 2 * place, 2 * place + 1)?;
-        if !is_put(rt, alloc, &book, &mut share, run) {
+        let run = Held::read(alloc, text, 2 * place, 2 * place + 1, Depth::default())?;
+        if !is_put(rt, alloc, &book, &mut share, run)? {
             return Ok(false);
         }
     }
@@ -284,7 +293,7 @@ fn are_put<'a, S: Likeness, P: Ledger, T: Ledger, R: Wait>(
     }
     shares.push(share)?;
     match book.finish(text, Depth::default(), shares) {
-        Ok(closed) => Ok(are_every_second(alloc, closed.runs(), count)),
+        Ok(closed) => are_every_second(alloc, closed.runs(), count),
         Err(_) => Ok(false),
     }
 }
@@ -331,7 +340,7 @@ fn is_handed_over<'a, S: Likeness, P: Ledger, T: Ledger, R: Wait>(
     match book.put(rt, share, run) {
         Put::Stored => true,
         Put::Touches(run, neighbour) => match both_of(alloc, neighbour, run) {
-            Some(both) => is_put(rt, alloc, book, share, both),
+            Some(both) => matches!(is_put(rt, alloc, book, share, both), Ok(true)),
             None => false,
         },
         _ => false,
@@ -355,17 +364,17 @@ fn run_in<'a, S: Likeness>(
                 return None;
             }
             let place = cutting.piece(piece);
-            run_of(alloc, text, place.start, place.end).ok()
+            Held::read(alloc, text, place.start, place.end, Depth::default()).ok()
         }
         Hand::One(run) => {
-            if run.span().start < run.span().end && is_as_held(alloc, &run) {
+            if run.span().start < run.span().end && is_as_held(alloc, &run).ok()? {
                 Some(run)
             } else {
                 None
             }
         }
         Hand::Two(left, right) => {
-            if is_as_held(alloc, &left) && is_as_held(alloc, &right) {
+            if is_as_held(alloc, &left).ok()? && is_as_held(alloc, &right).ok()? {
                 both_of(alloc, left, right)
             } else {
                 None
@@ -380,21 +389,20 @@ fn is_whole<'a, S: Likeness, P: Ledger, T: Ledger>(
     book: Book<'a, S, P, T>,
     text: &'a [u8],
     shares: Vec<Share<P, T>>,
-) -> bool
+) -> Result<bool, AllocError>
     requires { vec_len shares ≡ P.parts }
 {
     let Ok(closed) = book.finish(text, Depth::default(), shares) else {
-        return false;
+        return Ok(false);
     };
     let whole = Span {
         start: 0,
         end: text.len(),
     };
-    closed.runs().len() == 1
-        && closed
-            .runs()
-            .iter()
-            .all(|run| run.span() == whole && is_as_held(alloc, run))
+    match closed.runs() {
+        [run] => Ok(run.span() == whole && is_as_held(alloc, run)?),
+        _ => Ok(false),
+    }
 }
 
 /// What is in the hand of a worker that stopped for want of memory is put, and the worker goes on to its end: its
@@ -484,7 +492,7 @@ fn is_read<'a, S: Likeness, P: Ledger, T: Ledger, R: Wait>(
     match share_of_worker(rt, alloc, &book, text, cutting, &claims, seat, share) {
         Some(share) => {
             shares.push(share)?;
-            Ok(is_whole(alloc, book, text, shares))
+            is_whole(alloc, book, text, shares)
         }
         None => Ok(false),
     }

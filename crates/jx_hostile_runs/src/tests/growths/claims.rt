@@ -8,9 +8,9 @@ use std::test::Fail;
 #[test]
 fn claims_under_a_refused_growth(rt: HostRuntime) -> Result<(), Fail> {
     let mut lines = Lines::of(&rt);
-    for count in [1, 3, 64] {
+    for count in &[1, 3, 64] {
         if lines.takes_next() {
-            check_seats(&rt, rt.alloc(), count)?;
+            check_seats(&rt, rt.alloc(), *count)?;
         }
     }
     Ok(())
@@ -19,7 +19,7 @@ fn claims_under_a_refused_growth(rt: HostRuntime) -> Result<(), Fail> {
 #[test]
 fn cuttings_under_a_refused_growth(rt: HostRuntime) -> Result<(), Fail> {
     let mut lines = Lines::of(&rt);
-    for (cuts, places) in CUTS {
+    for (cuts, places) in &CUTS {
         if lines.takes_next() {
             check_places(&rt, rt.alloc(), cuts, places)?;
         }

@@ -13,30 +13,21 @@ use std::test::Fail;
 #[test]
 fn indexes_and_their_shelf_under_a_refused_growth(rt: HostRuntime) -> Result<(), Fail> {
     let mut lines = Lines::of(&rt);
-    for worked in TEXTS {
+    for worked in &TEXTS {
         if lines.takes_next() {
-            check(&rt, rt.alloc(), &worked)?;
+            check(&rt, rt.alloc(), worked)?;
         }
     }
     Ok(())
 }
 
-// The index of a text, if it is accepted; each step is asked for twice where it is refused.
+// The index of a text, if it is accepted.
 fn index_of(alloc: Global, text: &[u8], depth: Depth) -> Result<Option<Indexed<'_>>, AllocError> {
-    let run = match TextRun::of(alloc, text, 0, text.len(), depth) {
-        Ok(run) => run,
-        Err(_) => TextRun::of(alloc, text, 0, text.len(), depth)?,
-    };
-    let started = match run.started() {
-        Ok(started) => started,
-        Err(_) => run.started()?,
-    };
+    let run = TextRun::of(alloc, text, 0, text.len(), depth)?;
+    let started = run.started()?;
     match started.verdict() {
         Verdict::Refused(_) => Ok(None),
-        Verdict::Accepted => match Indexed::build(alloc, text, &started) {
-            Ok(index) => Ok(Some(index)),
-            Err(_) => Ok(Some(Indexed::build(alloc, text, &started)?)),
-        },
+        Verdict::Accepted => Ok(Some(Indexed::build(alloc, text, &started)?)),
     }
 }
 
@@ -48,11 +39,15 @@ fn is_index_of(index: &Indexed<'_>, worked: &Worked) -> bool {
     }
 }
 
-// The index of a text, which is shown on a shelf; a refused text has none. Where the shelf has no memory, the index comes back,
-// and is shown then.
+// The index of a text, which is made again where it is refused and shown on a shelf; a refused text has none. Where the shelf has no
+// memory, the index comes back, and is shown then.
 fn check<R: Abort>(rt: &R, alloc: Global, worked: &Worked) -> Result<(), Fail> {
     let depth = Depth::new(worked.containers).ok_or("a depth")?;
-    let Some(index) = index_of(alloc, worked.text, depth)? else {
+    let index = match index_of(alloc, worked.text, depth) {
+        Ok(index) => index,
+        Err(AllocError) => index_of(alloc, worked.text, depth)?,
+    };
+    let Some(index) = index else {
         assert!(rt; worked.answer.is_err(), "{worked:?}");
         return Ok(());
     };

@@ -6,7 +6,7 @@ use crate::inputs::{FIVE_ROWS, NESTED, REPEATED, SEQUENCE, UNSORTED, WIDE};
 use crate::lines::Lines;
 use crate::tests::marks::{EXPECTS, is_same, joined_at, mark, read_by_table};
 use jx_lex::{Depth, LexState, Mark, MarkKind, step};
-use jx_reduce::{Expect, Holder, KnownStack, Outcome, Reduced, Reductions, Whole};
+use jx_reduce::{Expect, Holder, KnownStack, Reduced, Reductions, Whole};
 use std::alloc::{AllocError, Global};
 use std::process::Abort;
 use std::test::Fail;
@@ -32,60 +32,88 @@ const INPUTS: [Input; 7] = [
 #[test]
 fn reductions_under_a_refused_growth(rt: HostRuntime) -> Result<(), Fail> {
     let mut lines = Lines::of(&rt);
-    for input in INPUTS {
+    for input in &INPUTS {
         check(&rt, rt.alloc(), &mut lines, input)?;
     }
     Ok(())
 }
 
-// Opening marks, and a closing one that fits none of them.
 #[test]
 fn known_stacks_under_a_refused_growth(rt: HostRuntime) -> Result<(), Fail> {
     let mut lines = Lines::of(&rt);
-    for count in [1, 64, 65, 200, 512] {
+    for count in &[1, 64, 65, 200, 512] {
         if lines.takes_next() {
-            let mut stack = KnownStack::new(rt.alloc(), Depth::default());
-            for at in 0..count {
-                push_again(&mut stack, mark(MarkKind::OpenArray, at))?;
-            }
-            push_again(&mut stack, mark(MarkKind::CloseObject, count))?;
-            assert_eq!(rt; stack.whole(), Whole::Stopped(count));
+            let whole = match unfitting(rt.alloc(), *count) {
+                Ok(whole) => whole,
+                Err(AllocError) => unfitting(rt.alloc(), *count)?,
+            };
+            assert_eq!(rt; whole, Whole::Stopped(*count));
         }
     }
     Ok(())
 }
 
-// The marks of a text cut after each byte: their joined structure, its copy, and what it comes to over open containers.
-fn check<R: Abort>(rt: &R, alloc: Global, lines: &mut Lines, input: Input) -> Result<(), Fail> {
-    let (text, containers, whole) = input;
+// What so many opening marks come to, and a closing one that fits none of them. A mark that is refused is given again.
+fn unfitting(alloc: Global, count: usize) -> Result<Whole, AllocError> {
+    let mut stack = KnownStack::new(alloc, Depth::default());
+    for at in 0..count {
+        push_again(&mut stack, mark(MarkKind::OpenArray, at))?;
+    }
+    stack.push(mark(MarkKind::CloseObject, count))?;
+    Ok(stack.whole())
+}
+
+// One more mark, given again where it is refused.
+fn push_again(stack: &mut KnownStack, mark: Mark) -> Result<(), AllocError> {
+    match stack.push(mark) {
+        Ok(()) => Ok(()),
+        Err(_) => stack.push(mark),
+    }
+}
+
+// The marks of a text cut after each byte. Where something is refused but the join, all of it is made again.
+fn check<R: Abort>(rt: &R, alloc: Global, lines: &mut Lines, input: &Input) -> Result<(), Fail> {
+    let (text, containers, whole) = *input;
     let depth = Depth::new(containers).ok_or("a depth")?;
     for cut in 0..=text.len() {
         if lines.takes_next() {
-            let marks = marks_again(alloc, text)?;
-            let both = joined_at(alloc, &marks, count_before(&marks, cut), depth)?;
-            assert_eq!(rt;
-                both.entry(Expect::Value).whole(),
-                whole,
-                "{text:?} cut at {cut}"
-            );
-            assert!(rt; is_copied(&both)?, "{text:?} cut at {cut}");
-            assert!(rt;
-                acts_by_the_table(alloc, &both, &marks)?,
-                "{text:?} cut at {cut}"
-            );
+            let right = match is_right_at(alloc, text, cut, depth, whole) {
+                Ok(right) => right,
+                Err(AllocError) => is_right_at(alloc, text, cut, depth, whole)?,
+            };
+            assert!(rt; right, "{text:?} cut at {cut}");
         }
     }
     Ok(())
 }
 
-/// The marks of a text, asked for twice where they are refused.
-fn marks_again(alloc: Global, text: &[u8]) -> Result<Vec<Mark>, AllocError>
-    ensures { IfOk result (λ marks. RisingFrom 0 marks.items) }
-{
-    match marks_in(alloc, text) {
-        Ok(marks) => Ok(marks),
-        Err(_) => marks_in(alloc, text),
+// Whether the joined structure of the marks before an offset and behind it is what it has to be: its whole, its copy, and what it
+// comes to over open containers.
+fn is_right_at(
+    alloc: Global,
+    text: &[u8],
+    at: usize,
+    depth: Depth,
+    whole: Whole,
+) -> Result<bool, AllocError> {
+    let marks = marks_in(alloc, text)?;
+    match joined_at(alloc, &marks, count_before(&marks, at), depth)? {
+        Some(both) => is_right(alloc, &both, &marks, whole),
+        None => Ok(false),
     }
+}
+
+fn is_right(
+    alloc: Global,
+    both: &Reductions,
+    marks: &[Mark],
+    whole: Whole,
+) -> Result<bool, AllocError> {
+    Ok(
+        both.entry(Expect::Value).whole() == whole
+            && is_same(&both.copy()?, both)
+            && acts_by_the_table(alloc, both, marks)?,
+    )
 }
 
 /// The marks of a text. A byte that can't go on, as a separator, begins anew.
@@ -123,49 +151,13 @@ fn count_before(marks: &[Mark], at: usize) -> usize
     count.min(marks.len())
 }
 
-// Whether a copy, asked for twice where it is refused, shows the same.
-fn is_copied(one: &Reductions) -> Result<bool, AllocError> {
-    let copy = match one.copy() {
-        Ok(copy) => copy,
-        Err(_) => one.copy()?,
-    };
-    Ok(is_same(&copy, one))
-}
-
-// What marks come to over open containers, asked for twice where it is refused.
-fn act_again(one: &Reduced, holders: &[Holder]) -> Result<Outcome, AllocError> {
-    if (one.depth().containers() as usize) < holders.len() {
-        return Err(AllocError);
-    }
-    match one.act(holders) {
-        Ok(outcome) => Ok(outcome),
-        Err(_) => one.act(holders),
-    }
-}
-
-// The same by the table of moves.
-fn table_again(
-    alloc: Global,
-    marks: &[Mark],
-    depth: Depth,
-    expect: Expect,
-    holders: &[Holder],
-) -> Result<Outcome, AllocError> {
-    let depth = depth.containers() as usize;
-    match read_by_table(alloc, marks, depth, expect, holders) {
-        Ok(outcome) => Ok(outcome),
-        Err(_) => read_by_table(alloc, marks, depth, expect, holders),
-    }
-}
-
 const HOLDER_LISTS: [&[Holder]; 2] = [&[], &[Holder::Object, Holder::Array]];
 
 // Whether a structure answers as the table does, from each expectation over no open container and over two.
 fn acts_by_the_table(alloc: Global, all: &Reductions, marks: &[Mark]) -> Result<bool, AllocError> {
-    for expect in EXPECTS {
-        for holders in HOLDER_LISTS {
-            let one = act_again(all.entry(expect), holders)?;
-            if one != table_again(alloc, marks, all.depth(), expect, holders)? {
+    for expect in &EXPECTS {
+        for holders in &HOLDER_LISTS {
+            if !is_by_the_table(alloc, all.entry(*expect), marks, *expect, holders)? {
                 return Ok(false);
             }
         }
@@ -173,10 +165,17 @@ fn acts_by_the_table(alloc: Global, all: &Reductions, marks: &[Mark]) -> Result<
     Ok(true)
 }
 
-// One more mark, given again where it is refused.
-fn push_again(stack: &mut KnownStack, mark: Mark) -> Result<(), AllocError> {
-    match stack.push(mark) {
-        Ok(()) => Ok(()),
-        Err(_) => stack.push(mark),
+fn is_by_the_table(
+    alloc: Global,
+    entry: &Reduced,
+    marks: &[Mark],
+    expect: Expect,
+    holders: &[Holder],
+) -> Result<bool, AllocError> {
+    let depth = entry.depth().containers() as usize;
+    if depth < holders.len() {
+        return Ok(false);
     }
+    let wanted = read_by_table(alloc, marks, depth, expect, holders)?;
+    Ok(entry.act(holders)? == wanted)
 }

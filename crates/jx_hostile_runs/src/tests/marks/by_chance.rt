@@ -1,7 +1,10 @@
 // Lists of marks, given and drawn, are read as by the table, made at once and joined at each place.
+ghost use Rattle.std.specs.Prelude.{◌≤◌, length};
+ghost use Rattle.jx_reduce.specs.Offsets.{RisingFrom};
+
 use crate::tests::marks::lists::{depth_of, joined_at, kind_of, marks_of};
-use crate::tests::marks::table::{BYTES, Chance, EXPECTS, holder_lists, read_by_table};
-use jx_lex::Mark;
+use crate::tests::marks::table::{BYTES, Chance, EXPECTS, HOLDER_LISTS, read_by_table};
+use jx_lex::{Depth, Mark};
 use jx_reduce::{Holder, Reductions, next};
 use std::alloc::{AllocError, Global};
 use std::process::Abort;
@@ -43,7 +46,7 @@ fn more_containers_than_the_depth_are_read_as_by_the_table(rt: HostRuntime) -> R
 // The given lists, and lists by chance.
 fn lists(alloc: Global) -> Result<Vec<Vec<u8>>, AllocError> {
     let mut lists = Vec::new(alloc);
-    for text in GIVEN {
+    for text in &GIVEN {
         lists.push(Vec::from_slice(alloc, text.as_bytes())?)?;
     }
     let mut chance = Chance { seed: 1 };
@@ -56,17 +59,17 @@ fn lists(alloc: Global) -> Result<Vec<Vec<u8>>, AllocError> {
 // Twice 260 arrays, of which the second ones are not closed.
 fn towers(alloc: Global) -> Result<Vec<u8>, AllocError> {
     let mut text = Vec::new(alloc);
-    for byte in [b'[', b']', b']', b'['] {
-        text.resize(text.len().saturating_add(260), byte)?;
+    for byte in &[b'[', b']', b']', b'['] {
+        text.resize(text.len().saturating_add(260), *byte)?;
     }
     Ok(text)
 }
 
 // A list within each depth.
 fn check<R: Abort>(rt: &R, alloc: Global, text: &[u8]) -> Result<(), Fail> {
-    for containers in DEPTHS {
+    for containers in &DEPTHS {
         assert!(rt;
-            is_as_read_at_each_cut(alloc, text, containers)?,
+            is_as_read_at_each_cut(alloc, text, *containers)?,
             "{text:?} within {containers}"
         );
     }
@@ -74,27 +77,42 @@ fn check<R: Abort>(rt: &R, alloc: Global, text: &[u8]) -> Result<(), Fail> {
 }
 
 // Whether the structure of these marks answers as the table does, made at once and joined at each place.
-fn is_as_read_at_each_cut(alloc: Global, text: &[u8], containers: u32) -> Result<bool, Fail> {
+fn is_as_read_at_each_cut(alloc: Global, text: &[u8], containers: u32) -> Result<bool, AllocError> {
     let marks = marks_of(alloc, text)?;
-    let all = Reductions::of(alloc, &marks, depth_of(containers))?;
+    let depth = depth_of(containers);
+    let all = Reductions::of(alloc, &marks, depth)?;
     let mut same = is_as_read(alloc, &all, &marks)?;
     for cut in 0..marks.len() + 1 {
-        let both = joined_at(alloc, &marks, cut, depth_of(containers))?;
-        same = is_as_read(alloc, &both, &marks)? && same;
+        same = is_joined_as_read(alloc, &marks, cut, depth)? && same;
     }
     Ok(same)
+}
+
+fn is_joined_as_read(
+    alloc: Global,
+    marks: &[Mark],
+    cut: usize,
+    depth: Depth,
+) -> Result<bool, AllocError>
+    requires rising { RisingFrom 0 marks.now }
+    requires cut { cut ≤ length marks.now }
+{
+    match joined_at(alloc, marks, cut, depth)? {
+        Some(both) => is_as_read(alloc, &both, marks),
+        None => Ok(false),
+    }
 }
 
 // Whether the structure answers as the table does, from each expectation and over each list of at most three containers.
 fn is_as_read(alloc: Global, all: &Reductions, marks: &[Mark]) -> Result<bool, AllocError> {
     let depth = all.depth().containers() as usize;
-    for expect in EXPECTS {
-        for holders in holder_lists() {
+    for expect in &EXPECTS {
+        for holders in &HOLDER_LISTS {
             if depth < holders.len() {
                 continue;
             }
-            let one = all.entry(expect).act(holders)?;
-            let other = read_by_table(alloc, marks, depth, expect, holders)?;
+            let one = all.entry(*expect).act(holders)?;
+            let other = read_by_table(alloc, marks, depth, *expect, holders)?;
             if one != other {
                 return Ok(false);
             }

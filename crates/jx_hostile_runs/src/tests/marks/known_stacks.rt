@@ -18,11 +18,11 @@ struct Case {
 #[test]
 fn drawn_lists_come_to_what_reductions_come_to(rt: HostRuntime) -> Result<(), Fail> {
     let mut cases = Vec::new(rt.alloc());
-    for containers in DEPTHS {
-        add_drawn(rt.alloc(), &mut cases, containers)?;
+    for containers in &DEPTHS {
+        add_drawn(rt.alloc(), &mut cases, *containers)?;
     }
-    for count in COUNTS {
-        add_nested(rt.alloc(), &mut cases, count)?;
+    for count in &COUNTS {
+        add_nested(rt.alloc(), &mut cases, *count)?;
     }
     for case in &cases {
         assert!(rt;
@@ -58,12 +58,12 @@ const ENDED: Whole = Whole::Went {
 
 // So many containers, each in the one before, which are arrays or objects by several patterns.
 fn add_nested(alloc: Global, cases: &mut Vec<Case>, count: u32) -> Result<(), AllocError> {
-    for pattern in [0, 1, 0x8000_0000_0000_0001, 0xaaaa_aaaa_aaaa_aaaa, u64::MAX] {
-        for containers in [count, 64, 65, 128] {
+    for pattern in &[0, 1, 0x8000_0000_0000_0001, 0xaaaa_aaaa_aaaa_aaaa, u64::MAX] {
+        for containers in &[count, 64, 65, 128] {
             cases.push(Case {
-                text: nested(alloc, count as usize, pattern)?,
-                containers,
-                whole: if containers < count {
+                text: nested(alloc, count as usize, *pattern)?,
+                containers: *containers,
+                whole: if *containers < count {
                     None
                 } else {
                     Some(ENDED)

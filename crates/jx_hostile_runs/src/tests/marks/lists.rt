@@ -1,13 +1,11 @@
 // Marks and their structures.
-ghost use Rattle.std.specs.Prelude.{◌≡◌, ◌≤◌, ◌<◌, ℕ, IfOk, length};
-ghost use Rattle.jx_reduce.specs.Offsets.{EachIn, RisingFrom};
-ghost use Rattle.jx_reduce.specs.Reductions.{SpansIn};
+ghost use Rattle.std.specs.Prelude.{◌≡◌, ◌≤◌, IfOk, length};
+ghost use Rattle.jx_reduce.specs.Offsets.{RisingFrom};
 
 use crate::tests::marks::table::{EXPECTS, HOLDERS};
 use jx_lex::{Depth, JoinFault, Mark, MarkKind};
 use jx_reduce::{Reduced, Reductions};
 use std::alloc::{AllocError, Global};
-use std::test::Fail;
 
 /// The mark of this kind at an offset.
 pub(crate) fn mark(kind: MarkKind, at: usize) -> Mark
@@ -49,22 +47,6 @@ pub(crate) fn marks_of(alloc: Global, text: &[u8]) -> Result<Vec<Mark>, AllocErr
     Ok(marks)
 }
 
-/// The structure of marks, asked for twice where it is refused.
-pub(crate) fn structure_of(
-    alloc: Global,
-    marks: &[Mark],
-    depth: Depth,
-) -> Result<Reductions, AllocError>
-    requires rising { RisingFrom 0 marks.now }
-    ensures depth { IfOk result (λ f. f.depth ≡ depth) }
-    ensures offsets { IfOk result (λ f. (low high : ℕ) → EachIn (λ m. (low ≤ m.at) × (m.at < high)) marks.now → SpansIn low high f) }
-{
-    match Reductions::of(alloc, marks, depth) {
-        Ok(structure) => Ok(structure),
-        Err(_) => Reductions::of(alloc, marks, depth),
-    }
-}
-
 /// Whether both show the same levels, containers, exits and heights, from each expectation. It takes no memory.
 fn shows_the_same(one: &Reduced, other: &Reduced) -> bool {
     one.level_count() == other.level_count()
@@ -93,8 +75,8 @@ fn are_both_parts(
     requires rising { RisingFrom 0 marks.now }
     requires cut { cut ≤ length marks.now }
 {
-    let first = structure_of(alloc, &marks[..cut], left.depth())?;
-    let second = structure_of(alloc, &marks[cut..], left.depth())?;
+    let first = Reductions::of(alloc, &marks[..cut], left.depth())?;
+    let second = Reductions::of(alloc, &marks[cut..], left.depth())?;
     Ok(is_same(left, &first) && is_same(right, &second))
 }
 
@@ -105,23 +87,19 @@ pub(crate) fn joined_at(
     marks: &[Mark],
     cut: usize,
     depth: Depth,
-) -> Result<Reductions, Fail>
+) -> Result<Option<Reductions>, AllocError>
     requires rising { RisingFrom 0 marks.now }
     requires cut { cut ≤ length marks.now }
-    ensures { IfOk result (λ r. r.depth ≡ depth) }
 {
-    let left = structure_of(alloc, &marks[..cut], depth)?;
-    let right = structure_of(alloc, &marks[cut..], depth)?;
+    let left = Reductions::of(alloc, &marks[..cut], depth)?;
+    let right = Reductions::of(alloc, &marks[cut..], depth)?;
     match left.join(right) {
-        Ok(both) => Ok(both),
+        Ok(both) => Ok(Some(both)),
         Err(JoinFault { left, right }) => {
             if !are_both_parts(alloc, marks, cut, &left, &right)? {
-                return Err("two sides as they were".into());
+                return Ok(None);
             }
-            match left.join(right) {
-                Ok(both) => Ok(both),
-                Err(_) => Err("a join with memory".into()),
-            }
+            Ok(left.join(right).ok())
         }
     }
 }

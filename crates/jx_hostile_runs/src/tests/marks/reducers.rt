@@ -4,7 +4,7 @@ ghost use Rattle.jx_reduce.specs.Offsets.{EachIn, RisingFrom};
 ghost use Rattle.jx_reduce.specs.Reductions.{SpansIn};
 
 use crate::tests::marks::lists::{depth_of, kind_of, marks_of};
-use crate::tests::marks::table::{A, BYTES, Chance, EXPECTS, O, holder_lists, read_by_table};
+use crate::tests::marks::table::{A, BYTES, Chance, EXPECTS, HOLDER_LISTS, O, read_by_table};
 use jx_lex::{Depth, Mark};
 use jx_reduce::{Expect, Holder, Outcome, Reducer, Reductions, next};
 use std::alloc::{AllocError, Global};
@@ -18,11 +18,11 @@ fn long_lists_with_frequent_faults_are_reduced_as_by_the_table(
     rt: HostRuntime,
 ) -> Result<(), Fail> {
     let mut chance = Chance { seed: 7 };
-    for containers in [0u32, 1, 2, 3, 512] {
-        for faults in [8usize, 150, 600, 100_000] {
-            let text = with_faults(rt.alloc(), &mut chance, containers, faults)?;
+    for containers in &[0u32, 1, 2, 3, 512] {
+        for faults in &[8usize, 150, 600, 100_000] {
+            let text = with_faults(rt.alloc(), &mut chance, *containers, (*faults).max(1))?;
             assert!(rt;
-                is_as_read_at_each_cut(rt.alloc(), &text, containers)?,
+                is_as_read_at_each_cut(rt.alloc(), &text, *containers)?,
                 "depth {containers}, a fault in {faults}"
             );
         }
@@ -56,13 +56,13 @@ fn with_faults(
 // Strings alone, and in front of what may stand behind them.
 fn lists_of_strings(alloc: Global) -> Result<Vec<Vec<u8>>, AllocError> {
     let mut lists = Vec::new(alloc);
-    for count in [0usize, 1, 2, 3, 511, 512, 513, LONG] {
-        lists.push(strings(alloc, count)?)?;
+    for count in &[0usize, 1, 2, 3, 511, 512, 513, LONG] {
+        lists.push(strings(alloc, *count)?)?;
     }
     let mut chance = Chance { seed: 8 };
-    for count in [1usize, 2, 511, 512, 600] {
-        for expect in [Expect::After, Expect::Colon] {
-            lists.push(long_behind_strings(alloc, &mut chance, count, expect)?)?;
+    for count in &[1usize, 2, 511, 512, 600] {
+        for expect in &[Expect::After, Expect::Colon] {
+            lists.push(long_behind_strings(alloc, &mut chance, *count, *expect)?)?;
         }
     }
     Ok(lists)
@@ -118,10 +118,10 @@ fn reduced_of(alloc: Global, marks: &[Mark], depth: Depth) -> Result<Reductions,
 fn all_by_table(alloc: Global, marks: &[Mark], depth: Depth) -> Result<Vec<Outcome>, AllocError> {
     let most = depth.containers() as usize;
     let mut outcomes = Vec::new(alloc);
-    for expect in EXPECTS {
-        for holders in holder_lists() {
+    for expect in &EXPECTS {
+        for holders in &HOLDER_LISTS {
             if holders.len() <= most {
-                outcomes.push(read_by_table(alloc, marks, most, expect, holders)?)?;
+                outcomes.push(read_by_table(alloc, marks, most, *expect, holders)?)?;
             }
         }
     }
@@ -132,12 +132,12 @@ fn all_by_table(alloc: Global, marks: &[Mark], depth: Depth) -> Result<Vec<Outco
 fn answers(all: &Reductions, wanted: &[Outcome]) -> Result<bool, AllocError> {
     let most = all.depth().containers() as usize;
     let mut wanted = wanted.iter();
-    for expect in EXPECTS {
-        for holders in holder_lists() {
+    for expect in &EXPECTS {
+        for holders in &HOLDER_LISTS {
             if most < holders.len() {
                 continue;
             }
-            let outcome = all.entry(expect).act(holders)?;
+            let outcome = all.entry(*expect).act(holders)?;
             if wanted.next() != Some(&outcome) {
                 return Ok(false);
             }

@@ -23,25 +23,23 @@ pub(crate) const A: Holder = Holder::Array;
 pub(crate) const O: Holder = Holder::Object;
 
 // Every list of at most three containers.
-pub(crate) fn holder_lists() -> [&'static [Holder]; 15] {
-    [
-        &[],
-        &[A],
-        &[O],
-        &[A, A],
-        &[A, O],
-        &[O, A],
-        &[O, O],
-        &[A, A, A],
-        &[A, A, O],
-        &[A, O, A],
-        &[A, O, O],
-        &[O, A, A],
-        &[O, A, O],
-        &[O, O, A],
-        &[O, O, O],
-    ]
-}
+pub(crate) const HOLDER_LISTS: [&[Holder]; 15] = [
+    &[],
+    &[A],
+    &[O],
+    &[A, A],
+    &[A, O],
+    &[O, A],
+    &[O, O],
+    &[A, A, A],
+    &[A, A, O],
+    &[A, O, A],
+    &[A, O, O],
+    &[O, A, A],
+    &[O, A, O],
+    &[O, O, A],
+    &[O, O, O],
+];
 
 // What the marks come to by the table of moves, one mark at a time.
 pub(crate) fn read_by_table(

@@ -1,28 +1,23 @@
-use Rattle.std.proofs.Common.{◌+◌, List, drop, map, refl, sym, ap, ◌∙◌}
-use Rattle.jx_index.specs.inside.Seeking.{Sight, all_told, sights}
-use Rattle.jx_index.proofs.Seeking.{all_done, all_on}
+use Rattle.std.proofs.Common.{refl, sym, ◌∙◌}
+use Rattle.jx_index.specs.inside.Found.{finding}
+use Rattle.jx_index.proofs.FindersKeeping.{all_done, all_step}
 use Rattle.jx_index.proofs.finders.note_rest.Goals as goal
 
 pub loop-mark-init : goal.loop-mark-init
-loop-mark-init c = λ r. (r, refl)
+loop-mark-init c = record { noted = λ t r. refl; ready = λ t r. r }
 
 pub loop-mark-preserved : goal.loop-mark-preserved
-loop-mark-preserved c = λ r.
-    let text = c.args.text.now in
-    let last = c.args.last in
-    let marks = c.args.marks.now in
+loop-mark-preserved c =
     let l = c.loop-mark in
-    let after = c.later_ends-left.result.now in
-    let inv = l.invariant r in
-    let s = c.in_ok-mark.ensures inv.0 in (
-      s.0,
-      ap (λ (xs : List Sight). map (all_told text last (drop (l.mark-index + 1) marks) after) xs) s.1
-          ∙ all_on text last l.mark-index marks l.left.now after c.first_end-end.result _ c.loop-mark-test.true c.later_ends-left.ensures c.first_end-end.ensures (sights l.seekers)
-          ∙ inv.1,
-    )
+    record {
+      noted = λ t r.
+          all_step c.args.text.now c.args.edges.now c.args.last l.mark-index c.args.marks.now l.left.now c.later_ends-left.result.now c.first_end-end.result (finding l.seeker.state) (finding c.mark.new.self.state) _
+          c.loop-mark-test.true c.later_ends-left.ensures c.first_end-end.ensures (c.in_ok-mark.ensures.noted t (l.invariant.ready t r))
+          ∙ l.invariant.noted t r;
+      ready = λ t r. c.in_ok-mark.ensures.next t (l.invariant.ready t r);
+    }
 
 pub returns : goal.returns
-returns c = λ r.
+returns c = λ t r.
     let l = c.loop-mark in
-    let inv = l.invariant r in
-    (inv.0, sym (all_done c.args.text.now c.args.last l.mark-index c.args.marks.now l.left.now c.loop-mark-test.false (sights l.seekers)) ∙ inv.1)
+    sym (all_done c.args.text.now c.args.edges.now c.args.last l.mark-index c.args.marks.now l.left.now (finding l.seeker.state) c.loop-mark-test.false) ∙ l.invariant.noted t r

@@ -1,4 +1,4 @@
-use Rattle.jx_run.specs.declared.element_verdict.JudgedElement.{JudgedElement}
+use Rattle.jx_run.specs.declared.sequences.element_verdict.JudgedElement.{JudgedElement}
 use Rattle.jx_index.proofs.RefusedNames.{has_text, judged_unless_named, left_so, span_ordered, span_within}
 use Rattle.jx_index.proofs.judging.element_by_names.Goals as goal
 

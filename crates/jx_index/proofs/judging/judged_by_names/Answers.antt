@@ -1,7 +1,7 @@
 use Rattle.std.proofs.Common.{◌≡◌, ℕ, suc, ◌+◌, ◌<◌, List, length, refl, sym, subst, ◌∙◌, arith}
 use Rattle.std.specs.Prelude.{slice_set}
 use Rattle.std.proofs.lemmas.List.{length-set}
-use Rattle.jx_run.specs.declared.element_verdict.JudgedElement.{JudgedElement}
+use Rattle.jx_run.specs.declared.sequences.element_verdict.JudgedElement.{JudgedElement}
 use Rattle.jx_run.specs.Elements.{Part}
 use Rattle.jx_run.specs.MarkAlone.{elements_by}
 use Rattle.jx_index.specs.ByNames.{IsJudgedBy}

@@ -8,7 +8,7 @@ use Rattle.jx_index.proofs.Ties.{Leads, at_last, tie_step, no_more_ties}
 use Rattle.jx_index.proofs.repeats.first_tie.Goals as goal
 
 pub loop-at-preserved : goal.loop-at-preserved
-loop-at-preserved g c =
+loop-at-preserved c =
     let text = c.args.text.now in
     let rows = c.args.rows.now in
     let names : List ℕ = c.args.names.now in
@@ -27,7 +27,7 @@ loop-at-preserved g c =
     (tie_step 0 (name_units text rows) (λ node. start_in (name_at rows node)) names at (at + 1) a b c.loop-at.first c.start_of_tie-tie.result low next a_is b_is c.start_of_tie-tie.ensures c.loop-at.invariant)
 
 pub returns : goal.returns
-returns g c =
+returns c =
     let text = c.args.text.now in
     let rows = c.args.rows.now in
     let names : List ℕ = c.args.names.now in

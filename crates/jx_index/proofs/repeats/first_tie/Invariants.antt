@@ -5,4 +5,4 @@ use Rattle.jx_index.proofs.repeats.first_tie.Given as goal
 
 -- what was found, with the first tie among the names that are left
 abbrev pub invariant-loop-at : goal.invariant-loop-at
-invariant-loop-at g l = Leads (IsRowTie l.text l.rows l.names) (IsRowTie l.text l.rows (drop l.at l.names)) l.first
+invariant-loop-at l = Leads (IsRowTie l.text l.rows l.names) (IsRowTie l.text l.rows (drop l.at l.names)) l.first

@@ -1,6 +1,6 @@
 use Rattle.std.proofs.Common.{sym}
 use Rattle.std.proofs.lemmas.Result.{IfErr-weaker, IfOk-weaker}
-use Rattle.jx_run.specs.declared.verdict.Verdict.TheVariants.{Refused}
+use Rattle.jx_run.specs.declared.texts.verdict.Verdict.TheVariants.{Refused}
 use Rattle.jx_index.proofs.RowsAlone.{rows_behind}
 use Rattle.jx_index.proofs.rows_alone.rows_behind_front.Goals as goal
 

@@ -13,7 +13,7 @@ returns-clause-read g c =
     let on = c.in_ok-behind in
     let s = c.args.state.now in
     let t = digits.new.state in
-    let old = g.K.Keeper.has_seen c.args.keeper.now in
-    let new = g.K.Keeper.has_seen c.comma.new.keeper in
+    let old = g.K.TokenSink.has_seen c.args.sink.now in
+    let new = g.K.TokenSink.has_seen c.comma.new.sink in
     goes-then xs from digits.result on.behind s t c.comma.new.state old old new b.0 on.ensures.bounds.0 (omega (arith, b, fits))
     (goes-led old s t from (slice_range xs from digits.result) digits.ensures.led) on.ensures.read

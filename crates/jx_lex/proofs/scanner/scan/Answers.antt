@@ -9,14 +9,14 @@ use Rattle.jx_lex.proofs.scanner.scan.Goals as goal
 pub loop-i-init : goal.loop-i-init
 loop-i-init g c =
     let b = c.requires in
-    record { low = omega arith; high = b.0; sound = c.known_ahead-ahead.ensures.sound c.args.text.now; read = goes-none c.args.text.now c.args.from c.args.state (g.K.Keeper.has_seen c.args.keeper.now) }
+    record { low = omega arith; high = b.0; sound = c.known_ahead-ahead.ensures.sound c.args.text.now; read = goes-none c.args.text.now c.args.from c.args.state (g.K.TokenSink.has_seen c.args.sink.now) }
 
 pub returns-then-is_done-clause-seen : goal.returns-then-is_done-clause-seen
 returns-then-is_done-clause-seen g c =
     let v = c.loop-i.invariant in
-    let seen = g.K.Keeper.has_seen c.loop-i.keeper in
+    let seen = g.K.TokenSink.has_seen c.loop-i.sink in
     let rest = lex c.loop-i.state c.loop-i.i (slice_range c.args.text.now c.loop-i.i c.args.to) in
-    sees-then c.args.text.now c.args.from c.loop-i.i c.args.to c.args.state c.loop-i.state (g.K.Keeper.has_seen c.args.keeper.now) seen seen v.low v.high (let fits = c.requires.1 in omega (arith, fits, v.high)) v.read
+    sees-then c.args.text.now c.args.from c.loop-i.i c.args.to c.args.state c.loop-i.state (g.K.TokenSink.has_seen c.args.sink.now) seen seen v.low v.high (let fits = c.requires.1 in omega (arith, fits, v.high)) v.read
     (λ marks ends h. c.if-is_done.ensures refl marks rest.marks ends rest.ends h)
 
 pub returns-in_default-clause-seen : goal.returns-in_default-clause-seen
@@ -25,9 +25,9 @@ returns-in_default-clause-seen g c =
     let xs = c.args.text.now in
     let i = c.loop-i.i in
     let fits = c.requires.1 in
-    let mid = g.K.Keeper.has_seen c.loop-i.keeper in
-    let new = g.K.Keeper.has_seen c.take_byte.new.keeper in
-    sees-then xs c.args.from i c.args.to c.args.state c.loop-i.state (g.K.Keeper.has_seen c.args.keeper.now) mid new v.low v.high (omega (arith, fits, v.high)) v.read
+    let mid = g.K.TokenSink.has_seen c.loop-i.sink in
+    let new = g.K.TokenSink.has_seen c.take_byte.new.sink in
+    sees-then xs c.args.from i c.args.to c.args.state c.loop-i.state (g.K.TokenSink.has_seen c.args.sink.now) mid new v.low v.high (omega (arith, fits, v.high)) v.read
     (sees-same mid new _ _ (fault-at xs i c.args.to c.loop-i.state c.loop-i-test.true fits (sym c.in_ok-next.ensures.next ∙ c.in_default.is)) c.in_ok-next.ensures.seen)
 
 pub returns-in_default-clause-exit : goal.returns-in_default-clause-exit
@@ -49,10 +49,10 @@ loop-i-preserved g c =
     let on = c.in_ok-end in
     let b = on.ensures.bounds in
     let low = v.low in
-    let first = g.K.Keeper.has_seen c.args.keeper.now in
-    let old = g.K.Keeper.has_seen c.loop-i.keeper in
-    let mid = g.K.Keeper.has_seen c.take_byte.new.keeper in
-    let new = g.K.Keeper.has_seen c.read_rest.new.keeper in
+    let first = g.K.TokenSink.has_seen c.args.sink.now in
+    let old = g.K.TokenSink.has_seen c.loop-i.sink in
+    let mid = g.K.TokenSink.has_seen c.take_byte.new.sink in
+    let new = g.K.TokenSink.has_seen c.read_rest.new.sink in
     let byte : GoesTo old mid (lex c.loop-i.state i (slice_range xs i (i + 1))) c.in-Some.next =
     goes-byte xs i c.loop-i.state c.in-Some.next old mid (omega (arith, fits, c.loop-i-test.true)) c.in_ok-next.ensures.seen (sym c.in_ok-next.ensures.next ∙ c.in-Some.is) in
     record {

@@ -14,9 +14,9 @@ returns-then-text-end-eq34-clause-read g c =
     let b = s.ensures.bounds in
     let e = s.result in
     let xs = c.args.text.now in
-    let old = g.K.Keeper.has_seen c.args.keeper.now in
-    let mid = g.K.Keeper.has_seen c.end.new.self in
-    let new = g.K.Keeper.has_seen c.colon.new.keeper in
+    let old = g.K.TokenSink.has_seen c.args.sink.now in
+    let mid = g.K.TokenSink.has_seen c.end.new.self in
+    let new = g.K.TokenSink.has_seen c.colon.new.sink in
     let k = c.in_ok-behind.ensures.bounds in
     let fits = c.requires.bounds.1 in
     goes-then xs c.args.from (e + 1) c.in_ok-behind.behind state.Str state.Gap state.Gap old mid new (omega (arith, b)) k.0 (omega (arith, fits, k))
@@ -26,7 +26,7 @@ returns-then-text-end-eq34-clause-read g c =
 
 pub returns-clause-read : goal.returns-clause-read
 returns-clause-read g c =
-    let seen = g.K.Keeper.has_seen c.args.keeper.now in
+    let seen = g.K.TokenSink.has_seen c.args.sink.now in
     let w = slice_range c.args.text.now c.args.from c.string_end_ahead-end.result in
     subst (λ (t : LexState). GoesTo seen seen (lex state.Str c.args.from w) t) (sym c.requires.inside)
     (goes-led seen state.Str state.Str c.args.from w c.string_end_ahead-end.ensures.led)

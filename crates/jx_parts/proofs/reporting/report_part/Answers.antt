@@ -10,8 +10,8 @@ carried (Err e) holds goes = holds
 
 pub returns-clause-ok : goal.returns-clause-ok
 returns-clause-ok g c =
-    let read = c.in-Ok.ensures.ok in
-    let Written = IsWritten (Appends (g.W.Sink.contents c.args.writer.now) (g.W.Sink.contents c.write_record.new.writer)) c.in-Ok.portion in
+    let read = c.in_ok-portion.ensures.ok in
+    let Written = IsWritten (Appends (g.W.Sink.contents c.args.writer.now) (g.W.Sink.contents c.write_record.new.writer)) c.in_ok-portion.portion in
     carried {A = Written} c.write_record.result c.write_record.ensures.ok (λ written. record {
       text = read.text;
       output = written.output;
@@ -22,7 +22,7 @@ returns-clause-ok g c =
 
 pub returns-clause-beginning : goal.returns-clause-beginning
 returns-clause-beginning g c = λ is.
-    let read = c.in-Ok.ensures.ok in
+    let read = c.in_ok-portion.ensures.ok in
     let written = c.write_record.ensures.beginning is in
     record {
       text = read.text;

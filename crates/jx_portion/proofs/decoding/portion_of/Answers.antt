@@ -12,7 +12,7 @@ returns-in_err-structures-clause-fault c =
 pub returns-in-Some-clause-made : goal.returns-in-Some-clause-made
 returns-in-Some-clause-made c =
     let place : unwrap_or c.args.parts.from 0 + c.args.parts.end < 2 ^ 64 = search rules in
-    read_is c.args.depth c.args.parts.from c.args.parts.end c.args.parts.ways.items c.args.parts.structures.items c.in_ok-structures.structures.items c.in-Some.run' c.in_ok-structures.ensures.made.0 c.in_ok-structures.ensures.made.1
+    read_is c.args.depth c.args.parts.from c.args.parts.end c.args.parts.transitions.items c.args.parts.structures.items c.in_ok-structures.structures.items c.in-Some.run' c.in_ok-structures.ensures.made.0 c.in_ok-structures.ensures.made.1
     c.in-Some.ensures.0 c.in-Some.ensures.1 place
 
 pub returns-in-None-clause-fault : goal.returns-in-None-clause-fault

@@ -1,7 +1,7 @@
 use Rattle.std.proofs.Common.{map, subst}
 use Rattle.std.specs.Prelude.{string_bytes}
 use Rattle.std.proofs.lemmas.Result.{IfOk-weaker}
-use Rattle.jx_run.specs.declared.settings.Settings.{Settings}
+use Rattle.jx_run.specs.declared.texts.settings.Settings.{Settings}
 use Rattle.jx_report.specs.declared.reply.Reply.{Reply}
 use Rattle.jx_report.specs.Output.{AnswersPointers, TextOutput}
 use Rattle.jx_report.specs.inside.Replies.{reply_exit, reply_output}

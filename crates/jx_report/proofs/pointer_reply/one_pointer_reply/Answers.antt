@@ -1,6 +1,6 @@
 use Rattle.std.proofs.Common.{◌≡◌, List, [], ◌∷◌, ◌++◌, ap, subst, ◌∙◌}
 use Rattle.std.specs.Prelude.{Result, Ok}
-use Rattle.jx_run.specs.declared.verdict.Refusal.{Refusal}
+use Rattle.jx_run.specs.declared.texts.verdict.Refusal.{Refusal}
 use Rattle.jx_index.specs.declared.find_fault.FindFault.{FindFault}
 use Rattle.jx_index.specs.declared.finder.Found.{Found}
 use Rattle.jx_index.specs.Found.{IsFoundBy}

@@ -1,6 +1,6 @@
 use Rattle.jx_report.proofs.Answers.{judged_output}
 use Rattle.jx_report.proofs.reply.sequence_reply.Goals as goal
 
-pub returns-in-Ok-judge_sequence_with : goal.returns-in-Ok-judge_sequence_with
-returns-in-Ok-judge_sequence_with g c =
-    judged_output c.args.text.now c.args.command.now.settings c.in-Ok-judge_sequence_with.elements.items c.in-Ok-judge_sequence_with.ensures.elements
+pub returns : goal.returns
+returns g c =
+    judged_output c.args.text.now c.args.settings.now c.in_ok-elements.elements.items c.in_ok-elements.ensures.elements

@@ -12,8 +12,8 @@ returns-clause-beginning g c = λ is.
     let mid = contents c.write_lines.new.writer in
     let new = contents c.write_all.new.writer in
     let waiting : List ℕ = c.write_lines.new.out.items in
-    let bytes : List ℕ = c.in-Ok.out.items ++ reply_output c.args.reply.now in
+    let bytes : List ℕ = c.in_ok-out.out.items ++ reply_output c.args.reply.now in
     let beginning : AppendsBeginning mid new c.deref.result.now =
     subst (λ r. OnErr r (AppendsBeginning mid new c.deref.result.now)) is c.write_all.ensures.err in
-    subst (λ (x : List ℕ). AppendsBeginning old new x) (ap (λ (x : List ℕ). x ++ reply_output c.args.reply.now) c.in-Ok.ensures.items)
+    subst (λ (x : List ℕ). AppendsBeginning old new x) (ap (λ (x : List ℕ). x ++ reply_output c.args.reply.now) c.in_ok-out.ensures.items)
     (put_in_part old mid waiting bytes c.in_ok-write_lines.ensures.ok new (subst (λ (x : List ℕ). AppendsBeginning mid new x) c.deref.ensures.value beginning))

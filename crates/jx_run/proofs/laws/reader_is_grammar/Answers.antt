@@ -1,4 +1,5 @@
 use Rattle.jx_run.proofs.LawProofs.{begins_law, sound_law, complete_law, first_fault_law, too_deep_law, verdict_law}
+use Rattle.jx_run.proofs.ReaderFeeds.{judged_read}
 use Rattle.jx_run.proofs.laws.reader_is_grammar.Goals as goal
 
 pub returns-clause-begins : goal.returns-clause-begins
@@ -18,3 +19,6 @@ returns-clause-too_deep c = too_deep_law (record { reads = c.tokens_are_read.ens
 
 pub returns-clause-verdict : goal.returns-clause-verdict
 returns-clause-verdict c = verdict_law (record { reads = c.tokens_are_read.ensures.reads; tokens = c.tokens_are_read.ensures.tokens; stays = c.tokens_are_read.ensures.stays; steps = c.tokens_are_read.ensures.steps; gaps = c.tokens_are_read.ensures.gaps })
+
+pub returns-clause-by_settings : goal.returns-clause-by_settings
+returns-clause-by_settings c = judged_read (record { reads = c.tokens_are_read.ensures.reads; tokens = c.tokens_are_read.ensures.tokens; stays = c.tokens_are_read.ensures.stays; steps = c.tokens_are_read.ensures.steps; gaps = c.tokens_are_read.ensures.gaps })

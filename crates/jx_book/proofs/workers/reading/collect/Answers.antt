@@ -5,8 +5,8 @@ use Rattle.std.proofs.lemmas.List.Sums.{sum_by_push}
 use Rattle.std.proofs.lemmas.List.Elements.{All-push}
 use Rattle.jx_claim.specs.Claimed.{SeatValue}
 use Rattle.jx_claim.specs.Cut.{drawn_len}
-use Rattle.jx_book.specs.declared.workers.worker_end.WorkerEnd.{WorkerEnd}
-use Rattle.jx_book.specs.declared.workers.worker_stop.WorkerStop.{WorkerStop}
+use Rattle.jx_book.specs.declared.workers.worker.WorkerEnd.{WorkerEnd}
+use Rattle.jx_book.specs.declared.workers.worker.WorkerStop.{WorkerStop}
 use Rattle.jx_book.specs.Shares.{ShareValue}
 use Rattle.jx_book.specs.inside.Balance.{Balances, IsHandedBack}
 use Rattle.jx_book.proofs.Alls.{front_of, last_of}

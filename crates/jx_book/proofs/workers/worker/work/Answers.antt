@@ -1,6 +1,6 @@
 use Rattle.std.proofs.Common.{◌≡◌, sym, subst}
 use Rattle.jx_claim.specs.Claimed.{SeatValue}
-use Rattle.jx_book.specs.declared.workers.hand.Hand.{Hand}
+use Rattle.jx_book.specs.declared.workers.worker.Hand.{Hand}
 use Rattle.jx_book.specs.Runs.{run_len}
 use Rattle.jx_book.specs.Shares.{ShareValue}
 use Rattle.jx_book.specs.Worked.{hand_len, HandedOver, IsLeft, Worked}

@@ -30,6 +30,7 @@ use Rattle.std.specs.contracts.impls.GlobalAllocator.TheImpl.{ghosts}
 use Rattle.std.specs.declared.option.Option.TheVariants.{None, Some}
 use Rattle.std_alloc.proofs.ResultValues.{and_tt}
 use Rattle.jx_c.proofs.Holding as holding
+use Rattle.jx_c.specs.contracts.held.JxDocument as held
 use Rattle.jx_c.proofs.Unboxing as unboxing
 use Rattle.jx_c.proofs.held.JxDocument.into_unboxed.Code as code
 use Rattle.jx_c.proofs.held.JxDocument.into_unboxed.Statement.{statement}
@@ -47,22 +48,22 @@ abbrev Out : RattleType
 Out = option.the_row To
 
 abbrev stayed : Stays ended.signature.params ended.kept
-stayed = (stay_dropped (plain (λ _. holding.Row)) ended.kept.0, (stay_dropped (plain (λ _. Z)) ended.kept.1.0, tt))
+stayed = (stay_dropped (plain (λ _. held.the_row)) ended.kept.0, (stay_dropped (plain (λ _. Z)) ended.kept.1.0, tt))
 
 pub into_unboxed_spec : {M : Type 1} → statement M
 into_unboxed_spec 𝓤 𝓛 𝓜 𝓡 wired =
     let 𝓣 = tables 𝓤 𝓛.H 𝓜 𝓡 𝓡.env in let c = clauses 𝓛 𝓜.mem 𝓡.returns in let fn = code.function in
-    proved_at 𝓛 ended stayed c 𝓜 𝓡 (Goes-blank 𝓛 0 (plain (λ _. holding.Row)) ended.kept.0 (λ κs x f. tt), (Goes-dropped 𝓛 0 (plain (λ _. Z)) ended.kept.1.0 (λ κs x f. refl), tt))
+    proved_at 𝓛 ended stayed c 𝓜 𝓡 (Goes-blank 𝓛 0 (plain (λ _. held.the_row)) ended.kept.0 (λ κs x f. tt), (Goes-dropped 𝓛 0 (plain (λ _. Z)) ended.kept.1.0 (λ κs x f. refl), tt))
     #self fn (code.unfolded 𝓤 𝓛.H 𝓜 𝓡 wired) (λ z are.
     let Post : Val → SProp 𝓤 = (walk_of 𝓛 ended stayed c).post z in let d = z.0.3.0 in let a = z.0.3.1.0 in
     qed 𝓛 ((raw (alive 𝓛 ended.signature z.0.0 z.0.1) ⊛ ‵ (owns (types_at ended.signature.params z.0.0) z.0.3 z.0.4)) ∷ ‵ ftrue ∷ []) ∵ split ! $ move ! (1 ∷ []) $ fsplit ! $ move ! (1 ∷ []) $ fsplit ! $
     -- [the handle; nothing; the document; the tokens; what is required]
     handle_tells (record { row = Z; laws = heap_laws.the_row_laws; g = ghosts; d = mir.Syntax.impl [] mir.Syntax.tnil mir.Syntax.dnil; drops = mir.Syntax.impl [] mir.Syntax.tnil mir.Syntax.dnil }) ! a z.0.4.1.0 (λ h handle fits. move ! (2 ∷ []) $
-    holding.taken_apart ! d z.0.4.0
+    holding.taken_apart held.the_type.name document.the_row ! d.inside d.held z.0.4.0
     (λ us none.
     -- [the handle; nothing; the tokens; what is required]
     regoal ! (λ (ws : List Val). prop (WpFn 𝓤 𝓛.H 𝓣.C 𝓣.Λ fn ws Post)) (λ i. us i ++ (handle i ++ [])) refl $
-    enter ! 𝓣.C 𝓣.Λ fn (holding.word null_ptr ∷ h ∷ []) Post $ alloc_all ! (λ l. pass_all ! refl (holding.typed null_ptr, (fits, tt)) $ let Ev = env fn.locals l in
+    enter ! 𝓣.C 𝓣.Λ fn (holding.word null_ptr ∷ h ∷ []) Post $ alloc_all ! (λ l. pass_all ! refl (holding.typed held.the_type.name document.the_row null_ptr, (fits, tt)) $ let Ev = env fn.locals l in
     sets ! (of_opd ! (get_in ! (fld ! refl (stop !)) (sub ! 0 refl (whole !)))) refl (tt, record { fits = lit< tt }) $
     sets ! (bin ! (get ! refl) (lit ! tt) tt) refl (tt, tt) $ first ! $ branches ! (get ! refl)
     (λ _. sets_last ! (agg ! (and_then ! (lit ! tt) (no_more !))) refl (tt, (record { fits = lit< tt }, tt)) $
@@ -76,7 +77,7 @@ into_unboxed_spec 𝓤 𝓛 𝓜 𝓡 wired =
     let fine = unboxing.typed document.the_row Z heap_laws.the_row_laws ghosts b o h fits in let good : Good (layout Out) v = (and_tt _ fine.0, (record { fits = lit< tt }, (fine.1, tt))) in
     -- [the memory; the handle; nothing; the tokens; what is required]
     regoal ! (λ (ws : List Val). prop (WpFn 𝓤 𝓛.H 𝓣.C 𝓣.Λ fn ws Post)) (λ i. us i ++ (handle i ++ [])) refl $
-    enter ! 𝓣.C 𝓣.Λ fn (holding.word p ∷ h ∷ []) Post $ alloc_all ! (λ l. pass_all ! refl (holding.typed p, (fits, tt)) $ let Ev = env fn.locals l in
+    enter ! 𝓣.C 𝓣.Λ fn (holding.word p ∷ h ∷ []) Post $ alloc_all ! (λ l. pass_all ! refl (holding.typed held.the_type.name document.the_row p, (fits, tt)) $ let Ev = env fn.locals l in
     sets ! (of_opd ! (get_in ! (fld ! refl (stop !)) (sub ! 0 refl (whole !)))) refl (tt, tt) $
     sets ! (bin ! (get ! refl) (lit ! tt) (tests_null p may)) refl (tt, tt) $ first ! $ branches ! (get ! refl) (λ wrong. absurd wrong)
     (λ _. sets ! (of_opd ! (get ! refl)) refl (tt, tt) $

@@ -22,7 +22,8 @@ use Rattle.std.proofs.raw_atomic.Walks.{leaves, proved_at}
 use Rattle.std.specs.contracts.alloc.Global as heap
 use Rattle.std.specs.contracts.impls.GlobalAllocator.TheImpl.{ghosts}
 use Rattle.std.specs.declared.option.Option.TheVariants.{Some}
-use Rattle.jx_c.proofs.HoldingIndex as holding
+use Rattle.jx_c.proofs.Holding as holding
+use Rattle.jx_c.specs.contracts.held_index.JxIndex as held
 use Rattle.jx_c.proofs.Unboxing as unboxing
 use Rattle.jx_c.proofs.held_index.JxIndex.of.Code as code
 use Rattle.jx_c.proofs.held_index.JxIndex.of.Statement.{statement}
@@ -43,15 +44,15 @@ of_spec 𝓤 𝓛 𝓜 𝓡 wired =
     let Post : Val → SProp 𝓤 = (walk_of 𝓛 ended stayed c).post z in let u = z.0.3.0 in
     qed 𝓛 ((raw (alive 𝓛 ended.signature z.0.0 z.0.1) ⊛ ‵ (owns (types_at ended.signature.params z.0.0) z.0.3 z.0.4)) ∷ ‵ ftrue ∷ []) ∵ split ! $ move ! (1 ∷ []) $ fsplit ! $
     unboxing.taken_apart catalog.the_row heap.the_row heap_laws.the_row_laws ghosts ! u z.0.4.0 (λ b o h e vs fits.
-    let p = block_ptr b o in let made : holding.Row.Denot = record { inside = p; held = Some u.value } in
+    let p = block_ptr b o in let made : held.the_row.Denot = record { inside = p; held = Some u.value } in
     -- [the memory; the handle; nothing; the tokens; what is required]
     regoal ! (λ (us : List Val). prop (WpFn 𝓤 𝓛.H 𝓣.C 𝓣.Λ code.function us Post)) (λ i. vs i ++ []) refl $
     enter ! 𝓣.C 𝓣.Λ code.function (unboxing.word b o h ∷ []) Post $ alloc_all ! (λ l. pass_all ! refl (unboxing.typed catalog.the_row heap.the_row heap_laws.the_row_laws ghosts b o h fits, tt) $
     sets ! (of_opd ! (get_in ! (fld ! refl (stop !)) (sub ! 0 refl (whole !)))) refl (tt, tt) $
     sets ! (of_opd ! (get ! refl)) refl (tt, tt) $
-    sets ! (agg ! (and_then ! (get ! refl) (no_more !))) refl (holding.typed p) $
+    sets ! (agg ! (and_then ! (get ! refl) (no_more !))) refl (holding.typed held.the_type.name catalog.the_row p) $
     returns ! (look_at ! 0 refl) $ free_all ! refl $
-    holding.put_together ! p (Some u.value) $
+    holding.put_together held.the_type.name catalog.the_row ! p (Some u.value) $
     use0 𝓛 (raw (fact 𝓤 (made.held ≡ Some u.value))) (fact_i 𝓤 (made.held ≡ Some u.value) (emp 𝓤) refl) $ nothing ! $ nothing ! $ fjoin ! $
     -- [nothing of the parameter; what is promised; the result; the handle; nothing; the tokens; what is required]
     keep ! (5 ∷ 0 ∷ 2 ∷ 1 ∷ []) $ by ! (leaves 𝓛 ended stayed c z (holding.word p) made (tt, tt) (tt, tt)))))

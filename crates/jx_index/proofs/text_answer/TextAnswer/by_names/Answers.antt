@@ -1,5 +1,5 @@
 use Rattle.std.proofs.Common.{ℕ, Option, None, Some, sym, subst}
-use Rattle.jx_run.specs.declared.settings.NameRule.{NameRule}
+use Rattle.jx_run.specs.declared.texts.settings.NameRule.{NameRule}
 use Rattle.jx_index.specs.Indexed.{IndexedValue}
 use Rattle.jx_index.specs.declared.text_answer.TextAnswer.{TextAnswer}
 use Rattle.jx_index.specs.declared.text_answer.TextAnswer.TheVariants as answer

@@ -1,7 +1,7 @@
 use Rattle.std.proofs.Common.{◌+◌, ◌-◌, sym, ap, ◌∙◌, subst, ⊎_elim, inl, inr}
 use Rattle.jx_summary.specs.declared.span.Span.{Span}
-use Rattle.jx_book.specs.declared.stored.put.Put.{Put}
-use Rattle.jx_book.specs.declared.stored.put.Put.TheVariants.{Touches}
+use Rattle.jx_book.specs.declared.stored.state.Put.{Put}
+use Rattle.jx_book.specs.declared.stored.state.Put.TheVariants.{Touches}
 use Rattle.jx_book.specs.Shares.{share, IsShared}
 use Rattle.jx_book.specs.Puts.{IsPut}
 use Rattle.jx_book.proofs.lock.locked.Locked.put.Goals as goal

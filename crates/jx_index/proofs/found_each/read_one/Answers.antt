@@ -1,0 +1,16 @@
+use Rattle.std.proofs.Common.{List, ap, ◌∙◌}
+use Rattle.jx_index.specs.declared.finder.Met.{Met}
+use Rattle.jx_index.specs.declared.finder.Wanted.{Wanted}
+use Rattle.jx_index.specs.inside.Finding.{met_at, read_root}
+use Rattle.jx_index.specs.inside.Found.{tokens_of}
+use Rattle.jx_index.proofs.found_each.read_one.Goals as goal
+
+pub returns : goal.returns
+returns c = record {
+  wanted = c.in_ok-wanted.wanted.items;
+  wanted_are = c.in_ok-wanted.ensures.tokens;
+  reads = λ trie path way.
+      c.read.ensures
+      ∙ ap (λ (ws : List Wanted). read_root (met_at c.deref-2.result.now 0) c.deref-2.result.now (tokens_of ws)) c.deref.ensures.value
+      ∙ ap (λ (ms : List Met). read_root (met_at ms 0) ms (tokens_of c.in_ok-wanted.wanted.items)) (c.deref-2.ensures.value ∙ c.in_ok-along.ensures trie path way);
+}

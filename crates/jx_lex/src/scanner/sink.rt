@@ -1,0 +1,28 @@
+// What is kept of the tokens that a scan finds.
+ghost use Rattle.std.specs.Prelude.{◌++◌, ◌∷◌, [], ℕ, List, OnOk, IsTrue};
+ghost use Rattle.jx_lex.specs.declared.alphabet.mark.Mark.{Mark};
+ghost use Rattle.jx_lex.specs.Seen.{WantsNoMore};
+
+use crate::alphabet::mark::Mark;
+use std::alloc::AllocError;
+
+/// Takes the tokens that a scan finds. `begin` takes each mark and `end` each end of a string, a number or a literal,
+/// both in the order of the text.
+///
+/// `has_seen` says which marks and ends a sink may have been told of. It may be true of many: a sink need not keep
+/// what it has seen, but only what that comes to.
+pub trait TokenSink {
+    ghost has_seen: { Self → List Mark → List ℕ → Type 0 };
+
+    /// A structural byte, or the first byte of a scalar. Where memory is refused, the sink is of no more use.
+    fn begin(&mut self, mark: Mark) -> Result<(), AllocError>
+        ensures { OnOk result ((marks : List Mark) (ends : List ℕ) → has_seen self.old marks ends → has_seen self.new (marks ++ mark ∷ []) ends) };
+
+    /// The offset just past a scalar's last byte. Where memory is refused, the sink is of no more use.
+    fn end(&mut self, at: usize) -> Result<(), AllocError>
+        ensures { OnOk result ((marks : List Mark) (ends : List ℕ) → has_seen self.old marks ends → has_seen self.new marks (ends ++ at ∷ [])) };
+
+    /// Whether it wants no more: whatever it has seen, it is also what that and anything more comes to.
+    fn is_done(&self) -> bool
+        ensures { IsTrue result → WantsNoMore (has_seen self.now) };
+}

@@ -1,0 +1,26 @@
+use Rattle.std.proofs.Common.{◌≤◌, ◌<◌, ℕ, sym, subst, rules}
+use Rattle.jx_task.specs.declared.task.Task.{Task}
+use Rattle.jx_report.specs.Elements.{judged_lines, exit_past_judged}
+use Rattle.jx_report.specs.Output.{Output}
+use Rattle.jx_report.specs.Reports.{greatest_length}
+use Rattle.jx_report.specs.declared.exit.Exit.TheVariants.{Good}
+use Rattle.jx_report.specs.inside.Batches.{IsReadingOf}
+use Rattle.jx_report.proofs.Answers.{judged_output}
+use Rattle.jx_report.proofs.reading.Reading.into_reply.Goals as goal
+
+pub returns-then-is_err-clause-pieces : goal.returns-then-is_err-clause-pieces
+returns-then-is_err-clause-pieces c = λ is text h.
+    let many : greatest_length c.args.command.now.piece < c.end.result = search rules in
+    subst (λ (n : ℕ). greatest_length c.args.command.now.piece < n) (c.end.ensures.length c.args.command.now.task c.args.command.now.settings text h) many
+
+pub returns-in_ok-elements-in-Elements-clause-ok : goal.returns-in_ok-elements-in-Elements-clause-ok
+returns-in_ok-elements-in-Elements-clause-ok c = λ text h.
+    let task = c.args.command.now.task in
+    let settings = c.args.command.now.settings in
+    let taken = subst (IsReadingOf task settings text) c.in-Elements.is h in
+    let elements = c.in_ok-elements-in-Elements.elements.items in
+    let few : c.end.result ≤ greatest_length c.args.command.now.piece = search rules in (
+      subst (λ (n : ℕ). n ≤ greatest_length c.args.command.now.piece) (c.end.ensures.length task settings text h) few,
+      subst (λ (t : Task). Output t settings text (judged_lines elements) (exit_past_judged Good elements)) (sym taken.0)
+          (judged_output text settings elements (c.in_ok-elements-in-Elements.ensures text taken.1)),
+    )

@@ -1,0 +1,158 @@
+// An input that is read to its end and answered.
+ghost use Rattle.std.specs.Prelude.{◌≡◌, ◌≢◌, ◌<◌, ◌≤◌, ◌^◌, ◌↔◌, ◌++◌, ℕ, List, [], length, take, vec_len, false, true, OnOk, IfOk, IfErr, IsErrOf};
+ghost use Rattle.std.specs.Io.KnownBytes.{Consumes, IsAtEnd};
+ghost use Rattle.jx_run.specs.declared.texts.settings.Settings.{Settings};
+ghost use Rattle.jx_task.specs.declared.task.Task.{Task};
+ghost use Rattle.jx_report.specs.Output.{Output};
+ghost use Rattle.jx_report.specs.Reports.{HasTooManyPieces, IsAnswered};
+ghost use Rattle.jx_report.specs.inside.Batches.{IsFilled, IsReadingOf, ReadsOn};
+ghost use Rattle.jx_report.specs.inside.Replies.{reply_exit, reply_output};
+
+use crate::read_all::{fill, read_all};
+use crate::reading::Reading;
+use crate::reply::{Reply, reply_to};
+use crate::report_fault::ReportFault;
+use crate::source::Source;
+use jx_answer::is_short;
+use jx_book::{Crew, Gate};
+use jx_claim::Cutting;
+use jx_task::Command;
+use std::alloc::AllocError;
+use std::sync::Wait;
+use std::thread::Threads;
+use std::{mem, thread};
+
+/// How many bytes of an input are read at a time at first, where there are several workers. Long batches take fresh memory,
+/// which costs a short input more than workers gain.
+const FIRST_STEP: usize = 256 * 1024;
+
+/// Behind so many bytes batches are as long as they may be.
+const ENOUGH: usize = 4 * 1024 * 1024;
+
+/// How many bytes are read first where a batch may have so many. Several workers still have more than one piece in them.
+fn first_step(command: &Command, batch: usize) -> usize
+    ensures { result ≤ batch }
+{
+    if command.workers.count() > 1 && command.piece <= FIRST_STEP / 2 {
+        batch.min(FIRST_STEP)
+    } else {
+        batch
+    }
+}
+
+/// How many bytes are read next, where so many were read before: a whole batch once there were enough bytes.
+fn next_step(before: usize, step: usize, batch: usize) -> usize
+    requires { step ≤ batch }
+    ensures { (step ≤ result) × (result ≤ batch) }
+{
+    if before < ENOUGH { step } else { batch }
+}
+
+/// Takes in a batch, while the next one is read into another buffer.
+fn read_beside<R: Threads + Wait + Sync, S: Source + Send, G: Gate + Sync>(
+    crew: &Crew<'_, R, G>,
+    reader: &mut S,
+    reading: &mut Reading,
+    bytes: &[u8],
+    piece: usize,
+    next: &mut Vec<u8>,
+    step: usize,
+) -> Result<usize, ReportFault>
+    requires reader { S.has_failed reader.old ≡ false }
+    requires piece { 1 ≤ piece }
+    requires within { vec_len next.old ≤ step }
+    ensures reads { IfOk result (λ _. ReadsOn bytes.now reading.old reading.new) }
+    ensures filled { IsFilled S.remaining S.has_failed step reader.old reader.new next.new result }
+{
+    let (filled, read) = thread::join_mut(
+        crew.rt,
+        &mut || -> Result<usize, ReportFault>
+            requires { (S.has_failed reader.now ≡ false) × (vec_len next.now ≤ step) }
+            ensures { IsFilled S.remaining S.has_failed step reader.entry.now reader.exit.now next.exit.now result }
+        { fill(reader, next, step) },
+        &mut || -> Result<(), AllocError>
+            requires { 1 ≤ piece }
+            ensures { OnOk result (ReadsOn bytes.entry.now reading.entry.now reading.exit.now) }
+        { reading.read(crew, bytes, piece) },
+    );
+    let filled = filled?;
+    read?;
+    Ok(filled)
+}
+
+/// Reads to the end of input, keeps all of it, and has it answered by the command's workers.
+fn answer_to_all<R: Threads + Wait + Sync, S: Source, G: Gate + Sync>(
+    crew: &Crew<'_, R, G>,
+    reader: &mut S,
+    command: &Command,
+) -> Result<Reply, ReportFault>
+    requires reader { S.has_failed reader.old ≡ false }
+    requires piece { 1 ≤ command.now.piece }
+    ensures ok { IfOk result (λ reply. IsAnswered (Output command.now.task command.now.settings) command.now.piece (S.remaining reader.old)
+        (S.remaining reader.new) (reply_output reply) (reply_exit reply)) }
+    ensures read { IsErrOf result ReportFault.Read ↔ (S.has_failed reader.new ≡ true) }
+    ensures unwritten { IfErr result (λ fault. fault ≢ ReportFault.Write) }
+    ensures pieces { IsErrOf result ReportFault.Pieces → HasTooManyPieces command.now (S.remaining reader.old)
+        (S.remaining reader.new) }
+{
+    let text = read_all(crew.alloc, reader)?;
+    let Ok(cutting) = Cutting::every(text.len(), command.piece) else {
+        return Err(ReportFault::Pieces);
+    };
+    let reply = reply_to(crew, command, &text, &cutting)?;
+    Ok(reply)
+}
+
+/// Reads to the end of input, and has it answered by the crew. While a text or the elements of a sequence are judged, at most
+/// two batches of the input are kept, of so many bytes each. For rows and pointers the whole input is kept, and also wherever
+/// names have to be unique.
+///
+/// Where workers share a batch, the next one is read meanwhile. Behind a short one it is read afterwards: that takes less time
+/// than to start a thread, and no second buffer.
+pub(crate) fn answer_to_input<R: Threads + Wait + Sync, S: Source + Send, G: Gate + Sync>(
+    crew: &Crew<'_, R, G>,
+    reader: &mut S,
+    command: &Command,
+    batch: usize,
+) -> Result<Reply, ReportFault>
+    requires reader { S.has_failed reader.old ≡ false }
+    requires piece { 1 ≤ command.now.piece }
+    ensures ok { IfOk result (λ reply. IsAnswered (Output command.now.task command.now.settings) command.now.piece (S.remaining reader.old)
+        (S.remaining reader.new) (reply_output reply) (reply_exit reply)) }
+    ensures read { IsErrOf result ReportFault.Read ↔ (S.has_failed reader.new ≡ true) }
+    ensures unwritten { IfErr result (λ fault. fault ≢ ReportFault.Write) }
+    ensures pieces { IsErrOf result ReportFault.Pieces → HasTooManyPieces command.now (S.remaining reader.old)
+        (S.remaining reader.new) }
+{
+    let Some(mut reading) = Reading::of(crew.alloc, command) else {
+        return answer_to_all(crew, reader, command);
+    };
+    let mut bytes = Vec::new(crew.alloc);
+    let mut next = Vec::new(crew.alloc);
+    let mut step = first_step(command, batch);
+    let mut filled = fill(reader, &mut bytes, step)?;
+    for _ in crew.rt.forever() {
+        if filled < step {
+            reading.read(crew, &bytes[..filled], command.piece)?;
+            return reading.into_reply(command);
+        }
+        step = next_step(reading.end(), step, batch);
+        let slice = &bytes[..filled];
+        if crew.workers.count() > 1 && !is_short(filled, crew.gate) {
+            filled = read_beside(
+                crew,
+                reader,
+                &mut reading,
+                slice,
+                command.piece,
+                &mut next,
+                step,
+            )?;
+            mem::swap(&mut bytes, &mut next);
+        } else {
+            reading.read(crew, slice, command.piece)?;
+            filled = fill(reader, &mut bytes, step)?;
+        }
+    }
+    unreachable!()
+}

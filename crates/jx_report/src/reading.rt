@@ -1,0 +1,110 @@
+// What the bytes of an input come to, while they are read batch by batch.
+ghost use Rattle.std.specs.Prelude.{◌≡◌, ◌≢◌, ◌<◌, ◌≤◌, ◌^◌, ◌++◌, ℕ, List, [], length, OnOk, IfOk, IfErr, IfSome, IsErrOf};
+ghost use Rattle.jx_run.specs.declared.texts.settings.NameRule.TheVariants.{Any};
+ghost use Rattle.jx_run.specs.declared.texts.settings.Settings.{Settings};
+ghost use Rattle.jx_task.specs.declared.task.Task.{Task};
+ghost use Rattle.jx_report.specs.Output.{Output};
+ghost use Rattle.jx_report.specs.Reports.{greatest_length};
+ghost use Rattle.jx_report.specs.inside.Batches.{end_of, IsReadingOf, ReadsOn};
+ghost use Rattle.jx_report.specs.inside.Replies.{reply_exit, reply_output};
+
+use crate::reply::Reply;
+use crate::report_fault::ReportFault;
+use crate::sequence_reader::SequenceReader;
+use jx_answer::{Balance, any_names_change_nothing, read_batch, read_pieces};
+use jx_book::{Crew, Gate};
+use jx_claim::Cutting;
+use jx_run::{NameRule, Reader};
+use jx_task::{Command, Task};
+use std::alloc::{AllocError, Global};
+use std::sync::Wait;
+use std::thread::Threads;
+
+/// What the bytes of an input that were read come to. Of those bytes it keeps three at most.
+#[derive(Drop)]
+pub(crate) enum Reading {
+    /// The verdict on a text.
+    Text { reader: Reader, balance: Balance },
+    /// The verdicts on the elements of a text sequence.
+    Elements(SequenceReader),
+}
+
+impl Reading {
+    /// Before the first byte, where the task needs no byte once it was read.
+    pub fn of(alloc: Global, command: &Command) -> Option<Reading>
+        ensures names { IfSome result (λ _. command.now.settings.names ≡ Any) }
+        ensures begins { IfSome result (IsReadingOf command.now.task command.now.settings []) }
+    {
+        if command.settings.names == NameRule::Unique {
+            return None;
+        }
+        match command.task {
+            Task::Check => Some(Reading::Text {
+                reader: Reader::new(alloc, &command.settings, 0),
+                balance: Balance::new(command.workers),
+            }),
+            Task::Seq => Some(Reading::Elements(SequenceReader::new(alloc, command))),
+            Task::Index | Task::At(_) => None,
+        }
+    }
+
+    /// How many bytes were read.
+    pub fn end(&self) -> usize
+        ensures end { result ≡ end_of self.now }
+        ensures length { (task : Task) (settings : Settings) (text : List ℕ) → IsReadingOf task settings text self.now → result ≡ length text }
+    {
+        match self {
+            Reading::Text { reader, .. } => reader.end(),
+            Reading::Elements(sequence) => sequence.end(),
+        }
+    }
+
+    /// Reads a batch behind what was read. Memory is refused too where the last byte has no offset.
+    pub fn read<R: Threads + Wait + Sync, G: Gate + Sync>(
+        &mut self,
+        crew: &Crew<'_, R, G>,
+        batch: &[u8],
+        piece: usize,
+    ) -> Result<(), AllocError>
+        requires piece { 1 ≤ piece }
+        ensures reads { OnOk result (ReadsOn batch.now self.old self.new) }
+    {
+        if batch.len() > usize::MAX - self.end() {
+            return Err(AllocError);
+        }
+        match self {
+            Reading::Text { reader, .. } if crew.workers.count() == 1 => {
+                let Ok(cutting) = Cutting::every(batch.len(), piece) else {
+                    return reader.feed(batch);
+                };
+                read_pieces(reader, batch, &cutting, crew.gate)
+            }
+            Reading::Text { reader, balance } => read_batch(crew, reader, balance, batch, piece),
+            Reading::Elements(sequence) => sequence.read(crew, batch, piece),
+        }
+    }
+
+    /// The reply to all bytes that were read, unless they make too many pieces.
+    pub fn into_reply(self, command: &Command) -> Result<Reply, ReportFault>
+        requires piece { 1 ≤ command.now.piece }
+        requires names { command.now.settings.names ≡ Any }
+        ensures ok { IfOk result (λ reply. (text : List ℕ) → IsReadingOf command.now.task command.now.settings text self
+            → (length text ≤ greatest_length command.now.piece) × Output command.now.task command.now.settings text (reply_output reply) (reply_exit reply)) }
+        ensures pieces { IsErrOf result ReportFault.Pieces → (text : List ℕ) → IsReadingOf command.now.task command.now.settings text self
+            → greatest_length command.now.piece < length text }
+        ensures unread { IfErr result (λ fault. fault ≢ ReportFault.Read) }
+        ensures unwritten { IfErr result (λ fault. fault ≢ ReportFault.Write) }
+    {
+        any_names_change_nothing();
+        if Cutting::every(self.end(), command.piece).is_err() {
+            return Err(ReportFault::Pieces);
+        }
+        match self {
+            Reading::Text { reader, .. } => Ok(Reply::Verdict(reader.verdict())),
+            Reading::Elements(sequence) => {
+                let elements = sequence.into_elements(&command.settings)?;
+                Ok(Reply::Elements(elements))
+            }
+        }
+    }
+}

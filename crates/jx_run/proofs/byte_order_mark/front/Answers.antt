@@ -1,6 +1,0 @@
-use Rattle.std.proofs.Common.{sym, subst}
-use Rattle.jx_run.specs.Front.{IsTold}
-use Rattle.jx_run.proofs.byte_order_mark.front.Goals as goal
-
-pub returns-clause-verdict : goal.returns-clause-verdict
-returns-clause-verdict c = subst (IsTold c.args.mark c.args.text.now) (sym c.seen.ensures) (c.fronts_decide_where_texts_begin.ensures.told c.args.mark c.args.text.now)

@@ -1,6 +1,0 @@
-use Rattle.std.proofs.Common.{sym, ◌∙◌}
-use Rattle.jx_run.proofs.ElementSteps.{ends-last}
-use Rattle.jx_run.proofs.open_end.ends_open.Goals as goal
-
-pub returns-in-Some : goal.returns-in-Some
-returns-in-Some c = c.is_open.ensures ∙ sym (ends-last c.args.bytes.now c.in-Some.byte.now (sym c.in-Some.ensures.value))

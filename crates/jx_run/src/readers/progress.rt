@@ -1,0 +1,164 @@
+// How far the reading of a text came, and how it goes on over a stack that knows all open containers.
+ghost use Rattle.std.specs.Prelude.{◌≡◌, ◌+◌, ◌<◌, ◌^◌, ◌++◌, ℕ, List, [], IfOk, IsErr, length};
+ghost use Rattle.jx_lex.specs.declared.alphabet.mark.Mark.{Mark};
+ghost use Rattle.jx_lex.specs.Lex.{lex};
+ghost use Rattle.jx_reduce.specs.KnownStack.{Known, HasRead as StackHasRead};
+ghost use Rattle.jx_reduce.specs.Read.{Reading, read as read_marks};
+ghost use Rattle.jx_reduce.specs.Whole.{whole_of};
+ghost use Rattle.jx_run.specs.Kept.{HasSeen};
+ghost use Rattle.jx_run.specs.Reader.{read_by};
+ghost use Rattle.jx_run.specs.ReaderInside.{GoesOn, IsCut, IsOfUse, IsReadTo, outcome_at, settled};
+ghost use Rattle.jx_run.specs.Settings.{JudgedBy};
+ghost use Rattle.jx_run.specs.declared.texts.settings.FrontMark.{FrontMark};
+ghost use Rattle.jx_run.specs.declared.texts.settings.Settings.{Settings};
+
+use crate::laws::reader_is_grammar;
+use crate::runs::outcome_run::verdict_from;
+use crate::texts::byte_order_mark::count_agreed;
+use crate::texts::settings::FrontMark;
+use crate::texts::verdict::{Refusal, Verdict};
+use jx_lex::{LexExit, LexState, TokenSink, scan};
+use jx_reduce::Whole;
+use std::alloc::AllocError;
+
+/// How far the reading of a text came.
+#[derive(Clone, Copy)]
+pub enum Progress {
+    /// So many bytes were read, fewer than three, and a byte order mark that they begin may yet be ignored.
+    Front(usize),
+    /// No fault so far, and the lexical state.
+    Going(LexState),
+    Stopped(usize),
+    TooDeep(usize),
+    /// Memory was refused.
+    Failed,
+}
+
+/// Where the reading of a text begins.
+pub fn progress_at_start(mark: FrontMark) -> Progress
+    ensures read { (settings : Settings) (start : ℕ) (stack : Known) → settings.mark ≡ mark → stack.depth ≡ settings.depth → StackHasRead [] stack
+        → IsReadTo settings start [] result stack }
+    ensures cut { IsCut result }
+{
+    match mark {
+        FrontMark::Refused => Progress::Going(LexState::Gap),
+        FrontMark::Ignored => Progress::Front(0),
+    }
+}
+
+/// A sink of tokens that knows all open containers of a text, and so what its marks have come to.
+pub trait OpenStack: TokenSink {
+    ghost known: { Self → Known };
+
+    /// What the marks have come to.
+    fn whole(&self) -> Whole
+        ensures { result ≡ whole_of (known self.now).reading };
+
+    ghost sees: { (stack : Self) (marks : List Mark) (ends : List ℕ) → Self.has_seen stack marks ends → HasSeen marks ends (known stack) };
+
+    ghost is_seen: { (stack : Self) (marks : List Mark) (ends : List ℕ) → HasSeen marks ends (known stack) → Self.has_seen stack marks ends };
+}
+
+/// Where a scan came to, over a slice that stands from `base` on.
+pub(crate) fn settled(base: usize, exit: Option<LexExit>, whole: Whole) -> Progress
+    ensures value { result ≡ settled base exit whole }
+    ensures cut { IsCut result }
+{
+    match whole {
+        Whole::Stopped(at) => Progress::Stopped(base.saturating_add(at)),
+        Whole::TooDeep(at) => Progress::TooDeep(base.saturating_add(at)),
+        Whole::Went { .. } => match exit {
+            Some(LexExit::State(state)) => Progress::Going(state),
+            Some(LexExit::Fault(at)) => Progress::Stopped(base.saturating_add(at)),
+            None => Progress::Failed,
+        },
+    }
+}
+
+/// Reads a slice that stands from `base` on.
+fn read_slice<S: OpenStack>(
+    stack: &mut S,
+    state: LexState,
+    slice: &[u8],
+    base: usize,
+) -> Result<Progress, AllocError>
+    ensures cut { IfOk result IsCut }
+    ensures goes_on { IfOk result (λ progress. (marks : List Mark) → StackHasRead marks (S.known stack.old)
+        → GoesOn (S.known stack.old) (lex state 0 slice.now) (read_marks (S.known stack.old).depth (lex state 0 slice.now).marks (S.known stack.old).reading) base progress (S.known stack.new)) }
+{
+    let exit = scan(stack, state, slice, 0, slice.len())?;
+    Ok(settled(base, exit, stack.whole()))
+}
+
+/// Reads a slice behind so many bytes of a byte order mark.
+#[cold]
+fn read_front<S: OpenStack>(
+    stack: &mut S,
+    before: usize,
+    slice: &[u8],
+    base: usize,
+) -> Result<Progress, AllocError>
+    requires cut { before < 3 }
+    requires fits { base + length slice.now < 2 ^ 64 }
+    ensures cut { IfOk result IsCut }
+    ensures of_use { IfOk result (λ next. (mark : FrontMark) (depth : ℕ) → IsOfUse (Progress.Front before) mark depth (S.known stack.old) → IsOfUse next mark depth (S.known stack.new)) }
+    ensures reads { IfOk result (λ next. (settings : Settings) (start : ℕ) (bytes : List ℕ) → base ≡ start + length bytes
+        → IsReadTo settings start bytes (Progress.Front before) (S.known stack.old) → IsReadTo settings start (bytes ++ slice.now) next (S.known stack.new)) }
+{
+    reader_is_grammar();
+    let count = count_agreed(slice, before);
+    let more = count - before;
+    if count == 3 {
+        return read_slice(stack, LexState::Gap, &slice[more..slice.len()], base + more);
+    }
+    if more == slice.len() {
+        return Ok(Progress::Front(count));
+    }
+    if count == 0 {
+        return read_slice(stack, LexState::Gap, slice, base);
+    }
+    Ok(Progress::Stopped(base + more))
+}
+
+/// Reads a slice behind all bytes that were read; it stands from `base` on. Behind a fault no byte is looked at. Only want
+/// of memory is refused, and then the stack is of no more use.
+#[inline]
+pub fn read_on<S: OpenStack>(
+    stack: &mut S,
+    progress: Progress,
+    slice: &[u8],
+    base: usize,
+) -> Result<Progress, AllocError>
+    requires cut { IsCut progress }
+    requires fits { base + length slice.now < 2 ^ 64 }
+    ensures cut { IfOk result IsCut }
+    ensures of_use { IfOk result (λ next. (mark : FrontMark) (depth : ℕ) → IsOfUse progress mark depth (S.known stack.old) → IsOfUse next mark depth (S.known stack.new)) }
+    ensures reads { IfOk result (λ next. (settings : Settings) (start : ℕ) (bytes : List ℕ) → base ≡ start + length bytes
+        → IsReadTo settings start bytes progress (S.known stack.old) → IsReadTo settings start (bytes ++ slice.now) next (S.known stack.new)) }
+    ensures failed { progress ≡ Progress.Failed → IsErr result }
+{
+    reader_is_grammar();
+    match progress {
+        Progress::Front(before) => read_front(stack, before, slice, base),
+        Progress::Going(state) => read_slice(stack, state, slice, base),
+        Progress::Stopped(_) => Ok(progress),
+        Progress::TooDeep(_) => Ok(progress),
+        Progress::Failed => Err(AllocError),
+    }
+}
+
+/// The verdict on the bytes that were read, as a whole text, by what their marks have come to. Where memory was refused
+/// there is no verdict, and this says that the text is cut short.
+pub fn verdict_at(progress: Progress, whole: Whole) -> Verdict
+    ensures verdict { (settings : Settings) (start : ℕ) (bytes : List ℕ) (reading : Reading) → whole ≡ whole_of reading
+        → outcome_at progress reading ≡ Some (read_by settings.mark settings.depth start bytes) → JudgedBy settings start bytes result }
+    ensures failed { progress ≡ Progress.Failed → result ≡ Verdict.Refused Refusal.Truncated }
+{
+    reader_is_grammar();
+    match progress {
+        Progress::Going(state) => verdict_from(LexExit::State(state), whole),
+        Progress::Stopped(at) => Verdict::Refused(Refusal::Stopped { at }),
+        Progress::TooDeep(at) => Verdict::Refused(Refusal::TooDeep { at }),
+        Progress::Front(_) | Progress::Failed => Verdict::Refused(Refusal::Truncated),
+    }
+}

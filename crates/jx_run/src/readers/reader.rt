@@ -1,0 +1,256 @@
+// A text that is read from its start, slice by slice or run by run.
+
+ghost use Rattle.std.specs.Prelude.{◌≡◌, ◌+◌, ◌<◌, ◌^◌, ◌↔◌, ◌++◌, ℕ, List, [], IsTrue, OnOk, OnErr, IfOk, IsErr, length};
+ghost use Rattle.jx_lex.specs.declared.alphabet.mark.Mark.{Mark};
+ghost use Rattle.jx_lex.specs.Lex.{lex};
+ghost use Rattle.jx_reduce.specs.KnownStack.{HasRead as StackHasRead, IsFault};
+ghost use Rattle.jx_reduce.specs.Read.{read as read_marks};
+ghost use Rattle.jx_run.specs.OutcomeRun.{IsOutcomeRun};
+ghost use Rattle.jx_run.specs.Reader.{HasRead, HasFailed, IsInFront, is_fault};
+ghost use Rattle.jx_run.specs.Settings.{JudgedBy};
+
+use crate::laws::reader_is_grammar;
+use crate::readers::progress::{
+    OpenStack, Progress, progress_at_start, read_on, settled, verdict_at,
+};
+use crate::runs::outcome_run::OutcomeRun;
+use crate::texts::settings::Settings;
+use crate::texts::verdict::{Refusal, Verdict};
+use jx_lex::{LexExit, LexState, Mark, TokenSink};
+use jx_reduce::{KnownStack, Outcome, Whole};
+use jx_summary::Summary;
+use std::alloc::{AllocError, Global};
+use std::marker::Model;
+
+/// The known stack as a sink. For the proof, the ends that it has seen begin with the depth: so a scan is known to
+/// leave the depth as it is.
+#[derive(Drop)]
+struct Kept {
+    stack: KnownStack,
+}
+
+impl TokenSink for Kept {
+    ghost use Rattle.jx_run.specs.Kept.{HasSeen};
+
+    ghost has_seen = { λ kept marks ends. HasSeen marks ends kept.stack };
+
+    #[inline(always)]
+    fn begin(&mut self, mark: Mark) -> Result<(), AllocError> {
+        self.stack.push(mark)?;
+        Ok(())
+    }
+
+    #[inline(always)]
+    fn end(&mut self, _at: usize) -> Result<(), AllocError> {
+        Ok(())
+    }
+
+    #[inline(always)]
+    fn is_done(&self) -> bool {
+        self.stack.is_done()
+    }
+}
+
+impl OpenStack for Kept {
+    ghost known = { λ kept. kept.stack };
+
+    #[inline(always)]
+    fn whole(&self) -> Whole {
+        self.stack.whole()
+    }
+
+    ghost sees = { λ kept marks ends seen. seen };
+
+    ghost is_seen = { λ kept marks ends seen. seen };
+}
+
+/// A text that is read from its start: fed by slices or by runs, one behind another, it has the verdict on all their bytes
+/// at any moment. It keeps no byte and no mark; up to 64 open containers take no memory. A byte order mark that the
+/// settings ignore may be cut anywhere between two slices.
+#[derive(Drop)]
+pub struct Reader {
+    alloc: Global,
+    settings: Settings,
+    start: usize,
+    count: usize,
+    progress: Progress,
+    kept: Kept,
+}
+
+impl Model for Reader {
+    ghost use Rattle.jx_run.specs.Reader.{ReaderValue};
+
+    ghost Value = { ReaderValue };
+
+    ghost use Rattle.jx_run.specs.ReaderInside.{reader_of, IsLawful};
+
+    ghost view = { reader_of };
+
+    ghost invariant = { IsLawful };
+}
+
+impl Reader {
+    ghost use Rattle.jx_run.specs.ReaderInside.{GoesOn, IsCut};
+
+    /// Reads the bytes of a run that stands from `base` on.
+    fn read_run(
+        stack: &mut KnownStack,
+        state: LexState,
+        run: &OutcomeRun,
+        base: usize,
+    ) -> Result<Progress, AllocError>
+        requires going { IsFault stack.old.reading → ⊥ }
+        requires depth { run.now.depth ≡ stack.old.depth }
+        requires start { run.now.start ≡ 0 }
+        requires of { (more : List ℕ) × IsOutcomeRun more run.now }
+        ensures cut { IfOk result IsCut }
+        ensures goes_on { IfOk result (λ progress. (marks : List Mark) (more : List ℕ) → StackHasRead marks stack.old → IsOutcomeRun more run.now
+            → GoesOn stack.old (lex state 0 more) (read_marks stack.old.depth (lex state 0 more).marks stack.old.reading) base progress stack.new) }
+    {
+        let (expect, holders) = stack.take_standing()?;
+        let exit = run.exit(state);
+        let whole = match run.entry(state, expect).act(&holders)? {
+            Outcome::Went { expect, holders } => match exit {
+                LexExit::State(state) => {
+                    stack.stand(expect, &holders)?;
+                    return Ok(Progress::Going(state));
+                }
+                LexExit::Fault(at) => Whole::Stopped(at),
+            },
+            Outcome::Stopped(at) => Whole::Stopped(at),
+            Outcome::TooDeep(at) => Whole::TooDeep(at),
+        };
+        stack.reset();
+        Ok(settled(base, Some(exit), whole))
+    }
+
+    /// A reader of a text whose first byte has this offset. Its settings' names are of no account. Nothing is allocated.
+    pub fn new(alloc: Global, settings: &Settings, start: usize) -> Reader
+        ensures settings { result.settings ≡ settings.now }
+        ensures start { result.start ≡ start }
+        ensures reads { HasRead [] result }
+    {
+        Reader {
+            alloc,
+            settings: *settings,
+            start,
+            count: 0,
+            progress: progress_at_start(settings.mark),
+            kept: Kept {
+                stack: KnownStack::new(alloc, settings.depth),
+            },
+        }
+    }
+
+    /// The settings by which it reads.
+    pub fn settings(&self) -> Settings
+        ensures { result ≡ self.now.settings }
+    {
+        self.settings
+    }
+
+    /// The offset of its text's first byte.
+    pub fn start(&self) -> usize
+        ensures { result ≡ self.now.start }
+    {
+        self.start
+    }
+
+    /// The offset just past the last byte that it has read.
+    pub fn end(&self) -> usize
+        ensures { result ≡ self.now.start + self.now.count }
+    {
+        self.start + self.count
+    }
+
+    /// Begins another text, whose first byte has this offset. The memory stays, unless some was refused.
+    pub fn reset(&mut self, start: usize)
+        ensures settings { self.new.settings ≡ self.old.settings }
+        ensures start { self.new.start ≡ start }
+        ensures reads { HasRead [] self.new }
+    {
+        match self.progress {
+            Progress::Failed => {
+                self.kept.stack = KnownStack::new(self.alloc, self.settings.depth);
+            }
+            _ => self.kept.stack.reset(),
+        }
+        self.start = start;
+        self.count = 0;
+        self.progress = progress_at_start(self.settings.mark);
+    }
+
+    /// Reads the slice behind all bytes that it has read. Behind a fault no byte is looked at. Only want of memory is
+    /// refused, and from then on every slice and every run is.
+    pub fn feed(&mut self, slice: &[u8]) -> Result<(), AllocError>
+        requires { self.old.start + self.old.count + length slice.now < 2 ^ 64 }
+        ensures settings { self.new.settings ≡ self.old.settings }
+        ensures start { self.new.start ≡ self.old.start }
+        ensures reads { OnOk result ((bytes : List ℕ) → HasRead bytes self.old → HasRead (bytes ++ slice.now) self.new) }
+        ensures count { OnOk result (self.new.count ≡ self.old.count + length slice.now) }
+        ensures err { OnErr result (HasFailed self.new) }
+        ensures failed { HasFailed self.old → IsErr result }
+    {
+        let base = self.start + self.count;
+        let progress = self.progress;
+        self.count += slice.len();
+        // Where memory is refused, what the stack holds is of no use.
+        self.progress = Progress::Failed;
+        self.progress = read_on(&mut self.kept, progress, slice, base)?;
+        Ok(())
+    }
+
+    /// Whether a fault was met. No byte behind it changes the verdict.
+    pub fn is_done(&self) -> bool
+        ensures { result ≡ is_fault self.now.outcome }
+    {
+        matches!(self.progress, Progress::Stopped(_) | Progress::TooDeep(_))
+    }
+
+    /// Whether a byte order mark may begin or go on with the next byte.
+    pub fn is_in_front(&self) -> bool
+        ensures { IsTrue result ↔ IsInFront self.now }
+    {
+        matches!(self.progress, Progress::Front(_))
+    }
+
+    /// Reads the bytes of a run behind all bytes that it has read, where no byte order mark may stand among them. The run is
+    /// over a text of its own, and its offsets are moved to where its bytes stand here. Only want of memory is refused, and
+    /// from then on every slice and every run is.
+    pub fn follow(&mut self, run: &OutcomeRun) -> Result<(), AllocError>
+        requires behind { IsInFront self.old → ⊥ }
+        requires depth { run.now.depth ≡ self.old.settings.depth }
+        requires start { run.now.start ≡ 0 }
+        requires fits { self.old.start + self.old.count + run.now.end < 2 ^ 64 }
+        requires of { (more : List ℕ) × IsOutcomeRun more run.now }
+        ensures settings { self.new.settings ≡ self.old.settings }
+        ensures start { self.new.start ≡ self.old.start }
+        ensures reads { OnOk result ((bytes more : List ℕ) → HasRead bytes self.old → IsOutcomeRun more run.now → HasRead (bytes ++ more) self.new) }
+        ensures count { OnOk result (self.new.count ≡ self.old.count + run.now.end) }
+        ensures err { OnErr result (HasFailed self.new) }
+        ensures failed { HasFailed self.old → IsErr result }
+    {
+        reader_is_grammar();
+        let base = self.start + self.count;
+        self.count += run.span().end;
+        let state = match self.progress {
+            Progress::Going(state) => state,
+            Progress::Stopped(_) => return Ok(()),
+            Progress::TooDeep(_) => return Ok(()),
+            Progress::Failed => return Err(AllocError),
+            Progress::Front(_) => unreachable!(),
+        };
+        self.progress = Progress::Failed;
+        self.progress = Reader::read_run(&mut self.kept.stack, state, run, base)?;
+        Ok(())
+    }
+
+    /// The verdict on the bytes that it has read, as a whole text, whatever names its objects have. Where memory was refused
+    /// there is no verdict, and this says that the text is cut short.
+    pub fn verdict(&self) -> Verdict
+        ensures verdict { (bytes : List ℕ) → HasRead bytes self.now → JudgedBy self.now.settings self.now.start bytes result }
+        ensures failed { HasFailed self.now → result ≡ Verdict.Refused Refusal.Truncated }
+    {
+        verdict_at(self.progress, self.kept.stack.whole())
+    }
+}

@@ -1,0 +1,109 @@
+// Elements of a JSON text sequence that stand between two record separators, of which verdicts alone are kept.
+ghost use Rattle.std.specs.Prelude.{◌≡◌, ◌≤◌, ◌<◌, ◌+◌, ◌^◌, ℕ, List, length, map, slice_range, IfOk};
+ghost use Rattle.std.specs.List.{AllZip};
+ghost use Rattle.jx_run.specs.Elements.{Part, filled, part};
+ghost use Rattle.jx_run.specs.ElementsRun.{IsPartRun};
+ghost use Rattle.jx_run.specs.inside.MarkedElements.{AreMarked};
+ghost use Rattle.jx_run.specs.inside.Moved.{moved};
+ghost use Rattle.jx_run.specs.ElementVerdict.{IsJudgedElement};
+ghost use Rattle.jx_run.specs.declared.texts.settings.FrontMark.TheVariants.{Refused};
+
+use crate::laws::a_refused_mark_changes_nothing;
+use crate::readers::reader::Reader;
+use crate::runs::part_run::PartRun;
+use crate::runs::parted::Marked;
+use crate::runs::piece::Piece;
+use crate::sequences::element_verdict::{JudgedElement, all_moved};
+use crate::sequences::open_end::{ends_open, told};
+use crate::sequences::separators::next_separator;
+use crate::texts::settings::Settings;
+use jx_lex::{Depth, Span};
+use jx_summary::Summary;
+use std::alloc::{AllocError, Global};
+
+/// The verdict on an element that two separators enclose. The reader begins anew.
+fn read_element(
+    reader: &mut Reader,
+    text: &[u8],
+    start: usize,
+    end: usize,
+) -> Result<JudgedElement, AllocError>
+    requires marked { 0 < start }
+    requires ordered { start ≤ end }
+    requires within { end ≤ length text.now }
+    requires plain { reader.old.settings.mark ≡ Refused }
+    ensures settings { reader.new.settings ≡ reader.old.settings }
+    ensures judged { IfOk result (IsJudgedElement reader.old.settings.depth (part start (slice_range text.now start end))) }
+{
+    a_refused_mark_changes_nothing();
+    let bytes = &text[start..end];
+    reader.reset(start);
+    reader.feed(bytes)?;
+    Ok(JudgedElement {
+        span: Span { start, end },
+        verdict: told(reader.verdict(), ends_open(bytes)),
+    })
+}
+
+impl Piece for PartRun {
+    type Finished = JudgedElement;
+
+    ghost is_finished = { IsJudgedElement };
+
+    ghost long = { λ bytes run h. h.outcomes.long };
+
+    fn finished_with(&self, right: &Self) -> Result<JudgedElement, AllocError> {
+        self.judged_with(right)
+    }
+
+    // One reader serves every element.
+    fn behind(
+        alloc: Global,
+        text: &[u8],
+        start: usize,
+        end: usize,
+        depth: Depth,
+    ) -> Result<(Vec<JudgedElement>, Self), AllocError> {
+        let mut reader = Reader::new(alloc, &Settings::from(depth), start);
+        let mut done = Vec::new(alloc);
+        let mut from = start;
+        while let Some(at) = next_separator(text, from, end) {
+            if from < at {
+                done.push(read_element(&mut reader, text, from, at)?)?;
+            }
+            from = at + 1;
+        }
+        let after = PartRun::of(alloc, text, from, end, depth)?;
+        Ok((done, after))
+    }
+}
+
+/// The elements behind the first separator, in order, the last one behind the others unless it is empty.
+pub(crate) fn elements_behind(marked: Marked<PartRun>) -> Result<Vec<JudgedElement>, AllocError>
+    ensures { (limit : ℕ) (behind : List Part) → AreMarked limit behind marked → IfOk result (λ es. AllZip (IsJudgedElement limit) (filled behind) es.items) }
+{
+    let Marked {
+        done: mut elements,
+        after,
+    } = marked;
+    let span = after.span();
+    if span.start < span.end {
+        elements.push(after.judged())?;
+    }
+    Ok(elements)
+}
+
+/// The same elements, and the same run behind them, so much further on. It takes no memory.
+pub(crate) fn shifted_behind(marked: Marked<PartRun>, by: usize) -> Marked<PartRun>
+    requires fits { marked.after.outcomes.end + by < 2 ^ 64 }
+    ensures done { result.done ≡ map (moved by) marked.done }
+    ensures start { result.after.outcomes.start ≡ by + marked.after.outcomes.start }
+    ensures end { result.after.outcomes.end ≡ by + marked.after.outcomes.end }
+    ensures depth { result.after.outcomes.depth ≡ marked.after.outcomes.depth }
+    ensures after { (bytes : List ℕ) → IsPartRun bytes marked.after → IsPartRun bytes result.after }
+{
+    Marked {
+        done: all_moved(by, marked.done),
+        after: marked.after.shifted(by),
+    }
+}
