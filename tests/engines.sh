@@ -19,7 +19,8 @@ find_engines() {
     if [ -n "$missing" ] && [ "$(id -u)" = 0 ] && command -v apt-get >/dev/null; then
         echo "engines.sh: installs$missing"
         # shellcheck disable=SC2086
-        { timeout $most apt-get update && DEBIAN_FRONTEND=noninteractive timeout $most apt-get install -y --no-install-recommends $missing; } >/dev/null 2>&1
+        packaged sh -c "timeout $most apt-get update && DEBIAN_FRONTEND=noninteractive timeout $most apt-get install -y --no-install-recommends $missing" \
+            >/dev/null 2>&1
     fi
 }
 

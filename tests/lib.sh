@@ -42,6 +42,9 @@ said() {
     sed 's/^/err: /' err
 }
 
+# packaged COMMAND..: runs a command that fetches or installs Debian's packages. Tests run side by side, and these have one lock.
+packaged() { flock "$root/jx.packages.lock" "$@"; }
+
 # tests NAME..: calls each of these functions, and tells how much of what they looked at holds.
 tests() {
     local each

@@ -99,7 +99,9 @@ pipes_are_closed() {
 }
 
 # downloaded PACKAGE..: Debian's packages, in this folder. Where none are known their lists are fetched first.
-downloaded() { timeout 120 apt-get download "$@" || { timeout 120 apt-get update && timeout 120 apt-get download "$@"; }; }
+downloaded() {
+    packaged timeout 120 apt-get download "$@" || { packaged timeout 120 apt-get update && packaged timeout 120 apt-get download "$@"; }
+}
 
 # unpacked FOLDER PACKAGE..: Debian's packages, unpacked in a folder and not installed.
 unpacked() {
