@@ -185,9 +185,6 @@ module _ (limit : ℕ) where
   name_turn _ at_name top = refl
   name_turn _ at_first_name top = refl
 
-  scalar_depth : (k : Kind) (w : List ℕ) → IsToken k w → (s : LexState) → Unit {0}
-  scalar_depth k w h s = tt
-
   -- after a value: what closes the innermost container
   closes_array : (s : LexState) → IsFinal s → (o : List Holder) (j : ℕ) (rest : List ℕ)
       → Goes (run limit s expect.After (holder.Array ∷ o) j (0x5d ∷ rest)) expect.After o (suc j) rest

@@ -26,19 +26,8 @@ agreed_front (x ∷ xs) (m ∷ ms) = ap (λ (n : ℕ). cond (x == m) (suc n) 0) 
 
 -- ---- whether a part is the mark alone, as its span and the first bytes of the input tell
 
-not_there : (input : List ℕ) (s : Span) → s.start ≢ 0 → is_mark_alone (part_of input s) ≡ false
-not_there input s other =
-    let e : (s.start == 0) ≡ false = grind (arith, nat_tests) in
-    ap (λ (b : Bool). b && ((length (slice_range input s.start s.end) == 3) && (agreed (slice_range input s.start s.end) byte_order_mark == 3))) e
-
 long_part : (input : List ℕ) (end : ℕ) → end ≤ length input → length (slice_range input 0 end) ≡ end
 long_part input end within = length-take-le (end - 0) input (omega (arith, within)) ∙ (let e : end - 0 ≡ end = omega arith in e)
-
-other_end : (input : List ℕ) (end : ℕ) → end ≤ length input → end ≢ 3 → is_mark_alone (part_of input (span 0 end)) ≡ false
-other_end input end within other =
-    let long : length (slice_range input 0 end) ≡ end = long_part input end within in
-    let e : (length (slice_range input 0 end) == 3) ≡ false = grind (arith, nat_tests) in
-    ap (λ (b : Bool). b && (agreed (slice_range input 0 end) byte_order_mark == 3)) e
 
 first_three : (input : List ℕ) → 3 ≤ length input → is_mark_alone (part_of input (span 0 3)) ≡ (agreed input byte_order_mark == 3)
 first_three input within =
@@ -50,28 +39,8 @@ at_span : (input : List ℕ) (s : Span) (start end : ℕ) (b : Bool) → s.start
 at_span input s start end b x y h =
     subst (λ (i : ℕ). is_mark_alone (part_of input (span i s.end)) ≡ b) (sym x) (subst (λ (j : ℕ). is_mark_alone (part_of input (span start j)) ≡ b) (sym y) h)
 
-pub alone_elsewhere : (input : List ℕ) (s : Span) → s.end ≤ length input → (s.start ≢ 0) ⊎ (s.end ≢ 3) → is_mark_alone (part_of input s) ≡ false
-alone_elsewhere input s within (inl h) = not_there input s h
-alone_elsewhere input s within (inr h) = pick (s.start == 0) refl
-  where
-    pick : (b : Bool) → (s.start == 0) ≡ b → is_mark_alone (part_of input s) ≡ false
-    pick true q = let at : s.start ≡ 0 = grind (arith, nat_tests) in at_span input s 0 s.end false at refl (other_end input s.end within h)
-    pick false q = let other : s.start ≢ 0 = not_from_Decides (s.start == 0) (Decides-eqb s.start 0) q in not_there input s other
-
 pub alone_here : (input : List ℕ) (s : Span) → s.end ≤ length input → s.start ≡ 0 → s.end ≡ 3 → is_mark_alone (part_of input s) ≡ (agreed input byte_order_mark == 3)
 alone_here input s within at end = at_span input s 0 3 (agreed input byte_order_mark == 3) at end (first_three input (omega (arith, within, end)))
-
--- the front is skipped just where all of the mark agrees
-pub skips : (k count n : ℕ) → front_by k count ≡ seen.Skip n → (n == 3) ≡ (k == 3)
-skips k count n e = pick (k == 0) (k == 3) (k == count) refl refl e
-  where
-    pick : (x y z : Bool) → (k == 0) ≡ x → (k == 3) ≡ y
-        → cond x (seen.Skip 0) (cond y (seen.Skip 3) (cond z (seen.Refused refusal.Truncated) (seen.Refused (refusal.Stopped k)))) ≡ seen.Skip n → (n == 3) ≡ (k == 3)
-    pick true true z p q h = let a : k ≡ 0 = grind (arith, nat_tests) in let b : k ≡ 3 = grind (arith, nat_tests) in absurd (omega (arith, a, b))
-    pick true false z p q h = let same : 0 ≡ n = cc in ap (λ (i : ℕ). i == 3) (sym same) ∙ sym q
-    pick false true z p q h = let same : 3 ≡ n = cc in ap (λ (i : ℕ). i == 3) (sym same) ∙ sym q
-    pick false false true p q h = absurd cc
-    pick false false false p q h = absurd cc
 
 pub refuses : (k count : ℕ) (r : Refusal) → front_by k count ≡ seen.Refused r → (k == 3) ≡ false
 refuses k count r e = pick (k == 0) (k == 3) refl refl e

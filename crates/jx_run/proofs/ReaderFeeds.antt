@@ -273,21 +273,6 @@ module _ (settings : Settings) (start base n count : ℕ) (bytes slice : List �
       no_bytes [] e = refl
       no_bytes (x ∷ xs) e = absurd (omega (arith, e))
 
-  pub still_in_front : (count ≡ 3 → ⊥) → count ≡ n + length slice → IsReadTo settings start (bytes ++ slice) (Front count) old
-  still_in_front other whole_slice =
-      record { outcome = ap (λ (z : Outcome). Some z) (sym (by _ (by_part count settings.depth start (bytes ++ slice) other (omega (arith, all, whole_slice))))); of_use = h.of_use }
-
-  pub stops : (count ≡ 3 → ⊥) → (count ≡ 0 → ⊥) → count < n + length slice → (place : ℕ) → place ≡ base + (count - n) → IsReadTo settings start (bytes ++ slice) (Stopped place) old
-  stops other some less place is =
-      let long = facts.1 in
-      let there : start + count ≡ place = omega (arith, is, at, long, counts) in
-      record {
-        outcome =
-            ap (λ (z : Outcome). Some z)
-            (sym (by _ (by_cut count settings.depth start (bytes ++ slice) other (omega (arith, some)) (omega (arith, all, less))) ∙ ap (λ i. reads (stopped i)) there));
-        of_use = record { depth_is = h.of_use.depth_is; marks = []; read = h.of_use.read };
-      }
-
 -- ---- the start
 
 pub at_start : (settings : Settings) (start : ℕ) (k : Known) → settings.mark ≡ on_mark.Refused → k.depth ≡ settings.depth → StackHasRead [] k → IsReadTo settings start [] (Going state.Gap) k
@@ -299,10 +284,6 @@ at_start settings start k is deep h =
           ∙ ap (λ (m : FrontMark). Some (read_by m settings.depth start [])) (sym is);
       of_use = (record { depth_is = deep; marks = []; read = h }, λ fault. subst IsFault h fault);
     }
-
-pub at_start_in_front : (settings : Settings) (start : ℕ) (k : Known) → settings.mark ≡ on_mark.Ignored → k.depth ≡ settings.depth → StackHasRead [] k → IsReadTo settings start [] (Front 0) k
-at_start_in_front settings start k is deep h =
-    record { outcome = ap (λ (m : FrontMark). Some (read_by m settings.depth start [])) (sym is); of_use = record { ignored = is; depth_is = deep; read = h } }
 
 -- ---- verdicts
 
@@ -351,10 +332,3 @@ judged_read law s start bytes = by_mark s.mark refl
     by_mark : (m : FrontMark) → s.mark ≡ m → Says s start bytes (read_by m s.depth start bytes)
     by_mark on_mark.Refused is = refused_judged s start bytes is _ (verdict_law law s.depth start bytes)
     by_mark on_mark.Ignored is = go is (cases n (length bytes) (agreed_short bytes byte_order_mark))
-
--- what is said of the bytes that were read is their verdict
-pub judged_as : ((s : Settings) (start : ℕ) (bytes : List ℕ) → JudgedBy s start bytes (verdict_on (read_by s.mark s.depth start bytes))) → (s : Settings) (start : ℕ) (bytes : List ℕ) (z : Outcome) (v : Verdict)
-    → Some z ≡ Some (read_by s.mark s.depth start bytes) → verdict_on z ≡ v → JudgedBy s start bytes v
-judged_as law s start bytes z v is says =
-    let same : read_by s.mark s.depth start bytes ≡ z = sym cc in
-    subst (JudgedBy s start bytes) (ap verdict_on same ∙ says) (law s start bytes)

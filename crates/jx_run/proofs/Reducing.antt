@@ -162,12 +162,6 @@ reduced_ok limit ms (Err e) deep reads offsets = tt
 
 -- ---- the structures of segments
 
-pub none_reduced : (limit : ℕ) (ps : List SegmentValue) (slots : List (Option StructureValue)) → All (λ slot. slot ≡ None) slots → AreReduced limit ps slots
-none_reduced limit ps slots h n f e =
-    let x = get_or_from_slice_get slots n (Some f) None e in
-    let y : get_or slots n None ≡ None = h n None (slice_get_within slots n (Some f) e) in
-    absurd cc
-
 -- the next number on the path
 pub first_within : (path more : List ℕ) (n m : ℕ) → path ≡ n ∷ more → All (λ i. i < m) path → n < m
 first_within path more n m e h = let a : All (λ i. i < m) (n ∷ more) = subst (All (λ i. i < m)) e h in a 0 0 (omega arith)
@@ -221,10 +215,6 @@ set_reduced limit ps slots k o p low same h new n f e = pick (n == k) refl
         let other : n ≢ k = not_from_Decides (n == k) (Decides-eqb n k) q in
         h n f (slice_get-get_or slots n None low' ∙ ap Some (sym (get_or-set_other slots k n o None other) ∙ is))
 
-pub both_ok : {A E P Q R : Type 0} (r : Result A E) → (P → Q → R) → OnOk r P → OnOk r Q → OnOk r R
-both_ok (Ok x) f p q = f p q
-both_ok (Err e) f p q = tt
-
 -- ---- the structures of paths
 
 none-behind : (n : ℕ) (ps : List SegmentValue) → path_from n ps (Ahead (length ps)) ≡ []
@@ -267,9 +257,6 @@ path-none ps link h = none-behind 0 ps ∙ sym h
 -- the path of none has the marks of a track that has no marks
 pub path-bare : (ps : List SegmentValue) (count : ℕ) (marks : List Mark) → count ≡ length ps → marks ≡ [] → flat_map (marks_at ps) (path_at ps count) ≡ marks
 path-bare ps count marks all bare = ap (λ n. flat_map (marks_at ps) (path_at ps n)) all ∙ ap (flat_map (marks_at ps)) (none-behind 0 ps) ∙ sym bare
-
-pub none_numbered : (limit : ℕ) (ps : List SegmentValue) (numbers : List (Option ℕ)) (fs : List StructureValue) → All (λ number. number ≡ None) numbers → AreNumbered limit ps numbers fs
-none_numbered limit ps numbers fs h n i e = let none : Some i ≡ None = all_at (λ number. number ≡ None) numbers n (Some i) h e in absurd cc
 
 pub at_above : (limit : ℕ) (marks : List Mark) (olds news : List StructureValue) (i : ℕ) → IsAbove olds news → IsAt limit marks olds i → IsAt limit marks news i
 at_above limit marks olds news i up h = record { form = h.form; at = up i h.form h.at; of = h.of }

@@ -181,13 +181,6 @@ made_of left right pair r a b f is ha hb goes x hx =
     subst (λ o. IsOnward right.structures o x f) (sym is)
     (λ y hy. subst (λ z. GoesOnWith z y f) (one_of left.structures pair.left a x ha hx) (subst (λ z. GoesOnWith a z f) (one_of right.structures r b y hb hy) goes))
 
-pub none_made : (left right : OutcomeRunValue) (pairs : List Pair) (fs : List StructureValue) → length pairs ≡ 0 → length fs ≡ 0 → AreMade left right pairs fs
-none_made left right pairs fs p f =
-    record {
-      all = p ∙ sym f;
-      each = λ i pair h. let low = slice_get_within pairs i pair h in absurd (omega (arith, low, p));
-    }
-
 pub push_made : (left right : OutcomeRunValue) (pairs : List Pair) (fs : List StructureValue) (pair : Pair) (f : StructureValue) → AreMade left right pairs fs → IsMade left right pair f
     → AreMade left right (pairs ++ pair ∷ []) (fs ++ f ∷ [])
 push_made left right pairs fs pair f h made =

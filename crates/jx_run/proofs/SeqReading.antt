@@ -75,9 +75,6 @@ pub record IsReadTo {D : Type 0} (R : Part → D → Type 0) (all rest : List Pa
   pub are : all ≡ between ++ rest
   pub readings : AllZip R (filled between) done
 
-pub nothing_read : {D : Type 0} (R : Part → D → Type 0) (all : List Part) → IsReadTo R all all []
-nothing_read R all = record { between = []; are = refl; readings = tt }
-
 filled-push : (ps : List Part) (p : Part) → filled (ps ++ p ∷ []) ≡ filled ps ++ filled (p ∷ [])
 filled-push ps p = filter-append has_bytes ps (p ∷ [])
 
