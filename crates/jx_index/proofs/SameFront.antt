@@ -28,18 +28,18 @@ same_head b us vs =
     let e : (b == b) ≡ true = grind (arith, nat_tests) in
     rw (l, e) refl
 
-pub front_more : (spelling : Spelling) (xs ys : List ℕ) (at : ℕ) → at < length xs → at < length ys → get_or xs at 0 ≡ get_or ys at 0
+pub front_more : (one other : Spelling) (xs ys : List ℕ) (at : ℕ) → at < length xs → at < length ys → get_or xs at 0 ≡ get_or ys at 0
     → get_or xs at 0 < 0x80 → get_or xs at 0 ≢ 0x5c → get_or xs at 0 ≢ 0x7e
-    → slice_cmp nat_cmp (chars_units InText 0 (drop at xs)) (chars_units spelling 0 (drop at ys)) ≡ slice_cmp nat_cmp (chars_units InText 0 (drop (at + 1) xs)) (chars_units spelling 0 (drop (at + 1) ys))
-front_more spelling xs ys at h k e p n m =
+    → slice_cmp nat_cmp (chars_units one 0 (drop at xs)) (chars_units other 0 (drop at ys)) ≡ slice_cmp nat_cmp (chars_units one 0 (drop (at + 1) xs)) (chars_units other 0 (drop (at + 1) ys))
+front_more one other xs ys at h k e p n m =
     let s : suc at ≡ at + 1 = omega arith in
     let b = get_or xs at 0 in
-    let u : chars_units InText 0 (drop at xs) ≡ b ∷ chars_units InText 0 (drop (suc at) xs) = ap (chars_units InText 0) (drop-cons xs at 0 h) ∙ plain_unit InText b (drop (suc at) xs) p n m in
-    let v : chars_units spelling 0 (drop at ys) ≡ b ∷ chars_units spelling 0 (drop (suc at) ys) =
-    ap (chars_units spelling 0) (drop-cons ys at 0 k ∙ ap (λ x. x ∷ drop (suc at) ys) (sym e)) ∙ plain_unit spelling b (drop (suc at) ys) p n m in
+    let u : chars_units one 0 (drop at xs) ≡ b ∷ chars_units one 0 (drop (suc at) xs) = ap (chars_units one 0) (drop-cons xs at 0 h) ∙ plain_unit one b (drop (suc at) xs) p n m in
+    let v : chars_units other 0 (drop at ys) ≡ b ∷ chars_units other 0 (drop (suc at) ys) =
+    ap (chars_units other 0) (drop-cons ys at 0 k ∙ ap (λ x. x ∷ drop (suc at) ys) (sym e)) ∙ plain_unit other b (drop (suc at) ys) p n m in
     ap₂ (slice_cmp nat_cmp) u v
-    ∙ same_head b (chars_units InText 0 (drop (suc at) xs)) (chars_units spelling 0 (drop (suc at) ys))
-    ∙ ap (λ i. slice_cmp nat_cmp (chars_units InText 0 (drop i xs)) (chars_units spelling 0 (drop i ys))) s
+    ∙ same_head b (chars_units one 0 (drop (suc at) xs)) (chars_units other 0 (drop (suc at) ys))
+    ∙ ap (λ i. slice_cmp nat_cmp (chars_units one 0 (drop i xs)) (chars_units other 0 (drop i ys))) s
 
 pub first_unit : (spelling : Spelling) (bytes : List ℕ) → 0 < length bytes → get_or bytes 0 0 < 0x80 → get_or bytes 0 0 ≢ 0x5c → get_or bytes 0 0 ≢ 0x7e
     → chars_units spelling 0 bytes ≡ get_or bytes 0 0 ∷ chars_units spelling 0 (drop 1 bytes)

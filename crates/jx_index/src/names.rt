@@ -80,8 +80,8 @@ fn name_bytes<'a>(text: &'a [u8], rows: &[Row], node: NodeId) -> &'a [u8]
 
 /// How many bytes both begin with, each of which stands for one unit in a text and in a token. To compare the others
 /// decides as to compare all.
-fn same_front(left: &[u8], right: &[u8], spelling: Spelling) -> usize
-    ensures { slice_cmp nat_cmp (chars_units InText 0 left.now) (chars_units spelling 0 right.now) ≡ slice_cmp nat_cmp (chars_units InText 0 (drop result left.now)) (chars_units spelling 0 (drop result right.now)) }
+fn same_front(left: &[u8], one: Spelling, right: &[u8], other: Spelling) -> usize
+    ensures { slice_cmp nat_cmp (chars_units one 0 left.now) (chars_units other 0 right.now) ≡ slice_cmp nat_cmp (chars_units one 0 (drop result left.now)) (chars_units other 0 (drop result right.now)) }
 {
     let mut at = 0;
     while at < left.len() && at < right.len() {
@@ -106,41 +106,48 @@ pub(crate) fn first_plain(bytes: &[u8], spelling: Spelling) -> Option<u8>
 
 /// What is left of two names behind the bytes with which both begin. The next bytes mostly decide.
 #[tactic(auto, unfolding(crate::specs::Units::chars_units))]
-fn compare_rests(left: &[u8], right: &[u8], spelling: Spelling) -> Ordering
-    ensures { result ≡ slice_cmp nat_cmp (chars_units InText 0 left.now) (chars_units spelling 0 right.now) }
+fn compare_rests(left: &[u8], one: Spelling, right: &[u8], other: Spelling) -> Ordering
+    ensures { result ≡ slice_cmp nat_cmp (chars_units one 0 left.now) (chars_units other 0 right.now) }
 {
-    match (
-        first_plain(left, Spelling::InText),
-        first_plain(right, spelling),
-    ) {
-        (Some(one), Some(other)) if one < other => Ordering::Less,
-        (Some(one), Some(other)) if other < one => Ordering::Greater,
+    match (first_plain(left, one), first_plain(right, other)) {
+        (Some(first), Some(second)) if first < second => Ordering::Less,
+        (Some(first), Some(second)) if second < first => Ordering::Greater,
         (None, None) if left.is_empty() && right.is_empty() => Ordering::Equal,
         (None, Some(_)) if left.is_empty() => Ordering::Less,
         (Some(_), None) if right.is_empty() => Ordering::Greater,
-        _ => compare(
-            Units::new(left, Spelling::InText),
-            Units::new(right, spelling),
-        ),
+        _ => compare(Units::new(left, one), Units::new(right, other)),
     }
 }
 
-/// A name against another name or a token, as they are spelt. Bytes decide as long as each of them stands for one unit.
-pub(crate) fn compare_bytes(name: &[u8], other: &[u8], spelling: Spelling) -> Ordering
-    ensures { result ≡ slice_cmp nat_cmp (chars_units InText 0 name.now) (chars_units spelling 0 other.now) }
+/// Two names or tokens, as they are spelt. Bytes decide as long as each of them stands for one unit.
+pub(crate) fn compare_bytes(left: &[u8], one: Spelling, right: &[u8], other: Spelling) -> Ordering
+    ensures { result ≡ slice_cmp nat_cmp (chars_units one 0 left.now) (chars_units other 0 right.now) }
 {
-    let same = same_front(name, other, spelling);
-    compare_rests(skip(name, same), skip(other, same), spelling)
+    let same = same_front(left, one, right, other);
+    compare_rests(skip(left, same), one, skip(right, same), other)
+}
+
+/// Two names of a text.
+fn compare_text(left: &[u8], right: &[u8]) -> Ordering
+    ensures { result ≡ slice_cmp nat_cmp (chars_units InText 0 left.now) (chars_units InText 0 right.now) }
+{
+    compare_bytes(left, Spelling::InText, right, Spelling::InText)
+}
+
+/// Something as it is spelt against a token as a pointer spells it, by their units.
+pub(crate) fn compare_spelt(bytes: &[u8], spelling: Spelling, token: &[u8]) -> Ordering
+    ensures { result ≡ slice_cmp nat_cmp (chars_units spelling 0 bytes.now) (chars_units InToken 0 token.now) }
+{
+    compare_bytes(bytes, spelling, token, Spelling::InToken)
 }
 
 /// The first member's name against the second's, by their units.
 pub(crate) fn compare_members(text: &[u8], rows: &[Row], first: NodeId, second: NodeId) -> Ordering
     ensures { result ≡ slice_cmp nat_cmp (name_units text.now rows.now first) (name_units text.now rows.now second) }
 {
-    compare_bytes(
+    compare_text(
         name_bytes(text, rows, first),
         name_bytes(text, rows, second),
-        Spelling::InText,
     )
 }
 
@@ -148,25 +155,21 @@ pub(crate) fn compare_members(text: &[u8], rows: &[Row], first: NodeId, second: 
 pub(crate) fn compare_names(text: &[u8], first: Span, second: Span) -> Ordering
     ensures { result ≡ slice_cmp nat_cmp (units_at text.now first) (units_at text.now second) }
 {
-    compare_bytes(
-        string_bytes(text, first),
-        string_bytes(text, second),
-        Spelling::InText,
-    )
+    compare_text(string_bytes(text, first), string_bytes(text, second))
 }
 
 /// A member's name against a token as a pointer spells it.
 pub(crate) fn compare_to_token(text: &[u8], rows: &[Row], node: NodeId, token: &[u8]) -> Ordering
     ensures { result ≡ slice_cmp nat_cmp (name_units text.now rows.now node) (chars_units InToken 0 token.now) }
 {
-    compare_bytes(name_bytes(text, rows, node), token, Spelling::InToken)
+    compare_spelt(name_bytes(text, rows, node), Spelling::InText, token)
 }
 
 /// Whether the name at a span of a text has the units that a token spells.
 pub(crate) fn is_spelt(text: &[u8], name: Span, token: &[u8]) -> bool
     ensures { result ≡ is_name text.now (chars_units InToken 0 token.now) (Some name) }
 {
-    compare_bytes(string_bytes(text, name), token, Spelling::InToken).is_eq()
+    compare_spelt(string_bytes(text, name), Spelling::InText, token).is_eq()
 }
 
 /// Sorts members by the units of their names; equal names keep their order. Where the order holds already, one comparison

@@ -11,7 +11,7 @@ ghost use Rattle.jx_index.specs.inside.Trie.{child_at, edge_key, edge_units, lea
 use crate::array_token::{Place, place_of_token};
 use crate::find::token_len;
 use crate::finder::Met;
-use crate::names::{compare, compare_bytes, keep, string_bytes};
+use crate::names::{compare_spelt, keep, string_bytes};
 use crate::pointer::Pointer;
 use crate::units::{Spelling, Units, skip};
 use jx_lex::Span;
@@ -69,10 +69,7 @@ pub(crate) fn compare_edges(one: &Edge, other: &Edge) -> Ordering
         Ordering::Equal => match one.place.cmp(&other.place) {
             Ordering::Less => Ordering::Less,
             Ordering::Greater => Ordering::Greater,
-            Ordering::Equal => compare(
-                Units::new(one.name, Spelling::InToken),
-                Units::new(other.name, Spelling::InToken),
-            ),
+            Ordering::Equal => compare_spelt(one.name, Spelling::InToken, other.name),
         },
     }
 }
@@ -83,19 +80,6 @@ fn is_before_place(edge: &Edge, node: usize, place: usize) -> bool
     ensures { result ≡ is_lt (slice_cmp nat_cmp (edge_key edge.now) (node ∷ place ∷ [])) }
 {
     edge.parent < node || (edge.parent == node && edge.place < place)
-}
-
-/// What some bytes spell against a token as a pointer spells it, by their units.
-fn compare_spelt(bytes: &[u8], spelling: Spelling, token: &[u8]) -> Ordering
-    ensures { result ≡ slice_cmp nat_cmp (chars_units spelling 0 bytes.now) (chars_units InToken 0 token.now) }
-{
-    match spelling {
-        Spelling::InText => compare_bytes(bytes, token, Spelling::InToken),
-        Spelling::InToken => compare(
-            Units::new(bytes, Spelling::InToken),
-            Units::new(token, Spelling::InToken),
-        ),
-    }
 }
 
 /// Whether an edge stands before that of some units from a node, where the units name this place.
