@@ -96,13 +96,12 @@ fn add_level<'p>(
     Ok(later)
 }
 
-/// Sorts parts by their edges.
-fn sort_parts(parts: &mut Vec<Part>) -> Result<(), AllocError>
-    ensures rising { IfOk result (λ _. IsSortedBy part_before parts.new.items) }
+/// Sorts parts by their edges. Those of equal edges stand in any order, so no memory is needed.
+fn sort_parts(parts: &mut Vec<Part>)
+    ensures rising { IsSortedBy part_before parts.new.items }
     ensures each_once { IsPermutation parts.old.items parts.new.items }
 {
-    parts.sort_by(|one, other| compare_edges(&one.edge, &other.edge))?;
-    Ok(())
+    parts.sort_unstable_by(|one, other| compare_edges(&one.edge, &other.edge));
 }
 
 /// The trie of the pointers' tokens. Each level costs no more than to sort what is left of the pointers.
@@ -116,7 +115,7 @@ pub(crate) fn trie_of<'p>(
     let mut edges = Vec::new(alloc);
     let mut parts = parts_of(alloc, pointers)?;
     while !parts.is_empty() {
-        sort_parts(&mut parts)?;
+        sort_parts(&mut parts);
         let later = add_level(alloc, &mut edges, &parts)?;
         parts = later;
     }

@@ -9,5 +9,5 @@ use Rattle.jx_index.proofs.trie_build.sort_parts.Goals as goal
 
 pub returns-clause-rising : goal.returns-clause-rising
 returns-clause-rising c =
-    c.in_ok-sort_by.ensures.sorted part_before (ranks_by nat_list_cmp_total (λ (p : Part). edge_key p.edge))
+    c.sort_unstable_by.ensures.sorted part_before (ranks_by nat_list_cmp_total (λ (p : Part). edge_key p.edge))
     (answers_by _ _ (λ f. Unit {0}) (λ f a r f' k i. search rules) _ tt)
