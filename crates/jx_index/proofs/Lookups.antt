@@ -14,7 +14,7 @@ use Rattle.jx_index.specs.declared.array_token.Place.TheVariants as place
 use Rattle.jx_index.specs.declared.trie.Edge.{Edge}
 use Rattle.jx_index.specs.inside.Finding.{is_place}
 use Rattle.jx_index.specs.inside.Found.{is_noted, noted_of}
-use Rattle.jx_index.specs.inside.Trie.{child_at, edge_key, edge_units, element_at, leads_to_place, leads_to_units, place_at, place_from, place_number, place_of, IsFirstFrom, IsNextFrom, IsTrie}
+use Rattle.jx_index.specs.inside.Trie.{child_at, edge_key, edge_units, element_at, follows, leads_to_place, leads_to_units, place_at, place_from, place_number, place_of, stands_before, IsFirstFrom, IsNextFrom, IsTrie}
 use Rattle.jx_index.proofs.FinderSteps.{place_noted}
 use Rattle.jx_index.proofs.NameKeys.{same_units}
 use Rattle.jx_index.proofs.Tests.{first_true, is_false, less_of, same, second_true}
@@ -136,15 +136,9 @@ none_before : (us : List ℕ) → is_lt (slice_cmp nat_cmp us []) ≡ false
 none_before [] = refl
 none_before (u ∷ us) = refl
 
-pub before_no_units : (x y n p : ℕ) (us : List ℕ) → x ≡ n → nat_lt y p ≡ is_lt (slice_cmp nat_cmp (x ∷ y ∷ us) (n ∷ p ∷ []))
-before_no_units x y n p us q =
-    pick (nat_cmp y p) (ranked y p (nat_cmp y p) refl)
-    ∙ sym (ap (λ (r : Ordering). is_lt (ordering_then r (ordering_then (nat_cmp y p) (slice_cmp nat_cmp us [])))) (ap (λ (m : ℕ). nat_cmp m n) q ∙ tied_itself nat_cmp_total n))
-  where
-    pick : (r : Ordering) → MatchOrdering r (y < p) (y ≡ p) (p < y) → nat_lt y p ≡ is_lt (ordering_then r (slice_cmp nat_cmp us []))
-    pick Less m = grind (arith, nat_tests)
-    pick Equal m = (let z : nat_lt y p ≡ false = grind (arith, nat_tests) in z) ∙ sym (none_before us)
-    pick Greater m = grind (arith, nat_tests)
+pub before_none : (x y n p : ℕ) (us vs : List ℕ) → x ≡ n → y ≡ p → vs ≡ [] → false ≡ is_lt (slice_cmp nat_cmp (x ∷ y ∷ us) (n ∷ p ∷ vs))
+before_none x y n p us vs q e none =
+    sym (before_units x y n p us vs q e ∙ ap (λ (ws : List ℕ). is_lt (slice_cmp nat_cmp us ws)) none ∙ none_before us)
 
 greater_back : (o : Ordering) → is_gt (ordering_reverse o) ≡ is_lt o
 greater_back Less = refl
@@ -166,6 +160,20 @@ other edges node units at x x_is h e is t =
 
 pub nothing : (edges : List Edge) (node : ℕ) (units : List ℕ) (at : ℕ) → slice_get edges at ≡ None → (e : Edge) → slice_get edges at ≡ Some e → leads_to_units node units e ≡ true → ⊥
 nothing edges node units at none e is t = let n : None ≡ Some e = sym none ∙ is in absurd (cc)
+
+-- ---- by the neighbours
+
+pub follows_at : (edges : List Edge) (at : ℕ) (key : List ℕ) → (at ≡ 0 → ⊥) → stands_before (slice_get edges (at - 1)) key ≡ follows edges at key
+follows_at edges zero key h = absurd (h refl)
+follows_at edges (suc at) key h = ap (λ (n : ℕ). stands_before (slice_get edges n) key) (let e : suc at - 1 ≡ at = omega arith in e)
+
+pub follows_within : (edges : List Edge) (at : ℕ) (key : List ℕ) → follows edges at key ≡ true → at ≤ length edges
+follows_within edges zero key h = omega arith
+follows_within edges (suc at) key h = by (slice_get edges at) refl h
+  where
+    by : (o : Option Edge) → slice_get edges at ≡ o → stands_before o key ≡ true → suc at ≤ length edges
+    by None s t = absurd (cc)
+    by (Some x) s t = let l = there edges at x s in omega (arith, l)
 
 -- ---- by places
 
@@ -198,6 +206,43 @@ module _ (edges : List Edge) (trie : IsTrie edges) where
     below = λ j e l is. subst (λ (x : Edge). is_lt (slice_cmp nat_cmp (edge_key x) key) ≡ true) (is_got edges j e e is) (point.0 j e (omega arith) l);
     others = λ j e l is. subst (λ (x : Edge). is_lt (slice_cmp nat_cmp (edge_key x) key) ≡ false) (is_got edges j e e is) (point.1 j e l (there edges j e is));
   }
+
+  -- the first edge that does not stand before a key, by its neighbour in front and by itself
+  pub first_beside : (key : List ℕ) (at : ℕ) → follows edges at key ≡ true → stands_before (slice_get edges at) key ≡ false → IsFirstFrom edges key at
+  first_beside key at front here = record { below = λ j e l is. early at front j e l is; others = λ j e l is. late j e l is (slice_get edges at) refl here }
+    where
+      early : (n : ℕ) → follows edges n key ≡ true → (j : ℕ) (e : Edge) → j < n → slice_get edges j ≡ Some e → is_lt (slice_cmp nat_cmp (edge_key e) key) ≡ true
+      early zero f j e l is = absurd (omega (arith, l))
+      early (suc n) f j e l is = by (slice_get edges n) refl f (j == n) refl
+        where
+          by : (o : Option Edge) → slice_get edges n ≡ o → stands_before o key ≡ true → (b : Bool) → (j == n) ≡ b → is_lt (slice_cmp nat_cmp (edge_key e) key) ≡ true
+          by None s t b q = absurd (cc)
+          by (Some x) s t true q =
+              let xe : Some x ≡ Some e = sym s ∙ ap (slice_get edges) (sym (same j n q)) ∙ is in
+              let y : x ≡ e = cc in
+              subst (λ (z : Edge). is_lt (slice_cmp nat_cmp (edge_key z) key) ≡ true) y t
+          by (Some x) s t false q =
+              let before : j < n = grind (arith, nat_tests) in
+              below_on (edge_key e) (edge_key x) key ((trie n).rises j e x before is s) t
+
+      late : (j : ℕ) (e : Edge) → at ≤ j → slice_get edges j ≡ Some e → (o : Option Edge) → slice_get edges at ≡ o → stands_before o key ≡ false → is_lt (slice_cmp nat_cmp (edge_key e) key) ≡ false
+      late j e l is None s t =
+          let in_range = there edges j e is in
+          let h = here_at edges at (omega (arith, l, in_range)) in
+          let n : None ≡ Some h.edge = sym s ∙ h.is in
+          absurd (cc)
+      late j e l is (Some x) s t = pick (at == j) refl
+        where
+          pick : (b : Bool) → (at == j) ≡ b → is_lt (slice_cmp nat_cmp (edge_key e) key) ≡ false
+          pick true q =
+              let xe : Some x ≡ Some e = sym s ∙ ap (slice_get edges) (same at j q) ∙ is in
+              let y : x ≡ e = cc in
+              subst (λ (z : Edge). is_lt (slice_cmp nat_cmp (edge_key z) key) ≡ false) y t
+          pick false q =
+              let later : at < j = grind (arith, nat_tests) in
+              is_false (is_lt (slice_cmp nat_cmp (edge_key e) key)) (λ k.
+              let clash : false ≡ true = sym t ∙ below_on (edge_key x) (edge_key e) key ((trie j).rises at x e later s is) k in
+              absurd (cc))
 
   -- ---- by units
 

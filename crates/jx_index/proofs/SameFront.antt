@@ -45,3 +45,8 @@ pub first_unit : (spelling : Spelling) (bytes : List ℕ) → 0 < length bytes �
     → chars_units spelling 0 bytes ≡ get_or bytes 0 0 ∷ chars_units spelling 0 (drop 1 bytes)
 first_unit spelling [] h p n m = absurd (omega (arith, h))
 first_unit spelling (b ∷ bytes) h p n m = plain_unit spelling b bytes p n m
+
+pub no_units : (s : Spelling) (bytes : List ℕ) → length bytes ≡ 0 → chars_units s 0 bytes ≡ []
+unfolding chars_units
+no_units s [] h = refl
+no_units s (b ∷ bytes) h = absurd (omega (arith, h))

@@ -1,6 +1,6 @@
 -- What tests of numbers and of two facts at once say.
 use Rattle.std.proofs.Common.{◌≡◌, ℕ, Bool, true, false, refl, ap, ◌∙◌, arith}
-use Rattle.std.specs.Prelude.{◌==◌, ◌&&◌}
+use Rattle.std.specs.Prelude.{◌==◌, ◌&&◌, not, IsTrue}
 use Rattle.std.specs.declared.cmp.Ordering.{Ordering}
 use Rattle.std.specs.declared.cmp.Ordering.TheVariants.{Less, Equal, Greater}
 use Rattle.std.specs.Ordering.{is_lt}
@@ -20,6 +20,10 @@ both_true a b h g = ap (λ (x : Bool). x && b) h ∙ g
 pub is_false : (b : Bool) → (b ≡ true → ⊥) → b ≡ false
 is_false true h = absurd (h refl)
 is_false false h = refl
+
+pub is_off : (b : Bool) → IsTrue (not b) → b ≡ false
+is_off true h = absurd (cc)
+is_off false h = refl
 
 pub same : (n m : ℕ) → (n == m) ≡ true → n ≡ m
 same n m e = grind (arith, nat_tests)

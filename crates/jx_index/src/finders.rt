@@ -39,7 +39,7 @@ impl Search for Brand {
 pub struct Finders<'a, 'p, S> {
     text: &'a [u8],
     edges: &'a [Edge<'p>],
-    seeker: Seeker,
+    seeker: Seeker<'a>,
     /// A token that has begun, and that the seeker was not told of yet.
     begun: Option<Mark>,
     marks: Vec<Mark>,
@@ -73,7 +73,7 @@ impl<'a, 'p, S: Search> Finders<'a, 'p, S> {
         alloc: Global,
         text: &'a [u8],
         edges: &'a [Edge<'p>],
-        seeker: Seeker,
+        seeker: Seeker<'a>,
     ) -> Finders<'a, 'p, S>
         requires text { text.now ≡ S.bytes }
         requires edges { edges.now ≡ S.edges }

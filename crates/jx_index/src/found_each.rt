@@ -16,8 +16,10 @@ use crate::found_in::read;
 use crate::laws::{indexes_stand_behind_fronts, names_are_refused_by_rows};
 use crate::pointer::Pointer;
 use crate::seeker::Seeker;
-use crate::trie::{Edge, met_along};
+use crate::starts::starts_of;
+use crate::trie::Edge;
 use crate::trie_build::trie_of;
+use crate::trie_nodes::met_along;
 use crate::wanted::wanted_of;
 use jx_lex::{Depth, Span, tokens_are_read};
 use jx_run::{Front, NoPause, Pace, Refusal, Settings, Verdict, front, read_into};
@@ -28,12 +30,13 @@ use std::marker::Brand;
 fn read_one(
     alloc: Global,
     edges: &[Edge],
+    starts: &[usize],
     met: &[Met],
     pointer: &Pointer,
 ) -> Result<Result<Found, FindFault>, AllocError>
     ensures { IfOk result (IsReadOf edges.now met.now pointer.now) }
 {
-    let along = met_along(alloc, edges, met, pointer)?;
+    let along = met_along(alloc, edges, starts, met, pointer)?;
     let wanted = wanted_of(alloc, pointer)?;
     Ok(read(&wanted, &along))
 }
@@ -42,6 +45,7 @@ fn read_one(
 fn read_each(
     alloc: Global,
     edges: &[Edge],
+    starts: &[usize],
     met: &[Met],
     pointers: &[Pointer],
 ) -> Result<Vec<Result<Found, FindFault>>, AllocError>
@@ -49,7 +53,7 @@ fn read_each(
 {
     let mut found = Vec::with_capacity(alloc, pointers.len())?;
     for pointer in pointers {
-        let one = read_one(alloc, edges, met, pointer)?;
+        let one = read_one(alloc, edges, starts, met, pointer)?;
         found.push(one)?;
     }
     Ok(found)
@@ -62,6 +66,7 @@ fn find_each_of<S: Search, P: Pace>(
     span: Span,
     depth: Depth,
     edges: &[Edge],
+    starts: &[usize],
     pointers: &[Pointer],
     pace: &mut P,
 ) -> Result<Result<Vec<Result<Found, FindFault>>, Refusal>, AllocError>
@@ -76,14 +81,14 @@ fn find_each_of<S: Search, P: Pace>(
     ensures found { IfOk result (λ read. IfOk read (λ found. AllZip (FindsIn text.now span.start span.end) pointers.now found.items)) }
 {
     tokens_are_read();
-    let seeker = Seeker::new(alloc, edges.len())?;
+    let seeker = Seeker::new(alloc, edges.len(), starts)?;
     let finders: Finders<'_, '_, S> = Finders::new(alloc, text, edges, seeker);
     let told = read_into(alloc, text, span.start, span.end, depth, finders, pace)?;
     match told.verdict {
         Verdict::Refused(refusal) => Ok(Err(refusal)),
         Verdict::Accepted => {
             let met = told.sink.finish(span.end)?;
-            let found = read_each(alloc, edges, &met, pointers)?;
+            let found = read_each(alloc, edges, starts, &met, pointers)?;
             Ok(Ok(found))
         }
     }
@@ -108,7 +113,8 @@ pub fn find_each_in<P: Pace>(
     ensures found { IfOk result (λ read. IfOk read (λ found. AllZip (FindsIn text.now span.start span.end) pointers.now found.items)) }
 {
     let edges = trie_of(alloc, pointers)?;
-    find_each_of::<Brand, P>(alloc, text, span, depth, &edges, pointers, pace)
+    let starts = starts_of(alloc, &edges)?;
+    find_each_of::<Brand, P>(alloc, text, span, depth, &edges, &starts, pointers, pace)
 }
 
 /// Reads a JSON text (RFC 8259) by settings on the calling thread in one pass, and looks pointers up in it (RFC 6901,

@@ -7,16 +7,19 @@ ghost use Rattle.jx_index.specs.inside.Found.{finding, HasRoom};
 ghost use Rattle.jx_index.specs.inside.Trie.{among, element_at, first_open, place_from, sought, string_among, target_node, IsNextFrom, IsNextIn, IsTrie};
 
 use crate::finder::{Cursor, State, one_more};
-use crate::trie::{Edge, first_from, member};
+use crate::trie::Edge;
+use crate::trie_nodes::{first_of_place, member};
 use jx_lex::{Kind, MarkKind, Span};
 use std::alloc::{AllocError, Global};
 
 /// What was met at each node of a trie, and the open containers at its nodes: the levels are numbers of nodes.
 #[derive(Drop)]
-pub struct Seeker {
+pub struct Seeker<'s> {
     pub state: State,
     /// No edge from the node of the innermost open array names a place from its count on and below this.
     pub next: usize,
+    /// Where the edges of each node begin.
+    pub starts: &'s [usize],
 }
 
 /// The place that an edge names, where it is one from this node, or the greatest `usize`.
@@ -40,15 +43,20 @@ fn innermost(opened: &[Cursor]) -> Option<Cursor>
     }
 }
 
-impl Seeker {
+impl<'s> Seeker<'s> {
     /// Nothing was met yet at the nodes behind so many edges.
-    pub(crate) fn new(alloc: Global, edges: usize) -> Result<Seeker, AllocError>
+    pub(crate) fn new(
+        alloc: Global,
+        edges: usize,
+        starts: &'s [usize],
+    ) -> Result<Seeker<'s>, AllocError>
         ensures state { IfOk result (λ seeker. finding seeker.state ≡ nothing_met edges) }
         ensures next { IfOk result (λ seeker. seeker.next ≡ 0) }
     {
         Ok(Seeker {
             state: State::new(alloc, edges)?,
             next: 0,
+            starts,
         })
     }
 
@@ -62,7 +70,7 @@ impl Seeker {
         if place < self.next {
             return None;
         }
-        let at = first_from(edges, node, place);
+        let at = first_of_place(edges, self.starts, node, place);
         self.next = place_from(edges, at, node);
         if self.next == place {
             Some(at + 1)
@@ -124,7 +132,7 @@ impl Seeker {
         match self.state.naming() {
             None => self.leaf(edges, Kind::String, span),
             Some(node) => {
-                self.state.name = Some(member(text, edges, node, span));
+                self.state.name = Some(member(text, edges, self.starts, node, span));
                 Ok(())
             }
         }

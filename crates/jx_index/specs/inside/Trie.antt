@@ -15,6 +15,7 @@ use Rattle.jx_index.specs.declared.array_token.Place.{Place}
 use Rattle.jx_index.specs.declared.array_token.Place.TheVariants as place
 use Rattle.jx_index.specs.declared.finder.Cursor.{Cursor}
 use Rattle.jx_index.specs.declared.trie.Edge.{Edge}
+use Rattle.jx_index.specs.declared.trie.Key.{Key}
 use Rattle.jx_index.specs.declared.units.Spelling.TheVariants.{InToken}
 use Rattle.jx_index.specs.inside.Building.{next_end, ends_after}
 use Rattle.jx_index.specs.inside.Finding.{Finding, is_place, begin_at, behind_name, end_in, leaf_at, met_at, naming, skip_over}
@@ -77,6 +78,25 @@ member_at text edges node (Some name) = child_at edges node (units_at text name)
 pub record IsFirstFrom (edges : List Edge) (key : List ℕ) (at : ℕ) : Type 0 where
   pub below : (j : ℕ) (e : Edge) → j < at → slice_get edges j ≡ Some e → is_lt (slice_cmp nat_cmp (edge_key e) key) ≡ true
   pub others : (j : ℕ) (e : Edge) → at ≤ j → slice_get edges j ≡ Some e → is_lt (slice_cmp nat_cmp (edge_key e) key) ≡ false
+
+-- what an edge is looked for by, as edges are ordered
+abbrev pub sought_key : Key → List ℕ
+sought_key k = k.node ∷ k.place ∷ chars_units k.spelling 0 k.bytes.now
+
+-- there is an edge, and it stands before a key
+abbrev pub stands_before : Option Edge → List ℕ → Bool
+stands_before None key = false
+stands_before (Some e) key = is_lt (slice_cmp nat_cmp (edge_key e) key)
+
+-- no edge stands in front, or the last one before a key
+abbrev pub follows : List Edge → ℕ → List ℕ → Bool
+follows edges zero key = true
+follows edges (suc at) key = stands_before (slice_get edges at) key
+
+-- there is an edge, and it names a place
+abbrev pub is_placed : Option Edge → ℕ → Bool
+is_placed None place = false
+is_placed (Some e) place = e.place == place
 
 -- the nodes to which some tokens lead from a node, this one first
 pub data IsWay (edges : List Edge) : ℕ → List (List ℕ) → List ℕ → Type 0 where

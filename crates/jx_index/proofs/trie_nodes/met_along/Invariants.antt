@@ -2,7 +2,7 @@ use Rattle.std.proofs.Common.{ℕ, List, length}
 use Rattle.jx_index.specs.Pointers.{HasSlash, tokens}
 use Rattle.jx_index.specs.inside.Trie.{IsTrie, IsWay}
 use Rattle.jx_index.proofs.Climbs.{IsLeft}
-use Rattle.jx_index.proofs.trie.met_along.Given as goal
+use Rattle.jx_index.proofs.trie_nodes.met_along.Given as goal
 
 abbrev pub invariant-loop-rest : goal.invariant-loop-rest
 invariant-loop-rest l = record {

@@ -6,7 +6,7 @@ use Rattle.jx_index.specs.Units.{chars_units}
 use Rattle.jx_index.specs.inside.Trie.{IsWay}
 use Rattle.jx_index.proofs.Climbs.{left_all, left_none, left_on, no_child, token_first}
 use Rattle.jx_index.proofs.TokenSteps.{tokens_end}
-use Rattle.jx_index.proofs.trie.met_along.Goals as goal
+use Rattle.jx_index.proofs.trie_nodes.met_along.Goals as goal
 
 pub loop-rest-init : goal.loop-rest-init
 loop-rest-init c = record {

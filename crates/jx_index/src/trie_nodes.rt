@@ -1,0 +1,147 @@
+// The nodes of a trie: where tokens lead, and what was met there.
+ghost use Rattle.std.specs.Prelude.{◌≡◌, ◌∷◌, ◌≤◌, [], ℕ, List, length, map, slice_get, IfOk, IsTrue, Some};
+ghost use Rattle.jx_index.specs.Pointers.{tokens};
+ghost use Rattle.jx_index.specs.Units.{chars_units};
+ghost use Rattle.jx_index.specs.inside.Finding.{met_at};
+ghost use Rattle.jx_index.specs.inside.Trie.{child_at, follows, member_at, sought_key, stands_before, IsFirstFrom, IsTrie, IsWay};
+
+use crate::find::token_len;
+use crate::finder::Met;
+use crate::names::{keep, string_bytes};
+use crate::pointer::Pointer;
+use crate::starts::near;
+use crate::trie::{Edge, Key, edge_at, is_before_key, leads_on, place_of};
+use crate::units::{Spelling, skip};
+use jx_lex::Span;
+use std::alloc::{AllocError, Global};
+
+/// Whether there is an edge with this number, and it stands before a key.
+fn stands_before(edges: &[Edge], at: usize, key: &Key) -> bool
+    ensures { result ≡ stands_before (slice_get edges.now at) (sought_key key.now) }
+{
+    match edges.get(at) {
+        Some(edge) => is_before_key(edge, key),
+        None => false,
+    }
+}
+
+/// Whether all edges before this number stand before a key, as far as the last of them tells.
+fn follows(edges: &[Edge], at: usize, key: &Key) -> bool
+    ensures { result ≡ follows edges.now at (sought_key key.now) }
+{
+    if at == 0 {
+        return true;
+    }
+    stands_before(edges, at - 1, key)
+}
+
+/// Whether the edge with this number is the first that does not stand before a key, as its neighbour and itself tell.
+fn is_first(edges: &[Edge], at: usize, key: &Key) -> bool
+    ensures within { IsTrue result → at ≤ length edges.now }
+    ensures first { IsTrue result → IsTrie edges.now → IsFirstFrom edges.now (sought_key key.now) at }
+{
+    follows(edges, at, key) && !stands_before(edges, at, key)
+}
+
+/// The number of the first edge that does not stand before a key, or of what stands there in its stead. It is mostly that which
+/// the starts lead to; where they are wrong all edges are halved.
+fn first_from(edges: &[Edge], starts: &[usize], key: &Key) -> usize
+    ensures within { result ≤ length edges.now }
+    ensures first { IsTrie edges.now → IsFirstFrom edges.now (sought_key key.now) result }
+{
+    let near = near(edges, starts, key);
+    if is_first(edges, near, key) {
+        return near;
+    }
+    edges.partition_point(|edge| is_before_key(edge, key))
+}
+
+/// The node to which some units lead from another.
+pub(crate) fn child(
+    edges: &[Edge],
+    starts: &[usize],
+    node: usize,
+    bytes: &[u8],
+    spelling: Spelling,
+) -> Option<usize>
+    ensures { IsTrie edges.now → result ≡ child_at edges.now node (chars_units spelling 0 bytes.now) }
+{
+    let place = place_of(bytes, spelling);
+    let key = Key {
+        node,
+        place,
+        bytes,
+        spelling,
+    };
+    let at = first_from(edges, starts, &key);
+    match edge_at(edges, at) {
+        Some(edge) if leads_on(&edge, &key) => Some(at + 1),
+        _ => None,
+    }
+}
+
+/// The node of the member of a node's object that has a name.
+pub(crate) fn member(
+    text: &[u8],
+    edges: &[Edge],
+    starts: &[usize],
+    node: usize,
+    name: Span,
+) -> Option<usize>
+    ensures { IsTrie edges.now → result ≡ member_at text.now edges.now node (Some name) }
+{
+    let bytes = string_bytes(text, name);
+    child(edges, starts, node, bytes, Spelling::InText)
+}
+
+/// The number of the first edge from a node that names this place or a later one, or of what stands there in its stead.
+#[tactic(auto, unfolding(crate::specs::Units::chars_units))]
+pub(crate) fn first_of_place(edges: &[Edge], starts: &[usize], node: usize, place: usize) -> usize
+    ensures within { result ≤ length edges.now }
+    ensures first { IsTrie edges.now → IsFirstFrom edges.now (node ∷ place ∷ []) result }
+{
+    let key = Key {
+        node,
+        place,
+        bytes: &[],
+        spelling: Spelling::InToken,
+    };
+    first_from(edges, starts, &key)
+}
+
+/// What was met at a node.
+fn met_at(met: &[Met], node: usize) -> Met
+    ensures { result ≡ met_at met.now node }
+{
+    match met.get(node) {
+        Some(met) => *met,
+        None => Met::Again,
+    }
+}
+
+/// What was met where a pointer's tokens lead, the root first.
+pub(crate) fn met_along(
+    alloc: Global,
+    edges: &[Edge],
+    starts: &[usize],
+    met: &[Met],
+    pointer: &Pointer,
+) -> Result<Vec<Met>, AllocError>
+    ensures { IfOk result (λ along. IsTrie edges.now → (path : List ℕ) → IsWay edges.now 0 (tokens pointer.now) path → along.items ≡ map (met_at met.now) path) }
+{
+    let mut along = Vec::new(alloc);
+    let mut node = 0;
+    let mut rest = pointer.bytes();
+    while !rest.is_empty() {
+        along.push(met_at(met, node))?;
+        let bytes = skip(rest, 1);
+        let len = token_len(bytes);
+        match child(edges, starts, node, keep(bytes, len), Spelling::InToken) {
+            Some(next) => node = next,
+            None => return Ok(along),
+        }
+        rest = skip(bytes, len);
+    }
+    along.push(met_at(met, node))?;
+    Ok(along)
+}
