@@ -7,3 +7,4 @@ pub mod Works
 pub mod Totals
 pub mod Single
 pub mod Alls
+pub mod Sizes

@@ -60,7 +60,7 @@ impl<'a, S: Summary, P: Ledger, T: Ledger> Locked<'a, S, P, T> {
     }
 
     /// Takes all shares, which tell what the runs cover together, and gives the runs.
-    pub fn into_runs(self, mut shares: Vec<Share<P, T>>) -> Vec<Held<'a, S>>
+    pub fn into_runs(self, shares: Vec<Share<P, T>>) -> Vec<Held<'a, S>>
         requires some { 0 < vec_len shares }
         requires put { vec_len shares ≡ P.parts }
         requires taken { vec_len shares ≡ T.parts }
@@ -72,17 +72,30 @@ impl<'a, S: Summary, P: Ledger, T: Ledger> Locked<'a, S, P, T> {
             mut put,
             mut taken,
         } = self;
-        let Some(first) = shares.pop() else {
-            unreachable!()
-        };
-        let (mut all_put, mut all_taken) = first.into_parts();
-        while let Some(share) = shares.pop() {
-            let (theirs, others) = share.into_parts();
-            all_put.merge(theirs);
-            all_taken.merge(others);
-        }
+        let (mut all_put, mut all_taken) = merge_all(shares);
         put.audit(&mut all_put);
         taken.audit(&mut all_taken);
         state.into_runs()
     }
+}
+
+/// The ledgers' parts of all shares.
+fn merge_all<P: Ledger, T: Ledger>(
+    mut shares: Vec<Share<P, T>>,
+) -> (ledger::Share<P>, ledger::Share<T>)
+    requires { 0 < vec_len shares }
+    ensures parts { (result.0.parts ≡ vec_len shares) × (result.1.parts ≡ vec_len shares) }
+    ensures put { result.0.amount ≡ sum_by (λ s. s.put) shares.items }
+    ensures taken { result.1.amount ≡ sum_by (λ s. s.taken) shares.items }
+{
+    let Some(first) = shares.pop() else {
+        unreachable!()
+    };
+    let (mut all_put, mut all_taken) = first.into_parts();
+    while let Some(share) = shares.pop() {
+        let (theirs, others) = share.into_parts();
+        all_put.merge(theirs);
+        all_taken.merge(others);
+    }
+    (all_put, all_taken)
 }

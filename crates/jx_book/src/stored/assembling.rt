@@ -25,12 +25,29 @@ pub fn assemble<'a, S: Summary>(
     while let Some(run) = runs.pop() {
         let span = run.span();
         if span.start < front {
-            return fill(alloc, text, depth, front, rest);
+            break;
         }
-        let filled = fill(alloc, text, depth, span.end, rest)?;
-        rest = join_same(run, filled)?;
+        rest = put_before(alloc, text, depth, run, rest)?;
     }
     fill(alloc, text, depth, front, rest)
+}
+
+/// Reads what stands between a run and the rest, and joins the three.
+fn put_before<'a, S: Summary>(
+    alloc: Global,
+    text: &'a [u8],
+    depth: Depth,
+    run: Held<'a, S>,
+    rest: Held<'a, S>,
+) -> Result<Held<'a, S>, AllocError>
+    requires of { IsOf text.now depth run }
+    requires bound { run.span.end ≤ rest.span.start }
+    requires rest { IsRest text.now depth rest.span.start rest }
+    ensures { IfOk result (λ h. IsRest text.entry.now depth run.entry.span.start h) }
+{
+    let end = run.span().end;
+    let filled = fill(alloc, text, depth, end, rest)?;
+    join_same(run, filled)
 }
 
 /// Reads what stands between an offset and the rest, and joins it to that.

@@ -1,4 +1,4 @@
-use Rattle.std.proofs.Common.{◌≡◌, ℕ, ◌<◌, ◌≤◌, refl, subst, List, [], ◌∷◌, length, get_or, cond, Bool, true, ap, ◌∙◌, arith}
+use Rattle.std.proofs.Common.{◌≡◌, ℕ, ◌<◌, ◌≤◌, refl, subst, sym, inr, List, [], ◌∷◌, length, get_or, cond, Bool, true, ap, ◌∙◌, arith}
 use Rattle.std.specs.Prelude.{count_by, sum_by, MatchOption}
 use Rattle.std.specs.declared.option.Option.{Option}
 use Rattle.std.specs.declared.option.Option.TheVariants.{None, Some}
@@ -6,7 +6,10 @@ use Rattle.std.proofs.lemmas.List.Sums.{sum_by-cons}
 use Rattle.jx_claim.specs.Claimed.{SeatValue, once_below}
 use Rattle.jx_summary.specs.declared.span.Span.{Span}
 use Rattle.jx_claim.specs.Cut.{Tiles}
-use Rattle.jx_book.specs.Runs.{HeldValue, run_len}
+use Rattle.std.proofs.lemmas.Result.{err_from_is_err_and}
+use Rattle.jx_book.specs.Runs.{HeldValue, IsApart, run_len}
+use Rattle.jx_book.specs.Shares.{ShareValue}
+use Rattle.jx_book.proofs.Sizes.{sized, other_from}
 use Rattle.jx_book.specs.Gathered.{IsGathered, IsRest}
 use Rattle.jx_book.proofs.Totals.{all_bytes}
 use Rattle.jx_book.proofs.lock.gathering.gather.Goals as goal
@@ -50,3 +53,31 @@ returns-clause-ok g c =
     let at : c.front-front.result ≡ v.front = c.front-front.ensures.front in
     let only = subst (λ (n : ℕ). MatchOption c.only_run.result (length c.args.text.now ≡ n) (λ h. (n < length c.args.text.now) × IsRest c.args.text.now c.args.depth n h)) at c.only_run.ensures in
     gathered v.pieces c.args.text.now c.args.depth v.front c.only_run.result (subst (λ (n : ℕ). Tiles v.front v.pieces n) c.requires.cutting c.len-len.ensures.covers) only
+
+pub returns-in_err-closed-clause-err : goal.returns-in_err-closed-clause-err
+returns-in_err-closed-clause-err g c =
+    let p = err_from_is_err_and c.from_residual.result c.from_residual.ensures.1 in
+    rw (p.1, p.2) (other_from c.args.text.now c.args.depth c.args.cutting.now.front _ c.in_err-closed.ensures.err)
+
+pub returns-in_err-closed-clause-size : goal.returns-in_err-closed-clause-size
+returns-in_err-closed-clause-size g c =
+    let p = err_from_is_err_and c.from_residual.result c.from_residual.ensures.1 in
+    rw (p.1, p.2) c.in_err-closed.ensures.size
+
+pub returns-then-begins_before-clause-err : goal.returns-then-begins_before-clause-err
+returns-then-begins_before-clause-err g c =
+    let items : c.as_slice.result.now ≡ c.into_runs-runs.result.items = c.as_slice.ensures.value in
+    let yes = c.begins_before.ensures.yes c.if-begins_before.true in
+    let r : HeldValue g.row.S.Denot = c.swap_remove.result in
+    inr (omega (arith, yes.1 r, c.front-front.ensures.front, ap (λ (l : List (HeldValue g.row.S.Denot)). (get_or l 0 r).span.start) items, ap (λ (h : HeldValue g.row.S.Denot). h.span.start) c.swap_remove.ensures.value))
+
+pub returns-then-begins_before-clause-size : goal.returns-then-begins_before-clause-size
+returns-then-begins_before-clause-size g c =
+    let X = HeldValue g.row.S.Denot in
+    let xs : List X = c.into_runs-runs.result.items in
+    let items : c.as_slice.result.now ≡ xs = c.as_slice.ensures.value in
+    let yes = c.begins_before.ensures.yes c.if-begins_before.true in
+    let apart : IsApart xs = subst (λ (l : List X). IsApart l) (sym c.into_runs-runs.ensures.runs) c.in_ok-closed.ensures.apart in
+    sized xs 0 c.swap_remove.result (sum_by (λ (s : ShareValue). s.put) c.args.shares.items) (sum_by (λ (s : ShareValue). s.taken) c.args.shares.items)
+    apart (subst (λ (l : List X). 0 < length l) items yes.0) c.swap_remove.ensures.value
+    (omega (arith, c.in_ok-closed.ensures.total, ap (λ (l : List X). sum_by run_len l) c.into_runs-runs.ensures.runs))

@@ -1,5 +1,5 @@
 use Rattle.std.proofs.Common.{◌≡◌, ◌+◌, vec_len, sum_by}
-use Rattle.jx_book.proofs.lock.locked.Locked.into_runs.Given as goal
+use Rattle.jx_book.proofs.lock.locked.merge_all.Given as goal
 
 abbrev pub invariant-loop-share : goal.invariant-loop-share
 invariant-loop-share g l = record {
