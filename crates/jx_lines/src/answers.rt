@@ -24,12 +24,15 @@ pub fn push_span(out: &mut Out, span: Span) {
 }
 
 fn push_refusal(out: &mut Out, refusal: Refusal) {
-    match refusal {
-        Refusal::Truncated => out.push_str("truncated"),
-        Refusal::Stopped { at } => out.put(format_args!("stopped at {at}")),
-        Refusal::TooDeep { at } => out.put(format_args!("too deep at {at}")),
-        Refusal::RepeatedName { at } => out.put(format_args!("repeated name at {at}")),
-    }
+    let (word, at) = match refusal {
+        Refusal::Truncated => return out.push_str("truncated"),
+        Refusal::Stopped { at } => ("stopped", at),
+        Refusal::TooDeep { at } => ("too deep", at),
+        Refusal::RepeatedName { at } => ("repeated name", at),
+    };
+    out.push_str(word);
+    out.push_str(" at ");
+    out.put(at);
 }
 
 /// `accepted`, `truncated`, `stopped at K`, `too deep at K` or `repeated name at K`.
@@ -41,7 +44,7 @@ pub fn push_verdict(out: &mut Out, verdict: Verdict) {
 }
 
 /// The element's span, and a verdict, `may be cut` or `unmarked`.
-pub fn push_element(out: &mut Out, element: &JudgedElement) {
+fn push_element(out: &mut Out, element: &JudgedElement) {
     push_span(out, element.span);
     out.push_str(" ");
     match element.verdict {
@@ -91,7 +94,7 @@ pub fn push_found(out: &mut Out, kind: Kind, span: Span) {
 
 /// A value's kind and span, its parent's number, its place among its siblings and the span of its name; `-` where there is
 /// none.
-pub fn push_row(out: &mut Out, row: &Row) {
+fn push_row(out: &mut Out, row: &Row) {
     push_kind(out, row.kind, row.span);
     match row.parent {
         Some(parent) => out.put(format_args!(" {}", parent.number())),

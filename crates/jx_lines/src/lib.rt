@@ -30,10 +30,7 @@ mod spelt;
 mod texts;
 mod ways;
 
-pub use answers::{
-    push_element, push_elements, push_found, push_numbers, push_row, push_rows, push_span,
-    push_verdict,
-};
+pub use answers::{push_elements, push_found, push_numbers, push_rows, push_span, push_verdict};
 pub use cuts::cuts_of;
 pub use line::{Line, LineFault, is_call, words_of};
 pub use names::settings_of;

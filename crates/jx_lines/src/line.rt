@@ -13,7 +13,7 @@ use std::alloc::{AllocError, AllocFailed, Global};
 use thiserror::Error;
 
 /// Why a line has no answer.
-#[derive(Clone, Copy, Debug, Error, PartialEq, Eq)]
+#[derive(Clone, Copy, Debug, Error)]
 pub enum LineFault {
     /// It names no call, or its words are not what the call takes.
     #[error("no such call")]
@@ -234,11 +234,14 @@ impl<'a> Line<'a> {
     }
 
     /// What is answered: that there is no such call where its words are not what it takes, or where some are left.
-    pub fn answer(self) -> Result<String, AllocError> {
-        match (self.fault, self.words) {
-            (None, []) => self.out.finish(),
-            (Some(LineFault::Memory), _) => Err(AllocError),
-            _ => String::from_str(self.alloc, "no such call"),
+    pub fn answer(mut self) -> Result<String, AllocError> {
+        if !self.words.is_empty() {
+            self.refuse();
+        }
+        match self.fault {
+            None => self.out.finish(),
+            Some(LineFault::Memory) => Err(AllocError),
+            Some(LineFault::NoSuchCall) => String::from_str(self.alloc, "no such call"),
         }
     }
 }

@@ -53,14 +53,24 @@ pub fn holders_of(alloc: Global, word: &str) -> Result<Vec<Holder>, LineFault> {
     Ok(holders)
 }
 
+/// The letters of settings, and what they ask for.
+const LETTERS: [(&str, FrontMark, NameRule); 4] = [
+    ("-", FrontMark::Refused, NameRule::Any),
+    ("b", FrontMark::Ignored, NameRule::Any),
+    ("u", FrontMark::Refused, NameRule::Unique),
+    ("bu", FrontMark::Ignored, NameRule::Unique),
+];
+
 /// The settings of these letters, within a depth.
 pub fn settings_of(depth: Depth, word: &str) -> Result<Settings, LineFault> {
-    let (mark, names) = match word {
-        "-" => (FrontMark::Refused, NameRule::Any),
-        "b" => (FrontMark::Ignored, NameRule::Any),
-        "u" => (FrontMark::Refused, NameRule::Unique),
-        "bu" => (FrontMark::Ignored, NameRule::Unique),
-        _ => return Err(LineFault::NoSuchCall),
-    };
-    Ok(Settings { depth, mark, names })
+    for (letters, mark, names) in &LETTERS {
+        if *letters == word {
+            return Ok(Settings {
+                depth,
+                mark: *mark,
+                names: *names,
+            });
+        }
+    }
+    Err(LineFault::NoSuchCall)
 }

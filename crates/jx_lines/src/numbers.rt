@@ -48,7 +48,7 @@ pub fn span_within(word: &str, len: usize) -> Result<Span, LineFault>
 }
 
 /// Two spans that meet.
-#[derive(Clone, Copy, Debug, PartialEq, Eq)]
+#[derive(Clone, Copy)]
 pub struct Meeting {
     /// Where the left one starts.
     pub start: usize,

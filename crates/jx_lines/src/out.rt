@@ -36,6 +36,18 @@ impl Out {
         self.is_refused |= written.is_err();
     }
 
+    /// Writes what parts a piece from the one before it, if there is one.
+    pub fn part(&mut self, mark: &str) {
+        if !self.text.is_empty() {
+            self.push_str(mark);
+        }
+    }
+
+    /// Keeps that memory was refused for a piece.
+    pub fn refuse(&mut self) {
+        self.is_refused = true;
+    }
+
     /// Writes what another one has, and keeps that memory was refused for it.
     pub fn push(&mut self, other: &Out) {
         self.push_str(other.text.as_str());

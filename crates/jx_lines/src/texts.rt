@@ -36,24 +36,39 @@ fn count_of(rest: &[u8]) -> Option<(usize, &[u8])> {
 
 /// What the rest of a word has next, and what stands behind that.
 fn next_piece(rest: &[u8]) -> Option<(Piece, &[u8])> {
-    match rest {
-        [b'\\', b'x', high, low, after @ ..] => {
-            let byte = digit_of(*high)? * 16 + digit_of(*low)?;
-            Some((Piece::Byte(byte), after))
-        }
-        [b'\\', b'*', after @ ..] => {
+    let (byte, after) = rest.split_first()?;
+    if *byte == b'\\' {
+        escaped_piece(after)
+    } else {
+        Some((Piece::Byte(*byte), after))
+    }
+}
+
+/// The same where a backslash stands before the rest.
+fn escaped_piece(rest: &[u8]) -> Option<(Piece, &[u8])> {
+    let (letter, after) = rest.split_first()?;
+    match letter {
+        b'x' => byte_piece(after),
+        b'*' => {
             let (count, after) = count_of(after)?;
             Some((Piece::Times(count), after))
         }
-        [b'\\', b'(', after @ ..] => {
+        b'(' => {
             let (count, after) = count_of(after)?;
             Some((Piece::Open(count), after))
         }
-        [b'\\', b')', after @ ..] => Some((Piece::Close, after)),
-        [b'\\', ..] => None,
-        [byte, after @ ..] => Some((Piece::Byte(*byte), after)),
-        [] => None,
+        b')' => Some((Piece::Close, after)),
+        _ => None,
     }
+}
+
+/// The byte of two hexadecimal digits.
+fn byte_piece(rest: &[u8]) -> Option<(Piece, &[u8])> {
+    let [high, low, after @ ..] = rest else {
+        return None;
+    };
+    let byte = digit_of(*high)? * 16 + digit_of(*low)?;
+    Some((Piece::Byte(byte), after))
 }
 
 /// What a word has spelt so far.
@@ -117,9 +132,10 @@ impl Spelt {
     }
 
     fn finish(self) -> Result<Vec<u8>, LineFault> {
-        match (self.open, self.times) {
-            (None, 1) => Ok(self.bytes),
-            _ => Err(LineFault::NoSuchCall),
+        if self.open.is_none() && self.times == 1 {
+            Ok(self.bytes)
+        } else {
+            Err(LineFault::NoSuchCall)
         }
     }
 }

@@ -1,6 +1,6 @@
 // Answers that are asked for in several ways.
 use crate::out::Out;
-use std::alloc::Global;
+use std::alloc::{AllocError, Global};
 use std::fmt::Display;
 
 /// What a call answers that is made in several ways, and whether all ways answer the same.
@@ -11,6 +11,8 @@ pub struct Ways {
     first: Option<Out>,
     /// The first other answer, behind the way that gave it.
     other: Option<Out>,
+    /// Whether memory was refused to a way.
+    is_refused: bool,
 }
 
 impl Ways {
@@ -20,6 +22,15 @@ impl Ways {
             alloc,
             first: None,
             other: None,
+            is_refused: false,
+        }
+    }
+
+    /// One more way, and what it answers, unless memory was refused to it, which is kept.
+    pub fn add_made<W: Display + Drop>(&mut self, way: W, answer: Result<Out, AllocError>) {
+        match answer {
+            Ok(answer) => self.add(way, answer),
+            Err(_) => self.is_refused = true,
         }
     }
 
@@ -35,11 +46,15 @@ impl Ways {
         }
     }
 
-    /// Writes the answer, if all ways gave the same one, and else the first other one with its way.
+    /// Writes the answer, if all ways gave the same one, and else the first other one with its way; and keeps that memory was refused
+    /// to a way.
     pub fn push_to(&self, out: &mut Out) {
-        match (&self.first, &self.other) {
-            (_, Some(told)) | (Some(told), None) => out.push(told),
-            (None, None) => out.push_str("asked in no way"),
+        if self.is_refused {
+            out.refuse();
+        }
+        match self.other.as_ref().or(self.first.as_ref()) {
+            Some(told) => out.push(told),
+            None => out.push_str("asked in no way"),
         }
     }
 }
