@@ -66,9 +66,7 @@ pub(crate) fn seats(line: &mut Line<'_>) {
 
 fn push_seats(out: &mut Out, seats: &[ClaimSeat]) {
     for seat in seats {
-        if !out.is_empty() {
-            out.push_str(" ");
-        }
+        out.part(" ");
         out.put(seat.number());
         if seat.spent() {
             out.push_str(" spent");

@@ -8,9 +8,7 @@ use jx_run::NameRule;
 
 /// The number of a node, behind a comma unless it is the first.
 fn push_node(out: &mut Out, node: NodeId) {
-    if !out.is_empty() {
-        out.push_str(",");
-    }
+    out.part(",");
     out.put(node.number());
 }
 

@@ -128,26 +128,14 @@ fn push_each(
     alloc: Global,
     index: &Indexed<'_>,
     pointers: &[String],
-    found: &[Led],
 ) -> Result<(), AllocError> {
-    let mut all = found;
+    let found = find_all_at_once(alloc, index.text(), pointers)?;
+    let mut all = found.as_slice();
     for pointer in pointers {
-        if !out.is_empty() {
-            out.push_str("; ");
-        }
+        out.part("; ");
         push_led(out, alloc, index, pointer.as_str(), &mut all)?;
     }
     Ok(())
-}
-
-fn push_all(
-    out: &mut Out,
-    alloc: Global,
-    index: &Indexed<'_>,
-    pointers: &[String],
-) -> Result<(), AllocError> {
-    let found = find_all_at_once(alloc, index.text(), pointers)?;
-    push_each(out, alloc, index, pointers, &found)
 }
 
 /// `find TEXT POINTER..`
@@ -155,7 +143,7 @@ pub(crate) fn find(line: &mut Line<'_>) {
     let text = line.text();
     let pointers = line.texts();
     if let Some(index) = read_index(line, &text) {
-        let told = push_all(&mut line.out, line.alloc, &index, &pointers);
+        let told = push_each(&mut line.out, line.alloc, &index, &pointers);
         line.settle(told);
     }
 }

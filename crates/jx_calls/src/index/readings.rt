@@ -81,43 +81,6 @@ fn in_one_pass_to_end(
     Ok(told_of_answer(alloc, &answer))
 }
 
-/// Both ways to read the end of a text.
-fn add_to_end(
-    ways: &mut Ways,
-    alloc: Global,
-    text: &[u8],
-    start: usize,
-    depth: Depth,
-) -> Result<(), AllocError>
-    requires within { start ≤ length text.now }
-{
-    let told = by_run_to_end(alloc, text, start, depth)?;
-    ways.add("by a run to the end", told);
-    let told = in_one_pass_to_end(alloc, text, start, depth)?;
-    ways.add("to the end", told);
-    Ok(())
-}
-
-/// All ways to read a span.
-fn add_span(
-    ways: &mut Ways,
-    alloc: Global,
-    text: &[u8],
-    span: Span,
-    depth: Depth,
-) -> Result<(), AllocError>
-    requires ordered { span.start ≤ span.end }
-    requires within { span.end ≤ length text.now }
-{
-    let told = in_one_pass(alloc, text, span, depth, &mut NoPause)?;
-    ways.add("in one pass", told);
-    let told = in_one_pass(alloc, text, span, depth, &mut EachByte)?;
-    ways.add("with pauses", told);
-    let told = by_started_run(alloc, text, span, depth)?;
-    ways.add("by a run", told);
-    Ok(())
-}
-
 /// The span that a word asks for, or else that of the whole text.
 fn span(line: &mut Line<'_>, len: usize) -> Span
     ensures ordered { result.start ≤ result.end }
@@ -134,12 +97,18 @@ pub(crate) fn rows(line: &mut Line<'_>) {
     let depth = line.depth();
     let text = line.text();
     let span = span(line, text.len());
-    let mut ways = Ways::new(line.alloc);
-    let done = add_span(&mut ways, line.alloc, &text, span, depth);
-    line.settle(done);
+    let alloc = line.alloc;
+    let mut ways = Ways::new(alloc);
+    let told = in_one_pass(alloc, &text, span, depth, &mut NoPause);
+    ways.add_made("in one pass", told);
+    let told = in_one_pass(alloc, &text, span, depth, &mut EachByte);
+    ways.add_made("with pauses", told);
+    ways.add_made("by a run", by_started_run(alloc, &text, span, depth));
     if span.end == text.len() {
-        let done = add_to_end(&mut ways, line.alloc, &text, span.start, depth);
-        line.settle(done);
+        let told = by_run_to_end(alloc, &text, span.start, depth);
+        ways.add_made("by a run to the end", told);
+        let told = in_one_pass_to_end(alloc, &text, span.start, depth);
+        ways.add_made("to the end", told);
     }
     ways.push_to(&mut line.out);
 }

@@ -50,11 +50,11 @@ pub(crate) fn kept(line: &mut Line<'_>) {
 }
 
 fn push_kept(out: &mut Out, joined: &Joined, least: u128) {
-    let kept = joined.map.stored().saturating_sub(joined.left);
-    let right = joined.right;
-    if right >= least {
-        out.put(format_args!("keeps {kept} of at least {least}"));
-    } else {
-        out.put(format_args!("keeps {kept} of {right}"));
+    out.push_str("keeps ");
+    out.put(joined.map.stored().saturating_sub(joined.left));
+    out.push_str(" of ");
+    if joined.right >= least {
+        out.push_str("at least ");
     }
+    out.put(joined.right.min(least));
 }

@@ -27,24 +27,13 @@ fn push_map(
     state: LexState,
 ) -> Result<(), LineFault> {
     match span_within(word, text.len()) {
-        Ok(span) => push_one(out, alloc, text, span, state)?,
+        Ok(span) => {
+            let map = ChunkMap::of(alloc, text, span.start, span.end)?;
+            push_view(out, alloc, &map, state)?;
+        }
         Err(_) => push_both(out, alloc, text, meeting_within(word, text.len())?, state)?,
     }
     Ok(())
-}
-
-fn push_one(
-    out: &mut Out,
-    alloc: Global,
-    text: &[u8],
-    span: Span,
-    state: LexState,
-) -> Result<(), AllocError>
-    requires ordered { span.start ≤ span.end }
-    requires within { span.end ≤ length text.now }
-{
-    let map = ChunkMap::of(alloc, text, span.start, span.end)?;
-    push_view(out, alloc, &map, state)
 }
 
 fn push_both(
@@ -91,22 +80,11 @@ pub(crate) fn cut(line: &mut Line<'_>) {
     let text = line.text();
     let state = line.state();
     let mut ways = Ways::new(line.alloc);
-    let done = add_cuts(&mut ways, line.alloc, &text, state);
-    line.settle(done);
-    ways.push_to(&mut line.out);
-}
-
-fn add_cuts(
-    ways: &mut Ways,
-    alloc: Global,
-    text: &[u8],
-    state: LexState,
-) -> Result<(), AllocError> {
     for cut in 0..=text.len() {
-        let shown = shown_at(alloc, text, cut, state)?;
-        ways.add(format_args!("cut at {cut}"), shown);
+        let shown = shown_at(line.alloc, &text, cut, state);
+        ways.add_made(format_args!("cut at {cut}"), shown);
     }
-    Ok(())
+    ways.push_to(&mut line.out);
 }
 
 /// What a join holds too many of, or another span than that of both: nothing where it is right.
@@ -126,21 +104,28 @@ pub(crate) fn shown(line: &mut Line<'_>) {
     let text = line.text();
     let span = line.span(text.len());
     let most = line.number();
-    let map = ChunkMap::of(line.alloc, &text, span.start, span.end);
-    if let Some(map) = line.keep(map) {
-        let told = push_shown(&mut line.out, line.alloc, &map, most);
-        line.settle(told);
-    }
+    let told = push_shown(&mut line.out, line.alloc, &text, span, most as u128);
+    line.settle(told);
 }
 
-fn push_shown(out: &mut Out, alloc: Global, map: &ChunkMap, most: usize) -> Result<(), AllocError> {
-    let shown = shown_by(alloc, map)?;
-    let stored = map.stored();
-    if stored <= most as u128 {
-        out.put(format_args!("shows {shown}, holds at most {most}"));
-    } else {
-        out.put(format_args!("shows {shown}, holds {stored}"));
+fn push_shown(
+    out: &mut Out,
+    alloc: Global,
+    text: &[u8],
+    span: Span,
+    most: u128,
+) -> Result<(), AllocError>
+    requires ordered { span.start ≤ span.end }
+    requires within { span.end ≤ length text.now }
+{
+    let map = ChunkMap::of(alloc, text, span.start, span.end)?;
+    out.push_str("shows ");
+    out.put(shown_by(alloc, &map)?);
+    out.push_str(", holds ");
+    if map.stored() <= most {
+        out.push_str("at most ");
     }
+    out.put(map.stored().max(most));
     Ok(())
 }
 

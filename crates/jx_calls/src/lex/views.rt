@@ -4,7 +4,7 @@ ghost use Rattle.std.specs.Prelude.{◌≡◌, ◌≤◌, length};
 use crate::lex::joins::joined_at;
 use crate::lex::track::Track;
 use jx_lex::{ChunkMap, LexState, Mark, Span};
-use jx_lines::{Line, Out, push_span};
+use jx_lines::{Line, LineFault, push_span};
 use std::alloc::{AllocError, Global};
 
 /// Whether the segments on the view's path have these marks.
@@ -44,10 +44,13 @@ fn is_by_steps(
 }
 
 /// Tells whether all views are as steps give, and else from which state the first is not.
-fn push_odd(out: &mut Out, odd: Option<LexState>) {
+fn push_odd(line: &mut Line<'_>, odd: Result<Option<LexState>, AllocError>) {
     match odd {
-        None => out.push_str("as by steps"),
-        Some(state) => out.put(format_args!("other than by steps from {state:?}")),
+        Ok(None) => line.out.push_str("as by steps"),
+        Ok(Some(state)) => line
+            .out
+            .put(format_args!("other than by steps from {state:?}")),
+        Err(_) => line.note(LineFault::Memory),
     }
 }
 
@@ -55,14 +58,12 @@ fn push_odd(out: &mut Out, odd: Option<LexState>) {
 pub(crate) fn maps(line: &mut Line<'_>) {
     let text = line.text();
     let odd = odd_anywhere(line.alloc, &text);
-    if let Some(odd) = line.keep(odd) {
-        push_odd(&mut line.out, odd);
-    }
+    push_odd(line, odd);
 }
 
 /// The first state from which the whole shows something else than steps give, or else the join at a cut.
 fn odd_anywhere(alloc: Global, text: &[u8]) -> Result<Option<LexState>, AllocError> {
-    let mut odd = odd_in_one(alloc, text)?;
+    let mut odd = odd_in_whole(alloc, text)?;
     for cut in 0..=text.len() {
         if odd.is_none() {
             odd = odd_at(alloc, text, cut)?;
@@ -71,7 +72,7 @@ fn odd_anywhere(alloc: Global, text: &[u8]) -> Result<Option<LexState>, AllocErr
     Ok(odd)
 }
 
-fn odd_in_one(alloc: Global, text: &[u8]) -> Result<Option<LexState>, AllocError> {
+fn odd_in_whole(alloc: Global, text: &[u8]) -> Result<Option<LexState>, AllocError> {
     let whole = ChunkMap::of(alloc, text, 0, text.len())?;
     odd_state(alloc, &whole, text)
 }
@@ -89,9 +90,7 @@ pub(crate) fn views(line: &mut Line<'_>) {
     let text = line.text();
     let span = line.span(text.len());
     let odd = odd_in_part(line.alloc, &text, span);
-    if let Some(odd) = line.keep(odd) {
-        push_odd(&mut line.out, odd);
-    }
+    push_odd(line, odd);
 }
 
 fn odd_in_part(alloc: Global, text: &[u8], span: Span) -> Result<Option<LexState>, AllocError>
@@ -121,7 +120,7 @@ fn odd_behind(
     let mut odd = None;
     for count in counts.start..counts.end {
         let text = grown_to(alloc, unit, count, end)?;
-        odd = odd.or(odd_in_one(alloc, &text)?);
+        odd = odd.or(odd_in_whole(alloc, &text)?);
     }
     Ok(odd)
 }
@@ -132,9 +131,7 @@ pub(crate) fn grown(line: &mut Line<'_>) {
     let counts = line.span(usize::MAX);
     let end = line.text();
     let odd = odd_behind(line.alloc, &unit, counts, &end);
-    if let Some(odd) = line.keep(odd) {
-        push_odd(&mut line.out, odd);
-    }
+    push_odd(line, odd);
 }
 
 fn odd_up_to(alloc: Global, text: &[u8], ends: Span) -> Result<Option<LexState>, AllocError>
@@ -152,28 +149,21 @@ pub(crate) fn upto(line: &mut Line<'_>) {
     let text = line.text();
     let ends = line.span(text.len());
     let odd = odd_up_to(line.alloc, &text, ends);
-    if let Some(odd) = line.keep(odd) {
-        push_odd(&mut line.out, odd);
-    }
+    push_odd(line, odd);
 }
 
 /// `beginning TEXT S..E`: where the map of a beginning ends, and its views.
 pub(crate) fn beginning(line: &mut Line<'_>) {
     let text = line.text();
     let span = line.span(text.len());
-    let told = push_beginning(&mut line.out, line.alloc, &text, span);
-    line.settle(told);
-}
-
-fn push_beginning(out: &mut Out, alloc: Global, text: &[u8], span: Span) -> Result<(), AllocError>
-    requires ordered { span.start ≤ span.end }
-    requires within { span.end ≤ length text.now }
-{
-    let map = ChunkMap::of_beginning(alloc, text, span.start, span.end)?;
-    let read = map.span();
-    let odd = odd_state(alloc, &map, &text[read.start..read.end])?;
-    push_span(out, read);
-    out.push_str(" ");
-    push_odd(out, odd);
-    Ok(())
+    match ChunkMap::of_beginning(line.alloc, &text, span.start, span.end) {
+        Ok(map) => {
+            let read = map.span();
+            push_span(&mut line.out, read);
+            line.out.push_str(" ");
+            let odd = odd_state(line.alloc, &map, &text[read.start..read.end]);
+            push_odd(line, odd);
+        }
+        Err(_) => line.note(LineFault::Memory),
+    }
 }

@@ -25,30 +25,21 @@ fn cut(line: &mut Line<'_>, count: usize) -> Option<usize>
     Some(cut)
 }
 
-/// The structure of marks, of two parts that are joined if the marks are cut.
-fn structure_by(
-    alloc: Global,
-    marks: &[Mark],
-    cut: Option<usize>,
-    depth: Depth,
-) -> Result<Reductions, AllocError>
-    requires rising { RisingFrom 0 marks.now }
-    requires cut { IfSome cut (λ cut. cut ≤ length marks.now) }
-{
-    match cut {
-        Some(cut) => joined_at(alloc, marks, cut, depth, Maker::AtOnce),
-        None => structure_of(alloc, marks, depth, Maker::AtOnce),
-    }
+/// The structure of the marks that the next word spells, of two parts that are joined if a word more cuts them.
+fn structure(line: &mut Line<'_>, depth: Depth) -> Option<Reductions> {
+    let marks = marks(line);
+    let made = match cut(line, marks.len()) {
+        Some(cut) => joined_at(line.alloc, &marks, cut, depth, Maker::AtOnce),
+        None => structure_of(line.alloc, &marks, depth, Maker::AtOnce),
+    };
+    line.keep(made)
 }
 
 /// `reduce DEPTH EXPECT MARKS [CUT]`: levels, open containers, heights, exits and the whole.
 pub(crate) fn reduce(line: &mut Line<'_>) {
     let depth = line.depth();
     let expect = line.expect();
-    let marks = marks(line);
-    let cut = cut(line, marks.len());
-    let all = structure_by(line.alloc, &marks, cut, depth);
-    if let Some(all) = line.keep(all) {
+    if let Some(all) = structure(line, depth) {
         push_entry(&mut line.out, all.entry(expect));
     }
 }
@@ -76,23 +67,18 @@ fn push_levels(out: &mut Out, entry: &Reduced) {
     }
 }
 
-fn push_exits(out: &mut Out, entry: &Reduced) {
-    out.push_str("exits array ");
-    push_expect(out, entry.exit_of(Holder::Array));
-    out.push_str(" object ");
-    push_expect(out, entry.exit_of(Holder::Object));
-    out.push_str(" bottom ");
-    push_expect(out, entry.exit_of(Holder::Bottom));
-}
-
 fn push_entry(out: &mut Out, entry: &Reduced) {
     push_levels(out, entry);
     out.push_str("opens ");
     push_holders(out, entry.opens());
     out.push_str("; heights ");
     push_numbers(out, entry.heights());
-    out.push_str("; ");
-    push_exits(out, entry);
+    out.push_str("; exits array ");
+    push_expect(out, entry.exit_of(Holder::Array));
+    out.push_str(" object ");
+    push_expect(out, entry.exit_of(Holder::Object));
+    out.push_str(" bottom ");
+    push_expect(out, entry.exit_of(Holder::Bottom));
     out.push_str("; ");
     push_whole(out, entry.whole());
 }
@@ -112,10 +98,7 @@ pub(crate) fn act(line: &mut Line<'_>) {
     let depth = line.depth();
     let expect = line.expect();
     let holders = line.holders();
-    let marks = marks(line);
-    let cut = cut(line, marks.len());
-    let all = structure_by(line.alloc, &marks, cut, depth);
-    if let Some(all) = line.keep(all) {
+    if let Some(all) = structure(line, depth) {
         push_act(line, all.entry(expect), &holders);
     }
 }
@@ -147,12 +130,9 @@ pub(crate) fn further(line: &mut Line<'_>) {
     }
     let far = further_on(line.alloc, &marks, depth, by);
     if let Some(far) = line.keep(far) {
-        push_far(line, far.entry(expect), &holders);
+        let entry = far.entry(expect);
+        push_act(line, entry, &holders);
+        line.out.push_str("; heights ");
+        push_numbers(&mut line.out, entry.heights());
     }
-}
-
-fn push_far(line: &mut Line<'_>, entry: &Reduced, holders: &[Holder]) {
-    push_act(line, entry, holders);
-    line.out.push_str("; heights ");
-    push_numbers(&mut line.out, entry.heights());
 }

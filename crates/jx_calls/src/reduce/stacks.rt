@@ -41,29 +41,15 @@ fn one_by_one(alloc: Global, stack: &mut KnownStack, marks: &[Mark]) -> Result<O
     Ok(told_by(alloc, stack))
 }
 
-/// What the list comes to, given in each way.
-fn add_list(
-    ways: &mut Ways,
-    alloc: Global,
-    stack: &mut KnownStack,
-    marks: &[Mark],
-) -> Result<(), AllocError> {
-    let depth = stack.depth();
-    ways.add("at once", at_once(alloc, marks, depth)?);
-    ways.add("by slices", by_slices(alloc, stack, marks)?);
-    ways.add("one by one", one_by_one(alloc, stack, marks)?);
-    Ok(())
-}
-
 /// Writes what the next list comes to.
 fn push_next(line: &mut Line<'_>, stack: &mut KnownStack) {
-    if !line.out.is_empty() {
-        line.out.push_str("; ");
-    }
+    line.out.part("; ");
     let marks = marks(line);
-    let mut ways = Ways::new(line.alloc);
-    let done = add_list(&mut ways, line.alloc, stack, &marks);
-    line.settle(done);
+    let alloc = line.alloc;
+    let mut ways = Ways::new(alloc);
+    ways.add_made("at once", at_once(alloc, &marks, stack.depth()));
+    ways.add_made("by slices", by_slices(alloc, stack, &marks));
+    ways.add_made("one by one", one_by_one(alloc, stack, &marks));
     ways.push_to(&mut line.out);
 }
 

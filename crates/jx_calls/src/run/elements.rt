@@ -50,26 +50,18 @@ pub(crate) fn elements(line: &mut Line<'_>) {
     let text = line.text();
     let mut ways = Ways::new(line.alloc);
     for second in 0..=text.len() {
-        let done = add_cuts_up_to(&mut ways, line.alloc, &text, second, depth);
-        line.settle(done);
+        add_cuts_up_to(&mut ways, line.alloc, &text, second, depth);
     }
     ways.push_to(&mut line.out);
 }
 
-fn add_cuts_up_to(
-    ways: &mut Ways,
-    alloc: Global,
-    text: &[u8],
-    second: usize,
-    depth: Depth,
-) -> Result<(), AllocError>
+fn add_cuts_up_to(ways: &mut Ways, alloc: Global, text: &[u8], second: usize, depth: Depth)
     requires { second ≤ length text.now }
 {
     for first in 0..=second {
-        let told = told_of_cut(alloc, text, first, second, depth)?;
-        ways.add(format_args!("cut at {first},{second}"), told);
+        let told = told_of_cut(alloc, text, first, second, depth);
+        ways.add_made(format_args!("cut at {first},{second}"), told);
     }
-    Ok(())
 }
 
 /// `behind DEPTH TEXT TEXT`: the second text was read as a sequence of its own, and stands behind the first.

@@ -46,19 +46,6 @@ fn by_outcomes(alloc: Global, text: &[u8], depth: Depth, asked: &Asked) -> Resul
     asked.told_of(alloc, run.exit(asked.state), &entry)
 }
 
-/// What runs of both kinds tell.
-fn add_both(
-    ways: &mut Ways,
-    alloc: Global,
-    text: &[u8],
-    depth: Depth,
-    asked: &Asked,
-) -> Result<(), AllocError> {
-    ways.add("by marks", by_marks(alloc, text, depth, asked)?);
-    ways.add("by outcomes", by_outcomes(alloc, text, depth, asked)?);
-    Ok(())
-}
-
 /// `run DEPTH STATE EXPECT HOLDERS TEXT`: what runs of both kinds, of single bytes joined from the left, tell of one entry.
 pub(crate) fn run(line: &mut Line<'_>) {
     let depth = line.depth();
@@ -71,9 +58,10 @@ pub(crate) fn run(line: &mut Line<'_>) {
         line.refuse();
     }
     let text = line.text();
-    let mut ways = Ways::new(line.alloc);
-    let done = add_both(&mut ways, line.alloc, &text, depth, &asked);
-    line.settle(done);
+    let alloc = line.alloc;
+    let mut ways = Ways::new(alloc);
+    ways.add_made("by marks", by_marks(alloc, &text, depth, &asked));
+    ways.add_made("by outcomes", by_outcomes(alloc, &text, depth, &asked));
     ways.push_to(&mut line.out);
 }
 
@@ -117,14 +105,10 @@ pub(crate) fn moved(line: &mut Line<'_>) {
     }
     let run = moved_by(line.alloc, &text, depth, by);
     if let Some(run) = line.keep(run) {
-        push_moved(&mut line.out, &run);
+        push_span(&mut line.out, run.span());
+        line.out.push_str("; ");
+        push_exit(&mut line.out, run.exit(LexState::Gap));
+        line.out.push_str("; ");
+        push_verdict(&mut line.out, run.verdict());
     }
-}
-
-fn push_moved(out: &mut Out, run: &OutcomeRun) {
-    push_span(out, run.span());
-    out.push_str("; ");
-    push_exit(out, run.exit(LexState::Gap));
-    out.push_str("; ");
-    push_verdict(out, run.verdict());
 }

@@ -10,9 +10,7 @@ fn push_part(out: &mut Out, span: Span, verdict: Option<Verdict>) {
     if span.start >= span.end {
         return;
     }
-    if !out.is_empty() {
-        out.push_str("; ");
-    }
+    out.part("; ");
     push_span(out, span);
     out.push_str(" ");
     match verdict {
@@ -40,45 +38,44 @@ fn push_shape(out: &mut Out, run: &SeqRun) {
 }
 
 /// The elements of a run over so many bytes.
-fn told_of(alloc: Global, run: &SeqRun, len: usize, depth: Depth) -> Out {
+fn told_of(
+    alloc: Global,
+    run: Result<SeqRun, AllocError>,
+    len: usize,
+    depth: Depth,
+) -> Result<Out, AllocError> {
+    let run = run?;
     let mut told = Out::new(alloc);
-    push_shape(&mut told, run);
+    push_shape(&mut told, &run);
     if told.is_empty() {
         told.push_str("-");
     }
-    if run.span() != (Span { start: 0, end: len }) || run.depth() != depth {
+    let span = run.span();
+    if span.start != 0 || span.end != len || run.depth() != depth {
         told.push_str(", elsewhere");
     }
-    told
-}
-
-/// Adds the elements of one run over all bytes, and of runs of single bytes, joined.
-fn add_whole(ways: &mut Ways, alloc: Global, text: &[u8], depth: Depth) -> Result<(), AllocError> {
-    let whole = SeqRun::of(alloc, text, 0, text.len(), depth)?;
-    ways.add("as one run", told_of(alloc, &whole, text.len(), depth));
-    let bytes = from_left::<SeqRun>(alloc, text, depth)?;
-    ways.add("byte by byte", told_of(alloc, &bytes, text.len(), depth));
-    Ok(())
+    Ok(told)
 }
 
 /// Adds the elements of runs that are joined at each cut.
-fn add_cuts(ways: &mut Ways, alloc: Global, text: &[u8], depth: Depth) -> Result<(), AllocError> {
+fn add_cuts(ways: &mut Ways, alloc: Global, text: &[u8], depth: Depth) {
     for cut in 0..=text.len() {
-        let joined = cut_at::<SeqRun>(alloc, text, cut, depth)?;
-        let told = told_of(alloc, &joined, text.len(), depth);
-        ways.add(format_args!("cut at {cut}"), told);
+        let joined = cut_at::<SeqRun>(alloc, text, cut, depth);
+        let told = told_of(alloc, joined, text.len(), depth);
+        ways.add_made(format_args!("cut at {cut}"), told);
     }
-    Ok(())
 }
 
 /// `parts DEPTH TEXT`: the elements of a run, of runs that are joined at each cut, and of runs of single bytes.
 pub(crate) fn parts(line: &mut Line<'_>) {
     let depth = line.depth();
     let text = line.text();
-    let mut ways = Ways::new(line.alloc);
-    let done = add_whole(&mut ways, line.alloc, &text, depth);
-    line.settle(done);
-    let done = add_cuts(&mut ways, line.alloc, &text, depth);
-    line.settle(done);
+    let (alloc, len) = (line.alloc, text.len());
+    let mut ways = Ways::new(alloc);
+    let whole = SeqRun::of(alloc, &text, 0, len, depth);
+    ways.add_made("as one run", told_of(alloc, whole, len, depth));
+    let bytes = from_left::<SeqRun>(alloc, &text, depth);
+    ways.add_made("byte by byte", told_of(alloc, bytes, len, depth));
+    add_cuts(&mut ways, alloc, &text, depth);
     ways.push_to(&mut line.out);
 }

@@ -24,18 +24,12 @@ fn fed(reader: &mut Reader, text: &[u8], size: usize) -> Result<Verdict, AllocEr
 }
 
 /// Adds the verdicts of a reader that is fed by slices of 1, 2, 3 and 100 bytes.
-pub(crate) fn add_fed(
-    ways: &mut Ways,
-    alloc: Global,
-    text: &[u8],
-    depth: Depth,
-) -> Result<(), AllocError> {
+pub(crate) fn add_fed(ways: &mut Ways, alloc: Global, text: &[u8], depth: Depth) {
     let mut reader = Reader::new(alloc, &Settings::from(depth), 0);
     for size in &SIZES {
-        let told = fed_from_start(alloc, &mut reader, text, *size)?;
-        ways.add(format_args!("by slices of {size}"), told);
+        let told = fed_from_start(alloc, &mut reader, text, *size);
+        ways.add_made(format_args!("by slices of {size}"), told);
     }
-    Ok(())
 }
 
 /// Feeds a text from its start by slices of so many bytes, and tells the verdict.
@@ -56,16 +50,6 @@ fn fed_from_start(
     Ok(told)
 }
 
-/// Begins at an offset, or goes on where the next word is `-`.
-fn begin(line: &mut Line<'_>, reader: &mut Reader) {
-    let word = line.word();
-    if word == "-" {
-        return;
-    }
-    let start = line.read_or(number_of(word), 0);
-    reader.reset(start);
-}
-
 /// `reader DEPTH SIZE [START TEXT]..`: one reader that begins at START, or goes on where it is `-`, and is fed TEXT by slices of
 /// so many bytes: the verdict and the end behind each text.
 pub(crate) fn reader(line: &mut Line<'_>) {
@@ -73,30 +57,27 @@ pub(crate) fn reader(line: &mut Line<'_>) {
     let size = line.number();
     let mut reader = Reader::new(line.alloc, &settings, 0);
     for _ in 0..line.count() / 2 {
-        begin(line, &mut reader);
         read_next(line, &mut reader, size);
     }
 }
 
-/// Feeds the text of the next word, and tells the verdict and the end.
+/// Begins at the offset of the next word, or goes on where it is `-`, feeds the text of the one behind it, and tells the verdict
+/// and the end.
 fn read_next(line: &mut Line<'_>, reader: &mut Reader, size: usize) {
+    let start = line.word();
+    if start != "-" {
+        reader.reset(line.read_or(number_of(start), 0));
+    }
     let text = line.text();
     let verdict = fed(reader, &text, size);
     if line.keep(verdict).is_some() {
-        push_part(&mut line.out);
         push_read(&mut line.out, reader);
-    }
-}
-
-/// Parts what is told of one text from what is told of the one before.
-fn push_part(out: &mut Out) {
-    if !out.is_empty() {
-        out.push_str("; ");
     }
 }
 
 /// The verdict and the end, and whether a byte order mark may begin or go on with the next byte.
 fn push_read(out: &mut Out, reader: &Reader) {
+    out.part("; ");
     push_verdict(out, reader.verdict());
     out.put(format_args!(", end {}", reader.end()));
     if reader.is_in_front() {
@@ -120,7 +101,6 @@ pub(crate) fn slices(line: &mut Line<'_>) {
     for _ in 0..line.count() {
         let text = line.text();
         line.settle(feed(&mut reader, &text));
-        push_part(&mut line.out);
         push_read(&mut line.out, &reader);
     }
 }
@@ -172,7 +152,7 @@ pub(crate) fn follows(line: &mut Line<'_>) {
 }
 
 fn push_both(line: &mut Line<'_>, follower: &Reader, fed: &Reader) {
-    push_part(&mut line.out);
+    line.out.part("; ");
     let mut ways = Ways::new(line.alloc);
     ways.add("followed", told_of(line.alloc, follower));
     ways.add("fed", told_of(line.alloc, fed));

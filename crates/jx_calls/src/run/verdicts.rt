@@ -1,5 +1,5 @@
 // The verdicts on texts, by runs that keep their marks and by runs of outcomes alone.
-ghost use Rattle.std.specs.Prelude.{◌≤◌, length};
+ghost use Rattle.std.specs.Prelude.{◌≤◌};
 
 use crate::run::joins::{by_halves, cut_at, from_left, from_right};
 use crate::run::readers::add_fed;
@@ -12,13 +12,6 @@ use std::alloc::{AllocError, Global};
 trait Judge: Summary {
     /// The verdict on its bytes.
     fn judge(&self) -> Verdict;
-
-    /// The verdict on its bytes, in words.
-    fn told(&self, alloc: Global) -> Out {
-        let mut told = Out::new(alloc);
-        push_verdict(&mut told, self.judge());
-        told
-    }
 }
 
 impl Judge for TextRun {
@@ -37,107 +30,61 @@ impl Judge for OutcomeRun {
 /// left, so a longer text is joined by halves, and from both sides of a few cuts.
 const SHORT: usize = 100;
 
+/// The verdict of a run, in words.
+fn told_of<J: Judge>(alloc: Global, run: Result<J, AllocError>) -> Result<Out, AllocError> {
+    let run = run?;
+    let mut told = Out::new(alloc);
+    push_verdict(&mut told, run.judge());
+    Ok(told)
+}
+
 /// The verdict of one run, and of runs of single bytes that are joined.
-fn judge_joins<J: Judge>(
-    ways: &mut Ways,
-    alloc: Global,
-    text: &[u8],
-    depth: Depth,
-) -> Result<(), AllocError> {
-    let whole = J::of(alloc, text, 0, text.len(), depth)?;
-    ways.add("as one run", whole.told(alloc));
-    let halves = by_halves::<J>(alloc, text, 0, text.len(), depth)?;
-    ways.add("by halves", halves.told(alloc));
+fn judge_joins<J: Judge>(ways: &mut Ways, alloc: Global, text: &[u8], depth: Depth) {
+    let whole = J::of(alloc, text, 0, text.len(), depth);
+    ways.add_made("as one run", told_of::<J>(alloc, whole));
+    let halves = by_halves::<J>(alloc, text, 0, text.len(), depth);
+    ways.add_made("by halves", told_of::<J>(alloc, halves));
     if text.len() <= SHORT {
-        judge_bytes::<J>(ways, alloc, text, depth)
+        let left = from_left::<J>(alloc, text, depth);
+        ways.add_made("from the left", told_of::<J>(alloc, left));
+        let right = from_right::<J>(alloc, text, depth);
+        ways.add_made("from the right", told_of::<J>(alloc, right));
     } else {
-        judge_few_cuts::<J>(ways, alloc, text, depth)
+        judge_cuts::<J>(ways, alloc, text, depth, 97);
     }
 }
 
-/// The verdict of runs of single bytes, joined one after another.
-fn judge_bytes<J: Judge>(
-    ways: &mut Ways,
-    alloc: Global,
-    text: &[u8],
-    depth: Depth,
-) -> Result<(), AllocError> {
-    let left = from_left::<J>(alloc, text, depth)?;
-    ways.add("from the left", left.told(alloc));
-    let right = from_right::<J>(alloc, text, depth)?;
-    ways.add("from the right", right.told(alloc));
-    Ok(())
-}
-
-/// The verdict of the runs on both sides of each 97th byte, joined.
-fn judge_few_cuts<J: Judge>(
-    ways: &mut Ways,
-    alloc: Global,
-    text: &[u8],
-    depth: Depth,
-) -> Result<(), AllocError> {
+/// The verdict of the runs on both sides of each cut that is a multiple of this number, joined.
+fn judge_cuts<J: Judge>(ways: &mut Ways, alloc: Global, text: &[u8], depth: Depth, apart: usize)
+    requires { 1 ≤ apart }
+{
     for cut in 0..=text.len() {
-        if cut % 97 == 0 {
-            judge_cut::<J>(ways, alloc, text, cut, depth)?;
+        if cut % apart == 0 {
+            let run = cut_at::<J>(alloc, text, cut, depth);
+            ways.add_made(format_args!("cut at {cut}"), told_of::<J>(alloc, run));
         }
     }
-    Ok(())
-}
-
-/// The verdict of the runs on both sides of a cut, joined.
-fn judge_cut<J: Judge>(
-    ways: &mut Ways,
-    alloc: Global,
-    text: &[u8],
-    cut: usize,
-    depth: Depth,
-) -> Result<(), AllocError>
-    requires { cut ≤ length text.now }
-{
-    let run = cut_at::<J>(alloc, text, cut, depth)?;
-    ways.add(format_args!("cut at {cut}"), run.told(alloc));
-    Ok(())
-}
-
-/// The verdict by runs of both kinds.
-fn judge_runs(ways: &mut Ways, alloc: Global, text: &[u8], depth: Depth) -> Result<(), AllocError> {
-    judge_joins::<TextRun>(ways, alloc, text, depth)?;
-    judge_joins::<OutcomeRun>(ways, alloc, text, depth)
 }
 
 /// `verdict DEPTH TEXT`: by runs, joined from the left, from the right and by halves, and by a reader of small slices.
 pub(crate) fn verdict(line: &mut Line<'_>) {
     let depth = line.depth();
     let text = line.text();
-    let mut ways = Ways::new(line.alloc);
-    let done = judge_runs(&mut ways, line.alloc, &text, depth);
-    line.settle(done);
-    let done = add_fed(&mut ways, line.alloc, &text, depth);
-    line.settle(done);
+    let alloc = line.alloc;
+    let mut ways = Ways::new(alloc);
+    judge_joins::<TextRun>(&mut ways, alloc, &text, depth);
+    judge_joins::<OutcomeRun>(&mut ways, alloc, &text, depth);
+    add_fed(&mut ways, alloc, &text, depth);
     ways.push_to(&mut line.out);
-}
-
-/// The verdict of the runs on both sides of each cut, joined.
-fn judge_cuts<J: Judge>(
-    ways: &mut Ways,
-    alloc: Global,
-    text: &[u8],
-    depth: Depth,
-) -> Result<(), AllocError> {
-    for cut in 0..=text.len() {
-        judge_cut::<J>(ways, alloc, text, cut, depth)?;
-    }
-    Ok(())
 }
 
 /// `cuts DEPTH TEXT`: by runs that are joined at each cut, and by a reader.
 pub(crate) fn cuts(line: &mut Line<'_>) {
     let depth = line.depth();
     let text = line.text();
-    let mut ways = Ways::new(line.alloc);
-    let done = add_fed(&mut ways, line.alloc, &text, depth);
-    line.settle(done);
-    let done = judge_cuts::<OutcomeRun>(&mut ways, line.alloc, &text, depth);
-    line.settle(done);
+    let alloc = line.alloc;
+    let mut ways = Ways::new(alloc);
+    add_fed(&mut ways, alloc, &text, depth);
+    judge_cuts::<OutcomeRun>(&mut ways, alloc, &text, depth, 1);
     ways.push_to(&mut line.out);
 }
