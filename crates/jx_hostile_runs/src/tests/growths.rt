@@ -2,7 +2,9 @@
 // refused is made once more, and has to succeed then.
 mod books;
 mod claims;
+mod cuts;
 mod indexes;
 mod maps;
 mod reductions;
 mod runs;
+mod texts;

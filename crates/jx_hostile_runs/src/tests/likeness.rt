@@ -1,6 +1,6 @@
 // Whether two runs over the same bytes show the same, looked at without taking memory.
-use jx_lex::LexState;
-use jx_reduce::Expect;
+use jx_lex::{LexExit, LexState};
+use jx_reduce::{Expect, Whole};
 use jx_run::{OutcomeRun, SeqRun, Shape, Started, Summary, TextRun};
 use std::alloc::{AllocError, Global};
 
@@ -21,37 +21,61 @@ const EXPECTS: [Expect; 6] = [
     Expect::After,
 ];
 
-fn outcomes_are_alike_from(one: &OutcomeRun, other: &OutcomeRun, state: LexState) -> bool {
-    one.exit(state) == other.exit(state)
-        && EXPECTS.iter().all(|expect| {
-            one.entry(state, *expect).whole() == other.entry(state, *expect).whole()
-        })
+// A run as it is read from each state and expectation.
+trait Readings: Summary {
+    fn exit_of(&self, state: LexState) -> LexExit;
+
+    fn whole_of(&self, state: LexState, expect: Expect) -> Whole;
+}
+
+impl Readings for OutcomeRun {
+    fn exit_of(&self, state: LexState) -> LexExit {
+        self.exit(state)
+    }
+
+    fn whole_of(&self, state: LexState, expect: Expect) -> Whole {
+        self.entry(state, expect).whole()
+    }
+}
+
+impl Readings for TextRun {
+    fn exit_of(&self, state: LexState) -> LexExit {
+        self.exit(state)
+    }
+
+    fn whole_of(&self, state: LexState, expect: Expect) -> Whole {
+        self.entry(state, expect).whole()
+    }
+}
+
+fn are_alike_from<S: Readings>(one: &S, other: &S, state: LexState) -> bool {
+    for expect in &EXPECTS {
+        if one.whole_of(state, *expect) != other.whole_of(state, *expect) {
+            return false;
+        }
+    }
+    one.exit_of(state) == other.exit_of(state)
+}
+
+fn are_alike<S: Readings>(one: &S, other: &S) -> bool {
+    let states = LexState::all();
+    for state in &states {
+        if !are_alike_from(one, other, *state) {
+            return false;
+        }
+    }
+    one.span() == other.span()
 }
 
 impl Likeness for OutcomeRun {
     fn is_like(&self, other: &Self) -> bool {
-        self.span() == other.span()
-            && self.verdict() == other.verdict()
-            && LexState::all()
-                .iter()
-                .all(|state| outcomes_are_alike_from(self, other, *state))
+        self.verdict() == other.verdict() && are_alike(self, other)
     }
-}
-
-fn texts_are_alike_from(one: &TextRun, other: &TextRun, state: LexState) -> bool {
-    one.exit(state) == other.exit(state)
-        && EXPECTS.iter().all(|expect| {
-            one.entry(state, *expect).whole() == other.entry(state, *expect).whole()
-        })
 }
 
 impl Likeness for TextRun {
     fn is_like(&self, other: &Self) -> bool {
-        self.span() == other.span()
-            && self.verdict() == other.verdict()
-            && LexState::all()
-                .iter()
-                .all(|state| texts_are_alike_from(self, other, *state))
+        self.verdict() == other.verdict() && are_alike(self, other)
     }
 }
 

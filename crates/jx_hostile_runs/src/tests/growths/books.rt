@@ -1,25 +1,27 @@
 // Held runs, books and their workers under refused growths.
-ghost use Rattle.std.specs.Prelude.{◌≡◌, ◌<◌, ◌≤◌, IfSome, false, length, vec_len};
+ghost use Rattle.std.specs.Prelude.{◌≡◌, ◌+◌, ◌<◌, ◌≤◌, IfSome, IfErr, false, length, vec_len};
 
 use crate::inputs::{FIVE_ROWS, NESTED, REPEATED, SEQUENCE, UNSORTED, WIDE};
 use crate::lines::Lines;
+use crate::tests::checks::assert_right;
+use crate::tests::growths::cuts::{Joined, check_cuts};
 use crate::tests::likeness::{Likeness, is_as_read};
 use jx_book::{
-    Book, BookState, Cause, Hand, Held, HeldFault, OpenGate, Put, Share, WorkerEnd, WorkerStop,
-    work,
+    Book, BookState, Cause, Closed, Hand, Held, HeldFault, OpenGate, Put, Share, WorkerEnd,
+    WorkerStop, work,
 };
-use jx_claim::{ClaimSeat, Claims, Cutting, Workers};
+use jx_claim::{ClaimSeat, Claims, Cutting, PieceNo, Workers};
 use jx_lex::{Depth, Span};
 use jx_run::{OutcomeRun, SeqRun, TextRun};
 use std::alloc::{AllocError, Global};
+use std::env::Env;
 use std::marker::Brand;
 use std::process::Abort;
 use std::sync::Wait;
 use std::sync::ledger::{Blank, Ledger};
-use std::test::Fail;
 
 // Which summary is made of the bytes.
-#[derive(Clone, Copy, Debug)]
+#[derive(Clone, Copy)]
 enum Runs {
     Texts,
     Outcomes,
@@ -37,62 +39,112 @@ const INPUTS: [(Runs, &[u8]); 7] = [
     (Runs::Sequences, SEQUENCE),
 ];
 
-#[test]
-fn held_runs_under_a_refused_growth(rt: HostRuntime) -> Result<(), Fail> {
-    let mut lines = Lines::of(&rt);
-    for (runs, text) in &INPUTS {
-        match runs {
-            Runs::Texts => check_joins::<TextRun, _>(&rt, rt.alloc(), &mut lines, text)?,
-            Runs::Outcomes => check_joins::<OutcomeRun, _>(&rt, rt.alloc(), &mut lines, text)?,
-            Runs::Sequences => check_joins::<SeqRun, _>(&rt, rt.alloc(), &mut lines, text)?,
-        }
-    }
-    Ok(())
+// What becomes of the bytes of a text.
+#[derive(Clone, Copy)]
+enum Part {
+    /// Both sides of each cut are joined.
+    Joins,
+    /// Every second one is put into a state.
+    State,
+    /// Every second one is put into a book.
+    Puts,
+    /// One worker reads them all.
+    Worker,
 }
 
 #[test]
-fn states_of_a_book_under_a_refused_growth(rt: HostRuntime) -> Result<(), Fail> {
-    let mut lines = Lines::of(&rt);
-    for (runs, text) in &INPUTS {
-        if lines.takes_next() {
-            match runs {
-                Runs::Texts => check_state::<TextRun, _>(&rt, rt.alloc(), text)?,
-                Runs::Outcomes => check_state::<OutcomeRun, _>(&rt, rt.alloc(), text)?,
-                Runs::Sequences => check_state::<SeqRun, _>(&rt, rt.alloc(), text)?,
-            }
-        }
-    }
-    Ok(())
+fn held_runs_under_a_refused_growth(rt: HostRuntime) {
+    check(&rt, rt.alloc(), Part::Joins);
 }
 
 #[test]
-fn puts_under_a_refused_growth(rt: HostRuntime) -> Result<(), Fail> {
-    let mut lines = Lines::of(&rt);
-    for (runs, text) in &INPUTS {
-        if lines.takes_next() {
-            match runs {
-                Runs::Texts => check_puts::<TextRun, _>(&rt, rt.alloc(), text)?,
-                Runs::Outcomes => check_puts::<OutcomeRun, _>(&rt, rt.alloc(), text)?,
-                Runs::Sequences => check_puts::<SeqRun, _>(&rt, rt.alloc(), text)?,
-            }
-        }
-    }
-    Ok(())
+fn states_of_a_book_under_a_refused_growth(rt: HostRuntime) {
+    check(&rt, rt.alloc(), Part::State);
 }
 
 #[test]
-fn workers_under_a_refused_growth(rt: HostRuntime) -> Result<(), Fail> {
-    let mut lines = Lines::of(&rt);
+fn puts_under_a_refused_growth(rt: HostRuntime) {
+    check(&rt, rt.alloc(), Part::Puts);
+}
+
+#[test]
+fn workers_under_a_refused_growth(rt: HostRuntime) {
+    check(&rt, rt.alloc(), Part::Worker);
+}
+
+// This part of each input.
+fn check<R: Abort + Env + Wait>(rt: &R, alloc: Global, part: Part) {
+    let mut lines = Lines::of(rt);
     for (runs, text) in &INPUTS {
-        if lines.takes_next() {
-            match runs {
-                Runs::Texts => check::<TextRun, _>(&rt, rt.alloc(), text)?,
-                Runs::Outcomes => check::<OutcomeRun, _>(&rt, rt.alloc(), text)?,
-                Runs::Sequences => check::<SeqRun, _>(&rt, rt.alloc(), text)?,
+        check_input(rt, alloc, &mut lines, part, *runs, text);
+    }
+}
+
+fn check_input<R: Abort + Wait>(
+    rt: &R,
+    alloc: Global,
+    lines: &mut Lines,
+    part: Part,
+    runs: Runs,
+    text: &[u8],
+) {
+    match part {
+        Part::Joins => check_cuts(rt, alloc, lines, &joined_as(runs), text),
+        _ => {
+            if lines.takes_next() {
+                assert_right(rt, is_right_of(rt, alloc, part, runs, text), text, 0);
             }
         }
     }
-    Ok(())
+}
+
+fn joined_as(runs: Runs) -> Joined<'static> {
+    match runs {
+        Runs::Texts => Joined::HeldTexts,
+        Runs::Outcomes => Joined::HeldOutcomes,
+        Runs::Sequences => Joined::HeldSequences,
+    }
+}
+
+fn is_right_of<R: Wait>(
+    rt: &R,
+    alloc: Global,
+    part: Part,
+    runs: Runs,
+    text: &[u8],
+) -> Result<bool, AllocError> {
+    match runs {
+        Runs::Texts => is_right_again::<TextRun, R>(rt, alloc, part, text),
+        Runs::Outcomes => is_right_again::<OutcomeRun, R>(rt, alloc, part, text),
+        Runs::Sequences => is_right_again::<SeqRun, R>(rt, alloc, part, text),
+    }
+}
+
+// Where there is no memory for a run, for the book or for the claims, all of it is made again.
+fn is_right_again<S: Likeness, R: Wait>(
+    rt: &R,
+    alloc: Global,
+    part: Part,
+    text: &[u8],
+) -> Result<bool, AllocError> {
+    match is_right::<S, R>(rt, alloc, part, text) {
+        Err(AllocError) => is_right::<S, R>(rt, alloc, part, text),
+        answer => answer,
+    }
+}
+
+fn is_right<S: Likeness, R: Wait>(
+    rt: &R,
+    alloc: Global,
+    part: Part,
+    text: &[u8],
+) -> Result<bool, AllocError> {
+    match part {
+        Part::State => are_stored::<S>(alloc, text),
+        Part::Puts => are_put_by_one::<S, R>(rt, alloc, text),
+        Part::Worker => is_read_by_one::<S, R>(rt, alloc, text),
+        Part::Joins => Ok(false),
+    }
 }
 
 /// Whether a run is the one that its span gives in the text that it carries.
@@ -112,20 +164,43 @@ fn joined<'a, S: Likeness>(
     match left.join(right) {
         Ok(run) => Ok(Some(run)),
         Err(HeldFault::Memory(left, right)) => {
-            if (left.span(), right.span()) != spans
-                || !is_as_held(alloc, &left)?
-                || !is_as_held(alloc, &right)?
-            {
+            if (left.span(), right.span()) != spans {
                 return Ok(None);
             }
-            Ok(left.join(right).ok())
+            joined_again(alloc, left, right)
         }
         Err(HeldFault::Other(_, _)) => Ok(None),
     }
 }
 
+/// The join of two neighbours that came back, if they are as they were read.
+fn joined_again<'a, S: Likeness>(
+    alloc: Global,
+    left: Held<'a, S>,
+    right: Held<'a, S>,
+) -> Result<Option<Held<'a, S>>, AllocError>
+    requires { left.span.end ≡ right.span.start }
+{
+    if !are_as_held(alloc, &left, &right)? {
+        return Ok(None);
+    }
+    Ok(left.join(right).ok())
+}
+
+fn are_as_held<S: Likeness>(
+    alloc: Global,
+    left: &Held<'_, S>,
+    right: &Held<'_, S>,
+) -> Result<bool, AllocError> {
+    Ok(is_as_held(alloc, left)? && is_as_held(alloc, right)?)
+}
+
 /// Whether the join of both sides of a cut is as it has to be.
-fn is_joined_at<S: Likeness>(alloc: Global, text: &[u8], cut: usize) -> Result<bool, AllocError>
+pub(crate) fn is_joined_at<S: Likeness>(
+    alloc: Global,
+    text: &[u8],
+    cut: usize,
+) -> Result<bool, AllocError>
     requires { cut ≤ length text.now }
 {
     let depth = Depth::default();
@@ -135,25 +210,6 @@ fn is_joined_at<S: Likeness>(alloc: Global, text: &[u8], cut: usize) -> Result<b
         Some(run) => is_as_held(alloc, &run),
         None => Ok(false),
     }
-}
-
-// Held runs over both sides of each cut of a text, and their join. Where something else is refused, all of it is made again.
-fn check_joins<S: Likeness, R: Abort>(
-    rt: &R,
-    alloc: Global,
-    lines: &mut Lines,
-    text: &[u8],
-) -> Result<(), Fail> {
-    for cut in 0..=text.len() {
-        if lines.takes_next() {
-            let right = match is_joined_at::<S>(alloc, text, cut) {
-                Ok(right) => right,
-                Err(AllocError) => is_joined_at::<S>(alloc, text, cut)?,
-            };
-            assert!(rt; right, "{text:?} cut at {cut}");
-        }
-    }
-    Ok(())
 }
 
 /// Whether these are runs of so many bytes of a text, every second one, each as it was read.
@@ -172,6 +228,10 @@ fn are_every_second<S: Likeness>(
     Ok(runs.len() == count)
 }
 
+fn totals<S: Likeness>(state: &BookState<'_, S>) -> (u128, u128) {
+    (state.total_put(), state.total_taken())
+}
+
 /// Whether the run stands in the state then, in which so many stood. Where it is refused, the state is as it was, and
 /// the same run is put again.
 fn is_stored<'a, S: Likeness>(
@@ -183,42 +243,70 @@ fn is_stored<'a, S: Likeness>(
     requires { run.span.start < run.span.end }
 {
     let place = run.span();
-    let before = (state.total_put(), state.total_taken());
+    let before = totals(state);
     match state.put(run) {
         Put::Stored => Ok(true),
         Put::Memory(run) => {
-            let after = (state.total_put(), state.total_taken());
-            let same = run.span() == place
-                && is_as_held(alloc, &run)?
-                && after == before
-                && are_every_second(alloc, state.runs(), count)?;
-            Ok(same && matches!(state.put(run), Put::Stored))
+            if run.span() != place || totals(state) != before {
+                return Ok(false);
+            }
+            is_stored_again(alloc, state, run, count)
         }
         _ => Ok(false),
     }
+}
+
+/// Whether a run that came back is as it was read, beside so many that stand in the state, and is put then.
+fn is_stored_again<'a, S: Likeness>(
+    alloc: Global,
+    state: &mut BookState<'a, S>,
+    run: Held<'a, S>,
+    count: usize,
+) -> Result<bool, AllocError>
+    requires { run.span.start < run.span.end }
+{
+    if !is_as_held(alloc, &run)? || !are_every_second(alloc, state.runs(), count)? {
+        return Ok(false);
+    }
+    Ok(matches!(state.put(run), Put::Stored))
 }
 
 /// Whether every second byte of a text stands in a state then, each put for itself.
 fn are_stored<S: Likeness>(alloc: Global, text: &[u8]) -> Result<bool, AllocError> {
     let mut state = BookState::<S>::new(alloc);
     let count = text.len() / 2;
-    for place in 0..count {
-        let run = Held::read(alloc, text, 2 * place, 2 * place + 1, Depth::default())?;
-        if !is_stored(alloc, &mut state, run, place)? {
-            return Ok(false);
-        }
+    if !are_all_stored(alloc, &mut state, text, count)? {
+        return Ok(false);
     }
     are_every_second(alloc, state.runs(), count)
 }
 
-// Every second byte of a text, put into a state.
-fn check_state<S: Likeness, R: Abort>(rt: &R, alloc: Global, text: &[u8]) -> Result<(), Fail> {
-    let stored = match are_stored::<S>(alloc, text) {
-        Ok(stored) => stored,
-        Err(AllocError) => are_stored::<S>(alloc, text)?,
-    };
-    assert!(rt; stored, "{text:?}");
-    Ok(())
+fn are_all_stored<'a, S: Likeness>(
+    alloc: Global,
+    state: &mut BookState<'a, S>,
+    text: &'a [u8],
+    count: usize,
+) -> Result<bool, AllocError>
+    requires { count + count ≤ length text.now }
+{
+    for place in 0..count {
+        let run = Held::read(alloc, text, 2 * place, 2 * place + 1, Depth::default())?;
+        if !is_stored(alloc, state, run, place)? {
+            return Ok(false);
+        }
+    }
+    Ok(true)
+}
+
+/// The run, where it is not empty.
+fn filled<'a, S: Likeness>(run: Held<'a, S>) -> Option<Held<'a, S>>
+    ensures { IfSome result (λ h. h.span.start < h.span.end) }
+{
+    if run.span().start < run.span().end {
+        Some(run)
+    } else {
+        None
+    }
 }
 
 /// The join of two neighbours, where it is one that is not empty.
@@ -232,11 +320,9 @@ fn both_of<'a, S: Likeness>(
     if left.span().end != right.span().start {
         return None;
     }
-    let run = joined(alloc, left, right).ok()??;
-    if run.span().start < run.span().end {
-        Some(run)
-    } else {
-        None
+    match joined(alloc, left, right) {
+        Ok(Some(run)) => filled(run),
+        _ => None,
     }
 }
 
@@ -257,11 +343,49 @@ fn is_put<'a, S: Likeness, P: Ledger, T: Ledger, R: Wait>(
         Put::Stored => Ok(true),
         Put::Memory(run) => {
             let after = (share.total_put(), share.total_taken());
-            let same = run.span() == place && is_as_held(alloc, &run)? && after == before;
-            Ok(same && matches!(book.put(rt, share, run), Put::Stored))
+            if run.span() != place || after != before {
+                return Ok(false);
+            }
+            is_put_again(rt, alloc, book, share, run)
         }
         _ => Ok(false),
     }
+}
+
+/// Whether a run that came back is as it was read, and is put then.
+fn is_put_again<'a, S: Likeness, P: Ledger, T: Ledger, R: Wait>(
+    rt: &R,
+    alloc: Global,
+    book: &Book<'a, S, P, T>,
+    share: &mut Share<P, T>,
+    run: Held<'a, S>,
+) -> Result<bool, AllocError>
+    requires { run.span.start < run.span.end }
+{
+    if !is_as_held(alloc, &run)? {
+        return Ok(false);
+    }
+    Ok(matches!(book.put(rt, share, run), Put::Stored))
+}
+
+/// Whether each second byte of a text is put into the book, for itself.
+fn are_all_put<'a, S: Likeness, P: Ledger, T: Ledger, R: Wait>(
+    rt: &R,
+    alloc: Global,
+    book: &Book<'a, S, P, T>,
+    share: &mut Share<P, T>,
+    text: &'a [u8],
+    count: usize,
+) -> Result<bool, AllocError>
+    requires { count + count ≤ length text.now }
+{
+    for place in 0..count {
+        let run = Held::read(alloc, text, 2 * place, 2 * place + 1, Depth::default())?;
+        if !is_put(rt, alloc, book, share, run)? {
+            return Ok(false);
+        }
+    }
+    Ok(share.total_put() == count as u128 && share.total_taken() == 0)
 }
 
 /// Whether every second byte of a text stands in a book at its end, each put for itself.
@@ -282,19 +406,39 @@ fn are_put<'a, S: Likeness, P: Ledger, T: Ledger, R: Wait>(
         return Ok(false);
     };
     let count = text.len() / 2;
-    for place in 0..count {
-        let run = Held::read(alloc, text, 2 * place, 2 * place + 1, Depth::default())?;
-        if !is_put(rt, alloc, &book, &mut share, run)? {
-            return Ok(false);
-        }
+    match are_all_put(rt, alloc, &book, &mut share, text, count) {
+        Ok(true) => has_every_second(alloc, book, text, shares, share),
+        answer => answer,
     }
-    if share.total_put() != count as u128 || share.total_taken() != 0 {
-        return Ok(false);
-    }
+}
+
+/// The runs of a book at its end, with its last share, if they are those of the text.
+fn closed_of<'a, S: Likeness, P: Ledger, T: Ledger>(
+    book: Book<'a, S, P, T>,
+    text: &'a [u8],
+    shares: Vec<Share<P, T>>,
+    share: Share<P, T>,
+) -> Result<Option<Closed<'a, S>>, AllocError>
+    requires { vec_len shares + 1 ≡ P.parts }
+{
+    let mut shares = shares;
     shares.push(share)?;
-    match book.finish(text, Depth::default(), shares) {
-        Ok(closed) => are_every_second(alloc, closed.runs(), count),
-        Err(_) => Ok(false),
+    Ok(book.finish(text, Depth::default(), shares).ok())
+}
+
+/// Whether the book has every second byte of a text at its end.
+fn has_every_second<'a, S: Likeness, P: Ledger, T: Ledger>(
+    alloc: Global,
+    book: Book<'a, S, P, T>,
+    text: &'a [u8],
+    shares: Vec<Share<P, T>>,
+    share: Share<P, T>,
+) -> Result<bool, AllocError>
+    requires { vec_len shares + 1 ≡ P.parts }
+{
+    match closed_of(book, text, shares, share)? {
+        Some(closed) => are_every_second(alloc, closed.runs(), text.len() / 2),
+        None => Ok(false),
     }
 }
 
@@ -303,28 +447,13 @@ fn are_put_by_one<S: Likeness, R: Wait>(
     rt: &R,
     alloc: Global,
     text: &[u8],
-    workers: Workers,
-) -> Result<bool, AllocError>
-    requires one { workers ≡ 1 }
-{
+) -> Result<bool, AllocError> {
+    let Some(workers) = Workers::new(1) else {
+        return Ok(false);
+    };
     let put = Blank::new(u64::from(workers.count()));
     let taken = Blank::new(u64::from(workers.count()));
     are_put::<S, Brand, Brand, R>(rt, alloc, text, put, taken, workers)
-}
-
-// Every second byte of a text, put into a book. Where there is no memory for the book, it is opened again.
-fn check_puts<S: Likeness, R: Abort + Wait>(
-    rt: &R,
-    alloc: Global,
-    text: &[u8],
-) -> Result<(), Fail> {
-    let workers = Workers::new(1).ok_or("workers")?;
-    let put = match are_put_by_one::<S, R>(rt, alloc, text, workers) {
-        Ok(put) => put,
-        Err(AllocError) => are_put_by_one::<S, R>(rt, alloc, text, workers)?,
-    };
-    assert!(rt; put, "{text:?}");
-    Ok(())
 }
 
 /// Whether the run stands in the book then. Where its left neighbour may stand there, both are joined first.
@@ -347,6 +476,23 @@ fn is_handed_over<'a, S: Likeness, P: Ledger, T: Ledger, R: Wait>(
     }
 }
 
+/// The run of a piece that a stopped worker drew.
+fn run_of_piece<'a, S: Likeness>(
+    alloc: Global,
+    text: &'a [u8],
+    cutting: &Cutting,
+    piece: PieceNo,
+) -> Option<Held<'a, S>>
+    requires { cutting.now.len ≡ length text.now }
+    ensures { IfSome result (λ h. h.span.start < h.span.end) }
+{
+    if piece.0 >= cutting.count() {
+        return None;
+    }
+    let place = cutting.piece(piece);
+    Held::read(alloc, text, place.start, place.end, Depth::default()).ok()
+}
+
 /// The run of all that a stopped worker holds, if it holds something, and that as it was read.
 fn run_in<'a, S: Likeness>(
     alloc: Global,
@@ -359,27 +505,15 @@ fn run_in<'a, S: Likeness>(
 {
     match hand {
         Hand::Nothing => None,
-        Hand::Piece(piece) => {
-            if piece.0 >= cutting.count() {
-                return None;
-            }
-            let place = cutting.piece(piece);
-            Held::read(alloc, text, place.start, place.end, Depth::default()).ok()
-        }
-        Hand::One(run) => {
-            if run.span().start < run.span().end && is_as_held(alloc, &run).ok()? {
-                Some(run)
-            } else {
-                None
-            }
-        }
-        Hand::Two(left, right) => {
-            if is_as_held(alloc, &left).ok()? && is_as_held(alloc, &right).ok()? {
-                both_of(alloc, left, right)
-            } else {
-                None
-            }
-        }
+        Hand::Piece(piece) => run_of_piece(alloc, text, cutting, piece),
+        Hand::One(run) => match is_as_held(alloc, &run) {
+            Ok(true) => filled(run),
+            _ => None,
+        },
+        Hand::Two(left, right) => match are_as_held(alloc, &left, &right) {
+            Ok(true) => both_of(alloc, left, right),
+            _ => None,
+        },
     }
 }
 
@@ -389,19 +523,75 @@ fn is_whole<'a, S: Likeness, P: Ledger, T: Ledger>(
     book: Book<'a, S, P, T>,
     text: &'a [u8],
     shares: Vec<Share<P, T>>,
+    share: Share<P, T>,
 ) -> Result<bool, AllocError>
-    requires { vec_len shares ≡ P.parts }
+    requires { vec_len shares + 1 ≡ P.parts }
 {
-    let Ok(closed) = book.finish(text, Depth::default(), shares) else {
-        return Ok(false);
-    };
-    let whole = Span {
-        start: 0,
-        end: text.len(),
-    };
-    match closed.runs() {
-        [run] => Ok(run.span() == whole && is_as_held(alloc, run)?),
+    match closed_of(book, text, shares, share)? {
+        Some(closed) => is_one_run(alloc, closed.runs(), text.len()),
+        None => Ok(false),
+    }
+}
+
+/// Whether there is one run, of so many bytes from the start, and that as it was read.
+fn is_one_run<S: Likeness>(
+    alloc: Global,
+    runs: &[Held<'_, S>],
+    end: usize,
+) -> Result<bool, AllocError> {
+    match runs {
+        [run] => Ok(run.span() == (Span { start: 0, end }) && is_as_held(alloc, run)?),
         _ => Ok(false),
+    }
+}
+
+/// What is in the hand of a worker that stopped for want of memory is put: the worker's share.
+fn share_behind_hand<'a, S: Likeness, P: Ledger, T: Ledger, R: Wait>(
+    rt: &R,
+    alloc: Global,
+    book: &Book<'a, S, P, T>,
+    text: &'a [u8],
+    cutting: &Cutting,
+    hand: Hand<'a, S>,
+    share: Share<P, T>,
+) -> Option<Share<P, T>>
+    requires { cutting.now.len ≡ length text.now }
+{
+    let mut share = share;
+    match run_in(alloc, text, cutting, hand) {
+        Some(run) => {
+            if is_handed_over(rt, alloc, book, &mut share, run) {
+                Some(share)
+            } else {
+                None
+            }
+        }
+        None => None,
+    }
+}
+
+/// Lets a worker read on, to its end or until it stops.
+fn read_on<'a, S: Likeness, P: Ledger, T: Ledger, R: Wait>(
+    rt: &R,
+    alloc: Global,
+    book: &Book<'a, S, P, T>,
+    text: &'a [u8],
+    cutting: &Cutting,
+    claims: &Claims,
+    seat: ClaimSeat,
+    share: Share<P, T>,
+) -> Result<Share<P, T>, WorkerStop<'a, S, P, T>>
+    requires cutting { cutting.now.len ≡ length text.now }
+    requires claims { claims.now.pieces ≡ length cutting.now.pieces }
+    requires seat { (seat.id ≡ claims.now.id) × (seat.spent ≡ false) }
+    ensures { IfErr result (λ s. s.seat.id ≡ claims.now.id) }
+{
+    let depth = Depth::default();
+    match work(
+        rt, alloc, book, text, cutting, claims, seat, share, depth, &OpenGate,
+    ) {
+        Ok(WorkerEnd { seat: _, share }) => Ok(share),
+        Err(stop) => Err(stop),
     }
 }
 
@@ -420,25 +610,18 @@ fn share_of_stopped<'a, S: Likeness, P: Ledger, T: Ledger, R: Wait>(
     requires claims { claims.now.pieces ≡ length cutting.now.pieces }
     requires seat { stop.seat.id ≡ claims.now.id }
 {
+    if stop.cause != Cause::Memory || stop.seat.spent() {
+        return None;
+    }
     let WorkerStop {
         seat,
-        mut share,
+        share,
         hand,
-        cause,
+        ..
     } = stop;
-    let run = run_in(alloc, text, cutting, hand)?;
-    if cause != Cause::Memory || seat.spent() {
-        return None;
-    }
-    if !is_handed_over(rt, alloc, book, &mut share, run) {
-        return None;
-    }
-    let depth = Depth::default();
-    match work(
-        rt, alloc, book, text, cutting, claims, seat, share, depth, &OpenGate,
-    ) {
-        Ok(WorkerEnd { seat: _, share }) => Some(share),
-        Err(_) => None,
+    match share_behind_hand(rt, alloc, book, text, cutting, hand, share) {
+        Some(share) => read_on(rt, alloc, book, text, cutting, claims, seat, share).ok(),
+        None => None,
     }
 }
 
@@ -457,11 +640,8 @@ fn share_of_worker<'a, S: Likeness, P: Ledger, T: Ledger, R: Wait>(
     requires claims { claims.now.pieces ≡ length cutting.now.pieces }
     requires seat { (seat.id ≡ claims.now.id) × (seat.spent ≡ false) }
 {
-    let depth = Depth::default();
-    match work(
-        rt, alloc, book, text, cutting, claims, seat, share, depth, &OpenGate,
-    ) {
-        Ok(WorkerEnd { seat: _, share }) => Some(share),
+    match read_on(rt, alloc, book, text, cutting, claims, seat, share) {
+        Ok(share) => Some(share),
         Err(stop) => share_of_stopped(rt, alloc, book, text, cutting, claims, stop),
     }
 }
@@ -472,34 +652,51 @@ fn is_read<'a, S: Likeness, P: Ledger, T: Ledger, R: Wait>(
     alloc: Global,
     text: &'a [u8],
     cutting: &Cutting,
+    claims: &Claims,
+    seat: ClaimSeat,
     put: Blank,
     taken: Blank,
     workers: Workers,
 ) -> Result<bool, AllocError>
     requires cutting { cutting.now.len ≡ length text.now }
+    requires claims { claims.now.pieces ≡ length cutting.now.pieces }
+    requires seat { (seat.id ≡ claims.now.id) × (seat.spent ≡ false) }
     requires one { workers ≡ 1 }
     requires put { (put.name ≡ P.name) × (put.parts ≡ P.parts) × (put.parts ≡ workers) }
     requires taken { (taken.name ≡ T.name) × (taken.parts ≡ T.parts) × (taken.parts ≡ workers) }
 {
     let (book, mut shares) = Book::<S, P, T>::open(alloc, put, taken, workers)?;
-    let (claims, mut seats) = Claims::open(alloc, cutting.count(), workers)?;
     let Some(share) = shares.pop() else {
         return Ok(false);
     };
-    let Some(seat) = seats.pop() else {
-        return Ok(false);
-    };
-    match share_of_worker(rt, alloc, &book, text, cutting, &claims, seat, share) {
-        Some(share) => {
-            shares.push(share)?;
-            is_whole(alloc, book, text, shares)
-        }
+    match share_of_worker(rt, alloc, &book, text, cutting, claims, seat, share) {
+        Some(share) => is_whole(alloc, book, text, shares, share),
         None => Ok(false),
     }
 }
 
 /// The same, with blanks for the ledgers of a book.
-fn is_read_by_one<S: Likeness, R: Wait>(
+fn is_read_from<S: Likeness, R: Wait>(
+    rt: &R,
+    alloc: Global,
+    text: &[u8],
+    cutting: &Cutting,
+    claims: &Claims,
+    seat: ClaimSeat,
+    workers: Workers,
+) -> Result<bool, AllocError>
+    requires cutting { cutting.now.len ≡ length text.now }
+    requires claims { claims.now.pieces ≡ length cutting.now.pieces }
+    requires seat { (seat.id ≡ claims.now.id) × (seat.spent ≡ false) }
+    requires one { workers ≡ 1 }
+{
+    let put = Blank::new(u64::from(workers.count()));
+    let taken = Blank::new(u64::from(workers.count()));
+    is_read::<S, Brand, Brand, R>(rt, alloc, text, cutting, claims, seat, put, taken, workers)
+}
+
+/// Whether one worker reads a text in these pieces.
+fn is_read_in_pieces<S: Likeness, R: Wait>(
     rt: &R,
     alloc: Global,
     text: &[u8],
@@ -509,19 +706,24 @@ fn is_read_by_one<S: Likeness, R: Wait>(
     requires cutting { cutting.now.len ≡ length text.now }
     requires one { workers ≡ 1 }
 {
-    let put = Blank::new(u64::from(workers.count()));
-    let taken = Blank::new(u64::from(workers.count()));
-    is_read::<S, Brand, Brand, R>(rt, alloc, text, cutting, put, taken, workers)
+    let (claims, mut seats) = Claims::open(alloc, cutting.count(), workers)?;
+    match seats.pop() {
+        Some(seat) => is_read_from::<S, R>(rt, alloc, text, cutting, &claims, seat, workers),
+        None => Ok(false),
+    }
 }
 
-// A text in pieces of a byte, by one worker. Where there is no memory for the book or for the claims, they are opened again.
-fn check<S: Likeness, R: Abort + Wait>(rt: &R, alloc: Global, text: &[u8]) -> Result<(), Fail> {
-    let workers = Workers::new(1).ok_or("workers")?;
-    let cutting = Cutting::every(text.len(), 1)?;
-    let read = match is_read_by_one::<S, R>(rt, alloc, text, &cutting, workers) {
-        Ok(read) => read,
-        Err(AllocError) => is_read_by_one::<S, R>(rt, alloc, text, &cutting, workers)?,
+/// Whether one worker reads a text in pieces of a byte.
+fn is_read_by_one<S: Likeness, R: Wait>(
+    rt: &R,
+    alloc: Global,
+    text: &[u8],
+) -> Result<bool, AllocError> {
+    let Some(workers) = Workers::new(1) else {
+        return Ok(false);
     };
-    assert!(rt; read, "{text:?}");
-    Ok(())
+    match Cutting::every(text.len(), 1) {
+        Ok(cutting) => is_read_in_pieces::<S, R>(rt, alloc, text, &cutting, workers),
+        Err(_) => Ok(false),
+    }
 }

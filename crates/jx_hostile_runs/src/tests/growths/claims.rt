@@ -1,42 +1,54 @@
 // Claims and cuttings under refused growths.
 use crate::lines::Lines;
+use crate::tests::checks::assert_right;
 use jx_claim::{ClaimSeat, Claims, CutFault, Cutting, PieceNo, Workers};
 use std::alloc::{AllocError, Global};
-use std::process::Abort;
-use std::test::Fail;
 
 #[test]
-fn claims_under_a_refused_growth(rt: HostRuntime) -> Result<(), Fail> {
+fn claims_under_a_refused_growth(rt: HostRuntime) {
     let mut lines = Lines::of(&rt);
     for count in &[1, 3, 64] {
         if lines.takes_next() {
-            check_seats(&rt, rt.alloc(), *count)?;
+            let right = has_seats(rt.alloc(), *count);
+            assert_right(&rt, Ok(right), &[], usize::from(*count));
         }
     }
-    Ok(())
 }
 
 #[test]
-fn cuttings_under_a_refused_growth(rt: HostRuntime) -> Result<(), Fail> {
+fn cuttings_under_a_refused_growth(rt: HostRuntime) {
     let mut lines = Lines::of(&rt);
     for (cuts, places) in &CUTS {
         if lines.takes_next() {
-            check_places(&rt, rt.alloc(), cuts, places)?;
+            assert_right(
+                &rt,
+                Ok(has_places(rt.alloc(), cuts, places)),
+                &[],
+                places.len(),
+            );
         }
     }
-    Ok(())
 }
 
-// Claims on five pieces, with a seat for each of so many workers.
-fn check_seats<R: Abort>(rt: &R, alloc: Global, count: u8) -> Result<(), Fail> {
-    let workers = Workers::new(count).ok_or("workers")?;
-    let (_claims, seats) = claims_on_five(alloc, workers)?;
-    assert_eq!(rt; seats.len(), usize::from(count));
-    for (place, seat) in seats.iter().enumerate() {
-        assert_eq!(rt; seat.number(), place);
-        assert!(rt; !seat.spent());
+// Whether claims on five pieces have a seat for each of so many workers.
+fn has_seats(alloc: Global, count: u8) -> bool {
+    let Some(workers) = Workers::new(count) else {
+        return false;
+    };
+    match claims_on_five(alloc, workers) {
+        Ok((_claims, seats)) => are_unspent(&seats, usize::from(count)),
+        Err(AllocError) => false,
     }
-    Ok(())
+}
+
+// Whether these are so many seats, in order, of which none is spent.
+fn are_unspent(seats: &[ClaimSeat], count: usize) -> bool {
+    for (place, seat) in seats.iter().enumerate() {
+        if seat.number() != place || seat.spent() {
+            return false;
+        }
+    }
+    seats.len() == count
 }
 
 // Offsets at which 17 bytes are cut, and the pieces.
@@ -45,20 +57,22 @@ const CUTS: [(&[usize], &[(usize, usize)]); 2] = [
     (&[6, 12], &[(0, 6), (6, 12), (12, 17)]),
 ];
 
-fn check_places<R: Abort>(
-    rt: &R,
-    alloc: Global,
-    cuts: &[usize],
-    places: &[(usize, usize)],
-) -> Result<(), Fail> {
-    let cutting = cutting_at(alloc, 17, cuts)?;
-    assert_eq!(rt; cutting.count() as usize, places.len());
+// Whether 17 bytes, cut at these offsets, have these pieces.
+fn has_places(alloc: Global, cuts: &[usize], places: &[(usize, usize)]) -> bool {
+    match cutting_at(alloc, 17, cuts) {
+        Ok(cutting) => are_places(&cutting, places),
+        Err(_) => false,
+    }
+}
+
+fn are_places(cutting: &Cutting, places: &[(usize, usize)]) -> bool {
     for number in 0..cutting.count() {
         let place = cutting.piece(PieceNo(number));
-        let want = places.get(number as usize).ok_or("a place")?;
-        assert_eq!(rt; (place.start, place.end), *want);
+        if places.get(number as usize) != Some(&(place.start, place.end)) {
+            return false;
+        }
     }
-    Ok(())
+    cutting.count() as usize == places.len()
 }
 
 // Claims on five pieces, asked for twice where they are refused.

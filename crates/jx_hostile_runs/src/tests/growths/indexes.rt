@@ -1,24 +1,18 @@
 // Indexes and their shelf under refused growths.
-use crate::inputs::{TEXTS, Worked};
-use crate::lines::Lines;
+ghost use Rattle.std.specs.Prelude.{◌≡◌};
+
+use crate::inputs::Worked;
 use crate::rows::are_rows;
+use crate::tests::growths::texts::{Made, check_texts};
 use jx_index::Indexed;
 use jx_lex::Depth;
 use jx_run::{Summary, TextRun, Verdict};
-use jx_shelf::{Shelf, ShelfFault};
+use jx_shelf::{Shelf, ShelfFault, ShelfNote};
 use std::alloc::{AllocError, Global};
-use std::process::Abort;
-use std::test::Fail;
 
 #[test]
-fn indexes_and_their_shelf_under_a_refused_growth(rt: HostRuntime) -> Result<(), Fail> {
-    let mut lines = Lines::of(&rt);
-    for worked in &TEXTS {
-        if lines.takes_next() {
-            check(&rt, rt.alloc(), worked)?;
-        }
-    }
-    Ok(())
+fn indexes_and_their_shelf_under_a_refused_growth(rt: HostRuntime) {
+    check_texts(&rt, rt.alloc(), Made::Indexes);
 }
 
 // The index of a text, if it is accepted.
@@ -39,40 +33,77 @@ fn is_index_of(index: &Indexed<'_>, worked: &Worked) -> bool {
     }
 }
 
-// The index of a text, which is made again where it is refused and shown on a shelf; a refused text has none. Where the shelf has no
-// memory, the index comes back, and is shown then.
-fn check<R: Abort>(rt: &R, alloc: Global, worked: &Worked) -> Result<(), Fail> {
-    let depth = Depth::new(worked.containers).ok_or("a depth")?;
-    let index = match index_of(alloc, worked.text, depth) {
-        Ok(index) => index,
-        Err(AllocError) => index_of(alloc, worked.text, depth)?,
-    };
-    let Some(index) = index else {
-        assert!(rt; worked.answer.is_err(), "{worked:?}");
-        return Ok(());
-    };
-    assert!(rt; is_index_of(&index, worked), "{worked:?}");
-    check_shelf(rt, alloc, worked, index)
+// The index of a text, which is made again where it is refused.
+fn index_again(
+    alloc: Global,
+    text: &[u8],
+    depth: Depth,
+) -> Result<Option<Indexed<'_>>, AllocError> {
+    match index_of(alloc, text, depth) {
+        Err(AllocError) => index_of(alloc, text, depth),
+        index => index,
+    }
 }
 
-fn check_shelf<R: Abort>(
-    rt: &R,
-    alloc: Global,
-    worked: &Worked,
-    index: Indexed<'_>,
-) -> Result<(), Fail> {
+/// Whether a text has the index that was worked out, which is shown on a shelf; a refused text has none.
+pub(crate) fn is_right(alloc: Global, worked: &Worked) -> Result<bool, AllocError> {
+    let Some(depth) = Depth::new(worked.containers) else {
+        return Ok(false);
+    };
+    match index_again(alloc, worked.text, depth)? {
+        Some(index) => Ok(is_shown(alloc, worked, index)),
+        None => Ok(worked.answer.is_err()),
+    }
+}
+
+// Whether an index is the one that was worked out, and is shown on an empty shelf.
+fn is_shown(alloc: Global, worked: &Worked, index: Indexed<'_>) -> bool {
+    if !is_index_of(&index, worked) {
+        return false;
+    }
     let shelf = Shelf::new(alloc);
     let mut note = shelf.note();
-    match shelf.publish(&mut note, index) {
-        Ok(()) => (),
-        Err(ShelfFault::Memory(index)) => {
-            assert!(rt; shelf.look(&mut note).is_none());
-            assert!(rt; is_index_of(&index, worked), "{worked:?}");
-            assert!(rt; shelf.publish(&mut note, index).is_ok());
-        }
-        Err(ShelfFault::Taken(_)) => return Err("an empty shelf".into()),
+    is_published(&shelf, &mut note, worked, index) && shows(&shelf, &mut note, worked)
+}
+
+fn shows<'a>(shelf: &Shelf<'a>, note: &mut ShelfNote<'a>, worked: &Worked) -> bool
+    requires { note.old.shelf ≡ shelf.now }
+{
+    match shelf.look(note) {
+        Some(shown) => is_index_of(shown, worked),
+        None => false,
     }
-    let shown = shelf.look(&mut note).ok_or("an index")?;
-    assert!(rt; is_index_of(shown, worked), "{worked:?}");
-    Ok(())
+}
+
+// Whether an index is published.
+fn is_published<'a>(
+    shelf: &Shelf<'a>,
+    note: &mut ShelfNote<'a>,
+    worked: &Worked,
+    index: Indexed<'a>,
+) -> bool
+    requires { note.old.shelf ≡ shelf.now }
+    ensures { note.new.shelf ≡ note.old.shelf }
+{
+    match shelf.publish(note, index) {
+        Ok(()) => true,
+        Err(ShelfFault::Memory(index)) => is_published_again(shelf, note, worked, index),
+        Err(ShelfFault::Taken(_)) => false,
+    }
+}
+
+// Whether nothing is shown where the shelf had no memory, the index came back, and is published then.
+fn is_published_again<'a>(
+    shelf: &Shelf<'a>,
+    note: &mut ShelfNote<'a>,
+    worked: &Worked,
+    index: Indexed<'a>,
+) -> bool
+    requires { note.old.shelf ≡ shelf.now }
+    ensures { note.new.shelf ≡ note.old.shelf }
+{
+    if shelf.look(note).is_some() || !is_index_of(&index, worked) {
+        return false;
+    }
+    matches!(shelf.publish(note, index), Ok(()))
 }

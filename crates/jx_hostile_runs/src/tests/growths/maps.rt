@@ -3,52 +3,71 @@ ghost use Rattle.std.specs.Prelude.{◌≡◌, ◌≤◌, length};
 
 use crate::inputs::{FIVE_ROWS, NESTED, REPEATED, SEQUENCE, UNSORTED, WIDE};
 use crate::lines::Lines;
-use jx_lex::{ChunkMap, JoinFault, LexExit, LexState, TokenEnd, TrackView, step};
+use crate::tests::growths::cuts::{Joined, check_cuts};
+use jx_lex::{
+    ChunkMap, Ends, JoinFault, LexExit, LexState, MarkKind, Marks, TokenEnd, TrackView, step,
+};
 use std::alloc::{AllocError, Global};
-use std::process::Abort;
-use std::test::Fail;
 
 const INPUTS: [&[u8]; 6] = [NESTED, FIVE_ROWS, REPEATED, UNSORTED, WIDE, SEQUENCE];
 
 #[test]
-fn chunk_maps_under_a_refused_growth(rt: HostRuntime) -> Result<(), Fail> {
+fn chunk_maps_under_a_refused_growth(rt: HostRuntime) {
     let mut lines = Lines::of(&rt);
     for text in &INPUTS {
-        check(&rt, rt.alloc(), &mut lines, text)?;
+        check_cuts(&rt, rt.alloc(), &mut lines, &Joined::Maps, text);
     }
-    Ok(())
+}
+
+// Whether the next end of a view is the one of a step at this offset, where it has one.
+fn is_next_end(ends: &mut Ends<'_>, end: Option<TokenEnd>, at: usize) -> bool {
+    match end {
+        Some(TokenEnd::Before) => ends.next() == Some(at),
+        Some(TokenEnd::After) => ends.next() == Some(at.wrapping_add(1)),
+        None => true,
+    }
+}
+
+// Whether the next mark of a view is the one of a step at this offset, where it has one.
+fn is_next_mark(marks: &mut Marks<'_>, kind: Option<MarkKind>, at: usize) -> bool {
+    let Some(kind) = kind else {
+        return true;
+    };
+    match marks.next() {
+        Some(mark) => mark.kind == kind && mark.at == at,
+        None => false,
+    }
+}
+
+// The exit of reading these bytes one by one, where the marks and ends are those that it gives, in order.
+fn plain_exit(
+    marks: &mut Marks<'_>,
+    ends: &mut Ends<'_>,
+    from: LexState,
+    bytes: &[u8],
+    start: usize,
+) -> Option<LexExit> {
+    let mut state = from;
+    for (place, byte) in bytes.iter().enumerate() {
+        let at = start.wrapping_add(place);
+        let step = step(state, *byte);
+        if !is_next_end(ends, step.end, at) || !is_next_mark(marks, step.begin, at) {
+            return None;
+        }
+        match step.next {
+            Some(next) => state = next,
+            None => return Some(LexExit::Fault(at)),
+        }
+    }
+    Some(LexExit::State(state))
 }
 
 // Whether a view shows what reading these bytes one by one gives. It takes no memory.
 fn is_plain(view: &TrackView<'_>, from: LexState, bytes: &[u8], start: usize) -> bool {
     let mut marks = view.marks();
     let mut ends = view.ends();
-    let mut state = from;
-    for (place, byte) in bytes.iter().enumerate() {
-        let at = start.wrapping_add(place);
-        let step = step(state, *byte);
-        let end = match step.end {
-            Some(TokenEnd::Before) => Some(at),
-            Some(TokenEnd::After) => Some(at.wrapping_add(1)),
-            None => None,
-        };
-        if end.is_some() && ends.next() != end {
-            return false;
-        }
-        if let Some(kind) = step.begin {
-            let mark = marks.next();
-            if !matches!(mark, Some(mark) if mark.kind == kind && mark.at == at) {
-                return false;
-            }
-        }
-        let Some(next) = step.next else {
-            return view.exit() == LexExit::Fault(at)
-                && marks.next().is_none()
-                && ends.next().is_none();
-        };
-        state = next;
-    }
-    view.exit() == LexExit::State(state) && marks.next().is_none() && ends.next().is_none()
+    let exit = plain_exit(&mut marks, &mut ends, from, bytes, start);
+    exit == Some(view.exit()) && marks.next().is_none() && ends.next().is_none()
 }
 
 // Whether a map shows so much from each of the states.
@@ -76,7 +95,7 @@ fn joined(left: ChunkMap, right: ChunkMap, text: &[u8]) -> Option<ChunkMap>
 }
 
 /// Whether the join of both sides of a cut is right, and so are both sides where it was refused.
-fn is_joined_at(alloc: Global, text: &[u8], cut: usize) -> Result<bool, AllocError>
+pub(crate) fn is_joined_at(alloc: Global, text: &[u8], cut: usize) -> Result<bool, AllocError>
     requires { cut ≤ length text.now }
 {
     let left = ChunkMap::of(alloc, text, 0, cut)?;
@@ -85,18 +104,4 @@ fn is_joined_at(alloc: Global, text: &[u8], cut: usize) -> Result<bool, AllocErr
         Some(map) => Ok(is_right(&map, text)),
         None => Ok(false),
     }
-}
-
-// Both sides of each cut of a text, and their join. Where a side is refused, both are made again.
-fn check<R: Abort>(rt: &R, alloc: Global, lines: &mut Lines, text: &[u8]) -> Result<(), Fail> {
-    for cut in 0..=text.len() {
-        if lines.takes_next() {
-            let right = match is_joined_at(alloc, text, cut) {
-                Ok(right) => right,
-                Err(AllocError) => is_joined_at(alloc, text, cut)?,
-            };
-            assert!(rt; right, "{text:?} cut at {cut}");
-        }
-    }
-    Ok(())
 }

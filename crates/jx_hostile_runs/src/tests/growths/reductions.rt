@@ -4,12 +4,12 @@ ghost use Rattle.jx_reduce.specs.Offsets.{EachIn, RisingFrom};
 
 use crate::inputs::{FIVE_ROWS, NESTED, REPEATED, SEQUENCE, UNSORTED, WIDE};
 use crate::lines::Lines;
-use crate::tests::marks::{EXPECTS, is_same, joined_at, mark, read_by_table};
+use crate::tests::checks::assert_right;
+use crate::tests::growths::cuts::{Joined, check_cuts};
+use crate::tests::marks::{all_by_table, answers, is_same, joined_at, mark};
 use jx_lex::{Depth, LexState, Mark, MarkKind, step};
-use jx_reduce::{Expect, Holder, KnownStack, Reduced, Reductions, Whole};
+use jx_reduce::{Expect, Holder, KnownStack, Reductions, Whole};
 use std::alloc::{AllocError, Global};
-use std::process::Abort;
-use std::test::Fail;
 
 const ENDED: Whole = Whole::Went {
     expect: Expect::After,
@@ -30,37 +30,44 @@ const INPUTS: [Input; 7] = [
 ];
 
 #[test]
-fn reductions_under_a_refused_growth(rt: HostRuntime) -> Result<(), Fail> {
+fn reductions_under_a_refused_growth(rt: HostRuntime) {
     let mut lines = Lines::of(&rt);
-    for input in &INPUTS {
-        check(&rt, rt.alloc(), &mut lines, input)?;
+    for (text, containers, whole) in &INPUTS {
+        let joined = Joined::Reductions(*containers, *whole);
+        check_cuts(&rt, rt.alloc(), &mut lines, &joined, text);
     }
-    Ok(())
 }
 
 #[test]
-fn known_stacks_under_a_refused_growth(rt: HostRuntime) -> Result<(), Fail> {
+fn known_stacks_under_a_refused_growth(rt: HostRuntime) {
     let mut lines = Lines::of(&rt);
     for count in &[1, 64, 65, 200, 512] {
         if lines.takes_next() {
-            let whole = match unfitting(rt.alloc(), *count) {
-                Ok(whole) => whole,
-                Err(AllocError) => unfitting(rt.alloc(), *count)?,
-            };
-            assert_eq!(rt; whole, Whole::Stopped(*count));
+            assert_right(&rt, stops_again(rt.alloc(), *count), &[], *count);
         }
     }
-    Ok(())
 }
 
-// What so many opening marks come to, and a closing one that fits none of them. A mark that is refused is given again.
-fn unfitting(alloc: Global, count: usize) -> Result<Whole, AllocError> {
-    let mut stack = KnownStack::new(alloc, Depth::default());
-    for at in 0..count {
-        push_again(&mut stack, mark(MarkKind::OpenArray, at))?;
+fn stops_again(alloc: Global, count: usize) -> Result<bool, AllocError> {
+    match stops_at_unfitting(alloc, count) {
+        Err(AllocError) => stops_at_unfitting(alloc, count),
+        answer => answer,
     }
-    stack.push(mark(MarkKind::CloseObject, count))?;
-    Ok(stack.whole())
+}
+
+// Whether so many opening marks, and a closing one that fits none of them, stop at the last one.
+fn stops_at_unfitting(alloc: Global, count: usize) -> Result<bool, AllocError> {
+    let mut stack = KnownStack::new(alloc, Depth::default());
+    push_unfitting(&mut stack, count)?;
+    Ok(stack.whole() == Whole::Stopped(count))
+}
+
+// So many opening marks, and the closing one. An opening mark that is refused is given again.
+fn push_unfitting(stack: &mut KnownStack, count: usize) -> Result<(), AllocError> {
+    for at in 0..count {
+        push_again(stack, mark(MarkKind::OpenArray, at))?;
+    }
+    stack.push(mark(MarkKind::CloseObject, count))
 }
 
 // One more mark, given again where it is refused.
@@ -71,49 +78,59 @@ fn push_again(stack: &mut KnownStack, mark: Mark) -> Result<(), AllocError> {
     }
 }
 
-// The marks of a text cut after each byte. Where something is refused but the join, all of it is made again.
-fn check<R: Abort>(rt: &R, alloc: Global, lines: &mut Lines, input: &Input) -> Result<(), Fail> {
-    let (text, containers, whole) = *input;
-    let depth = Depth::new(containers).ok_or("a depth")?;
-    for cut in 0..=text.len() {
-        if lines.takes_next() {
-            let right = match is_right_at(alloc, text, cut, depth, whole) {
-                Ok(right) => right,
-                Err(AllocError) => is_right_at(alloc, text, cut, depth, whole)?,
-            };
-            assert!(rt; right, "{text:?} cut at {cut}");
-        }
-    }
-    Ok(())
-}
-
-// Whether the joined structure of the marks before an offset and behind it is what it has to be: its whole, its copy, and what it
-// comes to over open containers.
-fn is_right_at(
+/// Whether the joined structure of the marks before an offset and behind it is what it has to be.
+pub(crate) fn is_right_at(
     alloc: Global,
     text: &[u8],
     at: usize,
-    depth: Depth,
+    containers: u32,
     whole: Whole,
 ) -> Result<bool, AllocError> {
     let marks = marks_in(alloc, text)?;
-    match joined_at(alloc, &marks, count_before(&marks, at), depth)? {
-        Some(both) => is_right(alloc, &both, &marks, whole),
+    match Depth::new(containers) {
+        Some(depth) => is_joined_so(alloc, &marks, count_before(&marks, at), depth, whole),
         None => Ok(false),
     }
 }
 
+fn is_joined_so(
+    alloc: Global,
+    marks: &[Mark],
+    cut: usize,
+    depth: Depth,
+    whole: Whole,
+) -> Result<bool, AllocError>
+    requires rising { RisingFrom 0 marks.now }
+    requires cut { cut ≤ length marks.now }
+{
+    match joined_at(alloc, marks, cut, depth)? {
+        Some(both) => is_right(alloc, &both, marks, whole),
+        None => Ok(false),
+    }
+}
+
+// Whether a structure is what it has to be: its whole, its copy, and what it comes to over open containers.
 fn is_right(
     alloc: Global,
     both: &Reductions,
     marks: &[Mark],
     whole: Whole,
 ) -> Result<bool, AllocError> {
-    Ok(
-        both.entry(Expect::Value).whole() == whole
-            && is_same(&both.copy()?, both)
-            && acts_by_the_table(alloc, both, marks)?,
-    )
+    let is_whole = both.entry(Expect::Value).whole() == whole;
+    Ok(is_whole && is_copied(both)? && acts_by_the_table(alloc, both, marks)?)
+}
+
+fn is_copied(both: &Reductions) -> Result<bool, AllocError> {
+    let copy = both.copy()?;
+    Ok(is_same(&copy, both))
+}
+
+const HOLDER_LISTS: [&[Holder]; 2] = [&[], &[Holder::Object, Holder::Array]];
+
+// Whether a structure answers as the table does, from each expectation over no open container and over two.
+fn acts_by_the_table(alloc: Global, all: &Reductions, marks: &[Mark]) -> Result<bool, AllocError> {
+    let wanted = all_by_table(alloc, marks, all.depth(), &HOLDER_LISTS)?;
+    answers(all, &HOLDER_LISTS, &wanted)
 }
 
 /// The marks of a text. A byte that can't go on, as a separator, begins anew.
@@ -149,33 +166,4 @@ fn count_before(marks: &[Mark], at: usize) -> usize
 {
     let count = marks.iter().take_while(|mark| mark.at < at).count();
     count.min(marks.len())
-}
-
-const HOLDER_LISTS: [&[Holder]; 2] = [&[], &[Holder::Object, Holder::Array]];
-
-// Whether a structure answers as the table does, from each expectation over no open container and over two.
-fn acts_by_the_table(alloc: Global, all: &Reductions, marks: &[Mark]) -> Result<bool, AllocError> {
-    for expect in &EXPECTS {
-        for holders in &HOLDER_LISTS {
-            if !is_by_the_table(alloc, all.entry(*expect), marks, *expect, holders)? {
-                return Ok(false);
-            }
-        }
-    }
-    Ok(true)
-}
-
-fn is_by_the_table(
-    alloc: Global,
-    entry: &Reduced,
-    marks: &[Mark],
-    expect: Expect,
-    holders: &[Holder],
-) -> Result<bool, AllocError> {
-    let depth = entry.depth().containers() as usize;
-    if depth < holders.len() {
-        return Ok(false);
-    }
-    let wanted = read_by_table(alloc, marks, depth, expect, holders)?;
-    Ok(entry.act(holders)? == wanted)
 }

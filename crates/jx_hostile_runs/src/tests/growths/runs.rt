@@ -1,53 +1,40 @@
 // Runs of texts and of sequences under refused growths.
 ghost use Rattle.std.specs.Prelude.{◌≡◌, ◌≤◌, length};
 
-use crate::inputs::{SEQUENCE, TEXTS, Worked};
+use crate::inputs::{SEQUENCE, Worked};
 use crate::lines::Lines;
+use crate::tests::checks::assert_right;
+use crate::tests::growths::cuts::{Joined, check_cuts};
+use crate::tests::growths::texts::{Made, check_texts};
 use crate::tests::likeness::{Likeness, is_as_read};
 use jx_lex::{Depth, JoinFault, Span};
 use jx_run::{OutcomeRun, Reader, Refusal, SeqRun, Settings, Shape, Summary, TextRun, Verdict};
 use std::alloc::{AllocError, Global};
-use std::process::Abort;
-use std::test::Fail;
 
 #[test]
-fn text_runs_under_a_refused_growth(rt: HostRuntime) -> Result<(), Fail> {
-    let mut lines = Lines::of(&rt);
-    for worked in &TEXTS {
-        check_text(&rt, rt.alloc(), &mut lines, worked)?;
-    }
-    Ok(())
+fn text_runs_under_a_refused_growth(rt: HostRuntime) {
+    check_texts(&rt, rt.alloc(), Made::TextRuns);
 }
 
 #[test]
-fn outcome_runs_under_a_refused_growth(rt: HostRuntime) -> Result<(), Fail> {
-    let mut lines = Lines::of(&rt);
-    for worked in &TEXTS {
-        check_outcomes(&rt, rt.alloc(), &mut lines, worked)?;
-    }
-    Ok(())
+fn outcome_runs_under_a_refused_growth(rt: HostRuntime) {
+    check_texts(&rt, rt.alloc(), Made::OutcomeRuns);
 }
 
 #[test]
-fn sequence_runs_under_a_refused_growth(rt: HostRuntime) -> Result<(), Fail> {
+fn sequence_runs_under_a_refused_growth(rt: HostRuntime) {
     let mut lines = Lines::of(&rt);
-    for cut in 0..=SEQUENCE.len() {
-        if lines.takes_next() {
-            check_sequence(&rt, rt.alloc(), cut)?;
-        }
-    }
-    Ok(())
+    check_cuts(&rt, rt.alloc(), &mut lines, &Joined::Sequences, SEQUENCE);
 }
 
 #[test]
-fn readers_under_a_refused_growth(rt: HostRuntime) -> Result<(), Fail> {
+fn readers_under_a_refused_growth(rt: HostRuntime) {
     let mut lines = Lines::of(&rt);
     for size in &[1, 7, 201] {
         if lines.takes_next() {
-            check_reader(&rt, rt.alloc(), *size)?;
+            assert_right(&rt, Ok(stops_at_its_end(rt.alloc(), *size)), &[], *size);
         }
     }
-    Ok(())
 }
 
 /// The join of two runs over a text, if it is like the run that reading at once gives. Where it is refused, both sides have to be as
@@ -65,15 +52,37 @@ fn joined<S: Likeness>(
     match left.join(right) {
         Ok(run) => Ok(Some(run)),
         Err(JoinFault { left, right }) => {
-            if (left.span(), right.span()) != spans
-                || !is_as_read(alloc, text, &left)?
-                || !is_as_read(alloc, text, &right)?
-            {
+            if (left.span(), right.span()) != spans {
                 return Ok(None);
             }
-            Ok(left.join(right).ok())
+            joined_again(alloc, text, left, right)
         }
     }
+}
+
+/// The join of two runs that came back, if they are like the runs that reading at once gives.
+fn joined_again<S: Likeness>(
+    alloc: Global,
+    text: &[u8],
+    left: S,
+    right: S,
+) -> Result<Option<S>, AllocError>
+    requires neighbours { (S.span left).end ≡ (S.span right).start }
+    requires depth { S.depth left ≡ S.depth right }
+{
+    if !are_as_read(alloc, text, &left, &right)? {
+        return Ok(None);
+    }
+    Ok(left.join(right).ok())
+}
+
+fn are_as_read<S: Likeness>(
+    alloc: Global,
+    text: &[u8],
+    left: &S,
+    right: &S,
+) -> Result<bool, AllocError> {
+    Ok(is_as_read(alloc, text, left)? && is_as_read(alloc, text, right)?)
 }
 
 /// The joined run of both sides of a cut, if it is like the run that reading at once gives.
@@ -93,6 +102,25 @@ fn joined_at<S: Likeness>(
     }
 }
 
+/// A run that has a verdict.
+pub(crate) trait Judged: Likeness {
+    /// Whether it has this verdict, also as the start of a text where it can be taken for one.
+    fn has_verdict(&self, want: Verdict) -> Result<bool, AllocError>;
+}
+
+impl Judged for TextRun {
+    fn has_verdict(&self, want: Verdict) -> Result<bool, AllocError> {
+        let started = self.started()?;
+        Ok(self.verdict() == want && started.verdict() == want)
+    }
+}
+
+impl Judged for OutcomeRun {
+    fn has_verdict(&self, want: Verdict) -> Result<bool, AllocError> {
+        Ok(self.verdict() == want)
+    }
+}
+
 // The verdict on a text whose names may be repeated.
 fn verdict_of(worked: &Worked) -> Verdict {
     match worked.answer {
@@ -101,78 +129,22 @@ fn verdict_of(worked: &Worked) -> Verdict {
     }
 }
 
-/// Whether the join at a cut has this verdict, as it stands and as the start of a text.
-fn is_text_at(
+/// Whether the join at a cut of a text has the verdict that was worked out.
+pub(crate) fn is_right_at<S: Judged>(
     alloc: Global,
     text: &[u8],
     cut: usize,
-    depth: Depth,
-    want: Verdict,
+    worked: &Worked,
 ) -> Result<bool, AllocError>
     requires { cut ≤ length text.now }
 {
-    match joined_at::<TextRun>(alloc, text, cut, depth)? {
-        Some(run) => Ok(run.verdict() == want && run.started()?.verdict() == want),
+    let Some(depth) = Depth::new(worked.containers) else {
+        return Ok(false);
+    };
+    match joined_at::<S>(alloc, text, cut, depth)? {
+        Some(run) => run.has_verdict(verdict_of(worked)),
         None => Ok(false),
     }
-}
-
-/// The same without marks.
-fn is_outcome_at(
-    alloc: Global,
-    text: &[u8],
-    cut: usize,
-    depth: Depth,
-    want: Verdict,
-) -> Result<bool, AllocError>
-    requires { cut ≤ length text.now }
-{
-    match joined_at::<OutcomeRun>(alloc, text, cut, depth)? {
-        Some(run) => Ok(run.verdict() == want),
-        None => Ok(false),
-    }
-}
-
-// Runs over both sides of each cut of a text, and their join. Where something else is refused, all of it is made again.
-fn check_text<R: Abort>(
-    rt: &R,
-    alloc: Global,
-    lines: &mut Lines,
-    worked: &Worked,
-) -> Result<(), Fail> {
-    let (text, want) = (worked.text, verdict_of(worked));
-    let depth = Depth::new(worked.containers).ok_or("a depth")?;
-    for cut in 0..=text.len() {
-        if lines.takes_next() {
-            let right = match is_text_at(alloc, text, cut, depth, want) {
-                Ok(right) => right,
-                Err(AllocError) => is_text_at(alloc, text, cut, depth, want)?,
-            };
-            assert!(rt; right, "{worked:?} cut at {cut}");
-        }
-    }
-    Ok(())
-}
-
-// The same without marks.
-fn check_outcomes<R: Abort>(
-    rt: &R,
-    alloc: Global,
-    lines: &mut Lines,
-    worked: &Worked,
-) -> Result<(), Fail> {
-    let (text, want) = (worked.text, verdict_of(worked));
-    let depth = Depth::new(worked.containers).ok_or("a depth")?;
-    for cut in 0..=text.len() {
-        if lines.takes_next() {
-            let right = match is_outcome_at(alloc, text, cut, depth, want) {
-                Ok(right) => right,
-                Err(AllocError) => is_outcome_at(alloc, text, cut, depth, want)?,
-            };
-            assert!(rt; right, "{worked:?} cut at {cut}");
-        }
-    }
-    Ok(())
 }
 
 /// Whether these are the elements of the sequence: nothing in front of a separator, two that are accepted from the start of a text,
@@ -196,41 +168,36 @@ fn has_elements(run: &SeqRun) -> bool {
 }
 
 /// Whether the join at a cut of the sequence has these elements.
-fn is_sequence_at(alloc: Global, cut: usize) -> Result<bool, AllocError> {
-    if cut > SEQUENCE.len() {
-        return Ok(false);
-    }
-    match joined_at::<SeqRun>(alloc, SEQUENCE, cut, Depth::default())? {
+pub(crate) fn is_sequence_at(alloc: Global, text: &[u8], cut: usize) -> Result<bool, AllocError>
+    requires { cut ≤ length text.now }
+{
+    match joined_at::<SeqRun>(alloc, text, cut, Depth::default())? {
         Some(run) => Ok(has_elements(&run)),
         None => Ok(false),
     }
 }
 
-// Runs over both sides of a cut of the sequence, and their join.
-fn check_sequence<R: Abort>(rt: &R, alloc: Global, cut: usize) -> Result<(), Fail> {
-    let right = match is_sequence_at(alloc, cut) {
-        Ok(right) => right,
-        Err(AllocError) => is_sequence_at(alloc, cut)?,
-    };
-    assert!(rt; right, "cut at {cut}");
-    Ok(())
-}
-
-// A reader that is fed slices of so many bytes.
-fn check_reader<R: Abort>(rt: &R, alloc: Global, size: usize) -> Result<(), Fail> {
+// Whether a reader that is fed 200 brackets and a brace, by slices of so many bytes, stops at the brace.
+fn stops_at_its_end(alloc: Global, size: usize) -> bool {
     let mut text = [b'['; 201];
     text[200] = b'}';
+    match fed_again(alloc, text.as_slice(), size) {
+        Ok(verdict) => verdict == Verdict::Refused(Refusal::Stopped { at: 200 }),
+        Err(AllocError) => false,
+    }
+}
+
+// The verdict of a reader that is fed a text, and once more where that is refused.
+fn fed_again(alloc: Global, text: &[u8], size: usize) -> Result<Verdict, AllocError> {
     let settings = Settings::from(Depth::default());
     let mut reader = Reader::new(alloc, &settings, 0);
-    let verdict = match fed(&mut reader, text.as_slice(), size) {
-        Ok(verdict) => verdict,
-        Err(_) => {
+    match fed(&mut reader, text, size) {
+        Err(AllocError) => {
             reader.reset(0);
-            fed(&mut reader, text.as_slice(), size)?
+            fed(&mut reader, text, size)
         }
-    };
-    assert_eq!(rt; verdict, Verdict::Refused(Refusal::Stopped { at: 200 }));
-    Ok(())
+        verdict => verdict,
+    }
 }
 
 // Feeds a text by slices of so many bytes, and gives the verdict.

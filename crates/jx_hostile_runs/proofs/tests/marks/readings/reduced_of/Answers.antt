@@ -2,7 +2,7 @@ use Rattle.std.proofs.Common.{List, take, sym, subst, ◌∙◌}
 use Rattle.std.proofs.lemmas.List.{take_more, take_all}
 use Rattle.jx_lex.specs.declared.alphabet.mark.Mark.{Mark}
 use Rattle.jx_reduce.specs.Reducer.{HasReduced}
-use Rattle.jx_hostile_runs.proofs.tests.marks.reducers.reduced_of.Goals as goal
+use Rattle.jx_hostile_runs.proofs.tests.marks.readings.reduced_of.Goals as goal
 
 pub loop-mark-init : goal.loop-mark-init
 loop-mark-init c = record { depth = c.new-reducer.ensures.depth; given = c.new-reducer.ensures.none }

@@ -1,6 +1,6 @@
 use Rattle.std.proofs.Common.{◌≡◌, take}
 use Rattle.jx_reduce.specs.Reducer.{HasReduced}
-use Rattle.jx_hostile_runs.proofs.tests.marks.reducers.reduced_of.Given as goal
+use Rattle.jx_hostile_runs.proofs.tests.marks.readings.reduced_of.Given as goal
 
 -- the marks before this one were given
 abbrev pub invariant-loop-mark : goal.invariant-loop-mark

@@ -1,7 +1,7 @@
 use Rattle.std.proofs.Common.{◌≡◌, ◌-◌, length, take, drop, arith, length-drop}
 use Rattle.std.proofs.lemmas.List.{take_all}
 use Rattle.jx_reduce.proofs.Cuts.{RisingFrom-take, RisingFrom-drop, before_of_parts}
-use Rattle.jx_hostile_runs.proofs.tests.marks.reducers.joined_of_reducers.Goals as goal
+use Rattle.jx_hostile_runs.proofs.tests.marks.readings.joined_of_reducers.Goals as goal
 
 pub reduced_of-requires : goal.reduced_of-requires
 reduced_of-requires c = record { rising = RisingFrom-take c.args.cut 0 c.args.marks.now c.requires.rising }

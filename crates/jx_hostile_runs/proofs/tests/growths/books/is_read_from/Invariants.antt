@@ -1,4 +1,4 @@
-use Rattle.jx_hostile_runs.proofs.tests.growths.books.is_read_by_one.Given as goal
+use Rattle.jx_hostile_runs.proofs.tests.growths.books.is_read_from.Given as goal
 
 abbrev pub ghosts-is_read-P-Ledger : goal.ghosts-is_read-P-Ledger
 ghosts-is_read-P-Ledger g a = record { name = a.put.name; parts = a.put.parts }

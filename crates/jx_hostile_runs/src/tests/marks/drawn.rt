@@ -1,0 +1,59 @@
+// A list of marks while it is drawn, one mark at a time.
+use crate::tests::marks::lists::kind_of;
+use crate::tests::marks::table::follow;
+use jx_reduce::{Expect, Holder, next};
+use std::alloc::{AllocError, Global};
+
+/// The bytes of the marks, what may stand behind them, and the containers that they leave open.
+#[derive(Drop)]
+pub(crate) struct Drawn {
+    text: Vec<u8>,
+    expect: Expect,
+    open: Vec<Holder>,
+}
+
+impl Drawn {
+    /// No marks, with this expectation behind them.
+    pub(crate) fn new(alloc: Global, expect: Expect) -> Drawn {
+        Drawn {
+            text: Vec::new(alloc),
+            expect,
+            open: Vec::new(alloc),
+        }
+    }
+
+    /// What may stand next.
+    pub(crate) fn expect(&self) -> Expect {
+        self.expect
+    }
+
+    /// The innermost open container, or else the one around the list.
+    pub(crate) fn top(&self, around: Holder) -> Holder {
+        self.open.last().copied().unwrap_or(around)
+    }
+
+    /// How many containers stand open.
+    pub(crate) fn depth(&self) -> usize {
+        self.open.len()
+    }
+
+    /// One more mark, behind which this may stand.
+    pub(crate) fn add(&mut self, byte: u8, then: Expect) -> Result<(), AllocError> {
+        self.text.push(byte)?;
+        self.expect = then;
+        follow(&mut self.open, kind_of(byte))
+    }
+
+    /// One more mark. At a fault the list goes on as if the mark were not there.
+    pub(crate) fn try_add(&mut self, byte: u8, around: Holder) -> Result<(), AllocError> {
+        match next(kind_of(byte), self.expect, self.top(around)) {
+            Some(then) => self.add(byte, then),
+            None => Ok(self.text.push(byte)?),
+        }
+    }
+
+    /// The bytes of the marks.
+    pub(crate) fn into_text(self) -> Vec<u8> {
+        self.text
+    }
+}
