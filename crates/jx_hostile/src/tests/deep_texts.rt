@@ -1,16 +1,20 @@
 // Deep, unclosed and over-closed texts, in small pieces and by many workers.
-use jx_answer::{TextAnswer, index_text_with, verdict_of_text};
+ghost use Rattle.std.specs.Prelude.{◌≡◌, length};
+
+use crate::tests::calls::{crew_of, indexed};
+use jx_answer::{TextAnswer, verdict_of_text};
 use jx_book::{Crew, OpenGate};
-use jx_claim::{Cutting, Workers};
+use jx_claim::Cutting;
 use jx_hostile_runs::inputs::settings;
 use jx_index::Row;
 use jx_lex::{Depth, Kind};
 use jx_run::{FrontMark, NameRule, Refusal, Settings, Verdict};
-use std::alloc::{AllocError, Global};
+use std::alloc::Global;
 use std::process::Abort;
 use std::sync::Wait;
-use std::test::Fail;
 use std::thread::Threads;
+
+type Setting = (FrontMark, NameRule);
 
 const ALL: [Setting; 4] = [
     (FrontMark::Refused, NameRule::Any),
@@ -26,94 +30,38 @@ const OFF_AND_ON: [Setting; 2] = [
 ];
 
 #[test]
-fn deep_and_unclosed_texts_have_their_verdicts(rt: HostRuntime) -> Result<(), Fail> {
+fn deep_and_unclosed_texts_have_their_verdicts(rt: HostRuntime) {
     for count in &[1, 5, 64] {
-        let reading = Reading {
-            piece: 7,
-            count: *count,
-        };
-        check_all(&rt, rt.alloc(), reading, &ALL)?;
+        check_all(&rt, rt.alloc(), 7, *count, &ALL);
     }
-    Ok(())
 }
 
 // Pieces of a byte take longer, so two of the four settings are tried.
 #[test]
-fn many_workers_read_deep_texts_in_pieces_of_a_byte(rt: HostRuntime) -> Result<(), Fail> {
-    let reading = Reading {
-        piece: 1,
-        count: 64,
-    };
-    check_all(&rt, rt.alloc(), reading, &OFF_AND_ON)
+fn many_workers_read_deep_texts_in_pieces_of_a_byte(rt: HostRuntime) {
+    check_all(&rt, rt.alloc(), 1, 64, &OFF_AND_ON)
 }
 
 #[test]
-fn a_text_as_deep_as_may_be_has_all_its_rows(rt: HostRuntime) -> Result<(), Fail> {
-    let alloc = rt.alloc();
-    let text = repeated(alloc, &[(b'[', 600), (b']', 600)])?;
-    let depth = Depth::new(600).ok_or("a depth")?;
+fn a_text_as_deep_as_may_be_has_all_its_rows(rt: HostRuntime) {
+    let crew = crew_of(&rt, rt.alloc(), 2);
+    let text = repeated(&rt, rt.alloc(), &[(b'[', 600), (b']', 600)]);
+    let depth = Depth::new(600).expect(&rt, "a depth");
     for piece in &[1, 7] {
         for (mark, names) in &ALL {
-            check_rows(&rt, alloc, &text, *piece, &settings(depth, *mark, *names))?;
+            check_rows(&crew, &text, *piece, &settings(depth, *mark, *names));
         }
     }
-    Ok(())
 }
 
 // So many of each of these bytes, one after another.
-fn repeated(alloc: Global, parts: &[(u8, usize)]) -> Result<Vec<u8>, AllocError> {
+fn repeated<R: Abort>(rt: &R, alloc: Global, parts: &[(u8, usize)]) -> Vec<u8> {
     let mut text = Vec::new(alloc);
     for (byte, count) in parts {
-        text.resize(text.len().saturating_add(*count), *byte)?;
+        let len = text.len().saturating_add(*count);
+        text.resize(len, *byte).expect(rt, "a text");
     }
-    Ok(text)
-}
-
-// How a text is read: in pieces of so many bytes, at least one, and by so many workers.
-#[derive(Clone, Copy, Debug)]
-struct Reading {
-    piece: usize,
-    count: u8,
-}
-
-fn verdict<R: Threads + Wait + Sync>(
-    rt: &R,
-    alloc: Global,
-    text: &[u8],
-    reading: Reading,
-    settings: &Settings,
-) -> Result<Verdict, Fail> {
-    let cutting = Cutting::every(text.len(), reading.piece.max(1))?;
-    let workers = Workers::new(reading.count).ok_or("workers")?;
-    let crew = Crew {
-        rt,
-        alloc,
-        workers,
-        gate: &OpenGate,
-    };
-    let verdict = verdict_of_text(&crew, text, &cutting, settings)?;
-    Ok(verdict)
-}
-
-type Setting = (FrontMark, NameRule);
-
-// The verdict by each of these settings: where names have to be unique, by an index.
-fn check<R: Abort + Threads + Wait + Sync>(
-    rt: &R,
-    alloc: Global,
-    text: &[u8],
-    reading: Reading,
-    containers: u32,
-    by: &[Setting],
-    want: Verdict,
-) -> Result<(), Fail> {
-    let depth = Depth::new(containers).ok_or("a depth")?;
-    for (mark, names) in by {
-        let settings = settings(depth, *mark, *names);
-        let verdict = verdict(rt, alloc, text, reading, &settings)?;
-        assert_eq!(rt; verdict, want, "{reading:?} by {settings:?}");
-    }
-    Ok(())
+    text
 }
 
 // A text of so many of each of these bytes. So many containers stand in one another, each at an offset one further on.
@@ -186,53 +134,99 @@ fn verdict_within(text: &DeepText, containers: u32) -> Verdict {
     }
 }
 
-// Each text within each of its depths.
+// The verdict within a depth by each of these settings: where names have to be unique, by an index.
+fn check_within<R: Abort + Threads + Wait + Sync>(
+    crew: &Crew<'_, R, OpenGate>,
+    text: &[u8],
+    cutting: &Cutting,
+    deep: &DeepText,
+    containers: u32,
+    by: &[Setting],
+)
+    requires cutting { cutting.now.len ≡ length text.now }
+    requires front { cutting.now.front ≡ 0 }
+{
+    let depth = Depth::new(containers).expect(crew.rt, "a depth");
+    let want = verdict_within(deep, containers);
+    for (mark, names) in by {
+        let settings = settings(depth, *mark, *names);
+        let verdict = verdict_of_text(crew, text, cutting, &settings).expect(crew.rt, "a verdict");
+        assert!(crew.rt;
+            verdict == want,
+            "{verdict:?} and not {want:?} by {settings:?}"
+        );
+    }
+}
+
+// A text in pieces of so many bytes, at least one, within each of its depths.
+fn check_deep<R: Abort + Threads + Wait + Sync>(
+    crew: &Crew<'_, R, OpenGate>,
+    deep: &DeepText,
+    piece: usize,
+    by: &[Setting],
+) {
+    let text = repeated(crew.rt, crew.alloc, deep.parts);
+    let cutting = Cutting::every(text.len(), piece.max(1)).expect(crew.rt, "pieces");
+    for containers in deep.depths {
+        check_within(crew, &text, &cutting, deep, *containers, by);
+    }
+}
+
+// Each text, read by so many workers.
 fn check_all<R: Abort + Threads + Wait + Sync>(
     rt: &R,
     alloc: Global,
-    reading: Reading,
+    piece: usize,
+    count: u8,
     by: &[Setting],
-) -> Result<(), Fail> {
+) {
+    let crew = crew_of(rt, alloc, count);
     for deep in &TEXTS {
-        let text = repeated(alloc, deep.parts)?;
-        for containers in deep.depths {
-            let want = verdict_within(deep, *containers);
-            check(rt, alloc, &text, reading, *containers, by, want)?;
-        }
+        check_deep(&crew, deep, piece, by);
     }
-    Ok(())
+}
+
+fn parent_of(row: &Row) -> Option<usize> {
+    match row.parent {
+        Some(node) => Some(node.number()),
+        None => None,
+    }
 }
 
 // Whether it is the row of this number of so many arrays, each in the one before.
 fn is_nested(row: &Row, number: usize, count: usize) -> bool {
-    let parent = match row.parent {
-        Some(node) => Some(node.number()),
-        None => None,
-    };
     row.kind == Kind::Array
         && row.span.start == number
         && row.span.end.saturating_add(number) == count.saturating_mul(2)
-        && parent == number.checked_sub(1)
+        && parent_of(row) == number.checked_sub(1)
         && row.place == 0
         && row.name.is_none()
 }
 
+// The first row, by its number, that is not one of so many arrays, each in the one before.
+fn other_row(rows: &[Row], count: usize) -> Option<usize> {
+    for (number, row) in rows.iter().enumerate() {
+        if !is_nested(row, number, count) {
+            return Some(number);
+        }
+    }
+    None
+}
+
 fn check_rows<R: Abort + Threads + Wait + Sync>(
-    rt: &R,
-    alloc: Global,
+    crew: &Crew<'_, R, OpenGate>,
     text: &[u8],
     piece: usize,
     settings: &Settings,
-) -> Result<(), Fail> {
-    let cutting = Cutting::every(text.len(), piece.max(1))?;
-    let workers = Workers::new(2).ok_or("two workers")?;
-    let answer = index_text_with(rt, alloc, text, &cutting, workers, settings, &OpenGate)?;
+) {
+    let cutting = Cutting::every(text.len(), piece.max(1)).expect(crew.rt, "pieces");
+    let answer = indexed(crew, text, &cutting, settings).expect(crew.rt, "an answer");
     let TextAnswer::Accepted(index) = answer else {
-        return Err("a text".into());
+        panic!(crew.rt; "no text")
     };
-    assert_eq!(rt; index.rows().len(), 600);
-    for (number, row) in index.rows().iter().enumerate() {
-        assert!(rt; is_nested(row, number, 600), "row {number} by {settings:?}");
-    }
-    Ok(())
+    let (rows, other) = (index.rows().len(), other_row(index.rows(), 600));
+    assert!(crew.rt;
+        rows == 600 && other.is_none(),
+        "{rows} rows, and {other:?} another one, by {settings:?}"
+    );
 }

@@ -1,11 +1,10 @@
 // Workers on threads of the test's own, by public calls alone, and what `gather` makes of the runs that they left.
-ghost use Rattle.std.specs.Prelude.{◌≡◌, ◌+◌, ◌<◌, [], length, true, false, All, IfSome};
+ghost use Rattle.std.specs.Prelude.{◌≡◌, ◌+◌, ◌<◌, [], length, true, false, All};
 ghost use Rattle.jx_claim.specs.Cut.{drawn_len};
 ghost use Rattle.jx_book.specs.Shares.{share};
 
 use crate::tests::answers::is_worked;
 use crate::tests::calls::answer_of;
-use jx_answer::TextAnswer;
 use jx_book::{Book, FinishFault, Held, OpenGate, Put, Share, WorkerEnd, gather, work};
 use jx_claim::{ClaimSeat, Claims, Cutting, Workers};
 use jx_hostile_runs::inputs::{FIVE, NESTED, NESTED_ARRAYS, TOO_DEEP, Worked, WorkedRow};
@@ -16,7 +15,6 @@ use std::marker::Brand;
 use std::process::Abort;
 use std::sync::Wait;
 use std::sync::ledger::{Blank, Ledger};
-use std::test::Fail;
 use std::thread;
 use std::thread::Threads;
 
@@ -62,22 +60,19 @@ fn cut_texts() -> [(Worked, &'static [usize]); 7] {
 }
 
 #[test]
-fn texts_that_are_cut_are_gathered_to_their_rows(rt: HostRuntime) -> Result<(), Fail> {
-    for (worked, cuts) in cut_texts() {
-        check(&rt, rt.alloc(), &worked, cuts)?;
+fn texts_that_are_cut_are_gathered_to_their_rows(rt: HostRuntime) {
+    let texts = cut_texts();
+    for (worked, cuts) in &texts {
+        check(&rt, rt.alloc(), worked, cuts);
     }
-    Ok(())
 }
 
 #[test]
-fn a_run_that_begins_before_the_front_is_handed_back(rt: HostRuntime) -> Result<(), Fail> {
-    let cutting = Cutting::every(NESTED.len(), 6)?;
-    if cutting.len() < 1 {
-        return Err("a text".into());
-    }
+fn a_run_that_begins_before_the_front_is_handed_back(rt: HostRuntime) {
+    let cutting = Cutting::every(NESTED.len(), 6).expect(&rt, "one piece");
+    assert!(rt; 1 <= cutting.len());
     let cutting = cutting.without_front(1);
-    assert!(rt; is_other_of_one(&rt, rt.alloc(), NESTED, &cutting)?);
-    Ok(())
+    assert!(rt; is_other_of_one(&rt, rt.alloc(), NESTED, &cutting));
 }
 
 // What a worker begins with.
@@ -88,25 +83,26 @@ struct Hands<P: Ledger, T: Ledger> {
 }
 
 /// A seat and a share of those that are left.
-fn next_of<P: Ledger, T: Ledger>(
+fn next_of<P: Ledger, T: Ledger, R: Abort>(
+    rt: &R,
     claims: &Claims,
     seats: &mut Vec<ClaimSeat>,
     shares: &mut Vec<Share<P, T>>,
-) -> Option<Hands<P, T>>
+) -> Hands<P, T>
     requires seats { All (λ s. (s.id ≡ claims.now.id) × (s.got ≡ []) × (s.spent ≡ false)) seats.old.items }
     requires shares { All (λ s. s ≡ share 0 0) shares.old.items }
-    ensures seat { IfSome result (λ h. (h.seat.id ≡ claims.now.id) × (h.seat.got ≡ []) × (h.seat.spent ≡ false)) }
-    ensures share { IfSome result (λ h. h.share ≡ share 0 0) }
+    ensures seat { (result.seat.id ≡ claims.now.id) × (result.seat.got ≡ []) × (result.seat.spent ≡ false) }
+    ensures share { result.share ≡ share 0 0 }
     ensures seats { All (λ s. (s.id ≡ claims.now.id) × (s.got ≡ []) × (s.spent ≡ false)) seats.new.items }
     ensures shares { All (λ s. s ≡ share 0 0) shares.new.items }
 {
-    let seat = seats.pop()?;
-    let share = shares.pop()?;
-    Some(Hands { seat, share })
+    let seat = seats.pop().expect(rt, "a seat");
+    let share = shares.pop().expect(rt, "a share");
+    Hands { seat, share }
 }
 
 /// Lets one worker read until no piece is left.
-fn work_to_the_end<'a, P: Ledger, T: Ledger, R: Wait>(
+fn work_to_the_end<'a, P: Ledger, T: Ledger, R: Abort + Wait>(
     rt: &R,
     alloc: Global,
     book: &Book<'a, TextRun, P, T>,
@@ -115,25 +111,30 @@ fn work_to_the_end<'a, P: Ledger, T: Ledger, R: Wait>(
     claims: &Claims,
     depth: Depth,
     hands: Hands<P, T>,
-) -> Option<WorkerEnd<P, T>>
+) -> WorkerEnd<P, T>
     requires cutting { cutting.now.len ≡ length text.now }
     requires claims { claims.now.pieces ≡ length cutting.now.pieces }
     requires seat { (hands.seat.id ≡ claims.now.id) × (hands.seat.got ≡ []) × (hands.seat.spent ≡ false) }
     requires share { hands.share ≡ share 0 0 }
-    ensures seat { IfSome result (λ e. (e.seat.id ≡ claims.now.id) × (e.seat.spent ≡ true)) }
-    ensures bytes { IfSome result (λ e. drawn_len cutting.now.pieces e.seat.got + e.share.taken ≡ e.share.put) }
+    ensures seat { (result.seat.id ≡ claims.now.id) × (result.seat.spent ≡ true) }
+    ensures bytes { drawn_len cutting.now.pieces result.seat.got + result.share.taken ≡ result.share.put }
 {
     let Hands { seat, share } = hands;
     match work(
         rt, alloc, book, text, cutting, claims, seat, share, depth, &OpenGate,
     ) {
-        Ok(end) => Some(end),
-        Err(_) => None,
+        Ok(end) => end,
+        Err(_) => panic!(rt; "a worker that stopped"),
     }
 }
 
 /// Lets two workers read, each on a thread of its own.
-fn both_work<'a, P: Ledger + Send + Sync, T: Ledger + Send + Sync, R: Threads + Wait + Sync>(
+fn both_work<
+    'a,
+    P: Ledger + Send + Sync,
+    T: Ledger + Send + Sync,
+    R: Abort + Threads + Wait + Sync,
+>(
     rt: &R,
     alloc: Global,
     book: &Book<'a, TextRun, P, T>,
@@ -143,29 +144,34 @@ fn both_work<'a, P: Ledger + Send + Sync, T: Ledger + Send + Sync, R: Threads + 
     depth: Depth,
     first: Hands<P, T>,
     second: Hands<P, T>,
-) -> (Option<WorkerEnd<P, T>>, Option<WorkerEnd<P, T>>)
+) -> (WorkerEnd<P, T>, WorkerEnd<P, T>)
     requires cutting { cutting.now.len ≡ length text.now }
     requires claims { claims.now.pieces ≡ length cutting.now.pieces }
     requires first { (first.seat.id ≡ claims.now.id) × (first.seat.got ≡ []) × (first.seat.spent ≡ false) × (first.share ≡ share 0 0) }
     requires second { (second.seat.id ≡ claims.now.id) × (second.seat.got ≡ []) × (second.seat.spent ≡ false) × (second.share ≡ share 0 0) }
-    ensures first { IfSome result.0 (λ e. (e.seat.id ≡ claims.now.id) × (e.seat.spent ≡ true) × (drawn_len cutting.now.pieces e.seat.got + e.share.taken ≡ e.share.put)) }
-    ensures second { IfSome result.1 (λ e. (e.seat.id ≡ claims.now.id) × (e.seat.spent ≡ true) × (drawn_len cutting.now.pieces e.seat.got + e.share.taken ≡ e.share.put)) }
+    ensures first { (result.0.seat.id ≡ claims.now.id) × (result.0.seat.spent ≡ true) × (drawn_len cutting.now.pieces result.0.seat.got + result.0.share.taken ≡ result.0.share.put) }
+    ensures second { (result.1.seat.id ≡ claims.now.id) × (result.1.seat.spent ≡ true) × (drawn_len cutting.now.pieces result.1.seat.got + result.1.share.taken ≡ result.1.share.put) }
 {
     thread::join(
         rt,
-        move || -> Option<WorkerEnd<P, T>>
+        move || -> WorkerEnd<P, T>
             requires { (cutting.now.len ≡ length text.now) × (claims.now.pieces ≡ length cutting.now.pieces) × (first.seat.id ≡ claims.now.id) × (first.seat.got ≡ []) × (first.seat.spent ≡ false) × (first.share ≡ share 0 0) }
-            ensures { IfSome result (λ e. (e.seat.id ≡ claims.entry.now.id) × (e.seat.spent ≡ true) × (drawn_len cutting.entry.now.pieces e.seat.got + e.share.taken ≡ e.share.put)) }
+            ensures { (result.seat.id ≡ claims.entry.now.id) × (result.seat.spent ≡ true) × (drawn_len cutting.entry.now.pieces result.seat.got + result.share.taken ≡ result.share.put) }
         { work_to_the_end(rt, alloc, book, text, cutting, claims, depth, first) },
-        move || -> Option<WorkerEnd<P, T>>
+        move || -> WorkerEnd<P, T>
             requires { (cutting.now.len ≡ length text.now) × (claims.now.pieces ≡ length cutting.now.pieces) × (second.seat.id ≡ claims.now.id) × (second.seat.got ≡ []) × (second.seat.spent ≡ false) × (second.share ≡ share 0 0) }
-            ensures { IfSome result (λ e. (e.seat.id ≡ claims.entry.now.id) × (e.seat.spent ≡ true) × (drawn_len cutting.entry.now.pieces e.seat.got + e.share.taken ≡ e.share.put)) }
+            ensures { (result.seat.id ≡ claims.entry.now.id) × (result.seat.spent ≡ true) × (drawn_len cutting.entry.now.pieces result.seat.got + result.share.taken ≡ result.share.put) }
         { work_to_the_end(rt, alloc, book, text, cutting, claims, depth, second) },
     )
 }
 
-/// The answer on a text by the one run that two workers leave.
-fn answer_by_two<'a, P: Ledger + Send + Sync, T: Ledger + Send + Sync, R: Threads + Wait + Sync>(
+/// The one run that two workers leave of a text.
+fn run_by_two<
+    'a,
+    P: Ledger + Send + Sync,
+    T: Ledger + Send + Sync,
+    R: Abort + Threads + Wait + Sync,
+>(
     rt: &R,
     alloc: Global,
     text: &'a [u8],
@@ -173,68 +179,56 @@ fn answer_by_two<'a, P: Ledger + Send + Sync, T: Ledger + Send + Sync, R: Thread
     depth: Depth,
     put: Blank,
     taken: Blank,
-) -> Result<TextAnswer<'a>, Fail>
+) -> Held<'a, TextRun>
     requires cutting { cutting.now.len ≡ length text.now }
     requires put { (put.name ≡ P.name) × (put.parts ≡ P.parts) × (put.parts ≡ 2) }
     requires taken { (taken.name ≡ T.name) × (taken.parts ≡ T.parts) × (taken.parts ≡ 2) }
 {
-    let workers = Workers::new(2).ok_or("two workers")?;
-    let (book, mut shares) = Book::<TextRun, P, T>::open(alloc, put, taken, workers)?;
-    let (claims, mut seats) = Claims::open(alloc, cutting.count(), workers)?;
-    let first = next_of(&claims, &mut seats, &mut shares).ok_or("a seat")?;
-    let second = next_of(&claims, &mut seats, &mut shares).ok_or("a seat")?;
+    let workers = Workers::new(2).expect(rt, "two workers");
+    let (book, mut shares) = Book::<TextRun, P, T>::open(alloc, put, taken, workers).expect(
+        rt, "a book",
+    );
+    let (claims, mut seats) = Claims::open(alloc, cutting.count(), workers).expect(rt, "claims");
+    let first = next_of(rt, &claims, &mut seats, &mut shares);
+    let second = next_of(rt, &claims, &mut seats, &mut shares);
     let (first, second) = both_work(
         rt, alloc, &book, text, cutting, &claims, depth, first, second,
     );
-    let (Some(first), Some(second)) = (first, second) else {
-        return Err("two workers that end".into());
-    };
-    let seats = Vec::from_array(alloc, [first.seat, second.seat])?;
-    let shares = Vec::from_array(alloc, [first.share, second.share])?;
+    let seats = Vec::from_array(alloc, [first.seat, second.seat]).expect(rt, "seats");
+    let shares = Vec::from_array(alloc, [first.share, second.share]).expect(rt, "shares");
     match gather(book, claims, text, cutting, depth, seats, shares) {
-        Ok(Some(run)) => {
-            let answer = answer_of(alloc, &run)?;
-            Ok(answer)
-        }
-        Ok(None) => Err("a piece".into()),
-        Err(_) => Err("a run of this text".into()),
+        Ok(Some(run)) => run,
+        _ => panic!(rt; "no run of this text"),
     }
 }
 
 /// The same, with blanks for the ledgers of a book.
-fn answer_of_two<'a, R: Threads + Wait + Sync>(
+fn run_of_two<'a, R: Abort + Threads + Wait + Sync>(
     rt: &R,
     alloc: Global,
     text: &'a [u8],
     cutting: &Cutting,
     depth: Depth,
-) -> Result<TextAnswer<'a>, Fail>
+) -> Held<'a, TextRun>
     requires cutting { cutting.now.len ≡ length text.now }
 {
     let put = Blank::new(2);
     let taken = Blank::new(2);
-    answer_by_two::<Brand, Brand, R>(rt, alloc, text, cutting, depth, put, taken)
+    run_by_two::<Brand, Brand, R>(rt, alloc, text, cutting, depth, put, taken)
 }
 
 // The answer on a text that is cut there, with all its rows.
-fn check<R: Abort + Threads + Wait + Sync>(
-    rt: &R,
-    alloc: Global,
-    worked: &Worked,
-    cuts: &[usize],
-) -> Result<(), Fail> {
-    let depth = Depth::new(worked.containers).ok_or("a depth")?;
-    let cutting = Cutting::at(alloc, worked.text.len(), cuts)?;
-    let answer = answer_of_two(rt, alloc, worked.text, &cutting, depth)?;
-    assert!(rt;
-        is_worked(&answer, worked, NameRule::Any),
-        "{worked:?} cut at {cuts:?}"
-    );
-    Ok(())
+fn check<R: Abort + Threads + Wait + Sync>(rt: &R, alloc: Global, worked: &Worked, cuts: &[usize]) {
+    let depth = Depth::new(worked.containers).expect(rt, "a depth");
+    let cutting = Cutting::at(alloc, worked.text.len(), cuts).expect(rt, "cuts");
+    let run = run_of_two(rt, alloc, worked.text, &cutting, depth);
+    let answer = answer_of(alloc, &run).expect(rt, "an answer");
+    let right = is_worked(&answer, worked, NameRule::Any);
+    assert!(rt; right, "{worked:?} cut at {cuts:?}");
 }
 
 /// Draws a piece and puts as many bytes that begin one byte before it, and then meets the end of the pieces.
-fn put_before<'a, P: Ledger, T: Ledger, R: Wait>(
+fn put_before<'a, P: Ledger, T: Ledger, R: Abort + Wait>(
     rt: &R,
     alloc: Global,
     book: &Book<'a, OutcomeRun, P, T>,
@@ -242,66 +236,63 @@ fn put_before<'a, P: Ledger, T: Ledger, R: Wait>(
     cutting: &Cutting,
     claims: &Claims,
     hands: Hands<P, T>,
-) -> Option<Hands<P, T>>
+) -> Hands<P, T>
     requires cutting { cutting.now.len ≡ length text.now }
     requires front { cutting.now.front ≡ 1 }
     requires claims { claims.now.pieces ≡ length cutting.now.pieces }
     requires seat { (hands.seat.id ≡ claims.now.id) × (hands.seat.got ≡ []) × (hands.seat.spent ≡ false) }
     requires share { hands.share ≡ share 0 0 }
-    ensures seat { IfSome result (λ e. (e.seat.id ≡ claims.now.id) × (e.seat.spent ≡ true)) }
-    ensures bytes { IfSome result (λ e. drawn_len cutting.now.pieces e.seat.got + e.share.taken ≡ e.share.put) }
+    ensures seat { (result.seat.id ≡ claims.now.id) × (result.seat.spent ≡ true) }
+    ensures bytes { drawn_len cutting.now.pieces result.seat.got + result.share.taken ≡ result.share.put }
 {
     let Hands {
         mut seat,
         mut share,
     } = hands;
-    let piece = claims.draw(&mut seat)?;
+    let piece = claims.draw(&mut seat).expect(rt, "a piece");
     let place = cutting.piece(piece);
     let (start, end) = (place.start - 1, place.end - 1);
-    let run = Held::read(alloc, text, start, end, Depth::default()).ok()?;
+    let run = Held::read(alloc, text, start, end, Depth::default()).expect(rt, "a run");
     let Put::Stored = book.put(rt, &mut share, run) else {
-        return None;
+        panic!(rt; "a run that is not stored")
     };
     match claims.draw(&mut seat) {
-        None => Some(Hands { seat, share }),
-        Some(_) => None,
+        None => Hands { seat, share },
+        Some(_) => panic!(rt; "a second piece"),
     }
 }
 
 /// Whether a run that begins before the front of the cutting comes back.
-fn is_other<P: Ledger, T: Ledger, R: Wait>(
+fn is_other<P: Ledger, T: Ledger, R: Abort + Wait>(
     rt: &R,
     alloc: Global,
     text: &[u8],
     cutting: &Cutting,
     put: Blank,
     taken: Blank,
-) -> Result<bool, Fail>
+) -> bool
     requires cutting { cutting.now.len ≡ length text.now }
     requires front { cutting.now.front ≡ 1 }
     requires put { (put.name ≡ P.name) × (put.parts ≡ P.parts) × (put.parts ≡ 1) }
     requires taken { (taken.name ≡ T.name) × (taken.parts ≡ T.parts) × (taken.parts ≡ 1) }
 {
-    let workers = Workers::new(1).ok_or("one worker")?;
-    let (book, mut shares) = Book::<OutcomeRun, P, T>::open(alloc, put, taken, workers)?;
-    let (claims, mut seats) = Claims::open(alloc, cutting.count(), workers)?;
-    let hands = next_of(&claims, &mut seats, &mut shares).ok_or("a seat")?;
-    let hands = put_before(rt, alloc, &book, text, cutting, &claims, hands).ok_or("a run")?;
-    let seats = Vec::from_array(alloc, [hands.seat])?;
-    let shares = Vec::from_array(alloc, [hands.share])?;
+    let workers = Workers::new(1).expect(rt, "one worker");
+    let (book, mut shares) = Book::<OutcomeRun, P, T>::open(alloc, put, taken, workers).expect(
+        rt, "a book",
+    );
+    let (claims, mut seats) = Claims::open(alloc, cutting.count(), workers).expect(rt, "claims");
+    let hands = next_of(rt, &claims, &mut seats, &mut shares);
+    let hands = put_before(rt, alloc, &book, text, cutting, &claims, hands);
+    let seats = Vec::from_array(alloc, [hands.seat]).expect(rt, "seats");
+    let shares = Vec::from_array(alloc, [hands.share]).expect(rt, "shares");
     match gather(book, claims, text, cutting, Depth::default(), seats, shares) {
-        Err(FinishFault::Other(run)) => Ok(run.span() == Span { start: 0, end: 5 }),
-        Ok(_) => Ok(false),
+        Err(FinishFault::Other(run)) => run.span() == Span { start: 0, end: 5 },
+        Ok(_) => false,
     }
 }
 
 /// The same, with blanks for the ledgers of a book.
-fn is_other_of_one<R: Wait>(
-    rt: &R,
-    alloc: Global,
-    text: &[u8],
-    cutting: &Cutting,
-) -> Result<bool, Fail>
+fn is_other_of_one<R: Abort + Wait>(rt: &R, alloc: Global, text: &[u8], cutting: &Cutting) -> bool
     requires cutting { cutting.now.len ≡ length text.now }
     requires front { cutting.now.front ≡ 1 }
 {

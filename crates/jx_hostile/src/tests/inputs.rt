@@ -50,8 +50,8 @@ pub const ELEMENTS: [ToldElement; 3] = [
     (13, 16, TRUNCATED),
 ];
 
-/// The same sequence behind a byte order mark.
-pub const MARKED_SEQUENCE: &[u8] = b"\xEF\xBB\xBF\x1Etrue\n\x1Etrue\x1E\x1E[1\n";
+// The same sequence behind a byte order mark.
+const MARKED_SEQUENCE: &[u8] = b"\xEF\xBB\xBF\x1Etrue\n\x1Etrue\x1E\x1E[1\n";
 
 const REFUSED_MARK: ToldElement = (0, 3, Told::Unmarked);
 
@@ -85,8 +85,8 @@ const ARRAY_ROWS: [WorkedRow; 2] = [
     (Kind::Number, (2, 3), Some(0), 0, None),
 ];
 
-/// Sequences with the answers on their elements, which are the same by all settings.
-pub const SEQUENCES: [WorkedSequence; 8] = [
+// Sequences with the answers on their elements, which are the same by all settings.
+const SEQUENCES: [WorkedSequence; 8] = [
     (SEQUENCE, &ELEMENTS),
     (
         b"1\n\x1E2\n",
@@ -142,22 +142,35 @@ pub const UNIQUE_NAMES: [ToldElement; 1] = [(
     Told::Refused(Refusal::RepeatedName { at: 8 }),
 )];
 
-/// Sequences behind a byte order mark, where it is refused, and where it is ignored.
-pub const MARKED_SEQUENCES: [[WorkedSequence; 2]; 2] = [
-    [
-        (MARKED_SEQUENCE, &BEHIND_REFUSED_MARK),
-        (MARKED_NUMBER, &[REFUSED_MARK, NUMBER]),
-    ],
-    [
-        (MARKED_SEQUENCE, &BEHIND_IGNORED_MARK),
-        (MARKED_NUMBER, &NUMBER_ALONE),
-    ],
+const BEHIND_REFUSED: [WorkedSequence; 2] = [
+    (MARKED_SEQUENCE, &BEHIND_REFUSED_MARK),
+    (MARKED_NUMBER, &[REFUSED_MARK, NUMBER]),
 ];
 
-/// A sequence that repeats a name, where any names may stand, and where they have to be unique.
-pub const REPEATED_SEQUENCES: [[WorkedSequence; 1]; 2] = [
-    [(REPEATED_SEQUENCE, &ANY_NAMES)],
-    [(REPEATED_SEQUENCE, &UNIQUE_NAMES)],
+const BEHIND_IGNORED: [WorkedSequence; 2] = [
+    (MARKED_SEQUENCE, &BEHIND_IGNORED_MARK),
+    (MARKED_NUMBER, &NUMBER_ALONE),
+];
+
+// A sequence that repeats a name, where any names may stand, and where they have to be unique.
+const REPEATED_ANY: [WorkedSequence; 1] = [(REPEATED_SEQUENCE, &ANY_NAMES)];
+
+const REPEATED_UNIQUE: [WorkedSequence; 1] = [(REPEATED_SEQUENCE, &UNIQUE_NAMES)];
+
+/// Sequences, each list with what becomes of a byte order mark and of names.
+pub const SETTLED_SEQUENCES: [(FrontMark, NameRule, &[WorkedSequence]); 12] = [
+    (FrontMark::Refused, NameRule::Any, &SEQUENCES),
+    (FrontMark::Refused, NameRule::Any, &BEHIND_REFUSED),
+    (FrontMark::Refused, NameRule::Any, &REPEATED_ANY),
+    (FrontMark::Refused, NameRule::Unique, &SEQUENCES),
+    (FrontMark::Refused, NameRule::Unique, &BEHIND_REFUSED),
+    (FrontMark::Refused, NameRule::Unique, &REPEATED_UNIQUE),
+    (FrontMark::Ignored, NameRule::Any, &SEQUENCES),
+    (FrontMark::Ignored, NameRule::Any, &BEHIND_IGNORED),
+    (FrontMark::Ignored, NameRule::Any, &REPEATED_ANY),
+    (FrontMark::Ignored, NameRule::Unique, &SEQUENCES),
+    (FrontMark::Ignored, NameRule::Unique, &BEHIND_IGNORED),
+    (FrontMark::Ignored, NameRule::Unique, &REPEATED_UNIQUE),
 ];
 
 /// Worked texts of at most 24 bytes.

@@ -1,24 +1,20 @@
 // Workers that are stopped: what they left is read by the calling thread, and the answer is the same.
-use crate::tests::answers::{LookUp, ToldElement, are_found};
+use crate::tests::answers::LookUp;
 use crate::tests::calls::{
-    SEQUENCE_CALLS, SequenceCall, TEXT_CALLS, TextCall, index_of, is_right, tells,
+    Asked, LookUps, SEQUENCE_CALLS, TEXT_CALLS, index_of, is_right, pointer_of,
 };
-use crate::tests::inputs::{
-    MARKED_SEQUENCES, MARKED_TEXTS, MARKS, REPEATED_SEQUENCES, RULES, SEQUENCES, WorkedSequence,
-};
-use jx_answer::find_all;
+use crate::tests::inputs::{MARKED_TEXTS, RULES, SETTLED_SEQUENCES, WorkedSequence};
 use jx_book::Crew;
-use jx_claim::{Cutting, Workers};
+use jx_claim::Workers;
 use jx_hostile_runs::gates::{MANY, StopFrom};
 use jx_hostile_runs::inputs::{TEXTS, UNSORTED, Worked, settings};
-use jx_index::{FindFault, Pointer};
+use jx_index::FindFault;
 use jx_lex::{Depth, Kind};
-use jx_run::{FrontMark, Settings};
+use jx_run::{FrontMark, NameRule, Settings};
 use std::alloc::Global;
 use std::process::Abort;
 use std::sync::Wait;
 use std::sync::atomic::AtomicBool;
-use std::test::Fail;
 use std::thread::Threads;
 
 // Texts, each with what becomes of a byte order mark.
@@ -29,64 +25,78 @@ const TEXT_LISTS: [(&[Worked], FrontMark); 3] = [
 ];
 
 #[test]
-fn texts_are_answered_alike_where_workers_stop(rt: HostRuntime) -> Result<(), Fail> {
+fn texts_are_answered_alike_where_workers_stop(rt: HostRuntime) {
     for (texts, mark) in &TEXT_LISTS {
-        check_texts(&rt, rt.alloc(), texts, *mark)?;
+        check_texts(&rt, rt.alloc(), texts, *mark);
     }
-    Ok(())
 }
 
 #[test]
-fn sequences_are_answered_alike_where_workers_stop(rt: HostRuntime) -> Result<(), Fail> {
-    for (mark, marked) in MARKS.iter().zip(&MARKED_SEQUENCES) {
-        for (names, repeated) in RULES.iter().zip(&REPEATED_SEQUENCES) {
-            let settings = settings(Depth::default(), *mark, *names);
-            check_sequences(&rt, rt.alloc(), &SEQUENCES, &settings)?;
-            check_sequences(&rt, rt.alloc(), marked, &settings)?;
-            check_sequences(&rt, rt.alloc(), repeated, &settings)?;
-        }
+fn sequences_are_answered_alike_where_workers_stop(rt: HostRuntime) {
+    for (mark, names, sequences) in &SETTLED_SEQUENCES {
+        let settings = settings(Depth::default(), *mark, *names);
+        check_sequences(&rt, rt.alloc(), sequences, &settings);
     }
-    Ok(())
 }
 
 #[test]
-fn look_ups_are_answered_alike_where_workers_stop(rt: HostRuntime) -> Result<(), Fail> {
-    for count in &[1, 2, 5] {
-        check_look_ups(&rt, rt.alloc(), *count)?;
-    }
-    Ok(())
+fn look_ups_are_answered_alike_where_workers_stop(rt: HostRuntime) {
+    check_look_ups(&rt, rt.alloc())
 }
 
-// A call on a text by so many workers, who stop from each event on in turn until a run meets no stop.
-fn check_call<R: Abort + Threads + Wait + Sync>(
+// Whether a run whose workers stop at the event of this number and at all later ones meets a stop. It answers rightly.
+fn meets_a_stop<R: Abort + Threads + Wait + Sync>(
     rt: &R,
     alloc: Global,
-    call: TextCall,
-    worked: &Worked,
+    workers: Workers,
+    number: u64,
+    asked: Asked<'_>,
     settings: &Settings,
-    count: u8,
-) -> Result<(), Fail> {
-    let workers = Workers::new(count).ok_or("workers")?;
+) -> bool {
     let begun = AtomicBool::new(true);
+    let gate = StopFrom::new(number, &begun);
+    let crew = Crew {
+        rt,
+        alloc,
+        workers,
+        gate: &gate,
+    };
+    let right = is_right(&crew, asked, settings).expect(rt, "an answer");
+    assert!(rt;
+        right,
+        "{} on {:?} by {settings:?} and {workers:?}, stopped at {number}",
+        asked.call(),
+        asked.text()
+    );
+    gate.has_stopped()
+}
+
+// What is asked of so many workers, who stop from each event on in turn until a run meets no stop.
+fn check<R: Abort + Threads + Wait + Sync>(
+    rt: &R,
+    alloc: Global,
+    count: u8,
+    asked: Asked<'_>,
+    settings: &Settings,
+) {
+    let workers = Workers::new(count).expect(rt, "workers");
     for number in 0..MANY {
-        let gate = StopFrom::new(number, &begun);
-        let crew = Crew {
-            rt,
-            alloc,
-            workers,
-            gate: &gate,
-        };
-        let cutting = Cutting::every(worked.text.len(), 1)?;
-        let right = is_right(&crew, call, worked, cutting, settings)?;
-        assert!(rt;
-            right,
-            "{call:?} on {worked:?} by {settings:?} and {count}, stopped at {number}"
-        );
-        if !gate.has_stopped() {
-            return Ok(());
+        if !meets_a_stop(rt, alloc, workers, number, asked, settings) {
+            return;
         }
     }
-    Err("a run that meets no stop".into())
+    panic!(rt; "no run that meets no stop")
+}
+
+fn check_by_each<R: Abort + Threads + Wait + Sync>(
+    rt: &R,
+    alloc: Global,
+    asked: Asked<'_>,
+    settings: &Settings,
+) {
+    for count in &[1, 2, 5] {
+        check(rt, alloc, *count, asked, settings);
+    }
 }
 
 // Each call on a text by both rules for names.
@@ -95,16 +105,14 @@ fn check_text<R: Abort + Threads + Wait + Sync>(
     alloc: Global,
     worked: &Worked,
     mark: FrontMark,
-    count: u8,
-) -> Result<(), Fail> {
-    let depth = Depth::new(worked.containers).ok_or("a depth")?;
+) {
+    let depth = Depth::new(worked.containers).expect(rt, "a depth");
     for names in &RULES {
         let settings = settings(depth, mark, *names);
         for call in &TEXT_CALLS {
-            check_call(rt, alloc, *call, worked, &settings, count)?;
+            check_by_each(rt, alloc, Asked::Text(*call, worked), &settings);
         }
     }
-    Ok(())
 }
 
 fn check_texts<R: Abort + Threads + Wait + Sync>(
@@ -112,96 +120,47 @@ fn check_texts<R: Abort + Threads + Wait + Sync>(
     alloc: Global,
     texts: &[Worked],
     mark: FrontMark,
-) -> Result<(), Fail> {
+) {
     for worked in texts {
-        for count in &[1, 2, 5] {
-            check_text(rt, alloc, worked, mark, *count)?;
-        }
+        check_text(rt, alloc, worked, mark);
     }
-    Ok(())
 }
 
-// The same of a text sequence.
-fn check_sequence<R: Abort + Threads + Wait + Sync>(
-    rt: &R,
-    alloc: Global,
-    call: SequenceCall,
-    text: &[u8],
-    want: &[ToldElement],
-    settings: &Settings,
-    count: u8,
-) -> Result<(), Fail> {
-    let workers = Workers::new(count).ok_or("workers")?;
-    let cutting = Cutting::every(text.len(), 1)?;
-    let begun = AtomicBool::new(true);
-    for number in 0..MANY {
-        let gate = StopFrom::new(number, &begun);
-        let crew = Crew {
-            rt,
-            alloc,
-            workers,
-            gate: &gate,
-        };
-        let told = tells(&crew, call, text, want, &cutting, settings)?;
-        assert!(rt;
-            told,
-            "{call:?} on {text:?} by {settings:?} and {count}, stopped at {number}"
-        );
-        if !gate.has_stopped() {
-            return Ok(());
-        }
-    }
-    Err("a run that meets no stop".into())
-}
-
-// Each call on these sequences by so many workers.
+// Each call on these sequences.
 fn check_sequences<R: Abort + Threads + Wait + Sync>(
     rt: &R,
     alloc: Global,
     sequences: &[WorkedSequence],
     settings: &Settings,
-) -> Result<(), Fail> {
-    for (text, want) in sequences {
+) {
+    for sequence in sequences {
         for call in &SEQUENCE_CALLS {
-            for count in &[1, 2, 5] {
-                check_sequence(rt, alloc, *call, text, want, settings, *count)?;
-            }
+            check_by_each(rt, alloc, Asked::Sequence(*call, sequence), settings);
         }
     }
-    Ok(())
 }
 
-// Look-ups by that many workers, who stop from each event on in turn until a run meets no stop.
-fn check_look_ups<R: Abort + Threads + Wait + Sync>(
-    rt: &R,
-    alloc: Global,
-    count: u8,
-) -> Result<(), Fail> {
-    let workers = Workers::new(count).ok_or("workers")?;
-    let index = index_of(rt, alloc, UNSORTED)?;
-    let (Ok(root), Ok(name), Ok(repeated), Ok(missing)) = (
-        Pointer::read(""),
-        Pointer::read("/a"),
-        Pointer::read("/b"),
-        Pointer::read("/c"),
-    ) else {
-        return Err("four pointers".into());
-    };
-    let pointers = [root, name, repeated, missing];
-    let want: [LookUp; 4] = [
-        Ok((0, Kind::Object, (0, 19))),
-        Ok((2, Kind::Number, (11, 12))),
-        Err(FindFault::NameRepeated { token: 0 }),
-        Err(FindFault::NoSuchMember { token: 0 }),
+const WANT: [LookUp; 4] = [
+    Ok((0, Kind::Object, (0, 19))),
+    Ok((2, Kind::Number, (11, 12))),
+    Err(FindFault::NameRepeated { token: 0 }),
+    Err(FindFault::NoSuchMember { token: 0 }),
+];
+
+fn check_look_ups<R: Abort + Threads + Wait + Sync>(rt: &R, alloc: Global) {
+    let index = index_of(rt, alloc, UNSORTED);
+    let pointers = [
+        pointer_of(rt, ""),
+        pointer_of(rt, "/a"),
+        pointer_of(rt, "/b"),
+        pointer_of(rt, "/c"),
     ];
-    let begun = AtomicBool::new(true);
-    for number in 0..MANY {
-        let gate = StopFrom::new(number, &begun);
-        let found = find_all(rt, alloc, &index, &pointers, workers, &gate)?;
-        assert!(rt; are_found(&found, &want), "stopped at {number}");
-        if !gate.has_stopped() {
-            return Ok(());
-        }
-    }
-    Err("a run that meets no stop".into())
+    let look_ups = LookUps {
+        text: UNSORTED,
+        index: &index,
+        pointers: &pointers,
+        want: &WANT,
+    };
+    let settings = settings(Depth::default(), FrontMark::Refused, NameRule::Any);
+    check_by_each(rt, alloc, Asked::Pointers(&look_ups), &settings);
 }

@@ -1,17 +1,15 @@
 // Look-ups under refused growths.
-use crate::tests::answers::{LookUp, are_found};
-use crate::tests::calls::index_of;
-use jx_answer::{Fault, find_all};
-use jx_book::OpenGate;
-use jx_claim::Workers;
-use jx_hostile_runs::inputs::{FIVE_ROWS, NESTED, REPEATED, UNSORTED, WIDE};
+use crate::tests::answers::LookUp;
+use crate::tests::calls::{Asked, LookUps, index_of, pointer_of};
+use crate::tests::growths::check;
+use jx_hostile_runs::inputs::{FIVE_ROWS, NESTED, REPEATED, UNSORTED, WIDE, settings};
 use jx_hostile_runs::lines::Lines;
-use jx_index::{FindFault, Pointer};
-use jx_lex::Kind;
+use jx_index::FindFault;
+use jx_lex::{Depth, Kind};
+use jx_run::{FrontMark, NameRule};
 use std::alloc::Global;
 use std::process::Abort;
 use std::sync::Wait;
-use std::test::Fail;
 use std::thread::Threads;
 
 const REPEATED_HERE: LookUp = Err(FindFault::NameRepeated { token: 0 });
@@ -66,42 +64,38 @@ const LOOK_UPS: [(&[u8], [&str; 3], [LookUp; 3]); 5] = [
 ];
 
 #[test]
-fn look_ups_under_a_refused_growth(rt: HostRuntime) -> Result<(), Fail> {
+fn look_ups_under_a_refused_growth(rt: HostRuntime) {
     let mut lines = Lines::of(&rt);
     for look_up in &LOOK_UPS {
         for count in &[1, 2] {
             if lines.takes_next() {
-                check(&rt, rt.alloc(), look_up, *count)?;
+                check_look_up(&rt, rt.alloc(), look_up, *count);
             }
         }
     }
-    Ok(())
-}
-
-// Three pointers into a text.
-fn pointers_of<'p>(spelt: &[&'p str; 3]) -> Option<[Pointer<'p>; 3]> {
-    let [first, second, third] = *spelt;
-    let first = Pointer::read(first).ok()?;
-    let second = Pointer::read(second).ok()?;
-    let third = Pointer::read(third).ok()?;
-    Some([first, second, third])
 }
 
 // Three pointers into a text, looked up by that many workers.
-fn check<R: Abort + Threads + Wait + Sync>(
+fn check_look_up<R: Abort + Threads + Wait + Sync>(
     rt: &R,
     alloc: Global,
     look_up: &(&[u8], [&str; 3], [LookUp; 3]),
     count: u8,
-) -> Result<(), Fail> {
+) {
     let (text, spelt, want) = look_up;
-    let workers = Workers::new(count).ok_or("workers")?;
-    let pointers = pointers_of(spelt).ok_or("three pointers")?;
-    let index = index_of(rt, alloc, text)?;
-    let found = match find_all(rt, alloc, &index, &pointers, workers, &OpenGate) {
-        Ok(found) => found,
-        Err(Fault::Memory) => find_all(rt, alloc, &index, &pointers, workers, &OpenGate)?,
+    let [first, second, third] = *spelt;
+    let pointers = [
+        pointer_of(rt, first),
+        pointer_of(rt, second),
+        pointer_of(rt, third),
+    ];
+    let index = index_of(rt, alloc, text);
+    let look_ups = LookUps {
+        text,
+        index: &index,
+        pointers: &pointers,
+        want,
     };
-    assert!(rt; are_found(&found, want), "{text:?} by {count}");
-    Ok(())
+    let settings = settings(Depth::default(), FrontMark::Refused, NameRule::Any);
+    check(rt, alloc, count, Asked::Pointers(&look_ups), &settings);
 }
