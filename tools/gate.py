@@ -27,8 +27,13 @@ STEP = re.compile(r"^rt: ((\w+)(: its tests)? (proved|NOT PROVED|is kept\b.*|ran
 # `rt ci` counts a wrong body that it cannot read as no failure: it says nothing of a contract.
 BAD_EDIT = "BAD EDIT"
 # A line that tells a failure, and how many lines from it on tell what was wanted and what came.
-FAILURE = re.compile(r": FAILED\b|^(must-fail|rt): .*\b(NOT TRIED|NOT PROVED|FAILED)\b")
+FAILURE = re.compile(r": FAILED\b|^(must-fail|rt): .*\b(NOT TRIED|NOT REFUSED|NOT PROVED|FAILED)\b")
 LINES_OF_A_FAILURE = 12
+# A line that belongs to no failure before it.
+OTHER = re.compile(r"^(rt: |gate: |== |\S+\.sh: \d+ passed)")
+# Why a crate is not proved is told in front of the line that says so, in its last lines.
+NOT_PROVED = re.compile(r"^rt: \w+(: its tests)? NOT PROVED$")
+LINES_IN_FRONT = 6
 SAMPLE_SECONDS = 2.0
 
 
@@ -83,6 +88,8 @@ class Gate:
         self.passed = self.failed = 0
         self.elapsed = []
         self.failures = []
+        self.is_failing = False
+        self.before = collections.deque(maxlen=LINES_IN_FRONT)
 
     def say(self, text):
         print("gate: %s %s" % (clock(time.monotonic() - self.began), text), flush=True)
@@ -109,9 +116,13 @@ class Gate:
     def note(self, line):
         """Keeps the lines of a failure, each failure's by themselves."""
         if FAILURE.search(line):
-            self.failures.append([line])
-        elif self.failures and len(self.failures[-1]) < LINES_OF_A_FAILURE:
+            self.failures.append([*self.before, line] if NOT_PROVED.match(line) else [line])
+            self.is_failing = True
+        elif OTHER.match(line):
+            self.is_failing = False
+        elif self.is_failing and len(self.failures[-1]) < LINES_OF_A_FAILURE:
             self.failures[-1].append(line)
+        self.before.append(line)
 
     def tell_failures(self):
         for lines in self.failures:
