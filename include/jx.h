@@ -12,8 +12,8 @@
  * may use a struct that it writes to, a document or an index. No call starts a thread or waits for one. Do not call from a signal
  * handler.
  *
- * Names that end in _non_null are what the library exports for the call below them, which answers null pointers: call that one.
- * Only a language that does not read this header declares them, and passes no null pointer.
+ * Names that end in _non_null are what the inline call below them calls, which answers null pointers: call that one. The libraries
+ * export it too, for languages that do not read this header.
  *
  * Since 0.1.0 each call has one name, and its settings may be null:
  *   jx_check, jx_rows, jx_at and jx_elements took a depth, and take settings: {depth, 0} says the same.
@@ -45,7 +45,7 @@ enum {
     JX_NO_DOCUMENT = 8,     /* the struct holds no document, or the pointer to it is null */
     JX_NULL_POINTER = 9,    /* another pointer to a call on a document or an index is null */
     JX_NO_INDEX = 10,       /* the struct holds no index, or the pointer to it is null */
-    JX_NO_ROOM = 11,        /* the run has more bytes than the buffer: see its size */
+    JX_NO_ROOM = 11,        /* the run, or the compact form, has more bytes than the buffer: see its size */
     JX_NOT_A_RUN = 12,      /* the bytes are no run that this version of the library writes */
     JX_OTHER_DEPTH = 13,    /* the runs were made with different depths */
     JX_NOT_NEIGHBOURS = 14  /* the right run does not begin where the left one ends, or the run is of other bytes */
@@ -103,6 +103,24 @@ uint32_t jx_check_non_null(const uint8_t *text, size_t size, const jx_settings *
  * once, freed before the call returns. Returns JX_OK, JX_DEPTH_TOO_GREAT, JX_UNKNOWN_FLAG, or JX_NO_MEMORY with JX_UNIQUE_NAMES. */
 static inline uint32_t jx_check(const uint8_t *text, size_t size, const jx_settings *settings, jx_verdict *verdict) {
     return jx_check_non_null(text, size, jx_settings_or_default(settings), verdict);
+}
+
+uint32_t jx_compact_non_null(const uint8_t *text, size_t size, const jx_settings *settings, uint8_t *compact, size_t room,
+                             size_t *compact_size, jx_verdict *verdict);
+
+/* Writes the compact form of a JSON text to `compact`: its tokens one behind another, without the blanks between them (RFC 8259,
+ * section 2). Each token keeps its bytes: no number, name or string is spelt anew. An ignored byte order mark is left out. Writes
+ * the form's size to `compact_size`. It is at most `size`, so a room of `size` bytes is enough. A form of more than `room` bytes is
+ * not written, and JX_NO_ROOM is returned: its size tells how much room a second call needs.
+ *
+ * The bytes are checked first, and the verdict is that of jx_check. Of bytes that are refused nothing is written, and
+ * `compact_size` is 0. No byte of `compact` behind the form is changed.
+ *
+ * Allocates nothing without JX_UNIQUE_NAMES; with it, what jx_check does. Returns JX_OK, JX_NO_ROOM, JX_DEPTH_TOO_GREAT,
+ * JX_UNKNOWN_FLAG, or JX_NO_MEMORY with JX_UNIQUE_NAMES. */
+static inline uint32_t jx_compact(const uint8_t *text, size_t size, const jx_settings *settings, uint8_t *compact, size_t room,
+                                  size_t *compact_size, jx_verdict *verdict) {
+    return jx_compact_non_null(text, size, jx_settings_or_default(settings), compact, room, compact_size, verdict);
 }
 
 /* Reads a text slice by slice. Its size is fixed, and it keeps no byte of the text. The words are private to the library. A
@@ -369,7 +387,8 @@ static inline uint32_t jx_document_edit(jx_document *document, size_t start, siz
 /* Gives the verdict on all bytes, as one text: that of jx_check by the document's settings. Takes up what edits changed
  * since the last verdict, so there may be several edits before one.
  *
- * May allocate. Returns JX_OK, JX_NO_MEMORY, JX_NO_DOCUMENT or JX_NULL_POINTER. */
+ * May allocate. After JX_NO_MEMORY the document keeps what was taken up so far, and the next verdict goes on from there;
+ * jx_document_free frees it. Returns JX_OK, JX_NO_MEMORY, JX_NO_DOCUMENT or JX_NULL_POINTER. */
 static inline uint32_t jx_document_verdict(jx_document *document, jx_verdict *verdict) {
     if (document == NULL) return JX_NO_DOCUMENT;
     if (verdict == NULL) return JX_NULL_POINTER;
@@ -420,8 +439,9 @@ static inline void jx_document_free(jx_document *document) {
  * than `room` bytes is not written, and JX_NO_ROOM is returned: its size tells how much room a second call needs. A byte
  * order mark is not ignored: leave it out of the first part, and let `from` count it.
  *
- * Allocates memory and frees it. Returns JX_OK, JX_NO_ROOM, JX_NO_MEMORY, JX_DEPTH_TOO_GREAT, or JX_TOO_MANY_BYTES for a part
- * that would end at 2^64 or behind. */
+ * Allocates memory and frees it: some KB, and up to 720 bytes for each closing bracket whose container an earlier part opens, of
+ * which a part has at most `depth` (48 MB with JX_DEPTH_MAX). Returns JX_OK, JX_NO_ROOM, JX_NO_MEMORY, JX_DEPTH_TOO_GREAT, or
+ * JX_TOO_MANY_BYTES for a part that would end at 2^64 or behind. */
 uint32_t jx_run_of(const uint8_t *part, size_t size, uint64_t from, uint32_t depth, uint8_t *run, size_t room, size_t *run_size);
 
 /* Writes the run of both parts' bytes, those of `right` behind those of `left`, which must end where `right` begins. Joins

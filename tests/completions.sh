@@ -21,7 +21,7 @@ bash_reads_its_file() {
 
 the_commands_and_their_options_are_offered() {
     local command option
-    for command in check explain index at seq part join whole; do
+    for command in check explain index at get each seq part join whole; do
         same "bash: the options of $command" "$(options_of $command)" "$(offered jx $command --)"
         has "bash: $command itself" "$command" "$(offered jx '')"
         for option in $(options_of $command); do
@@ -46,13 +46,15 @@ bash_completes_what_is_begun() {
     same 'bash: no file as a word of at' '' "$(offered jx at te)"
     same 'bash: colors' "$(printf '%s\n' always auto never)" "$(offered jx explain --color '')"
     same 'bash: a file of pointers' text.json "$(offered jx at --pointers te)"
+    same 'bash: a file of pointers of get' text.json "$(offered jx get --pointers te)"
+    same 'bash: no file as a word of get' '' "$(offered jx get te)"
     same 'bash: a number' '' "$(offered jx check --depth '')"
 }
 
 fish_offers_no_other_option() {
     local option
     for option in $(grep -oE -- "-l [a-z-]+" "$root/completions/jx.fish" | sort -u | sed 's/-l /--/'); do
-        has "fish: $option is one" "$option" "$(for command in '' check explain index at seq part join whole; do options_of "$command"; done)"
+        has "fish: $option is one" "$option" "$(for command in '' check explain index at get each seq part join whole; do options_of "$command"; done)"
     done
 }
 

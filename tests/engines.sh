@@ -16,12 +16,8 @@ find_engines() {
     "$python" -c 'import distributed' 2>/dev/null || missing="$missing python3-distributed"
     command -v mpirun >/dev/null || missing="$missing openmpi-bin"
     "$python" -c 'import mpi4py' 2>/dev/null || missing="$missing python3-mpi4py"
-    if [ -n "$missing" ] && [ "$(id -u)" = 0 ] && command -v apt-get >/dev/null; then
-        echo "engines.sh: installs$missing"
-        # shellcheck disable=SC2086
-        packaged sh -c "timeout $most apt-get update && DEBIAN_FRONTEND=noninteractive timeout $most apt-get install -y --no-install-recommends $missing" \
-            >/dev/null 2>&1
-    fi
+    # shellcheck disable=SC2086
+    if [ -n "$missing" ]; then installed $missing; fi
 }
 
 # has_engine NAME COMMAND..: whether a command succeeds; else it is told that the engine is skipped.

@@ -56,13 +56,13 @@ several_sequences_have_each_element_behind_their_name() {
 }
 
 what_is_not_to_be_had_is_told_and_the_rest_goes_on() {
-    same 'a file that is missing, between two' "$(lines 'status 2' 'out: good.json: accepted' 'out: bad.json: stopped at 3' 'err: jx: missing: cannot open')" \
+    same 'a file that is missing, between two' "$(lines 'status 2' 'out: good.json: accepted' 'out: bad.json: stopped at 3' 'err: jx: missing: cannot open: No such file or directory')" \
         "$(told check good.json missing bad.json)"
-    same 'a folder' "$(lines 'status 2' 'out: good.json: accepted' 'err: jx: folder: read failed')" "$(told check folder good.json)"
-    same 'an empty word' "$(lines 'status 2' 'out: good.json: accepted' 'err: jx: : cannot open')" "$(told check '' good.json)"
-    same 'a fault is the greatest status, wherever it stands' "$(lines 'status 2' 'out: bad.json: stopped at 3' 'err: jx: missing: cannot open')" \
+    same 'a folder' "$(lines 'status 2' 'out: good.json: accepted' 'err: jx: folder: is a directory')" "$(told check folder good.json)"
+    same 'an empty word' "$(lines 'status 2' 'out: good.json: accepted' 'err: jx: : cannot open: No such file or directory')" "$(told check '' good.json)"
+    same 'a fault is the greatest status, wherever it stands' "$(lines 'status 2' 'out: bad.json: stopped at 3' 'err: jx: missing: cannot open: No such file or directory')" \
         "$(told check missing bad.json)"
-    same 'quiet tells of faults' "$(lines 'status 2' 'err: jx: missing: cannot open')" "$(told check -q missing bad.json)"
+    same 'quiet tells of faults' "$(lines 'status 2' 'err: jx: missing: cannot open: No such file or directory')" "$(told check -q missing bad.json)"
     if [ -w /dev/full ]; then
         same 'nowhere to write to' "$(lines 'jx: write failed' 'status 2')" "$("$program" check good.json bad.json 2>&1 >/dev/full; echo "status $?")"
         same 'nowhere to tell to' "$(lines 'good.json: accepted' 'status 2')" "$("$program" check missing good.json 2>/dev/full; echo "status $?")"
@@ -92,6 +92,39 @@ ten_thousand_files_are_checked() {
     same 'ten thousand files: the last' 'bad.json: stopped at 3' "$(tail -n 1 many)"
 }
 
+# What is told of a file can be read back: no name is taken for more than a word, and two names are never told alike.
+names_forge_no_line() {
+    local name
+    for name in $'x: accepted\ny' $'tab\t' $'bell\a' 'a: b' 'back\slash' '\x41' $'\033[31m' $'\177' $'\u0085' $'\u2028' $'\u202e' 'é' 'e\u0301' '漢字' 'a:b' 'a :b' ' ' '"'; do
+        printf '%b' '[' >"./$name"
+        printf '%s\0' "$name"
+    done >names
+    python3 - "$program" >wrong <<'PYTHON'
+import re, subprocess, sys
+
+for name in open("names", "rb").read().split(b"\0")[:-1]:
+    for words, told in ((["check"], b"truncated"), (["explain"], None)):
+        done = subprocess.run([sys.argv[1], *words, name] + ([name] if told else []), capture_output=True)
+        lines = done.stdout.split(b"\n")
+        if told and (len(lines) != 3 or lines[0] != lines[1] or lines[2]):
+            print(words, name, done)
+        shown = lines[0].partition(b": ")[0]
+        if told and not lines[0].endswith(b": " + told):
+            print(words, name, done)
+        if not told:
+            shown = shown.removesuffix(b":1:2")
+        if re.sub(rb"\\x([0-9A-F]{2})", lambda found: bytes([int(found[1], 16)]), shown) != name:
+            print("not read back", words, name, done)
+        if any(byte < 32 or byte == 127 for byte in shown):
+            print("a control character", words, name, done)
+    done = subprocess.run([sys.argv[1], "check", name + b".missing"], capture_output=True)
+    if done.stderr != b"jx: " + shown.replace(b"\\x20.", b" .") + b".missing: cannot open: No such file or directory\n":
+        print("missing", name, done)
+PYTHON
+    same 'names are told as they can be read back' '' "$(cat wrong)"
+    same 'one of them, in full' "$(lines 'status 2' 'err: jx: x:\x20accepted\x0A: cannot open: No such file or directory')" "$(told check $'x: accepted\n')"
+}
+
 # A pipe that ends early, as a file does that shrinks while it is read.
 an_input_that_ends_early_is_truncated() {
     mkfifo pipe
@@ -107,5 +140,6 @@ tests one_file_is_answered_as_by_its_option \
     what_is_not_to_be_had_is_told_and_the_rest_goes_on \
     standard_input_is_named_once \
     words_are_taken_as_they_stand \
+    names_forge_no_line \
     ten_thousand_files_are_checked \
     an_input_that_ends_early_is_truncated

@@ -144,7 +144,7 @@ an_input_of_2_to_the_32_pieces_has_too_many() {
     local said status
     said=$(head -c 4294967296 /dev/zero | "$program" check --workers 1 --piece 1 2>&1)
     status=$?
-    same 'an input of 2^32 pieces' 'status 2: jx: too many pieces' "status $status: $said"
+    same 'an input of 2^32 pieces' 'status 2: jx: -: too many pieces' "status $status: $said"
 }
 
 tests brackets_that_open_take_linear_time \

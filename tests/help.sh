@@ -7,7 +7,7 @@ help_on() { "$program" $1 "$2" 2>&1; }
 
 the_help_on_each_command_fits_and_is_complete() {
     local command flag text short long
-    for command in '' check explain index at seq part join whole; do
+    for command in '' check explain index at get each seq part join whole; do
         for flag in -h --help; do
             text=$(help_on "$command" $flag)
             same "jx $command $flag: no line has more than 79 columns" '' "$(printf '%s\n' "$text" | grep -E '.{80}')"
@@ -59,6 +59,9 @@ the_nearest_right_word_is_told() {
     has 'a pointer that begins with a hyphen' "tip: to pass '-1' as a value, use '-- -1'" "$(said '' at -1)"
     has 'quiet is for check and seq alone' "error: unexpected argument '-q' found" "$(said '' index -q)"
     has 'quiet is for check and seq alone' "error: unexpected argument '-q' found" "$(said '' at -q /a)"
+    has 'quiet is not for get' "error: unexpected argument '-q' found" "$(said '' get -q /a)"
+    has 'quiet is not for each' "error: unexpected argument '-q' found" "$(said '' each -q)"
+    has 'each takes no word so far' "error: unexpected argument '/a' found" "$(said '' each /a)"
     has 'quiet is not for part' "error: unexpected argument '-q' found" "$(said '' part -q)"
     has 'whole needs the end' 'error: the following required arguments were not provided:' "$(said '' whole)"
     has 'color is for explain alone' "error: unexpected argument '--color' found" "$(said '' check --color never)"

@@ -5,22 +5,30 @@
 # one worker takes up to 1.4 times as long. No answer depends on it: a bad place is told and fails nothing.
 . "$(dirname "$0")/lib.sh"
 
-# The addresses of the function, hexadecimal, a line each.
-places() { nm "$program" | sed -n 's/^\([0-9a-f]*\) [tT] jx_run::readers::progress::read_slice::<.*>$/\1/p'; }
+# The two loops: over single tokens, and over whole ones where a value stands next.
+loops='jx_run::readers::progress::read_slice::<.*> jx_reduce::whole_tokens::rounds'
 
-the_reader_stands_once() {
-    same 'how often the reader stands in the program' 1 "$(places | wc -l)"
+# The addresses of a function, hexadecimal, a line each.
+places() { nm "$program" | sed -n "s/^\([0-9a-f]*\) [tT] $1\$/\1/p"; }
+
+each_loop_stands_once() {
+    local loop
+    for loop in $loops; do
+        same "how often $loop stands in the program" 1 "$(places "$loop" | wc -l)"
+    done
 }
 
-its_place_is_told() {
-    local at place
-    at=$(places | head -n 1)
-    if [ -z "$at" ]; then return; fi
-    place=$((16#$at % 32))
-    if [ "$place" != 0 ]; then
-        echo "hot_loop.sh: NOTE: read_slice begins $place bytes behind a multiple of 32: one worker is slow in this build"
-    fi
-    same 'the reader begins where the compiler aligns functions' 0 "$((place % 16))"
+their_places_are_told() {
+    local loop at place
+    for loop in $loops; do
+        at=$(places "$loop" | head -n 1)
+        if [ -z "$at" ]; then continue; fi
+        place=$((16#$at % 32))
+        if [ "$place" != 0 ]; then
+            echo "hot_loop.sh: NOTE: $loop begins $place bytes behind a multiple of 32: one worker is slow in this build"
+        fi
+        same "$loop begins where the compiler aligns functions" 0 "$((place % 16))"
+    done
 }
 
-tests the_reader_stands_once its_place_is_told
+tests each_loop_stands_once their_places_are_told

@@ -4,7 +4,7 @@
 
 clone="$room/a clone"
 prefix=$room/home/.local
-places='lib/libjx.a lib/libjx.so.0 include/jx.h lib/pkgconfig/jx.pc bin/jx bin/jx-lsp
+places='lib/libjx.a lib/libjx.so.0 lib/libjx.so include/jx.h lib/pkgconfig/jx.pc bin/jx bin/jx-lsp
 share/man/man1/jx.1 share/man/man1/jx-lsp.1 share/bash-completion/completions/jx
 share/zsh/site-functions/_jx share/fish/vendor_completions.d/jx.fish'
 
@@ -43,7 +43,18 @@ it_installs_all_that_it_says() {
         same "$place is there" yes "$([ -s "$prefix/$place" ] && echo yes)"
     done
     has 'a folder that is not on the PATH' "$prefix/bin is not on the PATH" "$said"
+    if command -v pkg-config >/dev/null; then
+        has 'a folder that pkg-config does not know' "export PKG_CONFIG_PATH=$prefix/lib/pkgconfig" "$said"
+    fi
+    has 'a folder that the loader does not know' "export LD_LIBRARY_PATH=$prefix/lib" "$said"
+    same 'the library for development' libjx.so.0 "$(readlink "$prefix/lib/libjx.so")"
     same 'nothing else is there' 11 "$(find home -type f | wc -l)"
+}
+
+what_is_known_is_not_told() {
+    local said
+    said=$(HOME=$room/home PATH=$prefix/bin:$PATH PKG_CONFIG_PATH=$prefix/lib/pkgconfig LD_LIBRARY_PATH=/nowhere:$prefix/lib "$clone/install" 2>&1)
+    same 'all places are known' '' "$(grep -v '^put ' <<<"$said")"
 }
 
 the_installed_program_needs_nothing_of_the_clone() {
@@ -65,7 +76,7 @@ it_uninstalls_all_that_it_installed() {
     for place in $places; do
         has "it says that it removed $place" "removed $prefix/$place" "$said"
     done
-    same 'nothing is left' 0 "$(find home -type f | wc -l)"
+    same 'nothing is left' 0 "$(find home -type f -o -type l | wc -l)"
     same 'nothing to take away' '' "$(HOME=$room/home "$clone/install" --uninstall 2>&1)"
 }
 
@@ -84,6 +95,7 @@ a_wrong_word_is_a_fault() {
 
 copy_clone
 tests it_installs_all_that_it_says \
+    what_is_known_is_not_told \
     the_installed_program_needs_nothing_of_the_clone \
     it_uninstalls_all_that_it_installed \
     another_prefix_may_be_named \

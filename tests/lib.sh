@@ -45,6 +45,27 @@ said() {
 # packaged COMMAND..: runs a command that fetches or installs Debian's packages. Tests run side by side, and these have one lock.
 packaged() { flock "$root/jx.packages.lock" "$@"; }
 
+# downloaded PACKAGE..: Debian's packages, in this folder. Where none are known their lists are fetched first.
+downloaded() {
+    packaged timeout 120 apt-get download "$@" || { packaged timeout 120 apt-get update && packaged timeout 120 apt-get download "$@"; }
+}
+
+# unpacked FOLDER PACKAGE..: Debian's packages, unpacked in a folder and not installed.
+unpacked() {
+    local folder=$1 package
+    shift
+    command -v apt-get >/dev/null && command -v dpkg >/dev/null || return 1
+    mkdir -p "$folder" && (cd "$folder" && downloaded "$@") >/dev/null 2>&1 || return 1
+    for package in "$folder"/*.deb; do dpkg -x "$package" "$folder" || return 1; done
+}
+
+# installed PACKAGE..: Debian's packages, installed, where that may be done.
+installed() {
+    [ "$(id -u)" = 0 ] && command -v apt-get >/dev/null || return 1
+    echo "${0##*/}: installs $*"
+    packaged sh -c 'timeout 600 apt-get update && DEBIAN_FRONTEND=noninteractive timeout 600 apt-get install -y --no-install-recommends "$@"' sh "$@" >/dev/null 2>&1
+}
+
 # tests NAME..: calls each of these functions, and tells how much of what they looked at holds.
 tests() {
     local each

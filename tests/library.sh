@@ -38,7 +38,7 @@ c_programs_come_to_what_the_table_says() {
             continue
         fi
         is_compiled=yes
-        for name in verdicts indexed indexes sequences settings documents runs; do
+        for name in verdicts indexed indexes sequences settings documents runs compact; do
             c_program "$compiler" "$name"
         done
     done
@@ -68,6 +68,51 @@ the_tests_of_the_rust_binding_pass() {
     fi
 }
 
+# Languages that read no header look names up in the shared library.
+each_call_is_a_symbol() {
+    local name said
+    said=$(nm -D --defined-only "$library/libjx.so.0" | sed 's/.* //')
+    while read -r name; do
+        same "the shared library exports $name" 1 "$(grep -cx "$name" <<<"$said")"
+    done < <(grep -oE '^(static inline )?(uint32_t|void) jx_[a-z_]+\(' "$root/include/jx.h" | sed 's/.* //; s/($//')
+    same 'it exports nothing else' '' "$(grep -v '^jx_' <<<"$said")"
+    if command -v python3 >/dev/null; then
+        same 'a call by its name alone answers null pointers' '0 0 10' "$(python3 - "$library/libjx.so.0" <<'PYTHON'
+import ctypes, sys
+library = ctypes.CDLL(sys.argv[1])
+verdict = (ctypes.c_size_t * 2)()
+print(library.jx_check(b"null", ctypes.c_size_t(4), None, verdict), verdict[1], library.jx_index_row(None, ctypes.c_size_t(0), None))
+PYTHON
+        )"
+    fi
+}
+
+# The program of README, compiled by the line that README prints, once what ./install says is exported.
+the_program_of_readme_prints_what_it_says() {
+    local said line shared
+    if ! command -v pkg-config >/dev/null || ! command -v cc >/dev/null; then
+        echo 'library.sh: skipped: there is no pkg-config, or no C compiler'
+        return
+    fi
+    mkdir -p prefix/lib/pkgconfig prefix/include
+    cp "$library/libjx.a" "$library/libjx.so.0" prefix/lib
+    ln -s libjx.so.0 prefix/lib/libjx.so
+    cp "$root/jx.pc" prefix/lib/pkgconfig
+    cp "$root/include/jx.h" prefix/include
+    export PKG_CONFIG_PATH=$room/prefix/lib/pkgconfig
+    awk '/^    #include <jx.h>/ { inside = 1 } /^$/ { inside = 0 } inside { print substr($0, 5) }' "$root/README.md" >first.c
+    line=$(sed -n 's/^`\(cc first\.c [^`]*\)` makes a program.*/\1/p' "$root/README.md")
+    has 'README: the line of the compiler' 'pkg-config --cflags --libs jx' "$line"
+    same 'README: it compiles' '' "$(eval "$line" 2>&1)"
+    same 'README: it prints' 'kind 2 at 0' "$(env -u LD_LIBRARY_PATH ./a.out)"
+    has 'README: how the shared library is named' '`pkg-config --variable=shared jx`' "$(cat "$root/README.md")"
+    shared=$(pkg-config --variable=shared jx)
+    # shellcheck disable=SC2046,SC2086
+    same 'the shared library: it compiles' '' "$(cc first.c $(pkg-config --cflags jx) $shared -o loaded 2>&1)"
+    same 'the shared library: it prints' 'kind 2 at 0' "$(LD_LIBRARY_PATH=$room/prefix/lib ./loaded)"
+    has 'the shared library: it is loaded' 'libjx.so.0' "$(readelf -d loaded)"
+}
+
 the_versions_are_the_same() {
     same 'the version of the program is that of the library' "$(sed -n 's/^Version: //p' "$root/jx.pc")" "$("$program" --version | sed 's/^jx //')"
 }
@@ -77,6 +122,8 @@ if "$root/tools/library" >built 2>&1; then
     tests c_programs_come_to_what_the_table_says \
         c_plus_plus_takes_the_header \
         the_tests_of_the_rust_binding_pass \
+        each_call_is_a_symbol \
+        the_program_of_readme_prints_what_it_says \
         the_versions_are_the_same
 else
     same 'the library is built' '' "$(cat built)"

@@ -20,6 +20,7 @@ words_are_read() {
     same 'the version' 'jx-lsp 0.2.0, status 0' "$("$JX_LSP_PROGRAM" --version), status $?"
     has 'help' 'Usage: jx-lsp [--stdio]' "$("$JX_LSP_PROGRAM" --help)"
     same 'wrong words' 'jx-lsp: wrong words; see jx-lsp --help, status 2' "$("$JX_LSP_PROGRAM" --port 1 2>&1 </dev/null), status $?"
+    same 'exit without shutdown' 'status 1' "$(played framed 'Content-Length: 33\r\n\r\n{"jsonrpc":"2.0","method":"exit"}')"
     same 'no input, as an exit without shutdown' 'status 1' "$("$JX_LSP_PROGRAM" </dev/null; echo "status $?")"
 }
 
@@ -41,6 +42,35 @@ the_page_has_the_words_of_the_help() {
 changes_are_followed() {
     local told='2500 changes are told as jx check tells them'
     same 'random changes, columns in UTF-16 and in bytes, by three settings' "$(printf '%s\n' "$told" "$told" "$told" "$told")" "$(played replays 10000)"
+}
+
+settings_are_kept() {
+    local options text wanted
+    while IFS='|' read -r options text wanted; do
+        same "a text by the settings $options" "$wanted" "$(played told "$options" "$text")"
+    done <<'SETTINGS'
+{"ignoreBom":true,"uniqueNames":true}|\ufeff{"a":1,"a":2}|repeated name at 10
+{"ignoreBom":true,"uniqueNames":true}|\ufeff[]|accepted
+{"ignoreBom":true}|\ufeff{"a":1,"a":2}|accepted
+{"uniqueNames":true}|\ufeff[]|stopped at 0
+{"depth":1,"ignoreBom":true,"uniqueNames":true}|\ufeff[{}]|too deep at 4
+SETTINGS
+}
+
+# Columns in bytes: a deletion from one column of a line up to another may cut a character.
+cut_characters_are_marked() {
+    local text line start end wanted
+    while IFS='|' read -r text line start end wanted; do
+        same "$text less the bytes $line:$start to $line:$end" "$wanted" "$(played cut_text "$text" "$line" "$start" "$end")"
+    done <<'CUTS'
+\n\u20ac|1|0|1|stopped at 1 1:0 1:1
+\n\u20ac|1|1|2|stopped at 1 1:0 1:2
+"\u20ac"|0|1|2|stopped at 1 0:1 0:2
+"\u20ac"|0|2|3|stopped at 3 0:3 0:4
+"\u20ac"|0|3|5|truncated 0:1 0:3
+"a\u00e9|0|1|2|truncated 0:1 0:3
+[1]\u20ac|0|0|1|stopped at 1 0:1 0:2
+CUTS
 }
 
 values_are_shown() {
@@ -68,6 +98,8 @@ no-number Content-Length: two\r\n\r\n[]
 no-digit Content-Length: \r\n\r\n[]
 a-sign Content-Length: +2\r\n\r\n[]
 a-fraction Content-Length: 2.0\r\n\r\n[]
+two-numbers Content-Length: 2 2\r\n\r\n[]
+a-blank-before-the-colon Content-Length : 2\r\n\r\n[]
 two-lengths Content-Length: 2\r\nContent-Length: 3\r\n\r\n[]
 too-long Content-Length: 1073741825\r\n\r\n[]
 far-too-long Content-Length: 99999999999999999999999999\r\n\r\n[]
@@ -85,6 +117,8 @@ sound_frames_are_read() {
 plain Content-Length: 1\r\n\r\n[
 capitals CONTENT-LENGTH: 1\r\n\r\n[
 no-blank Content-Length:1\r\n\r\n[
+blanks-behind Content-Length: 1 \t \r\n\r\n[
+blanks-round Content-Length:\t 1\t\r\n\r\n[
 zeros Content-Length: 0001\r\n\r\n[
 other-fields Content-Type: a; charset=utf-8\r\nContent-Length: 1\r\nX:\r\n\r\n[
 twice Content-Length: 1\r\nContent-Length: 1\r\n\r\n[
@@ -96,20 +130,6 @@ STREAMS
 pipes_are_closed() {
     same 'a client that reads nothing' 'status 1' "$(played closed_pipe)"
     same 'a large text' "[]"$'\n'"['stopped at 1']"$'\n''status 0' "$(played huge 100000)"
-}
-
-# downloaded PACKAGE..: Debian's packages, in this folder. Where none are known their lists are fetched first.
-downloaded() {
-    packaged timeout 120 apt-get download "$@" || { packaged timeout 120 apt-get update && packaged timeout 120 apt-get download "$@"; }
-}
-
-# unpacked FOLDER PACKAGE..: Debian's packages, unpacked in a folder and not installed.
-unpacked() {
-    local folder=$1 package
-    shift
-    command -v apt-get >/dev/null && command -v dpkg >/dev/null || return 1
-    mkdir -p "$folder" && (cd "$folder" && downloaded "$@") >/dev/null 2>&1 || return 1
-    for package in "$folder"/*.deb; do dpkg -x "$package" "$folder" || return 1; done
 }
 
 # Sets `nvim`: the editor on the PATH, or Debian's, unpacked here.
@@ -197,6 +217,8 @@ tests it_is_there \
     words_are_read \
     the_page_has_the_words_of_the_help \
     changes_are_followed \
+    settings_are_kept \
+    cut_characters_are_marked \
     values_are_shown \
     sessions_are_as_recorded \
     broken_streams_are_told \

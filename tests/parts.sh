@@ -122,10 +122,10 @@ what_is_no_run_is_told() {
 
 ends_that_fail_are_told() {
     mkdir folder
-    same 'no file' "$(lines 'status 2' 'err: jx: cannot open')" "$(said '' part --file missing)"
-    same 'no file of runs' "$(lines 'status 2' 'err: jx: cannot open')" "$(said '' join --file missing)"
+    same 'no file' "$(lines 'status 2' 'err: jx: missing: cannot open: No such file or directory')" "$(said '' part --file missing)"
+    same 'no file of runs' "$(lines 'status 2' 'err: jx: missing: cannot open: No such file or directory')" "$(said '' join --file missing)"
     for command in 'part' 'join' 'whole --to 3'; do
-        same "a folder: $command" "$(lines 'status 2' 'err: jx: read failed')" "$(said '' $command --file folder)"
+        same "a folder: $command" "$(lines 'status 2' 'err: jx: folder: is a directory')" "$(said '' $command --file folder)"
     done
     if [ -w /dev/full ]; then
         for command in 'part' 'join' 'whole --to 5 --from 0'; do
@@ -133,8 +133,11 @@ ends_that_fail_are_told() {
         done
         same 'quiet, and nowhere to write to' 'status 1' "$("$program" whole --to 5 -q <a 2>&1 >/dev/full; echo "status $?")"
     fi
-    same 'more bytes than offsets' "$(lines 'status 2' 'err: jx: out of memory')" "$(said 12 part --from 18446744073709551615)"
-    same 'the last offset' 'status 0' "$(said '' part --from 18446744073709551615 | head -n 1)"
+    has 'an offset that no part has' "err: error: invalid value '18446744073709551615' for '--from <N>': 18446744073709551615 is not in 0..=9223372036854775807" \
+        "$(said 12 part --from 18446744073709551615)"
+    same 'the last offset' 'status 0' "$(said 12 part --from 9223372036854775807 | head -n 1)"
+    same 'a run from there' "$(lines 'status 1' 'out: stopped at 9223372036854775808')" \
+        "$(printf '1x' | "$program" part --from 9223372036854775807 >far; said '' whole --file far --from 9223372036854775807 --to 9223372036854775809)"
 }
 
 if ! command -v python3 >/dev/null; then

@@ -1,5 +1,6 @@
-"""Looks up lists of 1, 2, 16 and 17 pointers. Each list has the answers that stand in `pointers` beside this file, with unique names too.
-Then long pointers, and a list of a million. The last line is `N passed, M failed`."""
+"""Looks up lists of 1, 2, 16 and 17 pointers, and of one less than are looked up in an index, and of as many. Each list has the answers that
+stand in `pointers` beside this file, with unique names too. Then long pointers, a list of a million, and the memory of a look-up in what comes
+through a pipe. The last line is `N passed, M failed`."""
 import os
 import pathlib
 import re
@@ -8,6 +9,8 @@ import subprocess
 HERE = pathlib.Path(__file__).resolve().parent
 PROGRAM = os.environ.get("JX_PROGRAM", HERE.parent / "crates" / "jx" / "out" / "jx")
 COUNTS = [1, 2, 16, 17]
+# From so many on, an index is made.
+MANY = 10000
 DEEP = 65535
 failed = passed = 0
 
@@ -22,7 +25,7 @@ def same(name, wanted, got):
         passed += 1
         return
     failed += 1
-    print("pointers.py: FAILED: %s\n--- wanted\n%s\n--- got\n%s" % (name, wanted[:2000], got[:2000]))
+    print("pointers.py: FAILED: %s\n--- wanted\n%s\n--- got\n%s" % (name, repr(wanted)[:2000], repr(got)[:2000]))
 
 
 def looked_up(text, words, pointers):
@@ -54,10 +57,25 @@ def of_text(settings, repeated, text, lines):
             same(name + " with unique names", unique, looked_up(text, [*words, "--unique-names"], pointers))
 
 
+def of_many(settings, repeated, text, lines):
+    """In a file, where a pointer with a line feed would be two."""
+    lines = [line for line in lines if b"\n" not in line[1]]
+    words = ["--ignore-bom"] if settings == b"b" else []
+    for count in (MANY - 1, MANY):
+        part = [lines[place % len(lines)] for place in range(count)]
+        name = "%d pointers into %r" % (count, text)
+        for workers in ("1", "4"):
+            of_a_list(name + " by workers: " + workers, text, [*words, "--workers", workers], part)
+        unique = part if repeated == b"-" else [(b"repeated name at %s" % repeated, part[0][1])]
+        of_a_list(name + " with unique names", text, [*words, "--unique-names"], unique, part)
+
+
 def of_refused(answer, text):
     for count in COUNTS:
         for words in ([], ["--unique-names"]):
             same("%d pointers into %r" % (count, text), (answer + b"\n", 1), looked_up(text, words, [b"", b"x", b"/a", b"/~", b"/0"] * 3 + [b"/b"] * 2))
+    for words in ([], ["--unique-names"]):
+        of_a_list("%d pointers into %r" % (MANY, text), text, words, [(answer, b"")], [(b"", b"/a")] * MANY)
 
 
 def tables():
@@ -74,11 +92,12 @@ def tables():
             texts[-1][3].append((answer, spelt(pointer)))
     for one in texts:
         of_text(*one)
+        of_many(*one)
 
 
-def of_a_list(name, text, words, lines):
-    """The pointers are lines of a file, as some are longer than a word may be."""
-    pathlib.Path("list").write_bytes(b"".join(pointer + b"\n" for _, pointer in lines))
+def of_a_list(name, text, words, lines, asked=None):
+    """The pointers are lines of a file, as some are longer than a word may be. What is asked for may be more than what is answered."""
+    pathlib.Path("list").write_bytes(b"".join(pointer + b"\n" for _, pointer in asked or lines))
     same(name, of_lines([answer for answer, _ in lines]), looked_up(text, [*words, "--pointers", "list"], []))
 
 
@@ -110,6 +129,41 @@ def a_million_pointers():
     of_a_list("a million pointers", text, [], [lines[place * 7 % len(lines)] for place in range(1000000)])
 
 
-for test in (tables, long_pointers, a_million_pointers):
+def most_memory(process):
+    """The most memory that the process had at once so far, in bytes."""
+    status = pathlib.Path("/proc/%d/status" % process.pid).read_text()
+    return int(re.search(r"VmHWM:\s*(\d+) kB", status)[1]) * 1024
+
+
+def a_long_text_from_a_pipe():
+    """Of 64 MB one worker holds a batch of 256 KiB, several two of 8 MiB. Its memory is asked for before the last bytes are written."""
+    record = b'{"name":"\\u0061","values":[10,20,30,true,null]},'
+    part = record * (1000000 // len(record))
+    start = 1 + 7 * len(record)
+    number = start + record.index(b"20")
+    lines = [
+        (b"found object %d..%d" % (start, start + len(record) - 1), b"/7"),
+        (b"found number %d..%d" % (number, number + 2), b"/7/values/1"),
+        (b"not an index at token 0", b"/values"),
+        (b"no such member at token 1", b"/9/b"),
+    ]
+    for count in (1, len(lines)):
+        for workers, most in (("1", 8000000), ("4", 32000000)):
+            name = "%d pointers into 64 MB from a pipe by workers: %s" % (count, workers)
+            words = [PROGRAM, "at", "--workers", workers, *(pointer for _, pointer in lines[:count])]
+            with subprocess.Popen(words, stdin=subprocess.PIPE, stdout=subprocess.PIPE) as process:
+                process.stdin.write(b"[")
+                for _ in range(64):
+                    process.stdin.write(part)
+                process.stdin.flush()
+                held = most_memory(process)
+                process.stdin.write(b"0]")
+                process.stdin.close()
+                out = process.stdout.read()
+            same(name, of_lines([answer for answer, _ in lines[:count]]), (out, process.returncode))
+            same(name + ": memory", "at most %d bytes" % most, "at most %d bytes" % most if held <= most else "%d bytes" % held)
+
+
+for test in (tables, long_pointers, a_million_pointers, a_long_text_from_a_pipe):
     test()
 print("%d passed, %d failed" % (passed, failed))

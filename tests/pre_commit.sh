@@ -50,10 +50,40 @@ names_are_checked_where_that_is_asked_for() {
     cd "$room" || exit 1
 }
 
+# The lines that README prints, with its address led to this repository.
+the_lines_of_readme_work() {
+    local said
+    if ! git -C "$root" rev-parse HEAD >/dev/null 2>&1; then
+        echo 'pre_commit.sh: skipped: this is no repository of git'
+        return
+    fi
+    git init -q "$room/printed"
+    cd "$room/printed" || exit 1
+    awk '/^    repos:/ { inside = 1 } /^$/ { inside = 0 } inside { print substr($0, 5) }' "$root/README.md" >.pre-commit-config.yaml
+    has 'README: lines are printed' 'repo: https://example.org/jx ' "$(cat .pre-commit-config.yaml)"
+    export GIT_CONFIG_COUNT=2 GIT_CONFIG_KEY_0=url.$root.insteadOf GIT_CONFIG_VALUE_0=https://example.org/jx \
+        GIT_CONFIG_KEY_1=safe.directory GIT_CONFIG_VALUE_1='*'
+    git add .
+    pre-commit install >/dev/null
+    printf '{"a":}' >bad.json
+    git add .
+    said=$(git commit -m bad 2>&1)
+    same 'README: a commit of what is no text: status' 1 $?
+    has 'README: it names the place' 'stopped at 5' "$said"
+    printf '{"a":1}' >bad.json
+    git add .
+    said=$(git commit -m good 2>&1)
+    same 'README: a commit of a text: status' 0 $?
+    unset GIT_CONFIG_COUNT GIT_CONFIG_KEY_0 GIT_CONFIG_VALUE_0 GIT_CONFIG_KEY_1 GIT_CONFIG_VALUE_1
+    cd "$room" || exit 1
+}
+
 if command -v pre-commit >/dev/null; then
     export GIT_AUTHOR_NAME=jx GIT_AUTHOR_EMAIL=jx@localhost GIT_COMMITTER_NAME=jx GIT_COMMITTER_EMAIL=jx@localhost
     make_hooks
-    tests texts_are_checked_before_a_commit names_are_checked_where_that_is_asked_for
+    tests texts_are_checked_before_a_commit \
+        names_are_checked_where_that_is_asked_for \
+        the_lines_of_readme_work
 else
     echo 'pre_commit.sh: skipped: there is no pre-commit here'
     tests

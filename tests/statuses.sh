@@ -33,16 +33,21 @@ quiet_has_the_same_status_and_no_output() {
         same "$quiet: elements" 'status 0' "$(said '\036[]\n' seq $quiet)"
         same "$quiet: elements that are not all accepted" 'status 1' "$(said '\036[]\n\0361' seq $quiet)"
     done
-    same 'quiet, and a fault' "$(lines 'status 2' 'err: jx: cannot open')" "$(said '' check -q --file missing.json)"
+    same 'quiet, and a fault' "$(lines 'status 2' 'err: jx: missing.json: cannot open: No such file or directory')" "$(said '' check -q --file missing.json)"
     if [ -w /dev/full ]; then
         same 'quiet, and nowhere to write to' 'status 1' "$(printf nulx | "$program" check -q >/dev/full; echo "status $?")"
     fi
 }
 
 a_fault_ends_with_status_2() {
-    same 'no file' "$(lines 'status 2' 'err: jx: cannot open')" "$(said '' check --file missing.json)"
+    same 'no file' "$(lines 'status 2' 'err: jx: missing.json: cannot open: No such file or directory')" "$(said '' check --file missing.json)"
     mkdir folder
-    same 'a folder' "$(lines 'status 2' 'err: jx: read failed')" "$(said '' check --file folder)"
+    same 'a folder' "$(lines 'status 2' 'err: jx: folder: is a directory')" "$(said '' check --file folder)"
+    same 'a folder as standard input' "$(lines 'jx: -: read failed: Is a directory' 'status 2')" "$("$program" check <folder 2>&1; echo "status $?")"
+    same 'a file below a file' "$(lines 'status 2' 'err: jx: folder/../file/x: cannot open: Not a directory')" "$(: >file; said '' check folder/../file/x)"
+    if [ "$(id -u)" != 0 ]; then
+        same 'a file that may not be read' "$(lines 'status 2' 'err: jx: shut: cannot open: Permission denied')" "$(: >shut; chmod 0 shut; said '' check shut)"
+    fi
     if [ -w /dev/full ]; then
         same 'nowhere to write to' "$(lines 'jx: write failed' 'status 2')" "$(printf null | "$program" check 2>&1 >/dev/full; echo "status $?")"
     fi
@@ -83,10 +88,16 @@ names_may_have_to_be_unique() {
 }
 
 each_line_of_a_file_is_a_pointer() {
-    printf '/1\n\n/0\r\n/0' >list
+    printf '/1\n\n/0\n/0' >list
     same 'pointers: a line each, behind those among the words' \
-        "$(lines 'status 1' 'out: past end at token 0' 'out: found number 4..6' 'out: found array 0..7' 'out: not an index at token 0' 'out: found number 1..3')" \
+        "$(lines 'status 1' 'out: past end at token 0' 'out: found number 4..6' 'out: found array 0..7' 'out: found number 1..3' 'out: found number 1..3')" \
         "$(said '[10,20]' at /2 --pointers list)"
+    printf '/1\r\n\r\n/0\r\n' >list
+    same 'pointers: lines that end with carriage returns and line feeds' "$(lines 'status 0' 'out: found number 4..6' 'out: found array 0..7' 'out: found number 1..3')" \
+        "$(said '[10,20]' at --pointers list)"
+    same 'pointers: the same by get' "$(lines 'status 0' 'out: 20' 'out: [10,20]' 'out: 10')" "$(said '[10,20]' get --pointers list)"
+    printf '/a\r\r\n/a\r' >list
+    same 'pointers: other carriage returns stay' "$(lines 'status 0' 'out: found number 7..8' 'out: found number 7..8')" "$(said '{"a\\r":1}' at --pointers list)"
     printf '' >none
     same 'pointers: no line' 'status 0' "$(said '[10]' at --pointers none)"
     same 'pointers: no line, and one among the words' "$(lines 'status 0' 'out: found number 1..3')" "$(said '[10]' at /0 --pointers none)"
@@ -107,8 +118,8 @@ many_pointers_are_answered_in_their_places() {
 }
 
 a_file_of_pointers_may_be_at_fault() {
-    same 'pointers: no file' "$(lines 'status 2' 'err: jx: cannot open')" "$(said '[10]' at --pointers missing)"
-    same 'pointers: a folder' "$(lines 'status 2' 'err: jx: read failed')" "$(said '[10]' at /0 --pointers folder)"
+    same 'pointers: no file' "$(lines 'status 2' 'err: jx: missing: cannot open: No such file or directory')" "$(said '[10]' at --pointers missing)"
+    same 'pointers: a folder' "$(lines 'status 2' 'err: jx: folder: is a directory')" "$(said '[10]' at /0 --pointers folder)"
     printf '/0\n/\377\n' >bytes
     has 'pointers: bytes that are no text' "$(lines 'status 2' 'err: error: invalid UTF-8')" "$(said '[10]' at --pointers bytes)"
     has 'neither a pointer nor a file of them' "$(lines 'status 2' 'err: error:')" "$(said '[10]' at)"
@@ -125,6 +136,53 @@ files_and_pointers_are_taken_as_they_stand() {
     same 'commas and spaces in a pointer' "$(lines 'status 0' 'out: found number 8..9')" "$(said '{"a, b":1}' at '/a, b')"
 }
 
+# As where a call has options that stand in an alias already.
+an_option_that_is_given_twice_counts_as_it_stands_last() {
+    same 'a depth' "$(lines 'status 1' 'out: too deep at 1')" "$(said '[[]]' check --depth 9 --depth 1)"
+    same 'another order' "$(lines 'status 0' 'out: accepted')" "$(said '[[]]' check --depth 1 --depth 9)"
+    printf '[' >short.json
+    same 'a file' "$(lines 'status 1' 'out: truncated')" "$(said '' check --file nothing --file short.json)"
+    same 'a switch' 'status 1' "$(said '[' check -q -q)"
+    same 'workers and pieces' "$(lines 'status 0' 'out: accepted')" "$(said '[]' check --workers 2 --workers 1 --piece 1 --piece 2)"
+    same 'of whole' "$(lines 'status 1' 'out: truncated')" "$("$program" part --from 0 <short.json >run; said '' whole --to 9 --to 1 --file run)"
+    same 'several pointers stay' "$(lines 'status 0' 'out: found array 1..3' 'out: found array 0..4')" "$(said '[[]]' at --depth 3 /0 --depth 4 '')"
+}
+
+# The program looks whether its standard input or output is a terminal.
+terminals_are_not_taken_for_what_they_are_not() {
+    if ! command -v script >/dev/null; then
+        echo 'statuses.sh: there is no script here: no terminal is tried'
+        return
+    fi
+    printf '[[7]]' >dump.json
+    local hint='a file and no pointer: write --file in front of it' command
+    for command in 'at /0 dump.json' 'at dump.json' 'get /0 dump.json' 'get -c dump.json'; do
+        same "jx $command, where a terminal would be read" "jx: dump.json: $hint" "$(timeout 20 script -qec "'$program' $command" /dev/null </dev/null | tr -d '\r')"
+        timeout 20 script -qec "'$program' $command" /dev/null </dev/null >/dev/null
+        same "jx $command: its status" 2 $?
+    done
+    same 'where no terminal is read, it is a pointer' "$(lines 'status 1' 'out: found array 1..4' 'out: no slash')" "$(said '[[7]]' at /0 dump.json)"
+    same 'where a file is named, it is a pointer' "$(lines 'found array 1..4' 'no slash')" "$(timeout 20 script -qec "'$program' at /0 dump.json --file dump.json" /dev/null </dev/null | tr -d '\r')"
+    for command in part 'part --from 0' join; do
+        same "jx $command to a terminal" 'jx: a run is not written to a terminal: write it to a file or a pipe' "$(timeout 20 script -qec "'$program' $command <dump.json" /dev/null </dev/null | tr -d '\r')"
+        timeout 20 script -qec "'$program' $command <dump.json" /dev/null </dev/null >/dev/null
+        same "jx $command to a terminal: its status" 2 $?
+    done
+}
+
+# The program gets no signal, as where what calls it ignores it.
+a_closed_pipe_ends_a_call_without_a_word() {
+    local command
+    { printf '['; printf '1,%.0s' {1..100000}; printf '1]'; } >big
+    { printf '\0361\n%.0s' {1..100000}; } >log
+    for command in 'index big' 'index --file big' 'seq log' 'seq log log' 'check big big' 'at --file big /0 /1 /2' 'explain big' 'part --file big' '--version'; do
+        (trap '' PIPE; "$program" $command 2>told; echo $? >status) | true
+        same "jx $command, whose reader goes away" 'status 2, told: ' "status $(cat status), told: $(cat told)"
+    done
+    "$program" index big 2>told | head -n 1 >first
+    same 'jx index big | head -n 1' 'accepted, 2, told: ' "$(cat first), ${PIPESTATUS[0]}, told: $(cat told)"
+}
+
 tests a_whole_answer_ends_with_status_0 \
     what_is_refused_or_not_found_ends_with_status_1 \
     quiet_has_the_same_status_and_no_output \
@@ -134,4 +192,7 @@ tests a_whole_answer_ends_with_status_0 \
     each_line_of_a_file_is_a_pointer \
     many_pointers_are_answered_in_their_places \
     a_file_of_pointers_may_be_at_fault \
-    files_and_pointers_are_taken_as_they_stand
+    files_and_pointers_are_taken_as_they_stand \
+    an_option_that_is_given_twice_counts_as_it_stands_last \
+    terminals_are_not_taken_for_what_they_are_not \
+    a_closed_pipe_ends_a_call_without_a_word

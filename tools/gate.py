@@ -20,6 +20,7 @@ PARTS = (
     ("proofs, wrong bodies, proved tests, programs", ["rt", "ci"]),
     ("tests of the program", ["tests/run"]),
     ("refused memory, failing reads and writes", ["tests/refusals/run"]),
+    ("fuzzing of the library", ["fuzz/run", "60"]),
 )
 COUNTS = re.compile(r"(\d+) passed, (\d+) failed$")
 # Lines of `rt ci` that end a step of a crate.

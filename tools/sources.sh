@@ -9,6 +9,9 @@ library=$root/crates/jx_c/out/libjx.a
 # The same for programs that load it as they start, or later.
 shared_library=$root/crates/jx_c/out/libjx.so.0
 library_stamp=$root/jx.library.stamp
+# The module that the prover hands to its compiler, for the fuzzers, and the folder of a compiler that keeps it.
+module=$root/fuzz/out/module.bc
+keeper=$root/fuzz/out/keeper
 
 # The language server.
 server=$root/crates/jx_lsp/out/jx_lsp
@@ -53,7 +56,10 @@ is_newer() {
 is_built() { [ -x "$program" ] && is_fresh "$stamp"; }
 
 # Whether the library is there, and nothing that it is made of is newer.
-is_library_built() { [ -e "$library" ] && [ -e "$shared_library" ] && is_fresh "$library_stamp"; }
+is_library_built() {
+    [ -e "$library" ] && [ -e "$shared_library" ] && ! [ "$root/bindings/c/calls.c" -nt "$library_stamp" ] &&
+        ! [ "$root/include/jx.h" -nt "$library_stamp" ] && is_fresh "$library_stamp"
+}
 
 # Whether the language server is there, and nothing that it is made of is newer.
 is_server_built() { [ -x "$server" ] && is_fresh "$server_stamp"; }

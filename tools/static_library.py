@@ -1,8 +1,9 @@
 #!/usr/bin/env python3
-"""Proves jx_c over libraries that stand in crates/*/out/rlib, and builds out/libjx_c.a from it.
+"""Proves jx_c over libraries that stand in crates/*/out/rlib, and builds out/libjx_c.a from it: static_library.py [TOOLCHAIN]
 
 `rt lib` proves the libraries below anew where `rt ci` built them. This calls the prover itself, with the words that `rt` uses,
-so the gate proves each crate once. Ends with a status other than 0 where a library is missing or the toolchain refuses a word.
+so the gate proves each crate once. TOOLCHAIN is the folder of the compiler, the toolchain's own if it is left out: fuzz/compiler makes
+one that keeps the proved module. Ends with a status other than 0 where a library is missing or the toolchain refuses a word.
 """
 import os
 import pathlib
@@ -59,7 +60,8 @@ def main():
         words += ["-L", "dependency=%s" % rlib(name).parent]
     words += ["--antt-project", kit / "rattle" / "logic" / "antt-project.json", "--logic-built", kit / "logic_built"]
     words += ["--jobs", str(min(4, os.cpu_count() or 1)), "--links", CRATE + "=", "--crate-type", "staticlib"]
-    words += ["--toolchain", kit / "toolchain", "--backend", "llvm", "-o", "out/lib%s.a" % CRATE]
+    toolchain = pathlib.Path(sys.argv[1]).resolve() if len(sys.argv) > 1 else kit / "toolchain"
+    words += ["--toolchain", toolchain, "--backend", "llvm", "-o", "out/lib%s.a" % CRATE]
     return subprocess.run(words, cwd=ROOT / "crates" / CRATE).returncode
 
 

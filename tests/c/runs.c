@@ -204,15 +204,22 @@ static void no_runs(void) {
         expect(jx_run_verdict(cut, end, 5, 19, &verdict) == JX_NOT_A_RUN, "a run that is cut short", end);
         free(cut);
     }
+    const run before = run_of("     ", 5, 0, 512, 0);
+    const run behind = run_of("\"]}", 3, 19, 512, 0);
+    expect(join_status(before, one) == JX_OK && join_status(one, behind) == JX_OK, "runs of neighbours", 0);
     for (size_t at = 0; at < one.size; at++) {
         one.bytes[at] ^= 0x10;
         expect(jx_run_verdict(one.bytes, one.size, 5, 19, &verdict) == JX_NOT_A_RUN, "a byte that changed", at);
         expect(join_status(one, one) == JX_NOT_A_RUN, "a byte that changed, on both sides", at);
+        expect(join_status(before, one) == JX_NOT_A_RUN, "a byte that changed, on the right", at);
+        expect(join_status(one, behind) == JX_NOT_A_RUN, "a byte that changed, on the left", at);
         one.bytes[at] ^= 0x10;
     }
     expect(verdict.kind == 99, "no verdict is told", 0);
     expect(jx_run_verdict(one.bytes, one.size, 5, 19, &verdict) == JX_OK && verdict.kind == JX_TRUNCATED, "it is a run again", 0);
     free(one.bytes);
+    free(before.bytes);
+    free(behind.bytes);
 }
 
 static void each_request_refused(void) {

@@ -174,6 +174,25 @@ def replays(count):
     print(replay(4, each, "utf-16", {"depth": 2, "ignoreBom": True}, ["--depth", "2", "--ignore-bom"]))
 
 
+def told(options, text):
+    """Prints what is published of a text by settings."""
+    out, err, status = served(greeting(json.loads(options)) + opened(text.encode().decode("unicode_escape")) + farewell())
+    assert (err, status) == (b"", 0), (err, status)
+    for params in diagnostics(out):
+        print(" ".join(mark["message"] for mark in params["diagnostics"]) or "accepted")
+
+
+def cut_text(text, line, start, end):
+    """Prints what is published, and where, once bytes of a line are deleted, which may be some of a character."""
+    line, start, end = int(line), int(start), int(end)
+    change = {"range": {"start": {"line": line, "character": start}, "end": {"line": line, "character": end}}, "text": ""}
+    text = text.encode().decode("unicode_escape")
+    out, err, status = served(greeting(None, ["utf-8"]) + opened(text) + changed([change], 2) + farewell())
+    assert (err, status) == (b"", 0), (err, status)
+    mark = list(diagnostics(out))[1]["diagnostics"][0]
+    print(mark["message"], *("%d:%d" % (mark["range"][end]["line"], mark["range"][end]["character"]) for end in ("start", "end")))
+
+
 # ---- values, by a parser of its own
 
 BLANKS = ["", "", " ", "\n", "\r\n", "\t"]

@@ -28,7 +28,7 @@ HEAD, DIGEST = 24, 32
 WHOLE_TOKENS = ("Gap", "Zero", "Int", "Frac", "Exp")
 VALUES = (lambda byte: byte ^ 1, lambda byte: byte ^ 0x80, lambda byte: 0, lambda byte: 0xFF)
 COUNTS = (2**32 - 1, 2**63, 2**64 - 1)
-TEXTS = ((b'[1,{"a":true},2]', 0, 512), (b'"]}],{"b":[[-0', 2**64 - 15, 512), (b"]]}[[{", None, 2), (b'"\\ud8', 9, 0))
+TEXTS = ((b'[1,{"a":true},2]', 0, 512), (b'"]}],{"b":[[-0', 2**63 - 1, 512), (b"]]}[[{", None, 2), (b'"\\ud8', 9, 0))
 
 
 # ---- what is wanted

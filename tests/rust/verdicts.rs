@@ -17,7 +17,7 @@ fn spelt(text: &str) -> Vec<u8> {
     let mut bytes = parts.next().unwrap().as_bytes().to_vec();
     for part in parts {
         bytes.push(u8::from_str_radix(&part[..2], 16).unwrap());
-        bytes.extend_from_slice(part[2..].as_bytes());
+        bytes.extend_from_slice(&part.as_bytes()[2..]);
     }
     bytes
 }
@@ -54,6 +54,51 @@ fn judged(text: &[u8], settings: impl Into<Settings>) -> Result<(), Refusal> {
         Fault::Refused(refusal) => refusal,
         Fault::OutOfMemory => panic!("out of memory"),
     })
+}
+
+/// The bytes of a text without the blanks outside of its strings.
+fn without_blanks(text: &[u8]) -> Vec<u8> {
+    let (mut is_inside, mut is_escaped) = (false, false);
+    let mut form = text.to_vec();
+    form.retain(|byte| {
+        let is_kept = is_inside || !b" \t\n\r".contains(byte);
+        is_inside ^= *byte == b'"' && !is_escaped;
+        is_escaped = is_inside && *byte == b'\\' && !is_escaped;
+        is_kept
+    });
+    form
+}
+
+#[test]
+fn compact_forms() {
+    for row in table() {
+        for end in 0..=row.text.len() {
+            let text = &row.text[..end];
+            let wanted = judged(text, row.depth).map(|()| without_blanks(text));
+            let form = jx::compact(text, row.depth);
+            assert_eq!(form, wanted.map_err(Fault::from), "line {}", row.line);
+            if let Ok(form) = form {
+                assert_eq!(jx::compact(&form, row.depth), Ok(form), "line {}", row.line);
+            }
+        }
+    }
+    let marked = Settings {
+        ignore_mark: true,
+        ..Settings::default()
+    };
+    assert_eq!(
+        jx::compact(b"\xEF\xBB\xBF [ 1 ]", marked),
+        Ok(b"[1]".to_vec())
+    );
+    let unique = Settings {
+        unique_names: true,
+        ..Settings::default()
+    };
+    let refusal = Refusal::RepeatedName { at: 8 };
+    assert_eq!(
+        jx::compact(b"{\"a\": 1,\"a\": 2}", unique),
+        Err(refusal.into())
+    );
 }
 
 #[test]
@@ -288,12 +333,8 @@ fn a_depth_stands_for_settings() {
             ..Settings::default()
         };
         assert_eq!(Settings::from(one.depth), settings);
-        assert_eq!(
-            judged(&one.text, &settings),
-            one.wanted,
-            "line {}",
-            one.line
-        );
+        assert_eq!(Settings::from(&settings), settings);
+        assert_eq!(judged(&one.text, settings), one.wanted, "line {}", one.line);
         assert_eq!(
             jx::rows(&one.text, settings),
             jx::rows(&one.text, one.depth)

@@ -1,6 +1,6 @@
 """Whether bytes are a JSON text (RFC 8259), at which byte they stop being one, and where JSON Pointers (RFC 6901) lead.
 
-No call makes a tree of values or copies the data. Other threads run during a call.
+No call makes a tree of values, and none but `compact` copies the data. Other threads run during a call.
 """
 from ._document import Document
 from ._elements import Element, elements
@@ -21,7 +21,7 @@ from ._find import get, get_all, loads
 from ._index import Index, Row, Value, ValueKind
 from ._library import DEPTH_DEFAULT, DEPTH_MAX, version
 from ._runs import NoRun, NotARun, NotNeighbours, OtherDepth, Run
-from ._texts import Reader, check, check_file, verdict
+from ._texts import Reader, check, check_file, compact, verdict
 
 __version__ = version()
 __all__ = [
@@ -52,6 +52,7 @@ __all__ = [
     "Verdict",
     "check",
     "check_file",
+    "compact",
     "elements",
     "get",
     "get_all",

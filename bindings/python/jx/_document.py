@@ -5,10 +5,10 @@ import ctypes
 import operator
 import threading
 import weakref
-from typing import Any, Tuple, Union
+from typing import Any, Tuple, Union, overload
 
 from ._faults import Kind, Place, Refused, Verdict
-from ._library import DEPTH_DEFAULT, LIBRARY, CDocument, CVerdict, Status, done, held, settings
+from ._library import DEPTH_DEFAULT, LIBRARY, Buffer, CDocument, CVerdict, Status, done, held, settings
 
 _STEP = 1 << 20
 
@@ -17,10 +17,11 @@ class Document:
     """A JSON text (RFC 8259) that is edited, with the verdict on all of it after each edit.
 
     It keeps a copy of the bytes, outside of Python's memory, until `close` or until nothing refers to it. An edit and its verdict
-    read what is near the edit. Offsets count bytes, with those of a byte order mark that `ignore_bom` skips.
+    read what is near the edit. Offsets count bytes, with those of a byte order mark that `ignore_bom` skips. It keeps no names, so
+    they may repeat.
     """
 
-    def __init__(self, data: Any = b"", *, depth: int = DEPTH_DEFAULT, ignore_bom: bool = False):
+    def __init__(self, data: Buffer = b"", *, depth: int = DEPTH_DEFAULT, ignore_bom: bool = False):
         asked = settings(depth, ignore_bom, False)
         self._document = CDocument()
         # Other threads of Python run during a call, and the library wants one call at a time.
@@ -29,7 +30,7 @@ class Document:
             done(LIBRARY.jx_document_new_non_null(address, size, ctypes.byref(asked), ctypes.byref(self._document)))
         self._free = weakref.finalize(self, LIBRARY.jx_document_free_non_null, ctypes.pointer(self._document))
 
-    def edit(self, start: int, end: int, data: Any = b"") -> None:
+    def edit(self, start: int, end: int, data: Buffer = b"") -> None:
         """Puts `data` in the place of the bytes from `start` up to `end`. An `IndexError` or a `MemoryError` leaves all as it was."""
         places = _place(start), _place(end)
         with held(data) as (address, size):
@@ -39,12 +40,12 @@ class Document:
         """The verdict on all bytes as one text, as `jx.verdict` tells it. There may be several edits before one verdict."""
         answer = CVerdict()
         self._call(LIBRARY.jx_document_verdict_non_null, ctypes.byref(answer))
-        return Verdict._of(answer)
+        return Verdict._of(answer.kind, answer.offset)
 
     def check(self) -> None:
         """Raises `Refused`, with line and column, unless the bytes are a text."""
         found = self.verdict()
-        if found.is_accepted:
+        if found:
             return
         offset = len(self) if found.kind is Kind.TRUNCATED else found.offset
         place = Place()
@@ -56,6 +57,12 @@ class Document:
         size = ctypes.c_size_t()
         self._call(LIBRARY.jx_document_size_non_null, ctypes.byref(size))
         return size.value
+
+    @overload
+    def __getitem__(self, key: int) -> int: ...
+
+    @overload
+    def __getitem__(self, key: slice) -> bytes: ...
 
     def __getitem__(self, key: Union[int, slice]) -> Union[int, bytes]:
         """A copy of a slice as bytes, or one byte as an int, as of `bytes`."""

@@ -3,10 +3,10 @@ from __future__ import annotations
 
 import ctypes
 import dataclasses
-from typing import Any, List
+from typing import List
 
 from ._faults import Verdict
-from ._library import DEPTH_DEFAULT, LIBRARY, CElement, done, held, settings, view
+from ._library import DEPTH_DEFAULT, LIBRARY, Buffer, CElement, done, held, settings, view
 
 _STEP = 1 << 20
 
@@ -21,7 +21,7 @@ class Element:
     verdict: Verdict
 
 
-def elements(data: Any, *, depth: int = DEPTH_DEFAULT, ignore_bom: bool = False, unique_names: bool = False) -> List[Element]:
+def elements(data: Buffer, *, depth: int = DEPTH_DEFAULT, ignore_bom: bool = False, unique_names: bool = False) -> List[Element]:
     """All elements of a JSON text sequence, in order, whatever the verdict on each is."""
     asked = settings(depth, ignore_bom, unique_names)
     seen = view(data)
@@ -31,6 +31,6 @@ def elements(data: Any, *, depth: int = DEPTH_DEFAULT, ignore_bom: bool = False,
     with held(seen) as (address, size):
         done(LIBRARY.jx_elements_non_null(address, size, ctypes.byref(asked), found, room, ctypes.byref(count)))
     return [
-        Element(seen[each.span.start : each.span.end], each.span.start, each.span.end, Verdict._of(each.verdict))
+        Element(seen[each.span.start : each.span.end], each.span.start, each.span.end, Verdict._of(each.verdict.kind, each.verdict.offset))
         for each in found[: count.value]
     ]

@@ -3,9 +3,7 @@ from __future__ import annotations
 
 import dataclasses
 import enum
-from typing import Any, Optional
-
-from . import _library
+from typing import Any, Dict, NoReturn, Optional, Type
 
 _STEP = 1 << 20
 _CONTINUATIONS = bytes(range(0x80, 0xC0))
@@ -36,7 +34,10 @@ _MESSAGES = {
 
 @dataclasses.dataclass(frozen=True)
 class Verdict:
-    """A kind, and the offset of the byte it is about: of the fault, of the repeated name, or 0 where the kind has none."""
+    """A kind, and the offset of the byte it is about: of the fault, of the repeated name, or 0 where the kind has none.
+
+    It is true where the bytes are accepted.
+    """
 
     kind: Kind
     offset: int
@@ -45,9 +46,15 @@ class Verdict:
     def is_accepted(self) -> bool:
         return self.kind is Kind.ACCEPTED
 
+    def __bool__(self) -> bool:
+        return self.is_accepted
+
     @classmethod
-    def _of(cls, verdict: _library.CVerdict) -> Verdict:
-        return cls(Kind(verdict.kind), verdict.offset)
+    def _of(cls, kind: int, offset: int) -> Verdict:
+        return cls(Kind(kind), offset)
+
+
+ACCEPTED = Verdict(Kind.ACCEPTED, 0)
 
 
 class Refused(ValueError):
@@ -62,10 +69,13 @@ class Refused(ValueError):
         self.kind = verdict.kind
         self.offset = offset
         self.msg = _MESSAGES[verdict.kind]
+        self.lineno: Optional[int]
+        self.colno: Optional[int]
         self.lineno, self.colno = place or (None, None)
-        where = "" if place is None else "line %d column %d " % place
-        end = "" if offset is None else "(byte %d)" % offset
-        super().__init__((self.msg + ": " + where + end).rstrip(": "))
+        where = [] if place is None else ["line %d column %d" % place]
+        if offset is not None:
+            where.append("(byte %d)" % offset if where else "byte %d" % offset)
+        super().__init__(": ".join([self.msg, " ".join(where)]) if where else self.msg)
 
     def __reduce__(self) -> Any:
         place = None if self.lineno is None else (self.lineno, self.colno)
@@ -144,3 +154,33 @@ class PastEnd(NotFound, IndexError):
 
 class AfterLast(NotFound, IndexError):
     why = "names what would stand after the array's last element"
+
+
+# Outcomes of a pointer, as the library numbers them: 0 is a value.
+NAME_REPEATED = 2
+_NOT_FOUND: Dict[int, Type[NotFound]] = {
+    1: NoSuchMember,
+    NAME_REPEATED: NameRepeated,
+    3: NotAnIndex,
+    4: PastEnd,
+    5: AfterLast,
+    6: NotAContainer,
+}
+_BAD_POINTERS = {7: "it is not empty and does not begin with /", 8: "the ~ at byte %d has no 0 or 1 behind it", 9: "it is not in UTF-8"}
+
+
+def is_lost(outcome: int) -> bool:
+    """Whether the pointer is one, and leads to no value of the text."""
+    return outcome in _NOT_FOUND
+
+
+def is_no_pointer(outcome: int) -> bool:
+    return outcome in _BAD_POINTERS
+
+
+def raise_not_found(pointer: str, outcome: int, at: int) -> NoReturn:
+    """Raises what such an outcome says of a pointer."""
+    if outcome in _NOT_FOUND:
+        raise _NOT_FOUND[outcome](pointer, at)
+    why = _BAD_POINTERS[outcome]
+    raise BadPointer("%r is no JSON Pointer: %s" % (pointer, why % at if "%" in why else why))

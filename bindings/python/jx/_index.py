@@ -1,20 +1,20 @@
-"""All values of a text: rows that the library makes, and look-ups over them."""
+"""All values of a text, over an index of the library."""
 from __future__ import annotations
 
-import bisect
-import ctypes
+import builtins
 import enum
 import json
-import re
-from typing import Any, Dict, Iterator, List, NamedTuple, Optional, Tuple
+import operator
+from typing import Any, Iterator, List, NamedTuple, Optional, Tuple, TypeVar, Union, overload
 
-from . import _faults
+from . import _engine, _faults
 from ._faults import Verdict, refused_in
-from ._find import pointer_bytes
-from ._library import DEPTH_DEFAULT, LIBRARY, NO_ROW, CRow, CVerdict, done, held, settings, view
+from ._find import refuse_surrogate
+from ._library import DEPTH_DEFAULT, Buffer, view
 
-_BAD_ESCAPE = re.compile(r"~(?![01])")
-_NUMBER = re.compile(r"0|[1-9][0-9]*", re.ASCII)
+T = TypeVar("T")
+# Members of larger objects are looked up by the library, by their pointers.
+_FEW = 32
 
 
 class ValueKind(enum.IntEnum):
@@ -29,6 +29,10 @@ class ValueKind(enum.IntEnum):
     NULL = 6
 
 
+# As numbers of the library, which are compared sooner.
+_OBJECT, _ARRAY = ValueKind.OBJECT.value, ValueKind.ARRAY.value
+
+
 class Row(NamedTuple):
     """A value: its kind, its span, the span of its name or None, the number of its parent's row or None, and its place there."""
 
@@ -41,38 +45,29 @@ class Row(NamedTuple):
 
 
 class Index:
-    """All values of a JSON text, in the order of their starts. It keeps a view of the data, which cannot be resized meanwhile.
+    """All values of a JSON text, in the order of their starts.
 
-    `index[pointer]` is a `Value`, `len(index)` the count of values, and iteration goes over all of them.
+    `index[pointer]` is a `Value`, `len(index)` the count of values, and iteration goes over all of them. It keeps a view of the data,
+    which cannot be resized meanwhile; data that may be written to, as a `bytearray`, is copied.
     """
 
-    def __init__(self, data: Any, *, depth: int = DEPTH_DEFAULT, ignore_bom: bool = False, unique_names: bool = False):
-        asked = settings(depth, ignore_bom, unique_names)
+    __slots__ = ("_rows", "_view")
+
+    def __init__(self, data: Buffer, *, depth: int = DEPTH_DEFAULT, ignore_bom: bool = False, unique_names: bool = False):
         self._view = view(data)
-        count, answer = ctypes.c_size_t(), CVerdict()
-        room = len(self._view) // 8 + 16
-        while True:
-            self._rows = (CRow * room)()
-            with held(self._view) as (address, size):
-                done(
-                    LIBRARY.jx_rows_non_null(
-                        address, size, ctypes.byref(asked), self._rows, room, ctypes.byref(count), ctypes.byref(answer)
-                    )
-                )
-            if count.value <= room:
-                break
-            room = count.value
-        self._count = count.value
-        found = Verdict._of(answer)
-        if not found.is_accepted:
-            raise refused_in(self._view, found)
-        self._members: Dict[int, Dict[str, Optional[int]]] = {}
+        if not self._view.readonly:
+            # The library may not read bytes that change under an index.
+            self._view = memoryview(bytes(self._view))
+        rows = _engine.index(self._view, depth, ignore_bom, unique_names)
+        if isinstance(rows, tuple):
+            raise refused_in(self._view, Verdict._of(*rows))
+        self._rows = rows
 
     def __len__(self) -> int:
-        return self._count
+        return len(self._rows)
 
     def __iter__(self) -> Iterator[Value]:
-        return (Value(self, number) for number in range(self._count))
+        return (Value(self, number) for number in range(len(self._rows)))
 
     @property
     def root(self) -> Value:
@@ -80,83 +75,55 @@ class Index:
 
     def row(self, number: int) -> Row:
         """The row of a number from 0 to `len(index) - 1`."""
-        if not 0 <= number < self._count:
-            raise IndexError("row %d of %d" % (number, self._count))
-        row = self._rows[number]
-        name = None if row.name.end == 0 else (row.name.start, row.name.end)
-        parent = None if row.parent == NO_ROW else row.parent
-        return Row(ValueKind(row.kind), row.span.start, row.span.end, name, parent, row.place)
+        kind, start, end, name_start, name_end, parent, place = self._rows.row(number)
+        return Row(ValueKind(kind), start, end, None if name_end == 0 else (name_start, name_end), parent, place)
 
     @property
     def rows(self) -> Iterator[Row]:
         """All rows, in the order of the starts of their values."""
-        return (self.row(number) for number in range(self._count))
+        return (self.row(number) for number in range(len(self._rows)))
 
     def __getitem__(self, pointer: str) -> Value:
         """The value that a pointer (RFC 6901) leads to. Raises `BadPointer` or a `NotFound`, as `jx.get` does."""
-        number = 0
-        for at, token in enumerate(_tokens(pointer)):
-            number = self._step(pointer, at, number, token)
-        return Value(self, number)
+        found = self._find(pointer)
+        if isinstance(found, tuple):
+            _faults.raise_not_found(pointer, *found)
+        return Value(self, found)
+
+    @overload
+    def get(self, pointer: str) -> Optional[Value]: ...
+
+    @overload
+    def get(self, pointer: str, default: T) -> Union[Value, T]: ...
+
+    def get(self, pointer: str, default: Any = None) -> Any:
+        """The value that a pointer leads to, or the default where it leads to none. Raises `BadPointer`."""
+        found = self._find(pointer)
+        if isinstance(found, int):
+            return Value(self, found)
+        if _faults.is_lost(found[0]):
+            return default
+        _faults.raise_not_found(pointer, *found)
 
     def __contains__(self, pointer: str) -> bool:
+        return self.get(pointer) is not None
+
+    def _find(self, pointer: str) -> Union[int, Tuple[int, int]]:
         try:
-            self[pointer]
-        except _faults.NotFound:
-            return False
-        return True
-
-    def _step(self, pointer: str, at: int, number: int, token: str) -> int:
-        kind = self._rows[number].kind
-        if kind == ValueKind.OBJECT:
-            members = self._names(number)
-            if token not in members:
-                raise _faults.NoSuchMember(pointer, at)
-            found = members[token]
-            if found is None:
-                raise _faults.NameRepeated(pointer, at)
-            return found
-        if kind != ValueKind.ARRAY:
-            raise _faults.NotAContainer(pointer, at)
-        if token == "-":
-            raise _faults.AfterLast(pointer, at)
-        if not _NUMBER.fullmatch(token):
-            raise _faults.NotAnIndex(pointer, at)
-        # A number of more digits than the count of rows has is past the end; long ones are not made an int.
-        if len(token) <= len(str(self._count)):
-            for place, child in enumerate(self._children(number)):
-                if place == int(token):
-                    return child
-        raise _faults.PastEnd(pointer, at)
-
-    def _children(self, number: int) -> Iterator[int]:
-        end = self._rows[number].span.end
-        child = number + 1
-        while child < self._count and self._rows[child].span.start < end:
-            yield child
-            child = bisect.bisect_left(
-                self._rows, self._rows[child].span.end, child + 1, self._count, key=lambda row: row.span.start
-            )
-
-    def _names(self, number: int) -> Dict[str, Optional[int]]:
-        """The members of an object by their names; None for a name of two."""
-        if number not in self._members:
-            members: Dict[str, Optional[int]] = {}
-            for child in self._children(number):
-                name = _units(self._name(child))
-                members[name] = None if name in members else child
-            self._members[number] = members
-        return self._members[number]
-
-    def _name(self, number: int) -> str:
-        span = self._rows[number].name
-        return json.loads(bytes(self._view[span.start : span.end]), strict=False)
+            return self._rows.find(pointer)
+        except UnicodeEncodeError:
+            refuse_surrogate(pointer)
 
 
 class Value:
-    """A value of an indexed text. Iteration goes over its children, in order; `len` counts them."""
+    """A value of an indexed text.
 
-    __slots__ = ("_index", "number")
+    Iteration goes over its children, in order: an array's elements, or the values of an object's members. `len` counts them.
+    `value[2]` and `value[-1]` are elements of an array, `value[1:3]` a list of them, and `value["name"]` is a member of an object.
+    Two are equal if they are the same value of the same index. `bytes(value)` copies its bytes.
+    """
+
+    __slots__ = ("_index", "number", "_way")
 
     def __init__(self, index: Index, number: int):
         self._index = index
@@ -168,54 +135,159 @@ class Value:
 
     @property
     def kind(self) -> ValueKind:
-        return self.row.kind
+        return ValueKind(self._index._rows.kind(self.number))
 
     @property
     def bytes(self) -> memoryview:
         """The value's bytes, a view of the data."""
-        row = self.row
-        return self._index._view[row.start : row.end]
+        row = self._index._rows.row(self.number)
+        return self._index._view[row[1] : row[2]]
+
+    def __bytes__(self) -> builtins.bytes:
+        return self.bytes.tobytes()
 
     @property
     def name(self) -> Optional[str]:
         """The name of a member of an object; None for another value."""
-        return None if self.row.name is None else self._index._name(self.number)
+        _, _, _, start, end, _, _ = self._index._rows.row(self.number)
+        return None if end == 0 else _decoded(self._index._view[start:end].tobytes())
 
     @property
     def parent(self) -> Optional[Value]:
-        parent = self.row.parent
+        parent = self._index._rows.row(self.number)[5]
         return None if parent is None else Value(self._index, parent)
+
+    @property
+    def pointer(self) -> Optional[str]:
+        """The JSON Pointer (RFC 6901) that leads here. None where none does: an object on the way repeats the name that leads on, or such
+        a name has half of a surrogate pair."""
+        try:
+            return self._way
+        except AttributeError:
+            self._way: Optional[str] = self._pointer()
+            return self._way
+
+    def _pointer(self) -> Optional[str]:
+        rows, tokens = self._index._rows, []
+        number: Optional[int] = self.number
+        while number:
+            _, _, _, start, end, parent, place = rows.row(number)
+            tokens.append(_token(_decoded(self._index._view[start:end].tobytes())) if end else str(place))
+            number = parent
+        pointer = "".join("/" + token for token in reversed(tokens))
+        try:
+            return pointer if rows.find(pointer) == self.number else None
+        except UnicodeEncodeError:
+            return None
 
     def load(self, **options: Any) -> Any:
         """`json.loads` of just this value. The words go there."""
-        return json.loads(bytes(self.bytes), **options)
+        return json.loads(self.bytes.tobytes(), **options)
+
+    @overload
+    def __getitem__(self, key: Union[int, str]) -> Value: ...
+
+    @overload
+    def __getitem__(self, key: slice) -> List[Value]: ...
+
+    def __getitem__(self, key: Union[int, str, slice]) -> Union[Value, List[Value]]:
+        """An element of an array by its place, or by a slice of places; a member of an object by its name.
+
+        Raises an `IndexError` or a `KeyError`, among them `NoSuchMember` and `NameRepeated`, whose pointers begin at this value.
+        """
+        if isinstance(key, str):
+            return self._member(key)
+        rows, number = self._index._rows, self.number
+        if rows.kind(number) != _ARRAY:
+            raise TypeError("only an array has places: a member of an object is named by a str")
+        count = rows.count(number)
+        if isinstance(key, slice):
+            return [Value(self._index, rows.child(number, place)) for place in range(*key.indices(count))]
+        place = operator.index(key)
+        if not -count <= place < count:
+            raise IndexError("element %d of %d" % (place, count))
+        return Value(self._index, rows.child(number, place % count))
+
+    @overload
+    def get(self, name: str) -> Optional[Value]: ...
+
+    @overload
+    def get(self, name: str, default: T) -> Union[Value, T]: ...
+
+    def get(self, name: str, default: Any = None) -> Any:
+        """The member of an object that has this name, or the default where there is none. Raises `NameRepeated`."""
+        try:
+            return self._member(name)
+        except _faults.NoSuchMember:
+            return default
+
+    def __contains__(self, name: str) -> bool:
+        """Whether an object has a member of this name."""
+        if not isinstance(name, str):
+            raise TypeError("a member of an object is named by a str, not by " + type(name).__name__)
+        return bool(self._members(name)[1])
+
+    def _member(self, name: str) -> Value:
+        found, times = self._members(name)
+        if times == 1:
+            return Value(self._index, found)
+        raise (_faults.NameRepeated if times else _faults.NoSuchMember)("/" + _token(name), 0)
+
+    def _members(self, name: str) -> Tuple[int, int]:
+        """The number of a member of this name, and how many there are, or at least whether there are more."""
+        rows = self._index._rows
+        if rows.kind(self.number) != _OBJECT:
+            raise TypeError("only an object has members")
+        try:
+            if rows.count(self.number) > _FEW and self.pointer is not None:
+                found = rows.find(self.pointer + "/" + _token(name))
+                if isinstance(found, int):
+                    return found, 1
+                return 0, 2 if found[0] == _faults.NAME_REPEATED else 0
+            told = rows.members(self.number, name)
+        except UnicodeEncodeError:
+            told = None
+        if told is not None:
+            return told
+        wanted = _units(name)
+        same = [child.number for child in self if _units(child.name or "") == wanted]
+        return (same[0], len(same)) if same else (0, 0)
 
     def __iter__(self) -> Iterator[Value]:
-        return (Value(self._index, child) for child in self._index._children(self.number))
+        index, number, child = self._index, self.number, self._index._rows.child
+        return (Value(index, child(number, place)) for place in range(index._rows.count(number)))
 
     def __len__(self) -> int:
-        return sum(1 for _ in self._index._children(self.number))
+        return self._index._rows.count(self.number)
 
     def __bool__(self) -> bool:
         return True
+
+    def __eq__(self, other: object) -> bool:
+        if not isinstance(other, Value):
+            return NotImplemented
+        return self._index is other._index and self.number == other.number
+
+    def __hash__(self) -> int:
+        return hash((id(self._index), self.number))
 
     def __repr__(self) -> str:
         row = self.row
         return "<jx.Value %s %d..%d>" % (row.kind.name.lower(), row.start, row.end)
 
 
-def _tokens(pointer: str) -> List[str]:
-    pointer_bytes(pointer)
-    if pointer and not pointer.startswith("/"):
-        raise _faults.BadPointer("%r is no JSON Pointer: it is not empty and does not begin with /" % pointer)
-    bad = _BAD_ESCAPE.search(pointer)
-    if bad:
-        at = len(pointer[: bad.start()].encode())
-        raise _faults.BadPointer("%r is no JSON Pointer: the ~ at byte %d has no 0 or 1 behind it" % (pointer, at))
-    return [_units(token.replace("~1", "/").replace("~0", "~")) for token in pointer.split("/")[1:]]
+def _decoded(spelling: bytes) -> str:
+    """The name that a string spells, with its quotation marks. A name may have half of a surrogate pair."""
+    if b"\\" not in spelling:
+        return spelling[1:-1].decode()
+    name: str = json.loads(spelling, strict=False)
+    return name
 
 
-def _units(name: str) -> str:
-    """A name as its UTF-16 code units, so that each spelling of it is the same key."""
-    units = name.encode("utf-16-le", "surrogatepass")
-    return units.decode("utf-16-le", "surrogatepass")
+def _token(name: str) -> str:
+    return name.replace("~", "~0").replace("/", "~1")
+
+
+def _units(name: str) -> bytes:
+    """A name as its UTF-16 code units, so that each spelling of it is the same."""
+    return name.encode("utf-16-le", "surrogatepass")

@@ -6,7 +6,15 @@ import ctypes
 import enum
 import os
 import pathlib
-from typing import Any, Iterator
+from typing import TYPE_CHECKING, Any, Iterator, List
+
+if TYPE_CHECKING:
+    # What gives its bytes: bytes, bytearray, memoryview, mmap, arrays of numpy.
+    from _typeshed import ReadableBuffer
+
+    Buffer = ReadableBuffer
+else:
+    Buffer = Any
 
 DEPTH_DEFAULT = 512
 DEPTH_MAX = 65535
@@ -50,6 +58,10 @@ class CDocument(ctypes.Structure):
     _fields_ = [("inside", ctypes.c_void_p)]
 
 
+class CIndex(ctypes.Structure):
+    _fields_ = [("inside", ctypes.c_void_p)]
+
+
 class CSpan(ctypes.Structure):
     _fields_ = [("start", ctypes.c_size_t), ("end", ctypes.c_size_t)]
 
@@ -78,14 +90,19 @@ class CElement(ctypes.Structure):
 
 _POINTER = ctypes.c_void_p
 _SIZE = ctypes.c_size_t
-_CALLS: dict[str, list[Any]] = {
+_CALLS = {
     "jx_check_non_null": [_POINTER, _SIZE, _POINTER, _POINTER],
+    "jx_compact_non_null": [_POINTER, _SIZE, _POINTER, _POINTER, _SIZE, _POINTER, _POINTER],
     "jx_reader_start_non_null": [_POINTER, _POINTER],
     "jx_reader_feed": [_POINTER, _POINTER, _SIZE],
     "jx_reader_verdict": [_POINTER, _POINTER],
     "jx_at_non_null": [_POINTER, _SIZE, _POINTER, _SIZE, _POINTER, _POINTER],
     "jx_at_all_non_null": [_POINTER, _SIZE, _POINTER, _POINTER, _SIZE, _POINTER, _SIZE],
     "jx_rows_non_null": [_POINTER, _SIZE, _POINTER, _POINTER, _SIZE, _POINTER, _POINTER],
+    "jx_index_new_non_null": [_POINTER, _SIZE, _POINTER, _POINTER, _POINTER],
+    "jx_index_find_non_null": [_POINTER, ctypes.c_char_p, _SIZE, _POINTER],
+    "jx_index_row_non_null": [_POINTER, _SIZE, _POINTER],
+    "jx_index_free_non_null": [_POINTER],
     "jx_elements_non_null": [_POINTER, _SIZE, _POINTER, _POINTER, _SIZE, _POINTER],
     "jx_document_new_non_null": [_POINTER, _SIZE, _POINTER, _POINTER],
     "jx_document_edit_non_null": [_POINTER, _SIZE, _SIZE, _POINTER, _SIZE],
@@ -114,24 +131,28 @@ def _places() -> Iterator[str]:
 
 
 def _load() -> ctypes.CDLL:
-    faults = []
+    faults: List[str] = []
     for place in _places():
         try:
-            # CDLL, and not PyDLL: other threads of Python run during a call.
-            library = ctypes.CDLL(place)
-            break
+            return ctypes.CDLL(place)
         except OSError as fault:
             faults.append(str(fault))
-    else:
-        raise ImportError("jx: libjx.so.0 is not found; build it with tools/library or set JX_LIBRARY: " + "; ".join(faults))
+    raise ImportError("jx: libjx.so.0 is not found; build it with tools/library or set JX_LIBRARY: " + "; ".join(faults))
+
+
+def _declare(library: ctypes.CDLL) -> None:
     for name, arguments in _CALLS.items():
         call = getattr(library, name)
         call.argtypes = arguments
-        call.restype = None if name == "jx_document_free_non_null" else ctypes.c_uint32
-    return library
+        call.restype = None if name.endswith("_free_non_null") else ctypes.c_uint32
 
 
+# Other threads of Python run during its calls.
 LIBRARY = _load()
+# Short calls on what threads may share hold the interpreter's lock, so no two of them run at once.
+HELD = ctypes.PyDLL(LIBRARY._name, handle=LIBRARY._handle)
+_declare(LIBRARY)
+_declare(HELD)
 
 
 def version() -> str:
@@ -187,7 +208,7 @@ _NO_BYTES = ctypes.create_string_buffer(1)
 
 
 @contextlib.contextmanager
-def held(data: Any) -> Iterator[tuple[int, int]]:
+def held(data: Buffer) -> Iterator[tuple[int, int]]:
     """The address and size of a buffer's bytes. While they are held, the object refuses to be resized or closed."""
     if isinstance(data, str):
         raise TypeError("jx reads bytes, and this is a str: pass data.encode()")
@@ -199,7 +220,7 @@ def held(data: Any) -> Iterator[tuple[int, int]]:
         _release_buffer(ctypes.byref(buffer))
 
 
-def view(data: Any) -> memoryview:
+def view(data: Buffer) -> memoryview:
     """The bytes of a buffer, without a copy."""
     if isinstance(data, str):
         raise TypeError("jx reads bytes, and this is a str: pass data.encode()")

@@ -6,7 +6,7 @@ import operator
 from typing import Any, Callable, Optional, Tuple
 
 from ._faults import Verdict
-from ._library import DEPTH_DEFAULT, LIBRARY, NO_FROM, CVerdict, Status, done, held, settings
+from ._library import DEPTH_DEFAULT, LIBRARY, NO_FROM, Buffer, CVerdict, Status, done, held, settings
 
 # So much room is tried first; few runs have more bytes.
 _ROOM = 8192
@@ -65,7 +65,7 @@ class Run:
 
     __slots__ = ("_bytes",)
 
-    def __init__(self, data: Any, start: Optional[int] = None, *, depth: int = DEPTH_DEFAULT):
+    def __init__(self, data: Buffer, start: Optional[int] = None, *, depth: int = DEPTH_DEFAULT):
         asked = settings(depth, False, False)
         if start is None:
             place = NO_FROM
@@ -79,7 +79,7 @@ class Run:
             self._bytes = _written(LIBRARY.jx_run_of, address, size, place, asked.depth)
 
     @classmethod
-    def from_bytes(cls, data: Any) -> Run:
+    def from_bytes(cls, data: Buffer) -> Run:
         """The run that has these bytes, which any machine may have written. Raises `NotARun` where there is none."""
         with held(data) as (address, size):
             # No part ends before it starts, so a run is told to be of other bytes.
@@ -109,7 +109,7 @@ class Run:
         answer = CVerdict()
         with held(self._bytes) as (address, size):
             _checked(LIBRARY.jx_run_verdict(address, size, *places, ctypes.byref(answer)))
-        return Verdict._of(answer)
+        return Verdict._of(answer.kind, answer.offset)
 
     def __bytes__(self) -> bytes:
         return self._bytes

@@ -26,6 +26,7 @@ class Refusals(unittest.TestCase):
             (8 << 20, "jx.get_all(text, ['/0'], unique_names=True)"),
             (1 << 20, "jx.elements(b'\\x1e' * 1_000_000)"),
             (4 << 20, "jx.Document(text)"),
+            (4 << 20, "jx.compact(text)"),
         )
         for more, call in calls:
             done = subprocess.run([sys.executable, "-X", "faulthandler", "-c", PROGRAM % (more, call)], capture_output=True, text=True)

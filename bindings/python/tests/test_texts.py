@@ -51,6 +51,14 @@ class Table(unittest.TestCase):
             self.assertEqual(caught.exception.offset, len(text) if kind is jx.Kind.TRUNCATED else offset)
 
 
+    def test_a_verdict_is_true_where_the_bytes_are_accepted(self):
+        for kind, _, depth, text in lines():
+            self.assertIs(bool(jx.verdict(text, depth=depth)), kind is jx.Kind.ACCEPTED, text)
+        self.assertFalse(jx.verdict(b"["))
+        self.assertFalse(jx.Reader().verdict())
+        self.assertFalse(jx.Document(b"[").verdict())
+
+
 class Places(unittest.TestCase):
     def test_lines_and_columns_are_those_of_the_json_module(self):
         for text in ('{"a": 1,\n "b": x}', "[1,\n2,\n\n3 4]", '["é𝄞", x]', '{"a"\n\n:1]', "[1 2"):
@@ -87,6 +95,19 @@ class Settings(unittest.TestCase):
         for depth, fault in ((-1, ValueError), (65536, ValueError), (2**40, ValueError), (1.5, TypeError), (None, TypeError)):
             with self.assertRaises(fault):
                 jx.check(b"1", depth=depth)
+
+
+    def test_calls_have_unique_names_where_the_whole_text_is_there(self):
+        text = b'{"a":1,"a":2}'
+        for call in (jx.check, jx.Index, lambda data, **words: jx.get(data, "", **words), lambda data, **words: jx.get_all(data, [], **words), jx.loads):
+            call(text)
+            with self.assertRaises(jx.Refused) as caught:
+                call(text, unique_names=True)
+            self.assertEqual((caught.exception.kind, caught.exception.offset), (jx.Kind.REPEATED_NAME, 7))
+        self.assertIs(jx.verdict(text, unique_names=True).kind, jx.Kind.REPEATED_NAME)
+        for call in (jx.Reader, jx.Document):
+            with self.assertRaises(TypeError):
+                call(unique_names=True)
 
 
 class Inputs(unittest.TestCase):
@@ -151,8 +172,70 @@ class Files(unittest.TestCase):
         self.assertEqual((caught.exception.offset, caught.exception.lineno), (3, None))
 
     def test_a_file_of_words_is_refused(self):
-        with self.assertRaisesRegex(TypeError, "rb"):
-            jx.check_file(io.StringIO("[1]"))
+        with open(os.devnull) as words:
+            for file in (io.StringIO("[1]"), words):
+                for unique_names in (False, True):
+                    with self.assertRaisesRegex(TypeError, "rb"):
+                        jx.check_file(file, unique_names=unique_names)
+
+    def test_names_of_a_file(self):
+        with tempfile.TemporaryDirectory() as folder:
+            path = pathlib.Path(folder, "a.json")
+            path.write_bytes(b' {"a":1,\n"a":2}')
+            jx.check_file(path)
+            with self.assertRaises(jx.Refused) as caught:
+                jx.check_file(path, unique_names=True)
+            self.assertEqual((caught.exception.offset, caught.exception.lineno, caught.exception.colno), (9, 2, 1))
+            with open(path, "rb") as file:
+                file.seek(1)
+                with self.assertRaises(jx.Refused) as caught:
+                    jx.check_file(file, unique_names=True)
+                self.assertEqual(caught.exception.offset, 8)
+            path.write_bytes(b"")
+            with self.assertRaises(jx.Refused) as caught:
+                jx.check_file(path, unique_names=True)
+            self.assertIs(caught.exception.kind, jx.Kind.TRUNCATED)
+        with self.assertRaises(jx.Refused):
+            jx.check_file(io.BytesIO(b'{"a":1,"a":2}'), unique_names=True)
+        jx.check_file(io.BytesIO(b'{"a":1,"b":2}'), unique_names=True)
+
+
+BLANKS = re.compile(rb'("(?:[^"\\]|\\.)*")|[ \t\n\r]+', re.DOTALL)
+
+
+class CompactForms(unittest.TestCase):
+    def test_every_text_of_the_table_in_every_buffer(self):
+        for kind, offset, depth, text in lines():
+            for buffer in BUFFERS:
+                if kind is jx.Kind.ACCEPTED:
+                    wanted = BLANKS.sub(lambda found: found[1] or b"", text)
+                    form = jx.compact(buffer(text), depth=depth)
+                    self.assertIs(type(form), bytes)
+                    self.assertEqual(form, wanted)
+                    self.assertEqual(jx.compact(form, depth=depth), form)
+                    continue
+                with self.assertRaises(jx.Refused) as caught:
+                    jx.compact(buffer(text), depth=depth)
+                self.assertIs(caught.exception.kind, kind)
+                self.assertEqual(caught.exception.offset, len(text) if kind is jx.Kind.TRUNCATED else offset)
+
+    def test_it_reads_as_the_same_value(self):
+        value = {"a b": [1.5, True, None, "x\n\u00e9 \U0001f600"], "": {" ": []}}
+        for indent in (None, 1, "\t"):
+            form = jx.compact(json.dumps(value, indent=indent).encode())
+            self.assertEqual(form, json.dumps(value, separators=(",", ":")).encode())
+            self.assertEqual(json.loads(form), value)
+
+    def test_settings(self):
+        self.assertEqual(jx.compact(b"\xef\xbb\xbf [ 1 ]", ignore_bom=True), b"[1]")
+        self.assertEqual(jx.compact(b'{"a": 1, "a": 2}'), b'{"a":1,"a":2}')
+        with self.assertRaises(jx.Refused) as caught:
+            jx.compact(b'{"a": 1,\n"a": 2}', unique_names=True)
+        self.assertEqual((caught.exception.offset, caught.exception.lineno, caught.exception.colno), (9, 2, 1))
+        with self.assertRaisesRegex(TypeError, "encode"):
+            jx.compact("[1]")
+        with self.assertRaises(ValueError):
+            jx.compact(b"[1]", depth=65536)
 
 
 class Threads(unittest.TestCase):

@@ -1,5 +1,4 @@
-"""Values by pointer, rows, and elements of sequences."""
-import json
+"""Values by pointer, and elements of sequences."""
 import unittest
 
 import jx
@@ -68,61 +67,15 @@ class Pointers(unittest.TestCase):
         self.assertEqual([bytes(it) for it in jx.get_all(b'{"a\\u0000b":1}', ["/a\0b", "", "/a\0b"])], [b"1", b'{"a\\u0000b":1}', b"1"])
         self.assertEqual(jx.get_all(b"[]", ["/0" * 65535], None), [None])
 
+    def test_one_pointer_in_place_of_several_is_refused_with_what_to_do(self):
+        with self.assertRaisesRegex(TypeError, r"pass \['/a'\], or call get"):
+            jx.get_all(TEXT, "/a")
+
     def test_a_value_of_64_mb_is_not_copied(self):
         data = bytearray(b'{"a":"' + b"x" * (64 << 20) + b'","b":[1]}')
         found = jx.get(data, "/b/0")
         self.assertIs(found.obj, data)
         self.assertEqual(bytes(found), b"1")
-
-
-class Indexes(unittest.TestCase):
-    def test_an_index_answers_as_get_does(self):
-        index = jx.Index(TEXT)
-        for pointer in (*FOUND, *NOT_FOUND, *BAD):
-            try:
-                wanted = bytes(jx.get(TEXT, pointer))
-            except (jx.NotFound, jx.BadPointer) as fault:
-                with self.assertRaises(type(fault)) as caught:
-                    index[pointer]
-                self.assertEqual(str(caught.exception), str(fault))
-            else:
-                self.assertEqual(bytes(index[pointer].bytes), wanted, pointer)
-
-    def test_names_are_equal_where_their_code_units_are(self):
-        text = b'{"\\ud834\\udd1e":1,"\\ud834":2,"\xf0\x9d\x84\x9e":3}'
-        with self.assertRaises(jx.NameRepeated):
-            jx.Index(text)["/\U0001d11e"]
-        with self.assertRaises(jx.NameRepeated):
-            jx.get(text, "/\U0001d11e")
-
-    def test_rows_and_children(self):
-        index = jx.Index(TEXT)
-        self.assertEqual(len(index), len(list(index)))
-        self.assertEqual(index.row(0), jx.Row(jx.ValueKind.OBJECT, 0, len(TEXT), None, None, 0))
-        self.assertEqual([child.name for child in index.root], ["a", "", "m~n", "a/b", "é", "r", "r"])
-        self.assertEqual([child.load() for child in index["/a"]], [1, {"b": 2}, []])
-        self.assertEqual((len(index["/a"]), len(index["/a/0"]), len(index["/é"])), (3, 0, 0))
-        self.assertEqual(index["/a/1/b"].parent.parent.number, index["/a"].number)
-        with self.assertRaises(IndexError):
-            index.row(len(index))
-
-    def test_a_text_of_many_values(self):
-        text = json.dumps({"k%d" % at: [at] * 3 for at in range(3000)}).encode()
-        index = jx.Index(text)
-        self.assertEqual(len(index), 1 + 3000 * 4)
-        self.assertEqual(index["/k2999/2"].load(), 2999)
-        self.assertEqual(len(jx.Index(b"[" + b"1," * 9999 + b"1]")), 10001)
-
-    def test_data_cannot_be_resized_under_an_index(self):
-        data = bytearray(b"[1]")
-        index = jx.Index(data)
-        with self.assertRaises(BufferError):
-            data.append(32)
-        self.assertEqual(index["/0"].load(), 1)
-
-    def test_a_text_that_is_refused(self):
-        with self.assertRaises(jx.Refused):
-            jx.Index(b"[1,]")
 
 
 class Sequences(unittest.TestCase):

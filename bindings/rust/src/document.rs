@@ -108,6 +108,10 @@ impl EditError {
 
 impl Document {
     /// A document of a copy of the bytes, held to these settings. Names can't have to be unique, since it keeps none.
+    ///
+    /// # Errors
+    ///
+    /// [`OpenError`]: a growth of memory was refused, or the settings ask for unique names.
     pub fn new(text: &[u8], settings: impl Into<Settings>) -> Result<Document, OpenError> {
         let document = Document {
             raw: UnsafeCell::new(raw::Document::default()),
@@ -132,6 +136,11 @@ impl Document {
     }
 
     /// Puts other bytes in the place of those in the range. It may cut a character, an escape or a byte order mark.
+    ///
+    /// # Errors
+    ///
+    /// [`EditError`]: a growth of memory was refused, or the range ends before it starts or behind the last byte. Then the document
+    /// is as it was.
     ///
     /// ```
     /// use jx::{Document, EditError, Settings};
@@ -162,6 +171,10 @@ impl Document {
 
     /// The verdict on all bytes as one text: the same as [`check`](crate::check) tells by the settings that it was made with. It
     /// takes up what edits changed since the last one, so there may be several edits before.
+    ///
+    /// # Errors
+    ///
+    /// [`Fault`]: the bytes are no text by the settings, or a growth of memory was refused.
     pub fn verdict(&mut self) -> Result<(), Fault> {
         let mut verdict = raw::Verdict {
             offset: 0,
@@ -192,6 +205,10 @@ impl Document {
     }
 
     /// A copy of the bytes in the range.
+    ///
+    /// # Errors
+    ///
+    /// [`EditError`]: a growth of memory was refused, or the range ends before it starts or behind the last byte.
     pub fn copy(&self, range: impl RangeBounds<usize>) -> Result<Vec<u8>, EditError> {
         let (start, end) = self.bounds(range)?;
         if end < start || self.len() < end {

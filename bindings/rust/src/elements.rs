@@ -81,6 +81,10 @@ fn fill(
 /// The elements of a JSON text sequence (RFC 7464) by settings, in order, each with where it stands and what it comes to. Between record
 /// separators in a row stands none, and none behind one at the end.
 ///
+/// # Errors
+///
+/// [`OutOfMemory`]: a growth of memory was refused.
+///
 /// ```
 /// use jx::{elements, ElementVerdict, Refusal};
 ///

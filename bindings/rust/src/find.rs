@@ -116,6 +116,10 @@ impl Error for FindError {
 
 /// What a pointer (RFC 6901) leads to in a JSON text by settings.
 ///
+/// # Errors
+///
+/// [`FindError`]: the bytes are no text, the pointer is none or leads to no value, or a growth of memory was refused.
+///
 /// ```
 /// use jx::{find, FindError};
 ///
@@ -148,6 +152,10 @@ pub fn find(text: &[u8], pointer: &str, settings: impl Into<Settings>) -> Result
 
 /// What each of many pointers leads to, in their order. The text is read once for all of them, and twice where names have to be
 /// unique.
+///
+/// # Errors
+///
+/// [`OutOfMemory`]: a growth of memory was refused. What each pointer leads to is told for each.
 ///
 /// ```
 /// use jx::{find_all, FindError};

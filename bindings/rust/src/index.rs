@@ -69,6 +69,10 @@ impl fmt::Debug for Index<'_> {
 
 impl<'a> Index<'a> {
     /// Reads a text by settings and indexes it.
+    ///
+    /// # Errors
+    ///
+    /// [`Fault`]: the bytes are no text by the settings, or a growth of memory was refused.
     pub fn new(text: &'a [u8], settings: impl Into<Settings>) -> Result<Index<'a>, Fault> {
         let index = Index {
             text,
@@ -103,6 +107,10 @@ impl<'a> Index<'a> {
     }
 
     /// The value that a pointer (RFC 6901) leads to. It takes no memory.
+    ///
+    /// # Errors
+    ///
+    /// [`FindError`]: the pointer is none, or leads to no value.
     pub fn find(&self, pointer: &str) -> Result<Value<'a>, FindError> {
         let mut answer = raw::Answer::default();
         // SAFETY: the pointer and the size are those of one slice, and all are borrowed for the call alone. No other call uses

@@ -13,6 +13,7 @@
 
 #![deny(missing_docs, unsafe_op_in_unsafe_fn)]
 
+mod compact;
 mod document;
 mod elements;
 mod fault;
@@ -25,6 +26,7 @@ mod rows;
 mod run;
 mod settings;
 
+pub use compact::compact;
 pub use document::{Document, EditError, OpenError};
 pub use elements::{elements, Element, ElementVerdict, OutOfMemory};
 pub use fault::Fault;
@@ -41,6 +43,10 @@ pub const DEPTH: u16 = 512;
 
 /// Tells whether the bytes are a JSON text (RFC 8259, section 2) by settings, and if not, where they stop being one. It takes
 /// memory only where names have to be unique.
+///
+/// # Errors
+///
+/// [`Fault`]: the bytes are no text by the settings, or a growth of memory was refused.
 ///
 /// ```
 /// use jx::{Refusal, Settings};
@@ -70,6 +76,7 @@ pub fn check(text: &[u8], settings: impl Into<Settings>) -> Result<(), Fault> {
 /// ```
 /// assert_eq!(jx::version(), (0, 2, 0));
 /// ```
+#[must_use]
 pub fn version() -> (u32, u32, u32) {
     // SAFETY: the call takes nothing.
     let all = unsafe { raw::jx_version() };

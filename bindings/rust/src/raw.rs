@@ -123,6 +123,15 @@ extern "C" {
         settings: *const Settings,
         verdict: *mut Verdict,
     ) -> u32;
+    pub fn jx_compact_non_null(
+        text: *const u8,
+        size: usize,
+        settings: *const Settings,
+        compact: *mut u8,
+        room: usize,
+        compact_size: *mut usize,
+        verdict: *mut Verdict,
+    ) -> u32;
     pub fn jx_at_non_null(
         text: *const u8,
         size: usize,

@@ -50,6 +50,10 @@ impl Reader {
     /// A reader at the start of a text by settings. A byte order mark that is ignored may come in any number of slices. Names
     /// can't have to be unique, since a reader keeps none.
     ///
+    /// # Errors
+    ///
+    /// [`NoUniqueNames`]: the settings ask for unique names.
+    ///
     /// ```
     /// let settings = jx::Settings { ignore_mark: true, ..jx::Settings::default() };
     /// let mut reader = jx::Reader::new(settings)?;
@@ -68,6 +72,10 @@ impl Reader {
     }
 
     /// Begins another text. Where the settings are refused, the reader stays as it was.
+    ///
+    /// # Errors
+    ///
+    /// [`NoUniqueNames`]: the settings ask for unique names.
     ///
     /// ```
     /// let mut reader = jx::Reader::new(jx::DEPTH)?;
@@ -91,6 +99,10 @@ impl Reader {
 
     /// Reads the bytes behind all that it was fed. Behind a fault they are counted and not looked at. A slice may end
     /// anywhere, also inside a character.
+    ///
+    /// # Errors
+    ///
+    /// [`TooManyBytes`]: it would have been fed 2^64 bytes or more. Then it is as it was.
     pub fn feed(&mut self, bytes: &[u8]) -> Result<(), TooManyBytes> {
         // SAFETY: the pointer and the size are those of one slice, and the reader is borrowed for the call alone.
         match unsafe { raw::jx_reader_feed(&mut self.raw, bytes.as_ptr(), bytes.len()) } {
@@ -104,6 +116,10 @@ impl Reader {
 
     /// The verdict on all bytes that it was fed, as one text: the same as [`check`](crate::check) tells by its settings. It may
     /// be fed on.
+    ///
+    /// # Errors
+    ///
+    /// [`Refusal`]: the bytes are no text by the settings.
     pub fn verdict(&self) -> Result<(), Refusal> {
         let mut verdict = raw::Verdict {
             offset: 0,

@@ -89,6 +89,10 @@ fn fill(text: &[u8], settings: &raw::Settings, buffer: &mut [raw::Row]) -> Resul
 
 /// All values of a JSON text (RFC 8259) by settings, in the order of their starts, so that each stands before its children.
 ///
+/// # Errors
+///
+/// [`Fault`]: the bytes are no text by the settings, or a growth of memory was refused.
+///
 /// ```
 /// use jx::{rows, Kind};
 ///

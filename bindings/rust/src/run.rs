@@ -93,6 +93,10 @@ fn written(call: impl Fn(&mut [u8], &mut usize) -> u32) -> Result<Run, RunError>
 impl Run {
     /// Reads a part of a text, which may be cut at any byte. `from` is the offset of its first byte in the text; where none
     /// is told, runs are joined in the order in which they are given.
+    ///
+    /// # Errors
+    ///
+    /// [`RunError::OutOfMemory`], and [`RunError::TooManyBytes`] for a part that would end at 2^64 or behind.
     pub fn of(part: &[u8], from: Option<u64>, depth: u16) -> Result<Run, RunError> {
         if from == Some(raw::NO_FROM) {
             return Err(RunError::TooManyBytes);
@@ -112,6 +116,11 @@ impl Run {
     }
 
     /// The run of both parts' bytes, of which the right begin where the left end. Joins may be made in any order.
+    ///
+    /// # Errors
+    ///
+    /// [`RunError`]: the right run does not begin where this one ends, was made with another depth, or a growth of memory was
+    /// refused.
     ///
     /// ```
     /// use jx::{Run, RunError};
@@ -137,33 +146,30 @@ impl Run {
     }
 
     /// The verdict on the run's bytes as a whole text, which must be those in the range. Offsets count from the text's start.
+    ///
+    /// # Errors
+    ///
+    /// [`RunError`]: the run is of other bytes than those in the range, or a growth of memory was refused.
     pub fn verdict(&self, covered: Range<usize>) -> Result<Result<(), Refusal>, RunError> {
         let mut verdict = raw::Verdict {
             offset: 0,
             kind: raw::TRUNCATED,
         };
-        match self.told(covered, &mut verdict) {
+        match self.told(covered.start, covered.end, &mut verdict) {
             raw::OK => Ok(Refusal::of(verdict)),
             status => Err(RunError::of(status)),
         }
     }
 
     /// Its bytes, to be kept or sent.
+    #[must_use]
     pub fn as_bytes(&self) -> &[u8] {
         &self.bytes
     }
 
-    fn told(&self, covered: Range<usize>, verdict: &mut raw::Verdict) -> u32 {
+    fn told(&self, start: usize, end: usize, verdict: &mut raw::Verdict) -> u32 {
         // SAFETY: the pointer and the size are those of one slice, and the verdict is borrowed for the call alone.
-        unsafe {
-            raw::jx_run_verdict(
-                self.bytes.as_ptr(),
-                self.bytes.len(),
-                covered.start,
-                covered.end,
-                verdict,
-            )
-        }
+        unsafe { raw::jx_run_verdict(self.bytes.as_ptr(), self.bytes.len(), start, end, verdict) }
     }
 }
 
@@ -171,6 +177,10 @@ impl TryFrom<&[u8]> for Run {
     type Error = RunError;
 
     /// The run whose bytes these are.
+    ///
+    /// # Errors
+    ///
+    /// [`RunError::NotARun`], or [`RunError::OutOfMemory`].
     fn try_from(bytes: &[u8]) -> Result<Run, RunError> {
         let mut copy = Vec::new();
         copy.try_reserve_exact(bytes.len())
@@ -178,7 +188,7 @@ impl TryFrom<&[u8]> for Run {
         copy.extend_from_slice(bytes);
         let run = Run { bytes: copy };
         // No part ends before it starts, so a run is told to be of other bytes.
-        match run.told(1..0, &mut raw::Verdict::default()) {
+        match run.told(1, 0, &mut raw::Verdict::default()) {
             raw::NOT_NEIGHBOURS => Ok(run),
             status => Err(RunError::of(status)),
         }

@@ -1,18 +1,16 @@
-// Refusals that are explained to people.
+// An input that is explained to people.
 ghost use Rattle.std.specs.Prelude.{◌≤◌};
 
 use crate::fault::Fault;
-use crate::input::open;
-use jx_answer::verdict_of_text;
+use crate::input::{fault_of_report, name_of, open};
+use crate::output::Output;
 use jx_book::{Crew, OpenGate};
-use jx_claim::Cutting;
 use jx_command::{Color, Input, Inputs, input_of};
-use jx_explain::{Marking, explained};
-use jx_files::Status;
-use jx_report::{End, ReportFault, write_whole};
-use jx_run::Verdict;
+use jx_explain::{Marking, report_explained};
+use jx_files::{Status, shown_name};
+use jx_report::End;
 use jx_task::Command;
-use std::io::{IsTerminal, Read};
+use std::io::IsTerminal;
 use std::sync::Wait;
 use std::thread::Threads;
 
@@ -25,43 +23,6 @@ fn one_of<'a>(inputs: &Inputs<'a>) -> Input<'a> {
             None => Input::Standard,
         },
     }
-}
-
-/// What an input is called.
-fn name_of<'a>(input: Input<'a>) -> &'a str {
-    match input {
-        Input::Standard => "-",
-        Input::File(name) => name,
-    }
-}
-
-/// All bytes of an input. The faults are those of a report.
-fn bytes_of(rt: &HostRuntime, input: Input<'_>) -> Result<Vec<u8>, Fault> {
-    let mut bytes = Vec::new(rt.alloc());
-    let mut opened = open(rt, input).map_err(Fault::of_opening)?;
-    opened.read_to_end(&mut bytes).map_err(Fault::of_reading)?;
-    Ok(bytes)
-}
-
-/// The verdict on a text by the settings of a command, found by its workers.
-fn verdict_on<R: Threads + Wait + Sync>(
-    rt: &HostRuntime,
-    threads: &R,
-    text: &[u8],
-    command: &Command,
-) -> Result<Verdict, Fault>
-    requires { 1 ≤ command.now.piece }
-{
-    let Ok(cutting) = Cutting::every(text.len(), command.piece) else {
-        return Err(Fault::Report(ReportFault::Pieces));
-    };
-    let crew = Crew {
-        rt: threads,
-        alloc: rt.alloc(),
-        workers: command.workers,
-        gate: &OpenGate,
-    };
-    Ok(verdict_of_text(&crew, text, &cutting, &command.settings)?)
 }
 
 /// How what is told is marked.
@@ -89,20 +50,18 @@ pub fn explain_input<R: Threads + Wait + Sync>(
     requires { 1 ≤ command.now.piece }
 {
     let input = one_of(inputs);
-    let text = bytes_of(rt, input)?;
-    let verdict = verdict_on(rt, threads, &text, command)?;
-    let told = explained(
-        rt.alloc(),
-        name_of(input),
-        &text,
-        verdict,
-        &command.settings,
-        marking_for(rt, color),
-    )?;
-    let mut writer = End::new(rt.stdout());
-    write_whole(&mut writer, told.as_bytes()).map_err(Fault::Report)?;
-    match verdict {
-        Verdict::Accepted => Ok(Status::Good),
-        Verdict::Refused(_) => Ok(Status::Bad),
+    let name = shown_name(rt.alloc(), name_of(input))?;
+    let mut reader = open(rt, input)?;
+    let mut writer = End::new(Output::of(rt));
+    let crew = Crew {
+        rt: threads,
+        alloc: rt.alloc(),
+        workers: command.workers,
+        gate: &OpenGate,
+    };
+    let marking = marking_for(rt, color);
+    match report_explained(&crew, &mut reader, &mut writer, &name, command, marking) {
+        Ok(exit) => Ok(Status::of_exit(exit)),
+        Err(fault) => Err(fault_of_report(rt, input, &reader, &writer, fault)),
     }
 }

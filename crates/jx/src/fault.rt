@@ -18,14 +18,18 @@ pub enum Fault {
     /// A word is no text, as clap puts it.
     #[error("error: invalid UTF-8 was detected in one or more arguments\n")]
     NotText,
-    #[error("jx: cannot open\n")]
-    Open,
     #[error("jx: out of memory\n")]
     Memory(#[from(alloc)] AllocError),
     #[error("{0}\n")]
     Report(ReportFault),
     #[error("{0}\n")]
     Parts(PartsFault),
+    /// A run is to be written to a terminal.
+    #[error("jx: a run is not written to a terminal: write it to a file or a pipe\n")]
+    Terminal,
+    /// What is wrong was told already, or there is nothing to tell: the reader of the output has gone.
+    #[error("")]
+    Told,
 }
 
 impl Fault {
@@ -51,22 +55,6 @@ impl Fault {
             ArgFault::Clap(error) => Fault::Words(error),
             ArgFault::StandardTwice => Fault::StandardTwice,
             ArgFault::Memory => Fault::Memory(AllocError),
-        }
-    }
-
-    /// Where the file did not open.
-    pub fn of_opening(error: io::Error) -> Fault {
-        match error.kind() {
-            io::ErrorKind::OutOfMemory => Fault::Memory(AllocError),
-            _ => Fault::Open,
-        }
-    }
-
-    /// Where the file did not give its bytes.
-    pub fn of_reading(error: io::Error) -> Fault {
-        match error.kind() {
-            io::ErrorKind::OutOfMemory => Fault::Memory(AllocError),
-            _ => Fault::Report(ReportFault::Read),
         }
     }
 }

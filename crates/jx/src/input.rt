@@ -1,103 +1,137 @@
-// Where inputs come from, and the reports on them.
-ghost use Rattle.std.specs.Prelude.{◌≡◌, ◌≤◌, ⊤, false};
+// Inputs, and what is told where one is not to be had.
+ghost use Rattle.std.specs.Prelude.{◌≡◌, ⊤, false, IfOk};
 
 use crate::fault::Fault;
-use jx_book::OpenGate;
-use jx_command::{Input, Inputs, input_of};
-use jx_files::{OpenFault, Opener, Status, report_on_each};
-use jx_report::{End, Exit, Sink, report};
-use jx_task::Command;
+use crate::output::Writer;
+use jx_command::{Input, input_of};
+use jx_files::{FileFault, OpenFault, Opener, Reason, tell};
+use jx_report::{End, ReportFault};
+use std::alloc::AllocError;
 use std::fs::File;
 use std::io;
 use std::io::{Read, Stdin};
-use std::sync::Wait;
-use std::thread::Threads;
 
-/// An input that is open.
+/// What an input is read from.
 #[derive(Drop)]
-pub enum Opened {
+enum Origin {
     Standard(Stdin),
     File(File),
 }
 
+/// An input that is open, and why the last read of it failed, if it failed.
+#[derive(Drop)]
+pub struct Opened {
+    origin: Origin,
+    why: Reason,
+}
+
 impl Read for Opened {
     fn read(&mut self, buf: &mut [u8]) -> io::Result<usize> {
-        match self {
-            Opened::Standard(stdin) => stdin.read(buf),
-            Opened::File(file) => file.read(buf),
+        let result = match &mut self.origin {
+            Origin::Standard(stdin) => stdin.read(buf),
+            Origin::File(file) => file.read(buf),
+        };
+        if let Err(error) = &result {
+            self.why = Reason::of(error);
         }
+        result
     }
 }
 
-/// Opens an input.
-pub fn open(rt: &HostRuntime, input: Input<'_>) -> io::Result<Opened> {
+/// What a report reads from.
+pub type Reader = End<Opened>;
+
+/// Why a file did not open.
+fn unopened_by(error: &io::Error) -> OpenFault {
+    match error.kind() {
+        io::ErrorKind::OutOfMemory => OpenFault::Memory,
+        _ => OpenFault::Closed(Reason::of(error)),
+    }
+}
+
+/// Opens a file. A folder opens too, and is told by what the system says of it.
+fn file_of(rt: &HostRuntime, path: &str) -> Result<File, OpenFault> {
+    match File::open(rt, path) {
+        Err(error) => Err(unopened_by(&error)),
+        Ok(file) => match file.metadata() {
+            Ok(found) if found.is_dir() => Err(OpenFault::Folder),
+            _ => Ok(file),
+        },
+    }
+}
+
+fn reader_of(rt: &HostRuntime, input: Input<'_>) -> Result<Reader, OpenFault>
+    ensures { IfOk result (λ reader. reader.failed ≡ false) }
+{
+    let origin = match input {
+        Input::Standard => Origin::Standard(rt.stdin()),
+        Input::File(path) => Origin::File(file_of(rt, path)?),
+    };
+    Ok(End::new(Opened {
+        origin,
+        why: Reason::Other,
+    }))
+}
+
+/// What an input is called.
+pub fn name_of<'a>(input: Input<'a>) -> &'a str {
     match input {
-        Input::Standard => Ok(Opened::Standard(rt.stdin())),
-        Input::File(path) => Ok(Opened::File(File::open(rt, path)?)),
+        Input::Standard => "-",
+        Input::File(name) => name,
+    }
+}
+
+/// Tells of a fault of an input.
+pub fn told_of(rt: &HostRuntime, input: Input<'_>, fault: FileFault) -> Fault {
+    tell(&mut End::new(rt.stderr()), name_of(input), fault);
+    Fault::Told
+}
+
+/// Opens an input, or tells why it does not open.
+pub fn open(rt: &HostRuntime, input: Input<'_>) -> Result<Reader, Fault>
+    ensures { IfOk result (λ reader. reader.failed ≡ false) }
+{
+    match reader_of(rt, input) {
+        Ok(reader) => Ok(reader),
+        Err(OpenFault::Memory) => Err(Fault::Memory(AllocError)),
+        Err(fault) => Err(told_of(rt, input, FileFault::of_opening(fault))),
+    }
+}
+
+/// What the fault of a report on an input comes to. That of the input is told; where the reader of the output has gone, there is
+/// nothing to tell.
+pub fn fault_of_report(
+    rt: &HostRuntime,
+    input: Input<'_>,
+    reader: &Reader,
+    writer: &Writer,
+    fault: ReportFault,
+) -> Fault {
+    match fault {
+        ReportFault::Read => told_of(rt, input, FileFault::Read(reader.inner.why)),
+        ReportFault::Pieces => told_of(rt, input, FileFault::Pieces),
+        ReportFault::Write if writer.inner.is_closed => Fault::Told,
+        ReportFault::Write | ReportFault::Memory => Fault::Report(fault),
     }
 }
 
 /// Opens what words name on the system.
 #[derive(Drop)]
-struct Desk<'a> {
-    rt: &'a HostRuntime,
+pub struct Desk<'a> {
+    pub rt: &'a HostRuntime,
 }
 
-impl<'a> Opener<End<Opened>> for Desk<'a> {
+impl<'a> Opener<Reader> for Desk<'a> {
     // Nothing is claimed of what the system gives.
     ghost opens = { λ _ _ _. ⊤ };
 
-    fn open(&self, word: &str) -> Result<End<Opened>, OpenFault> {
-        match open(self.rt, input_of(word)) {
-            Ok(opened) => Ok(End::new(opened)),
-            Err(error) => Err(match error.kind() {
-                io::ErrorKind::OutOfMemory => OpenFault::Memory,
-                _ => OpenFault::Closed,
-            }),
-        }
+    ghost why = { λ _ reader. reader.inner.why };
+
+    fn open(&self, word: &str) -> Result<Reader, OpenFault> {
+        reader_of(self.rt, input_of(word))
     }
-}
 
-/// Reports on one input.
-pub fn report_on<R: Threads + Wait + Sync, W: Sink>(
-    rt: &HostRuntime,
-    threads: &R,
-    input: Input<'_>,
-    writer: &mut W,
-    command: &Command,
-) -> Result<Exit, Fault>
-    requires writer { W.has_failed writer.old ≡ false }
-    requires piece { 1 ≤ command.now.piece }
-{
-    let mut reader = End::new(open(rt, input).map_err(Fault::of_opening)?);
-    report(threads, rt.alloc(), &mut reader, writer, command, &OpenGate).map_err(Fault::Report)
-}
-
-/// Reports on one input, or on each of several behind the word that names it.
-pub fn report_on_inputs<R: Threads + Wait + Sync>(
-    rt: &HostRuntime,
-    threads: &R,
-    inputs: &Inputs<'_>,
-    command: &Command,
-) -> Result<Status, Fault>
-    requires { 1 ≤ command.now.piece }
-{
-    let mut writer = End::new(rt.stdout());
-    match inputs {
-        Inputs::One(input) => {
-            let exit = report_on(rt, threads, *input, &mut writer, command)?;
-            Ok(Status::of_exit(exit))
-        }
-        Inputs::Several(words) => report_on_each(
-            threads,
-            rt.alloc(),
-            &Desk { rt },
-            words,
-            &mut writer,
-            &mut End::new(rt.stderr()),
-            command,
-            &OpenGate,
-        )
-        .map_err(Fault::Report),
+    fn why(&self, input: &Reader) -> Reason {
+        input.inner.why
     }
 }

@@ -1,27 +1,36 @@
-// The program `jx`. It checks JSON texts, lists their values, finds what pointers name, or explains why a text is refused. Or
-// it checks the elements of sequences, or a text that stands in several parts.
+// The program `jx`. It checks JSON texts, lists their values, finds or writes what pointers name, writes elements, or explains
+// why a text is refused. Or it checks the elements of sequences, or a text that stands in several parts.
 #![tactic(auto)]
 
 ghost use Rattle.std.specs.Prelude.{◌≤◌};
 
+mod elements;
 mod explaining;
 mod fault;
 mod input;
 mod lines;
+mod misplaced;
+mod output;
 mod parts;
+mod reporting;
+mod values;
 
+use elements::write_elements_of;
 use explaining::explain_input;
 use fault::Fault;
-use input::report_on_inputs;
 use jx_command::{Order, Request, Told, command_of};
 use jx_files::Status;
 use jx_report::ReportFault;
 use lines::add_lines;
+use misplaced::refuse_misplaced_in;
 use parts::work_on_parts;
+use reporting::report_on_inputs;
 use std::env;
+use std::io::ErrorKind;
 use std::process::ExitCode;
 use std::sync::Wait;
 use std::thread::Threads;
+use values::write_values_of;
 
 /// The status of a call that ends by a fault.
 const FAULT: u8 = 2;
@@ -40,6 +49,7 @@ fn answer_request<R: Threads + Wait + Sync>(
         pointers,
         told,
     } = request;
+    refuse_misplaced_in(rt, &inputs, &command.task)?;
     add_lines(rt, &mut command, pointers)?;
     match told {
         Told::Lines => report_on_inputs(rt, threads, &inputs, &command),
@@ -54,6 +64,8 @@ fn answer<R: Threads + Wait + Sync>(rt: &HostRuntime, threads: &R) -> Result<Sta
     match command_of(alloc, &words).map_err(Fault::of_arguments)? {
         Order::Report(request) => answer_request(rt, threads, request),
         Order::Parts(order) => work_on_parts(rt, &order),
+        Order::Values(order) => write_values_of(rt, threads, order),
+        Order::Each(order) => write_elements_of(rt, &order),
     }
 }
 
@@ -69,6 +81,7 @@ fn main(rt: HostRuntime) -> ExitCode {
         Ok(Status::Fault) => ExitCode::from(FAULT),
         Err(version) if version.is_version() => match rt.print(&version) {
             Ok(()) => ExitCode::SUCCESS,
+            Err(error) if error.kind() == ErrorKind::BrokenPipe => ExitCode::from(FAULT),
             Err(_) => end_by(&rt, &Fault::Report(ReportFault::Write)),
         },
         Err(fault) => end_by(&rt, &fault),

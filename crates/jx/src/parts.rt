@@ -1,37 +1,62 @@
 // Work on the parts of a text.
+ghost use Rattle.std.specs.Prelude.{◌≡◌, false};
+
 use crate::fault::Fault;
-use crate::input::open;
+use crate::input::{Reader, fault_of_report, open};
+use crate::output::{Output, Writer};
 use jx_command::{PartsOrder, PartsStep};
 use jx_files::Status;
-use jx_parts::{report_joined, report_part, report_whole};
-use jx_report::End;
+use jx_parts::{PartsFault, report_joined, report_part, report_whole};
+use jx_report::{End, Exit};
+use std::io::IsTerminal;
 
-/// Reads what an order names, and writes what it asks for.
-pub fn work_on_parts(rt: &HostRuntime, order: &PartsOrder<'_>) -> Result<Status, Fault> {
+/// Does the step of an order between its ends. A run that is written is good.
+fn work_between(
+    rt: &HostRuntime,
+    order: &PartsOrder<'_>,
+    reader: &mut Reader,
+    writer: &mut Writer,
+) -> Result<Exit, PartsFault>
+    requires reader { reader.old.failed ≡ false }
+    requires writer { writer.old.failed ≡ false }
+{
     let alloc = rt.alloc();
     let depth = order.depth;
-    let mut reader = End::new(open(rt, order.input).map_err(Fault::of_opening)?);
-    let mut writer = End::new(rt.stdout());
     match order.step {
         PartsStep::Part { from } => {
-            report_part(alloc, &mut reader, &mut writer, from, depth).map_err(Fault::Parts)?;
-            Ok(Status::Good)
+            report_part(alloc, reader, writer, from, depth)?;
+            Ok(Exit::Good)
         }
         PartsStep::Join => {
-            report_joined(alloc, &mut reader, &mut writer, depth).map_err(Fault::Parts)?;
-            Ok(Status::Good)
+            report_joined(alloc, reader, writer, depth)?;
+            Ok(Exit::Good)
         }
         PartsStep::Whole { from, to, quiet } => {
-            let exit = report_whole(
-                alloc,
-                &mut reader,
-                &mut writer,
-                depth,
-                from,
-                to,
-                quiet,
-            ).map_err(Fault::Parts)?;
-            Ok(Status::of_exit(exit))
+            report_whole(alloc, reader, writer, depth, from, to, quiet)
         }
+    }
+}
+
+/// Whether a step writes a run, which is no text.
+fn writes_run(step: PartsStep) -> bool {
+    match step {
+        PartsStep::Part { .. } | PartsStep::Join => true,
+        PartsStep::Whole { .. } => false,
+    }
+}
+
+/// Reads what an order names, and writes what it asks for. A run is not written to a terminal.
+pub fn work_on_parts(rt: &HostRuntime, order: &PartsOrder<'_>) -> Result<Status, Fault> {
+    if writes_run(order.step) && rt.stdout().is_terminal() {
+        return Err(Fault::Terminal);
+    }
+    let mut reader = open(rt, order.input)?;
+    let mut writer = End::new(Output::of(rt));
+    match work_between(rt, order, &mut reader, &mut writer) {
+        Ok(exit) => Ok(Status::of_exit(exit)),
+        Err(PartsFault::Report(fault)) => {
+            Err(fault_of_report(rt, order.input, &reader, &writer, fault))
+        }
+        Err(fault) => Err(Fault::Parts(fault)),
     }
 }

@@ -1,8 +1,11 @@
 mod ByNames
-mod ElementParts
 mod OneAnswer
 mod Ones
-mod Parts
+mod Fronts
+mod MovedRows
+mod MovedTrees
+pub mod NamedThere
+mod Pieces
 mod Placed
 mod Pushing
 mod Readable

@@ -1,4 +1,4 @@
 -- What the contracts of this crate's own functions cite, and no public one.
 pub mod Pushed
-pub mod Parts
-pub mod ElementParts
+pub mod Fronts
+pub mod Pieces

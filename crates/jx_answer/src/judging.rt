@@ -1,18 +1,18 @@
-ghost use Rattle.std.specs.Prelude.{◌≡◌, ◌+◌, ◌<◌, ◌^◌, length, IfOk};
+ghost use Rattle.std.specs.Prelude.{◌≡◌, ◌+◌, ◌<◌, ◌≤◌, ◌^◌, length, IfOk};
 ghost use Rattle.std.specs.List.{AllZip};
 ghost use Rattle.jx_run.specs.Elements.{elements as elements_of};
 ghost use Rattle.jx_run.specs.ElementVerdict.{IsJudgedElement};
 ghost use Rattle.jx_run.specs.SequenceRead.{StartsWithSeparator};
 ghost use Rattle.jx_index.specs.ByNames.{AreJudgedBy};
 
-use crate::element_parts::{judge_alone, judge_by_parts};
+use crate::element_cuts::element_cutting;
 use crate::texts::read_text;
 use jx_book::{Crew, Gate};
 use jx_claim::Cutting;
 use jx_index::judged_by_names;
 use jx_lex::Depth;
-use jx_run::{ElementsRun, FrontMark, JudgedElement, Settings, front, judged_by_mark};
-use std::alloc::AllocError;
+use jx_run::{ElementsRun, FrontMark, JudgedElement, Settings, Summary, front, judged_by_mark};
+use std::alloc::{AllocError, Global};
 use std::sync::Wait;
 use std::thread::Threads;
 
@@ -35,25 +35,45 @@ pub fn judge_sequence<R: Threads + Wait + Sync, G: Gate + Sync>(
     judged_by_names(crew.alloc, text, settings, elements)
 }
 
-/// Judges the elements of a batch of a text sequence, which begins with a record separator and stands behind `before` bytes,
-/// by the crew. The last element ends with the batch. Offsets are those in the whole sequence. Each worker judges a
-/// part of the batch that begins and ends where an element does. The gate is asked as a worker begins its part, and once it
-/// has judged it; the number of a piece is that of its worker. The calling thread judges what a worker was not let judge, or
-/// had no memory for. One worker asks no gate. Only want of memory is a fault.
-pub fn judge_batch<R: Threads + Sync, G: Gate + Sync>(
-    crew: &Crew<'_, R, G>,
+/// Judges the elements of a batch that begins with a record separator and stands behind `before` bytes, on this thread.
+fn judge_alone(
+    alloc: Global,
     batch: &[u8],
     before: usize,
     depth: Depth,
 ) -> Result<Vec<JudgedElement>, AllocError>
     requires starts { StartsWithSeparator batch.now }
     requires fits { before + length batch.now < 2 ^ 64 }
+    ensures elements { IfOk result (λ judged. AllZip (IsJudgedElement depth) (elements_of before batch.now) judged.items) }
+{
+    let run = ElementsRun::of(alloc, batch, 0, batch.len(), depth)?;
+    run.into_elements_behind(before)
+}
+
+/// Judges the elements of a batch of a text sequence, which begins with a record separator and stands behind `before` bytes,
+/// by the crew. The last element ends with the batch. Offsets are those in the whole sequence. Several workers draw pieces of
+/// the batch, which have so many bytes and what is left of an element then, so that each element is read from its start; they
+/// put what they judged into a book. The gate is asked after each step, as by `work`. The calling thread judges what a worker
+/// was not let judge, or had no memory for. One worker asks no gate. Only want of memory is a fault.
+pub fn judge_batch<R: Threads + Wait + Sync, G: Gate + Sync>(
+    crew: &Crew<'_, R, G>,
+    batch: &[u8],
+    before: usize,
+    depth: Depth,
+    piece: usize,
+) -> Result<Vec<JudgedElement>, AllocError>
+    requires starts { StartsWithSeparator batch.now }
+    requires fits { before + length batch.now < 2 ^ 64 }
+    requires piece { 1 ≤ piece }
     // For every number of workers and gate, these are the verdicts on the elements of the batch.
     ensures elements { IfOk result (λ judged. AllZip (IsJudgedElement depth) (elements_of before batch.now) judged.items) }
 {
     if crew.workers.count() == 1 {
-        judge_alone(crew.alloc, batch, before, depth)
-    } else {
-        judge_by_parts(crew, batch, before, depth)
+        return judge_alone(crew.alloc, batch, before, depth);
     }
+    let Ok(cutting) = element_cutting(crew.alloc, batch, piece) else {
+        return judge_alone(crew.alloc, batch, before, depth);
+    };
+    let run = read_text::<ElementsRun, R, G>(crew, batch, &cutting, depth)?;
+    run.into_run().into_elements_behind(before)
 }

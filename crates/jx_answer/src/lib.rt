@@ -6,12 +6,14 @@ mod asking;
 mod batches;
 mod by_names;
 mod element;
-mod element_parts;
+mod element_cuts;
 mod fault;
 mod find_answer;
+mod front;
 mod judging;
 mod laws;
 mod lookups;
+mod naming;
 mod sequences;
 mod texts;
 
@@ -29,5 +31,6 @@ pub use laws::{
     verdicts_on_elements_are_one,
 };
 pub use lookups::find_all;
+pub use naming::{named_element, named_elements};
 pub use sequences::{index_sequence, index_sequence_with};
 pub use texts::{index_text, index_text_with, rows_of_text, verdict_of_text};

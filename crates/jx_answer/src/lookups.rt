@@ -1,5 +1,5 @@
 // Pointers that several workers answer together.
-ghost use Rattle.std.specs.Prelude.{◌≡◌, ◌<◌, ◌≤◌, All, length, None, IfOk, vec_len, false};
+ghost use Rattle.std.specs.Prelude.{◌≡◌, ◌+◌, ◌<◌, ◌≤◌, All, length, None, IfOk, OnOk, vec_len, false};
 ghost use Rattle.std.specs.List.{AllZip};
 ghost use Rattle.jx_answer.specs.Found.{AreAnswered, ArePlaced, IsAnswerTo, IsAnswerAt};
 
@@ -142,10 +142,12 @@ impl<'i> Lookups<'i> {
         found
     }
 
-    /// Answers the pointers of one piece.
+    /// Answers each of the pointers of one piece.
     fn answer_piece(&self, piece: Span, found: &mut Vec<Answered>) -> Result<(), AllocError>
+        requires ordered { piece.start ≤ piece.end }
         requires within { piece.end ≤ length self.now.pointers.now }
         requires found { AreAnswered self.now.index.now self.now.pointers.now found.old.items }
+        ensures each { OnOk result (vec_len found.new + piece.start ≡ vec_len found.old + piece.end) }
         ensures found { AreAnswered self.now.index.now self.now.pointers.now found.new.items }
     {
         for at in piece.start..piece.end {

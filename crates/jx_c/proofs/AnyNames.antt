@@ -1,5 +1,5 @@
 -- In a text that is accepted by settings, what is found whatever names its objects have is what is found by settings.
-use Rattle.std.proofs.Common.{◌≡◌, List, ℕ, Vec, Global, [], ◌∷◌, Result, Ok, Err, ◌⊎◌, inl, inr, sym, subst, ap}
+use Rattle.std.proofs.Common.{◌≡◌, List, ℕ, Vec, Global, [], ◌∷◌, Result, Ok, Err, ◌⊎◌, inl, inr, sym, subst}
 use Rattle.std.specs.List.{AllZip}
 use Rattle.std.specs.Prelude.{IfErr, IfOk, MatchResult}
 use Rattle.std.specs.declared.alloc.AllocError.{AllocError}
@@ -14,7 +14,7 @@ use Rattle.jx_run.specs.Tree.{Tree}
 use Rattle.jx_index.specs.declared.find_fault.FindFault.{FindFault}
 use Rattle.jx_index.specs.declared.finder.Found.{Found}
 use Rattle.jx_index.specs.ByNames.{IsVerdictBy, a_text, no_text, repeated_name}
-use Rattle.jx_index.specs.Found.{AreFoundIn, IsFoundBy, IsFoundIn, found_of}
+use Rattle.jx_index.specs.Found.{AreFoundIn, IsFoundBy, found_of}
 use Rattle.jx_index.specs.Leads.{led}
 use Rattle.jx_index.specs.Pointers.{tokens}
 use Rattle.jx_c.specs.LookUps.{AreFoundBy}

@@ -1,4 +1,5 @@
 pub mod Buffers
+pub mod Compact
 pub mod Containers
 pub mod Document
 pub mod Elements

@@ -23,7 +23,7 @@ fn verdict_with_any_names(text: &[u8], settings: &Settings) -> Result<Verdict, A
 }
 
 /// The verdict on a text by settings. It takes memory only where names have to be unique.
-fn verdict_by(alloc: Global, text: &[u8], settings: &Settings) -> Result<Verdict, AllocError>
+pub fn verdict_by(alloc: Global, text: &[u8], settings: &Settings) -> Result<Verdict, AllocError>
     ensures { IfOk result (IsVerdictBy settings.now text.now) }
 {
     names_are_refused_by_rows();

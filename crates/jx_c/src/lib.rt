@@ -5,6 +5,7 @@ mod all;
 mod by_names;
 mod catalog;
 mod check;
+mod compact;
 mod document;
 mod elements;
 mod held;

@@ -1,7 +1,7 @@
 // Runs of parts of a text: records in buffers of the caller's.
 ghost use Rattle.std.specs.Prelude.{◌≡◌, ◌⊎◌, ◌+◌, ◌<◌, ◌≤◌, ◌^◌, ◌++◌, ◌↔◌, ℕ, List, Option, length, drop, unwrap_or, IfErr, IfOk, IsTrue, MatchResult};
-ghost use Rattle.jx_portion.specs.Portion.{end_of, start_of, IsPortion, IsRecord};
-ghost use Rattle.jx_c.specs.Runs.{from_in, IsTooLong, IsVerdictFrom, IsWritten};
+ghost use Rattle.jx_portion.specs.Portion.{end_of, start_of, IsPortion, IsRecord, IsSaidBy, PortionValue};
+ghost use Rattle.jx_c.specs.Runs.{from_in, status_of, AreNeighbours, IsJoinStatus, IsTooLong, IsVerdictFrom, IsVerdictStatus, IsWritten};
 
 use crate::status::{
     DEPTH_TOO_GREAT, NO_MEMORY, NO_ROOM, NOT_A_RUN, NOT_NEIGHBOURS, OK, OTHER_DEPTH, TOO_MANY_BYTES,
@@ -90,6 +90,8 @@ pub extern "C" fn jx_run_of(
 fn read(alloc: Global, run: &[u8]) -> Result<Portion, u32>
     ensures reads { (bytes : List ℕ) (from : Option ℕ) (depth : ℕ) → IsRecord bytes from depth run.now → MatchResult result (IsPortion bytes from depth) (λ status. status ≡ NO_MEMORY) }
     ensures status { IfErr result (λ status. (status ≡ NO_MEMORY) ⊎ (status ≡ NOT_A_RUN)) }
+    ensures found { IfOk result (IsSaidBy run.now) }
+    ensures none { IfErr result (λ status. status ≡ NOT_A_RUN → (p : PortionValue) → IsSaidBy run.now p → ⊥) }
 {
     match decode(alloc, run) {
         Ok(portion) => Ok(portion),
@@ -100,8 +102,7 @@ fn read(alloc: Global, run: &[u8]) -> Result<Portion, u32>
 
 /// The status where runs can't be joined.
 fn status_of(mismatch: Mismatch) -> u32
-    ensures fault { result ≡ OK → ⊥ }
-    ensures room { result ≡ NO_ROOM → ⊥ }
+    ensures { result ≡ status_of mismatch }
 {
     match mismatch {
         Mismatch::Depths => OTHER_DEPTH,
@@ -114,6 +115,8 @@ fn status_of(mismatch: Mismatch) -> u32
 fn joined(alloc: Global, left: &[u8], right: &[u8]) -> Result<Vec<u8>, u32>
     ensures of { IfOk result (λ run. (xs ys : List ℕ) (from other : Option ℕ) (depth : ℕ) → IsRecord xs from depth left.now → IsRecord ys other depth right.now → IsRecord (xs ++ ys) from depth run.items) }
     ensures status { IfErr result (λ status. (status ≡ OK → ⊥) × (status ≡ NO_ROOM → ⊥)) }
+    ensures runs { IfOk result (λ _. AreNeighbours left.now right.now) }
+    ensures why { IfErr result (IsJoinStatus left.now right.now) }
 {
     let left = read(alloc, left)?;
     let right = read(alloc, right)?;
@@ -141,6 +144,7 @@ pub extern "C" fn jx_run_join(
 ) -> u32
     ensures written { (xs ys : List ℕ) (from other : Option ℕ) (depth : ℕ) → IsRecord xs from depth left.now → IsRecord ys other depth right.now → result ≡ OK → IsWritten (xs ++ ys) from depth run.old run.new size.new }
     ensures room { (xs ys : List ℕ) (from other : Option ℕ) (depth : ℕ) → IsRecord xs from depth left.now → IsRecord ys other depth right.now → result ≡ NO_ROOM → IsTooLong (xs ++ ys) from depth run.old size.new }
+    ensures status { IsJoinStatus left.now right.now result }
     ensures unchanged_run { (result ≡ OK → ⊥) → run.new ≡ run.old }
     ensures unchanged_size { (result ≡ OK → ⊥) → (result ≡ NO_ROOM → ⊥) → size.new ≡ size.old }
 {
@@ -169,6 +173,7 @@ pub extern "C" fn jx_run_verdict(
     ensures judged { (bytes : List ℕ) (from : Option ℕ) (depth : ℕ) → IsRecord bytes from depth run.now → result ≡ OK → IsVerdictFrom (unwrap_or from 0) bytes depth verdict.new }
     ensures covered { (bytes : List ℕ) (from : Option ℕ) (depth : ℕ) → IsRecord bytes from depth run.now → result ≡ OK → (start ≡ unwrap_or from 0) × (end ≡ unwrap_or from 0 + length bytes) }
     ensures told { (bytes : List ℕ) (from : Option ℕ) (depth : ℕ) → IsRecord bytes from depth run.now → start ≡ unwrap_or from 0 → end ≡ unwrap_or from 0 + length bytes → (result ≡ OK) ⊎ (result ≡ NO_MEMORY) }
+    ensures status { IsVerdictStatus run.now start end result }
     ensures unchanged { (result ≡ OK → ⊥) → verdict.new ≡ verdict.old }
 {
     let portion = match read(alloc, run) {

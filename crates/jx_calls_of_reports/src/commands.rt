@@ -1,6 +1,8 @@
 // What words of the command line are.
+use jx_claim::Workers;
 use jx_command::{
-    ArgFault, Input, Inputs, Order, PartsOrder, PartsStep, Request, Told, command_of,
+    ArgFault, EachOrder, Input, Inputs, Order, PartsOrder, PartsStep, Request, Told, ValuesOrder,
+    command_of,
 };
 use jx_lines::{Line, LineFault, Out, push_text, text_of};
 use jx_run::Settings;
@@ -47,6 +49,8 @@ fn push_command(out: &mut Out, alloc: Global, owned: &[String]) -> Result<(), Al
     match command_of(alloc, &words) {
         Ok(Order::Report(request)) => push_request(out, &request),
         Ok(Order::Parts(order)) => push_parts(out, &order),
+        Ok(Order::Values(order)) => push_values(out, &order),
+        Ok(Order::Each(order)) => push_each(out, &order),
         Err(fault) => push_fault(out, alloc, &fault)?,
     }
     Ok(())
@@ -71,6 +75,12 @@ fn push_lines(
     match command_of(alloc, &words) {
         Ok(Order::Report(request)) => push_task(out, &command_with(alloc, request, lines)?.task),
         Ok(Order::Parts(order)) => push_parts(out, &order),
+        Ok(Order::Values(order)) => {
+            let ValuesOrder { mut task, .. } = order;
+            task.add_pointers(alloc, lines)?;
+            push_pointers(out, "get", &task.pointers);
+        }
+        Ok(Order::Each(order)) => push_each(out, &order),
         Err(fault) => push_fault(out, alloc, &fault)?,
     }
     Ok(())
@@ -88,12 +98,14 @@ fn push_task(out: &mut Out, task: &Task) {
         Task::Check => out.push_str("check"),
         Task::Index => out.push_str("index"),
         Task::Seq => out.push_str("seq"),
-        Task::At(pointers) => {
-            out.push_str("at");
-            for pointer in pointers {
-                push_file(out, " ", pointer.as_str());
-            }
-        }
+        Task::At(pointers) => push_pointers(out, "at", pointers),
+    }
+}
+
+fn push_pointers(out: &mut Out, name: &str, pointers: &[String]) {
+    out.push_str(name);
+    for pointer in pointers {
+        push_file(out, " ", pointer.as_str());
     }
 }
 
@@ -111,8 +123,7 @@ fn push_request(out: &mut Out, request: &Request) {
     let command: &Command = &request.command;
     push_task(out, &command.task);
     push_settings(out, &command.settings);
-    let (workers, piece) = (command.workers.count(), command.piece);
-    out.put(format_args!(", workers {workers}, piece {piece}"));
+    push_workers(out, command.workers, command.piece);
     if command.quiet {
         out.push_str(", quiet");
     }
@@ -121,6 +132,33 @@ fn push_request(out: &mut Out, request: &Request) {
     if let Some(file) = request.pointers {
         push_file(out, "; pointers ", file);
     }
+}
+
+fn push_workers(out: &mut Out, workers: Workers, piece: usize) {
+    let count = workers.count();
+    out.put(format_args!(", workers {count}, piece {piece}"));
+}
+
+fn push_values(out: &mut Out, order: &ValuesOrder) {
+    push_pointers(out, "get", &order.task.pointers);
+    push_settings(out, &order.task.settings);
+    push_workers(out, order.task.workers, order.task.piece);
+    if order.is_compact {
+        out.push_str(", compact");
+    }
+    if order.is_raw {
+        out.push_str(", raw");
+    }
+    push_inputs(out, &Inputs::One(order.input));
+    if let Some(file) = order.pointers {
+        push_file(out, "; pointers ", file);
+    }
+}
+
+fn push_each(out: &mut Out, order: &EachOrder) {
+    out.push_str("each");
+    push_settings(out, &order.settings);
+    push_inputs(out, &Inputs::One(order.input));
 }
 
 fn push_parts(out: &mut Out, order: &PartsOrder) {

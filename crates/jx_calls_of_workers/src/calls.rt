@@ -4,6 +4,7 @@ use crate::copied::Copied;
 use crate::fault_words::words;
 use crate::finishes::finish;
 use crate::joins::join;
+use crate::many::many;
 use crate::pointers::all;
 use crate::puts::puts;
 use crate::readings::read;
@@ -22,6 +23,7 @@ fn make<R: Threads + Wait + Sync>(line: &mut Line<'_>, rt: &R, call: Call) {
         Call::Text => text(line, rt),
         Call::Seq => seq(line, rt),
         Call::All => all(line, rt),
+        Call::Many => many(line, rt),
         Call::Puts => puts(line, rt),
         Call::Join => join(line),
         Call::Finish => finish(line, rt),

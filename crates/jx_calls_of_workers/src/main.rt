@@ -13,6 +13,7 @@ mod found;
 mod gates;
 mod holding;
 mod joins;
+mod many;
 mod pointers;
 mod puts;
 mod readings;

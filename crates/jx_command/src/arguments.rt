@@ -3,6 +3,7 @@ ghost use Rattle.std.specs.Prelude.{◌≤◌, IfOk, IfSome};
 ghost use Rattle.jx_command.specs.Orders.{HasPieces};
 
 use crate::arg_fault::ArgFault;
+use crate::each_arguments::{EACH, each_order_from};
 use crate::grammar::grammar;
 use crate::inputs::{Input, Inputs, inputs_of, reads_standard_twice};
 use crate::options::depth_of;
@@ -11,6 +12,7 @@ use crate::parts_arguments::parts_order_from;
 use crate::parts_command::PartsCommand;
 use crate::request::{Color, Request, Told};
 use crate::subcommand::Subcommand;
+use crate::values_arguments::{GET, values_order_from};
 use clap::ArgMatches;
 use clap::error::ErrorKind;
 use jx_claim::Workers;
@@ -27,7 +29,7 @@ fn refused(error: clap::Error) -> ArgFault {
 }
 
 /// Whether a byte order mark is ignored or refused by the options.
-fn mark_of(options: &ArgMatches<'_>) -> FrontMark {
+pub(crate) fn mark_of(options: &ArgMatches<'_>) -> FrontMark {
     if options.get_flag("ignore_bom") {
         FrontMark::Ignored
     } else {
@@ -44,13 +46,22 @@ fn names_of(options: &ArgMatches<'_>) -> NameRule {
     }
 }
 
+/// How a text is read by the options. The grammar has a depth where the words leave it out.
+pub(crate) fn settings_of(options: &ArgMatches<'_>) -> Settings {
+    Settings {
+        depth: depth_of(options).unwrap_or_default(),
+        mark: mark_of(options),
+        names: names_of(options),
+    }
+}
+
 /// How many workers the options ask for, if they tell.
-fn workers_of(options: &ArgMatches<'_>) -> Option<Workers> {
+pub(crate) fn workers_of(options: &ArgMatches<'_>) -> Option<Workers> {
     Workers::new(options.get_one::<u8>("workers")?)
 }
 
 /// How many bytes a piece has by the options, if they tell and it is not 0.
-fn piece_of(options: &ArgMatches<'_>) -> Option<usize>
+pub(crate) fn piece_of(options: &ArgMatches<'_>) -> Option<usize>
     ensures { IfSome result (λ piece. 1 ≤ piece) }
 {
     match options.get_one::<u32>("piece")? {
@@ -59,7 +70,10 @@ fn piece_of(options: &ArgMatches<'_>) -> Option<usize>
     }
 }
 
-fn pointers_of(alloc: Global, options: &ArgMatches<'_>) -> Result<Vec<String>, AllocError> {
+pub(crate) fn pointers_of(
+    alloc: Global,
+    options: &ArgMatches<'_>,
+) -> Result<Vec<String>, AllocError> {
     let mut pointers = Vec::new(alloc);
     if let Some(words) = options.get_strs("pointers") {
         for word in words {
@@ -95,11 +109,7 @@ fn command_from(
     let one_worker = Workers::new(1).unwrap();
     Ok(Command {
         task: task_of(alloc, called, options)?,
-        settings: Settings {
-            depth: depth_of(options).unwrap_or_default(),
-            mark: mark_of(options),
-            names: names_of(options),
-        },
+        settings: settings_of(options),
         workers: workers_of(options).unwrap_or(one_worker),
         piece: piece_of(options).unwrap_or(1),
         quiet: options.get_flag("quiet"),
@@ -192,6 +202,15 @@ fn order_from<'a>(
 {
     if let Some(called) = PartsCommand::named(name) {
         return Ok(Order::Parts(parts_order_from(called, options)));
+    }
+    if name == EACH {
+        return Ok(Order::Each(each_order_from(options)));
+    }
+    if name == GET {
+        return match values_order_from(alloc, options) {
+            Ok(order) => Ok(Order::Values(order)),
+            Err(_) => Err(ArgFault::Memory),
+        };
     }
     let called = Subcommand::named(name).unwrap_or(Subcommand::Check);
     let request = request_from(alloc, called, options)?;

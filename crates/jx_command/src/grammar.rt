@@ -1,13 +1,18 @@
 // The commands and options that the words of the command line are read by.
+use crate::each_arguments::EACH;
 use crate::help;
 use crate::parts_command::PartsCommand;
 use crate::subcommand::Subcommand;
+use crate::values_arguments::GET;
 use clap::builder::ValueParser;
 use clap::{Arg, ArgAction, Command, value_parser};
 use std::alloc::{AllocError, Global};
 
 /// The words for when what is told to people has colors.
 const COLORS: &[&str] = &["auto", "always", "never"];
+
+/// Where a part begins at most, which is the greatest offset of a file. So bytes of a part have offsets below 2^64.
+const GREATEST_FROM: u64 = 9_223_372_036_854_775_807;
 
 fn file<'a>(alloc: Global) -> Arg<'a> {
     Arg::new(alloc, "file")
@@ -103,6 +108,24 @@ fn quiet<'a>(alloc: Global) -> Arg<'a> {
         .long_help(help::LONG_QUIET)
 }
 
+fn compact<'a>(alloc: Global) -> Arg<'a> {
+    Arg::new(alloc, "compact")
+        .short('c')
+        .long("compact")
+        .action(ArgAction::SetTrue)
+        .help(help::COMPACT)
+        .long_help(help::LONG_COMPACT)
+}
+
+fn raw<'a>(alloc: Global) -> Arg<'a> {
+    Arg::new(alloc, "raw")
+        .short('r')
+        .long("raw")
+        .action(ArgAction::SetTrue)
+        .help(help::RAW)
+        .long_help(help::LONG_RAW)
+}
+
 fn pointers<'a>(alloc: Global) -> Result<Arg<'a>, AllocError> {
     Arg::new(alloc, "pointers")
         .value_name("POINTER")
@@ -128,7 +151,17 @@ fn subcommand<'a>(
     about: &'a str,
     after: &'a str,
 ) -> Result<Command<'a>, AllocError> {
-    Command::new(alloc, called.name())
+    reading(alloc, called.name(), about, after)
+}
+
+/// A subcommand of this name that reads a text or a sequence.
+fn reading<'a>(
+    alloc: Global,
+    name: &'a str,
+    about: &'a str,
+    after: &'a str,
+) -> Result<Command<'a>, AllocError> {
+    Command::new(alloc, name)
         .about(about)
         .after_long_help(after)
         .arg(file(alloc))?
@@ -166,6 +199,23 @@ fn at<'a>(alloc: Global) -> Result<Command<'a>, AllocError> {
         .arg(pointers_file(alloc))
 }
 
+fn get<'a>(alloc: Global) -> Result<Command<'a>, AllocError> {
+    reading(alloc, GET, help::GET, help::AFTER_GET)?
+        .arg(pointers(alloc)?)?
+        .arg(pointers_file(alloc))?
+        .arg(compact(alloc))?
+        .arg(raw(alloc))
+}
+
+fn each<'a>(alloc: Global) -> Result<Command<'a>, AllocError> {
+    Command::new(alloc, EACH)
+        .about(help::EACH)
+        .after_long_help(help::AFTER_EACH)
+        .arg(file(alloc))?
+        .arg(depth(alloc))?
+        .arg(ignore_bom(alloc))
+}
+
 fn seq<'a>(alloc: Global) -> Result<Command<'a>, AllocError> {
     subcommand(alloc, Subcommand::Seq, help::SEQ, help::AFTER_SEQ)?
         .arg(quiet(alloc))?
@@ -197,6 +247,7 @@ fn part<'a>(alloc: Global) -> Result<Command<'a>, AllocError> {
     of_parts(alloc, PartsCommand::Part, help::PART, help::AFTER_PART)?
         .arg(
             offset(alloc, "from")
+                .value_parser(ValueParser::unsigned(0, GREATEST_FROM))
                 .help(help::PART_FROM)
                 .long_help(help::LONG_PART_FROM),
         )?
@@ -238,6 +289,8 @@ fn program<'a>(alloc: Global) -> Command<'a> {
         .after_help(help::AFTER)
         .after_long_help(help::LONG_AFTER)
         .subcommand_required(true)
+        // Of an option that is given twice, the last one counts.
+        .args_override_self(true)
 }
 
 /// The program with its commands.
@@ -247,6 +300,8 @@ pub fn grammar<'a>(alloc: Global) -> Result<Command<'a>, AllocError> {
         .subcommand(explain(alloc)?)?
         .subcommand(index(alloc)?)?
         .subcommand(at(alloc)?)?
+        .subcommand(get(alloc)?)?
+        .subcommand(each(alloc)?)?
         .subcommand(seq(alloc)?)?
         .subcommand(part(alloc)?)?
         .subcommand(join(alloc)?)?

@@ -20,13 +20,16 @@ pub const LONG_AFTER: &str = "Examples:
   jx explain dump.json                why is this file none?
   jx index dump.json                  a line for each value, with its span
   jx at /users/0/name < dump.json     where this value stands
+  jx get /users/0/name < dump.json    its bytes
+  jx each < dump.json                 a line for each element of its root
   jx seq log.json-seq                 which elements of a sequence are texts?
   jx part --from 0 < part-0 > 0.run   what this part of a text comes to
   cat *.run | jx whole --to 81920     are all parts together a JSON text?
 
 Exit status:
   0  the text is accepted, every pointer is found, every element is accepted
-  1  otherwise: standard output tells what was refused, and where
+  1  otherwise: standard output tells what was refused, and where; of get
+     and each standard error does
   2  no answer: standard error tells why; a call for help ends so too
 Of several files, the greatest status of one.";
 
@@ -37,6 +40,10 @@ pub const EXPLAIN: &str = "Show where a text stops being one, and why";
 pub const INDEX: &str = "Print a line for each value of a JSON text";
 
 pub const AT: &str = "Print where JSON Pointers lead in a JSON text";
+
+pub const GET: &str = "Write the values that JSON Pointers lead to, byte for byte";
+
+pub const EACH: &str = "Write each element of the root on a line of its own";
 
 pub const SEQ: &str = "Tell which elements of a JSON text sequence are JSON texts";
 
@@ -79,9 +86,10 @@ Each run has to be made with the same number.";
 
 pub const PART_FROM: &str = "The part begins at the offset N of the text";
 
-pub const LONG_PART_FROM: &str = "The part begins at the offset N of the text. With this option in
-every part, a missing, doubled or misplaced part is told; without it
-in any, the order of the runs is taken on trust.";
+pub const LONG_PART_FROM: &str = "The part begins at the offset N of the text, at most
+9223372036854775807. With this option in every part, a missing,
+doubled or misplaced part is told; without it in any, the order of
+the runs is taken on trust.";
 
 pub const WHOLE_FROM: &str = "The text begins at the offset N";
 
@@ -94,15 +102,20 @@ pub const WHOLE_TO: &str = "The text ends at the offset N";
 pub const LONG_WHOLE_TO: &str = "The text ends at the offset N, which is its size in bytes where it
 begins at 0. The runs have to cover all of it.";
 
-pub const WORKERS: &str = "Read by N workers, 1 to 64";
+pub const WORKERS: &str = "Share the work among N workers, 1 to 64";
 
-pub const LONG_WORKERS: &str =
-    "Read by N workers, 1 to 64. The answer is the same for every number.";
+pub const LONG_WORKERS: &str = "Share the work among N workers, 1 to 64. The answer is the same for
+every number. For check, explain and seq they read what is a MiB or
+longer; for at and get they look up many pointers: 10000, and one for
+each 128 bytes of text. One worker reads the text for index, at and
+get, and wherever a text has --unique-names.";
 
-pub const PIECE: &str = "Let a worker read N bytes at a time";
+pub const PIECE: &str = "Let a worker draw N bytes at a time";
 
-pub const LONG_PIECE: &str = "Let a worker read N bytes at a time, 1 to 1073741824. The answer is
-the same for every number.";
+pub const LONG_PIECE: &str = "Let a worker draw N bytes at a time, 1 to 1073741824; of a sequence,
+whole elements of some N bytes. The answer is the same for every
+number. Where one worker reads, N only bounds the input: 4294967295
+pieces of N bytes, and more are too many.";
 
 pub const IGNORE_BOM: &str = "Ignore a byte order mark in front";
 
@@ -124,20 +137,34 @@ pub const QUIET: &str = "Write no output: the exit status is the answer";
 pub const LONG_QUIET: &str = "Write no output: the exit status is the answer. What goes wrong is
 still told on standard error.";
 
+pub const COMPACT: &str = "Leave out blanks between tokens";
+
+pub const LONG_COMPACT: &str =
+    "Leave out blanks between tokens, so that each value is one line. Each
+token keeps its bytes: no number, name or string is spelt anew.";
+
+pub const RAW: &str = "Write the text that a string stands for";
+
+pub const LONG_RAW: &str = "Write the text that a string stands for, in UTF-8, without quotation
+marks and escapes (RFC 8259, section 7). Other values are written as
+without this option. A string with half of a surrogate pair alone
+stands for no text: its line is empty.";
+
 pub const POINTER: &str = "A JSON Pointer (RFC 6901), as it is spelt";
 
 pub const LONG_POINTER: &str = "A JSON Pointer (RFC 6901, section 3), taken as it stands: empty for
 the whole text, or tokens that each follow a slash, as /users/0/name.
-In a token ~1 stands for a slash and ~0 for a tilde. Behind the word
--- also what begins with a hyphen is taken for a pointer.";
+In a token ~1 stands for a slash and ~0 for a tilde. What is .a.b or
+$.a.b elsewhere is /a/b here, and a FILE stands behind --file. Behind
+the word -- also what begins with a hyphen is taken for a pointer.";
 
 pub const POINTERS: &str = "Look up the lines of FILE too";
 
 pub const LONG_POINTERS: &str =
     "Look up the lines of FILE too, behind the pointers among the words. A
-line feed ends a line, and the last line may do without; an empty
-line is the empty pointer, and a carriage return stays in its line.
-There has to be a POINTER or this option.";
+line feed ends a line, or a carriage return and a line feed, and the
+last line may do without; an empty line is the empty pointer. There
+has to be a POINTER or this option.";
 
 pub const AFTER_CHECK: &str = "Output, one line:
   accepted            the input is a JSON text
@@ -200,10 +227,53 @@ Of a text that is refused, one line as by 'jx check'.
 
 Exit status: 0 all found, 1 refused or not all found, 2 no answer.
 
+The text is read once, in constant memory. With --unique-names, or with 10000
+pointers or more, the whole input is held.
+
 Examples:
   jx at '' /users/0/name --file dump.json
   jx at --file dump.json -- \"$pointer\"
   jx at --file dump.json --pointers list";
+
+pub const AFTER_GET: &str =
+    "Output, a line for each pointer: the bytes of its value as they stand in the
+text, or an empty line where it has no value. A value with line ends between
+its tokens takes several lines, unless --compact leaves them out.
+
+What is not written is told on standard error, behind the output:
+  jx: POINTER: ANSWER  the pointer leads nowhere; ANSWER is that of 'jx at',
+                       or with --raw: half a surrogate pair
+  jx: VERDICT          the text is refused, as by 'jx check'; no output
+
+Exit status: 0 all written, 1 refused or not all written, 2 no answer.
+
+Examples:
+  jx get /users/0/name --file dump.json
+  jx get -r /users/0/name --file dump.json
+  jx get -c '' --file dump.json
+  jx get --file dump.json -- \"$pointer\"
+  jx get --file dump.json --pointers list";
+
+pub const AFTER_EACH: &str =
+    "Output, a line for each element of the array that the text is, or for the
+value of each member of the object: its tokens without blanks between them,
+each with its own bytes. So each line is a JSON text.
+
+A line is written once the comma or the bracket behind the element was read,
+also where the text is refused further on: what was written stays. Who must
+not load a part of a text runs 'jx check' first, or ends a transaction by the
+status. The text is not held, but for one element.
+
+What is told on standard error, behind the output:
+  jx: VERDICT                     the text is refused, as by 'jx check'
+  jx: not a container at token 0  the text is a scalar and has no elements
+
+Exit status: 0 all elements of a text are written, 1 refused or a scalar, 2 no
+answer.
+
+Examples:
+  jx each --file dump.json > dump.jsonl
+  zstd -dc dump.json.zst | jx each | head -n 3";
 
 pub const AFTER_SEQ: &str = "Output, a line for each element, its span and then:
   accepted            it is a JSON text
@@ -225,7 +295,8 @@ Examples:
 pub const AFTER_PART: &str =
     "Output, one run: some KB that say what the part comes to, whatever stands
 before it and behind it. A part may begin and end at any byte, and may be
-empty. It is read once, in constant memory.
+empty. It is read once, in constant memory. A run is no text, and is not
+written to a terminal.
 
 Exit status: 0 the run is written, 2 no answer.
 

@@ -3,6 +3,7 @@
 
 mod arg_fault;
 mod arguments;
+mod each_arguments;
 mod grammar;
 mod help;
 mod inputs;
@@ -12,9 +13,10 @@ mod parts_arguments;
 mod parts_command;
 mod request;
 mod subcommand;
+mod values_arguments;
 
 pub use arg_fault::ArgFault;
 pub use arguments::command_of;
 pub use inputs::{Input, Inputs, input_of, inputs_of, reads_standard_twice};
-pub use order::{Order, PartsOrder, PartsStep};
+pub use order::{EachOrder, Order, PartsOrder, PartsStep, ValuesOrder};
 pub use request::{Color, Request, Told};

@@ -1,8 +1,17 @@
 // Options that several subcommands take.
+use crate::inputs::Input;
 use clap::ArgMatches;
 use jx_lex::Depth;
 
 /// The depth that the options give, if they give one.
 pub(crate) fn depth_of(options: &ArgMatches<'_>) -> Option<Depth> {
     Depth::new(u32::from(options.get_one::<u16>("depth")?))
+}
+
+/// What is read: the file of an option, or standard input.
+pub(crate) fn input_from<'a>(options: &ArgMatches<'a>) -> Input<'a> {
+    match options.get_str("file") {
+        Some(file) => Input::File(file),
+        None => Input::Standard,
+    }
 }

@@ -1,7 +1,9 @@
-// What the words of the command line ask for: a report, or work on the parts of a text.
+// What the words of the command line ask for: a report, work on the parts of a text, values, or elements.
 use crate::inputs::Input;
 use crate::request::Request;
 use jx_lex::Depth;
+use jx_run::Settings;
+use jx_task::ValuesTask;
 
 /// What the words of the command line ask for.
 #[derive(Debug, Drop)]
@@ -10,6 +12,10 @@ pub enum Order<'a> {
     Report(Request<'a>),
     /// Work on one text that stands in several inputs.
     Parts(PartsOrder<'a>),
+    /// Values of what is read.
+    Values(ValuesOrder<'a>),
+    /// The elements of what is read.
+    Each(EachOrder<'a>),
 }
 
 /// Work on the parts of a text.
@@ -32,4 +38,27 @@ pub enum PartsStep {
     Join,
     /// Runs are read in order, and the verdict on the text from the one offset to the other is written, unless it is quiet.
     Whole { from: usize, to: usize, quiet: bool },
+}
+
+/// Values whose bytes are written.
+#[derive(Debug, Drop)]
+pub struct ValuesOrder<'a> {
+    pub task: ValuesTask,
+    /// What is read.
+    pub input: Input<'a>,
+    /// FILE whose lines are looked up behind the pointers among the words.
+    pub pointers: Option<&'a str>,
+    /// Whether blanks between tokens are left out.
+    pub is_compact: bool,
+    /// Whether a string is written as the text that it stands for.
+    pub is_raw: bool,
+}
+
+/// The elements of a text's root, which are written while it is read.
+#[derive(Clone, Copy, Debug, PartialEq, Eq)]
+pub struct EachOrder<'a> {
+    /// What is read.
+    pub input: Input<'a>,
+    /// How it is read.
+    pub settings: Settings,
 }

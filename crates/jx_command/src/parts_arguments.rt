@@ -1,6 +1,5 @@
 // The words of the subcommands that work on the parts of a text.
-use crate::inputs::Input;
-use crate::options::depth_of;
+use crate::options::{depth_of, input_from};
 use crate::order::{PartsOrder, PartsStep};
 use crate::parts_command::PartsCommand;
 use clap::ArgMatches;
@@ -9,14 +8,6 @@ use clap::ArgMatches;
 fn offset_of(options: &ArgMatches<'_>, name: &str) -> Option<usize> {
     let offset: u64 = options.get_one::<u64>(name)?;
     Some(offset as usize)
-}
-
-/// What is read: the file of an option, or standard input.
-fn input_from<'a>(options: &ArgMatches<'a>) -> Input<'a> {
-    match options.get_str("file") {
-        Some(file) => Input::File(file),
-        None => Input::Standard,
-    }
 }
 
 /// The step of a subcommand. The grammar has `--to` wherever it is asked for here.

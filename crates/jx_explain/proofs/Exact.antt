@@ -2,13 +2,11 @@
 use Rattle.std.proofs.Common.{◌≡◌, ℕ, suc, ◌+◌, List, [], ◌∷◌, ◌++◌, length, take, refl, sym, ◌∙◌, ap, subst, arith, Option, Some, None, Bool, true, false, cond}
 use Rattle.std.specs.Prelude.{◌&&◌, ◌||◌, ◌↔◌, is_some, is_none, nat_lt, not}
 use Rattle.std.proofs.lemmas.List.{take_all, length-append}
-use Rattle.jx_lex.specs.Classes.{class_at}
 use Rattle.jx_lex.specs.Lex as lexical
 use Rattle.jx_lex.specs.Lex.{lex, after_step, on_next, with_mark, Track}
 use Rattle.jx_lex.specs.Moves.{move}
 use Rattle.jx_lex.specs.declared.alphabet.mark.MarkKind.{MarkKind}
 use Rattle.jx_lex.specs.declared.alphabet.state.LexState.{LexState}
-use Rattle.jx_lex.specs.declared.alphabet.state.Step.{Step}
 use Rattle.jx_lex.specs.declared.alphabet.state.TokenEnd.{TokenEnd}
 use Rattle.jx_reduce.specs.Read.{Reading, read as read_marks, top, moved, changed}
 use Rattle.jx_reduce.specs.Table.{next_of, change_of, Change, same, added, removed}

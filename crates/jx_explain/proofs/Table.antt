@@ -1,5 +1,5 @@
 -- The choices are exactly what the lexical machine and the table of moves allow: by cases, each by computing.
-use Rattle.std.proofs.Common.{◌≡◌, Bool, true, false, refl}
+use Rattle.std.proofs.Common.{◌≡◌, true, refl}
 use Rattle.std.specs.Prelude.{◌||◌, is_none, is_some}
 use Rattle.jx_lex.specs.Moves.{as_gap, row}
 use Rattle.jx_lex.specs.declared.alphabet.class.Class.{Class}

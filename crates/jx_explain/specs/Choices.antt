@@ -1,7 +1,6 @@
 -- What may stand at a place of a text, by the classes of bytes, and what the lexical machine and the table of moves allow there.
-use Rattle.std.specs.Prelude.{ℕ, List, [], ◌∷◌, ◌++◌, Bool, true, false, ◌&&◌, Option, Some, None, is_some}
+use Rattle.std.specs.Prelude.{List, [], ◌∷◌, ◌++◌, Bool, true, false, ◌&&◌, Option, Some, None, is_some}
 use Rattle.std.specs.List.{list_any}
-use Rattle.jx_lex.specs.Classes.{class_at}
 use Rattle.jx_lex.specs.Moves.{row}
 use Rattle.jx_lex.specs.declared.alphabet.class.Class.{Class}
 use Rattle.jx_lex.specs.declared.alphabet.class.Class.TheVariants as class

@@ -135,7 +135,7 @@ fn push_sentence(
 /// by its bytes.
 fn refused(
     alloc: Global,
-    name: &str,
+    name: &[u8],
     text: &[u8],
     refusal: Refusal,
     settings: &Settings,
@@ -147,7 +147,7 @@ fn refused(
     let column = place.column;
     let mut out = String::new(alloc);
     out.push_str(marking.place())?;
-    push_shown(&mut out, name.as_bytes())?;
+    push_shown(&mut out, name)?;
     write!(out, ":{line}:{column}:")?;
     out.push_str(marking.end())?;
     out.push(' ')?;
@@ -161,7 +161,7 @@ fn refused(
 /// refused and why.
 pub fn explained(
     alloc: Global,
-    name: &str,
+    name: &[u8],
     text: &[u8],
     verdict: Verdict,
     settings: &Settings,
@@ -170,7 +170,7 @@ pub fn explained(
     match verdict {
         Verdict::Accepted => {
             let mut out = String::new(alloc);
-            push_shown(&mut out, name.as_bytes())?;
+            push_shown(&mut out, name)?;
             out.push_str(": accepted\n")?;
             Ok(out)
         }

@@ -33,12 +33,22 @@ fn words_of(choice: Choice) -> Option<&'static str> {
         Choice::Tail80To9F => Some("a byte from 80 to 9F"),
         Choice::Tail90ToBF => Some("a byte from 90 to BF"),
         Choice::TailA0ToBF => Some("a byte from A0 to BF"),
-        Choice::A => Some("a, as in false"),
-        Choice::E => Some("e, as in true and false"),
-        Choice::L => Some("l, as in false and null"),
-        Choice::R => Some("r, as in true"),
-        Choice::S => Some("s, as in false"),
-        Choice::U => Some("u, as in true and null"),
+        Choice::A => Some("a"),
+        Choice::E => Some("e"),
+        Choice::L => Some("l"),
+        Choice::R => Some("r"),
+        Choice::S => Some("s"),
+        Choice::U => Some("u"),
+    }
+}
+
+/// The literal that a state of the lexical machine has begun, with the words in front of it.
+fn literal_of(state: LexState) -> Option<&'static str> {
+    match state {
+        LexState::T | LexState::Tr | LexState::Tru => Some(", as in true"),
+        LexState::F | LexState::Fa | LexState::Fal | LexState::Fals => Some(", as in false"),
+        LexState::N | LexState::Nu | LexState::Nul => Some(", as in null"),
+        _ => None,
     }
 }
 
@@ -98,7 +108,9 @@ fn known_mistake(standing: &Standing, byte: u8) -> Option<&'static str> {
         LexState::Str if is_control(byte) => Some(
             "a control character in a string must be escaped",
         ),
-        LexState::Zero if byte.is_ascii_digit() => Some("a number may not begin with 0"),
+        LexState::Zero if byte.is_ascii_digit() => Some(
+            "no digit may follow a 0 that begins a number",
+        ),
         _ => None,
     }
 }
@@ -123,6 +135,7 @@ pub fn push_stopped(
     }
     out.push_str("expected ")?;
     push_choices(out, &choices_at(standing))?;
+    out.push_str(literal_of(standing.state).unwrap_or(""))?;
     out.push_str(", found ")?;
     push_found(out, text, at)
 }
@@ -158,6 +171,10 @@ pub fn push_truncated(
     }
     out.push_str("the text ends where ")?;
     push_choices(out, &choices_at(standing))?;
+    if let Some(literal) = literal_of(standing.state) {
+        out.push_str(literal)?;
+        out.push(',')?;
+    }
     out.push_str(" is expected")
 }
 

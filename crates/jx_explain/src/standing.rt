@@ -1,10 +1,13 @@
 // Where a reading stands in a text, and what may stand there.
-ghost use Rattle.std.specs.Prelude.{◌≡◌, ◌≤◌, ◌++◌, ◌∷◌, [], ◌↔◌, ℕ, List, true, length, slice_range, reverse, IfOk, IfSome};
+ghost use Rattle.std.specs.Prelude.{◌≡◌, ◌≤◌, ◌++◌, ◌∷◌, [], ◌↔◌, ℕ, List, None, true, length, slice_range, reverse, IfOk, IfSome};
 ghost use Rattle.jx_lex.specs.Classes.{class_at};
+ghost use Rattle.jx_lex.specs.Lex.{lex};
+ghost use Rattle.jx_lex.specs.declared.alphabet.state.LexState.TheVariants.{Gap};
 ghost use Rattle.jx_reduce.specs.Read.{top};
 ghost use Rattle.jx_run.specs.Laws.{BeginsAtSomeDepth};
 ghost use Rattle.jx_explain.specs.Choices.{are_named, choices_of};
-ghost use Rattle.jx_explain.specs.Standing.{StandsBehind};
+ghost use Rattle.jx_explain.specs.Standing.{StandsBehind, last_at};
+ghost use Rattle.jx_explain.specs.declared.standing.Standing.{Standing};
 
 use crate::choice::{Choices, choices_for};
 use jx_lex::{Depth, LexExit, LexState, Mark, TokenSink, scan};
@@ -33,9 +36,9 @@ struct Watching {
 }
 
 impl TokenSink for Watching {
-    ghost use Rattle.jx_run.specs.Kept.{HasSeen};
+    ghost use Rattle.jx_explain.specs.inside.Watched.{HasWatched};
 
-    ghost has_seen = { λ watching marks ends. HasSeen marks ends watching.stack };
+    ghost has_seen = { λ watching marks ends. HasWatched marks ends watching.stack watching.token };
 
     #[inline(always)]
     fn begin(&mut self, mark: Mark) -> Result<(), AllocError> {
@@ -65,8 +68,9 @@ fn innermost(mut holders: Vec<Holder>) -> Holder
     }
 }
 
-/// Where a reading stands behind the bytes of a text from one offset up to another, from the start of a text on; none where
-/// they begin no text within the depth. Only want of memory is refused.
+/// Where a reading stands behind the bytes of a text from one offset up to another, from the start of a text on; none just
+/// where it meets a fault among them, as they begin no text within the depth. The last token is the one that the last mark
+/// begins, and where there is none, it is at the first offset. Only want of memory is refused.
 pub fn standing_behind(
     alloc: Global,
     text: &[u8],
@@ -76,6 +80,8 @@ pub fn standing_behind(
 ) -> Result<Option<Standing>, AllocError>
     requires { (from ≤ to) × (to ≤ length text.now) }
     ensures stands { IfOk result (λ found. IfSome found (λ s. StandsBehind depth from (slice_range text.now from to) s)) }
+    ensures token { IfOk result (λ found. IfSome found (λ s. s.token ≡ last_at from (lex Gap from (slice_range text.now from to)).marks)) }
+    ensures none { IfOk result (λ found. found ≡ None → (s : Standing) → StandsBehind depth from (slice_range text.now from to) s → ⊥) }
 {
     let mut watching = Watching {
         stack: KnownStack::new(alloc, depth),

@@ -1,2 +1,3 @@
 pub mod NamedLines
+pub mod Shown
 pub mod Words

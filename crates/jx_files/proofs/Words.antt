@@ -1,5 +1,5 @@
 -- Reports on words, one after another.
-use Rattle.std.proofs.Common.{◌≡◌, ℕ, suc, ◌+◌, ◌<◌, ◌≤◌, List, [], ◌∷◌, ◌++◌, Bool, true, false, Option, Some, length, map, take, drop, refl, sym, subst, ap, ◌∙◌, arith, add-one}
+use Rattle.std.proofs.Common.{◌≡◌, ℕ, ◌+◌, ◌<◌, ◌≤◌, List, [], ◌∷◌, ◌++◌, Bool, true, false, Option, Some, length, map, take, drop, refl, sym, subst, ap, ◌∙◌, add-one}
 use Rattle.std.specs.Borrow.{Bor}
 use Rattle.std.specs.Prelude.{slice_get}
 use Rattle.std.proofs.Math.Seq.{take-suc}
@@ -8,7 +8,6 @@ use Rattle.std.proofs.lemmas.Option.{get_or_from_slice_get}
 use Rattle.std.specs.Io.KnownBytes.{Appends}
 use Rattle.std.proofs.KnownBytes.{Appends-trans}
 use Rattle.jx_task.specs.declared.command.Command.{Command}
-use Rattle.jx_report.specs.Ends.{AppendsBeginning}
 use Rattle.jx_report.proofs.PutSteps.{put_in_part}
 use Rattle.jx_files.specs.declared.status.Status.{Status}
 use Rattle.jx_files.specs.Files.{Ways, AreReported, one_more, ReportsEach, ReportsFirst}

@@ -7,47 +7,40 @@ use Rattle.jx_report.specs.Ends.{ReadsToEnd, AppendsBeginning}
 use Rattle.jx_report.specs.Output.{Output}
 use Rattle.jx_report.specs.Reports.{HasTooManyPieces, greatest_length, shown_output}
 use Rattle.jx_files.specs.declared.file_fault.FileFault.{FileFault}
-use Rattle.jx_files.specs.declared.file_fault.FileFault.TheVariants.{Open, Read, Memory, Pieces}
+use Rattle.jx_files.specs.declared.file_fault.FileFault.TheVariants.{Read, Memory, Pieces}
 use Rattle.jx_files.specs.declared.file_fault.OpenFault.{OpenFault}
-use Rattle.jx_files.specs.declared.file_fault.OpenFault.TheVariants.{Closed}
+use Rattle.jx_files.specs.declared.reason.Reason.{Reason}
 use Rattle.jx_files.specs.declared.status.Status.{Status}
 use Rattle.jx_files.specs.declared.status.Status.TheVariants.{Good, Fault}
-use Rattle.jx_files.specs.Naming.{named}
+use Rattle.jx_files.specs.Faults.{fault_line, unopened}
+use Rattle.jx_files.specs.Naming.{named, shown}
 use Rattle.jx_files.specs.Status.{greatest, status_of}
 
-abbrev pub fault_words : FileFault → List ℕ
-fault_words Open = codes "cannot open"
-fault_words Read = codes "read failed"
-fault_words Memory = codes "out of memory"
-fault_words Pieces = codes "too many pieces"
-
--- what is told of a fault: jx: WORD: FAULT
-abbrev pub fault_line : List ℕ → FileFault → List ℕ
-fault_line word fault = codes "jx: " ++ word ++ codes ": " ++ fault_words fault ++ 10 ∷ []
-
--- what is written for an input behind its word
+-- what is written for an input behind its name
 abbrev pub part : List ℕ → List ℕ → List ℕ
-part word output = named (word ++ codes ": ") output
+part word output = named (shown word ++ codes ": ") output
 
 -- how inputs are opened and read
 pub record Ways : Type 1 where
   pub Input : Type 0
   -- what the opening of a word may come to
   pub opens : List ℕ → Result Input OpenFault → Type 0
+  -- why the last read of an input failed
+  pub why : Input → Reason
   -- the bytes that an input has left
   pub remaining : Input → Option (List ℕ)
   -- a read of it has failed
   pub has_failed : Input → Bool
 
-abbrev pub ways_of : {Input : Type 0} → (List ℕ → Result Input OpenFault → Type 0) → (Input → Option (List ℕ)) → (Input → Bool) → Ways
-ways_of {Input} opens remaining has_failed = record { Input = Input; opens = opens; remaining = remaining; has_failed = has_failed }
+abbrev pub ways_of : {Input : Type 0} → (List ℕ → Result Input OpenFault → Type 0) → (Input → Reason) → (Input → Option (List ℕ)) → (Input → Bool) → Ways
+ways_of {Input} opens why remaining has_failed = record { Input = Input; opens = opens; why = why; remaining = remaining; has_failed = has_failed }
 
--- why there is no answer for a word
+-- why there is no answer for a word. Want of memory is told of none that names nothing to be read
 pub data IsFaultAt (ways : Ways) (command : Command) (word : List ℕ) : FileFault → Type 0 where
-  not_opened : ways.opens word (Err Closed) → IsFaultAt ways command word Open
-  not_read : (input left : ways.Input) → ways.opens word (Ok input) → ways.has_failed left ≡ true → IsFaultAt ways command word Read
+  not_opened : (fault : OpenFault) → ways.opens word (Err fault) → IsFaultAt ways command word (unopened fault)
+  not_read : (input left : ways.Input) → ways.opens word (Ok input) → ways.has_failed left ≡ true → IsFaultAt ways command word (Read (ways.why left))
   too_long : (input left : ways.Input) → ways.opens word (Ok input) → HasTooManyPieces command (ways.remaining input) (ways.remaining left) → IsFaultAt ways command word Pieces
-  no_memory : IsFaultAt ways command word Memory
+  no_memory : (input : ways.Input) → ways.opens word (Ok input) → IsFaultAt ways command word Memory
 
 -- all that the input of a word had was read, and this is the output for it, and how its report ends
 pub record IsAnsweredAt (ways : Ways) (command : Command) (word : List ℕ) (output : List ℕ) (exit : Exit) : Type 0 where

@@ -1,42 +1,69 @@
 ghost use Rattle.std.specs.Prelude.{◌≡◌};
-ghost use Rattle.jx_files.specs.Files.{fault_words};
+ghost use Rattle.jx_files.specs.Faults.{fault_head, fault_reason, fault_tail, unopened};
 
-use thiserror::Error;
+use crate::reason::Reason;
 
 /// Why what a word names is not to be had.
-#[derive(Clone, Copy, Debug, PartialEq, Eq, Error)]
+#[derive(Clone, Copy, Debug, PartialEq, Eq)]
 pub enum OpenFault {
-    /// There is no such file, or it may not be read.
-    #[error("cannot open")]
-    Closed,
+    /// It is a folder.
+    Folder,
+    /// The system does not open it.
+    Closed(Reason),
     /// A growth of memory was refused.
-    #[error("out of memory")]
     Memory,
 }
 
 /// Why there is no answer for what a word names.
 #[derive(Clone, Copy, Debug, PartialEq, Eq)]
 pub enum FileFault {
+    /// It is a folder.
+    Folder,
     /// It did not open.
-    Open,
+    Open(Reason),
     /// A read of it failed.
-    Read,
+    Read(Reason),
     /// A growth of memory was refused.
     Memory,
     /// It has more than 4,294,967,295 pieces.
     Pieces,
+    /// It is named where a pointer should stand.
+    Misplaced,
 }
 
 impl FileFault {
-    /// The words that it is told by.
-    pub fn words(self) -> &'static str
-        ensures { result.now ≡ fault_words self }
+    /// What the fault of an opening comes to.
+    pub fn of_opening(fault: OpenFault) -> FileFault
+        ensures { result ≡ unopened fault }
+    {
+        match fault {
+            OpenFault::Folder => FileFault::Folder,
+            OpenFault::Closed(reason) => FileFault::Open(reason),
+            OpenFault::Memory => FileFault::Memory,
+        }
+    }
+
+    /// What is told first.
+    pub(crate) fn head(self) -> &'static str
+        ensures { result.now ≡ fault_head self }
     {
         match self {
-            FileFault::Open => "cannot open",
-            FileFault::Read => "read failed",
+            FileFault::Folder => "is a directory",
+            FileFault::Open(_) => "cannot open",
+            FileFault::Read(_) => "read failed",
             FileFault::Memory => "out of memory",
             FileFault::Pieces => "too many pieces",
+            FileFault::Misplaced => "a file and no pointer: write --file in front of it",
+        }
+    }
+
+    /// The reason that is told behind that, with a colon and a space in front; nothing where there is none.
+    pub(crate) fn tail(self) -> &'static str
+        ensures { result.now ≡ fault_tail (fault_reason self) }
+    {
+        match self {
+            FileFault::Open(reason) | FileFault::Read(reason) => reason.told(),
+            FileFault::Folder | FileFault::Memory | FileFault::Pieces | FileFault::Misplaced => "",
         }
     }
 }

@@ -1,15 +1,16 @@
 // The lines of an output behind a name.
 ghost use Rattle.std.specs.Prelude.{◌≡◌, ◌++◌, ◌∷◌, [], if◌then◌else◌, codes, IfOk, OnOk};
-ghost use Rattle.jx_files.specs.Naming.{named};
+ghost use Rattle.jx_files.specs.Naming.{named, shown};
 
+use crate::showing::shown_name;
 use std::alloc::{AllocError, Global};
 
-/// The lines with the word, a colon and a space in front of each. A line ends with a line feed, and the last line may do
-/// without.
-pub fn named_lines(alloc: Global, word: &str, lines: &[u8]) -> Result<Vec<u8>, AllocError>
-    ensures { IfOk result (λ all. all.items ≡ named (word.now ++ codes ": ") lines.now) }
+/// The lines with the name as it is shown, a colon and a space in front of each. A line ends with a line feed, and the last
+/// line may do without.
+pub fn named_lines(alloc: Global, name: &str, lines: &[u8]) -> Result<Vec<u8>, AllocError>
+    ensures { IfOk result (λ all. all.items ≡ named (shown name.now ++ codes ": ") lines.now) }
 {
-    let mut front = Vec::from_slice(alloc, word.as_bytes())?;
+    let mut front = shown_name(alloc, name)?;
     front.extend_from_slice(b": ")?;
     behind(alloc, &front, lines)
 }

@@ -1,12 +1,14 @@
 ghost use Rattle.std.specs.Prelude.{◌≡◌, ◌<◌, ◌≤◌, true, false, length, map, slice_get, is_err, IfOk, IfErr, OnOk, OnErr};
 ghost use Rattle.std.specs.Io.KnownBytes.{Appends};
-ghost use Rattle.jx_files.specs.Files.{fault_line, ways_of, IsFaultAt, ReportsEach, ReportsFirst};
+ghost use Rattle.jx_files.specs.Faults.{fault_line};
+ghost use Rattle.jx_files.specs.Files.{ways_of, IsFaultAt, ReportsEach, ReportsFirst};
 ghost use Rattle.jx_files.specs.inside.Parts.{IsAnsweredBy, IsPartOf, ReportsOne, ReportsPart};
 
-use crate::file_fault::{FileFault, OpenFault};
+use crate::file_fault::FileFault;
 use crate::naming::named_lines;
 use crate::opener::Opener;
 use crate::status::Status;
+use crate::telling::tell;
 use jx_book::Gate;
 use jx_report::{End, Exit, ReportFault, Sink, Source, report, write_whole};
 use jx_task::Command;
@@ -38,13 +40,12 @@ fn answer_on<R: Threads + Wait + Sync, S: Source + Send + Drop, O: Opener<S>, G:
     gate: &G,
 ) -> Result<Answer, FileFault>
     requires { 1 ≤ command.now.piece }
-    ensures ok { IfOk result (λ answer. IsAnsweredBy (ways_of (O.opens opener.now) S.remaining S.has_failed) command.now word.now answer) }
-    ensures err { IfErr result (λ fault. IsFaultAt (ways_of (O.opens opener.now) S.remaining S.has_failed) command.now word.now fault) }
+    ensures ok { IfOk result (λ answer. IsAnsweredBy (ways_of (O.opens opener.now) (O.why opener.now) S.remaining S.has_failed) command.now word.now answer) }
+    ensures err { IfErr result (λ fault. IsFaultAt (ways_of (O.opens opener.now) (O.why opener.now) S.remaining S.has_failed) command.now word.now fault) }
 {
     let mut input = match opener.open(word) {
         Ok(input) => input,
-        Err(OpenFault::Closed) => return Err(FileFault::Open),
-        Err(OpenFault::Memory) => return Err(FileFault::Memory),
+        Err(fault) => return Err(FileFault::of_opening(fault)),
     };
     let mut lines = End::new(Vec::new(alloc));
     match report(rt, alloc, &mut input, &mut lines, command, gate) {
@@ -52,7 +53,7 @@ fn answer_on<R: Threads + Wait + Sync, S: Source + Send + Drop, O: Opener<S>, G:
             exit,
             lines: lines.inner,
         }),
-        Err(ReportFault::Read) => Err(FileFault::Read),
+        Err(ReportFault::Read) => Err(FileFault::Read(opener.why(&input))),
         Err(ReportFault::Pieces) => Err(FileFault::Pieces),
         // Nothing but want of memory keeps lines from being written there.
         Err(ReportFault::Memory | ReportFault::Write) => Err(FileFault::Memory),
@@ -69,8 +70,8 @@ fn part_of<R: Threads + Wait + Sync, S: Source + Send + Drop, O: Opener<S>, G: G
     gate: &G,
 ) -> Result<Part, FileFault>
     requires { 1 ≤ command.now.piece }
-    ensures ok { IfOk result (λ part. IsPartOf (ways_of (O.opens opener.now) S.remaining S.has_failed) command.now word.now part) }
-    ensures err { IfErr result (λ fault. IsFaultAt (ways_of (O.opens opener.now) S.remaining S.has_failed) command.now word.now fault) }
+    ensures ok { IfOk result (λ part. IsPartOf (ways_of (O.opens opener.now) (O.why opener.now) S.remaining S.has_failed) command.now word.now part) }
+    ensures err { IfErr result (λ fault. IsFaultAt (ways_of (O.opens opener.now) (O.why opener.now) S.remaining S.has_failed) command.now word.now fault) }
 {
     let answer = answer_on(rt, alloc, opener, word, command, gate)?;
     match named_lines(alloc, word, &answer.lines) {
@@ -79,29 +80,6 @@ fn part_of<R: Threads + Wait + Sync, S: Source + Send + Drop, O: Opener<S>, G: G
             status: Status::of_exit(answer.exit),
         }),
         Err(_) => Err(FileFault::Memory),
-    }
-}
-
-/// Writes the line for a fault.
-fn write_fault<E: Sink>(errors: &mut E, word: &str, fault: FileFault) -> Result<(), ReportFault>
-    requires { E.has_failed errors.old ≡ false }
-    ensures ok { OnOk result (Appends (E.contents errors.old) (E.contents errors.new) (fault_line word.now fault)) }
-    ensures failed { E.has_failed errors.new ≡ is_err result }
-{
-    write_whole(errors, b"jx: ")?;
-    write_whole(errors, word.as_bytes())?;
-    write_whole(errors, b": ")?;
-    write_whole(errors, fault.words().as_bytes())?;
-    write_whole(errors, b"\n")
-}
-
-/// Tells of a fault, unless telling has failed before.
-fn tell<E: Sink>(errors: &mut E, word: &str, fault: FileFault)
-    ensures told { E.has_failed errors.new ≡ false → Appends (E.contents errors.old) (E.contents errors.new) (fault_line word.now fault) }
-    ensures failed { E.has_failed errors.old ≡ true → E.has_failed errors.new ≡ true }
-{
-    if !errors.failed() {
-        let _ = write_fault(errors, word, fault);
     }
 }
 
@@ -125,9 +103,9 @@ fn report_on_one<
 ) -> Result<Status, ReportFault>
     requires writer { W.has_failed writer.old ≡ false }
     requires piece { 1 ≤ command.now.piece }
-    ensures ok { IfOk result (λ status. ReportsOne (ways_of (O.opens opener.now) S.remaining S.has_failed) command.now word.now
+    ensures ok { IfOk result (λ status. ReportsOne (ways_of (O.opens opener.now) (O.why opener.now) S.remaining S.has_failed) command.now word.now
         (W.contents writer.old) (W.contents writer.new) (E.has_failed errors.new) (E.contents errors.old) (E.contents errors.new) status) }
-    ensures err { OnErr result (ReportsPart (ways_of (O.opens opener.now) S.remaining S.has_failed) command.now word.now (W.contents writer.old) (W.contents writer.new)) }
+    ensures err { OnErr result (ReportsPart (ways_of (O.opens opener.now) (O.why opener.now) S.remaining S.has_failed) command.now word.now (W.contents writer.old) (W.contents writer.new)) }
     ensures fault { IfErr result (λ fault. fault ≡ ReportFault.Write) }
     ensures failed { W.has_failed writer.new ≡ is_err result }
     ensures lost { E.has_failed errors.old ≡ true → E.has_failed errors.new ≡ true }
@@ -153,8 +131,8 @@ fn word_at<'a>(words: &[&'a str], number: usize) -> &'a str
 }
 
 /// Opens what each word names, in the order of the words, and reports on it: each line of its output is written behind the
-/// word, a colon and a space, and a quiet command writes nothing. What is not to be had of one is told by a line, `jx: WORD:
-/// FAULT`, and the others are reported on. The status is the greatest of all.
+/// word as it is shown, a colon and a space, and a quiet command writes nothing. What is not to be had of one is told by a line,
+/// `jx: NAME: FAULT`, and the others are reported on. The status is the greatest of all.
 ///
 /// Each output stands in memory before it is written. Where a write fails, the rest of the words is left out. Where telling
 /// fails, no more is told.
@@ -177,10 +155,10 @@ pub fn report_on_each<
 ) -> Result<Status, ReportFault>
     requires writer { W.has_failed writer.old ≡ false }
     requires piece { 1 ≤ command.now.piece }
-    ensures ok { IfOk result (λ status. ReportsEach (ways_of (O.opens opener.now) S.remaining S.has_failed) command.now (map (λ word. word.now) words.now)
+    ensures ok { IfOk result (λ status. ReportsEach (ways_of (O.opens opener.now) (O.why opener.now) S.remaining S.has_failed) command.now (map (λ word. word.now) words.now)
         (W.contents writer.old) (W.contents writer.new) (E.has_failed errors.new) (E.contents errors.old) (E.contents errors.new) status) }
     // After a write fault a beginning of the output for the first words was written.
-    ensures err { OnErr result (ReportsFirst (ways_of (O.opens opener.now) S.remaining S.has_failed) command.now (map (λ word. word.now) words.now)
+    ensures err { OnErr result (ReportsFirst (ways_of (O.opens opener.now) (O.why opener.now) S.remaining S.has_failed) command.now (map (λ word. word.now) words.now)
         (W.contents writer.old) (W.contents writer.new)) }
     ensures fault { IfErr result (λ fault. fault ≡ ReportFault.Write) }
     ensures failed { W.has_failed writer.new ≡ is_err result }

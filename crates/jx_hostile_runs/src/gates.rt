@@ -5,13 +5,26 @@ use std::sync::atomic::{AtomicBool, AtomicU64, Ordering};
 /// More events than any of these runs has.
 pub const MANY: u64 = 1000;
 
-/// Stops at the event of this number and at all later ones. Events are counted from 0, once `begun` is true.
+/// Stops at the event of this number and at all later ones. Events are counted from 0, once `begun` is true. It notes
+/// whether a worker that was told to stop went on with the piece that it had.
 #[derive(Drop)]
 pub struct StopFrom<'a> {
     number: u64,
     begun: &'a AtomicBool,
     events: AtomicU64,
     has_stopped: AtomicBool,
+    // A bit for each worker that was told to stop as it last asked.
+    stopped: AtomicU64,
+    was_ignored: AtomicBool,
+}
+
+/// Whose step it is.
+fn worker_of(event: Event) -> usize {
+    match event {
+        Event::Drew { worker, .. } => worker,
+        Event::Stored { worker } => worker,
+        Event::Took { worker } => worker,
+    }
 }
 
 impl<'a> StopFrom<'a> {
@@ -21,6 +34,8 @@ impl<'a> StopFrom<'a> {
             begun,
             events: AtomicU64::new(0),
             has_stopped: AtomicBool::new(false),
+            stopped: AtomicU64::new(0),
+            was_ignored: AtomicBool::new(false),
         }
     }
 
@@ -28,15 +43,38 @@ impl<'a> StopFrom<'a> {
     pub fn has_stopped(&self) -> bool {
         self.has_stopped.load(Ordering::SeqCst)
     }
+
+    /// Whether a worker that was told to stop read its piece or moved a run all the same.
+    pub fn was_ignored(&self) -> bool {
+        self.was_ignored.load(Ordering::SeqCst)
+    }
+
+    /// Notes a step that is no draw where its worker had been told to stop.
+    fn note(&self, event: Event) {
+        let bit = 1u64 << (worker_of(event) % 64);
+        let is_stopped = self.stopped.load(Ordering::SeqCst) & bit != 0;
+        if is_stopped && !matches!(event, Event::Drew { .. }) {
+            self.was_ignored.store(true, Ordering::SeqCst);
+        }
+        self.stopped.fetch_and(!bit, Ordering::SeqCst);
+    }
+
+    /// Notes that a worker is told to stop.
+    fn stop(&self, event: Event) {
+        let bit = 1u64 << (worker_of(event) % 64);
+        self.stopped.fetch_or(bit, Ordering::SeqCst);
+        self.has_stopped.store(true, Ordering::SeqCst);
+    }
 }
 
 impl<'a> Gate for StopFrom<'a> {
-    fn pass(&self, _event: Event) -> Go {
+    fn pass(&self, event: Event) -> Go {
         let is_counted = self.begun.load(Ordering::SeqCst);
+        self.note(event);
         if !is_counted || self.events.fetch_add(1, Ordering::SeqCst) < self.number {
             return Go::On;
         }
-        self.has_stopped.store(true, Ordering::SeqCst);
+        self.stop(event);
         Go::Stop
     }
 }

@@ -55,3 +55,4 @@ pub mod Showing
 pub mod FindersKeeping
 pub mod FindEach
 pub mod FoundFronts
+pub mod Feeding

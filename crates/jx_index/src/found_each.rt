@@ -42,7 +42,7 @@ fn read_one(
 }
 
 /// What each pointer leads to, in order.
-fn read_each(
+pub(crate) fn read_each(
     alloc: Global,
     edges: &[Edge],
     starts: &[usize],

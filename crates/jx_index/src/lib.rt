@@ -5,6 +5,7 @@ mod array_token;
 mod builder;
 mod child_lists;
 mod children;
+mod fed;
 mod find;
 mod find_fault;
 mod finder;
@@ -37,8 +38,9 @@ mod units;
 mod wanted;
 
 pub use children::Children;
+pub use fed::answers_of;
 pub use find_fault::FindFault;
-pub use finder::Found;
+pub use finder::{Cursor, Found, Met, State};
 pub use found_by::find_by;
 pub use found_each::{find_each_by, find_each_in};
 pub use found_in::find_in;
@@ -51,5 +53,9 @@ pub use laws::{
 pub use pointer::{Pointer, PointerFault};
 pub use row::{NodeId, Row};
 pub use rows_alone::{read_rows, rows_from};
+pub use seeker::Seeker;
+pub use starts::starts_of;
 pub use text_answer::TextAnswer;
+pub use trie::Edge;
+pub use trie_build::trie_of;
 pub use unique_names::{repeated_name, verdict_with_unique_names};

@@ -45,11 +45,7 @@ fn innermost(opened: &[Cursor]) -> Option<Cursor>
 
 impl<'s> Seeker<'s> {
     /// Nothing was met yet at the nodes behind so many edges.
-    pub(crate) fn new(
-        alloc: Global,
-        edges: usize,
-        starts: &'s [usize],
-    ) -> Result<Seeker<'s>, AllocError>
+    pub fn new(alloc: Global, edges: usize, starts: &'s [usize]) -> Result<Seeker<'s>, AllocError>
         ensures state { IfOk result (λ seeker. finding seeker.state ≡ nothing_met edges) }
         ensures next { IfOk result (λ seeker. seeker.next ≡ 0) }
     {

@@ -105,10 +105,7 @@ fn sort_parts(parts: &mut Vec<Part>)
 }
 
 /// The trie of the pointers' tokens. Each level costs no more than to sort what is left of the pointers.
-pub(crate) fn trie_of<'p>(
-    alloc: Global,
-    pointers: &[Pointer<'p>],
-) -> Result<Vec<Edge<'p>>, AllocError>
+pub fn trie_of<'p>(alloc: Global, pointers: &[Pointer<'p>]) -> Result<Vec<Edge<'p>>, AllocError>
     ensures trie { IfOk result (λ edges. IsTrie edges.items) }
     ensures ways { IfOk result (λ edges. All (λ (pointer : List ℕ). HasWay edges.items pointer) pointers.now) }
 {

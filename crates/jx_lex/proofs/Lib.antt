@@ -1,4 +1,5 @@
 pub mod Building
+pub mod Bits
 pub mod Bundles
 pub mod ByteFacts
 pub mod ByteTable
@@ -8,6 +9,7 @@ pub mod ClassTable
 pub mod Closing
 pub mod Completes
 pub mod Counting
+pub mod Escapes
 pub mod Fewness
 pub mod Forward
 pub mod Going
@@ -33,3 +35,4 @@ pub mod Stays
 pub mod StringChars
 pub mod Unescaped
 pub mod Walking
+pub mod Whole

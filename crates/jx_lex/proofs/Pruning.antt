@@ -139,11 +139,6 @@ track-pruned l r rs live wl wr long heads segments reached s =
 
 -- ---- states that are noted
 
-pub noted-length : (g : Link) (live : List Bool) → length (with_exit_of g live) ≡ length live
-noted-length (State s) live = length-set live (ordinal s) true
-noted-length (Ahead k) live = refl
-noted-length (Fault at) live = refl
-
 pub noted-here : (g : Link) (live : List Bool) → length live ≡ 32 → LiveAt (with_exit_of g live) g
 noted-here (State s) live all = live-new s live all
 noted-here (Ahead k) live all = tt

@@ -147,11 +147,6 @@ reads-apart at b p q a = reads-byte at b (p ∷ q ∷ []) (few-single b (p ∷ q
 
 -- ---- bytes that change only one of them
 
-kept-first : (b : ℕ) (w : List ℕ) (g : Link) → KeptBy g (b ∷ w) → KeptBy g (b ∷ [])
-kept-first b w (State s) h = (h.0, tt)
-kept-first b w (Ahead k) h = tt
-kept-first b w (Fault at) h = tt
-
 kept-rest : (b : ℕ) (w : List ℕ) (g : Link) → KeptBy g (b ∷ w) → KeptBy g w
 kept-rest b w (State s) h = h.1
 kept-rest b w (Ahead k) h = tt
@@ -226,11 +221,6 @@ reads-middle at (b ∷ w) xs ys p hx hy =
 -- what a stretch does not change it may be passed over for
 pub kept-bytes : (at : ℕ) (w : List ℕ) (p : SegmentValue) → KeptBy p.next w → read_bytes at w p ≡ p
 kept-bytes at w p h = ap (λ v. read_bytes at v p) (sym (append-nil w)) ∙ pass-over at w [] p p.next refl (kept-leads p.next w h)
-
-pub kept-closed : (w : List ℕ) (g : Link) → IsClosed g → KeptBy g w
-kept-closed w (Ahead k) h = tt
-kept-closed w (Fault at) h = tt
-kept-closed w (State s) h = absurd h
 
 -- one of two, the other of which the stretch does not change; then both may be said to read it
 pub reads-first : (at : ℕ) (w : List ℕ) (p q : SegmentValue) → KeptBy q.next w → ReadsOn at w (p ∷ q ∷ []) (read_bytes at w p ∷ q ∷ [])
@@ -400,10 +390,6 @@ reads-third at w s p q e f =
     (subst (ReadsOn at [] (p ∷ q ∷ [])) (met-two s p q e f) (reads-met at s p (q ∷ []) e))
     (subst (λ i. ReadsOn i w (p1 ∷ q1 ∷ opening s ∷ []) (p1 ∷ q1 ∷ read_bytes at w (opening s) ∷ [])) z
     (reads-middle at w (p1 ∷ q1 ∷ []) [] (opening s) (tt, (tt, tt)) tt))
-
--- nothing left to read
-pub reads-end : (xs : List ℕ) (i to : ℕ) (ps : List SegmentValue) → i ≡ to → ReadsOn i (slice_range xs i to) ps ps
-reads-end xs i to ps e = subst (λ n. ReadsOn i (slice_range xs i n) ps ps) e (rw (slice-none xs i) (reads-none i ps))
 
 -- ---- a span from every state
 

@@ -1,9 +1,9 @@
 -- Bytes that keep the state, or lead back to it, with no event may be passed over.
 use Rattle.std.proofs.Common.{◌≡◌, ℕ, zero, suc, ◌+◌, ◌-◌, ◌<◌, ◌≤◌, Bool, true, false, not, List, [], ◌∷◌, ◌++◌, length, take, drop, get_or, refl, ap, sym, subst, ◌∙◌, arith}
 use Rattle.std.specs.Prelude.{slice_range}
+use Rattle.std.specs.Simd.Lanes.{chunk}
 use Rattle.std.specs.Slice.Scan.{IsFirstPlace}
-use Rattle.std.proofs.lemmas.List.{get_or-drop, drop-drop}
-use Rattle.std.proofs.Math.Seq.{take-add}
+use Rattle.std.proofs.lemmas.List.{get_or-drop}
 use Rattle.std.proofs.lemmas.Bool.{not-false}
 use Rattle.std.proofs.lemmas.Bool.Decides.{nat_tests}
 use Rattle.jx_lex.specs.declared.alphabet.class.Class.{Class}
@@ -16,6 +16,7 @@ use Rattle.jx_lex.specs.Moves.{move, go}
 use Rattle.jx_lex.specs.Lex.{Track, lex, after_step, on_next}
 use Rattle.jx_lex.specs.Uneventful.{AllKeep, Leads, is_plain, is_digit, is_blank}
 use Rattle.jx_lex.proofs.ClassTable.{all_below, all_below-at, implies, implies-use}
+use Rattle.jx_lex.proofs.Slices.{slice-split}
 use Rattle.jx_lex.proofs.Forward.{AllStep, is_one_of, row-one_of, ordinary_classes, all_ordinary}
 
 -- ---- reading over a run
@@ -40,10 +41,6 @@ AllKeep-leads s (b ∷ u) h = (s, h.0, AllKeep-leads s u h.1)
 -- bytes that keep the state and have no event may be passed over
 pub lex-keeps : (s : LexState) (at : ℕ) (u v : List ℕ) → AllKeep s u → lex s at (u ++ v) ≡ lex s (at + length u) v
 lex-keeps s at u v h = lex-leads s s at u v (AllKeep-leads s u h)
-
-pub AllKeep-more : (s : LexState) (u : List ℕ) (b : ℕ) → AllKeep s u → move s b ≡ go s → AllKeep s (u ++ b ∷ [])
-AllKeep-more s [] b h k = (k, tt)
-AllKeep-more s (x ∷ u) b h k = (h.0, AllKeep-more s u b h.1 k)
 
 pub Leads-append : (s t r : LexState) (u v : List ℕ) → Leads s u t → Leads t v r → Leads s (u ++ v) r
 Leads-append s t r [] v h k = subst (λ s. Leads s v r) (sym h) k
@@ -79,7 +76,7 @@ digit_small b h = grind (arith, nat_tests)
 blank_small : (b : ℕ) → is_blank b ≡ true → b < 256
 blank_small b h = grind (arith, nat_tests)
 
-plain_keeps : (b : ℕ) → not (is_plain b) ≡ false → move state.Str b ≡ go state.Str
+pub plain_keeps : (b : ℕ) → not (is_plain b) ≡ false → move state.Str b ≡ go state.Str
 plain_keeps b h = keeps_class is_plain state.Str ordinary_classes all_ordinary refl b (plain_small b (not-false _ h)) h
 
 digit_keeps : (s : LexState) → AllStep s (go s) (class.Zero ∷ class.Digit ∷ []) → (b : ℕ) → not (is_digit b) ≡ false → move s b ≡ go s
@@ -105,12 +102,6 @@ blank_stretch = AllKeep-run is_blank state.Gap blank_keeps
 
 -- ---- stretches one after another
 
-slice-split : (xs : List ℕ) (a b c : ℕ) → a ≤ b → b ≤ c → slice_range xs a c ≡ slice_range xs a b ++ slice_range xs b c
-slice-split xs a b c low high =
-    let e : c - a ≡ (b - a) + (c - b) = omega arith in
-    let f : a + (b - a) ≡ b = omega arith in
-    ap (λ n. take n (drop a xs)) e ∙ take-add (b - a) (c - b) (drop a xs) ∙ ap (λ ys. take (b - a) (drop a xs) ++ take (c - b) ys) (drop-drop (b - a) a xs ∙ ap (λ n. drop n xs) f)
-
 pub Leads-join : (xs : List ℕ) (a b c : ℕ) → a ≤ b → b ≤ c → Leads state.Str (slice_range xs a b) state.Str → Leads state.Str (slice_range xs b c) state.Str
     → Leads state.Str (slice_range xs a c) state.Str
 Leads-join xs a b c low high h k = subst (λ l. Leads state.Str l state.Str) (sym (slice-split xs a b c low high)) (Leads-append state.Str state.Str state.Str (slice_range xs a b) (slice_range xs b c) h k)
@@ -133,6 +124,12 @@ char_leads xs i to n within leads =
     let e : i + n - i ≡ n = omega arith in
     let same : take n (slice_range xs i to) ≡ slice_range xs i (i + n) = take-again n (to - i) (drop i xs) (omega (arith, within, short)) ∙ ap (λ m. take m (drop i xs)) (sym e) in
     subst (λ l. Leads state.Str l state.Str) same leads
+
+-- the first bytes of a block
+pub block_leads : (xs : List ℕ) (i n m : ℕ) → n ≤ m → Leads state.Str (take n (chunk i m xs)) state.Str → Leads state.Str (slice_range xs i (i + n)) state.Str
+block_leads xs i n m few leads =
+    let e : i + n - i ≡ n = omega arith in
+    subst (λ l. Leads state.Str l state.Str) (take-again n m (drop i xs) few ∙ ap (λ k. take k (drop i xs)) (sym e)) leads
 
 pub plain_leads : (xs : List ℕ) (from r : ℕ) → AllKeep state.Str (slice_range xs from r) → Leads state.Str (slice_range xs from r) state.Str
 plain_leads xs from r = AllKeep-leads state.Str (slice_range xs from r)

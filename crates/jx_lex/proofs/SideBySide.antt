@@ -202,13 +202,6 @@ some-read xs at j live now l o b new low high rl sl ro so closed on stand same =
       rw (cut, same) (Stands-joined (get_or xs at 0 ∷ []) w live l r rl.all sl sr),
     )
 
-pub some-none : (xs : List ℕ) (at : ℕ) (live : List Bool) (l : Bundle) → at < length xs
-    → IsBundleOf at (get_or xs at 0 ∷ []) live l → Stands (get_or xs at 0 ∷ []) live l
-    → IsBundleOf at (slice_range xs at (at + 1)) live l × Stands (slice_range xs at (at + 1)) live l
-some-none xs at live l low r s =
-    let cut : slice_range xs at (at + 1) ≡ get_or xs at 0 ∷ [] = slice-more xs at at 0 (omega arith) low ∙ ap (λ ys. ys ++ get_or xs at 0 ∷ []) (slice-none xs at) in
-    (rw cut r, rw cut s)
-
 -- one byte for all of them, and then a stretch that changes none
 pub apart-step : (xs : List ℕ) (from i j : ℕ) (ps qs rs : List SegmentValue) → from ≤ i → i < length xs → i + 1 ≤ j → j ≤ length xs
     → ReadsOn from (slice_range xs from i) ps qs → ((s : LexState) → held_by s qs ≤ 1) → rs ≡ map (read_segment i (get_or xs i 0)) qs → AllKept (slice_range xs (i + 1) j) rs

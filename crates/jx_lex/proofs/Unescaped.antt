@@ -1,6 +1,6 @@
 -- Well-formed UTF-8 with no quotation mark, backslash or control character leads from inside a string back to there.
 use Rattle.std.proofs.Common.{◌≡◌, ℕ, zero, suc, ◌+◌, ◌-◌, ◌/◌, ◌<◌, ◌≤◌, true, not, List, [], ◌∷◌, ◌++◌, length, get_or, take, drop, refl, ap, sym, subst, ◌∙◌, inl, inr, arith, lt-ltb, le-ltb}
-use Rattle.std.specs.Prelude.{slice_range}
+use Rattle.std.specs.Prelude.{◌&&◌, nat_le, nat_lt, slice_range}
 use Rattle.std.specs.Str.{IsUtf8, IsCharBoundary}
 use Rattle.std.specs.Slice.Scan.{IsFirstPlace}
 use Rattle.std.proofs.lemmas.Bool.{cases_lt, and_parts, not-false}
@@ -131,3 +131,7 @@ stretch_led xs a b i r ai ib within utf8 lead first =
     ) in
     let middle : IsUtf8 (take ((r - a) - (i - a)) (drop (i - a) w)) = IsUtf8-between w (i - a) (r - a) utf8 (omega arith) begins ends in
     utf8_leads (slice_range xs i r) (subst IsUtf8 (slice-slice xs a b i r ai ir rb) middle) (stretch-unescaped xs i b r first)
+
+-- the byte stands in a tested stretch
+pub covered : (a b i to : ℕ) → (nat_le a i && nat_lt i b && nat_le b to) ≡ true → (a ≤ i) × (i < b)
+covered a b i to h = (grind (arith, nat_tests), grind (arith, nat_tests))

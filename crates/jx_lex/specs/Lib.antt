@@ -1,3 +1,4 @@
+pub mod Ahead
 pub mod Character
 pub mod Classes
 pub mod Follow
@@ -13,4 +14,5 @@ pub mod TokenStates
 pub mod TokenSteps
 pub mod TwoPieces
 pub mod View
+pub mod Whole
 pub mod inside

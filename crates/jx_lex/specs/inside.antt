@@ -1,5 +1,5 @@
 -- What the contracts of this crate's own functions cite, and no public one.
-pub mod Ahead
+pub mod Bits
 pub mod Bundle
 pub mod Cells
 pub mod Closed

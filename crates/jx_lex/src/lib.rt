@@ -25,6 +25,8 @@ pub use map::link::Link;
 pub use map::path::Path;
 pub use map::segment::Segment;
 pub use map::track_view::TrackView;
+pub use scanner::ahead::Ahead;
 pub use scanner::scan;
 pub use scanner::sink::TokenSink;
 pub use scanner::tokens::Tokens;
+pub use scanner::whole::{pass_blanks, pass_literal, pass_number, pass_string};

@@ -1,7 +1,7 @@
 // Reading bytes from a known lexical state, whatever is kept of the tokens.
 ghost use Rattle.std.specs.Prelude.{◌≡◌, ◌≤◌, ◌<◌, ◌+◌, ◌∷◌, [], ◌^◌, ℕ, List, length, OnOk, IfOk, IfSome, IsNone, IsTrue, slice_range};
 ghost use Rattle.jx_lex.specs.declared.alphabet.state.LexState.TheVariants as state;
-ghost use Rattle.jx_lex.specs.inside.Ahead.{IsSound};
+ghost use Rattle.jx_lex.specs.Ahead.{IsSound};
 ghost use Rattle.jx_lex.specs.inside.Cells.{step_of};
 ghost use Rattle.jx_lex.specs.Lex.{lex, with_mark, with_end};
 ghost use Rattle.jx_lex.specs.Moves.{move};
@@ -10,10 +10,12 @@ ghost use Rattle.jx_lex.specs.View.{exit_of};
 
 pub(crate) mod ahead;
 pub(crate) mod byte_sets;
+pub(crate) mod escape_blocks;
 pub(crate) mod sink;
 pub(crate) mod string_chars;
 pub(crate) mod token_rest;
 pub(crate) mod tokens;
+pub(crate) mod whole;
 
 use crate::alphabet::cell::Cell;
 use crate::alphabet::class::{Class, class_of};
@@ -247,8 +249,27 @@ fn literal<K: TokenSink>(
     Ok(end)
 }
 
+/// Lets the sink read whole tokens by itself, from between tokens on, and gives their end.
+#[inline(always)]
+fn pass_on<K: TokenSink>(
+    sink: &mut K,
+    state: LexState,
+    text: &[u8],
+    from: usize,
+    to: usize,
+) -> usize
+    requires { (from ≤ to) × (to ≤ length text.now) }
+    ensures bounds { (from ≤ result) × (result ≤ to) }
+    ensures read { GoesTo (K.has_seen sink.old) (K.has_seen sink.new) (lex state from (slice_range text.now from result)) state }
+{
+    match state {
+        LexState::Gap => sink.pass(text, from, to),
+        _ => from,
+    }
+}
+
 /// Reads on from the state to which this byte led, over the rest of a token or over blanks. Gives their end, and sets the
-/// state behind them.
+/// state behind them. Behind a string, a comma or blanks the sink may go on by itself.
 #[inline(always)]
 fn read_rest<K: TokenSink>(
     sink: &mut K,
@@ -266,8 +287,17 @@ fn read_rest<K: TokenSink>(
     ensures sound { OnOk result (IsSound text.now ahead.new) }
 {
     match *state {
-        LexState::Str => string_rest(sink, state, text, from, to, ahead),
-        LexState::Gap => Ok(gap_end(text, byte, from, to)),
+        LexState::Str => {
+            let end = string_rest(sink, state, text, from, to, ahead)?;
+            Ok(pass_on(sink, *state, text, end, to))
+        }
+        LexState::Gap => {
+            let end = gap_end(text, byte, from, to);
+            if byte >= b'[' {
+                return Ok(end);
+            }
+            Ok(sink.pass(text, end, to))
+        }
         LexState::Minus | LexState::Zero | LexState::Int => {
             let end = number(sink, state, text, from, to)?;
             Ok(end)

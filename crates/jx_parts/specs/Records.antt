@@ -1,6 +1,8 @@
 -- Records of the parts of a text, one behind another.
-use Rattle.std.specs.Prelude.{ℕ, ◌+◌, List, [], ◌∷◌, length, Option, None, Some, ⊤}
-use Rattle.jx_portion.specs.Portion.{IsRecord}
+use Rattle.std.specs.Prelude.{◌≡◌, ℕ, ◌+◌, ◌<◌, List, [], ◌∷◌, ◌++◌, length, Option, None, Some, ⊤}
+use Rattle.std.specs.List.{concat}
+use Rattle.jx_portion.specs.Fields.{RunFields}
+use Rattle.jx_portion.specs.Portion.{IsRecord, IsSpelt}
 
 -- where a part begins that stands so many bytes behind another, if the parts tell where they begin
 abbrev pub behind : Option ℕ → ℕ → Option ℕ
@@ -13,3 +15,16 @@ AreRecords depth from [] [] = ⊤
 AreRecords depth from [] (one ∷ records) = ⊥
 AreRecords depth from (part ∷ parts) [] = ⊥
 AreRecords depth from (part ∷ parts) (one ∷ records) = IsRecord part from depth one × AreRecords depth (behind from (length part)) parts records
+
+-- these spell runs of this depth, of so many bytes together, each of which begins where the one before it ends
+pub data AreRuns (depth : ℕ) (from : Option ℕ) : List (List ℕ) → ℕ → Type 0 where
+  no_run : AreRuns depth from [] 0
+  one_more : {records : List (List ℕ)} {count : ℕ} → AreRuns depth from records count → (bytes : List ℕ) (fields : RunFields) → IsSpelt depth fields bytes
+      → fields.from ≡ behind from count → AreRuns depth from (records ++ bytes ∷ []) (count + fields.end)
+
+-- a stream of such runs, of one at least
+pub record HoldsRuns (depth : ℕ) (from : Option ℕ) (count : ℕ) (stream : List ℕ) : Type 0 where
+  pub records : List (List ℕ)
+  pub whole : stream ≡ concat records
+  pub some : 0 < length records
+  pub runs : AreRuns depth from records count

@@ -9,12 +9,15 @@ use Rattle.jx_report.specs.Output.{ByVerdict, SaysAccepted}
 use Rattle.jx_report.specs.Reports.{shown_output}
 use Rattle.jx_run.specs.declared.texts.verdict.Verdict.{Verdict}
 use Rattle.jx_run.specs.Verdict.{Judged}
-use Rattle.jx_parts.specs.Records.{AreRecords}
+use Rattle.jx_parts.specs.Records.{AreRecords, HoldsRuns}
 
--- the record of the text, where the stream has the records of its parts
-abbrev pub Joins : ℕ → List ℕ → List ℕ → Type 0
-Joins depth stream output = (from : Option ℕ) (parts records : List (List ℕ)) → stream ≡ concat records → AreRecords depth from parts records
-    → IsRecord (concat parts) from depth output
+-- the stream has runs of neighbours, and where they are the records of the parts of a text, that of the text is written
+pub record Joins (depth : ℕ) (stream output : List ℕ) : Type 0 where
+  pub from : Option ℕ
+  pub count : ℕ
+  pub holds : HoldsRuns depth from count stream
+  pub joined : (start : Option ℕ) (parts records : List (List ℕ)) → stream ≡ concat records → AreRecords depth start parts records
+      → IsRecord (concat parts) start depth output
 
 -- the verdict on the text from one offset to the other, where the stream has the records of its parts
 pub record IsOnText (from to depth : ℕ) (start : Option ℕ) (text : List ℕ) (verdict : Verdict) : Type 0 where
@@ -42,8 +45,13 @@ pub record WritesInPart (IsFor : List ℕ → List ℕ → Type 0) (unread left 
   pub answer : IsFor text output
   pub wrote : AppendsBeginning written grown output
 
--- the line of the verdict on the text that the records are of, and the exit
+-- the stream has runs of neighbours that cover the text, and the line of the verdict on the text that the records are of is written
 pub record SaysWhole (from to depth : ℕ) (quiet : Bool) (exit : Exit) (stream shown : List ℕ) : Type 0 where
+  pub start : Option ℕ
+  pub count : ℕ
+  pub holds : HoldsRuns depth start count stream
+  pub begins : unwrap_or start 0 ≡ from
+  pub ends : from + count ≡ to
   pub verdict : Verdict
   pub output : List ℕ
   pub judges : Judges from to depth stream verdict

@@ -1,8 +1,9 @@
 // What the next record of a stream says.
-ghost use Rattle.std.specs.Prelude.{◌≡◌, ◌≢◌, ◌↔◌, ℕ, List, Option, false, true, IfOk, IfErr, IsErrOf};
-ghost use Rattle.jx_portion.specs.Portion.{IsPortion, IsRecord};
+ghost use Rattle.std.specs.Prelude.{◌≡◌, ◌≢◌, ◌↔◌, [], ℕ, List, Option, Some, false, true, IfOk, IfErr, IsErrOf};
+ghost use Rattle.jx_portion.specs.Portion.{IsPortion, IsRecord, IsSaidBy};
 ghost use Rattle.jx_report.specs.declared.report_fault.ReportFault.TheVariants.{Read, Write};
-ghost use Rattle.jx_parts.specs.inside.Reading.{IsNext};
+ghost use Rattle.jx_parts.specs.Refusals.{IsNoRecord, IsNoRun};
+ghost use Rattle.jx_parts.specs.inside.Reading.{IsFaultOf, IsNext};
 
 use crate::parts_fault::{PartsFault, fault_of_run};
 use crate::record_reading::next_record;
@@ -14,6 +15,8 @@ use std::alloc::Global;
 /// The portion that a record says, whose number is told where it is refused.
 fn portion_by(alloc: Global, bytes: &[u8], number: usize) -> Result<Portion, PartsFault>
     ensures reads { IfOk result (λ p. (part : List ℕ) (from : Option ℕ) (depth : ℕ) → IsRecord part from depth bytes.now → IsPortion part from depth p) }
+    ensures found { IfOk result (IsSaidBy bytes.now) }
+    ensures refused { IfErr result (IsFaultOf number (IsNoRun bytes.now)) }
     ensures unread { IfErr result (λ fault. fault ≢ PartsFault.Report Read) }
     ensures unwritten { IfErr result (λ fault. fault ≢ PartsFault.Report Write) }
 {
@@ -32,7 +35,9 @@ pub(crate) fn next_portion<S: Source>(
     number: usize,
 ) -> Result<Option<Portion>, PartsFault>
     requires unfailed { S.has_failed reader.old ≡ false }
-    ensures ok { IfOk result (IsNext (S.remaining reader.old) (S.remaining reader.new)) }
+    ensures ok { IfOk result (IsNext depth (S.remaining reader.old) (S.remaining reader.new)) }
+    ensures refused { (stream : List ℕ) → S.remaining reader.old ≡ Some stream
+        → IfErr result (IsFaultOf number (λ why. (stream ≢ []) × IsNoRecord depth stream why)) }
     ensures read { IsErrOf result (PartsFault.Report Read) ↔ (S.has_failed reader.new ≡ true) }
     ensures going { IfOk result (λ _. S.has_failed reader.new ≡ false) }
     ensures unwritten { IfErr result (λ fault. fault ≢ PartsFault.Report Write) }

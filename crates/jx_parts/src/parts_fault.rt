@@ -1,6 +1,8 @@
 // Why work on the parts of a text gives no answer.
-ghost use Rattle.std.specs.Prelude.{◌≢◌};
+ghost use Rattle.std.specs.Prelude.{◌≡◌, ◌≢◌};
 ghost use Rattle.jx_report.specs.declared.report_fault.ReportFault.TheVariants.{Read, Write};
+ghost use Rattle.jx_parts.specs.Refusals.{refusal_of};
+ghost use Rattle.jx_parts.specs.inside.Reading.{fault_of_run};
 
 use jx_portion::{DecodeFault, RunFault};
 use jx_report::ReportFault;
@@ -85,7 +87,9 @@ pub enum RunRefusal {
 }
 
 /// Why a record is not taken, by what its reader says.
-fn refusal_of(fault: RunFault) -> RunRefusal {
+fn refusal_of(fault: RunFault) -> RunRefusal
+    ensures { result ≡ refusal_of fault }
+{
     match fault {
         RunFault::NotARun => RunRefusal::NotARun,
         RunFault::OtherVersion => RunRefusal::OtherVersion,
@@ -97,6 +101,7 @@ fn refusal_of(fault: RunFault) -> RunRefusal {
 
 /// The fault of the record with this number, by what its reader says.
 pub(crate) fn fault_of_run(fault: DecodeFault, number: usize) -> PartsFault
+    ensures is { result ≡ fault_of_run fault number }
     ensures unread { result ≢ PartsFault.Report Read }
     ensures unwritten { result ≢ PartsFault.Report Write }
 {

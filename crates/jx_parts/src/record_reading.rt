@@ -1,8 +1,10 @@
 // The bytes of the next record of a stream.
-ghost use Rattle.std.specs.Prelude.{◌≡◌, ◌≢◌, ◌<◌, ◌≤◌, ◌↔◌, ◌++◌, ℕ, List, length, false, true, vec_len, IfOk, IfErr, IsErrOf};
+ghost use Rattle.std.specs.Prelude.{◌≡◌, ◌≢◌, ◌+◌, ◌<◌, ◌≤◌, ◌↔◌, ◌++◌, [], ℕ, List, Some, length, false, true, vec_len, IfOk, IfErr, IsErrOf};
 ghost use Rattle.std.specs.Io.KnownBytes.{Consumes, IsAtEnd};
 ghost use Rattle.jx_report.specs.declared.report_fault.ReportFault.TheVariants.{Read, Write};
-ghost use Rattle.jx_parts.specs.inside.Reading.{told_size, IsCut, IsNextRecord};
+ghost use Rattle.jx_parts.specs.Refusals.{most, IsHead, IsNoHead, IsNoRecord};
+ghost use Rattle.jx_parts.specs.inside.Reading.{told_depth, told_size, IsFaultOf, IsNextRecord};
+ghost use Rattle.jx_parts.specs.declared.parts_fault.RunRefusal.TheVariants as refusal;
 
 use crate::parts_fault::{PartsFault, RunRefusal, fault_of_run};
 use jx_lex::Depth;
@@ -36,7 +38,9 @@ const MOST: usize = 4096;
 const MOST_A_CONTAINER: usize = 1120;
 
 /// The greatest size of a record that is read with this depth.
-fn most(depth: Depth) -> usize {
+fn most(depth: Depth) -> usize
+    ensures { result ≡ most depth }
+{
     MOST + MOST_A_CONTAINER * depth.containers() as usize
 }
 
@@ -44,8 +48,11 @@ fn most(depth: Depth) -> usize {
 #[tactic(auto, using(crate::proofs::Heads::head_told))]
 fn size_by(head: &[u8], depth: Depth, number: usize) -> Result<usize, PartsFault>
     ensures size { IfOk result (λ size. size ≡ told_size head.now) }
+    ensures depth { IfOk result (λ _. told_depth head.now ≡ depth) }
     ensures least { IfOk result (λ size. 24 ≤ size) }
     ensures whole { IfOk result (λ _. 24 ≤ length head.now) }
+    ensures head { IfOk result (λ size. IsHead depth size head.now) }
+    ensures refused { IfErr result (IsFaultOf number (IsNoHead depth head.now)) }
     ensures unread { IfErr result (λ fault. fault ≢ PartsFault.Report Read) }
     ensures unwritten { IfErr result (λ fault. fault ≢ PartsFault.Report Write) }
 {
@@ -78,6 +85,8 @@ fn read_behind<S: Source>(
     requires head { vec_len bytes ≤ size }
     ensures ok { IfOk result (λ whole. (rest : List ℕ) × (Consumes (S.remaining reader.old) (S.remaining reader.new) rest × (whole.items ≡ bytes.items ++ rest))) }
     ensures long { IfOk result (λ whole. vec_len whole ≡ size) }
+    ensures refused { (stream : List ℕ) → S.remaining reader.old ≡ Some stream
+        → IfErr result (IsFaultOf number (λ why. (vec_len bytes + length stream < size) × (why ≡ refusal.CutShort))) }
     ensures read { IsErrOf result (PartsFault.Report Read) ↔ (S.has_failed reader.new ≡ true) }
     ensures going { IfOk result (λ _. S.has_failed reader.new ≡ false) }
     ensures unwritten { IfErr result (λ fault. fault ≢ PartsFault.Report Write) }
@@ -101,7 +110,9 @@ pub(crate) fn next_record<S: Source>(
     number: usize,
 ) -> Result<Option<Vec<u8>>, PartsFault>
     requires unfailed { S.has_failed reader.old ≡ false }
-    ensures ok { IfOk result (IsNextRecord (S.remaining reader.old) (S.remaining reader.new)) }
+    ensures ok { IfOk result (IsNextRecord depth (S.remaining reader.old) (S.remaining reader.new)) }
+    ensures refused { (stream : List ℕ) → S.remaining reader.old ≡ Some stream
+        → IfErr result (IsFaultOf number (λ why. (stream ≢ []) × IsNoRecord depth stream why)) }
     ensures read { IsErrOf result (PartsFault.Report Read) ↔ (S.has_failed reader.new ≡ true) }
     ensures going { IfOk result (λ _. S.has_failed reader.new ≡ false) }
     ensures unwritten { IfErr result (λ fault. fault ≢ PartsFault.Report Write) }

@@ -3,6 +3,7 @@ ghost use Rattle.std.specs.Prelude.{◌≡◌, ◌≢◌, ◌↔◌, false, true
 ghost use Rattle.std.specs.Io.KnownBytes.{Appends};
 ghost use Rattle.jx_report.specs.Ends.{AppendsBeginning};
 ghost use Rattle.jx_report.specs.declared.report_fault.ReportFault.TheVariants.{Read, Write};
+ghost use Rattle.jx_parts.specs.Refusals.{IsReport};
 ghost use Rattle.jx_parts.specs.inside.Writing.{IsWritten};
 
 use crate::parts_fault::PartsFault;
@@ -23,6 +24,7 @@ pub(crate) fn write_record<W: Sink>(
         → IsWritten (AppendsBeginning (W.contents writer.old) (W.contents writer.new)) portion.now }
     ensures unwritten { IfErr result (λ fault. fault ≢ PartsFault.Report Write → writer.new ≡ writer.old) }
     ensures unread { IfErr result (λ fault. fault ≢ PartsFault.Report Read) }
+    ensures only { IfErr result IsReport }
 {
     let bytes = portion.encode(alloc)?;
     write_whole(writer, &bytes)?;

@@ -1,7 +1,8 @@
 // What is written for a part, for the runs of parts, and for the runs of a whole text.
-ghost use Rattle.std.specs.Prelude.{◌≡◌, ◌≢◌, ◌↔◌, true, false, IfOk, IfErr, IsErrOf, OnOk};
+ghost use Rattle.std.specs.Prelude.{◌≡◌, ◌≢◌, ◌↔◌, ℕ, List, Some, true, false, IfOk, IfErr, IsErrOf, OnOk};
 ghost use Rattle.jx_portion.specs.Portion.{IsRecord};
 ghost use Rattle.jx_report.specs.declared.report_fault.ReportFault.TheVariants.{Read, Write};
+ghost use Rattle.jx_parts.specs.Refusals.{IsJoinFault, IsReport, IsWholeFault};
 ghost use Rattle.jx_parts.specs.Reports.{Joins, SaysWhole, SaysWholeSo, Writes, WritesInPart};
 
 use crate::joining::read_joined;
@@ -28,7 +29,9 @@ pub fn report_part<S: Source, W: Sink>(
         (W.contents writer.old) (W.contents writer.new)) }
     ensures read { IsErrOf result (PartsFault.Report Read) ↔ (S.has_failed reader.new ≡ true) }
     ensures write { IsErrOf result (PartsFault.Report Write) ↔ (W.has_failed writer.new ≡ true) }
-    // After any other fault the writer is as it was.
+    // It refuses no bytes.
+    ensures only { IfErr result IsReport }
+    // After any fault but a write fault the writer is as it was.
     ensures unwritten { IfErr result (λ fault. fault ≢ PartsFault.Report Write → writer.new ≡ writer.old) }
     // After a write fault all was read, and a beginning of its record was written.
     ensures beginning { IsErrOf result (PartsFault.Report Write) → WritesInPart (λ text output. IsRecord text from depth output) (S.remaining reader.old)
@@ -53,6 +56,8 @@ pub fn report_joined<S: Source, W: Sink>(
         (W.contents writer.old) (W.contents writer.new)) }
     ensures read { IsErrOf result (PartsFault.Report Read) ↔ (S.has_failed reader.new ≡ true) }
     ensures write { IsErrOf result (PartsFault.Report Write) ↔ (W.has_failed writer.new ≡ true) }
+    // Where the bytes that the reader had are known, which fault they get.
+    ensures refused { (stream : List ℕ) → S.remaining reader.old ≡ Some stream → IfErr result (IsJoinFault depth stream) }
     // After any other fault the writer is as it was.
     ensures unwritten { IfErr result (λ fault. fault ≢ PartsFault.Report Write → writer.new ≡ writer.old) }
     // After a write fault all was read, and a beginning of the output was written.
@@ -82,6 +87,8 @@ pub fn report_whole<S: Source, W: Sink>(
         (W.contents writer.old) (W.contents writer.new)) }
     ensures read { IsErrOf result (PartsFault.Report Read) ↔ (S.has_failed reader.new ≡ true) }
     ensures write { IsErrOf result (PartsFault.Report Write) ↔ (W.has_failed writer.new ≡ true) }
+    // Where the bytes that the reader had are known, which fault they get.
+    ensures refused { (stream : List ℕ) → S.remaining reader.old ≡ Some stream → IfErr result (IsWholeFault depth from to stream) }
     // After any other fault the writer is as it was.
     ensures unwritten { IfErr result (λ fault. fault ≢ PartsFault.Report Write → writer.new ≡ writer.old) }
     // After a write fault all was read, and a beginning of the line was written.

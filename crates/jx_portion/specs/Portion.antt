@@ -1,5 +1,5 @@
 -- Portions of a text, and the records of their bytes.
-use Rattle.std.specs.Prelude.{◌≡◌, ℕ, ◌+◌, ◌≤◌, ◌<◌, ◌^◌, List, [], ◌∷◌, ◌++◌, Option, None, Some, Result, Ok, Err, length, map, reverse, unwrap_or}
+use Rattle.std.specs.Prelude.{◌≡◌, ◌≢◌, ℕ, ◌+◌, ◌≤◌, ◌<◌, ◌^◌, List, [], ◌∷◌, ◌++◌, Option, None, Some, Result, Ok, Err, is_some, length, map, reverse, unwrap_or}
 use Rattle.std.specs.List.{AllByRecursion}
 use Rattle.jx_reduce.specs.Structure.{StructureValue}
 use Rattle.jx_run.specs.OutcomeRun.{OutcomeRunValue, run_of_parts, IsOutcomeRun, IsWellFormed}
@@ -8,6 +8,8 @@ use Rattle.jx_portion.specs.declared.fault.DecodeFault.TheVariants as refused
 use Rattle.jx_portion.specs.declared.fault.Field.TheVariants as field
 use Rattle.jx_portion.specs.declared.fault.RunFault.{RunFault}
 use Rattle.jx_portion.specs.declared.fault.RunFault.TheVariants.{Malformed}
+use Rattle.jx_portion.specs.declared.portion.Mismatch.{Mismatch}
+use Rattle.jx_portion.specs.declared.portion.Mismatch.TheVariants.{Depths, Froms, Place, TooLong}
 use Rattle.jx_portion.specs.Fields.{FormFields, RestFields, RunFields, StructureFields}
 use Rattle.jx_portion.specs.Spelling.{run, spelling, RunFits}
 use Rattle.jx_reduce.specs.Form.{Form}
@@ -46,6 +48,15 @@ pub record Meets (left right : PortionValue) : Type 0 where
   pub places : Adjoin left right left.from right.from
   pub short : end_of left + right.run.end < 2 ^ 64
 
+-- the first of these that keeps two portions from being joined
+abbrev pub IsMismatch : PortionValue → PortionValue → Mismatch → Type 0
+IsMismatch left right Depths = left.run.depth ≢ right.run.depth
+IsMismatch left right Froms = (left.run.depth ≡ right.run.depth) × (is_some left.from ≢ is_some right.from)
+IsMismatch left right Place =
+    (left.run.depth ≡ right.run.depth) × (is_some left.from ≡ is_some right.from) × (Adjoin left right left.from right.from → ⊥)
+IsMismatch left right TooLong =
+    (left.run.depth ≡ right.run.depth) × Adjoin left right left.from right.from × (2 ^ 64 ≤ end_of left + right.run.end)
+
 -- ---- the portion that a record says
 
 abbrev pub fields_head : Option RestFields → List Mark
@@ -79,6 +90,10 @@ pub record IsSpelt (d : ℕ) (r : RunFields) (bytes : List ℕ) : Type 0 where
   pub depth : d ≤ 65535
   pub size : 56 + length (run r) < 2 ^ 64
   pub spelt : bytes ≡ spelling d r
+
+-- the bytes are a record, and this is the portion that it says
+abbrev pub IsSaidBy : List ℕ → PortionValue → Type 0
+IsSaidBy bytes p = (d : ℕ) × (r : RunFields) × (p ≡ portion_in d r) × IsSpelt d r bytes
 
 -- a record of the portion of these bytes
 pub record IsRecord (bytes : List ℕ) (from : Option ℕ) (depth : ℕ) (r : List ℕ) : Type 0 where

@@ -4,7 +4,7 @@ ghost use Rattle.std.specs.List.{AllByRecursion};
 ghost use Rattle.jx_reduce.specs.Parts.{structure_of_parts};
 ghost use Rattle.jx_reduce.specs.Sound.{IsSound};
 ghost use Rattle.jx_portion.specs.Fields.{run_fields, RunFields};
-ghost use Rattle.jx_portion.specs.Portion.{portion_in, IsAnswer, IsMemory, IsPortion, IsRecord, IsRun, IsSpelt, OnlyParts};
+ghost use Rattle.jx_portion.specs.Portion.{portion_in, IsAnswer, IsMemory, IsPortion, IsRecord, IsRun, IsSaidBy, IsSpelt, OnlyParts};
 ghost use Rattle.jx_portion.specs.Reading.{record_at};
 
 use crate::fault::{DecodeFault, Field, RunFault};
@@ -68,7 +68,7 @@ pub fn decode(alloc: Global, bytes: &[u8]) -> Result<Portion, DecodeFault>
     // Which fault it is: the first one from left to right, and last that no run has these parts.
     ensures exact { IsAnswer result (record_at bytes.now) }
     // Nothing else is read.
-    ensures found { IfOk result (λ p. (d : ℕ) × (r : RunFields) × (p ≡ portion_in d r) × IsSpelt d r bytes.now) }
+    ensures found { IfOk result (IsSaidBy bytes.now) }
     // What is spelt so is read, unless memory runs out.
     ensures only { (d : ℕ) (r : RunFields) → IsSpelt d r bytes.now → IsAnswer result (Ok (d, r)) }
     // What was encoded is the summary of the same bytes again.

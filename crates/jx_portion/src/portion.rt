@@ -1,7 +1,7 @@
 // Portions of a text.
 ghost use Rattle.std.specs.Prelude.{◌≡◌, ◌≢◌, ◌+◌, ◌≤◌, ◌<◌, ◌^◌, ◌++◌, ◌↔◌, ℕ, List, Option, None, Some, length, unwrap_or, IfOk, IfErr, IsOk, IsSome};
 ghost use Rattle.jx_run.specs.Verdict.{Judged};
-ghost use Rattle.jx_portion.specs.Portion.{end_of, start_of, IsPortion, Meets};
+ghost use Rattle.jx_portion.specs.Portion.{end_of, start_of, IsMismatch, IsPortion, Meets};
 
 use jx_lex::Depth;
 use jx_run::{OutcomeRun, Verdict};
@@ -120,7 +120,8 @@ impl Portion {
 
     /// Whether it may be joined with one to its right; if not, why.
     pub fn meets(&self, right: &Portion) -> Result<(), Mismatch>
-        ensures { IsOk result ↔ Meets self.now right.now }
+        ensures meets { IsOk result ↔ Meets self.now right.now }
+        ensures why { IfErr result (IsMismatch self.now right.now) }
     {
         if self.depth() != right.depth() {
             return Err(Mismatch::Depths);

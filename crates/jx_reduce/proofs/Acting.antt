@@ -1,19 +1,17 @@
 -- The steps of `act`.
-use Rattle.std.proofs.Common.{◌≡◌, ℕ, zero, suc, ◌+◌, ◌-◌, ◌≤◌, ◌<◌, List, [], ◌∷◌, ◌++◌, length, drop, take, get_or, refl, sym, Bool, true, false, ◌∙◌, arith, None, Some}
+use Rattle.std.proofs.Common.{◌≡◌, ℕ, zero, suc, ◌+◌, ◌-◌, ◌≤◌, ◌<◌, List, [], ◌∷◌, ◌++◌, length, drop, take, get_or, refl, sym, Bool, true, false, ◌∙◌, arith, None}
 use Rattle.std.specs.Prelude.{reverse, slice_get}
-use Rattle.std.proofs.lemmas.List.{drop_more, take_more, reverse-append, length-reverse}
-use Rattle.jx_reduce.specs.Entries.{expect_at}
-use Rattle.jx_reduce.specs.Form.{Form, Plain, along, end_fault_of, acts, leading, decide, at_end, halt, beyond}
+use Rattle.std.proofs.lemmas.List.{drop_more, take_more, reverse-append}
+use Rattle.jx_reduce.specs.Form.{Form, Plain, along, end_fault_of, leading, halt, beyond}
 use Rattle.jx_reduce.specs.Join.{all_faulted}
 use Rattle.jx_reduce.specs.Fits.{Fits}
 use Rattle.jx_reduce.proofs.Along.{along_same}
-use Rattle.jx_reduce.proofs.Joined.{faulted_same, decide_end}
+use Rattle.jx_reduce.proofs.Joined.{faulted_same}
 use Rattle.jx_reduce.proofs.Reached.{slice_get_none}
-use Rattle.jx_reduce.specs.Read.{went, too_deep, top, without_top}
+use Rattle.jx_reduce.specs.Read.{top, without_top}
 use Rattle.jx_reduce.specs.declared.holder.Holder.{Holder}
 use Rattle.jx_reduce.specs.declared.holder.Holder.TheVariants.{Array}
 use Rattle.jx_reduce.specs.declared.ended_level.EndedLevel.{EndedLevel}
-use Rattle.jx_reduce.specs.declared.entry.Entry.{Entry}
 
 one_less : (hs : List Holder) (n : ℕ) → n ≤ length hs → without_top (reverse (take n hs)) ≡ reverse (take (n - 1) hs)
 one_less hs zero h = refl
@@ -31,18 +29,6 @@ one_level xs i x hs left k h g e =
 pub some_left : (x : EndedLevel) (hs : List Holder) (left : ℕ) → None ≡ end_fault_of x (top (reverse (take left hs))) → 0 < left
 some_left x hs zero e = cc
 some_left x hs (suc n) e = omega arith
-
-pub act_goes : (d : ℕ) (l : Form) (hs t : List Holder) (x : Entry) → ((k : List Holder → Plain) → leading l k (reverse hs) ≡ k t) → l.exit ≡ Some x
-    → None ≡ slice_get l.heights (d - length hs) → acts d l (reverse hs) ≡ went (expect_at x (top t)) t
-act_goes d l hs t x h e g = rw (h (at_end l.exit), e, length-reverse, ← g)
-
-pub act_deep : (d : ℕ) (l : Form) (hs t : List Holder) (q : ℕ) → ((k : List Holder → Plain) → leading l k (reverse hs) ≡ k t)
-    → Some q ≡ slice_get l.heights (d - length hs) → acts d l (reverse hs) ≡ too_deep q
-act_deep d l hs t q h g = rw (h (at_end l.exit), length-reverse, ← g) (decide_end l.exit t q)
-
-pub act_halts : (d : ℕ) (l : Form) (hs : List Holder) (p : ℕ) → ((k : List Holder → Plain) → leading l k (reverse hs) ≡ halt p)
-    → acts d l (reverse hs) ≡ decide (halt p) (slice_get l.heights (d - length hs))
-act_halts d l hs p h = rw (h (at_end l.exit), length-reverse)
 
 -- where a list reaches the end, not all holders have faulted
 pub not_all : (l : Form) (s t : List Holder) → ((k : List Holder → Plain) → leading l k s ≡ k t) → all_faulted l.last ≡ true → ⊥

@@ -1,8 +1,8 @@
 -- Readings along levels.
-use Rattle.std.proofs.Common.{◌≡◌, ℕ, ◌+◌, List, [], ◌∷◌, ◌++◌, length, refl, ◌∙◌, ap, arith, Option, Some, None}
+use Rattle.std.proofs.Common.{◌≡◌, ℕ, ◌+◌, List, [], ◌∷◌, ◌++◌, length, refl, ap, arith, Option, Some, None}
 use Rattle.std.specs.Prelude.{unwrap_or}
 use Rattle.jx_reduce.specs.Read.{top, without_top}
-use Rattle.jx_reduce.specs.Form.{Plain, halt, fault_of, end_fault_of, unless, along, within, at_end}
+use Rattle.jx_reduce.specs.Form.{Plain, halt, fault_of, end_fault_of, unless, along, at_end}
 use Rattle.jx_reduce.specs.Join.{first_of, merged, filled, closed, no_faults, Tail}
 use Rattle.jx_reduce.specs.declared.holder.Holder.{Holder}
 use Rattle.jx_reduce.specs.declared.holder.Holder.TheVariants.{Array, Object, Bottom}
@@ -56,6 +56,3 @@ fault_of-no_faults Bottom = refl
 -- what follows a reduced form whose open containers are these
 abbrev pub past : Tail → List Holder → Plain
 past t s = unless (fault_of t.last (top s)) (at_end t.exit (t.opens ++ s))
-
-pub within-merged : (a b : Level) (k : List Holder → Plain) (s : List Holder) → within (merged a b) [] k s ≡ unless (fault_of a (top s)) (unless (fault_of b (top s)) (k s))
-within-merged a b k s = ap (λ o. unless o (k s)) (fault_of-merged a b (top s)) ∙ unless_first (fault_of a (top s)) (fault_of b (top s)) (k s)

@@ -32,10 +32,6 @@ pub has_read-then : (old new : Known) (before ms : List Mark) → new.depth ≡ 
 has_read-then old new before ms d e h =
     e ∙ ap (read old.depth ms) h ∙ sym (read-append old.depth before ms start) ∙ ap (λ (k : ℕ). read k (before ++ ms) start) (sym d)
 
--- behind a fault, more marks come to the same
-pub has_read-done : (k : Known) (marks more : List Mark) → IsFault k.reading → HasRead marks k → HasRead (marks ++ more) k
-has_read-done k marks more f h = has_read-then k k marks more refl (sym (read-fault k.depth more k.reading f)) h
-
 pub on_err : {T E : Type 0} (r : Result T E) (P : Type 0) → P → OnErr r P
 on_err (Ok x) P h = tt
 on_err (Err e) P h = h

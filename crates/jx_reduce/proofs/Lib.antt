@@ -24,5 +24,6 @@ pub mod Spans
 pub mod Cuts
 mod KnownWords
 mod KnownMoves
+mod Passed
 mod OneByOne
 mod Shifts

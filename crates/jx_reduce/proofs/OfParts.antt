@@ -1,16 +1,15 @@
 -- Structures that are made of parts, and the spans in which their offsets lie.
-use Rattle.std.proofs.Common.{◌≡◌, ℕ, ◌+◌, ◌<◌, ◌≤◌, List, [], ◌∷◌, ◌++◌, arith, Option, Some, None, refl, true, ◌↔◌}
+use Rattle.std.proofs.Common.{ℕ, ◌+◌, ◌<◌, ◌≤◌, List, [], ◌∷◌, ◌++◌, arith, Option, Some, None, ◌↔◌}
 use Rattle.std.proofs.lemmas.Bool.{ltb-true, lt-ltb}
 use Rattle.jx_reduce.specs.Fits.{Fits, GoesOn}
 use Rattle.jx_reduce.specs.Form.{Form}
-use Rattle.jx_reduce.specs.Offsets.{EachIn, OffsetsIn, RisingFrom}
+use Rattle.jx_reduce.specs.Offsets.{OffsetsIn, RisingFrom}
 use Rattle.jx_reduce.specs.Parts.{string_head}
 use Rattle.jx_reduce.specs.Sound.{IsSound}
-use Rattle.jx_reduce.specs.Structure.{StructureValue, SpansIn, TailIn}
-use Rattle.jx_reduce.specs.inside.Checked.{is_fault_in, IsIn}
+use Rattle.jx_reduce.specs.Structure.{StructureValue}
+use Rattle.jx_reduce.specs.inside.Checked.{IsIn}
 use Rattle.jx_reduce.specs.declared.checks.Bound.TheVariants.{Above, Below}
 use Rattle.jx_reduce.proofs.Readings.{OffsetsIn_more}
-use Rattle.jx_reduce.proofs.Structures.{AreIn_more}
 use Rattle.jx_lex.specs.declared.alphabet.mark.Mark.{Mark}
 
 abbrev pub behind_string : ℕ → Option ℕ → List Mark → Option Form → StructureValue
@@ -53,25 +52,7 @@ sound_of d (Some at) m t h =
       goes_on = h.tail.goes_on;
     }
 
-pub none_sound : (d : ℕ) (s : Option ℕ) → IsSound (behind_string d s [] None)
-none_sound d None = record { few = omega arith; rising = tt; tail = tt }
-none_sound d (Some at) = record { few = omega arith; rising = (omega arith, tt); tail = tt }
-
 -- ---- spans
-
-pub below_of : (d end : ℕ) (s : Option ℕ) (ms : List Mark) (t : Option Form) → is_fault_in (Below end) s ≡ true → EachIn (λ m. m.at < end) ms → TailIn (λ p. p < end) t → SpansIn 0 end (behind_string d s ms t)
-below_of d end None ms t h low k =
-    AreIn_more (λ p. p < end) (λ p. (0 ≤ p) × (p < end)) (behind_string d None ms t) (λ p g. (omega arith, g)) (record { head = low; tail = k })
-below_of d end (Some at) ms t h low k =
-    AreIn_more (λ p. p < end) (λ p. (0 ≤ p) × (p < end)) (behind_string d (Some at) ms t) (λ p g. (omega arith, g)) (record { head = (ltb-true at end h, low); tail = k })
-
-pub of_below : (d end : ℕ) (s : Option ℕ) (ms : List Mark) (t : Option Form) → SpansIn 0 end (behind_string d s ms t) → (is_fault_in (Below end) s ≡ true) × (EachIn (λ m. m.at < end) ms × TailIn (λ p. p < end) t)
-of_below d end None ms t h =
-    let k = AreIn_more (λ p. (0 ≤ p) × (p < end)) (λ p. p < end) (behind_string d None ms t) (λ p g. g.1) h in
-    (refl, (k.head, k.tail))
-of_below d end (Some at) ms t h =
-    let k = AreIn_more (λ p. (0 ≤ p) × (p < end)) (λ p. p < end) (behind_string d (Some at) ms t) (λ p g. g.1) h in
-    (lt-ltb at end k.head.0, (k.head.1, k.tail))
 
 -- the test below an offset, in words
 pub below_in : (end : ℕ) (t : Form) → OffsetsIn (IsIn (Below end)) t ↔ OffsetsIn (λ p. p < end) t

@@ -7,7 +7,7 @@ use Rattle.jx_reduce.specs.Marks.{of_marks}
 use Rattle.jx_reduce.specs.Offsets.{EachIn, EndIn, FaultsIn, OffsetsIn, RisingFrom}
 use Rattle.jx_reduce.specs.Read.{went, read}
 use Rattle.jx_reduce.specs.Reducer.{ReducerValue, HasReduced, past}
-use Rattle.jx_reduce.specs.Structure.{StructureValue, answer, AreIn, IsOf, SpansIn}
+use Rattle.jx_reduce.specs.Structure.{StructureValue, answer, AreIn, SpansIn}
 use Rattle.jx_reduce.specs.inside.Quiet.{AreLimits, GoesOn, IsPassed}
 use Rattle.jx_reduce.specs.inside.Reducers.{IsReady}
 use Rattle.jx_reduce.specs.inside.Structures.{of_making, string_head, end_of, IsSound, MayFollow}
@@ -71,15 +71,6 @@ one_more old new m step marks h up =
       behind = λ more up'.
           RisingFrom-less (m.at + 1) (past new.last) more s.last
           (subst (λ n. RisingFrom n more) (end_put 0 marks (m ∷ [])) (rising-split 0 (marks ++ m ∷ []) more up').1);
-    }
-
-pub none_yet : (r : ReducerValue) → r.rising ≡ true → r.last ≡ None → IsOf [] r.structure → ((low high : ℕ) → SpansIn low high r.structure) → HasReduced [] r
-none_yet r rising last reads offsets up =
-    record {
-      rising = rising;
-      reads = reads;
-      offsets = λ low high a. offsets low high;
-      behind = λ more up'. RisingFrom-less 0 (past r.last) more (subst (λ l. past l ≤ 0) (sym last) (omega arith)) up';
     }
 
 not_none : {X : Type 0} (x : Option X) → x ≡ None → is_some x ≡ true → ⊥

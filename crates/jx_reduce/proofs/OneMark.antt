@@ -19,12 +19,6 @@ use Rattle.jx_reduce.specs.declared.entry.Entry.{Entry}
 use Rattle.jx_reduce.specs.declared.entry.Entry.TheVariants.{ValueOrName, AfterOrColon, Value as AnyValue, ArrayFirst as AnyArrayFirst, ObjectFirst as AnyObjectFirst, Name as AnyName, Colon as AnyColon, After as AnyAfter}
 use Rattle.jx_lex.specs.declared.alphabet.mark.Mark.{Mark}
 
--- the innermost container behind a mark, where the mark closes none
-abbrev top_after : Change → Holder → Holder
-top_after same h = h
-top_after (added g) h = g
-top_after removed h = h
-
 value_leads : (x e f : Expect) → where_value x e ≡ Some f → f ≡ x
 value_leads x Value f h = cc
 value_leads x ArrayFirst f h = cc

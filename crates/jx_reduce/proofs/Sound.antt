@@ -5,12 +5,12 @@ use Rattle.jx_reduce.specs.Read.{went, top, then_by, read}
 use Rattle.jx_reduce.specs.Form.{Form, acts}
 use Rattle.jx_reduce.specs.Marks.{of_nothing, of_marks}
 use Rattle.jx_reduce.specs.Fits.{Fits}
-use Rattle.jx_reduce.specs.Offsets.{EachIn, OffsetsIn, RisingFrom}
+use Rattle.jx_reduce.specs.Offsets.{OffsetsIn, RisingFrom}
 use Rattle.jx_reduce.specs.Reductions.{Forms, form_at, entry_of, answer, IsSound, IsBefore, IsJoin, IsOf}
 use Rattle.jx_reduce.specs.inside.Follow.{followed_by, followed}
 use Rattle.jx_reduce.proofs.Joined.{acts-joined, acts_over}
 use Rattle.jx_reduce.proofs.Bounds.{Fits-joined, OffsetsIn-joined, apart}
-use Rattle.jx_reduce.proofs.Readings.{then_by_same, acts-of_marks, acts-of_nothing, Fits-of_marks, Fits-of_nothing, OffsetsIn-of_marks, OffsetsIn-of_nothing}
+use Rattle.jx_reduce.proofs.Readings.{then_by_same, acts-of_marks, acts-of_nothing, Fits-of_marks, Fits-of_nothing, OffsetsIn-of_nothing}
 use Rattle.jx_reduce.specs.declared.holder.Holder.{Holder}
 use Rattle.jx_lex.specs.declared.alphabet.mark.Mark.{Mark}
 use Rattle.jx_reduce.specs.declared.expect.Expect.{Expect}
@@ -93,6 +93,3 @@ sound_marks ms f m =
       fits = λ x. subst (λ v. Fits f.depth v) (sym (m.each x)) (Fits-of_marks f.depth (of_nothing x) ms (Fits-of_nothing f.depth x));
       agree = λ x s h. marks_each ms f m x s h ∙ sym (is_of ms f m (expect_at x (top s)) s h);
     }
-
-pub in_marks : (Q : ℕ → Type 0) (ms : List Mark) (f : Forms) → FromMarks ms f → EachIn (λ m. Q m.at) ms → (x : Entry) → OffsetsIn Q (form_at f x)
-in_marks Q ms f m a x = subst (λ v. OffsetsIn Q v) (sym (m.each x)) (OffsetsIn-of_marks Q f.depth (of_nothing x) ms (OffsetsIn-of_nothing Q x) a)

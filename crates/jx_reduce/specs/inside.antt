@@ -3,6 +3,7 @@ pub mod Checked
 pub mod Follow
 pub mod KnownInside
 pub mod OpenContainers
+pub mod Passed
 pub mod Quiet
 pub mod Reducers
 pub mod Shifted

@@ -1,17 +1,21 @@
 // The moves over marks from the start of a text.
 
-ghost use Rattle.std.specs.Prelude.{◌≡◌, ◌↔◌, ◌++◌, ◌≤◌, List, [], ◌∷◌, IsTrue, OnOk, OnErr, IfOk, length, reverse};
+ghost use Rattle.std.specs.Prelude.{◌≡◌, ◌↔◌, ◌++◌, ◌≤◌, List, [], ◌∷◌, IsTrue, OnOk, OnErr, IfOk, length, reverse, slice_range};
 ghost use Rattle.jx_reduce.specs.Table.{added};
 ghost use Rattle.jx_reduce.specs.Read.{changed, then_by, step, read, went};
 ghost use Rattle.jx_reduce.specs.Whole.{whole_of};
 ghost use Rattle.jx_reduce.specs.KnownStack.{start, HasRead, IsFault, IsPartRead};
 ghost use Rattle.jx_lex.specs.declared.alphabet.mark.Mark.{Mark};
+ghost use Rattle.jx_lex.specs.declared.alphabet.state.LexState.TheVariants.{Gap};
+ghost use Rattle.jx_lex.specs.Lex.{lex};
+ghost use Rattle.jx_lex.specs.Lex as exits;
 
 use crate::expect::Expect;
 use crate::holder::Holder;
 use crate::moves::next;
 use crate::open_containers::OpenContainers;
 use crate::whole::Whole;
+use crate::whole_tokens::{rounds, takes_value};
 use jx_lex::{Depth, Mark, MarkKind};
 use std::alloc::{AllocError, Global};
 use std::marker::Model;
@@ -30,6 +34,15 @@ pub struct KnownStack {
     expect: Expect,
     open: OpenContainers,
     fault: Option<Fault>,
+}
+
+/// How many bytes must be left for `pass` to look at them.
+const LEAST: usize = 64;
+
+/// Whether a list of numbers may begin or go on with this byte.
+#[inline(always)]
+fn begins_list(byte: u8) -> bool {
+    byte == b'[' || byte == b'-' || (byte >= b'0' && byte <= b'9')
 }
 
 impl Model for KnownStack {
@@ -194,6 +207,29 @@ impl KnownStack {
     {
         self.step(mark)?;
         Ok(())
+    }
+
+    /// Reads whole tokens of a text from between tokens on, where a value may stand next, as many as are ordinary. Gives the
+    /// offset behind them, which is between tokens too.
+    #[inline(always)]
+    pub fn pass(&mut self, text: &[u8], from: usize, to: usize) -> usize
+        requires { (from ≤ to) × (to ≤ length text.now) }
+        ensures bounds { (from ≤ result) × (result ≤ to) }
+        ensures depth { self.new.depth ≡ self.old.depth }
+        ensures exit { (lex Gap from (slice_range text.now from result)).exit ≡ exits.state Gap }
+        ensures reads { self.new.reading ≡ read self.old.depth (lex Gap from (slice_range text.now from result)).marks self.old.reading }
+        ensures marks { (before : List Mark) → HasRead before self.old → HasRead (before ++ (lex Gap from (slice_range text.now from result)).marks) self.new }
+    {
+        if to - from < LEAST || begins_list(text[from]) {
+            return from;
+        }
+        if self.fault.is_some() || !takes_value(self.expect) {
+            return from;
+        }
+        let most = self.depth.containers() as usize;
+        let (at, expect) = rounds(text, from, to, self.expect, &mut self.open, most);
+        self.expect = expect;
+        at
     }
 
     /// Takes one mark after another, and stops once the reading is done: the reading is that of all of them.

@@ -24,6 +24,7 @@ mod reductions;
 mod shift;
 mod structure;
 mod whole;
+mod whole_tokens;
 
 pub use ended_level::EndedLevel;
 pub use entry::Entry;

@@ -1,14 +1,17 @@
--- In a text that is accepted by settings, what is written for pointers whatever names its objects have is what is written by settings.
+-- In a text that is accepted by settings, what pointers come to whatever names its objects have is what they come to by settings.
 use Rattle.std.proofs.Common.{◌≡◌, ℕ, List, refl}
+use Rattle.std.specs.Prelude.{Result, Ok, Err, Vec}
+use Rattle.std.specs.declared.alloc.Global.{Global}
 use Rattle.jx_run.specs.declared.texts.settings.NameRule.TheVariants.{Any}
 use Rattle.jx_run.specs.declared.texts.settings.Settings.{Settings}
+use Rattle.jx_run.specs.declared.texts.verdict.Refusal.{Refusal}
 use Rattle.jx_run.specs.declared.texts.verdict.Verdict.{Verdict}
 use Rattle.jx_run.specs.declared.texts.verdict.Verdict.TheVariants.{Accepted, Refused}
 use Rattle.jx_run.specs.Settings.{IsDocumentBy}
 use Rattle.jx_run.specs.Tree.{Tree}
 use Rattle.jx_index.specs.ByNames.{IsVerdictBy, a_text}
-use Rattle.jx_report.specs.declared.exit.Exit.{Exit}
-use Rattle.jx_report.specs.Output.{AnswersPointers, ByVerdict, TextOutput}
+use Rattle.jx_report.specs.declared.pointer_answer.PointerAnswer.{PointerAnswer}
+use Rattle.jx_report.specs.Answers.{AreAnswersBy}
 
 -- bytes have one verdict by settings
 abbrev pub VerdictsAreOne : Type 0
@@ -18,22 +21,19 @@ abbrev pub any_names : Settings → Settings
 any_names settings = record { depth = settings.depth; mark = settings.mark; names = Any }
 
 module _ (settings : Settings) (text : List ℕ) where
-  with_names : (tree : Tree) → IsDocumentBy (any_names settings) 0 text tree → IsDocumentBy settings 0 text tree
+  pub with_names : (tree : Tree) → IsDocumentBy (any_names settings) 0 text tree → IsDocumentBy settings 0 text tree
   with_names tree d = record { front = d.front; rest = d.rest; is_front = d.is_front; whole = d.whole; text = d.text }
 
   without_names : (tree : Tree) → IsDocumentBy settings 0 text tree → IsDocumentBy (any_names settings) 0 text tree
   without_names tree d = record { front = d.front; rest = d.rest; is_front = d.is_front; whole = d.whole; text = d.text }
 
-  accepted_by_any : IsVerdictBy settings text Accepted → IsVerdictBy (any_names settings) text Accepted
+  pub accepted_by_any : IsVerdictBy settings text Accepted → IsVerdictBy (any_names settings) text Accepted
   accepted_by_any (a_text {tree = tree} d h) = a_text (without_names tree d) refl
 
-  module _ (one : VerdictsAreOne) (accepted : IsVerdictBy settings text Accepted) (pointers : List (List ℕ)) (output : List ℕ) (exit : Exit) where
-    by_verdict : (verdict : Verdict) → IsVerdictBy (any_names settings) text verdict
-        → ByVerdict (AnswersPointers pointers (any_names settings) text) verdict output exit → TextOutput (AnswersPointers pointers settings text) settings text output exit
-    by_verdict Accepted is answered = (Accepted, accepted, (answered.0, with_names answered.0 answered.1, answered.2))
-    by_verdict (Refused refusal) is says =
-        let same : Accepted ≡ Refused refusal = one (any_names settings) text Accepted (Refused refusal) (accepted_by_any accepted) is in absurd (cc)
-
-    pub output_by_names : TextOutput (AnswersPointers pointers (any_names settings) text) (any_names settings) text output exit
-        → TextOutput (AnswersPointers pointers settings text) settings text output exit
-    output_by_names h = by_verdict h.0 h.1 h.2
+-- in a text that is accepted by settings, pointers come to the same whatever names its objects have
+pub answers_by_names : VerdictsAreOne → (settings : Settings) (text : List ℕ) (spelt : List (List ℕ)) → IsVerdictBy settings text Accepted
+    → (r : Result (Vec PointerAnswer Global) Refusal) → AreAnswersBy (any_names settings) text spelt r → AreAnswersBy settings text spelt r
+answers_by_names one settings text spelt accepted (Ok answers) h =
+    (accepted, record { tree = h.1.tree; is_text = with_names settings text h.1.tree h.1.is_text; are_answers = h.1.are_answers })
+answers_by_names one settings text spelt accepted (Err refusal) h =
+    let same : Accepted ≡ Refused refusal = one (any_names settings) text Accepted (Refused refusal) (accepted_by_any settings text accepted) h in absurd (cc)

@@ -1,11 +1,13 @@
 mod Answers
-mod AnyNames
+pub mod AnyNames
 mod BatchSteps
 mod ElementSteps
+mod FirstBytes
 mod LineSteps
 mod OneOutput
-mod PointerSteps
+pub mod PointerSteps
 pub mod PutSteps
 mod RowSteps
 mod SequenceSteps
+mod PointerReads
 pub mod PointerReplies

@@ -1,5 +1,5 @@
 -- Several pointers: strings that are read, what each comes to, and the lines.
-use Rattle.std.proofs.Common.{◌≡◌, ℕ, suc, zero, ◌+◌, ◌<◌, ◌≤◌, List, [], ◌∷◌, ◌++◌, length, map, take, get_or, refl, sym, ap, subst, ◌∙◌, arith, append-nil, append_assoc}
+use Rattle.std.proofs.Common.{◌≡◌, ℕ, suc, zero, ◌+◌, ◌<◌, ◌≤◌, List, [], ◌∷◌, ◌++◌, length, map, min, take, get_or, refl, sym, ap, subst, ◌∙◌, arith, append-nil, append_assoc}
 use Rattle.std.specs.Prelude.{String, string_bytes, Option}
 use Rattle.std.specs.declared.alloc.Global.{Global}
 use Rattle.std.specs.List.{AllZip}
@@ -78,14 +78,14 @@ module _ {A : Type 0} (answer_of : Option PointerFault → A → PointerAnswer) 
 
   -- one answer more
   pub answers_step : (unread : List (Option PointerFault)) (found : List A) (i : ℕ) (d : Option PointerFault) (e : A) (out next : List PointerAnswer) (one : PointerAnswer)
-      → i < length unread → length unread ≡ length found → out ≡ each_answer answer_of (take i unread) (take i found)
+      → i < length unread → i < length found → out ≡ each_answer answer_of (take i unread) (take i found)
       → one ≡ answer_of (get_or unread i d) (get_or found i e) → next ≡ out ++ one ∷ [] → next ≡ each_answer answer_of (take (i + 1) unread) (take (i + 1) found)
-  answers_step unread found i d e out next one low same so_far is grown =
+  answers_step unread found i d e out next one low short so_far is grown =
       let more : i + 1 ≡ suc i = omega arith in
       grown
       ∙ ap (λ xs. xs ++ one ∷ []) so_far
       ∙ ap (λ a. each_answer answer_of (take i unread) (take i found) ++ a ∷ []) is
-      ∙ sym (answers_and_one unread found i d e low (omega arith))
+      ∙ sym (answers_and_one unread found i d e low short)
       ∙ sym (ap (λ n. each_answer answer_of (take n unread) (take n found)) more)
 
   pub answers_done : (unread : List (Option PointerFault)) (found : List A) (i : ℕ) (out : List PointerAnswer) → length unread ≤ i → length unread ≡ length found
@@ -94,6 +94,20 @@ module _ {A : Type 0} (answer_of : Option PointerFault → A → PointerAnswer) 
       so_far
       ∙ ap (λ us. each_answer answer_of us (take i found)) (take_all i unread high)
       ∙ ap (λ fs. each_answer answer_of unread fs) (take_all i found (omega arith))
+
+  all_told : (unread : List (Option PointerFault)) (found : List A) (i : ℕ) → min (length unread) (length found) ≤ i
+      → each_answer answer_of (take i unread) (take i found) ≡ each_answer answer_of unread found
+  unfolding each_answer
+  all_told [] found i high = ap (λ us. each_answer answer_of us (take i found)) (take_all i [] (omega arith))
+  all_told (u ∷ unread) [] zero high = refl
+  all_told (u ∷ unread) [] (suc i) high = refl
+  all_told (u ∷ unread) (f ∷ found) zero high = absurd (omega (arith, high))
+  all_told (u ∷ unread) (f ∷ found) (suc i) high = ap (λ rest. answer_of u f ∷ rest) (all_told unread found i (omega (arith, high)))
+
+  -- as many as there are of both
+  pub answers_all : (unread : List (Option PointerFault)) (found : List A) (i : ℕ) (out : List PointerAnswer) → min (length unread) (length found) ≤ i
+      → out ≡ each_answer answer_of (take i unread) (take i found) → out ≡ each_answer answer_of unread found
+  answers_all unread found i out high so_far = so_far ∙ all_told unread found i high
 
 -- ---- lines
 
@@ -113,14 +127,14 @@ module _ (text : List ℕ) (tree : Tree) where
       (subst (λ (xs : List PointerAnswer). PointerLines text tree ((done ++ p ∷ []) ++ more) (pointer_lines xs) (exit_past_lines Good xs)) (append_assoc answers (a ∷ []) rest)
       (lines_past (done ++ p ∷ []) more (answers ++ a ∷ []) rest longer h.1))
 
-  lines_of : (spelt : List (List ℕ)) (answers : List PointerAnswer) → AllZip (IsAnswerTo text tree) spelt answers
+  pub lines_of : (spelt : List (List ℕ)) (answers : List PointerAnswer) → AllZip (IsAnswerTo text tree) spelt answers
       → PointerLines text tree spelt (pointer_lines answers) (exit_past_lines Good answers)
   unfolding pointer_lines exit_past_lines
   lines_of spelt answers h = lines_past [] spelt [] answers no_pointer h
 
   module _ {A : Type 0} (answer_of : Option PointerFault → A → PointerAnswer) (R : List ℕ → A → Type 0)
       (one : (s p : List ℕ) (u : Option PointerFault) (f : A) → IsReadPointer s p u → R p f → IsAnswerTo text tree s (answer_of u f)) where
-    each_answers : (spelt pointers : List (List ℕ)) (unread : List (Option PointerFault)) (found : List A) → AreReadPointers spelt pointers unread → AllZip R pointers found
+    pub each_answers : (spelt pointers : List (List ℕ)) (unread : List (Option PointerFault)) (found : List A) → AreReadPointers spelt pointers unread → AllZip R pointers found
         → AllZip (IsAnswerTo text tree) spelt (each_answer answer_of unread found)
     unfolding each_answer
     each_answers [] [] [] found h k = tt
@@ -130,9 +144,3 @@ module _ (text : List ℕ) (tree : Tree) where
     each_answers (s ∷ spelt) (p ∷ pointers) [] found h k = absurd h
     each_answers (s ∷ spelt) (p ∷ pointers) (u ∷ unread) [] h k = absurd k
     each_answers (s ∷ spelt) (p ∷ pointers) (u ∷ unread) (f ∷ found) h k = (one s p u f h.0 k.0, each_answers spelt pointers unread found h.1 k.1)
-
-    pub lines_for : (spelt pointers : List (List ℕ)) (unread : List (Option PointerFault)) (found : List A) (answers : List PointerAnswer)
-        → AreReadPointers spelt pointers unread → AllZip R pointers found → answers ≡ each_answer answer_of unread found
-        → PointerLines text tree spelt (pointer_lines answers) (exit_past_lines Good answers)
-    lines_for spelt pointers unread found answers h k e =
-        lines_of spelt answers (subst (λ (xs : List PointerAnswer). AllZip (IsAnswerTo text tree) spelt xs) (sym e) (each_answers spelt pointers unread found h k))

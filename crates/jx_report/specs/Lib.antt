@@ -1,3 +1,4 @@
+pub mod Answers
 pub mod Elements
 pub mod Ends
 pub mod Output

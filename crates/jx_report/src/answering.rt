@@ -8,6 +8,7 @@ ghost use Rattle.jx_report.specs.Reports.{HasTooManyPieces, IsAnswered};
 ghost use Rattle.jx_report.specs.inside.Batches.{IsFilled, IsReadingOf, ReadsOn};
 ghost use Rattle.jx_report.specs.inside.Replies.{reply_exit, reply_output};
 
+use crate::pointer_reader::few_pointers;
 use crate::read_all::{fill, read_all};
 use crate::reading::Reading;
 use crate::reply::{Reply, reply_to};
@@ -26,8 +27,11 @@ use std::{mem, thread};
 /// which costs a short input more than workers gain.
 const FIRST_STEP: usize = 256 * 1024;
 
-/// Behind so many bytes batches are as long as they may be.
+/// Behind so many bytes batches are longer.
 const ENOUGH: usize = 4 * 1024 * 1024;
+
+/// How many bytes are read at a time behind that, at the least. From there on batches grow with the input.
+const SHARED_STEP: usize = 2 * 1024 * 1024;
 
 /// How many bytes are read first where a batch may have so many. Several workers still have more than one piece in them.
 fn first_step(command: &Command, batch: usize) -> usize
@@ -40,19 +44,24 @@ fn first_step(command: &Command, batch: usize) -> usize
     }
 }
 
-/// How many bytes are read next, where so many were read before: a whole batch once there were enough bytes.
+/// How many bytes are read next, where so many were read before: once there were enough, a quarter of them, so that fresh
+/// memory stays a part of the input, up to a whole batch.
 fn next_step(before: usize, step: usize, batch: usize) -> usize
     requires { step ≤ batch }
     ensures { (step ≤ result) × (result ≤ batch) }
 {
-    if before < ENOUGH { step } else { batch }
+    if before < ENOUGH {
+        step
+    } else {
+        (before / 4).max(SHARED_STEP).max(step).min(batch)
+    }
 }
 
 /// Takes in a batch, while the next one is read into another buffer.
 fn read_beside<R: Threads + Wait + Sync, S: Source + Send, G: Gate + Sync>(
     crew: &Crew<'_, R, G>,
     reader: &mut S,
-    reading: &mut Reading,
+    reading: &mut Reading<'_, '_>,
     bytes: &[u8],
     piece: usize,
     next: &mut Vec<u8>,
@@ -103,19 +112,19 @@ fn answer_to_all<R: Threads + Wait + Sync, S: Source, G: Gate + Sync>(
     Ok(reply)
 }
 
-/// Reads to the end of input, and has it answered by the crew. While a text or the elements of a sequence are judged, at most
-/// two batches of the input are kept, of so many bytes each. For rows and pointers the whole input is kept, and also wherever
-/// names have to be unique.
+/// Reads to the end of input batch by batch, and has it answered by the crew.
 ///
 /// Where workers share a batch, the next one is read meanwhile. Behind a short one it is read afterwards: that takes less time
 /// than to start a thread, and no second buffer.
-pub(crate) fn answer_to_input<R: Threads + Wait + Sync, S: Source + Send, G: Gate + Sync>(
+fn answer_in_batches<R: Threads + Wait + Sync, S: Source + Send, G: Gate + Sync>(
     crew: &Crew<'_, R, G>,
     reader: &mut S,
     command: &Command,
+    mut reading: Reading<'_, '_>,
     batch: usize,
 ) -> Result<Reply, ReportFault>
     requires reader { S.has_failed reader.old ≡ false }
+    requires begins { IsReadingOf command.now.task command.now.settings [] reading }
     requires piece { 1 ≤ command.now.piece }
     ensures ok { IfOk result (λ reply. IsAnswered (Output command.now.task command.now.settings) command.now.piece (S.remaining reader.old)
         (S.remaining reader.new) (reply_output reply) (reply_exit reply)) }
@@ -124,9 +133,6 @@ pub(crate) fn answer_to_input<R: Threads + Wait + Sync, S: Source + Send, G: Gat
     ensures pieces { IsErrOf result ReportFault.Pieces → HasTooManyPieces command.now (S.remaining reader.old)
         (S.remaining reader.new) }
 {
-    let Some(mut reading) = Reading::of(crew.alloc, command) else {
-        return answer_to_all(crew, reader, command);
-    };
     let mut bytes = Vec::new(crew.alloc);
     let mut next = Vec::new(crew.alloc);
     let mut step = first_step(command, batch);
@@ -155,4 +161,30 @@ pub(crate) fn answer_to_input<R: Threads + Wait + Sync, S: Source + Send, G: Gat
         }
     }
     unreachable!()
+}
+
+/// Reads to the end of input, and has it answered by the crew. While a text or the elements of a sequence are judged, or few
+/// pointers are looked up, at most two batches of the input are kept, of so many bytes each. Beside them a name is kept for
+/// pointers, and an element where names have to be unique. For rows and many pointers the whole input is kept, and also where the
+/// names of a text have to be unique.
+pub(crate) fn answer_to_input<R: Threads + Wait + Sync, S: Source + Send, G: Gate + Sync>(
+    crew: &Crew<'_, R, G>,
+    reader: &mut S,
+    command: &Command,
+    batch: usize,
+) -> Result<Reply, ReportFault>
+    requires reader { S.has_failed reader.old ≡ false }
+    requires piece { 1 ≤ command.now.piece }
+    ensures ok { IfOk result (λ reply. IsAnswered (Output command.now.task command.now.settings) command.now.piece (S.remaining reader.old)
+        (S.remaining reader.new) (reply_output reply) (reply_exit reply)) }
+    ensures read { IsErrOf result ReportFault.Read ↔ (S.has_failed reader.new ≡ true) }
+    ensures unwritten { IfErr result (λ fault. fault ≢ ReportFault.Write) }
+    ensures pieces { IsErrOf result ReportFault.Pieces → HasTooManyPieces command.now (S.remaining reader.old)
+        (S.remaining reader.new) }
+{
+    let few = few_pointers(crew.alloc, command)?;
+    match Reading::of(crew.alloc, command, few.as_ref())? {
+        Some(reading) => answer_in_batches(crew, reader, command, reading, batch),
+        None => answer_to_all(crew, reader, command),
+    }
 }

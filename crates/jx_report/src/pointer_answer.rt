@@ -1,11 +1,12 @@
 // Pointers looked up in a text (RFC 6901).
 ghost use Rattle.std.specs.Prelude.{◌≡◌, ◌<◌, Some, length, map, slice_get, string_bytes, IfOk};
 ghost use Rattle.jx_report.specs.Pointers.{exit_after};
-ghost use Rattle.jx_report.specs.inside.ReadPointers.{answer_in, each_answer, AreReadPointers, IsReadPointer};
+ghost use Rattle.jx_report.specs.inside.ReadPointers.{answer_in, answer_of, each_answer, AreReadPointers, IsReadPointer};
 ghost use Rattle.jx_report.specs.inside.Replies.{exit_past_lines};
 ghost use Rattle.jx_report.specs.declared.exit.Exit.TheVariants.{Good};
 
 use crate::exit::Exit;
+use jx_answer::Answer;
 use jx_index::{FindFault, Found, Pointer, PointerFault};
 use jx_lex::{Kind, Span};
 use std::alloc::{AllocError, Global};
@@ -96,12 +97,41 @@ pub fn answers_in(
     unread: &[Option<PointerFault>],
     found: &[Result<Found, FindFault>],
 ) -> Result<Vec<PointerAnswer>, AllocError>
-    requires { length unread.now ≡ length found.now }
     ensures { IfOk result (λ answers. answers.items ≡ each_answer answer_in unread.now found.now) }
+{
+    let count = unread.len().min(found.len());
+    let mut answers = Vec::with_capacity(alloc, count)?;
+    for at in 0..count {
+        answers.push(answer_in(unread[at], found[at]))?;
+    }
+    Ok(answers)
+}
+
+/// What a string that was read as a pointer comes to in an index: why it is none, or what was answered.
+fn answer_of(unread: Option<PointerFault>, answer: Answer) -> PointerAnswer
+    ensures { result ≡ answer_of unread answer }
+{
+    match unread {
+        Some(fault) => PointerAnswer::Unread(fault),
+        None => match answer {
+            Answer::Found { kind, span, .. } => PointerAnswer::Found { kind, span },
+            Answer::Fault(fault) => PointerAnswer::Lost(fault),
+        },
+    }
+}
+
+/// What strings that were read as pointers come to in an index, in their order.
+pub fn answers_of(
+    alloc: Global,
+    unread: &[Option<PointerFault>],
+    answered: &[Answer],
+) -> Result<Vec<PointerAnswer>, AllocError>
+    requires { length unread.now ≡ length answered.now }
+    ensures { IfOk result (λ answers. answers.items ≡ each_answer answer_of unread.now answered.now) }
 {
     let mut answers = Vec::with_capacity(alloc, unread.len())?;
     for at in 0..unread.len() {
-        answers.push(answer_in(unread[at], found[at]))?;
+        answers.push(answer_of(unread[at], answered[at]))?;
     }
     Ok(answers)
 }

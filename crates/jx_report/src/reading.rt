@@ -6,8 +6,11 @@ ghost use Rattle.jx_task.specs.declared.task.Task.{Task};
 ghost use Rattle.jx_report.specs.Output.{Output};
 ghost use Rattle.jx_report.specs.Reports.{greatest_length};
 ghost use Rattle.jx_report.specs.inside.Batches.{end_of, IsReadingOf, ReadsOn};
+ghost use Rattle.jx_report.specs.inside.PointerReads.{AreSought};
 ghost use Rattle.jx_report.specs.inside.Replies.{reply_exit, reply_output};
 
+use crate::pointer_answer::ReadPointers;
+use crate::pointer_reader::PointerReader;
 use crate::reply::Reply;
 use crate::report_fault::ReportFault;
 use crate::sequence_reader::SequenceReader;
@@ -20,31 +23,40 @@ use std::alloc::{AllocError, Global};
 use std::sync::Wait;
 use std::thread::Threads;
 
-/// What the bytes of an input that were read come to. Of those bytes it keeps three at most.
+/// What the bytes of an input that were read come to. Of those bytes it keeps three at most; of a text that pointers are looked
+/// up in also a name that has begun, and of a sequence whose names have to be unique the last element.
 #[derive(Drop)]
-pub(crate) enum Reading {
+pub(crate) enum Reading<'a, 'p> {
     /// The verdict on a text.
     Text { reader: Reader, balance: Balance },
+    /// What pointers come to in a text.
+    Pointers(PointerReader<'a, 'p>),
     /// The verdicts on the elements of a text sequence.
     Elements(SequenceReader),
 }
 
-impl Reading {
-    /// Before the first byte, where the task needs no byte once it was read.
-    pub fn of(alloc: Global, command: &Command) -> Option<Reading>
-        ensures names { IfSome result (λ _. command.now.settings.names ≡ Any) }
-        ensures begins { IfSome result (IsReadingOf command.now.task command.now.settings []) }
+impl<'a, 'p> Reading<'a, 'p> {
+    /// Before the first byte, where the task needs no byte once it was read. The pointers are those of the task, where they are
+    /// looked up in what is read.
+    pub fn of(
+        alloc: Global,
+        command: &Command,
+        few: Option<&'a ReadPointers<'p>>,
+    ) -> Result<Option<Reading<'a, 'p>>, AllocError>
+        requires few { IfSome few (λ read. AreSought command.now.task command.now.settings read.now.pointers.items read.now.unread.items) }
+        ensures begins { IfOk result (λ reading. IfSome reading (IsReadingOf command.now.task command.now.settings [])) }
     {
-        if command.settings.names == NameRule::Unique {
-            return None;
+        if let Some(read) = few {
+            let reader = PointerReader::new(alloc, &command.settings, read)?;
+            return Ok(Some(Reading::Pointers(reader)));
         }
-        match command.task {
-            Task::Check => Some(Reading::Text {
+        match (&command.task, command.settings.names) {
+            (Task::Check, NameRule::Any) => Ok(Some(Reading::Text {
                 reader: Reader::new(alloc, &command.settings, 0),
                 balance: Balance::new(command.workers),
-            }),
-            Task::Seq => Some(Reading::Elements(SequenceReader::new(alloc, command))),
-            Task::Index | Task::At(_) => None,
+            })),
+            (Task::Seq, _) => Ok(Some(Reading::Elements(SequenceReader::new(alloc, command)))),
+            _ => Ok(None),
         }
     }
 
@@ -55,6 +67,7 @@ impl Reading {
     {
         match self {
             Reading::Text { reader, .. } => reader.end(),
+            Reading::Pointers(reader) => reader.end(),
             Reading::Elements(sequence) => sequence.end(),
         }
     }
@@ -80,6 +93,7 @@ impl Reading {
                 read_pieces(reader, batch, &cutting, crew.gate)
             }
             Reading::Text { reader, balance } => read_batch(crew, reader, balance, batch, piece),
+            Reading::Pointers(reader) => reader.read(batch),
             Reading::Elements(sequence) => sequence.read(crew, batch, piece),
         }
     }
@@ -87,10 +101,9 @@ impl Reading {
     /// The reply to all bytes that were read, unless they make too many pieces.
     pub fn into_reply(self, command: &Command) -> Result<Reply, ReportFault>
         requires piece { 1 ≤ command.now.piece }
-        requires names { command.now.settings.names ≡ Any }
-        ensures ok { IfOk result (λ reply. (text : List ℕ) → IsReadingOf command.now.task command.now.settings text self
+        ensures ok { IfOk result (λ reply. (text : List ℕ) → IsReadingOf command.now.task command.now.settings text self.entry
             → (length text ≤ greatest_length command.now.piece) × Output command.now.task command.now.settings text (reply_output reply) (reply_exit reply)) }
-        ensures pieces { IsErrOf result ReportFault.Pieces → (text : List ℕ) → IsReadingOf command.now.task command.now.settings text self
+        ensures pieces { IsErrOf result ReportFault.Pieces → (text : List ℕ) → IsReadingOf command.now.task command.now.settings text self.entry
             → greatest_length command.now.piece < length text }
         ensures unread { IfErr result (λ fault. fault ≢ ReportFault.Read) }
         ensures unwritten { IfErr result (λ fault. fault ≢ ReportFault.Write) }
@@ -101,8 +114,12 @@ impl Reading {
         }
         match self {
             Reading::Text { reader, .. } => Ok(Reply::Verdict(reader.verdict())),
+            Reading::Pointers(reader) => {
+                let reply = reader.into_reply()?;
+                Ok(reply)
+            }
             Reading::Elements(sequence) => {
-                let elements = sequence.into_elements(&command.settings)?;
+                let elements = sequence.into_elements()?;
                 Ok(Reply::Elements(elements))
             }
         }

@@ -16,10 +16,7 @@ use std::thread::Threads;
 /// How many bytes of an input are read at a time, at most.
 const BATCH: usize = 8 * 1024 * 1024;
 
-/// The same for several workers and short pieces.
-const SHARED_STEP: usize = 2 * 1024 * 1024;
-
-/// The same for one worker and short pieces: what is read is looked at before it leaves the processor's cache.
+/// The same for one worker and short pieces. What is read is looked at before it leaves the processor's cache.
 const STEP: usize = 256 * 1024;
 
 /// How many bytes of an output are written at a time, at most.
@@ -32,12 +29,12 @@ fn batch_of(command: &Command) -> usize
     ensures { 1 ≤ result }
 {
     let piece = command.piece;
-    let step = if command.workers.count() == 1 {
+    let is_alone = command.workers.count() == 1;
+    let most = if is_alone && piece <= STEP / 2 {
         STEP
     } else {
-        SHARED_STEP
+        BATCH
     };
-    let most = if piece <= step / 2 { step } else { BATCH };
     if piece < most {
         most - most % piece
     } else {
@@ -46,7 +43,7 @@ fn batch_of(command: &Command) -> usize
 }
 
 /// `report` where a batch has so many bytes, at least one. Batches are what a text or the elements of a sequence are judged
-/// by; their length changes no output.
+/// by, and few pointers looked up by; their length changes no output.
 pub fn report_in_batches<R: Threads + Wait + Sync, S: Source + Send, W: Sink, G: Gate + Sync>(
     rt: &R,
     alloc: Global,
@@ -89,11 +86,11 @@ pub fn report_in_batches<R: Threads + Wait + Sync, S: Source + Send, W: Sink, G:
 /// for the workers.
 ///
 /// The gate changes no output. One worker asks it as each piece of a batch begins, and the pieces of a batch are numbered
-/// from 0. Each of several workers asks as it begins its part of a batch, whose number is that of the worker, and as it has
-/// read it. The first worker goes on whatever is said. What stands between two record separators is asked for as by
-/// `judge_batch`. Rows are asked for by one worker, and so are names that have to be unique. Pointers are looked up with no
-/// question. Less than a MiB is read by the calling thread alone where nobody is asked (`Gate::is_asked`). With several
-/// workers the reader is also called from another thread, one call at a time.
+/// from 0. Several workers ask after each step, as by `read_batch`, and by `judge_batch` for what stands between two record
+/// separators. Rows are asked for by one worker, and so are the names of a text that have to be unique; those of elements are
+/// read with no question. Pointers are looked up with none, but many of them as by `find_all`. Less than a MiB is read by the
+/// calling thread alone where nobody is asked (`Gate::is_asked`). With several workers the reader is also called from another
+/// thread, one call at a time.
 pub fn report<R: Threads + Wait + Sync, S: Source + Send, W: Sink, G: Gate + Sync>(
     rt: &R,
     alloc: Global,

@@ -1,20 +1,22 @@
 // A text sequence that is read batch by batch.
 ghost use Rattle.std.specs.Prelude.{◌≡◌, ◌+◌, ◌<◌, ◌≤◌, ◌^◌, ◌++◌, ℕ, List, [], length, OnOk, IfOk};
 ghost use Rattle.std.specs.List.{AllZip};
-ghost use Rattle.jx_index.specs.ByNames.{AreJudgedBy};
-ghost use Rattle.jx_run.specs.declared.texts.settings.NameRule.TheVariants.{Any};
-ghost use Rattle.jx_run.specs.Elements.{elements};
-ghost use Rattle.jx_run.specs.ElementVerdict.{IsJudgedElement};
+ghost use Rattle.jx_index.specs.ByNames.{AreJudgedBy, IsJudgedBy};
+ghost use Rattle.jx_run.specs.declared.texts.settings.FrontMark.TheVariants.{Ignored};
+ghost use Rattle.jx_run.specs.declared.texts.settings.Settings.{Settings};
+ghost use Rattle.jx_run.specs.Elements.{elements as elements_of};
+ghost use Rattle.jx_run.specs.Front.{front_of};
 ghost use Rattle.jx_run.specs.SequenceRead.{EndsWithSeparator, HasNoSeparator, StartsWithSeparator};
-ghost use Rattle.jx_report.specs.inside.Batches.{AreReadBy, BeginsWith, IsSequenceRead};
+ghost use Rattle.jx_answer.specs.Named.{IsNamed};
+ghost use Rattle.jx_report.specs.inside.Sequences.{AreEndedBy, AreReadBy, BeginsWith, IsHeld, IsSequenceRead};
 
-use jx_answer::{Balance, is_short, judge_batch, read_batch};
+use jx_answer::{Balance, is_short, judge_batch, named_element, named_elements, read_batch};
 use jx_book::{Crew, Gate};
 use jx_claim::Workers;
 use jx_lex::Span;
 use jx_run::{
-    FrontMark, JudgedElement, Reader, Settings, ended_there, ends_open_behind, front,
-    fronts_decide_where_texts_begin, judged_by_mark, separated_part,
+    Front, FrontMark, JudgedElement, NameRule, Reader, Settings, ended_there, ends_open_behind,
+    front, fronts_decide_where_texts_begin, is_mark_alone, separated_part,
     sequences_are_read_part_by_part,
 };
 use jx_task::Command;
@@ -25,15 +27,19 @@ use std::thread::Threads;
 /// How many bytes a byte order mark has.
 const MARK: usize = 3;
 
-/// A reader of a text sequence from its start. It keeps the span and the verdict of each element that has ended.
+/// A reader of a text sequence from its start. It keeps the span and the verdict of each element that has ended, and the
+/// bytes of the last one where names have to be unique.
 #[derive(Drop)]
 pub(crate) struct SequenceReader {
+    settings: Settings,
     /// The first bytes of the sequence. They show whether a byte order mark stands there.
     first: Vec<u8>,
     /// The elements that ended, in order.
     judged: Vec<JudgedElement>,
     /// Has read what there is of the last element, which may go on.
     reader: Reader,
+    /// Those bytes, where names have to be unique. They are read once more when the element ends.
+    last: Vec<u8>,
     balance: Balance,
     /// Whether the last byte of that element may be followed by more of its value.
     open_ended: bool,
@@ -53,16 +59,33 @@ fn crew_for<'c, R, G: Gate>(crew: &Crew<'c, R, G>, len: usize, piece: usize) -> 
     }
 }
 
+/// The verdicts on elements without that on a byte order mark alone, before the first record separator.
+fn without_mark(seen: Front, mut judged: Vec<JudgedElement>) -> Vec<JudgedElement>
+    ensures { (settings : Settings) (input : List ℕ) → settings.mark ≡ Ignored → seen ≡ front_of Ignored input → AllZip (IsJudgedBy settings input) (elements_of 0 input) judged.items
+        → AreJudgedBy settings input result.items }
+{
+    if judged.is_empty() {
+        return judged;
+    }
+    if !is_mark_alone(seen, judged[0].span) {
+        return judged;
+    }
+    judged.remove(0);
+    judged
+}
+
 impl SequenceReader {
     /// Before the first byte.
     pub fn new(alloc: Global, command: &Command) -> SequenceReader
-        ensures { IsSequenceRead command.now.settings.depth [] result }
+        ensures { IsSequenceRead command.now.settings [] result }
     {
         sequences_are_read_part_by_part();
         SequenceReader {
+            settings: command.settings,
             first: Vec::new(alloc),
             judged: Vec::new(alloc),
             reader: Reader::new(alloc, &command.settings.depth.into(), 0),
+            last: Vec::new(alloc),
             balance: Balance::new(command.workers),
             open_ended: false,
         }
@@ -71,7 +94,7 @@ impl SequenceReader {
     /// How many bytes were read.
     pub fn end(&self) -> usize
         ensures end { result ≡ self.now.reader.start + self.now.reader.count }
-        ensures length { (limit : ℕ) (text : List ℕ) → IsSequenceRead limit text self.now → result ≡ length text }
+        ensures length { (settings : Settings) (text : List ℕ) → IsSequenceRead settings text self.now → result ≡ length text }
     {
         sequences_are_read_part_by_part();
         self.reader.end()
@@ -86,6 +109,20 @@ impl SequenceReader {
         self.first.extend_from_slice(&batch[..more])
     }
 
+    /// Keeps bytes of the last element, where names have to be unique.
+    fn keep_last(&mut self, bytes: &[u8]) -> Result<(), AllocError>
+        ensures held { OnOk result ((text : List ℕ) → IsHeld text self.old → IsHeld (text ++ bytes.now) self.new) }
+        ensures rest { self.new ≡ record self.old { last = self.new.last } }
+    {
+        match self.settings.names {
+            NameRule::Any => Ok(()),
+            NameRule::Unique => {
+                self.last.extend_from_slice(bytes)?;
+                Ok(())
+            }
+        }
+    }
+
     /// Reads bytes behind what was read. There is no record separator among them.
     fn go_on<R: Threads + Wait + Sync, G: Gate + Sync>(
         &mut self,
@@ -96,19 +133,34 @@ impl SequenceReader {
         requires piece { 1 ≤ piece }
         requires fits { self.old.reader.start + self.old.reader.count + length bytes.now < 2 ^ 64 }
         requires unseparated { HasNoSeparator bytes.now }
-        ensures reads { OnOk result ((limit : ℕ) (text : List ℕ) → AreReadBy limit text self.old → AreReadBy limit (text ++ bytes.now) self.new) }
+        ensures reads { OnOk result ((settings : Settings) (text : List ℕ) → AreReadBy settings text self.old → AreReadBy settings (text ++ bytes.now) self.new) }
         ensures end { OnOk result (self.new.reader.start + self.new.reader.count ≡ self.old.reader.start + self.old.reader.count + length bytes.now) }
         ensures first { self.new.first ≡ self.old.first }
     {
         sequences_are_read_part_by_part();
+        self.keep_last(bytes)?;
         read_batch(crew, &mut self.reader, &mut self.balance, bytes, piece)?;
         self.open_ended = ends_open_behind(self.open_ended, bytes);
         Ok(())
     }
 
+    /// What the rule on names makes of the verdict on the last element.
+    fn named_last(&self, element: JudgedElement) -> Result<JudgedElement, AllocError>
+        ensures named { IfOk result (λ named. (text rest : List ℕ) → IsHeld text self.now → element.span.start ≡ self.now.reader.start → element.span.end ≡ length text
+            → IsNamed self.now.settings (text ++ rest) element named) }
+    {
+        match self.settings.names {
+            NameRule::Any => Ok(element),
+            NameRule::Unique => {
+                let alloc = *self.last.allocator();
+                named_element(alloc, &self.last, &self.settings, element)
+            }
+        }
+    }
+
     /// Ends the last element here, and puts it behind the others.
     fn end_element(&mut self) -> Result<(), AllocError>
-        ensures judged { OnOk result ((limit : ℕ) (text : List ℕ) → AreReadBy limit text self.old → AllZip (IsJudgedElement limit) (elements 0 text) self.new.judged.items) }
+        ensures judged { OnOk result ((settings : Settings) (text : List ℕ) → AreReadBy settings text self.old → AreEndedBy settings text self.new) }
         ensures rest { self.new ≡ record self.old { judged = self.new.judged } }
     {
         sequences_are_read_part_by_part();
@@ -119,7 +171,8 @@ impl SequenceReader {
         match ended_there(span, self.reader.verdict(), self.open_ended) {
             None => Ok(()),
             Some(element) => {
-                self.judged.push(element)?;
+                let named = self.named_last(element)?;
+                self.judged.push(named)?;
                 Ok(())
             }
         }
@@ -133,20 +186,24 @@ impl SequenceReader {
         bytes: &[u8],
         piece: usize,
     ) -> Result<(), AllocError>
+        requires piece { 1 ≤ piece }
         requires fits { self.old.reader.start + self.old.reader.count + length bytes.now < 2 ^ 64 }
         requires starts { StartsWithSeparator bytes.now }
         requires ends { EndsWithSeparator bytes.now }
-        ensures reads { OnOk result ((limit : ℕ) (text : List ℕ) → AreReadBy limit text self.old → AreReadBy limit (text ++ bytes.now) self.new) }
+        ensures reads { OnOk result ((settings : Settings) (text : List ℕ) → AreReadBy settings text self.old → AreReadBy settings (text ++ bytes.now) self.new) }
         ensures end { OnOk result (self.new.reader.start + self.new.reader.count ≡ self.old.reader.start + self.old.reader.count + length bytes.now) }
         ensures first { self.new.first ≡ self.old.first }
     {
         sequences_are_read_part_by_part();
         self.end_element()?;
         let before = self.reader.end();
-        let depth = self.reader.settings().depth;
-        let mut more = judge_batch(&crew_for(crew, bytes.len(), piece), bytes, before, depth)?;
+        let depth = self.settings.depth;
+        let crew = crew_for(crew, bytes.len(), piece);
+        let told = judge_batch(&crew, bytes, before, depth, piece)?;
+        let mut more = named_elements(crew.alloc, bytes, before, &self.settings, told)?;
         self.judged.append(&mut more)?;
         self.reader.reset(before + bytes.len());
+        self.last.clear();
         self.open_ended = false;
         Ok(())
     }
@@ -161,7 +218,7 @@ impl SequenceReader {
     ) -> Result<(), AllocError>
         requires piece { 1 ≤ piece }
         requires fits { self.old.reader.start + self.old.reader.count + length batch.now < 2 ^ 64 }
-        ensures reads { OnOk result ((limit : ℕ) (text : List ℕ) → IsSequenceRead limit text self.old → IsSequenceRead limit (text ++ batch.now) self.new) }
+        ensures reads { OnOk result ((settings : Settings) (text : List ℕ) → IsSequenceRead settings text self.old → IsSequenceRead settings (text ++ batch.now) self.new) }
     {
         self.keep_first(batch)?;
         let Some(part) = separated_part(batch) else {
@@ -172,14 +229,18 @@ impl SequenceReader {
         self.go_on(crew, &batch[part.end..batch.len()], piece)
     }
 
-    /// The answers on the elements of all that was read, in order.
-    pub fn into_elements(mut self, settings: &Settings) -> Result<Vec<JudgedElement>, AllocError>
-        requires names { settings.now.names ≡ Any }
-        ensures { IfOk result (λ elements. (text : List ℕ) → IsSequenceRead settings.now.depth text self → AreJudgedBy settings.now text elements.items) }
+    /// The verdicts by settings on the elements of all that was read, in order.
+    pub fn into_elements(mut self) -> Result<Vec<JudgedElement>, AllocError>
+        ensures { IfOk result (λ elements. (settings : Settings) (text : List ℕ) → IsSequenceRead settings text self → AreJudgedBy settings text elements.items) }
     {
         fronts_decide_where_texts_begin();
         self.end_element()?;
-        let seen = front(&self.first, FrontMark::Ignored);
-        Ok(judged_by_mark(settings.mark, seen, self.judged))
+        match self.settings.mark {
+            FrontMark::Refused => Ok(self.judged),
+            FrontMark::Ignored => {
+                let seen = front(&self.first, FrontMark::Ignored);
+                Ok(without_mark(seen, self.judged))
+            }
+        }
     }
 }

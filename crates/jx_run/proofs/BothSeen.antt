@@ -26,7 +26,7 @@ use Rattle.jx_run.proofs.ReaderSteps.{seen_done, stuck}
 use Rattle.jx_run.proofs.RunVerdict.{same_verdict}
 
 -- behind a fault every reading is one
-no_fault_before : (d : ℕ) (m : Mark) (r : Reading) → (IsFault (step d m r) → ⊥) → IsFault r → ⊥
+pub no_fault_before : (d : ℕ) (m : Mark) (r : Reading) → (IsFault (step d m r) → ⊥) → IsFault r → ⊥
 no_fault_before d m (Reading.went e o) h f = f
 no_fault_before d m (Reading.stopped at) h f = h tt
 no_fault_before d m (Reading.too_deep at) h f = h tt

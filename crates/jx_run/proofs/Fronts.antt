@@ -1,5 +1,5 @@
 -- What stands in front of a text decides where the verdict begins.
-use Rattle.std.proofs.Common.{◌≡◌, ◌≢◌, ℕ, zero, suc, ◌+◌, ◌-◌, ◌<◌, ◌≤◌, List, [], ◌∷◌, ◌++◌, length, get_or, take, drop, Bool, true, false, cond, append_assoc, refl, sym, ap, subst, ◌∙◌, inl, inr, ◌⊎◌, arith}
+use Rattle.std.proofs.Common.{◌≡◌, ◌≢◌, ℕ, zero, suc, ◌+◌, ◌-◌, ◌<◌, ◌≤◌, List, [], ◌∷◌, ◌++◌, length, take, drop, Bool, true, false, cond, append_assoc, refl, sym, ap, subst, ◌∙◌, inl, inr, ◌⊎◌, arith}
 use Rattle.std.specs.Prelude.{◌==◌}
 use Rattle.std.proofs.lemmas.Bool.Decides.{Decides-eqb, nat_tests, not_from_Decides}
 use Rattle.std.proofs.lemmas.List.{length-append}
@@ -284,31 +284,6 @@ judged_refused law s start bytes is v j =
     let w = verdict_of (read_text s.depth start bytes) in
     let k : Judged start bytes s.depth w = verdict_law law s.depth start bytes in
     subst (Judged start bytes s.depth) (one_verdict_by s start bytes w v (refused_judged s start bytes is w k) j) k
-
--- ---- how many bytes agree
-
-pub agreed_ends : (xs ms : List ℕ) (i : ℕ) → length xs ≤ i → agreed (drop i xs) ms ≡ 0
-agreed_ends [] ms zero h = refl
-agreed_ends [] ms (suc i) h = refl
-agreed_ends (x ∷ xs) ms zero h = absurd (omega (arith, h))
-agreed_ends (x ∷ xs) ms (suc i) h = agreed_ends xs ms i (omega (arith, h))
-
-pub agreed_more : (xs ms : List ℕ) (i d e : ℕ) → i < length xs → i < length ms → get_or xs i d ≡ get_or ms i e
-    → agreed (drop i xs) (drop i ms) ≡ suc (agreed (drop (suc i) xs) (drop (suc i) ms))
-agreed_more [] ms i d e low h same = absurd (omega (arith, low))
-agreed_more (x ∷ xs) [] i d e low h same = absurd (omega (arith, h))
-agreed_more (x ∷ xs) (m ∷ ms) zero d e low h same = let q : (x == m) ≡ true = grind (arith, nat_tests) in ap (λ b. cond b (suc (agreed xs ms)) 0) q
-agreed_more (x ∷ xs) (m ∷ ms) (suc i) d e low h same = agreed_more xs ms i d e (omega (arith, low)) (omega (arith, h)) same
-
-pub agreed_differs : (xs ms : List ℕ) (i d e : ℕ) → i < length xs → i < length ms → (get_or xs i d ≡ get_or ms i e → ⊥) → agreed (drop i xs) (drop i ms) ≡ 0
-agreed_differs [] ms i d e low h other = absurd (omega (arith, low))
-agreed_differs (x ∷ xs) [] i d e low h other = absurd (omega (arith, h))
-agreed_differs (x ∷ xs) (m ∷ ms) zero d e low h other = pick (x == m) refl
-  where
-    pick : (b : Bool) → (x == m) ≡ b → cond b (suc (agreed xs ms)) 0 ≡ 0
-    pick true q = let same : x ≡ m = grind (arith, nat_tests) in absurd (other same)
-    pick false q = refl
-agreed_differs (x ∷ xs) (m ∷ ms) (suc i) d e low h other = agreed_differs xs ms i d e (omega (arith, low)) (omega (arith, h)) other
 
 -- ---- the front tells the verdict
 

@@ -36,3 +36,5 @@ pub mod Transitions
 pub mod ElementsLie
 pub mod InPlace
 pub mod MarksAlone
+pub mod Tellings
+pub mod InTurn

@@ -1,5 +1,5 @@
 -- The reading of a text by settings goes on, slice by slice: a byte order mark may stand in front, cut anywhere.
-use Rattle.std.proofs.Common.{◌≡◌, ℕ, zero, suc, ◌+◌, ◌-◌, ◌^◌, ◌<◌, ◌≤◌, List, [], ◌∷◌, ◌++◌, length, drop, Bool, true, false, cond, refl, sym, ◌∙◌, ap, subst, arith, inl, inr, Option, Some, None}
+use Rattle.std.proofs.Common.{◌≡◌, ℕ, ◌+◌, ◌-◌, ◌^◌, ◌<◌, ◌≤◌, List, [], ◌∷◌, ◌++◌, length, drop, Bool, true, false, cond, refl, sym, ◌∙◌, ap, subst, arith, inl, inr, Option, Some, None}
 use Rattle.std.specs.Prelude.{◌==◌, slice_range}
 use Rattle.std.proofs.lemmas.Bool.Decides.{nat_tests}
 use Rattle.std.proofs.lemmas.List.{drop-append-le, length-append, length-drop, take_all}
@@ -14,13 +14,12 @@ use Rattle.jx_reduce.specs.declared.holder.Holder.{Holder}
 use Rattle.jx_reduce.specs.KnownStack.{Known, IsFault, HasRead as StackHasRead}
 use Rattle.jx_reduce.specs.Read.{Reading, read as read_marks}
 use Rattle.jx_run.specs.declared.readers.progress.Progress.{Progress}
-use Rattle.jx_run.specs.declared.readers.progress.Progress.TheVariants.{Front, Going, Stopped}
+use Rattle.jx_run.specs.declared.readers.progress.Progress.TheVariants.{Front, Going}
 use Rattle.jx_run.specs.declared.texts.settings.Front.TheVariants as seen
 use Rattle.jx_run.specs.declared.texts.settings.FrontMark.{FrontMark}
 use Rattle.jx_run.specs.declared.texts.settings.FrontMark.TheVariants as on_mark
 use Rattle.jx_run.specs.declared.texts.settings.Settings.{Settings}
 use Rattle.jx_run.specs.declared.texts.verdict.Refusal.TheVariants as refusal
-use Rattle.jx_run.specs.declared.texts.verdict.Verdict.{Verdict}
 use Rattle.jx_run.specs.declared.texts.verdict.Verdict.TheVariants as verdict
 use Rattle.jx_run.specs.Front.{agreed}
 use Rattle.jx_run.specs.Laws.{verdict_of, verdict_on}
@@ -37,13 +36,13 @@ use Rattle.jx_run.proofs.RunJoin.{read-append}
 
 -- ---- how many bytes of a mark stand in front
 
-data Case (n long : ℕ) : Type 0 where
+pub data Case (n long : ℕ) : Type 0 where
   whole : n ≡ 3 → Case n long
   part : (n ≡ 3 → ⊥) → n ≡ long → Case n long
   none : n ≡ 0 → 0 < long → Case n long
   cut : (n ≡ 3 → ⊥) → 0 < n → n < long → Case n long
 
-cases : (n long : ℕ) → n ≤ long → Case n long
+pub cases : (n long : ℕ) → n ≤ long → Case n long
 cases n long le = pick (n == 3) (n == long) (n == 0) refl refl refl
   where
     pick : (x y z : Bool) → (n == 3) ≡ x → (n == long) ≡ y → (n == 0) ≡ z → Case n long
@@ -67,16 +66,16 @@ module _ (n limit start : ℕ) (bytes : List ℕ) where
   by_tests : (x y z : Bool) → (n == 3) ≡ x → (n == length bytes) ≡ y → (n == 0) ≡ z → read_behind n limit start bytes ≡ Shape x y z
   by_tests x y z e f g = ap (λ t. Shape t (n == length bytes) (n == 0)) e ∙ ap (λ t. Shape x t (n == 0)) f ∙ ap (Shape x y) g
 
-  by_whole : n ≡ 3 → read_behind n limit start bytes ≡ reads (read_text limit (start + 3) (drop 3 bytes))
+  pub by_whole : n ≡ 3 → read_behind n limit start bytes ≡ reads (read_text limit (start + 3) (drop 3 bytes))
   by_whole e = by_tests true (n == length bytes) (n == 0) (grind (arith, nat_tests)) refl refl
 
-  by_part : (n ≡ 3 → ⊥) → n ≡ length bytes → read_behind n limit start bytes ≡ in_front n
+  pub by_part : (n ≡ 3 → ⊥) → n ≡ length bytes → read_behind n limit start bytes ≡ in_front n
   by_part other e = by_tests false true (n == 0) (grind (arith, nat_tests)) (grind (arith, nat_tests)) refl
 
-  by_none : n ≡ 0 → 0 < length bytes → read_behind n limit start bytes ≡ reads (read_text limit start bytes)
+  pub by_none : n ≡ 0 → 0 < length bytes → read_behind n limit start bytes ≡ reads (read_text limit start bytes)
   by_none e some = by_tests false false true (grind (arith, nat_tests)) (grind (arith, nat_tests)) (grind (arith, nat_tests))
 
-  by_cut : (n ≡ 3 → ⊥) → 0 < n → n < length bytes → read_behind n limit start bytes ≡ reads (stopped (start + n))
+  pub by_cut : (n ≡ 3 → ⊥) → 0 < n → n < length bytes → read_behind n limit start bytes ≡ reads (stopped (start + n))
   by_cut other some less = by_tests false false false (grind (arith, nat_tests)) (grind (arith, nat_tests)) (grind (arith, nat_tests))
 
 -- ---- more bytes
@@ -195,7 +194,7 @@ passed settings start bytes more None f h = absurd cc
 
 -- ---- behind the first bytes of a mark
 
-at_front : (limit start n : ℕ) (bytes : List ℕ) → read_by on_mark.Ignored limit start bytes ≡ in_front n → (agreed bytes byte_order_mark ≡ length bytes) × (length bytes ≡ n)
+pub at_front : (limit start n : ℕ) (bytes : List ℕ) → read_by on_mark.Ignored limit start bytes ≡ in_front n → (agreed bytes byte_order_mark ≡ length bytes) × (length bytes ≡ n)
 at_front limit start n bytes is = go (cases (agreed bytes byte_order_mark) (length bytes) (agreed_short bytes byte_order_mark))
   where
     go : Case (agreed bytes byte_order_mark) (length bytes) → (agreed bytes byte_order_mark ≡ length bytes) × (length bytes ≡ n)

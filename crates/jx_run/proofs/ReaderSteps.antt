@@ -3,7 +3,7 @@ use Rattle.std.proofs.Common.{◌≡◌, ℕ, suc, ◌+◌, ◌^◌, ◌<◌, Li
 use Rattle.std.specs.Prelude.{nat_lt, IfSome}
 use Rattle.std.specs.Prelude.{slice_range}
 use Rattle.std.proofs.Math.Nat.{add-suc}
-use Rattle.std.proofs.lemmas.List.{length-append, take_all}
+use Rattle.std.proofs.lemmas.List.{take_all}
 use Rattle.std.proofs.lemmas.List.Sums.{fold-append}
 use Rattle.jx_lex.specs.declared.alphabet.lex_exit.LexExit.{LexExit}
 use Rattle.jx_lex.specs.declared.alphabet.lex_exit.LexExit.TheVariants as exit
@@ -152,6 +152,22 @@ use_of b (Some (exit.State s)) (whole.Went e n) d k h m mark = (m, no_fault k.re
 use_of b (Some (exit.Fault at)) (whole.Went e n) d k h m mark = m
 use_of b None (whole.Went e n) d k h m mark = tt
 
+-- a stack that has read the marks of a reading, which came to this
+pub goes_on_by : (old new : Known) (ms : List Mark) (track : lexical.Track) (b : ℕ) (x : Option LexExit) (w : Whole) → StackHasRead ms old → new.depth ≡ old.depth
+    → new.reading ≡ read_marks old.depth track.marks old.reading → IfSome x (λ e. exit_of e ≡ track.exit) → (x ≡ None → IsFault new.reading) → w ≡ whole_of new.reading
+    → GoesOn old track (read_marks old.depth track.marks old.reading) b (settled b x w) new
+goes_on_by old new ms track b x w h deep reading is done whole_is =
+    let read : StackHasRead (ms ++ track.marks) new =
+    reading ∙ ap (read_marks old.depth track.marks) h ∙ sym (fold-append (λ reading mark. mark_step old.depth mark reading) stack_start ms track.marks)
+    ∙ ap (λ (d : ℕ). read_marks d (ms ++ track.marks) stack_start) (sym deep) in
+    let at_new : IsLow b (at_exit track.exit new.reading) → outcome_at (settled b x w) new.reading ≡ Some (reads (shifted b (at_exit track.exit new.reading))) =
+    λ l. ap (λ (v : Whole). outcome_at (settled b x v) new.reading) whole_is
+    ∙ settle_at b x new.reading track.exit is done l in
+    record {
+      of_use = use_of b x w old.depth new whole_is (record { depth_is = deep; marks = ms ++ track.marks; read = read });
+      outcome = subst (λ (r : Reading). IsLow b (at_exit track.exit r) → outcome_at (settled b x w) new.reading ≡ Some (reads (shifted b (at_exit track.exit r)))) reading at_new;
+    }
+
 pub goes_on : (old new : Known) (ms : List Mark) (track : lexical.Track) (b : ℕ) (x : Option LexExit) (w : Whole) → StackHasRead ms old
     → SeesTrack (λ marks ends. HasSeen marks ends old) (λ marks ends. HasSeen marks ends new) track
     → IfSome x (λ e. exit_of e ≡ track.exit) → (x ≡ None → WantsNoMore (λ marks ends. HasSeen marks ends new)) → w ≡ whole_of new.reading
@@ -160,15 +176,9 @@ goes_on old new ms track b x w h sees is done whole_is =
     let seen : HasSeen (ms ++ track.marks) ((old.depth ∷ []) ++ track.ends) new = sees ms (old.depth ∷ []) (record { read = h; rest = []; depth = refl }) in
     let tied : old.depth ∷ track.ends ≡ new.depth ∷ seen.rest = seen.depth in
     let deep : new.depth ≡ old.depth = cc in
-    let reading : new.reading ≡ read_marks old.depth track.marks old.reading =
-    seen.read ∙ ap (λ (d : ℕ). read_marks d (ms ++ track.marks) stack_start) deep ∙ fold-append (λ reading mark. mark_step old.depth mark reading) stack_start ms track.marks ∙ ap (read_marks old.depth track.marks) (sym h) in
-    let at_new : IsLow b (at_exit track.exit new.reading) → outcome_at (settled b x w) new.reading ≡ Some (reads (shifted b (at_exit track.exit new.reading))) =
-    λ l. ap (λ (v : Whole). outcome_at (settled b x v) new.reading) whole_is
-    ∙ settle_at b x new.reading track.exit is (λ e. done_fault new _ _ seen (done e)) l in
-    record {
-      of_use = use_of b x w old.depth new whole_is (record { depth_is = deep; marks = ms ++ track.marks; read = seen.read });
-      outcome = subst (λ (r : Reading). IsLow b (at_exit track.exit r) → outcome_at (settled b x w) new.reading ≡ Some (reads (shifted b (at_exit track.exit r)))) reading at_new;
-    }
+    goes_on_by old new ms track b x w h deep
+    (seen.read ∙ ap (λ (d : ℕ). read_marks d (ms ++ track.marks) stack_start) deep ∙ fold-append (λ reading mark. mark_step old.depth mark reading) stack_start ms track.marks ∙ ap (read_marks old.depth track.marks) (sym h))
+    is (λ e. done_fault new _ _ seen (done e)) whole_is
 
 -- what the text comes to is what the stack came to, behind the lexical state
 pub read_is : (limit d : ℕ) (s : LexState) (e : Expect) (o : List Holder) (xs : List ℕ) (r : Reading) → d ≡ limit → r ≡ Reading.went e o
@@ -183,7 +193,7 @@ slice_all xs = take_all _ xs (omega arith)
 
 -- ---- a stack that wants no more
 
-over : (d : ℕ) (ms : List Mark) (r : Reading) → IsFault r → read_marks d ms r ≡ r
+pub over : (d : ℕ) (ms : List Mark) (r : Reading) → IsFault r → read_marks d ms r ≡ r
 over d [] r f = refl
 over d (m ∷ ms) (Reading.went e o) f = absurd f
 over d (m ∷ ms) (Reading.stopped at) f = over d ms (Reading.stopped at) f

@@ -1,6 +1,6 @@
 -- The transitions that are made of a chunk map, and their structures.
 use Rattle.std.proofs.Common.{◌≡◌, ◌≢◌, ℕ, zero, suc, ◌+◌, ◌<◌, ◌≤◌, List, [], ◌∷◌, ◌++◌, length, get_or, take, Option, Some, None, Bool, true, false, Result, Ok, Err, set, flat_map, append_assoc, refl, sym, ap, subst, ◌∙◌, inl, inr, ◌⊎◌, arith, All}
-use Rattle.std.specs.Prelude.{◌==◌, slice_get, IfOk, IfSome, IsSomeAnd, OnOk}
+use Rattle.std.specs.Prelude.{◌==◌, slice_get, IfOk, IfSome, IsSomeAnd}
 use Rattle.std.proofs.lemmas.Bool.Decides.{Decides-eqb, nat_tests, not_from_Decides}
 use Rattle.std.proofs.lemmas.List.{get_or_append_left, get_or_default, get_or-set_same, get_or-set_other, length-append, length-set}
 use Rattle.std.proofs.Math.Seq.{take-suc}
@@ -31,7 +31,7 @@ use Rattle.jx_run.specs.inside.Reduced.{AreInside, AreNumbered, AreReduced, AreR
 use Rattle.jx_run.specs.inside.Joins.{IsAbove}
 use Rattle.jx_run.specs.OutcomeRun.{OutcomeRunValue, IsOutcomeRun, IsFormWithin, outcome_in}
 use Rattle.jx_lex.proofs.StateOrder.{state-at}
-use Rattle.jx_run.proofs.Transitions.{all_at, at_end, entries_are}
+use Rattle.jx_run.proofs.Transitions.{at_end, entries_are}
 
 -- ---- the marks of the lexical machine rise, and lie where the bytes do
 

@@ -23,3 +23,4 @@ pub mod ReaderInside
 pub mod SequenceRead
 pub mod inside
 pub mod MarkAlone
+pub mod Telling

@@ -4,6 +4,7 @@ pub mod Joins
 pub mod MarkedElements
 pub mod Moved
 pub mod PartedJoins
+pub mod Past
 pub mod Reduced
 pub mod Rest
 pub mod Turns

@@ -18,6 +18,7 @@ pub use readers::one_pass::{NoPause, OnePass, Pace, read_into};
 pub use readers::progress::{OpenStack, Progress, progress_at_start, read_on, verdict_at};
 pub use readers::reader::Reader;
 pub use readers::started::Started;
+pub use readers::telling::{accepted_texts_stand_behind_fronts, slices_are_told_in_turn};
 pub use runs::elements_run::ElementsRun;
 pub use runs::outcome_run::{OutcomeRun, verdict_from};
 pub use runs::seq_run::SeqRun;

@@ -3,3 +3,4 @@ pub(crate) mod one_pass;
 pub(crate) mod progress;
 pub(crate) mod reader;
 pub(crate) mod started;
+pub(crate) mod telling;

@@ -2,3 +2,4 @@ pub mod Documents
 pub mod LastHolding
 pub mod Outlines
 pub mod ValuesAt
+pub mod Grown

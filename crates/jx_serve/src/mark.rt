@@ -1,6 +1,6 @@
 // Where a refusal is shown in a document.
-ghost use Rattle.std.specs.Prelude.{◌≡◌};
-ghost use Rattle.jx_serve.specs.Marks.{told};
+ghost use Rattle.std.specs.Prelude.{◌≡◌, ◌≤◌, ◌<◌, ◌+◌, ◌⊎◌, IfSome, length};
+ghost use Rattle.jx_serve.specs.Marks.{shown_at, told, IsPlaced};
 
 use jx_edit::{Document, Encoding, Position};
 use jx_run::{Refusal, Verdict};
@@ -21,54 +21,65 @@ fn byte_at(document: &Document, offset: usize) -> u8 {
     }
 }
 
-/// Where the character begins in which an offset lies. Text of a document is UTF-8, so at most three bytes lie before it.
-fn character_start(document: &Document, offset: usize) -> usize {
-    let mut start = offset;
-    for _ in 0..3 {
-        if byte_at(document, start) & 0xc0 != 0x80 {
-            break;
+/// Whether a byte goes on with a character that an earlier one began (RFC 3629, section 3).
+fn is_tail(byte: u8) -> bool {
+    matches!(byte, 0x80..=0xbf)
+}
+
+/// How many bytes a character has that begins with this one, and 1 where none does.
+fn length_by(first: u8) -> usize
+    ensures { result ≤ 4 }
+{
+    match first {
+        0xc2..=0xdf => 2,
+        0xe0..=0xef => 3,
+        0xf0..=0xf4 => 4,
+        _ => 1,
+    }
+}
+
+/// Where the character begins that the byte at an offset is of. It is the byte itself where no character has it: an edit may cut
+/// one.
+fn character_start(document: &Document, offset: usize) -> usize
+    ensures before { result ≤ offset }
+    ensures near { offset ≤ result + 3 }
+{
+    if !is_tail(byte_at(document, offset)) {
+        return offset;
+    }
+    for back in 1..4 {
+        let Some(start) = offset.checked_sub(back) else {
+            return offset;
+        };
+        let first = byte_at(document, start);
+        if !is_tail(first) {
+            return if back < length_by(first) {
+                start
+            } else {
+                offset
+            };
         }
-        start = start.saturating_sub(1);
     }
-    start
+    offset
 }
 
-/// How many units of its line a character has by its first byte.
-fn width(first: u8, encoding: Encoding) -> usize {
-    match (encoding, first) {
-        (_, 0x00..=0x7f) => 1,
-        (Encoding::Utf8, 0x80..=0xdf) => 2,
-        (Encoding::Utf8, 0xe0..=0xef) => 3,
-        (Encoding::Utf8, 0xf0..=0xff) => 4,
-        (Encoding::Utf16, 0x80..=0xef) => 1,
-        (Encoding::Utf16, 0xf0..=0xff) => 2,
+/// Where a character ends that begins at an offset, as far as its bytes are there.
+fn character_end(document: &Document, start: usize) -> usize
+    ensures { result ≤ start + 4 }
+{
+    let count = length_by(byte_at(document, start));
+    for more in 1..count {
+        if !is_tail(byte_at(document, start.saturating_add(more))) {
+            return start.saturating_add(more);
+        }
     }
-}
-
-/// The position behind the character that begins at an offset and stands at a position; that position at the document's end.
-fn position_behind(
-    document: &Document,
-    offset: usize,
-    at: Position,
-    encoding: Encoding,
-) -> Position {
-    if document.len() <= offset {
-        return at;
-    }
-    match byte_at(document, offset) {
-        b'\n' => Position {
-            line: at.line.saturating_add(1),
-            character: 0,
-        },
-        first => Position {
-            line: at.line,
-            character: at.character.saturating_add(width(first, encoding)),
-        },
-    }
+    start.saturating_add(count)
 }
 
 /// The offset at which a refusal is shown: that of its byte, and the last byte where more has to follow.
-fn shown_at(document: &Document, refusal: Refusal) -> usize {
+fn shown_at(document: &Document, refusal: Refusal) -> usize
+    ensures { result ≡ shown_at document.now.bytes refusal }
+{
     match refusal {
         Refusal::Stopped { at } | Refusal::TooDeep { at } | Refusal::RepeatedName { at } => at,
         Refusal::Truncated => document.len().saturating_sub(1),
@@ -77,17 +88,19 @@ fn shown_at(document: &Document, refusal: Refusal) -> usize {
 
 /// How a verdict is shown: a refusal by the character at its offset. What is accepted has no mark.
 pub fn mark_of(document: &Document, encoding: Encoding, verdict: Verdict) -> Option<Mark>
-    ensures { told result ≡ verdict }
+    ensures told { told result ≡ verdict }
+    ensures placed { IfSome result (IsPlaced encoding document.now.bytes) }
 {
     let Verdict::Refused(refusal) = verdict else {
         return None;
     };
-    let offset = character_start(document, shown_at(document, refusal));
-    let start = document.position_of(offset, encoding);
-    let end = position_behind(document, offset, start, encoding);
+    let offset = shown_at(document, refusal);
+    let start = character_start(document, offset);
+    let behind = offset.saturating_add(1).min(document.len());
+    let end = character_end(document, start).max(behind);
     Some(Mark {
         refusal,
-        start,
-        end,
+        start: document.position_of(start, encoding),
+        end: document.position_of(end, encoding),
     })
 }

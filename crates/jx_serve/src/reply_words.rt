@@ -1,8 +1,9 @@
 // Replies as messages.
-ghost use Rattle.std.specs.Prelude.{◌≡◌, IfOk};
+ghost use Rattle.std.specs.Prelude.{◌≡◌, ◌++◌, [], IfOk, OnOk, string_bytes};
 ghost use Rattle.jx_index.specs.ByNames.{IsVerdictBy};
 ghost use Rattle.jx_run.specs.declared.texts.verdict.Verdict.TheVariants.{Accepted};
 ghost use Rattle.jx_serve.specs.Messages.{message_settings};
+ghost use Rattle.jx_serve.specs.Words.{diagnostic, initialized, logged, null_of, number_of_code, published, refused, word_of_refusal, words_of_code, words_of_id, words_of_refusal, words_of_trouble, IsMessageOf};
 
 use crate::mark::Mark;
 use crate::reply::{Code, Reply, Trouble};
@@ -33,7 +34,9 @@ impl From<AllocError> for ReplyFault {
 /// The version of the program.
 pub const VERSION: &str = "0.2.0";
 
-fn number_of_code(code: Code) -> &'static str {
+fn number_of_code(code: Code) -> &'static str
+    ensures { result.now ≡ number_of_code code }
+{
     match code {
         Code::ParseError => "-32700",
         Code::InvalidRequest => "-32600",
@@ -44,7 +47,9 @@ fn number_of_code(code: Code) -> &'static str {
     }
 }
 
-fn words_of_code(code: Code) -> &'static str {
+fn words_of_code(code: Code) -> &'static str
+    ensures { result.now ≡ words_of_code code }
+{
     match code {
         Code::ParseError => "no JSON text, or no frame",
         Code::InvalidRequest => "no request, or none at this time",
@@ -55,7 +60,9 @@ fn words_of_code(code: Code) -> &'static str {
     }
 }
 
-fn words_of_trouble(trouble: Trouble) -> &'static str {
+fn words_of_trouble(trouble: Trouble) -> &'static str
+    ensures { result.now ≡ words_of_trouble trouble }
+{
     match trouble {
         Trouble::WrongParameters => "jx: parameters missing or of a wrong kind",
         Trouble::NotOpen => "jx: document not open",
@@ -65,7 +72,9 @@ fn words_of_trouble(trouble: Trouble) -> &'static str {
 }
 
 /// The word for a refusal.
-fn code_of_refusal(refusal: Refusal) -> &'static str {
+fn code_of_refusal(refusal: Refusal) -> &'static str
+    ensures { result.now ≡ word_of_refusal refusal }
+{
     match refusal {
         Refusal::Stopped { .. } => "stopped",
         Refusal::Truncated => "truncated",
@@ -75,7 +84,9 @@ fn code_of_refusal(refusal: Refusal) -> &'static str {
 }
 
 /// What `jx check` prints for a refusal.
-fn words_of_refusal(alloc: Global, refusal: Refusal) -> Result<String, AllocError> {
+fn words_of_refusal(alloc: Global, refusal: Refusal) -> Result<String, AllocError>
+    ensures { IfOk result (λ words. string_bytes words ≡ words_of_refusal refusal) }
+{
     let words = code_of_refusal(refusal);
     match refusal {
         Refusal::Stopped { at } | Refusal::TooDeep { at } | Refusal::RepeatedName { at } => {
@@ -85,7 +96,9 @@ fn words_of_refusal(alloc: Global, refusal: Refusal) -> Result<String, AllocErro
     }
 }
 
-fn add_initialized(out: &mut Vec<u8>, id: &[u8], utf8: bool) -> Result<(), AllocError> {
+fn add_initialized(out: &mut Vec<u8>, id: &[u8], utf8: bool) -> Result<(), AllocError>
+    ensures { OnOk result (out.new.items ≡ out.old.items ++ initialized id.now utf8) }
+{
     let encoding: &[u8] = if utf8 {
         b"\"positionEncoding\":\"utf-8\","
     } else {
@@ -106,8 +119,19 @@ fn add_initialized(out: &mut Vec<u8>, id: &[u8], utf8: bool) -> Result<(), Alloc
     )
 }
 
+fn add_null(out: &mut Vec<u8>, id: &[u8]) -> Result<(), AllocError>
+    ensures { OnOk result (out.new.items ≡ out.old.items ++ null_of id.now) }
+{
+    add_all(
+        out,
+        &[b"{\"jsonrpc\":\"2.0\",\"id\":", id, b",\"result\":null}"],
+    )
+}
+
 /// How an id is spelt; one that was not read is `null`.
-fn words_of_id(id: &Option<Vec<u8>>) -> &[u8] {
+fn words_of_id(id: &Option<Vec<u8>>) -> &[u8]
+    ensures { result.now ≡ words_of_id id.now }
+{
     match id {
         Some(id) => id.as_slice(),
         None => b"null",
@@ -120,7 +144,9 @@ fn add_refused(
     id: &Option<Vec<u8>>,
     code: Code,
     refusal: Option<Refusal>,
-) -> Result<(), AllocError> {
+) -> Result<(), AllocError>
+    ensures { OnOk result (out.new.items ≡ out.old.items ++ refused id.now code refusal) }
+{
     out.extend_from_slice(b"{\"jsonrpc\":\"2.0\",\"id\":")?;
     out.extend_from_slice(words_of_id(id))?;
     add_all(
@@ -140,7 +166,9 @@ fn add_refused(
     out.extend_from_slice(b"}}")
 }
 
-fn add_mark(alloc: Global, out: &mut Vec<u8>, mark: &Mark) -> Result<(), AllocError> {
+fn add_mark(alloc: Global, out: &mut Vec<u8>, mark: &Mark) -> Result<(), AllocError>
+    ensures { OnOk result (out.new.items ≡ out.old.items ++ diagnostic mark.now) }
+{
     out.extend_from_slice(b"{")?;
     add_range(alloc, out, mark.start, mark.end)?;
     let words = words_of_refusal(alloc, mark.refusal)?;
@@ -162,7 +190,9 @@ fn add_published(
     uri: &[u8],
     version: &Option<Vec<u8>>,
     mark: &Option<Mark>,
-) -> Result<(), AllocError> {
+) -> Result<(), AllocError>
+    ensures { OnOk result (out.new.items ≡ out.old.items ++ published uri.now version.now mark.now) }
+{
     add_all(
         out,
         &[
@@ -180,7 +210,9 @@ fn add_published(
     out.extend_from_slice(b"]}}")
 }
 
-fn add_logged(out: &mut Vec<u8>, trouble: Trouble) -> Result<(), AllocError> {
+fn add_logged(out: &mut Vec<u8>, trouble: Trouble) -> Result<(), AllocError>
+    ensures { OnOk result (out.new.items ≡ out.old.items ++ logged trouble) }
+{
     add_all(
         out,
         &[
@@ -191,14 +223,14 @@ fn add_logged(out: &mut Vec<u8>, trouble: Trouble) -> Result<(), AllocError> {
     )
 }
 
-fn add_reply(alloc: Global, out: &mut Vec<u8>, reply: &Reply) -> Result<(), AllocError> {
+fn add_reply(alloc: Global, out: &mut Vec<u8>, reply: &Reply) -> Result<(), AllocError>
+    requires { out.old.items ≡ [] }
+    ensures { OnOk result (IsMessageOf reply.now out.new.items) }
+{
     match reply {
         Reply::Nothing => Ok(()),
         Reply::Initialized { id, utf8 } => add_initialized(out, id, *utf8),
-        Reply::Null { id } => add_all(
-            out,
-            &[b"{\"jsonrpc\":\"2.0\",\"id\":", id, b",\"result\":null}"],
-        ),
+        Reply::Null { id } => add_null(out, id),
         Reply::Hovered { id, hover } => add_hovered(alloc, out, id, hover),
         Reply::Outlined { id, uri, outline } => add_outlined(alloc, out, id, uri, outline),
         Reply::Refused { id, code, refusal } => add_refused(alloc, out, id, *code, *refusal),
@@ -228,7 +260,8 @@ fn verdict_on(alloc: Global, text: &[u8]) -> Result<Verdict, AllocError>
 /// The message that tells a reply: a JSON text (RFC 8259) that repeats no name. It is read before it is handed out, and what is no
 /// such text is not.
 pub fn message_of(alloc: Global, reply: &Reply) -> Result<Vec<u8>, ReplyFault>
-    ensures { IfOk result (λ message. IsVerdictBy message_settings message.items Accepted) }
+    ensures text { IfOk result (λ message. IsVerdictBy message_settings message.items Accepted) }
+    ensures spelt { IfOk result (λ message. IsMessageOf reply.now message.items) }
 {
     let mut message = Vec::new(alloc);
     add_reply(alloc, &mut message, reply)?;

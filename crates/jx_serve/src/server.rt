@@ -1,13 +1,15 @@
-ghost use Rattle.std.specs.Prelude.{◌≡◌, ◌<◌, ℕ, Option, Some, None, IfSome, OnOk, Vec, length, map};
+ghost use Rattle.std.specs.Prelude.{◌≡◌, ◌<◌, ◌++◌, ◌∷◌, [], ℕ, Option, Some, None, IfSome, OnOk, OnErr, Vec, false, length, map, slice_get};
 ghost use Rattle.std.specs.Global.{Global};
+ghost use Rattle.jx_index.specs.ByNames.{IsVerdictBy};
 ghost use Rattle.jx_serve.specs.Served.{all_lost, AreMade, AreMadeAt, AreSymbols, HasVersion, IsHover, IsHoverIn, IsOutlineIn, lost_open, number_named, IsAnswer, IsQuiet, OpenValue, TellsOf, TellsVerdict};
+ghost use Rattle.jx_serve.specs.Steps.{sent, settings_asked, start, with_documents, without, AnswersIn, AnswersNew, FollowsIn, IsChanged, IsClosed, IsOpened, IsToldOf, Leaves, Steps};
 
 use crate::held::Held;
 use crate::mark::mark_of;
 use crate::reply::{Code, Reply, Trouble};
 use jx_edit::Encoding;
 use jx_lex::Depth;
-use jx_run::{FrontMark, NameRule, Settings};
+use jx_run::{FrontMark, NameRule, Settings, Verdict};
 use jx_wire::{Call, Change, Offer, Place, Request, Uri, Versioned};
 use std::alloc::{AllocError, Global};
 use std::marker::Model;
@@ -46,18 +48,37 @@ impl Open {
         ensures answers { IsAnswer None result }
         ensures tells { TellsOf self.new result }
         ensures version { HasVersion version result }
+        ensures told { IsToldOf encoding version self.old result }
+    {
+        match self.held.verdict() {
+            Err(AllocError) => logged(Trouble::Memory),
+            Ok(None) => logged(Trouble::Lost),
+            Ok(Some(verdict)) => self.told(alloc, encoding, version, verdict),
+        }
+    }
+
+    /// The reply that publishes a verdict on the document.
+    fn told(
+        &self,
+        alloc: Global,
+        encoding: Encoding,
+        version: Option<Vec<u8>>,
+        verdict: Verdict,
+    ) -> Reply
+        requires known { self.now.held.lost ≡ false }
+        requires judged { IsVerdictBy self.now.held.settings self.now.held.bytes verdict }
+        ensures answers { IsAnswer None result }
+        ensures tells { TellsOf self.now result }
+        ensures version { HasVersion version result }
+        ensures told { IsToldOf encoding version self.now result }
     {
         let Ok(uri) = Vec::from_slice(alloc, &self.uri.spelt) else {
             return logged(Trouble::Memory);
         };
-        match self.held.verdict() {
-            Err(AllocError) => logged(Trouble::Memory),
-            Ok(None) => logged(Trouble::Lost),
-            Ok(Some(verdict)) => Reply::Published {
-                uri,
-                version,
-                mark: mark_of(self.held.document(), encoding, verdict),
-            },
+        Reply::Published {
+            uri,
+            version,
+            mark: mark_of(self.held.document(), encoding, verdict),
         }
     }
 }
@@ -128,7 +149,9 @@ fn lose_all(documents: &mut [Open])
 }
 
 /// The settings that a client asks for.
-fn settings_of(offer: Offer) -> Settings {
+fn settings_of(offer: Offer) -> Settings
+    ensures { result ≡ settings_asked offer }
+{
     let depth = match offer.depth {
         Some(depth) if depth <= 65535 => Depth::new(depth as u32),
         _ => None,
@@ -150,7 +173,9 @@ fn settings_of(offer: Offer) -> Settings {
 
 impl Server {
     /// A server before `initialize`. It takes no memory.
-    pub fn new(alloc: Global) -> Server {
+    pub fn new(alloc: Global) -> Server
+        ensures { result ≡ start }
+    {
         Server {
             alloc,
             phase: Phase::New,
@@ -165,7 +190,9 @@ impl Server {
     }
 
     /// How far it has come.
-    pub fn phase(&self) -> Phase {
+    pub fn phase(&self) -> Phase
+        ensures { result ≡ self.now.phase }
+    {
         self.phase
     }
 
@@ -178,6 +205,7 @@ impl Server {
 
     /// Follows a message, and tells what to answer.
     pub fn step(&mut self, request: Request) -> Reply
+        ensures steps { Steps request self.old self.new result }
         ensures answers { IsAnswer request.id result }
         ensures tells { TellsVerdict self.new result }
     {
@@ -190,6 +218,7 @@ impl Server {
 
     /// Answers a request.
     fn answer(&mut self, id: Vec<u8>, call: Call) -> Reply
+        ensures steps { AnswersIn self.old.phase id call self.old self.new result }
         ensures answers { IsAnswer (Some id) result }
         ensures quiet { IsQuiet result }
     {
@@ -235,14 +264,17 @@ impl Server {
     }
 
     fn initialize(&mut self, id: Vec<u8>, offer: Offer) -> Reply
+        ensures steps { AnswersNew id (Call.Initialize offer) self.old self.new result }
         ensures answers { IsAnswer (Some id) result }
         ensures quiet { IsQuiet result }
     {
         self.phase = Phase::Ready;
         self.settings = settings_of(offer);
-        if offer.utf8 {
-            self.encoding = Encoding::Utf8;
-        }
+        self.encoding = if offer.utf8 {
+            Encoding::Utf8
+        } else {
+            Encoding::Utf16
+        };
         Reply::Initialized {
             id,
             utf8: offer.utf8,
@@ -251,6 +283,7 @@ impl Server {
 
     /// Follows a notification.
     fn follow(&mut self, call: Call) -> Reply
+        ensures steps { FollowsIn self.old.phase call self.old self.new result }
         ensures answers { IsAnswer None result }
         ensures tells { TellsVerdict self.new result }
     {
@@ -258,15 +291,21 @@ impl Server {
             (Phase::Ready, Call::Open { document, text }) => self.open(document, text),
             (Phase::Ready, Call::Change { document, changes }) => self.change(document, &changes),
             (Phase::Ready, Call::Close(uri)) => self.close(uri),
-            (Phase::Ended { .. }, Call::Exit) => Reply::Nothing,
-            (phase, Call::Exit) => {
-                self.phase = Phase::Ended {
-                    clean: phase == Phase::Down,
-                };
-                Reply::Nothing
-            }
-            _ => Reply::Nothing,
+            (Phase::Ready, Call::Exit) => self.leave(false),
+            (Phase::Ready, _) => Reply::Nothing,
+            (Phase::New, Call::Exit) => self.leave(false),
+            (Phase::New, _) => Reply::Nothing,
+            (Phase::Down, Call::Exit) => self.leave(true),
+            (Phase::Down, _) => Reply::Nothing,
+            (Phase::Ended { .. }, _) => Reply::Nothing,
         }
+    }
+
+    fn leave(&mut self, clean: bool) -> Reply
+        ensures { Leaves clean self.old self.new result }
+    {
+        self.phase = Phase::Ended { clean };
+        Reply::Nothing
     }
 
     /// The number of the document of a name, if it is open.
@@ -280,13 +319,12 @@ impl Server {
     }
 
     fn open(&mut self, document: Versioned, text: Change) -> Reply
+        ensures steps { IsOpened document text self.old self.new result }
         ensures answers { IsAnswer None result }
         ensures tells { TellsVerdict self.new result }
     {
         let Versioned { uri, version } = document;
-        if let Some(number) = self.number_of(&uri.name) {
-            let _ = self.documents.remove(number);
-        }
+        self.forget(&uri.name);
         match self.add(uri, &text) {
             Ok(()) => {
                 let last = self.documents.len() - 1;
@@ -296,9 +334,20 @@ impl Server {
         }
     }
 
+    /// Forgets the first document of a name, if there is one.
+    fn forget(&mut self, name: &[u8])
+        ensures { self.new ≡ with_documents (without name.now self.old.documents) self.old }
+    {
+        if let Some(number) = self.number_of(name) {
+            let _ = self.documents.remove(number);
+        }
+    }
+
     /// Adds a document behind those that are open.
     fn add(&mut self, uri: Uri, text: &Change) -> Result<(), AllocError>
-        ensures { OnOk result (0 < length self.new.documents) }
+        ensures some { OnOk result (0 < length self.new.documents) }
+        ensures ok { OnOk result (self.new ≡ with_documents (self.old.documents ++ sent self.old uri text.now ∷ []) self.old) }
+        ensures err { OnErr result (self.new ≡ self.old) }
     {
         let encoding = self.encoding;
         let mut held = Held::of(self.alloc, &[], self.settings)?;
@@ -313,6 +362,7 @@ impl Server {
         ensures tells { TellsVerdict self.new result }
         ensures made { AreMade self.old.encoding document.uri.name.items changes.now self.old.documents self.new.documents }
         ensures version { HasVersion document.version result }
+        ensures steps { IsChanged document changes.now self.old self.new result }
     {
         let Versioned { uri, version } = document;
         let Some(number) = self.number_of(&uri.name) else {
@@ -328,12 +378,14 @@ impl Server {
     fn change_at(&mut self, number: usize, changes: &[Change]) -> Result<(), AllocError>
         requires { number < length self.old.documents }
         ensures made { AreMadeAt self.old.encoding number changes.now self.old.documents self.new.documents }
+        ensures alone { self.new ≡ with_documents self.new.documents self.old }
     {
         let encoding = self.encoding;
         self.documents[number].held.change_all(changes, encoding)
     }
 
     fn close(&mut self, uri: Uri) -> Reply
+        ensures steps { IsClosed uri self.old self.new result }
         ensures answers { IsAnswer None result }
         ensures quiet { IsQuiet result }
     {
@@ -353,6 +405,7 @@ impl Server {
         ensures answers { IsAnswer None result }
         ensures tells { TellsVerdict self.new result }
         ensures version { HasVersion version result }
+        ensures told { IfSome (slice_get self.old.documents number) (λ document. IsToldOf self.old.encoding version document result) }
     {
         let encoding = self.encoding;
         let alloc = self.alloc;
@@ -371,6 +424,7 @@ fn refused(id: Vec<u8>, code: Code) -> Reply
 }
 
 fn logged(trouble: Trouble) -> Reply
+    ensures same { result ≡ Reply.Logged trouble }
     ensures answers { IsAnswer None result }
     ensures quiet { IsQuiet result }
     ensures of_none { (document : OpenValue) → TellsOf document result }

@@ -1,5 +1,7 @@
 // Messages that are no requests, and streams that are no frames.
+ghost use Rattle.std.specs.Prelude.{◌≡◌, None};
 ghost use Rattle.jx_serve.specs.Served.{IsQuiet, TellsVerdict};
+ghost use Rattle.jx_serve.specs.Steps.{behind_fault, may_be_a_change, reply_to, Turns};
 
 use crate::reply::{Code, Reply, Trouble};
 use crate::server::Server;
@@ -10,20 +12,30 @@ use std::alloc::Global;
 /// lost until their whole texts come.
 pub fn answer_to(alloc: Global, server: &mut Server, body: &[u8]) -> Reply
     ensures tells { TellsVerdict server.new result }
+    ensures turns { Turns body.now server.old server.new result }
 {
     match request_of(alloc, body) {
         Ok(request) => server.step(request),
         Err(fault) => {
-            if may_be_a_change(&fault) {
-                server.lose();
-            }
+            lose_by(server, &fault);
             answer_to_fault(fault)
         }
     }
 }
 
+/// Forgets the bytes of all documents where what cannot be read may have been a change.
+fn lose_by(server: &mut Server, fault: &RequestFault)
+    ensures { server.new ≡ behind_fault fault.now server.old }
+{
+    if may_be_a_change(fault) {
+        server.lose();
+    }
+}
+
 /// Whether what cannot be read may have been a change: it is no request that has an id.
-fn may_be_a_change(fault: &RequestFault) -> bool {
+fn may_be_a_change(fault: &RequestFault) -> bool
+    ensures { result ≡ may_be_a_change fault.now }
+{
     match fault {
         RequestFault::NoText(_) | RequestFault::Memory => true,
         RequestFault::NoRequest { id } | RequestFault::WrongParameters { id } => id.is_none(),
@@ -33,6 +45,7 @@ fn may_be_a_change(fault: &RequestFault) -> bool {
 /// What is answered to a message that is no request.
 fn answer_to_fault(fault: RequestFault) -> Reply
     ensures quiet { IsQuiet result }
+    ensures reply { result ≡ reply_to fault }
 {
     match fault {
         RequestFault::NoText(refusal) => Reply::Refused {
@@ -60,7 +73,9 @@ fn answer_to_fault(fault: RequestFault) -> Reply
 }
 
 /// What is told to a client whose stream of frames cannot be read on.
-pub fn broken_stream() -> Reply {
+pub fn broken_stream() -> Reply
+    ensures { result ≡ Reply.Refused None Code.ParseError None }
+{
     Reply::Refused {
         id: None,
         code: Code::ParseError,

@@ -1,4 +1,8 @@
 // Values of a document in messages.
+ghost use Rattle.std.specs.Prelude.{◌≡◌, ◌++◌, OnOk};
+ghost use Rattle.std.specs.List.{flat_map};
+ghost use Rattle.jx_serve.specs.Words.{position as position_words, range};
+
 use crate::hover::Hover;
 use crate::symbols::{Outline, Symbol};
 use crate::under_cursor::ValueAt;
@@ -8,14 +12,18 @@ use jx_lex::Kind;
 use jx_wire::quoted;
 use std::alloc::{AllocError, Global};
 
-pub(crate) fn add_all(out: &mut Vec<u8>, parts: &[&[u8]]) -> Result<(), AllocError> {
+pub(crate) fn add_all(out: &mut Vec<u8>, parts: &[&[u8]]) -> Result<(), AllocError>
+    ensures { OnOk result (out.new.items ≡ out.old.items ++ flat_map (λ part. part.now) parts.now) }
+{
     for part in parts {
         out.extend_from_slice(part)?;
     }
     Ok(())
 }
 
-fn add_position(alloc: Global, out: &mut Vec<u8>, position: Position) -> Result<(), AllocError> {
+fn add_position(alloc: Global, out: &mut Vec<u8>, position: Position) -> Result<(), AllocError>
+    ensures { OnOk result (out.new.items ≡ out.old.items ++ position_words position) }
+{
     let Position { line, character } = position;
     let line = format!(in alloc; "{line}")?;
     let character = format!(in alloc; "{character}")?;
@@ -37,7 +45,9 @@ pub(crate) fn add_range(
     out: &mut Vec<u8>,
     start: Position,
     end: Position,
-) -> Result<(), AllocError> {
+) -> Result<(), AllocError>
+    ensures { OnOk result (out.new.items ≡ out.old.items ++ range start end) }
+{
     out.extend_from_slice(b"\"range\":{\"start\":")?;
     add_position(alloc, out, start)?;
     out.extend_from_slice(b",\"end\":")?;

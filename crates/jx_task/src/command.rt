@@ -35,7 +35,12 @@ impl Command {
     }
 }
 
-fn push_lines(alloc: Global, pointers: &mut Vec<String>, lines: &str) -> Result<(), AllocError> {
+/// Adds a string for each line of a text.
+pub(crate) fn push_lines(
+    alloc: Global,
+    pointers: &mut Vec<String>,
+    lines: &str,
+) -> Result<(), AllocError> {
     for line in lines.split_terminator('\n') {
         pointers.push(String::from_str(alloc, line)?)?;
     }

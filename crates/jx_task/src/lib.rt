@@ -3,6 +3,8 @@
 
 mod command;
 mod task;
+mod values_task;
 
 pub use command::Command;
 pub use task::Task;
+pub use values_task::ValuesTask;

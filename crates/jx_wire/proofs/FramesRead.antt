@@ -1,16 +1,17 @@
 -- What is written as frames is read as such.
-use Rattle.std.proofs.Common.{◌≡◌, ℕ, zero, suc, ◌-◌, ◌<◌, ◌≤◌, min, true, false, cond, List, [], ◌∷◌, ◌++◌, length, take, append_assoc, refl, sym, ap, subst, ◌∙◌, arith, lt-ltb, le-ltb}
-use Rattle.std.specs.Prelude.{nat_lt, ◌==◌, Some, None, Ok, codes, decimal, slice_index}
+use Rattle.std.proofs.Common.{◌≡◌, ℕ, zero, suc, ◌+◌, ◌-◌, ◌<◌, ◌≤◌, min, true, false, cond, List, [], ◌∷◌, ◌++◌, length, take, append_assoc, refl, sym, ap, subst, ◌∙◌, arith, lt-ltb, le-ltb}
+use Rattle.std.specs.Prelude.{nat_lt, ◌==◌, Some, None, Ok, codes, decimal, position, slice_index, unwrap_or}
 use Rattle.std.specs.Char.{is_ascii_digit}
-use Rattle.std.specs.List.{All, list_all}
+use Rattle.std.specs.List.{All, list_all, position_or_len}
 use Rattle.std.specs.Str.Parse.{AllDigits, digits_value}
 use Rattle.std.proofs.lemmas.Bool.Decides.{nat_tests}
 use Rattle.std.proofs.lemmas.Fmt.{decimal_is_IsNumeral, length-decimal-le}
-use Rattle.std.proofs.lemmas.List.{length_push, get_or_push, take_at}
+use Rattle.std.proofs.Math.Seq.{drop-length}
+use Rattle.std.proofs.lemmas.List.{length_push, get_or_push, take_all, take_at}
 use Rattle.std.proofs.lemmas.Str.Parse.{digit_from_value}
 use Rattle.jx_wire.specs.declared.frame_fault.FrameFault.TheVariants.{BareLineFeed}
 use Rattle.jx_wire.specs.declared.frame_reader.Part.TheVariants.{Head, Body, Broken}
-use Rattle.jx_wire.specs.Frames.{Step, start, going, entered, step, frame, frames, first_ink, ink_from, without_blanks, length_from, length_in, if_given, field_of, behind_field, behind_line, part_behind}
+use Rattle.jx_wire.specs.Frames.{Step, start, going, entered, step, frame, frames, first_ink, ink_from, is_blank, without_blanks, word_end, length_by_word, length_from, length_in, if_given, field_of, behind_field, behind_line, part_behind}
 use Rattle.jx_wire.specs.Numbers.{number_of}
 use Rattle.jx_wire.proofs.FrameSteps.{Leads, nowhere, one_byte, and_then, and_others, body_whole, HasNoFeed, no_feed-append, head_part, in_the_body, in_the_head}
 
@@ -43,6 +44,23 @@ blank_goes (d ∷ ds) h k =
     let p : first_ink (0x20 ∷ d ∷ ds) ≡ Some 1 = rw (e, f, l) refl in
     ap (λ o. ink_from o (0x20 ∷ d ∷ ds)) p
 
+no_blank : (ds : List ℕ) → AllDigits 10 ds → position_or_len is_blank ds ≡ length ds
+no_blank [] h = refl
+no_blank (d ∷ ds) h =
+    let r = digit_from_value d h.0 in
+    let low : 48 ≤ d = r.0 in
+    let e : is_blank d ≡ false = grind (arith, nat_tests) in
+    let more : 1 + length ds ≡ length (d ∷ ds) = omega arith in
+    rw e (ap (λ n. 1 + n) (no_blank ds h.1) ∙ more)
+
+ends_last : (ds : List ℕ) → AllDigits 10 ds → word_end ds ≡ length ds
+ends_last ds h =
+    let p : position is_blank ds ≡ None = rw (no_blank ds h, le-ltb (length ds) (length ds) (omega arith)) refl in
+    ap (λ o. unwrap_or o (length ds)) p
+
+word_alone : (ds : List ℕ) → AllDigits 10 ds → length_by_word (word_end ds) ds ≡ length_from (number_of ds)
+word_alone ds h = rw (ends_last ds h, drop-length ds, take_all (length ds) ds (omega arith)) refl
+
 digits_have_no_feed : (ds : List ℕ) → AllDigits 10 ds → HasNoFeed ds
 digits_have_no_feed [] h = tt
 digits_have_no_feed (d ∷ ds) h =
@@ -63,7 +81,7 @@ given_length n h =
     let numeral = decimal_is_IsNumeral n (omega arith) in
     let most : nat_lt 1073741824 n ≡ false = le-ltb 1073741824 n h in
     let small : length_from (Some n) ≡ Ok n = rw most refl in
-    ap (λ ds. length_from (number_of ds)) (blank_goes (decimal n) numeral.0.0 numeral.0.1) ∙ ap length_from (number_decimal n (omega arith)) ∙ small
+    ap (λ ds. length_by_word (word_end ds) ds) (blank_goes (decimal n) numeral.0.0 numeral.0.1) ∙ word_alone (decimal n) numeral.0.1 ∙ ap length_from (number_decimal n (omega arith)) ∙ small
 
 field_length : (n : ℕ) → n ≤ 1073741824 → field_of (named (decimal n)) ≡ Ok (Some n)
 field_length n h = ap if_given (given_length n h)

@@ -3,4 +3,3 @@ pub mod FrameSteps
 pub mod FramesRead
 pub mod NumberSteps
 pub mod SpeltText
-pub mod UnitSteps

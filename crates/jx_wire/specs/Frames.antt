@@ -1,8 +1,8 @@
 -- Frames: a header, and a body of as many bytes as the header says. A header is a list of fields, each ended by CR LF, and an
 -- empty line. The field that gives the length of the body is named Content-Length, in capital letters or not.
-use Rattle.std.specs.Prelude.{ℕ, ◌-◌, ◌==◌, ◌&&◌, nat_lt, not, if◌then◌else◌, List, [], ◌∷◌, ◌++◌, length, map, take, drop, slice_index, codes, decimal, Option, Some, None, Result, Ok, Err, Bool, position, Vec}
+use Rattle.std.specs.Prelude.{ℕ, ◌-◌, ◌==◌, ◌&&◌, ◌||◌, nat_lt, not, if◌then◌else◌, List, [], ◌∷◌, ◌++◌, length, map, take, drop, slice_index, codes, decimal, Option, Some, None, Result, Ok, Err, Bool, position, unwrap_or, Vec}
 use Rattle.std.specs.Char.{to_ascii_lowercase}
-use Rattle.std.specs.List.{list_any, flat_map}
+use Rattle.std.specs.List.{list_all, list_any, flat_map}
 use Rattle.std.specs.Str.{bytes_eq}
 use Rattle.std.specs.Global.{Global}
 use Rattle.jx_wire.specs.declared.frame_fault.FrameFault.{FrameFault}
@@ -13,9 +13,13 @@ use Rattle.jx_wire.specs.Numbers.{number_of}
 
 -- ---- a field
 
--- where the first byte stands that is neither a space nor a tab
+-- optional white space round a value (RFC 9110, section 5.6.3): a space or a tab
+abbrev pub is_blank : ℕ → Bool
+is_blank byte = byte == 0x20 || byte == 0x09
+
+-- where the first byte stands that is no blank
 abbrev pub first_ink : List ℕ → Option ℕ
-first_ink bytes = position (λ b. not (b == 0x20) && not (b == 0x09)) bytes
+first_ink bytes = position (λ b. not (is_blank b)) bytes
 
 abbrev pub ink_from : Option ℕ → List ℕ → List ℕ
 ink_from None bytes = []
@@ -29,9 +33,17 @@ abbrev pub length_from : Option ℕ → Result ℕ FrameFault
 length_from None = Err NoNumber
 length_from (Some n) = if nat_lt 1073741824 n then Err LongFrame else Ok n
 
--- decimal digits behind blanks
+-- where the first blank stands, or the end
+abbrev pub word_end : List ℕ → ℕ
+word_end bytes = unwrap_or (position is_blank bytes) (length bytes)
+
+-- a word, with nothing but blanks behind it
+abbrev pub length_by_word : ℕ → List ℕ → Result ℕ FrameFault
+length_by_word end bytes = if list_all is_blank (drop end bytes) then length_from (number_of (take end bytes)) else Err NoNumber
+
+-- decimal digits between blanks
 abbrev pub length_in : List ℕ → Result ℕ FrameFault
-length_in value = length_from (number_of (without_blanks value))
+length_in value = length_by_word (word_end (without_blanks value)) (without_blanks value)
 
 abbrev pub names_length : List ℕ → Bool
 names_length line = bytes_eq (map to_ascii_lowercase (take 15 line)) (codes "content-length:")

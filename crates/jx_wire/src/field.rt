@@ -1,6 +1,7 @@
 // The fields of a header.
-ghost use Rattle.std.specs.Prelude.{◌≡◌, drop};
-ghost use Rattle.jx_wire.specs.Frames.{field_of, first_ink, if_given, length_from, length_in, names_length, without_blanks};
+ghost use Rattle.std.specs.Prelude.{◌≡◌, ◌≤◌, ◌<◌, drop, length, position, IfSome};
+ghost use Rattle.std.specs.List.{list_all};
+ghost use Rattle.jx_wire.specs.Frames.{field_of, first_ink, if_given, is_blank, length_by_word, length_from, length_in, names_length, without_blanks, word_end};
 
 use crate::frame_fault::FrameFault;
 use crate::number::number_of;
@@ -22,13 +23,18 @@ pub(crate) fn behind(bytes: &[u8], count: usize) -> &[u8]
     }
 }
 
+/// Whether a byte is optional white space round a value (RFC 9110, section 5.6.3).
+fn is_blank(byte: u8) -> bool
+    ensures { result ≡ is_blank byte }
+{
+    byte == b' ' || byte == b'\t'
+}
+
 /// Where the first byte stands that is no blank.
 fn first_ink(bytes: &[u8]) -> Option<usize>
     ensures { result ≡ first_ink bytes.now }
 {
-    bytes
-        .iter()
-        .position(|byte| *byte != b' ' && *byte != b'\t')
+    bytes.iter().position(|byte| !is_blank(*byte))
 }
 
 /// The bytes behind the blanks in front.
@@ -56,11 +62,51 @@ fn length_from(number: Option<usize>) -> Result<usize, FrameFault>
     }
 }
 
-/// The length that the value of a field gives.
+/// Where the first blank stands, if there is one.
+fn first_blank(bytes: &[u8]) -> Option<usize>
+    ensures first { result ≡ position is_blank bytes.now }
+    ensures within { IfSome result (λ at. at < length bytes.now) }
+{
+    bytes.iter().position(|byte| is_blank(*byte))
+}
+
+/// Whether there is nothing but blanks.
+fn are_blanks(bytes: &[u8]) -> bool
+    ensures { result ≡ list_all is_blank bytes.now }
+{
+    bytes.iter().all(|byte| is_blank(*byte))
+}
+
+/// Where the first blank stands, or the end.
+fn word_end(bytes: &[u8]) -> usize
+    ensures end { result ≡ word_end bytes.now }
+    ensures within { result ≤ length bytes.now }
+{
+    match first_blank(bytes) {
+        Some(end) => end,
+        None => bytes.len(),
+    }
+}
+
+/// The length that a word gives which ends there. Nothing but blanks may stand behind it.
+fn length_by_word(end: usize, bytes: &[u8]) -> Result<usize, FrameFault>
+    requires { end ≤ length bytes.now }
+    ensures { result ≡ length_by_word end bytes.now }
+{
+    let word = &bytes[..end];
+    if are_blanks(behind(bytes, end)) {
+        length_from(number_of(word))
+    } else {
+        Err(FrameFault::NoNumber)
+    }
+}
+
+/// The length that the value of a field gives: decimal digits between blanks.
 fn length_in(value: &[u8]) -> Result<usize, FrameFault>
     ensures { result ≡ length_in value.now }
 {
-    length_from(number_of(without_blanks(value)))
+    let ink = without_blanks(value);
+    length_by_word(word_end(ink), ink)
 }
 
 /// Whether a field has the name of the one that gives a length.

@@ -4,11 +4,10 @@ ghost use Rattle.jx_run.specs.declared.texts.verdict.Verdict.TheVariants.{Accept
 ghost use Rattle.jx_wire.specs.Messages.{wire_settings};
 
 use crate::number::number_of;
-use crate::string_fault::StringFault;
-use crate::strings::unescaped;
 use jx_index::{Indexed, NodeId, Pointer, TextAnswer};
 use jx_lex::{Depth, Kind};
 use jx_run::{FrontMark, NameRule, Refusal, Settings};
+use jx_string::{StringFault, unescaped};
 use std::alloc::{AllocError, Global};
 
 /// How many containers of a message may stand open at once.

@@ -1,8 +1,8 @@
 // The parameters of the calls that the server knows.
 use crate::call::{Change, Offer, Place, Uri, Versioned};
 use crate::message::{Message, Value};
-use crate::string_fault::StringFault;
 use jx_lex::Kind;
+use jx_string::StringFault;
 use std::alloc::{AllocError, Global};
 
 /// Why parameters are not read.
@@ -15,6 +15,11 @@ pub(crate) enum ParameterFault {
 }
 
 impl From<AllocError> for ParameterFault {
+    ghost use Rattle.std.specs.Prelude.{◌≡◌};
+    ghost use Rattle.jx_wire.specs.declared.parameters.ParameterFault.TheVariants.{Memory};
+
+    ghost from_gives = { λ _ fault. fault ≡ Memory };
+
     fn from(_: AllocError) -> ParameterFault {
         ParameterFault::Memory
     }

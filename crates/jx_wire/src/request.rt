@@ -9,8 +9,8 @@ use crate::parameters::{
     ParameterFault, changes_of, offer_of, place_at, uri_of, versioned_of, whole_of,
 };
 use crate::request_fault::RequestFault;
-use crate::string_fault::StringFault;
 use jx_lex::Kind;
+use jx_string::StringFault;
 use std::alloc::{AllocError, Global};
 
 /// The id of a message, as it is spelt; none for a notification. `Err` where it is neither a string nor a number.

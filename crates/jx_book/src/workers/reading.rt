@@ -1,4 +1,4 @@
-ghost use Rattle.std.specs.Prelude.{◌≡◌, ◌+◌, List, length, true, All, sum_by, vec_len, IfOk};
+ghost use Rattle.std.specs.Prelude.{◌≡◌, ◌+◌, List, length, true, All, sum_by, vec_len, IfOk, IsErr};
 ghost use Rattle.jx_summary.specs.declared.span.Span.{Span};
 ghost use Rattle.jx_claim.specs.Claimed.{TableId, AreFresh};
 ghost use Rattle.jx_claim.specs.Cut.{drawn_len};
@@ -11,8 +11,9 @@ use crate::lock::gathering::gather;
 use crate::lock::share::Share;
 use crate::stored::assembling::assemble;
 use crate::stored::held::Held;
-use crate::workers::gate::Gate;
-use crate::workers::worker::{WorkerEnd, WorkerStop, work};
+use crate::workers::errand::{Errand, NoErrand};
+use crate::workers::gate::{Gate, Go};
+use crate::workers::worker::{Cause, Hand, WorkerEnd, WorkerStop, work};
 use jx_claim::{ClaimSeat, Claims, Cutting, Workers};
 use jx_fork::call_each;
 use jx_summary::{Depth, Summary};
@@ -20,6 +21,7 @@ use std::alloc::{AllocError, Global};
 use std::marker::Brand;
 use std::sync::Wait;
 use std::sync::ledger::{Blank, Ledger};
+use std::thread;
 use std::thread::Threads;
 
 /// Who reads: the runtime that makes threads, the memory that they take, how many workers there are, and the gate that
@@ -58,6 +60,26 @@ struct Returned<P: Ledger, T: Ledger> {
     ended: bool,
 }
 
+/// The book of a text and the claims on its pieces, with what each worker begins with.
+#[derive(Drop)]
+struct Opened<'a, S: Summary, P: Ledger, T: Ledger> {
+    book: Book<'a, S, P, T>,
+    claims: Claims,
+    first: Job<P, T>,
+    others: Vec<Job<P, T>>,
+}
+
+/// What a crew comes to that reads a text while its first worker has an errand.
+#[derive(Drop)]
+pub struct Round<'a, S: Summary, E: Errand> {
+    /// The errand, which was run.
+    pub errand: E,
+    /// The run over the text from the cutting's front on. Only want of memory is a fault.
+    pub run: Result<Held<'a, S>, AllocError>,
+    /// How many bytes the first worker put into the book behind its errand.
+    pub put: u128,
+}
+
 /// Reads a text from the cutting's front on by the crew, each worker in a thread of its own where one can be made. It waits
 /// for them, and fails only for want of memory.
 ///
@@ -72,9 +94,37 @@ pub fn read_whole<'a, S: Summary + Send, R: Threads + Wait + Sync, G: Gate + Syn
     requires { cutting.now.len ≡ length text.now }
     ensures { IfOk result (λ h. IsRest text.entry.now depth cutting.now.front h) }
 {
+    let Round {
+        errand: _,
+        run,
+        put: _,
+    } = read_beside::<S, NoErrand, R, G>(crew, text, cutting, depth, NoErrand);
+    run
+}
+
+/// The same, while the first worker has an errand: it draws its first piece behind that, unless the errand says stop. The
+/// errand is run even where memory is refused.
+pub fn read_beside<
+    'a,
+    S: Summary + Send,
+    E: Errand + Send,
+    R: Threads + Wait + Sync,
+    G: Gate + Sync,
+>(
+    crew: &Crew<'_, R, G>,
+    text: &'a [u8],
+    cutting: &Cutting,
+    depth: Depth,
+    errand: E,
+) -> Round<'a, S, E>
+    requires cutting { cutting.now.len ≡ length text.now }
+    requires errand { E.needs errand }
+    ensures errand { E.leaves errand result.errand }
+    ensures run { IfOk result.run (λ h. IsRest text.entry.now depth cutting.now.front h) }
+{
     let put = Blank::new(u64::from(crew.workers.count()));
     let taken = Blank::new(u64::from(crew.workers.count()));
-    read_with::<S, Brand, Brand, R, G>(crew, text, cutting, depth, put, taken)
+    read_with::<S, Brand, Brand, E, R, G>(crew, text, cutting, depth, errand, put, taken)
 }
 
 /// The same, with blanks for the ledgers of a book.
@@ -83,6 +133,7 @@ fn read_with<
     S: Summary + Send,
     P: Ledger + Send + Sync,
     T: Ledger + Send + Sync,
+    E: Errand + Send,
     R: Threads + Wait + Sync,
     G: Gate + Sync,
 >(
@@ -90,30 +141,80 @@ fn read_with<
     text: &'a [u8],
     cutting: &Cutting,
     depth: Depth,
+    errand: E,
     put: Blank,
     taken: Blank,
-) -> Result<Held<'a, S>, AllocError>
+) -> Round<'a, S, E>
     requires cutting { cutting.now.len ≡ length text.now }
+    requires errand { E.needs errand }
     requires put { (put.name ≡ P.name) × (put.parts ≡ P.parts) × (put.parts ≡ crew.now.workers) }
     requires taken { (taken.name ≡ T.name) × (taken.parts ≡ T.parts) × (taken.parts ≡ crew.now.workers) }
-    ensures { IfOk result (λ h. IsRest text.entry.now depth cutting.now.front h) }
+    ensures errand { E.leaves errand result.errand }
+    ensures run { IfOk result.run (λ h. IsRest text.entry.now depth cutting.now.front h) }
 {
-    let alloc = crew.alloc;
-    let (book, shares) = Book::<S, P, T>::open(alloc, put, taken, crew.workers)?;
-    let (claims, ends) = work_all(crew, &book, text, cutting, shares, depth)?;
-    let Returned {
-        seats,
-        shares,
-        ended,
-    } = collect(alloc, cutting, &claims, ends)?;
-    if ended {
-        if let Ok(Some(run)) = gather(book, claims, text, cutting, depth, seats, shares) {
-            return Ok(run);
-        }
-    } else if let Ok(closed) = book.finish(text, depth, shares) {
-        return assemble(alloc, closed, text, cutting.front(), depth);
+    let Ok(opened) = open::<S, P, T, R, G>(crew, cutting, put, taken) else {
+        return alone(errand);
+    };
+    let Opened {
+        book,
+        claims,
+        first,
+        others,
+    } = opened;
+    let (errand, end, ends) = work_all(
+        crew, &book, text, cutting, &claims, first, others, depth, errand,
+    );
+    let put = total_put(&end);
+    let run = match all_ends(cutting, &claims, end, ends) {
+        Ok(ends) => gathered(crew.alloc, book, claims, ends, text, cutting, depth),
+        Err(AllocError) => Err(AllocError),
+    };
+    Round { errand, run, put }
+}
+
+/// The errand alone, where memory was refused.
+fn alone<'a, S: Summary, E: Errand>(errand: E) -> Round<'a, S, E>
+    requires { E.needs errand }
+    ensures errand { E.leaves errand result.errand }
+    ensures run { IsErr result.run }
+{
+    let mut errand = errand;
+    let _ = errand.run();
+    Round {
+        errand,
+        run: Err(AllocError),
+        put: 0,
     }
-    Held::read(alloc, text, cutting.front(), text.len(), depth)
+}
+
+/// A book, claims on the pieces, and a seat with a share for each worker.
+fn open<'a, S: Summary, P: Ledger, T: Ledger, R, G>(
+    crew: &Crew<'_, R, G>,
+    cutting: &Cutting,
+    put: Blank,
+    taken: Blank,
+) -> Result<Opened<'a, S, P, T>, AllocError>
+    requires put { (put.name ≡ P.name) × (put.parts ≡ P.parts) × (put.parts ≡ crew.now.workers) }
+    requires taken { (taken.name ≡ T.name) × (taken.parts ≡ T.parts) × (taken.parts ≡ crew.now.workers) }
+    ensures claims { IfOk result (λ o. o.claims.pieces ≡ length cutting.now.pieces) }
+    ensures workers { IfOk result (λ o. o.claims.workers ≡ P.parts) }
+    ensures first { IfOk result (λ o. IsFresh o.claims.id o.first) }
+    ensures others { IfOk result (λ o. All (λ j. IsFresh o.claims.id j) o.others.items) }
+    ensures len { IfOk result (λ o. vec_len o.others + 1 ≡ P.parts) }
+{
+    let _count = crew.workers.count();
+    let (book, shares) = Book::<S, P, T>::open(crew.alloc, put, taken, crew.workers)?;
+    let (claims, seats) = Claims::open(crew.alloc, cutting.count(), crew.workers)?;
+    let mut others = pair(crew.alloc, &claims, seats, shares)?;
+    let Some(first) = others.pop() else {
+        unreachable!()
+    };
+    Ok(Opened {
+        book,
+        claims,
+        first,
+        others,
+    })
 }
 
 /// A seat and a share for each worker.
@@ -139,8 +240,85 @@ fn pair<P: Ledger, T: Ledger>(
     Ok(jobs)
 }
 
-/// Opens the claims, and lets each worker work with its share, in a thread of its own where one can be made.
+/// Lets the first worker run the errand and then work, and the others work, each in a thread of its own where one can be
+/// made.
 fn work_all<
+    'a,
+    S: Summary + Send,
+    P: Ledger + Send + Sync,
+    T: Ledger + Send + Sync,
+    E: Errand + Send,
+    R: Threads + Wait + Sync,
+    G: Gate + Sync,
+>(
+    crew: &Crew<'_, R, G>,
+    book: &Book<'a, S, P, T>,
+    text: &'a [u8],
+    cutting: &Cutting,
+    claims: &Claims,
+    first: Job<P, T>,
+    others: Vec<Job<P, T>>,
+    depth: Depth,
+    errand: E,
+) -> (
+    E,
+    Result<WorkerEnd<P, T>, WorkerStop<'a, S, P, T>>,
+    Result<Vec<Result<WorkerEnd<P, T>, WorkerStop<'a, S, P, T>>>, AllocError>,
+)
+    requires cutting { cutting.now.len ≡ length text.now }
+    requires claims { claims.now.pieces ≡ length cutting.now.pieces }
+    requires first { IsFresh claims.now.id first }
+    requires others { All (λ j. IsFresh claims.now.id j) others.items }
+    requires errand { E.needs errand }
+    ensures errand { E.leaves errand result.0 }
+    ensures first { Balances cutting.now.pieces claims.now.id result.1 }
+    ensures len { IfOk result.2 (λ v. vec_len v ≡ vec_len others) }
+    ensures each { IfOk result.2 (λ v. All (λ e. Balances cutting.now.pieces claims.now.id e) v.items) }
+{
+    let one = move || -> (E, Result<WorkerEnd<P, T>, WorkerStop<S, P, T>>)
+        requires { (cutting.now.len ≡ length text.now) × (claims.now.pieces ≡ length cutting.now.pieces) × IsFresh claims.now.id first × E.needs errand }
+        ensures { E.leaves errand result.0 × Balances cutting.entry.now.pieces claims.entry.now.id result.1 }
+    { work_behind(crew, book, text, cutting, claims, first, depth, errand) };
+    let rest = move || -> Result<Vec<Result<WorkerEnd<P, T>, WorkerStop<S, P, T>>>, AllocError>
+        requires { (cutting.now.len ≡ length text.now) × (claims.now.pieces ≡ length cutting.now.pieces) × All (λ j. IsFresh claims.now.id j) others.items }
+        ensures { IfOk result (λ v. (vec_len v ≡ vec_len others) × All (λ e. Balances cutting.entry.now.pieces claims.entry.now.id e) v.items) }
+    { work_each(crew, book, text, cutting, claims, others, depth) };
+    let ((errand, end), ends) = thread::join(crew.rt, one, rest);
+    (errand, end, ends)
+}
+
+/// Runs the errand, and lets its worker draw behind it, unless it says stop.
+fn work_behind<'a, S: Summary, P: Ledger, T: Ledger, E: Errand, R: Wait, G: Gate>(
+    crew: &Crew<'_, R, G>,
+    book: &Book<'a, S, P, T>,
+    text: &'a [u8],
+    cutting: &Cutting,
+    claims: &Claims,
+    job: Job<P, T>,
+    depth: Depth,
+    errand: E,
+) -> (E, Result<WorkerEnd<P, T>, WorkerStop<'a, S, P, T>>)
+    requires cutting { cutting.now.len ≡ length text.now }
+    requires claims { claims.now.pieces ≡ length cutting.now.pieces }
+    requires job { IsFresh claims.now.id job }
+    requires errand { E.needs errand }
+    ensures errand { E.leaves errand result.0 }
+    ensures end { Balances cutting.now.pieces claims.now.id result.1 }
+{
+    let mut errand = errand;
+    let Job { seat, share } = job;
+    if errand.run() == Go::Stop {
+        let stop = WorkerStop::new(seat, share, Hand::Nothing, Cause::Gate);
+        return (errand, Err(stop));
+    }
+    let end = work(
+        crew.rt, crew.alloc, book, text, cutting, claims, seat, share, depth, crew.gate,
+    );
+    (errand, end)
+}
+
+/// Lets each worker work, in a thread of its own where one can be made.
+fn work_each<
     'a,
     S: Summary + Send,
     P: Ledger + Send + Sync,
@@ -152,27 +330,17 @@ fn work_all<
     book: &Book<'a, S, P, T>,
     text: &'a [u8],
     cutting: &Cutting,
-    shares: Vec<Share<P, T>>,
+    claims: &Claims,
+    jobs: Vec<Job<P, T>>,
     depth: Depth,
-) -> Result<
-    (
-        Claims,
-        Vec<Result<WorkerEnd<P, T>, WorkerStop<'a, S, P, T>>>,
-    ),
-    AllocError,
->
+) -> Result<Vec<Result<WorkerEnd<P, T>, WorkerStop<'a, S, P, T>>>, AllocError>
     requires cutting { cutting.now.len ≡ length text.now }
-    requires len { vec_len shares ≡ crew.now.workers }
-    requires shares { All (λ s. s ≡ share 0 0) shares.items }
-    ensures claims { IfOk result (λ r. (r.0.pieces ≡ length cutting.now.pieces) × (r.0.workers ≡ vec_len shares)) }
-    ensures len { IfOk result (λ r. vec_len r.1 ≡ vec_len shares) }
-    ensures each { IfOk result (λ r. All (λ e. Balances cutting.now.pieces r.0.id e) r.1.items) }
+    requires claims { claims.now.pieces ≡ length cutting.now.pieces }
+    requires jobs { All (λ j. IsFresh claims.now.id j) jobs.items }
+    ensures len { IfOk result (λ v. vec_len v ≡ vec_len jobs) }
+    ensures each { IfOk result (λ v. All (λ e. Balances cutting.now.pieces claims.now.id e) v.items) }
 {
-    let _count = crew.workers.count();
-    let (open_claims, seats) = Claims::open(crew.alloc, cutting.count(), crew.workers)?;
-    let jobs = pair(crew.alloc, &open_claims, seats, shares)?;
-    let claims = &open_claims;
-    let ends = call_each(
+    call_each(
         crew.rt,
         crew.alloc,
         jobs,
@@ -185,8 +353,80 @@ fn work_all<
                 crew.rt, crew.alloc, book, text, cutting, claims, seat, share, depth, crew.gate,
             )
         },
-    )?;
-    Ok((open_claims, ends))
+    )
+}
+
+/// How all workers ended, the first one behind the others.
+fn all_ends<'a, S: Summary, P: Ledger, T: Ledger>(
+    cutting: &Cutting,
+    claims: &Claims,
+    first: Result<WorkerEnd<P, T>, WorkerStop<'a, S, P, T>>,
+    others: Result<Vec<Result<WorkerEnd<P, T>, WorkerStop<'a, S, P, T>>>, AllocError>,
+) -> Result<Vec<Result<WorkerEnd<P, T>, WorkerStop<'a, S, P, T>>>, AllocError>
+    requires first { Balances cutting.now.pieces claims.now.id first }
+    requires len { IfOk others (λ v. vec_len v + 1 ≡ P.parts) }
+    requires others { IfOk others (λ v. All (λ e. Balances cutting.now.pieces claims.now.id e) v.items) }
+    ensures len { IfOk result (λ all. vec_len all ≡ P.parts) }
+    ensures each { IfOk result (λ all. All (λ e. Balances cutting.now.pieces claims.now.id e) all.items) }
+{
+    let mut all = others?;
+    all.push(first)?;
+    Ok(all)
+}
+
+/// The run over the text from the cutting's front on, of what the workers put and handed back.
+fn gathered<'a, S: Summary, P: Ledger, T: Ledger>(
+    alloc: Global,
+    book: Book<'a, S, P, T>,
+    claims: Claims,
+    ends: Vec<Result<WorkerEnd<P, T>, WorkerStop<'a, S, P, T>>>,
+    text: &'a [u8],
+    cutting: &Cutting,
+    depth: Depth,
+) -> Result<Held<'a, S>, AllocError>
+    requires cutting { cutting.now.len ≡ length text.now }
+    requires claims { claims.pieces ≡ length cutting.now.pieces }
+    requires workers { claims.workers ≡ P.parts }
+    requires len { vec_len ends ≡ P.parts }
+    requires each { All (λ e. Balances cutting.now.pieces claims.id e) ends.items }
+    ensures { IfOk result (λ h. IsRest text.entry.now depth cutting.now.front h) }
+{
+    let Returned {
+        seats,
+        shares,
+        ended,
+    } = collect(alloc, cutting, &claims, ends)?;
+    if ended {
+        if let Ok(Some(run)) = gather(book, claims, text, cutting, depth, seats, shares) {
+            return Ok(run);
+        }
+    } else if let Ok(closed) = book.finish(text, depth, shares) {
+        return assemble(alloc, closed, text, cutting.front(), depth);
+    }
+    read_alone(alloc, text, cutting, depth)
+}
+
+/// The run over the text from the cutting's front on, read as one piece.
+fn read_alone<'a, S: Summary>(
+    alloc: Global,
+    text: &'a [u8],
+    cutting: &Cutting,
+    depth: Depth,
+) -> Result<Held<'a, S>, AllocError>
+    requires cutting { cutting.now.len ≡ length text.now }
+    ensures { IfOk result (λ h. IsRest text.entry.now depth cutting.now.front h) }
+{
+    Held::read(alloc, text, cutting.front(), text.len(), depth)
+}
+
+/// How many bytes a worker put.
+fn total_put<'a, S: Summary, P: Ledger, T: Ledger>(
+    end: &Result<WorkerEnd<P, T>, WorkerStop<'a, S, P, T>>,
+) -> u128 {
+    match end {
+        Ok(end) => end.share.total_put(),
+        Err(stop) => stop.share.total_put(),
+    }
 }
 
 /// The seats and shares of all workers, and whether each of them ended.

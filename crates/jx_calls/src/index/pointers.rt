@@ -1,6 +1,7 @@
 // What pointers lead to.
 ghost use Rattle.std.specs.Prelude.{◌≡◌, length};
 
+use crate::index::fed::is_fed_alike;
 use jx_index::{FindFault, Found, Indexed, Pointer, Row, find_each_in, find_in};
 use jx_lex::{Depth, Span};
 use jx_lines::{Line, Out, push_found};
@@ -39,6 +40,9 @@ pub(crate) fn read_index<'t>(line: &mut Line<'_>, text: &'t [u8]) -> Option<Inde
 /// What is answered where an index of a text and one pass over it do not agree.
 const DIFFER: &str = "the index and one pass differ";
 
+/// What is answered where one pass over a text and a finder that is fed it by slices do not agree.
+const FED_ELSEWHERE: &str = "slices differ";
+
 /// The pointers that these words spell, without words that are none.
 fn pointers_of(alloc: Global, words: &[String]) -> Result<Vec<Pointer<'_>>, AllocError> {
     let mut pointers = Vec::with_capacity(alloc, words.len())?;
@@ -59,6 +63,17 @@ fn find_all_at_once(alloc: Global, text: &[u8], words: &[String]) -> Result<Vec<
         Ok(found) => Ok(found),
         Err(_) => Ok(Vec::new(alloc)),
     }
+}
+
+/// Whether a finder that is fed the text by slices, of whatever size, comes to the same.
+fn is_found_alike(
+    alloc: Global,
+    text: &[u8],
+    words: &[String],
+    found: &[Led],
+) -> Result<bool, AllocError> {
+    let pointers = pointers_of(alloc, words)?;
+    is_fed_alike(alloc, text, &pointers, found)
 }
 
 /// The kind and the span of a row, if they are those that are wanted.
@@ -130,6 +145,11 @@ fn push_each(
     pointers: &[String],
 ) -> Result<(), AllocError> {
     let found = find_all_at_once(alloc, index.text(), pointers)?;
+    if !is_found_alike(alloc, index.text(), pointers, &found)? {
+        out.part("; ");
+        out.push_str(FED_ELSEWHERE);
+        return Ok(());
+    }
     let mut all = found.as_slice();
     for pointer in pointers {
         out.part("; ");

@@ -68,10 +68,12 @@ fn meets_a_stop<R: Abort + Threads + Wait + Sync>(
         asked.call(),
         asked.text()
     );
+    assert!(rt; !gate.was_ignored(), "{} stopped at {number}", asked.call());
     gate.has_stopped()
 }
 
-// What is asked of so many workers, who stop from each event on in turn until a run meets no stop.
+// What is asked of so many workers, who stop from each event on in turn until a run meets no stop. The first run meets one, as
+// there are two pieces or more; there the calling thread reads all.
 fn check<R: Abort + Threads + Wait + Sync>(
     rt: &R,
     alloc: Global,
@@ -82,6 +84,12 @@ fn check<R: Abort + Threads + Wait + Sync>(
     let workers = Workers::new(count).expect(rt, "workers");
     for number in 0..MANY {
         if !meets_a_stop(rt, alloc, workers, number, asked, settings) {
+            assert!(rt;
+                number > 0,
+                "{} on {:?} meets no stop",
+                asked.call(),
+                asked.text()
+            );
             return;
         }
     }

@@ -1,13 +1,17 @@
 // Commands under refused growths.
-use jx_command::{ArgFault, Input, Inputs, Order, PartsOrder, PartsStep, Request, command_of};
+use jx_claim::Workers;
+use jx_command::{
+    ArgFault, EachOrder, Input, Inputs, Order, PartsOrder, PartsStep, Request, ValuesOrder,
+    command_of,
+};
 use jx_hostile_runs::lines::Lines;
-use jx_run::{FrontMark, NameRule};
+use jx_run::{FrontMark, NameRule, Settings};
 use jx_task::Task;
 use std::alloc::{AllocError, Global};
 use std::test::Fail;
 
 // Words behind the program's name, and what they ask for.
-const COMMANDS: [(&[&str], &str); 7] = [
+const COMMANDS: [(&[&str], &str); 9] = [
     (&["chek"], "wrong words"),
     (
         &["at", "/1", "/2", "x"],
@@ -26,6 +30,14 @@ const COMMANDS: [(&[&str], &str); 7] = [
             "whole", "--to", "9", "--from", "3", "--file", "F", "--depth", "2",
         ],
         "whole 3..9; depth 2, file F",
+    ),
+    (
+        &["get", "/1", "x", "-rc", "--file", "F", "--pointers", "G"],
+        "get /1 x; depth 512, mark Refused, names Any, workers 4, piece 65536, compact, raw, file F, pointers G",
+    ),
+    (
+        &["each", "--file", "F", "--depth", "7"],
+        "each; depth 7, file F",
     ),
     (
         &["check", "F", "-", "G"],
@@ -72,6 +84,8 @@ fn asked_by(alloc: Global, words: &[&str]) -> Result<String, AllocError> {
     match command_of(alloc, &all) {
         Ok(Order::Report(request)) => line_of(alloc, &request),
         Ok(Order::Parts(order)) => line_of_parts(alloc, &order),
+        Ok(Order::Values(order)) => line_of_values(alloc, &order),
+        Ok(Order::Each(order)) => line_of_each(alloc, &order),
         Err(ArgFault::Memory) => Err(AllocError),
         Err(_) => String::from_str(alloc, "wrong words"),
     }
@@ -80,21 +94,13 @@ fn asked_by(alloc: Global, words: &[&str]) -> Result<String, AllocError> {
 fn line_of(alloc: Global, request: &Request<'_>) -> Result<String, AllocError> {
     let command = &request.command;
     let mut line = task_of(alloc, &command.task)?;
-    let depth = command.settings.depth.containers();
-    let mark = match command.settings.mark {
-        FrontMark::Refused => "Refused",
-        FrontMark::Ignored => "Ignored",
-    };
-    let names = match command.settings.names {
-        NameRule::Any => "Any",
-        NameRule::Unique => "Unique",
-    };
-    let workers = command.workers.count();
-    let piece = command.piece;
-    let rest = format!(in alloc;
-        "; depth {depth}, mark {mark}, names {names}, workers {workers}, piece {piece}"
+    add_settings(
+        alloc,
+        &mut line,
+        &command.settings,
+        command.workers,
+        command.piece,
     )?;
-    line.push_str(&rest)?;
     if command.quiet {
         line.push_str(", quiet")?;
     }
@@ -103,6 +109,56 @@ fn line_of(alloc: Global, request: &Request<'_>) -> Result<String, AllocError> {
         line.push_str(", pointers ")?;
         line.push_str(file)?;
     }
+    Ok(line)
+}
+
+fn line_of_values(alloc: Global, order: &ValuesOrder<'_>) -> Result<String, AllocError> {
+    let task = &order.task;
+    let mut line = String::from_str(alloc, "get")?;
+    add_pointers(&mut line, &task.pointers)?;
+    add_settings(alloc, &mut line, &task.settings, task.workers, task.piece)?;
+    if order.is_compact {
+        line.push_str(", compact")?;
+    }
+    if order.is_raw {
+        line.push_str(", raw")?;
+    }
+    add_inputs(&mut line, &Inputs::One(order.input))?;
+    if let Some(file) = order.pointers {
+        line.push_str(", pointers ")?;
+        line.push_str(file)?;
+    }
+    Ok(line)
+}
+
+// How the input is read, and by how many.
+fn add_settings(
+    alloc: Global,
+    line: &mut String,
+    settings: &Settings,
+    workers: Workers,
+    piece: usize,
+) -> Result<(), AllocError> {
+    let depth = settings.depth.containers();
+    let mark = match settings.mark {
+        FrontMark::Refused => "Refused",
+        FrontMark::Ignored => "Ignored",
+    };
+    let names = match settings.names {
+        NameRule::Any => "Any",
+        NameRule::Unique => "Unique",
+    };
+    let workers = workers.count();
+    let told = format!(in alloc;
+        "; depth {depth}, mark {mark}, names {names}, workers {workers}, piece {piece}"
+    )?;
+    line.push_str(&told)
+}
+
+fn line_of_each(alloc: Global, order: &EachOrder<'_>) -> Result<String, AllocError> {
+    let depth = order.settings.depth.containers();
+    let mut line = format!(in alloc; "each; depth {depth}")?;
+    add_inputs(&mut line, &Inputs::One(order.input))?;
     Ok(line)
 }
 
@@ -146,11 +202,16 @@ fn task_of(alloc: Global, task: &Task) -> Result<String, AllocError> {
         Task::Seq => String::from_str(alloc, "seq"),
         Task::At(pointers) => {
             let mut line = String::from_str(alloc, "at")?;
-            for pointer in pointers {
-                line.push_str(" ")?;
-                line.push_str(pointer)?;
-            }
+            add_pointers(&mut line, pointers)?;
             Ok(line)
         }
     }
+}
+
+fn add_pointers(line: &mut String, pointers: &[String]) -> Result<(), AllocError> {
+    for pointer in pointers {
+        line.push_str(" ")?;
+        line.push_str(pointer)?;
+    }
+    Ok(())
 }

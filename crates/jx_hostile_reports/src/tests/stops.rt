@@ -112,6 +112,7 @@ fn stopped_from_each<R: Abort + Threads + Wait + Sync>(
             output,
             "{text:?}, stopped at {number}"
         );
+        assert!(rt; !gate.was_ignored(), "{text:?}, stopped at {number}");
         if !gate.has_stopped() {
             return Ok(number);
         }
@@ -122,9 +123,10 @@ fn stopped_from_each<R: Abort + Threads + Wait + Sync>(
 /// How many bytes of a text are read at a time.
 const BATCH: usize = 8;
 
-/// Checks a text whose workers stop: in any batch, and where the input is kept whole since its names have to be unique. What
-/// is behind a fault asks no gate, so that only an accepted text has more events than one batch. One worker asks as it begins
-/// each piece, and each of several as it begins and ends its part.
+/// Checks a text whose workers stop: in any batch, and where the input is kept whole since its names have to be unique. The
+/// first batch of each text meets a stop. What is behind a fault asks no gate, so that only an accepted text has more events
+/// than one batch. One worker asks as it begins each piece. Of several, the first asks before and behind the front, and all
+/// of them ask after each step with a piece.
 fn check_stops<R: Abort + Threads + Wait + Sync>(
     rt: &R,
     alloc: Global,
@@ -142,6 +144,7 @@ fn check_stops<R: Abort + Threads + Wait + Sync>(
     } else {
         2 * u64::from(count)
     };
+    assert!(rt; batches > 0, "{:?} meets no stop", case.0);
     if case.2 == Exit::Good {
         assert!(rt; batches > of_one_batch && whole > 0);
     }

@@ -1,5 +1,5 @@
 -- The tokens of several pointers, each beginning once, and what is noted for all of them in one pass.
-use Rattle.std.specs.Prelude.{◌≡◌, ℕ, zero, suc, ◌+◌, ◌-◌, ◌^◌, ◌<◌, ◌≤◌, ◌==◌, ◌&&◌, List, [], ◌∷◌, Bool, true, false, Option, None, Some, cond, map, slice_get}
+use Rattle.std.specs.Prelude.{◌≡◌, ℕ, zero, suc, ◌+◌, ◌-◌, ◌^◌, ◌<◌, ◌≤◌, ◌==◌, ◌&&◌, List, [], ◌∷◌, Bool, true, false, Option, None, Some, cond, is_some, map, slice_get}
 use Rattle.std.specs.Ordering.{nat_cmp, is_lt, is_eq}
 use Rattle.std.specs.Cmp.Lexicographic.{slice_cmp}
 use Rattle.jx_lex.specs.declared.kind.Kind.TheVariants as kind
@@ -146,6 +146,11 @@ sought_in (suc skipped) text edges kind at end f = record f { skipped = skip_ove
 
 abbrev pub sought : List ℕ → List Edge → MarkKind → ℕ → ℕ → Finding → Finding
 sought text edges kind at end f = sought_in f.skipped text edges kind at end f
+
+-- whether a mark that comes next begins the name of a member
+abbrev pub is_name_next : MarkKind → Finding → Bool
+is_name_next mark.String f = (f.skipped == 0) && is_some (naming f.opened f.name)
+is_name_next _ f = false
 
 -- `last` is the end of the text
 unfoldable pub seek_all : List ℕ → List Edge → ℕ → List Mark → List ℕ → Finding → Finding

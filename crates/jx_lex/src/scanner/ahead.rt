@@ -1,6 +1,6 @@
 // Stretches of a text that were tested for well-formed UTF-8 before they are read.
 ghost use Rattle.std.specs.Prelude.{◌≡◌, ◌≤◌, ◌&&◌, length, nat_le, nat_lt, ℕ, List};
-ghost use Rattle.jx_lex.specs.inside.Ahead.{IsSound};
+ghost use Rattle.jx_lex.specs.Ahead.{IsSound};
 
 // How many bytes are read one character after another before a stretch is tested.
 pub(crate) const LEAST: usize = 32;
@@ -14,7 +14,7 @@ const MOST: usize = 4096;
 /// It is carried along from token to token, so that each field fills a word: a smaller one would be copied with the bytes
 /// beside it, through memory.
 #[derive(Clone, Copy)]
-pub(crate) struct Ahead {
+pub struct Ahead {
     pub(crate) from: usize,
     pub(crate) to: usize,
     /// The end of what was tested. Where that isn't well-formed, the stretch is empty.
@@ -27,7 +27,7 @@ pub(crate) struct Ahead {
 impl Ahead {
     /// No stretch yet.
     #[inline(always)]
-    pub(crate) fn nothing() -> Ahead
+    pub fn nothing() -> Ahead
         ensures sound { (text : List ℕ) → IsSound text result }
     {
         Ahead {

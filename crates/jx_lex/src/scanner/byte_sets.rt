@@ -131,6 +131,14 @@ impl ByteSet for Blanks {
     }
 }
 
+/// Bit k says that byte k of 64 is no ordinary ASCII of a string.
+#[inline(always)]
+pub(crate) fn not_plain(block: u8x64) -> u64
+    ensures { result ≡ mask_l (map (λ byte. not (is_plain byte)) block) }
+{
+    Plain::others_of_64(block)
+}
+
 /// Bit k says that the byte k places behind `i` is not in the set, for the 16 bytes from `i` on.
 #[inline(always)]
 fn marks<R: ByteSet>(text: &[u8], i: usize) -> u64

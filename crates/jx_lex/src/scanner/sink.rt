@@ -1,7 +1,9 @@
 // What is kept of the tokens that a scan finds.
-ghost use Rattle.std.specs.Prelude.{◌++◌, ◌∷◌, [], ℕ, List, OnOk, IsTrue};
+ghost use Rattle.std.specs.Prelude.{◌++◌, ◌∷◌, ◌≤◌, [], ℕ, List, OnOk, IsTrue, length, slice_range};
 ghost use Rattle.jx_lex.specs.declared.alphabet.mark.Mark.{Mark};
-ghost use Rattle.jx_lex.specs.Seen.{WantsNoMore};
+ghost use Rattle.jx_lex.specs.declared.alphabet.state.LexState.TheVariants.{Gap};
+ghost use Rattle.jx_lex.specs.Lex.{lex};
+ghost use Rattle.jx_lex.specs.Seen.{GoesTo, WantsNoMore};
 
 use crate::alphabet::mark::Mark;
 use std::alloc::AllocError;
@@ -25,4 +27,15 @@ pub trait TokenSink {
     /// Whether it wants no more: whatever it has seen, it is also what that and anything more comes to.
     fn is_done(&self) -> bool
         ensures { IsTrue result → WantsNoMore (has_seen self.now) };
+
+    /// Reads whole tokens by itself, from between tokens on, as many as it likes. Gives the offset behind them, which is
+    /// between tokens too. A sink that leaves it as it is reads none.
+    #[inline(always)]
+    fn pass(&mut self, text: &[u8], from: usize, to: usize) -> usize
+        requires { (from ≤ to) × (to ≤ length text.now) }
+        ensures bounds { (from ≤ result) × (result ≤ to) }
+        ensures read { GoesTo (has_seen self.old) (has_seen self.new) (lex Gap from (slice_range text.now from result)) Gap }
+    {
+        from
+    }
 }

@@ -1,11 +1,12 @@
 // Ends of stretches of whole characters and escapes inside a string.
 ghost use Rattle.std.specs.Prelude.{◌≡◌, ◌≤◌, ◌<◌, ◌+◌, IsTrue, length, take, slice_range};
 ghost use Rattle.jx_lex.specs.declared.alphabet.state.LexState.TheVariants as state;
-ghost use Rattle.jx_lex.specs.inside.Ahead.{IsSound};
+ghost use Rattle.jx_lex.specs.Ahead.{IsSound};
 ghost use Rattle.jx_lex.specs.Uneventful.{Leads, is_tail, is_two, is_three, is_four, is_escaped, is_escape, is_hex, is_unit};
 
 use crate::scanner::ahead::{Ahead, LEAST};
 use crate::scanner::byte_sets::{plain_end, unescaped_end};
+use crate::scanner::escape_blocks::escaped_blocks_end;
 
 /// Whether the byte is one of those behind the first of a character above 7F: 80 up to BF.
 #[inline(always)]
@@ -139,7 +140,7 @@ fn escapes_end(text: &[u8], from: usize, to: usize) -> usize
 /// Whether a character may begin with this byte, of those above 7F.
 /// It only tells them from tails: C0, C1 and those above F4, with which none begins, pass too.
 #[inline(always)]
-fn is_lead(byte: u8) -> bool
+pub(crate) fn is_lead(byte: u8) -> bool
     ensures { IsTrue result → 0xc0 ≤ byte }
 {
     byte >= 0xc0
@@ -158,14 +159,15 @@ fn ascii_end(text: &[u8], from: usize, to: usize) -> usize
     plain_end(text, from, to)
 }
 
-/// The end of escapes and of the ordinary ASCII between them and behind them.
+/// The end of escapes and of the ordinary ASCII between them and behind them. Where fewer than 64 bytes are left, and where
+/// a block has anything else, it reads one escape after another.
 #[inline(never)]
 fn escaped_end(text: &[u8], from: usize, to: usize) -> usize
     requires { (from ≤ to) × (to ≤ length text.now) }
     ensures bounds { (from ≤ result) × (result ≤ to) }
     ensures led { Leads state.Str (slice_range text.now from result) state.Str }
 {
-    let mut i = from;
+    let mut i = escaped_blocks_end(text, from, to);
     while i < to && text[i] == b'\\' {
         let end = escapes_end(text, i, to);
         if end == i {
@@ -232,7 +234,7 @@ fn char_end(text: &[u8], from: usize, to: usize, ahead: Ahead) -> (usize, Ahead)
 
 /// `string_end_ahead`, from a byte above 7F on.
 #[inline(never)]
-fn chars_end(text: &[u8], from: usize, to: usize, ahead: Ahead) -> (usize, Ahead)
+pub(crate) fn chars_end(text: &[u8], from: usize, to: usize, ahead: Ahead) -> (usize, Ahead)
     requires bounds { (from ≤ to) × (to ≤ length text.now) }
     requires sound { IsSound text.now ahead }
     ensures bounds { (from ≤ result.0) × (result.0 ≤ to) }

@@ -2,40 +2,31 @@
 use Rattle.std.specs.Prelude.{◌≡◌, ◌≢◌, ◌↔◌, ℕ, ◌+◌, ◌<◌, ◌≤◌, List, ◌++◌, take, Option, Bool, false, true, Vec, Result, vec_len, IfOk, IfErr, IsErrOf}
 use Rattle.std.specs.Global.{Global}
 use Rattle.std.specs.Io.KnownBytes.{Consumes, IsAtEnd}
+use Rattle.jx_run.specs.declared.texts.settings.NameRule.TheVariants.{Any}
 use Rattle.jx_run.specs.declared.texts.settings.Settings.{Settings}
 use Rattle.jx_run.specs.Reader.{HasRead}
-use Rattle.jx_run.specs.SequenceRead.{AreRead}
+use Rattle.jx_find.specs.Finder as finder
 use Rattle.jx_task.specs.declared.task.Task.{Task}
 use Rattle.jx_task.specs.declared.task.Task.TheVariants.{Check, Seq}
 use Rattle.jx_report.specs.declared.reading.Reading.{Reading}
-use Rattle.jx_report.specs.declared.reading.Reading.TheVariants.{Text, Elements}
+use Rattle.jx_report.specs.declared.reading.Reading.TheVariants.{Text, Pointers, Elements}
 use Rattle.jx_report.specs.declared.report_fault.ReportFault.{ReportFault}
 use Rattle.jx_report.specs.declared.report_fault.ReportFault.TheVariants.{Read, Write, Pieces}
-use Rattle.jx_report.specs.declared.sequence_reader.SequenceReader.{SequenceReader}
+use Rattle.jx_report.specs.inside.PointerReads.{IsPointerRead}
+use Rattle.jx_report.specs.inside.Sequences.{IsSequenceRead}
 
 -- ---- what was read
 
--- the reader has read the elements of these bytes
-abbrev pub AreReadBy : ℕ → List ℕ → SequenceReader → Type 0
-AreReadBy limit text sequence = AreRead limit text sequence.judged.items sequence.reader sequence.open_ended
-
--- the text begins with these bytes, which are as many as a byte order mark has, or all that there are
-abbrev pub BeginsWith : Vec ℕ Global → List ℕ → Type 0
-BeginsWith first text = first.items ≡ take 3 text
-
--- the same, and it shows whether a byte order mark stands in front of them
-pub record IsSequenceRead (limit : ℕ) (text : List ℕ) (sequence : SequenceReader) : Type 0 where
-  pub first : BeginsWith sequence.first text
-  pub read : AreReadBy limit text sequence
-
 -- these bytes were read from the start of an input, for what the task asks of them
 abbrev pub IsReadingOf : Task → Settings → List ℕ → Reading → Type 0
-IsReadingOf task settings text (Text reader balance) = (task ≡ Check) × ((reader.settings ≡ settings) × ((reader.start ≡ 0) × HasRead text reader))
-IsReadingOf task settings text (Elements sequence) = (task ≡ Seq) × IsSequenceRead settings.depth text sequence
+IsReadingOf task settings text (Text reader balance) = (task ≡ Check) × ((settings.names ≡ Any) × ((reader.settings ≡ settings) × ((reader.start ≡ 0) × HasRead text reader)))
+IsReadingOf task settings text (Pointers reader) = IsPointerRead task settings text reader
+IsReadingOf task settings text (Elements sequence) = (task ≡ Seq) × IsSequenceRead settings text sequence
 
 -- how many bytes were read
 abbrev pub end_of : Reading → ℕ
 end_of (Text reader balance) = reader.start + reader.count
+end_of (Pointers reader) = finder.end_of reader.finder
 end_of (Elements sequence) = sequence.reader.start + sequence.reader.count
 
 -- whatever was read before, the batch was read behind it

@@ -1,12 +1,20 @@
 -- What strings that were read as pointers come to.
 use Rattle.std.specs.Prelude.{◌≡◌, ℕ, List, [], ◌∷◌, Option, None, Some, Result, Ok, Err, ⊤}
+use Rattle.std.specs.List.{AllZip}
+use Rattle.jx_run.specs.Text.{IsText}
+use Rattle.jx_run.specs.Tree.{Tree}
 use Rattle.jx_index.specs.declared.find_fault.FindFault.{FindFault}
 use Rattle.jx_index.specs.declared.finder.Found.{Found}
 use Rattle.jx_index.specs.declared.pointer.PointerFault.{PointerFault}
+use Rattle.jx_index.specs.Indexed.{IndexedValue}
 use Rattle.jx_index.specs.PointerFaults.{IsFaultOf}
 use Rattle.jx_index.specs.Pointers.{IsPointer}
+use Rattle.jx_index.specs.Rows.{rows}
+use Rattle.jx_answer.specs.declared.find_answer.Answer.{Answer}
+use Rattle.jx_answer.specs.declared.find_answer.Answer.TheVariants as in_index
 use Rattle.jx_report.specs.declared.pointer_answer.PointerAnswer.{PointerAnswer}
 use Rattle.jx_report.specs.declared.pointer_answer.PointerAnswer.TheVariants as answer
+use Rattle.jx_report.specs.Pointers.{IsAnswerTo}
 
 -- the pointer that a string spells, or why it spells none
 abbrev pub IsReadPointer : List ℕ → List ℕ → Option PointerFault → Type 0
@@ -30,9 +38,21 @@ answer_in (Some fault) found = answer.Unread fault
 answer_in None (Ok found) = answer.Found found.kind found.span
 answer_in None (Err fault) = answer.Lost fault
 
+-- by what an index answered
+abbrev pub answer_of : Option PointerFault → Answer → PointerAnswer
+answer_of (Some fault) answered = answer.Unread fault
+answer_of None (in_index.Found node kind span) = answer.Found kind span
+answer_of None (in_index.Fault fault) = answer.Lost fault
+
 -- the answer at each place
-module _ {A : Type 0} (answer_of : Option PointerFault → A → PointerAnswer) where
+module _ {A : Type 0} (told : Option PointerFault → A → PointerAnswer) where
   unfoldable pub each_answer : List (Option PointerFault) → List A → List PointerAnswer
   each_answer [] found = []
   each_answer (u ∷ unread) [] = []
-  each_answer (u ∷ unread) (f ∷ found) = answer_of u f ∷ each_answer unread found
+  each_answer (u ∷ unread) (f ∷ found) = told u f ∷ each_answer unread found
+
+-- what strings come to in the text of an index that has the rows of the text's tree
+abbrev pub AreAnswersIn : IndexedValue → List (List ℕ) → List PointerAnswer → Type 0
+AreAnswersIn index spelt answers =
+    (limit : ℕ) (tree : Tree) → IsText index.text index.span.start index.span.end limit tree → index.rows ≡ rows tree
+    → AllZip (IsAnswerTo index.text tree) spelt answers

@@ -1,18 +1,21 @@
 // A text that is read from its start, slice by slice or run by run.
 
-ghost use Rattle.std.specs.Prelude.{◌≡◌, ◌+◌, ◌<◌, ◌^◌, ◌↔◌, ◌++◌, ℕ, List, [], IsTrue, OnOk, OnErr, IfOk, IsErr, length};
+ghost use Rattle.std.specs.Prelude.{◌≡◌, ◌+◌, ◌<◌, ◌^◌, ◌↔◌, ◌++◌, ℕ, List, [], Some, false, IsTrue, OnOk, OnErr, IfOk, IsErr, length};
 ghost use Rattle.jx_lex.specs.declared.alphabet.mark.Mark.{Mark};
 ghost use Rattle.jx_lex.specs.Lex.{lex};
+ghost use Rattle.jx_lex.specs.Seen.{SeesTrack};
 ghost use Rattle.jx_reduce.specs.KnownStack.{HasRead as StackHasRead, IsFault};
 ghost use Rattle.jx_reduce.specs.Read.{read as read_marks};
 ghost use Rattle.jx_run.specs.OutcomeRun.{IsOutcomeRun};
-ghost use Rattle.jx_run.specs.Reader.{HasRead, HasFailed, IsInFront, is_fault};
+ghost use Rattle.jx_run.specs.Reader.{HasRead, HasFailed, IsInFront, Outcome as CameTo, is_fault};
 ghost use Rattle.jx_run.specs.Settings.{JudgedBy};
+ghost use Rattle.jx_run.specs.Telling.{SeesPast, standing_of, track_of};
 
 use crate::laws::reader_is_grammar;
 use crate::readers::progress::{
     OpenStack, Progress, progress_at_start, read_on, settled, verdict_at,
 };
+use crate::readers::telling::tell_on;
 use crate::runs::outcome_run::OutcomeRun;
 use crate::texts::settings::Settings;
 use crate::texts::verdict::{Refusal, Verdict};
@@ -21,6 +24,7 @@ use jx_reduce::{KnownStack, Outcome, Whole};
 use jx_summary::Summary;
 use std::alloc::{AllocError, Global};
 use std::marker::Model;
+use std::mem;
 
 /// The known stack as a sink. For the proof, the ends that it has seen begin with the depth: so a scan is known to
 /// leave the depth as it is.
@@ -48,6 +52,11 @@ impl TokenSink for Kept {
     #[inline(always)]
     fn is_done(&self) -> bool {
         self.stack.is_done()
+    }
+
+    #[inline(always)]
+    fn pass(&mut self, text: &[u8], from: usize, to: usize) -> usize {
+        self.stack.pass(text, from, to)
     }
 }
 
@@ -198,6 +207,35 @@ impl Reader {
         self.progress = Progress::Failed;
         self.progress = read_on(&mut self.kept, progress, slice, base)?;
         Ok(())
+    }
+
+    /// Reads the slice as `feed` does, and tells a sink its tokens, with offsets counted from the slice's first byte. Bytes
+    /// of a byte order mark are told to nobody, and nothing is told of or behind a fault. Gives the sink back; where
+    /// memory is refused it is gone.
+    pub fn feed_into<K: TokenSink + Drop>(&mut self, sink: K, slice: &[u8]) -> Result<K, AllocError>
+        requires { self.old.start + self.old.count + length slice.now < 2 ^ 64 }
+        ensures settings { self.new.settings ≡ self.old.settings }
+        ensures start { self.new.start ≡ self.old.start }
+        ensures reads { OnOk result ((bytes : List ℕ) → HasRead bytes self.old → HasRead (bytes ++ slice.now) self.new) }
+        ensures count { OnOk result (self.new.count ≡ self.old.count + length slice.now) }
+        ensures err { OnErr result (HasFailed self.new) }
+        ensures failed { HasFailed self.old → IsErr result }
+        ensures told { IfOk result (λ told. is_fault self.new.outcome ≡ false → (before : CameTo) → self.old.outcome ≡ Some before
+            → SeesTrack (K.has_seen sink) (K.has_seen told) (track_of before slice.now)) }
+        ensures past { IfOk result (λ told. (before : CameTo) → self.old.outcome ≡ Some before
+            → SeesPast (K.has_seen sink) (K.has_seen told) self.old.settings.depth (standing_of before) (track_of before slice.now).marks (track_of before slice.now).ends) }
+    {
+        let base = self.start + self.count;
+        let progress = self.progress;
+        self.count += slice.len();
+        // Where memory is refused, what the stack holds is of no use.
+        self.progress = Progress::Failed;
+        let none = KnownStack::new(self.alloc, self.settings.depth);
+        let stack = mem::replace(&mut self.kept.stack, none);
+        let told = tell_on(stack, sink, progress, slice, base)?;
+        self.kept.stack = told.stack;
+        self.progress = told.progress;
+        Ok(told.sink)
     }
 
     /// Whether a fault was met. No byte behind it changes the verdict.

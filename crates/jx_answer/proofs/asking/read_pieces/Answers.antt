@@ -2,7 +2,7 @@ use Rattle.std.proofs.Common.{rules, ◌≡◌, ◌+◌, ◌≤◌, ℕ, List, �
 use Rattle.std.proofs.lemmas.List.{take_all}
 use Rattle.std.proofs.lemmas.Result.{on_ok_weaker}
 use Rattle.jx_run.specs.Reader.{HasRead}
-use Rattle.jx_answer.proofs.Parts.{gone_on, up_to}
+use Rattle.jx_answer.proofs.Pieces.{gone_on, up_to}
 use Rattle.jx_answer.proofs.asking.read_pieces.Goals as goal
 
 pub loop-done-preserved : goal.loop-done-preserved

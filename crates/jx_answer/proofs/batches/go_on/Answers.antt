@@ -1,20 +1,17 @@
-use Rattle.std.proofs.Common.{◌++◌, subst, take}
-use Rattle.std.specs.Prelude.{slice_range, IfSome}
-use Rattle.jx_answer.specs.inside.Parts.{IsRunOf}
-use Rattle.jx_answer.proofs.Parts.{on_from}
+use Rattle.std.proofs.Common.{List, ℕ, refl, sym, subst}
+use Rattle.std.specs.Prelude.{IfOk}
+use Rattle.std.proofs.lemmas.Result.{on_ok_weaker}
+use Rattle.jx_book.specs.Gathered.{IsRest}
+use Rattle.jx_run.specs.OutcomeRun.{OutcomeRunValue, IsOutcomeRun}
+use Rattle.jx_answer.proofs.Whole.{covers_all}
 use Rattle.jx_answer.proofs.batches.go_on.Goals as goal
 
-pub returns-in_ok-follow-in-Some-clause-reads : goal.returns-in_ok-follow-in-Some-clause-reads
-returns-in_ok-follow-in-Some-clause-reads c = λ bytes h.
-    let batch = c.args.batch.now in
-    let span = c.args.part.now.span in
-    let run = subst (λ r. IfSome r (IsRunOf (slice_range batch span.start span.end) c.args.reader.now.settings.depth)) c.in-Some.is c.requires.part.1 in
-    on_from bytes batch c.args.done span.start span.end c.args.reader.now c.follow.new.self c.if-span-done.false c.requires.part.0.0 h
-    (λ k. c.in_ok-follow-in-Some.ensures.reads (bytes ++ take c.args.done batch) (slice_range batch span.start span.end) k run.of)
-
-pub returns-in_ok-feed-in_default-clause-reads : goal.returns-in_ok-feed-in_default-clause-reads
-returns-in_ok-feed-in_default-clause-reads c = λ bytes h.
-    let batch = c.args.batch.now in
-    let span = c.args.part.now.span in
-    on_from bytes batch c.args.done span.start span.end c.args.reader.now c.feed.new.self c.if-span-done.false c.requires.part.0.0 h
-    (λ k. c.in_ok-feed-in_default.ensures.reads (bytes ++ take c.args.done batch) k)
+pub returns-in-Ok-clause-reads : goal.returns-in-Ok-clause-reads
+returns-in-Ok-clause-reads c =
+    let bytes = c.args.bytes.now in
+    let depth = c.args.reader.now.settings.depth in
+    let h = c.in-Ok.run' in
+    let w = subst (λ r. IfOk r (λ k. IsRest bytes depth 0 k)) c.in-Ok.is c.requires.run in
+    let of : IsOutcomeRun bytes h.run = subst (λ (b : List ℕ). IsOutcomeRun b h.run) (covers_all h.text bytes h.span 0 w.text_is w.span_is refl) c.run.ensures.of in
+    let run : IsOutcomeRun bytes c.run.result.now = subst (λ (r : OutcomeRunValue). IsOutcomeRun bytes r) (sym c.run.ensures.run) of in
+    on_ok_weaker c.follow.result (λ reads before read. reads before bytes read run) c.follow.ensures.reads

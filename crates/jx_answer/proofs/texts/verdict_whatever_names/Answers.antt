@@ -1,4 +1,4 @@
-use Rattle.std.proofs.Common.{ℕ, [], subst, sym, ◌∙◌}
+use Rattle.std.proofs.Common.{ℕ, [], subst, ◌∙◌}
 use Rattle.jx_run.specs.declared.texts.settings.Settings.{Settings}
 use Rattle.jx_run.specs.Settings.{JudgedBy}
 use Rattle.jx_answer.proofs.texts.verdict_whatever_names.Goals as goal

@@ -1,10 +1,8 @@
-use Rattle.std.proofs.Common.{◌≡◌, ℕ, List, ◌∷◌, [], ◌++◌, Bool, true, sym, ◌∙◌, ap, subst}
-use Rattle.std.specs.Prelude.{◌↔◌}
+use Rattle.std.proofs.Common.{◌≡◌, List, sym, ◌∙◌, ap}
 use Rattle.jx_lex.specs.Classes.{class_at}
 use Rattle.jx_lex.specs.Moves.{move}
 use Rattle.jx_reduce.specs.Read.{top}
 use Rattle.jx_reduce.specs.declared.holder.Holder.{Holder}
-use Rattle.jx_run.specs.Laws.{BeginsAtSomeDepth}
 use Rattle.jx_explain.specs.Choices.{are_named, choices_of, step_allowed}
 use Rattle.jx_explain.specs.declared.choice.Choice.{Choice}
 use Rattle.jx_explain.proofs.Exact.{exact}

@@ -1,6 +1,7 @@
 use Rattle.std.proofs.Common.{[]}
 use Rattle.std.proofs.KnownBytes.{Appends-nil}
-use Rattle.jx_files.specs.Files.{fault_line, unanswered}
+use Rattle.jx_files.specs.Faults.{fault_line}
+use Rattle.jx_files.specs.Files.{unanswered}
 use Rattle.jx_files.proofs.reports.report_on_one.Goals as goal
 
 pub returns-in-Err-clause-ok : goal.returns-in-Err-clause-ok

@@ -1,6 +1,6 @@
 use Rattle.std.proofs.Common.{◌≤◌, ◌-◌}
 use Rattle.std.specs.Prelude.{slice_range}
-use Rattle.jx_lex.specs.inside.Ahead.{IsSound}
+use Rattle.jx_lex.specs.Ahead.{IsSound}
 use Rattle.jx_lex.specs.Lex.{lex}
 use Rattle.jx_lex.specs.Seen.{GoesTo}
 use Rattle.jx_lex.proofs.scanner.scan.Given as goal

@@ -1,11 +1,6 @@
-use Rattle.std.proofs.Common.{◌≡◌, ◌≤◌, ◌<◌, ℕ, true, sym, ◌∙◌, arith}
-use Rattle.std.specs.Prelude.{◌&&◌, nat_le, nat_lt}
-use Rattle.std.proofs.lemmas.Bool.Decides.{nat_tests}
-use Rattle.jx_lex.proofs.Unescaped.{stretch_led}
+use Rattle.std.proofs.Common.{sym, ◌∙◌, arith}
+use Rattle.jx_lex.proofs.Unescaped.{covered, stretch_led}
 use Rattle.jx_lex.proofs.scanner.string_chars.characters_end.Goals as goal
-
-covered : (a b i to : ℕ) → (nat_le a i && nat_lt i b && nat_le b to) ≡ true → (a ≤ i) × (i < b)
-covered a b i to h = (grind (arith, nat_tests), grind (arith, nat_tests))
 
 pub returns-then-is_lead-clause-led : goal.returns-then-is_lead-clause-led
 returns-then-is_lead-clause-led c =

@@ -1,7 +1,7 @@
 use Rattle.std.proofs.Common.{◌≤◌, ◌-◌}
 use Rattle.std.specs.Prelude.{slice_range}
 use Rattle.jx_lex.specs.declared.alphabet.state.LexState.TheVariants as state
-use Rattle.jx_lex.specs.inside.Ahead.{IsSound}
+use Rattle.jx_lex.specs.Ahead.{IsSound}
 use Rattle.jx_lex.specs.Uneventful.{Leads}
 use Rattle.jx_lex.proofs.scanner.string_chars.chars_end.Given as goal
 

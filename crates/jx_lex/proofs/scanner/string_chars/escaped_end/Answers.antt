@@ -1,9 +1,9 @@
 use Rattle.std.proofs.Common.{arith}
-use Rattle.jx_lex.proofs.Running.{nothing_leads, Leads-join}
+use Rattle.jx_lex.proofs.Running.{Leads-join}
 use Rattle.jx_lex.proofs.scanner.string_chars.escaped_end.Goals as goal
 
 pub loop-i-init : goal.loop-i-init
-loop-i-init c = record { low = omega arith; high = omega arith; led = nothing_leads c.args.text.now c.args.from }
+loop-i-init c = let blocks = c.escaped_blocks_end-i.ensures in record { low = blocks.bounds.0; high = blocks.bounds.1; led = blocks.led }
 
 pub loop-i-preserved : goal.loop-i-preserved
 loop-i-preserved c =

@@ -1,10 +1,12 @@
-use Rattle.std.proofs.Common.{◌≤◌, ◌<◌, ℕ, sym, subst, rules}
+use Rattle.std.proofs.Common.{◌≤◌, ◌<◌, ℕ, map, sym, subst, rules}
+use Rattle.std.specs.Prelude.{string_bytes}
 use Rattle.jx_task.specs.declared.task.Task.{Task}
 use Rattle.jx_report.specs.Elements.{judged_lines, exit_past_judged}
 use Rattle.jx_report.specs.Output.{Output}
 use Rattle.jx_report.specs.Reports.{greatest_length}
 use Rattle.jx_report.specs.declared.exit.Exit.TheVariants.{Good}
 use Rattle.jx_report.specs.inside.Batches.{IsReadingOf}
+use Rattle.jx_report.specs.inside.Replies.{reply_exit, reply_output}
 use Rattle.jx_report.proofs.Answers.{judged_output}
 use Rattle.jx_report.proofs.reading.Reading.into_reply.Goals as goal
 
@@ -22,5 +24,17 @@ returns-in_ok-elements-in-Elements-clause-ok c = λ text h.
     let few : c.end.result ≤ greatest_length c.args.command.now.piece = search rules in (
       subst (λ (n : ℕ). n ≤ greatest_length c.args.command.now.piece) (c.end.ensures.length task settings text h) few,
       subst (λ (t : Task). Output t settings text (judged_lines elements) (exit_past_judged Good elements)) (sym taken.0)
-          (judged_output text settings elements (c.in_ok-elements-in-Elements.ensures text taken.1)),
+          (judged_output text settings elements (c.in_ok-elements-in-Elements.ensures settings text taken.1)),
+    )
+
+pub returns-in_ok-reply-in-Pointers-clause-ok : goal.returns-in_ok-reply-in-Pointers-clause-ok
+returns-in_ok-reply-in-Pointers-clause-ok c = λ text h.
+    let task = c.args.command.now.task in
+    let settings = c.args.command.now.settings in
+    let was = subst (IsReadingOf task settings text) c.in-Pointers.is h in
+    let reply = c.in_ok-reply-in-Pointers.reply in
+    let few : c.end.result ≤ greatest_length c.args.command.now.piece = search rules in (
+      subst (λ (n : ℕ). n ≤ greatest_length c.args.command.now.piece) (c.end.ensures.length task settings text h) few,
+      subst (λ (t : Task). Output t settings text (reply_output reply) (reply_exit reply)) (sym was.task_is)
+          (c.in_ok-reply-in-Pointers.ensures settings (map string_bytes was.spelt.items) text was.looked_up),
     )

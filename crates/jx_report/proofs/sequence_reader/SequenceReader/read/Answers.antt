@@ -1,6 +1,7 @@
 use Rattle.std.proofs.Common.{◌≡◌, ◌<◌, ◌≤◌, ℕ, List, ◌++◌, length, sym, subst, ◌∙◌, arith}
-use Rattle.jx_report.specs.inside.Batches.{AreReadBy, BeginsWith}
 use Rattle.std.proofs.lemmas.Result.{on_ok_weaker}
+use Rattle.jx_report.specs.inside.Sequences.{AreReadBy, BeginsWith}
+use Rattle.jx_report.proofs.FirstBytes.{first_apart}
 use Rattle.jx_report.proofs.SequenceSteps.{three_parts}
 use Rattle.jx_report.proofs.sequence_reader.SequenceReader.read.Goals as goal
 
@@ -17,10 +18,11 @@ returns g c =
     let first : new.first ≡ kept.first = c.go_on-3.ensures.first ∙ c.in_ok-pass.ensures.first ∙ c.in_ok-go_on.ensures.first in
     record {
       reads = on_ok_weaker c.go_on-3.result
-          (λ reads limit text h.
+          (λ reads settings text h.
           record {
             first = subst (λ f. BeginsWith f (text ++ batch)) (sym first) (c.in_ok-keep_first.ensures.first text h.first);
-            read = subst (λ (xs : List ℕ). AreReadBy limit xs new) (three_parts text batch i j (omega (arith, low)) high)
-                (reads limit _ (c.in_ok-pass.ensures.reads limit _ (c.in_ok-go_on.ensures.reads limit text (subst (AreReadBy limit text) (sym c.in_ok-keep_first.ensures.rest) h.read))));
+            read = subst (λ (xs : List ℕ). AreReadBy settings xs new) (three_parts text batch i j (omega (arith, low)) high)
+                (reads settings _ (c.in_ok-pass.ensures.reads settings _ (c.in_ok-go_on.ensures.reads settings text
+                (subst (AreReadBy settings text) (sym c.in_ok-keep_first.ensures.rest) (first_apart settings text old kept.first h.read)))));
           }) c.go_on-3.ensures.reads;
     }

@@ -1,4 +1,4 @@
-use Rattle.std.proofs.Common.{ap, sym, subst, ◌∙◌}
+use Rattle.std.proofs.Common.{sym, subst}
 use Rattle.jx_run.specs.Reader.{ReaderValue, HasRead}
 use Rattle.jx_run.specs.ReaderInside.{reader_of}
 use Rattle.jx_run.specs.Settings.{JudgedBy}

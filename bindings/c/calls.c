@@ -1,0 +1,97 @@
+/* The calls that jx.h defines inline, as symbols of the library: for languages that look names up and read no header. */
+#define jx_check jx_check_inline
+#define jx_compact jx_compact_inline
+#define jx_reader_start jx_reader_start_inline
+#define jx_at jx_at_inline
+#define jx_at_all jx_at_all_inline
+#define jx_rows jx_rows_inline
+#define jx_index_new jx_index_new_inline
+#define jx_index_find jx_index_find_inline
+#define jx_index_row jx_index_row_inline
+#define jx_index_free jx_index_free_inline
+#define jx_elements jx_elements_inline
+#define jx_document_new jx_document_new_inline
+#define jx_document_edit jx_document_edit_inline
+#define jx_document_verdict jx_document_verdict_inline
+#define jx_document_size jx_document_size_inline
+#define jx_document_copy jx_document_copy_inline
+#define jx_document_free jx_document_free_inline
+#include "jx.h"
+#undef jx_check
+#undef jx_compact
+#undef jx_reader_start
+#undef jx_at
+#undef jx_at_all
+#undef jx_rows
+#undef jx_index_new
+#undef jx_index_find
+#undef jx_index_row
+#undef jx_index_free
+#undef jx_elements
+#undef jx_document_new
+#undef jx_document_edit
+#undef jx_document_verdict
+#undef jx_document_size
+#undef jx_document_copy
+#undef jx_document_free
+
+uint32_t jx_check(const uint8_t *text, size_t size, const jx_settings *settings, jx_verdict *verdict) {
+    return jx_check_inline(text, size, settings, verdict);
+}
+
+uint32_t jx_compact(const uint8_t *text, size_t size, const jx_settings *settings, uint8_t *compact, size_t room,
+                    size_t *compact_size, jx_verdict *verdict) {
+    return jx_compact_inline(text, size, settings, compact, room, compact_size, verdict);
+}
+
+uint32_t jx_reader_start(jx_reader *reader, const jx_settings *settings) { return jx_reader_start_inline(reader, settings); }
+
+uint32_t jx_at(const uint8_t *text, size_t size, const uint8_t *pointer, size_t pointer_size, const jx_settings *settings,
+               jx_answer *answer) {
+    return jx_at_inline(text, size, pointer, pointer_size, settings, answer);
+}
+
+uint32_t jx_at_all(const uint8_t *text, size_t size, const jx_settings *settings, const jx_pointer *pointers, size_t count,
+                   jx_answer *answers, size_t room) {
+    return jx_at_all_inline(text, size, settings, pointers, count, answers, room);
+}
+
+uint32_t jx_rows(const uint8_t *text, size_t size, const jx_settings *settings, jx_row *rows, size_t room, size_t *count,
+                 jx_verdict *verdict) {
+    return jx_rows_inline(text, size, settings, rows, room, count, verdict);
+}
+
+uint32_t jx_index_new(const uint8_t *text, size_t size, const jx_settings *settings, jx_index *index, jx_verdict *verdict) {
+    return jx_index_new_inline(text, size, settings, index, verdict);
+}
+
+uint32_t jx_index_find(jx_index *index, const uint8_t *pointer, size_t pointer_size, jx_answer *answer) {
+    return jx_index_find_inline(index, pointer, pointer_size, answer);
+}
+
+uint32_t jx_index_row(jx_index *index, size_t number, jx_row *row) { return jx_index_row_inline(index, number, row); }
+
+void jx_index_free(jx_index *index) { jx_index_free_inline(index); }
+
+uint32_t jx_elements(const uint8_t *sequence, size_t size, const jx_settings *settings, jx_element *elements, size_t room,
+                     size_t *count) {
+    return jx_elements_inline(sequence, size, settings, elements, room, count);
+}
+
+uint32_t jx_document_new(const uint8_t *text, size_t size, const jx_settings *settings, jx_document *document) {
+    return jx_document_new_inline(text, size, settings, document);
+}
+
+uint32_t jx_document_edit(jx_document *document, size_t start, size_t end, const uint8_t *replacement, size_t size) {
+    return jx_document_edit_inline(document, start, end, replacement, size);
+}
+
+uint32_t jx_document_verdict(jx_document *document, jx_verdict *verdict) { return jx_document_verdict_inline(document, verdict); }
+
+uint32_t jx_document_size(jx_document *document, size_t *size) { return jx_document_size_inline(document, size); }
+
+uint32_t jx_document_copy(jx_document *document, size_t start, uint8_t *bytes, size_t size) {
+    return jx_document_copy_inline(document, start, bytes, size);
+}
+
+void jx_document_free(jx_document *document) { jx_document_free_inline(document); }

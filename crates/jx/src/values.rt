@@ -1,0 +1,54 @@
+// Values whose bytes are written.
+ghost use Rattle.std.specs.Prelude.{◌≤◌};
+
+use crate::fault::Fault;
+use crate::input::{fault_of_report, open};
+use crate::lines::text_of;
+use crate::misplaced::refuse_misplaced;
+use crate::output::Output;
+use jx_book::OpenGate;
+use jx_command::ValuesOrder;
+use jx_files::Status;
+use jx_report::End;
+use jx_values::{Form, report_values};
+use std::sync::Wait;
+use std::thread::Threads;
+
+/// Reads what an order names, and writes the values that it asks for.
+pub fn write_values_of<R: Threads + Wait + Sync>(
+    rt: &HostRuntime,
+    threads: &R,
+    order: ValuesOrder<'_>,
+) -> Result<Status, Fault>
+    requires { 1 ≤ order.task.piece }
+{
+    let alloc = rt.alloc();
+    let ValuesOrder {
+        mut task,
+        input,
+        pointers,
+        is_compact,
+        is_raw,
+    } = order;
+    refuse_misplaced(rt, input, &task.pointers)?;
+    if let Some(path) = pointers {
+        let lines = text_of(rt, path)?;
+        task.add_pointers(alloc, lines.as_str())?;
+    }
+    let mut reader = open(rt, input)?;
+    let mut writer = End::new(Output::of(rt));
+    let mut errors = End::new(rt.stderr());
+    match report_values(
+        threads,
+        alloc,
+        &mut reader,
+        &mut writer,
+        &mut errors,
+        &task,
+        Form { is_compact, is_raw },
+        &OpenGate,
+    ) {
+        Ok(exit) => Ok(Status::of_exit(exit)),
+        Err(fault) => Err(fault_of_report(rt, input, &reader, &writer, fault)),
+    }
+}

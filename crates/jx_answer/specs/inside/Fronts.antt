@@ -1,0 +1,25 @@
+-- A batch whose front one worker reads from where the reader stands.
+use Rattle.std.specs.Prelude.{◌≡◌, ℕ, ◌+◌, List, ◌++◌, length}
+use Rattle.jx_run.specs.Reader.{ReaderValue, HasRead, HasFailed}
+use Rattle.jx_answer.specs.declared.front.FrontState.{FrontState}
+use Rattle.jx_answer.specs.declared.front.FrontState.TheVariants.{Unread, Done, Refused}
+
+-- the reader went on with these bytes
+pub record GoesOn (bytes : List ℕ) (old new : ReaderValue) : Type 0 where
+  pub settings : new.settings ≡ old.settings
+  pub start : new.start ≡ old.start
+  pub count : new.count ≡ old.count + length bytes
+  pub reads : (before : List ℕ) → HasRead before old → HasRead (before ++ bytes) new
+  pub going : HasFailed old → ⊥
+
+-- memory was refused
+pub record GivesUp (old new : ReaderValue) : Type 0 where
+  pub settings : new.settings ≡ old.settings
+  pub start : new.start ≡ old.start
+  pub failed : HasFailed new
+
+-- what the worker of a front of these bytes leaves
+abbrev pub Leaves : List ℕ → ReaderValue → FrontState → ReaderValue → Type 0
+Leaves bytes old Unread new = new ≡ old
+Leaves bytes old Done new = GoesOn bytes old new
+Leaves bytes old Refused new = GivesUp old new

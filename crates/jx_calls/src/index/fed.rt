@@ -1,0 +1,48 @@
+// What pointers lead to in a text that is fed by slices.
+use jx_find::Finder;
+use jx_index::{FindFault, Found, Pointer};
+use jx_lex::Depth;
+use jx_run::Settings;
+use std::alloc::{AllocError, Global};
+
+/// How many bytes are fed at most.
+const FAR: usize = 1 << 40;
+
+/// Up to which size slices are fed, so that a shorter text is cut everywhere.
+const LONGEST: usize = 200;
+
+/// What pointers lead to in a text that is fed by slices of so many bytes. A refused text has no answers.
+fn fed(
+    alloc: Global,
+    text: &[u8],
+    size: usize,
+    pointers: &[Pointer<'_>],
+) -> Result<Vec<Result<Found, FindFault>>, AllocError> {
+    let settings = Settings::from(Depth::default());
+    let mut finder = Finder::new(alloc, &settings, pointers)?;
+    for slice in text.chunks(size.max(1)) {
+        if finder.end() < FAR && slice.len() < FAR {
+            finder.feed(slice)?;
+        }
+    }
+    match finder.finish()? {
+        Ok(found) => Ok(found),
+        Err(_) => Ok(Vec::new(alloc)),
+    }
+}
+
+/// Whether pointers lead to what is wanted in a text that is fed by slices, of whatever size.
+pub(crate) fn is_fed_alike(
+    alloc: Global,
+    text: &[u8],
+    pointers: &[Pointer<'_>],
+    wanted: &[Result<Found, FindFault>],
+) -> Result<bool, AllocError> {
+    for size in 1..LONGEST {
+        let found = fed(alloc, text, size, pointers)?;
+        if found.as_slice() != wanted {
+            return Ok(false);
+        }
+    }
+    Ok(true)
+}

@@ -1,0 +1,36 @@
+// The words of the subcommand that writes values.
+ghost use Rattle.std.specs.Prelude.{◌≤◌, IfOk};
+
+use crate::arguments::{piece_of, pointers_of, settings_of, workers_of};
+use crate::options::input_from;
+use crate::order::ValuesOrder;
+use clap::ArgMatches;
+use jx_claim::Workers;
+use jx_task::ValuesTask;
+use std::alloc::{AllocError, Global};
+
+/// The word that calls it.
+pub(crate) const GET: &str = "get";
+
+/// What its options ask for. The grammar has a number for each option that the words leave out, so that what stands here
+/// where there is none is never met.
+pub(crate) fn values_order_from<'a>(
+    alloc: Global,
+    options: &ArgMatches<'a>,
+) -> Result<ValuesOrder<'a>, AllocError>
+    ensures { IfOk result (λ order. 1 ≤ order.task.piece) }
+{
+    let one_worker = Workers::new(1).unwrap();
+    Ok(ValuesOrder {
+        task: ValuesTask {
+            pointers: pointers_of(alloc, options)?,
+            settings: settings_of(options),
+            workers: workers_of(options).unwrap_or(one_worker),
+            piece: piece_of(options).unwrap_or(1),
+        },
+        input: input_from(options),
+        pointers: options.get_str("pointers_file"),
+        is_compact: options.get_flag("compact"),
+        is_raw: options.get_flag("raw"),
+    })
+}

@@ -1,0 +1,45 @@
+// The tokens of a value, one behind another.
+ghost use Rattle.std.specs.Prelude.{◌≡◌, ◌+◌, ◌≤◌, ◌++◌, IfOk, length, vec_len, vec_capacity};
+ghost use Rattle.jx_compact.specs.Compact.{compact, compact_from, kept, place_behind};
+
+use crate::place::{Place, is_kept, next};
+use std::alloc::{AllocError, Global};
+
+/// Appends a byte where it stays. There is room for it.
+fn push_kept(out: &mut Vec<u8>, place: Place, byte: u8)
+    requires { vec_len out.old + 1 ≤ vec_capacity out.old }
+    ensures items { out.new.items ≡ out.old.items ++ kept place byte }
+    ensures len { vec_len out.new ≤ vec_len out.old + 1 }
+    ensures room { vec_capacity out.old ≤ vec_capacity out.new }
+{
+    if is_kept(place, byte) {
+        if out.push(byte).is_err() {
+            unreachable!();
+        }
+    }
+}
+
+/// Appends the bytes that stay, where the first one stands there, and answers where the byte behind them stands. There is room
+/// for all of them, so that no memory is taken.
+pub fn compact_onto(out: &mut Vec<u8>, place: Place, bytes: &[u8]) -> Place
+    requires { vec_len out.old + length bytes.now ≤ vec_capacity out.old }
+    ensures items { out.new.items ≡ out.old.items ++ compact_from place bytes.now }
+    ensures place { result ≡ place_behind place bytes.now }
+    ensures room { vec_capacity out.old ≤ vec_capacity out.new }
+{
+    let mut place = place;
+    for byte in bytes {
+        push_kept(out, place, *byte);
+        place = next(place, *byte);
+    }
+    place
+}
+
+/// The bytes of a value without the blanks between its tokens (RFC 8259, section 2). Each token has the bytes that it had.
+pub fn compact(alloc: Global, bytes: &[u8]) -> Result<Vec<u8>, AllocError>
+    ensures { IfOk result (λ out. out.items ≡ compact bytes.now) }
+{
+    let mut out = Vec::with_capacity(alloc, bytes.len())?;
+    compact_onto(&mut out, Place::Between, bytes);
+    Ok(out)
+}

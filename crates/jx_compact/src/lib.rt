@@ -1,0 +1,12 @@
+//! The compact form of a JSON value: its tokens, one behind another, each with the bytes that it has.
+#![tactic(auto)]
+
+mod compacting;
+mod laws;
+mod place;
+mod placing;
+
+pub use compacting::{compact, compact_onto};
+pub use laws::{compact_goes_on, compact_is_compact, compact_is_one_line};
+pub use place::{Place, is_kept, next};
+pub use placing::{compact_into, compact_len};

@@ -1,0 +1,165 @@
+-- What lines a stretch of a text gives: those of the elements whose comma or bracket stands in it.
+use Rattle.std.specs.Prelude.{if◌then◌else◌, nat_lt, filter, flat_map}
+use Rattle.std.proofs.Common.{◌≡◌, ℕ, zero, suc, ◌+◌, ◌<◌, ◌≤◌, List, [], ◌∷◌, ◌++◌, length, take, append_assoc, Bool, true, false, refl, sym, ap, subst, ◌∙◌, arith, cond}
+use Rattle.std.proofs.lemmas.Bool.{le-ltb, lt-ltb}
+use Rattle.std.proofs.lemmas.List.{append-nil}
+use Rattle.jx_compact.specs.declared.place.Place.{Place}
+use Rattle.jx_compact.specs.declared.place.Place.TheVariants.{Between}
+use Rattle.jx_compact.specs.Compact.{compact, compact_from, kept, next, place_behind}
+use Rattle.jx_run.specs.Tree.{Tree}
+use Rattle.jx_each.specs.declared.sign.Turn.{Turn}
+use Rattle.jx_each.specs.declared.sign.Turn.TheVariants.{Stay}
+use Rattle.jx_each.specs.declared.stand.Root.{Root}
+use Rattle.jx_each.specs.Turns.{turn_at, height_next, height_behind}
+use Rattle.jx_each.specs.Machine.{Made, step, run, root_next, takes_next, lines_next, part_next}
+use Rattle.jx_each.specs.Due.{behind, element_line, lines_before}
+use Rattle.jx_each.proofs.Bytes.{StaysIn}
+use Rattle.jx_each.proofs.Pieces.{Piece, Gap}
+
+-- the comma or the bracket behind each stands at an offset, or further on
+abbrev pub AllBehind : List ℕ → ℕ → List Tree → Type 0
+AllBehind text at [] = Unit {0}
+AllBehind text at (t ∷ ts) = (at ≤ behind text t) × AllBehind text at ts
+
+-- of the bytes from an offset on, any number give the lines of those whose comma or bracket stands among them
+pub record Gives (text : List ℕ) (s : Made) (at : ℕ) (bytes : List ℕ) (ts : List Tree) (r : Root) : Type 0 where
+  pub later : AllBehind text at ts
+  pub gives : (n : ℕ) → (run s (take n bytes)).lines ≡ s.lines ++ lines_before text (at + n) ts
+  pub root : (run s bytes).stand.root ≡ r
+
+earlier : (text : List ℕ) (at : ℕ) (ts : List Tree) → AllBehind text (suc at) ts → AllBehind text at ts
+earlier text at [] h = tt
+earlier text at (t ∷ ts) h = (let le : suc at ≤ behind text t = h.0 in omega (arith, le), earlier text at ts h.1)
+
+none_before : (text : List ℕ) (k at : ℕ) (ts : List Tree) → k ≤ at → AllBehind text at ts → lines_before text k ts ≡ []
+none_before text k at [] le h = refl
+none_before text k at (t ∷ ts) le h =
+    let far : at ≤ behind text t = h.0 in
+    let e : nat_lt (behind text t) k ≡ false = le-ltb (behind text t) k (omega (arith, far, le)) in
+    ap (λ (m : Bool). flat_map (element_line text) (cond m (t ∷ filter (λ (x : Tree). nat_lt (behind text x) k) ts) (filter (λ (x : Tree). nat_lt (behind text x) k) ts))) e
+    ∙ none_before text k at ts le h.1
+
+pub first_before : (text : List ℕ) (k : ℕ) (t : Tree) (ts : List Tree) → behind text t < k → lines_before text k (t ∷ ts) ≡ element_line text t ++ lines_before text k ts
+first_before text k t ts lt =
+    let e : nat_lt (behind text t) k ≡ true = lt-ltb (behind text t) k lt in
+    ap (λ (m : Bool). flat_map (element_line text) (cond m (t ∷ filter (λ (x : Tree). nat_lt (behind text x) k) ts) (filter (λ (x : Tree). nat_lt (behind text x) k) ts))) e
+
+take_none : (n : ℕ) → take n (let e : List ℕ = [] in e) ≡ []
+take_none zero = refl
+take_none (suc n) = refl
+
+-- of no byte
+none_yet : (text : List ℕ) (at : ℕ) (ts : List Tree) (lines : List ℕ) → AllBehind text at ts → lines ≡ lines ++ lines_before text (at + 0) ts
+none_yet text at ts lines h =
+    sym (append-nil lines) ∙ ap (λ (x : List ℕ). lines ++ x) (sym (none_before text (at + 0) at ts (omega arith) h))
+
+pub gives_end : (text : List ℕ) (s : Made) (at : ℕ) → Gives text s at [] [] s.stand.root
+gives_end text s at = record {
+  later = tt;
+  gives = λ n. ap (λ (x : List ℕ). (run s x).lines) (take_none n) ∙ sym (append-nil s.lines);
+  root = refl;
+}
+
+-- a byte that ends no line
+pub gives_step : (text : List ℕ) (s : Made) (b at : ℕ) (bytes : List ℕ) (ts : List Tree) (r : Root) → (step s b).lines ≡ s.lines
+    → Gives text (step s b) (suc at) bytes ts r → Gives text s at (b ∷ bytes) ts r
+gives_step text s b at bytes ts r same g = record { later = earlier text at ts g.later; gives = each; root = g.root }
+  where
+    each : (n : ℕ) → (run s (take n (b ∷ bytes))).lines ≡ s.lines ++ lines_before text (at + n) ts
+    each zero = none_yet text at ts s.lines (earlier text at ts g.later)
+    each (suc n) =
+        g.gives n ∙ ap (λ (x : List ℕ). x ++ lines_before text (suc at + n) ts) same
+        ∙ ap (λ (k : ℕ). s.lines ++ lines_before text k ts) (let e : suc at + n ≡ at + suc n = omega arith in e)
+
+-- a byte that ends the line of an element
+pub gives_cut : (text : List ℕ) (s : Made) (b at : ℕ) (bytes : List ℕ) (t : Tree) (ts : List Tree) (r : Root) → (step s b).lines ≡ s.lines ++ element_line text t
+    → behind text t ≡ at → Gives text (step s b) (suc at) bytes ts r → Gives text s at (b ∷ bytes) (t ∷ ts) r
+gives_cut text s b at bytes t ts r more here g = record { later = all; gives = each; root = g.root }
+  where
+    all : AllBehind text at (t ∷ ts)
+    all = (omega (arith, here), earlier text at ts g.later)
+
+    each : (n : ℕ) → (run s (take n (b ∷ bytes))).lines ≡ s.lines ++ lines_before text (at + n) (t ∷ ts)
+    each zero = none_yet text at (t ∷ ts) s.lines all
+    each (suc n) =
+        g.gives n ∙ ap (λ (x : List ℕ). x ++ lines_before text (suc at + n) ts) more
+        ∙ append_assoc s.lines (element_line text t) (lines_before text (suc at + n) ts)
+        ∙ ap (λ (k : ℕ). s.lines ++ (element_line text t ++ lines_before text k ts)) (let e : suc at + n ≡ at + suc n = omega arith in e)
+        ∙ ap (λ (x : List ℕ). s.lines ++ x) (sym (first_before text (at + suc n) t ts (let lt : behind text t < at + suc n = omega (arith, here) in lt)))
+
+-- ---- bytes that stay
+
+abbrev pub at_place : Place → ℕ → Root → Bool → List ℕ → List ℕ → Made
+at_place p h r takes lines part = record { stand = record { place = p; height = h; root = r; takes = takes }; lines = lines; part = part }
+
+abbrev pub made : ℕ → Root → Bool → List ℕ → List ℕ → Made
+made h r takes lines part = at_place Between h r takes lines part
+
+-- what is kept of some bytes
+abbrev pub taken : Bool → Place → List ℕ → List ℕ
+taken takes p w = if takes then compact_from p w else []
+
+abbrev stepped : Turn → Made → ℕ → Made
+stepped turn s b = record {
+  stand = record { place = next s.stand.place b; height = height_next s.stand.place s.stand.height b; root = root_next s.stand.root turn; takes = takes_next s.stand.root s.stand.takes turn };
+  lines = lines_next turn s.lines s.part;
+  part = part_next turn s.stand s.part b;
+}
+
+abbrev pub kept_by : Bool → Place → ℕ → List ℕ
+kept_by takes p b = if takes then kept p b else []
+
+pub stay_step : (p : Place) (h : ℕ) (r : Root) (takes : Bool) (lines part : List ℕ) (b : ℕ) → turn_at p h b ≡ Stay
+    → step (at_place p h r takes lines part) b ≡ at_place (next p b) (height_next p h b) r takes lines (part ++ kept_by takes p b)
+stay_step p h r takes lines part b e = ap (λ (t : Turn). stepped t (at_place p h r takes lines part) b) e
+
+taken_none : (takes : Bool) (p : Place) → taken takes p [] ≡ []
+taken_none true p = refl
+taken_none false p = refl
+
+taken_more : (takes : Bool) (p : Place) (part : List ℕ) (b : ℕ) (w : List ℕ) → part ++ taken takes p (b ∷ w) ≡ (part ++ kept_by takes p b) ++ taken takes (next p b) w
+taken_more true p part b w = sym (append_assoc part (kept p b) (compact_from (next p b) w))
+taken_more false p part b w = sym (append-nil (part ++ []))
+
+over_stays : (text : List ℕ) (r : Root) (takes : Bool) (lines : List ℕ) (bytes : List ℕ) (ts : List Tree) (to : Root) (p : Place) (h : ℕ) (part w : List ℕ) (at : ℕ) → StaysIn p h w
+    → Gives text (at_place (place_behind p w) (height_behind p h w) r takes lines (part ++ taken takes p w)) (at + length w) bytes ts to
+    → Gives text (at_place p h r takes lines part) at (w ++ bytes) ts to
+over_stays text r takes lines bytes ts to p h part [] at stays g =
+    subst (λ (k : ℕ). Gives text (at_place p h r takes lines part) k bytes ts to) (let e : at + length (let n : List ℕ = [] in n) ≡ at = omega arith in e)
+    (subst (λ (x : List ℕ). Gives text (at_place p h r takes lines x) (at + length (let n : List ℕ = [] in n)) bytes ts to) (ap (λ (x : List ℕ). part ++ x) (taken_none takes p) ∙ append-nil part) g)
+over_stays text r takes lines bytes ts to p h part (b ∷ w) at stays g =
+    let s : Made = at_place p h r takes lines part in
+    let t : Made = at_place (next p b) (height_next p h b) r takes lines (part ++ kept_by takes p b) in
+    let e : step s b ≡ t = stay_step p h r takes lines part b stays.0 in
+    let more : Gives text (at_place (place_behind (next p b) w) (height_behind (next p b) (height_next p h b) w) r takes lines ((part ++ kept_by takes p b) ++ taken takes (next p b) w)) (suc at + length w) bytes ts to =
+    subst (λ (k : ℕ). Gives text (at_place (place_behind (next p b) w) (height_behind (next p b) (height_next p h b) w) r takes lines ((part ++ kept_by takes p b) ++ taken takes (next p b) w)) k bytes ts to)
+    (let e : at + suc (length w) ≡ suc at + length w = omega arith in e)
+    (subst (λ (x : List ℕ). Gives text (at_place (place_behind (next p b) w) (height_behind (next p b) (height_next p h b) w) r takes lines x) (at + suc (length w)) bytes ts to) (taken_more takes p part b w) g) in
+    let rest : Gives text t (suc at) (w ++ bytes) ts to = over_stays text r takes lines bytes ts to (next p b) (height_next p h b) (part ++ kept_by takes p b) w (suc at) stays.1 more in
+    gives_step text s b at (w ++ bytes) ts to (ap (λ (m : Made). m.lines) e) (subst (λ (m : Made). Gives text m (suc at) (w ++ bytes) ts to) (sym e) rest)
+
+-- a stretch that opens and closes the same containers
+pub over_piece : (text : List ℕ) (h : ℕ) (r : Root) (takes : Bool) (lines part : List ℕ) (ts : List Tree) (to : Root) {low i j : ℕ} {t u : List ℕ} (p : Piece low i t j u) → low ≤ h
+    → Gives text (made h r takes lines (part ++ taken takes Between p.w)) j u ts to → Gives text (made h r takes lines part) i t ts to
+over_piece text h r takes lines part ts to {i = i} {j = j} {u = u} p le g =
+    subst (λ (x : List ℕ). Gives text (made h r takes lines part) i x ts to) (sym p.whole)
+    (over_stays text r takes lines u ts to Between h part p.w i (p.sits.stays h le)
+    (subst (λ (k : ℕ). Gives text (at_place (place_behind Between p.w) (height_behind Between h p.w) r takes lines (part ++ taken takes Between p.w)) k u ts to) p.end
+    (subst (λ (q : Place). Gives text (at_place q (height_behind Between h p.w) r takes lines (part ++ taken takes Between p.w)) j u ts to) (sym p.sits.place)
+    (subst (λ (n : ℕ). Gives text (at_place Between n r takes lines (part ++ taken takes Between p.w)) j u ts to) (sym (p.sits.height h le)) g))))
+
+taken_gap : (takes : Bool) (w : List ℕ) → compact w ≡ [] → taken takes Between w ≡ []
+taken_gap true w e = e
+taken_gap false w e = refl
+
+pub over_gap : (text : List ℕ) (h : ℕ) (r : Root) (takes : Bool) (lines part : List ℕ) (ts : List Tree) (to : Root) {i j : ℕ} {t u : List ℕ} → Gap i t j u
+    → Gives text (made h r takes lines part) j u ts to → Gives text (made h r takes lines part) i t ts to
+over_gap text h r takes lines part ts to {j = j} {u = u} gap g =
+    over_piece text h r takes lines part ts to gap.piece (omega arith)
+    (subst (λ (x : List ℕ). Gives text (made h r takes lines x) j u ts to) (sym (ap (λ (x : List ℕ). part ++ x) (taken_gap takes gap.piece.w gap.nothing) ∙ append-nil part)) g)
+
+-- a stretch where no element may stand
+pub over_name : (text : List ℕ) (h : ℕ) (r : Root) (lines part : List ℕ) (ts : List Tree) (to : Root) {low i j : ℕ} {t u : List ℕ} → Piece low i t j u → low ≤ h
+    → Gives text (made h r false lines part) j u ts to → Gives text (made h r false lines part) i t ts to
+over_name text h r lines part ts to {j = j} {u = u} p le g =
+    over_piece text h r false lines part ts to p le (subst (λ (x : List ℕ). Gives text (made h r false lines x) j u ts to) (sym (append-nil part)) g)

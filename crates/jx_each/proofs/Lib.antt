@@ -1,0 +1,7 @@
+mod Bytes
+mod Dues
+mod Gives
+mod Pieces
+mod Stretching
+mod Taking
+mod Texts

@@ -1,0 +1,5 @@
+use Rattle.jx_each.proofs.Dues.{more_due}
+use Rattle.jx_each.proofs.laws.due_grows.Goals as goal
+
+pub returns : goal.returns
+returns c = record { grows = more_due }

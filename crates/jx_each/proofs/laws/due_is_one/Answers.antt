@@ -1,0 +1,5 @@
+use Rattle.jx_each.proofs.Dues.{one_due}
+use Rattle.jx_each.proofs.laws.due_is_one.Goals as goal
+
+pub returns : goal.returns
+returns c = record { one = one_due }

@@ -1,0 +1,5 @@
+pub mod Due
+pub mod Each
+pub mod Machine
+pub mod Turns
+pub mod inside

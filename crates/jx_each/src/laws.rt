@@ -1,0 +1,27 @@
+// What holds of the lines that are due, each on a function that does nothing: for every list of bytes and all settings.
+ghost use Rattle.std.specs.Prelude.{◌≡◌, ◌++◌, ℕ, List};
+ghost use Rattle.jx_run.specs.declared.texts.settings.Settings.{Settings};
+ghost use Rattle.jx_run.specs.Settings.{IsDocumentBy};
+ghost use Rattle.jx_run.specs.Tree.{Tree};
+ghost use Rattle.jx_each.specs.Due.{IsDue, all_lines};
+ghost use Rattle.jx_each.specs.Each.{EachValue, HasTaken};
+
+/// What was given away and what waits is what is due of the bytes that were taken.
+pub fn what_is_taken_is_due()
+    ensures due { (bytes given : List ℕ) (each : EachValue) → HasTaken bytes given each → IsDue each.reader.settings bytes (given ++ each.ready) }
+{}
+
+/// Whichever text the bytes before the first fault begin, the same is due.
+pub fn due_is_one()
+    ensures one { (settings : Settings) (input x y : List ℕ) → IsDue settings input x → IsDue settings input y → x ≡ y }
+{}
+
+/// What is due of an input begins what is due of every longer one. So it may be written before more is read.
+pub fn due_grows()
+    ensures grows { (settings : Settings) (input more x y : List ℕ) → IsDue settings input x → IsDue settings (input ++ more) y → (rest : List ℕ) × (y ≡ x ++ rest) }
+{}
+
+/// Of a text all elements are due.
+pub fn all_of_a_text_is_due()
+    ensures all { (settings : Settings) (text output : List ℕ) (tree : Tree) → IsDocumentBy settings 0 text tree → IsDue settings text output → output ≡ all_lines text tree }
+{}

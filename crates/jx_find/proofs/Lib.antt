@@ -1,0 +1,3 @@
+pub mod Helds
+pub mod Soughts
+pub mod Finders

@@ -1,0 +1,32 @@
+-- Which bytes a finder was fed.
+use Rattle.std.specs.Prelude.{◌≡◌, ℕ, ◌+◌, List, All, None, Some, false}
+use Rattle.jx_run.specs.declared.texts.settings.NameRule.TheVariants.{Any}
+use Rattle.jx_run.specs.declared.texts.settings.Settings.{Settings}
+use Rattle.jx_run.specs.Reader.{HasRead, is_fault}
+use Rattle.jx_run.specs.Telling.{tokens_by}
+use Rattle.jx_index.specs.inside.Trie.{HasWay, IsTrie}
+use Rattle.jx_find.specs.declared.finder.Finder.{Finder}
+use Rattle.jx_find.specs.declared.held.Held.{Held}
+use Rattle.jx_find.specs.Held.{IsHeld}
+
+-- by settings and for pointers, it was fed these bytes since it was made
+pub record HasFed (settings : Settings) (pointers : List (List ℕ)) (bytes : List ℕ) (f : Finder) : Type 0 where
+  pub names : settings.names ≡ Any
+  pub settings_are : f.reader.settings ≡ settings
+  pub start : f.reader.start ≡ 0
+  pub pointers_are : f.pointers.now ≡ pointers
+  pub read : HasRead bytes f.reader
+  pub trie : IsTrie f.edges.items
+  pub ways : All (λ (pointer : List ℕ). HasWay f.edges.items pointer) pointers
+  pub kept : Held
+  pub kept_is : f.held ≡ Some kept
+  pub held : is_fault f.reader.outcome ≡ false
+      → IsHeld bytes f.edges.items (tokens_by settings.mark bytes).marks (tokens_by settings.mark bytes).ends kept.state kept.next kept.begun kept.name.items
+
+-- the offset just past the last byte that it was fed
+abbrev pub end_of : Finder → ℕ
+end_of f = f.reader.start + f.reader.count
+
+-- memory was refused, and every slice will be
+abbrev pub IsLost : Finder → Type 0
+IsLost f = f.held ≡ None

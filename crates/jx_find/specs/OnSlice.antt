@@ -1,0 +1,32 @@
+-- What is sought of the tokens of a slice.
+use Rattle.std.specs.Prelude.{◌≡◌, ℕ, ◌<◌, List, ◌++◌, Option, Some, drop, length, true}
+use Rattle.jx_lex.specs.declared.alphabet.mark.Mark.{Mark}
+use Rattle.jx_run.specs.Telling.{moved_ends, moved_marks}
+use Rattle.jx_index.specs.declared.seeker.Seeker.{Seeker}
+use Rattle.jx_index.specs.declared.trie.Edge.{Edge}
+use Rattle.jx_index.specs.inside.Building.{is_token}
+use Rattle.jx_index.specs.inside.Found.{finding}
+use Rattle.jx_index.specs.inside.Seeking.{IsReady}
+use Rattle.jx_index.specs.inside.Trie.{IsTrie, is_name_next}
+use Rattle.jx_find.specs.Held.{Comes}
+
+-- which bytes, marks and ends something may have been held of
+abbrev pub Holds : Type 1
+Holds = List ℕ → List Mark → List ℕ → Type 0
+
+-- of a name that has begun before the slice the bytes before the slice are held
+pub record IsSought (before slice : List ℕ) (edges : List Edge) (marks : List Mark) (ends : List ℕ) (k : Seeker) (begun : Option Mark) (name : List ℕ) : Type 0 where
+  pub trie : IsTrie edges
+  pub ready : IsReady edges k
+  pub comes : (future : List ℕ) → Comes ((before ++ slice) ++ future) edges marks ends (finding k.state) begun
+  pub token : (m : Mark) → begun ≡ Some m → is_token m.kind ≡ true
+  pub name_is : (m : Mark) → begun ≡ Some m → is_name_next m.kind (finding k.state) ≡ true → m.at < length before → name ≡ drop m.at before
+
+-- whatever was held at the slice's start, these marks and ends of the slice were sought behind it
+pub record HasSought (held : Holds) (slice : List ℕ) (edges : List Edge) (marks : List Mark) (ends : List ℕ)
+    (own : List ℕ) (base : ℕ) (own_edges : List Edge) (k : Seeker) (begun : Option Mark) (name : List ℕ) : Type 0 where
+  pub slice_is : own ≡ slice
+  pub edges_are : own_edges ≡ edges
+  pub base_is : (before : List ℕ) (ms : List Mark) (es : List ℕ) → held before ms es → base ≡ length before
+  pub sought : (before : List ℕ) (ms : List Mark) (es : List ℕ) → held before ms es
+      → IsSought before slice edges (ms ++ moved_marks base marks) (es ++ moved_ends base ends) k begun name

@@ -1,0 +1,98 @@
+// What the pointers of a trie lead to in a text that is fed: names are told by their bytes, and no text is at hand.
+ghost use Rattle.std.specs.Prelude.{◌≡◌, ℕ, All, List, length, slice_range, true, IfOk};
+ghost use Rattle.jx_lex.specs.declared.alphabet.mark.MarkKind.TheVariants.{String};
+ghost use Rattle.jx_run.specs.declared.texts.settings.NameRule.TheVariants.{Any};
+ghost use Rattle.jx_run.specs.declared.texts.settings.Settings.{Settings};
+ghost use Rattle.jx_run.specs.declared.texts.verdict.Verdict.TheVariants.{Accepted};
+ghost use Rattle.jx_run.specs.Settings.{JudgedBy};
+ghost use Rattle.jx_run.specs.Telling.{tokens_by};
+ghost use Rattle.jx_index.specs.Found.{AreFoundIn};
+ghost use Rattle.jx_index.specs.inside.Finding.{nothing_met};
+ghost use Rattle.jx_index.specs.inside.Found.{finding};
+ghost use Rattle.jx_index.specs.inside.Seeking.{IsReady};
+ghost use Rattle.jx_index.specs.inside.Trie.{HasWay, IsTrie, is_name_next, seek_all, sought};
+
+use crate::find_fault::FindFault;
+use crate::finder::{Found, Met};
+use crate::found_each::read_each;
+use crate::laws::{indexes_stand_behind_fronts, names_are_refused_by_rows};
+use crate::pointer::Pointer;
+use crate::seeker::Seeker;
+use crate::trie::Edge;
+use crate::trie_nodes::member;
+use jx_lex::{MarkKind, Span, tokens_are_read};
+use jx_run::accepted_texts_stand_behind_fronts;
+use std::alloc::{AllocError, Global};
+
+impl<'s> Seeker<'s> {
+    /// Whether a mark of this kind, if it comes next, begins the name of a member of an object to which tokens lead.
+    #[inline(always)]
+    pub fn is_name_next(&self, kind: MarkKind) -> bool
+        ensures { result ≡ is_name_next kind (finding self.now.state) }
+    {
+        match kind {
+            MarkKind::String => self.state.skipped == 0 && self.state.naming().is_some(),
+            _ => false,
+        }
+    }
+
+    /// A name where one comes next, by its bytes, with the quotation marks.
+    fn name(&mut self, edges: &[Edge], name: &[u8])
+        requires { is_name_next String (finding self.old.state) ≡ true }
+        ensures noted { IsTrie edges.now → (text : List ℕ) (at end : ℕ) → slice_range text at end ≡ name.now
+            → finding self.new.state ≡ sought text edges.now String at end (finding self.old.state) }
+        ensures next { IsReady edges.now self.old → IsReady edges.now self.new }
+    {
+        if let Some(node) = self.state.naming() {
+            let span = Span {
+                start: 0,
+                end: name.len(),
+            };
+            self.state.name = Some(member(name, edges, self.starts, node, span));
+        }
+    }
+
+    /// One mark more of a text, the end that belongs to it where it begins a token, and of a name its bytes, with the
+    /// quotation marks. Only want of memory is refused.
+    #[inline(always)]
+    pub fn tell(
+        &mut self,
+        edges: &[Edge],
+        kind: MarkKind,
+        at: usize,
+        end: usize,
+        name: &[u8],
+    ) -> Result<(), AllocError>
+        ensures noted { IfOk result (λ _. IsTrie edges.now → IsReady edges.now self.old → (text : List ℕ) → (is_name_next kind (finding self.old.state) ≡ true → slice_range text at end ≡ name.now)
+            → finding self.new.state ≡ sought text edges.now kind at end (finding self.old.state)) }
+        ensures next { IfOk result (λ _. IsTrie edges.now → IsReady edges.now self.old → IsReady edges.now self.new) }
+    {
+        if self.is_name_next(kind) {
+            self.name(edges, name);
+            return Ok(());
+        }
+        self.mark(&[], edges, kind, at, end)
+    }
+}
+
+/// What each pointer leads to in an accepted text, in order, by what was met at the nodes of the trie of all of them when
+/// the tokens of the text had been told.
+pub fn answers_of(
+    alloc: Global,
+    edges: &[Edge],
+    starts: &[usize],
+    met: &[Met],
+    pointers: &[Pointer],
+) -> Result<Vec<Result<Found, FindFault>>, AllocError>
+    ensures { IfOk result (λ found. (settings : Settings) (bytes : List ℕ) → IsTrie edges.now → All (λ (pointer : List ℕ). HasWay edges.now pointer) pointers.now
+        → settings.names ≡ Any → JudgedBy settings 0 bytes Accepted
+        → met.now ≡ (seek_all bytes edges.now (length bytes) (tokens_by settings.mark bytes).marks (tokens_by settings.mark bytes).ends (nothing_met (length edges.now))).met
+        → AreFoundIn settings bytes pointers.now found.items) }
+{
+    tokens_are_read();
+    accepted_texts_stand_behind_fronts();
+    indexes_stand_behind_fronts();
+    names_are_refused_by_rows();
+    let found = read_each(alloc, edges, starts, met, pointers)?;
+    Ok(found)
+}

@@ -1,0 +1,191 @@
+// What pointers into a text come to. Few are looked up while it is read, many in its index.
+ghost use Rattle.std.specs.Prelude.{◌≡◌, ◌∷◌, [], length, map, string_bytes, IfOk, IfSome};
+ghost use Rattle.jx_run.specs.declared.texts.settings.NameRule.TheVariants.{Any};
+ghost use Rattle.jx_run.specs.declared.texts.verdict.Verdict.TheVariants.{Accepted};
+ghost use Rattle.jx_index.specs.ByNames.{IsVerdictBy};
+ghost use Rattle.jx_report.specs.Answers.{AreAnswersBy};
+ghost use Rattle.jx_report.specs.inside.ReadPointers.{AreAnswersIn};
+
+use crate::pointer_answer::{
+    PointerAnswer, answer_in, answers_in, answers_of, read_pointer, read_pointers,
+};
+use jx_answer::{TextAnswer, find_all, verdict_of_text, verdicts_by_settings_are_one};
+use jx_book::{Crew, Gate};
+use jx_claim::Cutting;
+use jx_index::{Indexed, find_by, find_each_by, indexes_stand_behind_fronts, look_ups_end_at_rows};
+use jx_run::{NameRule, Refusal, Settings, Verdict};
+use std::alloc::{AllocError, Global};
+use std::sync::Wait;
+use std::thread::Threads;
+
+/// So many pointers are looked up in an index, where there is also one for each so many bytes of the text.
+pub(crate) const MANY: usize = 10_000;
+
+const BYTES_FOR_EACH: usize = 128;
+
+/// Whether to make an index takes less time than to look so many pointers up while the text is read.
+fn are_many(pointers: usize, bytes: usize) -> bool {
+    pointers >= MANY && pointers >= bytes / BYTES_FOR_EACH
+}
+
+/// What one pointer comes to in a text that is read once.
+fn one_pointer_answers(
+    alloc: Global,
+    settings: &Settings,
+    spelt: &str,
+    text: &[u8],
+) -> Result<Result<Vec<PointerAnswer>, Refusal>, AllocError>
+    requires { settings.now.names ≡ Any }
+    ensures { IfOk result (AreAnswersBy settings.now text.now (spelt.now ∷ [])) }
+{
+    // By the contract of this call the proof knows what row a pointer leads to.
+    look_ups_end_at_rows();
+    let read = read_pointer(spelt);
+    match find_by(alloc, text, settings, &read.pointer)? {
+        Err(refusal) => Ok(Err(refusal)),
+        Ok(found) => {
+            let mut answers = Vec::new(alloc);
+            answers.push(answer_in(read.unread, found))?;
+            Ok(Ok(answers))
+        }
+    }
+}
+
+/// What several pointers come to, in one pass for all of them.
+fn few_pointers_answers(
+    alloc: Global,
+    settings: &Settings,
+    pointers: &[String],
+    text: &[u8],
+) -> Result<Result<Vec<PointerAnswer>, Refusal>, AllocError>
+    requires { settings.now.names ≡ Any }
+    ensures { IfOk result (AreAnswersBy settings.now text.now (map string_bytes pointers.now)) }
+{
+    look_ups_end_at_rows();
+    let read = read_pointers(alloc, pointers)?;
+    match find_each_by(alloc, text, settings, &read.pointers)? {
+        Err(refusal) => Ok(Err(refusal)),
+        Ok(found) => {
+            let answers = answers_in(alloc, &read.unread, &found)?;
+            Ok(Ok(answers))
+        }
+    }
+}
+
+/// The answers to pointers in the index of a text, which the crew looks up.
+fn answers_in_index<R: Threads + Sync, G: Gate + Sync>(
+    crew: &Crew<'_, R, G>,
+    index: &Indexed<'_>,
+    pointers: &[String],
+) -> Result<Vec<PointerAnswer>, AllocError>
+    ensures { IfOk result (λ answers. AreAnswersIn index.now (map string_bytes pointers.now) answers.items) }
+{
+    let read = read_pointers(crew.alloc, pointers)?;
+    let Ok(answered) = find_all(
+        crew.rt,
+        crew.alloc,
+        index,
+        &read.pointers,
+        crew.workers,
+        crew.gate,
+    ) else {
+        return Err(AllocError);
+    };
+    answers_of(crew.alloc, &read.unread, &answered)
+}
+
+/// What many pointers come to: the calling thread makes the text's index, and the crew looks the pointers up in it.
+fn many_pointers_answers<R: Threads + Sync, G: Gate + Sync>(
+    crew: &Crew<'_, R, G>,
+    settings: &Settings,
+    pointers: &[String],
+    text: &[u8],
+) -> Result<Result<Vec<PointerAnswer>, Refusal>, AllocError>
+    ensures { IfOk result (AreAnswersBy settings.now text.now (map string_bytes pointers.now)) }
+{
+    indexes_stand_behind_fronts();
+    match TextAnswer::read(crew.alloc, text, settings)? {
+        TextAnswer::Refused(refusal) => Ok(Err(refusal)),
+        TextAnswer::Accepted(index) => {
+            let answers = answers_in_index(crew, &index, pointers)?;
+            Ok(Ok(answers))
+        }
+    }
+}
+
+/// The only one of some pointers, where there is one.
+fn only_pointer(pointers: &[String]) -> Option<&str>
+    ensures { IfSome result (λ spelt. map string_bytes pointers.now ≡ spelt.now ∷ []) }
+{
+    match pointers {
+        [pointer] => Some(pointer.as_str()),
+        _ => None,
+    }
+}
+
+/// What one pointer or several come to, by one pass over the text.
+fn answers_in_one_pass(
+    alloc: Global,
+    settings: &Settings,
+    pointers: &[String],
+    text: &[u8],
+) -> Result<Result<Vec<PointerAnswer>, Refusal>, AllocError>
+    requires { settings.now.names ≡ Any }
+    ensures { IfOk result (AreAnswersBy settings.now text.now (map string_bytes pointers.now)) }
+{
+    match only_pointer(pointers) {
+        Some(pointer) => one_pointer_answers(alloc, settings, pointer, text),
+        None => few_pointers_answers(alloc, settings, pointers, text),
+    }
+}
+
+/// The same settings, but objects may have any names.
+fn with_any_names(settings: &Settings) -> Settings
+    ensures { result ≡ record { depth = settings.now.depth; mark = settings.now.mark; names = Any } }
+{
+    Settings {
+        depth: settings.depth,
+        mark: settings.mark,
+        names: NameRule::Any,
+    }
+}
+
+/// What pointers come to in a text that is known to be accepted.
+fn answers_in_accepted(
+    alloc: Global,
+    settings: &Settings,
+    pointers: &[String],
+    text: &[u8],
+) -> Result<Result<Vec<PointerAnswer>, Refusal>, AllocError>
+    requires { IsVerdictBy settings.now text.now Accepted }
+    ensures { IfOk result (AreAnswersBy settings.now text.now (map string_bytes pointers.now)) }
+{
+    verdicts_by_settings_are_one();
+    answers_in_one_pass(alloc, &with_any_names(settings), pointers, text)
+}
+
+/// What pointers, in their order, come to in a text by the rule on names, or why it is refused. The crew looks many up in an index. Few are looked up while the calling thread
+/// reads the text. Where names have to be unique it is then read twice: it is judged first, as no pass both compares names and
+/// looks pointers up.
+pub fn answers_to_pointers<R: Threads + Wait + Sync, G: Gate + Sync>(
+    crew: &Crew<'_, R, G>,
+    settings: &Settings,
+    pointers: &[String],
+    text: &[u8],
+    cutting: &Cutting,
+) -> Result<Result<Vec<PointerAnswer>, Refusal>, AllocError>
+    requires cutting { cutting.now.len ≡ length text.now }
+    requires front { cutting.now.front ≡ 0 }
+    ensures { IfOk result (AreAnswersBy settings.now text.now (map string_bytes pointers.now)) }
+{
+    if are_many(pointers.len(), text.len()) {
+        return many_pointers_answers(crew, settings, pointers, text);
+    }
+    match settings.names {
+        NameRule::Any => answers_in_one_pass(crew.alloc, settings, pointers, text),
+        NameRule::Unique => match verdict_of_text(crew, text, cutting, settings)? {
+            Verdict::Accepted => answers_in_accepted(crew.alloc, settings, pointers, text),
+            Verdict::Refused(refusal) => Ok(Err(refusal)),
+        },
+    }
+}

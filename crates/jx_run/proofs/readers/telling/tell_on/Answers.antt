@@ -1,0 +1,35 @@
+use Rattle.std.proofs.Common.{ap, subst, sym, ◌∙◌}
+use Rattle.std.proofs.lemmas.Result.{IfOk-weaker}
+use Rattle.jx_run.specs.ReaderInside.{IsReadTo, outcome_at}
+use Rattle.jx_run.specs.Reader.{is_fault}
+use Rattle.jx_run.proofs.ReaderFeeds.{going, passed}
+use Rattle.jx_run.proofs.Tellings.{deep_past, stopped_past, whole_goes}
+use Rattle.jx_run.proofs.readers.telling.tell_on.Goals as goal
+
+pub returns-in-Going-clause-reads : goal.returns-in-Going-clause-reads
+returns-in-Going-clause-reads g c =
+    let a = c.args in
+    IfOk-weaker c.tell_slice.result _ _
+    (λ t goes settings start bytes at h.
+    let here = subst (λ q. IsReadTo settings start bytes q a.stack) c.in-Going.is h in
+    going c.reader_is_grammar.ensures.first_fault settings start a.base bytes a.slice.now c.in-Going.state a.stack t.stack t.progress at c.requires.fits here
+    (whole_goes a.stack t.stack c.in-Going.state a.base a.slice.now t.progress (goes here.of_use.0.marks here.of_use.0.read)))
+    c.tell_slice.ensures.goes_on
+
+pub returns-in-Stopped-clause-reads : goal.returns-in-Stopped-clause-reads
+returns-in-Stopped-clause-reads g c = λ settings start bytes at h.
+    let r = c.args.stack.reading in
+    record { outcome = passed settings start bytes c.args.slice.now (outcome_at c.args.progress r) (ap (λ p. is_fault (outcome_at p r)) c.in-Stopped.is) h.outcome; of_use = h.of_use }
+
+pub returns-in-Stopped-clause-past : goal.returns-in-Stopped-clause-past
+returns-in-Stopped-clause-past g c = λ before is.
+    stopped_past (g.K.TokenSink.has_seen c.args.sink) c.args.stack.depth c.in-Stopped.field-0 c.args.stack.reading before c.args.slice.now (ap (λ p. outcome_at p c.args.stack.reading) (sym c.in-Stopped.is) ∙ is)
+
+pub returns-in-TooDeep-clause-reads : goal.returns-in-TooDeep-clause-reads
+returns-in-TooDeep-clause-reads g c = λ settings start bytes at h.
+    let r = c.args.stack.reading in
+    record { outcome = passed settings start bytes c.args.slice.now (outcome_at c.args.progress r) (ap (λ p. is_fault (outcome_at p r)) c.in-TooDeep.is) h.outcome; of_use = h.of_use }
+
+pub returns-in-TooDeep-clause-past : goal.returns-in-TooDeep-clause-past
+returns-in-TooDeep-clause-past g c = λ before is.
+    deep_past (g.K.TokenSink.has_seen c.args.sink) c.args.stack.depth c.in-TooDeep.field-0 c.args.stack.reading before c.args.slice.now (ap (λ p. outcome_at p c.args.stack.reading) (sym c.in-TooDeep.is) ∙ is)

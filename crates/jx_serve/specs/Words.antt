@@ -1,0 +1,127 @@
+-- How replies are spelt as messages (JSON-RPC 2.0; Language Server Protocol 3.17, "PublishDiagnostics Notification" and "LogMessage
+-- Notification"). Ids, versions and the names of documents are spelt as the client spelt them.
+use Rattle.std.specs.Prelude.{◌≡◌, ℕ, List, [], ◌∷◌, ◌++◌, Bool, false, true, Option, None, Some, Vec, codes, decimal}
+use Rattle.std.specs.Global.{Global}
+use Rattle.std.specs.List.{concat}
+use Rattle.jx_edit.specs.declared.position.Position.{Position}
+use Rattle.jx_run.specs.declared.texts.verdict.Refusal.{Refusal}
+use Rattle.jx_run.specs.declared.texts.verdict.Refusal.TheVariants.{Stopped, Truncated, TooDeep, RepeatedName}
+use Rattle.jx_serve.specs.declared.mark.Mark.{Mark}
+use Rattle.jx_serve.specs.declared.reply.Code.{Code}
+use Rattle.jx_serve.specs.declared.reply.Code.TheVariants as wrong
+use Rattle.jx_serve.specs.declared.reply.Reply.{Reply}
+use Rattle.jx_serve.specs.declared.reply.Reply.TheVariants.{Nothing, Initialized, Null, Hovered, Outlined, Refused, Published, Closed, Logged}
+use Rattle.jx_serve.specs.declared.reply.Trouble.{Trouble}
+use Rattle.jx_serve.specs.declared.reply.Trouble.TheVariants as trouble
+
+-- ---- words
+
+abbrev pub number_of_code : Code → List ℕ
+number_of_code wrong.ParseError = codes "-32700"
+number_of_code wrong.InvalidRequest = codes "-32600"
+number_of_code wrong.MethodNotFound = codes "-32601"
+number_of_code wrong.InvalidParams = codes "-32602"
+number_of_code wrong.NotInitialized = codes "-32002"
+number_of_code wrong.RequestFailed = codes "-32803"
+
+abbrev pub words_of_code : Code → List ℕ
+words_of_code wrong.ParseError = codes "no JSON text, or no frame"
+words_of_code wrong.InvalidRequest = codes "no request, or none at this time"
+words_of_code wrong.MethodNotFound = codes "method not known"
+words_of_code wrong.InvalidParams = codes "parameters missing or of a wrong kind"
+words_of_code wrong.NotInitialized = codes "not initialized"
+words_of_code wrong.RequestFailed = codes "out of memory"
+
+abbrev pub words_of_trouble : Trouble → List ℕ
+words_of_trouble trouble.WrongParameters = codes "jx: parameters missing or of a wrong kind"
+words_of_trouble trouble.NotOpen = codes "jx: document not open"
+words_of_trouble trouble.Lost = codes "jx: document lost until its whole text is sent"
+words_of_trouble trouble.Memory = codes "jx: out of memory"
+
+abbrev pub word_of_refusal : Refusal → List ℕ
+word_of_refusal (Stopped at) = codes "stopped"
+word_of_refusal Truncated = codes "truncated"
+word_of_refusal (TooDeep at) = codes "too deep"
+word_of_refusal (RepeatedName at) = codes "repeated name"
+
+-- what `jx check` prints
+abbrev pub words_of_refusal : Refusal → List ℕ
+words_of_refusal (Stopped at) = codes "stopped" ++ codes " at " ++ decimal at
+words_of_refusal Truncated = codes "truncated"
+words_of_refusal (TooDeep at) = codes "too deep" ++ codes " at " ++ decimal at
+words_of_refusal (RepeatedName at) = codes "repeated name" ++ codes " at " ++ decimal at
+
+-- ---- answers
+
+abbrev pub encoding_member : Bool → List ℕ
+encoding_member true = codes "\"positionEncoding\":\"utf-8\","
+encoding_member false = []
+
+abbrev pub initialized : List ℕ → Bool → List ℕ
+initialized id utf8 = concat (
+    codes "{\"jsonrpc\":\"2.0\",\"id\":" ∷ id ∷ codes ",\"result\":{\"capabilities\":{" ∷ encoding_member utf8
+    ∷ codes "\"textDocumentSync\":{\"openClose\":true,\"change\":2},\"hoverProvider\":true,\"documentSymbolProvider\":true},"
+    ∷ codes "\"serverInfo\":{\"name\":\"jx-lsp\",\"version\":\"" ∷ codes "0.2.0" ∷ codes "\"}}}" ∷ []
+    )
+
+abbrev pub null_of : List ℕ → List ℕ
+null_of id = codes "{\"jsonrpc\":\"2.0\",\"id\":" ++ id ++ codes ",\"result\":null}"
+
+-- one that was not read is `null`
+abbrev pub words_of_id : Option (Vec ℕ Global) → List ℕ
+words_of_id None = codes "null"
+words_of_id (Some id) = id.items
+
+abbrev pub data_member : Option Refusal → List ℕ
+data_member None = []
+data_member (Some refusal) = concat (codes ",\"data\":\"" ∷ words_of_refusal refusal ∷ codes "\"" ∷ [])
+
+abbrev pub error_member : Code → List ℕ
+error_member code = concat (codes ",\"error\":{\"code\":" ∷ number_of_code code ∷ codes ",\"message\":\"" ∷ words_of_code code ∷ codes "\"" ∷ [])
+
+abbrev pub refused : Option (Vec ℕ Global) → Code → Option Refusal → List ℕ
+refused id code refusal = codes "{\"jsonrpc\":\"2.0\",\"id\":" ++ words_of_id id ++ error_member code ++ data_member refusal ++ codes "}}"
+
+-- ---- diagnostics
+
+abbrev pub position : Position → List ℕ
+position p = codes "{\"line\":" ++ decimal p.line ++ codes ",\"character\":" ++ decimal p.character ++ codes "}"
+
+abbrev pub range : Position → Position → List ℕ
+range start end = codes "\"range\":{\"start\":" ++ position start ++ codes ",\"end\":" ++ position end ++ codes "}"
+
+abbrev pub diagnostic : Mark → List ℕ
+diagnostic mark =
+    codes "{" ++ range mark.start mark.end
+    ++ concat (codes ",\"severity\":1,\"code\":\"" ∷ word_of_refusal mark.refusal ∷ codes "\",\"source\":\"jx\",\"message\":\"" ∷ words_of_refusal mark.refusal ∷ codes "\"}" ∷ [])
+
+-- none where the text is accepted
+abbrev pub diagnostics : Option Mark → List ℕ
+diagnostics None = []
+diagnostics (Some mark) = diagnostic mark
+
+abbrev pub version_member : Option (Vec ℕ Global) → List ℕ
+version_member None = []
+version_member (Some version) = concat (codes ",\"version\":" ∷ version.items ∷ [])
+
+abbrev pub published : List ℕ → Option (Vec ℕ Global) → Option Mark → List ℕ
+published uri version mark =
+    concat (codes "{\"jsonrpc\":\"2.0\",\"method\":\"textDocument/publishDiagnostics\",\"params\":{\"uri\":" ∷ uri ∷ []) ++ version_member version
+    ++ codes ",\"diagnostics\":[" ++ diagnostics mark ++ codes "]}}"
+
+abbrev pub logged : Trouble → List ℕ
+logged why = codes "{\"jsonrpc\":\"2.0\",\"method\":\"window/logMessage\",\"params\":{\"type\":2,\"message\":\"" ++ words_of_trouble why ++ codes "\"}}"
+
+-- ---- messages
+
+-- the message of a reply; how values are shown is left open
+abbrev pub IsMessageOf : Reply → List ℕ → Type 0
+IsMessageOf Nothing message = message ≡ []
+IsMessageOf (Initialized id utf8) message = message ≡ initialized id.items utf8
+IsMessageOf (Null id) message = message ≡ null_of id.items
+IsMessageOf (Hovered id hover) message = Unit {0}
+IsMessageOf (Outlined id uri outline) message = Unit {0}
+IsMessageOf (Refused id code refusal) message = message ≡ refused id code refusal
+IsMessageOf (Published uri version mark) message = message ≡ published uri.items version mark
+IsMessageOf (Closed uri) message = message ≡ published uri.items None None
+IsMessageOf (Logged why) message = message ≡ logged why

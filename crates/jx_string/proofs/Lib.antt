@@ -1,0 +1,3 @@
+pub mod CharacterSteps
+pub mod Strings
+pub mod UnitSteps

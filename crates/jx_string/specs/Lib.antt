@@ -1,0 +1,3 @@
+pub mod CharactersLeft
+pub mod Texts
+pub mod inside

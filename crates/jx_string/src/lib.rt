@@ -1,0 +1,15 @@
+//! What JSON strings stand for: characters, and texts in UTF-8 (RFC 8259, section 7).
+#![tactic(auto)]
+
+mod characters;
+mod laws;
+mod reading;
+mod spelt;
+mod string_fault;
+mod texts;
+mod units;
+
+pub use characters::Characters;
+pub use laws::strings_are_read;
+pub use string_fault::StringFault;
+pub use texts::{has_text, unescaped};

@@ -1,0 +1,7 @@
+mod Chunks
+mod ElementWrites
+mod Copies
+mod Lines
+mod Stays
+mod Tells
+mod TextSteps

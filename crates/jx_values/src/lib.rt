@@ -1,0 +1,20 @@
+//! Reports on values: an input is read to its end, pointers are looked up in it, and the bytes of their values are written.
+//! Or the elements of its root are written while it is read.
+#![tactic(auto)]
+
+mod compact;
+mod elements;
+mod form;
+mod laws;
+mod putting;
+mod raw;
+mod reply;
+mod reporting;
+mod telling;
+mod value;
+mod writing;
+
+pub use elements::report_elements;
+pub use form::Form;
+pub use laws::compact_reads_alike;
+pub use reporting::report_values;

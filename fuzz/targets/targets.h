@@ -1,0 +1,20 @@
+/* The targets: each holds some calls to the plain readers. */
+#ifndef TARGETS_H
+#define TARGETS_H
+
+#include "../harness.h"
+
+void check_texts(input *in);         /* all flags, depths around the text's own; too great a depth, an unknown flag */
+void feed_readers(input *in);        /* after each slice, cut anywhere; a copied reader goes on; no memory is asked for */
+void feed_forged_readers(input *in); /* words that no call wrote: a status of the header, and no byte outside of the struct */
+void list_rows(input *in);           /* too little, just enough and more room; what stands behind is unchanged */
+void look_up(input *in);             /* one pointer after another, and many at once */
+void look_up_in_indexes(input *in);  /* pointers and rows, with no request for memory */
+void list_elements(input *in);       /* too little, just enough and more room */
+void edit_documents(input *in);      /* bytes and verdict after each edit, in texts of up to 3 MiB, also at the ends of chunks */
+void join_runs(input *in);           /* up to 12 parts, joined in any order */
+void forge_runs(input *in);          /* fields of runs are changed and sealed: refused, or with the verdict that docs/FORMAT.md gives them */
+void take_any_runs(input *in);       /* any bytes as runs */
+void compact_texts(input *in);       /* too little, just enough and more room; the form reads as the same values */
+
+#endif

@@ -1,0 +1,222 @@
+"""Writes values: those of the pointers that stand in `pointers` beside this file, and those of random texts. What a random text has at each pointer is
+known by how it is made, and Python's json reads the same there. The last line is `N passed, M failed`."""
+import json
+import os
+import pathlib
+import random
+import re
+import subprocess
+
+HERE = pathlib.Path(__file__).resolve().parent
+PROGRAM = os.environ.get("JX_PROGRAM", HERE.parent / "crates" / "jx" / "out" / "jx")
+TEXTS = 1500
+failed = passed = 0
+
+
+def spelt(line):
+    return re.sub(rb"\\x(..)", lambda byte: bytes.fromhex(byte[1].decode()), line)
+
+
+def same(name, wanted, got):
+    global failed, passed
+    if wanted == got:
+        passed += 1
+        return
+    failed += 1
+    print("values.py: FAILED: %s\n--- wanted\n%s\n--- got\n%s" % (name, str(wanted)[:2000], str(got)[:2000]))
+
+
+def written(text, words, pointers):
+    pathlib.Path("text").write_bytes(text)
+    done = subprocess.run([PROGRAM, "get", "--file", "text", *words, "--", *pointers], capture_output=True)
+    return done.stdout, done.stderr, done.returncode
+
+
+def of_answers(lines, value_of):
+    """What is written and told for answers to pointers, and the status."""
+    output = told = b""
+    for answer, pointer in lines:
+        found = re.fullmatch(rb"found ([a-z]+) (\d+)\.\.(\d+)", answer)
+        if found:
+            output += value_of(found[1], int(found[2]), int(found[3]))
+        else:
+            told += b"jx: %s: %s\n" % (pointer, answer)
+        output += b"\n"
+    return output, told, int(told != b"")
+
+
+# ---- the table of pointers
+
+
+def of_text(settings, repeated, text, lines):
+    words = ["--ignore-bom"] if settings == b"b" else []
+    pointers = [pointer for _, pointer in lines]
+    wanted = of_answers(lines, lambda kind, start, end: text[start:end])
+    same("values of %r" % text, wanted, written(text, words, pointers))
+    unique = wanted if repeated == b"-" else (b"", b"jx: repeated name at %s\n" % repeated, 1)
+    same("values of %r with unique names" % text, unique, written(text, [*words, "--unique-names"], pointers))
+    for line in lines:
+        wanted = of_answers([line], lambda kind, start, end: text[start:end])
+        same("the value of %r in %r" % (line[1], text), wanted, written(text, words, [line[1]]))
+
+
+def table():
+    texts = []
+    for line in (HERE / "pointers").read_bytes().splitlines():
+        if line.startswith(b"text "):
+            _, settings, repeated, text = line.split(b" ", 3)
+            texts.append((settings, repeated, spelt(text), []))
+        elif line.startswith(b"refused "):
+            answer, _, text = line.removeprefix(b"refused ").partition(b":")
+            same("no value of %r" % text, (b"", b"jx: %s\n" % answer, 1), written(spelt(text), [], [b"", b"x", b"/0"]))
+        elif line and not line.startswith(b"#"):
+            answer, _, pointer = line.partition(b":")
+            texts[-1][3].append((answer, spelt(pointer)))
+    for one in texts:
+        of_text(*one)
+
+
+# ---- random texts
+
+
+class Spelling:
+    """A random text, with the bytes that it has at each pointer, these without blanks between tokens, and their value."""
+
+    def __init__(self, chance):
+        self.chance = chance
+        self.nodes = []
+        self.text = self.blanks() + self.value(b"", 0)[0] + self.blanks()
+
+    def blanks(self):
+        return bytes(self.chance.choice(b" \t\n\r") for _ in range(self.chance.choice([0, 0, 0, 1, 3])))
+
+    def value(self, pointer, depth):
+        place = len(self.nodes)
+        self.nodes.append(None)
+        kinds = [self.number, self.string, self.literal] + ([] if depth > 4 else [self.array, self.object] * 2)
+        made = self.chance.choice(kinds)(pointer, depth)
+        self.nodes[place] = (pointer, *made, json.loads(made[0]))
+        return made
+
+    def number(self, pointer, depth):
+        text = self.chance.choice(["0", "-0", "12", "-3.50", "1e2", "0.10E-3", "7" * 30])
+        return text.encode(), text.encode()
+
+    def literal(self, pointer, depth):
+        text = self.chance.choice(["true", "false", "null"])
+        return text.encode(), text.encode()
+
+    def string(self, pointer, depth):
+        parts = ["a", " ", "b  c", '\\"', "\\\\", "\\n", "\\/", "\\u00e9", "\u00e9", "\u20ac", "\U0001f600", "\\ud83d\\ude00", "\\ud83d", "\\uDE00", "\\u0000", "\\t", "[1, 2]", "\\\\\\\"", "{", ","]
+        text = '"' + "".join(self.chance.choice(parts) for _ in range(self.chance.randrange(6))) + '"'
+        return text.encode(), text.encode()
+
+    def array(self, pointer, depth):
+        values = [self.value(b"%s/%d" % (pointer, place), depth + 1) for place in range(self.chance.randrange(4))]
+        texts = [self.blanks() + text + self.blanks() for text, _ in values]
+        return b"[" + (b",".join(texts) or self.blanks()) + b"]", b"[" + b",".join(compact for _, compact in values) + b"]"
+
+    def object(self, pointer, depth):
+        names = [('"k%d"', "k%d"), ('"\\u006b %d"', "k %d"), ('"a/b~%d"', "a~1b~0%d"), ('"\u00e9\\"%d"', '\u00e9"%d')]
+        texts, compacts = [], []
+        for place in range(self.chance.randrange(4)):
+            name, token = (form % place for form in self.chance.choice(names))
+            text, compact = self.value(b"%s/%s" % (pointer, token.encode()), depth + 1)
+            texts.append(self.blanks() + name.encode() + self.blanks() + b":" + self.blanks() + text + self.blanks())
+            compacts.append(name.encode() + b":" + compact)
+        return b"{" + (b",".join(texts) or self.blanks()) + b"}", b"{" + b",".join(compacts) + b"}"
+
+
+def lost(text):
+    """Why the pointer /no leads to no value in a random text."""
+    first = text.strip()[:1]
+    return {b"{": b"no such member at token 0", b"[": b"not an index at token 0"}.get(first, b"not a container at token 0")
+
+
+def of_raw_values(asked, text):
+    """What is written and told where texts of strings are asked for, and other values compact, and the status."""
+    output = told = b""
+    for pointer, _, compact, value in asked:
+        if pointer == b"/no":
+            told += b"jx: /no: %s\n" % lost(text)
+        elif isinstance(value, str):
+            try:
+                output += value.encode()
+            except UnicodeEncodeError:
+                told += b"jx: %s: half a surrogate pair\n" % pointer
+        else:
+            output += compact
+        output += b"\n"
+    return output, told, int(told != b"")
+
+
+def random_texts():
+    chance = random.Random(57)
+    for number in range(TEXTS):
+        made = Spelling(chance)
+        asked = [chance.choice(made.nodes + [(b"/no", b"", b"", None)]) for _ in range(chance.randrange(1, 6))]
+        words = ["--workers", str(number % 3 + 1), "--piece", str(number % 7 + 1)]
+        told = b"".join(b"jx: /no: %s\n" % lost(made.text) for pointer, *_ in asked if pointer == b"/no")
+        pointers = [pointer for pointer, *_ in asked]
+        wanted = b"".join(text + b"\n" for _, text, _, _ in asked), told, int(told != b"")
+        same("random text %d" % number, wanted, written(made.text, words, pointers))
+        wanted = b"".join(compact + b"\n" for _, _, compact, _ in asked), told, int(told != b"")
+        same("random text %d, compact" % number, wanted, written(made.text, ["-c", *words], pointers))
+        wanted = of_raw_values(asked, made.text)
+        same("random text %d, raw" % number, wanted, written(made.text, ["-rc", *words], pointers))
+        pointer, _, _, value = made.nodes[number % len(made.nodes)]
+        same("what is read of random text %d" % number, value, json.loads(written(made.text, words, [pointer])[0]))
+
+
+# ---- elements
+
+
+def each_of(text, pieces):
+    """What `each` writes and tells of a text that comes in pieces."""
+    done = subprocess.Popen([PROGRAM, "each"], stdin=subprocess.PIPE, stdout=subprocess.PIPE, stderr=subprocess.PIPE)
+    for start in range(0, len(text), pieces):
+        done.stdin.write(text[start : start + pieces])
+        done.stdin.flush()
+    output, told = done.communicate()
+    return output, told, done.returncode
+
+
+def ends_of_elements(text):
+    """The offsets of the commas and of the bracket that stand behind the elements of the root, which is a container."""
+    tokens = re.compile(rb'"(?:[^"\\]|\\.)*"|[][{}:,]|[^][{}:,"]+', re.S)
+    ends, depth = [], 0
+    for token in tokens.finditer(text):
+        byte = token[0]
+        if byte in b"[{":
+            depth += 1
+        if (byte == b"," and depth == 1) or (byte in b"]}" and depth == 1):
+            ends.append(token.start())
+        if byte in b"]}":
+            depth -= 1
+    return ends
+
+
+def elements_of_random_texts():
+    chance = random.Random(58)
+    for number in range(TEXTS):
+        made = Spelling(chance)
+        lines = [compact + b"\n" for pointer, _, compact, _ in made.nodes if pointer.count(b"/") == 1]
+        pieces = chance.choice([1, 2, 3, 7, 50, 65536])
+        is_container = made.text.strip()[:1] in (b"[", b"{")
+        told = b"" if is_container else b"jx: not a container at token 0\n"
+        same("elements of random text %d" % number, (b"".join(lines), told, int(not is_container)), each_of(made.text, pieces))
+        if not is_container:
+            continue
+        ends = ends_of_elements(made.text)
+        same("the ends of random text %d" % number, max(len(lines), 1), len(ends))
+        cut = chance.randrange(len(made.text))
+        due = b"".join(line for line, end in zip(lines, ends) if end < cut)
+        told = b"" if ends[-1] < cut else b"jx: truncated\n"
+        same("elements of random text %d, cut at %d" % (number, cut), (due, told, int(told != b"")), each_of(made.text[:cut], pieces))
+        faulty = made.text[:cut] + b"\0" + made.text[cut:]
+        same("elements of random text %d, a fault at %d" % (number, cut), (due, b"jx: stopped at %d\n" % cut, 1), each_of(faulty, pieces))
+
+
+for test in (table, random_texts, elements_of_random_texts):
+    test()
+print("%d passed, %d failed" % (passed, failed))

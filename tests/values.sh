@@ -1,0 +1,159 @@
+#!/usr/bin/env bash
+# Values by pointers: their bytes, what is told where there is none, and what happens where nothing can be written.
+. "$(dirname "$0")/lib.sh"
+
+# lines TEXT..: each on a line of its own.
+lines() { printf '%s\n' "$@"; }
+
+values_are_those_that_pointers_lead_to() {
+    local said last
+    said=$(JX_PROGRAM=$program python3 "$root/tests/values.py" 2>&1)
+    same 'values.py ends well' 0 $?
+    last=${said##*$'\n'}
+    if [[ $last =~ ([0-9]+)\ passed,\ ([0-9]+)\ failed ]]; then
+        passed=$((passed + BASH_REMATCH[1]))
+        failed=$((failed + BASH_REMATCH[2]))
+    fi
+    if [[ ! $last =~ \ 0\ failed$ ]]; then echo "${said: -3000}"; fi
+}
+
+each_pointer_has_its_line() {
+    same 'a line for each pointer, in order' "$(lines 'status 0' 'out: 2' 'out: 1')" "$(said '{"a":1,"b":2}' get /b /a)"
+    same 'bytes as they stand' "$(lines 'status 0' 'out: "\u0061\/"')" "$(said '{"a" : "\\u0061\\/" }' get /a)"
+    same 'line ends between tokens stay' "$(lines 'status 0' 'out: [1,' 'out: 2]')" "$(said '{"a": [1,\n2]}' get /a)"
+    same 'no pointer leads to a value' "$(lines 'status 1' 'out: ' 'out: ' 'err: jx: /c: no such member at token 0' 'err: jx: c: no slash')" \
+        "$(said '{"a":1}' get /c c)"
+    same 'a refused text' "$(lines 'status 1' 'err: jx: stopped at 3')" "$(said '[1 2]' get /0 x)"
+    same 'a text that ends early' "$(lines 'status 1' 'err: jx: truncated')" "$(said '[1' get /0)"
+    same 'a text that is too deep' "$(lines 'status 1' 'err: jx: too deep at 1')" "$(said '[[1]]' get --depth 1 /0)"
+    same 'a name that comes again' "$(lines 'status 1' 'out: ' 'err: jx: /a: name repeated at token 0')" "$(said '{"a":1,"a":2}' get /a)"
+    same 'unique names' "$(lines 'status 1' 'err: jx: repeated name at 7')" "$(said '{"a":1,"a":2}' get --unique-names /a)"
+    same 'a mark that is ignored' "$(lines 'status 0' 'out: [7]')" "$(said '\xef\xbb\xbf[7]' get --ignore-bom '')"
+}
+
+compact_values_are_one_line() {
+    same 'no blanks between tokens' "$(lines 'status 0' 'out: {"a b":[1,true,"x\u0020 y"],"":{}}')" \
+        "$(said ' {"a b" :\t[1 ,\r\ntrue , "x\\u0020 y" ], "":{ }\n} ' get -c '')"
+    same 'backslashes before quotation marks' "$(lines 'status 0' 'out: ["\\"," ","\" , "]')" "$(said '[ "\\\\" , " " , "\\" , " ]' get --compact '')"
+    same 'numbers stay as they are spelt' "$(lines 'status 0' 'out: [1.0,-0,1E+2]')" "$(said '[ 1.0 , -0 , 1E+2 ]' get -c '')"
+    same 'of several values' "$(lines 'status 1' 'out: [1,2]' 'out: ' 'out: {}' 'err: jx: /2: past end at token 0')" "$(said '[[1,\n2], { }]' get -c /0 /2 /1)"
+    python3 -c '
+strings = ["\"" + "y " * (n % 50) + "\\\\\"" for n in range(20000)]
+open("blank", "w").write("[" + " ,\t".join(strings) + "\r\n]\n")
+open("wanted", "w").write("[" + ",".join(strings) + "]\n")'
+    "$program" get -c '' <blank >got
+    same 'a value longer than a chunk and than the buffer' same "$(cmp -s wanted got && echo same)"
+}
+
+strings_are_written_as_texts() {
+    same 'the text of a string' "$(lines 'status 0' 'out: a"/é' 'out: 1' 'out: ["a"]')" \
+        "$(said '{"a":"a\\"\\/\\u00E9","b":[1,"x",["a"]]}' get -r /a /b/0 /b/2)"
+    same 'an empty string has an empty line' "$(lines 'status 0' 'out: ' 'out: null')" "$(said '["",null]' get --raw /0 /1)"
+    same 'a line end of a text' "$(lines 'status 0' 'out: a' 'out: b')" "$(said '"a\\nb"' get -r '')"
+    same 'surrogate pairs, as they stand and by escapes' "$(lines 'status 0' 'out: 😀😀')" "$(said '"😀\\ud83d\\uDE00"' get -r '')"
+    same 'what is no string is compact with both options' "$(lines 'status 0' 'out: {"a":"\n"}' 'out: x y')" "$(said '[{"a" : "\\n"}, "x y"]' get -r -c /0 /1)"
+    same 'half a surrogate pair' "$(lines 'status 1' 'out: ' 'out: ' 'out: ab' 'out: ' 'err: jx: /0: half a surrogate pair' \
+        'err: jx: /1: half a surrogate pair' 'err: jx: /3: past end at token 0')" "$(said '["x\\ud83d","\\ude00\\ud83d","ab"]' get -r /0 /1 /2 /3)"
+    same 'halves inside of what is no string stay' "$(lines 'status 0' 'out: ["\ud83d"]')" "$(said '["\\ud83d"]' get -r '')"
+    printf '"a\\u0000b"' | "$program" get -r '' >got
+    same 'a null character' '61 00 62 0a' "$(od -An -tx1 got | sed 's/^ //')"
+    python3 -c '
+import json
+text = json.dumps("".join(chr(0x20 + n % 90) + "\u00e9\n\U0001f600" * (n % 3) for n in range(50000)))
+open("text", "w").write("[" + text + "," + text + "]")
+open("wanted", "w").write((json.loads(text) + "\n") * 2)'
+    "$program" get -r /0 /1 <text >got
+    same 'texts longer than the buffer' same "$(cmp -s wanted got && echo same)"
+}
+
+pointers_are_lines_of_a_file() {
+    printf '/a\n\n/b/0' >list
+    printf '{"a":"x","b":[null]}' >text
+    same 'lines of a file behind words' "$(lines null '"x"' '{"a":"x","b":[null]}' null)" "$("$program" get /b/0 --pointers list --file text)"
+    same 'no such list' "$(lines 'jx: missing: cannot open: No such file or directory' 'status 2')" "$("$program" get --pointers missing --file text 2>&1; echo "status $?")"
+    same 'no such text' "$(lines 'jx: missing: cannot open: No such file or directory' 'status 2')" "$("$program" get '' --file missing 2>&1; echo "status $?")"
+    same 'a folder' "$(lines 'jx: .: is a directory' 'status 2')" "$("$program" get '' --file . 2>&1; echo "status $?")"
+    has 'no pointer at all' 'required arguments' "$("$program" get --file text 2>&1)"
+}
+
+long_values_are_written_whole() {
+    python3 -c 'print("[%s,%s]" % ("\"" + "x" * 300000 + "\"", ",".join(map(str, range(50000)))))' >text
+    "$program" get /0 /1 '' /50000 <text >got
+    python3 -c '
+text = open("text").read()[:-1]
+open("wanted", "w").write("\"" + "x" * 300000 + "\"\n0\n" + text + "\n49999\n")'
+    same 'values longer than a buffer' same "$(cmp -s wanted got && echo same)"
+}
+
+what_cannot_be_written_or_told() {
+    if [ -w /dev/full ]; then
+        same 'nowhere to write to' "$(lines 'jx: write failed' 'status 2')" "$(printf '{"a":1}' | "$program" get /a /b 2>&1 >/dev/full; echo "status $?")"
+        same 'nowhere to tell to' "$(lines 1 '' 'status 1')" "$(printf '{"a":1}' | "$program" get /a /b 2>/dev/full; echo "status $?")"
+        same 'nowhere to write much to' "$(lines 'jx: write failed' 'status 2')" "$("$program" get '' <text 2>&1 >/dev/full; echo "status $?")"
+        same 'a refused text, and nowhere to write to' "$(lines 'jx: stopped at 0' 'status 1')" "$(printf x | "$program" get '' 2>&1 >/dev/full; echo "status $?")"
+    fi
+}
+
+each_element_has_its_line() {
+    same 'of an array' "$(lines 'status 0' 'out: 1' 'out: {"a b":[2,3]}' 'out: "x\u0020 y"')" "$(said ' [1 , {"a b" :\t[2 ,\r\n3 ]},"x\\u0020 y"\n] ' each)"
+    same 'of an object' "$(lines 'status 0' 'out: 1' 'out: [{}]')" "$(said '{"a" : 1 ,"[,:" : [ { } ] }' each)"
+    same 'of none' 'status 0' "$(said '[ ]' each)"
+    same 'of an object without members' 'status 0' "$(said '{ }' each)"
+    same 'of a scalar' "$(lines 'status 1' 'err: jx: not a container at token 0')" "$(said ' "[1,2]" ' each)"
+    same 'before a fault' "$(lines 'status 1' 'out: 1' 'out: 2' 'err: jx: stopped at 6')" "$(said '[1,2,3x' each)"
+    same 'a comma is needed' "$(lines 'status 1' 'out: 1' 'err: jx: truncated')" "$(said '[1,2 ' each)"
+    same 'behind the root' "$(lines 'status 1' 'out: 1' 'err: jx: stopped at 4')" "$(said '[1] ,2]' each)"
+    same 'too deep' "$(lines 'status 1' 'out: 1' 'err: jx: too deep at 3')" "$(said '[1,[2]]' each --depth 1)"
+    same 'a mark is ignored' "$(lines 'status 0' 'out: 7')" "$(said '\xef\xbb\xbf[7]' each --ignore-bom)"
+    same 'a mark is refused' "$(lines 'status 1' 'err: jx: stopped at 0')" "$(said '\xef\xbb\xbf[7]' each)"
+    same 'no text at all' "$(lines 'status 1' 'err: jx: truncated')" "$(said '' each)"
+    same 'names may come again' "$(lines 'status 0' 'out: 1' 'out: 2')" "$(said '{"a":1,"a":2}' each)"
+    printf '[1,2]' >elements
+    same 'of a file' "$(lines 1 2)" "$("$program" each --file elements)"
+    same 'no such file' "$(lines 'jx: missing: cannot open: No such file or directory' 'status 2')" "$("$program" each --file missing 2>&1; echo "status $?")"
+    same 'a folder' "$(lines 'jx: .: is a directory' 'status 2')" "$("$program" each --file . 2>&1; echo "status $?")"
+}
+
+# A line is there before the input ends.
+lines_come_while_the_input_is_read() {
+    local first
+    first=$( (printf '[{"n": 1}, {"n"'; sleep 2; printf ':2}]') | "$program" each | (IFS= read -r -t 1.5 line && echo "$line"; cat >/dev/null))
+    same 'a line before the input ends' '{"n":1}' "$first"
+}
+
+long_elements_and_many_are_written_whole() {
+    python3 -c '
+items = ["\"" + "y " * (n % 50) + "\\\\\"" for n in range(20000)] + ["[" + "1 , " * 300000 + "2 ]"]
+open("blank", "w").write("[" + " ,\t".join(items) + "\r\n]\n")
+open("wanted", "w").write("".join(item + "\n" for item in items[:-1]) + "[" + "1," * 300000 + "2]\n")'
+    "$program" each <blank >got
+    same 'many elements and a long one' same "$(cmp -s wanted got && echo same)"
+    cat blank | "$program" each >got
+    same 'the same from a pipe' same "$(cmp -s wanted got && echo same)"
+    if [ -w /dev/full ]; then
+        same 'nowhere to write to' "$(lines 'jx: write failed' 'status 2')" "$("$program" each <blank 2>&1 >/dev/full; echo "status $?")"
+    fi
+    status=$( (trap '' PIPE; "$program" each <blank 2>err; echo $? >status) | head -c 1 >/dev/null; cat status)
+    same 'a reader of elements that goes away' 'status 2, told: ' "status $status, told: $(cat err)"
+}
+
+# The program gets no signal, as where what calls it ignores it.
+a_closed_pipe_ends_it_without_a_word() {
+    local status
+    status=$( (trap '' PIPE; "$program" get '' '' '' <text 2>err; echo $? >status) | head -c 1 >/dev/null; cat status)
+    same 'a reader that goes away' 'status 2, told: ' "status $status, told: $(cat err)"
+    status=$( ("$program" get '' '' '' <text 2>err; echo $? >status) | head -c 1 >/dev/null; cat status)
+    same 'a reader that goes away, with no signal ignored' 'status 2, told: ' "status $status, told: $(cat err)"
+}
+
+tests values_are_those_that_pointers_lead_to \
+    each_pointer_has_its_line \
+    compact_values_are_one_line \
+    strings_are_written_as_texts \
+    pointers_are_lines_of_a_file \
+    long_values_are_written_whole \
+    what_cannot_be_written_or_told \
+    each_element_has_its_line \
+    lines_come_while_the_input_is_read \
+    long_elements_and_many_are_written_whole \
+    a_closed_pipe_ends_it_without_a_word
