@@ -11,7 +11,7 @@ use Rattle.jx_index.specs.Leads.{leads}
 use Rattle.jx_index.specs.Pointers.{tokens}
 use Rattle.jx_answer.specs.declared.find_answer.Answer.{Answer}
 use Rattle.jx_answer.specs.declared.find_answer.Answer.TheVariants.{Found, Fault}
-use Rattle.jx_answer.specs.declared.lookups.Answered.{Answered}
+use Rattle.jx_answer.specs.declared.bytes.lookups.Answered.{Answered}
 
 -- what `find` answers to the pointer on this index
 abbrev pub Finds : IndexedValue → List ℕ → Result ℕ FindFault → Type 0

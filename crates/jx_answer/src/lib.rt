@@ -2,27 +2,23 @@
 //! lead to in an index.
 #![tactic(auto)]
 
-mod asking;
 mod batches;
-mod by_names;
+mod bytes;
 mod element;
-mod element_cuts;
 mod fault;
 mod find_answer;
-mod front;
-mod judging;
 mod laws;
-mod lookups;
-mod naming;
-mod sequences;
-mod texts;
 
-pub use asking::read_pieces;
-pub use batches::{Balance, is_short, read_batch};
+pub use batches::asking::read_pieces;
+pub use batches::judging::{judge_batch, judge_sequence};
+pub use batches::naming::{named_element, named_elements};
+pub use batches::reading::{Balance, is_short, read_batch};
+pub use bytes::lookups::find_all;
+pub use bytes::sequences::{index_sequence, index_sequence_with};
+pub use bytes::texts::{index_text, index_text_with, rows_of_text, verdict_of_text};
 pub use element::{Element, ElementAnswer};
 pub use fault::Fault;
 pub use find_answer::Answer;
-pub use judging::{judge_batch, judge_sequence};
 pub use jx_index::TextAnswer;
 pub use laws::{
     answers_are_one, answers_by_settings_are_one, any_names_change_nothing,
@@ -30,7 +26,3 @@ pub use laws::{
     verdicts_are_answers_without_indexes, verdicts_by_settings_are_one,
     verdicts_on_elements_are_one,
 };
-pub use lookups::find_all;
-pub use naming::{named_element, named_elements};
-pub use sequences::{index_sequence, index_sequence_with};
-pub use texts::{index_text, index_text_with, rows_of_text, verdict_of_text};

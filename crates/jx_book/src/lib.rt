@@ -14,6 +14,5 @@ pub use stored::gaps::Gaps;
 pub use stored::held::{Held, HeldFault};
 pub use stored::state::{BookState, Put};
 pub use workers::errand::Errand;
-pub use workers::gate::{Event, Gate, Go, OpenGate};
-pub use workers::reading::{Crew, Round, read_beside, read_whole};
+pub use workers::reading::{Round, read_beside, read_whole};
 pub use workers::worker::{Cause, Hand, WorkerEnd, WorkerStop, work};

@@ -1,5 +1,4 @@
 // The workers: each reads pieces and hands its run over, until nothing is left or a gate stops it.
 pub(crate) mod errand;
-pub(crate) mod gate;
 pub(crate) mod reading;
 pub(crate) mod worker;

@@ -1,9 +1,9 @@
 // What words of the command line are.
-use jx_claim::Workers;
 use jx_command::{
     ArgFault, EachOrder, Input, Inputs, Order, PartsOrder, PartsStep, Request, Told, ValuesOrder,
     command_of,
 };
+use jx_crew::Workers;
 use jx_lines::{Line, LineFault, Out, push_text, text_of};
 use jx_run::Settings;
 use jx_task::{Command, Task};

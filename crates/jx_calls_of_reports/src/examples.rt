@@ -1,6 +1,6 @@
 // What the examples give.
 use crate::outcome::push_output;
-use jx_claim::Workers;
+use jx_crew::Workers;
 use jx_examples::{
     ExampleFault, LookUp, check, check_on_own_threads, lines_of_values, look_up, whole_elements,
 };

@@ -3,7 +3,7 @@ ghost use Rattle.std.specs.Prelude.{◌≤◌, ◌<◌};
 
 use crate::reader::{Giver, Giving};
 use crate::writer::{Taker, Taking};
-use jx_book::{Event, Gate, Go};
+use jx_crew::{Event, Gate, Go};
 use jx_lines::Out;
 use jx_report::{End, Exit, ReportFault, Sink, Source, report, report_in_batches};
 use jx_task::Command;

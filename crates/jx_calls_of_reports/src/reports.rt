@@ -1,7 +1,7 @@
 // What reports answer and write.
 use crate::options::{Options, options_of};
 use crate::outcome::{outcome_of, push_outcome};
-use jx_claim::Workers;
+use jx_crew::Workers;
 use jx_lines::{Line, LineFault, Out, Ways, bytes_of, texts_of};
 use jx_task::{Command, Task};
 use std::alloc::{AllocError, Global};

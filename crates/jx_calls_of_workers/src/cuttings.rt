@@ -1,7 +1,8 @@
 // Where a text is cut, and how many workers read it.
 ghost use Rattle.std.specs.Prelude.{◌≡◌, IfOk};
 
-use jx_claim::{CutFault, Cutting, Workers};
+use jx_claim::{CutFault, Cutting};
+use jx_crew::Workers;
 use jx_lines::{Line, LineFault, cuts_of};
 use std::alloc::{AllocError, Global};
 

@@ -5,7 +5,7 @@ use crate::copied::Copied;
 use crate::puts::gaps_of;
 use crate::runs::read;
 use jx_book::{Book, FinishFault, Share};
-use jx_claim::Workers;
+use jx_crew::Workers;
 use jx_lex::{Depth, Span};
 use jx_lines::{Line, LineFault, Out, span_within};
 use std::alloc::Global;

@@ -1,5 +1,5 @@
 // Gates that stop workers.
-use jx_book::{Event, Gate, Go};
+use jx_crew::{Event, Gate, Go};
 use jx_lines::{Line, LineFault, number_of};
 
 /// The step at which workers are stopped.

@@ -2,7 +2,7 @@
 use crate::cuttings::{cutting_at, workers_of};
 use crate::found::found_at;
 use jx_answer::{TextAnswer, find_all, index_text};
-use jx_book::OpenGate;
+use jx_crew::OpenGate;
 use jx_index::{Indexed, Pointer};
 use jx_lex::Depth;
 use jx_lines::{Line, LineFault};

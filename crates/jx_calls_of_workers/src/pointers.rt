@@ -3,7 +3,7 @@ use crate::cuttings::{cut_lists, cutting_at, way_of, workers_of};
 use crate::found::{found_at, told_of};
 use crate::gates::StopOn;
 use jx_answer::{TextAnswer, find_all, index_text_with};
-use jx_book::OpenGate;
+use jx_crew::OpenGate;
 use jx_index::{Indexed, Pointer};
 use jx_lex::Depth;
 use jx_lines::{Line, LineFault, Out, Ways, push_verdict};

@@ -4,7 +4,7 @@ ghost use Rattle.std.specs.Prelude.{◌≡◌, ◌<◌, IfOk};
 use crate::copied::Copied;
 use crate::runs::{filled, push_runs, read};
 use jx_book::{Book, BookState, Closed, Held, Put, Share};
-use jx_claim::Workers;
+use jx_crew::Workers;
 use jx_lex::{Depth, Span};
 use jx_lines::{Line, LineFault, Out, Ways, push_span, span_within};
 use std::alloc::Global;

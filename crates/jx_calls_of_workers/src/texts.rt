@@ -3,8 +3,9 @@ ghost use Rattle.std.specs.Prelude.{◌≡◌, length};
 
 use crate::cuttings::{cut_lists, cutting_at, way_of, worker_counts, workers_of};
 use jx_answer::{TextAnswer, index_text, index_text_with, verdict_of_text};
-use jx_book::{Crew, OpenGate, read_whole};
+use jx_book::read_whole;
 use jx_claim::Cutting;
+use jx_crew::{Crew, OpenGate};
 use jx_lines::{Line, LineFault, Out, Ways, push_rows, push_verdict};
 use jx_run::{FrontMark, NameRule, Settings, TextRun, Verdict};
 use std::alloc::{AllocError, Global};

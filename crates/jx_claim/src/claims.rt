@@ -4,11 +4,10 @@ ghost use Rattle.jx_claim.specs.inside.Dealt.{IsDraw, view};
 ghost use Rattle.jx_claim.specs.Undrawn.{undrawn, Draws};
 
 use crate::drawn::Drawn;
-use crate::piece_no::PieceNo;
 use crate::rule::{ClaimRule, Count, CutSeat, DrawStep, JoinSeats, Terms, View};
 use crate::seat::ClaimSeat;
-use crate::workers::Workers;
 use atomic_table::{Seat, Table};
+use jx_crew::{PieceNo, Workers};
 use std::alloc::{AllocError, Global};
 use std::marker::{Brand, Model};
 

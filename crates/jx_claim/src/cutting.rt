@@ -5,7 +5,7 @@ ghost use Rattle.jx_claim.specs.CutFaults.{AreSound, Refuses};
 
 use crate::cut_fault::CutFault;
 use crate::piece_list::PieceList;
-use crate::piece_no::PieceNo;
+use jx_crew::PieceNo;
 use jx_summary::Span;
 use std::alloc::{AllocError, Global};
 use std::marker::Model;

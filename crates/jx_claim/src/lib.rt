@@ -6,15 +6,11 @@ mod cut_fault;
 mod cutting;
 mod drawn;
 mod piece_list;
-mod piece_no;
 mod rule;
 mod seat;
-mod workers;
 
 pub use claims::Claims;
 pub use cut_fault::CutFault;
 pub use cutting::Cutting;
 pub use drawn::Drawn;
-pub use piece_no::PieceNo;
 pub use seat::ClaimSeat;
-pub use workers::Workers;

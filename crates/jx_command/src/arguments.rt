@@ -15,7 +15,7 @@ use crate::subcommand::Subcommand;
 use crate::values_arguments::{GET, values_order_from};
 use clap::ArgMatches;
 use clap::error::ErrorKind;
-use jx_claim::Workers;
+use jx_crew::Workers;
 use jx_run::{FrontMark, NameRule, Settings};
 use jx_task::{Command, Task};
 use std::alloc::{AllocError, Global};

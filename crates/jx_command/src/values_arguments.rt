@@ -5,7 +5,7 @@ use crate::arguments::{piece_of, pointers_of, settings_of, workers_of};
 use crate::options::input_from;
 use crate::order::ValuesOrder;
 use clap::ArgMatches;
-use jx_claim::Workers;
+use jx_crew::Workers;
 use jx_task::ValuesTask;
 use std::alloc::{AllocError, Global};
 

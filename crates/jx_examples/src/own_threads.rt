@@ -5,8 +5,9 @@ ghost use Rattle.jx_book.specs.Shares.{share};
 ghost use Rattle.jx_examples.specs.inside.Ended.{AreNew, HasEnded, IsNewSeat};
 
 use crate::example_fault::ExampleFault;
-use jx_book::{Book, Held, OpenGate, Share, WorkerEnd, gather, work};
-use jx_claim::{ClaimSeat, Claims, Cutting, Workers};
+use jx_book::{Book, Held, Share, WorkerEnd, gather, work};
+use jx_claim::{ClaimSeat, Claims, Cutting};
+use jx_crew::{OpenGate, Workers};
 use jx_lex::Depth;
 use jx_run::{OutcomeRun, Verdict};
 use std::alloc::Global;

@@ -5,8 +5,8 @@ ghost use Rattle.jx_examples.specs.LookUps.{IsLookUp, IsSpan};
 
 use crate::example_fault::ExampleFault;
 use jx_answer::{TextAnswer, index_text};
-use jx_book::OpenGate;
-use jx_claim::{Cutting, Workers};
+use jx_claim::Cutting;
+use jx_crew::{OpenGate, Workers};
 use jx_index::{FindFault, Indexed, Pointer, look_ups_end_at_rows};
 use jx_lex::{Depth, Span};
 use jx_run::Refusal;

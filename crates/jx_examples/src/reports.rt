@@ -6,8 +6,7 @@ ghost use Rattle.jx_report.specs.declared.exit.Exit.{Exit};
 ghost use Rattle.jx_report.specs.Output.{Output};
 
 use crate::example_fault::ExampleFault;
-use jx_book::OpenGate;
-use jx_claim::Workers;
+use jx_crew::{OpenGate, Workers};
 use jx_lex::Depth;
 use jx_report::{End, report};
 use jx_run::{FrontMark, NameRule, Settings};

@@ -5,8 +5,8 @@ ghost use Rattle.jx_examples.specs.Wholes.{accepted_spans, span_if};
 
 use crate::example_fault::ExampleFault;
 use jx_answer::{Element, ElementAnswer, index_sequence};
-use jx_book::OpenGate;
-use jx_claim::{Cutting, Workers};
+use jx_claim::Cutting;
+use jx_crew::{OpenGate, Workers};
 use jx_lex::{Depth, Span};
 use std::alloc::{AllocError, Global};
 use std::sync::Wait;

@@ -3,8 +3,8 @@ ghost use Rattle.jx_run.specs.Verdict.{Judged};
 
 use crate::example_fault::ExampleFault;
 use jx_answer::{any_names_change_nothing, verdict_of_text};
-use jx_book::{Crew, OpenGate};
-use jx_claim::{Cutting, Workers};
+use jx_claim::Cutting;
+use jx_crew::{Crew, OpenGate, Workers};
 use jx_lex::Depth;
 use jx_run::{Verdict, a_refused_mark_changes_nothing};
 use std::alloc::Global;

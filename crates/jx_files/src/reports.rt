@@ -9,7 +9,7 @@ use crate::naming::named_lines;
 use crate::opener::Opener;
 use crate::status::Status;
 use crate::telling::tell;
-use jx_book::Gate;
+use jx_crew::Gate;
 use jx_report::{End, Exit, ReportFault, Sink, Source, report, write_whole};
 use jx_task::Command;
 use std::alloc::Global;

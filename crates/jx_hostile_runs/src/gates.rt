@@ -1,5 +1,5 @@
 //! A gate that stops workers.
-use jx_book::{Event, Gate, Go};
+use jx_crew::{Event, Gate, Go};
 use std::sync::atomic::{AtomicBool, AtomicU64, Ordering};
 
 /// More events than any of these runs has.

@@ -10,8 +10,8 @@ use crate::pointer_answer::{
     PointerAnswer, answer_in, answers_in, answers_of, read_pointer, read_pointers,
 };
 use jx_answer::{TextAnswer, find_all, verdict_of_text, verdicts_by_settings_are_one};
-use jx_book::{Crew, Gate};
 use jx_claim::Cutting;
+use jx_crew::{Crew, Gate};
 use jx_index::{Indexed, find_by, find_each_by, indexes_stand_behind_fronts, look_ups_end_at_rows};
 use jx_run::{NameRule, Refusal, Settings, Verdict};
 use std::alloc::{AllocError, Global};

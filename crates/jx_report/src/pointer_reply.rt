@@ -5,8 +5,8 @@ ghost use Rattle.jx_report.specs.inside.Replies.{reply_exit, reply_output};
 
 use crate::pointer_answers::answers_to_pointers;
 use crate::reply::Reply;
-use jx_book::{Crew, Gate};
 use jx_claim::Cutting;
+use jx_crew::{Crew, Gate};
 use jx_run::{Settings, Verdict};
 use std::alloc::AllocError;
 use std::sync::Wait;

@@ -7,7 +7,7 @@ use crate::report_fault::ReportFault;
 use crate::sink::Sink;
 use crate::source::Source;
 use crate::writing::show_reply;
-use jx_book::{Crew, Gate};
+use jx_crew::{Crew, Gate};
 use jx_task::Command;
 use std::alloc::Global;
 use std::sync::Wait;

@@ -11,8 +11,7 @@ ghost use Rattle.jx_answer.specs.Named.{IsNamed};
 ghost use Rattle.jx_report.specs.inside.Sequences.{AreEndedBy, AreReadBy, BeginsWith, IsHeld, IsSequenceRead};
 
 use jx_answer::{Balance, is_short, judge_batch, named_element, named_elements, read_batch};
-use jx_book::{Crew, Gate};
-use jx_claim::Workers;
+use jx_crew::{Crew, Gate, Workers};
 use jx_lex::Span;
 use jx_run::{
     Front, FrontMark, JudgedElement, NameRule, Reader, Settings, ended_there, ends_open_behind,

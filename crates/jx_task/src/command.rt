@@ -2,7 +2,7 @@
 ghost use Rattle.std.specs.Prelude.{◌≡◌};
 
 use crate::task::Task;
-use jx_claim::Workers;
+use jx_crew::Workers;
 use jx_run::Settings;
 use std::alloc::{AllocError, Global};
 

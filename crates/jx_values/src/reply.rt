@@ -4,8 +4,8 @@ ghost use Rattle.jx_values.specs.inside.Replies.{IsReplyTo};
 
 use crate::form::Form;
 use crate::telling::{told_of_answers, told_of_refusal};
-use jx_book::{Crew, Gate};
 use jx_claim::Cutting;
+use jx_crew::{Crew, Gate};
 use jx_report::{PointerAnswer, ReportFault, answers_to_pointers};
 use jx_task::ValuesTask;
 use std::sync::Wait;

@@ -5,7 +5,7 @@ use crate::form::Form;
 use crate::reply::reply_on;
 use crate::telling::{exit_by, tell};
 use crate::writing::write_values;
-use jx_book::{Crew, Gate};
+use jx_crew::{Crew, Gate};
 use jx_report::{Exit, ReportFault, Sink, Source, read_to_end};
 use jx_task::ValuesTask;
 use std::alloc::Global;

@@ -1,8 +1,8 @@
 -- A batch whose front one worker reads from where the reader stands.
 use Rattle.std.specs.Prelude.{◌≡◌, ℕ, ◌+◌, List, ◌++◌, length}
 use Rattle.jx_run.specs.Reader.{ReaderValue, HasRead, HasFailed}
-use Rattle.jx_answer.specs.declared.front.FrontState.{FrontState}
-use Rattle.jx_answer.specs.declared.front.FrontState.TheVariants.{Unread, Done, Refused}
+use Rattle.jx_answer.specs.declared.batches.front.FrontState.{FrontState}
+use Rattle.jx_answer.specs.declared.batches.front.FrontState.TheVariants.{Unread, Done, Refused}
 
 -- the reader went on with these bytes
 pub record GoesOn (bytes : List ℕ) (old new : ReaderValue) : Type 0 where

@@ -8,7 +8,7 @@ use crate::lock::share::Share;
 use crate::stored::closed::Closed;
 use crate::stored::held::Held;
 use crate::stored::state::Put;
-use jx_claim::Workers;
+use jx_crew::Workers;
 use jx_summary::{Depth, Summary};
 use std::alloc::{AllocError, Global};
 use std::fmt::Debug;

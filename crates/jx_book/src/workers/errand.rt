@@ -1,4 +1,4 @@
-use crate::workers::gate::Go;
+use jx_crew::Go;
 
 /// What the first worker does before it draws a piece, as to read what stands in front of the text by means of its own.
 pub trait Errand: Drop {

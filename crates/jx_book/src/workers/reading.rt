@@ -12,9 +12,9 @@ use crate::lock::share::Share;
 use crate::stored::assembling::assemble;
 use crate::stored::held::Held;
 use crate::workers::errand::{Errand, NoErrand};
-use crate::workers::gate::{Gate, Go};
 use crate::workers::worker::{Cause, Hand, WorkerEnd, WorkerStop, work};
-use jx_claim::{ClaimSeat, Claims, Cutting, Workers};
+use jx_claim::{ClaimSeat, Claims, Cutting};
+use jx_crew::{Crew, Gate, Go, Workers};
 use jx_fork::call_each;
 use jx_summary::{Depth, Summary};
 use std::alloc::{AllocError, Global};
@@ -23,27 +23,6 @@ use std::sync::Wait;
 use std::sync::ledger::{Blank, Ledger};
 use std::thread;
 use std::thread::Threads;
-
-/// Who reads: the runtime that makes threads, the memory that they take, how many workers there are, and the gate that
-/// they ask.
-pub struct Crew<'c, R, G> {
-    pub rt: &'c R,
-    pub alloc: Global,
-    pub workers: Workers,
-    pub gate: &'c G,
-}
-
-// What is lent need not be what may be let go.
-impl<'c, R, G> Drop for Crew<'c, R, G> {
-    fn drop(self) {
-        let Crew {
-            rt: _,
-            alloc: _,
-            workers: _,
-            gate: _,
-        } = self;
-    }
-}
 
 /// What a worker begins with.
 #[derive(Drop)]

@@ -1,7 +1,8 @@
 // Which pieces a text is cut into, and which cuts are refused.
 ghost use Rattle.std.specs.Prelude.{◌≡◌, ◌≤◌};
 
-use jx_claim::{CutFault, Cutting, PieceNo, Workers};
+use jx_claim::{CutFault, Cutting};
+use jx_crew::{PieceNo, Workers};
 use jx_lines::{Line, LineFault, Out, Ways, push_span};
 use std::alloc::Global;
 

@@ -2,7 +2,8 @@
 ghost use Rattle.std.specs.Prelude.{◌≡◌};
 ghost use Rattle.jx_claim.specs.Claimed.{AllSeats};
 
-use jx_claim::{ClaimSeat, Claims, Workers};
+use jx_claim::{ClaimSeat, Claims};
+use jx_crew::Workers;
 use jx_lines::{Line, Out};
 use std::alloc::{AllocError, Global};
 

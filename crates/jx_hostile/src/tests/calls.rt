@@ -9,8 +9,9 @@ use jx_answer::{
     Element, Fault, TextAnswer, find_all, index_sequence, index_sequence_with, index_text,
     index_text_with, judge_sequence, verdict_of_text,
 };
-use jx_book::{Crew, Gate, Held, OpenGate, read_whole};
-use jx_claim::{Cutting, Workers};
+use jx_book::{Held, read_whole};
+use jx_claim::Cutting;
+use jx_crew::{Crew, Gate, OpenGate, Workers};
 use jx_hostile_runs::inputs::Worked;
 use jx_index::{Indexed, Pointer};
 use jx_lex::Depth;

@@ -3,8 +3,8 @@ ghost use Rattle.std.specs.Prelude.{◌≡◌, length};
 
 use crate::tests::calls::{crew_of, indexed};
 use jx_answer::{TextAnswer, verdict_of_text};
-use jx_book::{Crew, OpenGate};
 use jx_claim::Cutting;
+use jx_crew::{Crew, OpenGate};
 use jx_hostile_runs::inputs::settings;
 use jx_index::Row;
 use jx_lex::{Depth, Kind};

@@ -5,8 +5,9 @@ ghost use Rattle.jx_book.specs.Shares.{share};
 
 use crate::tests::answers::is_worked;
 use crate::tests::calls::answer_of;
-use jx_book::{Book, FinishFault, Held, OpenGate, Put, Share, WorkerEnd, gather, work};
-use jx_claim::{ClaimSeat, Claims, Cutting, Workers};
+use jx_book::{Book, FinishFault, Held, Put, Share, WorkerEnd, gather, work};
+use jx_claim::{ClaimSeat, Claims, Cutting};
+use jx_crew::{OpenGate, Workers};
 use jx_hostile_runs::inputs::{FIVE, NESTED, NESTED_ARRAYS, TOO_DEEP, Worked, WorkedRow};
 use jx_lex::{Depth, Kind, Span};
 use jx_run::{NameRule, OutcomeRun, Refusal, TextRun};

@@ -4,8 +4,7 @@ use crate::tests::calls::{
     Asked, LookUps, SEQUENCE_CALLS, TEXT_CALLS, index_of, is_right, pointer_of,
 };
 use crate::tests::inputs::{MARKED_TEXTS, RULES, SETTLED_SEQUENCES, WorkedSequence};
-use jx_book::Crew;
-use jx_claim::Workers;
+use jx_crew::{Crew, Workers};
 use jx_hostile_runs::gates::{MANY, StopFrom};
 use jx_hostile_runs::inputs::{TEXTS, UNSORTED, Worked, settings};
 use jx_index::FindFault;

@@ -1,9 +1,9 @@
 // Commands under refused growths.
-use jx_claim::Workers;
 use jx_command::{
     ArgFault, EachOrder, Input, Inputs, Order, PartsOrder, PartsStep, Request, ValuesOrder,
     command_of,
 };
+use jx_crew::Workers;
 use jx_hostile_runs::lines::Lines;
 use jx_run::{FrontMark, NameRule, Settings};
 use jx_task::Task;

@@ -2,8 +2,7 @@
 // where it is asked for again.
 ghost use Rattle.std.specs.Prelude.{◌≡◌, IfOk};
 
-use jx_book::{Event, Gate, Go};
-use jx_claim::Workers;
+use jx_crew::{Event, Gate, Go, Workers};
 use jx_hostile_runs::inputs::{
     FIVE_ROWS, NESTED, REPEATED, REPEATED_SEQUENCE, SEQUENCE, UNSORTED, WIDE, settings,
 };

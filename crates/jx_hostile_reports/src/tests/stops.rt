@@ -1,7 +1,7 @@
 // Reports in batches whose workers stop: the output is the same.
 ghost use Rattle.std.specs.Prelude.{◌≤◌, ◌<◌};
 
-use jx_claim::Workers;
+use jx_crew::Workers;
 use jx_hostile_runs::gates::{MANY, StopFrom};
 use jx_hostile_runs::inputs::settings;
 use jx_lex::Depth;

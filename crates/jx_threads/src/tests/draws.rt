@@ -1,7 +1,8 @@
 // Threads of the caller's own that draw pieces.
 ghost use Rattle.std.specs.Prelude.{◌≡◌, false};
 
-use jx_claim::{ClaimSeat, Claims, PieceNo, Workers};
+use jx_claim::{ClaimSeat, Claims};
+use jx_crew::{PieceNo, Workers};
 use std::alloc::{AllocError, Global};
 use std::test::Fail;
 use std::thread;

@@ -1,5 +1,5 @@
 // A gate through which two workers pass only together.
-use jx_book::{Event, Gate, Go};
+use jx_crew::{Event, Gate, Go};
 use std::sync::atomic::{AtomicBool, AtomicU64, Ordering};
 
 const NOBODY: u64 = u64::MAX;

@@ -1,8 +1,8 @@
 // Pointers that two workers look up, of whom one draws and is held until the other has drawn.
 use crate::tests::meeting::{Meeting, Until};
 use jx_answer::{Answer, TextAnswer, find_all, index_text};
-use jx_book::OpenGate;
-use jx_claim::{Cutting, Workers};
+use jx_claim::Cutting;
+use jx_crew::{OpenGate, Workers};
 use jx_index::{Indexed, Pointer};
 use jx_lex::Depth;
 use std::alloc::Global;

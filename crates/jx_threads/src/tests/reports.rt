@@ -2,7 +2,7 @@
 ghost use Rattle.std.specs.Prelude.{◌≡◌, IfOk};
 
 use crate::tests::meeting::{Meeting, Until};
-use jx_claim::Workers;
+use jx_crew::Workers;
 use jx_lex::Depth;
 use jx_report::{End, Exit, report, report_in_batches};
 use jx_run::{FrontMark, NameRule, Settings};

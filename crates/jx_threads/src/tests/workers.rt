@@ -1,7 +1,8 @@
 // One worker draws and is held until the other has put a run into the book.
 use crate::tests::meeting::{Meeting, Until};
 use jx_answer::{ElementAnswer, TextAnswer, index_sequence, index_text};
-use jx_claim::{Cutting, Workers};
+use jx_claim::Cutting;
+use jx_crew::Workers;
 use jx_lex::{Depth, Span};
 use std::test::Fail;
 

@@ -7,10 +7,10 @@ use crate::tests::checks::assert_right;
 use crate::tests::growths::cuts::{Joined, check_cuts};
 use crate::tests::likeness::{Likeness, is_as_read};
 use jx_book::{
-    Book, BookState, Cause, Closed, Hand, Held, HeldFault, OpenGate, Put, Share, WorkerEnd,
-    WorkerStop, work,
+    Book, BookState, Cause, Closed, Hand, Held, HeldFault, Put, Share, WorkerEnd, WorkerStop, work,
 };
-use jx_claim::{ClaimSeat, Claims, Cutting, PieceNo, Workers};
+use jx_claim::{ClaimSeat, Claims, Cutting};
+use jx_crew::{OpenGate, PieceNo, Workers};
 use jx_lex::{Depth, Span};
 use jx_run::{OutcomeRun, SeqRun, TextRun};
 use std::alloc::{AllocError, Global};

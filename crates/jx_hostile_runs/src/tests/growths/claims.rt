@@ -1,7 +1,8 @@
 // Claims and cuttings under refused growths.
 use crate::lines::Lines;
 use crate::tests::checks::assert_right;
-use jx_claim::{ClaimSeat, Claims, CutFault, Cutting, PieceNo, Workers};
+use jx_claim::{ClaimSeat, Claims, CutFault, Cutting};
+use jx_crew::{PieceNo, Workers};
 use std::alloc::{AllocError, Global};
 
 #[test]
