@@ -66,6 +66,38 @@ installed() {
     packaged sh -c 'timeout 600 apt-get update && DEBIAN_FRONTEND=noninteractive timeout 600 apt-get install -y --no-install-recommends "$@"' sh "$@" >/dev/null 2>&1
 }
 
+# write_sessions PAGE..: a session is an indented part of a page that begins with `$ `. Each is written as a script, which prints a line
+# before each command, and as what that is to print.
+write_sessions() {
+    awk '
+    function close_session() { inside = 0 }
+    /^    \$ / {
+        if (!inside) { inside = 1; session++; script = sprintf("script.%02d", session); wanted = sprintf("wanted.%02d", session); command = 0 }
+        command++
+        printf "echo @@%d\n%s\n", command, substr($0, 7) > script
+        print "@@" command > wanted
+        next
+    }
+    /^    > / && inside { print substr($0, 7) > script; next }
+    /^    / && inside { print substr($0, 5) > wanted; next }
+    { close_session() }
+' "$@"
+}
+
+# sessions_hold: looks whether each session that was written prints what stands below it, in a folder of its own. Sets `sessions`, how many.
+sessions_hold() {
+    local script number got
+    sessions=0
+    for script in script.*; do
+        number=${script#script.}
+        mkdir "session.$number"
+        ln -s "$program" "session.$number/jx"
+        got=$(cd "session.$number" && bash "../$script" 2>&1)
+        same "the session that begins $(sed -n 2p "$script")" "$(cat "wanted.$number")" "$got"
+        sessions=$((sessions + 1))
+    done
+}
+
 # tests NAME..: calls each of these functions, and tells how much of what they looked at holds.
 tests() {
     local each

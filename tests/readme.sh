@@ -15,35 +15,8 @@ put_tools_on_the_path() {
     export HOME=$room GIT_CONFIG_NOSYSTEM=1 GIT_AUTHOR_NAME=a GIT_AUTHOR_EMAIL=a@example.org GIT_COMMITTER_NAME=a GIT_COMMITTER_EMAIL=a@example.org
 }
 
-# write_sessions: a session is an indented part that begins with `$ `. Each is written as a script, which prints a line before each
-# command, and as what that is to print.
-write_sessions() {
-    awk '
-    function close_session() { inside = 0 }
-    /^    \$ / {
-        if (!inside) { inside = 1; session++; script = sprintf("script.%02d", session); wanted = sprintf("wanted.%02d", session); command = 0 }
-        command++
-        printf "echo @@%d\n%s\n", command, substr($0, 7) > script
-        print "@@" command > wanted
-        next
-    }
-    /^    > / && inside { print substr($0, 7) > script; next }
-    /^    / && inside { print substr($0, 5) > wanted; next }
-    { close_session() }
-' "$root/README.md" "$root/docs/RECIPES.md" "$root/docs/DISTRIBUTED.md"
-}
-
 each_session_prints_what_stands_below_it() {
-    local script number got sessions
-    sessions=0
-    for script in script.*; do
-        number=${script#script.}
-        mkdir "session.$number"
-        ln -s "$program" "session.$number/jx"
-        got=$(cd "session.$number" && bash "../$script" 2>&1)
-        same "the session that begins $(sed -n 2p "$script")" "$(cat "wanted.$number")" "$got"
-        sessions=$((sessions + 1))
-    done
+    sessions_hold
     same 'there are sessions' yes "$([ "$sessions" -ge 12 ] && echo yes)"
 }
 
@@ -69,7 +42,7 @@ links_lead_to_files() {
 }
 
 put_tools_on_the_path
-write_sessions
+write_sessions "$root/README.md" "$root/docs/RECIPES.md" "$root/docs/DISTRIBUTED.md"
 tests readme_is_short \
     links_lead_to_files \
     each_session_prints_what_stands_below_it \

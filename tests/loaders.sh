@@ -1,0 +1,52 @@
+#!/usr/bin/env bash
+# docs/LOADERS.md: each session that it shows is run by the real programs. PostgreSQL's server listens on a socket in this folder alone.
+. "$(dirname "$0")/lib.sh"
+
+# The programs of PostgreSQL's server, which Debian keeps off the PATH.
+server_programs() { dirname "$(find /usr/lib/postgresql -name initdb 2>/dev/null | sort | tail -n 1)"; }
+
+# as_owner COMMAND..: runs a command as who may run the server. Root may not.
+as_owner() {
+    if [ "$(id -u)" = 0 ]; then runuser -u postgres -- "$@"; else "$@"; fi
+}
+
+tools_are_there() {
+    if ! command -v psql >/dev/null || ! find /usr/lib/postgresql -name initdb 2>/dev/null | grep -q .; then installed postgresql; fi
+    if ! command -v sqlite3 >/dev/null; then installed sqlite3; fi
+    if ! command -v parallel >/dev/null; then installed parallel; fi
+    command -v psql >/dev/null && command -v sqlite3 >/dev/null && command -v parallel >/dev/null && [ -x "$(server_programs)/initdb" ]
+}
+
+start_server() {
+    chmod 711 "$room"
+    mkdir pg
+    if [ "$(id -u)" = 0 ]; then chown postgres pg; fi
+    as_owner "$(server_programs)/initdb" -D "$room/pg/data" -A trust -U loader -E UTF8 --no-sync >initdb.log 2>&1 || return 1
+    as_owner "$(server_programs)/pg_ctl" -D "$room/pg/data" -o "-k $room/pg -c listen_addresses= -F" -w start >start.log 2>&1 || return 1
+    trap 'as_owner "$(server_programs)/pg_ctl" -D "$room/pg/data" -m immediate stop >stop.log 2>&1; rm -rf "$room"' EXIT
+    export PGHOST=$room/pg PGUSER=loader PGDATABASE=dump PGCLIENTENCODING=UTF8
+    createdb
+}
+
+each_loader_does_what_stands_below_it() {
+    sessions_hold
+    same 'there are sessions' yes "$([ "$sessions" -ge 6 ] && echo yes)"
+}
+
+if ! tools_are_there; then
+    echo 'loaders.sh: skipped: no psql, PostgreSQL server, sqlite3 or GNU parallel'
+    echo 'loaders.sh: 0 passed, 0 failed'
+    exit 0
+fi
+mkdir bin
+ln -s "$program" bin/jx
+export PATH=$room/bin:$PATH HOME=$room
+mkdir .parallel
+touch .parallel/will-cite
+if ! start_server; then
+    same 'a server of PostgreSQL starts' yes "no: $(cat initdb.log start.log 2>/dev/null | tail -n 5)"
+    tests
+    exit
+fi
+write_sessions "$root/docs/LOADERS.md"
+tests each_loader_does_what_stands_below_it
