@@ -20,6 +20,10 @@ _jx() {
         mapfile -t COMPREPLY < <(compgen -W 'auto always never' -- "$word")
         return
         ;;
+    --format)
+        mapfile -t COMPREPLY < <(compgen -W 'plain gnu json' -- "$word")
+        return
+        ;;
     --depth | --workers | --piece | --from | --to) return ;;
     esac
     case $command in
@@ -34,7 +38,8 @@ _jx() {
     case $command in
     '') mapfile -t COMPREPLY < <(compgen -W 'check explain index at get each seq part join whole help -h --help -V --version' -- "$word") ;;
     help) mapfile -t COMPREPLY < <(compgen -W 'check explain index at get each seq part join whole' -- "$word") ;;
-    check | seq) mapfile -t COMPREPLY < <(compgen -W '--file --depth --workers --piece --ignore-bom --unique-names -q --quiet -h --help' -- "$word") ;;
+    check) mapfile -t COMPREPLY < <(compgen -W '--file --depth --workers --piece --ignore-bom --unique-names -q --quiet -l --list --format -h --help' -- "$word") ;;
+    seq) mapfile -t COMPREPLY < <(compgen -W '--file --depth --workers --piece --ignore-bom --unique-names -q --quiet -h --help' -- "$word") ;;
     explain) mapfile -t COMPREPLY < <(compgen -W '--file --depth --workers --piece --ignore-bom --unique-names --color -h --help' -- "$word") ;;
     at) mapfile -t COMPREPLY < <(compgen -W '--file --pointers --depth --workers --piece --ignore-bom --unique-names -h --help' -- "$word") ;;
     get) mapfile -t COMPREPLY < <(compgen -W '--file --pointers -c --compact -r --raw --depth --workers --piece --ignore-bom --unique-names -h --help' -- "$word") ;;

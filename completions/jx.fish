@@ -26,5 +26,7 @@ complete -c jx -n '__fish_seen_subcommand_from get' -s c -l compact -d 'Leave ou
 complete -c jx -n '__fish_seen_subcommand_from get' -s r -l raw -d 'Write the text that a string stands for'
 complete -c jx -n '__fish_seen_subcommand_from part whole' -l from -x -d 'The part, or the text, begins at the offset N'
 complete -c jx -n '__fish_seen_subcommand_from whole' -l to -x -d 'The text ends at the offset N'
+complete -c jx -n '__fish_seen_subcommand_from check' -s l -l list -d 'List the refused files alone'
+complete -c jx -n '__fish_seen_subcommand_from check' -l format -x -a 'plain gnu json' -d 'Answer as plain, gnu or json'
 complete -c jx -n '__fish_seen_subcommand_from check seq whole' -s q -l quiet -d 'Write no output: the exit status is the answer'
 complete -c jx -n '__fish_seen_subcommand_from help' -a 'check explain index at get each seq part join whole'

@@ -1,5 +1,5 @@
 #!/usr/bin/env bash
-# Faults that people can read: the place, a sentence, and the line with a caret.
+# Faults that people can read: the place, a sentence, the line with a caret, and notes; and the same for editors and machines.
 . "$(dirname "$0")/lib.sh"
 
 # shown TEXT OPTION..: what `explain` prints of a text.
@@ -9,8 +9,21 @@ shown() {
     printf "$text" | "$program" explain "$@"
 }
 
-# sentence TEXT OPTION..: the sentence alone, behind the name.
-sentence() { shown "$@" | sed -n '1s/^-://p'; }
+# sentence TEXT OPTION..: the place and the sentence alone, between the name and the offset.
+sentence() { shown "$@" | sed -n '1s/^-:\(.*\) (byte [0-9]*)$/\1/p'; }
+
+# byte TEXT OPTION..: the offset alone.
+byte() { shown "$@" | sed -n '1s/.* (byte \([0-9]*\))$/\1/p'; }
+
+# notes TEXT OPTION..: what stands below the caret.
+notes() { shown "$@" | sed 1,3d; }
+
+# object TEXT OPTION..: the object that `check --format json` prints of a text.
+object() {
+    local text=$1
+    shift
+    printf "$text" | "$program" check --format json "$@"
+}
 
 the_place_is_a_line_and_a_column_of_characters() {
     same 'the first byte' '1:1: expected a value, found }' "$(sentence '}')"
@@ -55,38 +68,169 @@ the_sentence_says_what_could_stand_there() {
 
 the_line_is_shown_with_a_caret() {
     local many
-    same 'a whole line' "$(printf '%s\n' '-:2:6: expected a value, found }' '  [1,}' '     ^')" "$(shown '[1,\n  [1,}\n]')"
-    same 'a character that takes two columns' "$(printf '%s\n' '-:1:4: expected the end of the text, found x' '"漢"x' '    ^')" "$(shown '"\346\274\242"x')"
-    same 'bytes that are no characters' "$(printf '%s\n' '-:1:2: expected a character in UTF-8, found \xFF' '"\xFF\x01' ' ^')" "$(shown '"\377\001')"
+    same 'a whole line' "$(printf '%s\n' '-:2:6: expected a value, found } (byte 9)' '  [1,}' '     ^' 'pointer: /1/1' 'perhaps: a comma too many')" "$(shown '[1,\n  [1,}\n]')"
+    same 'a character that takes two columns' "$(printf '%s\n' '-:1:4: expected the end of the text, found x (byte 5)' '"漢"x' '    ^')" "$(shown '"\346\274\242"x')"
+    same 'bytes that are no characters' "$(printf '%s\n' '-:1:2: expected a character in UTF-8, found \xFF (byte 1)' '"\xFF\x01' ' ^')" "$(shown '"\377\001')"
     many=$(printf '1,%.0s' {1..100})
-    same 'a long line is cut' "$(printf '%s\n' '-:1:202: expected a value, found a comma' "${many:161},${many:0:39}" "$(printf '%39s^' '')")" "$(shown "[$many,$many")"
-    same 'a line of 100 MB' 3 "$({ printf '['; head -c 100000000 /dev/zero | tr '\0' ' '; printf '}'; } | "$program" explain | wc -l)"
+    same 'a long line is cut' "$(printf '%s\n' '-:1:202: expected a value, found a comma (byte 201)' "${many:161},${many:0:39}" "$(printf '%39s^' '')" 'pointer: /100' 'perhaps: a comma too many')" "$(shown "[$many,$many")"
+    same 'a line of 100 MB' 4 "$({ printf '['; head -c 100000000 /dev/zero | tr '\0' ' '; printf '}'; } | "$program" explain | wc -l)"
+}
+
+the_offset_is_that_of_check() {
+    local text
+    for text in '}' '[1,\n2,\n  ]' '["\303\251", x' '{"a":tru}' '"\355\240\200"' '[[[[' '[1' '' '\357\273\277[1]'; do
+        same "the offset in $text" "$(printf "$text" | "$program" check --depth 3 | sed "s/truncated/at $(printf "$text" | wc -c)/; s/.* at //; s/^at //")" "$(byte "$text" --depth 3)"
+    done
+}
+
+the_pointer_is_of_the_value_at_the_place() {
+    same 'an element that may begin' 'pointer: /0' "$(notes '[x')"
+    same 'a later element' 'pointer: /2' "$(notes '[[],{"a":[1,2]},?')"
+    same 'an element that is begun' 'pointer: /1' "$(notes '[0,1x')"
+    same 'behind an element it is the array' 'pointer: /1' "$(notes '[0,[1 }')"
+    same 'a member that is due' 'pointer: /b' "$(notes '{"a":1,"b" : ?')"
+    same 'in a name it is the object' 'pointer: /0' "$(notes '[{"a":1,"b\t')"
+    same 'before a name it is the object' 'pointer: /0' "$(notes '[{"a":1,?')"
+    same 'behind a name it is the object' 'pointer: /0' "$(notes '[{"a" ?')"
+    same 'the whole text has none' '' "$(notes '?')"
+    same 'a slash and a tilde in a name' 'pointer: /a~1b~0c/0' "$(notes '{"a/b~c":[?')"
+    same 'an escape in a name' 'pointer: /é/x' "$(notes '{"\\u00e9":{"\\u0078":?')"
+    same 'what is not printed in a name' 'pointer: /\x0A\xE2\x80\xAE' "$(notes '{"\\n\342\200\256":?')"
+    same 'a name that stands for no text' '' "$(notes '{"\\ud800":?')"
+    same 'too deep' 'pointer: /0/1' "$(notes '[[0,[' --depth 2)"
+    same 'a name that was used: the object' 'pointer: /0' "$(notes '[{"a":1,"a":2}]' --unique-names)"
+    same 'behind a byte order mark' 'pointer: /0' "$(notes '\357\273\277[?' --ignore-bom)"
+    same 'an end inside a value' "$(printf '%s\n' 'pointer: /a/1' 'open: { [')" "$(notes '{"a":[1,tr')"
+    same 'jx at finds it in the text that is mended' 'found number 9..10' "$(printf '[[],{"a":1}]' | "$program" at "$(notes '[[],{"a":x}]' | sed -n 's/^pointer: //p')")"
+}
+
+open_brackets_are_told_where_the_text_ends() {
+    local many
+    same 'none' '' "$(notes '')"
+    same 'none is told where a byte stops it' 'pointer: /1' "$(notes '[1,?')"
+    same 'one' "$(printf '%s\n' 'pointer: /0' 'open: [')" "$(notes '[')"
+    same 'those that were closed are left out' "$(printf '%s\n' 'pointer: /b' 'open: {')" "$(notes '{"a":[1,{}],"b":')"
+    many=$(printf '[%.0s' {1..32})
+    same 'many' "open:$(printf ' [%.0s' {1..32})" "$(notes "$many" | sed -n 2p)"
+    same 'too many for a line' "open: ..$(printf ' [%.0s' {1..31}) {" "$(notes "[$many{" | sed -n 2p)"
+}
+
+# guess TEXT: what the text probably is.
+guess() { notes "$1" | sed -n 's/^perhaps: //p'; }
+
+likely_mistakes_are_named() {
+    same 'a comma before a bracket' 'a comma too many' "$(guess '[1,]')"
+    same 'a comma before a brace' 'a comma too many' "$(guess '{"a":1,}')"
+    same 'two commas' 'a comma too many' "$(guess '[1,,2]')"
+    same 'no comma in an array' 'a comma is missing' "$(guess '[1 2]')"
+    same 'no comma in an object' 'a comma is missing' "$(guess '{"a":1\n"b":2}')"
+    same 'single quotes around a value' 'single quotes, where JSON has double ones' "$(guess "['a']")"
+    same 'single quotes around a name' 'single quotes, where JSON has double ones' "$(guess "{'a':1}")"
+    same 'no quotes around a name' 'a name without quotation marks' "$(guess '{a:1}')"
+    same 'NaN' 'NaN, which JSON has not' "$(guess '[NaN]')"
+    same 'nan' 'NaN, which JSON has not' "$(guess '[nan]')"
+    same 'Infinity' 'Infinity, which JSON has not' "$(guess '{"a":Infinity}')"
+    same 'a negative Infinity' 'Infinity, which JSON has not' "$(guess '{"a":-Infinity}')"
+    same 'undefined' 'undefined, which JSON has not' "$(guess 'undefined')"
+    same 'True' 'true, in small letters' "$(guess '[True]')"
+    same 'FALSE' 'false, in small letters' "$(guess '[FALSE]')"
+    same 'None' 'null, which is None elsewhere' "$(guess '{"a":None}')"
+    same 'a longer word is another' '' "$(guess '[Nones]')"
+    same 'a hexadecimal number' 'a hexadecimal number, which JSON has not' "$(guess '[0x1F]')"
+    same 'a comment of a line' 'a comment, which JSON has not' "$(guess '[1, // one\n2]')"
+    same 'a comment of a script' 'a comment, which JSON has not' "$(guess '# one\n[]')"
+    same 'JSON Lines' 'a second text: in JSON Lines each line is one' "$(guess '{"a":1}\n{"a":2}\n')"
+    same 'another word has no guess' '' "$(guess '[x]')"
+    same 'nor has a bracket of the other kind' '' "$(guess '[1}')"
+    same 'nor has what is accepted' '' "$(guess '[1]')"
+}
+
+several_files_are_explained_in_their_order() {
+    printf '[1]' >good.json
+    printf '[1,]' >bad.json
+    same 'three words' "$(printf '%s\n' 'status 1' 'out: good.json: accepted' 'out: bad.json:1:4: expected a value, found ] (byte 3)' 'out: [1,]' 'out:    ^' \
+        'out: pointer: /1' 'out: perhaps: a comma too many' 'out: -:1:2: the text ends where a string or } is expected (byte 1)' 'out: {' 'out:  ^' 'out: open: {')" \
+        "$(said '{' explain good.json bad.json -)"
+    same 'what is not to be had is told, and the others go on' "$(printf '%s\n' 'status 2' 'out: good.json: accepted' 'err: jx: missing: cannot open: No such file or directory')" \
+        "$(said '' explain missing good.json)"
+    same 'all accepted' 0 "$("$program" explain good.json good.json >out; echo $?)"
+    same 'standard input is named once' "$(printf '%s\n' 'status 2' "err: error: the word '-' stands for standard input, which is read once")" "$(said '[1]' explain - -)"
+}
+
+refused_files_alone_are_listed() {
+    same 'of three' "$(printf '%s\n' 'status 1' 'out: bad.json' 'out: -')" "$(said '{' check -l good.json bad.json -)"
+    same 'one that is accepted' 'status 0' "$(said '' check --list good.json)"
+    same 'one that is refused' "$(printf '%s\n' 'status 1' 'out: bad.json')" "$(said '' check -l --file bad.json)"
+    same 'one that is missing' "$(printf '%s\n' 'status 2' 'out: bad.json' 'err: jx: missing: cannot open: No such file or directory')" "$(said '' check -l missing bad.json)"
+    same 'settings count' "$(printf '%s\n' 'status 1' 'out: good.json')" "$(said '' check -l --depth 0 good.json)"
+    has 'quiet and a list' "error: the argument '--list' cannot be used with '--quiet'" "$(said '' check -l -q good.json)"
+}
+
+editors_have_a_line_for_each_refused_file() {
+    same 'three words' "$(printf '%s\n' 'status 1' 'out: bad.json:1:4: expected a value, found ] (byte 3)' 'out: -:2:1: the text ends where a string or } is expected (byte 2)')" \
+        "$(said '{\n' check --format gnu good.json bad.json -)"
+    same 'the same sentence as for people' "$(shown '[1,tru' | head -n 1)" "$(printf '[1,tru' | "$program" check --format gnu)"
+    same 'plain is the default' "$(said '' check good.json bad.json)" "$(said '' check --format plain good.json bad.json)"
+    has 'another word' "error: invalid value 'xml' for '--format <FORMAT>'" "$(said '' check --format xml good.json)"
+    has 'a format and a list' "error: the argument '--format <FORMAT>' cannot be used with" "$(said '' check --format gnu -l good.json)"
+    has 'a format and quiet' "error: the argument '--format <FORMAT>' cannot be used with" "$(said '' check --format json -q good.json)"
+}
+
+machines_have_an_object_for_each_file() {
+    same 'accepted' '{"name":"-","verdict":"accepted"}' "$(object '[1]')"
+    same 'stopped' '{"name":"-","verdict":"stopped","offset":10,"line":2,"column":8,"sentence":"expected a value, found ?","pointer":"/0/b\"c"}' "$(object '[{\n"b\\"c":?')"
+    same 'a backslash in the sentence' '"expected a value or ], found \\"' "$(object '[\\' | "$program" get /sentence)"
+    same 'truncated' '{"name":"-","verdict":"truncated","offset":1,"line":1,"column":2,"sentence":"the text ends where a value or ] is expected","pointer":"/0"}' "$(object '[')"
+    same 'too deep' '{"name":"-","verdict":"too deep","offset":1,"line":1,"column":2,"sentence":"more than 1 containers open","pointer":"/0"}' "$(object '[[' --depth 1)"
+    same 'a repeated name' '{"name":"-","verdict":"repeated name","offset":7,"line":1,"column":8,"sentence":"the name \"a\" was used at line 1, column 2","pointer":""}' "$(object '{"a":1,"a":2}' --unique-names)"
+    same 'a name that stands for no text' 'null' "$(object '{"\\ud800":?' | sed 's/.*"pointer"://; s/}$//')"
+    printf '[1,]' >$'q"\\\n\001\033é\177'
+    "$program" check --format json good.json $'q"\\\n\001\033é\177' >objects
+    same 'several files: status' 1 $?
+    same 'several files: a line each' 2 "$(wc -l <objects)"
+    same 'each is a text' "$(printf '%s\n' accepted accepted)" "$(while read -r line; do printf '%s' "$line" | "$program" check; done <objects)"
+    same 'its name is that of the file' "$(printf 'q"\\\n\001\033é\177\n|')" "$(tail -n 1 objects | "$program" get -r /name; printf '|')"
+    same 'its pointer' '"/1"' "$(tail -n 1 objects | "$program" get /pointer)"
+    same 'a file that is missing has none' "$(printf '%s\n' 'status 2' 'out: {"name":"good.json","verdict":"accepted"}' 'err: jx: missing: cannot open: No such file or directory')" \
+        "$(said '' check --format json missing good.json)"
 }
 
 the_name_is_that_of_the_file() {
     printf '[1,]' >'a b.json'
-    same 'a file' 'a b.json:1:4: expected a value, found ]' "$("$program" explain 'a b.json' | head -n 1)"
+    same 'a file' 'a b.json:1:4: expected a value, found ] (byte 3)' "$("$program" explain 'a b.json' | head -n 1)"
     same 'by the option' "$("$program" explain 'a b.json')" "$("$program" explain --file 'a b.json')"
-    same 'a name that is not printed' '\x1B:1:1: the text ends where a value is expected' "$(: >$'\033'; "$program" explain $'\033' | head -n 1)"
+    same 'a name that is not printed' '\x1B:1:1: the text ends where a value is expected (byte 0)' "$(: >$'\033'; "$program" explain $'\033' | head -n 1)"
     same 'a text that is accepted' "$(printf '%s\n' 'status 0' 'out: -: accepted')" "$(said '[1]' explain)"
     has 'a text that is refused: its status' 'status 1' "$(said '[1' explain)"
     same 'no such file' "$(printf '%s\n' 'status 2' 'err: jx: missing: cannot open: No such file or directory')" "$(said '' explain missing)"
     same 'a folder' "$(printf '%s\n' 'status 2' 'err: jx: .: is a directory')" "$(said '' explain .)"
-    has 'two files' "error: unexpected argument 'b' found" "$(said '' explain a b)"
 }
 
 colors_are_shown_where_they_are_asked_for() {
     local esc=$'\033'
-    same 'always' "$(printf '%s\n' "$esc[1m-:1:2:$esc[0m expected a value or ], found }" '[}' " $esc[1;31m^$esc[0m")" "$(shown '[}' --color always)"
+    same 'always' "$(printf '%s\n' "$esc[1m-:1:2:$esc[0m expected a value or ], found } (byte 1)" '[}' " $esc[1;31m^$esc[0m" 'pointer: /0')" "$(shown '[}' --color always)"
+    same 'always, with NO_COLOR' "$(shown '[}' --color always)" "$(export NO_COLOR=1; shown '[}' --color always)"
     same 'never' "$(shown '[}')" "$(shown '[}' --color never)"
     same 'auto, into a pipe' "$(shown '[}' --color never)" "$(shown '[}' --color auto)"
     if command -v script >/dev/null; then
-        has 'auto, on a terminal' "$esc[1m-:1:2:" "$(printf '[}' >text; script -qec "'$program' explain <text" /dev/null)"
+        printf '[}' >text
+        has 'auto, on a terminal' "$esc[1m-:1:2:" "$(env -u NO_COLOR TERM=xterm script -qec "'$program' explain <text" /dev/null)"
+        has 'auto, on a terminal, with an empty NO_COLOR' "$esc[1m-:1:2:" "$(NO_COLOR='' TERM=xterm script -qec "'$program' explain <text" /dev/null)"
+        same 'auto, on a terminal, with NO_COLOR' "$(shown '[}')" "$(NO_COLOR=1 TERM=xterm script -qec "'$program' explain <text" /dev/null | tr -d '\r')"
+        same 'auto, on a terminal that is dumb' "$(shown '[}')" "$(env -u NO_COLOR TERM=dumb script -qec "'$program' explain <text" /dev/null | tr -d '\r')"
     fi
 }
 
 tests the_place_is_a_line_and_a_column_of_characters \
     the_sentence_says_what_could_stand_there \
     the_line_is_shown_with_a_caret \
+    the_offset_is_that_of_check \
+    the_pointer_is_of_the_value_at_the_place \
+    open_brackets_are_told_where_the_text_ends \
+    likely_mistakes_are_named \
+    several_files_are_explained_in_their_order \
+    refused_files_alone_are_listed \
+    editors_have_a_line_for_each_refused_file \
+    machines_have_an_object_for_each_file \
     the_name_is_that_of_the_file \
     colors_are_shown_where_they_are_asked_for

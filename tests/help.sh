@@ -65,6 +65,9 @@ the_nearest_right_word_is_told() {
     has 'quiet is not for part' "error: unexpected argument '-q' found" "$(said '' part -q)"
     has 'whole needs the end' 'error: the following required arguments were not provided:' "$(said '' whole)"
     has 'color is for explain alone' "error: unexpected argument '--color' found" "$(said '' check --color never)"
+    has 'a format is for check alone' "error: unexpected argument '--format' found" "$(said '' explain --format json)"
+    has 'a list is for check alone' "error: unexpected argument '-l' found" "$(said '' seq -l)"
+    has 'a wrong format' "error: invalid value 'red' for '--format <FORMAT>'" "$(said '' check --format red)"
     has 'a wrong color' "error: invalid value 'red' for '--color <WHEN>'" "$(said '' explain --color red)"
 }
 

@@ -31,7 +31,7 @@ texts_are_checked_before_a_commit() {
     git add .
     said=$(git commit -m two 2>&1)
     same 'a commit of what is no text: status' 1 $?
-    has 'it names the file' 'not good.json: stopped at 5' "$said"
+    has 'it names the file and the place' 'not good.json:1:6: expected a value, found } (byte 5)' "$said"
     has 'it names the others' 'good.json: accepted' "$said"
     git rm -q --cached 'not good.json'
     git commit -qm one >/dev/null 2>&1
@@ -46,7 +46,7 @@ names_are_checked_where_that_is_asked_for() {
     git add .
     said=$(git commit -m one 2>&1)
     same 'a commit of a repeated name: status' 1 $?
-    has 'it says where' 'repeated name at 7' "$said"
+    has 'it says where' 'repeated.json:1:8: the name "a" was used at line 1, column 2 (byte 7)' "$said"
     cd "$room" || exit 1
 }
 
@@ -69,7 +69,7 @@ the_lines_of_readme_work() {
     git add .
     said=$(git commit -m bad 2>&1)
     same 'README: a commit of what is no text: status' 1 $?
-    has 'README: it names the place' 'stopped at 5' "$said"
+    has 'README: it names the place' 'bad.json:1:6: expected a value, found } (byte 5)' "$said"
     printf '{"a":1}' >bad.json
     git add .
     said=$(git commit -m good 2>&1)

@@ -175,7 +175,8 @@ a_closed_pipe_ends_a_call_without_a_word() {
     local command
     { printf '['; printf '1,%.0s' {1..100000}; printf '1]'; } >big
     { printf '\0361\n%.0s' {1..100000}; } >log
-    for command in 'index big' 'index --file big' 'seq log' 'seq log log' 'check big big' 'at --file big /0 /1 /2' 'explain big' 'part --file big' '--version'; do
+    printf '[' >bad
+    for command in 'index big' 'index --file big' 'seq log' 'seq log log' 'check big big' 'check -l bad bad' 'check --format gnu bad' 'check --format json big' 'at --file big /0 /1 /2' 'explain big' 'part --file big' '--version'; do
         (trap '' PIPE; "$program" $command 2>told; echo $? >status) | true
         same "jx $command, whose reader goes away" 'status 2, told: ' "status $(cat status), told: $(cat told)"
     done

@@ -1,4 +1,4 @@
-// An input that is explained to people.
+// Inputs that are explained to people, or told in another form than lines of a report.
 ghost use Rattle.std.specs.Prelude.{◌≤◌};
 
 use crate::fault::Fault;
@@ -6,29 +6,35 @@ use crate::input::{fault_of_report, name_of, open};
 use crate::output::Output;
 use jx_command::{Color, Input, Inputs, input_of};
 use jx_crew::{Crew, OpenGate};
-use jx_explain::{Marking, report_explained};
+use jx_explain::{Form, Marking, report_explained};
 use jx_files::{Status, shown_name};
 use jx_report::End;
 use jx_task::Command;
+use std::env;
 use std::io::IsTerminal;
 use std::sync::Wait;
 use std::thread::Threads;
 
-/// The input that is explained. The words name no more than one.
-fn one_of<'a>(inputs: &Inputs<'a>) -> Input<'a> {
-    match inputs {
-        Inputs::One(input) => *input,
-        Inputs::Several(words) => match words.first() {
-            Some(word) => input_of(word),
-            None => Input::Standard,
-        },
+/// Whether a variable of the environment is set, and not empty (https://no-color.org).
+fn is_set(rt: &HostRuntime, name: &str) -> bool {
+    match env::var(rt, name) {
+        Ok(value) => !value.as_str().is_empty(),
+        Err(_) => false,
     }
 }
 
-/// How what is told is marked.
-fn marking_for(rt: &HostRuntime, color: Color) -> Marking {
+/// Whether the terminal is one that shows no colors.
+fn is_dumb(rt: &HostRuntime) -> bool {
+    match env::var(rt, "TERM") {
+        Ok(value) => value.as_str() == "dumb",
+        Err(_) => false,
+    }
+}
+
+/// How what is told to people is marked.
+pub fn marking_for(rt: &HostRuntime, color: Color) -> Marking {
     let is_colored = match color {
-        Color::Auto => rt.stdout().is_terminal(),
+        Color::Auto => rt.stdout().is_terminal() && !is_set(rt, "NO_COLOR") && !is_dumb(rt),
         Color::Always => true,
         Color::Never => false,
     };
@@ -39,18 +45,27 @@ fn marking_for(rt: &HostRuntime, color: Color) -> Marking {
     }
 }
 
-/// Explains the verdict on an input to people.
-pub fn explain_input<R: Threads + Wait + Sync>(
+/// The name of an input as a form has it: an object has its very bytes.
+fn told_name(rt: &HostRuntime, input: Input<'_>, form: Form) -> Result<Vec<u8>, Fault> {
+    let alloc = rt.alloc();
+    let name = name_of(input);
+    match form {
+        Form::Object => Ok(Vec::from_slice(alloc, name.as_bytes())?),
+        Form::People(_) | Form::Mark => Ok(shown_name(alloc, name)?),
+    }
+}
+
+/// Tells the verdict on an input in a form.
+fn explain_one<R: Threads + Wait + Sync>(
     rt: &HostRuntime,
     threads: &R,
-    inputs: &Inputs<'_>,
+    input: Input<'_>,
     command: &Command,
-    color: Color,
+    form: Form,
 ) -> Result<Status, Fault>
     requires { 1 ≤ command.now.piece }
 {
-    let input = one_of(inputs);
-    let name = shown_name(rt.alloc(), name_of(input))?;
+    let name = told_name(rt, input, form)?;
     let mut reader = open(rt, input)?;
     let mut writer = End::new(Output::of(rt));
     let crew = Crew {
@@ -59,9 +74,46 @@ pub fn explain_input<R: Threads + Wait + Sync>(
         workers: command.workers,
         gate: &OpenGate,
     };
-    let marking = marking_for(rt, color);
-    match report_explained(&crew, &mut reader, &mut writer, &name, command, marking) {
+    match report_explained(&crew, &mut reader, &mut writer, &name, command, form) {
         Ok(exit) => Ok(Status::of_exit(exit)),
         Err(fault) => Err(fault_of_report(rt, input, &reader, &writer, fault)),
+    }
+}
+
+/// Tells the verdict on each input that words name, in their order. Where one is not to be had, that is told, and the others go on.
+fn explain_words<R: Threads + Wait + Sync>(
+    rt: &HostRuntime,
+    threads: &R,
+    words: &[&str],
+    command: &Command,
+    form: Form,
+) -> Result<Status, Fault>
+    requires { 1 ≤ command.now.piece }
+{
+    let mut status = Status::Good;
+    for word in words {
+        let next = match explain_one(rt, threads, input_of(*word), command, form) {
+            Ok(next) => next,
+            Err(Fault::Told) => Status::Fault,
+            Err(fault) => return Err(fault),
+        };
+        status = status.greatest(next);
+    }
+    Ok(status)
+}
+
+/// Tells the verdict on each input in a form.
+pub fn explain_inputs<R: Threads + Wait + Sync>(
+    rt: &HostRuntime,
+    threads: &R,
+    inputs: &Inputs<'_>,
+    command: &Command,
+    form: Form,
+) -> Result<Status, Fault>
+    requires { 1 ≤ command.now.piece }
+{
+    match inputs {
+        Inputs::One(input) => explain_one(rt, threads, *input, command, form),
+        Inputs::Several(words) => explain_words(rt, threads, words, command, form),
     }
 }

@@ -27,9 +27,12 @@ pub enum Fault {
     /// A run is to be written to a terminal.
     #[error("jx: a run is not written to a terminal: write it to a file or a pipe\n")]
     Terminal,
-    /// What is wrong was told already, or there is nothing to tell: the reader of the output has gone.
+    /// What is wrong with an input was told already.
     #[error("")]
     Told,
+    /// The reader of the output has gone, and there is nothing to tell.
+    #[error("")]
+    Closed,
 }
 
 impl Fault {

@@ -110,7 +110,7 @@ pub fn fault_of_report(
     match fault {
         ReportFault::Read => told_of(rt, input, FileFault::Read(reader.inner.why)),
         ReportFault::Pieces => told_of(rt, input, FileFault::Pieces),
-        ReportFault::Write if writer.inner.is_closed => Fault::Told,
+        ReportFault::Write if writer.inner.is_closed => Fault::Closed,
         ReportFault::Write | ReportFault::Memory => Fault::Report(fault),
     }
 }

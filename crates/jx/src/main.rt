@@ -9,6 +9,7 @@ mod explaining;
 mod fault;
 mod input;
 mod lines;
+mod listing;
 mod misplaced;
 mod output;
 mod parts;
@@ -16,12 +17,14 @@ mod reporting;
 mod values;
 
 use elements::write_elements_of;
-use explaining::explain_input;
+use explaining::{explain_inputs, marking_for};
 use fault::Fault;
 use jx_command::{Order, Request, Told, command_of};
+use jx_explain::Form;
 use jx_files::Status;
 use jx_report::ReportFault;
 use lines::add_lines;
+use listing::list_refused;
 use misplaced::refuse_misplaced_in;
 use parts::work_on_parts;
 use reporting::report_on_inputs;
@@ -53,7 +56,13 @@ fn answer_request<R: Threads + Wait + Sync>(
     add_lines(rt, &mut command, pointers)?;
     match told {
         Told::Lines => report_on_inputs(rt, threads, &inputs, &command),
-        Told::Explained(color) => explain_input(rt, threads, &inputs, &command, color),
+        Told::Refused => list_refused(rt, threads, &inputs, &command),
+        Told::Marks => explain_inputs(rt, threads, &inputs, &command, Form::Mark),
+        Told::Objects => explain_inputs(rt, threads, &inputs, &command, Form::Object),
+        Told::Explained(color) => {
+            let form = Form::People(marking_for(rt, color));
+            explain_inputs(rt, threads, &inputs, &command, form)
+        }
     }
 }
 

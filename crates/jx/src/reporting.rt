@@ -57,7 +57,7 @@ fn report_on_words<R: Threads + Wait + Sync>(
         &OpenGate,
     ) {
         Ok(status) => Ok(status),
-        Err(ReportFault::Write) if writer.inner.is_closed => Err(Fault::Told),
+        Err(ReportFault::Write) if writer.inner.is_closed => Err(Fault::Closed),
         Err(fault) => Err(Fault::Report(fault)),
     }
 }

@@ -194,6 +194,9 @@ fn push_inputs(out: &mut Out, inputs: &Inputs) {
 fn push_told(out: &mut Out, told: Told) {
     match told {
         Told::Lines => (),
+        Told::Refused => out.push_str("; refused ones"),
+        Told::Marks => out.push_str("; marks"),
+        Told::Objects => out.push_str("; objects"),
         Told::Explained(color) => out.put(format_args!("; explained, color {color:?}")),
     }
 }

@@ -112,7 +112,7 @@ fn command_from(
         settings: settings_of(options),
         workers: workers_of(options).unwrap_or(one_worker),
         piece: piece_of(options).unwrap_or(1),
-        quiet: options.get_flag("quiet"),
+        quiet: options.get_flag("quiet") || options.get_flag("list"),
     })
 }
 
@@ -165,11 +165,24 @@ fn color_of(options: &ArgMatches<'_>) -> Color {
     }
 }
 
+/// How the verdict of a check is told by the options.
+fn format_of(options: &ArgMatches<'_>) -> Told {
+    if options.get_flag("list") {
+        return Told::Refused;
+    }
+    match options.get_str("format") {
+        Some("gnu") => Told::Marks,
+        Some("json") => Told::Objects,
+        _ => Told::Lines,
+    }
+}
+
 /// How the answer of a subcommand is told.
 fn told_by(called: Subcommand, options: &ArgMatches<'_>) -> Told {
     match called {
         Subcommand::Explain => Told::Explained(color_of(options)),
-        Subcommand::Check | Subcommand::Index | Subcommand::At | Subcommand::Seq => Told::Lines,
+        Subcommand::Check => format_of(options),
+        Subcommand::Index | Subcommand::At | Subcommand::Seq => Told::Lines,
     }
 }
 

@@ -11,6 +11,9 @@ use std::alloc::{AllocError, Global};
 /// The words for when what is told to people has colors.
 const COLORS: &[&str] = &["auto", "always", "never"];
 
+/// The words for how the verdict of a check is told.
+const FORMATS: &[&str] = &["plain", "gnu", "json"];
+
 /// Where a part begins at most, which is the greatest offset of a file. So bytes of a part have offsets below 2^64.
 const GREATEST_FROM: u64 = 9_223_372_036_854_775_807;
 
@@ -108,6 +111,29 @@ fn quiet<'a>(alloc: Global) -> Arg<'a> {
         .long_help(help::LONG_QUIET)
 }
 
+fn list<'a>(alloc: Global) -> Result<Arg<'a>, AllocError> {
+    Arg::new(alloc, "list")
+        .short('l')
+        .long("list")
+        .action(ArgAction::SetTrue)
+        .help(help::LIST)
+        .long_help(help::LONG_LIST)
+        .conflicts_with("quiet")
+}
+
+fn format<'a>(alloc: Global) -> Result<Arg<'a>, AllocError> {
+    Arg::new(alloc, "format")
+        .long("format")
+        .value_name("FORMAT")
+        .value_parser(ValueParser::Names(FORMATS))
+        .hide_possible_values(true)
+        .default_value("plain")
+        .help(help::FORMAT)
+        .long_help(help::LONG_FORMAT)
+        .conflicts_with("list")?
+        .conflicts_with("quiet")
+}
+
 fn compact<'a>(alloc: Global) -> Arg<'a> {
     Arg::new(alloc, "compact")
         .short('c')
@@ -175,6 +201,8 @@ fn reading<'a>(
 fn check<'a>(alloc: Global) -> Result<Command<'a>, AllocError> {
     subcommand(alloc, Subcommand::Check, help::CHECK, help::AFTER_CHECK)?
         .arg(quiet(alloc))?
+        .arg(list(alloc)?)?
+        .arg(format(alloc)?)?
         .arg(files(alloc)?)
 }
 
@@ -186,7 +214,7 @@ fn explain<'a>(alloc: Global) -> Result<Command<'a>, AllocError> {
         help::AFTER_EXPLAIN,
     )?
     .arg(color(alloc))?
-    .arg(one_file(alloc)?)
+    .arg(files(alloc)?)
 }
 
 fn index<'a>(alloc: Global) -> Result<Command<'a>, AllocError> {

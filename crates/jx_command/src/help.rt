@@ -67,8 +67,8 @@ named.";
 
 pub const COLOR: &str = "Color the output: auto, always or never";
 
-pub const LONG_COLOR: &str = "Color the output: auto, which is where it is a terminal, always or
-never.";
+pub const LONG_COLOR: &str = "Color the output: auto, which is where it is a terminal and neither
+NO_COLOR is set nor TERM is dumb, always or never.";
 
 pub const FILE: &str = "Read FILE in place of standard input";
 
@@ -137,6 +137,21 @@ pub const QUIET: &str = "Write no output: the exit status is the answer";
 pub const LONG_QUIET: &str = "Write no output: the exit status is the answer. What goes wrong is
 still told on standard error.";
 
+pub const LIST: &str = "List the refused files alone";
+
+pub const LONG_LIST: &str = "List the files that are refused, each name on a line, and nothing
+else.";
+
+pub const FORMAT: &str = "Answer as plain, gnu or json";
+
+pub const LONG_FORMAT: &str = "Answer as plain, which is as below; as gnu, which is a line for each
+file that is refused, FILE:LINE:COLUMN: SENTENCE (byte K); or as
+json, which is an object on a line of its own for each file: name and
+verdict, and where it is refused offset, line, column, sentence and
+pointer, as 'jx explain' tells them. The pointer is null where a name
+on the way stands for no text. With gnu and json the whole input is
+held.";
+
 pub const COMPACT: &str = "Leave out blanks between tokens";
 
 pub const LONG_COMPACT: &str =
@@ -180,20 +195,29 @@ greatest.
 Examples:
   jx check dump.json
   jx check *.json
+  jx check -l *.json
+  jx check --format gnu *.json
   zstd -dc dump.json.zst | jx check";
 
-pub const AFTER_EXPLAIN: &str = "Output for a text that is refused, three lines:
-  FILE:LINE:COLUMN: SENTENCE
+pub const AFTER_EXPLAIN: &str = "Output for a text that is refused:
+  FILE:LINE:COLUMN: SENTENCE (byte K)
   the line's text around the place
   a caret below the place
+  pointer: POINTER  of the value that is begun or may begin at the place, or of
+                    the container around it, unless it is the whole text
+  open: BRACKETS    that are not closed where the text ends, outermost first
+  perhaps: GUESS    what was meant, where that is likely
 Lines end with line feeds and count from 1; columns count the characters of
-a line from 1. FILE is - for standard input. For a text that is accepted:
+a line from 1; K counts bytes from 0. FILE is - for standard input. For a text
+that is accepted:
   FILE: accepted
 
-Exit status: 0 accepted, 1 refused, 2 no answer.
+Exit status: 0 accepted, 1 refused, 2 no answer; of several files the
+greatest.
 
 Examples:
   jx explain dump.json
+  jx explain *.json
   jx explain --color always < dump.json | less -R";
 
 pub const AFTER_INDEX: &str =

@@ -19,6 +19,12 @@ pub struct Request<'a> {
 pub enum Told {
     /// By the lines of a report.
     Lines,
+    /// By the names of the inputs that are refused.
+    Refused,
+    /// By a line for each input that is refused, as compilers tell of faults: the place and a sentence.
+    Marks,
+    /// By a JSON object for each input.
+    Objects,
     /// To people: where a fault stands, what it is, and what could stand there instead.
     Explained(Color),
 }

@@ -1,10 +1,14 @@
 // What people are told of a text.
 use crate::earlier_name::earlier_name;
 use crate::excerpt::push_excerpt;
+use crate::notes::push_notes;
+use crate::object::{push_accepted_object, push_front, push_place, push_words, word_of};
 use crate::place::place_of;
 use crate::sentence::{push_repeated, push_stopped, push_truncated};
 use crate::shown::push_shown;
 use crate::standing::{Standing, standing_behind};
+use crate::trail::pointer_along;
+use crate::way::way_to;
 use jx_index::TextAnswer;
 use jx_lex::Span;
 use jx_run::{Front, NameRule, Refusal, Settings, Verdict, front};
@@ -46,8 +50,19 @@ impl Marking {
     }
 }
 
+/// How what is told of a text is spelt.
+#[derive(Clone, Copy, Debug, PartialEq, Eq)]
+pub enum Form {
+    /// For people: of a text that is refused the place, a sentence, the line and a caret, and notes.
+    People(Marking),
+    /// As compilers tell of faults: of a text that is refused the place and a sentence, in one line, and of any other nothing.
+    Mark,
+    /// As a JSON object in one line.
+    Object,
+}
+
 /// The offset of the place that a refusal is about.
-fn offset_of(text: &[u8], refusal: Refusal) -> usize {
+pub(crate) fn offset_of(text: &[u8], refusal: Refusal) -> usize {
     match refusal {
         Refusal::Stopped { at } => at,
         Refusal::TooDeep { at } => at,
@@ -57,7 +72,7 @@ fn offset_of(text: &[u8], refusal: Refusal) -> usize {
 }
 
 /// Where a reading of a text stands before an offset, by settings; none where it stands in a byte order mark.
-fn standing_before(
+pub(crate) fn standing_before(
     alloc: Global,
     text: &[u8],
     at: usize,
@@ -130,10 +145,9 @@ fn push_sentence(
     }
 }
 
-/// What people are told of a text of this name that is refused by settings: the place, what is wrong there in a sentence, and the
-/// line of the place with a caret. A line that is long is cut around the place, and what is no UTF-8 or not printed is shown
-/// by its bytes.
-fn refused(
+/// A line that tells of a text of this name that is refused by settings, as compilers tell of faults: the place, what is wrong there
+/// in a sentence, and the offset.
+fn marked(
     alloc: Global,
     name: &[u8],
     text: &[u8],
@@ -152,12 +166,63 @@ fn refused(
     out.push_str(marking.end())?;
     out.push(' ')?;
     push_sentence(alloc, &mut out, text, refusal, settings)?;
-    out.push('\n')?;
-    push_excerpt(&mut out, text, at, marking.caret())?;
+    write!(out, " (byte {at})\n")?;
     Ok(out)
 }
 
-/// What people are told of a text of this name, by the verdict that settings give on it: that it is accepted, or where it is
+/// What people are told of a text of this name that is refused by settings: the line with the place and the sentence, and the
+/// line of the place with a caret. A line that is long is cut around the place, and what is no UTF-8 or not printed is shown
+/// by its bytes. Notes stand behind that.
+fn refused(
+    alloc: Global,
+    name: &[u8],
+    text: &[u8],
+    refusal: Refusal,
+    settings: &Settings,
+    marking: Marking,
+) -> Result<String, AllocError> {
+    let at = offset_of(text, refusal).min(text.len());
+    let mut out = marked(alloc, name, text, refusal, settings, marking)?;
+    push_excerpt(&mut out, text, at, marking.caret())?;
+    push_notes(alloc, &mut out, text, refusal, settings)?;
+    Ok(out)
+}
+
+/// What is told of a text of this name that is accepted.
+fn accepted(alloc: Global, name: &[u8], form: Form) -> Result<String, AllocError> {
+    let mut out = String::new(alloc);
+    match form {
+        Form::People(_) => {
+            push_shown(&mut out, name)?;
+            out.push_str(": accepted\n")?;
+        }
+        Form::Mark => (),
+        Form::Object => push_accepted_object(&mut out, name)?,
+    }
+    Ok(out)
+}
+
+/// The object of a text of this name that is refused by settings.
+fn refused_object(
+    alloc: Global,
+    name: &[u8],
+    text: &[u8],
+    refusal: Refusal,
+    settings: &Settings,
+) -> Result<String, AllocError> {
+    let at = offset_of(text, refusal).min(text.len());
+    let mut sentence = String::new(alloc);
+    push_sentence(alloc, &mut sentence, text, refusal, settings)?;
+    let way = way_to(alloc, text, refusal, settings)?;
+    let pointer = pointer_along(alloc, text, way.to_place())?;
+    let mut out = String::new(alloc);
+    push_front(&mut out, name, word_of(refusal))?;
+    push_place(&mut out, at, place_of(text, at))?;
+    push_words(&mut out, sentence.as_bytes(), pointer.as_deref())?;
+    Ok(out)
+}
+
+/// What is told of a text of this name in a form, by the verdict that settings give on it: that it is accepted, or where it is
 /// refused and why.
 pub fn explained(
     alloc: Global,
@@ -165,15 +230,18 @@ pub fn explained(
     text: &[u8],
     verdict: Verdict,
     settings: &Settings,
-    marking: Marking,
+    form: Form,
 ) -> Result<String, AllocError> {
-    match verdict {
-        Verdict::Accepted => {
-            let mut out = String::new(alloc);
-            push_shown(&mut out, name)?;
-            out.push_str(": accepted\n")?;
-            Ok(out)
+    match (verdict, form) {
+        (Verdict::Accepted, _) => accepted(alloc, name, form),
+        (Verdict::Refused(refusal), Form::People(marking)) => {
+            refused(alloc, name, text, refusal, settings, marking)
         }
-        Verdict::Refused(refusal) => refused(alloc, name, text, refusal, settings, marking),
+        (Verdict::Refused(refusal), Form::Mark) => {
+            marked(alloc, name, text, refusal, settings, Marking::Plain)
+        }
+        (Verdict::Refused(refusal), Form::Object) => {
+            refused_object(alloc, name, text, refusal, settings)
+        }
     }
 }

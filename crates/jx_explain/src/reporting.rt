@@ -6,7 +6,7 @@ ghost use Rattle.jx_index.specs.ByNames.{IsVerdictBy};
 ghost use Rattle.jx_report.specs.Reports.{HasTooManyPieces};
 ghost use Rattle.jx_explain.specs.Explained.{Explains, exit_by};
 
-use crate::explain::{Marking, explained};
+use crate::explain::{Form, explained};
 use jx_answer::{Balance, any_names_change_nothing, read_batch, verdict_of_text};
 use jx_claim::Cutting;
 use jx_crew::{Crew, Gate};
@@ -71,7 +71,7 @@ fn exit_of(verdict: Verdict) -> Exit
     }
 }
 
-/// Reads a text of this name to its end, and writes what people are told of it. The verdict is that of the command's settings;
+/// Reads a text of this name to its end, and writes what is told of it in a form. The verdict is that of the command's settings;
 /// its task is of no account. The crew reads the text as `report` does for a verdict, but holds all of it, since the line of the
 /// fault is shown. Nothing is written before all is read.
 pub fn report_explained<R: Threads + Wait + Sync, S: Source, W: Sink, G: Gate + Sync>(
@@ -80,7 +80,7 @@ pub fn report_explained<R: Threads + Wait + Sync, S: Source, W: Sink, G: Gate + 
     writer: &mut W,
     name: &[u8],
     command: &Command,
-    marking: Marking,
+    form: Form,
 ) -> Result<Exit, ReportFault>
     requires reader { S.has_failed reader.old ≡ false }
     requires writer { W.has_failed writer.old ≡ false }
@@ -100,7 +100,7 @@ pub fn report_explained<R: Threads + Wait + Sync, S: Source, W: Sink, G: Gate + 
     };
     let settings = &command.settings;
     let verdict = verdict_on(crew, &text, &cutting, settings, command.piece)?;
-    let told = explained(crew.alloc, name, &text, verdict, settings, marking)?;
+    let told = explained(crew.alloc, name, &text, verdict, settings, form)?;
     write_whole(writer, told.as_bytes())?;
     Ok(exit_of(verdict))
 }

@@ -1,0 +1,89 @@
+// Inputs that are refused, by their names alone.
+ghost use Rattle.std.specs.Prelude.{◌≤◌};
+
+use crate::fault::Fault;
+use crate::input::{fault_of_report, name_of, open};
+use crate::output::Output;
+use jx_command::{Input, Inputs, input_of};
+use jx_crew::OpenGate;
+use jx_files::{Status, shown_name};
+use jx_report::{End, Exit, ReportFault, report, write_whole};
+use jx_task::Command;
+use std::sync::Wait;
+use std::thread::Threads;
+
+/// Writes the name of an input that is refused, on a line of its own.
+fn write_name(rt: &HostRuntime, input: Input<'_>) -> Result<(), Fault> {
+    let mut line = shown_name(rt.alloc(), name_of(input))?;
+    line.push(b'\n')?;
+    let mut writer = End::new(Output::of(rt));
+    match write_whole(&mut writer, &line) {
+        Ok(()) => Ok(()),
+        Err(_) if writer.inner.is_closed => Err(Fault::Closed),
+        Err(_) => Err(Fault::Report(ReportFault::Write)),
+    }
+}
+
+/// Writes the name of an input where it is refused. The command is quiet.
+fn list_one<R: Threads + Wait + Sync>(
+    rt: &HostRuntime,
+    threads: &R,
+    input: Input<'_>,
+    command: &Command,
+) -> Result<Status, Fault>
+    requires { 1 ≤ command.now.piece }
+{
+    let mut reader = open(rt, input)?;
+    let mut writer = End::new(Output::of(rt));
+    match report(
+        threads,
+        rt.alloc(),
+        &mut reader,
+        &mut writer,
+        command,
+        &OpenGate,
+    ) {
+        Ok(Exit::Good) => Ok(Status::Good),
+        Ok(Exit::Bad) => {
+            write_name(rt, input)?;
+            Ok(Status::Bad)
+        }
+        Err(fault) => Err(fault_of_report(rt, input, &reader, &writer, fault)),
+    }
+}
+
+/// The same of each input that words name, in their order. Where one is not to be had, that is told, and the others go on.
+fn list_words<R: Threads + Wait + Sync>(
+    rt: &HostRuntime,
+    threads: &R,
+    words: &[&str],
+    command: &Command,
+) -> Result<Status, Fault>
+    requires { 1 ≤ command.now.piece }
+{
+    let mut status = Status::Good;
+    for word in words {
+        let next = match list_one(rt, threads, input_of(*word), command) {
+            Ok(next) => next,
+            Err(Fault::Told) => Status::Fault,
+            Err(fault) => return Err(fault),
+        };
+        status = status.greatest(next);
+    }
+    Ok(status)
+}
+
+/// Lists the inputs that are refused.
+pub fn list_refused<R: Threads + Wait + Sync>(
+    rt: &HostRuntime,
+    threads: &R,
+    inputs: &Inputs<'_>,
+    command: &Command,
+) -> Result<Status, Fault>
+    requires { 1 ≤ command.now.piece }
+{
+    match inputs {
+        Inputs::One(input) => list_one(rt, threads, *input, command),
+        Inputs::Several(words) => list_words(rt, threads, words, command),
+    }
+}

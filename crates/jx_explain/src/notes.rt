@@ -1,0 +1,89 @@
+// What is told of a fault behind its line.
+use crate::explain::standing_before;
+use crate::hint::hint_at;
+use crate::shown::push_shown;
+use crate::trail::{Step, pointer_along};
+use crate::way::way_to;
+use jx_run::{Refusal, Settings};
+use std::alloc::{AllocError, Global};
+
+/// How many open brackets are told at most, of those that were opened last.
+const MOST: usize = 32;
+
+/// The bracket that opened a container.
+fn bracket_of(step: Step) -> &'static str {
+    match step {
+        Step::Element(_) => " [",
+        Step::Unnamed | Step::Naming(_) | Step::Member(_) => " {",
+    }
+}
+
+/// Appends the brackets that are open, outermost first, if any are.
+fn push_open(out: &mut String, steps: &[Step]) -> Result<(), AllocError> {
+    if steps.is_empty() {
+        return Ok(());
+    }
+    let first = steps.len().saturating_sub(MOST);
+    out.push_str("open:")?;
+    if first > 0 {
+        out.push_str(" ..")?;
+    }
+    for step in steps.get(first..).unwrap_or(&[]) {
+        out.push_str(bracket_of(*step))?;
+    }
+    out.push('\n')
+}
+
+/// Appends the pointer of a place, if it is not the whole text's.
+fn push_pointer(
+    alloc: Global,
+    out: &mut String,
+    text: &[u8],
+    steps: &[Step],
+) -> Result<(), AllocError> {
+    match pointer_along(alloc, text, steps)? {
+        Some(pointer) if !pointer.is_empty() => {
+            out.push_str("pointer: ")?;
+            push_shown(out, &pointer)?;
+            out.push('\n')
+        }
+        _ => Ok(()),
+    }
+}
+
+/// Appends what the fault at an offset probably is, where that is known.
+fn push_hint(
+    alloc: Global,
+    out: &mut String,
+    text: &[u8],
+    at: usize,
+    settings: &Settings,
+) -> Result<(), AllocError> {
+    let Some(standing) = standing_before(alloc, text, at, settings)? else {
+        return Ok(());
+    };
+    let Some(hint) = hint_at(text, at, &standing) else {
+        return Ok(());
+    };
+    out.push_str("perhaps: ")?;
+    out.push_str(hint)?;
+    out.push('\n')
+}
+
+/// Appends the pointer of the place, which brackets are open where a text ends too early, and what a fault probably is, each where there is
+/// something to tell.
+pub fn push_notes(
+    alloc: Global,
+    out: &mut String,
+    text: &[u8],
+    refusal: Refusal,
+    settings: &Settings,
+) -> Result<(), AllocError> {
+    let way = way_to(alloc, text, refusal, settings)?;
+    push_pointer(alloc, out, text, way.to_place())?;
+    match refusal {
+        Refusal::Truncated => push_open(out, &way.steps),
+        Refusal::Stopped { at } => push_hint(alloc, out, text, at, settings),
+        Refusal::TooDeep { .. } | Refusal::RepeatedName { .. } => Ok(()),
+    }
+}
