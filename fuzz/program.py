@@ -76,6 +76,43 @@ def text_of(string):
         return None
 
 
+TOKEN = re.compile(rb'"(?:[^"\\]|\\.)*(?:"|\\?\Z)|[\[\]{}:,]|[^ \t\r\n\[\]{}:,"]+', re.DOTALL)
+
+
+def pointer_at(text, at):
+    """The pointer of the value that is begun or may begin at an offset, else of the container around it; none where no text is its name.
+
+    The bytes before the offset begin a text.
+    """
+    steps, is_value = [], True
+    for found in TOKEN.finditer(text, 0, at):
+        token = found[0]
+        is_name = bool(steps) and steps[-1] == b"" and token[:1] == b'"'
+        if token == b"[":
+            steps.append(0)
+        elif token == b"{":
+            steps.append(b"")
+        elif token in b"]}":
+            steps.pop()
+        elif token == b",":
+            steps[-1] = b"" if isinstance(steps[-1], bytes) else steps[-1] + 1
+        elif is_name:
+            steps[-1] = token
+        is_begun = found.end() == at and token not in (b"true", b"false", b"null")
+        if token[:1] == b'"':
+            is_begun = not re.fullmatch(rb'"(?:[^"\\]|\\.)*"', token, re.DOTALL)
+        if token in b"[]{}:,":
+            is_value = token in b"[:" or (token == b"," and isinstance(steps[-1], int))
+        else:
+            is_value = is_begun and not is_name
+    if steps and not is_value:
+        steps.pop()
+    names = [str(step).encode() if isinstance(step, int) else text_of(step) for step in steps]
+    if None in names:
+        return None
+    return "".join("/" + name.replace(b"~", b"~0").replace(b"/", b"~1").decode() for name in names)
+
+
 class Batch:
     """Some texts in files, and settings by which they are read."""
 
@@ -218,6 +255,36 @@ class Batch:
             wanted = got.output.decode("utf-8", "replace") if is_right else "%s:%d:%d: .." % (name, *place)
         self.held(" ".join(["explain", *words]), text, got, wanted, verdict.kind == 0)
 
+    def object_of(self, name, text, settings):
+        """The members that machines are told of a file, but for the sentence."""
+        verdict, _ = self.readers.read(text, settings)
+        if verdict.kind == 0:
+            return {"name": name, "verdict": "accepted"}
+        at = verdict.offset if verdict.has_offset() else len(text)
+        front = 3 * (settings.flags & plain.IGNORE_MARK > 0 and text.startswith(b"\xef\xbb\xbf"))
+        start = text.rfind(b"\n", 0, at) + 1
+        column = 1 + sum(not 0x80 <= byte <= 0xBF for byte in text[start:at])
+        pointer = pointer_at(text[front:], at - front) if at >= front and not text[:at] in (b"\xef", b"\xef\xbb") else ""
+        place = {"offset": at, "line": text.count(b"\n", 0, at) + 1, "column": column, "pointer": pointer}
+        return {"name": name, "verdict": str(verdict).partition(" at ")[0], **place}
+
+    def tell_of_files(self, files):
+        """What machines, editors and scripts are told of many files. The sentences alone are not held."""
+        words, settings = self.reading()
+        names, many = [name for name, _ in files], b"".join(text for _, text in files)
+        wanted = [self.object_of(name, text, settings) for name, text in files]
+        refused = [it["name"] for it in wanted if it["verdict"] != "accepted"]
+        got = run(self.program, ["check", "--format", "json", *words, *names])
+        told = [json.loads(line) for line in got.output.decode().splitlines()]
+        sentences = [it.pop("sentence", None) for it in told]
+        for (name, text), object, line in zip(files, wanted, told + [None] * len(files)):
+            self.held("check --format json %s %s" % (" ".join(words), name), text, Run(repr(line).encode(), got.errors, got.status), repr({key: object[key] for key in line or object}), not refused)
+        marks = ["%s:%d:%d: %s (byte %d)\n" % (it["name"], it["line"], it["column"], sentence, it["offset"]) for it, sentence in zip(told, sentences) if sentence]
+        got = run(self.program, ["check", "--format", "gnu", *words, *names])
+        self.held("check --format gnu %s" % " ".join(words), many, got, "".join(marks), not refused)
+        got = run(self.program, ["check", "-l", *words, *names])
+        self.held("check -l %s" % " ".join(words), many, got, "".join(name + "\n" for name in refused), not refused)
+
     def join_parts(self, text):
         """Parts that are cut anywhere, joined in some order or not at all, come to the verdict on the whole."""
         dice = self.dice
@@ -252,6 +319,7 @@ class Batch:
         small = self.files_of("t", [texts.any_text(dice) for _ in range(BATCH)])
         self.check_files(small)
         self.check_files(small)
+        self.tell_of_files(small)
         self.list_elements(self.files_of("s", [texts.sequence(dice) for _ in range(BATCH)]))
         for name, text in dice.sample(small, 20):
             self.index(name, text)
