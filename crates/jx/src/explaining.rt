@@ -10,38 +10,51 @@ use jx_explain::{Form, Marking, report_explained};
 use jx_files::{Status, shown_name};
 use jx_report::End;
 use jx_task::Command;
+use std::alloc::AllocError;
 use std::env;
+use std::env::VarError;
 use std::io::IsTerminal;
 use std::sync::Wait;
 use std::thread::Threads;
 
 /// Whether a variable of the environment is set, and not empty (https://no-color.org).
-fn is_set(rt: &HostRuntime, name: &str) -> bool {
+fn is_set(rt: &HostRuntime, name: &str) -> Result<bool, AllocError> {
     match env::var(rt, name) {
-        Ok(value) => !value.as_str().is_empty(),
-        Err(_) => false,
+        Ok(value) => Ok(!value.as_str().is_empty()),
+        Err(VarError::NotUnicode) => Ok(true),
+        Err(VarError::NotPresent) => Ok(false),
+        Err(VarError::OutOfMemory) => Err(AllocError),
     }
 }
 
 /// Whether the terminal is one that shows no colors.
-fn is_dumb(rt: &HostRuntime) -> bool {
+fn is_dumb(rt: &HostRuntime) -> Result<bool, AllocError> {
     match env::var(rt, "TERM") {
-        Ok(value) => value.as_str() == "dumb",
-        Err(_) => false,
+        Ok(value) => Ok(value.as_str() == "dumb"),
+        Err(VarError::NotPresent | VarError::NotUnicode) => Ok(false),
+        Err(VarError::OutOfMemory) => Err(AllocError),
     }
 }
 
+/// Whether standard output is a terminal that shows colors, and the environment does not forbid them.
+fn shows_colors(rt: &HostRuntime) -> Result<bool, AllocError> {
+    if !rt.stdout().is_terminal() || is_set(rt, "NO_COLOR")? {
+        return Ok(false);
+    }
+    Ok(!is_dumb(rt)?)
+}
+
 /// How what is told to people is marked.
-pub fn marking_for(rt: &HostRuntime, color: Color) -> Marking {
+pub fn marking_for(rt: &HostRuntime, color: Color) -> Result<Marking, AllocError> {
     let is_colored = match color {
-        Color::Auto => rt.stdout().is_terminal() && !is_set(rt, "NO_COLOR") && !is_dumb(rt),
+        Color::Auto => shows_colors(rt)?,
         Color::Always => true,
         Color::Never => false,
     };
     if is_colored {
-        Marking::Colored
+        Ok(Marking::Colored)
     } else {
-        Marking::Plain
+        Ok(Marking::Plain)
     }
 }
 

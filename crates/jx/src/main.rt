@@ -60,7 +60,7 @@ fn answer_request<R: Threads + Wait + Sync>(
         Told::Marks => explain_inputs(rt, threads, &inputs, &command, Form::Mark),
         Told::Objects => explain_inputs(rt, threads, &inputs, &command, Form::Object),
         Told::Explained(color) => {
-            let form = Form::People(marking_for(rt, color));
+            let form = Form::People(marking_for(rt, color)?);
             explain_inputs(rt, threads, &inputs, &command, form)
         }
     }
