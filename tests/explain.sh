@@ -195,6 +195,27 @@ machines_have_an_object_for_each_file() {
         "$(said '' check --format json missing good.json)"
 }
 
+# held WORD..: whether a call of the program with one worker takes 40 MB or more at once.
+held() {
+    python3 -c 'import resource, subprocess, sys
+subprocess.run([*sys.argv[1:], "--workers", "1"], stdout=subprocess.DEVNULL)
+print("held" if resource.getrusage(resource.RUSAGE_CHILDREN).ru_maxrss >= 40000 else "not held")' "$program" "$@"
+}
+
+a_long_file_that_is_accepted_is_not_held() {
+    { printf '['; head -c 60000000 /dev/zero | tr '\0' ' '; printf '0]'; } >long.json
+    { cat long.json; printf ' x'; } >longer.json
+    same 'a long file' 'long.json: accepted' "$("$program" explain long.json)"
+    same 'a long file for machines' '{"name":"long.json","verdict":"accepted"}' "$("$program" check --format json long.json)"
+    same 'a long file for editors' '' "$("$program" check --format gnu long.json)"
+    same 'its memory' 'not held' "$(held explain long.json)"
+    same 'its memory, for machines' 'not held' "$(held check --format json long.json)"
+    same 'a long file that is refused' 'longer.json:1:60000005: expected the end of the text, found x (byte 60000004)' "$("$program" check --format gnu longer.json)"
+    same 'its memory' 'held' "$(held explain longer.json)"
+    same 'a long file from a pipe' '-: accepted' "$(cat long.json | "$program" explain)"
+    rm long.json longer.json
+}
+
 the_name_is_that_of_the_file() {
     printf '[1,]' >'a b.json'
     same 'a file' 'a b.json:1:4: expected a value, found ] (byte 3)' "$("$program" explain 'a b.json' | head -n 1)"
@@ -232,5 +253,6 @@ tests the_place_is_a_line_and_a_column_of_characters \
     refused_files_alone_are_listed \
     editors_have_a_line_for_each_refused_file \
     machines_have_an_object_for_each_file \
+    a_long_file_that_is_accepted_is_not_held \
     the_name_is_that_of_the_file \
     colors_are_shown_where_they_are_asked_for

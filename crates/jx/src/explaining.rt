@@ -2,13 +2,15 @@
 ghost use Rattle.std.specs.Prelude.{◌≤◌};
 
 use crate::fault::Fault;
+use crate::first_pass::{exit_of, is_long_file};
 use crate::input::{fault_of_report, name_of, open};
-use crate::output::Output;
+use crate::output::{Output, write_out};
 use jx_command::{Color, Input, Inputs, input_of};
 use jx_crew::{Crew, OpenGate};
-use jx_explain::{Form, Marking, report_explained};
+use jx_explain::{Form, Marking, explained, report_explained};
 use jx_files::{Status, shown_name};
-use jx_report::End;
+use jx_report::{End, Exit};
+use jx_run::{Settings, Verdict};
 use jx_task::Command;
 use std::alloc::AllocError;
 use std::env;
@@ -68,7 +70,44 @@ fn told_name(rt: &HostRuntime, input: Input<'_>, form: Form) -> Result<Vec<u8>, 
     }
 }
 
-/// Tells the verdict on an input in a form.
+/// Tells in a form that an input of this name is accepted.
+fn tell_accepted(
+    rt: &HostRuntime,
+    name: &[u8],
+    settings: &Settings,
+    form: Form,
+) -> Result<Status, Fault> {
+    let told = explained(rt.alloc(), name, &[], Verdict::Accepted, settings, form)?;
+    write_out(rt, told.as_bytes())?;
+    Ok(Status::Good)
+}
+
+/// Tells the verdict on an input in a form. All of it is held.
+fn explain_held<R: Threads + Wait + Sync>(
+    rt: &HostRuntime,
+    threads: &R,
+    input: Input<'_>,
+    name: &[u8],
+    command: &Command,
+    form: Form,
+) -> Result<Status, Fault>
+    requires { 1 ≤ command.now.piece }
+{
+    let mut reader = open(rt, input)?;
+    let mut writer = End::new(Output::of(rt));
+    let crew = Crew {
+        rt: threads,
+        alloc: rt.alloc(),
+        workers: command.workers,
+        gate: &OpenGate,
+    };
+    match report_explained(&crew, &mut reader, &mut writer, name, command, form) {
+        Ok(exit) => Ok(Status::of_exit(exit)),
+        Err(fault) => Err(fault_of_report(rt, input, &reader, &writer, fault)),
+    }
+}
+
+/// Tells the verdict on an input in a form. A long file is held only where a first pass over it finds it refused.
 fn explain_one<R: Threads + Wait + Sync>(
     rt: &HostRuntime,
     threads: &R,
@@ -79,18 +118,13 @@ fn explain_one<R: Threads + Wait + Sync>(
     requires { 1 ≤ command.now.piece }
 {
     let name = told_name(rt, input, form)?;
-    let mut reader = open(rt, input)?;
-    let mut writer = End::new(Output::of(rt));
-    let crew = Crew {
-        rt: threads,
-        alloc: rt.alloc(),
-        workers: command.workers,
-        gate: &OpenGate,
-    };
-    match report_explained(&crew, &mut reader, &mut writer, &name, command, form) {
-        Ok(exit) => Ok(Status::of_exit(exit)),
-        Err(fault) => Err(fault_of_report(rt, input, &reader, &writer, fault)),
+    if is_long_file(rt, input) {
+        match exit_of(rt, threads, input, command)? {
+            Exit::Good => return tell_accepted(rt, &name, &command.settings, form),
+            Exit::Bad => (),
+        }
     }
+    explain_held(rt, threads, input, &name, command, form)
 }
 
 /// Tells the verdict on each input that words name, in their order. Where one is not to be had, that is told, and the others go on.

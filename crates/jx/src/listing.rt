@@ -2,12 +2,12 @@
 ghost use Rattle.std.specs.Prelude.{◌≤◌};
 
 use crate::fault::Fault;
-use crate::input::{fault_of_report, name_of, open};
-use crate::output::Output;
+use crate::first_pass::exit_of;
+use crate::input::name_of;
+use crate::output::write_out;
 use jx_command::{Input, Inputs, input_of};
-use jx_crew::OpenGate;
 use jx_files::{Status, shown_name};
-use jx_report::{End, Exit, ReportFault, report, write_whole};
+use jx_report::Exit;
 use jx_task::Command;
 use std::sync::Wait;
 use std::thread::Threads;
@@ -16,15 +16,10 @@ use std::thread::Threads;
 fn write_name(rt: &HostRuntime, input: Input<'_>) -> Result<(), Fault> {
     let mut line = shown_name(rt.alloc(), name_of(input))?;
     line.push(b'\n')?;
-    let mut writer = End::new(Output::of(rt));
-    match write_whole(&mut writer, &line) {
-        Ok(()) => Ok(()),
-        Err(_) if writer.inner.is_closed => Err(Fault::Closed),
-        Err(_) => Err(Fault::Report(ReportFault::Write)),
-    }
+    write_out(rt, &line)
 }
 
-/// Writes the name of an input where it is refused. The command is quiet.
+/// Writes the name of an input where it is refused.
 fn list_one<R: Threads + Wait + Sync>(
     rt: &HostRuntime,
     threads: &R,
@@ -33,23 +28,12 @@ fn list_one<R: Threads + Wait + Sync>(
 ) -> Result<Status, Fault>
     requires { 1 ≤ command.now.piece }
 {
-    let mut reader = open(rt, input)?;
-    let mut writer = End::new(Output::of(rt));
-    match report(
-        threads,
-        rt.alloc(),
-        &mut reader,
-        &mut writer,
-        command,
-        &OpenGate,
-    ) {
-        Ok(Exit::Good) => Ok(Status::Good),
-        Ok(Exit::Bad) => {
-            write_name(rt, input)?;
-            Ok(Status::Bad)
-        }
-        Err(fault) => Err(fault_of_report(rt, input, &reader, &writer, fault)),
+    let exit = exit_of(rt, threads, input, command)?;
+    match exit {
+        Exit::Good => (),
+        Exit::Bad => write_name(rt, input)?,
     }
+    Ok(Status::of_exit(exit))
 }
 
 /// The same of each input that words name, in their order. Where one is not to be had, that is told, and the others go on.

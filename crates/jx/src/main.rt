@@ -7,6 +7,7 @@ ghost use Rattle.std.specs.Prelude.{◌≤◌};
 mod elements;
 mod explaining;
 mod fault;
+mod first_pass;
 mod input;
 mod lines;
 mod listing;

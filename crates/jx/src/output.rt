@@ -1,5 +1,6 @@
 // Standard output.
-use jx_report::End;
+use crate::fault::Fault;
+use jx_report::{End, ReportFault, write_whole};
 use std::io;
 use std::io::{Stdout, Write};
 
@@ -36,3 +37,13 @@ impl Write for Output {
 
 /// Where a report writes to.
 pub type Writer = End<Output>;
+
+/// Writes all of these bytes.
+pub fn write_out(rt: &HostRuntime, bytes: &[u8]) -> Result<(), Fault> {
+    let mut writer = End::new(Output::of(rt));
+    match write_whole(&mut writer, bytes) {
+        Ok(()) => Ok(()),
+        Err(_) if writer.inner.is_closed => Err(Fault::Closed),
+        Err(_) => Err(Fault::Report(ReportFault::Write)),
+    }
+}

@@ -149,8 +149,8 @@ file that is refused, FILE:LINE:COLUMN: SENTENCE (byte K); or as
 json, which is an object on a line of its own for each file: name and
 verdict, and where it is refused offset, line, column, sentence and
 pointer, as 'jx explain' tells them. The pointer is null where a name
-on the way stands for no text. With gnu and json the whole input is
-held.";
+on the way stands for no text. With gnu and json the whole of a text
+that is refused is held.";
 
 pub const COMPACT: &str = "Leave out blanks between tokens";
 
