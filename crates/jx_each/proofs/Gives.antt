@@ -9,9 +9,11 @@ use Rattle.jx_compact.specs.Compact.{compact, compact_from, kept, next, place_be
 use Rattle.jx_run.specs.Tree.{Tree}
 use Rattle.jx_each.specs.declared.sign.Turn.{Turn}
 use Rattle.jx_each.specs.declared.sign.Turn.TheVariants.{Stay}
-use Rattle.jx_each.specs.declared.stand.Root.{Root}
+use Rattle.jx_each.specs.declared.sign.Turn.TheVariants as turns
+use Rattle.jx_each.specs.declared.stand.Stage.{Stage}
 use Rattle.jx_each.specs.Turns.{turn_at, height_next, height_behind}
-use Rattle.jx_each.specs.Machine.{Made, step, run, root_next, takes_next, lines_next, part_next}
+use Rattle.jx_each.specs.declared.stand.Stage.TheVariants.{Ahead, Elements, Members, Array, Object, Over}
+use Rattle.jx_each.specs.Machine.{Made, is_open, step, run, stage_next, stand_by, lines_next, part_next}
 use Rattle.jx_each.specs.Due.{behind, element_line, lines_before}
 use Rattle.jx_each.proofs.Bytes.{StaysIn}
 use Rattle.jx_each.proofs.Pieces.{Piece, Gap}
@@ -22,10 +24,10 @@ AllBehind text at [] = Unit {0}
 AllBehind text at (t ∷ ts) = (at ≤ behind text t) × AllBehind text at ts
 
 -- of the bytes from an offset on, any number give the lines of those whose comma or bracket stands among them
-pub record Gives (text : List ℕ) (s : Made) (at : ℕ) (bytes : List ℕ) (ts : List Tree) (r : Root) : Type 0 where
+pub record Gives (text : List ℕ) (path : List (List ℕ)) (s : Made) (at : ℕ) (bytes : List ℕ) (ts : List Tree) (r : Stage) : Type 0 where
   pub later : AllBehind text at ts
-  pub gives : (n : ℕ) → (run s (take n bytes)).lines ≡ s.lines ++ lines_before text (at + n) ts
-  pub root : (run s bytes).stand.root ≡ r
+  pub gives : (n : ℕ) → (run path s (take n bytes)).lines ≡ s.lines ++ lines_before text (at + n) ts
+  pub stage : (run path s bytes).stand.stage ≡ r
 
 earlier : (text : List ℕ) (at : ℕ) (ts : List Tree) → AllBehind text (suc at) ts → AllBehind text at ts
 earlier text at [] h = tt
@@ -53,33 +55,33 @@ none_yet : (text : List ℕ) (at : ℕ) (ts : List Tree) (lines : List ℕ) → 
 none_yet text at ts lines h =
     sym (append-nil lines) ∙ ap (λ (x : List ℕ). lines ++ x) (sym (none_before text (at + 0) at ts (omega arith) h))
 
-pub gives_end : (text : List ℕ) (s : Made) (at : ℕ) → Gives text s at [] [] s.stand.root
-gives_end text s at = record {
+pub gives_end : (text : List ℕ) (path : List (List ℕ)) (s : Made) (at : ℕ) → Gives text path s at [] [] s.stand.stage
+gives_end text path s at = record {
   later = tt;
-  gives = λ n. ap (λ (x : List ℕ). (run s x).lines) (take_none n) ∙ sym (append-nil s.lines);
-  root = refl;
+  gives = λ n. ap (λ (x : List ℕ). (run path s x).lines) (take_none n) ∙ sym (append-nil s.lines);
+  stage = refl;
 }
 
 -- a byte that ends no line
-pub gives_step : (text : List ℕ) (s : Made) (b at : ℕ) (bytes : List ℕ) (ts : List Tree) (r : Root) → (step s b).lines ≡ s.lines
-    → Gives text (step s b) (suc at) bytes ts r → Gives text s at (b ∷ bytes) ts r
-gives_step text s b at bytes ts r same g = record { later = earlier text at ts g.later; gives = each; root = g.root }
+pub gives_step : (text : List ℕ) (path : List (List ℕ)) (s : Made) (b at : ℕ) (bytes : List ℕ) (ts : List Tree) (r : Stage) → (step path s b).lines ≡ s.lines
+    → Gives text path (step path s b) (suc at) bytes ts r → Gives text path s at (b ∷ bytes) ts r
+gives_step text path s b at bytes ts r same g = record { later = earlier text at ts g.later; gives = each; stage = g.stage }
   where
-    each : (n : ℕ) → (run s (take n (b ∷ bytes))).lines ≡ s.lines ++ lines_before text (at + n) ts
+    each : (n : ℕ) → (run path s (take n (b ∷ bytes))).lines ≡ s.lines ++ lines_before text (at + n) ts
     each zero = none_yet text at ts s.lines (earlier text at ts g.later)
     each (suc n) =
         g.gives n ∙ ap (λ (x : List ℕ). x ++ lines_before text (suc at + n) ts) same
         ∙ ap (λ (k : ℕ). s.lines ++ lines_before text k ts) (let e : suc at + n ≡ at + suc n = omega arith in e)
 
 -- a byte that ends the line of an element
-pub gives_cut : (text : List ℕ) (s : Made) (b at : ℕ) (bytes : List ℕ) (t : Tree) (ts : List Tree) (r : Root) → (step s b).lines ≡ s.lines ++ element_line text t
-    → behind text t ≡ at → Gives text (step s b) (suc at) bytes ts r → Gives text s at (b ∷ bytes) (t ∷ ts) r
-gives_cut text s b at bytes t ts r more here g = record { later = all; gives = each; root = g.root }
+pub gives_cut : (text : List ℕ) (path : List (List ℕ)) (s : Made) (b at : ℕ) (bytes : List ℕ) (t : Tree) (ts : List Tree) (r : Stage) → (step path s b).lines ≡ s.lines ++ element_line text t
+    → behind text t ≡ at → Gives text path (step path s b) (suc at) bytes ts r → Gives text path s at (b ∷ bytes) (t ∷ ts) r
+gives_cut text path s b at bytes t ts r more here g = record { later = all; gives = each; stage = g.stage }
   where
     all : AllBehind text at (t ∷ ts)
     all = (omega (arith, here), earlier text at ts g.later)
 
-    each : (n : ℕ) → (run s (take n (b ∷ bytes))).lines ≡ s.lines ++ lines_before text (at + n) (t ∷ ts)
+    each : (n : ℕ) → (run path s (take n (b ∷ bytes))).lines ≡ s.lines ++ lines_before text (at + n) (t ∷ ts)
     each zero = none_yet text at (t ∷ ts) s.lines all
     each (suc n) =
         g.gives n ∙ ap (λ (x : List ℕ). x ++ lines_before text (suc at + n) ts) more
@@ -89,29 +91,40 @@ gives_cut text s b at bytes t ts r more here g = record { later = all; gives = e
 
 -- ---- bytes that stay
 
-abbrev pub at_place : Place → ℕ → Root → Bool → List ℕ → List ℕ → Made
-at_place p h r takes lines part = record { stand = record { place = p; height = h; root = r; takes = takes }; lines = lines; part = part }
+abbrev pub at_place : Place → ℕ → Stage → Bool → List ℕ → List ℕ → Made
+at_place p h r takes lines part = record { stand = record { place = p; height = h; stage = r; takes = takes }; lines = lines; part = part }
 
-abbrev pub made : ℕ → Root → Bool → List ℕ → List ℕ → Made
+abbrev pub made : ℕ → Stage → Bool → List ℕ → List ℕ → Made
 made h r takes lines part = at_place Between h r takes lines part
 
 -- what is kept of some bytes
 abbrev pub taken : Bool → Place → List ℕ → List ℕ
 taken takes p w = if takes then compact_from p w else []
 
-abbrev stepped : Turn → Made → ℕ → Made
-stepped turn s b = record {
-  stand = record { place = next s.stand.place b; height = height_next s.stand.place s.stand.height b; root = root_next s.stand.root turn; takes = takes_next s.stand.root s.stand.takes turn };
-  lines = lines_next turn s.lines s.part;
+abbrev stepped : List (List ℕ) → Turn → Made → ℕ → Made
+stepped path turn s b = record {
+  stand = stand_by path turn s.stand s.part b;
+  lines = lines_next (is_open s.stand.stage) turn s.lines s.part;
   part = part_next turn s.stand s.part b;
 }
+
+-- a byte that stays changes no stage
+stays_stage : (path : List (List ℕ)) (stage : Stage) (name : List ℕ) → stage_next path stage name Stay ≡ stage
+stays_stage path (Ahead level) name = refl
+stays_stage path (Elements level n) name = refl
+stays_stage path (Members level) name = refl
+stays_stage path Array name = refl
+stays_stage path Object name = refl
+stays_stage path Over name = refl
 
 abbrev pub kept_by : Bool → Place → ℕ → List ℕ
 kept_by takes p b = if takes then kept p b else []
 
-pub stay_step : (p : Place) (h : ℕ) (r : Root) (takes : Bool) (lines part : List ℕ) (b : ℕ) → turn_at p h b ≡ Stay
-    → step (at_place p h r takes lines part) b ≡ at_place (next p b) (height_next p h b) r takes lines (part ++ kept_by takes p b)
-stay_step p h r takes lines part b e = ap (λ (t : Turn). stepped t (at_place p h r takes lines part) b) e
+pub stay_step : (path : List (List ℕ)) (p : Place) (h : ℕ) (r : Stage) (takes : Bool) (lines part : List ℕ) (b : ℕ) → turn_at p h b ≡ Stay
+    → step path (at_place p h r takes lines part) b ≡ at_place (next p b) (height_next p h b) r takes lines (part ++ kept_by takes p b)
+stay_step path p h r takes lines part b e =
+    ap (λ (t : Turn). stepped path t (at_place p h r takes lines part) b) e
+    ∙ ap (λ (x : Stage). at_place (next p b) (height_next p h b) x takes lines (part ++ kept_by takes p b)) (stays_stage path r part)
 
 taken_none : (takes : Bool) (p : Place) → taken takes p [] ≡ []
 taken_none true p = refl
@@ -121,45 +134,76 @@ taken_more : (takes : Bool) (p : Place) (part : List ℕ) (b : ℕ) (w : List �
 taken_more true p part b w = sym (append_assoc part (kept p b) (compact_from (next p b) w))
 taken_more false p part b w = sym (append-nil (part ++ []))
 
-over_stays : (text : List ℕ) (r : Root) (takes : Bool) (lines : List ℕ) (bytes : List ℕ) (ts : List Tree) (to : Root) (p : Place) (h : ℕ) (part w : List ℕ) (at : ℕ) → StaysIn p h w
-    → Gives text (at_place (place_behind p w) (height_behind p h w) r takes lines (part ++ taken takes p w)) (at + length w) bytes ts to
-    → Gives text (at_place p h r takes lines part) at (w ++ bytes) ts to
-over_stays text r takes lines bytes ts to p h part [] at stays g =
-    subst (λ (k : ℕ). Gives text (at_place p h r takes lines part) k bytes ts to) (let e : at + length (let n : List ℕ = [] in n) ≡ at = omega arith in e)
-    (subst (λ (x : List ℕ). Gives text (at_place p h r takes lines x) (at + length (let n : List ℕ = [] in n)) bytes ts to) (ap (λ (x : List ℕ). part ++ x) (taken_none takes p) ∙ append-nil part) g)
-over_stays text r takes lines bytes ts to p h part (b ∷ w) at stays g =
+over_stays : (text : List ℕ) (path : List (List ℕ)) (r : Stage) (takes : Bool) (lines : List ℕ) (bytes : List ℕ) (ts : List Tree) (to : Stage) (p : Place) (h : ℕ) (part w : List ℕ) (at : ℕ) → StaysIn p h w
+    → Gives text path (at_place (place_behind p w) (height_behind p h w) r takes lines (part ++ taken takes p w)) (at + length w) bytes ts to
+    → Gives text path (at_place p h r takes lines part) at (w ++ bytes) ts to
+over_stays text path r takes lines bytes ts to p h part [] at stays g =
+    subst (λ (k : ℕ). Gives text path (at_place p h r takes lines part) k bytes ts to) (let e : at + length (let n : List ℕ = [] in n) ≡ at = omega arith in e)
+    (subst (λ (x : List ℕ). Gives text path (at_place p h r takes lines x) (at + length (let n : List ℕ = [] in n)) bytes ts to) (ap (λ (x : List ℕ). part ++ x) (taken_none takes p) ∙ append-nil part) g)
+over_stays text path r takes lines bytes ts to p h part (b ∷ w) at stays g =
     let s : Made = at_place p h r takes lines part in
     let t : Made = at_place (next p b) (height_next p h b) r takes lines (part ++ kept_by takes p b) in
-    let e : step s b ≡ t = stay_step p h r takes lines part b stays.0 in
-    let more : Gives text (at_place (place_behind (next p b) w) (height_behind (next p b) (height_next p h b) w) r takes lines ((part ++ kept_by takes p b) ++ taken takes (next p b) w)) (suc at + length w) bytes ts to =
-    subst (λ (k : ℕ). Gives text (at_place (place_behind (next p b) w) (height_behind (next p b) (height_next p h b) w) r takes lines ((part ++ kept_by takes p b) ++ taken takes (next p b) w)) k bytes ts to)
+    let e : step path s b ≡ t = stay_step path p h r takes lines part b stays.0 in
+    let more : Gives text path (at_place (place_behind (next p b) w) (height_behind (next p b) (height_next p h b) w) r takes lines ((part ++ kept_by takes p b) ++ taken takes (next p b) w)) (suc at + length w) bytes ts to =
+    subst (λ (k : ℕ). Gives text path (at_place (place_behind (next p b) w) (height_behind (next p b) (height_next p h b) w) r takes lines ((part ++ kept_by takes p b) ++ taken takes (next p b) w)) k bytes ts to)
     (let e : at + suc (length w) ≡ suc at + length w = omega arith in e)
-    (subst (λ (x : List ℕ). Gives text (at_place (place_behind (next p b) w) (height_behind (next p b) (height_next p h b) w) r takes lines x) (at + suc (length w)) bytes ts to) (taken_more takes p part b w) g) in
-    let rest : Gives text t (suc at) (w ++ bytes) ts to = over_stays text r takes lines bytes ts to (next p b) (height_next p h b) (part ++ kept_by takes p b) w (suc at) stays.1 more in
-    gives_step text s b at (w ++ bytes) ts to (ap (λ (m : Made). m.lines) e) (subst (λ (m : Made). Gives text m (suc at) (w ++ bytes) ts to) (sym e) rest)
+    (subst (λ (x : List ℕ). Gives text path (at_place (place_behind (next p b) w) (height_behind (next p b) (height_next p h b) w) r takes lines x) (at + suc (length w)) bytes ts to) (taken_more takes p part b w) g) in
+    let rest : Gives text path t (suc at) (w ++ bytes) ts to = over_stays text path r takes lines bytes ts to (next p b) (height_next p h b) (part ++ kept_by takes p b) w (suc at) stays.1 more in
+    gives_step text path s b at (w ++ bytes) ts to (ap (λ (m : Made). m.lines) e) (subst (λ (m : Made). Gives text path m (suc at) (w ++ bytes) ts to) (sym e) rest)
 
 -- a stretch that opens and closes the same containers
-pub over_piece : (text : List ℕ) (h : ℕ) (r : Root) (takes : Bool) (lines part : List ℕ) (ts : List Tree) (to : Root) {low i j : ℕ} {t u : List ℕ} (p : Piece low i t j u) → low ≤ h
-    → Gives text (made h r takes lines (part ++ taken takes Between p.w)) j u ts to → Gives text (made h r takes lines part) i t ts to
-over_piece text h r takes lines part ts to {i = i} {j = j} {u = u} p le g =
-    subst (λ (x : List ℕ). Gives text (made h r takes lines part) i x ts to) (sym p.whole)
-    (over_stays text r takes lines u ts to Between h part p.w i (p.sits.stays h le)
-    (subst (λ (k : ℕ). Gives text (at_place (place_behind Between p.w) (height_behind Between h p.w) r takes lines (part ++ taken takes Between p.w)) k u ts to) p.end
-    (subst (λ (q : Place). Gives text (at_place q (height_behind Between h p.w) r takes lines (part ++ taken takes Between p.w)) j u ts to) (sym p.sits.place)
-    (subst (λ (n : ℕ). Gives text (at_place Between n r takes lines (part ++ taken takes Between p.w)) j u ts to) (sym (p.sits.height h le)) g))))
+pub over_piece : (text : List ℕ) (path : List (List ℕ)) (h : ℕ) (r : Stage) (takes : Bool) (lines part : List ℕ) (ts : List Tree) (to : Stage) {low i j : ℕ} {t u : List ℕ} (p : Piece low i t j u) → low ≤ h
+    → Gives text path (made h r takes lines (part ++ taken takes Between p.w)) j u ts to → Gives text path (made h r takes lines part) i t ts to
+over_piece text path h r takes lines part ts to {i = i} {j = j} {u = u} p le g =
+    subst (λ (x : List ℕ). Gives text path (made h r takes lines part) i x ts to) (sym p.whole)
+    (over_stays text path r takes lines u ts to Between h part p.w i (p.sits.stays h le)
+    (subst (λ (k : ℕ). Gives text path (at_place (place_behind Between p.w) (height_behind Between h p.w) r takes lines (part ++ taken takes Between p.w)) k u ts to) p.end
+    (subst (λ (q : Place). Gives text path (at_place q (height_behind Between h p.w) r takes lines (part ++ taken takes Between p.w)) j u ts to) (sym p.sits.place)
+    (subst (λ (n : ℕ). Gives text path (at_place Between n r takes lines (part ++ taken takes Between p.w)) j u ts to) (sym (p.sits.height h le)) g))))
 
 taken_gap : (takes : Bool) (w : List ℕ) → compact w ≡ [] → taken takes Between w ≡ []
 taken_gap true w e = e
 taken_gap false w e = refl
 
-pub over_gap : (text : List ℕ) (h : ℕ) (r : Root) (takes : Bool) (lines part : List ℕ) (ts : List Tree) (to : Root) {i j : ℕ} {t u : List ℕ} → Gap i t j u
-    → Gives text (made h r takes lines part) j u ts to → Gives text (made h r takes lines part) i t ts to
-over_gap text h r takes lines part ts to {j = j} {u = u} gap g =
-    over_piece text h r takes lines part ts to gap.piece (omega arith)
-    (subst (λ (x : List ℕ). Gives text (made h r takes lines x) j u ts to) (sym (ap (λ (x : List ℕ). part ++ x) (taken_gap takes gap.piece.w gap.nothing) ∙ append-nil part)) g)
+pub over_gap : (text : List ℕ) (path : List (List ℕ)) (h : ℕ) (r : Stage) (takes : Bool) (lines part : List ℕ) (ts : List Tree) (to : Stage) {i j : ℕ} {t u : List ℕ} → Gap i t j u
+    → Gives text path (made h r takes lines part) j u ts to → Gives text path (made h r takes lines part) i t ts to
+over_gap text path h r takes lines part ts to {j = j} {u = u} gap g =
+    over_piece text path h r takes lines part ts to gap.piece (omega arith)
+    (subst (λ (x : List ℕ). Gives text path (made h r takes lines x) j u ts to) (sym (ap (λ (x : List ℕ). part ++ x) (taken_gap takes gap.piece.w gap.nothing) ∙ append-nil part)) g)
 
 -- a stretch where no element may stand
-pub over_name : (text : List ℕ) (h : ℕ) (r : Root) (lines part : List ℕ) (ts : List Tree) (to : Root) {low i j : ℕ} {t u : List ℕ} → Piece low i t j u → low ≤ h
-    → Gives text (made h r false lines part) j u ts to → Gives text (made h r false lines part) i t ts to
-over_name text h r lines part ts to {j = j} {u = u} p le g =
-    over_piece text h r false lines part ts to p le (subst (λ (x : List ℕ). Gives text (made h r false lines x) j u ts to) (sym (append-nil part)) g)
+pub over_name : (text : List ℕ) (path : List (List ℕ)) (h : ℕ) (r : Stage) (lines part : List ℕ) (ts : List Tree) (to : Stage) {low i j : ℕ} {t u : List ℕ} → Piece low i t j u → low ≤ h
+    → Gives text path (made h r false lines part) j u ts to → Gives text path (made h r false lines part) i t ts to
+over_name text path h r lines part ts to {j = j} {u = u} p le g =
+    over_piece text path h r false lines part ts to p le (subst (λ (x : List ℕ). Gives text path (made h r false lines x) j u ts to) (sym (append-nil part)) g)
+
+-- ---- behind the container
+
+none_more : (turn : Turn) (lines part : List ℕ) → lines_next false turn lines part ≡ lines
+none_more turns.EnterArray lines part = refl
+none_more turns.EnterObject lines part = refl
+none_more turns.Next lines part = refl
+none_more turns.Value lines part = refl
+none_more turns.Leave lines part = refl
+none_more turns.Past lines part = refl
+none_more turns.Stay lines part = refl
+
+over_lines : (path : List (List ℕ)) (bytes : List ℕ) (p : Place) (h : ℕ) (takes : Bool) (lines part : List ℕ) → (run path (at_place p h Over takes lines part) bytes).lines ≡ lines
+over_lines path [] p h takes lines part = refl
+over_lines path (b ∷ bytes) p h takes lines part =
+    let s : Made = step path (at_place p h Over takes lines part) b in
+    over_lines path bytes s.stand.place s.stand.height s.stand.takes s.lines s.part ∙ none_more (turn_at p h b) lines part
+
+over_stage : (path : List (List ℕ)) (bytes : List ℕ) (p : Place) (h : ℕ) (takes : Bool) (lines part : List ℕ) → (run path (at_place p h Over takes lines part) bytes).stand.stage ≡ Over
+over_stage path [] p h takes lines part = refl
+over_stage path (b ∷ bytes) p h takes lines part =
+    let s : Made = step path (at_place p h Over takes lines part) b in
+    over_stage path bytes s.stand.place s.stand.height s.stand.takes s.lines s.part
+
+-- nothing is made any more
+pub gives_over : (text : List ℕ) (path : List (List ℕ)) (h : ℕ) (takes : Bool) (lines part : List ℕ) (at : ℕ) (bytes : List ℕ) → Gives text path (made h Over takes lines part) at bytes [] Over
+gives_over text path h takes lines part at bytes = record {
+  later = tt;
+  gives = λ n. over_lines path (take n bytes) Between h takes lines part ∙ sym (append-nil lines);
+  stage = over_stage path bytes Between h takes lines part;
+}

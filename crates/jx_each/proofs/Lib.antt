@@ -5,3 +5,6 @@ mod Pieces
 mod Stretching
 mod Taking
 mod Texts
+pub mod Stays
+mod Seeks
+mod Numbers

@@ -7,11 +7,10 @@ use Rattle.std.proofs.lemmas.List.{append-nil, drop-drop, drop_more, length-appe
 use Rattle.jx_compact.specs.declared.place.Place.{Place}
 use Rattle.jx_compact.specs.declared.place.Place.TheVariants.{Inside}
 use Rattle.jx_compact.specs.Compact.{is_kept, next}
-use Rattle.jx_each.specs.declared.sign.Turn.{Turn}
 use Rattle.jx_each.specs.declared.sign.Turn.TheVariants.{Stay}
-use Rattle.jx_each.specs.declared.stand.Root.{Root}
+use Rattle.jx_each.specs.declared.stand.Stage.{Stage}
 use Rattle.jx_each.specs.declared.stand.Stand.{Stand}
-use Rattle.jx_each.specs.Machine.{Made, lines_next, part_next, run, stand_next, step}
+use Rattle.jx_each.specs.Machine.{Made, run, step}
 use Rattle.jx_each.specs.Turns.{turn_at, height_next}
 use Rattle.jx_each.specs.inside.Stretches.{AreChars, IsStretch}
 use Rattle.jx_each.proofs.Dues.{run_append}
@@ -23,9 +22,10 @@ part_none false part = sym (append-nil part)
 
 pub no_stretch : (s : Stand) → IsStretch s [] s
 no_stretch s = record {
+  stage = refl;
   takes = refl;
   most = omega arith;
-  runs = λ lines part. ap (λ (p : List ℕ). let m : Made = record { stand = s; lines = lines; part = p } in m) (part_none s.takes part);
+  runs = λ path lines part. ap (λ (p : List ℕ). let m : Made = record { stand = s; lines = lines; part = p } in m) (part_none s.takes part);
 }
 
 parts_join : (takes : Bool) (part v w : List ℕ) → (part ++ (if takes then v else [])) ++ (if takes then w else []) ≡ part ++ (if takes then v ++ w else [])
@@ -34,24 +34,26 @@ parts_join false part v w = append-nil (part ++ [])
 
 pub then_stretch : (s t u : Stand) (v w : List ℕ) → IsStretch s v t → IsStretch t w u → IsStretch s (v ++ w) u
 then_stretch s t u v w x y = record {
+  stage = y.stage ∙ x.stage;
   takes = y.takes ∙ x.takes;
   most = let e : length (v ++ w) ≡ length v + length w = length-append v w in omega (arith, e, x.most, y.most);
-  runs = λ lines part.
-      run_append (record { stand = s; lines = lines; part = part }) v w
-      ∙ ap (λ (m : Made). run m w) (x.runs lines part)
-      ∙ y.runs lines (part ++ (if s.takes then v else []))
+  runs = λ path lines part.
+      run_append path (record { stand = s; lines = lines; part = part }) v w
+      ∙ ap (λ (m : Made). run path m w) (x.runs path lines part)
+      ∙ y.runs path lines (part ++ (if s.takes then v else []))
       ∙ ap (λ (b : Bool). let m : Made = record { stand = u; lines = lines; part = (part ++ (if s.takes then v else [])) ++ (if b then w else []) } in m) x.takes
       ∙ ap (λ (p : List ℕ). let m : Made = record { stand = u; lines = lines; part = p } in m) (parts_join s.takes part v w);
 }
 
 -- a byte that is kept and turns nothing
-pub one_stretch : (p : Place) (h : ℕ) (r : Root) (takes : Bool) (b : ℕ) (q : Place) (k : ℕ) → turn_at p h b ≡ Stay → is_kept p b ≡ true → next p b ≡ q → height_next p h b ≡ k → k ≤ h + 1
-    → IsStretch (record { place = p; height = h; root = r; takes = takes }) (b ∷ []) (record { place = q; height = k; root = r; takes = takes })
+pub one_stretch : (p : Place) (h : ℕ) (r : Stage) (takes : Bool) (b : ℕ) (q : Place) (k : ℕ) → turn_at p h b ≡ Stay → is_kept p b ≡ true → next p b ≡ q → height_next p h b ≡ k → k ≤ h + 1
+    → IsStretch (record { place = p; height = h; stage = r; takes = takes }) (b ∷ []) (record { place = q; height = k; stage = r; takes = takes })
 one_stretch p h r takes b q k stay keeps to high most = record {
+  stage = refl;
   takes = refl;
   most = omega (arith, most);
-  runs = λ lines part.
-      stay_step p h r takes lines part b stay
+  runs = λ path lines part.
+      stay_step path p h r takes lines part b stay
       ∙ ap (λ (x : Place). at_place x (height_next p h b) r takes lines (part ++ (if takes then (if is_kept p b then b ∷ [] else []) else []))) to
       ∙ ap (λ (n : ℕ). at_place q n r takes lines (part ++ (if takes then (if is_kept p b then b ∷ [] else []) else []))) high
       ∙ ap (λ (m : Bool). at_place q k r takes lines (part ++ (if takes then (if m then b ∷ [] else []) else []))) keeps;
@@ -63,11 +65,11 @@ pub chars_push : (xs : List ℕ) (b : ℕ) → AreChars xs → b ≢ 0x22 → b 
 chars_push [] b h q s = (q, s, tt)
 chars_push (x ∷ xs) b h q s = (h.0, h.1, chars_push xs b h.2 q s)
 
-pub chars_stretch : (h : ℕ) (r : Root) (takes : Bool) (w : List ℕ) → AreChars w
-    → IsStretch (record { place = Inside; height = h; root = r; takes = takes }) w (record { place = Inside; height = h; root = r; takes = takes })
-chars_stretch h r takes [] c = no_stretch (record { place = Inside; height = h; root = r; takes = takes })
+pub chars_stretch : (h : ℕ) (r : Stage) (takes : Bool) (w : List ℕ) → AreChars w
+    → IsStretch (record { place = Inside; height = h; stage = r; takes = takes }) w (record { place = Inside; height = h; stage = r; takes = takes })
+chars_stretch h r takes [] c = no_stretch (record { place = Inside; height = h; stage = r; takes = takes })
 chars_stretch h r takes (b ∷ w) c =
-    let s : Stand = record { place = Inside; height = h; root = r; takes = takes } in
+    let s : Stand = record { place = Inside; height = h; stage = r; takes = takes } in
     let stays : next Inside b ≡ Inside =
     (let e : (b == 0x22) ≡ false = ne_eqb b 0x22 c.0 in let f : (b == 0x5c) ≡ false = ne_eqb b 0x5c c.1 in rw e (rw f refl)) in
     then_stretch s s s (b ∷ []) w (one_stretch Inside h r takes b Inside h refl refl stays refl (omega arith)) (chars_stretch h r takes w c.2)
@@ -86,31 +88,29 @@ push_stretch s t u xs len b lt is x y =
 pub more_stretch_of : (s t : Stand) (xs : List ℕ) (len n : ℕ) → IsStretch s (take len xs) t → IsStretch t (take n (take (length xs - len) (drop len xs))) t → IsStretch s (take (len + n) xs) t
 more_stretch_of s t xs len n x y = more_stretch s t xs len n x (subst (λ (w : List ℕ). IsStretch t (take n w) t) (take_rest xs len) y)
 
-pub run_on : (s t : Stand) (lines part longer xs : List ℕ) (at n : ℕ) (all : Made) → IsStretch s (take n (take (length xs - at) (drop at xs))) t
+pub run_on : (path : List (List ℕ)) (s t : Stand) (lines part longer xs : List ℕ) (at n : ℕ) (all : Made) → IsStretch s (take n (take (length xs - at) (drop at xs))) t
     → longer ≡ part ++ (if s.takes then take n (drop at xs) else [])
-    → run (record { stand = s; lines = lines; part = part }) (drop at xs) ≡ all
-    → run (record { stand = t; lines = lines; part = longer }) (drop (at + n) xs) ≡ all
-run_on s t lines part longer xs at n all x e h =
+    → run path (record { stand = s; lines = lines; part = part }) (drop at xs) ≡ all
+    → run path (record { stand = t; lines = lines; part = longer }) (drop (at + n) xs) ≡ all
+run_on path s t lines part longer xs at n all x e h =
     let y : IsStretch s (take n (drop at xs)) t = subst (λ (w : List ℕ). IsStretch s (take n w) t) (take_rest xs at) x in
     let m : Made = record { stand = s; lines = lines; part = part } in
-    ap (λ (p : List ℕ). run (record { stand = t; lines = lines; part = p }) (drop (at + n) xs)) e
-    ∙ ap (λ (w : List ℕ). run (record { stand = t; lines = lines; part = part ++ (if s.takes then take n (drop at xs) else []) }) w) (sym (drop-drop n at xs))
-    ∙ ap (λ (z : Made). run z (drop n (drop at xs))) (sym (y.runs lines part))
-    ∙ sym (run_append m (take n (drop at xs)) (drop n (drop at xs)))
-    ∙ ap (run m) (take-append-drop n (drop at xs))
+    ap (λ (p : List ℕ). run path (record { stand = t; lines = lines; part = p }) (drop (at + n) xs)) e
+    ∙ ap (λ (w : List ℕ). run path (record { stand = t; lines = lines; part = part ++ (if s.takes then take n (drop at xs) else []) }) w) (sym (drop-drop n at xs))
+    ∙ ap (λ (z : Made). run path z (drop n (drop at xs))) (sym (y.runs path lines part))
+    ∙ sym (run_append path m (take n (drop at xs)) (drop n (drop at xs)))
+    ∙ ap (run path m) (take-append-drop n (drop at xs))
     ∙ h
 
-pub run_byte : (s t : Stand) (turn : Turn) (lines part longer rest xs : List ℕ) (i b : ℕ) (all : Made) → i < length xs → b ≡ get_or xs i 0 → turn ≡ turn_at s.place s.height b → t ≡ stand_next s b
-    → longer ≡ lines_next turn lines part → rest ≡ part_next turn s part b
-    → run (record { stand = s; lines = lines; part = part }) (drop i xs) ≡ all
-    → run (record { stand = t; lines = longer; part = rest }) (drop (i + 1) xs) ≡ all
-run_byte s t turn lines part longer rest xs i b all lt is turns stands e f h =
+pub run_byte : (path : List (List ℕ)) (s t : Stand) (lines part longer rest xs : List ℕ) (i b : ℕ) (all : Made) → i < length xs → b ≡ get_or xs i 0
+    → record { stand = t; lines = longer; part = rest } ≡ step path (record { stand = s; lines = lines; part = part }) b
+    → run path (record { stand = s; lines = lines; part = part }) (drop i xs) ≡ all
+    → run path (record { stand = t; lines = longer; part = rest }) (drop (i + 1) xs) ≡ all
+run_byte path s t lines part longer rest xs i b all lt is made h =
     let m : Made = record { stand = s; lines = lines; part = part } in
-    ap (λ (x : Stand). run (record { stand = x; lines = longer; part = rest }) (drop (i + 1) xs)) stands
-    ∙ ap (λ (x : List ℕ). run (record { stand = stand_next s b; lines = x; part = rest }) (drop (i + 1) xs)) (e ∙ ap (λ (u : Turn). lines_next u lines part) turns)
-    ∙ ap (λ (x : List ℕ). run (record { stand = stand_next s b; lines = lines_next (turn_at s.place s.height b) lines part; part = x }) (drop (i + 1) xs)) (f ∙ ap (λ (u : Turn). part_next u s part b) turns)
-    ∙ ap (λ (c : ℕ). run (step m c) (drop (i + 1) xs)) is
-    ∙ ap (run m) (sym (drop_more xs i 0 lt))
+    ap (λ (x : Made). run path x (drop (i + 1) xs)) made
+    ∙ ap (λ (c : ℕ). run path (step path m c) (drop (i + 1) xs)) is
+    ∙ ap (run path m) (sym (drop_more xs i 0 lt))
     ∙ h
 
 -- ---- lengths

@@ -1,22 +1,20 @@
--- The lines that a text gives: those of the elements of its root.
+-- The lines that a container gives: those of its elements.
 use Rattle.std.specs.Prelude.{if◌then◌else◌, slice_range}
 use Rattle.std.proofs.Common.{◌≡◌, ℕ, suc, ◌+◌, ◌-◌, List, [], ◌∷◌, ◌++◌, length, take, drop, Bool, true, false, refl, sym, ap, subst, ◌∙◌, arith, lit≤}
 use Rattle.std.proofs.lemmas.List.{drop_at, drop-drop, take_at}
 use Rattle.jx_compact.specs.declared.place.Place.TheVariants.{Between}
 use Rattle.jx_compact.specs.Compact.{compact, compact_from, is_no_blank, next}
-use Rattle.jx_lex.specs.declared.kind.Kind.{Kind}
 use Rattle.jx_lex.specs.declared.kind.Kind.TheVariants as kind
-use Rattle.jx_lex.specs.Token.{IsToken, space, tab, line_feed, carriage_return}
+use Rattle.jx_lex.specs.Token.{space, tab, line_feed, carriage_return}
 use Rattle.jx_run.specs.Laws.{span_of}
-use Rattle.jx_run.specs.Tree.{Tree, node, Children, no_children, span}
+use Rattle.jx_run.specs.Tree.{Tree, Children, span}
 use Rattle.jx_run.specs.Grammar.{Blanks, no_blanks, blank, Scalar, Value, leaf, empty_array, array, empty_object, object, Items, last_item, item, Members, last_member, member}
-use Rattle.jx_run.specs.Text.{Document, document}
-use Rattle.jx_each.specs.declared.stand.Root.{Root}
-use Rattle.jx_each.specs.declared.stand.Root.TheVariants as root
+use Rattle.jx_each.specs.declared.stand.Stage.{Stage}
+use Rattle.jx_each.specs.declared.stand.Stage.TheVariants.{Array, Object, Over}
 use Rattle.jx_each.specs.Machine.{Made, line_of, step}
-use Rattle.jx_each.specs.Due.{behind, element_line, elements, past_blanks, root_by, trees}
+use Rattle.jx_each.specs.Due.{behind, element_line, past_blanks, trees}
 use Rattle.jx_each.proofs.Pieces.{Piece, Solid, blanks_gap, scalar_piece, value_piece}
-use Rattle.jx_each.proofs.Gives.{Gives, gives_cut, gives_end, gives_step, made, over_gap, over_name, over_piece}
+use Rattle.jx_each.proofs.Gives.{Gives, gives_cut, gives_over, gives_step, made, over_gap, over_name, over_piece}
 
 -- ---- where an element stands
 
@@ -25,11 +23,11 @@ left : (text w u : List ℕ) (i j : ℕ) → drop i text ≡ w ++ u → j ≡ i 
 left text w u i j h e =
     ap (λ (n : ℕ). drop n text) e ∙ sym (drop-drop (length w) i text) ∙ ap (drop (length w)) h ∙ drop_at w u (length w) refl
 
-left_piece : (text : List ℕ) {low i j : ℕ} {t u : List ℕ} → drop i text ≡ t → (p : Piece low i t j u) → drop j text ≡ u
+pub left_piece : (text : List ℕ) {low i j : ℕ} {t u : List ℕ} → drop i text ≡ t → (p : Piece low i t j u) → drop j text ≡ u
 left_piece text {i = i} {j = j} {u = u} h p = left text p.w u i j (h ∙ p.whole) p.end
 
 -- behind a byte
-left_byte : (text : List ℕ) (b : ℕ) (t : List ℕ) (i : ℕ) → drop i text ≡ b ∷ t → drop (suc i) text ≡ t
+pub left_byte : (text : List ℕ) (b : ℕ) (t : List ℕ) (i : ℕ) → drop i text ≡ b ∷ t → drop (suc i) text ≡ t
 left_byte text b t i h = left text (b ∷ []) t i (suc i) h (omega arith)
 
 value_span : {i j : ℕ} {t u : List ℕ} {tree : Tree} → Value i t j u tree → span_of tree ≡ span i j
@@ -54,14 +52,14 @@ solid_line w s =
     ∙ sym (ap (λ (m : Bool). ((if m then s.first ∷ [] else []) ++ compact_from (next Between s.first) s.rest) ++ 0x0a ∷ []) s.no_blank))
 
 -- the stretch of a span
-stretch_is : (text w u : List ℕ) (i j : ℕ) → drop i text ≡ w ++ u → j ≡ i + length w → slice_range text i j ≡ w
+pub stretch_is : (text w u : List ℕ) (i j : ℕ) → drop i text ≡ w ++ u → j ≡ i + length w → slice_range text i j ≡ w
 stretch_is text w u i j h e =
     ap (λ (n : ℕ). take n (drop i text)) (let x : j - i ≡ length w = omega (arith, e) in x)
     ∙ ap (take (length w)) h
     ∙ take_at w u (length w) refl
 
 -- the line of a value
-value_line : (text : List ℕ) {i j : ℕ} {t u : List ℕ} {tree : Tree} → drop i text ≡ t → (v : Value i t j u tree) → line_of (compact (value_piece v).piece.w) ≡ element_line text tree
+pub value_line : (text : List ℕ) {i j : ℕ} {t u : List ℕ} {tree : Tree} → drop i text ≡ t → (v : Value i t j u tree) → line_of (compact (value_piece v).piece.w) ≡ element_line text tree
 value_line text {i = i} {j = j} {u = u} {tree = tree} h v =
     let p = value_piece v in
     solid_line p.piece.w p.solid
@@ -69,112 +67,78 @@ value_line text {i = i} {j = j} {u = u} {tree = tree} h v =
     ∙ sym (ap (λ (s : _). compact (slice_range text s.start s.end) ++ 0x0a ∷ []) (value_span v))
 
 -- the comma or the bracket behind it
-value_behind : (text : List ℕ) {i j k b : ℕ} {t u v : List ℕ} {tree : Tree} → drop j text ≡ u → Value i t j u tree → is_no_blank b ≡ true → Blanks j u k (b ∷ v) → behind text tree ≡ k
+pub value_behind : (text : List ℕ) {i j k b : ℕ} {t u v : List ℕ} {tree : Tree} → drop j text ≡ u → Value i t j u tree → is_no_blank b ≡ true → Blanks j u k (b ∷ v) → behind text tree ≡ k
 value_behind text {j = j} h x is bs =
     ap (λ (s : _). past_blanks s.end (drop s.end text)) (value_span x)
     ∙ ap (past_blanks j) h
     ∙ blanks_past is bs
 
--- ---- the root
-
--- behind the root stand blanks
-tail_gives : (text : List ℕ) (r : Root) (lines : List ℕ) {i j : ℕ} {t : List ℕ} → Blanks i t j [] → Gives text (made 0 r false lines []) i t [] r
-tail_gives text r lines {j = j} bs = over_gap text 0 r false lines [] [] r (blanks_gap bs) (gives_end text (made 0 r false lines []) j)
+-- ---- in the container
 
 -- an element, where one may stand, and the blanks around it
-over_element : (text : List ℕ) (r : Root) (lines : List ℕ) (ts : List Tree) {i j k l : ℕ} {t0 t1 t2 t3 : List ℕ} {tree : Tree} → Blanks i t0 j t1 → (v : Value j t1 k t2 tree) → Blanks k t2 l t3
-    → Gives text (made 1 r true lines (compact (value_piece v).piece.w)) l t3 ts r → Gives text (made 1 r true lines []) i t0 ts r
-over_element text r lines ts bs v cs g =
-    over_gap text 1 r true lines [] ts r (blanks_gap bs)
-    (over_piece text 1 r true lines [] ts r (value_piece v).piece (lit≤ tt)
-    (over_gap text 1 r true lines (compact (value_piece v).piece.w) ts r (blanks_gap cs) g))
+over_element : (text : List ℕ) (path : List (List ℕ)) (r to : Stage) (lines : List ℕ) (ts : List Tree) {i j k l : ℕ} {t0 t1 t2 t3 : List ℕ} {tree : Tree} → Blanks i t0 j t1 → (v : Value j t1 k t2 tree) → Blanks k t2 l t3
+    → Gives text path (made 1 r true lines (compact (value_piece v).piece.w)) l t3 ts to
+    → Gives text path (made 1 r true lines []) i t0 ts to
+over_element text path r to lines ts bs v cs g =
+    over_gap text path 1 r true lines [] ts to (blanks_gap bs)
+    (over_piece text path 1 r true lines [] ts to (value_piece v).piece (lit≤ tt)
+    (over_gap text path 1 r true lines (compact (value_piece v).piece.w) ts to (blanks_gap cs) g))
 
 -- the last element, and the bracket behind it
-last_gives : (text : List ℕ) (r : Root) (b : ℕ) → is_no_blank b ≡ true → ((lines part : List ℕ) → step (made 1 r true lines part) b ≡ made 0 r false (lines ++ line_of part) [])
-    → (lines : List ℕ) {i j k l m : ℕ} {t0 t1 t2 t3 : List ℕ} {tree : Tree} → drop i text ≡ t0 → Blanks i t0 j t1 → (v : Value j t1 k t2 tree) → Blanks k t2 l (b ∷ t3) → Blanks (suc l) t3 m []
-    → Gives text (made 1 r true lines []) i t0 (tree ∷ []) r
-last_gives text r b is closes lines {l = l} {t3 = t3} {tree = tree} h bs v cs rest =
+last_gives : (text : List ℕ) (path : List (List ℕ)) (r : Stage) (b : ℕ) → is_no_blank b ≡ true
+    → ((lines part : List ℕ) → step path (made 1 r true lines part) b ≡ made 0 Over false (lines ++ line_of part) [])
+    → (lines : List ℕ) {i j k l : ℕ} {t0 t1 t2 t3 : List ℕ} {tree : Tree} → drop i text ≡ t0 → Blanks i t0 j t1 → (v : Value j t1 k t2 tree) → Blanks k t2 l (b ∷ t3)
+    → Gives text path (made 1 r true lines []) i t0 (tree ∷ []) Over
+last_gives text path r b is closes lines {l = l} {t3 = t3} {tree = tree} h bs v cs =
     let part : List ℕ = compact (value_piece v).piece.w in
     let h1 : _ ≡ _ = left_piece text h (blanks_gap bs).piece in
     let h2 : _ ≡ _ = left_piece text h1 (value_piece v).piece in
-    over_element text r lines (tree ∷ []) bs v cs
-    (gives_cut text (made 1 r true lines part) b l t3 tree [] r
+    over_element text path r Over lines (tree ∷ []) bs v cs
+    (gives_cut text path (made 1 r true lines part) b l t3 tree [] Over
     (ap (λ (m : Made). m.lines) (closes lines part) ∙ ap (λ (x : List ℕ). lines ++ x) (value_line text h1 v))
     (value_behind text h2 v is cs)
-    (subst (λ (m : Made). Gives text m (suc l) t3 [] r) (sym (closes lines part)) (tail_gives text r (lines ++ line_of part) rest)))
+    (subst (λ (m : Made). Gives text path m (suc l) t3 [] Over) (sym (closes lines part)) (gives_over text path 0 false (lines ++ line_of part) [] (suc l) t3)))
 
 -- another element, and the comma behind it
-next_gives : (text : List ℕ) (r : Root) (takes : Bool) → ((lines part : List ℕ) → step (made 1 r true lines part) 0x2c ≡ made 1 r takes (lines ++ line_of part) [])
+next_gives : (text : List ℕ) (path : List (List ℕ)) (r : Stage) (takes : Bool)
+    → ((lines part : List ℕ) → step path (made 1 r true lines part) 0x2c ≡ made 1 r takes (lines ++ line_of part) [])
     → (lines : List ℕ) (ts : List Tree) {i j k l : ℕ} {t0 t1 t2 t3 : List ℕ} {tree : Tree} → drop i text ≡ t0 → Blanks i t0 j t1 → (v : Value j t1 k t2 tree) → Blanks k t2 l (0x2c ∷ t3)
-    → ((more : List ℕ) → drop (suc l) text ≡ t3 → Gives text (made 1 r takes more []) (suc l) t3 ts r)
-    → Gives text (made 1 r true lines []) i t0 (tree ∷ ts) r
-next_gives text r takes goes lines ts {l = l} {t3 = t3} {tree = tree} h bs v cs rest =
+    → ((more : List ℕ) → drop (suc l) text ≡ t3 → Gives text path (made 1 r takes more []) (suc l) t3 ts Over)
+    → Gives text path (made 1 r true lines []) i t0 (tree ∷ ts) Over
+next_gives text path r takes goes lines ts {l = l} {t3 = t3} {tree = tree} h bs v cs rest =
     let part : List ℕ = compact (value_piece v).piece.w in
     let h1 : _ ≡ _ = left_piece text h (blanks_gap bs).piece in
     let h2 : _ ≡ _ = left_piece text h1 (value_piece v).piece in
     let h3 : _ ≡ _ = left_piece text h2 (blanks_gap cs).piece in
-    over_element text r lines (tree ∷ ts) bs v cs
-    (gives_cut text (made 1 r true lines part) 0x2c l t3 tree ts r
+    over_element text path r Over lines (tree ∷ ts) bs v cs
+    (gives_cut text path (made 1 r true lines part) 0x2c l t3 tree ts Over
     (ap (λ (m : Made). m.lines) (goes lines part) ∙ ap (λ (x : List ℕ). lines ++ x) (value_line text h1 v))
     (value_behind text h2 v refl cs)
-    (subst (λ (m : Made). Gives text m (suc l) t3 ts r) (sym (goes lines part)) (rest (lines ++ line_of part) (left_byte text 0x2c t3 l h3))))
+    (subst (λ (m : Made). Gives text path m (suc l) t3 ts Over) (sym (goes lines part)) (rest (lines ++ line_of part) (left_byte text 0x2c t3 l h3))))
 
-items_give : (text : List ℕ) (lines : List ℕ) {i j k : ℕ} {t u : List ℕ} {c : Children} → drop i text ≡ t → Items i t j (0x5d ∷ u) c → Blanks (suc j) u k []
-    → Gives text (made 1 root.Array true lines []) i t (trees c) root.Array
-items_give text lines h (last_item bs v cs) rest = last_gives text root.Array 0x5d refl (λ lines part. refl) lines h bs v cs rest
-items_give text lines h (item {more = more} bs v cs xs) rest =
-    next_gives text root.Array true (λ lines part. refl) lines (trees more) h bs v cs (λ next g. items_give text next g xs rest)
+pub items_give : (text : List ℕ) (path : List (List ℕ)) (lines : List ℕ) {i j : ℕ} {t u : List ℕ} {c : Children} → drop i text ≡ t → Items i t j (0x5d ∷ u) c
+    → Gives text path (made 1 Array true lines []) i t (trees c) Over
+items_give text path lines h (last_item bs v cs) = last_gives text path Array 0x5d refl (λ lines part. refl) lines h bs v cs
+items_give text path lines h (item {more = more} bs v cs xs) =
+    next_gives text path Array true (λ lines part. refl) lines (trees more) h bs v cs (λ next g. items_give text path next g xs)
 
 -- a name and the colon behind it
-over_member : (text : List ℕ) (lines : List ℕ) (ts : List Tree) {i j k l : ℕ} {t0 t1 t2 t3 : List ℕ} → drop i text ≡ t0 → Blanks i t0 j t1 → Scalar kind.String j t1 k t2 → Blanks k t2 l (0x3a ∷ t3)
-    → (drop (suc l) text ≡ t3 → Gives text (made 1 root.Object true lines []) (suc l) t3 ts root.Object)
-    → Gives text (made 1 root.Object false lines []) i t0 ts root.Object
-over_member text lines ts {l = l} {t3 = t3} h bs n cs g =
+over_member : (text : List ℕ) (path : List (List ℕ)) (lines : List ℕ) (ts : List Tree) {i j k l : ℕ} {t0 t1 t2 t3 : List ℕ} → drop i text ≡ t0 → Blanks i t0 j t1 → Scalar kind.String j t1 k t2 → Blanks k t2 l (0x3a ∷ t3)
+    → (drop (suc l) text ≡ t3 → Gives text path (made 1 Object true lines []) (suc l) t3 ts Over)
+    → Gives text path (made 1 Object false lines []) i t0 ts Over
+over_member text path lines ts {l = l} {t3 = t3} h bs n cs g =
     let h1 : _ ≡ _ = left_piece text h (blanks_gap bs).piece in
     let h2 : _ ≡ _ = left_piece text h1 (scalar_piece n) in
     let h3 : _ ≡ _ = left_piece text h2 (blanks_gap cs).piece in
-    over_gap text 1 root.Object false lines [] ts root.Object (blanks_gap bs)
-    (over_name text 1 root.Object lines [] ts root.Object (scalar_piece n) (lit≤ tt)
-    (over_gap text 1 root.Object false lines [] ts root.Object (blanks_gap cs)
-    (gives_step text (made 1 root.Object false lines []) 0x3a l t3 ts root.Object refl (g (left_byte text 0x3a t3 l h3)))))
+    over_gap text path 1 Object false lines [] ts Over (blanks_gap bs)
+    (over_name text path 1 Object lines [] ts Over (scalar_piece n) (lit≤ tt)
+    (over_gap text path 1 Object false lines [] ts Over (blanks_gap cs)
+    (gives_step text path (made 1 Object false lines []) 0x3a l t3 ts Over refl (g (left_byte text 0x3a t3 l h3)))))
 
-members_give : (text : List ℕ) (lines : List ℕ) {i j k : ℕ} {t u : List ℕ} {c : Children} → drop i text ≡ t → Members i t j (0x7d ∷ u) c → Blanks (suc j) u k []
-    → Gives text (made 1 root.Object false lines []) i t (trees c) root.Object
-members_give text lines h (last_member {tree = tree} bs n cs ds v es) rest =
-    over_member text lines (tree ∷ []) h bs n cs (λ g. last_gives text root.Object 0x7d refl (λ lines part. refl) lines g ds v es rest)
-members_give text lines h (member {tree = tree} {more = more} bs n cs ds v es xs) rest =
-    over_member text lines (tree ∷ trees more) h bs n cs
-    (λ g. next_gives text root.Object false (λ lines part. refl) lines (trees more) g ds v es (λ next q. members_give text next q xs rest))
-
--- a scalar is no container
-scalar_root : (k : Kind) (i j : ℕ) (w : List ℕ) → IsToken k w → root_by (node k (span i j) no_children) ≡ root.Unopened
-scalar_root kind.String i j w h = refl
-scalar_root kind.Number i j w h = refl
-scalar_root kind.True i j w h = refl
-scalar_root kind.False i j w h = refl
-scalar_root kind.Null i j w h = refl
-scalar_root kind.Object i j w h = absurd h
-scalar_root kind.Array i j w h = absurd h
-
--- the root, and the blanks behind it
-root_gives : (text : List ℕ) {i j k : ℕ} {t u : List ℕ} {tree : Tree} → drop i text ≡ t → Value i t j u tree → Blanks j u k []
-    → Gives text (made 0 root.Unopened false [] []) i t (elements tree) (root_by tree)
-root_gives text {i = i} {j = j} {t = t} h (leaf {kind = k} x) rest =
-    subst (λ (r : Root). Gives text (made 0 root.Unopened false [] []) i t [] r) (sym (scalar_root k i j x.token x.is_token))
-    (over_name text 0 root.Unopened [] [] [] root.Unopened (scalar_piece x) (lit≤ tt) (tail_gives text root.Unopened [] rest))
-root_gives text {i = i} h (empty_array {j = j} {bytes = t} {rest = u} bs) rest =
-    gives_step text (made 0 root.Unopened false [] []) 0x5b i t [] root.Array refl
-    (over_gap text 1 root.Array true [] [] [] root.Array (blanks_gap bs)
-    (gives_step text (made 1 root.Array true [] []) 0x5d j u [] root.Array refl (tail_gives text root.Array [] rest)))
-root_gives text {i = i} h (array {bytes = t} {children = c} xs) rest =
-    gives_step text (made 0 root.Unopened false [] []) 0x5b i t (trees c) root.Array refl (items_give text [] (left_byte text 0x5b t i h) xs rest)
-root_gives text {i = i} h (empty_object {j = j} {bytes = t} {rest = u} bs) rest =
-    gives_step text (made 0 root.Unopened false [] []) 0x7b i t [] root.Object refl
-    (over_gap text 1 root.Object false [] [] [] root.Object (blanks_gap bs)
-    (gives_step text (made 1 root.Object false [] []) 0x7d j u [] root.Object refl (tail_gives text root.Object [] rest)))
-root_gives text {i = i} h (object {bytes = t} {children = c} xs) rest =
-    gives_step text (made 0 root.Unopened false [] []) 0x7b i t (trees c) root.Object refl (members_give text [] (left_byte text 0x7b t i h) xs rest)
-
-pub document_gives : (text : List ℕ) {i : ℕ} {t : List ℕ} {tree : Tree} → drop i text ≡ t → Document i t tree → Gives text (made 0 root.Unopened false [] []) i t (elements tree) (root_by tree)
-document_gives text {tree = tree} h (document bs v cs) =
-    over_gap text 0 root.Unopened false [] [] (elements tree) (root_by tree) (blanks_gap bs) (root_gives text (left_piece text h (blanks_gap bs).piece) v cs)
+pub members_give : (text : List ℕ) (path : List (List ℕ)) (lines : List ℕ) {i j : ℕ} {t u : List ℕ} {c : Children} → drop i text ≡ t → Members i t j (0x7d ∷ u) c
+    → Gives text path (made 1 Object false lines []) i t (trees c) Over
+members_give text path lines h (last_member {tree = tree} bs n cs ds v es) =
+    over_member text path lines (tree ∷ []) h bs n cs (λ g. last_gives text path Object 0x7d refl (λ lines part. refl) lines g ds v es)
+members_give text path lines h (member {tree = tree} {more = more} bs n cs ds v es xs) =
+    over_member text path lines (tree ∷ trees more) h bs n cs
+    (λ g. next_gives text path Object false (λ lines part. refl) lines (trees more) g ds v es (λ next q. members_give text path next q xs))

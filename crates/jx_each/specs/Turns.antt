@@ -21,8 +21,8 @@ sign_of byte =
 abbrev pub turn_by : ℕ → Sign → Turn
 turn_by zero sign.OpenArray = turns.EnterArray
 turn_by zero sign.OpenObject = turns.EnterObject
-turn_by zero sign.Close = turns.Stay
-turn_by zero sign.Comma = turns.Stay
+turn_by zero sign.Close = turns.Past
+turn_by zero sign.Comma = turns.Past
 turn_by zero sign.Colon = turns.Stay
 turn_by zero sign.Other = turns.Stay
 turn_by (suc zero) sign.OpenArray = turns.Stay

@@ -1,3 +1,4 @@
 -- What the contracts of this crate's own functions cite, and no public one.
 pub mod Fronts
+pub mod Paths
 pub mod Stretches

@@ -1,13 +1,16 @@
 // Lines of elements, made of a text that comes slice by slice.
-ghost use Rattle.std.specs.Prelude.{◌≡◌, ◌+◌, ◌<◌, ◌≤◌, ◌^◌, ◌++◌, ◌↔◌, ℕ, List, [], Bool, OnOk, OnErr, IsErr, length};
+ghost use Rattle.std.specs.Prelude.{◌≡◌, ◌+◌, ◌<◌, ◌≤◌, ◌^◌, ◌++◌, ℕ, List, [], IfOk, OnOk, OnErr, IsErr, length};
 ghost use Rattle.jx_run.specs.Settings.{IsDocumentBy, JudgedBy};
 ghost use Rattle.jx_run.specs.Tree.{Tree};
-ghost use Rattle.jx_each.specs.Due.{root_by};
+ghost use Rattle.jx_index.specs.Pointers.{IsPointer};
+ghost use Rattle.jx_each.specs.Due.{is_container};
 ghost use Rattle.jx_each.specs.Each.{HasFailed, HasTaken};
-ghost use Rattle.jx_each.specs.inside.Fronts.{sound, sound_part};
+ghost use Rattle.jx_each.specs.inside.Fronts.{has_begun, sound, sound_part};
 
 use crate::making::make_all;
-use crate::stand::{Root, Stand, stand_at_start};
+use crate::stand::{Stage, Stand};
+use crate::token::{Token, tokens_of};
+use crate::way::stand_at_start;
 use jx_run::{Reader, Refusal, Settings, Verdict, reader_is_grammar};
 use std::alloc::{AllocError, Global};
 use std::marker::Model;
@@ -40,12 +43,28 @@ fn sound_part(slice: &[u8], before: usize, count: usize, after: usize) -> &[u8]
     }
 }
 
-/// A text that is read from its start, slice by slice: the lines of its root's elements wait here as soon as they are due. It
-/// keeps the element that is not whole yet, and no other byte. Elements are those of an array, or the values of an object's
-/// members. Its verdict is that of a reader of the same bytes.
+/// Whether a container was opened, as far as tokens lead.
+fn has_begun(stage: Stage) -> bool
+    ensures { result ≡ has_begun stage }
+{
+    match stage {
+        Stage::Ahead { level: _ } => false,
+        Stage::Elements { level: _, count: _ } => true,
+        Stage::Members { level: _ } => true,
+        Stage::Array => true,
+        Stage::Object => true,
+        Stage::Over => true,
+    }
+}
+
+/// A text that is read from its start, slice by slice: the lines of a container's elements wait here as soon as they are due. A
+/// pointer leads to the container, by the first member of each of its names. Elements are those of an array, or the values of an
+/// object's members. It keeps the element or the name that is not whole yet, and no other byte. Its verdict is that of a reader
+/// of the same bytes.
 #[derive(Drop)]
 pub struct Each {
     reader: Reader,
+    path: Vec<Token>,
     stand: Option<Stand>,
     ready: Vec<u8>,
     part: Vec<u8>,
@@ -54,28 +73,33 @@ pub struct Each {
 impl Model for Each {
     ghost use Rattle.jx_each.specs.Each.{EachValue};
     ghost use Rattle.jx_each.specs.inside.Fronts.{IsLawful};
+    ghost use Rattle.jx_each.specs.inside.Paths.{path_of};
 
     ghost Value = { EachValue };
 
-    ghost view = { λ each. record { reader = each.reader; stand = each.stand; ready = each.ready.items; part = each.part.items } };
+    ghost view = { λ each. record { reader = each.reader; path = path_of each.path.items; stand = each.stand; ready = each.ready.items; part = each.part.items } };
 
     ghost invariant = { IsLawful };
 }
 
 impl Each {
-    /// One that has taken no byte. Its settings' names are of no account. Nothing is allocated.
-    pub fn new(alloc: Global, settings: &Settings) -> Each
-        ensures settings { result.reader.settings ≡ settings.now }
-        ensures taken { HasTaken [] [] result }
-        ensures ready { result.ready ≡ [] }
+    /// One that has taken no byte, by a pointer as it is spelt. Its settings' names are of no account. `Err` where memory is
+    /// refused.
+    pub fn new(alloc: Global, settings: &Settings, pointer: &str) -> Result<Each, AllocError>
+        requires { IsPointer pointer.now }
+        ensures settings { IfOk result (λ each. each.reader.settings ≡ settings.now) }
+        ensures taken { IfOk result (HasTaken pointer.now [] []) }
+        ensures ready { IfOk result (λ each. each.ready ≡ []) }
     {
         reader_is_grammar();
-        Each {
+        let path = tokens_of(alloc, pointer.as_bytes())?;
+        Ok(Each {
             reader: Reader::new(alloc, settings, 0),
+            path,
             stand: Some(stand_at_start()),
             ready: Vec::new(alloc),
             part: Vec::new(alloc),
-        }
+        })
     }
 
     /// Takes the slice behind all bytes that it has taken. Behind a fault no byte is looked at. Only want of memory is refused,
@@ -83,7 +107,7 @@ impl Each {
     pub fn feed(&mut self, slice: &[u8]) -> Result<(), AllocError>
         requires { self.old.reader.start + self.old.reader.count + length slice.now < 2 ^ 64 }
         ensures settings { self.new.reader.settings ≡ self.old.reader.settings }
-        ensures taken { OnOk result ((bytes given : List ℕ) → HasTaken bytes given self.old → HasTaken (bytes ++ slice.now) given self.new) }
+        ensures taken { OnOk result ((pointer bytes given : List ℕ) → HasTaken pointer bytes given self.old → HasTaken pointer (bytes ++ slice.now) given self.new) }
         ensures start { self.new.reader.start ≡ self.old.reader.start }
         ensures count { OnOk result (self.new.reader.count ≡ self.old.reader.count + length slice.now) }
         ensures err { OnErr result (HasFailed self.new) }
@@ -99,7 +123,7 @@ impl Each {
         self.reader.feed(slice)?;
         let after = sound(self.reader.verdict(), self.reader.end());
         let part = sound_part(slice, before, count, after);
-        let next = make_all(stand, &mut self.ready, &mut self.part, part)?;
+        let next = make_all(&self.path, stand, &mut self.ready, &mut self.part, part)?;
         self.stand = Some(next);
         Ok(())
     }
@@ -122,25 +146,25 @@ impl Each {
     pub fn clear_ready(&mut self)
         ensures reader { self.new.reader ≡ self.old.reader }
         ensures ready { self.new.ready ≡ [] }
-        ensures taken { (bytes given : List ℕ) → HasTaken bytes given self.old → HasTaken bytes (given ++ self.old.ready) self.new }
+        ensures taken { (pointer bytes given : List ℕ) → HasTaken pointer bytes given self.old → HasTaken pointer bytes (given ++ self.old.ready) self.new }
     {
         self.ready.clear();
     }
 
     /// The verdict on the bytes that it has taken, as a whole text, whatever names its objects have.
     pub fn verdict(&self) -> Verdict
-        ensures { (bytes given : List ℕ) → HasTaken bytes given self.now → JudgedBy self.now.reader.settings 0 bytes result }
+        ensures { (pointer bytes given : List ℕ) → HasTaken pointer bytes given self.now → JudgedBy self.now.reader.settings 0 bytes result }
     {
         self.reader.verdict()
     }
 
-    /// The container at the root, where the bytes that it has taken are a text.
-    pub fn root(&self) -> Root
-        ensures { (bytes given : List ℕ) (tree : Tree) → HasTaken bytes given self.now → IsDocumentBy self.now.reader.settings 0 bytes tree → result ≡ root_by tree }
+    /// Whether the bytes that it has taken are an array or an object, where they are a text.
+    pub fn is_container(&self) -> bool
+        ensures { (pointer bytes given : List ℕ) (tree : Tree) → HasTaken pointer bytes given self.now → IsDocumentBy self.now.reader.settings 0 bytes tree → result ≡ is_container tree }
     {
         match self.stand {
-            Some(stand) => stand.root,
-            None => Root::Unopened,
+            Some(stand) => has_begun(stand.stage),
+            None => false,
         }
     }
 }

@@ -8,20 +8,20 @@ ghost use Rattle.jx_each.specs.Each.{EachValue, HasTaken};
 
 /// What was given away and what waits is what is due of the bytes that were taken.
 pub fn what_is_taken_is_due()
-    ensures due { (bytes given : List ℕ) (each : EachValue) → HasTaken bytes given each → IsDue each.reader.settings bytes (given ++ each.ready) }
+    ensures due { (pointer bytes given : List ℕ) (each : EachValue) → HasTaken pointer bytes given each → IsDue each.reader.settings pointer bytes (given ++ each.ready) }
 {}
 
 /// Whichever text the bytes before the first fault begin, the same is due.
 pub fn due_is_one()
-    ensures one { (settings : Settings) (input x y : List ℕ) → IsDue settings input x → IsDue settings input y → x ≡ y }
+    ensures one { (settings : Settings) (pointer input x y : List ℕ) → IsDue settings pointer input x → IsDue settings pointer input y → x ≡ y }
 {}
 
 /// What is due of an input begins what is due of every longer one. So it may be written before more is read.
 pub fn due_grows()
-    ensures grows { (settings : Settings) (input more x y : List ℕ) → IsDue settings input x → IsDue settings (input ++ more) y → (rest : List ℕ) × (y ≡ x ++ rest) }
+    ensures grows { (settings : Settings) (pointer input more x y : List ℕ) → IsDue settings pointer input x → IsDue settings pointer (input ++ more) y → (rest : List ℕ) × (y ≡ x ++ rest) }
 {}
 
-/// Of a text all elements are due.
+/// Of a text all elements are due of the container that the pointer leads to.
 pub fn all_of_a_text_is_due()
-    ensures all { (settings : Settings) (text output : List ℕ) (tree : Tree) → IsDocumentBy settings 0 text tree → IsDue settings text output → output ≡ all_lines text tree }
+    ensures all { (settings : Settings) (pointer text output : List ℕ) (tree : Tree) → IsDocumentBy settings 0 text tree → IsDue settings pointer text output → output ≡ all_lines text pointer tree }
 {}

@@ -1,13 +1,15 @@
-//! The elements of a text's root, as lines that come while the text is read.
+//! The elements of a container in a text, as lines that come while the text is read.
 #![tactic(auto)]
 
 mod each;
 mod laws;
 mod making;
+mod number;
 mod sign;
 mod stand;
 mod stretch;
+mod token;
+mod way;
 
 pub use each::Each;
 pub use laws::{all_of_a_text_is_due, due_grows, due_is_one, what_is_taken_is_due};
-pub use stand::Root;

@@ -2,11 +2,14 @@
 ghost use Rattle.std.specs.Prelude.{◌≡◌, ◌+◌, ◌<◌, ◌≤◌, ◌^◌, ◌++◌, [], IfOk, OnOk, if◌then◌else◌, length};
 ghost use Rattle.jx_compact.specs.Compact.{kept};
 ghost use Rattle.jx_each.specs.Turns.{turn_at};
-ghost use Rattle.jx_each.specs.Machine.{line_of, lines_next, part_next, run, stand_next, step};
+ghost use Rattle.jx_each.specs.Machine.{is_open, line_of, lines_next, part_next, run, stand_by, step};
+ghost use Rattle.jx_each.specs.inside.Paths.{count_in, path_of};
 
 use crate::sign::Turn;
-use crate::stand::{Stand, stand_next, turn_at};
+use crate::stand::{Stage, Stand, turn_at};
 use crate::stretch::stretch_from;
+use crate::token::Token;
+use crate::way::stand_by;
 use jx_compact::is_kept;
 use std::alloc::AllocError;
 
@@ -22,38 +25,98 @@ fn push_kept(part: &mut Vec<u8>, stand: Stand, byte: u8) -> Result<(), AllocErro
     Ok(())
 }
 
-/// Ends the line of an element, if there is one.
-fn end_line(lines: &mut Vec<u8>, part: &mut Vec<u8>) -> Result<(), AllocError>
-    ensures lines { OnOk result (lines.new.items ≡ lines.old.items ++ line_of part.old.items) }
-    ensures part { OnOk result (part.new.items ≡ []) }
+/// Whether what is kept is an element.
+fn is_open(stage: Stage) -> bool
+    ensures { result ≡ is_open stage }
 {
-    if !part.is_empty() {
+    match stage {
+        Stage::Array => true,
+        Stage::Object => true,
+        Stage::Members { level: _ } => false,
+        Stage::Ahead { level: _ } => false,
+        Stage::Elements { level: _, count: _ } => false,
+        Stage::Over => false,
+    }
+}
+
+/// Ends the line of an element, if there is one.
+fn end_line(lines: &mut Vec<u8>, ends: bool, part: &[u8]) -> Result<(), AllocError>
+    ensures { OnOk result (lines.new.items ≡ (if ends then lines.old.items ++ line_of part.now else lines.old.items)) }
+{
+    if ends && !part.is_empty() {
         lines.extend_from_slice(part)?;
         lines.push(b'\n')?;
-        part.clear();
     }
     Ok(())
 }
 
-/// Makes what a byte that does this comes to.
-fn make(
-    stand: Stand,
-    turn: Turn,
-    lines: &mut Vec<u8>,
-    part: &mut Vec<u8>,
-    byte: u8,
-) -> Result<(), AllocError>
-    ensures lines { OnOk result (lines.new.items ≡ lines_next turn lines.old.items part.old.items) }
-    ensures part { OnOk result (part.new.items ≡ part_next turn stand part.old.items byte) }
+/// Ends what ends with a byte that does this.
+fn end_lines(lines: &mut Vec<u8>, ends: bool, turn: Turn, part: &[u8]) -> Result<(), AllocError>
+    ensures { OnOk result (lines.new.items ≡ lines_next ends turn lines.old.items part.now) }
 {
     match turn {
-        Turn::Stay => push_kept(part, stand, byte),
-        Turn::Next => end_line(lines, part),
-        Turn::Leave => end_line(lines, part),
+        Turn::Next => end_line(lines, ends, part),
+        Turn::Leave => end_line(lines, ends, part),
         Turn::EnterArray => Ok(()),
         Turn::EnterObject => Ok(()),
         Turn::Value => Ok(()),
+        Turn::Past => Ok(()),
+        Turn::Stay => Ok(()),
     }
+}
+
+/// Keeps what stays of what stands there, or lets go what was kept before a byte that does this.
+fn keep_part(part: &mut Vec<u8>, stand: Stand, turn: Turn, byte: u8) -> Result<(), AllocError>
+    ensures { OnOk result (part.new.items ≡ part_next turn stand part.old.items byte) }
+{
+    match turn {
+        Turn::Stay => push_kept(part, stand, byte),
+        Turn::EnterArray => {
+            part.clear();
+            Ok(())
+        }
+        Turn::EnterObject => {
+            part.clear();
+            Ok(())
+        }
+        Turn::Next => {
+            part.clear();
+            Ok(())
+        }
+        Turn::Value => {
+            part.clear();
+            Ok(())
+        }
+        Turn::Leave => {
+            part.clear();
+            Ok(())
+        }
+        Turn::Past => {
+            part.clear();
+            Ok(())
+        }
+    }
+}
+
+/// Makes what a byte comes to, and answers where the byte behind it stands.
+fn make(
+    path: &[Token],
+    stand: Stand,
+    lines: &mut Vec<u8>,
+    part: &mut Vec<u8>,
+    byte: u8,
+) -> Result<Stand, AllocError>
+    requires height { stand.height + 1 < 2 ^ 64 }
+    requires count { count_in stand.stage + 1 < 2 ^ 64 }
+    ensures made { IfOk result (λ next. record { stand = next; lines = lines.new.items; part = part.new.items } ≡ step (path_of path.now) (record { stand = stand; lines = lines.old.items; part = part.old.items }) byte) }
+    ensures height { IfOk result (λ next. next.height ≤ stand.height + 1) }
+    ensures count { IfOk result (λ next. count_in next.stage ≤ count_in stand.stage + 1) }
+{
+    let turn = turn_at(stand, byte);
+    let next = stand_by(path, turn, stand, part, byte);
+    end_lines(lines, is_open(stand.stage), turn, part)?;
+    keep_part(part, stand, turn, byte)?;
+    Ok(next)
 }
 
 /// Appends a stretch of an element.
@@ -68,14 +131,17 @@ fn push_stretch(part: &mut Vec<u8>, takes: bool, bytes: &[u8]) -> Result<(), All
 
 /// Makes what bytes come to, the first of which stands there, and answers where the byte behind them stands.
 pub(crate) fn make_all(
+    path: &[Token],
     stand: Stand,
     lines: &mut Vec<u8>,
     part: &mut Vec<u8>,
     bytes: &[u8],
 ) -> Result<Stand, AllocError>
-    requires { stand.height + length bytes.now < 2 ^ 64 }
-    ensures made { IfOk result (λ next. record { stand = next; lines = lines.new.items; part = part.new.items } ≡ run (record { stand = stand; lines = lines.old.items; part = part.old.items }) bytes.now) }
-    ensures most { IfOk result (λ next. next.height ≤ stand.height + length bytes.now) }
+    requires height { stand.height + length bytes.now < 2 ^ 64 }
+    requires count { count_in stand.stage + length bytes.now < 2 ^ 64 }
+    ensures made { IfOk result (λ next. record { stand = next; lines = lines.new.items; part = part.new.items } ≡ run (path_of path.now) (record { stand = stand; lines = lines.old.items; part = part.old.items }) bytes.now) }
+    ensures height { IfOk result (λ next. next.height ≤ stand.height + length bytes.now) }
+    ensures count { IfOk result (λ next. count_in next.stage ≤ count_in stand.stage + length bytes.now) }
 {
     let mut stand = stand;
     let mut at = 0;
@@ -86,10 +152,7 @@ pub(crate) fn make_all(
         stand = found.stand;
         at = end;
         if at < bytes.len() {
-            let byte = bytes[at];
-            let turn = turn_at(stand, byte);
-            make(stand, turn, lines, part, byte)?;
-            stand = stand_next(stand, turn, byte);
+            stand = make(path, stand, lines, part, bytes[at])?;
             at += 1;
         }
     }

@@ -16,15 +16,17 @@ pub enum Sign {
 /// What a byte does at its height, the count of containers that are open before it.
 #[derive(Clone, Copy, Debug, PartialEq, Eq)]
 pub enum Turn {
-    /// It opens the root.
+    /// It opens the first one.
     EnterArray,
     EnterObject,
     /// It stands behind an element, and another follows.
     Next,
-    /// It stands between a name of the root and its value.
+    /// It stands between a name and its value.
     Value,
-    /// It closes the root.
+    /// It closes the first one.
     Leave,
+    /// It stands behind a value where none was opened.
+    Past,
     /// It stands in an element, or in no container.
     Stay,
 }
@@ -58,7 +60,8 @@ pub(crate) fn turn_by(height: usize, sign: Sign) -> Turn
         match sign {
             Sign::OpenArray => Turn::EnterArray,
             Sign::OpenObject => Turn::EnterObject,
-            Sign::Close | Sign::Comma | Sign::Colon | Sign::Other => Turn::Stay,
+            Sign::Close | Sign::Comma => Turn::Past,
+            Sign::Colon | Sign::Other => Turn::Stay,
         }
     } else if height == 1 {
         match sign {

@@ -1,18 +1,24 @@
 // Where a byte stands among the containers of a text.
 ghost use Rattle.std.specs.Prelude.{◌≡◌, ◌+◌, ◌<◌, ◌≤◌, ◌^◌};
 ghost use Rattle.jx_each.specs.Turns.{height_next, turn_at, turned};
-ghost use Rattle.jx_each.specs.Machine.{begun, root_next, stand_next, takes_next};
 
 use crate::sign::{Sign, Turn, sign_of, turn_by};
-use jx_compact::{Place, next};
+use jx_compact::Place;
 
-/// The container at the root of a text, as far as it was read.
+/// How far the container is found whose elements are written.
 #[derive(Clone, Copy, Debug, PartialEq, Eq)]
-pub enum Root {
-    /// None was opened.
-    Unopened,
+pub enum Stage {
+    /// The value comes that so many tokens lead to.
+    Ahead { level: usize },
+    /// In an array to which so many tokens lead, behind so many elements.
+    Elements { level: usize, count: usize },
+    /// In an object to which so many tokens lead.
+    Members { level: usize },
+    /// In the container itself.
     Array,
     Object,
+    /// Behind it, or where it cannot come any more.
+    Over,
 }
 
 /// Where a byte stands.
@@ -20,10 +26,10 @@ pub enum Root {
 pub struct Stand {
     /// In a string or between tokens.
     pub place: Place,
-    /// How many containers are open.
+    /// How many containers are open from the value on that tokens lead to.
     pub height: usize,
-    pub root: Root,
-    /// Whether it stands where an element or a member's value may.
+    pub stage: Stage,
+    /// Whether it stands where an element, a member's value or a name may that is kept.
     pub takes: bool,
 }
 
@@ -55,7 +61,7 @@ fn turned(height: usize, sign: Sign) -> usize
 }
 
 /// How many containers are open behind a byte that stands there.
-fn height_next(stand: Stand, byte: u8) -> usize
+pub(crate) fn height_next(stand: Stand, byte: u8) -> usize
     requires { stand.height + 1 < 2 ^ 64 }
     ensures value { result ≡ height_next stand.place stand.height byte }
     ensures most { result ≤ stand.height + 1 }
@@ -64,64 +70,5 @@ fn height_next(stand: Stand, byte: u8) -> usize
         Place::Between => turned(stand.height, sign_of(byte)),
         Place::Inside => stand.height,
         Place::Escaped => stand.height,
-    }
-}
-
-/// The root behind a byte that does this.
-fn root_next(root: Root, turn: Turn) -> Root
-    ensures { result ≡ root_next root turn }
-{
-    match turn {
-        Turn::EnterArray => Root::Array,
-        Turn::EnterObject => Root::Object,
-        Turn::Next => root,
-        Turn::Value => root,
-        Turn::Leave => root,
-        Turn::Stay => root,
-    }
-}
-
-/// Whether an element or a member's value may stand behind a byte that does this.
-fn takes_next(root: Root, takes: bool, turn: Turn) -> bool
-    ensures { result ≡ takes_next root takes turn }
-{
-    match turn {
-        Turn::EnterArray => true,
-        Turn::EnterObject => false,
-        Turn::Next => match root {
-            Root::Array => true,
-            Root::Object => false,
-            Root::Unopened => false,
-        },
-        Turn::Value => true,
-        Turn::Leave => false,
-        Turn::Stay => takes,
-    }
-}
-
-/// Where the next byte stands.
-pub(crate) fn stand_next(stand: Stand, turn: Turn, byte: u8) -> Stand
-    requires turn { turn ≡ turn_at stand.place stand.height byte }
-    requires fits { stand.height + 1 < 2 ^ 64 }
-    ensures value { result ≡ stand_next stand byte }
-    ensures most { result.height ≤ stand.height + 1 }
-{
-    Stand {
-        place: next(stand.place, byte),
-        height: height_next(stand, byte),
-        root: root_next(stand.root, turn),
-        takes: takes_next(stand.root, stand.takes, turn),
-    }
-}
-
-/// Where the first byte of a text stands.
-pub(crate) fn stand_at_start() -> Stand
-    ensures { result ≡ begun.stand }
-{
-    Stand {
-        place: Place::Between,
-        height: 0,
-        root: Root::Unopened,
-        takes: false,
     }
 }

@@ -18,12 +18,12 @@ pub(crate) struct Stretch {
 /// The same stand at another place and height.
 #[inline(always)]
 fn moved(stand: Stand, place: Place, height: usize) -> Stand
-    ensures { result ≡ record { place = place; height = height; root = stand.root; takes = stand.takes } }
+    ensures { result ≡ record { place = place; height = height; stage = stand.stage; takes = stand.takes } }
 {
     Stand {
         place,
         height,
-        root: stand.root,
+        stage: stand.stage,
         takes: stand.takes,
     }
 }

@@ -7,9 +7,11 @@ mod reading;
 mod spelt;
 mod string_fault;
 mod texts;
+mod tokens;
 mod units;
 
 pub use characters::Characters;
 pub use laws::strings_are_read;
 pub use string_fault::StringFault;
 pub use texts::{has_text, unescaped};
+pub use tokens::{has_units, token_units};

@@ -3,7 +3,7 @@ ghost use Rattle.std.specs.Prelude.{◌≡◌, ◌<◌, ◌∷◌, [], slice_ind
 ghost use Rattle.std.specs.Char.{digit_value};
 ghost use Rattle.std.specs.Char.Escape.{encode_utf16};
 ghost use Rattle.jx_lex.specs.Character.{tail_bits};
-ghost use Rattle.jx_index.specs.declared.units.Spelling.TheVariants.{InText};
+ghost use Rattle.jx_index.specs.declared.units.Spelling.TheVariants.{InText, InToken};
 ghost use Rattle.jx_index.specs.Units.{char_at, tails_of, char_units, char_more, escape_units};
 ghost use Rattle.jx_string.specs.inside.Pairs.{units_in};
 
@@ -150,5 +150,20 @@ pub(crate) fn spelt_at(first: u8, rest: &[u8]) -> Spelt
         first: escaped_unit(rest),
         second: None,
         more: if byte_at(rest, 0) == b'u' { 5 } else { 1 },
+    }
+}
+
+/// What stands at the front of the bytes of a pointer's token: a character, or `~` with the digit behind it.
+pub(crate) fn token_spelt_at(first: u8, rest: &[u8]) -> Spelt
+    ensures units { units_in result ≡ char_units InToken first rest.now }
+    ensures more { result.more ≡ char_more InToken first rest.now }
+{
+    if first != b'~' {
+        return spelt_itself(first, rest);
+    }
+    Spelt {
+        first: if byte_at(rest, 0) == b'0' { 0x7e } else { 0x2f },
+        second: None,
+        more: 1,
     }
 }

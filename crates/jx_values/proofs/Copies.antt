@@ -14,7 +14,7 @@ use Rattle.jx_compact.specs.declared.place.Place.TheVariants.{Between}
 use Rattle.jx_compact.specs.Compact.{compact, compact_from, place_behind}
 use Rattle.jx_compact.proofs.Compacts.{goes_on}
 use Rattle.jx_values.specs.Alike.{AreAlike, AreAllAlike, SameScalar}
-use Rattle.jx_values.proofs.Stays.{Stays, above, none_between, token_stays}
+use Rattle.jx_each.proofs.Stays.{Stays, above, none_between, token_stays}
 
 -- the bytes stand at an offset of one text, and their compact form at an offset of the other
 record Stands (xs ys : List ℕ) (i k : ℕ) (bytes : List ℕ) : Type 0 where

@@ -8,5 +8,5 @@ use Rattle.jx_each.proofs.stretch.chars_at.Goals as goal
 pub returns-in-Inside-clause-chars : goal.returns-in-Inside-clause-chars
 returns-in-Inside-clause-chars c =
     let s = c.args.stand in
-    subst (λ (p : Place). let t : Stand = record { place = p; height = s.height; root = s.root; takes = s.takes } in IsStretch t (take c.chars_len.result c.args.bytes.now) t) (sym c.in-Inside.is)
-    (chars_stretch s.height s.root s.takes (take c.chars_len.result c.args.bytes.now) c.chars_len.ensures.chars)
+    subst (λ (p : Place). let t : Stand = record { place = p; height = s.height; stage = s.stage; takes = s.takes } in IsStretch t (take c.chars_len.result c.args.bytes.now) t) (sym c.in-Inside.is)
+    (chars_stretch s.height s.stage s.takes (take c.chars_len.result c.args.bytes.now) c.chars_len.ensures.chars)

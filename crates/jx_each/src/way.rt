@@ -1,0 +1,241 @@
+// How the tokens of a pointer lead on from byte to byte.
+ghost use Rattle.std.specs.Prelude.{◌≡◌, ◌+◌, ◌<◌, ◌≤◌, ◌^◌, IfSome, MatchOption, None, Some, slice_get};
+ghost use Rattle.jx_each.specs.Machine.{ahead_next, at_element, at_member, at_value, begins_part, begins_value, begun, elements_next, height_by, height_in, members_next, open_next, stage_next, stand_by, takes_next};
+ghost use Rattle.jx_each.specs.inside.Paths.{count_in, path_of};
+
+use crate::number::is_number;
+use crate::sign::Turn;
+use crate::stand::{Stage, Stand, height_next};
+use crate::token::Token;
+use jx_compact::{Place, next};
+use jx_string::has_units;
+
+/// The units of the token that leads on, if there is one.
+fn token_at(path: &[Token], level: usize) -> Option<&[u32]>
+    ensures token { MatchOption result (slice_get (path_of path.now) level ≡ None) (λ units. slice_get (path_of path.now) level ≡ Some units.now) }
+    ensures within { IfSome result (λ _. level + 1 < 2 ^ 64) }
+{
+    if level < path.len() {
+        Some(&path[level].units)
+    } else {
+        None
+    }
+}
+
+/// The stage in front of an element that stands behind so many.
+fn at_element(path: &[Token], level: usize, count: usize) -> Stage
+    ensures { result ≡ at_element (slice_get (path_of path.now) level) level count }
+{
+    let Some(units) = token_at(path, level) else {
+        return Stage::Array;
+    };
+    if is_number(units, count) {
+        Stage::Ahead { level: level + 1 }
+    } else {
+        Stage::Elements { level, count }
+    }
+}
+
+/// The stage in front of a member.
+fn at_member(path: &[Token], level: usize) -> Stage
+    ensures { result ≡ at_member (slice_get (path_of path.now) level) level }
+{
+    match token_at(path, level) {
+        Some(_) => Stage::Members { level },
+        None => Stage::Object,
+    }
+}
+
+/// The stage behind a name and its colon.
+fn at_value(path: &[Token], level: usize, name: &[u8]) -> Stage
+    ensures { result ≡ at_value (slice_get (path_of path.now) level) level name.now }
+{
+    let Some(units) = token_at(path, level) else {
+        return Stage::Members { level };
+    };
+    if has_units(name, units) {
+        Stage::Ahead { level: level + 1 }
+    } else {
+        Stage::Members { level }
+    }
+}
+
+/// The stage behind a byte in front of a value.
+fn ahead_next(path: &[Token], level: usize, turn: Turn) -> Stage
+    ensures { result ≡ ahead_next (path_of path.now) level turn }
+{
+    match turn {
+        Turn::EnterArray => at_element(path, level, 0),
+        Turn::EnterObject => at_member(path, level),
+        Turn::Past => Stage::Over,
+        Turn::Next => Stage::Ahead { level },
+        Turn::Value => Stage::Ahead { level },
+        Turn::Leave => Stage::Ahead { level },
+        Turn::Stay => Stage::Ahead { level },
+    }
+}
+
+/// The stage behind a byte in an array on the way.
+fn elements_next(path: &[Token], level: usize, count: usize, turn: Turn) -> Stage
+    requires { count + 1 < 2 ^ 64 }
+    ensures { result ≡ elements_next (path_of path.now) level count turn }
+{
+    match turn {
+        Turn::Next => at_element(path, level, count + 1),
+        Turn::Leave => Stage::Over,
+        Turn::EnterArray => Stage::Elements { level, count },
+        Turn::EnterObject => Stage::Elements { level, count },
+        Turn::Past => Stage::Elements { level, count },
+        Turn::Value => Stage::Elements { level, count },
+        Turn::Stay => Stage::Elements { level, count },
+    }
+}
+
+/// The stage behind a byte in an object on the way, where a name may have been read.
+fn members_next(path: &[Token], level: usize, name: &[u8], turn: Turn) -> Stage
+    ensures { result ≡ members_next (path_of path.now) level name.now turn }
+{
+    match turn {
+        Turn::Value => at_value(path, level, name),
+        Turn::Leave => Stage::Over,
+        Turn::EnterArray => Stage::Members { level },
+        Turn::EnterObject => Stage::Members { level },
+        Turn::Past => Stage::Members { level },
+        Turn::Next => Stage::Members { level },
+        Turn::Stay => Stage::Members { level },
+    }
+}
+
+/// The stage behind a byte in the container itself.
+fn open_next(stage: Stage, turn: Turn) -> Stage
+    ensures { result ≡ open_next stage turn }
+{
+    match turn {
+        Turn::Leave => Stage::Over,
+        Turn::EnterArray => stage,
+        Turn::EnterObject => stage,
+        Turn::Past => stage,
+        Turn::Next => stage,
+        Turn::Value => stage,
+        Turn::Stay => stage,
+    }
+}
+
+/// The stage behind a byte.
+fn stage_next(path: &[Token], stage: Stage, name: &[u8], turn: Turn) -> Stage
+    requires { count_in stage + 1 < 2 ^ 64 }
+    ensures { result ≡ stage_next (path_of path.now) stage name.now turn }
+{
+    match stage {
+        Stage::Ahead { level } => ahead_next(path, level, turn),
+        Stage::Elements { level, count } => elements_next(path, level, count, turn),
+        Stage::Members { level } => members_next(path, level, name, turn),
+        Stage::Array => open_next(Stage::Array, turn),
+        Stage::Object => open_next(Stage::Object, turn),
+        Stage::Over => Stage::Over,
+    }
+}
+
+/// Whether an element or a name that is kept begins where a container or a comma was read.
+fn begins_part(stage: Stage) -> bool
+    ensures { result ≡ begins_part stage }
+{
+    match stage {
+        Stage::Array => true,
+        Stage::Members { level: _ } => true,
+        Stage::Object => false,
+        Stage::Ahead { level: _ } => false,
+        Stage::Elements { level: _, count: _ } => false,
+        Stage::Over => false,
+    }
+}
+
+/// Whether a value that is written begins behind a colon.
+fn begins_value(stage: Stage) -> bool
+    ensures { result ≡ begins_value stage }
+{
+    match stage {
+        Stage::Object => true,
+        Stage::Array => false,
+        Stage::Members { level: _ } => false,
+        Stage::Ahead { level: _ } => false,
+        Stage::Elements { level: _, count: _ } => false,
+        Stage::Over => false,
+    }
+}
+
+/// Whether what stands behind a byte is kept, by the stage there.
+fn takes_next(stage: Stage, takes: bool, turn: Turn) -> bool
+    ensures { result ≡ takes_next stage takes turn }
+{
+    match turn {
+        Turn::EnterArray => begins_part(stage),
+        Turn::EnterObject => begins_part(stage),
+        Turn::Next => begins_part(stage),
+        Turn::Value => begins_value(stage),
+        Turn::Leave => false,
+        Turn::Past => false,
+        Turn::Stay => takes,
+    }
+}
+
+/// A height by the stage there: heights count from the value that is ahead.
+fn height_in(stage: Stage, height: usize) -> usize
+    ensures value { result ≡ height_in stage height }
+    ensures most { result ≤ height }
+{
+    match stage {
+        Stage::Ahead { level: _ } => 0,
+        Stage::Elements { level: _, count: _ } => height,
+        Stage::Members { level: _ } => height,
+        Stage::Array => height,
+        Stage::Object => height,
+        Stage::Over => height,
+    }
+}
+
+/// The same behind a byte that does this.
+fn height_by(turn: Turn, stage: Stage, height: usize) -> usize
+    ensures value { result ≡ height_by turn stage height }
+    ensures most { result ≤ height }
+{
+    match turn {
+        Turn::EnterArray => height_in(stage, height),
+        Turn::EnterObject => height_in(stage, height),
+        Turn::Next => height_in(stage, height),
+        Turn::Value => height_in(stage, height),
+        Turn::Leave => height,
+        Turn::Past => height,
+        Turn::Stay => height,
+    }
+}
+
+/// Where the next byte stands, behind a byte that does this; `part` is what was kept before it.
+pub(crate) fn stand_by(path: &[Token], turn: Turn, stand: Stand, part: &[u8], byte: u8) -> Stand
+    requires height { stand.height + 1 < 2 ^ 64 }
+    requires count { count_in stand.stage + 1 < 2 ^ 64 }
+    ensures value { result ≡ stand_by (path_of path.now) turn stand part.now byte }
+    ensures height { result.height ≤ stand.height + 1 }
+    ensures count { count_in result.stage ≤ count_in stand.stage + 1 }
+{
+    let stage = stage_next(path, stand.stage, part, turn);
+    let height = height_next(stand, byte);
+    Stand {
+        place: next(stand.place, byte),
+        height: height_by(turn, stage, height),
+        stage,
+        takes: takes_next(stage, stand.takes, turn),
+    }
+}
+
+/// Where the first byte of a text stands.
+pub(crate) fn stand_at_start() -> Stand
+    ensures { result ≡ begun.stand }
+{
+    Stand {
+        place: Place::Between,
+        height: 0,
+        stage: Stage::Ahead { level: 0 },
+        takes: false,
+    }
+}
