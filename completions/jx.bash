@@ -27,7 +27,7 @@ _jx() {
     --depth | --workers | --piece | --from | --to) return ;;
     esac
     case $command in
-    check | explain | index | seq)
+    check | explain | index | each | seq)
         if [[ $word != -* ]]; then
             compopt -o filenames 2>/dev/null
             mapfile -t COMPREPLY < <(compgen -f -- "$word")

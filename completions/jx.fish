@@ -5,7 +5,7 @@ complete -c jx -n __fish_use_subcommand -a explain -d 'Show where a text stops b
 complete -c jx -n __fish_use_subcommand -a index -d 'Print a line for each value of a JSON text'
 complete -c jx -n __fish_use_subcommand -a at -d 'Print where JSON Pointers lead in a JSON text'
 complete -c jx -n __fish_use_subcommand -a get -d 'Write the values that JSON Pointers lead to, byte for byte'
-complete -c jx -n __fish_use_subcommand -a each -d 'Write each element of the root on a line of its own'
+complete -c jx -n __fish_use_subcommand -a each -d 'Write each element of a container on a line of its own'
 complete -c jx -n __fish_use_subcommand -a seq -d 'Tell which elements of a JSON text sequence are JSON texts'
 complete -c jx -n __fish_use_subcommand -a part -d 'Write the run of a part of a JSON text'
 complete -c jx -n __fish_use_subcommand -a join -d 'Write the joined run of neighboring parts, from their runs'
@@ -19,7 +19,7 @@ complete -c jx -n '__fish_seen_subcommand_from check explain index at get seq' -
 complete -c jx -n '__fish_seen_subcommand_from check explain index at get seq' -l piece -x -d 'Let a worker draw N bytes at a time'
 complete -c jx -n '__fish_seen_subcommand_from check explain index at get each seq' -l ignore-bom -d 'Ignore a byte order mark in front'
 complete -c jx -n '__fish_seen_subcommand_from check explain index at get seq' -l unique-names -d 'Refuse objects that repeat a name'
-complete -c jx -n '__fish_seen_subcommand_from check explain index seq' -F
+complete -c jx -n '__fish_seen_subcommand_from check explain index each seq' -F
 complete -c jx -n '__fish_seen_subcommand_from explain' -l color -x -a 'auto always never' -d 'Color the output: auto, always or never'
 complete -c jx -n '__fish_seen_subcommand_from at get' -l pointers -r -F -d 'Look up the lines of FILE too'
 complete -c jx -n '__fish_seen_subcommand_from get' -s c -l compact -d 'Leave out blanks between tokens'

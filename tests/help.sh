@@ -61,7 +61,7 @@ the_nearest_right_word_is_told() {
     has 'quiet is for check and seq alone' "error: unexpected argument '-q' found" "$(said '' at -q /a)"
     has 'quiet is not for get' "error: unexpected argument '-q' found" "$(said '' get -q /a)"
     has 'quiet is not for each' "error: unexpected argument '-q' found" "$(said '' each -q)"
-    has 'each takes no word so far' "error: unexpected argument '/a' found" "$(said '' each /a)"
+    has 'each takes two words' "error: unexpected argument 'b' found" "$(said '' each /a a b)"
     has 'quiet is not for part' "error: unexpected argument '-q' found" "$(said '' part -q)"
     has 'whole needs the end' 'error: the following required arguments were not provided:' "$(said '' whole)"
     has 'color is for explain alone' "error: unexpected argument '--color' found" "$(said '' check --color never)"

@@ -171,9 +171,9 @@ def random_texts():
 # ---- elements
 
 
-def each_of(text, pieces):
+def each_of(text, pieces, words=()):
     """What `each` writes and tells of a text that comes in pieces."""
-    done = subprocess.Popen([PROGRAM, "each"], stdin=subprocess.PIPE, stdout=subprocess.PIPE, stderr=subprocess.PIPE)
+    done = subprocess.Popen([PROGRAM, "each", *words], stdin=subprocess.PIPE, stdout=subprocess.PIPE, stderr=subprocess.PIPE)
     for start in range(0, len(text), pieces):
         done.stdin.write(text[start : start + pieces])
         done.stdin.flush()
@@ -217,6 +217,109 @@ def elements_of_random_texts():
         same("elements of random text %d, a fault at %d" % (number, cut), (due, b"jx: stopped at %d\n" % cut, 1), each_of(faulty, pieces))
 
 
-for test in (table, random_texts, elements_of_random_texts):
+# ---- elements of what a pointer leads to
+
+
+class Node:
+    """A value of an accepted text: where it stands, its children with their names, and where the comma or the bracket behind each stands."""
+
+    def __init__(self, text, start):
+        self.text, self.start, self.children, self.ends = text, start, [], []
+        self.kind = {b"{": "object", b"[": "array"}.get(text[start : start + 1], "scalar")
+        self.end = self.scalar_end() if self.kind == "scalar" else self.container_end()
+
+    def past_blanks(self, at):
+        while self.text[at : at + 1] in (b" ", b"\t", b"\n", b"\r"):
+            at += 1
+        return at
+
+    def scalar_end(self):
+        return re.compile(rb'"(?:[^"\\]|\\.)*"|[^][{}:,"\s]+', re.S).match(self.text, self.start).end()
+
+    def container_end(self):
+        at = self.past_blanks(self.start + 1)
+        while self.text[at : at + 1] not in (b"]", b"}"):
+            name = None
+            if self.kind == "object":
+                name = Node(self.text, at)
+                at = self.past_blanks(self.past_blanks(name.end) + 1)
+            child = Node(self.text, at)
+            self.children.append((name and json.loads(self.text[name.start : name.end]), child))
+            at = self.past_blanks(child.end)
+            self.ends.append(at)
+            if self.text[at : at + 1] == b",":
+                at = self.past_blanks(at + 1)
+        return at + 1
+
+
+def without_blanks(text):
+    """A text's tokens, one behind another."""
+    return b"".join(token[0] for token in re.finditer(rb'"(?:[^"\\]|\\.)*"|[^\s"]+', text, re.S))
+
+
+def step(node, token, number):
+    """The children that a token names, and what is told where it names none."""
+    if node.kind == "object":
+        return [child for name, child in node.children if name == token], b"no such member at token %d" % number
+    if node.kind == "scalar":
+        return [], b"not a container at token %d" % number
+    if token == "-":
+        return [], b"after last at token %d" % number
+    if not re.fullmatch("0|[1-9][0-9]*", token):
+        return [], b"not an index at token %d" % number
+    return [child for place, (_, child) in enumerate(node.children) if str(place) == token], b"past end at token %d" % number
+
+
+def reached(root, tokens):
+    """The value that tokens lead to by the first member of each name, if there is one, and what is told of the pointer."""
+    node, told = root, b""
+    for number, token in enumerate(tokens):
+        found, words = step(node, token, number)
+        if not found:
+            return None, told or words
+        if len(found) > 1:
+            told = told or b"name repeated at token %d" % number
+        node = found[0]
+    if node.kind == "scalar":
+        told = told or b"not a container at token %d" % len(tokens)
+    return node, told
+
+
+def text_with_names(chance, depth=0):
+    """A text whose names come again, and are spelt in several ways."""
+    blank = lambda: chance.choice([b"", b"", b"", b" ", b"\n\t"])
+    kind = chance.choice(["scalar", "array", "object", "object", "object"]) if depth < 4 else "scalar"
+    if kind == "scalar":
+        return chance.choice([b"1", b"-2.5e3", b"null", b'"a"', b'"{\\"b\\": [1, 2]}"', b'"\\\\"', b"[]", b"{}", b"[ ]"])
+    parts = []
+    for _ in range(chance.randrange(4)):
+        name = chance.choice([b'"a"', b'"a"', b'"b"', b'"\\u0061"', b'"\\u0062"', b'"a/b~c"', b'"a\\/b\\u007ec"', b'""', b'"\xc3\xa9"', b'"\\u00E9"', b'"aa"', b'"0"', b'"a\\""'])
+        value = text_with_names(chance, depth + 1)
+        parts.append(blank() + (name + blank() + b":" + blank() if kind == "object" else b"") + value + blank())
+    inside = b",".join(parts) or blank()
+    return b"{" + inside + b"}" if kind == "object" else b"[" + inside + b"]"
+
+
+def elements_by_pointers():
+    chance = random.Random(59)
+    for number in range(2 * TEXTS):
+        text = text_with_names(chance)
+        text = chance.choice([b"", b" "]) + text + chance.choice([b"", b"\n"])
+        root = Node(text, len(text) - len(text.lstrip()))
+        tokens = [chance.choice(["a", "a", "b", "a/b~c", "", "\u00e9", "0", "1", "2", "-", "01", "aa", 'a"']) for _ in range(chance.randrange(4))]
+        pointer = "".join("/" + token.replace("~", "~0").replace("/", "~1") for token in tokens)
+        node, words = reached(root, tokens)
+        children = [] if node is None else list(zip(node.children, node.ends))
+        lines = [(without_blanks(text[child.start : child.end]) + b"\n", end) for (_, child), end in children]
+        pieces = chance.choice([1, 2, 3, 7, 65536])
+        told = b"jx: %s\n" % words if words else b""
+        asked = [] if pointer == "" and chance.randrange(2) else [pointer]
+        same("elements at %r of %r" % (pointer, text), (b"".join(line for line, _ in lines), told, int(told != b"")), each_of(text, pieces, asked))
+        cut = chance.randrange(len(text))
+        due = b"".join(line for line, end in lines if end < cut)
+        same("elements at %r of %r, a fault at %d" % (pointer, text, cut), (due, b"jx: stopped at %d\n" % cut, 1), each_of(text[:cut] + b"\0" + text[cut:], pieces, asked))
+
+
+for test in (table, random_texts, elements_of_random_texts, elements_by_pointers):
     test()
 print("%d passed, %d failed" % (passed, failed))

@@ -114,6 +114,32 @@ each_element_has_its_line() {
     same 'a folder' "$(lines 'jx: .: is a directory' 'status 2')" "$("$program" each --file . 2>&1; echo "status $?")"
 }
 
+a_pointer_leads_to_the_container() {
+    printf '{"v": 1, "items": [1, {"a" : 2}], "o": {"x": [ ], "y": 3}, "a/b~c": ["s"], "\\u00e9": [0]}' >dump.json
+    same 'an array' "$(lines 1 '{"a":2}')" "$("$program" each /items dump.json)"
+    same 'an object' "$(lines '[]' 3)" "$("$program" each /o dump.json)"
+    same 'an element of an array' 2 "$("$program" each /items/1 dump.json)"
+    same 'an array without elements' '' "$("$program" each /o/x dump.json)"
+    same 'escapes in a token' '"s"' "$("$program" each '/a~1b~0c' dump.json)"
+    same 'escapes in a name' 0 "$("$program" each /é dump.json)"
+    same 'the whole text' 5 "$("$program" each '' dump.json | wc -l)"
+    same 'standard input' "$(lines 'status 0' 'out: 7')" "$(said '{"a":[7]}' each /a)"
+    same 'the word - for standard input' "$(lines 'status 0' 'out: 7')" "$(said '{"a":[7]}' each /a -)"
+    same 'a file of an option' "$(lines 1 '{"a":2}')" "$("$program" each /items --file dump.json)"
+    same 'a file twice' 'status 2' "$("$program" each /items dump.json --file dump.json >/dev/null 2>&1; echo "status $?")"
+    same 'a scalar' "$(lines 'jx: not a container at token 1' 'status 1')" "$("$program" each /v dump.json 2>&1; echo "status $?")"
+    same 'a scalar on the way' "$(lines 'jx: not a container at token 1' 'status 1')" "$("$program" each /v/x dump.json 2>&1; echo "status $?")"
+    same 'no such member' "$(lines 'jx: no such member at token 0' 'status 1')" "$("$program" each /none dump.json 2>&1; echo "status $?")"
+    same 'past the end' "$(lines 'jx: past end at token 1' 'status 1')" "$("$program" each /items/2 dump.json 2>&1; echo "status $?")"
+    same 'after the last' "$(lines 'jx: after last at token 1' 'status 1')" "$("$program" each /items/- dump.json 2>&1; echo "status $?")"
+    same 'no index' "$(lines 'jx: not an index at token 1' 'status 1')" "$("$program" each /items/01 dump.json 2>&1; echo "status $?")"
+    same 'a name that comes again' "$(lines 'status 1' 'out: 1' 'err: jx: name repeated at token 0')" "$(said '{"a":[1],"b":[2],"a":[3]}' each /a)"
+    same 'a fault behind the elements' "$(lines 'status 1' 'out: 1' 'err: jx: stopped at 9')" "$(said '{"a":[1] x' each /a)"
+    same 'a fault before the container' "$(lines 'status 1' 'err: jx: stopped at 2')" "$(said '{ x"a":[1]}' each /a)"
+    same 'a file and no pointer' "$(lines 'jx: no slash: the first word is a pointer, and FILE the second' 'status 2')" "$("$program" each dump.json 2>&1; echo "status $?")"
+    same 'a pointer with a bad escape' "$(lines 'jx: bad escape at 1: the first word is a pointer, and FILE the second' 'status 2')" "$("$program" each '/~x' dump.json 2>&1; echo "status $?")"
+}
+
 # A line is there before the input ends.
 lines_come_while_the_input_is_read() {
     local first
@@ -154,6 +180,7 @@ tests values_are_those_that_pointers_lead_to \
     long_values_are_written_whole \
     what_cannot_be_written_or_told \
     each_element_has_its_line \
+    a_pointer_leads_to_the_container \
     lines_come_while_the_input_is_read \
     long_elements_and_many_are_written_whole \
     a_closed_pipe_ends_it_without_a_word

@@ -1,5 +1,6 @@
 use clap::error::ErrorKind;
 use jx_command::ArgFault;
+use jx_index::PointerFault;
 use jx_parts::PartsFault;
 use jx_report::ReportFault;
 use std::alloc::AllocError;
@@ -18,6 +19,9 @@ pub enum Fault {
     /// A word is no text, as clap puts it.
     #[error("error: invalid UTF-8 was detected in one or more arguments\n")]
     NotText,
+    /// A word for a pointer is none.
+    #[error("jx: {0}: the first word is a pointer, and FILE the second\n")]
+    Pointer(PointerFault),
     #[error("jx: out of memory\n")]
     Memory(#[from(alloc)] AllocError),
     #[error("{0}\n")]

@@ -161,6 +161,14 @@ fn pointers<'a>(alloc: Global) -> Result<Arg<'a>, AllocError> {
         .required_unless_present("pointers_file")
 }
 
+/// The pointer to the container whose elements are written.
+fn container<'a>(alloc: Global) -> Arg<'a> {
+    Arg::new(alloc, "pointer")
+        .value_name("POINTER")
+        .help(help::CONTAINER)
+        .long_help(help::LONG_CONTAINER)
+}
+
 fn pointers_file<'a>(alloc: Global) -> Arg<'a> {
     Arg::new(alloc, "pointers_file")
         .long("pointers")
@@ -239,6 +247,8 @@ fn each<'a>(alloc: Global) -> Result<Command<'a>, AllocError> {
     Command::new(alloc, EACH)
         .about(help::EACH)
         .after_long_help(help::AFTER_EACH)
+        .arg(container(alloc))?
+        .arg(one_file(alloc)?)?
         .arg(file(alloc))?
         .arg(depth(alloc))?
         .arg(ignore_bom(alloc))

@@ -21,7 +21,7 @@ pub const LONG_AFTER: &str = "Examples:
   jx index dump.json                  a line for each value, with its span
   jx at /users/0/name < dump.json     where this value stands
   jx get /users/0/name < dump.json    its bytes
-  jx each < dump.json                 a line for each element of its root
+  jx each /items dump.json            a line for each element of this array
   jx seq log.json-seq                 which elements of a sequence are texts?
   jx part --from 0 < part-0 > 0.run   what this part of a text comes to
   cat *.run | jx whole --to 81920     are all parts together a JSON text?
@@ -43,7 +43,7 @@ pub const AT: &str = "Print where JSON Pointers lead in a JSON text";
 
 pub const GET: &str = "Write the values that JSON Pointers lead to, byte for byte";
 
-pub const EACH: &str = "Write each element of the root on a line of its own";
+pub const EACH: &str = "Write each element of a container on a line of its own";
 
 pub const SEQ: &str = "Tell which elements of a JSON text sequence are JSON texts";
 
@@ -173,6 +173,13 @@ In a token ~1 stands for a slash and ~0 for a tilde. What is .a.b or
 $.a.b elsewhere is /a/b here, and a FILE stands behind --file. Behind
 the word -- also what begins with a hyphen is taken for a pointer.";
 
+pub const CONTAINER: &str = "Write the elements of what POINTER leads to";
+
+pub const LONG_CONTAINER: &str = "Write the elements of what POINTER leads to, a JSON Pointer (RFC
+6901): '' or none for the whole text, or tokens that each follow a
+slash, as /data/items. Of members with the same name the first is
+taken.";
+
 pub const POINTERS: &str = "Look up the lines of FILE too";
 
 pub const LONG_POINTERS: &str =
@@ -279,25 +286,28 @@ Examples:
   jx get --file dump.json --pointers list";
 
 pub const AFTER_EACH: &str =
-    "Output, a line for each element of the array that the text is, or for the
-value of each member of the object: its tokens without blanks between them,
-each with its own bytes. So each line is a JSON text.
+    "Output, a line for each element of the array that POINTER leads to, or for
+the value of each member of the object: its tokens without blanks between
+them, each with its own bytes. So each line is a JSON text.
 
 A line is written once the comma or the bracket behind the element was read,
 also where the text is refused further on: what was written stays. Who must
 not load a part of a text runs 'jx check' first, or ends a transaction by the
-status. The text is not held, but for one element.
+status. The text is read to its end, and not held but for one element.
 
 What is told on standard error, behind the output:
   jx: VERDICT                     the text is refused, as by 'jx check'
-  jx: not a container at token 0  the text is a scalar and has no elements
+  jx: not a container at token N  POINTER leads to a scalar by N tokens
+  jx: name repeated at token N    elements of the first member were written
+  jx: ANSWER                      POINTER leads nowhere, as by 'jx at'
 
-Exit status: 0 all elements of a text are written, 1 refused or a scalar, 2 no
+Exit status: 0 all elements are written, 1 refused or no container, 2 no
 answer.
 
 Examples:
-  jx each --file dump.json > dump.jsonl
-  zstd -dc dump.json.zst | jx each | head -n 3";
+  jx each /items dump.json > items.jsonl
+  jx each '' dump.json | head -n 3
+  zstd -dc dump.json.zst | jx each /items";
 
 pub const AFTER_SEQ: &str = "Output, a line for each element, its span and then:
   accepted            it is a JSON text

@@ -54,9 +54,11 @@ pub struct ValuesOrder<'a> {
     pub is_raw: bool,
 }
 
-/// The elements of a text's root, which are written while it is read.
+/// The elements of a container in a text, which are written while it is read.
 #[derive(Clone, Copy, Debug, PartialEq, Eq)]
 pub struct EachOrder<'a> {
+    /// What leads to the container, as the words have it.
+    pub pointer: &'a str,
     /// What is read.
     pub input: Input<'a>,
     /// How it is read.

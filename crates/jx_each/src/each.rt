@@ -107,6 +107,7 @@ impl Each {
     pub fn feed(&mut self, slice: &[u8]) -> Result<(), AllocError>
         requires { self.old.reader.start + self.old.reader.count + length slice.now < 2 ^ 64 }
         ensures settings { self.new.reader.settings ≡ self.old.reader.settings }
+        ensures path { self.new.path ≡ self.old.path }
         ensures taken { OnOk result ((pointer bytes given : List ℕ) → HasTaken pointer bytes given self.old → HasTaken pointer (bytes ++ slice.now) given self.new) }
         ensures start { self.new.reader.start ≡ self.old.reader.start }
         ensures count { OnOk result (self.new.reader.count ≡ self.old.reader.count + length slice.now) }
@@ -145,6 +146,7 @@ impl Each {
     /// Lets the lines that wait go.
     pub fn clear_ready(&mut self)
         ensures reader { self.new.reader ≡ self.old.reader }
+        ensures path { self.new.path ≡ self.old.path }
         ensures ready { self.new.ready ≡ [] }
         ensures taken { (pointer bytes given : List ℕ) → HasTaken pointer bytes given self.old → HasTaken pointer bytes (given ++ self.old.ready) self.new }
     {
@@ -156,6 +158,13 @@ impl Each {
         ensures { (pointer bytes given : List ℕ) → HasTaken pointer bytes given self.now → JudgedBy self.now.reader.settings 0 bytes result }
     {
         self.reader.verdict()
+    }
+
+    /// How many tokens the pointer has.
+    pub fn token_count(&self) -> usize
+        ensures { result ≡ length self.now.path }
+    {
+        self.path.len()
     }
 
     /// Whether the bytes that it has taken are an array or an object, where they are a text.

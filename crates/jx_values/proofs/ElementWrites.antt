@@ -6,17 +6,17 @@ use Rattle.std.specs.Io.KnownBytes.{Appends, Consumes, IsAtEnd, Keeps}
 use Rattle.std.proofs.KnownBytes.{Appends-trans, Consumes-trans}
 use Rattle.jx_run.specs.declared.texts.settings.Settings.{Settings}
 use Rattle.jx_run.specs.declared.texts.verdict.Verdict.{Verdict}
-use Rattle.jx_run.specs.Settings.{IsDocumentBy, JudgedBy, a_text, cut_short, too_deep, stopped}
-use Rattle.jx_run.specs.Tree.{Tree}
-use Rattle.jx_each.specs.declared.stand.Root.{Root}
-use Rattle.jx_each.specs.Due.{IsDue, root_by}
+use Rattle.jx_run.specs.Settings.{JudgedBy}
+use Rattle.jx_find.specs.declared.finder.Finder.{Finder}
+use Rattle.jx_each.specs.Due.{IsDue}
 use Rattle.jx_each.specs.Each.{EachValue, HasTaken}
 use Rattle.jx_report.specs.declared.exit.Exit.{Exit}
 use Rattle.jx_report.specs.declared.report_fault.ReportFault.{ReportFault}
 use Rattle.jx_report.specs.Ends.{AppendsBeginning}
-use Rattle.jx_values.specs.Elements.{ElementsOutput, ReportsElements, TellsByVerdict, WroteDue, WroteInPart, WroteLines, told_by, told_of_root}
+use Rattle.jx_values.specs.Elements.{ElementsOutput, ReportsElements, TellsByVerdict, WroteDue, WroteInPart, WroteLines}
 use Rattle.jx_values.specs.Values.{exit_by}
 use Rattle.jx_values.specs.inside.ElementSteps.{IsAllWritten, IsWritten, WritesOn, WritesPart}
+use Rattle.jx_values.specs.inside.Sought.{HasSought, any_names}
 
 abbrev Known : Type 0
 Known = Option (List ℕ)
@@ -35,59 +35,80 @@ keeps_consumed (Some xs) None n text x k = absurd x
 keeps_consumed (Some xs) (Some ys) None text x k = absurd k
 keeps_consumed (Some xs) (Some ys) (Some zs) text x k = x ∙ ap (λ (l : List ℕ). text ++ l) (sym k)
 
-pub starts : (u w : Known) (each : EachValue) → HasTaken [] [] each → each.ready ≡ [] → IsWritten u u w w each
-starts u w each h none = record { text = []; given = []; read = consumes_none u; wrote = appends_none w; taken = h; none_wait = none }
+pub starts : (pointer : List ℕ) (u w : Known) (each : EachValue) (sought : Option Finder) → HasTaken pointer [] [] each → HasSought (any_names each.reader.settings) pointer [] sought → each.ready ≡ []
+    → IsWritten pointer u u w w each sought
+starts pointer u w each sought h looked none =
+    record { text = []; given = []; read = consumes_none u; wrote = appends_none w; taken = h; looked = looked; none_wait = none }
 
-pub goes_on : (u m n w x y : Known) (batch : List ℕ) (old new : EachValue) → IsWritten u m w x old → Consumes m n batch → WritesOn x y batch old new → IsWritten u n w y new
-goes_on u m n w x y batch old new h r s = record {
+pub goes_on : (pointer : List ℕ) (u m n w x y : Known) (batch : List ℕ) (old new : EachValue) (before after : Option Finder) → IsWritten pointer u m w x old before → Consumes m n batch
+    → WritesOn x y batch old new before after → IsWritten pointer u n w y new after
+goes_on pointer u m n w x y batch old new before after h r s = record {
   text = h.text ++ batch;
   given = h.given ++ s.more;
   read = Consumes-trans _ _ _ _ _ h.read r;
   wrote = Appends-trans _ _ _ _ _ h.wrote s.wrote;
-  taken = s.takes h.text h.given h.taken;
+  taken = s.takes pointer h.text h.given h.taken;
+  looked = subst (λ (k : Settings). HasSought (any_names k) pointer (h.text ++ batch) after) (sym s.settings) (s.seeks (any_names old.reader.settings) pointer h.text h.looked);
   none_wait = s.none_wait;
 }
 
-pub all_written : (u m n w x : Known) (each : EachValue) → IsWritten u m w x each → Consumes m n [] → IsAtEnd n → IsAllWritten u n w x each
-all_written u m n w x each h r end = record {
+pub all_written : (pointer : List ℕ) (u m n w x : Known) (each : EachValue) (sought : Option Finder) → IsWritten pointer u m w x each sought → Consumes m n [] → IsAtEnd n → IsAllWritten pointer u n w x each sought
+all_written pointer u m n w x each sought h r end = record {
   text = h.text;
   given = h.given;
   read = (subst (λ (l : List ℕ). Consumes u n l) (append-nil h.text) (Consumes-trans _ _ _ _ _ h.read r), end);
   wrote = h.wrote;
   taken = h.taken;
+  looked = h.looked;
   none_wait = h.none_wait;
 }
 
-due_now : (settings : Settings) (each : EachValue) (text given : List ℕ) → ((bytes given : List ℕ) (each : EachValue) → HasTaken bytes given each → IsDue each.reader.settings bytes (given ++ each.ready))
-    → each.reader.settings ≡ settings → each.ready ≡ [] → HasTaken text given each → IsDue settings text given
-due_now settings each text given law same none h =
-    subst (λ (s : Settings). IsDue s text given) same
-    (subst (λ (l : List ℕ). IsDue each.reader.settings text l) (ap (λ (l : List ℕ). given ++ l) none ∙ append-nil given) (law text given each h))
+-- what is taken is due
+abbrev TakenIsDue : Type 0
+TakenIsDue = (pointer bytes given : List ℕ) (each : EachValue) → HasTaken pointer bytes given each → IsDue each.reader.settings pointer bytes (given ++ each.ready)
 
-pub due_at_fault : (settings : Settings) (u m n w x : Known) (each : EachValue) → ((bytes given : List ℕ) (each : EachValue) → HasTaken bytes given each → IsDue each.reader.settings bytes (given ++ each.ready))
-    → each.reader.settings ≡ settings → IsWritten u m w x each → Keeps m n → WroteDue settings u n w x
-due_at_fault settings u m n w x each law same h k = record {
+due_now : (settings : Settings) (pointer : List ℕ) (each : EachValue) (text given : List ℕ) → TakenIsDue
+    → each.reader.settings ≡ settings → each.ready ≡ [] → HasTaken pointer text given each → IsDue settings pointer text given
+due_now settings pointer each text given law same none h =
+    subst (λ (s : Settings). IsDue s pointer text given) same
+    (subst (λ (l : List ℕ). IsDue each.reader.settings pointer text l) (ap (λ (l : List ℕ). given ++ l) none ∙ append-nil given) (law pointer text given each h))
+
+pub due_at_fault : (settings : Settings) (pointer : List ℕ) (u m n w x : Known) (each : EachValue) (sought : Option Finder) → TakenIsDue
+    → each.reader.settings ≡ settings → IsWritten pointer u m w x each sought → Keeps m n → WroteDue settings pointer u n w x
+due_at_fault settings pointer u m n w x each sought law same h k = record {
   text = h.text;
   output = h.given;
   read = keeps_consumed u m n h.text h.read k;
-  due = due_now settings each h.text h.given law same h.none_wait h.taken;
+  due = due_now settings pointer each h.text h.given law same h.none_wait h.taken;
   wrote = h.wrote;
 }
 
-pub lines_at_fault : (settings : Settings) (u m n w x : Known) (each : EachValue) (batch : List ℕ) → ((bytes given : List ℕ) (each : EachValue) → HasTaken bytes given each → IsDue each.reader.settings bytes (given ++ each.ready))
-    → each.reader.settings ≡ settings → IsWritten u m w x each → Consumes m n batch → WroteLines settings u n w x
-lines_at_fault settings u m n w x each batch law same h r = record {
+pub lines_at_fault : (settings : Settings) (pointer : List ℕ) (u m n w x : Known) (each : EachValue) (sought : Option Finder) (batch : List ℕ) → TakenIsDue
+    → each.reader.settings ≡ settings → IsWritten pointer u m w x each sought → Consumes m n batch → WroteLines settings pointer u n w x
+lines_at_fault settings pointer u m n w x each sought batch law same h r = record {
   text = h.text;
   more = batch;
   output = h.given;
   read = Consumes-trans _ _ _ _ _ h.read r;
-  due = due_now settings each h.text h.given law same h.none_wait h.taken;
+  due = due_now settings pointer each h.text h.given law same h.none_wait h.taken;
   wrote = h.wrote;
 }
 
-pub lines_at_end : (settings : Settings) (u m w x : Known) (each : EachValue) → ((bytes given : List ℕ) (each : EachValue) → HasTaken bytes given each → IsDue each.reader.settings bytes (given ++ each.ready))
-    → each.reader.settings ≡ settings → IsWritten u m w x each → WroteLines settings u m w x
-lines_at_end settings u m w x each law same h = lines_at_fault settings u m m w x each [] law same h (consumes_none m)
+pub lines_at_end : (settings : Settings) (pointer : List ℕ) (u m w x : Known) (each : EachValue) (sought : Option Finder) → TakenIsDue
+    → each.reader.settings ≡ settings → IsWritten pointer u m w x each sought → WroteLines settings pointer u m w x
+lines_at_end settings pointer u m w x each sought law same h = lines_at_fault settings pointer u m m w x each sought [] law same h (consumes_none m)
+
+-- nothing was read yet
+pub lines_at_start : (settings : Settings) (pointer : List ℕ) (u w : Known) (each : EachValue) → TakenIsDue
+    → each.reader.settings ≡ settings → each.ready ≡ [] → HasTaken pointer [] [] each → WroteLines settings pointer u u w w
+lines_at_start settings pointer u w each law same none h = record {
+  text = [];
+  more = [];
+  output = [];
+  read = consumes_none u;
+  due = due_now settings pointer each [] [] law same none h;
+  wrote = appends_none w;
+}
 
 take_both : (xs ys : List ℕ) (n : ℕ) → take (length xs + n) (xs ++ ys) ≡ xs ++ take n ys
 take_both [] ys n = ap (λ (k : ℕ). take k ys) (let e : 0 + n ≡ n = omega arith in e)
@@ -102,33 +123,14 @@ beginning_behind w x y given more a b = (
   subst (λ (l : List ℕ). Appends w y l) (sym (take_both given more b.0)) (Appends-trans _ _ _ _ _ a b.2),
 )
 
-pub part_at_fault : (settings : Settings) (u m n w x y : Known) (each : EachValue) (batch : List ℕ) → each.reader.settings ≡ settings → IsWritten u m w x each → Consumes m n batch → WritesPart x y batch each
-    → WroteInPart settings u n w y
-part_at_fault settings u m n w x y each batch same h r p = record {
+pub part_at_fault : (settings : Settings) (pointer : List ℕ) (u m n w x y : Known) (each : EachValue) (sought : Option Finder) (batch : List ℕ) → each.reader.settings ≡ settings
+    → IsWritten pointer u m w x each sought → Consumes m n batch → WritesPart x y batch each → WroteInPart settings pointer u n w y
+part_at_fault settings pointer u m n w x y each sought batch same h r p = record {
   text = h.text ++ batch;
   output = h.given ++ p.more;
   read = Consumes-trans _ _ _ _ _ h.read r;
-  due = subst (λ (s : Settings). IsDue s (h.text ++ batch) (h.given ++ p.more)) same (p.due h.text h.given h.taken);
+  due = subst (λ (s : Settings). IsDue s pointer (h.text ++ batch) (h.given ++ p.more)) same (p.due pointer h.text h.given h.taken);
   wrote = beginning_behind w x y h.given p.more h.wrote p.wrote;
-}
-
--- ---- what is told
-
-tells : (settings : Settings) (text : List ℕ) (verdict : Verdict) (root : Root) → JudgedBy settings 0 text verdict → ((tree : Tree) → IsDocumentBy settings 0 text tree → root ≡ root_by tree)
-    → TellsByVerdict settings text verdict (told_by verdict root)
-tells settings text verdict root (a_text {tree = tree} d) h = (tree, d, ap told_of_root (h tree d))
-tells settings text verdict root (cut_short a b) h = refl
-tells settings text verdict root (too_deep a b c d) h = refl
-tells settings text verdict root (stopped a b c d) h = refl
-
-pub output_of : (settings : Settings) (text output tells' : List ℕ) (verdict : Verdict) (root : Root) (exit : Exit) → IsDue settings text output → JudgedBy settings 0 text verdict
-    → ((tree : Tree) → IsDocumentBy settings 0 text tree → root ≡ root_by tree) → tells' ≡ told_by verdict root → exit ≡ exit_by tells' → ElementsOutput settings text output tells' exit
-output_of settings text output tells' verdict root exit due judged h e ends = record {
-  due = due;
-  verdict = verdict;
-  is_verdict = judged;
-  told = subst (λ (l : List ℕ). TellsByVerdict settings text verdict l) (sym e) (tells settings text verdict root judged h);
-  ends = ends;
 }
 
 -- ---- the report
@@ -145,29 +147,35 @@ fault_is r y f a b = ap (λ q. fault_or q y) (sym a ∙ b)
 pub same_fault : {T U : Type 0} (q : Result T ReportFault) (r : Result U ReportFault) (x y f : ReportFault) → q ≡ Err x → r ≡ Err y → y ≡ x → r ≡ Err f → q ≡ Err f
 same_fault q r x y f a b e c = a ∙ ap Err (sym e ∙ fault_is r y f b c)
 
-pub as_written : (u n w x : Known) (each : EachValue) → IsAllWritten u n w x each → IsWritten u n w x each
-as_written u n w x each h = record { text = h.text; given = h.given; read = h.read.0; wrote = h.wrote; taken = h.taken; none_wait = h.none_wait }
+pub as_written : (pointer : List ℕ) (u n w x : Known) (each : EachValue) (sought : Option Finder) → IsAllWritten pointer u n w x each sought → IsWritten pointer u n w x each sought
+as_written pointer u n w x each sought h =
+    record { text = h.text; given = h.given; read = h.read.0; wrote = h.wrote; taken = h.taken; looked = h.looked; none_wait = h.none_wait }
 
-pub reports : (settings : Settings) (u n w x : Known) (is_lost : Bool) (told retold : Known) (each : EachValue) (verdict : Verdict) (root : Root) (words : List ℕ) (exit : Exit)
-    → ((bytes given : List ℕ) (each : EachValue) → HasTaken bytes given each → IsDue each.reader.settings bytes (given ++ each.ready))
+pub reports : (settings : Settings) (pointer : List ℕ) (u n w x : Known) (is_lost : Bool) (told retold : Known) (each : EachValue) (sought : Option Finder) (verdict : Verdict) (words : List ℕ) (exit : Exit)
+    → TakenIsDue
     → each.reader.settings ≡ settings
-    → IsAllWritten u n w x each
-    → ((bytes given : List ℕ) → HasTaken bytes given each → JudgedBy each.reader.settings 0 bytes verdict)
-    → ((bytes given : List ℕ) (tree : Tree) → HasTaken bytes given each → IsDocumentBy each.reader.settings 0 bytes tree → root ≡ root_by tree)
-    → words ≡ told_by verdict root
+    → IsAllWritten pointer u n w x each sought
+    → ((pointer bytes given : List ℕ) → HasTaken pointer bytes given each → JudgedBy each.reader.settings 0 bytes verdict)
+    → ((pointer text given : List ℕ) → HasTaken pointer text given each → HasSought (any_names each.reader.settings) pointer text sought → JudgedBy each.reader.settings 0 text verdict
+    → TellsByVerdict each.reader.settings pointer text verdict words)
     → exit ≡ exit_by words
     → (is_lost ≡ false → Appends told retold words)
-    → ReportsElements settings u n w x is_lost told retold exit
-reports settings u n w x is_lost told retold each verdict root words exit law same h judged rooted e ends says =
-    let due : IsDue each.reader.settings h.text h.given = due_now each.reader.settings each h.text h.given law refl h.none_wait h.taken in
-    let out : ElementsOutput each.reader.settings h.text h.given words exit =
-    output_of each.reader.settings h.text h.given words verdict root exit due (judged h.text h.given h.taken) (λ tree d. rooted h.text h.given tree h.taken d) e ends in
+    → ReportsElements settings pointer u n w x is_lost told retold exit
+reports settings pointer u n w x is_lost told retold each sought verdict words exit law same h judged tells ends says =
+    let is_verdict : JudgedBy each.reader.settings 0 h.text verdict = judged pointer h.text h.given h.taken in
+    let out : ElementsOutput each.reader.settings pointer h.text h.given words exit = record {
+      due = due_now each.reader.settings pointer each h.text h.given law refl h.none_wait h.taken;
+      verdict = verdict;
+      is_verdict = is_verdict;
+      told = tells pointer h.text h.given h.taken h.looked is_verdict;
+      ends = ends;
+    } in
     record {
       text = h.text;
       output = h.given;
       tells = words;
       read = h.read;
-      answer = subst (λ (s : Settings). ElementsOutput s h.text h.given words exit) same out;
+      answer = subst (λ (s : Settings). ElementsOutput s pointer h.text h.given words exit) same out;
       wrote = h.wrote;
       says = says;
     }

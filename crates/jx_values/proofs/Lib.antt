@@ -4,3 +4,4 @@ mod Copies
 mod Lines
 mod Tells
 mod TextSteps
+mod Lookups

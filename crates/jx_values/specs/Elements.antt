@@ -1,15 +1,20 @@
 -- What a report on the elements of a text does to the bytes of its ends.
-use Rattle.std.specs.Prelude.{◌≡◌, ℕ, List, [], ◌++◌, codes, Option, Bool, false}
+use Rattle.std.specs.Prelude.{◌≡◌, ℕ, List, [], ◌++◌, length, codes, Option, Bool, false, Result, Ok, Err}
 use Rattle.std.specs.Io.KnownBytes.{Appends, Consumes}
 use Rattle.jx_run.specs.declared.texts.settings.Settings.{Settings}
 use Rattle.jx_run.specs.declared.texts.verdict.Verdict.{Verdict}
 use Rattle.jx_run.specs.declared.texts.verdict.Verdict.TheVariants.{Accepted, Refused}
 use Rattle.jx_run.specs.Settings.{IsDocumentBy, JudgedBy}
 use Rattle.jx_run.specs.Tree.{Tree}
+use Rattle.jx_lex.specs.declared.kind.Kind.{Kind}
+use Rattle.jx_lex.specs.declared.kind.Kind.TheVariants.{Object, Array, String, Number, True, False, Null}
+use Rattle.jx_index.specs.declared.find_fault.FindFault.{FindFault}
 use Rattle.jx_index.specs.declared.find_fault.FindFault.TheVariants.{NotAContainer}
-use Rattle.jx_each.specs.declared.stand.Root.{Root}
-use Rattle.jx_each.specs.declared.stand.Root.TheVariants as root
-use Rattle.jx_each.specs.Due.{IsDue, root_by}
+use Rattle.jx_index.specs.declared.finder.Found.{Found}
+use Rattle.jx_index.specs.Found.{found_of}
+use Rattle.jx_index.specs.Leads.{led}
+use Rattle.jx_index.specs.Pointers.{tokens}
+use Rattle.jx_each.specs.Due.{IsDue}
 use Rattle.jx_report.specs.declared.exit.Exit.{Exit}
 use Rattle.jx_report.specs.declared.pointer_answer.PointerAnswer.TheVariants.{Lost}
 use Rattle.jx_report.specs.Ends.{ReadsToEnd, AppendsBeginning}
@@ -19,62 +24,72 @@ use Rattle.jx_values.specs.Values.{exit_by}
 
 -- ---- of an input
 
--- what is told of a text with this root: nothing where it has elements, and else that it is no container
-abbrev pub told_of_root : Root → List ℕ
-told_of_root root.Unopened = codes "jx: " ++ line (answer_words (Lost (NotAContainer 0)))
-told_of_root root.Array = []
-told_of_root root.Object = []
+-- that a pointer leads to no container
+abbrev pub told_of_fault : FindFault → List ℕ
+told_of_fault fault = codes "jx: " ++ line (answer_words (Lost fault))
 
--- of an input with this verdict, and with this root where it is a text
-abbrev pub told_by : Verdict → Root → List ℕ
-told_by Accepted r = told_of_root r
-told_by (Refused refusal) r = codes "jx: " ++ line (refusal_words refusal)
+-- of a value of this kind, to which so many tokens lead: nothing where it has elements
+abbrev pub told_of_kind : Kind → ℕ → List ℕ
+told_of_kind Object n = []
+told_of_kind Array n = []
+told_of_kind String n = told_of_fault (NotAContainer n)
+told_of_kind Number n = told_of_fault (NotAContainer n)
+told_of_kind True n = told_of_fault (NotAContainer n)
+told_of_kind False n = told_of_fault (NotAContainer n)
+told_of_kind Null n = told_of_fault (NotAContainer n)
 
-abbrev pub TellsByVerdict : Settings → List ℕ → Verdict → List ℕ → Type 0
-TellsByVerdict settings input Accepted tells = (tree : Tree) × IsDocumentBy settings 0 input tree × (tells ≡ told_by Accepted (root_by tree))
-TellsByVerdict settings input (Refused refusal) tells = tells ≡ told_by (Refused refusal) root.Unopened
+-- of what so many tokens lead to
+abbrev pub told_of_found : Result Found FindFault → ℕ → List ℕ
+told_of_found (Ok found) n = told_of_kind found.kind n
+told_of_found (Err fault) n = told_of_fault fault
+
+-- of a refused input its verdict, and of a text what the pointer leads to in its tree
+abbrev pub TellsByVerdict : Settings → List ℕ → List ℕ → Verdict → List ℕ → Type 0
+TellsByVerdict settings pointer input Accepted tells =
+    (tree : Tree) × IsDocumentBy settings 0 input tree × (tells ≡ told_of_found (found_of (led input tree (tokens pointer))) (length (tokens pointer)))
+TellsByVerdict settings pointer input (Refused refusal) tells = tells ≡ codes "jx: " ++ line (refusal_words refusal)
 
 -- the whole output for an input, all that is told of it, and the exit
-pub record ElementsOutput (settings : Settings) (input output tells : List ℕ) (exit : Exit) : Type 0 where
-  pub due : IsDue settings input output
+pub record ElementsOutput (settings : Settings) (pointer input output tells : List ℕ) (exit : Exit) : Type 0 where
+  pub due : IsDue settings pointer input output
   pub verdict : Verdict
   pub is_verdict : JudgedBy settings 0 input verdict
-  pub told : TellsByVerdict settings input verdict tells
+  pub told : TellsByVerdict settings pointer input verdict tells
   pub ends : exit ≡ exit_by tells
 
 -- ---- of the ends
 
 -- the reader gave all that it had, the writer got the whole output for it, and what is told was told unless telling failed
-pub record ReportsElements (settings : Settings) (unread left written grown : Option (List ℕ)) (is_lost : Bool) (told retold : Option (List ℕ)) (exit : Exit) : Type 0 where
+pub record ReportsElements (settings : Settings) (pointer : List ℕ) (unread left written grown : Option (List ℕ)) (is_lost : Bool) (told retold : Option (List ℕ)) (exit : Exit) : Type 0 where
   pub text : List ℕ
   pub output : List ℕ
   pub tells : List ℕ
   pub read : ReadsToEnd unread left text
-  pub answer : ElementsOutput settings text output tells exit
+  pub answer : ElementsOutput settings pointer text output tells exit
   pub wrote : Appends written grown output
   pub says : is_lost ≡ false → Appends told retold tells
 
 -- the writer got what is due of the bytes that were read
-pub record WroteDue (settings : Settings) (unread left written grown : Option (List ℕ)) : Type 0 where
+pub record WroteDue (settings : Settings) (pointer : List ℕ) (unread left written grown : Option (List ℕ)) : Type 0 where
   pub text : List ℕ
   pub output : List ℕ
   pub read : Consumes unread left text
-  pub due : IsDue settings text output
+  pub due : IsDue settings pointer text output
   pub wrote : Appends written grown output
 
 -- the writer got what is due of a beginning of the bytes that were read: whole lines
-pub record WroteLines (settings : Settings) (unread left written grown : Option (List ℕ)) : Type 0 where
+pub record WroteLines (settings : Settings) (pointer : List ℕ) (unread left written grown : Option (List ℕ)) : Type 0 where
   pub text : List ℕ
   pub more : List ℕ
   pub output : List ℕ
   pub read : Consumes unread left (text ++ more)
-  pub due : IsDue settings text output
+  pub due : IsDue settings pointer text output
   pub wrote : Appends written grown output
 
 -- the writer got a beginning of what is due of the bytes that were read, and not all
-pub record WroteInPart (settings : Settings) (unread left written grown : Option (List ℕ)) : Type 0 where
+pub record WroteInPart (settings : Settings) (pointer : List ℕ) (unread left written grown : Option (List ℕ)) : Type 0 where
   pub text : List ℕ
   pub output : List ℕ
   pub read : Consumes unread left text
-  pub due : IsDue settings text output
+  pub due : IsDue settings pointer text output
   pub wrote : AppendsBeginning written grown output

@@ -2,3 +2,4 @@
 pub mod Characters
 pub mod ElementSteps
 pub mod Replies
+pub mod Sought

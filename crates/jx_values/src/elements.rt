@@ -1,54 +1,32 @@
-// The elements of a text's root are written while the text is read.
-ghost use Rattle.std.specs.Prelude.{◌≡◌, ◌≢◌, ◌<◌, ◌↔◌, ◌++◌, [], true, false, length, IfErr, IfOk, IsErrOf, OnErr, OnOk};
+// The elements of a container are written while the text is read.
+ghost use Rattle.std.specs.Prelude.{◌≡◌, ◌≢◌, ◌<◌, ◌↔◌, [], true, false, length, IfErr, IfOk, IsErrOf, OnErr, OnOk};
+ghost use Rattle.jx_index.specs.Pointers.{IsPointer};
 ghost use Rattle.jx_each.specs.Each.{HasTaken};
-ghost use Rattle.jx_values.specs.Elements.{ReportsElements, WroteDue, WroteInPart, WroteLines, told_by, told_of_root};
+ghost use Rattle.jx_values.specs.Elements.{ReportsElements, WroteDue, WroteInPart, WroteLines};
 ghost use Rattle.jx_values.specs.inside.ElementSteps.{IsAllWritten, WritesOn, WritesPart};
+ghost use Rattle.jx_values.specs.inside.Sought.{HasSought, any_names};
 
-use crate::telling::{exit_by, tell, told_of_refusal};
-use jx_each::{Each, Root, what_is_taken_is_due};
-use jx_index::FindFault;
-use jx_report::{Exit, PointerAnswer, ReportFault, Sink, Source, add_answer, write_whole};
-use jx_run::{Settings, Verdict};
-use std::alloc::{AllocError, Global};
+use crate::sought::{Sought, pointers_of, seek, sought_at_start, told_of_elements};
+use crate::telling::{exit_by, tell};
+use jx_each::{Each, what_is_taken_is_due};
+use jx_report::{Exit, ReportFault, Sink, Source, write_whole};
+use jx_run::Settings;
+use std::alloc::Global;
 
 /// How many bytes are read at a time, at most. What is read is looked at before it leaves the processor's cache.
 const STEP: usize = 256 * 1024;
 
-/// What is told of a text with this root.
-fn told_of_root(alloc: Global, root: Root) -> Result<Vec<u8>, AllocError>
-    ensures { IfOk result (λ told. told.items ≡ told_of_root root) }
-{
-    let mut told = Vec::new(alloc);
-    match root {
-        Root::Array => {}
-        Root::Object => {}
-        Root::Unopened => {
-            told.extend_from_slice(b"jx: ")?;
-            add_answer(
-                &mut told,
-                PointerAnswer::Lost(FindFault::NotAContainer { token: 0 }),
-            )?;
-        }
-    }
-    Ok(told)
-}
-
-/// What is told of an input with this verdict, and with this root where it is a text.
-fn told_of_elements(alloc: Global, verdict: Verdict, root: Root) -> Result<Vec<u8>, AllocError>
-    ensures { IfOk result (λ told. told.items ≡ told_by verdict root) }
-{
-    match verdict {
-        Verdict::Accepted => told_of_root(alloc, root),
-        Verdict::Refused(refusal) => told_of_refusal(alloc, refusal),
-    }
-}
-
 /// Takes a batch behind what was read, and writes the lines that are due then. Memory is refused too where the last byte has
 /// no offset.
-fn write_due<W: Sink>(writer: &mut W, each: &mut Each, batch: &[u8]) -> Result<(), ReportFault>
+fn write_due<W: Sink>(
+    writer: &mut W,
+    each: &mut Each,
+    sought: &mut Sought<'_, '_>,
+    batch: &[u8],
+) -> Result<(), ReportFault>
     requires { W.has_failed writer.old ≡ false }
     ensures settings { each.new.reader.settings ≡ each.old.reader.settings }
-    ensures ok { OnOk result (WritesOn (W.contents writer.old) (W.contents writer.new) batch.now each.old each.new) }
+    ensures ok { OnOk result (WritesOn (W.contents writer.old) (W.contents writer.new) batch.now each.old each.new sought.old sought.new) }
     ensures going { OnOk result (W.has_failed writer.new ≡ false) }
     ensures write { IsErrOf result ReportFault.Write ↔ (W.has_failed writer.new ≡ true) }
     ensures beginning { IsErrOf result ReportFault.Write → WritesPart (W.contents writer.old) (W.contents writer.new) batch.now each.old }
@@ -60,6 +38,7 @@ fn write_due<W: Sink>(writer: &mut W, each: &mut Each, batch: &[u8]) -> Result<(
     if batch.len() > usize::MAX - each.end() {
         return Err(ReportFault::Memory);
     }
+    seek(sought, batch)?;
     each.feed(batch)?;
     write_whole(writer, each.ready())?;
     each.clear_ready();
@@ -72,53 +51,58 @@ fn write_all_due<S: Source, W: Sink>(
     reader: &mut S,
     writer: &mut W,
     each: &mut Each,
+    sought: &mut Sought<'_, '_>,
+    pointer: &str,
     buffer: &mut [u8],
 ) -> Result<(), ReportFault>
     requires reader { S.has_failed reader.old ≡ false }
     requires writer { W.has_failed writer.old ≡ false }
     requires room { 0 < length buffer.old }
-    requires taken { HasTaken [] [] each.old }
+    requires taken { HasTaken pointer.now [] [] each.old }
+    requires sought { HasSought (any_names each.old.reader.settings) pointer.now [] sought.old }
     requires ready { each.old.ready ≡ [] }
     ensures settings { each.new.reader.settings ≡ each.old.reader.settings }
-    ensures ok { OnOk result (IsAllWritten (S.remaining reader.old) (S.remaining reader.new) (W.contents writer.old) (W.contents writer.new) each.new) }
+    ensures ok { OnOk result (IsAllWritten pointer.now (S.remaining reader.old) (S.remaining reader.new) (W.contents writer.old) (W.contents writer.new) each.new sought.new) }
     ensures going { OnOk result ((S.has_failed reader.new ≡ false) × (W.has_failed writer.new ≡ false)) }
     ensures read { IsErrOf result ReportFault.Read ↔ (S.has_failed reader.new ≡ true) }
     ensures write { IsErrOf result ReportFault.Write ↔ (W.has_failed writer.new ≡ true) }
-    ensures due { IsErrOf result ReportFault.Read → WroteDue each.old.reader.settings (S.remaining reader.old) (S.remaining reader.new) (W.contents writer.old) (W.contents writer.new) }
-    ensures lines { IsErrOf result ReportFault.Memory → WroteLines each.old.reader.settings (S.remaining reader.old) (S.remaining reader.new) (W.contents writer.old) (W.contents writer.new) }
-    ensures beginning { IsErrOf result ReportFault.Write → WroteInPart each.old.reader.settings (S.remaining reader.old) (S.remaining reader.new) (W.contents writer.old) (W.contents writer.new) }
+    ensures due { IsErrOf result ReportFault.Read → WroteDue each.old.reader.settings pointer.now (S.remaining reader.old) (S.remaining reader.new) (W.contents writer.old) (W.contents writer.new) }
+    ensures lines { IsErrOf result ReportFault.Memory → WroteLines each.old.reader.settings pointer.now (S.remaining reader.old) (S.remaining reader.new) (W.contents writer.old) (W.contents writer.new) }
+    ensures beginning { IsErrOf result ReportFault.Write → WroteInPart each.old.reader.settings pointer.now (S.remaining reader.old) (S.remaining reader.new) (W.contents writer.old) (W.contents writer.new) }
     ensures uncut { IfErr result (λ fault. fault ≢ ReportFault.Pieces) }
 {
     what_is_taken_is_due();
     for _ in 0..u64::MAX {
         match reader.read(buffer) {
             Ok(0) => return Ok(()),
-            Ok(count) => write_due(writer, each, &buffer[..count])?,
+            Ok(count) => write_due(writer, each, sought, &buffer[..count])?,
             Err(_) => return Err(ReportFault::Read),
         }
     }
     Err(ReportFault::Memory)
 }
 
-/// Reads to the end of input, and writes a line for each element of the array that it is, or for the value of each member of
-/// the object: its compact form. Each line is written before the next read may wait. Behind that it tells why the input is no
-/// text, by a line `jx: VERDICT`, or that the text is a scalar, as a pointer into it would be answered. The exit is good where
-/// nothing is told.
+/// Reads to the end of input, and writes a line for each element of the array that a pointer leads to, by the first member of
+/// each of its names (RFC 6901, section 4), or for the value of each member of the object: its compact form. Each line is written
+/// before the next read may wait. Behind that it tells why the input is no text, by a line `jx: VERDICT`, or why the pointer leads
+/// to no container, by a line `jx: ANSWER`. A name on its way that is repeated is told too. The exit is good where nothing is told.
 ///
 /// What is written is never taken back: of a refused input the lines are those of the elements whose comma or bracket stands
-/// before the first fault. One batch and one element are held. The names of the settings are of no account: objects may repeat
-/// them. Where telling fails, no more is told, and the exit is the same.
+/// before the first fault. One batch and one element or name are held. The names of the settings are of no account: objects may
+/// repeat them. Where telling fails, no more is told, and the exit is the same.
 pub fn report_elements<S: Source, W: Sink, E: Sink>(
     alloc: Global,
     reader: &mut S,
     writer: &mut W,
     errors: &mut E,
     settings: &Settings,
+    pointer: &str,
 ) -> Result<Exit, ReportFault>
+    requires pointer { IsPointer pointer.now }
     requires reader { S.has_failed reader.old ≡ false }
     requires writer { W.has_failed writer.old ≡ false }
     // All that the reader had was read, and its whole output was written and told.
-    ensures ok { IfOk result (λ exit. ReportsElements settings.now (S.remaining reader.old) (S.remaining reader.new)
+    ensures ok { IfOk result (λ exit. ReportsElements settings.now pointer.now (S.remaining reader.old) (S.remaining reader.new)
         (W.contents writer.old) (W.contents writer.new) (E.has_failed errors.new) (E.contents errors.old) (E.contents errors.new) exit) }
     ensures read { IsErrOf result ReportFault.Read ↔ (S.has_failed reader.new ≡ true) }
     ensures write { IsErrOf result ReportFault.Write ↔ (W.has_failed writer.new ≡ true) }
@@ -126,19 +110,21 @@ pub fn report_elements<S: Source, W: Sink, E: Sink>(
     ensures untold { OnErr result (errors.new ≡ errors.old) }
     // After a read fault what is due of the bytes read was written, after a refusal of memory whole lines of that, and after a
     // write fault a beginning of it.
-    ensures due { IsErrOf result ReportFault.Read → WroteDue settings.now (S.remaining reader.old) (S.remaining reader.new)
+    ensures due { IsErrOf result ReportFault.Read → WroteDue settings.now pointer.now (S.remaining reader.old) (S.remaining reader.new)
         (W.contents writer.old) (W.contents writer.new) }
-    ensures lines { IsErrOf result ReportFault.Memory → WroteLines settings.now (S.remaining reader.old) (S.remaining reader.new)
+    ensures lines { IsErrOf result ReportFault.Memory → WroteLines settings.now pointer.now (S.remaining reader.old) (S.remaining reader.new)
         (W.contents writer.old) (W.contents writer.new) }
-    ensures beginning { IsErrOf result ReportFault.Write → WroteInPart settings.now (S.remaining reader.old) (S.remaining reader.new)
+    ensures beginning { IsErrOf result ReportFault.Write → WroteInPart settings.now pointer.now (S.remaining reader.old) (S.remaining reader.new)
         (W.contents writer.old) (W.contents writer.new) }
     ensures uncut { IfErr result (λ fault. fault ≢ ReportFault.Pieces) }
 {
     what_is_taken_is_due();
-    let mut each = Each::new(alloc, settings);
+    let mut each = Each::new(alloc, settings, pointer)?;
+    let pointers = pointers_of(alloc, pointer)?;
+    let mut sought = sought_at_start(alloc, settings, &pointers)?;
     let mut buffer: Vec<u8> = vec![in alloc; 0; STEP]?;
-    write_all_due(reader, writer, &mut each, &mut buffer)?;
-    let told = told_of_elements(alloc, each.verdict(), each.root())?;
+    write_all_due(reader, writer, &mut each, &mut sought, pointer, &mut buffer)?;
+    let told = told_of_elements(alloc, &each, each.verdict(), sought)?;
     tell(errors, &told);
     Ok(exit_by(&told))
 }

@@ -1,5 +1,5 @@
 //! Reports on values: an input is read to its end, pointers are looked up in it, and the bytes of their values are written.
-//! Or the elements of its root are written while it is read.
+//! Or the elements of a container are written while the text is read.
 #![tactic(auto)]
 
 mod compact;
@@ -10,6 +10,7 @@ mod putting;
 mod raw;
 mod reply;
 mod reporting;
+mod sought;
 mod telling;
 mod value;
 mod writing;

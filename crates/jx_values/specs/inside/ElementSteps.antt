@@ -1,37 +1,44 @@
 -- How the elements of a text are written batch by batch.
 use Rattle.std.specs.Prelude.{◌≡◌, ℕ, List, [], ◌++◌, Option}
 use Rattle.std.specs.Io.KnownBytes.{Appends, Consumes}
+use Rattle.jx_run.specs.declared.texts.settings.Settings.{Settings}
+use Rattle.jx_find.specs.declared.finder.Finder.{Finder}
 use Rattle.jx_each.specs.Due.{IsDue}
 use Rattle.jx_each.specs.Each.{EachValue, HasTaken}
 use Rattle.jx_report.specs.Ends.{ReadsToEnd, AppendsBeginning}
+use Rattle.jx_values.specs.inside.Sought.{HasSought, any_names}
 
 -- a batch was taken, and the lines that were due then were written
-pub record WritesOn (written grown : Option (List ℕ)) (batch : List ℕ) (old new : EachValue) : Type 0 where
+pub record WritesOn (written grown : Option (List ℕ)) (batch : List ℕ) (old new : EachValue) (before after : Option Finder) : Type 0 where
   pub more : List ℕ
   pub wrote : Appends written grown more
-  pub takes : (text given : List ℕ) → HasTaken text given old → HasTaken (text ++ batch) (given ++ more) new
+  pub settings : new.reader.settings ≡ old.reader.settings
+  pub takes : (pointer text given : List ℕ) → HasTaken pointer text given old → HasTaken pointer (text ++ batch) (given ++ more) new
+  pub seeks : (settings : Settings) (pointer text : List ℕ) → HasSought settings pointer text before → HasSought settings pointer (text ++ batch) after
   pub none_wait : new.ready ≡ []
 
 -- a batch was taken, and a beginning of the lines that were due then was written
 pub record WritesPart (written grown : Option (List ℕ)) (batch : List ℕ) (old : EachValue) : Type 0 where
   pub more : List ℕ
   pub wrote : AppendsBeginning written grown more
-  pub due : (text given : List ℕ) → HasTaken text given old → IsDue old.reader.settings (text ++ batch) (given ++ more)
+  pub due : (pointer text given : List ℕ) → HasTaken pointer text given old → IsDue old.reader.settings pointer (text ++ batch) (given ++ more)
 
 -- all that was read was taken, and all that is due of it was written
-pub record IsWritten (unread left written grown : Option (List ℕ)) (each : EachValue) : Type 0 where
+pub record IsWritten (pointer : List ℕ) (unread left written grown : Option (List ℕ)) (each : EachValue) (sought : Option Finder) : Type 0 where
   pub text : List ℕ
   pub given : List ℕ
   pub read : Consumes unread left text
   pub wrote : Appends written grown given
-  pub taken : HasTaken text given each
+  pub taken : HasTaken pointer text given each
+  pub looked : HasSought (any_names each.reader.settings) pointer text sought
   pub none_wait : each.ready ≡ []
 
 -- and nothing is left to read
-pub record IsAllWritten (unread left written grown : Option (List ℕ)) (each : EachValue) : Type 0 where
+pub record IsAllWritten (pointer : List ℕ) (unread left written grown : Option (List ℕ)) (each : EachValue) (sought : Option Finder) : Type 0 where
   pub text : List ℕ
   pub given : List ℕ
   pub read : ReadsToEnd unread left text
   pub wrote : Appends written grown given
-  pub taken : HasTaken text given each
+  pub taken : HasTaken pointer text given each
+  pub looked : HasSought (any_names each.reader.settings) pointer text sought
   pub none_wait : each.ready ≡ []

@@ -1,0 +1,36 @@
+-- What is looked up while elements are written.
+use Rattle.std.specs.Prelude.{◌≡◌, ℕ, List, [], ◌∷◌, length, Bool, true, false, Option, Some, None}
+use Rattle.jx_run.specs.declared.texts.settings.NameRule.TheVariants.{Any}
+use Rattle.jx_run.specs.declared.texts.settings.Settings.{Settings}
+use Rattle.jx_run.specs.Settings.{IsDocumentBy}
+use Rattle.jx_run.specs.Tree.{Tree}
+use Rattle.jx_index.specs.declared.find_fault.FindFault.TheVariants.{NotAContainer}
+use Rattle.jx_index.specs.Found.{found_of}
+use Rattle.jx_index.specs.Leads.{led}
+use Rattle.jx_index.specs.Pointers.{tokens}
+use Rattle.jx_find.specs.declared.finder.Finder.{Finder}
+use Rattle.jx_find.specs.Finder.{HasFed}
+use Rattle.jx_values.specs.Elements.{told_of_fault, told_of_found}
+
+-- whatever names objects have
+abbrev pub any_names : Settings → Settings
+any_names settings = record settings { names = Any }
+
+-- the pointer that is looked up: none where it leads to the root
+abbrev pub sought_of : List ℕ → List (List ℕ)
+sought_of [] = []
+sought_of (byte ∷ bytes) = (byte ∷ bytes) ∷ []
+
+-- a look-up of the pointer was fed these bytes, or the pointer leads to the root
+abbrev pub HasSought : Settings → List ℕ → List ℕ → Option Finder → Type 0
+HasSought settings pointer bytes (Some finder) = HasFed settings (pointer ∷ []) bytes finder
+HasSought settings pointer bytes None = pointer ≡ []
+
+-- of a text what the pointer leads to in its tree
+abbrev pub TellsFound : Settings → List ℕ → List ℕ → ℕ → List ℕ → Type 0
+TellsFound settings pointer text n tells = (tree : Tree) × IsDocumentBy settings 0 text tree × (tells ≡ told_of_found (found_of (led text tree (tokens pointer))) n)
+
+-- of a text that is a container, or none
+abbrev pub told_of_root : Bool → List ℕ
+told_of_root true = []
+told_of_root false = told_of_fault (NotAContainer 0)
