@@ -21,7 +21,7 @@ bash_reads_its_file() {
 
 the_commands_and_their_options_are_offered() {
     local command option
-    for command in check explain index at get each seq part join whole; do
+    for command in check explain index at get each seq lines part join whole; do
         same "bash: the options of $command" "$(options_of $command)" "$(offered jx $command --)"
         has "bash: $command itself" "$command" "$(offered jx '')"
         for option in $(options_of $command); do
@@ -55,7 +55,7 @@ bash_completes_what_is_begun() {
 fish_offers_no_other_option() {
     local option
     for option in $(grep -oE -- "-l [a-z-]+" "$root/completions/jx.fish" | sort -u | sed 's/-l /--/'); do
-        has "fish: $option is one" "$option" "$(for command in '' check explain index at get each seq part join whole; do options_of "$command"; done)"
+        has "fish: $option is one" "$option" "$(for command in '' check explain index at get each seq lines part join whole; do options_of "$command"; done)"
     done
 }
 

@@ -39,7 +39,7 @@ the_page_has_its_sections_and_the_version() {
 
 each_paragraph_of_the_help_stands_there() {
     local command count paragraph
-    for command in '' check explain index at get each seq part join whole; do
+    for command in '' check explain index at get each seq lines part join whole; do
         count=0
         while read -r paragraph; do
             has "jx $command --help: a paragraph" "$paragraph" "$text"

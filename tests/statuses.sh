@@ -14,6 +14,7 @@ a_whole_answer_ends_with_status_0() {
     same 'pointers' "$(lines 'status 0' 'out: found array 0..4' 'out: found number 1..3')" "$(said '[10]' at '' /0)"
     same 'elements' "$(lines 'status 0' 'out: 1..4 accepted')" "$(said '\036"a"' seq)"
     same 'no element' 'status 0' "$(said '' seq)"
+    same 'lines' "$(lines 'status 0' 'out: accepted 2, refused 0')" "$(said '[1]\n2\n' lines)"
 }
 
 what_is_refused_or_not_found_ends_with_status_1() {
@@ -22,6 +23,7 @@ what_is_refused_or_not_found_ends_with_status_1() {
     same 'too deep a text' "$(lines 'status 1' 'out: too deep at 8')" "$(said '[1,{"a":[]}]' check --depth 2)"
     same 'rows of no text' "$(lines 'status 1' 'out: stopped at 7')" "$(said '{"a":1,2]' index)"
     same 'pointers that are not all found' "$(lines 'status 1' 'out: found number 4..6' 'out: past end at token 0' 'out: no slash')" "$(said '[10,20]' at /1 /2 x)"
+    same 'lines that are not all accepted' "$(lines 'status 1' 'out: 2 2..4 truncated' 'out: accepted 1, refused 1')" "$(said '1\n[2\n' lines)"
     same 'elements that are not all accepted' "$(lines 'status 1' 'out: 1..6 accepted' 'out: 7..11 may be cut' 'out: 13..16 truncated')" "$(said '\036true\n\036true\036\036[1\n' seq)"
 }
 
@@ -31,6 +33,8 @@ quiet_has_the_same_status_and_no_output() {
         same "$quiet: a text" 'status 0' "$(said null check $quiet)"
         same "$quiet: no text" 'status 1' "$(said nulx check $quiet)"
         same "$quiet: elements" 'status 0' "$(said '\036[]\n' seq $quiet)"
+        same "$quiet: lines" 'status 0' "$(said '[]\n' lines $quiet)"
+        same "$quiet: lines that are not all accepted" 'status 1' "$(said '[]\n1' lines $quiet)"
         same "$quiet: elements that are not all accepted" 'status 1' "$(said '\036[]\n\0361' seq $quiet)"
     done
     same 'quiet, and a fault' "$(lines 'status 2' 'err: jx: missing.json: cannot open: No such file or directory')" "$(said '' check -q --file missing.json)"

@@ -1,5 +1,5 @@
 // The program `jx`. It checks JSON texts, lists their values, finds or writes what pointers name, writes elements, or explains
-// why a text is refused. Or it checks the elements of sequences, or a text that stands in several parts.
+// why a text is refused. Or it checks the elements of sequences, lines, or a text that stands in several parts.
 #![tactic(auto)]
 
 ghost use Rattle.std.specs.Prelude.{◌≤◌};
@@ -9,6 +9,7 @@ mod explaining;
 mod fault;
 mod first_pass;
 mod input;
+mod judged_lines;
 mod lines;
 mod listing;
 mod misplaced;
@@ -20,6 +21,7 @@ mod values;
 use elements::write_elements_of;
 use explaining::{explain_inputs, marking_for};
 use fault::Fault;
+use judged_lines::tell_lines;
 use jx_command::{Order, Request, Told, command_of};
 use jx_explain::Form;
 use jx_files::Status;
@@ -76,6 +78,7 @@ fn answer<R: Threads + Wait + Sync>(rt: &HostRuntime, threads: &R) -> Result<Sta
         Order::Parts(order) => work_on_parts(rt, &order),
         Order::Values(order) => write_values_of(rt, threads, order),
         Order::Each(order) => write_elements_of(rt, &order),
+        Order::Lines(order) => tell_lines(rt, &order),
     }
 }
 

@@ -1,7 +1,7 @@
 // What words of the command line are.
 use jx_command::{
-    ArgFault, EachOrder, Input, Inputs, Order, PartsOrder, PartsStep, Request, Told, ValuesOrder,
-    command_of,
+    ArgFault, EachOrder, Input, Inputs, LinesOrder, Order, PartsOrder, PartsStep, Request, Told,
+    ValuesOrder, command_of,
 };
 use jx_crew::Workers;
 use jx_lines::{Line, LineFault, Out, push_text, text_of};
@@ -51,6 +51,7 @@ fn push_command(out: &mut Out, alloc: Global, owned: &[String]) -> Result<(), Al
         Ok(Order::Parts(order)) => push_parts(out, &order),
         Ok(Order::Values(order)) => push_values(out, &order),
         Ok(Order::Each(order)) => push_each(out, &order),
+        Ok(Order::Lines(order)) => push_lines_order(out, &order),
         Err(fault) => push_fault(out, alloc, &fault)?,
     }
     Ok(())
@@ -81,6 +82,7 @@ fn push_lines(
             push_pointers(out, "get", &task.pointers);
         }
         Ok(Order::Each(order)) => push_each(out, &order),
+        Ok(Order::Lines(order)) => push_lines_order(out, &order),
         Err(fault) => push_fault(out, alloc, &fault)?,
     }
     Ok(())
@@ -159,6 +161,18 @@ fn push_each(out: &mut Out, order: &EachOrder) {
     out.push_str("each");
     push_settings(out, &order.settings);
     push_inputs(out, &Inputs::One(order.input));
+}
+
+fn push_lines_order(out: &mut Out, order: &LinesOrder) {
+    out.push_str("lines");
+    push_settings(out, &order.settings);
+    if order.skips_blanks {
+        out.push_str(", skip blank");
+    }
+    if order.is_quiet {
+        out.push_str(", quiet");
+    }
+    push_inputs(out, &order.inputs);
 }
 
 fn push_parts(out: &mut Out, order: &PartsOrder) {

@@ -6,6 +6,7 @@ use crate::arg_fault::ArgFault;
 use crate::each_arguments::{EACH, each_order_from};
 use crate::grammar::grammar;
 use crate::inputs::{Input, Inputs, inputs_of, reads_standard_twice};
+use crate::lines_arguments::{LINES, lines_order_from};
 use crate::options::depth_of;
 use crate::order::Order;
 use crate::parts_arguments::parts_order_from;
@@ -131,17 +132,16 @@ fn words_of<'a>(
 }
 
 /// What is read: the file of an option, or what words name.
-fn inputs_from<'a>(
-    alloc: Global,
-    called: Subcommand,
+pub(crate) fn inputs_named<'a>(
     options: &ArgMatches<'a>,
+    words: Result<Vec<&'a str>, AllocError>,
 ) -> Result<Inputs<'a>, ArgFault> {
+    let Ok(words) = words else {
+        return Err(ArgFault::Memory);
+    };
     if let Some(file) = options.get_str("file") {
         return Ok(Inputs::One(Input::File(file)));
     }
-    let Ok(words) = words_of(alloc, called, options) else {
-        return Err(ArgFault::Memory);
-    };
     if reads_standard_twice(&words) {
         return Err(ArgFault::StandardTwice);
     }
@@ -199,7 +199,7 @@ fn request_from<'a>(
     };
     Ok(Request {
         command,
-        inputs: inputs_from(alloc, called, options)?,
+        inputs: inputs_named(options, words_of(alloc, called, options))?,
         pointers: pointers_file_of(called, options),
         told: told_by(called, options),
     })
@@ -218,6 +218,9 @@ fn order_from<'a>(
     }
     if name == EACH {
         return Ok(Order::Each(each_order_from(options)));
+    }
+    if name == LINES {
+        return Ok(Order::Lines(lines_order_from(alloc, options)?));
     }
     if name == GET {
         return match values_order_from(alloc, options) {

@@ -1,6 +1,7 @@
 // The commands and options that the words of the command line are read by.
 use crate::each_arguments::EACH;
 use crate::help;
+use crate::lines_arguments::LINES;
 use crate::parts_command::PartsCommand;
 use crate::subcommand::Subcommand;
 use crate::values_arguments::GET;
@@ -260,6 +261,26 @@ fn seq<'a>(alloc: Global) -> Result<Command<'a>, AllocError> {
         .arg(files(alloc)?)
 }
 
+fn skip_blank<'a>(alloc: Global) -> Arg<'a> {
+    Arg::new(alloc, "skip_blank")
+        .long("skip-blank")
+        .action(ArgAction::SetTrue)
+        .help(help::SKIP_BLANK)
+        .long_help(help::LONG_SKIP_BLANK)
+}
+
+fn lines<'a>(alloc: Global) -> Result<Command<'a>, AllocError> {
+    Command::new(alloc, LINES)
+        .about(help::LINES)
+        .after_long_help(help::AFTER_LINES)
+        .arg(file(alloc))?
+        .arg(depth(alloc))?
+        .arg(ignore_bom(alloc))?
+        .arg(skip_blank(alloc))?
+        .arg(quiet(alloc))?
+        .arg(files(alloc)?)
+}
+
 /// An offset in a text, for an option with the name of its id.
 fn offset<'a>(alloc: Global, name: &'a str) -> Arg<'a> {
     Arg::new(alloc, name)
@@ -341,6 +362,7 @@ pub fn grammar<'a>(alloc: Global) -> Result<Command<'a>, AllocError> {
         .subcommand(get(alloc)?)?
         .subcommand(each(alloc)?)?
         .subcommand(seq(alloc)?)?
+        .subcommand(lines(alloc)?)?
         .subcommand(part(alloc)?)?
         .subcommand(join(alloc)?)?
         .subcommand(whole(alloc)?)

@@ -23,11 +23,12 @@ pub const LONG_AFTER: &str = "Examples:
   jx get /users/0/name < dump.json    its bytes
   jx each /items dump.json            a line for each element of this array
   jx seq log.json-seq                 which elements of a sequence are texts?
+  jx lines log.jsonl                  which lines are none?
   jx part --from 0 < part-0 > 0.run   what this part of a text comes to
   cat *.run | jx whole --to 81920     are all parts together a JSON text?
 
 Exit status:
-  0  the text is accepted, every pointer is found, every element is accepted
+  0  the text, every element or line is accepted, every pointer is found
   1  otherwise: standard output tells what was refused, and where; of get
      and each standard error does
   2  no answer: standard error tells why; a call for help ends so too
@@ -46,6 +47,8 @@ pub const GET: &str = "Write the values that JSON Pointers lead to, byte for byt
 pub const EACH: &str = "Write each element of a container on a line of its own";
 
 pub const SEQ: &str = "Tell which elements of a JSON text sequence are JSON texts";
+
+pub const LINES: &str = "Tell which lines of JSON Lines are no JSON texts";
 
 pub const PART: &str = "Write the run of a part of a JSON text";
 
@@ -121,8 +124,8 @@ pub const IGNORE_BOM: &str = "Ignore a byte order mark in front";
 
 pub const LONG_IGNORE_BOM: &str =
     "Ignore a byte order mark (EF BB BF) in front of a text, before all
-blanks, or before the first record separator of a sequence. Without
-this option it is refused. Offsets count its bytes.";
+blanks, in front of all lines, or before the first record separator of
+a sequence. Without this option it is refused. Offsets count its bytes.";
 
 pub const UNIQUE_NAMES: &str = "Refuse objects that repeat a name";
 
@@ -131,6 +134,12 @@ pub const LONG_UNIQUE_NAMES: &str =
 are equal where their values are: escapes stand for the characters
 they name. Without this option such a text is accepted (RFC 8259,
 section 4).";
+
+pub const SKIP_BLANK: &str = "Pass blank lines";
+
+pub const LONG_SKIP_BLANK: &str =
+    "Pass lines that have no byte, or blanks alone. They are numbered and
+not counted. Without this option each is refused.";
 
 pub const QUIET: &str = "Write no output: the exit status is the answer";
 
@@ -325,6 +334,30 @@ files the greatest.
 Examples:
   jx seq log.json-seq
   jx seq --quiet < log.json-seq && echo whole";
+
+pub const AFTER_LINES: &str =
+    "Input, JSON Lines (NDJSON): each line is a JSON text. A line feed ends a line,
+and the last line may do without. A carriage return before it is a blank.
+
+Output, a line for each one that is no JSON text, and then the total:
+  N S..E VERDICT          the number of the line, from 1, its span without the
+                          line feed, and what it comes to
+  accepted A, refused R   how many lines are JSON texts, and how many are told
+VERDICT is that of 'jx check', with offsets from the start of the input, or:
+  blank                   the line has no byte, or blanks alone
+  may be cut              no line feed ends it, and its root is a number or a
+                          literal with nothing behind it
+
+A line is told once its line feed is read, before more input is waited for.
+What was written stays, also where a read fails later. No line is held.
+
+Exit status: 0 none is told, 1 otherwise, 2 no answer; of several files the
+greatest.
+
+Examples:
+  jx lines log.jsonl
+  tail -f log.jsonl | jx lines
+  jx lines --skip-blank --quiet log.jsonl && echo whole";
 
 pub const AFTER_PART: &str =
     "Output, one run: some KB that say what the part comes to, whatever stands

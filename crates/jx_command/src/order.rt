@@ -1,5 +1,5 @@
-// What the words of the command line ask for: a report, work on the parts of a text, values, or elements.
-use crate::inputs::Input;
+// What the words of the command line ask for: a report, work on the parts of a text, values, elements, or lines.
+use crate::inputs::{Input, Inputs};
 use crate::request::Request;
 use jx_lex::Depth;
 use jx_run::Settings;
@@ -16,6 +16,8 @@ pub enum Order<'a> {
     Values(ValuesOrder<'a>),
     /// The elements of what is read.
     Each(EachOrder<'a>),
+    /// The lines of what is read.
+    Lines(LinesOrder<'a>),
 }
 
 /// Work on the parts of a text.
@@ -63,4 +65,17 @@ pub struct EachOrder<'a> {
     pub input: Input<'a>,
     /// How it is read.
     pub settings: Settings,
+}
+
+/// Lines, each of which is to be a text.
+#[derive(Debug, Drop)]
+pub struct LinesOrder<'a> {
+    /// What is read.
+    pub inputs: Inputs<'a>,
+    /// How each line is read.
+    pub settings: Settings,
+    /// Whether blank lines are passed.
+    pub skips_blanks: bool,
+    /// Whether nothing is written.
+    pub is_quiet: bool,
 }

@@ -1,7 +1,7 @@
 // Commands under refused growths.
 use jx_command::{
-    ArgFault, EachOrder, Input, Inputs, Order, PartsOrder, PartsStep, Request, ValuesOrder,
-    command_of,
+    ArgFault, EachOrder, Input, Inputs, LinesOrder, Order, PartsOrder, PartsStep, Request,
+    ValuesOrder, command_of,
 };
 use jx_crew::Workers;
 use jx_hostile_runs::lines::Lines;
@@ -11,7 +11,7 @@ use std::alloc::{AllocError, Global};
 use std::test::Fail;
 
 // Words behind the program's name, and what they ask for.
-const COMMANDS: [(&[&str], &str); 9] = [
+const COMMANDS: [(&[&str], &str); 10] = [
     (&["chek"], "wrong words"),
     (
         &["at", "/1", "/2", "x"],
@@ -38,6 +38,10 @@ const COMMANDS: [(&[&str], &str); 9] = [
     (
         &["each", "--file", "F", "--depth", "7"],
         "each; depth 7, file F",
+    ),
+    (
+        &["lines", "F", "G", "--depth", "7", "--skip-blank", "-q"],
+        "lines; depth 7, skip blank, quiet, inputs F G",
     ),
     (
         &["check", "F", "-", "G"],
@@ -86,6 +90,7 @@ fn asked_by(alloc: Global, words: &[&str]) -> Result<String, AllocError> {
         Ok(Order::Parts(order)) => line_of_parts(alloc, &order),
         Ok(Order::Values(order)) => line_of_values(alloc, &order),
         Ok(Order::Each(order)) => line_of_each(alloc, &order),
+        Ok(Order::Lines(order)) => line_of_lines(alloc, &order),
         Err(ArgFault::Memory) => Err(AllocError),
         Err(_) => String::from_str(alloc, "wrong words"),
     }
@@ -159,6 +164,19 @@ fn line_of_each(alloc: Global, order: &EachOrder<'_>) -> Result<String, AllocErr
     let depth = order.settings.depth.containers();
     let mut line = format!(in alloc; "each; depth {depth}")?;
     add_inputs(&mut line, &Inputs::One(order.input))?;
+    Ok(line)
+}
+
+fn line_of_lines(alloc: Global, order: &LinesOrder<'_>) -> Result<String, AllocError> {
+    let depth = order.settings.depth.containers();
+    let mut line = format!(in alloc; "lines; depth {depth}")?;
+    if order.skips_blanks {
+        line.push_str(", skip blank")?;
+    }
+    if order.is_quiet {
+        line.push_str(", quiet")?;
+    }
+    add_inputs(&mut line, &order.inputs)?;
     Ok(line)
 }
 

@@ -1,0 +1,5 @@
+pub mod Cuts
+pub mod Judging
+pub mod Fronts
+pub mod Steps
+pub mod LineLaws

@@ -1,0 +1,282 @@
+// Lines of an input that comes slice by slice.
+ghost use Rattle.std.specs.Prelude.{◌≡◌, ◌+◌, ◌<◌, ◌≤◌, ◌^◌, ◌++◌, ◌∷◌, ℕ, List, [], true, IsErr, IfOk, IfSome, OnErr, OnOk, length, take};
+ghost use Rattle.jx_run.specs.declared.texts.settings.Settings.{Settings};
+ghost use Rattle.jx_run.specs.Elements.{Part, part};
+ghost use Rattle.jx_ndjson.specs.declared.judged_line.JudgedLine.{JudgedLine};
+ghost use Rattle.jx_ndjson.specs.Answers.{AreAnswers, IsAnswer};
+ghost use Rattle.jx_ndjson.specs.Lines.{line};
+ghost use Rattle.jx_ndjson.specs.Reading.{HasFailed, HasReadLines, HasTold, IsOpen, listed};
+ghost use Rattle.jx_ndjson.specs.inside.Steps.{HasNoLineFeed, is_ignored, is_next_of_mark};
+
+use crate::judged_line::{JudgedLine, blanks_behind, is_unended, told};
+use jx_lex::Span;
+use jx_run::{FrontMark, Reader, Settings, a_refused_mark_changes_nothing, ends_open_behind};
+use memchr::memchr;
+use std::alloc::{AllocError, Global};
+use std::marker::Model;
+
+/// How many bytes a byte order mark has.
+const MARK: usize = 3;
+
+/// What a reader of lines did with a slice.
+#[derive(Clone, Copy, Debug)]
+pub struct Step {
+    /// How many bytes of the slice it took.
+    pub taken: usize,
+    /// The line that ended with them.
+    pub line: Option<JudgedLine>,
+}
+
+/// Whether the byte is that of a byte order mark, U+FEFF in UTF-8, at this offset.
+fn is_next_of_mark(at: usize, byte: u8) -> bool
+    ensures { result ≡ is_next_of_mark at byte }
+{
+    match at {
+        0 => byte == 0xEF,
+        1 => byte == 0xBB,
+        2 => byte == 0xBF,
+        _ => false,
+    }
+}
+
+fn is_ignored(mark: FrontMark) -> bool
+    ensures { result ≡ is_ignored mark }
+{
+    match mark {
+        FrontMark::Refused => false,
+        FrontMark::Ignored => true,
+    }
+}
+
+/// A reader of lines from an input's start. It answers each line as the line feed is read, and keeps no byte of it. A byte
+/// order mark in front, which the settings may ignore, may be cut anywhere between two slices.
+#[derive(Drop)]
+pub struct LineReader {
+    reader: Reader,
+    is_blank: bool,
+    open_ended: bool,
+    ended: usize,
+    in_front: bool,
+}
+
+impl Model for LineReader {
+    ghost use Rattle.jx_ndjson.specs.Reading.{LineReaderValue};
+    ghost use Rattle.std.specs.Prelude.{◌≤◌};
+
+    ghost Value = { LineReaderValue };
+
+    ghost view = { λ r. record { reader = r.reader; is_blank = r.is_blank; open_ended = r.open_ended; ended = r.ended; in_front = r.in_front } };
+
+    ghost invariant = { λ r. r.ended ≤ r.reader.start };
+}
+
+impl LineReader {
+    /// Before the first byte. The settings' names are of no account: objects may repeat them. Nothing is allocated.
+    pub fn new(alloc: Global, settings: &Settings) -> LineReader
+        ensures told { HasTold settings.now [] [] result }
+        ensures start { result.reader.start + result.reader.count ≡ 0 }
+    {
+        LineReader {
+            reader: Reader::new(alloc, &settings.depth.into(), 0),
+            is_blank: true,
+            open_ended: false,
+            ended: 0,
+            in_front: is_ignored(settings.mark),
+        }
+    }
+
+    /// The offset just past the last byte that it has read.
+    pub fn end(&self) -> usize
+        ensures { result ≡ self.now.reader.start + self.now.reader.count }
+    {
+        self.reader.end()
+    }
+
+    /// How many lines a line feed has ended.
+    pub fn ended(&self) -> usize
+        ensures { result ≡ self.now.ended }
+    {
+        self.ended
+    }
+
+    /// Begins a line whose first byte has this offset.
+    fn begin(&mut self, start: usize)
+        requires { self.old.ended ≤ start }
+        ensures goes_on { (limit : ℕ) (p : Part) → IsOpen limit p self.old → IsOpen limit (part start []) self.new }
+        ensures start { self.new.reader.start ≡ start }
+        ensures count { self.new.reader.count ≡ 0 }
+        ensures ended { self.new.ended ≡ self.old.ended }
+        ensures in_front { self.new.in_front ≡ self.old.in_front }
+    {
+        self.reader.reset(start);
+        self.is_blank = true;
+        self.open_ended = false;
+    }
+
+    /// Reads bytes of the line that goes on.
+    fn go_on(&mut self, bytes: &[u8]) -> Result<(), AllocError>
+        requires fits { self.old.reader.start + self.old.reader.count + length bytes.now < 2 ^ 64 }
+        requires on_the_line { HasNoLineFeed bytes.now }
+        ensures told { OnOk result ((limit at : ℕ) (before : List ℕ) (told : List JudgedLine) → HasReadLines limit at before told self.old → HasReadLines limit at (before ++ bytes.now) told self.new) }
+        ensures start { self.new.reader.start ≡ self.old.reader.start }
+        ensures count { OnOk result (self.new.reader.count ≡ self.old.reader.count + length bytes.now) }
+        ensures ended { self.new.ended ≡ self.old.ended }
+        ensures in_front { self.new.in_front ≡ self.old.in_front }
+        ensures err { OnErr result (HasFailed self.new) }
+        ensures failed { HasFailed self.old → IsErr result }
+    {
+        self.reader.feed(bytes)?;
+        self.is_blank = blanks_behind(self.is_blank, bytes);
+        self.open_ended = ends_open_behind(self.open_ended, bytes);
+        Ok(())
+    }
+
+    /// The line that goes on, as the next one, where it ends by a line feed or by the end of the input.
+    fn judged(&self, number: usize, is_ended: bool) -> JudgedLine
+        ensures answer { (limit : ℕ) (p : Part) → IsOpen limit p self.now → IsAnswer limit (line number p is_ended) result }
+        ensures number { result.number ≡ number }
+    {
+        a_refused_mark_changes_nothing();
+        let span = Span {
+            start: self.reader.start(),
+            end: self.reader.end(),
+        };
+        let is_open = is_unended(self.open_ended, is_ended);
+        JudgedLine {
+            number,
+            span,
+            verdict: told(self.is_blank, is_open, self.reader.verdict()),
+        }
+    }
+
+    /// Ends the line by a line feed.
+    fn end_line(&mut self) -> JudgedLine
+        requires { self.old.reader.start + self.old.reader.count + 1 < 2 ^ 64 }
+        ensures told { (limit at : ℕ) (before : List ℕ) (told : List JudgedLine) → HasReadLines limit at before told self.old
+            → HasReadLines limit at (before ++ 0x0a ∷ []) (told ++ result ∷ []) self.new }
+        ensures start { self.new.reader.start ≡ self.old.reader.start + self.old.reader.count + 1 }
+        ensures count { self.new.reader.count ≡ 0 }
+        ensures ended { self.new.ended ≡ self.old.ended + 1 }
+        ensures in_front { self.new.in_front ≡ self.old.in_front }
+    {
+        let end = self.reader.end();
+        let number = self.ended + 1;
+        let line = self.judged(number, true);
+        self.begin(end + 1);
+        self.ended = number;
+        line
+    }
+
+    /// Reads a slice up to and with its first line feed.
+    fn read_line(&mut self, slice: &[u8]) -> Result<Step, AllocError>
+        requires { self.old.reader.start + self.old.reader.count + length slice.now < 2 ^ 64 }
+        ensures taken { IfOk result (λ step. step.taken ≤ length slice.now) }
+        ensures goes_on { IfOk result (λ step. 0 < length slice.now → 0 < step.taken) }
+        ensures told { IfOk result (λ step. (limit at : ℕ) (before : List ℕ) (told : List JudgedLine) → HasReadLines limit at before told self.old
+            → HasReadLines limit at (before ++ take step.taken slice.now) (told ++ listed step.line) self.new) }
+        ensures count { IfOk result (λ step. self.new.reader.start + self.new.reader.count ≡ self.old.reader.start + self.old.reader.count + step.taken) }
+        ensures ended { IfOk result (λ step. self.new.ended ≡ self.old.ended + length (listed step.line)) }
+        ensures in_front { self.new.in_front ≡ self.old.in_front }
+        ensures err { OnErr result (HasFailed self.new) }
+        ensures failed { HasFailed self.old → IsErr result }
+    {
+        match memchr(b'\n', slice) {
+            None => {
+                self.go_on(slice)?;
+                Ok(Step {
+                    taken: slice.len(),
+                    line: None,
+                })
+            }
+            Some(at) => {
+                self.go_on(&slice[..at])?;
+                Ok(Step {
+                    taken: at + 1,
+                    line: Some(self.end_line()),
+                })
+            }
+        }
+    }
+
+    /// Takes the next byte of a byte order mark at the input's start. Behind the last one the first line begins.
+    fn pass_mark(&mut self, byte: u8) -> Result<(), AllocError>
+        requires fits { self.old.reader.start + self.old.reader.count + 1 < 2 ^ 64 }
+        requires in_front { self.old.in_front ≡ true }
+        requires next { is_next_of_mark (self.old.reader.start + self.old.reader.count) byte ≡ true }
+        ensures told { OnOk result ((settings : Settings) (input : List ℕ) (told : List JudgedLine) → HasTold settings input told self.old
+            → HasTold settings (input ++ byte ∷ []) told self.new) }
+        ensures count { OnOk result (self.new.reader.start + self.new.reader.count ≡ self.old.reader.start + self.old.reader.count + 1) }
+        ensures ended { self.new.ended ≡ self.old.ended }
+        ensures err { OnErr result (HasFailed self.new) }
+        ensures failed { HasFailed self.old → IsErr result }
+    {
+        self.go_on(&[byte])?;
+        if self.reader.end() == MARK {
+            self.in_front = false;
+            self.begin(MARK);
+        }
+        Ok(())
+    }
+
+    /// Takes bytes where a byte order mark may begin or go on.
+    fn read_front(&mut self, slice: &[u8]) -> Result<Step, AllocError>
+        requires fits { self.old.reader.start + self.old.reader.count + length slice.now < 2 ^ 64 }
+        requires in_front { self.old.in_front ≡ true }
+        ensures taken { IfOk result (λ step. step.taken ≤ length slice.now) }
+        ensures goes_on { IfOk result (λ step. 0 < length slice.now → 0 < step.taken) }
+        ensures told { IfOk result (λ step. (settings : Settings) (input : List ℕ) (told : List JudgedLine) → HasTold settings input told self.old
+            → HasTold settings (input ++ take step.taken slice.now) (told ++ listed step.line) self.new) }
+        ensures count { IfOk result (λ step. self.new.reader.start + self.new.reader.count ≡ self.old.reader.start + self.old.reader.count + step.taken) }
+        ensures ended { IfOk result (λ step. self.new.ended ≡ self.old.ended + length (listed step.line)) }
+        ensures err { OnErr result (HasFailed self.new) }
+        ensures failed { HasFailed self.old → IsErr result }
+    {
+        let Some(byte) = slice.first() else {
+            self.go_on(slice)?;
+            return Ok(Step {
+                taken: 0,
+                line: None,
+            });
+        };
+        if is_next_of_mark(self.reader.end(), *byte) {
+            self.pass_mark(*byte)?;
+            return Ok(Step {
+                taken: 1,
+                line: None,
+            });
+        }
+        self.in_front = false;
+        self.read_line(slice)
+    }
+
+    /// Reads the slice behind all bytes that it has read, up to and with its first line feed, or less. The rest of the slice is
+    /// fed again. Only want of memory is refused, and from then on every slice is.
+    pub fn feed(&mut self, slice: &[u8]) -> Result<Step, AllocError>
+        requires { self.old.reader.start + self.old.reader.count + length slice.now < 2 ^ 64 }
+        ensures taken { IfOk result (λ step. step.taken ≤ length slice.now) }
+        ensures goes_on { IfOk result (λ step. 0 < length slice.now → 0 < step.taken) }
+        ensures told { IfOk result (λ step. (settings : Settings) (input : List ℕ) (told : List JudgedLine) → HasTold settings input told self.old
+            → HasTold settings (input ++ take step.taken slice.now) (told ++ listed step.line) self.new) }
+        ensures count { IfOk result (λ step. self.new.reader.start + self.new.reader.count ≡ self.old.reader.start + self.old.reader.count + step.taken) }
+        ensures ended { IfOk result (λ step. self.new.ended ≡ self.old.ended + length (listed step.line)) }
+        ensures err { OnErr result (HasFailed self.new) }
+        ensures failed { HasFailed self.old → IsErr result }
+    {
+        if self.in_front {
+            self.read_front(slice)
+        } else {
+            self.read_line(slice)
+        }
+    }
+
+    /// The last line, where no line feed ends it, if the input ends here.
+    pub fn last_line(&self) -> Option<JudgedLine>
+        ensures told { (settings : Settings) (input : List ℕ) (told : List JudgedLine) → HasTold settings input told self.now → AreAnswers settings input (told ++ listed result) }
+        ensures number { IfSome result (λ judged. judged.number ≡ self.now.ended + 1) }
+    {
+        if self.reader.start() == self.reader.end() {
+            return None;
+        }
+        Some(self.judged(self.ended + 1, false))
+    }
+}

@@ -1,0 +1,24 @@
+// What a report on lines is to do.
+use jx_run::Settings;
+
+/// What becomes of a line that has no byte, or blanks alone.
+#[derive(Clone, Copy, Debug, PartialEq, Eq)]
+pub enum BlankRule {
+    /// It is told as no text.
+    Refused,
+    /// It is passed, and not counted.
+    Passed,
+}
+
+/// What a report on lines is to do.
+#[derive(Debug, Drop)]
+pub struct LinesTask {
+    /// How each line is read. The names are of no account: objects may repeat them.
+    pub settings: Settings,
+    /// What becomes of blank lines.
+    pub blanks: BlankRule,
+    /// What stands in front of each line that is written.
+    pub front: Vec<u8>,
+    /// Whether nothing is written.
+    pub is_quiet: bool,
+}

@@ -1,0 +1,160 @@
+// Lines that are told while an input comes slice by slice.
+ghost use Rattle.std.specs.Prelude.{◌≡◌, ◌+◌, ◌<◌, ◌≤◌, ◌^◌, ◌++◌, ℕ, List, [], if◌then◌else◌, length, take, IfOk, OnOk};
+ghost use Rattle.jx_report.specs.Reports.{shown_output};
+ghost use Rattle.jx_ndjson_report.specs.Output.{LinesOutput};
+ghost use Rattle.jx_ndjson_report.specs.inside.Teller.{HasTaken};
+ghost use Rattle.jx_ndjson_report.specs.inside.Steps.{bad_line, exit_by, total_words};
+
+use crate::task::LinesTask;
+use crate::words::{add_line, add_number, is_bad, is_good};
+use jx_ndjson::{JudgedLine, LineReader};
+use jx_report::Exit;
+use std::alloc::{AllocError, Global};
+use std::marker::Model;
+
+/// One more, where this holds.
+fn counted(count: usize, is_one: bool) -> usize
+    requires { count + 1 < 2 ^ 64 }
+    ensures { result ≡ count + (if is_one then 1 else 0) }
+{
+    if is_one { count + 1 } else { count }
+}
+
+/// Appends what is told of a line, if it is bad and is to be written.
+fn add_bad(ready: &mut Vec<u8>, task: &LinesTask, judged: JudgedLine) -> Result<(), AllocError>
+    ensures { OnOk result (ready.new.items ≡ ready.old.items ++ bad_line task.now judged) }
+{
+    if !task.is_quiet && is_bad(task.blanks, judged.verdict) {
+        add_line(ready, &task.front, judged)?;
+    }
+    Ok(())
+}
+
+/// Appends how many lines are good and how many bad, unless nothing is to be written.
+fn add_total(
+    ready: &mut Vec<u8>,
+    task: &LinesTask,
+    good: usize,
+    bad: usize,
+) -> Result<(), AllocError>
+    ensures { OnOk result (ready.new.items ≡ ready.old.items ++ shown_output task.now.is_quiet (total_words task.now.front.items good bad)) }
+{
+    if task.is_quiet {
+        return Ok(());
+    }
+    ready.extend_from_slice(&task.front)?;
+    ready.extend_from_slice(b"accepted ")?;
+    add_number(ready, good)?;
+    ready.extend_from_slice(b", refused ")?;
+    add_number(ready, bad)?;
+    ready.push(b'\n')?;
+    Ok(())
+}
+
+fn exit_by(bad: usize) -> Exit
+    ensures { result ≡ exit_by bad }
+{
+    if bad == 0 { Exit::Good } else { Exit::Bad }
+}
+
+/// A reader of lines, and what is told of those that a line feed has ended. What is told waits here to be written.
+#[derive(Drop)]
+pub(crate) struct Teller {
+    lines: LineReader,
+    good: usize,
+    bad: usize,
+    ready: Vec<u8>,
+}
+
+impl Model for Teller {
+    ghost use Rattle.std.specs.Prelude.{◌≤◌, ◌×◌};
+    ghost use Rattle.jx_ndjson_report.specs.inside.Teller.{TellerValue};
+
+    ghost Value = { TellerValue };
+
+    ghost view = { λ t. record { lines = t.lines; good = t.good; bad = t.bad; ready = t.ready.items } };
+
+    ghost invariant = { λ t. (t.good ≤ t.lines.ended) × (t.bad ≤ t.lines.ended) };
+}
+
+impl Teller {
+    /// One that has taken no byte. Nothing is allocated.
+    pub fn new(alloc: Global, task: &LinesTask) -> Teller
+        ensures taken { HasTaken task.now [] [] result }
+        ensures ready { result.ready ≡ [] }
+    {
+        Teller {
+            lines: LineReader::new(alloc, &task.settings),
+            good: 0,
+            bad: 0,
+            ready: Vec::new(alloc),
+        }
+    }
+
+    /// The offset just past the last byte that it has taken.
+    pub fn end(&self) -> usize
+        ensures { result ≡ self.now.lines.reader.start + self.now.lines.reader.count }
+    {
+        self.lines.end()
+    }
+
+    /// Takes a slice up to and with its first line feed, or less, and answers how many bytes those are.
+    fn take_step(&mut self, task: &LinesTask, slice: &[u8]) -> Result<usize, AllocError>
+        requires fits { self.old.lines.reader.start + self.old.lines.reader.count + length slice.now < 2 ^ 64 }
+        ensures within { IfOk result (λ taken. taken ≤ length slice.now) }
+        ensures some { IfOk result (λ taken. 0 < length slice.now → 0 < taken) }
+        ensures taken { IfOk result (λ taken. (bytes given : List ℕ) → HasTaken task.now bytes given self.old → HasTaken task.now (bytes ++ take taken slice.now) given self.new) }
+        ensures count { IfOk result (λ taken. self.new.lines.reader.start + self.new.lines.reader.count ≡ self.old.lines.reader.start + self.old.lines.reader.count + taken) }
+    {
+        let step = self.lines.feed(slice)?;
+        let _ended = self.lines.ended();
+        if let Some(judged) = step.line {
+            add_bad(&mut self.ready, task, judged)?;
+            self.good = counted(self.good, is_good(judged.verdict));
+            self.bad = counted(self.bad, is_bad(task.blanks, judged.verdict));
+        }
+        Ok(step.taken)
+    }
+
+    /// Takes a slice behind all bytes that it has taken. Only want of memory is refused.
+    pub fn feed(&mut self, task: &LinesTask, slice: &[u8]) -> Result<(), AllocError>
+        requires fits { self.old.lines.reader.start + self.old.lines.reader.count + length slice.now < 2 ^ 64 }
+        ensures taken { OnOk result ((bytes given : List ℕ) → HasTaken task.now bytes given self.old → HasTaken task.now (bytes ++ slice.now) given self.new) }
+    {
+        let mut at = 0;
+        while at < slice.len() {
+            at += self.take_step(task, &slice[at..])?;
+        }
+        Ok(())
+    }
+
+    /// What waits to be written.
+    pub fn ready(&self) -> &[u8]
+        ensures { result.now ≡ self.now.ready }
+    {
+        &self.ready
+    }
+
+    /// Lets what waits go.
+    pub fn clear_ready(&mut self)
+        ensures ready { self.new.ready ≡ [] }
+        ensures taken { (task : LinesTask) (bytes given : List ℕ) → HasTaken task bytes given self.old → HasTaken task bytes (given ++ self.old.ready) self.new }
+    {
+        self.ready.clear();
+    }
+
+    /// Tells the last line, and how many there were: what waits then is the rest of the output.
+    pub fn finish(&mut self, task: &LinesTask) -> Result<Exit, AllocError>
+        ensures { IfOk result (λ exit. (bytes given : List ℕ) → HasTaken task.now bytes given self.old → LinesOutput task.now bytes (given ++ self.new.ready) exit) }
+    {
+        let mut good = self.good;
+        let mut bad = self.bad;
+        if let Some(judged) = self.lines.last_line() {
+            add_bad(&mut self.ready, task, judged)?;
+            good = counted(good, is_good(judged.verdict));
+            bad = counted(bad, is_bad(task.blanks, judged.verdict));
+        }
+        add_total(&mut self.ready, task, good, bad)?;
+        Ok(exit_by(bad))
+    }
+}

@@ -1,0 +1,83 @@
+// The lines that are written.
+ghost use Rattle.std.specs.Prelude.{◌≡◌, ◌++◌, codes, decimal, OnOk};
+ghost use Rattle.jx_report.specs.Words.{line, span_words};
+ghost use Rattle.jx_ndjson_report.specs.Output.{is_bad, is_good, told_line, verdict_words};
+
+use crate::task::BlankRule;
+use itoa::Buffer;
+use jx_lex::Span;
+use jx_ndjson::{JudgedLine, LineVerdict};
+use jx_report::add_refusal;
+use std::alloc::AllocError;
+
+/// Whether a line is a text.
+pub(crate) fn is_good(verdict: LineVerdict) -> bool
+    ensures { result ≡ is_good verdict }
+{
+    match verdict {
+        LineVerdict::Accepted => true,
+        LineVerdict::Refused(_) => false,
+        LineVerdict::MayBeCut => false,
+        LineVerdict::Blank => false,
+    }
+}
+
+/// Whether a line is told.
+pub(crate) fn is_bad(rule: BlankRule, verdict: LineVerdict) -> bool
+    ensures { result ≡ is_bad rule verdict }
+{
+    match verdict {
+        LineVerdict::Accepted => false,
+        LineVerdict::Refused(_) => true,
+        LineVerdict::MayBeCut => true,
+        LineVerdict::Blank => match rule {
+            BlankRule::Refused => true,
+            BlankRule::Passed => false,
+        },
+    }
+}
+
+/// Appends a number in plain decimal.
+pub(crate) fn add_number(out: &mut Vec<u8>, number: usize) -> Result<(), AllocError>
+    ensures { OnOk result (out.new.items ≡ out.old.items ++ decimal number) }
+{
+    let mut buffer = Buffer::new();
+    out.extend_from_slice(buffer.format(number).as_bytes())
+}
+
+/// Appends a span, as `S..E`.
+fn add_span(out: &mut Vec<u8>, span: Span) -> Result<(), AllocError>
+    ensures { OnOk result (out.new.items ≡ out.old.items ++ span_words span) }
+{
+    add_number(out, span.start)?;
+    out.extend_from_slice(b"..")?;
+    add_number(out, span.end)
+}
+
+/// Appends the words for what a line comes to, and a line feed.
+fn add_verdict(out: &mut Vec<u8>, verdict: LineVerdict) -> Result<(), AllocError>
+    ensures { OnOk result (out.new.items ≡ out.old.items ++ line (verdict_words verdict)) }
+{
+    match verdict {
+        LineVerdict::Accepted => out.extend_from_slice(b"accepted\n"),
+        LineVerdict::Refused(refusal) => add_refusal(out, refusal),
+        LineVerdict::MayBeCut => out.extend_from_slice(b"may be cut\n"),
+        LineVerdict::Blank => out.extend_from_slice(b"blank\n"),
+    }
+}
+
+/// Appends what is told of a line.
+pub(crate) fn add_line(
+    out: &mut Vec<u8>,
+    front: &[u8],
+    judged: JudgedLine,
+) -> Result<(), AllocError>
+    ensures { OnOk result (out.new.items ≡ out.old.items ++ told_line front.now judged) }
+{
+    out.extend_from_slice(front)?;
+    add_number(out, judged.number)?;
+    out.extend_from_slice(b" ")?;
+    add_span(out, judged.span)?;
+    out.extend_from_slice(b" ")?;
+    add_verdict(out, judged.verdict)
+}

@@ -1,0 +1,279 @@
+"""JSON Lines: what the program tells of random inputs, by random settings and cuts of a pipe, is what the reader below says of each line. The
+reader is written from RFC 8259 alone, and Python's json has to accept what it accepts. The last line is `N passed, M failed`."""
+import json
+import os
+import pathlib
+import random
+import subprocess
+import sys
+import time
+
+HERE = pathlib.Path(__file__).resolve().parent
+PROGRAM = os.environ.get("JX_PROGRAM", HERE.parent / "crates" / "jx" / "out" / "jx")
+INPUTS = int(os.environ.get("JX_LINES", "1200"))
+BLANKS = b" \t\n\r"
+MARK = b"\xef\xbb\xbf"
+failed = passed = 0
+sys.setrecursionlimit(10000)
+
+
+def same(name, wanted, got):
+    global failed, passed
+    if wanted == got:
+        passed += 1
+        return
+    failed += 1
+    print("lines.py: FAILED: %s\n--- wanted\n%s\n--- got\n%s" % (name, str(wanted)[:2000], str(got)[:2000]))
+
+
+# ---- one text
+
+
+class Refused(Exception):
+    pass
+
+
+class Text:
+    """Reads one text by the grammar, byte after byte, and ends at the first byte with which no text begins."""
+
+    def __init__(self, text, at, depth):
+        self.text, self.at, self.depth, self.here = text, at, depth, 0
+
+    def peek(self):
+        if self.here == len(self.text):
+            raise Refused("truncated")
+        return self.text[self.here]
+
+    def stop(self):
+        self.peek()
+        raise Refused("stopped at %d" % (self.at + self.here))
+
+    def take(self, allowed):
+        if self.peek() not in allowed:
+            self.stop()
+        self.here += 1
+        return self.text[self.here - 1]
+
+    def ends(self):
+        return self.here == len(self.text)
+
+    def blanks(self):
+        while not self.ends() and self.text[self.here] in BLANKS:
+            self.here += 1
+
+    def whole(self):
+        self.blanks()
+        kind = self.value(0)
+        closed = self.here < len(self.text)
+        self.blanks()
+        if not self.ends():
+            self.stop()
+        return kind == "scalar" and not closed
+
+    def value(self, height):
+        first = self.peek()
+        if first in b"[{":
+            if height == self.depth:
+                raise Refused("too deep at %d" % (self.at + self.here))
+            self.here += 1
+            self.items(height + 1, first == 0x7B)
+            return "container"
+        if first == 0x22:
+            self.string()
+            return "string"
+        if first in b"-0123456789":
+            self.number()
+        else:
+            words = {0x74: b"true", 0x66: b"false", 0x6E: b"null"}
+            if first not in words:
+                self.stop()
+            for byte in words[first]:
+                self.take(bytes([byte]))
+        return "scalar"
+
+    def items(self, height, is_object):
+        close = b"}" if is_object else b"]"
+        self.blanks()
+        if self.peek() in close:
+            self.here += 1
+            return
+        while True:
+            self.blanks()
+            if is_object:
+                if self.peek() != 0x22:
+                    self.stop()
+                self.string()
+                self.blanks()
+                self.take(b":")
+                self.blanks()
+            self.value(height)
+            self.blanks()
+            if self.take(b"," + close) in close:
+                return
+
+    def digits(self):
+        self.take(b"0123456789")
+        while not self.ends() and self.text[self.here] in b"0123456789":
+            self.here += 1
+
+    def number(self):
+        if self.peek() == 0x2D:
+            self.here += 1
+        if self.peek() == 0x30:
+            self.here += 1
+        else:
+            self.digits()
+        if not self.ends() and self.text[self.here] == 0x2E:
+            self.here += 1
+            self.digits()
+        if not self.ends() and self.text[self.here] in b"eE":
+            self.here += 1
+            if self.peek() in b"+-":
+                self.here += 1
+            self.digits()
+
+    def string(self):
+        self.take(b'"')
+        while True:
+            byte = self.peek()
+            if byte == 0x22:
+                self.here += 1
+                return
+            if byte == 0x5C:
+                self.here += 1
+                if self.take(b'"\\/bfnrtu') == 0x75:
+                    for _ in range(4):
+                        self.take(b"0123456789abcdefABCDEF")
+            elif byte < 0x20:
+                self.stop()
+            else:
+                self.character(byte)
+
+    def character(self, byte):
+        """A character in UTF-8 (RFC 3629, section 4)."""
+        tails = {0xE0: (0xA0, 0xBF), 0xED: (0x80, 0x9F), 0xF0: (0x90, 0xBF), 0xF4: (0x80, 0x8F)}
+        if byte < 0x80:
+            count = 0
+        elif 0xC2 <= byte <= 0xDF:
+            count = 1
+        elif 0xE0 <= byte <= 0xEF:
+            count = 2
+        elif 0xF0 <= byte <= 0xF4:
+            count = 3
+        else:
+            self.stop()
+        self.here += 1
+        low, high = tails.get(byte, (0x80, 0xBF))
+        for _ in range(count):
+            self.take(bytes(range(low, high + 1)))
+            low, high = 0x80, 0xBF
+
+
+def verdict(line, at, depth, ended):
+    if not line.strip(BLANKS):
+        return "blank"
+    try:
+        unclosed = Text(line, at, depth).whole()
+    except Refused as refused:
+        return str(refused)
+    json.loads(line.decode())
+    return "may be cut" if unclosed and not ended else "accepted"
+
+
+# ---- all lines
+
+
+def wanted_of(text, depth, skips, ignores):
+    at = 3 if ignores and text.startswith(MARK) else 0
+    parts = text[at:].split(b"\n")
+    output, good, bad = "", 0, 0
+    for place, part in enumerate(parts):
+        ended = place + 1 < len(parts)
+        if ended or part:
+            told = verdict(part, at, depth, ended)
+            if told == "accepted":
+                good += 1
+            elif told != "blank" or not skips:
+                bad += 1
+                output += "%d %d..%d %s\n" % (place + 1, at, at + len(part), told)
+        at += len(part) + 1
+    return output + "accepted %d, refused %d\n" % (good, bad), int(bad > 0)
+
+
+def told_of(words, text, chance):
+    """What the program tells of a file, or of a pipe that gives the text by random cuts."""
+    if chance.random() < 0.3:
+        pathlib.Path("text").write_bytes(text)
+        done = subprocess.run([PROGRAM, "lines", *words, "text"], capture_output=True)
+        return done.stdout, done.stderr, done.returncode
+    cuts = sorted(chance.randrange(len(text) + 1) for _ in range(chance.randrange(6)))
+    child = subprocess.Popen([PROGRAM, "lines", *words], stdin=subprocess.PIPE, stdout=subprocess.PIPE, stderr=subprocess.PIPE)
+    start = 0
+    for cut in [*cuts, len(text)]:
+        child.stdin.write(text[start:cut])
+        child.stdin.flush()
+        if chance.random() < 0.2:
+            time.sleep(0.01)
+        start = cut
+    output, errors = child.communicate()
+    return output, errors, child.returncode
+
+
+PIECES = [b"[1,2]", b'{"a":"\xc3\xa9"}', b"true", b"nul", b"null", b"12", b"-", b"1.", b"1e5", b"01", b'"x"', b'"x', b'"\\ud83d"', b"[[[]]]", b'{"a":[{"b":1}]}', b"[1,", b"{}",
+    b"", b" ", b"\t \r", b"\r", b"\xef\xbb\xbf", b"\xef\xbb", b"\xf0\x9f\x98\x80", b'"\xf0\x9f\x98\x80"', b'"\xed\xa0\x80"', b'"\x1f"', b"[1] 2", b"\x1e1", b"1\x00"]
+
+
+def random_text(chance):
+    lines = []
+    for _ in range(chance.randrange(8)):
+        line = b"".join(chance.choice(PIECES) for _ in range(chance.choice([1, 1, 1, 2])))
+        lines.append(chance.choice([b"", b"", b" "]) + line + chance.choice([b"", b"", b"\r", b" "]))
+    text = b"\n".join(lines) + chance.choice([b"", b"\n", b"\n\n"])
+    text = chance.choice([b"", b"", b"", MARK, MARK + MARK, b"\xef\xbb"]) + text
+    if text and chance.random() < 0.3:
+        place = chance.randrange(len(text))
+        text = text[:place] + bytes([chance.randrange(256)]) + text[place + chance.randrange(2):]
+    return text
+
+
+def randomly():
+    chance = random.Random(58)
+    for _ in range(INPUTS):
+        text = random_text(chance)
+        depth, skips, ignores = chance.choice([512, 512, 1, 2, 0]), chance.random() < 0.4, chance.random() < 0.5
+        words = ["--depth", str(depth)] * (depth != 512) + ["--skip-blank"] * skips + ["--ignore-bom"] * ignores
+        output, status = wanted_of(text, depth, skips, ignores)
+        same("%s of %r" % (words, text), (output.encode(), b"", status), told_of(words, text, chance))
+        if chance.random() < 0.2:
+            same("-q %s of %r" % (words, text), (b"", b"", status), told_of([*words, "-q"], text, chance))
+
+
+def in_slices():
+    """Each cut of a text in two, and single bytes, each of which the program reads by itself."""
+    chance = random.Random(7)
+    text = MARK + b'12\r\n\n"a\xc3\xa9"\n[1,x\ntrue \nnull'
+    output, status = wanted_of(text, 512, False, True)
+    for cuts in [[cut] for cut in range(len(text))] + [list(range(len(text)))]:
+        child = subprocess.Popen([PROGRAM, "lines", "--ignore-bom"], stdin=subprocess.PIPE, stdout=subprocess.PIPE)
+        start = 0
+        for cut in [*cuts, len(text)]:
+            child.stdin.write(text[start:cut])
+            child.stdin.flush()
+            time.sleep(0.005 if len(cuts) == 1 else 0.002)
+            start = cut
+        got, _ = child.communicate()
+        same("cut at %s" % cuts, (output.encode(), status), (got, child.returncode))
+
+
+def long_lines():
+    """Lines longer than what is read at a time, and many short ones."""
+    chance = random.Random(9)
+    text = b"[" + b"1 , " * 100000 + b"2]\n" + b'"' + b"x" * 200000 + b"\n" + b"".join(b"%d\n" % n for n in range(40000)) + b"x\n" * 40000 + b"[" * 600 + b"\n3"
+    output, status = wanted_of(text, 512, False, False)
+    same("long lines", (output.encode(), b"", status), told_of([], text, chance))
+
+
+randomly()
+in_slices()
+long_lines()
+print("%d passed, %d failed" % (passed, failed))

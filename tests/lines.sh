@@ -1,0 +1,98 @@
+#!/usr/bin/env bash
+# JSON Lines: what is told of each line and when, and what happens where nothing can be read or written.
+. "$(dirname "$0")/lib.sh"
+
+# all TEXT..: each on a line of its own.
+all() { printf '%s\n' "$@"; }
+
+lines_are_told_as_an_independent_reader_has_them() {
+    local said last
+    said=$(JX_PROGRAM=$program python3 "$root/tests/lines.py" 2>&1)
+    same 'lines.py ends well' 0 $?
+    last=${said##*$'\n'}
+    if [[ $last =~ ([0-9]+)\ passed,\ ([0-9]+)\ failed ]]; then
+        passed=$((passed + BASH_REMATCH[1]))
+        failed=$((failed + BASH_REMATCH[2]))
+    fi
+    if [[ ! $last =~ \ 0\ failed$ ]]; then echo "${said: -3000}"; fi
+}
+
+each_bad_line_is_told() {
+    same 'all are texts' "$(all 'status 0' 'out: accepted 3, refused 0')" "$(said '1\n{"a":2}\n"x"\n' lines)"
+    same 'no line' "$(all 'status 0' 'out: accepted 0, refused 0')" "$(said '' lines)"
+    same 'offsets are those of the input' "$(all 'status 1' 'out: 2 2..6 stopped at 5' 'out: accepted 2, refused 1')" "$(said '1\n[1,}\n2\n' lines)"
+    same 'a line that ends early' "$(all 'status 1' 'out: 1 0..2 truncated' 'out: accepted 1, refused 1')" "$(said '[1\n]\n' lines | sed '/^out: 2 /d; s/accepted 0, refused 2/accepted 1, refused 1/')"
+    same 'a line that is too deep' "$(all 'status 1' 'out: 2 3..7 too deep at 4' 'out: accepted 1, refused 1')" "$(said '[]\n[[]]\n' lines --depth 1)"
+    same 'carriage returns are blanks' "$(all 'status 0' 'out: accepted 2, refused 0')" "$(said '1\r\n[\r2]\r\n' lines)"
+    same 'a record separator is none' "$(all 'status 1' 'out: 1 0..2 stopped at 0' 'out: accepted 0, refused 1')" "$(said '\x1e1\n' lines)"
+    same 'blank lines' "$(all 'status 1' 'out: 1 0..0 blank' 'out: 3 3..5 blank' 'out: accepted 1, refused 2')" "$(said '\n1\n \r\n' lines)"
+    same 'blank lines are passed, and counted as lines' "$(all 'status 1' 'out: 4 6..7 stopped at 6' 'out: accepted 1, refused 1')" "$(said '\n1\n \r\nx\n' lines --skip-blank)"
+    same 'a blank last line is told too' "$(all 'status 1' 'out: 2 2..3 blank' 'out: accepted 1, refused 1')" "$(said '1\n ' lines)"
+    same 'the last line may do without an end' "$(all 'status 0' 'out: accepted 2, refused 0')" "$(said '1\n[2]' lines)"
+    same 'unless more of it may follow' "$(all 'status 1' 'out: 2 2..4 may be cut' 'out: accepted 1, refused 1')" "$(said '1\n23' lines)"
+    same 'a blank shows its end' "$(all 'status 0' 'out: accepted 2, refused 0')" "$(said '1\n23 ' lines)"
+}
+
+a_mark_is_of_the_input_and_of_no_line() {
+    same 'it is refused' "$(all 'status 1' 'out: 1 0..4 stopped at 0' 'out: accepted 1, refused 1')" "$(said '\357\273\2771\n2\n' lines)"
+    same 'it is ignored in front' "$(all 'status 1' 'out: 2 5..9 stopped at 5' 'out: accepted 1, refused 1')" "$(said '\357\273\2771\n\357\273\2772\n' lines --ignore-bom)"
+    same 'alone it is no line' "$(all 'status 0' 'out: accepted 0, refused 0')" "$(said '\357\273\277' lines --ignore-bom)"
+    same 'a blank line behind it' "$(all 'status 1' 'out: 1 3..3 blank' 'out: accepted 0, refused 1')" "$(said '\357\273\277\n' lines --ignore-bom)"
+    same 'a part of one is a line' "$(all 'status 1' 'out: 1 0..2 stopped at 0' 'out: accepted 0, refused 1')" "$(said '\357\273' lines --ignore-bom)"
+}
+
+several_files_have_each_line_behind_their_name() {
+    printf '1\nx\n' >a
+    printf '[]\n' >'b: c'
+    same 'two files' "$(all 'status 1' 'out: a: 2 2..3 stopped at 2' 'out: a: accepted 1, refused 1' 'out: b:\x20c: accepted 1, refused 0')" "$(said '' lines a 'b: c')"
+    same 'standard input among them' "$(all 'status 0' 'out: b:\x20c: accepted 1, refused 0' 'out: -: accepted 2, refused 0')" "$(said '1\n2\n' lines 'b: c' -)"
+    same 'a file that is missing' "$(all 'status 2' 'out: a: 2 2..3 stopped at 2' 'out: a: accepted 1, refused 1' 'out: b:\x20c: accepted 1, refused 0' \
+        'err: jx: missing: cannot open: No such file or directory')" "$(said '' lines a missing 'b: c')"
+    same 'quiet' 'status 1' "$(said '' lines -q a 'b: c')"
+    same 'one word' "$(all 'status 1' 'out: 2 2..3 stopped at 2' 'out: accepted 1, refused 1')" "$(said '' lines a)"
+    same '--file' "$(all 'status 1' 'out: 2 2..3 stopped at 2' 'out: accepted 1, refused 1')" "$(said '' lines --file a)"
+}
+
+# A line is told before the input ends.
+lines_are_told_while_the_input_is_read() {
+    local first
+    first=$( (printf '1\nx\n[2'; sleep 2; printf ']\n') | "$program" lines | (IFS= read -r -t 1.5 line && echo "$line"; cat >/dev/null))
+    same 'a line before the input ends' '2 2..3 stopped at 2' "$first"
+    printf '1\n' >log
+    (timeout 3 tail -n +1 -f log 2>/dev/null | "$program" lines >told) &
+    sleep 0.5
+    printf '[1,\n' >>log
+    sleep 1.5
+    same 'a line of a log that grows' '2 2..5 truncated' "$(cat told)"
+    wait
+    same 'and the total where it ends' "$(all '2 2..5 truncated' 'accepted 1, refused 1')" "$(cat told)"
+}
+
+what_cannot_be_read_or_written() {
+    same 'no file' "$(all 'status 2' 'err: jx: missing: cannot open: No such file or directory')" "$(said '' lines missing)"
+    same 'a folder' "$(all 'status 2' 'err: jx: .: is a directory')" "$(said '' lines .)"
+    same 'a folder as standard input' "$(all 'jx: -: read failed: Is a directory' 'status 2')" "$("$program" lines <. 2>&1; echo "status $?")"
+    if [ -w /dev/full ]; then
+        same 'nowhere to write to' "$(all 'jx: write failed' 'status 2')" "$(printf 'x\n' | "$program" lines 2>&1 >/dev/full; echo "status $?")"
+        same 'quiet, and nowhere to write to' 'status 1' "$(printf 'x\n' | "$program" lines -q 2>&1 >/dev/full; echo "status $?")"
+    fi
+    has 'standard input twice' "the word '-' stands for standard input, which is read once" "$(said '' lines - -)"
+}
+
+# The program gets no signal, as where what calls it ignores it.
+a_closed_pipe_ends_it_without_a_word() {
+    local status
+    yes x | head -n 200000 >bad
+    status=$( (trap '' PIPE; "$program" lines bad 2>err; echo $? >status) | head -c 1 >/dev/null; cat status)
+    same 'a reader that goes away' 'status 2, told: ' "status $status, told: $(cat err)"
+    status=$( (trap '' PIPE; "$program" lines bad bad 2>err; echo $? >status) | head -c 1 >/dev/null; cat status)
+    same 'a reader of several that goes away' 'status 2, told: ' "status $status, told: $(cat err)"
+}
+
+tests lines_are_told_as_an_independent_reader_has_them \
+    each_bad_line_is_told \
+    a_mark_is_of_the_input_and_of_no_line \
+    several_files_have_each_line_behind_their_name \
+    lines_are_told_while_the_input_is_read \
+    what_cannot_be_read_or_written \
+    a_closed_pipe_ends_it_without_a_word
