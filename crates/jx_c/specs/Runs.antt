@@ -1,6 +1,7 @@
 -- Runs of parts of a text as C sees them: records in buffers of the caller's.
 use Rattle.std.specs.Prelude.{◌≡◌, ℕ, ◌<◌, ◌≤◌, ◌==◌, List, ◌++◌, length, drop, Option, None, Some, if◌then◌else◌}
 use Rattle.jx_portion.specs.Portion.{end_of, start_of, IsMismatch, IsRecord, IsSaidBy, Meets, PortionValue}
+use Rattle.jx_portion.specs.Reading.{IsSealed}
 use Rattle.jx_portion.specs.declared.portion.Mismatch.{Mismatch}
 use Rattle.jx_portion.specs.declared.portion.Mismatch.TheVariants.{Depths, Froms, Place, TooLong}
 use Rattle.jx_run.specs.Verdict.{Judged}
@@ -48,6 +49,12 @@ pub record AreNeighbours (left right : List ℕ) : Type 0 where
   pub says_second : IsSaidBy right second
   pub meet : Meets first second
 
+-- when a join may want memory: to read what has the head and the digest of a run, the right behind the left, and to join what may be joined
+pub data MayWant (left right : List ℕ) : Type 0 where
+  for_left : IsSealed left → MayWant left right
+  for_right : (first : PortionValue) → IsSaidBy left first → IsSealed right → MayWant left right
+  for_both : AreNeighbours left right → MayWant left right
+
 -- when a join has which status
 pub data IsJoinStatus (left right : List ℕ) : ℕ → Type 0 where
   joined : AreNeighbours left right → IsJoinStatus left right 0
@@ -56,11 +63,11 @@ pub data IsJoinStatus (left right : List ℕ) : ℕ → Type 0 where
       → IsJoinStatus left right (status_of mismatch)
   left_no_run : ((p : PortionValue) → IsSaidBy left p → ⊥) → IsJoinStatus left right 12
   right_no_run : ((p : PortionValue) → IsSaidBy right p → ⊥) → IsJoinStatus left right 12
-  no_memory : IsJoinStatus left right 1
+  no_memory : MayWant left right → IsJoinStatus left right 1
 
 -- when a verdict on a run, which has to be of the bytes from `start` up to `end`, has which status
 pub data IsVerdictStatus (run : List ℕ) (start end : ℕ) : ℕ → Type 0 where
   judged : (p : PortionValue) → IsSaidBy run p → start ≡ start_of p → end ≡ end_of p → IsVerdictStatus run start end 0
   of_other_bytes : (p : PortionValue) → IsSaidBy run p → ((start ≡ start_of p) × (end ≡ end_of p) → ⊥) → IsVerdictStatus run start end 14
   no_run : ((p : PortionValue) → IsSaidBy run p → ⊥) → IsVerdictStatus run start end 12
-  no_memory_there : IsVerdictStatus run start end 1
+  no_memory_there : IsSealed run → IsVerdictStatus run start end 1

@@ -1,6 +1,7 @@
 // Runs of parts of a text: records in buffers of the caller's.
 ghost use Rattle.std.specs.Prelude.{◌≡◌, ◌⊎◌, ◌+◌, ◌<◌, ◌≤◌, ◌^◌, ◌++◌, ◌↔◌, ℕ, List, Option, length, drop, unwrap_or, IfErr, IfOk, IsTrue, MatchResult};
 ghost use Rattle.jx_portion.specs.Portion.{end_of, start_of, IsPortion, IsRecord, IsSaidBy, PortionValue};
+ghost use Rattle.jx_portion.specs.Reading.{IsSealed};
 ghost use Rattle.jx_c.specs.Runs.{from_in, status_of, AreNeighbours, IsJoinStatus, IsTooLong, IsVerdictFrom, IsVerdictStatus, IsWritten};
 
 use crate::status::{
@@ -91,6 +92,7 @@ fn read(alloc: Global, run: &[u8]) -> Result<Portion, u32>
     ensures reads { (bytes : List ℕ) (from : Option ℕ) (depth : ℕ) → IsRecord bytes from depth run.now → MatchResult result (IsPortion bytes from depth) (λ status. status ≡ NO_MEMORY) }
     ensures status { IfErr result (λ status. (status ≡ NO_MEMORY) ⊎ (status ≡ NOT_A_RUN)) }
     ensures found { IfOk result (IsSaidBy run.now) }
+    ensures sealed { IfErr result (λ status. status ≡ NO_MEMORY → IsSealed run.now) }
     ensures none { IfErr result (λ status. status ≡ NOT_A_RUN → (p : PortionValue) → IsSaidBy run.now p → ⊥) }
 {
     match decode(alloc, run) {

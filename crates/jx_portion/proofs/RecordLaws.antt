@@ -11,7 +11,7 @@ use Rattle.jx_portion.specs.declared.fault.RunFault.{RunFault}
 use Rattle.jx_portion.specs.declared.fault.RunFault.TheVariants.{CutShort, Damaged, Malformed, NotARun, OtherVersion}
 use Rattle.jx_portion.specs.declared.record.Head.{Head}
 use Rattle.jx_portion.specs.Fields.{RunFields}
-use Rattle.jx_portion.specs.Reading.{◌>>=◌, body_at, depth_at, head_at, number_at, record_at, run_at, sealed_at, tag_at}
+use Rattle.jx_portion.specs.Reading.{◌>>=◌, body_at, depth_at, head_at, number_at, record_at, run_at, sealed_at, tag_at, IsSealed}
 use Rattle.jx_portion.specs.Spelling.{head, number, run, sealed, spelling, tag, RunFits}
 use Rattle.jx_portion.proofs.Laws.{IsBytes, IsBytes-take, bind_ok, guard_err, in_front, length-number, number_law, ok_is}
 use Rattle.jx_portion.proofs.FieldLaws.{run_again, run_takes}
@@ -184,3 +184,8 @@ record_takes bytes x bs e =
 pub record_again : (depth : ℕ) (r : RunFields) → depth ≤ 65535 → length r.structures ≤ 32 → RunFits r → 56 + length (run r) < 2 ^ 64 → record_at (spelling depth r) ≡ Ok (depth, r)
 unfolding record_at
 record_again depth r d few fits s = rw (body_again depth (run r) s d, run_again r few fits) refl
+
+-- what is read as a record has the head and the digest of one
+pub read_sealed : (bytes : List ℕ) (x : ℕ × RunFields) → record_at bytes ≡ Ok x → IsSealed bytes
+unfolding record_at
+read_sealed bytes x e = let a = bind_ok (body_at bytes) (λ body. run_at body.1 >>= λ r. Ok (body.0, r)) x e in (a.0, a.1)

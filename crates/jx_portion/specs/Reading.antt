@@ -192,6 +192,10 @@ body_at bytes = do
     body ← sealed_at bytes head.1
     Ok (head.0.depth, body))
 
+-- their head and their digest are those of a record
+abbrev pub IsSealed : List ℕ → Type 0
+IsSealed bytes = (x : ℕ × List ℕ) × (body_at bytes ≡ Ok x)
+
 -- what a record says
 unfoldable pub record_at : List ℕ → Result (ℕ × RunFields) RunFault
 record_at bytes = do

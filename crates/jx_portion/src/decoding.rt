@@ -5,7 +5,7 @@ ghost use Rattle.jx_reduce.specs.Parts.{structure_of_parts};
 ghost use Rattle.jx_reduce.specs.Sound.{IsSound};
 ghost use Rattle.jx_portion.specs.Fields.{run_fields, RunFields};
 ghost use Rattle.jx_portion.specs.Portion.{portion_in, IsAnswer, IsMemory, IsPortion, IsRecord, IsRun, IsSaidBy, IsSpelt, OnlyParts};
-ghost use Rattle.jx_portion.specs.Reading.{record_at};
+ghost use Rattle.jx_portion.specs.Reading.{record_at, IsSealed};
 
 use crate::fault::{DecodeFault, Field, RunFault};
 use crate::portion::Portion;
@@ -57,7 +57,8 @@ fn portion_of(alloc: Global, depth: Depth, parts: RunParts) -> Result<Portion, D
 
 /// What the bytes say, where a run has it.
 fn answer(alloc: Global, bytes: &[u8]) -> Result<Portion, DecodeFault>
-    ensures { IsAnswer result (record_at bytes.now) }
+    ensures exact { IsAnswer result (record_at bytes.now) }
+    ensures sealed { IfErr result (λ fault. fault ≡ DecodeFault.Memory → IsSealed bytes.now) }
 {
     let (depth, parts) = record_of(alloc, bytes)?;
     portion_of(alloc, depth, parts)
@@ -67,6 +68,8 @@ fn answer(alloc: Global, bytes: &[u8]) -> Result<Portion, DecodeFault>
 pub fn decode(alloc: Global, bytes: &[u8]) -> Result<Portion, DecodeFault>
     // Which fault it is: the first one from left to right, and last that no run has these parts.
     ensures exact { IsAnswer result (record_at bytes.now) }
+    // Memory is asked for only where the head and the digest are those of a record.
+    ensures sealed { IfErr result (λ fault. fault ≡ DecodeFault.Memory → IsSealed bytes.now) }
     // Nothing else is read.
     ensures found { IfOk result (IsSaidBy bytes.now) }
     // What is spelt so is read, unless memory runs out.

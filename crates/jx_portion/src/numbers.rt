@@ -1,6 +1,6 @@
 // Numbers in a record.
-ghost use Rattle.std.specs.Prelude.{◌≡◌, ◌<◌, ◌^◌};
-ghost use Rattle.jx_portion.specs.Reading.{number_at};
+ghost use Rattle.std.specs.Prelude.{◌≡◌, ◌≢◌, ◌<◌, ◌^◌, IfErr};
+ghost use Rattle.jx_portion.specs.Reading.{number_at, Gives};
 ghost use Rattle.jx_portion.specs.Spelling.{number};
 
 use crate::fault::{DecodeFault, RunFault};
@@ -21,7 +21,10 @@ impl Spelt for usize {
     }
 
     #[tactic(auto, unfolding(crate::specs::Reading::number_at))]
-    fn read(bytes: &[u8]) -> Result<(usize, &[u8]), DecodeFault> {
+    fn read(bytes: &[u8]) -> Result<(usize, &[u8]), DecodeFault>
+        ensures reads { Gives (λ x. (x.0, x.1.now)) result (number_at bytes.now) }
+        ensures told { IfErr result (λ fault. fault ≢ DecodeFault.Memory) }
+    {
         if bytes.len() < 8 {
             return Err(DecodeFault::Fault(RunFault::CutShort));
         }

@@ -1,7 +1,7 @@
 // A record as a whole: its head, what it says of a run, and its digest.
-ghost use Rattle.std.specs.Prelude.{◌≡◌, ◌≤◌, map, IfOk};
+ghost use Rattle.std.specs.Prelude.{◌≡◌, ◌≢◌, ◌≤◌, map, IfErr, IfOk};
 ghost use Rattle.jx_portion.specs.Fields.{run_fields, structure_fields};
-ghost use Rattle.jx_portion.specs.Reading.{body_at, depth_at, head_at, many_at, record_at, run_at, sealed_at, structure_at, structures_at, tag_at, Gives};
+ghost use Rattle.jx_portion.specs.Reading.{body_at, depth_at, head_at, many_at, record_at, run_at, sealed_at, structure_at, structures_at, tag_at, Gives, IsSealed};
 ghost use Rattle.jx_portion.specs.Spelling.{head};
 
 use crate::fault::{DecodeFault, Field, RunFault};
@@ -44,7 +44,8 @@ pub(crate) struct RunParts {
 /// Reads that the bytes are a record of this version.
 #[tactic(auto, unfolding(crate::specs::Reading::tag_at))]
 fn tag_of(bytes: &[u8]) -> Result<&[u8], DecodeFault>
-    ensures { Gives (λ x. x.now) result (tag_at bytes.now) }
+    ensures reads { Gives (λ x. x.now) result (tag_at bytes.now) }
+    ensures told { IfErr result (λ fault. fault ≢ DecodeFault.Memory) }
 {
     if bytes.len() < 8 {
         return Err(DecodeFault::Fault(RunFault::NotARun));
@@ -64,6 +65,7 @@ fn tag_of(bytes: &[u8]) -> Result<&[u8], DecodeFault>
 fn depth_of(bytes: &[u8]) -> Result<(u32, &[u8]), DecodeFault>
     ensures reads { Gives (λ x. (x.0, x.1.now)) result (depth_at bytes.now) }
     ensures low { IfOk result (λ x. x.0 ≤ 65535) }
+    ensures told { IfErr result (λ fault. fault ≢ DecodeFault.Memory) }
 {
     let (containers, rest) = usize::read(bytes)?;
     if containers > 65535 {
@@ -77,6 +79,7 @@ fn depth_of(bytes: &[u8]) -> Result<(u32, &[u8]), DecodeFault>
 pub fn head_of(bytes: &[u8]) -> Result<(Head, &[u8]), DecodeFault>
     ensures reads { Gives (λ x. (x.0, x.1.now)) result (head_at bytes.now) }
     ensures low { IfOk result (λ x. x.0.depth ≤ 65535) }
+    ensures told { IfErr result (λ fault. fault ≢ DecodeFault.Memory) }
 {
     let rest = tag_of(bytes)?;
     let (size, rest) = usize::read(rest)?;
@@ -87,7 +90,8 @@ pub fn head_of(bytes: &[u8]) -> Result<(Head, &[u8]), DecodeFault>
 /// Reads up to the digest, which has to be that of all bytes of the record before it.
 #[tactic(auto, unfolding(crate::specs::Reading::sealed_at))]
 fn sealed<'a>(bytes: &[u8], rest: &'a [u8]) -> Result<&'a [u8], DecodeFault>
-    ensures { Gives (λ x. x.now) result (sealed_at bytes.now rest.now) }
+    ensures reads { Gives (λ x. x.now) result (sealed_at bytes.now rest.now) }
+    ensures told { IfErr result (λ fault. fault ≢ DecodeFault.Memory) }
 {
     if bytes.len() < DIGEST || rest.len() < DIGEST {
         return Err(DecodeFault::Fault(RunFault::Malformed(Field::Size)));
@@ -107,6 +111,7 @@ fn sealed<'a>(bytes: &[u8], rest: &'a [u8]) -> Result<&'a [u8], DecodeFault>
 pub(crate) fn body_of(bytes: &[u8]) -> Result<(u32, &[u8]), DecodeFault>
     ensures reads { Gives (λ x. (x.0, x.1.now)) result (body_at bytes.now) }
     ensures low { IfOk result (λ x. x.0 ≤ 65535) }
+    ensures told { IfErr result (λ fault. fault ≢ DecodeFault.Memory) }
 {
     let (head, rest) = head_of(bytes)?;
     if bytes.len() < head.size {
@@ -176,7 +181,8 @@ fn run_of(alloc: Global, bytes: &[u8]) -> Result<RunParts, DecodeFault>
 /// What a record says: a depth, and the fields of a run.
 #[tactic(auto, unfolding(crate::specs::Reading::record_at))]
 pub(crate) fn record_of(alloc: Global, bytes: &[u8]) -> Result<(Depth, RunParts), DecodeFault>
-    ensures { Gives (λ x. (x.0, run_fields x.1)) result (record_at bytes.now) }
+    ensures reads { Gives (λ x. (x.0, run_fields x.1)) result (record_at bytes.now) }
+    ensures sealed { IfErr result (λ fault. fault ≡ DecodeFault.Memory → IsSealed bytes.now) }
 {
     let (containers, body) = body_of(bytes)?;
     let parts = run_of(alloc, body)?;

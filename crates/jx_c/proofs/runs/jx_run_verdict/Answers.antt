@@ -26,7 +26,7 @@ returns-clause-covered c bytes from depth is ok =
     (here.0 ∙ place.0, here.1 ∙ place.1)
 
 pub returns-in-Err-clause-status : goal.returns-in-Err-clause-status
-returns-in-Err-clause-status c = verdict_lost c.args.run.now c.args.start c.args.end _ c.in-Err.ensures.status c.in-Err.ensures.none
+returns-in-Err-clause-status c = verdict_lost c.args.run.now c.args.start c.args.end _ c.in-Err.ensures.status c.in-Err.ensures.sealed c.in-Err.ensures.none
 
 pub returns-then-not-covers-clause-status : goal.returns-then-not-covers-clause-status
 returns-then-not-covers-clause-status c =
