@@ -60,7 +60,7 @@ the_nearest_right_word_is_told() {
     has 'quiet is for check and seq alone' "error: unexpected argument '-q' found" "$(said '' index -q)"
     has 'quiet is for check and seq alone' "error: unexpected argument '-q' found" "$(said '' at -q /a)"
     has 'quiet is not for get' "error: unexpected argument '-q' found" "$(said '' get -q /a)"
-    has 'a wrong command' "tip: a similar subcommand exists: 'lines'" "$(said '' line)"
+    has 'a wrong command' "'lines'" "$(said '' line)"
     has 'workers are not for lines' "error: unexpected argument '--workers' found" "$(said '' lines --workers 2)"
     has 'quiet is not for each' "error: unexpected argument '-q' found" "$(said '' each -q)"
     has 'each takes two words' "error: unexpected argument 'b' found" "$(said '' each /a a b)"

@@ -50,6 +50,22 @@ names_are_checked_where_that_is_asked_for() {
     cd "$room" || exit 1
 }
 
+lines_are_checked_before_a_commit() {
+    local said
+    make_checkout jx-lines
+    printf '{"n":1}\n{"n":\n' >bad.jsonl
+    printf '{"n":1}\n{"n":2}\n' >good.ndjson
+    printf 'x' >no.text
+    git add .
+    said=$(git commit -m two 2>&1)
+    same 'a commit of a line that is no text: status' 1 $?
+    has 'it names the file and the line' 'bad.jsonl: 2 8..13 truncated' "$said"
+    git rm -q --cached bad.jsonl
+    git commit -qm one >/dev/null 2>&1
+    same 'a commit of lines that are texts: status' 0 $?
+    cd "$room" || exit 1
+}
+
 # The lines that README prints, with its address led to this repository.
 the_lines_of_readme_work() {
     local said
@@ -82,6 +98,7 @@ if command -v pre-commit >/dev/null; then
     export GIT_AUTHOR_NAME=jx GIT_AUTHOR_EMAIL=jx@localhost GIT_COMMITTER_NAME=jx GIT_COMMITTER_EMAIL=jx@localhost
     make_hooks
     tests texts_are_checked_before_a_commit \
+        lines_are_checked_before_a_commit \
         names_are_checked_where_that_is_asked_for \
         the_lines_of_readme_work
 else

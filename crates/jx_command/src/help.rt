@@ -124,8 +124,9 @@ pub const IGNORE_BOM: &str = "Ignore a byte order mark in front";
 
 pub const LONG_IGNORE_BOM: &str =
     "Ignore a byte order mark (EF BB BF) in front of a text, before all
-blanks, in front of all lines, or before the first record separator of
-a sequence. Without this option it is refused. Offsets count its bytes.";
+blanks, in front of all lines, or before the first record separator
+of a sequence. Without this option it is refused. Offsets count its
+bytes.";
 
 pub const UNIQUE_NAMES: &str = "Refuse objects that repeat a name";
 

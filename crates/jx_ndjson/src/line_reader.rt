@@ -176,6 +176,7 @@ impl LineReader {
             → HasReadLines limit at (before ++ take step.taken slice.now) (told ++ listed step.line) self.new) }
         ensures count { IfOk result (λ step. self.new.reader.start + self.new.reader.count ≡ self.old.reader.start + self.old.reader.count + step.taken) }
         ensures ended { IfOk result (λ step. self.new.ended ≡ self.old.ended + length (listed step.line)) }
+        ensures kept { OnErr result (self.new.ended ≡ self.old.ended) }
         ensures in_front { self.new.in_front ≡ self.old.in_front }
         ensures err { OnErr result (HasFailed self.new) }
         ensures failed { HasFailed self.old → IsErr result }
@@ -228,6 +229,7 @@ impl LineReader {
             → HasTold settings (input ++ take step.taken slice.now) (told ++ listed step.line) self.new) }
         ensures count { IfOk result (λ step. self.new.reader.start + self.new.reader.count ≡ self.old.reader.start + self.old.reader.count + step.taken) }
         ensures ended { IfOk result (λ step. self.new.ended ≡ self.old.ended + length (listed step.line)) }
+        ensures kept { OnErr result (self.new.ended ≡ self.old.ended) }
         ensures err { OnErr result (HasFailed self.new) }
         ensures failed { HasFailed self.old → IsErr result }
     {
@@ -259,6 +261,7 @@ impl LineReader {
             → HasTold settings (input ++ take step.taken slice.now) (told ++ listed step.line) self.new) }
         ensures count { IfOk result (λ step. self.new.reader.start + self.new.reader.count ≡ self.old.reader.start + self.old.reader.count + step.taken) }
         ensures ended { IfOk result (λ step. self.new.ended ≡ self.old.ended + length (listed step.line)) }
+        ensures kept { OnErr result (self.new.ended ≡ self.old.ended) }
         ensures err { OnErr result (HasFailed self.new) }
         ensures failed { HasFailed self.old → IsErr result }
     {

@@ -34,8 +34,7 @@ pub record WroteLines (task : LinesTask) (unread left written grown : Option (Li
 -- the writer got a beginning of what is due of the bytes that were read, or of the whole output for them, and not all
 pub record WroteInPart (task : LinesTask) (unread left written grown : Option (List ℕ)) : Type 0 where
   pub text : List ℕ
-  pub more : List ℕ
   pub output : List ℕ
-  pub read : Consumes unread left (text ++ more)
+  pub read : Consumes unread left text
   pub of : IsDue task text output ⊎ ((exit : Exit) × LinesOutput task text output exit)
   pub wrote : AppendsBeginning written grown output

@@ -6,6 +6,7 @@ ghost use Rattle.jx_ndjson_report.specs.inside.Steps.{IsAllWritten, WritesOn, Wr
 
 use crate::task::LinesTask;
 use crate::teller::Teller;
+use jx_ndjson::what_is_told_are_ended_lines;
 use jx_report::{Exit, ReportFault, Sink, Source, write_whole};
 use std::alloc::Global;
 
@@ -21,7 +22,7 @@ fn write_due<W: Sink>(
     batch: &[u8],
 ) -> Result<(), ReportFault>
     requires { W.has_failed writer.old ≡ false }
-    ensures ok { OnOk result (teller.old.ready ≡ [] → WritesOn task.now (W.contents writer.old) (W.contents writer.new) batch.now teller.old teller.new) }
+    ensures ok { OnOk result (WritesOn task.now (W.contents writer.old) (W.contents writer.new) batch.now teller.old teller.new) }
     ensures going { OnOk result (W.has_failed writer.new ≡ false) }
     ensures write { IsErrOf result ReportFault.Write ↔ (W.has_failed writer.new ≡ true) }
     ensures beginning { IsErrOf result ReportFault.Write → WritesPart task.now (W.contents writer.old) (W.contents writer.new) batch.now teller.old }
@@ -29,6 +30,7 @@ fn write_due<W: Sink>(
     ensures unread { IfErr result (λ fault. fault ≢ ReportFault.Read) }
     ensures uncut { IfErr result (λ fault. fault ≢ ReportFault.Pieces) }
 {
+    what_is_told_are_ended_lines();
     if batch.len() > usize::MAX - teller.end() {
         return Err(ReportFault::Memory);
     }
@@ -61,6 +63,7 @@ fn write_all_due<S: Source, W: Sink>(
     ensures beginning { IsErrOf result ReportFault.Write → WroteInPart task.now (S.remaining reader.old) (S.remaining reader.new) (W.contents writer.old) (W.contents writer.new) }
     ensures uncut { IfErr result (λ fault. fault ≢ ReportFault.Pieces) }
 {
+    what_is_told_are_ended_lines();
     for _ in 0..u64::MAX {
         match reader.read(buffer) {
             Ok(0) => return Ok(()),
@@ -95,6 +98,7 @@ pub fn report_lines<S: Source, W: Sink>(
     ensures beginning { IsErrOf result ReportFault.Write → WroteInPart task.now (S.remaining reader.old) (S.remaining reader.new) (W.contents writer.old) (W.contents writer.new) }
     ensures uncut { IfErr result (λ fault. fault ≢ ReportFault.Pieces) }
 {
+    what_is_told_are_ended_lines();
     let mut teller = Teller::new(alloc, task);
     let mut buffer: Vec<u8> = vec![in alloc; 0; STEP]?;
     write_all_due(reader, writer, task, &mut teller, &mut buffer)?;

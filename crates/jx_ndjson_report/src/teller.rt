@@ -1,7 +1,7 @@
 // Lines that are told while an input comes slice by slice.
 ghost use Rattle.std.specs.Prelude.{◌≡◌, ◌+◌, ◌<◌, ◌≤◌, ◌^◌, ◌++◌, ℕ, List, [], if◌then◌else◌, length, take, IfOk, OnOk};
 ghost use Rattle.jx_report.specs.Reports.{shown_output};
-ghost use Rattle.jx_ndjson_report.specs.Output.{LinesOutput};
+ghost use Rattle.jx_ndjson_report.specs.Output.{LinesOutput, is_bad, is_good};
 ghost use Rattle.jx_ndjson_report.specs.inside.Teller.{HasTaken};
 ghost use Rattle.jx_ndjson_report.specs.inside.Steps.{bad_line, exit_by, total_words};
 
@@ -47,14 +47,27 @@ fn add_total(
     add_number(ready, good)?;
     ready.extend_from_slice(b", refused ")?;
     add_number(ready, bad)?;
-    ready.push(b'\n')?;
-    Ok(())
+    ready.extend_from_slice(b"\n")
 }
 
 fn exit_by(bad: usize) -> Exit
     ensures { result ≡ exit_by bad }
 {
     if bad == 0 { Exit::Good } else { Exit::Bad }
+}
+
+/// Appends the total, and answers the exit.
+fn add_end(
+    ready: &mut Vec<u8>,
+    task: &LinesTask,
+    good: usize,
+    bad: usize,
+) -> Result<Exit, AllocError>
+    ensures total { OnOk result (ready.new.items ≡ ready.old.items ++ shown_output task.now.is_quiet (total_words task.now.front.items good bad)) }
+    ensures exit { IfOk result (λ exit. exit ≡ exit_by bad) }
+{
+    add_total(ready, task, good, bad)?;
+    Ok(exit_by(bad))
 }
 
 /// A reader of lines, and what is told of those that a line feed has ended. What is told waits here to be written.
@@ -67,7 +80,7 @@ pub(crate) struct Teller {
 }
 
 impl Model for Teller {
-    ghost use Rattle.std.specs.Prelude.{◌≤◌, ◌×◌};
+    ghost use Rattle.std.specs.Prelude.{◌≤◌};
     ghost use Rattle.jx_ndjson_report.specs.inside.Teller.{TellerValue};
 
     ghost Value = { TellerValue };
@@ -98,6 +111,23 @@ impl Teller {
         self.lines.end()
     }
 
+    /// Tells a line that has ended, and counts it.
+    fn tell(&mut self, task: &LinesTask, judged: JudgedLine) -> Result<(), AllocError>
+        requires good { self.old.good + 1 ≤ self.old.lines.ended }
+        requires bad { self.old.bad + 1 ≤ self.old.lines.ended }
+        ensures lines { self.new.lines ≡ self.old.lines }
+        ensures ready { OnOk result (self.new.ready ≡ self.old.ready ++ bad_line task.now judged) }
+        ensures good { OnOk result (self.new.good ≡ self.old.good + (if is_good judged.verdict then 1 else 0)) }
+        ensures bad { OnOk result (self.new.bad ≡ self.old.bad + (if is_bad task.now.blanks judged.verdict then 1 else 0)) }
+    {
+        // It is no less than either count with one more.
+        let _ended = self.lines.ended();
+        add_bad(&mut self.ready, task, judged)?;
+        self.good = counted(self.good, is_good(judged.verdict));
+        self.bad = counted(self.bad, is_bad(task.blanks, judged.verdict));
+        Ok(())
+    }
+
     /// Takes a slice up to and with its first line feed, or less, and answers how many bytes those are.
     fn take_step(&mut self, task: &LinesTask, slice: &[u8]) -> Result<usize, AllocError>
         requires fits { self.old.lines.reader.start + self.old.lines.reader.count + length slice.now < 2 ^ 64 }
@@ -107,13 +137,13 @@ impl Teller {
         ensures count { IfOk result (λ taken. self.new.lines.reader.start + self.new.lines.reader.count ≡ self.old.lines.reader.start + self.old.lines.reader.count + taken) }
     {
         let step = self.lines.feed(slice)?;
-        let _ended = self.lines.ended();
-        if let Some(judged) = step.line {
-            add_bad(&mut self.ready, task, judged)?;
-            self.good = counted(self.good, is_good(judged.verdict));
-            self.bad = counted(self.bad, is_bad(task.blanks, judged.verdict));
+        match step.line {
+            None => Ok(step.taken),
+            Some(judged) => {
+                self.tell(task, judged)?;
+                Ok(step.taken)
+            }
         }
-        Ok(step.taken)
     }
 
     /// Takes a slice behind all bytes that it has taken. Only want of memory is refused.
@@ -147,14 +177,14 @@ impl Teller {
     pub fn finish(&mut self, task: &LinesTask) -> Result<Exit, AllocError>
         ensures { IfOk result (λ exit. (bytes given : List ℕ) → HasTaken task.now bytes given self.old → LinesOutput task.now bytes (given ++ self.new.ready) exit) }
     {
-        let mut good = self.good;
-        let mut bad = self.bad;
-        if let Some(judged) = self.lines.last_line() {
-            add_bad(&mut self.ready, task, judged)?;
-            good = counted(good, is_good(judged.verdict));
-            bad = counted(bad, is_bad(task.blanks, judged.verdict));
+        match self.lines.last_line() {
+            None => add_end(&mut self.ready, task, self.good, self.bad),
+            Some(judged) => {
+                add_bad(&mut self.ready, task, judged)?;
+                let good = counted(self.good, is_good(judged.verdict));
+                let bad = counted(self.bad, is_bad(task.blanks, judged.verdict));
+                add_end(&mut self.ready, task, good, bad)
+            }
         }
-        add_total(&mut self.ready, task, good, bad)?;
-        Ok(exit_by(bad))
     }
 }

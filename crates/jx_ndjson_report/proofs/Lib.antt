@@ -1,0 +1,3 @@
+pub mod Told
+pub mod Takes
+pub mod LineWrites

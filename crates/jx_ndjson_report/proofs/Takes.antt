@@ -1,0 +1,141 @@
+-- A teller takes bytes, and tells the end.
+use Rattle.std.proofs.Common.{◌≡◌, ℕ, zero, suc, ◌+◌, ◌-◌, ◌≤◌, List, [], ◌∷◌, ◌++◌, length, take, drop, arith, Bool, true, false, cond, refl, sym, ap, subst, ◌∙◌, append_assoc, append-nil}
+use Rattle.std.specs.List.{AllZip}
+use Rattle.std.specs.Prelude.{Ok, Err, Result, IfOk, OnOk, slice_range}
+use Rattle.std.proofs.lemmas.List.{take-take}
+use Rattle.jx_run.specs.declared.texts.settings.Settings.{Settings}
+use Rattle.jx_ndjson.specs.declared.judged_line.JudgedLine.{JudgedLine}
+use Rattle.jx_ndjson.specs.Answers.{AreAnswers, IsAnswer}
+use Rattle.jx_ndjson.specs.Lines.{ended_lines}
+use Rattle.jx_ndjson.specs.Reading.{HasTold, LineReaderValue}
+use Rattle.jx_report.specs.declared.exit.Exit.{Exit}
+use Rattle.jx_report.specs.Reports.{shown_output}
+use Rattle.jx_ndjson_report.specs.declared.task.LinesTask.{LinesTask}
+use Rattle.jx_ndjson_report.specs.Output.{IsDue, LinesOutput, bad_lines, bad_of, good_of, is_bad, is_good}
+use Rattle.jx_ndjson_report.specs.inside.Steps.{bad_line, exit_by, total_words}
+use Rattle.jx_ndjson_report.specs.inside.Teller.{HasTaken, TellerValue}
+use Rattle.jx_ndjson_report.proofs.Told.{one_more_bad, one_more_good, one_more_line, same_exit}
+
+-- ---- results
+
+pub ok_with : {A E : Type 0} {P S : A → Type 0} {T : Type 0} (r : Result A E) → ((a : A) → P a → T → S a) → IfOk r P → OnOk r T → IfOk r S
+ok_with (Ok a) f p t = f a p t
+ok_with (Err e) f p t = tt
+
+-- ---- bytes one after another
+
+take_on : (xs : List ℕ) (i n : ℕ) → take (i + n) xs ≡ take i xs ++ take n (drop i xs)
+take_on xs zero n = ap (λ (k : ℕ). take k xs) (let e : 0 + n ≡ n = omega arith in e)
+take_on [] (suc i) n = take_nil (suc i + n) ∙ sym (take_nil n)
+  where
+    take_nil : (k : ℕ) → take {A = ℕ} k [] ≡ []
+    take_nil zero = refl
+    take_nil (suc k) = refl
+take_on (x ∷ xs) (suc i) n = ap (λ (k : ℕ). take k (x ∷ xs)) (let e : suc i + n ≡ suc (i + n) = omega arith in e) ∙ ap (λ (ys : List ℕ). x ∷ ys) (take_on xs i n)
+
+-- with a step from an offset on
+pub one_step : (bytes slice : List ℕ) (at n : ℕ) → at ≤ length slice → n ≤ length slice - at → (bytes ++ take at slice) ++ take n (slice_range slice at (length slice)) ≡ bytes ++ take (at + n) slice
+one_step bytes slice at n within low =
+    append_assoc bytes (take at slice) (take n (slice_range slice at (length slice)))
+    ∙ ap (λ (xs : List ℕ). bytes ++ (take at slice ++ xs)) (take-take n (length slice - at) (drop at slice) low)
+    ∙ ap (λ (xs : List ℕ). bytes ++ xs) (sym (take_on slice at n))
+
+-- ---- bytes that end no line
+pub takes_none : (task : LinesTask) (bytes more given : List ℕ) (old new : TellerValue) → HasTaken task bytes given old → new.good ≡ old.good → new.bad ≡ old.bad → new.ready ≡ old.ready
+    → ((settings : Settings) (input : List ℕ) (told : List JudgedLine) → HasTold settings input told old.lines → HasTold settings (input ++ more) (told ++ []) new.lines)
+    → HasTaken task (bytes ++ more) given new
+takes_none task bytes more given old new h good bad ready reads =
+    record {
+      answers = h.answers;
+      told = subst (λ (js : List JudgedLine). HasTold task.settings (bytes ++ more) js new.lines) (append-nil h.answers) (reads task.settings bytes h.answers h.told);
+      good_are = good ∙ h.good_are;
+      bad_are = bad ∙ h.bad_are;
+      written = ap (λ (xs : List ℕ). given ++ xs) ready ∙ h.written;
+    }
+
+-- bytes that end one
+pub takes_line : (task : LinesTask) (bytes more given : List ℕ) (j : JudgedLine) (old new : TellerValue) → HasTaken task bytes given old → new.good ≡ old.good + cond (is_good j.verdict) 1 0
+    → new.bad ≡ old.bad + cond (is_bad task.blanks j.verdict) 1 0 → new.ready ≡ old.ready ++ bad_line task j
+    → ((settings : Settings) (input : List ℕ) (told : List JudgedLine) → HasTold settings input told old.lines → HasTold settings (input ++ more) (told ++ j ∷ []) new.lines)
+    → HasTaken task (bytes ++ more) given new
+takes_line task bytes more given j old new h good bad ready reads =
+    record {
+      answers = h.answers ++ j ∷ [];
+      told = reads task.settings bytes h.answers h.told;
+      good_are = good ∙ ap (λ (n : ℕ). n + cond (is_good j.verdict) 1 0) h.good_are ∙ sym (one_more_good h.answers j);
+      bad_are = bad ∙ ap (λ (n : ℕ). n + cond (is_bad task.blanks j.verdict) 1 0) h.bad_are ∙ sym (one_more_bad task h.answers j);
+      written =
+          ap (λ (xs : List ℕ). given ++ xs) ready
+          ∙ sym (append_assoc given old.ready (bad_line task j))
+          ∙ ap (λ (xs : List ℕ). xs ++ bad_line task j) h.written
+          ∙ sym (one_more_line task h.answers j);
+    }
+
+-- what waits was written
+pub gives : (task : LinesTask) (bytes given : List ℕ) (old new : TellerValue) → HasTaken task bytes given old → new.lines ≡ old.lines → new.good ≡ old.good → new.bad ≡ old.bad → new.ready ≡ []
+    → HasTaken task bytes (given ++ old.ready) new
+gives task bytes given old new h lines good bad none =
+    record {
+      answers = h.answers;
+      told = subst (λ (r : LineReaderValue). HasTold task.settings bytes h.answers r) (sym lines) h.told;
+      good_are = good ∙ h.good_are;
+      bad_are = bad ∙ h.bad_are;
+      written = ap (λ (xs : List ℕ). (given ++ old.ready) ++ xs) none ∙ append-nil (given ++ old.ready) ∙ h.written;
+    }
+
+-- before the first byte
+pub taken_none : (task : LinesTask) (t : TellerValue) → HasTold task.settings [] [] t.lines → t.good ≡ 0 → t.bad ≡ 0 → t.ready ≡ [] → HasTaken task [] [] t
+taken_none task t told good bad none = record { answers = []; told = told; good_are = good; bad_are = bad; written = none ∙ sym (nothing task.is_quiet) }
+  where
+    nothing : (q : Bool) → shown_output q [] ≡ []
+    nothing true = refl
+    nothing false = refl
+
+-- ---- what is due
+
+pub due : ((settings : Settings) (input : List ℕ) (told : List JudgedLine) (r : LineReaderValue) → HasTold settings input told r → AllZip (IsAnswer settings.depth) (ended_lines settings.mark input) told)
+    → (task : LinesTask) (bytes given : List ℕ) (t : TellerValue) → HasTaken task bytes given t → IsDue task bytes (given ++ t.ready)
+due law task bytes given t h = record { answers = h.answers; are_answers = law task.settings bytes h.answers t.lines h.told; written = h.written }
+
+-- ---- the end
+
+ends : (task : LinesTask) (bytes given ready : List ℕ) (answers : List JudgedLine) (good bad : ℕ) (exit : Exit) → AreAnswers task.settings bytes answers → good ≡ length (good_of answers)
+    → bad ≡ length (bad_of task.blanks answers) → given ++ ready ≡ bad_lines task answers → exit ≡ exit_by bad
+    → LinesOutput task bytes (given ++ (ready ++ shown_output task.is_quiet (total_words task.front.items good bad))) exit
+ends task bytes given ready answers good bad exit are g b written e =
+    record {
+      answers = answers;
+      are_answers = are;
+      written =
+          sym (append_assoc given ready (shown_output task.is_quiet (total_words task.front.items good bad)))
+          ∙ ap (λ (xs : List ℕ). xs ++ shown_output task.is_quiet (total_words task.front.items good bad)) written
+          ∙ ap (λ (n : ℕ). bad_lines task answers ++ shown_output task.is_quiet (total_words task.front.items n bad)) g
+          ∙ ap (λ (n : ℕ). bad_lines task answers ++ shown_output task.is_quiet (total_words task.front.items (length (good_of answers)) n)) b;
+      ends = e ∙ ap exit_by b ∙ sym (same_exit (bad_of task.blanks answers));
+    }
+
+-- without a last line
+pub ends_so : (task : LinesTask) (bytes given ready : List ℕ) (old : TellerValue) (exit : Exit) → HasTaken task bytes given old
+    → ((settings : Settings) (input : List ℕ) (told : List JudgedLine) → HasTold settings input told old.lines → AreAnswers settings input (told ++ []))
+    → ready ≡ old.ready ++ shown_output task.is_quiet (total_words task.front.items old.good old.bad) → exit ≡ exit_by old.bad → LinesOutput task bytes (given ++ ready) exit
+ends_so task bytes given ready old exit h last is e =
+    subst (λ (xs : List ℕ). LinesOutput task bytes (given ++ xs) exit) (sym is)
+    (ends task bytes given old.ready h.answers old.good old.bad exit
+    (subst (λ (js : List JudgedLine). AreAnswers task.settings bytes js) (append-nil h.answers) (last task.settings bytes h.answers h.told))
+    h.good_are h.bad_are h.written e)
+
+-- with one
+pub ends_with : (task : LinesTask) (bytes given mid ready : List ℕ) (j : JudgedLine) (old : TellerValue) (good bad : ℕ) (exit : Exit) → HasTaken task bytes given old
+    → ((settings : Settings) (input : List ℕ) (told : List JudgedLine) → HasTold settings input told old.lines → AreAnswers settings input (told ++ j ∷ []))
+    → good ≡ old.good + cond (is_good j.verdict) 1 0 → bad ≡ old.bad + cond (is_bad task.blanks j.verdict) 1 0
+    → mid ≡ old.ready ++ bad_line task j → ready ≡ mid ++ shown_output task.is_quiet (total_words task.front.items good bad) → exit ≡ exit_by bad → LinesOutput task bytes (given ++ ready) exit
+ends_with task bytes given mid ready j old good bad exit h last g b told is e =
+    subst (λ (xs : List ℕ). LinesOutput task bytes (given ++ xs) exit) (sym is)
+    (ends task bytes given mid (h.answers ++ j ∷ []) good bad exit (last task.settings bytes h.answers h.told)
+    (g ∙ ap (λ (n : ℕ). n + cond (is_good j.verdict) 1 0) h.good_are ∙ sym (one_more_good h.answers j))
+    (b ∙ ap (λ (n : ℕ). n + cond (is_bad task.blanks j.verdict) 1 0) h.bad_are ∙ sym (one_more_bad task h.answers j))
+    (ap (λ (xs : List ℕ). given ++ xs) told
+    ∙ sym (append_assoc given old.ready (bad_line task j))
+    ∙ ap (λ (xs : List ℕ). xs ++ bad_line task j) h.written
+    ∙ sym (one_more_line task h.answers j))
+    e)
