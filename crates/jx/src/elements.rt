@@ -1,4 +1,6 @@
 // The elements of a container, each on a line.
+ghost use Rattle.jx_index.specs.Pointers.{IsPointer};
+
 use crate::fault::Fault;
 use crate::input::{fault_of_report, open};
 use crate::output::Output;
@@ -8,9 +10,18 @@ use jx_index::Pointer;
 use jx_report::End;
 use jx_values::report_elements;
 
-/// Reads what an order names, and writes the elements of the container that it asks for.
+/// Reads what an order names, and writes the elements of the container that it asks for, or tells that its pointer is none.
 pub fn write_elements_of(rt: &HostRuntime, order: &EachOrder<'_>) -> Result<Status, Fault> {
-    Pointer::read(order.pointer).map_err(Fault::Pointer)?;
+    match Pointer::read(order.pointer) {
+        Ok(_) => write_elements(rt, order),
+        Err(fault) => Err(Fault::Pointer(fault)),
+    }
+}
+
+/// The same, where the pointer is one.
+fn write_elements(rt: &HostRuntime, order: &EachOrder<'_>) -> Result<Status, Fault>
+    requires { IsPointer order.now.pointer.now }
+{
     let mut reader = open(rt, order.input)?;
     let mut writer = End::new(Output::of(rt));
     let mut errors = End::new(rt.stderr());

@@ -158,7 +158,7 @@ fn push_values(out: &mut Out, order: &ValuesOrder) {
 }
 
 fn push_each(out: &mut Out, order: &EachOrder) {
-    out.push_str("each");
+    push_file(out, "each ", order.pointer);
     push_settings(out, &order.settings);
     push_inputs(out, &Inputs::One(order.input));
 }

@@ -157,3 +157,6 @@ starts reader path pointer stand verdict read at is stands judged = record {
   stands = refl;
   made = ap (λ (s : Stand). let m : Made = record { stand = s; lines = []; part = [] } in m) stands;
 }
+
+pub none_due : (settings : Settings) (pointer : List ℕ) (verdict : Verdict) → JudgedBy settings 0 [] verdict → IsDue settings pointer [] []
+none_due settings pointer verdict judged = is_due settings pointer [] 0 (none_begins settings verdict judged)

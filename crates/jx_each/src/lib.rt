@@ -12,4 +12,6 @@ mod token;
 mod way;
 
 pub use each::Each;
-pub use laws::{all_of_a_text_is_due, due_grows, due_is_one, what_is_taken_is_due};
+pub use laws::{
+    all_of_a_text_is_due, due_grows, due_is_one, nothing_is_due_of_no_byte, what_is_taken_is_due,
+};

@@ -99,14 +99,13 @@ pub lines_at_end : (settings : Settings) (pointer : List ℕ) (u m w x : Known) 
 lines_at_end settings pointer u m w x each sought law same h = lines_at_fault settings pointer u m m w x each sought [] law same h (consumes_none m)
 
 -- nothing was read yet
-pub lines_at_start : (settings : Settings) (pointer : List ℕ) (u w : Known) (each : EachValue) → TakenIsDue
-    → each.reader.settings ≡ settings → each.ready ≡ [] → HasTaken pointer [] [] each → WroteLines settings pointer u u w w
-lines_at_start settings pointer u w each law same none h = record {
+pub lines_at_start : (settings : Settings) (pointer : List ℕ) (u w : Known) → IsDue settings pointer [] [] → WroteLines settings pointer u u w w
+lines_at_start settings pointer u w due = record {
   text = [];
   more = [];
   output = [];
   read = consumes_none u;
-  due = due_now settings pointer each [] [] law same none h;
+  due = due;
   wrote = appends_none w;
 }
 
@@ -146,6 +145,10 @@ fault_is r y f a b = ap (λ q. fault_or q y) (sym a ∙ b)
 -- a fault that is handed on is the same
 pub same_fault : {T U : Type 0} (q : Result T ReportFault) (r : Result U ReportFault) (x y f : ReportFault) → q ≡ Err x → r ≡ Err y → y ≡ x → r ≡ Err f → q ≡ Err f
 same_fault q r x y f a b e c = a ∙ ap Err (sym e ∙ fault_is r y f b c)
+
+-- and the other way round
+pub fault_back : {T U : Type 0} (q : Result T ReportFault) (r : Result U ReportFault) (x y f : ReportFault) → q ≡ Err x → r ≡ Err y → y ≡ x → q ≡ Err f → r ≡ Err f
+fault_back q r x y f a b e c = b ∙ ap Err (e ∙ fault_is q x f a c)
 
 pub as_written : (pointer : List ℕ) (u n w x : Known) (each : EachValue) (sought : Option Finder) → IsAllWritten pointer u n w x each sought → IsWritten pointer u n w x each sought
 as_written pointer u n w x each sought h =

@@ -8,7 +8,7 @@ ghost use Rattle.jx_values.specs.inside.Sought.{HasSought, any_names};
 
 use crate::sought::{Sought, pointers_of, seek, sought_at_start, told_of_elements};
 use crate::telling::{exit_by, tell};
-use jx_each::{Each, what_is_taken_is_due};
+use jx_each::{Each, nothing_is_due_of_no_byte, what_is_taken_is_due};
 use jx_report::{Exit, ReportFault, Sink, Source, write_whole};
 use jx_run::Settings;
 use std::alloc::Global;
@@ -118,6 +118,7 @@ pub fn report_elements<S: Source, W: Sink, E: Sink>(
         (W.contents writer.old) (W.contents writer.new) }
     ensures uncut { IfErr result (λ fault. fault ≢ ReportFault.Pieces) }
 {
+    nothing_is_due_of_no_byte();
     what_is_taken_is_due();
     let mut each = Each::new(alloc, settings, pointer)?;
     let pointers = pointers_of(alloc, pointer)?;

@@ -1,5 +1,5 @@
 // What the pointer to a container leads to, looked up while elements are written, and what is told of it.
-ghost use Rattle.std.specs.Prelude.{◌≡◌, ◌++◌, ◌∷◌, [], ℕ, List, IfOk, OnOk};
+ghost use Rattle.std.specs.Prelude.{◌≡◌, ◌++◌, ◌∷◌, [], ℕ, List, IfOk, OnOk, slice_get};
 ghost use Rattle.jx_run.specs.declared.texts.settings.Settings.{Settings};
 ghost use Rattle.jx_run.specs.Settings.{JudgedBy};
 ghost use Rattle.jx_index.specs.Pointers.{IsPointer};
@@ -66,6 +66,16 @@ fn told_of_root(alloc: Global, is_container: bool) -> Result<Vec<u8>, AllocError
     }
 }
 
+/// The first answer, if there is one.
+fn first_of(found: &[Result<Found, FindFault>]) -> Option<Result<Found, FindFault>>
+    ensures { result ≡ slice_get found.now 0 }
+{
+    match found.get(0) {
+        Some(found) => Some(*found),
+        None => None,
+    }
+}
+
 /// What is told of a text in which one pointer of so many tokens was looked up.
 fn told_of_sought(
     alloc: Global,
@@ -77,8 +87,8 @@ fn told_of_sought(
     let Ok(found) = finder.finish()? else {
         return Err(AllocError);
     };
-    match found.first() {
-        Some(found) => told_of_found(alloc, *found, tokens),
+    match first_of(&found) {
+        Some(found) => told_of_found(alloc, found, tokens),
         None => Err(AllocError),
     }
 }

@@ -36,8 +36,8 @@ const COMMANDS: [(&[&str], &str); 10] = [
         "get /1 x; depth 512, mark Refused, names Any, workers 4, piece 65536, compact, raw, file F, pointers G",
     ),
     (
-        &["each", "--file", "F", "--depth", "7"],
-        "each; depth 7, file F",
+        &["each", "/a", "--file", "F", "--depth", "7"],
+        "each /a; depth 7, file F",
     ),
     (
         &["lines", "F", "G", "--depth", "7", "--skip-blank", "-q"],
@@ -162,7 +162,8 @@ fn add_settings(
 
 fn line_of_each(alloc: Global, order: &EachOrder<'_>) -> Result<String, AllocError> {
     let depth = order.settings.depth.containers();
-    let mut line = format!(in alloc; "each; depth {depth}")?;
+    let pointer = order.pointer;
+    let mut line = format!(in alloc; "each {pointer}; depth {depth}")?;
     add_inputs(&mut line, &Inputs::One(order.input))?;
     Ok(line)
 }

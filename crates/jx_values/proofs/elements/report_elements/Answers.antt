@@ -1,30 +1,48 @@
-use Rattle.std.proofs.Common.{◌∙◌, ap, subst}
+use Rattle.std.proofs.Common.{◌∙◌, [], ap, subst, sym}
 use Rattle.std.proofs.lemmas.Result.{err_from_is_err_and}
 use Rattle.std.specs.Io.KnownBytes.{Appends}
 use Rattle.jx_run.specs.declared.texts.settings.Settings.{Settings}
 use Rattle.jx_report.specs.declared.report_fault.ReportFault.TheVariants as fault
 use Rattle.jx_values.specs.Elements.{WroteDue, WroteInPart, WroteLines}
 use Rattle.jx_values.specs.Values.{exit_by}
-use Rattle.jx_values.proofs.ElementWrites.{as_written, lines_at_end, lines_at_start, reports, same_fault}
+use Rattle.jx_values.specs.inside.Sought.{HasSought, any_names}
+use Rattle.jx_values.proofs.ElementWrites.{as_written, fault_back, lines_at_end, lines_at_start, reports, same_fault}
 use Rattle.jx_values.proofs.elements.report_elements.Goals as goal
+
+pub returns-in_err-each-clause-lines : goal.returns-in_err-each-clause-lines
+returns-in_err-each-clause-lines g c = λ is.
+    lines_at_start c.args.settings.now c.args.pointer.now (g.S.Source.remaining c.args.reader.now) (g.W.Sink.contents c.args.writer.now) (c.nothing_is_due_of_no_byte.ensures.none c.args.settings.now c.args.pointer.now)
 
 pub returns-in_err-pointers-clause-lines : goal.returns-in_err-pointers-clause-lines
 returns-in_err-pointers-clause-lines g c = λ is.
-    let u = g.S.Source.remaining c.args.reader.now in
-    let w = g.W.Sink.contents c.args.writer.now in
-    lines_at_start c.args.settings.now c.args.pointer.now u w c.in_ok-each.each c.what_is_taken_is_due.ensures.due c.in_ok-each.ensures.settings c.in_ok-each.ensures.ready c.in_ok-each.ensures.taken
+    lines_at_start c.args.settings.now c.args.pointer.now (g.S.Source.remaining c.args.reader.now) (g.W.Sink.contents c.args.writer.now) (c.nothing_is_due_of_no_byte.ensures.none c.args.settings.now c.args.pointer.now)
 
 pub returns-in_err-sought-clause-lines : goal.returns-in_err-sought-clause-lines
 returns-in_err-sought-clause-lines g c = λ is.
-    let u = g.S.Source.remaining c.args.reader.now in
-    let w = g.W.Sink.contents c.args.writer.now in
-    lines_at_start c.args.settings.now c.args.pointer.now u w c.in_ok-each.each c.what_is_taken_is_due.ensures.due c.in_ok-each.ensures.settings c.in_ok-each.ensures.ready c.in_ok-each.ensures.taken
+    lines_at_start c.args.settings.now c.args.pointer.now (g.S.Source.remaining c.args.reader.now) (g.W.Sink.contents c.args.writer.now) (c.nothing_is_due_of_no_byte.ensures.none c.args.settings.now c.args.pointer.now)
 
 pub returns-in_err-buffer-clause-lines : goal.returns-in_err-buffer-clause-lines
 returns-in_err-buffer-clause-lines g c = λ is.
-    let u = g.S.Source.remaining c.args.reader.now in
-    let w = g.W.Sink.contents c.args.writer.now in
-    lines_at_start c.args.settings.now c.args.pointer.now u w c.in_ok-each.each c.what_is_taken_is_due.ensures.due c.in_ok-each.ensures.settings c.in_ok-each.ensures.ready c.in_ok-each.ensures.taken
+    lines_at_start c.args.settings.now c.args.pointer.now (g.S.Source.remaining c.args.reader.now) (g.W.Sink.contents c.args.writer.now) (c.nothing_is_due_of_no_byte.ensures.none c.args.settings.now c.args.pointer.now)
+
+pub write_all_due-requires-clause-sought : goal.write_all_due-requires-clause-sought
+write_all_due-requires-clause-sought g c =
+    subst (λ (s : Settings). HasSought (any_names s) c.args.pointer.now [] c.in_ok-sought.sought) (sym c.in_ok-each.ensures.settings)
+    (c.in_ok-sought.ensures c.args.pointer.now (c.deref.ensures.value ∙ c.in_ok-pointers.ensures))
+
+pub returns-in_err-write_all_due-clause-read : goal.returns-in_err-write_all_due-clause-read
+returns-in_err-write_all_due-clause-read g c =
+    let p = err_from_is_err_and c.from_residual-in_err-write_all_due.result c.from_residual-in_err-write_all_due.ensures.1 in (
+      λ is. c.write_all_due.ensures.read.0 (same_fault c.write_all_due.result c.from_residual-in_err-write_all_due.result c.in_err-write_all_due.field-0.0 p.0 fault.Read c.in_err-write_all_due.was p.1 p.2 is),
+      λ failed. fault_back c.write_all_due.result c.from_residual-in_err-write_all_due.result c.in_err-write_all_due.field-0.0 p.0 fault.Read c.in_err-write_all_due.was p.1 p.2 (c.write_all_due.ensures.read.1 failed),
+    )
+
+pub returns-in_err-write_all_due-clause-write : goal.returns-in_err-write_all_due-clause-write
+returns-in_err-write_all_due-clause-write g c =
+    let p = err_from_is_err_and c.from_residual-in_err-write_all_due.result c.from_residual-in_err-write_all_due.ensures.1 in (
+      λ is. c.write_all_due.ensures.write.0 (same_fault c.write_all_due.result c.from_residual-in_err-write_all_due.result c.in_err-write_all_due.field-0.0 p.0 fault.Write c.in_err-write_all_due.was p.1 p.2 is),
+      λ failed. fault_back c.write_all_due.result c.from_residual-in_err-write_all_due.result c.in_err-write_all_due.field-0.0 p.0 fault.Write c.in_err-write_all_due.was p.1 p.2 (c.write_all_due.ensures.write.1 failed),
+    )
 
 pub returns-in_err-write_all_due-clause-due : goal.returns-in_err-write_all_due-clause-due
 returns-in_err-write_all_due-clause-due g c = λ is.
@@ -61,5 +79,5 @@ returns-clause-ok g c =
     reports c.args.settings.now c.args.pointer.now (g.S.Source.remaining c.args.reader.now) (g.S.Source.remaining c.write_all_due.new.reader) (g.W.Sink.contents c.args.writer.now) (g.W.Sink.contents c.write_all_due.new.writer)
     (g.E.Sink.has_failed c.tell.new.errors) told retold c.write_all_due.new.each c.write_all_due.new.sought c.verdict.result c.in_ok-told.told.items c.exit_by.result
     c.what_is_taken_is_due.ensures.due (c.write_all_due.ensures.settings ∙ c.in_ok-each.ensures.settings) c.in_ok-write_all_due.ensures.ok c.verdict.ensures c.in_ok-told.ensures
-    (c.exit_by.ensures ∙ ap exit_by c.deref-2.ensures.value)
-    (λ lost. subst (λ l. Appends told retold l) c.deref.ensures.value (c.tell.ensures lost))
+    (c.exit_by.ensures ∙ ap exit_by c.deref-3.ensures.value)
+    (λ lost. subst (λ l. Appends told retold l) c.deref-2.ensures.value (c.tell.ensures lost))
