@@ -1,3 +1,5 @@
 pub mod Heads
 pub mod RecordSteps
 pub mod Refused
+pub mod Sizes
+pub mod Taken

@@ -97,3 +97,11 @@ IsWholeFault depth from to stream (Report it) = Unit {0}
 IsWholeFault depth from to stream NoRuns = stream ≡ []
 IsWholeFault depth from to stream (Run number why) = IsRefused depth stream number why
 IsWholeFault depth from to stream (Elsewhere start end other_from other_to) = (other_from ≡ from) × (other_to ≡ to) × IsElsewhere depth stream start end from to
+
+-- which fault runs of neighbours get, from this offset on and of so many bytes: one of a report, or that these are not the bounds
+abbrev pub IsOfBounds : Option ℕ → ℕ → ℕ → ℕ → PartsFault → Type 0
+IsOfBounds at count from to (Report it) = Unit {0}
+IsOfBounds at count from to NoRuns = ⊥
+IsOfBounds at count from to (Run number why) = ⊥
+IsOfBounds at count from to (Elsewhere start end other_from other_to) =
+    (other_from ≡ from) × (other_to ≡ to) × (start ≡ unwrap_or at 0) × (end ≡ start + count) × ((start ≢ from) ⊎ (end ≢ to))

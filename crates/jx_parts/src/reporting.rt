@@ -1,8 +1,9 @@
 // What is written for a part, for the runs of parts, and for the runs of a whole text.
-ghost use Rattle.std.specs.Prelude.{◌≡◌, ◌≢◌, ◌↔◌, ℕ, List, Some, true, false, IfOk, IfErr, IsErrOf, OnOk};
+ghost use Rattle.std.specs.Prelude.{◌≡◌, ◌≢◌, ◌↔◌, ℕ, List, Option, Some, true, false, IfOk, IfErr, IsErrOf, OnOk};
 ghost use Rattle.jx_portion.specs.Portion.{IsRecord};
 ghost use Rattle.jx_report.specs.declared.report_fault.ReportFault.TheVariants.{Read, Write};
-ghost use Rattle.jx_parts.specs.Refusals.{IsJoinFault, IsReport, IsWholeFault};
+ghost use Rattle.jx_parts.specs.Records.{HoldsRuns};
+ghost use Rattle.jx_parts.specs.Refusals.{IsJoinFault, IsOfBounds, IsReport, IsWholeFault};
 ghost use Rattle.jx_parts.specs.Reports.{Joins, SaysWhole, SaysWholeSo, Writes, WritesInPart};
 
 use crate::joining::read_joined;
@@ -58,6 +59,8 @@ pub fn report_joined<S: Source, W: Sink>(
     ensures write { IsErrOf result (PartsFault.Report Write) ↔ (W.has_failed writer.new ≡ true) }
     // Where the bytes that the reader had are known, which fault they get.
     ensures refused { (stream : List ℕ) → S.remaining reader.old ≡ Some stream → IfErr result (IsJoinFault depth stream) }
+    // Runs of neighbours get none: then an end failed, or memory was refused.
+    ensures taken { (stream : List ℕ) (from : Option ℕ) (count : ℕ) → S.remaining reader.old ≡ Some stream → HoldsRuns depth from count stream → IfErr result IsReport }
     // After any other fault the writer is as it was.
     ensures unwritten { IfErr result (λ fault. fault ≢ PartsFault.Report Write → writer.new ≡ writer.old) }
     // After a write fault all was read, and a beginning of the output was written.
@@ -89,6 +92,9 @@ pub fn report_whole<S: Source, W: Sink>(
     ensures write { IsErrOf result (PartsFault.Report Write) ↔ (W.has_failed writer.new ≡ true) }
     // Where the bytes that the reader had are known, which fault they get.
     ensures refused { (stream : List ℕ) → S.remaining reader.old ≡ Some stream → IfErr result (IsWholeFault depth from to stream) }
+    // Runs of neighbours get none but that they are those of another part of the text.
+    ensures taken { (stream : List ℕ) (at : Option ℕ) (count : ℕ) → S.remaining reader.old ≡ Some stream → HoldsRuns depth at count stream
+        → IfErr result (IsOfBounds at count from to) }
     // After any other fault the writer is as it was.
     ensures unwritten { IfErr result (λ fault. fault ≢ PartsFault.Report Write → writer.new ≡ writer.old) }
     // After a write fault all was read, and a beginning of the line was written.

@@ -3,3 +3,4 @@ pub mod FrameSteps
 pub mod FramesRead
 pub mod NumberSteps
 pub mod SpeltText
+pub mod Strings

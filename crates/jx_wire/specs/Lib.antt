@@ -2,4 +2,5 @@ pub mod Frames
 pub mod Messages
 pub mod Numbers
 pub mod Strings
+pub mod Values
 pub mod inside

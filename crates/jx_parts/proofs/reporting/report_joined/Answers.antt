@@ -1,7 +1,9 @@
 use Rattle.std.proofs.Common.{Result, Ok, Err, OnOk}
+use Rattle.std.proofs.lemmas.Result.{err_from_is_err_and}
 use Rattle.std.specs.List.{concat}
 use Rattle.std.specs.Io.KnownBytes.{Appends}
 use Rattle.jx_parts.specs.inside.Writing.{IsWritten}
+use Rattle.jx_parts.proofs.Taken.{runs_join}
 use Rattle.jx_parts.proofs.reporting.report_joined.Goals as goal
 
 -- what holds where a call gives Ok, and what follows from it
@@ -44,3 +46,9 @@ returns-clause-beginning g c = λ is.
       };
       wrote = written.wrote;
     }
+
+pub returns-in_err-joined-clause-taken : goal.returns-in_err-joined-clause-taken
+returns-in_err-joined-clause-taken g c = λ stream from count known holds.
+    let is = runs_join c.args.depth from count stream c.in_err-joined.field-0.0 holds (c.in_err-joined.ensures.refused stream known) in
+    let p = err_from_is_err_and c.from_residual.result c.from_residual.ensures.1 in
+    rw (p.1, p.2) is
