@@ -181,7 +181,11 @@ a_closed_pipe_ends_a_call_without_a_word() {
     { printf '\0361\n%.0s' {1..100000}; } >log
     printf '[' >bad
     for command in 'index big' 'index --file big' 'seq log' 'seq log log' 'check big big' 'check -l bad bad' 'check --format gnu bad' 'check --format json big' 'at --file big /0 /1 /2' 'explain big' 'part --file big' '--version'; do
-        (trap '' PIPE; "$program" $command 2>told; echo $? >status) | true
+        # Its reader is gone before the call begins.
+        exec 5> >(true)
+        wait $!
+        (trap '' PIPE; "$program" $command 2>told >&5; echo $? >status)
+        exec 5>&-
         same "jx $command, whose reader goes away" 'status 2, told: ' "status $(cat status), told: $(cat told)"
     done
     "$program" index big 2>told | head -n 1 >first
