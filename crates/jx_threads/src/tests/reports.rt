@@ -23,11 +23,11 @@ fn another_worker_goes_on_in_a_report(rt: HostRuntime) -> Result<(), Fail> {
     Ok(())
 }
 
-// Each worker draws once in the first batch. In the second one a worker draws and is held.
+// In the first batch its front is drawn, and the two pieces behind that. In the second one a worker draws and is held.
 #[test]
 fn another_worker_goes_on_in_the_second_batch_too(rt: HostRuntime) -> Result<(), Fail> {
     let check = check_by_two()?;
-    let gate = Meeting::behind(2, Until::Moved);
+    let gate = Meeting::behind(3, Until::Moved);
     let mut reader = End::new(b"[1,2]".as_slice());
     let mut writer = End::new(Vec::new(rt.alloc()));
     let answer = report_in_batches(&rt, rt.alloc(), &mut reader, &mut writer, &check, &gate, 3);
