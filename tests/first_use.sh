@@ -9,7 +9,7 @@ make_clone() {
     local crate
     mkdir -p "$clone"/crates/{low,left,right,jx,other}/src
     cp -R "$root/jx" "$root/tools" "$clone"
-    printf '%s\n' 'jx: left right' 'left: low' 'other: low' 'right may_wait=1: low kit' 'low: kit' >"$clone/crates.txt"
+    printf '%s\n' '# programs: one' 'jx: left right' '' '# libraries' 'left: low' 'other: low' 'right may_wait=1: low kit' 'low: kit' '# jx: other' >"$clone/crates.txt"
     for crate in low left right jx other; do touch "$clone/crates/$crate/src/lib.rt"; done
 }
 
