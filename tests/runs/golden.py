@@ -1,4 +1,4 @@
-"""Holds the records of docs/FORMAT.md to a plain reading of their bytes, and changes each of their bytes."""
+"""Holds the run files of docs/FORMAT.md to a plain reading of their bytes, and changes each of their bytes."""
 import pathlib
 import re
 
@@ -9,7 +9,7 @@ PARTS = [(b"", None), (b'"a":1},{', 7), (b"]]", None)]
 
 
 def records():
-    lines = PAGE.read_text().split("## Three records")[1]
+    lines = PAGE.read_text().split("## Three run files")[1]
     return [bytes.fromhex(re.sub(r"\s", "", block)) for block in re.findall(r"(?:^    [0-9a-f]+\n)+", lines, re.M)]
 
 

@@ -1,0 +1,48 @@
+#!/usr/bin/env bash
+# Names: the parts of crates.txt, the glossary, public types, headings of docs/PROVED.md, words of docs/FORMAT.md. Each question is also
+# asked of a copy with a fault.
+. "$(dirname "$0")/lib.sh"
+
+asked() { python3 "$root/tests/names.py" "$@" 2>&1; }
+
+names_are_as_they_should_be() {
+    local question said
+    for question in parts words types headings format; do
+        said=$(asked "$question")
+        same "names.py $question: status" 0 $?
+        same "names.py $question" '' "$said"
+    done
+}
+
+# wrong QUESTION FILE SCRIPT TOLD: a copy where the sed script makes a file wrong is told by these words.
+wrong() {
+    cp "$root/$2" kept
+    sed -i "$3" "copy/$2"
+    same "$1: the copy of $2 differs" yes "$(cmp -s kept "copy/$2" || echo yes)"
+    has "$1: a fault in $2" "$4" "$(asked "$1" copy)"
+    cp kept "copy/$2"
+}
+
+what_is_wrong_is_told() {
+    local crate
+    mkdir -p copy/crates
+    cp -R "$root/docs" "$root/crates.txt" copy
+    for crate in "$root"/crates/*; do
+        mkdir "copy/crates/${crate##*/}"
+        cp -R "$crate/src" "copy/crates/${crate##*/}"
+        if [ -d "$crate/specs" ]; then cp -R "$crate/specs" "copy/crates/${crate##*/}"; fi
+    done
+    wrong parts crates.txt 's/^jx_lex:/jx_lex: jx_report/' 'jx_lex stands on jx_report, which is no crate above it'
+    wrong parts crates.txt '/^jx_shelf:/d' 'ARCHITECTURE.md has jx_shelf'
+    wrong parts crates.txt 's/^# tests$/# more/' 'crates.txt has the parts'
+    wrong words docs/ARCHITECTURE.md 's/^| piece |/| batch |/' 'the glossary has batch twice'
+    wrong words docs/ARCHITECTURE.md 's/^| piece |/| morsel |/' 'nothing else has the word morsel'
+    wrong types crates/jx_edit/src/lib.rt '$a pub struct Verdict;' 'Verdict is a public type of jx_edit, jx_run'
+    wrong headings docs/PROVED.md 's/^## Trusted$/## Neither/' 'PROVED.md has the heading Neither twice'
+    wrong headings docs/PROVED.md 's/^\*\*`jx_edit`\*\*/**`jx_find`**/' 'PROVED.md has jx_find at 2 places'
+    wrong format docs/FORMAT.md 's/^| `transitions` |/| `ways` |/' 'no definition has the word ways'
+    wrong format docs/FORMAT.md 's/^- States: `Gap Str/- States: `Str Gap/' 'the states are not those of jx_lex'
+}
+
+tests names_are_as_they_should_be \
+    what_is_wrong_is_told
