@@ -50,6 +50,7 @@ COMMANDS = {
     ),
     "Several files": ({"jx_files/src/reports": ["report_on_each"]}, without("Index At Seq")),
     "`part`, `join`, `whole`": ({"jx_parts/src/reporting": ["report_part", "report_joined", "report_whole"]}, without("Index At Seq")),
+    "`jx_check` in C": ({"jx_c/src/check": ["jx_check_non_null"]}, without("Index At Seq")),
     "Documents": ({"jx_edit/src/document": None}, without("Index At Seq")),
     "The language server": ({"jx_lsp/src/serve": ["serve"]}, without("Index At Seq")),
 }
@@ -58,6 +59,8 @@ FIRST = "`jx check`"
 TOKEN = re.compile(r"[^\s(){}\[\];,.]+(?:\.[^\s(){}\[\];,.]+)*")
 HEAD = re.compile(r"^(?:(?:abbrev|unfoldable|pub|private)\s+)*(?:(data|record)\s+)?(\S+)")
 IMPORT = re.compile(r"^\s*(?:ghost )?use\s+([\w.\-]+?)(?:\.\{([^}]*)\}|\s+as\s+(\w+))\s*;?\s*$", re.M)
+# A public call with its comment: all up to its body, its name, and what follows that.
+CALL = re.compile(r"((?:^ *(?:///|#\[).*\n)*^ *pub (?:extern \S+ )?fn (\w+)((?:.*\n)*?)^ *\{$)", re.M)
 
 
 @functools.cache
@@ -149,9 +152,9 @@ def specs_at(path):
 
 @functools.cache
 def declaration_of(path, name):
-    """The declaration of a type or a trait, with its comment."""
+    """The declaration of a type, a trait or a constant, with its comment."""
     found = re.search(
-        r"(^ *(?:///|#\[).*\n)*^pub(?:\(crate\))? (?:struct|enum|trait) %s\b(?:.*;|[^{;]*\{[^}\n]*\}|(?:.*\n)*?^\})\n" % name,
+        r"(^ *(?:///|#\[).*\n)*^pub(?:\(crate\))? (?:struct|enum|trait|const) %s\b(?:.*;|[^{;]*\{[^}\n]*\}|(?:.*\n)*?^\})\n" % name,
         text_of(path + ".rt"),
         re.M,
     )
@@ -222,7 +225,7 @@ class Reach:
     def begin(self, path, names):
         """The contracts of these public calls of a file, or of all."""
         text = text_of(path + ".rt")
-        for margin, name, said in re.findall(r"((?:^ *///.*\n)*^ *pub fn (\w+)((?:.*\n)*?)^ *\{$)", text, re.M):
+        for margin, name, said in CALL.findall(text):
             if names is None or name in names:
                 self.contracts.setdefault(path, []).append((name, len(margin.split("\n")) - 1))
                 signature, clauses = re.match(r"((?:(?! *(?:ensures|requires) ).*\n)*)((?:.*\n)*)", said).groups()
@@ -323,7 +326,7 @@ def file_cell(path, needed):
 
 
 def first_rows(reach):
-    return ["| %s | %d |" % (file_cell(path, needed), count) for path, (needed, count) in reach.rows().items()]
+    return ["| %s | %d |" % (file_cell(path, needed), count) for path, (needed, count) in sorted(reach.rows().items())]
 
 
 def further_rows(rows, library):
