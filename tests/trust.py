@@ -2,6 +2,7 @@
 
     trust.py rows           the rows of docs/TRUST.md as the sources have them now, behind the heading of each part
     trust.py compare [PAGE] where the page differs from that, a line each
+    trust.py renew          puts counts, and the rows of further commands, into the page; what is missing of the first part is told
 
 A definition is a function, a record or a data type of a file of crates/*/specs. From each clause of a contract the names are followed that
 its file imports or defines. Of a definition by cases, a command has those that are about it: COMMANDS names the others. A type of the code
@@ -55,6 +56,8 @@ COMMANDS = {
     "The language server": ({"jx_lsp/src/serve": ["serve"]}, without("Index At Seq")),
 }
 FIRST = "`jx check`"
+# What crates.txt names of the library.
+LIBRARY = {"core", "std_alloc"}
 
 TOKEN = re.compile(r"[^\s(){}\[\];,.]+(?:\.[^\s(){}\[\];,.]+)*")
 HEAD = re.compile(r"^(?:(?:abbrev|unfoldable|pub|private)\s+)*(?:(data|record)\s+)?(\S+)")
@@ -392,10 +395,26 @@ def in_order(rows, reach):
     return wrong
 
 
+def ported():
+    """The ported crates that the product and the programs stand on, by crates.txt."""
+    listed = re.sub(r"#.*", "", (ROOT / "crates.txt").read_text().partition("\n# tests\n")[0])
+    named = {name for line in listed.splitlines() for name in line.partition(":")[2].split()}
+    return {name for name in named if not (CRATES / name).is_dir()} - LIBRARY
+
+
+def wrong_ported(page):
+    """Where the crates that are trusted are named, and are not these."""
+    row = re.search(r"^\| ported crates \|.*", page, re.M)
+    trusted = (ROOT / "docs" / "PROVED.md").read_text().partition("\n## Trusted\n")[2]
+    for name, words in (("TRUST.md", row.group(0) if row else ""), ("PROVED.md", trusted)):
+        for crate in sorted(ported() ^ set(re.findall(r"`(\w+)`", words))):
+            yield "%s: the ported crate %s is named in one of %s and crates.txt" % (name, crate, name)
+
+
 def differences(page):
     found, reaches = parts()
     on_page = page_parts(page)
-    told = []
+    told = list(wrong_ported(page))
     for heading, (rows, sentences) in found.items():
         words = on_page.get(heading, "")
         shown = table_rows(words, 2)
@@ -409,6 +428,27 @@ def differences(page):
     return told + ["no command has the case that cites %s of %s" % (name, path) for path, name in sorted(missed)]
 
 
+def renewed(heading, words, rows, total):
+    """The words of a part with its rows. What the page says of a file of the first part stays."""
+    words = re.sub(r"^    \d+ lines of .*$", "    " + total, words, flags=re.M)
+    if heading != FIRST:
+        return re.sub(r"(^\|---\|---\|\n)(?:\|.*\n)*", lambda head: head.group(1) + "\n".join(rows) + "\n", words, flags=re.M)
+    for row in rows:
+        path = re.escape(re.search(r"`(\w+/[^`]*)`", row).group(0))
+        words = re.sub(r"^\| [^|]*%s \| \d+ \|" % path, lambda _, row=row: row, words, flags=re.M)
+    return words
+
+
+def renew():
+    pieces = re.split(r"(^##+ .*\n)", PAGE.read_text(), flags=re.M)
+    for heading, (rows, sentences) in parts()[0].items():
+        for at, piece in enumerate(pieces[:-1]):
+            if piece.lstrip("#").strip() == heading:
+                pieces[at + 1] = renewed(heading, pieces[at + 1], rows, sentences[0])
+    PAGE.write_text("".join(pieces))
+    print("\n".join(differences(PAGE.read_text())))
+
+
 def main(words):
     if words[:1] == ["rows"]:
         for heading, (rows, sentences) in parts()[0].items():
@@ -416,6 +456,8 @@ def main(words):
     elif words[:1] == ["compare"] and len(words) <= 2:
         page = pathlib.Path(words[1]) if words[1:] else PAGE
         print("\n".join(differences(page.read_text())))
+    elif words == ["renew"]:
+        renew()
     else:
         raise SystemExit(__doc__)
 

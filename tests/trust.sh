@@ -32,6 +32,7 @@ a_page_that_is_wrong_is_told() {
         'nothing above cites it: '
     wrong 'a wrong sum' 's/^    [0-9]* lines of definitions in 12 files/    1 lines of definitions in 12 files/' '`jx check`: is not said: '
     wrong 'a file that a further command needs' 's/`specs\/Repeats.antt` [0-9]*, //' '`--unique-names`: is left out: | `jx_index` |'
+    wrong 'a ported crate that is left out' 's/ `simdutf8`,//' 'the ported crate simdutf8 is named in one of TRUST.md and crates.txt'
     wrong 'a part that is left out' '/^### `lines`/d' '`lines`: is left out: '
 }
 
