@@ -18,15 +18,15 @@ if ROOT.is_file():
 PARTS = ["the product, from the lowest layer up", "for callers with threads of their own", "programs, and the library for C", "tests", "tools"]
 # What no crate but these tests and tools may stand on.
 APART = PARTS[3:]
-# Names that several crates give to a public type, and why they may.
+# Names that several crates give to a public type: each is another thing, and no file takes two of them.
 SHARED = {
     "Form": ("jx_explain jx_values", "how a verdict is told; how a value is written"),
     "Held": ("jx_book jx_serve", "a run with the text that it is of; a document that a client has open"),
     "Mark": ("jx_lex jx_serve", "the mark of a token; what an editor underlines"),
     "OpenFault": ("jx_edit jx_files", "why a document is not made; why an input is not opened"),
-    "Place": ("jx_compact jx_explain jx_wire", "where a compact form goes on; a line and a column; a position as a client sends it"),
+    "Place": ("jx_compact jx_explain jx_wire", "outside of strings or in one; a line and a column; a position as a client sends it"),
     "Request": ("jx_command jx_wire", "what words ask for; what a client asks for"),
-    "Step": ("jx_lex jx_ndjson", "a step of the lexical machine; how far a slice of lines was read"),
+    "Step": ("jx_lex jx_ndjson", "what reading one byte does; what a reader of lines did with a slice"),
 }
 
 
@@ -99,12 +99,10 @@ def wrong_types():
         for crate in crates()[part]:
             for name in public_types(crate):
                 owners.setdefault(name, []).append(crate)
-    for name, crates_of in sorted(owners.items()):
-        allowed = SHARED.get(name, ("", ""))[0].split()
-        if len(crates_of) > 1 and not set(crates_of) <= set(allowed):
-            yield "%s is a public type of %s" % (name, ", ".join(sorted(crates_of)))
-    if not owners:
-        yield "no crate has a public type"
+    shared = {name: " ".join(sorted(crates_of)) for name, crates_of in owners.items() if len(crates_of) > 1}
+    allowed = {name: crates_of for name, (crates_of, _) in SHARED.items()}
+    yield from ("%s is a public type of %s" % (name, shared[name]) for name in sorted(shared) if shared[name] != allowed.get(name))
+    yield from ("%s is shared no longer by %s" % (name, allowed[name]) for name in sorted(allowed) if shared.get(name) != allowed[name])
 
 
 def wrong_headings():

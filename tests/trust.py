@@ -411,6 +411,15 @@ def wrong_ported(page):
             yield "%s: the ported crate %s is named in one of %s and crates.txt" % (name, crate, name)
 
 
+def left_over(reaches):
+    """What is needed of a report on some task, or of any command with unique names, and of none of the parts that are about these."""
+    unique = reaches["`--unique-names`"].definitions
+    found = Reach(REPORT, ALL).definitions.difference(*(reaches[part].definitions for part, (calls, _) in COMMANDS.items() if calls is REPORT))
+    for part, (calls, left_out) in COMMANDS.items():
+        found |= Reach(calls, {OUTPUT: left_out[OUTPUT]}).definitions - reaches[part].definitions - unique
+    return found
+
+
 def differences(page):
     found, reaches = parts()
     on_page = page_parts(page)
@@ -423,9 +432,7 @@ def differences(page):
         told += ["%s: stands twice: %s" % (heading, row) for row in set(shown) if shown.count(row) > 1]
         told += ["%s: is not said: %s" % (heading, said) for said in sentences if said not in " ".join(words.split())]
     told += ["nothing above cites it: " + row for row in in_order(table_rows(on_page.get(FIRST, ""), 2), reaches[FIRST])]
-    whole, cut = Reach(REPORT, ALL), [Reach(*COMMANDS[heading]) for heading in COMMANDS if COMMANDS[heading][0] is REPORT]
-    missed = whole.definitions - set().union(*(reach.definitions for reach in cut))
-    return told + ["no command has the case that cites %s of %s" % (name, path) for path, name in sorted(missed)]
+    return told + ["no part has what is needed of %s in %s" % (name, path) for path, name in sorted(left_over(reaches))]
 
 
 def renewed(heading, words, rows, total):
