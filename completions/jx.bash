@@ -16,7 +16,7 @@ _jx() {
         mapfile -t COMPREPLY < <(compgen -f -- "$word")
         return
         ;;
-    --color)
+    --color | --progress)
         mapfile -t COMPREPLY < <(compgen -W 'auto always never' -- "$word")
         return
         ;;
@@ -38,12 +38,12 @@ _jx() {
     case $command in
     '') mapfile -t COMPREPLY < <(compgen -W 'check explain index at get each seq lines part join whole help -h --help -V --version' -- "$word") ;;
     help) mapfile -t COMPREPLY < <(compgen -W 'check explain index at get each seq lines part join whole' -- "$word") ;;
-    check) mapfile -t COMPREPLY < <(compgen -W '--file --depth --workers --piece --ignore-bom --unique-names -q --quiet -l --list --format -h --help' -- "$word") ;;
-    seq) mapfile -t COMPREPLY < <(compgen -W '--file --depth --workers --piece --ignore-bom --unique-names -q --quiet -h --help' -- "$word") ;;
+    check) mapfile -t COMPREPLY < <(compgen -W '--file --depth --workers --piece --ignore-bom --unique-names -q --quiet -l --list --format --progress -h --help' -- "$word") ;;
+    seq) mapfile -t COMPREPLY < <(compgen -W '--file --depth --workers --piece --ignore-bom --unique-names --live -q --quiet -h --help' -- "$word") ;;
     explain) mapfile -t COMPREPLY < <(compgen -W '--file --depth --workers --piece --ignore-bom --unique-names --color -h --help' -- "$word") ;;
     at) mapfile -t COMPREPLY < <(compgen -W '--file --pointers --depth --workers --piece --ignore-bom --unique-names -h --help' -- "$word") ;;
     get) mapfile -t COMPREPLY < <(compgen -W '--file --pointers -c --compact -r --raw --depth --workers --piece --ignore-bom --unique-names -h --help' -- "$word") ;;
-    each) mapfile -t COMPREPLY < <(compgen -W '--file --depth --ignore-bom -h --help' -- "$word") ;;
+    each) mapfile -t COMPREPLY < <(compgen -W '--file --depth --ignore-bom --progress -h --help' -- "$word") ;;
     lines) mapfile -t COMPREPLY < <(compgen -W '--file --depth --ignore-bom --skip-blank -q --quiet -h --help' -- "$word") ;;
     part) mapfile -t COMPREPLY < <(compgen -W '--file --from --depth -h --help' -- "$word") ;;
     join) mapfile -t COMPREPLY < <(compgen -W '--file --depth -h --help' -- "$word") ;;

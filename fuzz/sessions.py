@@ -64,7 +64,9 @@ class Session:
         marks = params.get("diagnostics")
         if word == "accepted":
             return marks == []
-        return [it["message"] for it in marks] == [word] and (start is None or marks[0]["range"]["start"] == start)
+        kind, _, at = word.partition(" at ")
+        said = all(it["code"] == kind and it["message"].endswith(" (byte %s)" % at if at else "") for it in marks)
+        return len(marks) == 1 and said and (start is None or marks[0]["range"]["start"] == start)
 
     def shown(self, text, position):
         """What a hover shows: the innermost value there, and its pointer."""

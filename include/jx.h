@@ -1,16 +1,17 @@
 /* Checks whether bytes are a JSON text (RFC 8259), and tells at which byte they stop being one. Version 0.2.0.
  *
- * Every call returns a status. Any status but JX_OK leaves the caller's structs unchanged. Offsets and sizes count bytes,
- * depths count containers.
+ * Every call returns a status. Any status but JX_OK leaves the caller's structs unchanged, unless a call says more. Offsets and
+ * sizes count bytes, depths count containers.
  *
- * Ownership: the caller owns all memory that it passes, and no call but jx_index_new keeps a pointer to it. A document and an
- * index are memory of the library: what its calls that end in _new take, those that end in _free give back. A pointer must
- * not be null, not even one to bytes with the size 0, but for settings, and in the calls on documents and indexes, which answer
- * it. What a call writes to must not overlap anything else that it is passed.
+ * Ownership: the caller owns all memory that it passes, and no call but jx_index_new and jx_finder_new keeps a pointer to
+ * it. A document, an index, a look-up and a reader of lines are memory of the library: what its calls that end in _new take,
+ * those that end in _free give back. A pointer must not be null, not even one to bytes with the size 0, but for settings, and
+ * in the calls on documents, indexes, look-ups and lines, which answer it. What a call writes to must not overlap anything
+ * else that it is passed.
  *
  * Threads: calls share no state, so any number of threads may call at once, each with its own structs. One call at a time
- * may use a struct that it writes to, a document or an index. No call starts a thread or waits for one. Do not call from a signal
- * handler.
+ * may use a struct that it writes to, a document, an index, a look-up or a reader of lines. No call starts a thread or waits
+ * for one. Do not call from a signal handler.
  *
  * Names that end in _non_null are what the inline call below them calls, which answers null pointers: call that one. The libraries
  * export it too, for languages that do not read this header.
@@ -40,15 +41,17 @@ enum {
     JX_NOT_STARTED = 3,     /* the reader was not started */
     JX_TOO_MANY_BYTES = 4,  /* the reader would have been fed 2^64 bytes or more, or a part would end there or behind */
     JX_UNKNOWN_FLAG = 5,    /* unknown flag */
-    JX_NO_UNIQUE_NAMES = 6, /* a reader or a document keeps no names, so it cannot check them */
+    JX_NO_UNIQUE_NAMES = 6, /* a reader, a document, a look-up or a reader of lines keeps no names, so it cannot check them */
     JX_OUT_OF_BOUNDS = 7,   /* the range ends before it starts, or behind the document's last byte; or there is no such row */
     JX_NO_DOCUMENT = 8,     /* the struct holds no document, or the pointer to it is null */
-    JX_NULL_POINTER = 9,    /* another pointer to a call on a document or an index is null */
+    JX_NULL_POINTER = 9,    /* another pointer to a call on a document, an index, a look-up or lines is null */
     JX_NO_INDEX = 10,       /* the struct holds no index, or the pointer to it is null */
-    JX_NO_ROOM = 11,        /* the run, or the compact form, has more bytes than the buffer: see its size */
+    JX_NO_ROOM = 11,        /* there is more than the buffer has room for, and nothing was written to it: see the size or count */
     JX_NOT_A_RUN = 12,      /* the bytes are no run that this version of the library writes */
     JX_OTHER_DEPTH = 13,    /* the runs were made with different depths */
-    JX_NOT_NEIGHBOURS = 14  /* the right run does not begin where the left one ends, or the run is of other bytes */
+    JX_NOT_NEIGHBOURS = 14, /* the right run does not begin where the left one ends, or the run is of other bytes */
+    JX_NO_LINES = 15,       /* the struct holds no reader of lines, or the pointer to it is null */
+    JX_NO_FINDER = 17       /* the struct holds no look-up, or the pointer to it is null */
 };
 
 /* Depths: how many containers may be open at once (RFC 8259, section 9, allows such a limit). A scalar has depth 0, a
@@ -80,7 +83,7 @@ static inline const jx_settings *jx_settings_or_default(const jx_settings *setti
     return settings == NULL ? &usual : settings;
 }
 
-/* Kinds of verdicts. Elements of sequences have two more. */
+/* Kinds of verdicts. Elements of sequences have two more, and so have lines. */
 enum {
     JX_ACCEPTED = 0,     /* the bytes are a text */
     JX_STOPPED = 1,      /* no text goes on with the byte at the offset */
@@ -227,6 +230,67 @@ static inline uint32_t jx_at_all(const uint8_t *text, size_t size, const jx_sett
     return jx_at_all_non_null(text, size, jx_settings_or_default(settings), pointers, count, answers, room);
 }
 
+/* A look-up of pointers in a text that comes slice by slice, as it is read, in constant memory beside the pointers.
+ *
+ * The struct is a handle, which the library alone writes. Set it to {0}, which holds no look-up, before its first call. Free it
+ * once. It may be moved, also to another thread. Do not use a copy of it after a call on another copy.
+ *
+ * Null pointers are answered, and change nothing: JX_NO_FINDER where `finder` is null, else JX_NULL_POINTER. Settings may be
+ * null, and so may bytes of the size 0, and a list or a buffer without room. */
+typedef struct jx_finder {
+    void *inside;
+} jx_finder;
+
+uint32_t jx_finder_new_non_null(const jx_pointer *pointers, size_t count, const jx_settings *settings, jx_finder *finder);
+uint32_t jx_finder_feed_non_null(jx_finder *finder, const uint8_t *bytes, size_t size);
+uint32_t jx_finder_end_non_null(jx_finder *finder, jx_answer *answers, size_t room);
+void jx_finder_free_non_null(jx_finder *finder);
+
+/* Begins a look-up of pointers (RFC 6901) in a text. The list, and the bytes of each pointer, must stay as they are until the
+ * look-up ends or is freed: the library keeps pointers to them. A look-up that the struct held is freed. Any status but JX_OK
+ * leaves the struct as it was. It keeps no names, so it refuses JX_UNIQUE_NAMES.
+ *
+ * Allocates memory in proportion to the pointers, which jx_finder_end and jx_finder_free free. Returns JX_OK, JX_NO_MEMORY,
+ * JX_DEPTH_TOO_GREAT, JX_UNKNOWN_FLAG, JX_NO_UNIQUE_NAMES, JX_NO_FINDER or JX_NULL_POINTER. */
+static inline uint32_t jx_finder_new(const jx_pointer *pointers, size_t count, const jx_settings *settings,
+                                     jx_finder *finder) {
+    static const uint8_t empty[1] = {0};
+    static const jx_pointer none[1] = {{empty, 0}};
+    if (finder == NULL) return JX_NO_FINDER;
+    if (pointers == NULL && count != 0) return JX_NULL_POINTER;
+    return jx_finder_new_non_null(pointers == NULL ? none : pointers, count, jx_settings_or_default(settings), finder);
+}
+
+/* Feeds the next bytes of the text. A slice may have any size, including 0, and may end anywhere, including inside a
+ * character: the answers are the same for all slices. Of the text a name is kept that a slice cuts, until it ends.
+ *
+ * Allocates memory for how deep the text nests where pointers lead, and for such a name. After JX_NO_MEMORY the struct holds
+ * no look-up. Returns JX_OK, JX_NO_MEMORY, JX_TOO_MANY_BYTES for 2^64 bytes or more in all, JX_NO_FINDER or JX_NULL_POINTER. */
+static inline uint32_t jx_finder_feed(jx_finder *finder, const uint8_t *bytes, size_t size) {
+    static const uint8_t none[1] = {0};
+    if (finder == NULL) return JX_NO_FINDER;
+    if (bytes == NULL && size != 0) return JX_NULL_POINTER;
+    return jx_finder_feed_non_null(finder, bytes == NULL ? none : bytes, size);
+}
+
+/* Ends the look-up: writes what each pointer names in the text of all bytes that were fed, as jx_at tells it, in the order of
+ * the pointers. Writes as many answers as fit, and leaves the rest of `answers` unchanged. The look-up is freed, and the struct
+ * set to {0}, whatever is returned.
+ *
+ * Allocates memory in proportion to the pointers and frees it. Returns JX_OK, JX_NO_MEMORY, JX_NO_FINDER or JX_NULL_POINTER. */
+static inline uint32_t jx_finder_end(jx_finder *finder, jx_answer *answers, size_t room) {
+    jx_answer none[1];
+    if (finder == NULL) return JX_NO_FINDER;
+    if (answers == NULL && room != 0) return JX_NULL_POINTER;
+    return jx_finder_end_non_null(finder, answers == NULL ? none : answers, room);
+}
+
+/* Frees the look-up, if there is one, and sets the struct to {0}. So a second call on the same struct does nothing, nor does
+ * one with a null pointer. */
+static inline void jx_finder_free(jx_finder *finder) {
+    if (finder != NULL) jx_finder_free_non_null(finder);
+}
+
 /* A value of a text. */
 typedef struct jx_row {
     jx_span span;  /* a string with its quotation marks, a container with its brackets */
@@ -337,6 +401,99 @@ uint32_t jx_elements_non_null(const uint8_t *sequence, size_t size, const jx_set
 static inline uint32_t jx_elements(const uint8_t *sequence, size_t size, const jx_settings *settings, jx_element *elements,
                                    size_t room, size_t *count) {
     return jx_elements_non_null(sequence, size, jx_settings_or_default(settings), elements, room, count);
+}
+
+/* JSON Lines, also called NDJSON: bytes that line feeds cut into lines, each of which is to be a JSON text. They come slice by
+ * slice, as they are read, and lines that are no texts wait in the library until they are taken.
+ *
+ * A line is what stands before a line feed, the byte 0A, and behind the one before it, so a carriage return at its end is a
+ * blank of its own (RFC 8259, section 2). What stands behind the last line feed is a line, too, unless it is empty.
+ *
+ * The struct is a handle, which the library alone writes. Set it to {0}, which holds no reader, before its first call. Free
+ * it once. It may be moved, also to another thread. Do not use a copy of it after a call on another copy.
+ *
+ * Null pointers are answered, and change nothing: JX_NO_LINES where `lines` is null, else JX_NULL_POINTER. Settings may be
+ * null, and so may bytes of the size 0, and a buffer without room. */
+typedef struct jx_lines {
+    void *inside;
+} jx_lines;
+
+/* The kind of a verdict on a line that has no byte, or blanks alone (RFC 8259, section 2). Lines have JX_MAY_BE_CUT, too: for
+ * a number, true, false or null that the input ends with, without a line feed or a blank behind it. */
+enum { JX_BLANK = 7 };
+
+/* A line. */
+typedef struct jx_line {
+    size_t number;      /* its place among the lines, from 1; 0 where there is none */
+    jx_span span;       /* of its bytes, without the line feed, from the input's start */
+    jx_verdict verdict; /* JX_ACCEPTED .. JX_TOO_DEEP, JX_MAY_BE_CUT or JX_BLANK; offsets count from the input's start */
+} jx_line;
+
+/* How many lines there are. */
+typedef struct jx_line_counts {
+    size_t accepted; /* those that are texts */
+    size_t refused;  /* those that are none, and those that may be cut */
+    size_t blank;    /* those that have no byte, or blanks alone */
+} jx_line_counts;
+
+uint32_t jx_lines_new_non_null(const jx_settings *settings, jx_lines *lines);
+uint32_t jx_lines_feed_non_null(jx_lines *lines, const uint8_t *bytes, size_t size);
+uint32_t jx_lines_take_non_null(jx_lines *lines, jx_line *bad, size_t room, size_t *count);
+uint32_t jx_lines_end_non_null(jx_lines *lines, jx_line *last, jx_line_counts *counts);
+void jx_lines_free_non_null(jx_lines *lines);
+
+/* Begins an input. A reader that the struct held is freed. Any status but JX_OK leaves the struct as it was. JX_IGNORE_MARK
+ * takes a byte order mark off the input's front, and off no other line. A reader of lines keeps no names, so it refuses
+ * JX_UNIQUE_NAMES.
+ *
+ * Allocates some 100 bytes, which jx_lines_free frees. Returns JX_OK, JX_NO_MEMORY, JX_DEPTH_TOO_GREAT, JX_UNKNOWN_FLAG,
+ * JX_NO_UNIQUE_NAMES or JX_NO_LINES. */
+static inline uint32_t jx_lines_new(const jx_settings *settings, jx_lines *lines) {
+    if (lines == NULL) return JX_NO_LINES;
+    return jx_lines_new_non_null(jx_settings_or_default(settings), lines);
+}
+
+/* Feeds the next bytes of the input. A slice may have any size, including 0, and may end anywhere, including inside a
+ * character: what is taken at last is the same for all slices. Lines that end in the slice and are no texts wait then.
+ *
+ * Allocates memory in proportion to the lines that wait and to how deep a line nests. It keeps no byte. After JX_NO_MEMORY
+ * the struct holds no reader, and what waited is lost. Returns JX_OK, JX_NO_MEMORY, JX_TOO_MANY_BYTES for 2^64 bytes or more
+ * in all, JX_NO_LINES or JX_NULL_POINTER. */
+static inline uint32_t jx_lines_feed(jx_lines *lines, const uint8_t *bytes, size_t size) {
+    static const uint8_t none[1] = {0};
+    if (lines == NULL) return JX_NO_LINES;
+    if (bytes == NULL && size != 0) return JX_NULL_POINTER;
+    return jx_lines_feed_non_null(lines, bytes == NULL ? none : bytes, size);
+}
+
+/* Moves all lines that wait to `bad`, in order: those that have ended, are no texts, and were not taken before. Writes how
+ * many they are to `count`, and leaves the rest of `bad` unchanged. More than `room` lines are not moved, and JX_NO_ROOM is
+ * returned: `count` tells how much room a second call needs. At most one line waits for each byte that was fed since the last
+ * call.
+ *
+ * Allocates nothing. Returns JX_OK, JX_NO_ROOM, JX_NO_LINES or JX_NULL_POINTER. */
+static inline uint32_t jx_lines_take(jx_lines *lines, jx_line *bad, size_t room, size_t *count) {
+    jx_line none[1];
+    if (lines == NULL) return JX_NO_LINES;
+    if (count == NULL || (bad == NULL && room != 0)) return JX_NULL_POINTER;
+    return jx_lines_take_non_null(lines, bad == NULL ? none : bad, room, count);
+}
+
+/* Tells what is left to tell if the input ends here. Writes the last line to `last`, if no line feed ends it and it is no
+ * text; else `last` has the number 0. Writes to `counts` how many lines there are, with that one and those that wait, which a
+ * call of jx_lines_take moves. More bytes may be fed behind.
+ *
+ * Allocates nothing. Returns JX_OK, JX_NO_LINES or JX_NULL_POINTER. */
+static inline uint32_t jx_lines_end(jx_lines *lines, jx_line *last, jx_line_counts *counts) {
+    if (lines == NULL) return JX_NO_LINES;
+    if (last == NULL || counts == NULL) return JX_NULL_POINTER;
+    return jx_lines_end_non_null(lines, last, counts);
+}
+
+/* Frees the reader, if there is one, and sets the struct to {0}. So a second call on the same struct does nothing, nor does
+ * one with a null pointer. */
+static inline void jx_lines_free(jx_lines *lines) {
+    if (lines != NULL) jx_lines_free_non_null(lines);
 }
 
 /* A text that is edited, and the verdict on all of it after each edit (RFC 8259). An edit and its verdict read what is near

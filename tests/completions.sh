@@ -45,6 +45,7 @@ bash_completes_what_is_begun() {
     done
     same 'bash: no file as a word of at' '' "$(offered jx at te)"
     same 'bash: colors' "$(printf '%s\n' always auto never)" "$(offered jx explain --color '')"
+    same 'bash: when progress is told' "$(printf '%s\n' always auto never)" "$(offered jx each --progress '')"
     same 'bash: formats' "$(printf '%s\n' gnu json plain)" "$(offered jx check --format '')"
     same 'bash: a file of pointers' text.json "$(offered jx at --pointers te)"
     same 'bash: a file of pointers of get' text.json "$(offered jx get --pointers te)"

@@ -1,5 +1,6 @@
-"""JSON Lines: what the program tells of random inputs, by random settings and cuts of a pipe, is what the reader below says of each line. The
-reader is written from RFC 8259 alone, and Python's json has to accept what it accepts. The last line is `N passed, M failed`."""
+"""JSON Lines and text sequences: what the program tells of random inputs, by random settings and cuts of a pipe, is what the reader below says
+of each line or element. The reader is written from RFC 8259 and RFC 7464 alone, and Python's json has to accept what it accepts. The last line
+is `N passed, M failed`."""
 import json
 import os
 import pathlib
@@ -200,14 +201,32 @@ def wanted_of(text, depth, skips, ignores):
     return output + "accepted %d, refused %d\n" % (good, bad), int(bad > 0)
 
 
-def told_of(words, text, chance):
+def wanted_of_sequence(text, depth, ignores):
+    """The lines for the elements of a text sequence (RFC 7464, section 2)."""
+    output, status, at = "", 0, 0
+    for place, part in enumerate(text.split(b"\x1e")):
+        if part and not (ignores and place == 0 and part == MARK):
+            told = "unmarked"
+            if place > 0:
+                try:
+                    told = "may be cut" if Text(part, at, depth).whole() else "accepted"
+                    json.loads(part.decode())
+                except Refused as refused:
+                    told = str(refused)
+            status = max(status, int(told != "accepted"))
+            output += "%d..%d %s\n" % (at, at + len(part), told)
+        at += len(part) + 1
+    return output, status
+
+
+def told_of(words, text, chance, command="lines"):
     """What the program tells of a file, or of a pipe that gives the text by random cuts."""
     if chance.random() < 0.3:
         pathlib.Path("text").write_bytes(text)
-        done = subprocess.run([PROGRAM, "lines", *words, "text"], capture_output=True)
+        done = subprocess.run([PROGRAM, command, *words, "text"], capture_output=True)
         return done.stdout, done.stderr, done.returncode
     cuts = sorted(chance.randrange(len(text) + 1) for _ in range(chance.randrange(6)))
-    child = subprocess.Popen([PROGRAM, "lines", *words], stdin=subprocess.PIPE, stdout=subprocess.PIPE, stderr=subprocess.PIPE)
+    child = subprocess.Popen([PROGRAM, command, *words], stdin=subprocess.PIPE, stdout=subprocess.PIPE, stderr=subprocess.PIPE)
     start = 0
     for cut in [*cuts, len(text)]:
         child.stdin.write(text[start:cut])
@@ -223,12 +242,12 @@ PIECES = [b"[1,2]", b'{"a":"\xc3\xa9"}', b"true", b"nul", b"null", b"12", b"-", 
     b"", b" ", b"\t \r", b"\r", b"\xef\xbb\xbf", b"\xef\xbb", b"\xf0\x9f\x98\x80", b'"\xf0\x9f\x98\x80"', b'"\xed\xa0\x80"', b'"\x1f"', b"[1] 2", b"\x1e1", b"1\x00"]
 
 
-def random_text(chance):
+def random_text(chance, separator=b"\n"):
     lines = []
     for _ in range(chance.randrange(8)):
         line = b"".join(chance.choice(PIECES) for _ in range(chance.choice([1, 1, 1, 2])))
         lines.append(chance.choice([b"", b"", b" "]) + line + chance.choice([b"", b"", b"\r", b" "]))
-    text = b"\n".join(lines) + chance.choice([b"", b"\n", b"\n\n"])
+    text = separator.join(lines) + chance.choice([b"", separator, separator * 2])
     text = chance.choice([b"", b"", b"", MARK, MARK + MARK, b"\xef\xbb"]) + text
     if text and chance.random() < 0.3:
         place = chance.randrange(len(text))
@@ -248,6 +267,23 @@ def randomly():
             same("-q %s of %r" % (words, text), (b"", b"", status), told_of([*words, "-q"], text, chance))
 
 
+def random_sequences():
+    """Elements that are told as they end, and at once: the lines are the same."""
+    chance = random.Random(7464)
+    for _ in range(INPUTS):
+        text = random_text(chance, b"\x1e")
+        if chance.random() < 0.7:
+            text = b"\x1e" + text
+        depth, ignores = chance.choice([512, 512, 1, 2, 0]), chance.random() < 0.5
+        words = ["--depth", str(depth)] * (depth != 512) + ["--ignore-bom"] * ignores
+        output, status = wanted_of_sequence(text, depth, ignores)
+        same("--live %s of %r" % (words, text), (output.encode(), b"", status), told_of([*words, "--live"], text, chance, "seq"))
+        if chance.random() < 0.3:
+            same("seq %s of %r" % (words, text), (output.encode(), b"", status), told_of(words, text, chance, "seq"))
+        if chance.random() < 0.2:
+            same("--live -q %s of %r" % (words, text), (b"", b"", status), told_of([*words, "--live", "-q"], text, chance, "seq"))
+
+
 def in_slices():
     """Each cut of a text in two, and single bytes, each of which the program reads by itself."""
     chance = random.Random(7)
@@ -265,15 +301,36 @@ def in_slices():
         same("cut at %s" % cuts, (output.encode(), status), (got, child.returncode))
 
 
+def sequences_in_slices():
+    """The same of a sequence."""
+    text = MARK + b'\x1e12\n\x1e\x1e"a\xc3\xa9"\n\x1e[1,x\x1etrue \x1enull'
+    output, status = wanted_of_sequence(text, 512, True)
+    for cuts in [[cut] for cut in range(len(text))] + [list(range(len(text)))]:
+        child = subprocess.Popen([PROGRAM, "seq", "--live", "--ignore-bom"], stdin=subprocess.PIPE, stdout=subprocess.PIPE)
+        start = 0
+        for cut in [*cuts, len(text)]:
+            child.stdin.write(text[start:cut])
+            child.stdin.flush()
+            time.sleep(0.005 if len(cuts) == 1 else 0.002)
+            start = cut
+        got, _ = child.communicate()
+        same("a sequence cut at %s" % cuts, (output.encode(), status), (got, child.returncode))
+
+
 def long_lines():
     """Lines longer than what is read at a time, and many short ones."""
     chance = random.Random(9)
     text = b"[" + b"1 , " * 100000 + b"2]\n" + b'"' + b"x" * 200000 + b"\n" + b"".join(b"%d\n" % n for n in range(40000)) + b"x\n" * 40000 + b"[" * 600 + b"\n3"
     output, status = wanted_of(text, 512, False, False)
     same("long lines", (output.encode(), b"", status), told_of([], text, chance))
+    text = text.replace(b"\n", b"\x1e")
+    output, status = wanted_of_sequence(text, 512, False)
+    same("long elements", (output.encode(), b"", status), told_of(["--live"], text, chance, "seq"))
 
 
 randomly()
+random_sequences()
 in_slices()
+sequences_in_slices()
 long_lines()
 print("%d passed, %d failed" % (passed, failed))

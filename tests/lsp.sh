@@ -49,11 +49,13 @@ settings_are_kept() {
     while IFS='|' read -r options text wanted; do
         same "a text by the settings $options" "$wanted" "$(played told "$options" "$text")"
     done <<'SETTINGS'
-{"ignoreBom":true,"uniqueNames":true}|\ufeff{"a":1,"a":2}|repeated name at 10
+{"ignoreBom":true,"uniqueNames":true}|\ufeff{"a":1,"a":2}|the name "a" was used at line 1, column 3 (byte 10)
 {"ignoreBom":true,"uniqueNames":true}|\ufeff[]|accepted
 {"ignoreBom":true}|\ufeff{"a":1,"a":2}|accepted
-{"uniqueNames":true}|\ufeff[]|stopped at 0
-{"depth":1,"ignoreBom":true,"uniqueNames":true}|\ufeff[{}]|too deep at 4
+{"uniqueNames":true}|\ufeff[]|a byte order mark stands in front of the text (byte 0)
+{"uniqueNames":true}|[tru,|expected e, as in true, found a comma (byte 4)
+{"ignoreBom":true}|\ufeff[1|the text ends where a digit, a decimal point, an exponent, a comma or ] is expected
+{"depth":1,"ignoreBom":true,"uniqueNames":true}|\ufeff[{}]|more than 1 containers open (byte 4)
 SETTINGS
 }
 
@@ -63,13 +65,13 @@ cut_characters_are_marked() {
     while IFS='|' read -r text line start end wanted; do
         same "$text less the bytes $line:$start to $line:$end" "$wanted" "$(played cut_text "$text" "$line" "$start" "$end")"
     done <<'CUTS'
-\n\u20ac|1|0|1|stopped at 1 1:0 1:1
-\n\u20ac|1|1|2|stopped at 1 1:0 1:2
-"\u20ac"|0|1|2|stopped at 1 0:1 0:2
-"\u20ac"|0|2|3|stopped at 3 0:3 0:4
-"\u20ac"|0|3|5|truncated 0:1 0:3
-"a\u00e9|0|1|2|truncated 0:1 0:3
-[1]\u20ac|0|0|1|stopped at 1 0:1 0:2
+\n\u20ac|1|0|1|expected a value, found \x82 (byte 1) 1:0 1:1
+\n\u20ac|1|1|2|expected a value, found \xE2\xAC (byte 1) 1:0 1:2
+"\u20ac"|0|1|2|expected a character in UTF-8, found \x82 (byte 1) 0:1 0:2
+"\u20ac"|0|2|3|expected a byte from 80 to BF, found " (byte 3) 0:3 0:4
+"\u20ac"|0|3|5|the text ends inside a string that began at line 1, column 1 0:1 0:3
+"a\u00e9|0|1|2|the text ends inside a string that began at line 1, column 1 0:1 0:3
+[1]\u20ac|0|0|1|expected a digit, a decimal point or an exponent, found ] (byte 1) 0:1 0:2
 CUTS
 }
 
@@ -129,7 +131,7 @@ STREAMS
 
 pipes_are_closed() {
     same 'a client that reads nothing' 'status 1' "$(played closed_pipe)"
-    same 'a large text' "[]"$'\n'"['stopped at 1']"$'\n''status 0' "$(played huge 100000)"
+    same 'a large text' "[]"$'\n'"['expected a value or ], found x (byte 1)']"$'\n''status 0' "$(played huge 100000)"
 }
 
 # Sets `nvim`: the editor on the PATH, or Debian's, unpacked here.
@@ -158,6 +160,16 @@ find_emacs() {
     "${emacs[@]}" --batch -Q --eval "(require 'eglot)" >/dev/null 2>&1
 }
 
+# message_of FILE: what an editor shows of a file that jx refuses, or accepted: the sentence of jx explain, with the offset where there is one.
+message_of() {
+    local told
+    told=$("$program" check --format gnu "$1" | sed -E 's/^[^:]*:[0-9]+:[0-9]+: //')
+    case ${told:-accepted} in
+    'the text ends'*) echo "${told% (byte *}" ;;
+    *) echo "${told:-accepted}" ;;
+    esac
+}
+
 # edited NAME: neovim edits a text; what it shows after each step is what jx says of the file that it then writes. Prints the steps that differ.
 edited() {
     local step shown line column at bytes number=0
@@ -166,7 +178,7 @@ edited() {
         number=$((number + 1))
         shown=${step#*: }
         said=$("$program" check "$1.$number")
-        if [ "${shown#* }" != "${said}" ]; then echo "$step, and jx says $said"; continue; fi
+        if [ "${shown#* }" != "$(message_of "$1.$number")" ]; then echo "$step, and jx says $(message_of "$1.$number")"; continue; fi
         if [ "$said" = accepted ] || [ "$said" = truncated ]; then continue; fi
         line=${shown%%:*} column=${shown#*:} column=${column%% *} at=${said##* }
         bytes=$(head -n "$line" "$1.$number" | wc -c)
@@ -206,8 +218,8 @@ emacs_shows_what_jx_says() {
             number=$((number + 1)) shown=${step#*: } said=$("$program" check "$name.$number")
             case $said in
             accepted) same "emacs: $name: $step" accepted "$shown" ;;
-            truncated) same "emacs: $name: $step" truncated "${shown#* }" ;;
-            *) at=${said##* } && same "emacs: $name: $step" "$at $said" "$shown" ;;
+            truncated) same "emacs: $name: $step" "$(message_of "$name.$number")" "${shown#* }" ;;
+            *) at=${said##* } && same "emacs: $name: $step" "$at $(message_of "$name.$number")" "$shown" ;;
             esac
         done <"$name.steps"
     done

@@ -20,6 +20,7 @@ PARTS = ["the product, from the lowest layer up", "for callers with threads of t
 APART = PARTS[3:]
 # Names that several crates give to a public type: each is another thing, and no file takes two of them.
 SHARED = {
+    "Entry": ("jx_reduce jx_saved", "what may stand in front of marks; what is kept of a chunk"),
     "Form": ("jx_explain jx_values", "how a verdict is told; how a value is written"),
     "Held": ("jx_book jx_serve", "a run with the text that it is of; a document that a client has open"),
     "Mark": ("jx_lex jx_serve", "the mark of a token; what an editor underlines"),

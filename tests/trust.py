@@ -41,11 +41,12 @@ COMMANDS = {
     "`get`": ({"jx_values/src/reporting": ["report_values"]}, without("Check Index Seq")),
     "`each`": ({"jx_values/src/elements": ["report_elements"]}, without("Index At Seq")),
     "`lines`": ({"jx_ndjson_report/src/reporting": ["report_lines"]}, without("Index At Seq")),
+    "`seq --live`": ({"jx_ndjson_report/src/reporting": ["report_sequence"]}, without("Index At Seq")),
     "`explain`": (
         {
             "jx_explain/src/reporting": ["report_explained"],
-            "jx_explain/src/place": ["place_of"],
-            "jx_explain/src/standing": ["standing_behind", "choices_at"],
+            "jx_sentence/src/place": ["place_of"],
+            "jx_sentence/src/standing": ["standing_behind", "choices_at"],
         },
         without("Index At Seq"),
     ),

@@ -4,12 +4,21 @@
 #define jx_reader_start jx_reader_start_inline
 #define jx_at jx_at_inline
 #define jx_at_all jx_at_all_inline
+#define jx_finder_new jx_finder_new_inline
+#define jx_finder_feed jx_finder_feed_inline
+#define jx_finder_end jx_finder_end_inline
+#define jx_finder_free jx_finder_free_inline
 #define jx_rows jx_rows_inline
 #define jx_index_new jx_index_new_inline
 #define jx_index_find jx_index_find_inline
 #define jx_index_row jx_index_row_inline
 #define jx_index_free jx_index_free_inline
 #define jx_elements jx_elements_inline
+#define jx_lines_new jx_lines_new_inline
+#define jx_lines_feed jx_lines_feed_inline
+#define jx_lines_take jx_lines_take_inline
+#define jx_lines_end jx_lines_end_inline
+#define jx_lines_free jx_lines_free_inline
 #define jx_document_new jx_document_new_inline
 #define jx_document_edit jx_document_edit_inline
 #define jx_document_verdict jx_document_verdict_inline
@@ -22,12 +31,21 @@
 #undef jx_reader_start
 #undef jx_at
 #undef jx_at_all
+#undef jx_finder_new
+#undef jx_finder_feed
+#undef jx_finder_end
+#undef jx_finder_free
 #undef jx_rows
 #undef jx_index_new
 #undef jx_index_find
 #undef jx_index_row
 #undef jx_index_free
 #undef jx_elements
+#undef jx_lines_new
+#undef jx_lines_feed
+#undef jx_lines_take
+#undef jx_lines_end
+#undef jx_lines_free
 #undef jx_document_new
 #undef jx_document_edit
 #undef jx_document_verdict
@@ -56,6 +74,16 @@ uint32_t jx_at_all(const uint8_t *text, size_t size, const jx_settings *settings
     return jx_at_all_inline(text, size, settings, pointers, count, answers, room);
 }
 
+uint32_t jx_finder_new(const jx_pointer *pointers, size_t count, const jx_settings *settings, jx_finder *finder) {
+    return jx_finder_new_inline(pointers, count, settings, finder);
+}
+
+uint32_t jx_finder_feed(jx_finder *finder, const uint8_t *bytes, size_t size) { return jx_finder_feed_inline(finder, bytes, size); }
+
+uint32_t jx_finder_end(jx_finder *finder, jx_answer *answers, size_t room) { return jx_finder_end_inline(finder, answers, room); }
+
+void jx_finder_free(jx_finder *finder) { jx_finder_free_inline(finder); }
+
 uint32_t jx_rows(const uint8_t *text, size_t size, const jx_settings *settings, jx_row *rows, size_t room, size_t *count,
                  jx_verdict *verdict) {
     return jx_rows_inline(text, size, settings, rows, room, count, verdict);
@@ -77,6 +105,18 @@ uint32_t jx_elements(const uint8_t *sequence, size_t size, const jx_settings *se
                      size_t *count) {
     return jx_elements_inline(sequence, size, settings, elements, room, count);
 }
+
+uint32_t jx_lines_new(const jx_settings *settings, jx_lines *lines) { return jx_lines_new_inline(settings, lines); }
+
+uint32_t jx_lines_feed(jx_lines *lines, const uint8_t *bytes, size_t size) { return jx_lines_feed_inline(lines, bytes, size); }
+
+uint32_t jx_lines_take(jx_lines *lines, jx_line *bad, size_t room, size_t *count) {
+    return jx_lines_take_inline(lines, bad, room, count);
+}
+
+uint32_t jx_lines_end(jx_lines *lines, jx_line *last, jx_line_counts *counts) { return jx_lines_end_inline(lines, last, counts); }
+
+void jx_lines_free(jx_lines *lines) { jx_lines_free_inline(lines); }
 
 uint32_t jx_document_new(const uint8_t *text, size_t size, const jx_settings *settings, jx_document *document) {
     return jx_document_new_inline(text, size, settings, document);

@@ -21,6 +21,9 @@ jx_answer plain_find(const uint8_t *bytes, const plain_rows *rows, const jx_verd
 /* The elements of a sequence (RFC 7464): writes as many as there is room for, and tells how many there are. */
 size_t plain_elements(const uint8_t *bytes, size_t size, const jx_settings *settings, jx_element *elements, size_t room);
 
+/* The lines of JSON Lines that are no texts: writes as many as there is room for, and tells how many there are; counts all. */
+size_t plain_lines(const uint8_t *bytes, size_t size, const jx_settings *settings, jx_line *bad, size_t room, jx_line_counts *counts);
+
 /* Writes the tokens of an accepted text one behind another, and tells their size, which is at most the text's. A mark is left out. */
 size_t plain_compact(const uint8_t *text, size_t size, uint8_t *form);
 

@@ -65,6 +65,21 @@ static void list_elements(void) {
     ok(jx_elements(text(), shape_size, &unique, &element, 1, &count));
 }
 
+static void read_lines(void) {
+    enum { SLICE = 1 << 12 };
+    static jx_line bad[SLICE], last;
+    jx_lines lines = {0};
+    jx_line_counts counts;
+    size_t count;
+    ok(jx_lines_new(&deep, &lines));
+    for (size_t at = 0; at < shape_size; at += SLICE) {
+        ok(jx_lines_feed(&lines, text() + at, shape_size - at < SLICE ? shape_size - at : SLICE));
+        ok(jx_lines_take(&lines, bad, SLICE, &count));
+    }
+    ok(jx_lines_end(&lines, &last, &counts));
+    jx_lines_free(&lines);
+}
+
 static void edit(void) {
     static const char *const words[4] = {"[", "\"", "", "{\"a\":"};
     jx_document document = {0};
@@ -109,6 +124,7 @@ const call calls[] = {
     {"at, deep", look_up_deep, 3, POINTERS, 0},
     {"at, many", look_up_many, 10, POINTERS, 0},
     {"elements", list_elements, 10, SOME, 8},
+    {"lines", read_lines, 6, 4 * SOME, 0},
     {"document", edit, 75, SOME, 6},
     {"runs", make_runs, 2, POINTERS, 0},
     {"deep runs", make_deep_runs, 5, OPEN, 0},

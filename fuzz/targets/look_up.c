@@ -25,6 +25,27 @@ static void look_up_all(input *in, const pointers *p, size_t room, size_t given)
     free(answers);
 }
 
+/* The same of a text that is fed by slices, cut anywhere. */
+static void look_up_fed(input *in, const pointers *p, size_t given) {
+    jx_finder finder = {NULL};
+    uint32_t status;
+    CALL(status, jx_finder_new(p->all, p->count, &in->settings, &finder), finder.inside == NULL);
+    REQUIRE(status == (in->settings.flags & JX_UNIQUE_NAMES ? JX_NO_UNIQUE_NAMES : JX_OK), "a look-up that is fed");
+    if (status != JX_OK) return;
+    jx_answer *answers = unwritten(p->count * sizeof *answers);
+    library_enter(-1);
+    for (size_t at = 0, cuts = 0; at < in->size; cuts++) {
+        const size_t size = cuts < 40 ? choice_upto(in, in->size - at) : in->size - at;
+        REQUIRE(jx_finder_feed(&finder, in->text + at, size) == JX_OK, "a slice of a text");
+        at += size;
+    }
+    REQUIRE(jx_finder_end(&finder, answers, p->count) == JX_OK && finder.inside == NULL, "the end of a look-up");
+    library_leave();
+    require_bounded(library_bytes(), given, 256, "a look-up that is fed takes too much memory");
+    for (size_t k = 0; k < p->count; k++) REQUIRE(same_answer(&answers[k], &wanted[k]), "an answer of a look-up that is fed");
+    free(answers);
+}
+
 void look_up(input *in) {
     static pointers p;
     plain_rows rows;
@@ -40,5 +61,6 @@ void look_up(input *in) {
         if (k < few) look_up_one(in, &p.all[k], &wanted[k]);
     }
     look_up_all(in, &p, choice_upto(in, p.count + 1), given);
+    look_up_fed(in, &p, given);
     free_pointers(&p);
 }

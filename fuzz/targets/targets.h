@@ -16,5 +16,6 @@ void join_runs(input *in);           /* up to 12 parts, joined in any order */
 void forge_runs(input *in);          /* fields of runs are changed and sealed: refused, or with the verdict that docs/FORMAT.md gives them */
 void take_any_runs(input *in);       /* any bytes as runs */
 void compact_texts(input *in);       /* too little, just enough and more room; the form reads as the same values */
+void feed_lines(input *in);          /* cut anywhere, too little and just enough room; a reader that wants memory is lost */
 
 #endif

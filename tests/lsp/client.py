@@ -2,6 +2,7 @@
 import json
 import os
 import random
+import re
 import subprocess
 import sys
 import tempfile
@@ -62,8 +63,8 @@ def farewell():
 
 
 def checked(texts, *words):
-    """What jx check prints for each text."""
-    lines = []
+    """What jx check tells of each text, as objects."""
+    told = []
     with tempfile.TemporaryDirectory() as folder:
         for start in range(0, len(texts), 500):
             names = []
@@ -72,10 +73,9 @@ def checked(texts, *words):
                 with open(name, "wb") as file:
                     file.write(text.encode())
                 names.append(name)
-            # A name in front tells several files from one.
-            run = subprocess.run([JX, "check", *words, *names, names[0]], capture_output=True, text=True)
-            lines += [line.split(": ", 1)[1] for line in run.stdout.splitlines()[: len(names)]]
-    return lines
+            run = subprocess.run([JX, "check", "--format", "json", *words, *names], capture_output=True)
+            told += [json.loads(line) for line in run.stdout.decode().splitlines()]
+    return told
 
 
 # ---- positions, as the protocol has them
@@ -127,17 +127,28 @@ def diagnostics(stream):
             raise AssertionError(message)
 
 
+def sentence_of(text, said, encoding):
+    """The message of a mark: the sentence, with the place of a string's beginning as an editor counts it, and the offset."""
+    sentence = said["sentence"]
+    string = re.fullmatch(r"(the text ends inside a string that began at) line (\d+), column (\d+)", sentence)
+    if string:
+        before = text.split("\n")[: int(string[2]) - 1]
+        began = place(text, sum(len(line) + 1 for line in before) + int(string[3]) - 1, encoding)
+        sentence = "%s line %d, column %d" % (string[1], began["line"] + 1, began["character"] + 1)
+    return sentence if said["verdict"] == "truncated" else "%s (byte %d)" % (sentence, said["offset"])
+
+
 def compare(text, version, said, published, encoding):
     """Whether what was published is what jx check said of the text."""
     assert published["version"] == version, (version, published)
     marks = published["diagnostics"]
-    if said == "accepted":
+    if said["verdict"] == "accepted":
         assert marks == [], (text, said, marks)
         return
-    assert [mark["message"] for mark in marks] == [said], (text, said, marks)
-    if " at " in said:
-        at = int(said.rsplit(" ", 1)[1])
-        assert marks[0]["range"]["start"] == place_of_byte(text, at, encoding), (text, said, marks)
+    wanted = [(said["verdict"], sentence_of(text, said, encoding))]
+    assert [(mark["code"], mark["message"]) for mark in marks] == wanted, (text, said, marks)
+    if said["verdict"] != "truncated":
+        assert marks[0]["range"]["start"] == place_of_byte(text, said["offset"], encoding), (text, said, marks)
 
 
 def replay(seed, count, encoding, options, words):

@@ -18,8 +18,10 @@ from ._faults import (
     Verdict,
 )
 from ._find import get, get_all, loads
+from ._finder import Finder, Found, find_file
 from ._index import Index, Row, Value, ValueKind
 from ._library import DEPTH_DEFAULT, DEPTH_MAX, version
+from ._lines import Line, LineReader, Lines, lines, lines_file
 from ._runs import NoRun, NotARun, NotNeighbours, OtherDepth, Run
 from ._texts import Reader, check, check_file, compact, verdict
 
@@ -31,8 +33,13 @@ __all__ = [
     "DEPTH_MAX",
     "Document",
     "Element",
+    "Finder",
+    "Found",
     "Index",
     "Kind",
+    "Line",
+    "LineReader",
+    "Lines",
     "NameRepeated",
     "NoRun",
     "NoSuchMember",
@@ -54,8 +61,11 @@ __all__ = [
     "check_file",
     "compact",
     "elements",
+    "find_file",
     "get",
     "get_all",
+    "lines",
+    "lines_file",
     "loads",
     "verdict",
 ]

@@ -10,7 +10,7 @@ _CONTINUATIONS = bytes(range(0x80, 0xC0))
 
 
 class Kind(enum.IntEnum):
-    """What reading bytes as a JSON text (RFC 8259), or as an element of a sequence (RFC 7464), comes to."""
+    """What reading bytes as a JSON text (RFC 8259), as an element of a sequence (RFC 7464), or as a line, comes to."""
 
     ACCEPTED = 0
     STOPPED = 1
@@ -19,6 +19,7 @@ class Kind(enum.IntEnum):
     MAY_BE_CUT = 4
     UNMARKED = 5
     REPEATED_NAME = 6
+    BLANK = 7
 
 
 _MESSAGES = {
@@ -26,9 +27,10 @@ _MESSAGES = {
     Kind.STOPPED: "No JSON text has this byte here",
     Kind.TRUNCATED: "The text ends too early",
     Kind.TOO_DEEP: "More containers are open than depth allows",
-    Kind.MAY_BE_CUT: "The element may be cut",
+    Kind.MAY_BE_CUT: "More of the value may follow: it may be cut",
     Kind.UNMARKED: "The element has no record separator in front",
     Kind.REPEATED_NAME: "An earlier member of the object has this name",
+    Kind.BLANK: "The line is blank",
 }
 
 
@@ -48,6 +50,11 @@ class Verdict:
 
     def __bool__(self) -> bool:
         return self.is_accepted
+
+    @property
+    def reason(self) -> str:
+        """The kind in words for people."""
+        return _MESSAGES[self.kind]
 
     @classmethod
     def _of(cls, kind: int, offset: int) -> Verdict:

@@ -11,8 +11,8 @@ from ._library import DEPTH_DEFAULT, LIBRARY, Buffer, CAnswer, CPointer, done, h
 
 T = TypeVar("T")
 _FOUND = 0
-_NO_TEXT = {10: Kind.STOPPED, 11: Kind.TRUNCATED, 12: Kind.TOO_DEEP, 13: Kind.REPEATED_NAME}
-_RAISE: Any = object()
+NO_TEXT = {10: Kind.STOPPED, 11: Kind.TRUNCATED, 12: Kind.TOO_DEEP, 13: Kind.REPEATED_NAME}
+RAISE: Any = object()
 
 
 @overload
@@ -28,7 +28,7 @@ def get(
 def get(
     data: Buffer,
     pointer: str,
-    default: Any = _RAISE,
+    default: Any = RAISE,
     *,
     depth: int = DEPTH_DEFAULT,
     ignore_bom: bool = False,
@@ -54,9 +54,9 @@ def refuse_surrogate(pointer: str) -> NoReturn:
 
 def _told(data: memoryview, pointer: str, outcome: int, at: int, default: Any) -> Any:
     """The default, or what an outcome that is no value raises."""
-    if outcome in _NO_TEXT:
-        raise refused_in(data, Verdict(_NO_TEXT[outcome], at))
-    if _faults.is_lost(outcome) and default is not _RAISE:
+    if outcome in NO_TEXT:
+        raise refused_in(data, Verdict(NO_TEXT[outcome], at))
+    if _faults.is_lost(outcome) and default is not RAISE:
         return default
     _faults.raise_not_found(pointer, outcome, at)
 
@@ -90,7 +90,7 @@ def get_all(
 def get_all(
     data: Buffer,
     pointers: Iterable[str],
-    default: Any = _RAISE,
+    default: Any = RAISE,
     *,
     depth: int = DEPTH_DEFAULT,
     ignore_bom: bool = False,
@@ -105,7 +105,7 @@ def get_all(
     asked = settings(depth, ignore_bom, unique_names)
     named = list(pointers)
     # The empty pointer behind them tells whether the bytes are a text.
-    words = [_spelt(pointer) for pointer in named] + [b""]
+    words = [spelt_pointer(pointer) for pointer in named] + [b""]
     count = len(words)
     spelt = (CPointer * count)(*(CPointer(word, len(word)) for word in words))
     answers = (CAnswer * count)()
@@ -122,7 +122,7 @@ def get_all(
     ]
 
 
-def _spelt(pointer: str) -> bytes:
+def spelt_pointer(pointer: str) -> bytes:
     if not isinstance(pointer, str):
         raise TypeError("a pointer is a str, not " + type(pointer).__name__)
     try:

@@ -40,6 +40,8 @@ class Status(enum.IntEnum):
     NOT_A_RUN = 12
     OTHER_DEPTH = 13
     NOT_NEIGHBOURS = 14
+    NO_LINES = 15
+    NO_FINDER = 17
 
 
 class CSettings(ctypes.Structure):
@@ -59,6 +61,14 @@ class CDocument(ctypes.Structure):
 
 
 class CIndex(ctypes.Structure):
+    _fields_ = [("inside", ctypes.c_void_p)]
+
+
+class CFinder(ctypes.Structure):
+    _fields_ = [("inside", ctypes.c_void_p)]
+
+
+class CLines(ctypes.Structure):
     _fields_ = [("inside", ctypes.c_void_p)]
 
 
@@ -88,6 +98,14 @@ class CElement(ctypes.Structure):
     _fields_ = [("span", CSpan), ("verdict", CVerdict)]
 
 
+class CLine(ctypes.Structure):
+    _fields_ = [("number", ctypes.c_size_t), ("span", CSpan), ("verdict", CVerdict)]
+
+
+class CLineCounts(ctypes.Structure):
+    _fields_ = [("accepted", ctypes.c_size_t), ("refused", ctypes.c_size_t), ("blank", ctypes.c_size_t)]
+
+
 _POINTER = ctypes.c_void_p
 _SIZE = ctypes.c_size_t
 _CALLS = {
@@ -104,6 +122,15 @@ _CALLS = {
     "jx_index_row_non_null": [_POINTER, _SIZE, _POINTER],
     "jx_index_free_non_null": [_POINTER],
     "jx_elements_non_null": [_POINTER, _SIZE, _POINTER, _POINTER, _SIZE, _POINTER],
+    "jx_finder_new_non_null": [_POINTER, _SIZE, _POINTER, _POINTER],
+    "jx_finder_feed_non_null": [_POINTER, _POINTER, _SIZE],
+    "jx_finder_end_non_null": [_POINTER, _POINTER, _SIZE],
+    "jx_finder_free_non_null": [_POINTER],
+    "jx_lines_new_non_null": [_POINTER, _POINTER],
+    "jx_lines_feed_non_null": [_POINTER, _POINTER, _SIZE],
+    "jx_lines_take_non_null": [_POINTER, _POINTER, _SIZE, _POINTER],
+    "jx_lines_end_non_null": [_POINTER, _POINTER, _POINTER],
+    "jx_lines_free_non_null": [_POINTER],
     "jx_document_new_non_null": [_POINTER, _SIZE, _POINTER, _POINTER],
     "jx_document_edit_non_null": [_POINTER, _SIZE, _SIZE, _POINTER, _SIZE],
     "jx_document_verdict_non_null": [_POINTER, _POINTER],

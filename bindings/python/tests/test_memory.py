@@ -27,6 +27,7 @@ class Refusals(unittest.TestCase):
             (1 << 20, "jx.elements(b'\\x1e' * 1_000_000)"),
             (4 << 20, "jx.Document(text)"),
             (4 << 20, "jx.compact(text)"),
+            (64 << 20, "jx.LineReader().feed(b'\\n' * 4_000_000)"),
         )
         for more, call in calls:
             done = subprocess.run([sys.executable, "-X", "faulthandler", "-c", PROGRAM % (more, call)], capture_output=True, text=True)

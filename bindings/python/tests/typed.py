@@ -72,3 +72,20 @@ def others() -> None:
         assert_type(refused.lineno, Optional[int])
         assert_type(refused.offset, Optional[int])
         assert_type(refused.kind, jx.Kind)
+
+
+def lines(path: pathlib.Path) -> None:
+    assert_type(jx.lines(DATA, depth=3, ignore_bom=True, skip_blank=True), jx.Lines)
+    assert_type(list(jx.lines_file(path)), List[jx.Line])
+    with open(path, "rb") as file:
+        for line in jx.lines_file(file):
+            assert_type(line.number, int)
+            assert_type(line.offset, Optional[int])
+            assert_type(line.kind, jx.Kind)
+            assert_type(line.reason, str)
+    jx.lines_file([b"[]", bytearray(b"\n")])
+    jx.lines_file(["[]"])  # type: ignore[list-item]
+    jx.lines("[]")  # type: ignore[arg-type]
+    reader = jx.LineReader()
+    assert_type(reader.feed(DATA) + reader.end(), List[jx.Line])
+    assert_type(reader.accepted + reader.refused + reader.blank, int)

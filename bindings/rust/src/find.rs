@@ -196,7 +196,7 @@ pub fn find_all(
 }
 
 /// A list of these, for which memory may be refused.
-fn collected<T>(items: impl ExactSizeIterator<Item = T>) -> Result<Vec<T>, OutOfMemory> {
+pub(crate) fn collected<T>(items: impl ExactSizeIterator<Item = T>) -> Result<Vec<T>, OutOfMemory> {
     let mut all = Vec::new();
     all.try_reserve_exact(items.len())
         .map_err(|_| OutOfMemory)?;

@@ -52,6 +52,34 @@ impl Default for Index {
     }
 }
 
+/// The pointer is the library's alone; null where it holds no reader of lines.
+#[repr(C)]
+pub struct Lines {
+    pub inside: *mut c_void,
+}
+
+impl Default for Lines {
+    fn default() -> Lines {
+        Lines {
+            inside: ptr::null_mut(),
+        }
+    }
+}
+
+/// The pointer is the library's alone; null where it holds no look-up.
+#[repr(C)]
+pub struct Finder {
+    pub inside: *mut c_void,
+}
+
+impl Default for Finder {
+    fn default() -> Finder {
+        Finder {
+            inside: ptr::null_mut(),
+        }
+    }
+}
+
 /// The bytes of a pointer.
 #[repr(C)]
 #[derive(Clone, Copy)]
@@ -93,6 +121,22 @@ pub struct Element {
     pub verdict: Verdict,
 }
 
+#[repr(C)]
+#[derive(Clone, Copy, Default)]
+pub struct Line {
+    pub number: usize,
+    pub span: Span,
+    pub verdict: Verdict,
+}
+
+#[repr(C)]
+#[derive(Clone, Copy, Default)]
+pub struct LineCounts {
+    pub accepted: usize,
+    pub refused: usize,
+    pub blank: usize,
+}
+
 pub const OK: u32 = 0;
 pub const NO_MEMORY: u32 = 1;
 pub const TOO_MANY_BYTES: u32 = 4;
@@ -102,6 +146,8 @@ pub const NO_ROOM: u32 = 11;
 pub const NOT_A_RUN: u32 = 12;
 pub const OTHER_DEPTH: u32 = 13;
 pub const NOT_NEIGHBOURS: u32 = 14;
+pub const NO_LINES: u32 = 15;
+pub const NO_FINDER: u32 = 17;
 
 pub const NO_FROM: u64 = u64::MAX;
 
@@ -115,6 +161,7 @@ pub const TOO_DEEP: u32 = 3;
 pub const MAY_BE_CUT: u32 = 4;
 pub const UNMARKED: u32 = 5;
 pub const REPEATED_NAME: u32 = 6;
+pub const BLANK: u32 = 7;
 
 extern "C" {
     pub fn jx_check_non_null(
@@ -181,6 +228,29 @@ extern "C" {
         room: usize,
         count: *mut usize,
     ) -> u32;
+    pub fn jx_finder_new_non_null(
+        pointers: *const Pointer,
+        count: usize,
+        settings: *const Settings,
+        finder: *mut Finder,
+    ) -> u32;
+    pub fn jx_finder_feed_non_null(finder: *mut Finder, bytes: *const u8, size: usize) -> u32;
+    pub fn jx_finder_end_non_null(finder: *mut Finder, answers: *mut Answer, room: usize) -> u32;
+    pub fn jx_finder_free_non_null(finder: *mut Finder);
+    pub fn jx_lines_new_non_null(settings: *const Settings, lines: *mut Lines) -> u32;
+    pub fn jx_lines_feed_non_null(lines: *mut Lines, bytes: *const u8, size: usize) -> u32;
+    pub fn jx_lines_take_non_null(
+        lines: *mut Lines,
+        bad: *mut Line,
+        room: usize,
+        count: *mut usize,
+    ) -> u32;
+    pub fn jx_lines_end_non_null(
+        lines: *mut Lines,
+        last: *mut Line,
+        counts: *mut LineCounts,
+    ) -> u32;
+    pub fn jx_lines_free_non_null(lines: *mut Lines);
     pub fn jx_version() -> u32;
     pub fn jx_reader_start_non_null(reader: *mut Reader, settings: *const Settings) -> u32;
     pub fn jx_reader_feed(reader: *mut Reader, bytes: *const u8, size: usize) -> u32;

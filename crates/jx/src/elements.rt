@@ -2,7 +2,7 @@
 ghost use Rattle.jx_index.specs.Pointers.{IsPointer};
 
 use crate::fault::Fault;
-use crate::input::{fault_of_report, open};
+use crate::input::{fault_of_report, open_watched};
 use crate::output::Output;
 use jx_command::EachOrder;
 use jx_files::Status;
@@ -22,7 +22,7 @@ pub fn write_elements_of(rt: &HostRuntime, order: &EachOrder<'_>) -> Result<Stat
 fn write_elements(rt: &HostRuntime, order: &EachOrder<'_>) -> Result<Status, Fault>
     requires { IsPointer order.now.pointer.now }
 {
-    let mut reader = open(rt, order.input)?;
+    let mut reader = open_watched(rt, order.input, order.progress)?;
     let mut writer = End::new(Output::of(rt));
     let mut errors = End::new(rt.stderr());
     match report_elements(

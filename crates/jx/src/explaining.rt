@@ -5,7 +5,7 @@ use crate::fault::Fault;
 use crate::first_pass::{exit_of, is_long_file};
 use crate::input::{fault_of_report, name_of, open};
 use crate::output::{Output, write_out};
-use jx_command::{Color, Input, Inputs, input_of};
+use jx_command::{Color, Input, Inputs, ShowProgress, input_of};
 use jx_crew::{Crew, OpenGate};
 use jx_explain::{Form, Marking, explained, report_explained};
 use jx_files::{Status, shown_name};
@@ -119,7 +119,7 @@ fn explain_one<R: Threads + Wait + Sync>(
 {
     let name = told_name(rt, input, form)?;
     if is_long_file(rt, input) {
-        match exit_of(rt, threads, input, command)? {
+        match exit_of(rt, threads, input, command, ShowProgress::Never)? {
             Exit::Good => return tell_accepted(rt, &name, &command.settings, form),
             Exit::Bad => (),
         }

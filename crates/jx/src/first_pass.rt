@@ -1,13 +1,14 @@
-// A pass over an input for its verdict alone, which holds no more than batches of it.
+// Long files, which are read for their verdict before they are held.
 ghost use Rattle.std.specs.Prelude.{◌≤◌};
 
 use crate::fault::Fault;
-use crate::input::{fault_of_report, open};
+use crate::input::{fault_of_report, open_watched};
 use crate::output::Output;
-use jx_command::Input;
-use jx_crew::OpenGate;
-use jx_report::{End, Exit, report};
-use jx_task::{Command, Task};
+use jx_command::{Input, ShowProgress};
+use jx_crew::{Crew, OpenGate};
+use jx_explain::exit_of_input;
+use jx_report::{End, Exit};
+use jx_task::Command;
 use std::fs;
 use std::sync::Wait;
 use std::thread::Threads;
@@ -32,20 +33,19 @@ pub fn exit_of<R: Threads + Wait + Sync>(
     threads: &R,
     input: Input<'_>,
     command: &Command,
+    progress: ShowProgress,
 ) -> Result<Exit, Fault>
     requires { 1 ≤ command.now.piece }
 {
-    let quiet = Command {
-        task: Task::Check,
-        settings: command.settings,
+    let crew = Crew {
+        rt: threads,
+        alloc: rt.alloc(),
         workers: command.workers,
-        piece: command.piece,
-        quiet: true,
+        gate: &OpenGate,
     };
-    let alloc = rt.alloc();
-    let mut reader = open(rt, input)?;
+    let mut reader = open_watched(rt, input, progress)?;
     let mut writer = End::new(Output::of(rt));
-    match report(threads, alloc, &mut reader, &mut writer, &quiet, &OpenGate) {
+    match exit_of_input(&crew, &mut reader, &mut writer, command) {
         Ok(exit) => Ok(exit),
         Err(fault) => Err(fault_of_report(rt, input, &reader, &writer, fault)),
     }

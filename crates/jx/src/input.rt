@@ -3,7 +3,8 @@ ghost use Rattle.std.specs.Prelude.{◌≡◌, ⊤, false, IfOk};
 
 use crate::fault::Fault;
 use crate::output::Writer;
-use jx_command::{Input, input_of};
+use crate::progress::{Watch, watch_of};
+use jx_command::{Input, ShowProgress, input_of};
 use jx_files::{FileFault, OpenFault, Opener, Reason, tell};
 use jx_report::{End, ReportFault};
 use std::alloc::AllocError;
@@ -18,14 +19,25 @@ enum Origin {
     File(File),
 }
 
-/// An input that is open, and why the last read of it failed, if it failed.
+/// An input that is open, why the last read of it failed, if it failed, and who tells how far it was read.
 #[derive(Drop)]
-pub struct Opened {
+pub struct Opened<'r> {
     origin: Origin,
     why: Reason,
+    watch: Option<Watch<'r>>,
 }
 
-impl Read for Opened {
+/// Tells a watch, if there is one, what a read came to. Where nothing was read, nothing is left.
+fn note(watch: &mut Option<Watch<'_>>, read: &io::Result<usize>) {
+    if let Some(watch) = watch {
+        match read {
+            Ok(0) | Err(_) => watch.end(),
+            Ok(count) => watch.count(*count),
+        }
+    }
+}
+
+impl<'r> Read for Opened<'r> {
     fn read(&mut self, buf: &mut [u8]) -> io::Result<usize> {
         let result = match &mut self.origin {
             Origin::Standard(stdin) => stdin.read(buf),
@@ -34,12 +46,13 @@ impl Read for Opened {
         if let Err(error) = &result {
             self.why = Reason::of(error);
         }
+        note(&mut self.watch, &result);
         result
     }
 }
 
 /// What a report reads from.
-pub type Reader = End<Opened>;
+pub type Reader<'r> = End<Opened<'r>>;
 
 /// Why a file did not open.
 fn unopened_by(error: &io::Error) -> OpenFault {
@@ -60,16 +73,33 @@ fn file_of(rt: &HostRuntime, path: &str) -> Result<File, OpenFault> {
     }
 }
 
-fn reader_of(rt: &HostRuntime, input: Input<'_>) -> Result<Reader, OpenFault>
+/// The size of what is read, where that is known.
+fn size_of(origin: &Origin) -> Option<u64> {
+    match origin {
+        Origin::Standard(_) => None,
+        Origin::File(file) => match file.metadata() {
+            Ok(found) if found.is_file() => Some(found.len()),
+            _ => None,
+        },
+    }
+}
+
+fn reader_of<'r>(
+    rt: &'r HostRuntime,
+    input: Input<'_>,
+    progress: ShowProgress,
+) -> Result<Reader<'r>, OpenFault>
     ensures { IfOk result (λ reader. reader.failed ≡ false) }
 {
     let origin = match input {
         Input::Standard => Origin::Standard(rt.stdin()),
         Input::File(path) => Origin::File(file_of(rt, path)?),
     };
+    let watch = watch_of(rt, progress, size_of(&origin));
     Ok(End::new(Opened {
         origin,
         why: Reason::Other,
+        watch,
     }))
 }
 
@@ -88,10 +118,21 @@ pub fn told_of(rt: &HostRuntime, input: Input<'_>, fault: FileFault) -> Fault {
 }
 
 /// Opens an input, or tells why it does not open.
-pub fn open(rt: &HostRuntime, input: Input<'_>) -> Result<Reader, Fault>
+pub fn open<'r>(rt: &'r HostRuntime, input: Input<'_>) -> Result<Reader<'r>, Fault>
     ensures { IfOk result (λ reader. reader.failed ≡ false) }
 {
-    match reader_of(rt, input) {
+    open_watched(rt, input, ShowProgress::Never)
+}
+
+/// The same, where it may be told how far it was read.
+pub fn open_watched<'r>(
+    rt: &'r HostRuntime,
+    input: Input<'_>,
+    progress: ShowProgress,
+) -> Result<Reader<'r>, Fault>
+    ensures { IfOk result (λ reader. reader.failed ≡ false) }
+{
+    match reader_of(rt, input, progress) {
         Ok(reader) => Ok(reader),
         Err(OpenFault::Memory) => Err(Fault::Memory(AllocError)),
         Err(fault) => Err(told_of(rt, input, FileFault::of_opening(fault))),
@@ -103,10 +144,13 @@ pub fn open(rt: &HostRuntime, input: Input<'_>) -> Result<Reader, Fault>
 pub fn fault_of_report(
     rt: &HostRuntime,
     input: Input<'_>,
-    reader: &Reader,
+    reader: &Reader<'_>,
     writer: &Writer,
     fault: ReportFault,
 ) -> Fault {
+    if let Some(watch) = &reader.inner.watch {
+        watch.leave();
+    }
     match fault {
         ReportFault::Read => told_of(rt, input, FileFault::Read(reader.inner.why)),
         ReportFault::Pieces => told_of(rt, input, FileFault::Pieces),
@@ -119,19 +163,20 @@ pub fn fault_of_report(
 #[derive(Drop)]
 pub struct Desk<'a> {
     pub rt: &'a HostRuntime,
+    pub progress: ShowProgress,
 }
 
-impl<'a> Opener<Reader> for Desk<'a> {
+impl<'a> Opener<Reader<'a>> for Desk<'a> {
     // Nothing is claimed of what the system gives.
     ghost opens = { λ _ _ _. ⊤ };
 
     ghost why = { λ _ reader. reader.inner.why };
 
-    fn open(&self, word: &str) -> Result<Reader, OpenFault> {
-        reader_of(self.rt, input_of(word))
+    fn open(&self, word: &str) -> Result<Reader<'a>, OpenFault> {
+        reader_of(self.rt, input_of(word), self.progress)
     }
 
-    fn why(&self, input: &Reader) -> Reason {
+    fn why(&self, input: &Reader<'a>) -> Reason {
         input.inner.why
     }
 }

@@ -1,16 +1,31 @@
-// Lines that are to be JSON texts, judged while they are read.
+// Lines and elements that are to be JSON texts, each told while the input is read.
 ghost use Rattle.std.specs.Prelude.{◌≡◌, false};
 
 use crate::fault::Fault;
 use crate::input::{fault_of_report, open, told_of};
 use crate::output::{Output, Writer};
-use jx_command::{Input, Inputs, LinesOrder, input_of};
+use jx_command::{Input, Inputs, LinesOrder, LiveOrder, input_of};
 use jx_files::{FileFault, Status, shown_name};
-use jx_ndjson_report::{BlankRule, LinesTask, report_lines};
+use jx_ndjson_report::{BlankRule, ElementsTask, LinesTask, report_lines, report_sequence};
 use jx_report::{End, ReportFault};
 
-/// The task of an order, with what stands in front of each line that is written.
-fn task_of(order: &LinesOrder<'_>, front: Vec<u8>) -> LinesTask {
+/// What is told of each input.
+#[derive(Drop)]
+pub enum Asked<'a> {
+    /// The lines that are no texts.
+    Lines(LinesOrder<'a>),
+    /// The elements of a text sequence.
+    Elements(LiveOrder<'a>),
+}
+
+/// The same with what stands in front of each line that is written.
+#[derive(Drop)]
+enum Task {
+    Lines(LinesTask),
+    Elements(ElementsTask),
+}
+
+fn lines_task(order: &LinesOrder<'_>, front: Vec<u8>) -> LinesTask {
     LinesTask {
         settings: order.settings,
         blanks: if order.skips_blanks {
@@ -23,17 +38,37 @@ fn task_of(order: &LinesOrder<'_>, front: Vec<u8>) -> LinesTask {
     }
 }
 
-/// Reads an input, and tells its lines.
-fn tell_lines_of(
+fn elements_task(order: &LiveOrder<'_>, front: Vec<u8>) -> ElementsTask {
+    ElementsTask {
+        settings: order.settings,
+        front,
+        is_quiet: order.is_quiet,
+    }
+}
+
+fn task_of(asked: &Asked<'_>, front: Vec<u8>) -> Task {
+    match asked {
+        Asked::Lines(order) => Task::Lines(lines_task(order, front)),
+        Asked::Elements(order) => Task::Elements(elements_task(order, front)),
+    }
+}
+
+/// Reads an input, and tells its lines or elements.
+fn tell_input(
     rt: &HostRuntime,
     input: Input<'_>,
     writer: &mut Writer,
-    task: &LinesTask,
+    task: &Task,
 ) -> Result<Status, Fault>
     requires { writer.old.failed ≡ false }
 {
+    let alloc = rt.alloc();
     let mut reader = open(rt, input)?;
-    match report_lines(rt.alloc(), &mut reader, writer, task) {
+    let told = match task {
+        Task::Lines(task) => report_lines(alloc, &mut reader, writer, task),
+        Task::Elements(task) => report_sequence(alloc, &mut reader, writer, task),
+    };
+    match told {
         Ok(exit) => Ok(Status::of_exit(exit)),
         Err(fault) => Err(fault_of_report(rt, input, &reader, writer, fault)),
     }
@@ -57,32 +92,36 @@ fn status_of(
     }
 }
 
-/// Tells the lines of what a word names, each behind the word as it is shown.
-fn tell_lines_of_word(
-    rt: &HostRuntime,
-    order: &LinesOrder<'_>,
-    word: &str,
-) -> Result<Status, Fault> {
+/// Tells the lines or elements of what a word names, each behind the word as it is shown.
+fn tell_word(rt: &HostRuntime, asked: &Asked<'_>, word: &str) -> Result<Status, Fault> {
     let mut front = shown_name(rt.alloc(), word)?;
     front.extend_from_slice(b": ")?;
     let mut writer = End::new(Output::of(rt));
     let input = input_of(word);
-    let told = tell_lines_of(rt, input, &mut writer, &task_of(order, front));
+    let told = tell_input(rt, input, &mut writer, &task_of(asked, front));
     status_of(rt, input, told, writer.failed)
 }
 
-/// Reads what an order names, and tells the lines that are no texts.
-pub fn tell_lines(rt: &HostRuntime, order: &LinesOrder<'_>) -> Result<Status, Fault> {
-    let words = match &order.inputs {
+/// What is read.
+fn inputs_of<'o, 'a>(asked: &'o Asked<'a>) -> &'o Inputs<'a> {
+    match asked {
+        Asked::Lines(order) => &order.inputs,
+        Asked::Elements(order) => &order.inputs,
+    }
+}
+
+/// Reads inputs, and tells what is asked of each while it is read.
+pub fn tell_inputs(rt: &HostRuntime, asked: &Asked<'_>) -> Result<Status, Fault> {
+    let words = match inputs_of(asked) {
         Inputs::One(input) => {
-            let task = task_of(order, Vec::new(rt.alloc()));
-            return tell_lines_of(rt, *input, &mut End::new(Output::of(rt)), &task);
+            let task = task_of(asked, Vec::new(rt.alloc()));
+            return tell_input(rt, *input, &mut End::new(Output::of(rt)), &task);
         }
         Inputs::Several(words) => words,
     };
     let mut status = Status::Good;
     for word in words {
-        let next = tell_lines_of_word(rt, order, *word)?;
+        let next = tell_word(rt, asked, *word)?;
         status = status.greatest(next);
     }
     Ok(status)

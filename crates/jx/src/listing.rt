@@ -5,7 +5,7 @@ use crate::fault::Fault;
 use crate::first_pass::exit_of;
 use crate::input::name_of;
 use crate::output::write_out;
-use jx_command::{Input, Inputs, input_of};
+use jx_command::{Input, Inputs, ShowProgress, input_of};
 use jx_files::{Status, shown_name};
 use jx_report::Exit;
 use jx_task::Command;
@@ -25,10 +25,11 @@ fn list_one<R: Threads + Wait + Sync>(
     threads: &R,
     input: Input<'_>,
     command: &Command,
+    progress: ShowProgress,
 ) -> Result<Status, Fault>
     requires { 1 ≤ command.now.piece }
 {
-    let exit = exit_of(rt, threads, input, command)?;
+    let exit = exit_of(rt, threads, input, command, progress)?;
     match exit {
         Exit::Good => (),
         Exit::Bad => write_name(rt, input)?,
@@ -42,12 +43,13 @@ fn list_words<R: Threads + Wait + Sync>(
     threads: &R,
     words: &[&str],
     command: &Command,
+    progress: ShowProgress,
 ) -> Result<Status, Fault>
     requires { 1 ≤ command.now.piece }
 {
     let mut status = Status::Good;
     for word in words {
-        let next = match list_one(rt, threads, input_of(*word), command) {
+        let next = match list_one(rt, threads, input_of(*word), command, progress) {
             Ok(next) => next,
             Err(Fault::Told) => Status::Fault,
             Err(fault) => return Err(fault),
@@ -63,11 +65,12 @@ pub fn list_refused<R: Threads + Wait + Sync>(
     threads: &R,
     inputs: &Inputs<'_>,
     command: &Command,
+    progress: ShowProgress,
 ) -> Result<Status, Fault>
     requires { 1 ≤ command.now.piece }
 {
     match inputs {
-        Inputs::One(input) => list_one(rt, threads, *input, command),
-        Inputs::Several(words) => list_words(rt, threads, words, command),
+        Inputs::One(input) => list_one(rt, threads, *input, command, progress),
+        Inputs::Several(words) => list_words(rt, threads, words, command, progress),
     }
 }

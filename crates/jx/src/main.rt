@@ -15,13 +15,14 @@ mod listing;
 mod misplaced;
 mod output;
 mod parts;
+mod progress;
 mod reporting;
 mod values;
 
 use elements::write_elements_of;
 use explaining::{explain_inputs, marking_for};
 use fault::Fault;
-use judged_lines::tell_lines;
+use judged_lines::{Asked, tell_inputs};
 use jx_command::{Order, Request, Told, command_of};
 use jx_explain::Form;
 use jx_files::Status;
@@ -54,12 +55,13 @@ fn answer_request<R: Threads + Wait + Sync>(
         inputs,
         pointers,
         told,
+        progress,
     } = request;
     refuse_misplaced_in(rt, &inputs, &command.task)?;
     add_lines(rt, &mut command, pointers)?;
     match told {
-        Told::Lines => report_on_inputs(rt, threads, &inputs, &command),
-        Told::Refused => list_refused(rt, threads, &inputs, &command),
+        Told::Lines => report_on_inputs(rt, threads, &inputs, &command, progress),
+        Told::Refused => list_refused(rt, threads, &inputs, &command, progress),
         Told::Marks => explain_inputs(rt, threads, &inputs, &command, Form::Mark),
         Told::Objects => explain_inputs(rt, threads, &inputs, &command, Form::Object),
         Told::Explained(color) => {
@@ -78,7 +80,8 @@ fn answer<R: Threads + Wait + Sync>(rt: &HostRuntime, threads: &R) -> Result<Sta
         Order::Parts(order) => work_on_parts(rt, &order),
         Order::Values(order) => write_values_of(rt, threads, order),
         Order::Each(order) => write_elements_of(rt, &order),
-        Order::Lines(order) => tell_lines(rt, &order),
+        Order::Lines(order) => tell_inputs(rt, &Asked::Lines(order)),
+        Order::Live(order) => tell_inputs(rt, &Asked::Elements(order)),
     }
 }
 

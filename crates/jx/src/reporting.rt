@@ -2,9 +2,9 @@
 ghost use Rattle.std.specs.Prelude.{◌≤◌};
 
 use crate::fault::Fault;
-use crate::input::{Desk, fault_of_report, open};
+use crate::input::{Desk, fault_of_report, open_watched};
 use crate::output::Output;
-use jx_command::{Input, Inputs};
+use jx_command::{Input, Inputs, ShowProgress};
 use jx_crew::OpenGate;
 use jx_files::{Status, report_on_each};
 use jx_report::{End, ReportFault, report};
@@ -18,10 +18,11 @@ fn report_on<R: Threads + Wait + Sync>(
     threads: &R,
     input: Input<'_>,
     command: &Command,
+    progress: ShowProgress,
 ) -> Result<Status, Fault>
     requires { 1 ≤ command.now.piece }
 {
-    let mut reader = open(rt, input)?;
+    let mut reader = open_watched(rt, input, progress)?;
     let mut writer = End::new(Output::of(rt));
     match report(
         threads,
@@ -42,6 +43,7 @@ fn report_on_words<R: Threads + Wait + Sync>(
     threads: &R,
     words: &[&str],
     command: &Command,
+    progress: ShowProgress,
 ) -> Result<Status, Fault>
     requires { 1 ≤ command.now.piece }
 {
@@ -49,7 +51,7 @@ fn report_on_words<R: Threads + Wait + Sync>(
     match report_on_each(
         threads,
         rt.alloc(),
-        &Desk { rt },
+        &Desk { rt, progress },
         words,
         &mut writer,
         &mut End::new(rt.stderr()),
@@ -68,11 +70,12 @@ pub fn report_on_inputs<R: Threads + Wait + Sync>(
     threads: &R,
     inputs: &Inputs<'_>,
     command: &Command,
+    progress: ShowProgress,
 ) -> Result<Status, Fault>
     requires { 1 ≤ command.now.piece }
 {
     match inputs {
-        Inputs::One(input) => report_on(rt, threads, *input, command),
-        Inputs::Several(words) => report_on_words(rt, threads, words, command),
+        Inputs::One(input) => report_on(rt, threads, *input, command, progress),
+        Inputs::Several(words) => report_on_words(rt, threads, words, command, progress),
     }
 }

@@ -59,7 +59,7 @@ module _ (settings : Settings) (text : List ℕ) (known : (settings.names ≡ An
   found_by_any pointer (Ok found) h = (accepted h.0, record { tree = h.1.tree; is_text = with_names h.1.tree h.1.is_text; found_is = h.1.found_is })
   found_by_any pointer (Err refusal) h = refused refusal h
 
-  each_found : (tree : Tree) → IsDocumentBy settings 0 text tree → IsVerdictBy settings text verdict.Accepted → (pointers : List (List ℕ)) (found : List (Result Found FindFault))
+  pub each_found : (tree : Tree) → IsDocumentBy settings 0 text tree → IsVerdictBy settings text verdict.Accepted → (pointers : List (List ℕ)) (found : List (Result Found FindFault))
       → AllZip (λ (pointer : List ℕ) (one : Result Found FindFault). one ≡ found_of (led text tree (tokens pointer))) pointers found → AreFoundBy settings text pointers found
   each_found tree d a [] [] h = tt
   each_found tree d a [] (f ∷ found) h = absurd h

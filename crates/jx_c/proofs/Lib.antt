@@ -1,5 +1,6 @@
 pub mod Alls
 pub mod AnyNames
+pub mod Fed
 pub mod Filled
 pub mod Holding
 pub mod Led

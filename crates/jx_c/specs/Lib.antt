@@ -5,10 +5,12 @@ pub mod Document
 pub mod Elements
 pub mod Held
 pub mod Indexes
+pub mod Lines
 pub mod LookUps
 pub mod Reader
 pub mod Rows
 pub mod Runs
+pub mod Seeks
 pub mod Settings
 pub mod Stack
 pub mod Verdict

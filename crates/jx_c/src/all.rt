@@ -49,7 +49,7 @@ fn pointer_at<'p>(pointers: &[JxPointer<'p>], number: usize) -> JxPointer<'p>
 }
 
 /// The pointers that are spelt, in order, with the empty one for each that is none.
-fn pointers_of<'p>(
+pub(crate) fn pointers_of<'p>(
     alloc: Global,
     pointers: &[JxPointer<'p>],
 ) -> Result<Vec<Pointer<'p>>, AllocError>
@@ -112,16 +112,27 @@ fn look_up_at(
     }
 }
 
+/// How many of the pointers have an answer: all of them, where a text was read for these.
+fn count_of(read: &Result<Vec<Result<Found, FindFault>>, Refusal>, pointers: &[JxPointer]) -> usize
+    ensures within { result ≤ length pointers.now }
+    ensures found { IfOk read.now (λ all. result ≤ length all.items) }
+    ensures all { (settings : Settings) (text : List ℕ) → IsReadFor settings text pointers.now read.now → result ≡ length pointers.now }
+{
+    match read {
+        Ok(all) => all.len().min(pointers.len()),
+        Err(_) => pointers.len(),
+    }
+}
+
 /// Puts the answers into the buffer, as many as it has room for.
-fn answer_all(
+pub(crate) fn answer_all(
     read: &Result<Vec<Result<Found, FindFault>>, Refusal>,
     pointers: &[JxPointer],
     answers: &mut [JxAnswer],
 )
-    requires { IfOk read.now (λ all. length all.items ≡ length pointers.now) }
     ensures { (settings : Settings) (text : List ℕ) → IsReadFor settings text pointers.now read.now → AreAnswersOf settings text pointers.now answers.old answers.new }
 {
-    let count = answers.len().min(pointers.len());
+    let count = answers.len().min(count_of(read, pointers));
     for at in 0..count {
         let pointer = pointer_at(pointers, at);
         answers[at] = shown_look_up(look_up_at(read, pointer, at));

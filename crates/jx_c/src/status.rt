@@ -41,3 +41,9 @@ pub const OTHER_DEPTH: u32 = 13;
 
 /// The right run does not begin where the left one ends, or the run is of other bytes.
 pub const NOT_NEIGHBOURS: u32 = 14;
+
+/// The struct holds no reader of lines.
+pub const NO_LINES: u32 = 15;
+
+/// The struct holds no look-up.
+pub const NO_FINDER: u32 = 17;

@@ -48,6 +48,7 @@ enum RunsCall {
     Children,
     Names,
     Repeated,
+    Unique,
     Every,
     At,
     Workers,
@@ -64,7 +65,7 @@ enum Call {
 }
 
 /// Each call and its name.
-const CALLS: [(&str, Call); 43] = [
+const CALLS: [(&str, Call); 44] = [
     ("class", Call::Marks(MarksCall::Class)),
     ("step", Call::Marks(MarksCall::Step)),
     ("steps", Call::Marks(MarksCall::Steps)),
@@ -102,6 +103,7 @@ const CALLS: [(&str, Call); 43] = [
     ("children", Call::Runs(RunsCall::Children)),
     ("names", Call::Runs(RunsCall::Names)),
     ("repeated", Call::Runs(RunsCall::Repeated)),
+    ("unique", Call::Runs(RunsCall::Unique)),
     ("every", Call::Runs(RunsCall::Every)),
     ("at", Call::Runs(RunsCall::At)),
     ("workers", Call::Runs(RunsCall::Workers)),
@@ -168,6 +170,7 @@ fn make_of_runs(line: &mut Line<'_>, call: RunsCall) {
         RunsCall::Children => index::nodes::children(line),
         RunsCall::Names => index::nodes::names(line),
         RunsCall::Repeated => index::nodes::repeated(line),
+        RunsCall::Unique => index::unique::unique(line),
         RunsCall::Every => claim::cuttings::every(line),
         RunsCall::At => claim::cuttings::at(line),
         RunsCall::Workers => claim::cuttings::workers(line),

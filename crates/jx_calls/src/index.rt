@@ -5,3 +5,4 @@ pub(crate) mod nodes;
 pub(crate) mod pauses;
 pub(crate) mod pointers;
 pub(crate) mod readings;
+pub(crate) mod unique;

@@ -1,7 +1,7 @@
 // What words of the command line are.
 use jx_command::{
-    ArgFault, EachOrder, Input, Inputs, LinesOrder, Order, PartsOrder, PartsStep, Request, Told,
-    ValuesOrder, command_of,
+    ArgFault, EachOrder, Input, Inputs, LinesOrder, LiveOrder, Order, PartsOrder, PartsStep,
+    Request, ShowProgress, Told, ValuesOrder, command_of,
 };
 use jx_crew::Workers;
 use jx_lines::{Line, LineFault, Out, push_text, text_of};
@@ -52,6 +52,7 @@ fn push_command(out: &mut Out, alloc: Global, owned: &[String]) -> Result<(), Al
         Ok(Order::Values(order)) => push_values(out, &order),
         Ok(Order::Each(order)) => push_each(out, &order),
         Ok(Order::Lines(order)) => push_lines_order(out, &order),
+        Ok(Order::Live(order)) => push_live(out, &order),
         Err(fault) => push_fault(out, alloc, &fault)?,
     }
     Ok(())
@@ -83,6 +84,7 @@ fn push_lines(
         }
         Ok(Order::Each(order)) => push_each(out, &order),
         Ok(Order::Lines(order)) => push_lines_order(out, &order),
+        Ok(Order::Live(order)) => push_live(out, &order),
         Err(fault) => push_fault(out, alloc, &fault)?,
     }
     Ok(())
@@ -131,6 +133,7 @@ fn push_request(out: &mut Out, request: &Request) {
     }
     push_inputs(out, &request.inputs);
     push_told(out, request.told);
+    push_progress(out, request.progress);
     if let Some(file) = request.pointers {
         push_file(out, "; pointers ", file);
     }
@@ -161,6 +164,16 @@ fn push_each(out: &mut Out, order: &EachOrder) {
     push_file(out, "each ", order.pointer);
     push_settings(out, &order.settings);
     push_inputs(out, &Inputs::One(order.input));
+    push_progress(out, order.progress);
+}
+
+/// Whether progress is told, and nothing where it is not.
+fn push_progress(out: &mut Out, progress: ShowProgress) {
+    match progress {
+        ShowProgress::Auto => out.push_str("; progress auto"),
+        ShowProgress::Always => out.push_str("; progress always"),
+        ShowProgress::Never => (),
+    }
 }
 
 fn push_lines_order(out: &mut Out, order: &LinesOrder) {
@@ -169,6 +182,15 @@ fn push_lines_order(out: &mut Out, order: &LinesOrder) {
     if order.skips_blanks {
         out.push_str(", skip blank");
     }
+    if order.is_quiet {
+        out.push_str(", quiet");
+    }
+    push_inputs(out, &order.inputs);
+}
+
+fn push_live(out: &mut Out, order: &LiveOrder) {
+    out.push_str("seq, live");
+    push_settings(out, &order.settings);
     if order.is_quiet {
         out.push_str(", quiet");
     }

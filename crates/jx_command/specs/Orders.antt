@@ -1,7 +1,7 @@
 -- What holds of an order.
 use Rattle.std.specs.Prelude.{◌≤◌, ⊤}
 use Rattle.jx_command.specs.declared.order.Order.{Order}
-use Rattle.jx_command.specs.declared.order.Order.TheVariants.{Report, Parts, Values, Each, Lines}
+use Rattle.jx_command.specs.declared.order.Order.TheVariants.{Report, Parts, Values, Each, Lines, Live}
 
 -- the pieces that are read have at least a byte each
 abbrev pub HasPieces : Order → Type 0
@@ -10,3 +10,4 @@ HasPieces (Parts order) = ⊤
 HasPieces (Values order) = 1 ≤ order.task.piece
 HasPieces (Each order) = ⊤
 HasPieces (Lines order) = ⊤
+HasPieces (Live order) = ⊤

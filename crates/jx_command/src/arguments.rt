@@ -7,7 +7,8 @@ use crate::each_arguments::{EACH, each_order_from};
 use crate::grammar::grammar;
 use crate::inputs::{Input, Inputs, inputs_of, reads_standard_twice};
 use crate::lines_arguments::{LINES, lines_order_from};
-use crate::options::depth_of;
+use crate::live_arguments::{is_live, live_order_from};
+use crate::options::{depth_of, progress_of};
 use crate::order::Order;
 use crate::parts_arguments::parts_order_from;
 use crate::parts_command::PartsCommand;
@@ -202,6 +203,7 @@ fn request_from<'a>(
         inputs: inputs_named(options, words_of(alloc, called, options))?,
         pointers: pointers_file_of(called, options),
         told: told_by(called, options),
+        progress: progress_of(options),
     })
 }
 
@@ -227,6 +229,9 @@ fn order_from<'a>(
             Ok(order) => Ok(Order::Values(order)),
             Err(_) => Err(ArgFault::Memory),
         };
+    }
+    if is_live(options) {
+        return Ok(Order::Live(live_order_from(alloc, options)?));
     }
     let called = Subcommand::named(name).unwrap_or(Subcommand::Check);
     let request = request_from(alloc, called, options)?;

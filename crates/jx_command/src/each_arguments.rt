@@ -1,7 +1,7 @@
 // The words of the subcommand that writes elements.
 use crate::arguments::mark_of;
 use crate::inputs::{Input, input_of};
-use crate::options::{depth_of, input_from};
+use crate::options::{depth_of, input_from, progress_of};
 use crate::order::EachOrder;
 use clap::ArgMatches;
 use jx_run::{NameRule, Settings};
@@ -27,5 +27,6 @@ pub(crate) fn each_order_from<'a>(options: &ArgMatches<'a>) -> EachOrder<'a> {
             mark: mark_of(options),
             names: NameRule::Any,
         },
+        progress: progress_of(options),
     }
 }

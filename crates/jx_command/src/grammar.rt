@@ -9,8 +9,8 @@ use clap::builder::ValueParser;
 use clap::{Arg, ArgAction, Command, value_parser};
 use std::alloc::{AllocError, Global};
 
-/// The words for when what is told to people has colors.
-const COLORS: &[&str] = &["auto", "always", "never"];
+/// The words for when what is told to people has colors, and for when progress is told.
+const WHEN: &[&str] = &["auto", "always", "never"];
 
 /// The words for how the verdict of a check is told.
 const FORMATS: &[&str] = &["plain", "gnu", "json"];
@@ -50,7 +50,7 @@ fn color<'a>(alloc: Global) -> Arg<'a> {
     Arg::new(alloc, "color")
         .long("color")
         .value_name("WHEN")
-        .value_parser(ValueParser::Names(COLORS))
+        .value_parser(ValueParser::Names(WHEN))
         .hide_possible_values(true)
         .default_value("auto")
         .help(help::COLOR)
@@ -135,6 +135,17 @@ fn format<'a>(alloc: Global) -> Result<Arg<'a>, AllocError> {
         .conflicts_with("quiet")
 }
 
+fn progress<'a>(alloc: Global) -> Arg<'a> {
+    Arg::new(alloc, "progress")
+        .long("progress")
+        .value_name("WHEN")
+        .value_parser(ValueParser::Names(WHEN))
+        .hide_possible_values(true)
+        .default_value("never")
+        .help(help::PROGRESS)
+        .long_help(help::LONG_PROGRESS)
+}
+
 fn compact<'a>(alloc: Global) -> Arg<'a> {
     Arg::new(alloc, "compact")
         .short('c')
@@ -212,6 +223,7 @@ fn check<'a>(alloc: Global) -> Result<Command<'a>, AllocError> {
         .arg(quiet(alloc))?
         .arg(list(alloc)?)?
         .arg(format(alloc)?)?
+        .arg(progress(alloc))?
         .arg(files(alloc)?)
 }
 
@@ -252,11 +264,22 @@ fn each<'a>(alloc: Global) -> Result<Command<'a>, AllocError> {
         .arg(one_file(alloc)?)?
         .arg(file(alloc))?
         .arg(depth(alloc))?
-        .arg(ignore_bom(alloc))
+        .arg(ignore_bom(alloc))?
+        .arg(progress(alloc))
+}
+
+fn live<'a>(alloc: Global) -> Result<Arg<'a>, AllocError> {
+    Arg::new(alloc, "live")
+        .long("live")
+        .action(ArgAction::SetTrue)
+        .help(help::LIVE)
+        .long_help(help::LONG_LIVE)
+        .conflicts_with("unique_names")
 }
 
 fn seq<'a>(alloc: Global) -> Result<Command<'a>, AllocError> {
     subcommand(alloc, Subcommand::Seq, help::SEQ, help::AFTER_SEQ)?
+        .arg(live(alloc)?)?
         .arg(quiet(alloc))?
         .arg(files(alloc)?)
 }

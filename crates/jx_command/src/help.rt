@@ -142,6 +142,22 @@ pub const LONG_SKIP_BLANK: &str =
     "Pass lines that have no byte, or blanks alone. They are numbered and
 not counted. Without this option each is refused.";
 
+pub const PROGRESS: &str = "Tell progress: auto, always or never";
+
+pub const LONG_PROGRESS: &str =
+    "Tell on standard error how far the input is read, ten times a second
+at most: megabytes, the share of FILE's size, and megabytes a second.
+Each line stands over the last one: auto, which is where standard
+error is a terminal, always or never, which is the default. The
+output is the same. With --format gnu or json nothing is told.";
+
+pub const LIVE: &str = "Tell each element as soon as it ends";
+
+pub const LONG_LIVE: &str = "Tell each element as soon as the record separator behind it is read,
+before more input is waited for. What was written stays, also where a
+read fails later. One worker reads, and no element is held. The lines
+are those without this option.";
+
 pub const QUIET: &str = "Write no output: the exit status is the answer";
 
 pub const LONG_QUIET: &str = "Write no output: the exit status is the answer. What goes wrong is
@@ -334,6 +350,7 @@ files the greatest.
 
 Examples:
   jx seq log.json-seq
+  tail -f log.json-seq | jx seq --live
   jx seq --quiet < log.json-seq && echo whole";
 
 pub const AFTER_LINES: &str =

@@ -1,5 +1,6 @@
 // Options that several subcommands take.
 use crate::inputs::Input;
+use crate::request::ShowProgress;
 use clap::ArgMatches;
 use jx_lex::Depth;
 
@@ -13,5 +14,14 @@ pub(crate) fn input_from<'a>(options: &ArgMatches<'a>) -> Input<'a> {
     match options.get_str("file") {
         Some(file) => Input::File(file),
         None => Input::Standard,
+    }
+}
+
+/// Whether it is told by the options how far an input was read.
+pub(crate) fn progress_of(options: &ArgMatches<'_>) -> ShowProgress {
+    match options.get_str("progress") {
+        Some("auto") => ShowProgress::Auto,
+        Some("always") => ShowProgress::Always,
+        _ => ShowProgress::Never,
     }
 }

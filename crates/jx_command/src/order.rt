@@ -1,6 +1,7 @@
-// What the words of the command line ask for: a report, work on the parts of a text, values, elements, or lines.
+// What the words of the command line ask for: a report, work on the parts of a text, values, elements, lines, or a sequence as
+// it comes.
 use crate::inputs::{Input, Inputs};
-use crate::request::Request;
+use crate::request::{Request, ShowProgress};
 use jx_lex::Depth;
 use jx_run::Settings;
 use jx_task::ValuesTask;
@@ -18,6 +19,8 @@ pub enum Order<'a> {
     Each(EachOrder<'a>),
     /// The lines of what is read.
     Lines(LinesOrder<'a>),
+    /// The elements of sequences, each told as it ends.
+    Live(LiveOrder<'a>),
 }
 
 /// Work on the parts of a text.
@@ -65,6 +68,8 @@ pub struct EachOrder<'a> {
     pub input: Input<'a>,
     /// How it is read.
     pub settings: Settings,
+    /// Whether it is told how far it was read.
+    pub progress: ShowProgress,
 }
 
 /// Lines, each of which is to be a text.
@@ -76,6 +81,17 @@ pub struct LinesOrder<'a> {
     pub settings: Settings,
     /// Whether blank lines are passed.
     pub skips_blanks: bool,
+    /// Whether nothing is written.
+    pub is_quiet: bool,
+}
+
+/// Elements of text sequences, which are told while they are read.
+#[derive(Debug, Drop)]
+pub struct LiveOrder<'a> {
+    /// What is read.
+    pub inputs: Inputs<'a>,
+    /// How each element is read.
+    pub settings: Settings,
     /// Whether nothing is written.
     pub is_quiet: bool,
 }

@@ -12,6 +12,8 @@ pub struct Request<'a> {
     pub pointers: Option<&'a str>,
     /// How the answer is told.
     pub told: Told,
+    /// Whether it is told how far an input was read.
+    pub progress: ShowProgress,
 }
 
 /// How the answer is told.
@@ -33,6 +35,15 @@ pub enum Told {
 #[derive(Clone, Copy, Debug, PartialEq, Eq)]
 pub enum Color {
     /// Where the output is a terminal.
+    Auto,
+    Always,
+    Never,
+}
+
+/// Whether it is told on standard error how far an input was read.
+#[derive(Clone, Copy, Debug, PartialEq, Eq)]
+pub enum ShowProgress {
+    /// Where standard error is a terminal.
     Auto,
     Always,
     Never,

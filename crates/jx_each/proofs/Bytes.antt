@@ -61,7 +61,7 @@ higher {low = low} high w le x = record {
 
 -- ---- bytes outside of strings
 
-turn_other : (h : ℕ) → turn_by h sign.Other ≡ Stay
+pub turn_other : (h : ℕ) → turn_by h sign.Other ≡ Stay
 turn_other zero = refl
 turn_other (suc zero) = refl
 turn_other (suc (suc n)) = refl

@@ -1,7 +1,10 @@
 mod Bytes
+mod Walking
+mod Words
 mod Dues
 mod Gives
 mod Pieces
+mod Keeping
 mod Stretching
 mod Taking
 mod Texts

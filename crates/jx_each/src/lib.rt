@@ -1,10 +1,12 @@
 //! The elements of a container in a text, as lines that come while the text is read.
 #![tactic(auto)]
 
+mod blocks;
 mod each;
 mod laws;
 mod making;
 mod number;
+mod runs;
 mod sign;
 mod stand;
 mod stretch;

@@ -61,14 +61,15 @@ fn turned(height: usize, sign: Sign) -> usize
 }
 
 /// How many containers are open behind a byte that stands there.
-pub(crate) fn height_next(stand: Stand, byte: u8) -> usize
-    requires { stand.height + 1 < 2 ^ 64 }
-    ensures value { result ≡ height_next stand.place stand.height byte }
-    ensures most { result ≤ stand.height + 1 }
+#[inline(always)]
+pub(crate) fn height_next(place: Place, height: usize, byte: u8) -> usize
+    requires { height + 1 < 2 ^ 64 }
+    ensures value { result ≡ height_next place height byte }
+    ensures most { result ≤ height + 1 }
 {
-    match stand.place {
-        Place::Between => turned(stand.height, sign_of(byte)),
-        Place::Inside => stand.height,
-        Place::Escaped => stand.height,
+    match place {
+        Place::Between => turned(height, sign_of(byte)),
+        Place::Inside => height,
+        Place::Escaped => height,
     }
 }

@@ -1,136 +1,213 @@
 // Stretches of bytes that are kept one behind another, so that they are copied at once.
-ghost use Rattle.std.specs.Prelude.{◌≡◌, ◌+◌, ◌<◌, ◌≤◌, ◌^◌, [], ◌∷◌, IfSome, length, take};
-ghost use Rattle.jx_compact.specs.declared.place.Place.TheVariants.{Inside};
-ghost use Rattle.jx_each.specs.inside.Stretches.{AreChars, IsStretch};
+ghost use Rattle.std.specs.Prelude.{◌≡◌, ◌+◌, ◌-◌, ◌<◌, ◌≤◌, ◌^◌, IfSome, IsTrue, length, slice_index, slice_range, true};
+ghost use Rattle.std.specs.Simd.Lanes.{chunk};
+ghost use Rattle.jx_compact.specs.Compact.{is_kept};
+ghost use Rattle.jx_lex.specs.inside.Bits.{bit};
+ghost use Rattle.jx_each.specs.Turns.{turn_at};
+ghost use Rattle.jx_each.specs.inside.Blocks.{IsTold, placed};
+ghost use Rattle.jx_each.specs.inside.Stretches.{IsPassed, IsStretch};
 
-use crate::stand::Stand;
-use jx_compact::Place;
+use crate::blocks::{BLOCK, Words, next_set, words_of};
+use crate::runs::{blanks_end, chars_end, deep_end, flat_end};
+use crate::sign::Turn;
+use crate::stand::height_next;
+use jx_compact::{Place, next};
+use std::simd::prelude::*;
 
-/// A stretch from the front of some bytes on.
+/// Where a stretch ends, and where the byte there stands.
 #[derive(Clone, Copy, Debug)]
 pub(crate) struct Stretch {
-    /// How many bytes it has.
-    pub len: usize,
-    /// Where the byte behind it stands.
-    pub stand: Stand,
+    pub end: usize,
+    pub place: Place,
+    pub height: usize,
 }
 
-/// The same stand at another place and height.
+/// The end of a run of bytes, each of which is kept and stands where the first one stands.
 #[inline(always)]
-fn moved(stand: Stand, place: Place, height: usize) -> Stand
-    ensures { result ≡ record { place = place; height = height; stage = stand.stage; takes = stand.takes } }
+fn steady_end(place: Place, height: usize, bytes: &[u8], from: usize) -> usize
+    requires { from ≤ length bytes.now }
+    ensures bounds { (from ≤ result) × (result ≤ length bytes.now) }
+    ensures stretch { IsStretch place height (slice_range bytes.now from result) place height }
 {
-    Stand {
-        place,
-        height,
-        stage: stand.stage,
-        takes: stand.takes,
-    }
-}
-
-/// Where the next byte stands, behind a byte between tokens with which a stretch goes on.
-#[inline(always)]
-fn stay_between(stand: Stand, byte: u8) -> Option<Stand>
-    requires place { stand.place ≡ Place.Between }
-    requires fits { stand.height + 1 < 2 ^ 64 }
-    ensures { IfSome result (λ next. IsStretch stand (byte ∷ []) next) }
-{
-    let height = stand.height;
-    if byte == b'"' {
-        return Some(moved(stand, Place::Inside, height));
-    }
-    if byte == b' ' || byte == b'\t' || byte == b'\n' || byte == b'\r' {
-        return None;
-    }
-    if byte == b',' || byte == b':' {
-        return if height > 1 { Some(stand) } else { None };
-    }
-    if byte == b'[' || byte == b'{' {
-        return if height > 0 {
-            Some(moved(stand, Place::Between, height + 1))
-        } else {
-            None
-        };
-    }
-    if byte == b']' || byte == b'}' {
-        return if height > 1 {
-            Some(moved(stand, Place::Between, height - 1))
-        } else {
-            None
-        };
-    }
-    Some(stand)
-}
-
-/// Where the next byte stands, behind a byte with which a stretch goes on.
-#[inline(always)]
-fn stay(stand: Stand, byte: u8) -> Option<Stand>
-    requires { stand.height + 1 < 2 ^ 64 }
-    ensures { IfSome result (λ next. IsStretch stand (byte ∷ []) next) }
-{
-    match stand.place {
-        Place::Between => stay_between(stand, byte),
-        Place::Inside => {
-            if byte == b'"' {
-                Some(moved(stand, Place::Between, stand.height))
-            } else if byte == b'\\' {
-                Some(moved(stand, Place::Escaped, stand.height))
+    match place {
+        Place::Between => {
+            if height > 1 {
+                deep_end(bytes, from)
             } else {
-                Some(stand)
+                flat_end(bytes, from)
             }
         }
-        Place::Escaped => Some(moved(stand, Place::Inside, stand.height)),
+        Place::Inside => chars_end(bytes, from),
+        Place::Escaped => from,
     }
 }
 
-/// How many bytes from the front on end no string and begin no escape.
+/// Whether a stretch goes on with a byte that stands there.
 #[inline(always)]
-fn chars_len(bytes: &[u8]) -> usize
-    ensures within { result ≤ length bytes.now }
-    ensures chars { AreChars (take result bytes.now) }
+fn goes_on(place: Place, height: usize, byte: u8) -> bool
+    ensures { IsTrue result → (turn_at place height byte ≡ Turn.Stay) × (is_kept place byte ≡ true) }
 {
-    for (index, byte) in bytes.iter().enumerate() {
-        if *byte == b'"' {
-            return index;
-        }
-        if *byte == b'\\' {
-            return index;
+    match place {
+        Place::Inside | Place::Escaped => true,
+        Place::Between => {
+            if byte == b'"' {
+                return true;
+            }
+            if byte == b' ' || byte == b'\t' || byte == b'\n' || byte == b'\r' {
+                return false;
+            }
+            if height > 1 {
+                return true;
+            }
+            if byte == b',' || byte == b':' || byte == b']' || byte == b'}' {
+                return false;
+            }
+            height == 1 || (byte != b'[' && byte != b'{')
         }
     }
-    bytes.len()
 }
 
-/// How many bytes of a string from the front on a stretch has.
+/// A byte with which a stretch goes on, and the run behind it.
 #[inline(always)]
-fn chars_at(stand: Stand, bytes: &[u8]) -> usize
-    ensures within { result ≤ length bytes.now }
-    ensures chars { IsStretch stand (take result bytes.now) stand }
+fn near_stretch(place: Place, height: usize, bytes: &[u8], from: usize) -> Stretch
+    requires within { from < length bytes.now }
+    requires fits { height + (length bytes.now - from) < 2 ^ 64 }
+    requires goes { (turn_at place height (slice_index bytes.now from) ≡ Turn.Stay) × (is_kept place (slice_index bytes.now from) ≡ true) }
+    ensures bounds { (from ≤ result.end) × (result.end ≤ length bytes.now) }
+    ensures high { result.height ≤ height + (result.end - from) }
+    ensures stretch { IsStretch place height (slice_range bytes.now from result.end) result.place result.height }
 {
-    match stand.place {
-        Place::Inside => chars_len(bytes),
-        Place::Between => 0,
-        Place::Escaped => 0,
+    let byte = bytes[from];
+    let height = height_next(place, height, byte);
+    let place = next(place, byte);
+    let end = steady_end(place, height, bytes, from + 1);
+    Stretch { end, place, height }
+}
+
+/// Whether a byte stands in a string, unless a backslash escapes it.
+#[inline(always)]
+fn inside_of(place: Place) -> Option<bool>
+    ensures { IfSome result (λ inside. place ≡ placed inside) }
+{
+    match place {
+        Place::Between => Some(false),
+        Place::Inside => Some(true),
+        Place::Escaped => None,
     }
 }
 
-/// A stretch from the front on, as long as one is found; it may have no byte.
-pub(crate) fn stretch_from(stand: Stand, bytes: &[u8]) -> Stretch
-    requires { stand.height + length bytes.now < 2 ^ 64 }
-    ensures within { result.len ≤ length bytes.now }
-    ensures stretch { IsStretch stand (take result.len bytes.now) result.stand }
+/// The place in a string, or between tokens.
+#[inline(always)]
+fn place_of(inside: bool) -> Place
+    ensures { result ≡ placed inside }
 {
-    let mut stand = stand;
-    let mut len = 0;
-    while len < bytes.len() {
-        len += chars_at(stand, &bytes[len..]);
-        if len == bytes.len() {
+    if inside {
+        Place::Inside
+    } else {
+        Place::Between
+    }
+}
+
+/// Whether the byte behind a block stands in a string.
+#[inline(always)]
+fn ends_inside(strings: u64) -> bool
+    ensures { result ≡ bit strings 63 }
+{
+    strings >> 63 & 1 == 1
+}
+
+/// A stretch from a block's first byte on, in two containers or more, and no longer than the block.
+fn far_stretch(words: Words, inside: bool, height: usize, bytes: &[u8], from: usize) -> Stretch
+    requires within { from + 64 ≤ length bytes.now }
+    requires told { IsTold (chunk from 64 bytes.now) inside words.strings words.stops }
+    requires high { 1 < height }
+    requires fits { height + (length bytes.now - from) < 2 ^ 64 }
+    ensures bounds { (from ≤ result.end) × (result.end ≤ length bytes.now) }
+    ensures high { result.height ≤ height + (result.end - from) }
+    ensures stretch { IsStretch (placed inside) height (slice_range bytes.now from result.end) result.place result.height }
+{
+    let mut height = height;
+    let mut at = 0;
+    while at < BLOCK && height > 1 {
+        let stop = next_set(words.stops, at);
+        if stop == BLOCK {
+            let place = place_of(ends_inside(words.strings));
+            return Stretch {
+                end: from + BLOCK,
+                place,
+                height,
+            };
+        }
+        let byte = bytes[from + stop];
+        if !goes_on(Place::Between, height, byte) {
+            return Stretch {
+                end: from + stop,
+                place: Place::Between,
+                height,
+            };
+        }
+        height = height_next(Place::Between, height, byte);
+        at = stop + 1;
+    }
+    Stretch {
+        end: from + at,
+        place: Place::Between,
+        height,
+    }
+}
+
+/// A stretch from a byte on with which it goes on.
+#[inline(always)]
+fn next_stretch(place: Place, height: usize, bytes: &[u8], from: usize) -> Stretch
+    requires within { from < length bytes.now }
+    requires fits { height + (length bytes.now - from) < 2 ^ 64 }
+    requires goes { (turn_at place height (slice_index bytes.now from) ≡ Turn.Stay) × (is_kept place (slice_index bytes.now from) ≡ true) }
+    ensures bounds { (from ≤ result.end) × (result.end ≤ length bytes.now) }
+    ensures high { result.height ≤ height + (result.end - from) }
+    ensures stretch { IsStretch place height (slice_range bytes.now from result.end) result.place result.height }
+{
+    if height > 1 && bytes.len() - from >= BLOCK {
+        if let Some(inside) = inside_of(place) {
+            if let Some(words) = words_of(u8x64::from_slice(&bytes[from..]), inside) {
+                return far_stretch(words, inside, height, bytes, from);
+            }
+        }
+    }
+    near_stretch(place, height, bytes, from)
+}
+
+/// A stretch from a byte on that stands there, as long as one is found; it may have no byte.
+pub(crate) fn stretch_from(place: Place, height: usize, bytes: &[u8], from: usize) -> Stretch
+    requires within { from ≤ length bytes.now }
+    requires fits { height + (length bytes.now - from) < 2 ^ 64 }
+    ensures bounds { (from ≤ result.end) × (result.end ≤ length bytes.now) }
+    ensures high { result.height ≤ height + (result.end - from) }
+    ensures stretch { IsStretch place height (slice_range bytes.now from result.end) result.place result.height }
+{
+    let mut place = place;
+    let mut height = height;
+    let mut end = from;
+    while end < bytes.len() && goes_on(place, height, bytes[end]) {
+        let next = next_stretch(place, height, bytes, end);
+        if next.end == end {
             break;
         }
-        let Some(next) = stay(stand, bytes[len]) else {
-            break;
-        };
-        stand = next;
-        len += 1;
+        place = next.place;
+        height = next.height;
+        end = next.end;
     }
-    Stretch { len, stand }
+    Stretch { end, place, height }
+}
+
+/// The offset behind the blanks from a byte on that stands there, where it stands between tokens. Mostly there is none.
+#[inline(always)]
+pub(crate) fn blanks_from(place: Place, bytes: &[u8], from: usize) -> usize
+    requires { from ≤ length bytes.now }
+    ensures bounds { (from ≤ result) × (result ≤ length bytes.now) }
+    ensures passed { IsPassed place (slice_range bytes.now from result) }
+{
+    match place {
+        Place::Between => blanks_end(bytes, from),
+        Place::Inside | Place::Escaped => from,
+    }
 }

@@ -219,7 +219,7 @@ pub(crate) fn stand_by(path: &[Token], turn: Turn, stand: Stand, part: &[u8], by
     ensures count { count_in result.stage ≤ count_in stand.stage + 1 }
 {
     let stage = stage_next(path, stand.stage, part, turn);
-    let height = height_next(stand, byte);
+    let height = height_next(stand.place, stand.height, byte);
     Stand {
         place: next(stand.place, byte),
         height: height_by(turn, stage, height),

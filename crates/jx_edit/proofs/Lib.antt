@@ -4,5 +4,6 @@ pub mod Scans
 pub mod Parted
 pub mod Positions
 pub mod Seeking
+pub mod Stood
 pub mod Groups
 pub mod Texts

@@ -1,9 +1,11 @@
 // A text in chunks.
-ghost use Rattle.std.specs.Prelude.{◌≡◌, ◌≤◌, ◌<◌, ◌+◌, ◌*◌, ◌^◌, ◌++◌, ℕ, [], Err, IfErr, IfOk, OnErr, OnOk, length, slice_range, take};
+ghost use Rattle.std.specs.Prelude.{◌≡◌, ◌≤◌, ◌<◌, ◌+◌, ◌*◌, ◌^◌, ◌++◌, ℕ, [], Err, IfErr, IfOk, IfSome, OnErr, OnOk, length, slice_range, take};
 ghost use Rattle.std.specs.List.{concat};
 ghost use Rattle.jx_edit.specs.Document.{edited};
 ghost use Rattle.jx_edit.specs.declared.edit_fault.EditFault.TheVariants.{Memory, OutOfBounds};
 ghost use Rattle.jx_edit.specs.Positions.{position_behind, reach};
+ghost use Rattle.jx_edit.specs.inside.Places.{came_to};
+ghost use Rattle.jx_run.specs.Reading.{read_text};
 ghost use Rattle.jx_run.specs.Verdict.{Judged};
 
 use crate::chunk::{Chunk, chunks_of};
@@ -12,9 +14,11 @@ use crate::edit_fault::EditFault;
 use crate::encoding::Encoding;
 use crate::making::chunks_by;
 use crate::patch::{patch_of, piece_for, put};
+use crate::place::Place;
 use crate::position::{Position, Reached};
 use crate::seam::{between, rest_at};
 use crate::seek::{position_in, reach_in};
+use crate::standing::stand_behind;
 use crate::sums::{Sum, sums_of};
 use crate::walk::walk;
 use jx_lex::Depth;
@@ -154,6 +158,15 @@ impl Chunked {
             &mut self.chunks,
             &mut self.sums,
         )
+    }
+
+    /// Where a reading stands behind so many bytes, where these begin a text. It is known behind a verdict, and may be none
+    /// before.
+    pub(crate) fn stand(&self, at: usize) -> Result<Option<Place>, AllocError>
+        requires within { at ≤ length self.now.bytes }
+        ensures { IfOk result (λ found. IfSome found (λ p. (start : ℕ) → read_text self.now.depth start (take at self.now.bytes) ≡ came_to p)) }
+    {
+        stand_behind(self.alloc, self.depth, &self.chunks, &self.sums, at)
     }
 
     /// Puts other bytes in the place of those from `start` up to `end`. Where that is refused nothing changes.

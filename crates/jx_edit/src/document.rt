@@ -1,10 +1,11 @@
 // A text that is edited.
-ghost use Rattle.std.specs.Prelude.{◌≡◌, ◌≤◌, ◌<◌, ◌+◌, ◌-◌, ◌^◌, ◌↔◌, IsTrue, [], Err, IfErr, IfOk, OnErr, OnOk, length, slice_index, slice_range, take};
+ghost use Rattle.std.specs.Prelude.{◌≡◌, ◌≤◌, ◌<◌, ◌+◌, ◌-◌, ◌^◌, ◌↔◌, IsTrue, [], Err, IfErr, IfOk, IfSome, OnErr, OnOk, length, slice_index, slice_range, take};
 ghost use Rattle.std.specs.List.{concat};
 ghost use Rattle.jx_edit.specs.Document.{edited};
 ghost use Rattle.jx_edit.specs.declared.edit_fault.EditFault.TheVariants as edit;
 ghost use Rattle.jx_edit.specs.declared.open_fault.OpenFault.TheVariants as opening;
 ghost use Rattle.jx_edit.specs.inside.Fronts.{skipped};
+ghost use Rattle.jx_edit.specs.Standing.{StandsBefore};
 ghost use Rattle.jx_edit.specs.Positions.{first, is_in_crlf, offset_at, position_at, reach};
 ghost use Rattle.jx_run.specs.declared.texts.settings.NameRule.TheVariants.{Any, Unique};
 ghost use Rattle.jx_run.specs.Settings.{JudgedBy, byte_order_mark};
@@ -14,7 +15,9 @@ use crate::chunks::Chunks;
 use crate::edit_fault::EditFault;
 use crate::encoding::Encoding;
 use crate::open_fault::OpenFault;
+use crate::place::Place;
 use crate::position::{Position, Reached, behind, reach};
+use crate::standing::Stand;
 use jx_run::{Front, NameRule, Settings, Verdict, front, fronts_decide_where_texts_begin};
 use std::alloc::{AllocError, Global};
 use std::marker::Model;
@@ -223,6 +226,34 @@ impl Document {
                 Ok(verdict)
             }
             Front::Refused(refusal) => Ok(Verdict::Refused(refusal)),
+        }
+    }
+
+    /// Where a reading of its text by its settings stands before an offset; none where the bytes before it begin no text. It is
+    /// known behind a verdict, which reads the text: before it may be none. It reads the bytes of one chunk.
+    pub fn stand(&self, at: usize) -> Result<Option<Stand>, AllocError>
+        ensures { IfOk result (λ found. IfSome found (StandsBefore self.now.settings self.now.bytes at)) }
+    {
+        let Front::Skip(skip) = self.front else {
+            return Ok(None);
+        };
+        if at < skip || self.len() < at {
+            return Ok(None);
+        }
+        match self.rest.stand(at - skip)? {
+            None => Ok(None),
+            Some(place) => {
+                let Place {
+                    state,
+                    expect,
+                    holders,
+                } = place;
+                Ok(Some(Stand {
+                    state,
+                    expect,
+                    holders,
+                }))
+            }
         }
     }
 

@@ -17,6 +17,7 @@ mod place;
 mod position;
 mod seam;
 mod seek;
+mod standing;
 mod sums;
 mod walk;
 
@@ -27,3 +28,4 @@ pub use encoding::Encoding;
 pub use laws::positions_lead_back;
 pub use open_fault::OpenFault;
 pub use position::Position;
+pub use standing::Stand;

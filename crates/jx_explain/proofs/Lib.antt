@@ -1,3 +1,1 @@
-pub mod Behind
-pub mod Exact
-pub mod Table
+pub mod FirstPass

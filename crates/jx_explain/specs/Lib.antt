@@ -1,5 +1,1 @@
-pub mod Choices
 pub mod Explained
-pub mod Places
-pub mod Standing
-pub mod inside

@@ -1,5 +1,5 @@
 // The text of a line around a place, with a caret below the place.
-use crate::shown::{columns, first_columns, last_columns, push_shown};
+use jx_sentence::{columns, first_columns, last_columns, push_shown};
 use memchr::{memchr, memrchr};
 use std::alloc::AllocError;
 

@@ -1,17 +1,11 @@
 // What people are told of a text.
-use crate::earlier_name::earlier_name;
 use crate::excerpt::push_excerpt;
 use crate::notes::push_notes;
 use crate::object::{push_accepted_object, push_front, push_place, push_words, word_of};
-use crate::place::place_of;
-use crate::sentence::{push_repeated, push_stopped, push_truncated};
-use crate::shown::push_shown;
-use crate::standing::{Standing, standing_behind};
 use crate::trail::pointer_along;
 use crate::way::way_to;
-use jx_index::TextAnswer;
-use jx_lex::Span;
-use jx_run::{Front, NameRule, Refusal, Settings, Verdict, front};
+use jx_run::{Refusal, Settings, Verdict};
+use jx_sentence::{offset_of, place_of, push_sentence, push_shown};
 use std::alloc::{AllocError, Global};
 use std::fmt::Write;
 
@@ -59,90 +53,6 @@ pub enum Form {
     Mark,
     /// As a JSON object in one line.
     Object,
-}
-
-/// The offset of the place that a refusal is about.
-pub(crate) fn offset_of(text: &[u8], refusal: Refusal) -> usize {
-    match refusal {
-        Refusal::Stopped { at } => at,
-        Refusal::TooDeep { at } => at,
-        Refusal::RepeatedName { at } => at,
-        Refusal::Truncated => text.len(),
-    }
-}
-
-/// Where a reading of a text stands before an offset, by settings; none where it stands in a byte order mark.
-pub(crate) fn standing_before(
-    alloc: Global,
-    text: &[u8],
-    at: usize,
-    settings: &Settings,
-) -> Result<Option<Standing>, AllocError> {
-    match front(text, settings.mark) {
-        Front::Skip(from) if from <= at && at <= text.len() => {
-            standing_behind(alloc, text, from, at, settings.depth)
-        }
-        _ => Ok(None),
-    }
-}
-
-/// Where the name stands that is the same as the one that begins at an offset, in a text whose names may be repeated.
-fn name_before(
-    alloc: Global,
-    text: &[u8],
-    at: usize,
-    settings: &Settings,
-) -> Result<Option<Span>, AllocError> {
-    let any = Settings {
-        depth: settings.depth,
-        mark: settings.mark,
-        names: NameRule::Any,
-    };
-    match TextAnswer::read(alloc, text, &any)? {
-        TextAnswer::Accepted(index) => Ok(earlier_name(&index, at)),
-        TextAnswer::Refused(_) => Ok(None),
-    }
-}
-
-/// Appends the sentence for a name that was used before.
-fn push_name(
-    alloc: Global,
-    out: &mut String,
-    text: &[u8],
-    at: usize,
-    settings: &Settings,
-) -> Result<(), AllocError> {
-    let earlier = name_before(alloc, text, at, settings)?;
-    let name = match earlier {
-        Some(span) => text.get(span.start..span.end).unwrap_or(&[]),
-        None => &[],
-    };
-    push_repeated(out, text, name, earlier.map(|span| span.start))
-}
-
-/// Appends what is wrong, in a sentence.
-fn push_sentence(
-    alloc: Global,
-    out: &mut String,
-    text: &[u8],
-    refusal: Refusal,
-    settings: &Settings,
-) -> Result<(), AllocError> {
-    match refusal {
-        Refusal::Stopped { at } => {
-            let standing = standing_before(alloc, text, at, settings)?;
-            push_stopped(out, text, at, standing.as_ref())
-        }
-        Refusal::Truncated => {
-            let standing = standing_before(alloc, text, text.len(), settings)?;
-            push_truncated(out, text, standing.as_ref())
-        }
-        Refusal::TooDeep { .. } => {
-            let most = settings.depth.containers();
-            write!(out, "more than {most} containers open")
-        }
-        Refusal::RepeatedName { at } => push_name(alloc, out, text, at, settings),
-    }
 }
 
 /// A line that tells of a text of this name that is refused by settings, as compilers tell of faults: the place, what is wrong there

@@ -1,7 +1,7 @@
 // What a fault probably is.
-use crate::standing::Standing;
 use jx_lex::LexState;
 use jx_reduce::{Expect, Holder};
+use jx_sentence::Standing;
 
 /// A word that stands for a value elsewhere, and what is told of it.
 const WORDS: [(&[u8], &str); 14] = [

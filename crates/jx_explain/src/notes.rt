@@ -1,10 +1,9 @@
 // What is told of a fault behind its line.
-use crate::explain::standing_before;
 use crate::hint::hint_at;
-use crate::shown::push_shown;
 use crate::trail::{Step, pointer_along};
 use crate::way::way_to;
 use jx_run::{Refusal, Settings};
+use jx_sentence::{push_shown, standing_before};
 use std::alloc::{AllocError, Global};
 
 /// How many open brackets are told at most, of those that were opened last.

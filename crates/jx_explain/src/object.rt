@@ -1,7 +1,7 @@
 // What is told of a text as a JSON object in one line.
-use crate::place::Place;
 use bstr::ByteSlice;
 use jx_run::Refusal;
+use jx_sentence::Place;
 use std::alloc::AllocError;
 use std::fmt::Write;
 

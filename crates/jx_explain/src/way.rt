@@ -1,10 +1,9 @@
 // The way to the place that a refusal is about.
-use crate::explain::{offset_of, standing_before};
-use crate::standing::Standing;
 use crate::trail::{Step, steps_behind};
 use jx_lex::LexState;
 use jx_reduce::Expect;
 use jx_run::{Front, Refusal, Settings, front};
+use jx_sentence::{Standing, offset_of, standing_before};
 use std::alloc::{AllocError, Global};
 
 /// The open containers around a place, outermost first, and whether the place is in one of their values.

@@ -14,7 +14,7 @@ pub record HasFed (settings : Settings) (pointers : List (List ℕ)) (bytes : Li
   pub names : settings.names ≡ Any
   pub settings_are : f.reader.settings ≡ settings
   pub start : f.reader.start ≡ 0
-  pub pointers_are : f.pointers.now ≡ pointers
+  pub pointers_are : f.pointers.items ≡ pointers
   pub read : HasRead bytes f.reader
   pub trie : IsTrie f.edges.items
   pub ways : All (λ (pointer : List ℕ). HasWay f.edges.items pointer) pointers

@@ -23,14 +23,14 @@ use jx_run::{
 use std::alloc::{AllocError, Global};
 use std::marker::Brand;
 
-/// A look-up of several pointers in a JSON text (RFC 8259) that is fed by slices of any length. It keeps the pointers'
+/// A look-up of several pointers in a JSON text (RFC 8259) that is fed by slices of any length. It keeps the pointers and their
 /// tokens, what they were met at and the open containers on their way, and of the text only the bytes of a name that has
 /// begun and not ended.
 #[derive(Drop)]
-pub struct Finder<'a, 'p> {
+pub struct Finder<'p> {
     alloc: Global,
     reader: Reader,
-    pointers: &'a [Pointer<'p>],
+    pointers: Vec<Pointer<'p>>,
     edges: Vec<Edge<'p>>,
     starts: Vec<usize>,
     /// None where memory was refused.
@@ -66,19 +66,19 @@ fn feed_held<B: Before>(
     told.into_held()
 }
 
-impl<'a, 'p> Finder<'a, 'p> {
+impl<'p> Finder<'p> {
     /// A finder for pointers that was fed no byte. The settings may ignore a byte order mark in front of the text (section
     /// 8.1); objects may have any names. `Err` where memory is refused.
     pub fn new(
         alloc: Global,
         settings: &Settings,
-        pointers: &'a [Pointer<'p>],
-    ) -> Result<Finder<'a, 'p>, AllocError>
+        pointers: Vec<Pointer<'p>>,
+    ) -> Result<Finder<'p>, AllocError>
         requires any { settings.now.names ≡ Any }
-        ensures fed { IfOk result (λ finder. HasFed settings.now pointers.now [] finder) }
+        ensures fed { IfOk result (λ finder. HasFed settings.now pointers.entry.items [] finder) }
     {
         slices_are_told_in_turn();
-        let edges = trie_of(alloc, pointers)?;
+        let edges = trie_of(alloc, &pointers)?;
         let starts = starts_of(alloc, &edges)?;
         let held = Held::new(alloc, &edges)?;
         Ok(Finder {
@@ -144,7 +144,7 @@ impl<'a, 'p> Finder<'a, 'p> {
             Verdict::Accepted => {
                 let last = reader.end();
                 let met = held.into_met(&edges, &starts, last)?;
-                let found = answers_of(alloc, &edges, &starts, &met, pointers)?;
+                let found = answers_of(alloc, &edges, &starts, &met, &pointers)?;
                 Ok(Ok(found))
             }
         }

@@ -155,7 +155,7 @@ module _ (separates : ℕ → Bool) where
 
 -- ---- text sequences
 
-before-alike : (xs : List ℕ) → before_first is_separator xs ≡ before_separator xs
+pub before-alike : (xs : List ℕ) → before_first is_separator xs ≡ before_separator xs
 before-alike [] = refl
 before-alike (b ∷ xs) = ap (λ (t : List ℕ). cond (is_separator b) [] (b ∷ t)) (before-alike xs)
 

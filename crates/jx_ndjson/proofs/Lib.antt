@@ -3,3 +3,5 @@ pub mod Judging
 pub mod Fronts
 pub mod Steps
 pub mod LineLaws
+pub mod Tallies
+pub mod Sequences

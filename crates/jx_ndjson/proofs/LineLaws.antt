@@ -118,12 +118,12 @@ told_are_ended settings input told r h =
 
 -- ---- they stay
 
-record IsSplit (ps : List Part) : Type 0 where
-  ended : List Part
-  last : Part
-  split : ps ≡ ended ++ last ∷ []
+pub record IsSplit (ps : List Part) : Type 0 where
+  pub ended : List Part
+  pub last : Part
+  pub split : ps ≡ ended ++ last ∷ []
 
-split_last : (p : Part) (ps : List Part) → IsSplit (p ∷ ps)
+pub split_last : (p : Part) (ps : List Part) → IsSplit (p ∷ ps)
 split_last p [] = record { ended = []; last = p; split = refl }
 split_last p (q ∷ ps) = let h = split_last q ps in record { ended = p ∷ h.ended; last = h.last; split = ap (λ (rs : List Part). p ∷ rs) h.split }
 

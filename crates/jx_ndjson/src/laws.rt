@@ -1,11 +1,16 @@
-// What holds of lines, each on a function that does nothing: for every list of bytes and all settings.
+// What holds of lines and of elements, each on a function that does nothing: for every list of bytes and all settings.
 ghost use Rattle.std.specs.Prelude.{◌≡◌, ◌++◌, suc, ℕ, List, Some, filter, length, slice_get};
 ghost use Rattle.std.specs.List.{AllZip};
 ghost use Rattle.jx_run.specs.declared.texts.settings.FrontMark.{FrontMark};
 ghost use Rattle.jx_run.specs.declared.texts.settings.Settings.{Settings};
-ghost use Rattle.jx_run.specs.Elements.{is_separator, parts};
+ghost use Rattle.jx_run.specs.declared.sequences.element_verdict.JudgedElement.{JudgedElement};
+ghost use Rattle.jx_run.specs.Elements.{Part, is_separator, parts};
+ghost use Rattle.jx_run.specs.ElementVerdict.{IsJudgedElement};
+ghost use Rattle.jx_run.specs.MarkAlone.{elements_by};
 ghost use Rattle.jx_ndjson.specs.declared.judged_line.JudgedLine.{JudgedLine};
 ghost use Rattle.jx_ndjson.specs.Answers.{AreAnswers, IsAnswer};
+ghost use Rattle.jx_ndjson.specs.ElementReading.{ElementReaderValue, HasToldElements};
+ghost use Rattle.jx_ndjson.specs.Elements.{ended_elements};
 ghost use Rattle.jx_ndjson.specs.Lines.{Line, ended_lines, is_line_feed, lines};
 ghost use Rattle.jx_ndjson.specs.Parts.{parts_by};
 ghost use Rattle.jx_ndjson.specs.Reading.{HasTold, LineReaderValue};
@@ -39,4 +44,17 @@ pub fn lines_are_counted()
 /// The elements of a text sequence are cut as lines are, by another byte (RFC 7464, section 2.1).
 pub fn sequences_are_cut_alike()
     ensures alike { (at : ℕ) (bytes : List ℕ) → parts_by is_separator at bytes ≡ parts at bytes }
+{}
+
+/// What a reader of elements has answered are the verdicts on the elements that a record separator ends, of the bytes that it
+/// has read.
+pub fn told_elements_are_ended()
+    ensures told { (settings : Settings) (input : List ℕ) (told : List JudgedElement) (r : ElementReaderValue) → HasToldElements settings input told r
+        → AllZip (IsJudgedElement settings.depth) (ended_elements settings.mark input) told }
+{}
+
+/// Elements that a record separator ends stay the same, whatever follows. So they may be answered before more is read.
+pub fn ended_elements_stay()
+    ensures stay { (mark : FrontMark) (input more : List ℕ) → (rest : List Part) × (ended_elements mark (input ++ more) ≡ ended_elements mark input ++ rest) }
+    ensures all { (mark : FrontMark) (input : List ℕ) → (rest : List Part) × (elements_by mark input ≡ ended_elements mark input ++ rest) }
 {}

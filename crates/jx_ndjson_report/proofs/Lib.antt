@@ -1,3 +1,4 @@
+pub mod ElementTakes
 pub mod Told
 pub mod Takes
-pub mod LineWrites
+pub mod Writes

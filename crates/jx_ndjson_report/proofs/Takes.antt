@@ -12,8 +12,8 @@ use Rattle.jx_report.specs.declared.exit.Exit.{Exit}
 use Rattle.jx_report.specs.Reports.{shown_output}
 use Rattle.jx_ndjson_report.specs.declared.task.LinesTask.{LinesTask}
 use Rattle.jx_ndjson_report.specs.Output.{IsDue, LinesOutput, bad_lines, bad_of, good_of, is_bad, is_good}
-use Rattle.jx_ndjson_report.specs.inside.Steps.{bad_line, exit_by, total_words}
-use Rattle.jx_ndjson_report.specs.inside.Teller.{HasTaken, TellerValue}
+use Rattle.jx_ndjson_report.specs.inside.LineSteps.{bad_line, exit_by, total_words}
+use Rattle.jx_ndjson_report.specs.inside.LineTeller.{HasTaken, LineTellerValue}
 use Rattle.jx_ndjson_report.proofs.Told.{one_more_bad, one_more_good, one_more_line, same_exit}
 
 -- ---- results
@@ -41,7 +41,7 @@ one_step bytes slice at n within low =
     ∙ ap (λ (xs : List ℕ). bytes ++ xs) (sym (take_on slice at n))
 
 -- ---- bytes that end no line
-pub takes_none : (task : LinesTask) (bytes more given : List ℕ) (old new : TellerValue) → HasTaken task bytes given old → new.good ≡ old.good → new.bad ≡ old.bad → new.ready ≡ old.ready
+pub takes_none : (task : LinesTask) (bytes more given : List ℕ) (old new : LineTellerValue) → HasTaken task bytes given old → new.good ≡ old.good → new.bad ≡ old.bad → new.ready ≡ old.ready
     → ((settings : Settings) (input : List ℕ) (told : List JudgedLine) → HasTold settings input told old.lines → HasTold settings (input ++ more) (told ++ []) new.lines)
     → HasTaken task (bytes ++ more) given new
 takes_none task bytes more given old new h good bad ready reads =
@@ -54,7 +54,7 @@ takes_none task bytes more given old new h good bad ready reads =
     }
 
 -- bytes that end one
-pub takes_line : (task : LinesTask) (bytes more given : List ℕ) (j : JudgedLine) (old new : TellerValue) → HasTaken task bytes given old → new.good ≡ old.good + cond (is_good j.verdict) 1 0
+pub takes_line : (task : LinesTask) (bytes more given : List ℕ) (j : JudgedLine) (old new : LineTellerValue) → HasTaken task bytes given old → new.good ≡ old.good + cond (is_good j.verdict) 1 0
     → new.bad ≡ old.bad + cond (is_bad task.blanks j.verdict) 1 0 → new.ready ≡ old.ready ++ bad_line task j
     → ((settings : Settings) (input : List ℕ) (told : List JudgedLine) → HasTold settings input told old.lines → HasTold settings (input ++ more) (told ++ j ∷ []) new.lines)
     → HasTaken task (bytes ++ more) given new
@@ -72,7 +72,7 @@ takes_line task bytes more given j old new h good bad ready reads =
     }
 
 -- what waits was written
-pub gives : (task : LinesTask) (bytes given : List ℕ) (old new : TellerValue) → HasTaken task bytes given old → new.lines ≡ old.lines → new.good ≡ old.good → new.bad ≡ old.bad → new.ready ≡ []
+pub gives : (task : LinesTask) (bytes given : List ℕ) (old new : LineTellerValue) → HasTaken task bytes given old → new.lines ≡ old.lines → new.good ≡ old.good → new.bad ≡ old.bad → new.ready ≡ []
     → HasTaken task bytes (given ++ old.ready) new
 gives task bytes given old new h lines good bad none =
     record {
@@ -84,7 +84,7 @@ gives task bytes given old new h lines good bad none =
     }
 
 -- before the first byte
-pub taken_none : (task : LinesTask) (t : TellerValue) → HasTold task.settings [] [] t.lines → t.good ≡ 0 → t.bad ≡ 0 → t.ready ≡ [] → HasTaken task [] [] t
+pub taken_none : (task : LinesTask) (t : LineTellerValue) → HasTold task.settings [] [] t.lines → t.good ≡ 0 → t.bad ≡ 0 → t.ready ≡ [] → HasTaken task [] [] t
 taken_none task t told good bad none = record { answers = []; told = told; good_are = good; bad_are = bad; written = none ∙ sym (nothing task.is_quiet) }
   where
     nothing : (q : Bool) → shown_output q [] ≡ []
@@ -94,7 +94,7 @@ taken_none task t told good bad none = record { answers = []; told = told; good_
 -- ---- what is due
 
 pub due : ((settings : Settings) (input : List ℕ) (told : List JudgedLine) (r : LineReaderValue) → HasTold settings input told r → AllZip (IsAnswer settings.depth) (ended_lines settings.mark input) told)
-    → (task : LinesTask) (bytes given : List ℕ) (t : TellerValue) → HasTaken task bytes given t → IsDue task bytes (given ++ t.ready)
+    → (task : LinesTask) (bytes given : List ℕ) (t : LineTellerValue) → HasTaken task bytes given t → IsDue task bytes (given ++ t.ready)
 due law task bytes given t h = record { answers = h.answers; are_answers = law task.settings bytes h.answers t.lines h.told; written = h.written }
 
 -- ---- the end
@@ -115,7 +115,7 @@ ends task bytes given ready answers good bad exit are g b written e =
     }
 
 -- without a last line
-pub ends_so : (task : LinesTask) (bytes given ready : List ℕ) (old : TellerValue) (exit : Exit) → HasTaken task bytes given old
+pub ends_so : (task : LinesTask) (bytes given ready : List ℕ) (old : LineTellerValue) (exit : Exit) → HasTaken task bytes given old
     → ((settings : Settings) (input : List ℕ) (told : List JudgedLine) → HasTold settings input told old.lines → AreAnswers settings input (told ++ []))
     → ready ≡ old.ready ++ shown_output task.is_quiet (total_words task.front.items old.good old.bad) → exit ≡ exit_by old.bad → LinesOutput task bytes (given ++ ready) exit
 ends_so task bytes given ready old exit h last is e =
@@ -125,7 +125,7 @@ ends_so task bytes given ready old exit h last is e =
     h.good_are h.bad_are h.written e)
 
 -- with one
-pub ends_with : (task : LinesTask) (bytes given mid ready : List ℕ) (j : JudgedLine) (old : TellerValue) (good bad : ℕ) (exit : Exit) → HasTaken task bytes given old
+pub ends_with : (task : LinesTask) (bytes given mid ready : List ℕ) (j : JudgedLine) (old : LineTellerValue) (good bad : ℕ) (exit : Exit) → HasTaken task bytes given old
     → ((settings : Settings) (input : List ℕ) (told : List JudgedLine) → HasTold settings input told old.lines → AreAnswers settings input (told ++ j ∷ []))
     → good ≡ old.good + cond (is_good j.verdict) 1 0 → bad ≡ old.bad + cond (is_bad task.blanks j.verdict) 1 0
     → mid ≡ old.ready ++ bad_line task j → ready ≡ mid ++ shown_output task.is_quiet (total_words task.front.items good bad) → exit ≡ exit_by bad → LinesOutput task bytes (given ++ ready) exit

@@ -7,7 +7,7 @@ use Rattle.jx_ndjson.specs.declared.judged_line.JudgedLine.{JudgedLine}
 use Rattle.jx_report.specs.Reports.{shown_output}
 use Rattle.jx_ndjson_report.specs.declared.task.LinesTask.{LinesTask}
 use Rattle.jx_ndjson_report.specs.Output.{bad_lines, bad_of, exit_of, good_of, is_bad, is_good, told_line}
-use Rattle.jx_ndjson_report.specs.inside.Steps.{bad_line, exit_by}
+use Rattle.jx_ndjson_report.specs.inside.LineSteps.{bad_line, exit_by}
 
 -- ---- lines
 

@@ -1,3 +1,4 @@
+pub mod Elements
 pub mod Output
 pub mod Reports
 pub mod inside

@@ -1,40 +1,44 @@
--- What a report on lines does to the bytes of its ends.
+-- What a report on lines or elements does to the bytes of its ends, by what is due of an input, and by the whole output for it.
 use Rattle.std.specs.Prelude.{◌⊎◌, ℕ, List, ◌++◌, Option}
 use Rattle.std.specs.Io.KnownBytes.{Appends, Consumes}
 use Rattle.jx_report.specs.declared.exit.Exit.{Exit}
 use Rattle.jx_report.specs.Ends.{ReadsToEnd, AppendsBeginning}
-use Rattle.jx_ndjson_report.specs.declared.task.LinesTask.{LinesTask}
-use Rattle.jx_ndjson_report.specs.Output.{IsDue, LinesOutput}
+
+abbrev pub Dues : Type 1
+Dues = List ℕ → List ℕ → Type 0
+
+abbrev pub Outputs : Type 1
+Outputs = List ℕ → List ℕ → Exit → Type 0
 
 -- the reader gave all that it had, and the writer got the whole output for it
-pub record ReportsLines (task : LinesTask) (unread left written grown : Option (List ℕ)) (exit : Exit) : Type 0 where
+pub record ReportsAll (IsOutput : Outputs) (unread left written grown : Option (List ℕ)) (exit : Exit) : Type 0 where
   pub text : List ℕ
   pub output : List ℕ
   pub read : ReadsToEnd unread left text
-  pub answer : LinesOutput task text output exit
+  pub answer : IsOutput text output exit
   pub wrote : Appends written grown output
 
 -- the writer got what is due of the bytes that were read
-pub record WroteDue (task : LinesTask) (unread left written grown : Option (List ℕ)) : Type 0 where
+pub record WroteDue (IsDue : Dues) (unread left written grown : Option (List ℕ)) : Type 0 where
   pub text : List ℕ
   pub output : List ℕ
   pub read : Consumes unread left text
-  pub due : IsDue task text output
+  pub due : IsDue text output
   pub wrote : Appends written grown output
 
 -- the writer got what is due of a beginning of the bytes that were read: whole lines
-pub record WroteLines (task : LinesTask) (unread left written grown : Option (List ℕ)) : Type 0 where
+pub record WroteLines (IsDue : Dues) (unread left written grown : Option (List ℕ)) : Type 0 where
   pub text : List ℕ
   pub more : List ℕ
   pub output : List ℕ
   pub read : Consumes unread left (text ++ more)
-  pub due : IsDue task text output
+  pub due : IsDue text output
   pub wrote : Appends written grown output
 
 -- the writer got a beginning of what is due of the bytes that were read, or of the whole output for them, and not all
-pub record WroteInPart (task : LinesTask) (unread left written grown : Option (List ℕ)) : Type 0 where
+pub record WroteInPart (IsDue : Dues) (IsOutput : Outputs) (unread left written grown : Option (List ℕ)) : Type 0 where
   pub text : List ℕ
   pub output : List ℕ
   pub read : Consumes unread left text
-  pub of : IsDue task text output ⊎ ((exit : Exit) × LinesOutput task text output exit)
+  pub of : IsDue text output ⊎ ((exit : Exit) × IsOutput text output exit)
   pub wrote : AppendsBeginning written grown output

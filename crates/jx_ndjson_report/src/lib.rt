@@ -1,10 +1,15 @@
-//! Reports on JSON Lines: an input is read to its end, and each line that is no JSON text is told as soon as it is known.
+//! Reports on JSON Lines and on text sequences that are told while they are read: each line that is no JSON text, or each element,
+//! as soon as it is known.
 #![tactic(auto)]
 
+mod element_teller;
+mod laws;
+mod line_teller;
 mod reporting;
 mod task;
 mod teller;
 mod words;
 
-pub use reporting::report_lines;
-pub use task::{BlankRule, LinesTask};
+pub use laws::elements_are_told_as_by_seq;
+pub use reporting::{report_lines, report_sequence};
+pub use task::{BlankRule, ElementsTask, LinesTask};

@@ -1,36 +1,38 @@
-// Lines are told while an input is read.
+// Lines and elements are told while an input is read.
 ghost use Rattle.std.specs.Prelude.{◌≡◌, ◌≢◌, ◌<◌, ◌↔◌, [], true, false, length, IfErr, IfOk, IsErrOf, OnErr, OnOk};
-ghost use Rattle.jx_ndjson_report.specs.Reports.{ReportsLines, WroteDue, WroteInPart, WroteLines};
-ghost use Rattle.jx_ndjson_report.specs.inside.Teller.{HasTaken};
+ghost use Rattle.jx_ndjson_report.specs.Elements.{ElementsOutput, IsDue as IsDueOfElements};
+ghost use Rattle.jx_ndjson_report.specs.Output.{IsDue, LinesOutput};
+ghost use Rattle.jx_ndjson_report.specs.Reports.{ReportsAll, WroteDue, WroteInPart, WroteLines};
 ghost use Rattle.jx_ndjson_report.specs.inside.Steps.{IsAllWritten, WritesOn, WritesPart};
 
-use crate::task::LinesTask;
+use crate::element_teller::ElementTeller;
+use crate::line_teller::LineTeller;
+use crate::task::{ElementsTask, LinesTask};
 use crate::teller::Teller;
-use jx_ndjson::what_is_told_are_ended_lines;
 use jx_report::{Exit, ReportFault, Sink, Source, write_whole};
 use std::alloc::Global;
 
-/// How many bytes are read at a time, at most. So few lines wait at once, also where each one is bad.
+/// How many bytes are read at a time, at most. So few lines wait at once, also where each one is told.
 const STEP: usize = 64 * 1024;
 
 /// Takes a batch behind what was read, and writes the lines that are due then. Memory is refused too where the last byte has
 /// no offset.
-fn write_due<W: Sink>(
+fn write_due<T: Teller, W: Sink>(
     writer: &mut W,
-    task: &LinesTask,
-    teller: &mut Teller,
+    task: &T::Task,
+    teller: &mut T,
     batch: &[u8],
 ) -> Result<(), ReportFault>
     requires { W.has_failed writer.old ≡ false }
-    ensures ok { OnOk result (WritesOn task.now (W.contents writer.old) (W.contents writer.new) batch.now teller.old teller.new) }
+    ensures ok { OnOk result (WritesOn (T.has_taken task.now) T.ready (W.contents writer.old) (W.contents writer.new) batch.now teller.old teller.new) }
     ensures going { OnOk result (W.has_failed writer.new ≡ false) }
     ensures write { IsErrOf result ReportFault.Write ↔ (W.has_failed writer.new ≡ true) }
-    ensures beginning { IsErrOf result ReportFault.Write → WritesPart task.now (W.contents writer.old) (W.contents writer.new) batch.now teller.old }
+    ensures beginning { IsErrOf result ReportFault.Write → WritesPart (T.has_taken task.now) (T.is_due task.now) (W.contents writer.old) (W.contents writer.new) batch.now teller.old }
     ensures unwritten { IfErr result (λ fault. fault ≢ ReportFault.Write → writer.new ≡ writer.old) }
     ensures unread { IfErr result (λ fault. fault ≢ ReportFault.Read) }
     ensures uncut { IfErr result (λ fault. fault ≢ ReportFault.Pieces) }
 {
-    what_is_told_are_ended_lines();
+    T::what_is_taken_is_due();
     if batch.len() > usize::MAX - teller.end() {
         return Err(ReportFault::Memory);
     }
@@ -42,28 +44,28 @@ fn write_due<W: Sink>(
 
 /// Reads to the end of input, and writes each line once it is due: what a read gives is taken before the next one, which may
 /// wait.
-fn write_all_due<S: Source, W: Sink>(
+fn write_all_due<T: Teller, S: Source, W: Sink>(
     reader: &mut S,
     writer: &mut W,
-    task: &LinesTask,
-    teller: &mut Teller,
+    task: &T::Task,
+    teller: &mut T,
     buffer: &mut [u8],
 ) -> Result<(), ReportFault>
     requires reader { S.has_failed reader.old ≡ false }
     requires writer { W.has_failed writer.old ≡ false }
     requires room { 0 < length buffer.old }
-    requires taken { HasTaken task.now [] [] teller.old }
-    requires ready { teller.old.ready ≡ [] }
-    ensures ok { OnOk result (IsAllWritten task.now (S.remaining reader.old) (S.remaining reader.new) (W.contents writer.old) (W.contents writer.new) teller.new) }
+    requires taken { T.has_taken task.now [] [] teller.old }
+    requires ready { T.ready teller.old ≡ [] }
+    ensures ok { OnOk result (IsAllWritten (T.has_taken task.now) T.ready (S.remaining reader.old) (S.remaining reader.new) (W.contents writer.old) (W.contents writer.new) teller.new) }
     ensures going { OnOk result ((S.has_failed reader.new ≡ false) × (W.has_failed writer.new ≡ false)) }
     ensures read { IsErrOf result ReportFault.Read ↔ (S.has_failed reader.new ≡ true) }
     ensures write { IsErrOf result ReportFault.Write ↔ (W.has_failed writer.new ≡ true) }
-    ensures due { IsErrOf result ReportFault.Read → WroteDue task.now (S.remaining reader.old) (S.remaining reader.new) (W.contents writer.old) (W.contents writer.new) }
-    ensures lines { IsErrOf result ReportFault.Memory → WroteLines task.now (S.remaining reader.old) (S.remaining reader.new) (W.contents writer.old) (W.contents writer.new) }
-    ensures beginning { IsErrOf result ReportFault.Write → WroteInPart task.now (S.remaining reader.old) (S.remaining reader.new) (W.contents writer.old) (W.contents writer.new) }
+    ensures due { IsErrOf result ReportFault.Read → WroteDue (T.is_due task.now) (S.remaining reader.old) (S.remaining reader.new) (W.contents writer.old) (W.contents writer.new) }
+    ensures lines { IsErrOf result ReportFault.Memory → WroteLines (T.is_due task.now) (S.remaining reader.old) (S.remaining reader.new) (W.contents writer.old) (W.contents writer.new) }
+    ensures beginning { IsErrOf result ReportFault.Write → WroteInPart (T.is_due task.now) (T.is_output task.now) (S.remaining reader.old) (S.remaining reader.new) (W.contents writer.old) (W.contents writer.new) }
     ensures uncut { IfErr result (λ fault. fault ≢ ReportFault.Pieces) }
 {
-    what_is_told_are_ended_lines();
+    T::what_is_taken_is_due();
     for _ in 0..u64::MAX {
         match reader.read(buffer) {
             Ok(0) => return Ok(()),
@@ -72,6 +74,34 @@ fn write_all_due<S: Source, W: Sink>(
         }
     }
     Err(ReportFault::Memory)
+}
+
+/// Reads to the end of input, and writes what a teller that has taken no byte has to tell of it.
+fn report_by<T: Teller, S: Source, W: Sink>(
+    alloc: Global,
+    reader: &mut S,
+    writer: &mut W,
+    task: &T::Task,
+    teller: &mut T,
+) -> Result<Exit, ReportFault>
+    requires reader { S.has_failed reader.old ≡ false }
+    requires writer { W.has_failed writer.old ≡ false }
+    requires taken { T.has_taken task.now [] [] teller.old }
+    requires ready { T.ready teller.old ≡ [] }
+    ensures ok { IfOk result (λ exit. ReportsAll (T.is_output task.now) (S.remaining reader.old) (S.remaining reader.new) (W.contents writer.old) (W.contents writer.new) exit) }
+    ensures read { IsErrOf result ReportFault.Read ↔ (S.has_failed reader.new ≡ true) }
+    ensures write { IsErrOf result ReportFault.Write ↔ (W.has_failed writer.new ≡ true) }
+    ensures due { IsErrOf result ReportFault.Read → WroteDue (T.is_due task.now) (S.remaining reader.old) (S.remaining reader.new) (W.contents writer.old) (W.contents writer.new) }
+    ensures lines { IsErrOf result ReportFault.Memory → WroteLines (T.is_due task.now) (S.remaining reader.old) (S.remaining reader.new) (W.contents writer.old) (W.contents writer.new) }
+    ensures beginning { IsErrOf result ReportFault.Write → WroteInPart (T.is_due task.now) (T.is_output task.now) (S.remaining reader.old) (S.remaining reader.new) (W.contents writer.old) (W.contents writer.new) }
+    ensures uncut { IfErr result (λ fault. fault ≢ ReportFault.Pieces) }
+{
+    T::what_is_taken_is_due();
+    let mut buffer: Vec<u8> = vec![in alloc; 0; STEP]?;
+    write_all_due(reader, writer, task, teller, &mut buffer)?;
+    let exit = teller.finish(task)?;
+    write_whole(writer, teller.ready())?;
+    Ok(exit)
 }
 
 /// Reads JSON Lines to the end of input. For each line that is no JSON text it writes its number, its span and its verdict,
@@ -88,21 +118,54 @@ pub fn report_lines<S: Source, W: Sink>(
     requires reader { S.has_failed reader.old ≡ false }
     requires writer { W.has_failed writer.old ≡ false }
     // All that the reader had was read, and its whole output was written.
-    ensures ok { IfOk result (λ exit. ReportsLines task.now (S.remaining reader.old) (S.remaining reader.new) (W.contents writer.old) (W.contents writer.new) exit) }
+    ensures ok { IfOk result (λ exit. ReportsAll (LinesOutput task.now) (S.remaining reader.old) (S.remaining reader.new) (W.contents writer.old) (W.contents writer.new) exit) }
     ensures read { IsErrOf result ReportFault.Read ↔ (S.has_failed reader.new ≡ true) }
     ensures write { IsErrOf result ReportFault.Write ↔ (W.has_failed writer.new ≡ true) }
     // After a read fault what is due of the bytes read was written, after a refusal of memory whole lines of that, and after a
     // write fault a beginning of it.
-    ensures due { IsErrOf result ReportFault.Read → WroteDue task.now (S.remaining reader.old) (S.remaining reader.new) (W.contents writer.old) (W.contents writer.new) }
-    ensures lines { IsErrOf result ReportFault.Memory → WroteLines task.now (S.remaining reader.old) (S.remaining reader.new) (W.contents writer.old) (W.contents writer.new) }
-    ensures beginning { IsErrOf result ReportFault.Write → WroteInPart task.now (S.remaining reader.old) (S.remaining reader.new) (W.contents writer.old) (W.contents writer.new) }
+    ensures due { IsErrOf result ReportFault.Read → WroteDue (IsDue task.now) (S.remaining reader.old) (S.remaining reader.new) (W.contents writer.old) (W.contents writer.new) }
+    ensures lines { IsErrOf result ReportFault.Memory → WroteLines (IsDue task.now) (S.remaining reader.old) (S.remaining reader.new) (W.contents writer.old) (W.contents writer.new) }
+    ensures beginning { IsErrOf result ReportFault.Write → WroteInPart (IsDue task.now) (LinesOutput task.now) (S.remaining reader.old) (S.remaining reader.new) (W.contents writer.old) (W.contents writer.new) }
     ensures uncut { IfErr result (λ fault. fault ≢ ReportFault.Pieces) }
 {
-    what_is_told_are_ended_lines();
-    let mut teller = Teller::new(alloc, task);
-    let mut buffer: Vec<u8> = vec![in alloc; 0; STEP]?;
-    write_all_due(reader, writer, task, &mut teller, &mut buffer)?;
-    let exit = teller.finish(task)?;
-    write_whole(writer, teller.ready())?;
-    Ok(exit)
+    report_by(
+        alloc,
+        reader,
+        writer,
+        task,
+        &mut LineTeller::new(alloc, task),
+    )
+}
+
+/// Reads a JSON text sequence (RFC 7464) to the end of input. It writes the line of each element as soon as the record
+/// separator behind it is read, before the next read may wait, and that of the last one at the end. The exit is good where each
+/// is accepted.
+///
+/// What is written is never taken back. One batch and no element is held; the names of the settings are of no account.
+pub fn report_sequence<S: Source, W: Sink>(
+    alloc: Global,
+    reader: &mut S,
+    writer: &mut W,
+    task: &ElementsTask,
+) -> Result<Exit, ReportFault>
+    requires reader { S.has_failed reader.old ≡ false }
+    requires writer { W.has_failed writer.old ≡ false }
+    // All that the reader had was read, and its whole output was written.
+    ensures ok { IfOk result (λ exit. ReportsAll (ElementsOutput task.now) (S.remaining reader.old) (S.remaining reader.new) (W.contents writer.old) (W.contents writer.new) exit) }
+    ensures read { IsErrOf result ReportFault.Read ↔ (S.has_failed reader.new ≡ true) }
+    ensures write { IsErrOf result ReportFault.Write ↔ (W.has_failed writer.new ≡ true) }
+    // After a read fault what is due of the bytes read was written, after a refusal of memory whole lines of that, and after a
+    // write fault a beginning of it.
+    ensures due { IsErrOf result ReportFault.Read → WroteDue (IsDueOfElements task.now) (S.remaining reader.old) (S.remaining reader.new) (W.contents writer.old) (W.contents writer.new) }
+    ensures lines { IsErrOf result ReportFault.Memory → WroteLines (IsDueOfElements task.now) (S.remaining reader.old) (S.remaining reader.new) (W.contents writer.old) (W.contents writer.new) }
+    ensures beginning { IsErrOf result ReportFault.Write → WroteInPart (IsDueOfElements task.now) (ElementsOutput task.now) (S.remaining reader.old) (S.remaining reader.new) (W.contents writer.old) (W.contents writer.new) }
+    ensures uncut { IfErr result (λ fault. fault ≢ ReportFault.Pieces) }
+{
+    report_by(
+        alloc,
+        reader,
+        writer,
+        task,
+        &mut ElementTeller::new(alloc, task),
+    )
 }

@@ -1,4 +1,4 @@
-// What a report on lines is to do.
+// What a report on lines or elements is to do.
 use jx_run::Settings;
 
 /// What becomes of a line that has no byte, or blanks alone.
@@ -17,6 +17,17 @@ pub struct LinesTask {
     pub settings: Settings,
     /// What becomes of blank lines.
     pub blanks: BlankRule,
+    /// What stands in front of each line that is written.
+    pub front: Vec<u8>,
+    /// Whether nothing is written.
+    pub is_quiet: bool,
+}
+
+/// What a report on the elements of a text sequence is to do.
+#[derive(Debug, Drop)]
+pub struct ElementsTask {
+    /// How each element is read. The names are of no account: objects may repeat them.
+    pub settings: Settings,
     /// What stands in front of each line that is written.
     pub front: Vec<u8>,
     /// Whether nothing is written.

@@ -1,190 +1,54 @@
-// Lines that are told while an input comes slice by slice.
-ghost use Rattle.std.specs.Prelude.{◌≡◌, ◌+◌, ◌<◌, ◌≤◌, ◌^◌, ◌++◌, ℕ, List, [], if◌then◌else◌, length, take, IfOk, OnOk};
-ghost use Rattle.jx_report.specs.Reports.{shown_output};
-ghost use Rattle.jx_ndjson_report.specs.Output.{LinesOutput, is_bad, is_good};
-ghost use Rattle.jx_ndjson_report.specs.inside.Teller.{HasTaken};
-ghost use Rattle.jx_ndjson_report.specs.inside.Steps.{bad_line, exit_by, total_words};
+ghost use Rattle.std.specs.Prelude.{◌≡◌, ◌+◌, ◌<◌, ◌^◌, ◌++◌, ℕ, List, [], length, IfOk, OnOk};
 
-use crate::task::LinesTask;
-use crate::words::{add_line, add_number, is_bad, is_good};
-use jx_ndjson::{JudgedLine, LineReader};
 use jx_report::Exit;
-use std::alloc::{AllocError, Global};
-use std::marker::Model;
+use std::alloc::AllocError;
 
-/// One more, where this holds.
-fn counted(count: usize, is_one: bool) -> usize
-    requires { count + 1 < 2 ^ 64 }
-    ensures { result ≡ count + (if is_one then 1 else 0) }
-{
-    if is_one { count + 1 } else { count }
-}
+/// What takes an input slice by slice, and has ready what is due of it.
+pub(crate) trait Teller {
+    ghost use Rattle.std.specs.Prelude.{ℕ, List};
+    ghost use Rattle.jx_report.specs.declared.exit.Exit.{Exit};
 
-/// Appends what is told of a line, if it is bad and is to be written.
-fn add_bad(ready: &mut Vec<u8>, task: &LinesTask, judged: JudgedLine) -> Result<(), AllocError>
-    ensures { OnOk result (ready.new.items ≡ ready.old.items ++ bad_line task.now judged) }
-{
-    if !task.is_quiet && is_bad(task.blanks, judged.verdict) {
-        add_line(ready, &task.front, judged)?;
-    }
-    Ok(())
-}
+    /// What it is to do.
+    type Task;
 
-/// Appends how many lines are good and how many bad, unless nothing is to be written.
-fn add_total(
-    ready: &mut Vec<u8>,
-    task: &LinesTask,
-    good: usize,
-    bad: usize,
-) -> Result<(), AllocError>
-    ensures { OnOk result (ready.new.items ≡ ready.old.items ++ shown_output task.now.is_quiet (total_words task.now.front.items good bad)) }
-{
-    if task.is_quiet {
-        return Ok(());
-    }
-    ready.extend_from_slice(&task.front)?;
-    ready.extend_from_slice(b"accepted ")?;
-    add_number(ready, good)?;
-    ready.extend_from_slice(b", refused ")?;
-    add_number(ready, bad)?;
-    ready.extend_from_slice(b"\n")
-}
+    /// What is due of these bytes of an input, from its start.
+    ghost is_due: { Self.Task → List ℕ → List ℕ → Type 0 };
 
-fn exit_by(bad: usize) -> Exit
-    ensures { result ≡ exit_by bad }
-{
-    if bad == 0 { Exit::Good } else { Exit::Bad }
-}
+    /// The whole output for an input, and the exit.
+    ghost is_output: { Self.Task → List ℕ → List ℕ → Exit → Type 0 };
 
-/// Appends the total, and answers the exit.
-fn add_end(
-    ready: &mut Vec<u8>,
-    task: &LinesTask,
-    good: usize,
-    bad: usize,
-) -> Result<Exit, AllocError>
-    ensures total { OnOk result (ready.new.items ≡ ready.old.items ++ shown_output task.now.is_quiet (total_words task.now.front.items good bad)) }
-    ensures exit { IfOk result (λ exit. exit ≡ exit_by bad) }
-{
-    add_total(ready, task, good, bad)?;
-    Ok(exit_by(bad))
-}
-
-/// A reader of lines, and what is told of those that a line feed has ended. What is told waits here to be written.
-#[derive(Drop)]
-pub(crate) struct Teller {
-    lines: LineReader,
-    good: usize,
-    bad: usize,
-    ready: Vec<u8>,
-}
-
-impl Model for Teller {
-    ghost use Rattle.std.specs.Prelude.{◌≤◌};
-    ghost use Rattle.jx_ndjson_report.specs.inside.Teller.{TellerValue};
-
-    ghost Value = { TellerValue };
-
-    ghost view = { λ t. record { lines = t.lines; good = t.good; bad = t.bad; ready = t.ready.items } };
-
-    ghost invariant = { λ t. (t.good ≤ t.lines.ended) × (t.bad ≤ t.lines.ended) };
-}
-
-impl Teller {
-    /// One that has taken no byte. Nothing is allocated.
-    pub fn new(alloc: Global, task: &LinesTask) -> Teller
-        ensures taken { HasTaken task.now [] [] result }
-        ensures ready { result.ready ≡ [] }
-    {
-        Teller {
-            lines: LineReader::new(alloc, &task.settings),
-            good: 0,
-            bad: 0,
-            ready: Vec::new(alloc),
-        }
-    }
-
-    /// The offset just past the last byte that it has taken.
-    pub fn end(&self) -> usize
-        ensures { result ≡ self.now.lines.reader.start + self.now.lines.reader.count }
-    {
-        self.lines.end()
-    }
-
-    /// Tells a line that has ended, and counts it.
-    fn tell(&mut self, task: &LinesTask, judged: JudgedLine) -> Result<(), AllocError>
-        requires good { self.old.good + 1 ≤ self.old.lines.ended }
-        requires bad { self.old.bad + 1 ≤ self.old.lines.ended }
-        ensures lines { self.new.lines ≡ self.old.lines }
-        ensures ready { OnOk result (self.new.ready ≡ self.old.ready ++ bad_line task.now judged) }
-        ensures good { OnOk result (self.new.good ≡ self.old.good + (if is_good judged.verdict then 1 else 0)) }
-        ensures bad { OnOk result (self.new.bad ≡ self.old.bad + (if is_bad task.now.blanks judged.verdict then 1 else 0)) }
-    {
-        // It is no less than either count with one more.
-        let _ended = self.lines.ended();
-        add_bad(&mut self.ready, task, judged)?;
-        self.good = counted(self.good, is_good(judged.verdict));
-        self.bad = counted(self.bad, is_bad(task.blanks, judged.verdict));
-        Ok(())
-    }
-
-    /// Takes a slice up to and with its first line feed, or less, and answers how many bytes those are.
-    fn take_step(&mut self, task: &LinesTask, slice: &[u8]) -> Result<usize, AllocError>
-        requires fits { self.old.lines.reader.start + self.old.lines.reader.count + length slice.now < 2 ^ 64 }
-        ensures within { IfOk result (λ taken. taken ≤ length slice.now) }
-        ensures some { IfOk result (λ taken. 0 < length slice.now → 0 < taken) }
-        ensures taken { IfOk result (λ taken. (bytes given : List ℕ) → HasTaken task.now bytes given self.old → HasTaken task.now (bytes ++ take taken slice.now) given self.new) }
-        ensures count { IfOk result (λ taken. self.new.lines.reader.start + self.new.lines.reader.count ≡ self.old.lines.reader.start + self.old.lines.reader.count + taken) }
-    {
-        let step = self.lines.feed(slice)?;
-        match step.line {
-            None => Ok(step.taken),
-            Some(judged) => {
-                self.tell(task, judged)?;
-                Ok(step.taken)
-            }
-        }
-    }
-
-    /// Takes a slice behind all bytes that it has taken. Only want of memory is refused.
-    pub fn feed(&mut self, task: &LinesTask, slice: &[u8]) -> Result<(), AllocError>
-        requires fits { self.old.lines.reader.start + self.old.lines.reader.count + length slice.now < 2 ^ 64 }
-        ensures taken { OnOk result ((bytes given : List ℕ) → HasTaken task.now bytes given self.old → HasTaken task.now (bytes ++ slice.now) given self.new) }
-    {
-        let mut at = 0;
-        while at < slice.len() {
-            at += self.take_step(task, &slice[at..])?;
-        }
-        Ok(())
-    }
+    /// It has taken these bytes of an input, from its start, and this was written of what is due of them, before what waits.
+    ghost has_taken: { Self.Task → List ℕ → List ℕ → Self → Type 0 };
 
     /// What waits to be written.
-    pub fn ready(&self) -> &[u8]
-        ensures { result.now ≡ self.now.ready }
-    {
-        &self.ready
-    }
+    ghost ready: { Self → List ℕ };
+
+    /// The offset just past the last byte that it has taken.
+    ghost end: { Self → ℕ };
+
+    /// What was written and what waits is what is due.
+    fn what_is_taken_is_due()
+        ensures due { (task : Self.Task) (bytes given : List ℕ) (teller : Self) → has_taken task bytes given teller → is_due task bytes (given ++ ready teller) };
+
+    /// The offset just past the last byte that it has taken.
+    fn end(&self) -> usize
+        ensures end { result ≡ end self.now };
+
+    /// Takes a slice behind all bytes that it has taken. Only want of memory is refused.
+    fn feed(&mut self, task: &Self::Task, slice: &[u8]) -> Result<(), AllocError>
+        requires fits { end self.old + length slice.now < 2 ^ 64 }
+        ensures taken { OnOk result ((bytes given : List ℕ) → has_taken task.now bytes given self.old → has_taken task.now (bytes ++ slice.now) given self.new) };
+
+    /// What waits to be written.
+    fn ready(&self) -> &[u8]
+        ensures ready { result.now ≡ ready self.now };
 
     /// Lets what waits go.
-    pub fn clear_ready(&mut self)
-        ensures ready { self.new.ready ≡ [] }
-        ensures taken { (task : LinesTask) (bytes given : List ℕ) → HasTaken task bytes given self.old → HasTaken task bytes (given ++ self.old.ready) self.new }
-    {
-        self.ready.clear();
-    }
+    fn clear_ready(&mut self)
+        ensures ready { ready self.new ≡ [] }
+        ensures taken { (task : Self.Task) (bytes given : List ℕ) → has_taken task bytes given self.old → has_taken task bytes (given ++ ready self.old) self.new };
 
-    /// Tells the last line, and how many there were: what waits then is the rest of the output.
-    pub fn finish(&mut self, task: &LinesTask) -> Result<Exit, AllocError>
-        ensures { IfOk result (λ exit. (bytes given : List ℕ) → HasTaken task.now bytes given self.old → LinesOutput task.now bytes (given ++ self.new.ready) exit) }
-    {
-        match self.lines.last_line() {
-            None => add_end(&mut self.ready, task, self.good, self.bad),
-            Some(judged) => {
-                add_bad(&mut self.ready, task, judged)?;
-                let good = counted(self.good, is_good(judged.verdict));
-                let bad = counted(self.bad, is_bad(task.blanks, judged.verdict));
-                add_end(&mut self.ready, task, good, bad)
-            }
-        }
-    }
+    /// Takes the end of the input: what waits then is the rest of the output.
+    fn finish(&mut self, task: &Self::Task) -> Result<Exit, AllocError>
+        ensures output { IfOk result (λ exit. (bytes given : List ℕ) → has_taken task.now bytes given self.old → is_output task.now bytes (given ++ ready self.new) exit) };
 }

@@ -1,6 +1,8 @@
 // The lines that are written.
 ghost use Rattle.std.specs.Prelude.{◌≡◌, ◌++◌, codes, decimal, OnOk};
+ghost use Rattle.jx_report.specs.Elements.{verdict_words as element_words};
 ghost use Rattle.jx_report.specs.Words.{line, span_words};
+ghost use Rattle.jx_ndjson_report.specs.Elements.{element_line};
 ghost use Rattle.jx_ndjson_report.specs.Output.{is_bad, is_good, told_line, verdict_words};
 
 use crate::task::BlankRule;
@@ -8,6 +10,7 @@ use itoa::Buffer;
 use jx_lex::Span;
 use jx_ndjson::{JudgedLine, LineVerdict};
 use jx_report::add_refusal;
+use jx_run::{ElementVerdict, JudgedElement};
 use std::alloc::AllocError;
 
 /// Whether a line is a text.
@@ -80,4 +83,30 @@ pub(crate) fn add_line(
     add_span(out, judged.span)?;
     out.extend_from_slice(b" ")?;
     add_verdict(out, judged.verdict)
+}
+
+/// Appends the words for what an element comes to, and a line feed.
+fn add_element_verdict(out: &mut Vec<u8>, verdict: ElementVerdict) -> Result<(), AllocError>
+    ensures { OnOk result (out.new.items ≡ out.old.items ++ line (element_words verdict)) }
+{
+    match verdict {
+        ElementVerdict::Accepted => out.extend_from_slice(b"accepted\n"),
+        ElementVerdict::Refused(refusal) => add_refusal(out, refusal),
+        ElementVerdict::MayBeCut => out.extend_from_slice(b"may be cut\n"),
+        ElementVerdict::Unmarked => out.extend_from_slice(b"unmarked\n"),
+    }
+}
+
+/// Appends what is told of an element.
+pub(crate) fn add_element(
+    out: &mut Vec<u8>,
+    front: &[u8],
+    element: JudgedElement,
+) -> Result<(), AllocError>
+    ensures { OnOk result (out.new.items ≡ out.old.items ++ element_line front.now element) }
+{
+    out.extend_from_slice(front)?;
+    add_span(out, element.span)?;
+    out.extend_from_slice(b" ")?;
+    add_element_verdict(out, element.verdict)
 }

@@ -1,8 +1,10 @@
 -- An input is read batch by batch.
-use Rattle.std.proofs.Common.{◌≡◌, ℕ, List, ◌++◌, Option, subst}
+use Rattle.std.proofs.Common.{◌≡◌, ℕ, List, ◌++◌, Option, arith, length, subst}
 use Rattle.std.specs.Io.KnownBytes.{Consumes, IsAtEnd}
 use Rattle.std.proofs.KnownBytes.{Consumes-trans}
 use Rattle.jx_run.specs.declared.texts.settings.Settings.{Settings}
+use Rattle.jx_names.specs.declared.names_reader.NamesReader.{NamesReader}
+use Rattle.jx_names.specs.Fed.{HasFed, end_of}
 use Rattle.jx_task.specs.declared.task.Task.{Task}
 use Rattle.jx_report.specs.declared.reading.Reading.{Reading}
 use Rattle.jx_report.specs.Ends.{ReadsToEnd}
@@ -24,3 +26,7 @@ module _ (task : Task) (settings : Settings) (unread left : Option (List ℕ)) (
   -- it was the last one
   pub all_taken : IsAtEnd left → (text : List ℕ) × ReadsToEnd unread left text × IsReadingOf task settings text new
   all_taken end = (p.text ++ part, (consumed, end), taken)
+
+-- as many bytes as a reader of names was fed
+pub names_long : (settings : Settings) (text : List ℕ) (r : NamesReader) → HasFed settings text r → end_of r ≡ length text
+names_long settings text r h = let start = h.start in let count = h.read.count in omega (arith, start, count)

@@ -61,7 +61,7 @@ fn next_step(before: usize, step: usize, batch: usize) -> usize
 fn read_beside<R: Threads + Wait + Sync, S: Source + Send, G: Gate + Sync>(
     crew: &Crew<'_, R, G>,
     reader: &mut S,
-    reading: &mut Reading<'_, '_>,
+    reading: &mut Reading<'_>,
     bytes: &[u8],
     piece: usize,
     next: &mut Vec<u8>,
@@ -120,7 +120,7 @@ fn answer_in_batches<R: Threads + Wait + Sync, S: Source + Send, G: Gate + Sync>
     crew: &Crew<'_, R, G>,
     reader: &mut S,
     command: &Command,
-    mut reading: Reading<'_, '_>,
+    mut reading: Reading<'_>,
     batch: usize,
 ) -> Result<Reply, ReportFault>
     requires reader { S.has_failed reader.old ≡ false }
@@ -165,8 +165,8 @@ fn answer_in_batches<R: Threads + Wait + Sync, S: Source + Send, G: Gate + Sync>
 
 /// Reads to the end of input, and has it answered by the crew. While a text or the elements of a sequence are judged, or few
 /// pointers are looked up, at most two batches of the input are kept, of so many bytes each. Beside them a name is kept for
-/// pointers, and an element where names have to be unique. For rows and many pointers the whole input is kept, and also where the
-/// names of a text have to be unique.
+/// pointers, the names of open objects of a text whose names have to be unique, and the last element of such a sequence. For rows and
+/// many pointers the whole input is kept, and also for pointers where names have to be unique.
 pub(crate) fn answer_to_input<R: Threads + Wait + Sync, S: Source + Send, G: Gate + Sync>(
     crew: &Crew<'_, R, G>,
     reader: &mut S,
@@ -183,7 +183,7 @@ pub(crate) fn answer_to_input<R: Threads + Wait + Sync, S: Source + Send, G: Gat
         (S.remaining reader.new) }
 {
     let few = few_pointers(crew.alloc, command)?;
-    match Reading::of(crew.alloc, command, few.as_ref())? {
+    match Reading::of(crew.alloc, command, few)? {
         Some(reading) => answer_in_batches(crew, reader, command, reading, batch),
         None => answer_to_all(crew, reader, command),
     }

@@ -35,28 +35,29 @@ pub(crate) fn few_pointers(
 
 /// A look-up of pointers in a text that is read from its start. It keeps of the text a name that has begun and not ended.
 #[derive(Drop)]
-pub(crate) struct PointerReader<'a, 'p> {
+pub(crate) struct PointerReader<'p> {
     alloc: Global,
-    finder: Finder<'a, 'p>,
+    finder: Finder<'p>,
     /// Why some of the strings are no pointers.
-    unread: &'a [Option<PointerFault>],
+    unread: Vec<Option<PointerFault>>,
 }
 
-impl<'a, 'p> PointerReader<'a, 'p> {
+impl<'p> PointerReader<'p> {
     /// Before the first byte.
     pub fn new(
         alloc: Global,
         settings: &Settings,
-        read: &'a ReadPointers<'p>,
-    ) -> Result<PointerReader<'a, 'p>, AllocError>
+        read: ReadPointers<'p>,
+    ) -> Result<PointerReader<'p>, AllocError>
         requires { settings.now.names ≡ Any }
-        ensures { IfOk result (λ reader. (spelt : List (List ℕ)) → AreReadPointers spelt read.now.pointers.items read.now.unread.items → AreLookedUp settings.now spelt [] reader) }
+        ensures { IfOk result (λ reader. (spelt : List (List ℕ)) → AreReadPointers spelt read.entry.pointers.items read.entry.unread.items → AreLookedUp settings.now spelt [] reader) }
     {
-        let finder = Finder::new(alloc, settings, &read.pointers)?;
+        let ReadPointers { pointers, unread } = read;
+        let finder = Finder::new(alloc, settings, pointers)?;
         Ok(PointerReader {
             alloc,
             finder,
-            unread: &read.unread,
+            unread,
         })
     }
 
@@ -83,10 +84,15 @@ impl<'a, 'p> PointerReader<'a, 'p> {
             → TextOutput (AnswersPointers spelt settings text) settings text (reply_output reply) (reply_exit reply)) }
     {
         look_ups_end_at_rows();
-        match self.finder.finish()? {
+        let PointerReader {
+            alloc,
+            finder,
+            unread,
+        } = self;
+        match finder.finish()? {
             Err(refusal) => Ok(Reply::Verdict(Verdict::Refused(refusal))),
             Ok(found) => {
-                let answers = answers_in(self.alloc, self.unread, &found)?;
+                let answers = answers_in(alloc, &unread, &found)?;
                 Ok(Reply::Pointers(answers))
             }
         }

@@ -17,6 +17,7 @@ use crate::sequence_reader::SequenceReader;
 use jx_answer::{Balance, any_names_change_nothing, read_batch, read_pieces};
 use jx_claim::Cutting;
 use jx_crew::{Crew, Gate};
+use jx_names::NamesReader;
 use jx_run::{NameRule, Reader};
 use jx_task::{Command, Task};
 use std::alloc::{AllocError, Global};
@@ -24,26 +25,29 @@ use std::sync::Wait;
 use std::thread::Threads;
 
 /// What the bytes of an input that were read come to. Of those bytes it keeps three at most; of a text that pointers are looked
-/// up in also a name that has begun, and of a sequence whose names have to be unique the last element.
+/// up in also a name that has begun, of one whose names have to be unique those of open objects, and of such a sequence the last
+/// element.
 #[derive(Drop)]
-pub(crate) enum Reading<'a, 'p> {
+pub(crate) enum Reading<'p> {
     /// The verdict on a text.
     Text { reader: Reader, balance: Balance },
+    /// The verdict on a text whose names have to be unique.
+    Names(NamesReader),
     /// What pointers come to in a text.
-    Pointers(PointerReader<'a, 'p>),
+    Pointers(PointerReader<'p>),
     /// The verdicts on the elements of a text sequence.
     Elements(SequenceReader),
 }
 
-impl<'a, 'p> Reading<'a, 'p> {
+impl<'p> Reading<'p> {
     /// Before the first byte, where the task needs no byte once it was read. The pointers are those of the task, where they are
     /// looked up in what is read.
     pub fn of(
         alloc: Global,
         command: &Command,
-        few: Option<&'a ReadPointers<'p>>,
-    ) -> Result<Option<Reading<'a, 'p>>, AllocError>
-        requires few { IfSome few (λ read. AreSought command.now.task command.now.settings read.now.pointers.items read.now.unread.items) }
+        few: Option<ReadPointers<'p>>,
+    ) -> Result<Option<Reading<'p>>, AllocError>
+        requires few { IfSome few (λ read. AreSought command.now.task command.now.settings read.pointers.items read.unread.items) }
         ensures begins { IfOk result (λ reading. IfSome reading (IsReadingOf command.now.task command.now.settings [])) }
     {
         if let Some(read) = few {
@@ -55,6 +59,10 @@ impl<'a, 'p> Reading<'a, 'p> {
                 reader: Reader::new(alloc, &command.settings, 0),
                 balance: Balance::new(command.workers),
             })),
+            (Task::Check, NameRule::Unique) => Ok(Some(Reading::Names(NamesReader::new(
+                alloc,
+                &command.settings,
+            )))),
             (Task::Seq, _) => Ok(Some(Reading::Elements(SequenceReader::new(alloc, command)))),
             _ => Ok(None),
         }
@@ -67,6 +75,7 @@ impl<'a, 'p> Reading<'a, 'p> {
     {
         match self {
             Reading::Text { reader, .. } => reader.end(),
+            Reading::Names(reader) => reader.end(),
             Reading::Pointers(reader) => reader.end(),
             Reading::Elements(sequence) => sequence.end(),
         }
@@ -93,6 +102,7 @@ impl<'a, 'p> Reading<'a, 'p> {
                 read_pieces(reader, batch, &cutting, crew.gate)
             }
             Reading::Text { reader, balance } => read_batch(crew, reader, balance, batch, piece),
+            Reading::Names(reader) => reader.feed(batch),
             Reading::Pointers(reader) => reader.read(batch),
             Reading::Elements(sequence) => sequence.read(crew, batch, piece),
         }
@@ -114,6 +124,10 @@ impl<'a, 'p> Reading<'a, 'p> {
         }
         match self {
             Reading::Text { reader, .. } => Ok(Reply::Verdict(reader.verdict())),
+            Reading::Names(reader) => {
+                let verdict = reader.verdict()?;
+                Ok(Reply::Verdict(verdict))
+            }
             Reading::Pointers(reader) => {
                 let reply = reader.into_reply()?;
                 Ok(reply)

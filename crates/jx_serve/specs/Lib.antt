@@ -2,6 +2,7 @@ pub mod Changes
 pub mod Marks
 pub mod Messages
 pub mod Served
+pub mod Standing
 pub mod Steps
 pub mod Values
 pub mod Words

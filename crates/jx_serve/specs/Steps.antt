@@ -10,6 +10,8 @@ use Rattle.jx_run.specs.declared.texts.settings.NameRule.TheVariants as names
 use Rattle.jx_run.specs.declared.texts.settings.Settings.{Settings}
 use Rattle.jx_run.specs.declared.texts.verdict.Verdict.TheVariants.{Accepted}
 use Rattle.jx_wire.specs.Messages.{wire_settings, IsFaultOf}
+use Rattle.jx_wire.specs.Requests.{IsRefusedFor, IsRequest}
+use Rattle.jx_wire.specs.Values.{Says}
 use Rattle.jx_wire.specs.declared.call.Call.{Call}
 use Rattle.jx_wire.specs.declared.call.Call.TheVariants as call
 use Rattle.jx_wire.specs.declared.call.Change.{Change}
@@ -190,5 +192,6 @@ reply_to fault.Memory = Logged Memory
 
 -- what the body of a frame makes of a server, and what is replied
 pub data Turns (body : List ℕ) (before after : ServerValue) (reply : Reply) : Type 0 where
-  by_request : (request : Request) → IsVerdictBy wire_settings body Accepted → Steps request before after reply → Turns body before after reply
-  by_fault : (why : RequestFault) → IsFaultOf body why → after ≡ behind_fault why before → reply ≡ reply_to why → Turns body before after reply
+  by_request : (request : Request) → IsVerdictBy wire_settings body Accepted → Says body (λ at. IsRequest at request) → Steps request before after reply
+      → Turns body before after reply
+  by_fault : (why : RequestFault) → IsFaultOf body why → Says body (λ at. IsRefusedFor at why) → after ≡ behind_fault why before → reply ≡ reply_to why → Turns body before after reply

@@ -90,10 +90,18 @@ position p = codes "{\"line\":" ++ decimal p.line ++ codes ",\"character\":" ++ 
 abbrev pub range : Position → Position → List ℕ
 range start end = codes "\"range\":{\"start\":" ++ position start ++ codes ",\"end\":" ++ position end ++ codes "}"
 
+-- behind the sentence of a mark
+abbrev pub words_of_place : Refusal → List ℕ
+words_of_place (Stopped at) = codes " (byte " ++ decimal at ++ codes ")"
+words_of_place Truncated = []
+words_of_place (TooDeep at) = codes " (byte " ++ decimal at ++ codes ")"
+words_of_place (RepeatedName at) = codes " (byte " ++ decimal at ++ codes ")"
+
 abbrev pub diagnostic : Mark → List ℕ
 diagnostic mark =
     codes "{" ++ range mark.start mark.end
-    ++ concat (codes ",\"severity\":1,\"code\":\"" ∷ word_of_refusal mark.refusal ∷ codes "\",\"source\":\"jx\",\"message\":\"" ∷ words_of_refusal mark.refusal ∷ codes "\"}" ∷ [])
+    ++ concat (codes ",\"severity\":1,\"code\":\"" ∷ word_of_refusal mark.refusal ∷ codes "\",\"source\":\"jx\",\"message\":\"" ∷ [])
+    ++ mark.sentence.items ++ words_of_place mark.refusal ++ codes "\"}"
 
 -- none where the text is accepted
 abbrev pub diagnostics : Option Mark → List ℕ

@@ -3,11 +3,13 @@ ghost use Rattle.std.specs.Prelude.{◌≡◌, ◌≤◌, length, not, false, tr
 ghost use Rattle.jx_edit.specs.declared.encoding.Encoding.{Encoding};
 ghost use Rattle.jx_index.specs.ByNames.{IsVerdictBy};
 ghost use Rattle.jx_serve.specs.Changes.{changed, held, lose, position, replaced};
+ghost use Rattle.jx_serve.specs.Marks.{told, IsPlaced};
 ghost use Rattle.jx_serve.specs.Values.{IsHovered, IsOutlined};
 ghost use Rattle.jx_serve.specs.inside.Names.{IsHeld};
 ghost use Rattle.jx_edit.specs.Positions.{offset_at};
 
 use crate::hover::Hover;
+use crate::mark::{Mark, mark_of};
 use crate::symbols::{Outline, symbols_of};
 use crate::under_cursor::value_at;
 use jx_edit::{Document, EditFault, Encoding, Position};
@@ -75,11 +77,18 @@ impl Held {
         self.lost
     }
 
-    /// Its document.
-    pub fn document(&self) -> &Document
-        ensures { result.now.bytes ≡ self.now.bytes }
+    /// How a verdict on it is shown.
+    pub fn mark(&self, encoding: Encoding, verdict: Verdict) -> Result<Option<Mark>, AllocError>
+        ensures told { IfOk result (λ mark. told mark ≡ verdict) }
+        ensures placed { IfOk result (λ mark. IfSome mark (IsPlaced encoding self.now.bytes)) }
     {
-        &self.document
+        mark_of(
+            self.alloc,
+            &self.document,
+            &self.settings,
+            encoding,
+            verdict,
+        )
     }
 
     /// Forgets the bytes until all of them come.
@@ -230,6 +239,8 @@ impl Held {
                 Ok(Some(verdict))
             }
             NameRule::Unique => {
+                // The document knows where its reading stands behind a verdict of its own.
+                self.document.verdict()?;
                 let bytes = self.copy()?;
                 let verdict = verdict_with_unique_names(
                     self.alloc,

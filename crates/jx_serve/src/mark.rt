@@ -1,14 +1,18 @@
 // Where a refusal is shown in a document.
-ghost use Rattle.std.specs.Prelude.{◌≡◌, ◌≤◌, ◌<◌, ◌+◌, ◌⊎◌, IfSome, length};
+ghost use Rattle.std.specs.Prelude.{◌≡◌, ◌≤◌, ◌<◌, ◌+◌, ◌⊎◌, IfOk, IfSome, length};
 ghost use Rattle.jx_serve.specs.Marks.{shown_at, told, IsPlaced};
 
+use crate::sentence::sentence_on;
 use jx_edit::{Document, Encoding, Position};
-use jx_run::{Refusal, Verdict};
+use jx_run::{Refusal, Settings, Verdict};
+use std::alloc::{AllocError, Global};
 
-/// Where a refusal is shown.
-#[derive(Clone, Copy, Debug, PartialEq, Eq)]
+/// Where a refusal is shown, and how.
+#[derive(Debug, Drop)]
 pub struct Mark {
     pub refusal: Refusal,
+    /// What is wrong there, as it is spelt in a string.
+    pub sentence: Vec<u8>,
     pub start: Position,
     pub end: Position,
 }
@@ -86,21 +90,29 @@ fn shown_at(document: &Document, refusal: Refusal) -> usize
     }
 }
 
-/// How a verdict is shown: a refusal by the character at its offset. What is accepted has no mark.
-pub fn mark_of(document: &Document, encoding: Encoding, verdict: Verdict) -> Option<Mark>
-    ensures told { told result ≡ verdict }
-    ensures placed { IfSome result (IsPlaced encoding document.now.bytes) }
+/// How a verdict by settings is shown: a refusal by the character at its offset, with a sentence. What is accepted has no mark.
+pub fn mark_of(
+    alloc: Global,
+    document: &Document,
+    settings: &Settings,
+    encoding: Encoding,
+    verdict: Verdict,
+) -> Result<Option<Mark>, AllocError>
+    ensures told { IfOk result (λ mark. told mark ≡ verdict) }
+    ensures placed { IfOk result (λ mark. IfSome mark (IsPlaced encoding document.now.bytes)) }
 {
     let Verdict::Refused(refusal) = verdict else {
-        return None;
+        return Ok(None);
     };
+    let sentence = sentence_on(alloc, document, settings, encoding, refusal)?;
     let offset = shown_at(document, refusal);
     let start = character_start(document, offset);
     let behind = offset.saturating_add(1).min(document.len());
     let end = character_end(document, start).max(behind);
-    Some(Mark {
+    Ok(Some(Mark {
         refusal,
+        sentence,
         start: document.position_of(start, encoding),
         end: document.position_of(end, encoding),
-    })
+    }))
 }

@@ -3,7 +3,7 @@ ghost use Rattle.std.specs.Prelude.{◌≡◌, ◌++◌, [], IfOk, OnOk, string_
 ghost use Rattle.jx_index.specs.ByNames.{IsVerdictBy};
 ghost use Rattle.jx_run.specs.declared.texts.verdict.Verdict.TheVariants.{Accepted};
 ghost use Rattle.jx_serve.specs.Messages.{message_settings};
-ghost use Rattle.jx_serve.specs.Words.{diagnostic, initialized, logged, null_of, number_of_code, published, refused, word_of_refusal, words_of_code, words_of_id, words_of_refusal, words_of_trouble, IsMessageOf};
+ghost use Rattle.jx_serve.specs.Words.{diagnostic, initialized, logged, null_of, number_of_code, published, refused, word_of_refusal, words_of_code, words_of_id, words_of_place, words_of_refusal, words_of_trouble, IsMessageOf};
 
 use crate::mark::Mark;
 use crate::reply::{Code, Reply, Trouble};
@@ -96,6 +96,18 @@ fn words_of_refusal(alloc: Global, refusal: Refusal) -> Result<String, AllocErro
     }
 }
 
+/// The offset of a refusal, behind its sentence.
+fn words_of_place(alloc: Global, refusal: Refusal) -> Result<String, AllocError>
+    ensures { IfOk result (λ words. string_bytes words ≡ words_of_place refusal) }
+{
+    match refusal {
+        Refusal::Stopped { at } | Refusal::TooDeep { at } | Refusal::RepeatedName { at } => {
+            format!(in alloc; " (byte {at})")
+        }
+        Refusal::Truncated => Ok(String::new(alloc)),
+    }
+}
+
 fn add_initialized(out: &mut Vec<u8>, id: &[u8], utf8: bool) -> Result<(), AllocError>
     ensures { OnOk result (out.new.items ≡ out.old.items ++ initialized id.now utf8) }
 {
@@ -171,17 +183,18 @@ fn add_mark(alloc: Global, out: &mut Vec<u8>, mark: &Mark) -> Result<(), AllocEr
 {
     out.extend_from_slice(b"{")?;
     add_range(alloc, out, mark.start, mark.end)?;
-    let words = words_of_refusal(alloc, mark.refusal)?;
     add_all(
         out,
         &[
             b",\"severity\":1,\"code\":\"",
             code_of_refusal(mark.refusal).as_bytes(),
             b"\",\"source\":\"jx\",\"message\":\"",
-            words.as_bytes(),
-            b"\"}",
         ],
-    )
+    )?;
+    out.extend_from_slice(&mark.sentence)?;
+    let place = words_of_place(alloc, mark.refusal)?;
+    out.extend_from_slice(place.as_bytes())?;
+    out.extend_from_slice(b"\"}")
 }
 
 fn add_published(

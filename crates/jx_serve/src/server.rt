@@ -5,7 +5,6 @@ ghost use Rattle.jx_serve.specs.Served.{all_lost, AreMade, AreMadeAt, AreSymbols
 ghost use Rattle.jx_serve.specs.Steps.{sent, settings_asked, start, with_documents, without, AnswersIn, AnswersNew, FollowsIn, IsChanged, IsClosed, IsOpened, IsToldOf, Leaves, Steps};
 
 use crate::held::Held;
-use crate::mark::mark_of;
 use crate::reply::{Code, Reply, Trouble};
 use jx_edit::Encoding;
 use jx_lex::Depth;
@@ -75,10 +74,9 @@ impl Open {
         let Ok(uri) = Vec::from_slice(alloc, &self.uri.spelt) else {
             return logged(Trouble::Memory);
         };
-        Reply::Published {
-            uri,
-            version,
-            mark: mark_of(self.held.document(), encoding, verdict),
+        match self.held.mark(encoding, verdict) {
+            Ok(mark) => Reply::Published { uri, version, mark },
+            Err(AllocError) => logged(Trouble::Memory),
         }
     }
 }

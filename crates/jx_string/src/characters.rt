@@ -14,7 +14,7 @@ pub struct Characters<'a> {
 }
 
 /// The bytes of a string between its quotation marks.
-pub(crate) fn between_marks(string: &[u8]) -> &[u8]
+pub fn between_marks(string: &[u8]) -> &[u8]
     ensures { result.now ≡ between_marks string.now }
 {
     match string {

@@ -10,8 +10,9 @@ mod texts;
 mod tokens;
 mod units;
 
-pub use characters::Characters;
+pub use characters::{Characters, between_marks};
 pub use laws::strings_are_read;
 pub use string_fault::StringFault;
 pub use texts::{has_text, unescaped};
 pub use tokens::{has_units, token_units};
+pub use units::Units;

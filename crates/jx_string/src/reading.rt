@@ -9,7 +9,7 @@ use crate::units::Units;
 
 impl<'a> Units<'a> {
     /// Those that the bytes between the marks of a string spell, from the first one on.
-    pub(crate) fn new(chars: &'a [u8]) -> Units<'a>
+    pub fn new(chars: &'a [u8]) -> Units<'a>
         ensures { units_left result ≡ chars_units InText 0 chars.now }
     {
         Units {
@@ -19,7 +19,7 @@ impl<'a> Units<'a> {
     }
 
     /// The next unit; none where no unit is left.
-    pub(crate) fn next_unit(&mut self) -> Option<u32>
+    pub fn next_unit(&mut self) -> Option<u32>
         ensures unit { MatchOption result (units_left self.old ≡ []) (λ unit. units_left self.old ≡ unit ∷ units_left self.new) }
         ensures small { IfSome result (λ unit. unit < 0x11_0000) }
     {

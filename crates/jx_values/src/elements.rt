@@ -21,7 +21,7 @@ const STEP: usize = 256 * 1024;
 fn write_due<W: Sink>(
     writer: &mut W,
     each: &mut Each,
-    sought: &mut Sought<'_, '_>,
+    sought: &mut Sought<'_>,
     batch: &[u8],
 ) -> Result<(), ReportFault>
     requires { W.has_failed writer.old ≡ false }
@@ -51,7 +51,7 @@ fn write_all_due<S: Source, W: Sink>(
     reader: &mut S,
     writer: &mut W,
     each: &mut Each,
-    sought: &mut Sought<'_, '_>,
+    sought: &mut Sought<'_>,
     pointer: &str,
     buffer: &mut [u8],
 ) -> Result<(), ReportFault>
@@ -122,7 +122,7 @@ pub fn report_elements<S: Source, W: Sink, E: Sink>(
     what_is_taken_is_due();
     let mut each = Each::new(alloc, settings, pointer)?;
     let pointers = pointers_of(alloc, pointer)?;
-    let mut sought = sought_at_start(alloc, settings, &pointers)?;
+    let mut sought = sought_at_start(alloc, settings, pointers)?;
     let mut buffer: Vec<u8> = vec![in alloc; 0; STEP]?;
     write_all_due(reader, writer, &mut each, &mut sought, pointer, &mut buffer)?;
     let told = told_of_elements(alloc, &each, each.verdict(), sought)?;

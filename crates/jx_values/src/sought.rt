@@ -18,7 +18,7 @@ use jx_run::{NameRule, Settings, Verdict};
 use std::alloc::{AllocError, Global};
 
 /// The look-up of a pointer in the bytes that are read, where it has tokens: what its root comes to is told without one.
-pub(crate) type Sought<'a, 'p> = Option<Finder<'a, 'p>>;
+pub(crate) type Sought<'p> = Option<Finder<'p>>;
 
 /// What is told of a text in which a pointer of so many tokens leads to a value of this kind.
 fn told_of_kind(alloc: Global, kind: Kind, tokens: usize) -> Result<Vec<u8>, AllocError>
@@ -77,11 +77,7 @@ fn first_of(found: &[Result<Found, FindFault>]) -> Option<Result<Found, FindFaul
 }
 
 /// What is told of a text in which one pointer of so many tokens was looked up.
-fn told_of_sought(
-    alloc: Global,
-    finder: Finder<'_, '_>,
-    tokens: usize,
-) -> Result<Vec<u8>, AllocError>
+fn told_of_sought(alloc: Global, finder: Finder<'_>, tokens: usize) -> Result<Vec<u8>, AllocError>
     ensures { IfOk result (λ told. (settings : Settings) (pointer bytes : List ℕ) → HasFed settings (pointer ∷ []) bytes finder.entry → TellsFound settings pointer bytes tokens told.items) }
 {
     let Ok(found) = finder.finish()? else {
@@ -98,7 +94,7 @@ pub(crate) fn told_of_elements(
     alloc: Global,
     each: &Each,
     verdict: Verdict,
-    sought: Sought<'_, '_>,
+    sought: Sought<'_>,
 ) -> Result<Vec<u8>, AllocError>
     ensures { IfOk result (λ told. (pointer text given : List ℕ) → HasTaken pointer text given each.now → HasSought (any_names each.now.reader.settings) pointer text sought.entry
         → JudgedBy each.now.reader.settings 0 text verdict → TellsByVerdict each.now.reader.settings pointer text verdict told.items) }
@@ -130,12 +126,12 @@ pub(crate) fn pointers_of<'p>(
 }
 
 /// A look-up of pointers that was fed no byte, where there are some.
-pub(crate) fn sought_at_start<'a, 'p>(
+pub(crate) fn sought_at_start<'p>(
     alloc: Global,
     settings: &Settings,
-    pointers: &'a [Pointer<'p>],
-) -> Result<Sought<'a, 'p>, AllocError>
-    ensures { IfOk result (λ sought. (pointer : List ℕ) → pointers.now ≡ sought_of pointer → HasSought (any_names settings.now) pointer [] sought) }
+    pointers: Vec<Pointer<'p>>,
+) -> Result<Sought<'p>, AllocError>
+    ensures { IfOk result (λ sought. (pointer : List ℕ) → pointers.entry.items ≡ sought_of pointer → HasSought (any_names settings.now) pointer [] sought) }
 {
     if pointers.is_empty() {
         return Ok(None);
@@ -150,7 +146,7 @@ pub(crate) fn sought_at_start<'a, 'p>(
 }
 
 /// Looks up in a batch behind what was read. Memory is refused too where the last byte has no offset.
-pub(crate) fn seek(sought: &mut Sought<'_, '_>, batch: &[u8]) -> Result<(), AllocError>
+pub(crate) fn seek(sought: &mut Sought<'_>, batch: &[u8]) -> Result<(), AllocError>
     ensures { OnOk result ((settings : Settings) (pointer bytes : List ℕ) → HasSought settings pointer bytes sought.old → HasSought settings pointer (bytes ++ batch.now) sought.new) }
 {
     match sought {

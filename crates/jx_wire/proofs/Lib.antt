@@ -3,4 +3,7 @@ pub mod FrameSteps
 pub mod FramesRead
 pub mod NumberSteps
 pub mod SpeltText
+pub mod PlainPointers
 pub mod Strings
+pub mod Requests
+pub mod Messages

@@ -1,5 +1,5 @@
 -- The values of a message, by the pointers (RFC 6901) that lead to them in its tree.
-use Rattle.std.specs.Prelude.{◌≡◌, ℕ, List, Option, None, Some, Result, Ok, Err, slice_range}
+use Rattle.std.specs.Prelude.{ℕ, List, Bool, true, false, Option, None, Some, Result, Ok, Err, slice_range}
 use Rattle.jx_index.specs.declared.find_fault.FindFault.{FindFault}
 use Rattle.jx_index.specs.Leads.{kind_of, led, Numbered}
 use Rattle.jx_index.specs.Pointers.{tokens}
@@ -51,6 +51,22 @@ text_by _ bytes = None
 abbrev pub number_by : Kind → List ℕ → Option ℕ
 number_by kind.Number bytes = number_of bytes
 number_by _ bytes = None
+
+-- how a number is spelt
+abbrev pub number_spelt_by : Kind → List ℕ → Option (List ℕ)
+number_spelt_by kind.Number bytes = Some bytes
+number_spelt_by _ bytes = None
+
+-- how an id is spelt: a string or a number
+abbrev pub id_by : Kind → List ℕ → Option (List ℕ)
+id_by kind.String bytes = Some bytes
+id_by kind.Number bytes = Some bytes
+id_by _ bytes = None
+
+abbrev pub flag_by : Kind → Option Bool
+flag_by kind.True = Some true
+flag_by kind.False = Some false
+flag_by _ = None
 
 -- of each tree that the body has something holds, by the values to which pointers lead
 abbrev pub Says : List ℕ → (Values → Type 0) → Type 0

@@ -1,3 +1,4 @@
+pub mod Changes
 pub mod Escapes
 pub mod Parts
 pub mod Spelt

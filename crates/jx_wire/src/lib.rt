@@ -7,6 +7,7 @@ mod frame_fault;
 mod frame_reader;
 mod laws;
 mod message;
+mod method;
 mod number;
 mod parameters;
 mod quoting;

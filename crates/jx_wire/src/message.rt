@@ -1,4 +1,4 @@
-ghost use Rattle.std.specs.Prelude.{◌≡◌, ◌≢◌, ◌≤◌, ◌<◌, [], ℕ, Option, None, Some, IfOk, IfErr, IfSome, IsErrOf, length, slice_get, slice_range};
+ghost use Rattle.std.specs.Prelude.{◌≡◌, ◌≢◌, ◌≤◌, ◌<◌, [], ℕ, Option, None, Some, IfOk, IfErr, IfSome, IsErrOf, length, slice_get, slice_range, true, false};
 ghost use Rattle.jx_index.specs.ByNames.{IsVerdictBy};
 ghost use Rattle.jx_index.specs.Pointers.{IsPointer};
 ghost use Rattle.jx_index.specs.Rows.{rows};
@@ -6,10 +6,10 @@ ghost use Rattle.jx_lex.specs.declared.kind.Kind.TheVariants.{String};
 ghost use Rattle.jx_run.specs.Text.{IsText};
 ghost use Rattle.jx_run.specs.Tree.{Tree};
 ghost use Rattle.jx_run.specs.declared.texts.verdict.Verdict.TheVariants.{Accepted, Refused};
-ghost use Rattle.jx_string.specs.declared.string_fault.StringFault.TheVariants.{LoneSurrogate};
+ghost use Rattle.jx_string.specs.declared.string_fault.StringFault.TheVariants.{LoneSurrogate, NoString};
 ghost use Rattle.jx_wire.specs.Messages.{wire_settings};
 ghost use Rattle.jx_wire.specs.Values.{number_by, seen, text_by, Says};
-ghost use Rattle.jx_wire.specs.inside.Spelt.{IsSpelt};
+ghost use Rattle.jx_wire.specs.inside.Spelt.{is_plain, IsSpelt};
 
 use crate::number::number_of;
 use jx_index::{Indexed, NodeId, Pointer, TextAnswer, look_ups_end_at_rows, readings_are_forms};
@@ -99,6 +99,14 @@ impl<'a> Message<'a> {
             Err(_) => None,
         }
     }
+
+    /// The same by a pointer that has no escape.
+    pub(crate) fn plain_at(&self, pointer: &str) -> Option<Value<'a>>
+        ensures at { is_plain pointer.now ≡ true → Says self.now (λ at. at pointer.now ≡ seen result) }
+        ensures spelt { IfSome result IsSpelt }
+    {
+        self.at(pointer)
+    }
 }
 
 /// A value of a message.
@@ -116,11 +124,24 @@ impl<'a> Value<'a> {
         ensures text { IsSpelt self.now → IfOk result (λ text. text_by self.now.kind self.now.bytes.now ≡ Some text.items) }
         ensures none { IsSpelt self.now → IfErr result (λ fault. fault ≢ StringFault.Memory → text_by self.now.kind self.now.bytes.now ≡ None) }
         ensures lone { IsSpelt self.now → IsErrOf result LoneSurrogate → self.now.kind ≡ String }
+        ensures no { IsSpelt self.now → IsErrOf result NoString → self.now.kind ≢ String }
     {
         readings_are_forms();
         match self.kind {
             Kind::String => unescaped(alloc, self.bytes),
             _ => Err(StringFault::NoString),
+        }
+    }
+
+    /// Whether it is a string that stands for a text.
+    pub(crate) fn stands_for(&self, alloc: Global, text: &[u8]) -> Result<bool, AllocError>
+        ensures yes { IsSpelt self.now → IfOk result (λ is. is ≡ true → text_by self.now.kind self.now.bytes.now ≡ Some text.now) }
+        ensures no { IsSpelt self.now → IfOk result (λ is. is ≡ false → text_by self.now.kind self.now.bytes.now ≢ Some text.now) }
+    {
+        match self.text(alloc) {
+            Ok(found) => Ok(found.as_slice() == text),
+            Err(StringFault::NoString | StringFault::LoneSurrogate) => Ok(false),
+            Err(StringFault::Memory) => Err(AllocError),
         }
     }
 

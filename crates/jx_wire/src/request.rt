@@ -1,10 +1,16 @@
-ghost use Rattle.std.specs.Prelude.{ℕ, List, IfOk, IfErr};
+ghost use Rattle.std.specs.Prelude.{◌≡◌, ◌≢◌, ℕ, List, Option, Some, None, IfOk, IfErr, IfSome, IsErrOf, codes, true, false};
 ghost use Rattle.jx_index.specs.ByNames.{IsVerdictBy};
 ghost use Rattle.jx_run.specs.declared.texts.verdict.Verdict.TheVariants.{Accepted};
 ghost use Rattle.jx_wire.specs.Messages.{wire_settings, IsFaultOf};
+ghost use Rattle.jx_wire.specs.Requests.{text_in, AsksFor, AsksForHover, AsksForSymbols, CallsFor, IsHover, IsId, IsNamed, IsRefusedFor, IsRequest, TellsChange, TellsOf, TellsOpen};
+ghost use Rattle.jx_wire.specs.Values.{Says};
+ghost use Rattle.jx_wire.specs.declared.call.Call.{Call};
+ghost use Rattle.jx_wire.specs.declared.call.Place.{Place};
+ghost use Rattle.jx_wire.specs.declared.call.Uri.{Uri};
 
-use crate::call::{Call, Request};
+use crate::call::{Call, Place, Request, Uri};
 use crate::message::Message;
+use crate::method::{Method, method_of};
 use crate::parameters::{
     ParameterFault, changes_of, offer_of, place_at, uri_of, versioned_of, whole_of,
 };
@@ -15,9 +21,11 @@ use std::alloc::{AllocError, Global};
 
 /// The id of a message, as it is spelt; none for a notification. `Err` where it is neither a string nor a number.
 fn id_of(alloc: Global, message: &Message) -> Result<Option<Vec<u8>>, RequestFault>
-    ensures { IfErr result (λ fault. (body : List ℕ) → IsVerdictBy wire_settings body Accepted → IsFaultOf body fault) }
+    ensures ok { IfOk result (λ id. Says message.now (λ at. IsId (at (codes "/id")) id)) }
+    ensures why { IfErr result (λ fault. Says message.now (λ at. IsRefusedFor at fault)) }
+    ensures refused { IfErr result (λ fault. (body : List ℕ) → IsVerdictBy wire_settings body Accepted → IsFaultOf body fault) }
 {
-    match message.at("/id") {
+    match message.plain_at("/id") {
         None => Ok(None),
         Some(value) => match value.kind {
             Kind::String | Kind::Number => {
@@ -29,92 +37,167 @@ fn id_of(alloc: Global, message: &Message) -> Result<Option<Vec<u8>>, RequestFau
     }
 }
 
-/// The method of a message; none where it has none, or is of another protocol.
-fn method_of(alloc: Global, message: &Message) -> Result<Option<Vec<u8>>, AllocError> {
-    match message.at("/jsonrpc") {
-        Some(value) if value.bytes == b"\"2.0\"".as_slice() => {}
-        _ => return Ok(None),
+/// Whether a message is of JSON-RPC 2.0.
+fn is_of_protocol(alloc: Global, message: &Message) -> Result<bool, AllocError>
+    ensures yes { IfOk result (λ is. is ≡ true → Says message.now (λ at. text_in (at (codes "/jsonrpc")) ≡ Some (codes "2.0"))) }
+    ensures no { IfOk result (λ is. is ≡ false → Says message.now (λ at. text_in (at (codes "/jsonrpc")) ≢ Some (codes "2.0"))) }
+{
+    match message.plain_at("/jsonrpc") {
+        Some(value) => value.stands_for(alloc, b"2.0"),
+        None => Ok(false),
     }
-    let Some(value) = message.at("/method") else {
+}
+
+/// What the method of a message is named; none where it has none.
+fn method_in(alloc: Global, message: &Message) -> Result<Option<Vec<u8>>, AllocError>
+    ensures some { IfOk result (λ name. IfSome name (λ name. Says message.now (λ at. text_in (at (codes "/method")) ≡ Some name.items))) }
+    ensures none { IfOk result (λ name. name ≡ None → Says message.now (λ at. text_in (at (codes "/method")) ≡ None)) }
+{
+    let Some(value) = message.plain_at("/method") else {
         return Ok(None);
     };
     match value.text(alloc) {
-        Ok(method) => Ok(Some(method)),
+        Ok(name) => Ok(Some(name)),
         Err(StringFault::Memory) => Err(AllocError),
         Err(StringFault::NoString | StringFault::LoneSurrogate) => Ok(None),
     }
 }
 
+/// The name of the method of a message; none where it has none, or is of another protocol.
+fn name_of(alloc: Global, message: &Message) -> Result<Option<Vec<u8>>, AllocError>
+    ensures some { IfOk result (λ name. IfSome name (λ name. Says message.now (λ at. IsNamed at name.items))) }
+    ensures none { IfOk result (λ name. name ≡ None → Says message.now (λ at. (name : List ℕ) → IsNamed at name → ⊥)) }
+{
+    if !is_of_protocol(alloc, message)? {
+        return Ok(None);
+    }
+    method_in(alloc, message)
+}
+
 /// What a request calls for.
-fn request_call(alloc: Global, message: &Message, method: &[u8]) -> Result<Call, ParameterFault> {
+fn request_call(alloc: Global, message: &Message, method: Method) -> Result<Call, ParameterFault>
+    ensures ok { IfOk result (λ call. Says message.now (λ at. AsksFor at method call)) }
+    ensures wrong { IsErrOf result ParameterFault.Wrong → Says message.now (λ at. (call : Call) → AsksFor at method call → ⊥) }
+{
     match method {
-        b"initialize" => Ok(Call::Initialize(offer_of(alloc, message)?)),
-        b"shutdown" => Ok(Call::Shutdown),
-        b"textDocument/hover" => known(hover_call(alloc, message)),
-        b"textDocument/documentSymbol" => known(symbols_call(alloc, message)),
-        _ => Ok(Call::Other),
+        Method::Initialize => Ok(Call::Initialize(offer_of(alloc, message)?)),
+        Method::Shutdown => Ok(Call::Shutdown),
+        Method::Hover => hover_call(alloc, message),
+        Method::Symbols => symbols_call(alloc, message),
+        Method::Exit | Method::Open | Method::Change | Method::Close | Method::Other => {
+            Ok(Call::Other)
+        }
     }
 }
 
-fn hover_call(alloc: Global, message: &Message) -> Result<Call, ParameterFault> {
+/// The document and the place that a request asks about.
+fn hover_of(alloc: Global, message: &Message) -> Result<(Uri, Place), ParameterFault>
+    ensures ok { IfOk result (λ asked. Says message.now (λ at. IsHover at asked.0 asked.1)) }
+    ensures wrong { IsErrOf result ParameterFault.Wrong → Says message.now (λ at. (uri : Uri) (place : Place) → IsHover at uri place → ⊥) }
+{
     let uri = uri_of(alloc, message)?;
     let place = place_at(alloc, message, "/params/position")?;
-    Ok(Call::Hover { uri, place })
+    Ok((uri, place))
 }
 
-fn symbols_call(alloc: Global, message: &Message) -> Result<Call, ParameterFault> {
-    Ok(Call::Symbols(uri_of(alloc, message)?))
-}
-
-/// A request about a document, which is answered by how far the client has come, whatever its parameters are.
-fn known(call: Result<Call, ParameterFault>) -> Result<Call, ParameterFault> {
-    match call {
+/// A request about a place of a document. It is answered by how far the client has come, whatever its parameters are.
+fn hover_call(alloc: Global, message: &Message) -> Result<Call, ParameterFault>
+    ensures ok { IfOk result (λ call. Says message.now (λ at. AsksForHover at call)) }
+    ensures memory { IfErr result (λ fault. fault ≡ ParameterFault.Memory) }
+{
+    match hover_of(alloc, message) {
+        Ok((uri, place)) => Ok(Call::Hover { uri, place }),
         Err(ParameterFault::Wrong) => Ok(Call::WrongParameters),
-        other => other,
+        Err(ParameterFault::Memory) => Err(ParameterFault::Memory),
     }
+}
+
+/// A request about a document, of which the same holds.
+fn symbols_call(alloc: Global, message: &Message) -> Result<Call, ParameterFault>
+    ensures ok { IfOk result (λ call. Says message.now (λ at. AsksForSymbols at call)) }
+    ensures memory { IfErr result (λ fault. fault ≡ ParameterFault.Memory) }
+{
+    match uri_of(alloc, message) {
+        Ok(uri) => Ok(Call::Symbols(uri)),
+        Err(ParameterFault::Wrong) => Ok(Call::WrongParameters),
+        Err(ParameterFault::Memory) => Err(ParameterFault::Memory),
+    }
+}
+
+/// A document is opened.
+fn open_call(alloc: Global, message: &Message) -> Result<Call, ParameterFault>
+    ensures ok { IfOk result (λ call. Says message.now (λ at. TellsOpen at call)) }
+    ensures wrong { IsErrOf result ParameterFault.Wrong → Says message.now (λ at. (call : Call) → TellsOpen at call → ⊥) }
+{
+    let document = versioned_of(alloc, message)?;
+    let text = whole_of(alloc, message.plain_at("/params/textDocument/text"))?;
+    Ok(Call::Open { document, text })
+}
+
+/// A document is changed.
+fn change_call(alloc: Global, message: &Message) -> Result<Call, ParameterFault>
+    ensures ok { IfOk result (λ call. Says message.now (λ at. TellsChange at call)) }
+    ensures wrong { IsErrOf result ParameterFault.Wrong → Says message.now (λ at. (call : Call) → TellsChange at call → ⊥) }
+{
+    let document = versioned_of(alloc, message)?;
+    let changes = changes_of(alloc, message)?;
+    Ok(Call::Change { document, changes })
 }
 
 /// What a notification calls for.
 fn notification_call(
     alloc: Global,
     message: &Message,
-    method: &[u8],
-) -> Result<Call, ParameterFault> {
+    method: Method,
+) -> Result<Call, ParameterFault>
+    ensures ok { IfOk result (λ call. Says message.now (λ at. TellsOf at method call)) }
+    ensures wrong { IsErrOf result ParameterFault.Wrong → Says message.now (λ at. (call : Call) → TellsOf at method call → ⊥) }
+{
     match method {
-        b"exit" => Ok(Call::Exit),
-        b"textDocument/didOpen" => {
-            let document = versioned_of(alloc, message)?;
-            let text = whole_of(alloc, message.at("/params/textDocument/text"))?;
-            Ok(Call::Open { document, text })
-        }
-        b"textDocument/didChange" => {
-            let document = versioned_of(alloc, message)?;
-            let changes = changes_of(alloc, message)?;
-            Ok(Call::Change { document, changes })
-        }
-        b"textDocument/didClose" => Ok(Call::Close(uri_of(alloc, message)?)),
-        _ => Ok(Call::Other),
+        Method::Exit => Ok(Call::Exit),
+        Method::Open => open_call(alloc, message),
+        Method::Change => change_call(alloc, message),
+        Method::Close => Ok(Call::Close(uri_of(alloc, message)?)),
+        Method::Initialize | Method::Shutdown | Method::Hover | Method::Symbols | Method::Other =>
+            Ok(Call::Other),
+    }
+}
+
+/// What a message with this id and this method calls for.
+fn call_of(
+    alloc: Global,
+    message: &Message,
+    id: &Option<Vec<u8>>,
+    name: &[u8],
+) -> Result<Call, ParameterFault>
+    ensures ok { IfOk result (λ call. Says message.now (λ at. CallsFor at name.now id.now call)) }
+    ensures wrong { IsErrOf result ParameterFault.Wrong → Says message.now (λ at. (call : Call) → CallsFor at name.now id.now call → ⊥) }
+{
+    let method = method_of(name);
+    match id {
+        Some(_) => request_call(alloc, message, method),
+        None => notification_call(alloc, message, method),
     }
 }
 
 /// What the body of a frame calls for: a JSON text within a depth of 64 that repeats no name, and has a method.
 pub fn request_of(alloc: Global, body: &[u8]) -> Result<Request, RequestFault>
     ensures text { IfOk result (λ _. IsVerdictBy wire_settings body.now Accepted) }
+    // What the request is, by the values to which pointers lead in the body's tree.
+    ensures says { IfOk result (λ request. Says body.now (λ at. IsRequest at request)) }
     ensures refused { IfErr result (IsFaultOf body.now) }
+    // What is refused is no request.
+    ensures why { IfErr result (λ fault. Says body.now (λ at. IsRefusedFor at fault)) }
 {
     let message = match Message::read(alloc, body)? {
         Ok(message) => message,
         Err(refusal) => return Err(RequestFault::NoText(refusal)),
     };
     let id = id_of(alloc, &message)?;
-    let Some(method) = method_of(alloc, &message)? else {
+    let Some(name) = name_of(alloc, &message)? else {
         return Err(RequestFault::NoRequest { id });
     };
-    let call = match id {
-        Some(_) => request_call(alloc, &message, &method),
-        None => notification_call(alloc, &message, &method),
-    };
-    match call {
+    match call_of(alloc, &message, &id, &name) {
         Ok(call) => Ok(Request { id, call }),
         Err(ParameterFault::Wrong) => Err(RequestFault::WrongParameters { id }),
         Err(ParameterFault::Memory) => Err(RequestFault::Memory),

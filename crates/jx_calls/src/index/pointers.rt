@@ -44,7 +44,7 @@ const DIFFER: &str = "the index and one pass differ";
 const FED_ELSEWHERE: &str = "slices differ";
 
 /// The pointers that these words spell, without words that are none.
-fn pointers_of(alloc: Global, words: &[String]) -> Result<Vec<Pointer<'_>>, AllocError> {
+pub(crate) fn pointers_of(alloc: Global, words: &[String]) -> Result<Vec<Pointer<'_>>, AllocError> {
     let mut pointers = Vec::with_capacity(alloc, words.len())?;
     for word in words {
         if let Ok(pointer) = Pointer::read(word.as_str()) {
@@ -72,8 +72,7 @@ fn is_found_alike(
     words: &[String],
     found: &[Led],
 ) -> Result<bool, AllocError> {
-    let pointers = pointers_of(alloc, words)?;
-    is_fed_alike(alloc, text, &pointers, found)
+    is_fed_alike(alloc, text, words, found)
 }
 
 /// The kind and the span of a row, if they are those that are wanted.

@@ -1,16 +1,18 @@
--- Bytes of which each one is kept where elements are kept at all, and among which no element ends.
-use Rattle.std.specs.Prelude.{◌≡◌, ◌≢◌, ◌+◌, ◌≤◌, ℕ, List, [], ◌∷◌, ◌++◌, length, if◌then◌else◌}
-use Rattle.jx_each.specs.declared.stand.Stand.{Stand}
-use Rattle.jx_each.specs.Machine.{run}
+-- Bytes among which no element ends.
+use Rattle.std.specs.Prelude.{◌≡◌, ℕ, List, [], ◌++◌, Bool, if◌then◌else◌}
+use Rattle.jx_compact.specs.declared.place.Place.{Place}
+use Rattle.jx_each.specs.declared.stand.Stage.{Stage}
+use Rattle.jx_each.specs.Machine.{Made, run}
 
--- they lead from one stand to another
-pub record IsStretch (from : Stand) (w : List ℕ) (to : Stand) : Type 0 where
-  pub stage : to.stage ≡ from.stage
-  pub takes : to.takes ≡ from.takes
-  pub most : to.height ≤ from.height + length w
-  pub runs : (path : List (List ℕ)) (lines part : List ℕ) → run path (record { stand = from; lines = lines; part = part }) w ≡ record { stand = to; lines = lines; part = part ++ (if from.takes then w else []) }
+abbrev pub spot : Place → ℕ → Stage → Bool → List ℕ → List ℕ → Made
+spot place height stage takes lines part = record { stand = record { place = place; height = height; stage = stage; takes = takes }; lines = lines; part = part }
 
--- they end no string, and begin no escape
-abbrev pub AreChars : List ℕ → Type 0
-AreChars [] = Unit {0}
-AreChars (b ∷ bs) = (b ≢ 0x22) × (b ≢ 0x5c) × AreChars bs
+-- each one is kept where elements are kept at all, and they lead from one place and height to another
+pub record IsStretch (place : Place) (height : ℕ) (w : List ℕ) (to : Place) (high : ℕ) : Type 0 where
+  pub runs : (path : List (List ℕ)) (stage : Stage) (takes : Bool) (lines part : List ℕ)
+      → run path (spot place height stage takes lines part) w ≡ spot to high stage takes lines (part ++ (if takes then w else []))
+
+-- none is kept, and the byte behind them stands where the first one stood
+pub record IsPassed (place : Place) (w : List ℕ) : Type 0 where
+  pub runs : (path : List (List ℕ)) (height : ℕ) (stage : Stage) (takes : Bool) (lines part : List ℕ)
+      → run path (spot place height stage takes lines part) w ≡ spot place height stage takes lines part

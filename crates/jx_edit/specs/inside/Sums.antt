@@ -17,6 +17,10 @@ is_linked_at (c ∷ cs) (suc k) = is_linked_at cs k
 abbrev pub AreLinkedFrom : List ChunkValue → ℕ → ℕ → Type 0
 AreLinkedFrom cs i j = (k : ℕ) → i ≤ k → k < j → is_linked_at cs k ≡ true
 
+-- the same of those that are among the first so many
+abbrev pub AreLinkedBelow : List ChunkValue → ℕ → ℕ → ℕ → Type 0
+AreLinkedBelow cs count i j = (k : ℕ) → i ≤ k → k < j → k < count → is_linked_at cs k ≡ true
+
 -- of the chunks of the group behind so many groups
 pub record IsSum (cs : List ChunkValue) (g : ℕ) (s : Sum) : Type 0 where
   pub bytes : size_before cs ((g + 1) * 64) ≡ size_before cs (g * 64) + s.bytes

@@ -1,7 +1,7 @@
 // Commands under refused growths.
 use jx_command::{
-    ArgFault, EachOrder, Input, Inputs, LinesOrder, Order, PartsOrder, PartsStep, Request,
-    ValuesOrder, command_of,
+    ArgFault, EachOrder, Input, Inputs, LinesOrder, LiveOrder, Order, PartsOrder, PartsStep,
+    Request, ValuesOrder, command_of,
 };
 use jx_crew::Workers;
 use jx_hostile_runs::lines::Lines;
@@ -11,7 +11,7 @@ use std::alloc::{AllocError, Global};
 use std::test::Fail;
 
 // Words behind the program's name, and what they ask for.
-const COMMANDS: [(&[&str], &str); 10] = [
+const COMMANDS: [(&[&str], &str); 11] = [
     (&["chek"], "wrong words"),
     (
         &["at", "/1", "/2", "x"],
@@ -42,6 +42,19 @@ const COMMANDS: [(&[&str], &str); 10] = [
     (
         &["lines", "F", "G", "--depth", "7", "--skip-blank", "-q"],
         "lines; depth 7, skip blank, quiet, inputs F G",
+    ),
+    (
+        &[
+            "seq",
+            "--live",
+            "F",
+            "G",
+            "--depth",
+            "7",
+            "--ignore-bom",
+            "-q",
+        ],
+        "seq, live; depth 7, mark Ignored, quiet, inputs F G",
     ),
     (
         &["check", "F", "-", "G"],
@@ -91,6 +104,7 @@ fn asked_by(alloc: Global, words: &[&str]) -> Result<String, AllocError> {
         Ok(Order::Values(order)) => line_of_values(alloc, &order),
         Ok(Order::Each(order)) => line_of_each(alloc, &order),
         Ok(Order::Lines(order)) => line_of_lines(alloc, &order),
+        Ok(Order::Live(order)) => line_of_live(alloc, &order),
         Err(ArgFault::Memory) => Err(AllocError),
         Err(_) => String::from_str(alloc, "wrong words"),
     }
@@ -173,6 +187,19 @@ fn line_of_lines(alloc: Global, order: &LinesOrder<'_>) -> Result<String, AllocE
     let mut line = format!(in alloc; "lines; depth {depth}")?;
     if order.skips_blanks {
         line.push_str(", skip blank")?;
+    }
+    if order.is_quiet {
+        line.push_str(", quiet")?;
+    }
+    add_inputs(&mut line, &order.inputs)?;
+    Ok(line)
+}
+
+fn line_of_live(alloc: Global, order: &LiveOrder<'_>) -> Result<String, AllocError> {
+    let depth = order.settings.depth.containers();
+    let mut line = format!(in alloc; "seq, live; depth {depth}")?;
+    if order.settings.mark == FrontMark::Ignored {
+        line.push_str(", mark Ignored")?;
     }
     if order.is_quiet {
         line.push_str(", quiet")?;

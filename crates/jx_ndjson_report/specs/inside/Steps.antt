@@ -1,56 +1,36 @@
--- How the output for lines is made and written batch by batch.
-use Rattle.std.specs.Prelude.{◌≡◌, ℕ, zero, suc, List, [], ◌++◌, codes, decimal, if◌then◌else◌, Option}
+-- How what is due is written batch by batch, by what a teller has taken and by what waits.
+use Rattle.std.specs.Prelude.{◌≡◌, ℕ, List, [], ◌++◌, Option}
 use Rattle.std.specs.Io.KnownBytes.{Appends, Consumes}
-use Rattle.jx_ndjson.specs.declared.judged_line.JudgedLine.{JudgedLine}
-use Rattle.jx_report.specs.declared.exit.Exit.{Exit}
-use Rattle.jx_report.specs.declared.exit.Exit.TheVariants.{Good, Bad}
 use Rattle.jx_report.specs.Ends.{ReadsToEnd, AppendsBeginning}
-use Rattle.jx_report.specs.Reports.{shown_output}
-use Rattle.jx_report.specs.Words.{line}
-use Rattle.jx_ndjson_report.specs.declared.task.LinesTask.{LinesTask}
-use Rattle.jx_ndjson_report.specs.Output.{IsDue, is_bad, told_line}
-use Rattle.jx_ndjson_report.specs.inside.Teller.{HasTaken, TellerValue}
-
--- what is written for one line
-abbrev pub bad_line : LinesTask → JudgedLine → List ℕ
-bad_line task j = shown_output task.is_quiet (if is_bad task.blanks j.verdict then told_line task.front.items j else [])
-
--- the line of the totals
-abbrev pub total_words : List ℕ → ℕ → ℕ → List ℕ
-total_words front good bad = front ++ codes "accepted " ++ decimal good ++ codes ", refused " ++ line (decimal bad)
-
--- the exit by how many lines are bad
-abbrev pub exit_by : ℕ → Exit
-exit_by zero = Good
-exit_by (suc n) = Bad
+use Rattle.jx_ndjson_report.specs.Reports.{Dues}
 
 -- a batch was taken, and the lines that were due then were written
-pub record WritesOn (task : LinesTask) (written grown : Option (List ℕ)) (batch : List ℕ) (old new : TellerValue) : Type 0 where
+pub record WritesOn {T : Type 0} (HasTaken : List ℕ → List ℕ → T → Type 0) (ready : T → List ℕ) (written grown : Option (List ℕ)) (batch : List ℕ) (old new : T) : Type 0 where
   pub more : List ℕ
   pub wrote : Appends written grown more
-  pub takes : (text given : List ℕ) → HasTaken task text given old → HasTaken task (text ++ batch) (given ++ more) new
-  pub none_wait : new.ready ≡ []
+  pub takes : (text given : List ℕ) → HasTaken text given old → HasTaken (text ++ batch) (given ++ more) new
+  pub none_wait : ready new ≡ []
 
 -- a batch was taken, and a beginning of the lines that were due then was written
-pub record WritesPart (task : LinesTask) (written grown : Option (List ℕ)) (batch : List ℕ) (old : TellerValue) : Type 0 where
+pub record WritesPart {T : Type 0} (HasTaken : List ℕ → List ℕ → T → Type 0) (IsDue : Dues) (written grown : Option (List ℕ)) (batch : List ℕ) (old : T) : Type 0 where
   pub more : List ℕ
   pub wrote : AppendsBeginning written grown more
-  pub due : (text given : List ℕ) → HasTaken task text given old → IsDue task (text ++ batch) (given ++ more)
+  pub due : (text given : List ℕ) → HasTaken text given old → IsDue (text ++ batch) (given ++ more)
 
 -- all that was read was taken, and all that is due of it was written
-pub record IsWritten (task : LinesTask) (unread left written grown : Option (List ℕ)) (t : TellerValue) : Type 0 where
+pub record IsWritten {T : Type 0} (HasTaken : List ℕ → List ℕ → T → Type 0) (ready : T → List ℕ) (unread left written grown : Option (List ℕ)) (t : T) : Type 0 where
   pub text : List ℕ
   pub given : List ℕ
   pub read : Consumes unread left text
   pub wrote : Appends written grown given
-  pub taken : HasTaken task text given t
-  pub none_wait : t.ready ≡ []
+  pub taken : HasTaken text given t
+  pub none_wait : ready t ≡ []
 
 -- and nothing is left to read
-pub record IsAllWritten (task : LinesTask) (unread left written grown : Option (List ℕ)) (t : TellerValue) : Type 0 where
+pub record IsAllWritten {T : Type 0} (HasTaken : List ℕ → List ℕ → T → Type 0) (ready : T → List ℕ) (unread left written grown : Option (List ℕ)) (t : T) : Type 0 where
   pub text : List ℕ
   pub given : List ℕ
   pub read : ReadsToEnd unread left text
   pub wrote : Appends written grown given
-  pub taken : HasTaken task text given t
-  pub none_wait : t.ready ≡ []
+  pub taken : HasTaken text given t
+  pub none_wait : ready t ≡ []

@@ -6,10 +6,11 @@ use Rattle.jx_run.specs.declared.texts.settings.NameRule.TheVariants.{Any}
 use Rattle.jx_run.specs.declared.texts.settings.Settings.{Settings}
 use Rattle.jx_run.specs.Reader.{HasRead}
 use Rattle.jx_find.specs.Finder as finder
+use Rattle.jx_names.specs.Fed as names
 use Rattle.jx_task.specs.declared.task.Task.{Task}
 use Rattle.jx_task.specs.declared.task.Task.TheVariants.{Check, Seq}
 use Rattle.jx_report.specs.declared.reading.Reading.{Reading}
-use Rattle.jx_report.specs.declared.reading.Reading.TheVariants.{Text, Pointers, Elements}
+use Rattle.jx_report.specs.declared.reading.Reading.TheVariants.{Text, Names, Pointers, Elements}
 use Rattle.jx_report.specs.declared.report_fault.ReportFault.{ReportFault}
 use Rattle.jx_report.specs.declared.report_fault.ReportFault.TheVariants.{Read, Write, Pieces}
 use Rattle.jx_report.specs.inside.PointerReads.{IsPointerRead}
@@ -20,12 +21,14 @@ use Rattle.jx_report.specs.inside.Sequences.{IsSequenceRead}
 -- these bytes were read from the start of an input, for what the task asks of them
 abbrev pub IsReadingOf : Task → Settings → List ℕ → Reading → Type 0
 IsReadingOf task settings text (Text reader balance) = (task ≡ Check) × ((settings.names ≡ Any) × ((reader.settings ≡ settings) × ((reader.start ≡ 0) × HasRead text reader)))
+IsReadingOf task settings text (Names reader) = (task ≡ Check) × names.HasFed settings text reader
 IsReadingOf task settings text (Pointers reader) = IsPointerRead task settings text reader
 IsReadingOf task settings text (Elements sequence) = (task ≡ Seq) × IsSequenceRead settings text sequence
 
 -- how many bytes were read
 abbrev pub end_of : Reading → ℕ
 end_of (Text reader balance) = reader.start + reader.count
+end_of (Names reader) = names.end_of reader
 end_of (Pointers reader) = finder.end_of reader.finder
 end_of (Elements sequence) = sequence.reader.start + sequence.reader.count
 

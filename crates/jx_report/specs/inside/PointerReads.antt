@@ -20,7 +20,7 @@ pub record AreSought (task : Task) (settings : Settings) (pointers : List (List 
 -- what these strings spell as pointers is looked up in these bytes
 pub record AreLookedUp (settings : Settings) (spelt : List (List ℕ)) (text : List ℕ) (reader : PointerReader) : Type 0 where
   pub pointers : List (List ℕ)
-  pub read : AreReadPointers spelt pointers reader.unread.now
+  pub read : AreReadPointers spelt pointers reader.unread.items
   pub fed : HasFed settings pointers text reader.finder
 
 -- the task asks for that

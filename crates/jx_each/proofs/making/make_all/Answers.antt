@@ -1,45 +1,41 @@
-use Rattle.std.proofs.Common.{◌≡◌, ◌+◌, ◌-◌, ◌≤◌, ◌++◌, [], ℕ, take, drop, length, ap, ◌∙◌, arith, refl}
-use Rattle.std.specs.Prelude.{if◌then◌else◌}
+use Rattle.std.proofs.Common.{◌≡◌, ◌≤◌, ap, arith, refl}
+use Rattle.jx_each.specs.declared.stand.Stand.{Stand}
 use Rattle.jx_each.specs.inside.Paths.{count_in, path_of}
-use Rattle.jx_each.proofs.Stretching.{rest_length, run_byte, run_on, short}
+use Rattle.jx_each.proofs.Stretching.{made_on, run_byte}
 use Rattle.jx_each.proofs.making.make_all.Goals as goal
 
 pub loop-at-preserved : goal.loop-at-preserved
 loop-at-preserved c =
-    let xs = c.args.bytes.now in
-    let s = c.loop-at.stand in
-    let found = c.stretch_from-found.result in
-    let at = c.loop-at.at in
-    let e : length (take (length xs - at) (drop at xs)) ≡ length xs - at = rest_length xs at in
-    let le : length (take found.len (take (length xs - at) (drop at xs))) ≤ found.len = short found.len (take (length xs - at) (drop at xs)) in
-    let same : count_in found.stand.stage ≡ count_in s.stage = ap count_in c.stretch_from-found.ensures.stretch.stage in
+    let i = c.loop-at.invariant in
+    let found = c.stretch_from-found.ensures in
+    let past = c.blanks_from-at.ensures in
+    let low : c.loop-at.at ≤ c.stretch_from-found.result.end = found.bounds.0 in
+    let high : c.stretch_from-found.result.end ≤ c.blanks_from-at.result = past.bounds.0 in
+    let height : c.moved-stand.result.height ≡ c.stretch_from-found.result.height = ap (λ (s : Stand). s.height) c.moved-stand.ensures in
+    let count : count_in c.moved-stand.result.stage ≡ count_in c.loop-at.stand.stage = ap (λ (s : Stand). count_in s.stage) c.moved-stand.ensures in
     record {
-      within = omega (arith, e, c.stretch_from-found.ensures.within, c.loop-at.invariant.within);
-      height = omega (arith, le, c.stretch_from-found.ensures.stretch.most, c.loop-at.invariant.height);
-      count = omega (arith, same, c.loop-at.invariant.count);
-      made = run_on (path_of c.args.path.now) s found.stand c.loop-at.lines.items c.loop-at.part.items c.push_stretch.new.part.items xs at found.len _ c.stretch_from-found.ensures.stretch
-          (let pushed : c.push_stretch.new.part.items ≡ c.loop-at.part.items ++ (if s.takes then take ((at + found.len) - at) (drop at xs) else []) = c.in_ok-push_stretch.ensures in
-          pushed ∙ ap (λ (n : ℕ). c.loop-at.part.items ++ (if s.takes then take n (drop at xs) else [])) (let e : (at + found.len) - at ≡ found.len = omega arith in e))
-          c.loop-at.invariant.made;
+      within = past.bounds.1;
+      height = omega (arith, low, high, height, found.high, i.height);
+      count = omega (arith, low, high, count, i.count);
+      made = made_on (path_of c.args.path.now) c.loop-at.stand c.moved-stand.result c.stretch_from-found.result.place c.stretch_from-found.result.height c.loop-at.lines.items c.loop-at.part.items c.push_stretch.new.part.items c.args.bytes.now
+          c.loop-at.at c.stretch_from-found.result.end c.blanks_from-at.result _ c.moved-stand.ensures low high found.stretch c.in_ok-push_stretch.ensures past.passed i.made;
     }
 
 pub loop-at-preserved-then-at-bytes : goal.loop-at-preserved-then-at-bytes
 loop-at-preserved-then-at-bytes c =
-    let xs = c.args.bytes.now in
-    let s = c.loop-at.stand in
-    let found = c.stretch_from-found.result in
-    let at = c.loop-at.at in
-    let e : length (take (length xs - at) (drop at xs)) ≡ length xs - at = rest_length xs at in
-    let le : length (take found.len (take (length xs - at) (drop at xs))) ≤ found.len = short found.len (take (length xs - at) (drop at xs)) in
-    let same : count_in found.stand.stage ≡ count_in s.stage = ap count_in c.stretch_from-found.ensures.stretch.stage in
+    let i = c.loop-at.invariant in
+    let found = c.stretch_from-found.ensures in
+    let past = c.blanks_from-at.ensures in
+    let low : c.loop-at.at ≤ c.stretch_from-found.result.end = found.bounds.0 in
+    let high : c.stretch_from-found.result.end ≤ c.blanks_from-at.result = past.bounds.0 in
+    let height : c.moved-stand.result.height ≡ c.stretch_from-found.result.height = ap (λ (s : Stand). s.height) c.moved-stand.ensures in
+    let count : count_in c.moved-stand.result.stage ≡ count_in c.loop-at.stand.stage = ap (λ (s : Stand). count_in s.stage) c.moved-stand.ensures in
     record {
       within = omega (arith, c.if-at-bytes.true);
-      height = omega (arith, le, c.stretch_from-found.ensures.stretch.most, c.loop-at.invariant.height, c.in_ok-stand.ensures.height);
-      count = omega (arith, same, c.loop-at.invariant.count, c.in_ok-stand.ensures.count);
-      made = run_byte (path_of c.args.path.now) found.stand c.in_ok-stand.stand c.loop-at.lines.items c.push_stretch.new.part.items c.make.new.lines.items c.make.new.part.items xs (at + found.len) _ _ c.if-at-bytes.true refl
-          c.in_ok-stand.ensures.made
-          (run_on (path_of c.args.path.now) s found.stand c.loop-at.lines.items c.loop-at.part.items c.push_stretch.new.part.items xs at found.len _ c.stretch_from-found.ensures.stretch
-          (let pushed : c.push_stretch.new.part.items ≡ c.loop-at.part.items ++ (if s.takes then take ((at + found.len) - at) (drop at xs) else []) = c.in_ok-push_stretch.ensures in
-          pushed ∙ ap (λ (n : ℕ). c.loop-at.part.items ++ (if s.takes then take n (drop at xs) else [])) (let e : (at + found.len) - at ≡ found.len = omega arith in e))
-          c.loop-at.invariant.made);
+      height = omega (arith, low, high, height, found.high, i.height, c.in_ok-stand.ensures.height);
+      count = omega (arith, low, high, count, i.count, c.in_ok-stand.ensures.count);
+      made = run_byte (path_of c.args.path.now) c.moved-stand.result c.in_ok-stand.stand c.loop-at.lines.items c.push_stretch.new.part.items c.make.new.lines.items c.make.new.part.items c.args.bytes.now c.blanks_from-at.result _ _
+          c.if-at-bytes.true refl c.in_ok-stand.ensures.made
+          (made_on (path_of c.args.path.now) c.loop-at.stand c.moved-stand.result c.stretch_from-found.result.place c.stretch_from-found.result.height c.loop-at.lines.items c.loop-at.part.items c.push_stretch.new.part.items c.args.bytes.now
+          c.loop-at.at c.stretch_from-found.result.end c.blanks_from-at.result _ c.moved-stand.ensures low high found.stretch c.in_ok-push_stretch.ensures past.passed i.made);
     }

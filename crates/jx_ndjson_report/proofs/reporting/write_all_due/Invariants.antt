@@ -7,5 +7,5 @@ abbrev pub invariant-loop : goal.invariant-loop
 invariant-loop g l = record {
   reader : g.S.Source.has_failed l.reader ≡ false;
   writer : g.W.Sink.has_failed l.writer ≡ false;
-  written : IsWritten l.task (g.S.Source.remaining l.initial.reader) (g.S.Source.remaining l.reader) (g.W.Sink.contents l.initial.writer) (g.W.Sink.contents l.writer) l.teller;
+  written : IsWritten (g.T.Teller.has_taken l.task) g.T.Teller.ready (g.S.Source.remaining l.initial.reader) (g.S.Source.remaining l.reader) (g.W.Sink.contents l.initial.writer) (g.W.Sink.contents l.writer) l.teller;
 }

@@ -1,12 +1,11 @@
 use Rattle.std.proofs.Common.{List, ℕ, ◌++◌, subst}
 use Rattle.jx_report.specs.Ends.{AppendsBeginning}
-use Rattle.jx_ndjson_report.proofs.Takes.{due}
 use Rattle.jx_ndjson_report.proofs.reporting.write_due.Goals as goal
 
 pub returns-in_err-write_all-clause-beginning : goal.returns-in_err-write_all-clause-beginning
 returns-in_err-write_all-clause-beginning g c = λ is.
     record {
-      more = c.feed.new.self.ready;
-      wrote = subst (λ (l : List ℕ). AppendsBeginning (g.W.Sink.contents c.args.writer.now) (g.W.Sink.contents c.write_all.new.writer) l) c.ready.ensures c.in_err-write_all.ensures.err;
-      due = λ text given h. due c.what_is_told_are_ended_lines.ensures.told c.args.task.now (text ++ c.args.batch.now) given c.feed.new.self (c.in_ok-feed.ensures.taken text given h);
+      more = g.T.Teller.ready c.feed.new.self;
+      wrote = subst (λ (l : List ℕ). AppendsBeginning (g.W.Sink.contents c.args.writer.now) (g.W.Sink.contents c.write_all.new.writer) l) c.ready.ensures.ready c.in_err-write_all.ensures.err;
+      due = λ text given h. c.what_is_taken_is_due.ensures.due c.args.task.now (text ++ c.args.batch.now) given c.feed.new.self (c.in_ok-feed.ensures.taken text given h);
     }

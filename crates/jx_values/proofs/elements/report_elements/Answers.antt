@@ -28,7 +28,7 @@ returns-in_err-buffer-clause-lines g c = λ is.
 pub write_all_due-requires-clause-sought : goal.write_all_due-requires-clause-sought
 write_all_due-requires-clause-sought g c =
     subst (λ (s : Settings). HasSought (any_names s) c.args.pointer.now [] c.in_ok-sought.sought) (sym c.in_ok-each.ensures.settings)
-    (c.in_ok-sought.ensures c.args.pointer.now (c.deref.ensures.value ∙ c.in_ok-pointers.ensures))
+    (c.in_ok-sought.ensures c.args.pointer.now c.in_ok-pointers.ensures)
 
 pub returns-in_err-write_all_due-clause-read : goal.returns-in_err-write_all_due-clause-read
 returns-in_err-write_all_due-clause-read g c =
@@ -79,5 +79,5 @@ returns-clause-ok g c =
     reports c.args.settings.now c.args.pointer.now (g.S.Source.remaining c.args.reader.now) (g.S.Source.remaining c.write_all_due.new.reader) (g.W.Sink.contents c.args.writer.now) (g.W.Sink.contents c.write_all_due.new.writer)
     (g.E.Sink.has_failed c.tell.new.errors) told retold c.write_all_due.new.each c.write_all_due.new.sought c.verdict.result c.in_ok-told.told.items c.exit_by.result
     c.what_is_taken_is_due.ensures.due (c.write_all_due.ensures.settings ∙ c.in_ok-each.ensures.settings) c.in_ok-write_all_due.ensures.ok c.verdict.ensures c.in_ok-told.ensures
-    (c.exit_by.ensures ∙ ap exit_by c.deref-3.ensures.value)
-    (λ lost. subst (λ l. Appends told retold l) c.deref-2.ensures.value (c.tell.ensures lost))
+    (c.exit_by.ensures ∙ ap exit_by c.deref-2.ensures.value)
+    (λ lost. subst (λ l. Appends told retold l) c.deref.ensures.value (c.tell.ensures lost))

@@ -27,8 +27,9 @@ returns-clause-found c = λ settings pointers bytes h.
     let met_is : c.deref-in-Accepted-4.result.now ≡ (seek_all bytes there (length bytes) track.marks track.ends (nothing_met (length there))).met =
     c.deref-in-Accepted-4.ensures.value ∙ met
     ∙ ap (λ (es : List Edge). (seek_all bytes es (length bytes) track.marks track.ends (nothing_met (length es))).met) (c.deref.ensures.value ∙ sym is_there) in
-    let ways : All (λ (p : List ℕ). HasWay there p) f.pointers.now =
-    subst (λ (ps : List (List ℕ)). All (λ (p : List ℕ). HasWay there p) ps) (sym h.pointers_are)
+    let asked_are : c.deref-in-Accepted-5.result.now ≡ pointers = c.deref-in-Accepted-5.ensures.value ∙ h.pointers_are in
+    let ways : All (λ (p : List ℕ). HasWay there p) c.deref-in-Accepted-5.result.now =
+    subst (λ (ps : List (List ℕ)). All (λ (p : List ℕ). HasWay there p) ps) (sym asked_are)
     (subst (λ (es : List Edge). All (λ (p : List ℕ). HasWay es p) pointers) (sym is_there) h.ways) in
-    subst (λ (ps : List (List ℕ)). AreFoundIn settings bytes ps c.in_ok-found-in-Accepted.found.items) h.pointers_are
+    subst (λ (ps : List (List ℕ)). AreFoundIn settings bytes ps c.in_ok-found-in-Accepted.found.items) asked_are
     (c.in_ok-found-in-Accepted.ensures settings bytes (subst IsTrie (sym is_there) h.trie) ways h.names judged met_is)

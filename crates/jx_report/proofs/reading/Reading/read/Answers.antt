@@ -23,3 +23,10 @@ returns-in-Pointers g c =
                 record { spelt = was.spelt; task_is = was.task_is; looked_up = reads settings (map string_bytes was.spelt.items) text was.looked_up };
           }) c.read.ensures.reads;
     }
+
+pub returns-in-Names : goal.returns-in-Names
+returns-in-Names g c =
+    record {
+      reads = on_ok_weaker c.feed-in-Names.result
+          (λ reads. record { reads = λ task settings text h. let was = subst (IsReadingOf task settings text) c.in-Names.is h in (was.0, reads settings text was.1) }) c.feed-in-Names.ensures.fed;
+    }

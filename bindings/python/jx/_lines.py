@@ -1,0 +1,208 @@
+"""JSON Lines, also called NDJSON."""
+from __future__ import annotations
+
+import ctypes
+import dataclasses
+import io
+import os
+import threading
+import weakref
+from typing import Any, BinaryIO, Iterable, Iterator, List, Optional, Tuple, Union
+
+from ._faults import Kind, Verdict
+from ._library import DEPTH_DEFAULT, LIBRARY, Buffer, CLine, CLineCounts, CLines, Status, done, held, settings, view
+
+# So few lines wait at once, also where each one is bad.
+_STEP = 1 << 16
+_ROOM = 64
+
+
+@dataclasses.dataclass(frozen=True)
+class Line:
+    """A line that is no text: its number, from 1; its span without the line feed; its verdict. Offsets count from the input's start."""
+
+    number: int
+    start: int
+    end: int
+    verdict: Verdict
+
+    @property
+    def kind(self) -> Kind:
+        return self.verdict.kind
+
+    @property
+    def offset(self) -> Optional[int]:
+        """The offset of the fault in the input; None of a line that ends too early, may be cut or is blank."""
+        return self.verdict.offset if self.kind in (Kind.STOPPED, Kind.TOO_DEEP) else None
+
+    @property
+    def reason(self) -> str:
+        """The verdict in words for people."""
+        return self.verdict.reason
+
+    def __str__(self) -> str:
+        where = "bytes %d..%d" % (self.start, self.end) if self.offset is None else "byte %d" % self.offset
+        return "line %d: %s (%s)" % (self.number, self.reason, where)
+
+    @classmethod
+    def _of(cls, line: CLine) -> Line:
+        return cls(line.number, line.span.start, line.span.end, Verdict._of(line.verdict.kind, line.verdict.offset))
+
+
+class LineReader:
+    """JSON Lines that come chunk by chunk. A line feed ends a line; what stands behind the last one is a line, too, unless it is empty.
+
+    It keeps no byte of the input. `ignore_bom` skips a byte order mark in front of the input. Names may repeat.
+    """
+
+    def __init__(self, *, depth: int = DEPTH_DEFAULT, ignore_bom: bool = False):
+        asked = settings(depth, ignore_bom, False)
+        self._lines = CLines()
+        self._room = (CLine * _ROOM)()
+        # Other threads of Python run during a call, and the library wants one call at a time.
+        self._lock = threading.Lock()
+        done(LIBRARY.jx_lines_new_non_null(ctypes.byref(asked), ctypes.byref(self._lines)))
+        self._free = weakref.finalize(self, LIBRARY.jx_lines_free_non_null, ctypes.pointer(self._lines))
+
+    def feed(self, chunk: Buffer) -> List[Line]:
+        """Reads the bytes behind those it was fed before, and tells the lines that end there and are no texts.
+
+        A chunk may end anywhere, also inside a character. After a `MemoryError` the reader is lost: later calls raise `ValueError`.
+        """
+        with held(chunk) as (address, size), self._lock:
+            self._done(LIBRARY.jx_lines_feed_non_null(ctypes.byref(self._lines), address, size))
+            return self._taken()
+
+    def end(self) -> List[Line]:
+        """The last line, if no line feed ends it and it is no text: a list of one line or none. More may be fed."""
+        last = self._told()[0]
+        return [Line._of(last)] if last.number else []
+
+    @property
+    def accepted(self) -> int:
+        """How many lines are texts, if the input ends here."""
+        return int(self._told()[1].accepted)
+
+    @property
+    def refused(self) -> int:
+        """How many lines are no texts, or may be cut, if the input ends here. Blank ones are not counted."""
+        return int(self._told()[1].refused)
+
+    @property
+    def blank(self) -> int:
+        """How many lines have no byte, or blanks alone, if the input ends here."""
+        return int(self._told()[1].blank)
+
+    def __reduce__(self) -> Tuple[Any, ...]:
+        raise TypeError("a reader of lines is not copied or pickled")
+
+    def _taken(self) -> List[Line]:
+        count = ctypes.c_size_t()
+        room = self._room
+        status = self._take(room, count)
+        if status == Status.NO_ROOM:
+            # Memory that `ctypes` cannot have is a MemoryError, and the lines wait on.
+            room = (CLine * count.value)()
+            status = self._take(room, count)
+        self._done(status)
+        return [Line._of(line) for line in room[: count.value]]
+
+    def _take(self, room: Any, count: ctypes.c_size_t) -> int:
+        return int(LIBRARY.jx_lines_take_non_null(ctypes.byref(self._lines), room, len(room), ctypes.byref(count)))
+
+    def _told(self) -> Tuple[CLine, CLineCounts]:
+        last, counts = CLine(), CLineCounts()
+        with self._lock:
+            self._done(LIBRARY.jx_lines_end_non_null(ctypes.byref(self._lines), ctypes.byref(last), ctypes.byref(counts)))
+        return last, counts
+
+    @staticmethod
+    def _done(status: int) -> None:
+        if status == Status.NO_LINES:
+            raise ValueError("the reader of lines was lost for want of memory")
+        done(status)
+
+
+class Lines(Iterator[Line]):
+    """The lines that are no texts, in order, each as soon as it was read. `accepted`, `refused` and `blank` count what was read."""
+
+    def __init__(self, chunks: Iterator[Buffer], depth: int, ignore_bom: bool, skip_blank: bool):
+        self._reader = LineReader(depth=depth, ignore_bom=ignore_bom)
+        self._told = self._tell(chunks, skip_blank)
+
+    def __iter__(self) -> Lines:
+        return self
+
+    def __next__(self) -> Line:
+        return next(self._told)
+
+    @property
+    def accepted(self) -> int:
+        """How many lines are texts, of what was read."""
+        return self._reader.accepted
+
+    @property
+    def refused(self) -> int:
+        """How many lines are no texts, or may be cut, of what was read. Blank ones are not counted."""
+        return self._reader.refused
+
+    @property
+    def blank(self) -> int:
+        """How many lines have no byte, or blanks alone, of what was read."""
+        return self._reader.blank
+
+    def _tell(self, chunks: Iterator[Buffer], skip_blank: bool) -> Iterator[Line]:
+        for chunk in chunks:
+            for line in self._reader.feed(chunk):
+                if not (skip_blank and line.kind is Kind.BLANK):
+                    yield line
+        for line in self._reader.end():
+            if not (skip_blank and line.kind is Kind.BLANK):
+                yield line
+
+
+def lines(data: Buffer, *, depth: int = DEPTH_DEFAULT, ignore_bom: bool = False, skip_blank: bool = False) -> Lines:
+    """The lines of JSON Lines that are no JSON texts (RFC 8259), with their numbers. Without `skip_blank` blank lines are among them."""
+    return Lines(_slices(view(data)), depth, ignore_bom, skip_blank)
+
+
+def lines_file(
+    file: Union[str, bytes, os.PathLike[str], os.PathLike[bytes], BinaryIO, Iterable[Buffer]],
+    *,
+    depth: int = DEPTH_DEFAULT,
+    ignore_bom: bool = False,
+    skip_blank: bool = False,
+) -> Lines:
+    """The same of a file, by its path or open for reading bytes, or of any chunks of bytes: in constant memory, while they are read.
+
+    Each line is told before more is waited for, as of a pipe or of `sys.stdin.buffer`. The file's own faults are raised where they happen.
+    """
+    if isinstance(file, (str, bytes, os.PathLike)):
+        return Lines(_chunks_at(open(file, "rb", buffering=0)), depth, ignore_bom, skip_blank)
+    if isinstance(file, io.TextIOBase):
+        raise TypeError("jx reads bytes: open the file with mode 'rb'")
+    if hasattr(file, "read"):
+        return Lines(_chunks(file), depth, ignore_bom, skip_blank)
+    return Lines(iter(file), depth, ignore_bom, skip_blank)
+
+
+def _slices(data: memoryview) -> Iterator[memoryview]:
+    for start in range(0, len(data), _STEP):
+        yield data[start : start + _STEP]
+
+
+def _chunks(file: Any) -> Iterator[bytes]:
+    # What is there, without waiting for more.
+    read = getattr(file, "read1", file.read)
+    while True:
+        chunk = read(_STEP)
+        if isinstance(chunk, str):
+            raise TypeError("jx reads bytes: open the file with mode 'rb'")
+        if not chunk:
+            return
+        yield chunk
+
+
+def _chunks_at(file: Any) -> Iterator[bytes]:
+    with file:
+        yield from _chunks(file)

@@ -1,0 +1,30 @@
+// The words of the subcommand that judges elements, where they are told as they end.
+use crate::arg_fault::ArgFault;
+use crate::arguments::{inputs_named, mark_of};
+use crate::options::depth_of;
+use crate::order::LiveOrder;
+use clap::ArgMatches;
+use jx_run::{NameRule, Settings};
+use std::alloc::Global;
+
+/// Whether the words ask for that.
+pub(crate) fn is_live(options: &ArgMatches<'_>) -> bool {
+    options.get_flag("live")
+}
+
+/// What its options ask for. The grammar has a depth where the words leave it out, and takes no rule on names.
+pub(crate) fn live_order_from<'a>(
+    alloc: Global,
+    options: &ArgMatches<'a>,
+) -> Result<LiveOrder<'a>, ArgFault> {
+    let words = Vec::from_slice(alloc, options.get_strs("files").unwrap_or(&[]));
+    Ok(LiveOrder {
+        inputs: inputs_named(options, words)?,
+        settings: Settings {
+            depth: depth_of(options).unwrap_or_default(),
+            mark: mark_of(options),
+            names: NameRule::Any,
+        },
+        is_quiet: options.get_flag("quiet"),
+    })
+}

@@ -1,0 +1,27 @@
+-- Sets of bytes of which runs are passed over at once.
+use Rattle.std.specs.Prelude.{◌≡◌, ◌==◌, ◌&&◌, ◌||◌, ℕ, Bool, not, nat_le, true, List, [], ◌∷◌}
+use Rattle.jx_compact.specs.Compact.{is_no_blank}
+
+-- in a string: it ends no string and begins no escape
+abbrev pub is_char : ℕ → Bool
+is_char byte = not (byte == 0x22) && not (byte == 0x5c)
+
+-- between tokens: a bracket, or a byte up to the space
+abbrev pub is_stop : ℕ → Bool
+is_stop byte = nat_le byte 0x20 || byte == 0x5b || byte == 0x5d || byte == 0x7b || byte == 0x7d
+
+-- between tokens: no such byte, and none up to the quotation mark
+abbrev pub is_deep : ℕ → Bool
+is_deep byte = nat_le 0x23 byte && not (is_stop byte)
+
+-- the same, and no comma or colon
+abbrev pub is_flat : ℕ → Bool
+is_flat byte = is_deep byte && not (byte == 0x2c) && not (byte == 0x3a)
+
+abbrev pub is_blank : ℕ → Bool
+is_blank byte = not (is_no_blank byte)
+
+-- each of these bytes is in the set
+abbrev pub AreIn : (ℕ → Bool) → List ℕ → Type 0
+AreIn p [] = Unit {0}
+AreIn p (b ∷ bs) = (p b ≡ true) × AreIn p bs

@@ -1,7 +1,0 @@
-use Rattle.std.proofs.Common.{refl}
-use Rattle.jx_explain.proofs.Behind.{watched_mark}
-use Rattle.jx_explain.proofs.standing.WatchingTokenSink.begin.Goals as goal
-
-pub returns : goal.returns
-returns c = λ marks ends seen.
-    watched_mark marks ends c.args.mark c.args.self.now.stack c.push.new.self c.args.self.now.token c.args.mark.at refl c.push.ensures.depth c.in_ok-push.ensures.marks seen

@@ -1,0 +1,164 @@
+-- What is kept by units follows what is built, mark by mark.
+use Rattle.std.proofs.Common.{◌≡◌, ℕ, suc, ◌+◌, ◌-◌, ◌≤◌, ◌⊎◌, List, [], ◌∷◌, ◌++◌, length, take, drop, map, Bool, true, false, Option, None, Some, refl, sym, ap, subst, ◌∙◌, arith}
+use Rattle.std.specs.Prelude.{option_to_list, slice_range}
+use Rattle.std.proofs.lemmas.List.{length-append, take_all}
+use Rattle.std.proofs.Math.Seq.{drop-append_seam}
+use Rattle.jx_lex.specs.declared.kind.Kind.{Kind}
+use Rattle.jx_lex.specs.declared.kind.Kind.TheVariants as kind
+use Rattle.jx_lex.specs.declared.alphabet.mark.MarkKind.{MarkKind}
+use Rattle.jx_lex.specs.declared.alphabet.mark.MarkKind.TheVariants as mark
+use Rattle.jx_summary.specs.declared.span.Span.{Span}
+use Rattle.jx_run.specs.Tree.{span}
+use Rattle.jx_index.specs.declared.open_names.Holder.{Holder}
+use Rattle.jx_index.specs.declared.units.Spelling.TheVariants.{InText}
+use Rattle.jx_index.specs.Repeats.{IsLeast}
+use Rattle.jx_index.specs.Units.{between_marks, chars_units, units_at}
+use Rattle.jx_index.specs.inside.Building.{Building, add_leaf, add_string, begin_container, ended, nothing_built, on_mark}
+use Rattle.jx_index.specs.inside.NameKeys.{key_behind}
+use Rattle.jx_index.specs.inside.NameLists.{start_at, IsRepeatedName}
+use Rattle.jx_index.specs.inside.OpenNames as index
+use Rattle.jx_index.specs.inside.OpenNames.{Held, IsHeldOf, is_object}
+use Rattle.jx_index.specs.inside.Ties.{earlier_of}
+use Rattle.jx_index.proofs.OpenNames.{container_held, end_held, leaf_held, named_held, none_held, scalar_held, string_held}
+use Rattle.jx_string.specs.Texts.{string_units}
+use Rattle.jx_names.specs.declared.name_units.Name.{Name}
+use Rattle.jx_names.specs.declared.open_names.Container.{Container}
+use Rattle.jx_names.specs.inside.KeptNames.{AreKept, Ends, EndsIn, IsKept, IsKeptName, IsKeptToo, IsRepeatedKept, Kept, Stands, cut_back, end_from, holder, names_next, start_of, units_in, with_container, with_name, with_value}
+use Rattle.jx_names.proofs.Alike.{alike_drop, least_alike}
+use Rattle.jx_names.proofs.Keeping.{all_stay, are_alike, cut_kept, cut_too, ends_within, first_kept, keys_behind, one_more, same_long}
+
+-- ---- what is kept of what is held
+
+module _ (text : List ℕ) (h : Held) (k : Kept) (x : IsKept text h k) where
+  value_names : AreKept text k.units 0 (h.names ++ option_to_list h.name) (k.names ++ option_to_list k.name)
+  value_names = one_more text k.units 0 h.names k.names h.name k.name x.names x.name
+
+  value_kept : IsKept text (index.with_value h) (with_value k)
+  value_kept = record { opened = x.opened; names = value_names; name = tt; first = x.first }
+
+  container_kept : (o : Bool) → IsKept text (index.with_container o h) (with_container o k)
+  container_kept o =
+      let n = same_long text k.units 0 _ _ value_names in
+      record {
+        opened =
+            ap (λ (i : ℕ). record { is_object = o; before = i } ∷ h.opened) n
+            ∙ ap (λ (hs : List Holder). record { is_object = o; before = length (k.names ++ option_to_list k.name) } ∷ hs) x.opened;
+        names = value_names;
+        name = tt;
+        first = x.first;
+      }
+
+  new_units : (us : List ℕ) → slice_range (k.units ++ us) (length k.units) (length (k.units ++ us)) ≡ us
+  new_units us =
+      let long = length-append k.units us in
+      ap (take (length (k.units ++ us) - length k.units)) (drop-append_seam k.units us) ∙ take_all (length (k.units ++ us) - length k.units) us (omega (arith, long))
+
+  name_kept : (at end : ℕ) (us : List ℕ) → us ≡ units_at text (span at end) → IsKept text (record h { name = Some (span at end) }) (with_name at us k)
+  name_kept at end us is =
+      let long = length-append k.units us in
+      let within = ends_within text k.units 0 h.names k.names (omega arith) x.names in
+      let new = new_units us in
+      record {
+        opened = x.opened;
+        names = all_stay text k.units us 0 h.names k.names x.names;
+        name = record {
+          at = refl;
+          above = omega (arith, long, within);
+          order = omega (arith, long);
+          within = omega arith;
+          units_are = new ∙ is;
+          key = ap (key_behind 0) (sym new);
+        };
+        first = x.first;
+      }
+
+-- ---- a container ends
+
+module _ (text : List ℕ) (h : Held) (k : Kept) (text_is : h.text ≡ text) (x : IsKept text h k) (new : Kept) where
+  record HasEnded : Type 0 where
+    held : Held
+    ends : index.Ends h.opened h held
+    kept : IsKept text held new
+
+  ended_in : (c : Container) (outer : List Container) → h.opened ≡ map holder (c ∷ outer) → EndsIn k c outer new → HasEnded
+  ended_in c outer opened e =
+      let other : Held = record h { opened = map holder outer; names = take c.before h.names; first = earlier_of h.first e.repeated } in
+      let is : index.EndsIn h (holder c) (map holder outer) other =
+      record {
+        repeated = e.repeated;
+        in_object = λ q.
+            subst (λ (t : List ℕ). IsLeast (IsRepeatedName t (drop c.before h.names)) e.repeated) (sym text_is)
+            (least_alike (units_at text) (units_in k.units) start_at start_of (drop c.before h.names) (drop c.before k.names) e.repeated
+            (alike_drop (units_at text) (units_in k.units) start_at start_of c.before h.names k.names (are_alike text k.units 0 h.names k.names x.names))
+            (e.in_object q (keys_behind text k.units c.before 0 h.names k.names x.names)));
+        in_array = e.in_array;
+        is = refl;
+      } in
+      let after : Kept = record k { opened = outer; names = take c.before k.names; units = cut_back k.units (take c.before k.names) k.name; first = earlier_of k.first e.repeated } in
+      let still : IsKept text other after =
+      record {
+        opened = refl;
+        names = cut_kept text k.units (take c.before h.names) (take c.before k.names) k.name (first_kept text k.units c.before 0 h.names k.names x.names);
+        name = cut_too text k.units c.before h.names k.names h.name k.name x.names x.name;
+        first = ap (λ (o : Option ℕ). earlier_of o e.repeated) x.first;
+      } in
+      record { held = other; ends = subst (λ (hs : List Holder). index.Ends hs h other) (sym opened) is; kept = subst (IsKept text other) (sym e.is) still }
+
+  has_ended : (opened : List Container) → h.opened ≡ map holder opened → Ends opened k new → HasEnded
+  has_ended [] is e = record { held = h; ends = subst (λ (hs : List Holder). index.Ends hs h h) (sym is) refl; kept = subst (IsKept text h) (sym e) x }
+  has_ended (c ∷ outer) is e = ended_in c outer is e
+
+-- a name is next by what is held where it is by what is kept
+same_next : (text units : List ℕ) (low : ℕ) (opened : List Container) (s : Option Span) (n : Option Name) → IsKeptToo text units low s n → index.is_name_next (map holder opened) s ≡ names_next opened n
+same_next text units low [] s n w = refl
+same_next text units low (c ∷ outer) None None w = refl
+same_next text units low (c ∷ outer) (Some s) (Some n) w = refl
+same_next text units low (c ∷ outer) None (Some n) w = absurd w
+same_next text units low (c ∷ outer) (Some s) None w = absurd w
+
+-- ---- marks
+
+pub stands_first : (text : List ℕ) (opened : List Container) (names : List Name) (units : List ℕ) → opened ≡ [] → names ≡ [] → units ≡ []
+    → Stands text nothing_built (record { opened = opened; names = names; units = units; name = None; first = None })
+stands_first text opened names units o n u =
+    subst (λ (os : List Container). Stands text nothing_built (record { opened = os; names = names; units = units; name = None; first = None })) (sym o)
+    (subst (λ (ns : List Name). Stands text nothing_built (record { opened = []; names = ns; units = units; name = None; first = None })) (sym n)
+    (subst (λ (us : List ℕ). Stands text nothing_built (record { opened = []; names = []; units = us; name = None; first = None })) (sym u)
+    (record {
+      held = record { text = text; opened = []; names = []; name = None; first = None };
+      holds = none_held text [] [] refl refl;
+      kept = record { opened = refl; names = tt; name = tt; first = refl };
+    })))
+
+module _ (text : List ℕ) (b : Building) (k : Kept) (x : Stands text b k) where
+  value_leaf : (kd : Kind) (s : Span) → (kd ≡ kind.Object → ⊥) → Stands text (add_leaf kd s b) (with_value k)
+  value_leaf kd s other = record { held = index.with_value x.held; holds = leaf_held text b x.held x.holds kd s other; kept = value_kept text x.held k x.kept }
+
+  pub stands_container : (kd : Kind) (o : Bool) (at : ℕ) → o ≡ is_object kd → Stands text (begin_container kd o at b) (with_container o k)
+  stands_container kd o at is = record { held = index.with_container o x.held; holds = container_held text b x.held x.holds kd o at is; kept = container_kept text x.held k x.kept o }
+
+  pub stands_ended : (end : ℕ) (new : Kept) → Ends k.opened k new → Stands text (ended b end) new
+  stands_ended end new e =
+      let after = has_ended text x.held k x.holds.text_is x.kept new k.opened x.kept.opened e in
+      record { held = after.held; holds = end_held text b x.held x.holds end after.held after.ends; kept = after.kept }
+
+  next_is : (c : Bool) → names_next k.opened k.name ≡ c → index.is_name_next x.held.opened x.held.name ≡ c
+  next_is c e =
+      ap (λ (hs : List Holder). index.is_name_next hs x.held.name) x.kept.opened ∙ same_next text k.units (end_from 0 k.names) k.opened x.held.name k.name x.kept.name ∙ e
+
+  named : (at end : ℕ) (name : List ℕ) → slice_range text at end ≡ name → string_units name ≡ units_at text (span at end)
+  unfolding units_at
+  named at end name e = ap (λ (w : List ℕ). chars_units InText 0 (between_marks w)) (sym e)
+
+  pub stands_named : (at end : ℕ) (name : List ℕ) → names_next k.opened k.name ≡ true → slice_range text at end ≡ name → Stands text (add_string (span at end) b) (with_name at (string_units name) k)
+  stands_named at end name next e = record {
+    held = record x.held { name = Some (span at end) };
+    holds = named_held text b x.held x.holds (span at end) (next_is true next);
+    kept = name_kept text x.held k x.kept at end (string_units name) (named at end name e);
+  }
+
+  pub stands_string : (at end : ℕ) → names_next k.opened k.name ≡ false → Stands text (add_string (span at end) b) (with_value k)
+  stands_string at end next = record { held = index.with_value x.held; holds = string_held text b x.held x.holds (span at end) (next_is false next); kept = value_kept text x.held k x.kept }
+
+  pub stands_scalar : (kd : MarkKind) (at end : ℕ) → (kd ≡ mark.Number) ⊎ (kd ≡ mark.True) ⊎ (kd ≡ mark.False) ⊎ (kd ≡ mark.Null) → Stands text (on_mark kd at end b) (with_value k)
+  stands_scalar kd at end is = record { held = index.with_value x.held; holds = scalar_held text b x.held kd at end is x.holds; kept = value_kept text x.held k x.kept }

@@ -1,0 +1,26 @@
+-- What is kept of the names of a slice.
+use Rattle.std.specs.Prelude.{◌≡◌, ℕ, ◌<◌, List, ◌++◌, Option, Some, drop, length, true}
+use Rattle.jx_lex.specs.declared.alphabet.mark.Mark.{Mark}
+use Rattle.jx_run.specs.Telling.{moved_ends, moved_marks}
+use Rattle.jx_index.specs.inside.Building.{Building, is_token}
+use Rattle.jx_names.specs.declared.open_names.OpenNames.{OpenNames}
+use Rattle.jx_names.specs.inside.HeldNames.{Comes}
+use Rattle.jx_names.specs.inside.KeptNames.{is_name_next, kept, Stands}
+
+-- which bytes, marks and ends something may have been held of
+abbrev pub Holds : Type 1
+Holds = List ℕ → List Mark → List ℕ → Type 0
+
+-- of a name that has begun before the slice the bytes before the slice are held
+pub record IsToldOf (before slice : List ℕ) (marks : List Mark) (ends : List ℕ) (names : OpenNames) (begun : Option Mark) (name : List ℕ) : Type 0 where
+  pub building : Building
+  pub comes : Comes marks ends building begun
+  pub stands : (future : List ℕ) → Stands ((before ++ slice) ++ future) building (kept names)
+  pub token : (m : Mark) → begun ≡ Some m → is_token m.kind ≡ true
+  pub name_is : (m : Mark) → begun ≡ Some m → is_name_next m.kind (kept names) ≡ true → m.at < length before → name ≡ drop m.at before
+
+-- whatever was held at the slice's start, these marks and ends of the slice were told behind it
+pub record HasTold (held : Holds) (slice : List ℕ) (marks : List Mark) (ends : List ℕ) (own : List ℕ) (base : ℕ) (names : OpenNames) (begun : Option Mark) (name : List ℕ) : Type 0 where
+  pub slice_is : own ≡ slice
+  pub base_is : (before : List ℕ) (ms : List Mark) (es : List ℕ) → held before ms es → base ≡ length before
+  pub told : (before : List ℕ) (ms : List Mark) (es : List ℕ) → held before ms es → IsToldOf before slice (ms ++ moved_marks base marks) (es ++ moved_ends base ends) names begun name

@@ -1,0 +1,135 @@
+-- A tally takes lines, and tells the end.
+use Rattle.std.proofs.Common.{◌≡◌, ℕ, zero, suc, ◌+◌, ◌-◌, ◌≤◌, List, [], ◌∷◌, ◌++◌, length, take, drop, arith, Bool, true, false, cond, refl, sym, ap, subst, ◌∙◌, append_assoc, append-nil, length-append}
+use Rattle.std.specs.Prelude.{slice_range, filter, not}
+use Rattle.std.proofs.lemmas.List.{take-take}
+use Rattle.std.proofs.lemmas.List.Elements.{filter-append}
+use Rattle.jx_run.specs.declared.texts.settings.Settings.{Settings}
+use Rattle.jx_ndjson.specs.declared.judged_line.JudgedLine.{JudgedLine}
+use Rattle.jx_ndjson.specs.declared.judged_line.LineVerdict.{LineVerdict}
+use Rattle.jx_ndjson.specs.declared.line_tally.LineCounts.{LineCounts}
+use Rattle.jx_ndjson.specs.Answers.{AreAnswers}
+use Rattle.jx_ndjson.specs.Reading.{HasTold, LineReaderValue}
+use Rattle.jx_ndjson.specs.Tally.{HasTaken, IsTallied, TallyValue, bad_of, count_of, counted, counts_of, is_accepted, is_blank_line, is_refused, one_if}
+
+-- ---- bytes one after another
+
+take_on : (xs : List ℕ) (i n : ℕ) → take (i + n) xs ≡ take i xs ++ take n (drop i xs)
+take_on xs zero n = ap (λ (k : ℕ). take k xs) (let e : 0 + n ≡ n = omega arith in e)
+take_on [] (suc i) n = take_nil (suc i + n) ∙ sym (take_nil n)
+  where
+    take_nil : (k : ℕ) → take {A = ℕ} k [] ≡ []
+    take_nil zero = refl
+    take_nil (suc k) = refl
+take_on (x ∷ xs) (suc i) n = ap (λ (k : ℕ). take k (x ∷ xs)) (let e : suc i + n ≡ suc (i + n) = omega arith in e) ∙ ap (λ (ys : List ℕ). x ∷ ys) (take_on xs i n)
+
+-- with a step from an offset on
+pub one_step : (bytes slice : List ℕ) (at n : ℕ) → at ≤ length slice → n ≤ length slice - at → (bytes ++ take at slice) ++ take n (slice_range slice at (length slice)) ≡ bytes ++ take (at + n) slice
+one_step bytes slice at n within low =
+    append_assoc bytes (take at slice) (take n (slice_range slice at (length slice)))
+    ∙ ap (λ (xs : List ℕ). bytes ++ (take at slice ++ xs)) (take-take n (length slice - at) (drop at slice) low)
+    ∙ ap (λ (xs : List ℕ). bytes ++ xs) (sym (take_on slice at n))
+
+-- ---- one line more
+
+one_length : (j : JudgedLine) (b : Bool) → length (cond b (j ∷ []) []) ≡ one_if b
+one_length j true = refl
+one_length j false = refl
+
+one_more : (is : LineVerdict → Bool) (answers : List JudgedLine) (j : JudgedLine) → count_of is (answers ++ j ∷ []) ≡ count_of is answers + one_if (is j.verdict)
+one_more is answers j =
+    ap length (filter-append (λ (x : JudgedLine). is x.verdict) answers (j ∷ []))
+    ∙ length-append (count-list answers) (cond (is j.verdict) (j ∷ []) [])
+    ∙ ap (λ (n : ℕ). count_of is answers + n) (one_length j (is j.verdict))
+  where
+    count-list : List JudgedLine → List JudgedLine
+    count-list = filter (λ (x : JudgedLine). is x.verdict)
+
+pub more_counts : (answers : List JudgedLine) (j : JudgedLine) → counts_of (answers ++ j ∷ []) ≡ counted (counts_of answers) j.verdict
+more_counts answers j =
+    ap (λ (n : ℕ). record { accepted = n; refused = count_of is_refused (answers ++ j ∷ []); blank = count_of is_blank_line (answers ++ j ∷ []) }) (one_more is_accepted answers j)
+    ∙ ap (λ (n : ℕ). record { accepted = a; refused = n; blank = count_of is_blank_line (answers ++ j ∷ []) }) (one_more is_refused answers j)
+    ∙ ap (λ (n : ℕ). record { accepted = a; refused = r; blank = n }) (one_more is_blank_line answers j)
+  where
+    a : ℕ
+    a = count_of is_accepted answers + one_if (is_accepted j.verdict)
+
+    r : ℕ
+    r = count_of is_refused answers + one_if (is_refused j.verdict)
+
+pub more_bad : (answers : List JudgedLine) (j : JudgedLine) → bad_of (answers ++ j ∷ []) ≡ bad_of answers ++ bad_of (j ∷ [])
+more_bad answers j = filter-append (λ (x : JudgedLine). not (is_accepted x.verdict)) answers (j ∷ [])
+
+-- ---- what a tally takes
+
+-- bytes that end no line
+pub takes_none : (settings : Settings) (bytes more : List ℕ) (given : List JudgedLine) (old new : TallyValue) → HasTaken settings bytes given old → new.counts ≡ old.counts → new.waiting ≡ old.waiting
+    → ((s : Settings) (input : List ℕ) (told : List JudgedLine) → HasTold s input told old.lines → HasTold s (input ++ more) (told ++ []) new.lines)
+    → HasTaken settings (bytes ++ more) given new
+takes_none settings bytes more given old new h counts waiting reads =
+    record {
+      answers = h.answers;
+      told = subst (λ (js : List JudgedLine). HasTold settings (bytes ++ more) js new.lines) (append-nil h.answers) (reads settings bytes h.answers h.told);
+      counts_are = counts ∙ h.counts_are;
+      bad_are = ap (λ (js : List JudgedLine). given ++ js) waiting ∙ h.bad_are;
+    }
+
+-- bytes that end one
+pub takes_line : (settings : Settings) (bytes more : List ℕ) (given : List JudgedLine) (j : JudgedLine) (old new : TallyValue) → HasTaken settings bytes given old
+    → new.counts ≡ counted old.counts j.verdict → new.waiting ≡ old.waiting ++ bad_of (j ∷ [])
+    → ((s : Settings) (input : List ℕ) (told : List JudgedLine) → HasTold s input told old.lines → HasTold s (input ++ more) (told ++ j ∷ []) new.lines)
+    → HasTaken settings (bytes ++ more) given new
+takes_line settings bytes more given j old new h counts waiting reads =
+    record {
+      answers = h.answers ++ j ∷ [];
+      told = reads settings bytes h.answers h.told;
+      counts_are = counts ∙ ap (λ (c : LineCounts). counted c j.verdict) h.counts_are ∙ sym (more_counts h.answers j);
+      bad_are =
+          ap (λ (js : List JudgedLine). given ++ js) waiting
+          ∙ sym (append_assoc given old.waiting (bad_of (j ∷ [])))
+          ∙ ap (λ (js : List JudgedLine). js ++ bad_of (j ∷ [])) h.bad_are
+          ∙ sym (more_bad h.answers j);
+    }
+
+-- what waits is given
+pub gives : (settings : Settings) (bytes : List ℕ) (given : List JudgedLine) (old new : TallyValue) → HasTaken settings bytes given old → new.lines ≡ old.lines → new.counts ≡ old.counts → new.waiting ≡ []
+    → HasTaken settings bytes (given ++ old.waiting) new
+gives settings bytes given old new h lines counts none =
+    record {
+      answers = h.answers;
+      told = subst (λ (r : LineReaderValue). HasTold settings bytes h.answers r) (sym lines) h.told;
+      counts_are = counts ∙ h.counts_are;
+      bad_are = ap (λ (js : List JudgedLine). (given ++ old.waiting) ++ js) none ∙ append-nil (given ++ old.waiting) ∙ h.bad_are;
+    }
+
+-- before the first byte
+pub taken_none : (settings : Settings) (t : TallyValue) → HasTold settings [] [] t.lines → t.counts ≡ record { accepted = 0; refused = 0; blank = 0 } → t.waiting ≡ [] → HasTaken settings [] [] t
+taken_none settings t told counts none = record { answers = []; told = told; counts_are = counts; bad_are = none }
+
+-- ---- the end
+
+-- without a last line
+pub ends_so : (settings : Settings) (bytes : List ℕ) (given : List JudgedLine) (t : TallyValue) → HasTaken settings bytes given t
+    → ((s : Settings) (input : List ℕ) (told : List JudgedLine) → HasTold s input told t.lines → AreAnswers s input (told ++ []))
+    → IsTallied settings bytes ((given ++ t.waiting) ++ []) t.counts
+ends_so settings bytes given t h last =
+    record {
+      answers = h.answers;
+      are_answers = subst (λ (js : List JudgedLine). AreAnswers settings bytes js) (append-nil h.answers) (last settings bytes h.answers h.told);
+      bad_are = append-nil (given ++ t.waiting) ∙ h.bad_are;
+      counts_are = h.counts_are;
+    }
+
+-- with one
+pub ends_with : (settings : Settings) (bytes : List ℕ) (given bad : List JudgedLine) (j : JudgedLine) (t : TallyValue) (counts : LineCounts) → HasTaken settings bytes given t
+    → ((s : Settings) (input : List ℕ) (told : List JudgedLine) → HasTold s input told t.lines → AreAnswers s input (told ++ j ∷ []))
+    → bad ≡ bad_of (j ∷ []) → counts ≡ counted t.counts j.verdict → IsTallied settings bytes ((given ++ t.waiting) ++ bad) counts
+ends_with settings bytes given bad j t counts h last is are =
+    record {
+      answers = h.answers ++ j ∷ [];
+      are_answers = last settings bytes h.answers h.told;
+      bad_are =
+          ap (λ (js : List JudgedLine). js ++ bad) h.bad_are
+          ∙ ap (λ (js : List JudgedLine). bad_of h.answers ++ js) is
+          ∙ sym (more_bad h.answers j);
+      counts_are = are ∙ ap (λ (c : LineCounts). counted c j.verdict) h.counts_are ∙ sym (more_counts h.answers j);
+    }

@@ -1,0 +1,240 @@
+// Lines that are counted while an input comes slice by slice. Those that are no texts are kept until they are taken.
+ghost use Rattle.std.specs.Prelude.{◌≡◌, ◌+◌, ◌<◌, ◌≤◌, ◌^◌, ◌++◌, ◌∷◌, ℕ, List, [], if◌then◌else◌, length, take, IfOk, OnOk};
+ghost use Rattle.jx_run.specs.declared.texts.settings.Settings.{Settings};
+ghost use Rattle.jx_ndjson.specs.Reading.{listed};
+ghost use Rattle.jx_ndjson.specs.Tally.{HasTaken, IsTallied, bad_of, counted, is_accepted, is_blank_line, is_refused};
+
+use crate::judged_line::{JudgedLine, LineVerdict};
+use crate::line_reader::LineReader;
+use jx_run::Settings;
+use std::alloc::{AllocError, Global};
+use std::marker::Model;
+
+/// How many lines there are.
+#[derive(Clone, Copy, Debug, PartialEq, Eq)]
+pub struct LineCounts {
+    /// Those that are texts.
+    pub accepted: usize,
+    /// Those that are none, and those that may be cut.
+    pub refused: usize,
+    /// Those that have no byte, or blanks alone.
+    pub blank: usize,
+}
+
+/// What is left to tell where an input ends.
+#[derive(Clone, Copy, Debug)]
+pub struct LineEnd {
+    /// The last line, if no line feed ends it and it is no text.
+    pub bad: Option<JudgedLine>,
+    /// How many lines the input has.
+    pub counts: LineCounts,
+}
+
+fn is_accepted(verdict: LineVerdict) -> bool
+    ensures { result ≡ is_accepted verdict }
+{
+    match verdict {
+        LineVerdict::Accepted => true,
+        LineVerdict::Refused(_) => false,
+        LineVerdict::MayBeCut => false,
+        LineVerdict::Blank => false,
+    }
+}
+
+fn is_refused(verdict: LineVerdict) -> bool
+    ensures { result ≡ is_refused verdict }
+{
+    match verdict {
+        LineVerdict::Accepted => false,
+        LineVerdict::Refused(_) => true,
+        LineVerdict::MayBeCut => true,
+        LineVerdict::Blank => false,
+    }
+}
+
+fn is_blank_line(verdict: LineVerdict) -> bool
+    ensures { result ≡ is_blank_line verdict }
+{
+    match verdict {
+        LineVerdict::Accepted => false,
+        LineVerdict::Refused(_) => false,
+        LineVerdict::MayBeCut => false,
+        LineVerdict::Blank => true,
+    }
+}
+
+/// One more, where this holds.
+fn one_more(count: usize, is_one: bool) -> usize
+    requires { count + 1 < 2 ^ 64 }
+    ensures value { result ≡ count + (if is_one then 1 else 0) }
+    ensures most { result ≤ count + 1 }
+{
+    if is_one { count + 1 } else { count }
+}
+
+/// The counts with one line more.
+fn counted(counts: LineCounts, verdict: LineVerdict) -> LineCounts
+    requires accepted { counts.accepted + 1 < 2 ^ 64 }
+    requires refused { counts.refused + 1 < 2 ^ 64 }
+    requires blank { counts.blank + 1 < 2 ^ 64 }
+    ensures value { result ≡ counted counts verdict }
+    ensures accepted { result.accepted ≤ counts.accepted + 1 }
+    ensures refused { result.refused ≤ counts.refused + 1 }
+    ensures blank { result.blank ≤ counts.blank + 1 }
+{
+    LineCounts {
+        accepted: one_more(counts.accepted, is_accepted(verdict)),
+        refused: one_more(counts.refused, is_refused(verdict)),
+        blank: one_more(counts.blank, is_blank_line(verdict)),
+    }
+}
+
+/// The line, if it is no text.
+fn bad_line(judged: JudgedLine) -> Option<JudgedLine>
+    ensures { listed result ≡ bad_of (judged ∷ []) }
+{
+    if is_accepted(judged.verdict) {
+        None
+    } else {
+        Some(judged)
+    }
+}
+
+/// Appends the line, if it is no text.
+fn push_bad(waiting: &mut Vec<JudgedLine>, judged: JudgedLine) -> Result<(), AllocError>
+    ensures { OnOk result (waiting.new.items ≡ waiting.old.items ++ bad_of (judged ∷ [])) }
+{
+    if !is_accepted(judged.verdict) {
+        waiting.push(judged)?;
+    }
+    Ok(())
+}
+
+/// A reader of lines from an input's start, which counts them. Those that are no texts wait here until they are taken. It keeps
+/// no byte of the input.
+#[derive(Drop)]
+pub struct LineTally {
+    lines: LineReader,
+    counts: LineCounts,
+    waiting: Vec<JudgedLine>,
+}
+
+impl Model for LineTally {
+    ghost use Rattle.std.specs.Prelude.{◌≤◌};
+    ghost use Rattle.jx_ndjson.specs.Tally.{TallyValue};
+
+    ghost Value = { TallyValue };
+
+    ghost view = { λ t. record { lines = t.lines; counts = t.counts; waiting = t.waiting.items } };
+
+    ghost invariant = { λ t. (t.counts.accepted ≤ t.lines.ended) × (t.counts.refused ≤ t.lines.ended) × (t.counts.blank ≤ t.lines.ended) };
+}
+
+impl LineTally {
+    /// One that has taken no byte. The settings' names are of no account: objects may repeat them. Nothing is allocated.
+    pub fn new(alloc: Global, settings: &Settings) -> LineTally
+        ensures taken { HasTaken settings.now [] [] result }
+        ensures start { result.lines.reader.start + result.lines.reader.count ≡ 0 }
+    {
+        LineTally {
+            lines: LineReader::new(alloc, settings),
+            counts: LineCounts {
+                accepted: 0,
+                refused: 0,
+                blank: 0,
+            },
+            waiting: Vec::new(alloc),
+        }
+    }
+
+    /// The offset just past the last byte that it has taken.
+    pub fn end(&self) -> usize
+        ensures { result ≡ self.now.lines.reader.start + self.now.lines.reader.count }
+    {
+        self.lines.end()
+    }
+
+    /// Counts a line that has ended, and keeps it if it is no text.
+    fn tell(&mut self, judged: JudgedLine) -> Result<(), AllocError>
+        requires accepted { self.old.counts.accepted + 1 ≤ self.old.lines.ended }
+        requires refused { self.old.counts.refused + 1 ≤ self.old.lines.ended }
+        requires blank { self.old.counts.blank + 1 ≤ self.old.lines.ended }
+        ensures lines { self.new.lines ≡ self.old.lines }
+        ensures counts { OnOk result (self.new.counts ≡ counted self.old.counts judged.verdict) }
+        ensures waiting { OnOk result (self.new.waiting ≡ self.old.waiting ++ bad_of (judged ∷ [])) }
+    {
+        // It is no less than any count with one more.
+        let _ended = self.lines.ended();
+        push_bad(&mut self.waiting, judged)?;
+        self.counts = counted(self.counts, judged.verdict);
+        Ok(())
+    }
+
+    /// Takes a slice up to and with its first line feed, or less, and answers how many bytes those are.
+    fn take_step(&mut self, slice: &[u8]) -> Result<usize, AllocError>
+        requires fits { self.old.lines.reader.start + self.old.lines.reader.count + length slice.now < 2 ^ 64 }
+        ensures within { IfOk result (λ taken. taken ≤ length slice.now) }
+        ensures some { IfOk result (λ taken. 0 < length slice.now → 0 < taken) }
+        ensures taken { IfOk result (λ taken. (settings : Settings) (input : List ℕ) (given : List JudgedLine) → HasTaken settings input given self.old
+            → HasTaken settings (input ++ take taken slice.now) given self.new) }
+        ensures count { IfOk result (λ taken. self.new.lines.reader.start + self.new.lines.reader.count ≡ self.old.lines.reader.start + self.old.lines.reader.count + taken) }
+    {
+        let step = self.lines.feed(slice)?;
+        match step.line {
+            None => Ok(step.taken),
+            Some(judged) => {
+                self.tell(judged)?;
+                Ok(step.taken)
+            }
+        }
+    }
+
+    /// Takes a slice behind all bytes that it has taken. Only want of memory is refused; some of the slice may be taken then.
+    pub fn feed(&mut self, slice: &[u8]) -> Result<(), AllocError>
+        requires fits { self.old.lines.reader.start + self.old.lines.reader.count + length slice.now < 2 ^ 64 }
+        ensures taken { OnOk result ((settings : Settings) (input : List ℕ) (given : List JudgedLine) → HasTaken settings input given self.old
+            → HasTaken settings (input ++ slice.now) given self.new) }
+        ensures count { OnOk result (self.new.lines.reader.start + self.new.lines.reader.count ≡ self.old.lines.reader.start + self.old.lines.reader.count + length slice.now) }
+    {
+        let mut at = 0;
+        while at < slice.len() {
+            at += self.take_step(&slice[at..])?;
+        }
+        Ok(())
+    }
+
+    /// The lines that wait, in their order.
+    pub fn waiting(&self) -> &[JudgedLine]
+        ensures { result.now ≡ self.now.waiting }
+    {
+        &self.waiting
+    }
+
+    /// Lets the lines that wait go.
+    pub fn clear_waiting(&mut self)
+        ensures lines { self.new.lines ≡ self.old.lines }
+        ensures counts { self.new.counts ≡ self.old.counts }
+        ensures waiting { self.new.waiting ≡ [] }
+        ensures taken { (settings : Settings) (input : List ℕ) (given : List JudgedLine) → HasTaken settings input given self.old
+            → HasTaken settings input (given ++ self.old.waiting) self.new }
+    {
+        self.waiting.clear();
+    }
+
+    /// What is left to tell if the input ends here, behind the lines that wait.
+    pub fn told_at_end(&self) -> LineEnd
+        ensures { (settings : Settings) (input : List ℕ) (given : List JudgedLine) → HasTaken settings input given self.now
+            → IsTallied settings input (given ++ self.now.waiting ++ listed result.bad) result.counts }
+    {
+        match self.lines.last_line() {
+            None => LineEnd {
+                bad: None,
+                counts: self.counts,
+            },
+            Some(judged) => LineEnd {
+                bad: bad_line(judged),
+                counts: counted(self.counts, judged.verdict),
+            },
+        }
+    }
+}

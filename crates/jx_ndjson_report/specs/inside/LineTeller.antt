@@ -1,0 +1,23 @@
+-- What a contract sees of a teller of lines, and what it has taken.
+use Rattle.std.specs.Prelude.{◌≡◌, ℕ, List, ◌++◌, length}
+use Rattle.jx_ndjson.specs.declared.judged_line.JudgedLine.{JudgedLine}
+use Rattle.jx_ndjson.specs.Reading.{HasTold, LineReaderValue}
+use Rattle.jx_ndjson_report.specs.declared.task.LinesTask.{LinesTask}
+use Rattle.jx_ndjson_report.specs.Output.{bad_lines, bad_of, good_of}
+
+pub record LineTellerValue : Type 0 where
+  -- the reader of the lines
+  pub lines : LineReaderValue
+  -- how many of those that ended are good, and how many bad
+  pub good : ℕ
+  pub bad : ℕ
+  -- what waits to be written
+  pub ready : List ℕ
+
+-- it has taken these bytes of an input, from its start, and told this of them before what waits
+pub record HasTaken (task : LinesTask) (bytes given : List ℕ) (t : LineTellerValue) : Type 0 where
+  pub answers : List JudgedLine
+  pub told : HasTold task.settings bytes answers t.lines
+  pub good_are : t.good ≡ length (good_of answers)
+  pub bad_are : t.bad ≡ length (bad_of task.blanks answers)
+  pub written : given ++ t.ready ≡ bad_lines task answers

@@ -1,0 +1,150 @@
+// Elements of a text sequence that are told while the input comes slice by slice.
+ghost use Rattle.std.specs.Prelude.{◌≡◌, ◌+◌, ◌<◌, ◌≤◌, ◌^◌, ◌++◌, ℕ, List, [], length, take, IfOk, OnOk};
+ghost use Rattle.jx_report.specs.Elements.{exit_past_verdict};
+ghost use Rattle.jx_ndjson_report.specs.inside.ElementTeller.{HasTaken, one_line};
+
+use crate::task::ElementsTask;
+use crate::teller::Teller;
+use crate::words::add_element;
+use jx_ndjson::{ElementReader, told_elements_are_ended};
+use jx_report::Exit;
+use jx_run::{ElementVerdict, JudgedElement};
+use std::alloc::{AllocError, Global};
+use std::marker::Model;
+
+/// Appends what is told of an element, if anything is to be written.
+fn add_told(
+    ready: &mut Vec<u8>,
+    task: &ElementsTask,
+    element: JudgedElement,
+) -> Result<(), AllocError>
+    ensures { OnOk result (ready.new.items ≡ ready.old.items ++ one_line task.now element) }
+{
+    if task.is_quiet {
+        return Ok(());
+    }
+    add_element(ready, &task.front, element)
+}
+
+/// Bad where the element is not accepted, and otherwise the exit that there was before it.
+fn exit_past(exit: Exit, verdict: ElementVerdict) -> Exit
+    ensures { result ≡ exit_past_verdict exit verdict }
+{
+    match verdict {
+        ElementVerdict::Accepted => exit,
+        ElementVerdict::Refused(_) => Exit::Bad,
+        ElementVerdict::MayBeCut => Exit::Bad,
+        ElementVerdict::Unmarked => Exit::Bad,
+    }
+}
+
+/// A reader of elements, and what is told of those that a record separator has ended. What is told waits here to be written.
+#[derive(Drop)]
+pub(crate) struct ElementTeller {
+    elements: ElementReader,
+    exit: Exit,
+    ready: Vec<u8>,
+}
+
+impl Model for ElementTeller {
+    ghost use Rattle.jx_ndjson_report.specs.inside.ElementTeller.{ElementTellerValue};
+
+    ghost Value = { ElementTellerValue };
+
+    ghost view = { λ t. record { elements = t.elements; exit = t.exit; ready = t.ready.items } };
+}
+
+impl ElementTeller {
+    /// One that has taken no byte. Nothing is allocated.
+    pub fn new(alloc: Global, task: &ElementsTask) -> ElementTeller
+        ensures taken { HasTaken task.now [] [] result }
+        ensures ready { result.ready ≡ [] }
+    {
+        ElementTeller {
+            elements: ElementReader::new(alloc, &task.settings),
+            exit: Exit::Good,
+            ready: Vec::new(alloc),
+        }
+    }
+
+    /// Tells an element that has ended.
+    fn tell(&mut self, task: &ElementsTask, element: JudgedElement) -> Result<(), AllocError>
+        ensures elements { self.new.elements ≡ self.old.elements }
+        ensures ready { OnOk result (self.new.ready ≡ self.old.ready ++ one_line task.now element) }
+        ensures exit { OnOk result (self.new.exit ≡ exit_past_verdict self.old.exit element.verdict) }
+    {
+        add_told(&mut self.ready, task, element)?;
+        self.exit = exit_past(self.exit, element.verdict);
+        Ok(())
+    }
+
+    /// Takes a slice up to and with its first record separator, or less, and answers how many bytes those are.
+    fn take_step(&mut self, task: &ElementsTask, slice: &[u8]) -> Result<usize, AllocError>
+        requires fits { self.old.elements.reader.start + self.old.elements.reader.count + length slice.now < 2 ^ 64 }
+        ensures within { IfOk result (λ taken. taken ≤ length slice.now) }
+        ensures some { IfOk result (λ taken. 0 < length slice.now → 0 < taken) }
+        ensures taken { IfOk result (λ taken. (bytes given : List ℕ) → HasTaken task.now bytes given self.old → HasTaken task.now (bytes ++ take taken slice.now) given self.new) }
+        ensures count { IfOk result (λ taken. self.new.elements.reader.start + self.new.elements.reader.count ≡ self.old.elements.reader.start + self.old.elements.reader.count + taken) }
+    {
+        let step = self.elements.feed(slice)?;
+        match step.element {
+            None => Ok(step.taken),
+            Some(element) => {
+                self.tell(task, element)?;
+                Ok(step.taken)
+            }
+        }
+    }
+}
+
+impl Teller for ElementTeller {
+    ghost use Rattle.std.specs.Prelude.{◌+◌};
+    ghost use Rattle.jx_ndjson_report.specs.Elements.{ElementsOutput, IsDue};
+    ghost use Rattle.jx_ndjson_report.specs.inside.ElementTeller.{HasTaken};
+
+    type Task = ElementsTask;
+
+    ghost is_due = { IsDue };
+
+    ghost is_output = { ElementsOutput };
+
+    ghost has_taken = { HasTaken };
+
+    ghost ready = { λ t. t.ready };
+
+    ghost end = { λ t. t.elements.reader.start + t.elements.reader.count };
+
+    fn what_is_taken_is_due() {
+        told_elements_are_ended();
+    }
+
+    fn end(&self) -> usize {
+        self.elements.end()
+    }
+
+    fn feed(&mut self, task: &ElementsTask, slice: &[u8]) -> Result<(), AllocError> {
+        let mut at = 0;
+        while at < slice.len() {
+            at += self.take_step(task, &slice[at..])?;
+        }
+        Ok(())
+    }
+
+    fn ready(&self) -> &[u8] {
+        &self.ready
+    }
+
+    fn clear_ready(&mut self) {
+        self.ready.clear();
+    }
+
+    fn finish(&mut self, task: &ElementsTask) -> Result<Exit, AllocError> {
+        match self.elements.last_element() {
+            None => Ok(self.exit),
+            Some(element) => {
+                add_told(&mut self.ready, task, element)?;
+                Ok(exit_past(self.exit, element.verdict))
+            }
+        }
+    }
+}

@@ -1,0 +1,5 @@
+pub mod Feedings
+pub mod Readings
+pub mod Spellings
+pub mod Sums
+pub mod Tallies

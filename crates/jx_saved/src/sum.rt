@@ -1,0 +1,106 @@
+// What the marks of a part of a text do to open containers.
+ghost use Rattle.std.specs.Prelude.{◌≡◌, SomeIff};
+ghost use Rattle.jx_saved.specs.Sums.{closing, at_comma, opening, Fits, joined, noted, nothing};
+
+use jx_lex::MarkKind;
+
+/// What the marks of a part of a text do to the containers that stand open, whichever these are.
+#[derive(Clone, Copy, Debug, PartialEq, Eq)]
+pub struct Sum {
+    /// How many containers it closes that stood open before it.
+    pub closed: u16,
+    /// How many containers that it opened stand open behind it.
+    pub opened: u16,
+    /// How many of its commas stand in the innermost container where the fewest are open.
+    pub commas: u64,
+}
+
+impl Sum {
+    /// The sum of no mark.
+    pub fn new() -> Sum
+        ensures { result ≡ nothing }
+    {
+        Sum {
+            closed: 0,
+            opened: 0,
+            commas: 0,
+        }
+    }
+
+    #[inline(always)]
+    fn opening(self) -> Option<Sum>
+        ensures { SomeIff result (Fits (opening self)) (opening self) }
+    {
+        match self.opened.checked_add(1) {
+            Some(opened) => Some(Sum { opened, ..self }),
+            None => None,
+        }
+    }
+
+    #[inline(always)]
+    fn closing(self) -> Option<Sum>
+        ensures { SomeIff result (Fits (closing self)) (closing self) }
+    {
+        if self.opened > 0 {
+            return Some(Sum {
+                opened: self.opened - 1,
+                ..self
+            });
+        }
+        match self.closed.checked_add(1) {
+            Some(closed) => Some(Sum {
+                closed,
+                opened: 0,
+                commas: 0,
+            }),
+            None => None,
+        }
+    }
+
+    #[inline(always)]
+    fn at_comma(self) -> Option<Sum>
+        ensures { SomeIff result (Fits (at_comma self)) (at_comma self) }
+    {
+        if self.opened > 0 {
+            return Some(self);
+        }
+        match self.commas.checked_add(1) {
+            Some(commas) => Some(Sum { commas, ..self }),
+            None => None,
+        }
+    }
+
+    /// The sum with one more mark of this kind behind it. There is none where a count is too large to be held.
+    #[inline(always)]
+    pub fn step(self, kind: MarkKind) -> Option<Sum>
+        ensures { SomeIff result (Fits (noted kind self)) (noted kind self) }
+    {
+        match kind {
+            MarkKind::OpenArray | MarkKind::OpenObject => self.opening(),
+            MarkKind::CloseArray | MarkKind::CloseObject => self.closing(),
+            MarkKind::Comma => self.at_comma(),
+            _ => Some(self),
+        }
+    }
+
+    /// The sum of both parts, one behind the other. There is none where a count is too large to be held.
+    pub fn join(self, right: Sum) -> Option<Sum>
+        ensures { SomeIff result (Fits (joined self right)) (joined self right) }
+    {
+        if right.closed < self.opened {
+            let opened = (self.opened - right.closed).checked_add(right.opened)?;
+            return Some(Sum { opened, ..self });
+        }
+        let closed = self.closed.checked_add(right.closed - self.opened)?;
+        let commas = if right.closed == self.opened {
+            self.commas.checked_add(right.commas)?
+        } else {
+            right.commas
+        };
+        Some(Sum {
+            closed,
+            opened: right.opened,
+            commas,
+        })
+    }
+}

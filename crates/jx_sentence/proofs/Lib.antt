@@ -1,0 +1,3 @@
+pub mod Behind
+pub mod Exact
+pub mod Table

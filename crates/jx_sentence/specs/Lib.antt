@@ -1,0 +1,4 @@
+pub mod Choices
+pub mod Places
+pub mod Standing
+pub mod inside

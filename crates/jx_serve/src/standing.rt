@@ -1,0 +1,28 @@
+// Where a reading stands in a document.
+ghost use Rattle.std.specs.Prelude.{◌≡◌, IfOk, IfSome};
+ghost use Rattle.jx_serve.specs.Standing.{StandsIn};
+
+use jx_edit::{Document, Stand};
+use jx_sentence::{Standing, innermost};
+use std::alloc::AllocError;
+
+/// Where a reading of a document's text stands before an offset; none where the bytes before it begin no text. It is known behind
+/// a verdict of the document. What it tells of the last token is of no account.
+pub fn standing_in(document: &Document, at: usize) -> Result<Option<Standing>, AllocError>
+    ensures { IfOk result (λ found. IfSome found (StandsIn document.now.settings document.now.bytes at)) }
+{
+    let Some(stand) = document.stand(at)? else {
+        return Ok(None);
+    };
+    let Stand {
+        state,
+        expect,
+        holders,
+    } = stand;
+    Ok(Some(Standing {
+        state,
+        expect,
+        top: innermost(holders),
+        token: at,
+    }))
+}

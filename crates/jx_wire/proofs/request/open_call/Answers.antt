@@ -1,0 +1,21 @@
+use Rattle.std.proofs.Common.{Option, Err, refl, sym, ap, subst}
+use Rattle.jx_wire.specs.Requests.{IsWhole}
+use Rattle.jx_wire.specs.Values.{value_at, ValueIn}
+use Rattle.jx_wire.proofs.Messages.{open_parts}
+use Rattle.jx_wire.proofs.Requests.{wrong_was}
+use Rattle.jx_wire.proofs.request.open_call.Goals as goal
+
+pub returns-in_err-document-clause-wrong : goal.returns-in_err-document-clause-wrong
+returns-in_err-document-clause-wrong c = λ e tree is told h.
+    let parts = open_parts (value_at c.args.message.now tree) told h in
+    c.in_err-document.ensures.wrong (ap Err (wrong_was c.from_residual.result c.in_err-document.field-0.0 _ c.from_residual.ensures.1 e)) tree is parts.0 parts.2
+
+pub returns-in_err-text-clause-wrong : goal.returns-in_err-text-clause-wrong
+returns-in_err-text-clause-wrong c = λ e tree is told h.
+    let parts = open_parts (value_at c.args.message.now tree) told h in
+    c.in_err-text.ensures.wrong c.plain_at.ensures.spelt (ap Err (wrong_was c.from_residual-in_err-text.result c.in_err-text.field-0.0 _ c.from_residual-in_err-text.ensures.1 e))
+    parts.1 (subst (λ (o : Option ValueIn). IsWhole o parts.1) (c.plain_at.ensures.at refl tree is) parts.3)
+
+pub returns-clause-ok : goal.returns-clause-ok
+returns-clause-ok c = λ tree is.
+    (c.in_ok-document.ensures.ok tree is, subst (λ (o : Option ValueIn). IsWhole o c.in_ok-text.text) (sym (c.plain_at.ensures.at refl tree is)) (c.in_ok-text.ensures.ok c.plain_at.ensures.spelt))
