@@ -123,10 +123,10 @@ fn stopped_from_each<R: Abort + Threads + Wait + Sync>(
 /// How many bytes of a text are read at a time.
 const BATCH: usize = 8;
 
-/// Checks a text whose workers stop: in any batch, and where the input is kept whole since its names have to be unique. The
-/// first batch of each text meets a stop. What is behind a fault asks no gate, so that only an accepted text has more events
-/// than one batch. One worker asks as it begins each piece. Of several, the first asks before and behind the front, and all
-/// of them ask after each step with a piece.
+/// Checks a text whose workers stop in any batch. The first batch of each text meets a stop. What is behind a fault asks no
+/// gate, so that only an accepted text has more events than one batch. One worker asks as it begins each piece. Of several, the
+/// first asks before and behind the front, and all of them ask after each step with a piece. Where names have to be unique, no
+/// gate is asked.
 fn check_stops<R: Abort + Threads + Wait + Sync>(
     rt: &R,
     alloc: Global,
@@ -138,15 +138,16 @@ fn check_stops<R: Abort + Threads + Wait + Sync>(
     command.piece = 1;
     let batches = stopped_from_each(rt, alloc, &command, BATCH, case)?;
     command.settings.names = NameRule::Unique;
-    let whole = stopped_from_each(rt, alloc, &command, BATCH, case)?;
+    let by_names = stopped_from_each(rt, alloc, &command, BATCH, case)?;
     let of_one_batch = if count == 1 {
         BATCH as u64
     } else {
         2 * u64::from(count)
     };
     assert!(rt; batches > 0, "{:?} meets no stop", case.0);
+    assert!(rt; by_names == 0, "{:?} asks by names", case.0);
     if case.2 == Exit::Good {
-        assert!(rt; batches > of_one_batch && whole > 0);
+        assert!(rt; batches > of_one_batch);
     }
     Ok(())
 }
