@@ -53,7 +53,7 @@ def texts_of_calls():
 
 
 def runs_of_the_page():
-    shown = (ROOT / "docs/FORMAT.md").read_text().partition("\n## Three run files")[2]
+    shown = (ROOT / "docs/FORMAT.md").read_text().partition("\n## Three run files")[2].partition("\n# ")[0]
     return [bytes.fromhex("".join(block.split())) for block in re.findall(r"\n\n((?:    [0-9a-f]+\n)+)", shown)]
 
 

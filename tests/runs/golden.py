@@ -9,7 +9,7 @@ PARTS = [(b"", None), (b'"a":1},{', 7), (b"]]", None)]
 
 
 def records():
-    lines = PAGE.read_text().split("## Three run files")[1]
+    lines = PAGE.read_text().split("## Three run files")[1].split("\n# ")[0]
     return [bytes.fromhex(re.sub(r"\s", "", block)) for block in re.findall(r"(?:^    [0-9a-f]+\n)+", lines, re.M)]
 
 
