@@ -7,6 +7,7 @@ import pathlib
 import random
 import subprocess
 import sys
+import threading
 import time
 
 HERE = pathlib.Path(__file__).resolve().parent
@@ -227,6 +228,10 @@ def told_of(words, text, chance, command="lines"):
         return done.stdout, done.stderr, done.returncode
     cuts = sorted(chance.randrange(len(text) + 1) for _ in range(chance.randrange(6)))
     child = subprocess.Popen([PROGRAM, command, *words], stdin=subprocess.PIPE, stdout=subprocess.PIPE, stderr=subprocess.PIPE)
+    # What is told may fill its pipe before all is written.
+    told = []
+    reading = threading.Thread(target=lambda: told.append(child.stdout.read()))
+    reading.start()
     start = 0
     for cut in [*cuts, len(text)]:
         child.stdin.write(text[start:cut])
@@ -234,8 +239,10 @@ def told_of(words, text, chance, command="lines"):
         if chance.random() < 0.2:
             time.sleep(0.01)
         start = cut
-    output, errors = child.communicate()
-    return output, errors, child.returncode
+    child.stdin.close()
+    errors = child.stderr.read()
+    reading.join()
+    return told[0], errors, child.wait()
 
 
 PIECES = [b"[1,2]", b'{"a":"\xc3\xa9"}', b"true", b"nul", b"null", b"12", b"-", b"1.", b"1e5", b"01", b'"x"', b'"x', b'"\\ud83d"', b"[[[]]]", b'{"a":[{"b":1}]}', b"[1,", b"{}",
