@@ -3,7 +3,6 @@
     parts       crates.txt has its parts, a crate stands on crates above it, and docs/ARCHITECTURE.md has the same parts
     words       the glossary of docs/ARCHITECTURE.md has each word once, and each stands in the code or the docs
     types       no public type of the product has the name of another crate's
-    headings    docs/PROVED.md has each heading once, and one for each crate that is no test
     format      the words of docs/FORMAT.md's tables are those of the definitions
 """
 
@@ -106,18 +105,10 @@ def wrong_types():
     yield from ("%s is shared no longer by %s" % (name, allowed[name]) for name in sorted(allowed) if shared.get(name) != allowed[name])
 
 
-def wrong_headings():
-    page = text_of("docs/PROVED.md")
-    headings = re.findall(r"^#+ (.*)", page, re.M)
-    yield from ("PROVED.md has the heading %s twice" % one for one in sorted(set(headings)) if headings.count(one) > 1)
-    named = [name for line in re.findall(r"^\*\*(.*?)\*\*", page, re.M) for name in re.findall(r"`(jx\w*)`", line)]
-    yield from ("PROVED.md has %s at %d places" % (one, named.count(one)) for one in sorted(set(named)) if named.count(one) > 1)
-    yield from ("PROVED.md has no %s" % one for part in PARTS[:3] for one in crates()[part] if one not in named)
-
-
 def wrong_format():
-    page, folder = text_of("docs/FORMAT.md"), ROOT / "crates/jx_portion/specs"
-    specs = "".join(path.read_text() for path in sorted(folder.glob("*.antt")))
+    page = text_of("docs/FORMAT.md")
+    folders = [ROOT / "crates" / crate / "specs" for crate in ("jx_portion", "jx_saved")]
+    specs = "".join(path.read_text() for folder in folders for path in sorted(folder.glob("*.antt")))
     rows = [row for row in page.splitlines() if row.startswith("|")]
     words = [word for row in rows for word in re.findall(r"`([a-z_]\w*)`", row)]
     yield from ("no definition has the word %s" % word for word in sorted(set(words)) if not re.search(r"\b%s\b" % word, specs))
@@ -133,7 +124,7 @@ def wrong_format():
 
 
 if __name__ == "__main__":
-    questions = {"parts": wrong_parts, "words": wrong_words, "types": wrong_types, "headings": wrong_headings, "format": wrong_format}
+    questions = {"parts": wrong_parts, "words": wrong_words, "types": wrong_types, "format": wrong_format}
     if sys.argv[1:2] == [] or sys.argv[1] not in questions:
         raise SystemExit(__doc__)
     print("\n".join(questions[sys.argv[1]]()))

@@ -1,13 +1,12 @@
 #!/usr/bin/env bash
-# Names: the parts of crates.txt, the glossary, public types, headings of docs/PROVED.md, words of docs/FORMAT.md. Each question is also
-# asked of a copy with a fault.
+# Names: the parts of crates.txt, the glossary, public types, words of docs/FORMAT.md. Each question is also asked of a copy with a fault.
 . "$(dirname "$0")/lib.sh"
 
 asked() { python3 "$root/tests/names.py" "$@" 2>&1; }
 
 names_are_as_they_should_be() {
     local question said
-    for question in parts words types headings format; do
+    for question in parts words types format; do
         said=$(asked "$question")
         same "names.py $question: status" 0 $?
         same "names.py $question" '' "$said"
@@ -39,8 +38,6 @@ what_is_wrong_is_told() {
     wrong words docs/ARCHITECTURE.md 's/^| piece |/| morsel |/' 'nothing else has the word morsel'
     wrong types crates/jx_edit/src/lib.rt '$a pub struct Verdict;' 'Verdict is a public type of jx_edit jx_run'
     wrong types crates/jx_serve/src/mark.rt 's/^pub struct Mark /pub struct Diagnostic /' 'Mark is shared no longer by jx_lex jx_serve'
-    wrong headings docs/PROVED.md 's/^## Trusted$/## Neither/' 'PROVED.md has the heading Neither twice'
-    wrong headings docs/PROVED.md 's/^\*\*`jx_edit`\*\*/**`jx_find`**/' 'PROVED.md has jx_find at 2 places'
     wrong format docs/FORMAT.md 's/^| `transitions` |/| `ways` |/' 'no definition has the word ways'
     wrong format docs/FORMAT.md 's/^- States: `Gap Str/- States: `Str Gap/' 'the states are not those of jx_lex'
 }

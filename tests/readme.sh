@@ -33,10 +33,10 @@ readme_is_short() {
 
 links_lead_to_files() {
     local page link
-    for page in "$root/README.md" "$root"/docs/*.md; do
+    for page in "$root/README.md" "$root"/docs/*.md "$root"/crates/*/README.md; do
         while read -r link; do
             link=${link%%#*}
-            if [ -n "$link" ]; then same "${page##*/}: the link to $link" yes "$([ -e "${page%/*}/$link" ] && echo yes)"; fi
+            if [ -n "$link" ]; then same "${page#"$root/"}: the link to $link" yes "$([ -e "${page%/*}/$link" ] && echo yes)"; fi
         done < <(grep -o '](\([^)]*\))' "$page" | sed 's/^](//; s/)$//' | grep -v '^https\?:')
     done
 }

@@ -50,7 +50,7 @@ the_archive_has_all_that_is_installed() {
     local place
     tar -xzf "one/jx-$version-x86_64-linux.tar.gz"
     for place in bin/jx bin/jx-lsp lib/libjx.a include/jx.h lib/pkgconfig/jx.pc share/man/man1/jx.1 share/man/man1/jx-lsp.1 share/bash-completion/completions/jx \
-        share/zsh/site-functions/_jx share/fish/vendor_completions.d/jx.fish README.md CHANGELOG.md docs/PYTHON.md docs/EDITORS.md bindings/rust/Cargo.toml \
+        share/zsh/site-functions/_jx share/fish/vendor_completions.d/jx.fish README.md CHANGELOG.md docs/PYTHON.md docs/EDITORS.md crates/jx_run/README.md bindings/rust/Cargo.toml \
         bindings/rust/src/lib.rs .pre-commit-hooks.yaml; do
         same "the archive has $place" yes "$([ -s "jx-$version-x86_64-linux/$place" ] && echo yes)"
     done
@@ -76,7 +76,7 @@ the_package_is_unpacked_and_its_program_runs() {
     dpkg-deb -x one/jx_*_amd64.deb unpacked
     for place in bin/jx bin/jx-lsp lib/libjx.a lib/libjx.so.0 lib/libjx.so include/jx.h share/pkgconfig/jx.pc share/man/man1/jx.1.gz \
         share/man/man1/jx-lsp.1.gz share/bash-completion/completions/jx share/zsh/vendor-completions/_jx \
-        share/fish/vendor_completions.d/jx.fish share/doc/jx/README.md share/doc/jx/docs/PYTHON.md share/doc/jx/copyright \
+        share/fish/vendor_completions.d/jx.fish share/doc/jx/README.md share/doc/jx/docs/PYTHON.md share/doc/jx/crates/jx_run/README.md share/doc/jx/copyright \
         share/doc/jx/changelog.gz share/jx/bindings/rust/Cargo.toml share/jx/pre-commit-hooks.yaml lib/python3/dist-packages/jx/__init__.py; do
         same "the package has $place" yes "$([ -s "unpacked/usr/$place" ] && echo yes)"
     done
