@@ -4,7 +4,7 @@ _jx() {
     COMPREPLY=()
     for ((at = 1; at < COMP_CWORD; at++)); do
         case ${COMP_WORDS[at]} in
-        check | explain | index | at | get | each | seq | lines | part | join | whole | help)
+        check | explain | index | at | get | each | seq | lines | save | part | join | whole | help)
             command=${COMP_WORDS[at]}
             break
             ;;
@@ -24,10 +24,10 @@ _jx() {
         mapfile -t COMPREPLY < <(compgen -W 'plain gnu json' -- "$word")
         return
         ;;
-    --depth | --workers | --piece | --from | --to) return ;;
+    --depth | --workers | --piece | --chunk | --from | --to) return ;;
     esac
     case $command in
-    check | explain | index | each | seq | lines)
+    check | explain | index | each | seq | lines | save)
         if [[ $word != -* ]]; then
             compopt -o filenames 2>/dev/null
             mapfile -t COMPREPLY < <(compgen -f -- "$word")
@@ -36,15 +36,16 @@ _jx() {
         ;;
     esac
     case $command in
-    '') mapfile -t COMPREPLY < <(compgen -W 'check explain index at get each seq lines part join whole help -h --help -V --version' -- "$word") ;;
-    help) mapfile -t COMPREPLY < <(compgen -W 'check explain index at get each seq lines part join whole' -- "$word") ;;
+    '') mapfile -t COMPREPLY < <(compgen -W 'check explain index at get each seq lines save part join whole help -h --help -V --version' -- "$word") ;;
+    help) mapfile -t COMPREPLY < <(compgen -W 'check explain index at get each seq lines save part join whole' -- "$word") ;;
     check) mapfile -t COMPREPLY < <(compgen -W '--file --depth --workers --piece --ignore-bom --unique-names -q --quiet -l --list --format --progress -h --help' -- "$word") ;;
     seq) mapfile -t COMPREPLY < <(compgen -W '--file --depth --workers --piece --ignore-bom --unique-names --live -q --quiet -h --help' -- "$word") ;;
     explain) mapfile -t COMPREPLY < <(compgen -W '--file --depth --workers --piece --ignore-bom --unique-names --color -h --help' -- "$word") ;;
     at) mapfile -t COMPREPLY < <(compgen -W '--file --pointers --depth --workers --piece --ignore-bom --unique-names -h --help' -- "$word") ;;
     get) mapfile -t COMPREPLY < <(compgen -W '--file --pointers -c --compact -r --raw --depth --workers --piece --ignore-bom --unique-names -h --help' -- "$word") ;;
-    each) mapfile -t COMPREPLY < <(compgen -W '--file --depth --ignore-bom --progress -h --help' -- "$word") ;;
-    lines) mapfile -t COMPREPLY < <(compgen -W '--file --depth --ignore-bom --skip-blank -q --quiet -h --help' -- "$word") ;;
+    each) mapfile -t COMPREPLY < <(compgen -W '--names --file --depth --ignore-bom --progress -h --help' -- "$word") ;;
+    lines) mapfile -t COMPREPLY < <(compgen -W '--file --depth --workers --piece --ignore-bom --skip-blank -q --quiet -h --help' -- "$word") ;;
+    save) mapfile -t COMPREPLY < <(compgen -W '--file --depth --chunk --ignore-bom --unique-names --progress -h --help' -- "$word") ;;
     part) mapfile -t COMPREPLY < <(compgen -W '--file --from --depth -h --help' -- "$word") ;;
     join) mapfile -t COMPREPLY < <(compgen -W '--file --depth -h --help' -- "$word") ;;
     whole) mapfile -t COMPREPLY < <(compgen -W '--file --to --from --depth -q --quiet -h --help' -- "$word") ;;

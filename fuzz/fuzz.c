@@ -16,7 +16,7 @@ static const struct {
     {"check", check_texts},           {"feed", feed_readers},        {"forged reader", feed_forged_readers}, {"rows", list_rows},
     {"pointers", look_up},            {"index", look_up_in_indexes}, {"elements", list_elements},            {"document", edit_documents},
     {"joins", join_runs},             {"forged runs", forge_runs},   {"any runs", take_any_runs},
-    {"compact", compact_texts},       {"lines", feed_lines},
+    {"compact", compact_texts},       {"lines", feed_lines},         {"values", feed_values},
 };
 
 static const char *doing = "";

@@ -20,6 +20,9 @@ import time
 import plain
 import texts
 
+sys.path.insert(0, str(pathlib.Path(__file__).resolve().parent.parent / "tests"))
+import saved  # noqa: E402, which makes indexes by docs/FORMAT.md and RFC 8259 alone
+
 BATCH, SECONDS = 100, 60
 LARGE = 1 << 20  # Below that one thread reads all.
 
@@ -239,6 +242,20 @@ class Batch:
         got = run_on_slices(self.program, ["check", *words], slices)
         self.held("check %s over slices %r" % (" ".join(words), [len(it) for it in slices]), text, got, "%s\n" % verdict, verdict.kind == 0)
 
+    def save(self, name, text):
+        """The index of a text byte by byte, of a file and over a pipe."""
+        words, settings = self.settings()
+        chunk = self.dice.choice([64, 64, 128, 4096, 32768])
+        verdict, _ = self.readers.read(text, settings)
+        output, told = b"", b"jx: %s\n" % str(verdict).encode()
+        if verdict.kind == 0:
+            ignores, unique = settings.flags & plain.IGNORE_MARK > 0, settings.flags & plain.UNIQUE_NAMES > 0
+            output, told = saved.index(text, settings.depth, ignores, chunk, unique), b""
+        words += ["--chunk", str(chunk)]
+        slices = cut(self.dice, text, 8)
+        for got in run(self.program, ["save", *words, name]), run_on_slices(self.program, ["save", *words], slices):
+            self.held("save %s" % " ".join(words), text, got, output, verdict.kind == 0, told=told)
+
     def explain(self, name, text):
         """The place alone is held: sentences are for people."""
         words, settings = self.settings()
@@ -328,6 +345,7 @@ class Batch:
         for name, text in dice.sample(small, 8):
             self.read_pipe(text)
             self.explain(name, text)
+            self.save(name, text)
             self.join_parts(text)
 
     def play_large(self):

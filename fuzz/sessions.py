@@ -9,10 +9,35 @@ PIECES = ["{", "}", "[", "]", ",", ":", '"', '"a"', '"é"', '"😀"', "\\u00e9",
 URIS = ["file:///a.json", "file:///b.json", "untitled:é😀"]
 OPTIONS = [None, {"depth": 0}, {"depth": 2}, {"depth": 512}, {"depth": 65535}, {"ignoreBom": True}, {"uniqueNames": True}, {"depth": 3, "ignoreBom": True, "uniqueNames": True}]
 FAR = 2**31 - 1
+# What may end a token that was begun, and what may be due behind it, the shortest first.
+ENDS = [b"", b" ", b"0 ", b'"', b'0"', b'00"', b'000"', b'0000"', b'n"', b"e", b"ue", b"rue", b"se", b"lse", b"alse", b"l", b"ll", b"ull"]
+ENDS += [b'\x80"', b'\x80\x80"', b'\x80\x80\x80"', b'\xa0\x80"', b'\x90\x80\x80"']
+DUE = [b"", b"0 ", b":0 ", b'"":0 ']
 
 
 def frame(body):
     return b"Content-Length: %d\r\n\r\n" % len(body) + body
+
+
+def spans_of(row):
+    """The member that a row is the value of, the member's name, and the value."""
+    name = [(row.name.start, row.span.end), (row.name.start, row.name.end)] if row.name.end else []
+    return name + [(row.span.start, row.span.end)]
+
+
+def closing(text):
+    """The closing brackets of the containers that are open behind some bytes."""
+    open_ones, inside, escaped = [], False, False
+    for byte in text:
+        if inside:
+            inside, escaped = escaped or byte != 0x22, not escaped and byte == 0x5C
+        elif byte == 0x22:
+            inside = True
+        elif byte in b"[{":
+            open_ones.append(b"]" if byte == 0x5B else b"}")
+        elif byte in b"]}" and open_ones:
+            open_ones.pop()
+    return b"".join(reversed(open_ones))
 
 
 class Session:
@@ -42,9 +67,6 @@ class Session:
     def position_of(self, text, at):
         return position_of(text, at, self.encoding)
 
-    def range_of(self, text, span):
-        return {"start": self.position_of(text, span.start), "end": self.position_of(text, span.end)}
-
     # ---- what is told of a text
 
     def publish(self, uri, version):
@@ -68,19 +90,83 @@ class Session:
         said = all(it["code"] == kind and it["message"].endswith(" (byte %s)" % at if at else "") for it in marks)
         return len(marks) == 1 and said and (start is None or marks[0]["range"]["start"] == start)
 
+    def ended(self, text):
+        """A text that begins with the bytes before the fault, found by trying, its verdict and rows, and how many bytes that are. None where
+        they begin a byte order mark and no more. Names are of no account."""
+        settings = plain.Settings(self.settings.depth, self.settings.flags & ~plain.UNIQUE_NAMES)
+        verdict, rows = self.readers.read(text, settings)
+        if verdict.kind == 0:
+            return text, verdict, rows, len(text)
+        kept = verdict.offset if verdict.has_offset() else len(text)
+        before = text[:kept]
+        if settings.flags & plain.IGNORE_MARK and before in (b"", b"\xef", b"\xef\xbb"):
+            return None
+        for end in ENDS:
+            for due in DUE:
+                whole = before + end + due + closing(before)
+                verdict, rows = self.readers.read(whole, settings)
+                if verdict.kind == 0:
+                    return whole, verdict, rows, kept
+        raise AssertionError(text)
+
     def shown(self, text, position):
-        """What a hover shows: the innermost value there, and its pointer."""
-        verdict, rows = self.readers.read(text, self.settings)
+        """What a hover shows: the innermost value there before the fault, and its pointer."""
         at = offset_of(text, position["line"], position["character"], self.encoding)
+        ended = self.ended(text)
+        if ended is None or ended[3] <= at:
+            return None
+        whole, verdict, rows, kept = ended
         there = [k for k in range(rows.count) if rows.all[k].span.start <= at < rows.all[k].span.end]
         if not there:
             return None
-        row, path = rows.all[there[-1]], self.readers.path(text, rows, there[-1])
-        answer = self.readers.find(text, rows, verdict, path)
+        row, path = rows.all[there[-1]], self.readers.path(whole, rows, there[-1])
+        answer = self.readers.find(whole, rows, verdict, path)
         leads_there = answer.outcome == 0 and str(answer.span) == str(row.span)
         words = "no pointer" if not leads_there else "pointer " + path.decode() if path else "empty pointer"
-        value = "%s %s\n%s" % (plain.KINDS[row.kind], row.span, words)
-        return {"contents": {"kind": "plaintext", "value": value}, "range": self.range_of(text, row.span)}
+        more = ", as far as the fault" if kept < row.span.end else ""
+        value = "%s %d..%d%s\n%s" % (plain.KINDS[row.kind], row.span.start, min(row.span.end, kept), more, words)
+        return {"contents": {"kind": "plaintext", "value": value}, "range": self.range_to(text, row, kept)}
+
+    def range_to(self, text, row, kept):
+        """The range of a value, as far as so many bytes go."""
+        return {"start": self.position_of(text, row.span.start), "end": self.position_of(text, min(row.span.end, kept))}
+
+    def listed(self, text):
+        """The values that begin before the fault, and how many bytes stand before it."""
+        ended = self.ended(text)
+        if ended is None:
+            return None, 0
+        _, _, rows, kept = ended
+        return [row for row in rows.all[: rows.count] if row.span.start < kept], kept
+
+    def folded(self, text):
+        """Of the containers among these values the lines that can be folded, of which one begins in a line."""
+        rows, kept = self.listed(text)
+        told = None if rows is None else []
+        for row in rows or []:
+            there = self.range_to(text, row, kept)
+            first, last = there["start"]["line"], there["end"]["line"] - 1
+            container = plain.KINDS[row.kind] in ("array", "object")
+            if container and first < last and [first] != [fold["startLine"] for fold in told[-1:]]:
+                told.append({"startLine": first, "endLine": last})
+        return told
+
+    def around(self, text, positions):
+        """The values, names and members around each of some places, each in its parent; where there is none, an empty range there."""
+        ended = self.ended(text)
+        if ended is None:
+            return None
+        _, _, rows, kept = ended
+        told = []
+        for position in positions:
+            at = offset_of(text, position["line"], position["character"], self.encoding)
+            chain = [(at, at)] + [span for row in rows.all[: rows.count] for span in spans_of(row) if span[0] <= at < span[1] and at < kept]
+            parent = None
+            for start, end in chain[1:] or chain:
+                there = {"start": self.position_of(text, start), "end": self.position_of(text, min(end, kept))}
+                parent = {"range": there, "parent": parent} if parent else {"range": there}
+            told.append(parent)
+        return told
 
     # ---- what an editor does
 
@@ -142,10 +228,22 @@ class Session:
         text, wanted = self.documents[uri], None
         number = self.ask("documentSymbol", uri)
         if text is not None:
-            verdict, rows = self.readers.read(text, self.settings)
-            if verdict.kind == 0:
-                wanted = [self.range_of(text, row.span) for row in rows.all[: rows.count]]
+            rows, kept = self.listed(text)
+            wanted = None if rows is None else [self.range_to(text, row, kept) for row in rows]
         self.wanted.append(lambda got: got.get("id") == number and (got["result"] and [it["location"]["range"] for it in got["result"]]) == wanted)
+
+    def folds(self, uri):
+        text = self.documents[uri]
+        number = self.ask("foldingRange", uri)
+        wanted = None if text is None else self.folded(text)
+        self.wanted.append(lambda got: got.get("id") == number and got["result"] == wanted)
+
+    def select(self, uri):
+        text = self.documents[uri]
+        positions = [self.position(text or b"") for _ in range(self.dice.randrange(3))]
+        number = self.ask("selectionRange", uri, positions=positions)
+        wanted = None if text is None else self.around(text, positions)
+        self.wanted.append(lambda got: got.get("id") == number and got["result"] == wanted)
 
     def close(self, uri):
         del self.documents[uri]
@@ -167,6 +265,6 @@ class Session:
                     self.open(uri, self.text())
                 continue
             rarely = self.close if self.dice.random() < 0.3 else self.hover
-            self.dice.choice([self.change] * 6 + [self.hover] * 3 + [self.outline, rarely])(uri)
+            self.dice.choice([self.change] * 6 + [self.hover] * 3 + [self.outline, self.folds, self.select, rarely])(uri)
         self.end()
         return b"".join(self.sent)

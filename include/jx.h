@@ -3,15 +3,15 @@
  * Every call returns a status. Any status but JX_OK leaves the caller's structs unchanged, unless a call says more. Offsets and
  * sizes count bytes, depths count containers.
  *
- * Ownership: the caller owns all memory that it passes, and no call but jx_index_new and jx_finder_new keeps a pointer to
- * it. A document, an index, a look-up and a reader of lines are memory of the library: what its calls that end in _new take,
- * those that end in _free give back. A pointer must not be null, not even one to bytes with the size 0, but for settings, and
- * in the calls on documents, indexes, look-ups and lines, which answer it. What a call writes to must not overlap anything
- * else that it is passed.
+ * Ownership: the caller owns all memory that it passes, and no call but jx_index_new, jx_finder_new and jx_values_new keeps a
+ * pointer to it. A document, an index, a look-up, a stream of values and a reader of lines are memory of the library: what its
+ * calls that end in _new take, those that end in _free give back. A pointer must not be null, not even one to bytes with the
+ * size 0, but for settings, and in the calls on documents, indexes, look-ups, values and lines, which answer it. What a call
+ * writes to must not overlap anything else that it is passed.
  *
  * Threads: calls share no state, so any number of threads may call at once, each with its own structs. One call at a time
- * may use a struct that it writes to, a document, an index, a look-up or a reader of lines. No call starts a thread or waits
- * for one. Do not call from a signal handler.
+ * may use a struct that it writes to, a document, an index, a look-up, a stream of values or a reader of lines. No call starts
+ * a thread or waits for one. Do not call from a signal handler.
  *
  * Names that end in _non_null are what the inline call below them calls, which answers null pointers: call that one. The libraries
  * export it too, for languages that do not read this header.
@@ -41,17 +41,19 @@ enum {
     JX_NOT_STARTED = 3,     /* the reader was not started */
     JX_TOO_MANY_BYTES = 4,  /* the reader would have been fed 2^64 bytes or more, or a part would end there or behind */
     JX_UNKNOWN_FLAG = 5,    /* unknown flag */
-    JX_NO_UNIQUE_NAMES = 6, /* a reader, a document, a look-up or a reader of lines keeps no names, so it cannot check them */
+    JX_NO_UNIQUE_NAMES = 6, /* a reader, a document, a look-up, a stream or a reader of lines keeps no names to check */
     JX_OUT_OF_BOUNDS = 7,   /* the range ends before it starts, or behind the document's last byte; or there is no such row */
     JX_NO_DOCUMENT = 8,     /* the struct holds no document, or the pointer to it is null */
-    JX_NULL_POINTER = 9,    /* another pointer to a call on a document, an index, a look-up or lines is null */
+    JX_NULL_POINTER = 9,    /* another pointer to a call on a document, an index, a look-up, values or lines is null */
     JX_NO_INDEX = 10,       /* the struct holds no index, or the pointer to it is null */
     JX_NO_ROOM = 11,        /* there is more than the buffer has room for, and nothing was written to it: see the size or count */
     JX_NOT_A_RUN = 12,      /* the bytes are no run that this version of the library writes */
     JX_OTHER_DEPTH = 13,    /* the runs were made with different depths */
     JX_NOT_NEIGHBOURS = 14, /* the right run does not begin where the left one ends, or the run is of other bytes */
     JX_NO_LINES = 15,       /* the struct holds no reader of lines, or the pointer to it is null */
-    JX_NO_FINDER = 17       /* the struct holds no look-up, or the pointer to it is null */
+    JX_NO_FINDER = 17,      /* the struct holds no look-up, or the pointer to it is null */
+    JX_NO_VALUES = 18,      /* the struct holds no stream of values, or the pointer to it is null */
+    JX_NOT_A_POINTER = 19   /* the bytes are no JSON Pointer: jx_at tells why, of any text */
 };
 
 /* Depths: how many containers may be open at once (RFC 8259, section 9, allows such a limit). A scalar has depth 0, a
@@ -289,6 +291,97 @@ static inline uint32_t jx_finder_end(jx_finder *finder, jx_answer *answers, size
  * one with a null pointer. */
 static inline void jx_finder_free(jx_finder *finder) {
     if (finder != NULL) jx_finder_free_non_null(finder);
+}
+
+/* The elements of an array, or the values of an object's members, in a text that comes slice by slice: each in compact form, as
+ * soon as it is due. Beside the value or the name that is not whole yet no byte of the text is kept.
+ *
+ * A pointer leads to the array or object, by the first member of each of its names; the empty one leads to the root. The compact
+ * form of a value is its tokens one behind another, without the blanks between them (RFC 8259, section 2); each token keeps its
+ * bytes. A string has no line feed (section 7), so each form is one line.
+ *
+ * A value is due once the comma or the bracket behind it is read, before the first fault of the text: of "[1,2,3x" the values 1
+ * and 2 are due, of "[1,2 " the value 1. What is due stays due, whatever comes behind it, and is the same for all slices. Of a
+ * text all values are due.
+ *
+ * The struct is a handle, which the library alone writes. Set it to {0}, which holds no stream, before its first call. Free it
+ * once. It may be moved, also to another thread. Do not use a copy of it after a call on another copy.
+ *
+ * Null pointers are answered, and change nothing: JX_NO_VALUES where `values` is null, else JX_NULL_POINTER. Settings may be
+ * null, and so may bytes of the size 0, and a buffer without room. */
+typedef struct jx_values {
+    void *inside;
+} jx_values;
+
+/* What the pointer of a stream comes to. */
+typedef struct jx_outcome {
+    size_t at;     /* a token's number, from 0, or an offset in the text; 0 if the kind has none */
+    uint32_t kind; /* JX_FOUND .. JX_NOT_A_CONTAINER, or JX_TEXT_STOPPED .. JX_TEXT_TOO_DEEP */
+} jx_outcome;
+
+uint32_t jx_values_new_non_null(const uint8_t *pointer, size_t pointer_size, const jx_settings *settings, jx_values *values);
+uint32_t jx_values_feed_non_null(jx_values *values, const uint8_t *bytes, size_t size);
+uint32_t jx_values_take_non_null(jx_values *values, uint8_t *lines, size_t room, size_t *size);
+uint32_t jx_values_end_non_null(jx_values *values, jx_outcome *outcome);
+void jx_values_free_non_null(jx_values *values);
+
+/* Begins a text. The bytes of the pointer (RFC 6901) must stay as they are until the stream ends or is freed: the library keeps a
+ * pointer to them. A stream that the struct held is freed. Any status but JX_OK leaves the struct as it was. A stream keeps no
+ * names, so it refuses JX_UNIQUE_NAMES.
+ *
+ * Allocates memory in proportion to the pointer, which jx_values_end and jx_values_free free. Returns JX_OK, JX_NO_MEMORY,
+ * JX_DEPTH_TOO_GREAT, JX_UNKNOWN_FLAG, JX_NO_UNIQUE_NAMES, JX_NOT_A_POINTER, JX_NO_VALUES or JX_NULL_POINTER. */
+static inline uint32_t jx_values_new(const uint8_t *pointer, size_t pointer_size, const jx_settings *settings,
+                                     jx_values *values) {
+    static const uint8_t root[1] = {0};
+    if (values == NULL) return JX_NO_VALUES;
+    if (pointer == NULL && pointer_size != 0) return JX_NULL_POINTER;
+    return jx_values_new_non_null(pointer == NULL ? root : pointer, pointer_size, jx_settings_or_default(settings), values);
+}
+
+/* Feeds the next bytes of the text. A slice may have any size, including 0, and may end anywhere, including inside a character.
+ * Values that became due wait then.
+ *
+ * Allocates memory in proportion to the values that wait, and to the value or the name that is not whole yet. After JX_NO_MEMORY
+ * the struct holds no stream, and what waited is lost. Returns JX_OK, JX_NO_MEMORY, JX_TOO_MANY_BYTES for 2^64 bytes or more in
+ * all, JX_NO_VALUES or JX_NULL_POINTER. */
+static inline uint32_t jx_values_feed(jx_values *values, const uint8_t *bytes, size_t size) {
+    static const uint8_t none[1] = {0};
+    if (values == NULL) return JX_NO_VALUES;
+    if (bytes == NULL && size != 0) return JX_NULL_POINTER;
+    return jx_values_feed_non_null(values, bytes == NULL ? none : bytes, size);
+}
+
+/* Moves all values that wait to `lines`, in order: those that are due, and were not taken before. Behind the compact form of each
+ * stands a line feed, the byte 0A. Writes how many bytes they are to `size`, and leaves the rest of `lines` unchanged. More than
+ * `room` bytes are not moved, and JX_NO_ROOM is returned: `size` tells how much room a second call needs. So all lines that were
+ * taken are at any time the values that are due of the bytes fed by the last call before.
+ *
+ * Allocates nothing. Returns JX_OK, JX_NO_ROOM, JX_NO_VALUES or JX_NULL_POINTER. */
+static inline uint32_t jx_values_take(jx_values *values, uint8_t *lines, size_t room, size_t *size) {
+    uint8_t none[1];
+    if (values == NULL) return JX_NO_VALUES;
+    if (size == NULL || (lines == NULL && room != 0)) return JX_NULL_POINTER;
+    return jx_values_take_non_null(values, lines == NULL ? none : lines, room, size);
+}
+
+/* Ends the stream. Tells what the pointer comes to in the text of all bytes fed: JX_FOUND where it leads to an array or an object,
+ * by names of which each names one member. Else the kind is that of jx_at; JX_NOT_A_CONTAINER also has the count of the pointer's
+ * tokens in `at`, where it leads to a scalar. Bytes that are no text have the kind of their refusal. Take what waits before: no
+ * value becomes due by the end, and those that wait are lost. The struct holds no stream afterwards.
+ *
+ * May allocate, and frees it. After JX_NO_MEMORY the stream is freed, and nothing was written. Returns JX_OK, JX_NO_MEMORY,
+ * JX_NO_VALUES or JX_NULL_POINTER. */
+static inline uint32_t jx_values_end(jx_values *values, jx_outcome *outcome) {
+    if (values == NULL) return JX_NO_VALUES;
+    if (outcome == NULL) return JX_NULL_POINTER;
+    return jx_values_end_non_null(values, outcome);
+}
+
+/* Frees the stream, if there is one, and sets the struct to {0}. So a second call on the same struct does nothing, nor does one
+ * with a null pointer. */
+static inline void jx_values_free(jx_values *values) {
+    if (values != NULL) jx_values_free_non_null(values);
 }
 
 /* A value of a text. */

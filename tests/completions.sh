@@ -21,7 +21,7 @@ bash_reads_its_file() {
 
 the_commands_and_their_options_are_offered() {
     local command option
-    for command in check explain index at get each seq lines part join whole; do
+    for command in check explain index at get each seq lines save part join whole; do
         same "bash: the options of $command" "$(options_of $command)" "$(offered jx $command --)"
         has "bash: $command itself" "$command" "$(offered jx '')"
         for option in $(options_of $command); do
@@ -40,12 +40,13 @@ bash_completes_what_is_begun() {
     same 'bash: an option that is begun' --depth "$(offered jx check --d)"
     printf x >text.json
     same 'bash: a file' text.json "$(offered jx check --file te)"
-    for command in check explain index each seq; do
+    for command in check explain index each seq save; do
         same "bash: a file as a word of $command" text.json "$(offered jx $command te)"
     done
     same 'bash: no file as a word of at' '' "$(offered jx at te)"
     same 'bash: colors' "$(printf '%s\n' always auto never)" "$(offered jx explain --color '')"
     same 'bash: when progress is told' "$(printf '%s\n' always auto never)" "$(offered jx each --progress '')"
+    same 'bash: sizes of chunks' '' "$(offered jx save --chunk '')"
     same 'bash: formats' "$(printf '%s\n' gnu json plain)" "$(offered jx check --format '')"
     same 'bash: a file of pointers' text.json "$(offered jx at --pointers te)"
     same 'bash: a file of pointers of get' text.json "$(offered jx get --pointers te)"
@@ -56,7 +57,7 @@ bash_completes_what_is_begun() {
 fish_offers_no_other_option() {
     local option
     for option in $(grep -oE -- "-l [a-z-]+" "$root/completions/jx.fish" | sort -u | sed 's/-l /--/'); do
-        has "fish: $option is one" "$option" "$(for command in '' check explain index at get each seq lines part join whole; do options_of "$command"; done)"
+        has "fish: $option is one" "$option" "$(for command in '' check explain index at get each seq lines save part join whole; do options_of "$command"; done)"
     done
 }
 

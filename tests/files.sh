@@ -63,6 +63,10 @@ what_is_not_to_be_had_is_told_and_the_rest_goes_on() {
     same 'a fault is the greatest status, wherever it stands' "$(lines 'status 2' 'out: bad.json: stopped at 3' 'err: jx: missing: cannot open: No such file or directory')" \
         "$(told check missing bad.json)"
     same 'quiet tells of faults' "$(lines 'status 2' 'err: jx: missing: cannot open: No such file or directory')" "$(told check -q missing bad.json)"
+    if [ -r /proc/self/mem ]; then
+        same 'a read that fails, between two' "$(lines 'status 2' 'out: good.json: accepted' 'out: bad.json: stopped at 3' 'err: jx: /proc/self/mem: read failed: Input/output error')" \
+            "$(told check good.json /proc/self/mem bad.json)"
+    fi
     if [ -w /dev/full ]; then
         same 'nowhere to write to' "$(lines 'jx: write failed' 'status 2')" "$("$program" check good.json bad.json 2>&1 >/dev/full; echo "status $?")"
         same 'nowhere to tell to' "$(lines 'good.json: accepted' 'status 2')" "$("$program" check missing good.json 2>/dev/full; echo "status $?")"

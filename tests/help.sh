@@ -7,7 +7,7 @@ help_on() { "$program" $1 "$2" 2>&1; }
 
 the_help_on_each_command_fits_and_is_complete() {
     local command flag text short long
-    for command in '' check explain index at get each seq lines part join whole; do
+    for command in '' check explain index at get each seq lines save part join whole; do
         for flag in -h --help; do
             text=$(help_on "$command" $flag)
             same "jx $command $flag: no line has more than 79 columns" '' "$(printf '%s\n' "$text" | grep -E '.{80}')"
@@ -61,10 +61,13 @@ the_nearest_right_word_is_told() {
     has 'quiet is for check and seq alone' "error: unexpected argument '-q' found" "$(said '' at -q /a)"
     has 'quiet is not for get' "error: unexpected argument '-q' found" "$(said '' get -q /a)"
     has 'a wrong command' "'lines'" "$(said '' line)"
-    has 'workers are not for lines' "error: unexpected argument '--workers' found" "$(said '' lines --workers 2)"
+    has 'workers are not for each' "error: unexpected argument '--workers' found" "$(said '' each --workers 2)"
     has 'quiet is not for each' "error: unexpected argument '-q' found" "$(said '' each -q)"
     has 'each takes two words' "error: unexpected argument 'b' found" "$(said '' each /a a b)"
     has 'quiet is not for part' "error: unexpected argument '-q' found" "$(said '' part -q)"
+    has 'workers are not for save' "error: unexpected argument '--workers' found" "$(said '' save --workers 2)"
+    has 'a wrong size of chunks' "error: invalid value for '--chunk <N>': N is no power of two" "$(said '' save --chunk 100)"
+    has 'save takes one word' "error: unexpected argument 'b' found" "$(said '' save a b)"
     has 'whole needs the end' 'error: the following required arguments were not provided:' "$(said '' whole)"
     has 'color is for explain alone' "error: unexpected argument '--color' found" "$(said '' check --color never)"
     has 'a format is for check alone' "error: unexpected argument '--format' found" "$(said '' explain --format json)"

@@ -13,6 +13,7 @@ import time
 HERE = pathlib.Path(__file__).resolve().parent
 PROGRAM = os.environ.get("JX_PROGRAM", HERE.parent / "crates" / "jx" / "out" / "jx")
 INPUTS = int(os.environ.get("JX_LINES", "1200"))
+SHARED = int(os.environ.get("JX_SHARED_LINES", "8"))
 BLANKS = b" \t\n\r"
 MARK = b"\xef\xbb\xbf"
 failed = passed = 0
@@ -268,6 +269,7 @@ def randomly():
         text = random_text(chance)
         depth, skips, ignores = chance.choice([512, 512, 1, 2, 0]), chance.random() < 0.4, chance.random() < 0.5
         words = ["--depth", str(depth)] * (depth != 512) + ["--skip-blank"] * skips + ["--ignore-bom"] * ignores
+        words += ["--workers", str(chance.choice([1, 2, 64]))] * (chance.random() < 0.3) + ["--piece", str(chance.choice([1, 7]))] * (chance.random() < 0.3)
         output, status = wanted_of(text, depth, skips, ignores)
         same("%s of %r" % (words, text), (output.encode(), b"", status), told_of(words, text, chance))
         if chance.random() < 0.2:
@@ -335,7 +337,32 @@ def long_lines():
     same("long elements", (output.encode(), b"", status), told_of(["--live"], text, chance, "seq"))
 
 
+def by_workers():
+    """Inputs that several workers share, by any number of them and any piece: what is told is what one worker tells, and the reader here."""
+    chance = random.Random(23)
+    for _ in range(SHARED):
+        kinds = chance.choice([[b"[1,2]"], [b'{"a":"\xc3\xa9"}', b"[1,", b"", b"1e5"], [b"x"], [b"1"], PIECES, [b'["%s"]' % (b"y" * 70000), b"[1,2,3]", b"[1,,2]"]])
+        lines, size = [], 0
+        most = chance.choice([1100000, 2200000, 4500000]) if len(kinds) > 1 or len(kinds[0]) > 1 else 1100000
+        while size < most:
+            lines.append(chance.choice(kinds) + chance.choice([b"", b"", b"\r", b" "]))
+            size += len(lines[-1]) + 1
+        text = chance.choice([b"", MARK]) + b"\n".join(lines) + chance.choice([b"", b"\n", b"\n[1"])
+        skips, ignores = chance.random() < 0.4, chance.random() < 0.5
+        words = ["--skip-blank"] * skips + ["--ignore-bom"] * ignores
+        output, status = wanted_of(text, 512, skips, ignores)
+        pathlib.Path("text").write_bytes(text)
+        for workers in (1, chance.choice([2, 3, 4]), chance.choice([5, 16, 64])):
+            piece = chance.choice([4096, 65536, 65537, 300000, 10000000])
+            more = ["--workers", str(workers), "--piece", str(piece)]
+            done = subprocess.run([PROGRAM, "lines", *words, *more, "text"], capture_output=True)
+            same("%s of %d bytes, %s" % (words + more, len(text), kinds[:2]), (output.encode(), b"", status), (done.stdout, done.stderr, done.returncode))
+            quiet = subprocess.run([PROGRAM, "lines", "-q", *words, *more, "text"], capture_output=True)
+            same("-q %s of %d bytes" % (words + more, len(text)), (b"", b"", status), (quiet.stdout, quiet.stderr, quiet.returncode))
+
+
 randomly()
+by_workers()
 random_sequences()
 in_slices()
 sequences_in_slices()

@@ -41,6 +41,26 @@ a_mark_is_of_the_input_and_of_no_line() {
     same 'a part of one is a line' "$(all 'status 1' 'out: 1 0..2 stopped at 0' 'out: accepted 0, refused 1')" "$(said '\357\273' lines --ignore-bom)"
 }
 
+# What a read gives is shared where it is a MiB or more.
+several_workers_tell_the_same() {
+    local bad workers piece
+    seq 1 400000 | sed '7s/$/x/; 399999s/$/ 2/; 200000s/^.*$//' >numbers
+    bad=$(all 'status 1' 'out: 7 12..14 stopped at 13' 'out: 200000 1288889..1288889 blank' 'out: 399999 2688876..2688884 stopped at 2688883' 'out: accepted 399997, refused 3')
+    for workers in 1 2 4 64; do
+        for piece in 1 4096 65536 1073741824; do
+            if ((workers * piece > 1)) && ((piece > 1 || workers == 2)); then
+                same "$workers workers, pieces of $piece" "$bad" "$(said '' lines --workers $workers --piece $piece numbers)"
+            fi
+        done
+    done
+    same 'of standard input' "$bad" "$("$program" lines --workers 4 <numbers >out; echo "status $?"; sed 's/^/out: /' out)"
+    same 'blank lines are passed' "$(all 'status 1' 'out: 7 12..14 stopped at 13' 'out: 399999 2688876..2688884 stopped at 2688883' 'out: accepted 399997, refused 2')" \
+        "$(said '' lines --skip-blank numbers)"
+    has 'no worker' 'workers' "$(said '' lines --workers 0 numbers)"
+    has 'too many workers' 'workers' "$(said '' lines --workers 65 numbers)"
+    has 'an empty piece' 'piece' "$(said '' lines --piece 0 numbers)"
+}
+
 several_files_have_each_line_behind_their_name() {
     printf '1\nx\n' >a
     printf '[]\n' >'b: c'
@@ -92,6 +112,7 @@ a_closed_pipe_ends_it_without_a_word() {
 tests lines_are_told_as_an_independent_reader_has_them \
     each_bad_line_is_told \
     a_mark_is_of_the_input_and_of_no_line \
+    several_workers_tell_the_same \
     several_files_have_each_line_behind_their_name \
     lines_are_told_while_the_input_is_read \
     what_cannot_be_read_or_written \

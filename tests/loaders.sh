@@ -48,5 +48,8 @@ if ! start_server; then
     tests
     exit
 fi
+# The package for Python stands on the library.
+"$root/tools/library" >library.log 2>&1 || same 'the library is built' '' "$(cat library.log)"
+export PYTHONPATH=$root/bindings/python PYTHONDONTWRITEBYTECODE=1
 write_sessions "$root/docs/LOADERS.md"
 tests each_loader_does_what_stands_below_it

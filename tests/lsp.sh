@@ -76,9 +76,12 @@ CUTS
 }
 
 values_are_shown() {
-    local told='300 texts are shown as they are read by hand'
-    same 'hovers and outlines of random texts, columns in UTF-16 and in bytes' "$(printf '%s\n' "$told" "$told")" "$(played shows 600)"
+    local told='250 texts are shown as they are read by hand'
+    same 'hovers, ranges, outlines and folds of random texts and of what stands before a fault, flat and nested, columns in UTF-16 and in bytes' \
+        "$(printf '%s\n' "$told" "$told" "$told" "$told")" "$(played shows 1000)"
     same 'an outline ends' '10000 values' "$(played outline_of 20000)"
+    same 'values are shown in each other down to a level' '100 levels' "$(played levels 200)"
+    same 'ranges around a place, the innermost first' '200 ranges' "$(played around_of 300)"
 }
 
 sessions_are_as_recorded() {

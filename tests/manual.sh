@@ -39,7 +39,7 @@ the_page_has_its_sections_and_the_version() {
 
 each_paragraph_of_the_help_stands_there() {
     local command count paragraph
-    for command in '' check explain index at get each seq lines part join whole; do
+    for command in '' check explain index at get each seq lines save part join whole; do
         count=0
         while read -r paragraph; do
             has "jx $command --help: a paragraph" "$paragraph" "$text"
@@ -53,7 +53,8 @@ each_fault_stands_there() {
     local line
     for line in 'FILE: cannot open: REASON' 'FILE: is a directory' 'FILE: read failed: REASON' 'FILE: too many pieces' \
         'FILE: a file and no pointer: write --file in front of it' 'write failed' 'out of memory' 'no runs' 'the runs cover A..B and not C..D' \
-        'a run is not written to a terminal: write it to a file or a pipe' 'FAULT: the first word is a pointer, and FILE the second'; do
+        'a run is not written to a terminal: write it to a file or a pipe' 'an index is not written to a terminal: write it to a file or a pipe' \
+        'FAULT: the first word is a pointer, and FILE the second'; do
         has "the fault $line" "jx: $line" "$text"
     done
     for line in 'not a run' 'of another version' 'cut short' 'damaged' 'not well formed' 'read with depth D' \

@@ -56,7 +56,7 @@ several_inputs_are_told_one_by_one() {
 
 what_cannot_be_told() {
     has 'a wrong word' "invalid value 'soon' for '--progress <WHEN>'" "$(said '' check --progress soon)"
-    has 'progress is for check and each alone' "error: unexpected argument '--progress' found" "$(said '' seq --progress always)"
+    has 'progress is for check, each and save alone' "error: unexpected argument '--progress' found" "$(said '' seq --progress always)"
     if [ -w /dev/full ]; then
         same 'nowhere to tell' accepted "$("$program" check --progress always long 2>/dev/full)"
         same 'a fault ends the line' 'jx: write failed' "$("$program" each --progress always '' long 2>&1 >/dev/full | tail -n 1)"

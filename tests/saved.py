@@ -1,10 +1,14 @@
-"""Saved indexes: the bytes of the index of a text, by docs/FORMAT.md and RFC 8259 alone. Nothing of a crate is called.
+"""Saved indexes: the bytes of the index of a text, and what bytes say, by docs/FORMAT.md and RFC 8259 alone. Nothing of a crate is called.
 
-    saved.py lines SEED COUNT     writes lines for crates/jx_calls_of_indexes: random texts, chunks from 64 bytes
+    saved.py lines SEED COUNT     writes lines for crates/jx_calls_of_indexes: for each of so many random texts one to index it, in chunks from
+                                  64 bytes, and one to read bytes of its index, which often have something amiss
     saved.py answers < LINES      writes the answer to each line, on the line of the same number
+    saved.py files SEED COUNT     writes random texts as N.json, what `jx save` has to write of each as N.jxi, and the options for it to N.options
+    saved.py file TEXT WORD..     writes the index of a file by options of `jx save`, whose names are taken to be unique where that is asked for
 
 The sum of a chunk is taken from the depths at its marks, and not mark by mark as the crate takes it.
 """
+import bisect
 import random
 import re
 import struct
@@ -181,30 +185,36 @@ class Reading:
             self.marks.append((kind, at, len(open_ones), expect))
         # A string and a literal end with a byte of theirs, a number before the byte that shows it.
         self.shown = [end if kind == "number" else end - 1 for kind, _, end in self.tokens if kind in ("string", "number", "literal")]
+        self.places = [mark[1] for mark in self.marks]
+
+    def count(self, at):
+        """How many marks stand before an offset."""
+        return bisect.bisect_left(self.places, at)
 
     def state(self, at):
-        for kind, begin, end in self.tokens:
-            if begin < at and (at < end or kind == "number" and at == end):
-                if kind in ("string", "number", "literal"):
-                    return state_in(kind, self.text[begin:at])
+        if self.count(at) == 0:
+            return "Gap"
+        kind, begin, end = self.tokens[self.count(at) - 1]
+        if kind in ("string", "number", "literal") and (at < end or kind == "number" and at == end):
+            return state_in(kind, self.text[begin:at])
         return "Gap"
 
     def expect(self, at):
-        return ([m[3] for m in self.marks if m[1] < at] or ["Value"])[-1]
+        return self.marks[self.count(at) - 1][3] if self.count(at) else "Value"
 
     def depth(self, at):
-        return ([m[2] for m in self.marks if m[1] < at] or [0])[-1]
+        return self.marks[self.count(at) - 1][2] if self.count(at) else 0
 
 
 def entry(reading, chunk, k):
     """The entry of a chunk: its numbers, and then its digest."""
     low, high = k * chunk, min((k + 1) * chunk, len(reading.text))
-    inside = [m for m in reading.marks if low <= m[1] < high]
+    inside = reading.marks[reading.count(low):reading.count(high)]
     before = reading.depth(low)
     lowest = min([before] + [m[2] for m in inside])
     last = inside[-1][2] if inside else before
     commas = sum(1 for m in inside if m[0] == "," and m[2] == lowest)
-    flags = (1 if inside else 0) + (2 if any(low <= at < high for at in reading.shown) else 0)
+    flags = (1 if inside else 0) + (2 if bisect.bisect_left(reading.shown, low) < bisect.bisect_left(reading.shown, high) else 0)
     return (before - lowest, last - lowest, STATES.index(reading.state(low)), EXPECTATIONS.index(reading.expect(low)), flags, commas,
             xxh64(reading.text[low:high]))
 
@@ -229,7 +239,7 @@ def block(entries):
     return closed, opened, entries[0][2], entries[0][3], flags, commas, xxh64(b"".join(map(spelt, entries)))
 
 
-def index(text, depth, ignores, chunk):
+def index(text, depth, ignores, chunk, unique=False):
     start = 3 if ignores and text.startswith(MARK) else 0
     reading = Reading(text, start)
     level = [entry(reading, chunk, k) for k in range((len(text) + chunk - 1) // chunk)]
@@ -237,8 +247,90 @@ def index(text, depth, ignores, chunk):
     while len(level) > 1:
         body += b"".join(map(spelt, level))
         level = [block(level[k:k + 64]) for k in range(0, len(level), 64)]
-    head = b"\x89jxidx\x0a\x01" + struct.pack("<QIIII", len(text), chunk, depth, 1 if ignores else 0, 0) + spelt(level[0])
+    head = b"\x89jxidx\x0a\x01" + struct.pack("<QIIII", len(text), chunk, depth, (1 if ignores else 0) + (2 if unique else 0), 0) + spelt(level[0])
     return head + struct.pack("<Q", xxh64(head)) + body
+
+
+# ---- what bytes say
+
+class Fault(Exception):
+    """Why bytes are those of no index."""
+
+
+def needed(holds, why):
+    if not holds:
+        raise Fault(why)
+
+
+def entry_said(data):
+    closed, opened, state, expect, flags, nothing, commas, digest = struct.unpack("<HHBBBBQQ", data)
+    flag = lambda bit: "true" if flags & bit else "false"
+    return " %d,%d,%d,%s,%s,%s,%s,%016x" % (closed, opened, commas, STATES[state], EXPECTATIONS[expect], flag(1), flag(2), digest)
+
+
+def entry_in(data):
+    """The numbers of an entry, and then its digest, as `entry` gives them."""
+    closed, opened, state, expect, flags, nothing, commas, digest = struct.unpack("<HHBBBBQQ", data)
+    needed(state < len(STATES) and expect < len(EXPECTATIONS) and flags < 4 and nothing == 0, "malformed")
+    return closed, opened, state, expect, flags, commas, digest
+
+
+def kept_of(size, chunk):
+    """How many entries stand behind the head."""
+    level, kept = -(-size // chunk), 0
+    while level > 1:
+        kept += level
+        level = -(-level // 64)
+    return kept
+
+
+def loaded(data):
+    needed(data[:7] == b"\x89jxidx\x0a", "not a saved index")
+    needed(data[7:8] == b"\x01", "another version")
+    needed(len(data) >= 64, "cut short")
+    needed(xxh64(data[:56]) == struct.unpack_from("<Q", data, 56)[0], "damaged")
+    size, chunk, depth, flags, nothing = struct.unpack_from("<QIIII", data, 8)
+    needed(size > 0 and chunk in [1 << bits for bits in range(6, 21)] and depth <= 65535, "malformed")
+    kept = kept_of(size, chunk)
+    needed((len(data) - 64) // 24 >= kept, "cut short")
+    needed(len(data) - 64 <= 24 * kept, "more bytes than an index has")
+    needed(flags < 4 and nothing == 0, "malformed")
+    entries = [entry_in(data[at:at + 24]) for at in range(64, len(data), 24)]
+    top = entry_in(data[32:56])
+    level, said_of = entries[:-(-size // chunk)] or [top], []
+    while len(level) > 1:
+        said_of += level
+        level = [block(level[k:k + 64]) for k in range(0, len(level), 64)]
+    needed(said_of == entries and level == [top], "damaged")
+    said = "%d %s %s %d %d" % (depth, ("Refused", "Ignored")[flags & 1], ("Any", "Unique")[flags >> 1], chunk, size)
+    return said + "".join(entry_said(data[at:at + 24]) for at in [32] + list(range(64, len(data), 24)))
+
+
+def load(data):
+    try:
+        return loaded(data)
+    except Fault as fault:
+        return str(fault)
+
+
+def sealed(front):
+    return front[:56] + struct.pack("<Q", xxh64(front[:56])) + front[64:]
+
+
+def changed(rng, data):
+    """The bytes of an index, often with something amiss."""
+    way = rng.randrange(8)
+    if way == 0:
+        return data[:rng.choice((rng.randrange(len(data)), rng.randrange(10), 64, 64 + rng.randrange(max(1, len(data) - 64))))]
+    if way == 1:
+        return data + bytes(rng.randrange(256) for _ in range(rng.choice((1, 23, 24, 48))))
+    if way == 2:
+        at = rng.randrange(min(len(data), 200))
+        return data[:at] + bytes([data[at] ^ 1 << rng.randrange(8)]) + data[at + 1:]
+    if way < 6:
+        at = rng.choice((0, 6, 7, 8, 15, 16, 17, 18, 20, 22, 24, 25, 28, 32, 36, 37, 38, 39, 40, 48, 55))
+        return sealed(data[:at] + bytes([rng.choice((0, 1, 2, 3, 4, 5, 6, 31, 32, 64, 128, 255))]) + data[at + 1:])
+    return data
 
 
 # ---- random texts
@@ -291,7 +383,33 @@ def lines(seed, count):
         settings = rng.choice("--b")
         if settings == "b" and rng.random() < 0.5:
             text = MARK + text
-        yield "save 512 %s %d %s" % (settings, rng.choice((64, 64, 64, 128, 1024, 32768)), word(text))
+        chunk = rng.choice((64, 64, 64, 128, 1024, 32768))
+        yield "save 512 %s %d %s" % (settings, chunk, word(text))
+        yield "load " + word(changed(rng, index(text, 512, settings == "b", chunk)))
+
+
+def index_by(text, options):
+    """The index by options of the program."""
+    value = lambda name, default: int(options[options.index(name) + 1]) if name in options else default
+    return index(text, value("--depth", 512), "--ignore-bom" in options, value("--chunk", 32768), "--unique-names" in options)
+
+
+def files(seed, count):
+    rng = random.Random(seed)
+    for number in range(count):
+        text = text_of(rng)
+        options = []
+        if rng.random() < 0.9:
+            options += ["--chunk", str(rng.choice((64, 64, 128, 256, 1024, 4096, 32768, 1048576)))]
+        if rng.random() < 0.3:
+            options += ["--depth", str(rng.choice((12, 40, 65535)))]
+        if rng.random() < 0.3:
+            options += ["--ignore-bom"]
+            if rng.random() < 0.5:
+                text = MARK + text
+        for ending, data in ((".json", text), (".jxi", index_by(text, options)), (".options", " ".join(options).encode())):
+            with open(str(number) + ending, "wb") as file:
+                file.write(data)
 
 
 def main():
@@ -299,10 +417,19 @@ def main():
         for line in lines(int(sys.argv[2]), int(sys.argv[3])):
             print(line)
         return
+    if sys.argv[1] == "files":
+        files(int(sys.argv[2]), int(sys.argv[3]))
+        return
+    if sys.argv[1] == "file":
+        with open(sys.argv[2], "rb") as file:
+            sys.stdout.buffer.write(index_by(file.read(), sys.argv[3:]))
+        return
     for line in sys.stdin.read().split("\n")[:-1]:
         words = line.split(" ")
         if words[0] == "digest":
             print("%016x" % xxh64(bytes_of(words[1])))
+        elif words[0] == "load":
+            print(load(bytes_of(words[1])))
         elif words[0] == "save":
             print("index " + index(bytes_of(words[4]), int(words[1]), "b" in words[2], int(words[3])).hex())
         else:

@@ -1,14 +1,19 @@
 #!/usr/bin/env bash
 # Saved indexes: those of texts that dice make, in chunks from 64 bytes and fed by slices of several sizes, are byte by byte those that
-# saved.py makes by docs/FORMAT.md and RFC 8259 alone.
+# saved.py makes by docs/FORMAT.md and RFC 8259 alone; bytes of indexes, intact and not, say what it reads in them, or are refused for the same.
+# `jx save` writes the same as saved.py, and of what is no text nothing.
 . "$(dirname "$0")/lib.sh"
 calls=$root/crates/jx_calls_of_indexes/out/jx_calls_of_indexes
 # Another one each day; JX_SEED plays one again.
 seed=${JX_SEED:-$(date +%Y%m%d)}
+model() { python3 "$root/tests/saved.py" "$@"; }
+
+# lines LINE..: each on a line of its own.
+lines() { printf '%s\n' "$@"; }
 
 indexes_are_those_of_the_model() {
-    python3 "$root/tests/saved.py" lines "$seed" 2000 >lines
-    python3 "$root/tests/saved.py" answers <lines >wanted
+    model lines "$seed" 1000 >lines
+    model answers <lines >wanted
     "$calls" <lines >got
     same 'each line has an answer' 2000 "$(wc -l <got)"
     same 'all are equal' '' "$(diff wanted got | head -n 4 | cut -c 1-400)"
@@ -20,10 +25,89 @@ a_wrong_byte_is_told() {
     same 'one line differs' 1 "$(diff other got | grep -c '^>')"
 }
 
+files_are_saved_as_by_the_model() {
+    local number options wrong=''
+    mkdir -p texts && (cd texts && model files "$seed" 400)
+    for number in $(seq 0 399); do
+        options=$(cat "texts/$number.options")
+        "$program" save $options "texts/$number.json" >got.jxi 2>told || wrong="$wrong $number, status $?;"
+        cmp -s got.jxi "texts/$number.jxi" || wrong="$wrong $number: other bytes;"
+        [ ! -s told ] || wrong="$wrong $number: $(cat told);"
+        cat "texts/$number.json" | "$program" save $options | cmp -s - "texts/$number.jxi" || wrong="$wrong $number: other bytes of a pipe;"
+        "$program" save $options --file "texts/$number.json" | cmp -s - "texts/$number.jxi" || wrong="$wrong $number: other bytes by --file;"
+    done
+    same "texts of seed $seed" '' "$wrong"
+}
+
+# A text of many chunks, and of several levels: batches end within chunks, and chunks are longer than batches.
+a_long_text_is_saved_as_by_the_model() {
+    local chunk
+    python3 -c 'print("[" + ",".join("{\"k\":[%d, \"%s\"]}" % (n, "x" * (n % 71)) for n in range(20000)) + "]")' >long.json
+    for chunk in 64 128 4096 32768 524288 1048576; do
+        model file long.json --chunk $chunk >wanted.jxi
+        "$program" save --chunk $chunk long.json | cmp - wanted.jxi
+        same "chunks of $chunk" '0 0' "${PIPESTATUS[*]}"
+        (head -c 100001 long.json; sleep 0.05; tail -c +100002 long.json) | "$program" save --chunk $chunk | cmp - wanted.jxi
+        same "chunks of $chunk, of a pipe" '0 0 0' "${PIPESTATUS[*]}"
+    done
+    same 'the size of an index' "$((64 + 24 * (8192 / 32 + 4)))" "$(head -c 8388606 /dev/zero | tr '\0' 1 | sed 's/^/[/; s/$/]/' | "$program" save | wc -c)"
+    "$program" save --progress always long.json 2>told | cmp - <(model file long.json)
+    same 'progress changes no byte' '0 0' "${PIPESTATUS[*]}"
+}
+
+names_may_have_to_be_unique() {
+    printf '{"a":1,"b":{"a":2}}' >unique.json
+    "$program" save --unique-names --chunk 64 unique.json | cmp - <(model file unique.json --chunk 64 --unique-names)
+    same 'the index says so' '0 0' "${PIPESTATUS[*]}"
+    same 'a name that is repeated' "$(lines 'status 1' 'err: jx: repeated name at 7')" "$(said '{"a":1,"\\u0061":2}' save --unique-names)"
+    same 'else it may be' 64 "$(printf '{"a":1,"a":2}' | "$program" save | wc -c)"
+}
+
+what_is_no_text_has_no_index() {
+    same 'no text' "$(lines 'status 1' 'err: jx: stopped at 3')" "$(said nulx save)"
+    same 'too short a text' "$(lines 'status 1' 'err: jx: truncated')" "$(said '[1,' save)"
+    same 'no byte' "$(lines 'status 1' 'err: jx: truncated')" "$(said '' save)"
+    same 'a byte order mark alone' "$(lines 'status 1' 'err: jx: truncated')" "$(said '\357\273\277' save --ignore-bom)"
+    same 'a byte order mark' "$(lines 'status 1' 'err: jx: stopped at 0')" "$(said '\357\273\2771' save)"
+    same 'too deep a text' "$(lines 'status 1' 'err: jx: too deep at 2')" "$(said '[[[]]]' save --depth 2)"
+    (cat long.json; echo x) >no.json
+    same 'a fault at the end of a long text' "$(lines 'status 1' "err: jx: stopped at $(wc -c <long.json)")" "$(said '' save --chunk 64 no.json)"
+    same 'the verdict is that of check' "jx: $("$program" check no.json)" "$("$program" save no.json 2>&1)"
+}
+
+faults_are_told() {
+    same 'no file' "$(lines 'status 2' 'err: jx: missing.json: cannot open: No such file or directory')" "$(said '' save missing.json)"
+    mkdir -p folder
+    same 'a folder' "$(lines 'status 2' 'err: jx: folder: is a directory')" "$(said '' save --file folder)"
+    same 'a folder as standard input' "$(lines 'jx: -: read failed: Is a directory' 'status 2')" "$("$program" save <folder 2>&1; echo "status $?")"
+    if [ -w /dev/full ]; then
+        same 'nowhere to write to' "$(lines 'jx: write failed' 'status 2')" "$(printf null | "$program" save 2>&1 >/dev/full; echo "status $?")"
+        same 'nowhere to tell to' 'status 1' "$(printf nulx | "$program" save 2>/dev/full; echo "status $?")"
+    fi
+    if command -v script >/dev/null; then
+        same 'a terminal' 'jx: an index is not written to a terminal: write it to a file or a pipe' "$(timeout 20 script -qec "'$program' save unique.json" /dev/null </dev/null | tr -d '\r')"
+    fi
+}
+
+# The program gets no signal, as where what calls it ignores it. The reader is gone before the call begins.
+a_closed_pipe_ends_it_without_a_word() {
+    exec 5> >(true)
+    wait $!
+    (trap '' PIPE; "$program" save --chunk 64 long.json 2>told >&5; echo $? >status)
+    exec 5>&-
+    same 'a reader that goes away' 'status 2, told: ' "status $(cat status), told: $(cat told)"
+}
+
 if [ ! -x "$calls" ]; then
-    echo "${0##*/}: skipped: there is no $calls"
-    tests
-    exit
+    echo "${0##*/}: there is no $calls"
+else
+    all='indexes_are_those_of_the_model a_wrong_byte_is_told'
 fi
 echo "saved.sh: the seed is $seed"
-tests indexes_are_those_of_the_model a_wrong_byte_is_told
+tests $all \
+    files_are_saved_as_by_the_model \
+    a_long_text_is_saved_as_by_the_model \
+    names_may_have_to_be_unique \
+    what_is_no_text_has_no_index \
+    faults_are_told \
+    a_closed_pipe_ends_it_without_a_word

@@ -180,7 +180,7 @@ a_closed_pipe_ends_a_call_without_a_word() {
     { printf '['; printf '1,%.0s' {1..100000}; printf '1]'; } >big
     { printf '\0361\n%.0s' {1..100000}; } >log
     printf '[' >bad
-    for command in 'index big' 'index --file big' 'seq log' 'seq log log' 'check big big' 'check -l bad bad' 'check --format gnu bad' 'check --format json big' 'at --file big /0 /1 /2' 'explain big' 'part --file big' '--version'; do
+    for command in 'index big' 'index --file big' 'seq log' 'seq log log' 'check big big' 'check -l bad bad' 'check --format gnu bad' 'check --format json big' 'at --file big /0 /1 /2' 'explain big' 'part --file big' 'save big' '--version'; do
         # Its reader is gone before the call begins.
         exec 5> >(true)
         wait $!

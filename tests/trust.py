@@ -42,6 +42,7 @@ COMMANDS = {
     "`each`": ({"jx_values/src/elements": ["report_elements"]}, without("Index At Seq")),
     "`lines`": ({"jx_ndjson_report/src/reporting": ["report_lines"]}, without("Index At Seq")),
     "`seq --live`": ({"jx_ndjson_report/src/reporting": ["report_sequence"]}, without("Index At Seq")),
+    "`save`": ({"jx_saved_report/src/reporting": ["report_index"]}, without("Index At Seq")),
     "`explain`": (
         {
             "jx_explain/src/reporting": ["report_explained"],
@@ -158,7 +159,7 @@ def specs_at(path):
 def declaration_of(path, name):
     """The declaration of a type, a trait or a constant, with its comment."""
     found = re.search(
-        r"(^ *(?:///|#\[).*\n)*^pub(?:\(crate\))? (?:struct|enum|trait|const) %s\b(?:.*;|[^{;]*\{[^}\n]*\}|(?:.*\n)*?^\})\n" % name,
+        r"(^ *(?:///|#\[).*\n)*^(?:pub(?:\(crate\))? )?(?:struct|enum|trait|const) %s\b(?:.*;|[^{;]*\{[^}\n]*\}|(?:.*\n)*?^\})\n" % name,
         text_of(path + ".rt"),
         re.M,
     )

@@ -221,10 +221,11 @@ def elements_of_random_texts():
 
 
 class Node:
-    """A value of an accepted text: where it stands, its children with their names, and where the comma or the bracket behind each stands."""
+    """A value of an accepted text: where it stands, its children with their names, these as they are spelt, and where the comma or the bracket behind each
+    child stands."""
 
     def __init__(self, text, start):
-        self.text, self.start, self.children, self.ends = text, start, [], []
+        self.text, self.start, self.children, self.spelt, self.ends = text, start, [], [], []
         self.kind = {b"{": "object", b"[": "array"}.get(text[start : start + 1], "scalar")
         self.end = self.scalar_end() if self.kind == "scalar" else self.container_end()
 
@@ -245,6 +246,7 @@ class Node:
                 at = self.past_blanks(self.past_blanks(name.end) + 1)
             child = Node(self.text, at)
             self.children.append((name and json.loads(self.text[name.start : name.end]), child))
+            self.spelt.append(name and self.text[name.start : name.end])
             at = self.past_blanks(child.end)
             self.ends.append(at)
             if self.text[at : at + 1] == b",":
@@ -270,7 +272,7 @@ def step(node, token, number):
     return [child for place, (_, child) in enumerate(node.children) if str(place) == token], b"past end at token %d" % number
 
 
-def reached(root, tokens):
+def reached(root, tokens, named=False):
     """The value that tokens lead to by the first member of each name, if there is one, and what is told of the pointer."""
     node, told = root, b""
     for number, token in enumerate(tokens):
@@ -280,7 +282,9 @@ def reached(root, tokens):
         if len(found) > 1:
             told = told or b"name repeated at token %d" % number
         node = found[0]
-    if node.kind == "scalar":
+    if named and node.kind != "object":
+        told = told or b"not an object at token %d" % len(tokens)
+    elif node.kind == "scalar":
         told = told or b"not a container at token %d" % len(tokens)
     return node, told
 
@@ -300,26 +304,46 @@ def text_with_names(chance, depth=0):
     return b"{" + inside + b"}" if kind == "object" else b"[" + inside + b"]"
 
 
-def elements_by_pointers():
-    chance = random.Random(59)
+def lines_of(node, named):
+    """The line of each element of a value, with the offset of the comma or the bracket behind it."""
+    if node is None or (named and node.kind != "object"):
+        return []
+    values = [without_blanks(child.text[child.start : child.end]) for _, child in node.children]
+    if named:
+        values = [b'{"name":%s,"value":%s}' % pair for pair in zip(node.spelt, values)]
+    return [(value + b"\n", end) for value, end in zip(values, node.ends)]
+
+
+def a_pointer(chance):
+    """Random tokens, and the pointer that they are spelt by."""
+    tokens = [chance.choice(["a", "a", "b", "a/b~c", "", "\u00e9", "0", "1", "2", "-", "01", "aa", 'a"']) for _ in range(chance.randrange(4))]
+    return tokens, "".join("/" + token.replace("~", "~0").replace("/", "~1") for token in tokens)
+
+
+def elements_by_pointers(named=False):
+    chance = random.Random(60 if named else 59)
     for number in range(2 * TEXTS):
         text = text_with_names(chance)
         text = chance.choice([b"", b" "]) + text + chance.choice([b"", b"\n"])
         root = Node(text, len(text) - len(text.lstrip()))
-        tokens = [chance.choice(["a", "a", "b", "a/b~c", "", "\u00e9", "0", "1", "2", "-", "01", "aa", 'a"']) for _ in range(chance.randrange(4))]
-        pointer = "".join("/" + token.replace("~", "~0").replace("/", "~1") for token in tokens)
-        node, words = reached(root, tokens)
-        children = [] if node is None else list(zip(node.children, node.ends))
-        lines = [(without_blanks(text[child.start : child.end]) + b"\n", end) for (_, child), end in children]
+        tokens, pointer = a_pointer(chance)
+        node, words = reached(root, tokens, named)
+        lines = lines_of(node, named)
         pieces = chance.choice([1, 2, 3, 7, 65536])
         told = b"jx: %s\n" % words if words else b""
-        asked = [] if pointer == "" and chance.randrange(2) else [pointer]
+        asked = ["--names"] * named + ([] if pointer == "" and chance.randrange(2) else [pointer])
         same("elements at %r of %r" % (pointer, text), (b"".join(line for line, _ in lines), told, int(told != b"")), each_of(text, pieces, asked))
+        for line, pair in zip(lines, (node.children if named and lines else [])):
+            same("what a line of %r says" % text, {"name": pair[0], "value": json.loads(text[pair[1].start : pair[1].end])}, json.loads(line[0]))
         cut = chance.randrange(len(text))
         due = b"".join(line for line, end in lines if end < cut)
         same("elements at %r of %r, a fault at %d" % (pointer, text, cut), (due, b"jx: stopped at %d\n" % cut, 1), each_of(text[:cut] + b"\0" + text[cut:], pieces, asked))
 
 
-for test in (table, random_texts, elements_of_random_texts, elements_by_pointers):
+def members_by_pointers():
+    elements_by_pointers(named=True)
+
+
+for test in (table, random_texts, elements_of_random_texts, elements_by_pointers, members_by_pointers):
     test()
 print("%d passed, %d failed" % (passed, failed))

@@ -8,6 +8,11 @@
 #define jx_finder_feed jx_finder_feed_inline
 #define jx_finder_end jx_finder_end_inline
 #define jx_finder_free jx_finder_free_inline
+#define jx_values_new jx_values_new_inline
+#define jx_values_feed jx_values_feed_inline
+#define jx_values_take jx_values_take_inline
+#define jx_values_end jx_values_end_inline
+#define jx_values_free jx_values_free_inline
 #define jx_rows jx_rows_inline
 #define jx_index_new jx_index_new_inline
 #define jx_index_find jx_index_find_inline
@@ -35,6 +40,11 @@
 #undef jx_finder_feed
 #undef jx_finder_end
 #undef jx_finder_free
+#undef jx_values_new
+#undef jx_values_feed
+#undef jx_values_take
+#undef jx_values_end
+#undef jx_values_free
 #undef jx_rows
 #undef jx_index_new
 #undef jx_index_find
@@ -83,6 +93,20 @@ uint32_t jx_finder_feed(jx_finder *finder, const uint8_t *bytes, size_t size) { 
 uint32_t jx_finder_end(jx_finder *finder, jx_answer *answers, size_t room) { return jx_finder_end_inline(finder, answers, room); }
 
 void jx_finder_free(jx_finder *finder) { jx_finder_free_inline(finder); }
+
+uint32_t jx_values_new(const uint8_t *pointer, size_t pointer_size, const jx_settings *settings, jx_values *values) {
+    return jx_values_new_inline(pointer, pointer_size, settings, values);
+}
+
+uint32_t jx_values_feed(jx_values *values, const uint8_t *bytes, size_t size) { return jx_values_feed_inline(values, bytes, size); }
+
+uint32_t jx_values_take(jx_values *values, uint8_t *lines, size_t room, size_t *size) {
+    return jx_values_take_inline(values, lines, room, size);
+}
+
+uint32_t jx_values_end(jx_values *values, jx_outcome *outcome) { return jx_values_end_inline(values, outcome); }
+
+void jx_values_free(jx_values *values) { jx_values_free_inline(values); }
 
 uint32_t jx_rows(const uint8_t *text, size_t size, const jx_settings *settings, jx_row *rows, size_t room, size_t *count,
                  jx_verdict *verdict) {

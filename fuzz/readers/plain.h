@@ -27,6 +27,14 @@ size_t plain_lines(const uint8_t *bytes, size_t size, const jx_settings *setting
 /* Writes the tokens of an accepted text one behind another, and tells their size, which is at most the text's. A mark is left out. */
 size_t plain_compact(const uint8_t *text, size_t size, uint8_t *form);
 
+/* Writes the values of the array or object that a pointer leads to, each in compact form with a line feed behind it: those that are due of
+ * bytes with this verdict. A pointer goes by the first member of each name. Tells how many bytes are written: no more than there are. */
+size_t plain_values(const uint8_t *bytes, size_t size, const jx_verdict *verdict, const uint8_t *pointer, size_t pointer_size,
+                    uint8_t *lines);
+
+/* What an answer says of a pointer that has to lead to an array or object. */
+jx_outcome plain_outcome(const jx_answer *answer, const uint8_t *pointer, size_t size);
+
 /* Writes the pointer that leads to a row, as long as it fits; tells its size. Half of a surrogate pair becomes U+FFFD. */
 size_t plain_path(const uint8_t *bytes, const plain_rows *rows, size_t row, uint8_t *pointer, size_t room);
 

@@ -80,6 +80,22 @@ static void read_lines(void) {
     jx_lines_free(&lines);
 }
 
+static void give_values(void) {
+    enum { SLICE = 1 << 12 };
+    static uint8_t *lines;
+    static size_t room;
+    jx_values values = {0};
+    jx_outcome outcome;
+    size_t size;
+    if (room < shape_size) lines = kept(room = shape_size);
+    ok(jx_values_new(NULL, 0, &deep, &values));
+    for (size_t at = 0; at < shape_size; at += SLICE) {
+        ok(jx_values_feed(&values, text() + at, shape_size - at < SLICE ? shape_size - at : SLICE));
+        ok(jx_values_take(&values, lines, room, &size));
+    }
+    ok(jx_values_end(&values, &outcome));
+}
+
 static void edit(void) {
     static const char *const words[4] = {"[", "\"", "", "{\"a\":"};
     jx_document document = {0};
@@ -125,6 +141,7 @@ const call calls[] = {
     {"at, many", look_up_many, 10, POINTERS, 0},
     {"elements", list_elements, 10, SOME, 8},
     {"lines", read_lines, 6, 4 * SOME, 0},
+    {"values", give_values, 4, SOME, 1},
     {"document", edit, 75, SOME, 6},
     {"runs", make_runs, 2, POINTERS, 0},
     {"deep runs", make_deep_runs, 5, OPEN, 0},

@@ -17,5 +17,6 @@ void forge_runs(input *in);          /* fields of runs are changed and sealed: r
 void take_any_runs(input *in);       /* any bytes as runs */
 void compact_texts(input *in);       /* too little, just enough and more room; the form reads as the same values */
 void feed_lines(input *in);          /* cut anywhere, too little and just enough room; a reader that wants memory is lost */
+void feed_values(input *in);         /* cut anywhere, several pointers; what was taken is what is due; a stream that wants memory is lost */
 
 #endif

@@ -52,9 +52,11 @@ def served(stream):
     return run.stdout, run.stderr, run.returncode
 
 
-def greeting(options=None, encodings=None):
-    general = {"positionEncodings": encodings} if encodings else {}
-    params = {"processId": None, "rootUri": None, "capabilities": {"general": general}, "initializationOptions": options}
+def greeting(options=None, encodings=None, nested=False):
+    capabilities = {"general": {"positionEncodings": encodings} if encodings else {}}
+    if nested:
+        capabilities["textDocument"] = {"documentSymbol": {"hierarchicalDocumentSymbolSupport": True}}
+    params = {"processId": None, "rootUri": None, "capabilities": capabilities, "initializationOptions": options}
     return request(0, "initialize", params) + notification("initialized", {})
 
 
@@ -209,14 +211,16 @@ def cut_text(text, line, start, end):
 BLANKS = ["", "", " ", "\n", "\r\n", "\t"]
 SCALARS = {'"é😀"': "string", '"\\u00e9\\/"': "string", "-0.5e3": "number", "10": "number", "true": "true", "false": "false", "null": "null"}
 NAMES = ['"a"', '"\\u0061"', '"b/c"', '"~"', '"~1"', '"é"', '"😀"', '"\\ud83d\\ude00"', '""', '"\\ud800"', '"\\n"', '"\\""', '"\\\\"', '"0"']
+NUMBER = re.compile(r"-?(0|[1-9][0-9]*)(\.[0-9]+)?([eE][-+]?[0-9]+)?")
 SYMBOL_KINDS = {"string": 15, "number": 16, "true": 17, "false": 17, "array": 18, "object": 19, "null": 21}
 
 
 class Text:
     """A text that is made value by value, and its values in the order of their starts."""
 
-    def __init__(self, dice):
+    def __init__(self, dice, names=None):
         self.dice = dice
+        self.names = names
         self.text = ""
         self.values = []
         self.value(None, None, 0, 4)
@@ -225,9 +229,9 @@ class Text:
     def blank(self):
         self.text += self.dice.choice(BLANKS)
 
-    def value(self, parent, name, index, depth):
+    def value(self, parent, name, index, depth, named=None):
         self.blank()
-        value = {"parent": parent, "name": name, "index": index, "start": len(self.text)}
+        value = {"parent": parent, "name": name, "index": index, "named": named, "start": len(self.text)}
         self.values.append(value)
         value["kind"] = self.dice.choice(["array", "object", "scalar"] if depth else ["scalar"])
         if value["kind"] == "scalar":
@@ -240,13 +244,14 @@ class Text:
             for index in range(self.dice.randrange(4)):
                 self.text += "," if index else ""
                 self.blank()
-                name = None
+                name = named = None
                 if value["kind"] == "object":
-                    name = self.dice.choice(NAMES)
+                    name = self.names[index] if self.names else self.dice.choice(NAMES)
+                    named = len(self.text)
                     self.text += name
                     self.blank()
                     self.text += ":"
-                self.value(value, name, index, depth - 1)
+                self.value(value, name, index, depth - 1, named)
             self.blank()
             self.text += closes
         value["end"] = len(self.text)
@@ -266,24 +271,75 @@ class Text:
             value = value["parent"]
         return "".join("/" + token for token in reversed(tokens))
 
-    def range(self, value, encoding):
-        return {"start": place(self.text, value["start"], encoding), "end": place(self.text, value["end"], encoding)}
+    def end(self, value, cut):
+        """Where a value ends, as far as it goes, and whether it goes on behind the cut."""
+        text = self.text[value["start"] : cut]
+        whole = value["end"] <= cut or value["kind"] == "number" and NUMBER.fullmatch(text)
+        return min(value["end"], cut), not whole
 
-    def hover(self, at, encoding):
+    def range(self, value, encoding, cut):
+        end, _ = self.end(value, cut)
+        return {"start": place(self.text, value["start"], encoding), "end": place(self.text, end, encoding)}
+
+    def hover(self, at, encoding, cut=None):
         """What is shown of the innermost value at a character."""
+        cut = len(self.text) if cut is None else cut
         there = [value for value in self.values if value["start"] <= at < value["end"]]
-        if not there:
+        if not there or cut <= at:
             return None
         value = there[-1]
         pointer = self.pointer(value)
         words = "no pointer" if pointer is None else "pointer " + pointer if pointer else "empty pointer"
-        start, end = (len(self.text[: value[which]].encode()) for which in ("start", "end"))
-        shown = "%s %d..%d\n%s" % (value["kind"], start, end, words)
-        return {"contents": {"kind": "plaintext", "value": shown}, "range": self.range(value, encoding)}
+        end, more = self.end(value, cut)
+        span = (len(self.text[:at].encode()) for at in (value["start"], end))
+        shown = "%s %d..%d%s\n%s" % (value["kind"], *span, ", as far as the fault" if more else "", words)
+        return {"contents": {"kind": "plaintext", "value": shown}, "range": self.range(value, encoding, cut)}
 
-    def symbol(self, value, encoding):
-        name = "root" if value["parent"] is None else str(value["index"]) if value["name"] is None else json.loads(value["name"]) or '""'
-        return {"name": name, "kind": SYMBOL_KINDS[value["kind"]], "location": {"uri": URI, "range": self.range(value, encoding)}}
+    def around(self, at, here, encoding, cut):
+        """The values, names and members around a character, each in its parent; where there is none, an empty range there."""
+        spans = []
+        for value in self.values:
+            if value["name"] is not None:
+                spans += [(value["named"], value["end"]), (value["named"], value["named"] + len(value["name"]))]
+            spans.append((value["start"], value["end"]))
+        told = {"range": {"start": here, "end": here}}
+        outer = None
+        for start, end in spans:
+            if start <= at < end and at < cut:
+                there = {"start": place(self.text, start, encoding), "end": place(self.text, min(end, cut), encoding)}
+                told = {"range": there, "parent": outer} if outer else {"range": there}
+                outer = told
+        return told
+
+    def before(self, cut):
+        return [value for value in self.values if value["start"] < cut]
+
+    def name(self, value):
+        return "root" if value["parent"] is None else str(value["index"]) if value["name"] is None else json.loads(value["name"]) or '""'
+
+    def symbol(self, value, encoding, cut):
+        return {"name": self.name(value), "kind": SYMBOL_KINDS[value["kind"]], "location": {"uri": URI, "range": self.range(value, encoding, cut)}}
+
+    def nested(self, value, encoding, cut):
+        """A value, with those in it."""
+        there = self.range(value, encoding, cut)
+        inside = [self.nested(other, encoding, cut) for other in self.before(cut) if other["parent"] is value]
+        return {"name": self.name(value), "kind": SYMBOL_KINDS[value["kind"]], "range": there, "selectionRange": there, "children": inside}
+
+    def symbols(self, encoding, cut, nested):
+        if nested:
+            return [self.nested(value, encoding, cut) for value in self.before(cut)[:1]]
+        return [self.symbol(value, encoding, cut) for value in self.before(cut)]
+
+    def folds(self, cut):
+        """The lines of containers, less that of the closing bracket, of which one begins in a line."""
+        told = []
+        for value in self.before(cut):
+            first = self.text.count("\n", 0, value["start"])
+            last = self.text.count("\n", 0, self.end(value, cut)[0]) - 1
+            if value["kind"] in ("array", "object") and first < last and [first] != [fold["startLine"] for fold in told[-1:]]:
+                told.append({"startLine": first, "endLine": last})
+        return told
 
 
 def about(number, method, **more):
@@ -297,21 +353,33 @@ def results(stream):
             yield message["result"]
 
 
-def show(seed, count, encoding):
-    """Random texts, with a hover at several places of each and their outlines."""
+def show(seed, count, encoding, faulty=False, nested=False):
+    """Random texts, with hovers and ranges at several places of each, their outlines and folds. A faulty one has a control character somewhere."""
     dice = random.Random(seed)
-    stream, wanted = [greeting(None, ["utf-8"] if encoding == "utf-8" else None)], []
+    stream, wanted = [greeting(None, ["utf-8"] if encoding == "utf-8" else None, nested)], []
     for number in range(count):
-        text = Text(dice)
-        stream.append(opened(text.text, number))
-        for at in (dice.randint(0, len(text.text)) for _ in range(6)):
+        # A name that is cut short may be another one's: here none is.
+        text = Text(dice, ['"k0"', '"k1"', '"k2"'] if faulty else None)
+        cut = dice.randint(0, len(text.text)) if faulty else len(text.text)
+        shown = text.text[:cut] + ("\x01" if faulty else "") + text.text[cut:]
+        stream.append(opened(shown, number))
+        places, chains = [], []
+        for at in (dice.randint(0, len(shown)) for _ in range(6)):
             # A position between CR and LF is that before both.
-            if text.text[at - 1 : at + 1] == "\r\n":
+            if shown[at - 1 : at + 1] == "\r\n":
                 at -= 1
-            stream.append(about(number, "hover", position=place(text.text, at, encoding)))
-            wanted.append(text.hover(at, encoding))
+            here = place(shown, at, encoding)
+            stream.append(about(number, "hover", position=here))
+            wanted.append(text.hover(at, encoding, cut))
+            places.append(here)
+            chains.append(text.around(at, here, encoding, cut))
+        for most in (6, 1, 0):
+            stream.append(about(number, "selectionRange", positions=places[:most]))
+            wanted.append(chains[:most])
         stream.append(about(number, "documentSymbol"))
-        wanted.append([text.symbol(value, encoding) for value in text.values])
+        wanted.append(text.symbols(encoding, cut, nested))
+        stream.append(about(number, "foldingRange"))
+        wanted.append(text.folds(cut))
     out, err, status = served(b"".join(stream) + farewell())
     assert (err, status) == (b"", 0), (err, status)
     for want, got in zip(wanted, list(results(out))[1:-1], strict=True):
@@ -320,8 +388,34 @@ def show(seed, count, encoding):
 
 
 def shows(count):
-    print(show(5, int(count) // 2, "utf-16"))
-    print(show(6, int(count) // 2, "utf-8"))
+    each = int(count) // 4
+    print(show(5, each, "utf-16"))
+    print(show(6, each, "utf-8", nested=True))
+    print(show(7, each, "utf-16", faulty=True, nested=True))
+    print(show(8, each, "utf-8", faulty=True))
+
+
+def levels(count):
+    """How deep arrays in each other are shown in each other."""
+    text = "[" * int(count) + "]" * int(count)
+    out, err, status = served(greeting(nested=True) + opened(text) + about(1, "documentSymbol") + farewell())
+    inside, depth = list(results(out))[1], 0
+    while inside:
+        depth += 1
+        inside = inside[0]["children"]
+    print("%d levels" % depth)
+
+
+def around_of(count):
+    """How many arrays around a place are told."""
+    text = "[" * int(count) + "]" * int(count)
+    where = {"line": 0, "character": int(count) - 1}
+    out, err, status = served(greeting() + opened(text) + about(1, "selectionRange", positions=[where]) + farewell())
+    told, depth = list(results(out))[1][0], 0
+    while told:
+        assert told["range"] == {"start": {"line": 0, "character": int(count) - depth - 1}, "end": {"line": 0, "character": int(count) + depth + 1}}, told["range"]
+        depth, told = depth + 1, told.get("parent")
+    print("%d ranges" % depth)
 
 
 def outline_of(count):

@@ -1,6 +1,6 @@
 """Whether bytes are a JSON text (RFC 8259), at which byte they stop being one, and where JSON Pointers (RFC 6901) lead.
 
-No call makes a tree of values, and none but `compact` copies the data. Other threads run during a call.
+No call makes a tree of values, and none but `compact` and `each` copies the data. Other threads run during a call.
 """
 from ._document import Document
 from ._elements import Element, elements
@@ -24,6 +24,7 @@ from ._library import DEPTH_DEFAULT, DEPTH_MAX, version
 from ._lines import Line, LineReader, Lines, lines, lines_file
 from ._runs import NoRun, NotARun, NotNeighbours, OtherDepth, Run
 from ._texts import Reader, check, check_file, compact, verdict
+from ._values import ValueReader, each, each_file
 
 __version__ = version()
 __all__ = [
@@ -56,10 +57,13 @@ __all__ = [
     "Run",
     "Value",
     "ValueKind",
+    "ValueReader",
     "Verdict",
     "check",
     "check_file",
     "compact",
+    "each",
+    "each_file",
     "elements",
     "find_file",
     "get",

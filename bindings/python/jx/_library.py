@@ -42,6 +42,8 @@ class Status(enum.IntEnum):
     NOT_NEIGHBOURS = 14
     NO_LINES = 15
     NO_FINDER = 17
+    NO_VALUES = 18
+    NOT_A_POINTER = 19
 
 
 class CSettings(ctypes.Structure):
@@ -68,6 +70,10 @@ class CFinder(ctypes.Structure):
     _fields_ = [("inside", ctypes.c_void_p)]
 
 
+class CValues(ctypes.Structure):
+    _fields_ = [("inside", ctypes.c_void_p)]
+
+
 class CLines(ctypes.Structure):
     _fields_ = [("inside", ctypes.c_void_p)]
 
@@ -82,6 +88,10 @@ class CPointer(ctypes.Structure):
 
 class CAnswer(ctypes.Structure):
     _fields_ = [("span", CSpan), ("at", ctypes.c_size_t), ("outcome", ctypes.c_uint32), ("kind", ctypes.c_uint32)]
+
+
+class COutcome(ctypes.Structure):
+    _fields_ = [("at", ctypes.c_size_t), ("kind", ctypes.c_uint32)]
 
 
 class CRow(ctypes.Structure):
@@ -126,6 +136,11 @@ _CALLS = {
     "jx_finder_feed_non_null": [_POINTER, _POINTER, _SIZE],
     "jx_finder_end_non_null": [_POINTER, _POINTER, _SIZE],
     "jx_finder_free_non_null": [_POINTER],
+    "jx_values_new_non_null": [_POINTER, _SIZE, _POINTER, _POINTER],
+    "jx_values_feed_non_null": [_POINTER, _POINTER, _SIZE],
+    "jx_values_take_non_null": [_POINTER, _POINTER, _SIZE, _POINTER],
+    "jx_values_end_non_null": [_POINTER, _POINTER],
+    "jx_values_free_non_null": [_POINTER],
     "jx_lines_new_non_null": [_POINTER, _POINTER],
     "jx_lines_feed_non_null": [_POINTER, _POINTER, _SIZE],
     "jx_lines_take_non_null": [_POINTER, _POINTER, _SIZE, _POINTER],

@@ -3,17 +3,15 @@ from __future__ import annotations
 
 import ctypes
 import dataclasses
-import io
 import os
 import threading
 import weakref
 from typing import Any, BinaryIO, Iterable, Iterator, List, Optional, Tuple, Union
 
+from ._chunks import chunks_of, slices
 from ._faults import Kind, Verdict
 from ._library import DEPTH_DEFAULT, LIBRARY, Buffer, CLine, CLineCounts, CLines, Status, done, held, settings, view
 
-# So few lines wait at once, also where each one is bad.
-_STEP = 1 << 16
 _ROOM = 64
 
 
@@ -163,7 +161,7 @@ class Lines(Iterator[Line]):
 
 def lines(data: Buffer, *, depth: int = DEPTH_DEFAULT, ignore_bom: bool = False, skip_blank: bool = False) -> Lines:
     """The lines of JSON Lines that are no JSON texts (RFC 8259), with their numbers. Without `skip_blank` blank lines are among them."""
-    return Lines(_slices(view(data)), depth, ignore_bom, skip_blank)
+    return Lines(slices(view(data)), depth, ignore_bom, skip_blank)
 
 
 def lines_file(
@@ -177,32 +175,4 @@ def lines_file(
 
     Each line is told before more is waited for, as of a pipe or of `sys.stdin.buffer`. The file's own faults are raised where they happen.
     """
-    if isinstance(file, (str, bytes, os.PathLike)):
-        return Lines(_chunks_at(open(file, "rb", buffering=0)), depth, ignore_bom, skip_blank)
-    if isinstance(file, io.TextIOBase):
-        raise TypeError("jx reads bytes: open the file with mode 'rb'")
-    if hasattr(file, "read"):
-        return Lines(_chunks(file), depth, ignore_bom, skip_blank)
-    return Lines(iter(file), depth, ignore_bom, skip_blank)
-
-
-def _slices(data: memoryview) -> Iterator[memoryview]:
-    for start in range(0, len(data), _STEP):
-        yield data[start : start + _STEP]
-
-
-def _chunks(file: Any) -> Iterator[bytes]:
-    # What is there, without waiting for more.
-    read = getattr(file, "read1", file.read)
-    while True:
-        chunk = read(_STEP)
-        if isinstance(chunk, str):
-            raise TypeError("jx reads bytes: open the file with mode 'rb'")
-        if not chunk:
-            return
-        yield chunk
-
-
-def _chunks_at(file: Any) -> Iterator[bytes]:
-    with file:
-        yield from _chunks(file)
+    return Lines(chunks_of(file), depth, ignore_bom, skip_blank)

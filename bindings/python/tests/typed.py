@@ -89,3 +89,21 @@ def lines(path: pathlib.Path) -> None:
     reader = jx.LineReader()
     assert_type(reader.feed(DATA) + reader.end(), List[jx.Line])
     assert_type(reader.accepted + reader.refused + reader.blank, int)
+
+
+def values_of_containers(path: pathlib.Path) -> None:
+    assert_type(list(jx.each(DATA, "/a", depth=3, ignore_bom=True)), List[bytes])
+    for value in jx.each_file(path, pointer="/a"):
+        assert_type(value, bytes)
+    with open(path, "rb") as file:
+        values = jx.each_file(file)
+        assert_type(next(values), bytes)
+        values.close()
+    jx.each_file([b"[]", bytearray(b"\n")])
+    jx.each_file(["[]"])  # type: ignore[list-item]
+    jx.each("[]")  # type: ignore[arg-type]
+    jx.each(DATA, b"/a")  # type: ignore[arg-type]
+    jx.each(DATA, unique_names=True)  # type: ignore[call-arg]
+    reader = jx.ValueReader("/a")
+    assert_type(reader.feed(DATA), List[bytes])
+    reader.end()

@@ -19,26 +19,11 @@ pub struct Found {
 impl Found {
     /// What an answer of the library says.
     pub(crate) fn of(answer: &raw::Answer) -> Result<Found, FindError> {
-        let (token, at) = (answer.at, answer.at);
-        match answer.outcome {
-            0 => Ok(Found {
-                kind: Kind::of(answer.kind),
-                span: answer.span.start..answer.span.end,
-            }),
-            1 => Err(FindError::NoSuchMember { token }),
-            2 => Err(FindError::NameRepeated { token }),
-            3 => Err(FindError::NotAnIndex { token }),
-            4 => Err(FindError::PastEnd { token }),
-            5 => Err(FindError::AfterLast { token }),
-            6 => Err(FindError::NotAContainer { token }),
-            7 => Err(FindError::NoSlash),
-            8 => Err(FindError::BadEscape { at }),
-            9 => unreachable!("a str is in UTF-8"),
-            10 => Err(FindError::Refused(Refusal::Stopped { at })),
-            11 => Err(FindError::Refused(Refusal::Truncated)),
-            12 => Err(FindError::Refused(Refusal::TooDeep { at })),
-            _ => Err(FindError::Refused(Refusal::RepeatedName { at })),
-        }
+        FindError::of(answer.outcome, answer.at)?;
+        Ok(Found {
+            kind: Kind::of(answer.kind),
+            span: answer.span.start..answer.span.end,
+        })
     }
 }
 
@@ -86,6 +71,29 @@ pub enum FindError {
     },
     /// The bytes are no text.
     Refused(Refusal),
+}
+
+impl FindError {
+    /// What an outcome of the library says.
+    pub(crate) fn of(outcome: u32, at: usize) -> Result<(), FindError> {
+        let token = at;
+        Err(match outcome {
+            0 => return Ok(()),
+            1 => FindError::NoSuchMember { token },
+            2 => FindError::NameRepeated { token },
+            3 => FindError::NotAnIndex { token },
+            4 => FindError::PastEnd { token },
+            5 => FindError::AfterLast { token },
+            6 => FindError::NotAContainer { token },
+            7 => FindError::NoSlash,
+            8 => FindError::BadEscape { at },
+            9 => unreachable!("a str is in UTF-8"),
+            10 => FindError::Refused(Refusal::Stopped { at }),
+            11 => FindError::Refused(Refusal::Truncated),
+            12 => FindError::Refused(Refusal::TooDeep { at }),
+            _ => FindError::Refused(Refusal::RepeatedName { at }),
+        })
+    }
 }
 
 impl fmt::Display for FindError {

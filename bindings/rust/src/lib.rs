@@ -27,6 +27,7 @@ mod refusal;
 mod rows;
 mod run;
 mod settings;
+mod values;
 
 pub use compact::compact;
 pub use document::{Document, EditError, OpenError};
@@ -41,6 +42,7 @@ pub use refusal::Refusal;
 pub use rows::{rows, Kind, Row};
 pub use run::{Run, RunError};
 pub use settings::{NoUniqueNames, Settings};
+pub use values::{each, Each, EachError, Values};
 
 /// The depth that the program `jx` takes where none is named.
 pub const DEPTH: u16 = 512;

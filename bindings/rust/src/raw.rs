@@ -80,6 +80,20 @@ impl Default for Finder {
     }
 }
 
+/// The pointer is the library's alone; null where it holds no stream of values.
+#[repr(C)]
+pub struct Values {
+    pub inside: *mut c_void,
+}
+
+impl Default for Values {
+    fn default() -> Values {
+        Values {
+            inside: ptr::null_mut(),
+        }
+    }
+}
+
 /// The bytes of a pointer.
 #[repr(C)]
 #[derive(Clone, Copy)]
@@ -101,6 +115,13 @@ pub struct Answer {
     pub span: Span,
     pub at: usize,
     pub outcome: u32,
+    pub kind: u32,
+}
+
+#[repr(C)]
+#[derive(Clone, Copy, Default)]
+pub struct Outcome {
+    pub at: usize,
     pub kind: u32,
 }
 
@@ -148,6 +169,8 @@ pub const OTHER_DEPTH: u32 = 13;
 pub const NOT_NEIGHBOURS: u32 = 14;
 pub const NO_LINES: u32 = 15;
 pub const NO_FINDER: u32 = 17;
+pub const NO_VALUES: u32 = 18;
+pub const NOT_A_POINTER: u32 = 19;
 
 pub const NO_FROM: u64 = u64::MAX;
 
@@ -237,6 +260,21 @@ extern "C" {
     pub fn jx_finder_feed_non_null(finder: *mut Finder, bytes: *const u8, size: usize) -> u32;
     pub fn jx_finder_end_non_null(finder: *mut Finder, answers: *mut Answer, room: usize) -> u32;
     pub fn jx_finder_free_non_null(finder: *mut Finder);
+    pub fn jx_values_new_non_null(
+        pointer: *const u8,
+        pointer_size: usize,
+        settings: *const Settings,
+        values: *mut Values,
+    ) -> u32;
+    pub fn jx_values_feed_non_null(values: *mut Values, bytes: *const u8, size: usize) -> u32;
+    pub fn jx_values_take_non_null(
+        values: *mut Values,
+        lines: *mut u8,
+        room: usize,
+        size: *mut usize,
+    ) -> u32;
+    pub fn jx_values_end_non_null(values: *mut Values, outcome: *mut Outcome) -> u32;
+    pub fn jx_values_free_non_null(values: *mut Values);
     pub fn jx_lines_new_non_null(settings: *const Settings, lines: *mut Lines) -> u32;
     pub fn jx_lines_feed_non_null(lines: *mut Lines, bytes: *const u8, size: usize) -> u32;
     pub fn jx_lines_take_non_null(

@@ -5,6 +5,7 @@ use crate::fault::Fault;
 use crate::input::{fault_of_report, open_watched};
 use crate::output::Output;
 use jx_command::EachOrder;
+use jx_each::LineContent;
 use jx_files::Status;
 use jx_index::Pointer;
 use jx_report::End;
@@ -15,6 +16,15 @@ pub fn write_elements_of(rt: &HostRuntime, order: &EachOrder<'_>) -> Result<Stat
     match Pointer::read(order.pointer) {
         Ok(_) => write_elements(rt, order),
         Err(fault) => Err(Fault::Pointer(fault)),
+    }
+}
+
+/// What a line has.
+fn content_of(order: &EachOrder<'_>) -> LineContent {
+    if order.has_names {
+        LineContent::Named
+    } else {
+        LineContent::Alone
     }
 }
 
@@ -31,6 +41,7 @@ fn write_elements(rt: &HostRuntime, order: &EachOrder<'_>) -> Result<Status, Fau
         &mut writer,
         &mut errors,
         &order.settings,
+        content_of(order),
         order.pointer,
     ) {
         Ok(exit) => Ok(Status::of_exit(exit)),

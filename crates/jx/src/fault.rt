@@ -16,6 +16,9 @@ pub enum Fault {
     /// Standard input is named twice.
     #[error("error: the word '-' stands for standard input, which is read once\n")]
     StandardTwice,
+    /// No chunk of an index has so many bytes.
+    #[error("error: invalid value for '--chunk <N>': N is no power of two\n")]
+    Chunk,
     /// A word is no text, as clap puts it.
     #[error("error: invalid UTF-8 was detected in one or more arguments\n")]
     NotText,
@@ -31,6 +34,9 @@ pub enum Fault {
     /// A run is to be written to a terminal.
     #[error("jx: a run is not written to a terminal: write it to a file or a pipe\n")]
     Terminal,
+    /// An index is to be written to a terminal.
+    #[error("jx: an index is not written to a terminal: write it to a file or a pipe\n")]
+    TerminalForIndex,
     /// What is wrong with an input was told already.
     #[error("")]
     Told,
@@ -61,6 +67,7 @@ impl Fault {
         match fault {
             ArgFault::Clap(error) => Fault::Words(error),
             ArgFault::StandardTwice => Fault::StandardTwice,
+            ArgFault::Chunk => Fault::Chunk,
             ArgFault::Memory => Fault::Memory(AllocError),
         }
     }

@@ -1,17 +1,20 @@
 // Lines and elements that are to be JSON texts, each told while the input is read.
-ghost use Rattle.std.specs.Prelude.{◌≡◌, false};
+ghost use Rattle.std.specs.Prelude.{◌≡◌, ◌≤◌, false};
 
 use crate::fault::Fault;
 use crate::input::{fault_of_report, open, told_of};
 use crate::output::{Output, Writer};
 use jx_command::{Input, Inputs, LinesOrder, LiveOrder, input_of};
+use jx_crew::{Crew, OpenGate, Workers};
 use jx_files::{FileFault, Status, shown_name};
 use jx_ndjson_report::{BlankRule, ElementsTask, LinesTask, report_lines, report_sequence};
 use jx_report::{End, ReportFault};
+use std::sync::Wait;
+use std::thread::Threads;
 
 /// What is told of each input.
 #[derive(Drop)]
-pub enum Asked<'a> {
+enum Asked<'a> {
     /// The lines that are no texts.
     Lines(LinesOrder<'a>),
     /// The elements of a text sequence.
@@ -54,19 +57,21 @@ fn task_of(asked: &Asked<'_>, front: Vec<u8>) -> Task {
 }
 
 /// Reads an input, and tells its lines or elements.
-fn tell_input(
+fn tell_input<R: Threads + Wait + Sync>(
     rt: &HostRuntime,
+    crew: &Crew<'_, R, OpenGate>,
     input: Input<'_>,
     writer: &mut Writer,
     task: &Task,
+    piece: usize,
 ) -> Result<Status, Fault>
-    requires { writer.old.failed ≡ false }
+    requires writer { writer.old.failed ≡ false }
+    requires piece { 1 ≤ piece }
 {
-    let alloc = rt.alloc();
     let mut reader = open(rt, input)?;
     let told = match task {
-        Task::Lines(task) => report_lines(alloc, &mut reader, writer, task),
-        Task::Elements(task) => report_sequence(alloc, &mut reader, writer, task),
+        Task::Lines(task) => report_lines(crew, &mut reader, writer, task, piece),
+        Task::Elements(task) => report_sequence(crew, &mut reader, writer, task),
     };
     match told {
         Ok(exit) => Ok(Status::of_exit(exit)),
@@ -93,12 +98,21 @@ fn status_of(
 }
 
 /// Tells the lines or elements of what a word names, each behind the word as it is shown.
-fn tell_word(rt: &HostRuntime, asked: &Asked<'_>, word: &str) -> Result<Status, Fault> {
+fn tell_word<R: Threads + Wait + Sync>(
+    rt: &HostRuntime,
+    crew: &Crew<'_, R, OpenGate>,
+    asked: &Asked<'_>,
+    word: &str,
+    piece: usize,
+) -> Result<Status, Fault>
+    requires { 1 ≤ piece }
+{
     let mut front = shown_name(rt.alloc(), word)?;
     front.extend_from_slice(b": ")?;
     let mut writer = End::new(Output::of(rt));
     let input = input_of(word);
-    let told = tell_input(rt, input, &mut writer, &task_of(asked, front));
+    let task = task_of(asked, front);
+    let told = tell_input(rt, crew, input, &mut writer, &task, piece);
     status_of(rt, input, told, writer.failed)
 }
 
@@ -111,18 +125,59 @@ fn inputs_of<'o, 'a>(asked: &'o Asked<'a>) -> &'o Inputs<'a> {
 }
 
 /// Reads inputs, and tells what is asked of each while it is read.
-pub fn tell_inputs(rt: &HostRuntime, asked: &Asked<'_>) -> Result<Status, Fault> {
+fn tell_inputs<R: Threads + Wait + Sync>(
+    rt: &HostRuntime,
+    crew: &Crew<'_, R, OpenGate>,
+    asked: &Asked<'_>,
+    piece: usize,
+) -> Result<Status, Fault>
+    requires { 1 ≤ piece }
+{
     let words = match inputs_of(asked) {
         Inputs::One(input) => {
             let task = task_of(asked, Vec::new(rt.alloc()));
-            return tell_input(rt, *input, &mut End::new(Output::of(rt)), &task);
+            let mut writer = End::new(Output::of(rt));
+            return tell_input(rt, crew, *input, &mut writer, &task, piece);
         }
         Inputs::Several(words) => words,
     };
     let mut status = Status::Good;
     for word in words {
-        let next = tell_word(rt, asked, *word)?;
+        let next = tell_word(rt, crew, asked, *word, piece)?;
         status = status.greatest(next);
     }
     Ok(status)
+}
+
+/// Reads what an order names by its workers, and tells the lines that are no texts.
+pub fn tell_lines_of<R: Threads + Wait + Sync>(
+    rt: &HostRuntime,
+    threads: &R,
+    order: LinesOrder<'_>,
+) -> Result<Status, Fault>
+    requires { 1 ≤ order.piece }
+{
+    let crew = Crew {
+        rt: threads,
+        alloc: rt.alloc(),
+        workers: order.workers,
+        gate: &OpenGate,
+    };
+    let piece = order.piece;
+    tell_inputs(rt, &crew, &Asked::Lines(order), piece)
+}
+
+/// Reads what an order names, and tells the elements. One worker reads.
+pub fn tell_elements_of<R: Threads + Wait + Sync>(
+    rt: &HostRuntime,
+    threads: &R,
+    order: LiveOrder<'_>,
+) -> Result<Status, Fault> {
+    let crew = Crew {
+        rt: threads,
+        alloc: rt.alloc(),
+        workers: Workers::new(1).unwrap(),
+        gate: &OpenGate,
+    };
+    tell_inputs(rt, &crew, &Asked::Elements(order), 1)
 }

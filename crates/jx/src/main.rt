@@ -1,5 +1,6 @@
 // The program `jx`. It checks JSON texts, lists their values, finds or writes what pointers name, writes elements, or explains
-// why a text is refused. Or it checks the elements of sequences, lines, or a text that stands in several parts.
+// why a text is refused. Or it checks the elements of sequences, lines, or a text that stands in several parts, or saves the index
+// of a text.
 #![tactic(auto)]
 
 ghost use Rattle.std.specs.Prelude.{◌≤◌};
@@ -17,12 +18,13 @@ mod output;
 mod parts;
 mod progress;
 mod reporting;
+mod saves;
 mod values;
 
 use elements::write_elements_of;
 use explaining::{explain_inputs, marking_for};
 use fault::Fault;
-use judged_lines::{Asked, tell_inputs};
+use judged_lines::{tell_elements_of, tell_lines_of};
 use jx_command::{Order, Request, Told, command_of};
 use jx_explain::Form;
 use jx_files::Status;
@@ -32,6 +34,7 @@ use listing::list_refused;
 use misplaced::refuse_misplaced_in;
 use parts::work_on_parts;
 use reporting::report_on_inputs;
+use saves::save_index;
 use std::env;
 use std::io::ErrorKind;
 use std::process::ExitCode;
@@ -80,8 +83,9 @@ fn answer<R: Threads + Wait + Sync>(rt: &HostRuntime, threads: &R) -> Result<Sta
         Order::Parts(order) => work_on_parts(rt, &order),
         Order::Values(order) => write_values_of(rt, threads, order),
         Order::Each(order) => write_elements_of(rt, &order),
-        Order::Lines(order) => tell_inputs(rt, &Asked::Lines(order)),
-        Order::Live(order) => tell_inputs(rt, &Asked::Elements(order)),
+        Order::Lines(order) => tell_lines_of(rt, threads, order),
+        Order::Live(order) => tell_elements_of(rt, threads, order),
+        Order::Save(order) => save_index(rt, &order),
     }
 }
 

@@ -13,4 +13,5 @@ pub mod Runs
 pub mod Seeks
 pub mod Settings
 pub mod Stack
+pub mod Values
 pub mod Verdict

@@ -1,5 +1,7 @@
 // The compact form of a text, in a buffer of the caller's.
 ghost use Rattle.std.specs.Prelude.{◌≡◌, ◌⊎◌, ◌<◌, ◌≤◌, ◌++◌, drop, length};
+ghost use Rattle.jx_run.specs.declared.texts.verdict.Verdict.TheVariants.{Accepted};
+ghost use Rattle.jx_index.specs.ByNames.{IsVerdictBy};
 ghost use Rattle.jx_compact.specs.Compact.{compact};
 ghost use Rattle.jx_c.specs.Compact.{behind_mark, compact_by, IsPlaced};
 ghost use Rattle.jx_c.specs.Settings.{settings_in};
@@ -56,6 +58,8 @@ pub extern "C" fn jx_compact_non_null(
     ensures placed { result ≡ OK → verdict.new.kind ≡ 0 → IsPlaced (compact_by (settings_in settings.now) text.now) buffer.old buffer.new size.new }
     ensures refused { result ≡ OK → (verdict.new.kind ≡ 0 → ⊥) → (size.new ≡ 0) × (buffer.new ≡ buffer.old) }
     ensures room { result ≡ NO_ROOM → (size.new ≡ length (compact_by (settings_in settings.now) text.now)) × (length buffer.old < size.new) }
+    // The bytes are checked first: room is asked for a text alone.
+    ensures checked { result ≡ NO_ROOM → IsVerdictBy (settings_in settings.now) text.now Accepted }
     ensures depth { 65535 < settings.now.depth → result ≡ DEPTH_TOO_GREAT }
     ensures flags { settings.now.depth ≤ 65535 → 3 < settings.now.flags → result ≡ UNKNOWN_FLAG }
     ensures status { settings.now.depth ≤ 65535 → settings.now.flags ≤ 3 → (result ≡ OK) ⊎ ((result ≡ NO_ROOM) ⊎ (result ≡ NO_MEMORY)) }

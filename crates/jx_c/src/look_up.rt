@@ -18,7 +18,7 @@ use jx_run::{Refusal, Settings, text_by_settings_has_one_tree};
 use std::alloc::{AllocError, Global};
 use std::str;
 
-const FOUND: u32 = 0;
+pub(crate) const FOUND: u32 = 0;
 
 const NO_SUCH_MEMBER: u32 = 1;
 

@@ -26,8 +26,8 @@ fn from_in(from: u64) -> Option<usize>
     }
 }
 
-/// Puts a record into the buffer, if that has room for it, and tells its size.
-fn put(bytes: &[u8], run: &mut [u8], size: &mut usize) -> u32
+/// Puts bytes into the buffer, if that has room for them, and tells their size.
+pub(crate) fn put(bytes: &[u8], run: &mut [u8], size: &mut usize) -> u32
     ensures size { size.new ≡ length bytes.now }
     ensures put { result ≡ OK → (length bytes.now ≤ length run.old) × (run.new ≡ bytes.now ++ drop (length bytes.now) run.old) }
     ensures room { result ≡ NO_ROOM → length run.old < length bytes.now }

@@ -47,3 +47,9 @@ pub const NO_LINES: u32 = 15;
 
 /// The struct holds no look-up.
 pub const NO_FINDER: u32 = 17;
+
+/// The struct holds no stream of values.
+pub const NO_VALUES: u32 = 18;
+
+/// The bytes spell no pointer (RFC 6901, section 3).
+pub const NOT_A_POINTER: u32 = 19;

@@ -1,7 +1,7 @@
-// The bytes of the index of a text that is fed by slices.
+// The bytes of the index of a text that is fed by slices, and what bytes say.
 use jx_lines::{Out, push_verdict};
 use jx_run::{NameRule, Settings, Verdict};
-use jx_saved::{ChunkSize, Index, Indexer};
+use jx_saved::{ChunkSize, Entry, Index, Indexer};
 use std::alloc::{AllocError, Global};
 
 /// Writes the bytes of an index, two digits for each.
@@ -35,4 +35,25 @@ pub(crate) fn told_by(
         Err(refusal) => push_verdict(&mut out, Verdict::Refused(refusal)),
     }
     Ok(out)
+}
+
+/// Writes what is kept of a chunk, or of neighbours.
+fn push_entry(out: &mut Out, entry: &Entry) {
+    let sum = entry.sum;
+    out.put(format_args!(" {},{},{}", sum.closed, sum.opened, sum.commas));
+    out.put(format_args!(",{:?},{:?}", entry.state, entry.expect));
+    out.put(format_args!(",{},{}", entry.begins, entry.ends));
+    out.put(format_args!(",{:016x}", entry.digest));
+}
+
+/// Writes what an index says: the settings, the sizes, the entry at the top and the others.
+pub(crate) fn push_loaded(out: &mut Out, index: &Index) {
+    let settings = index.settings;
+    out.put(format_args!("{} {:?}", settings.depth.containers(), settings.mark));
+    out.put(format_args!(" {:?} {}", settings.names, index.chunk.bytes()));
+    out.put(format_args!(" {}", index.size));
+    push_entry(out, &index.top);
+    for entry in &index.entries {
+        push_entry(out, entry);
+    }
 }

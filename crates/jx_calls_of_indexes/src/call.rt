@@ -1,8 +1,8 @@
 // Which call a line names.
-use crate::answers::told_by;
+use crate::answers::{push_loaded, told_by};
 use jx_lines::{Line, Ways, words_of};
 use jx_run::Settings;
-use jx_saved::{ChunkSize, digest_of};
+use jx_saved::{ChunkSize, Index, SavedFault, digest_of};
 use std::alloc::{AllocError, Global};
 
 /// Adds the answer on a text that is fed by slices of so many bytes.
@@ -49,12 +49,23 @@ fn digest(line: &mut Line<'_>) {
     }
 }
 
+/// `load BYTES`: what the index says whose bytes these are, or why they are those of none.
+fn load(line: &mut Line<'_>) {
+    let bytes = line.text();
+    match Index::decode(line.alloc, &bytes) {
+        Ok(index) => push_loaded(&mut line.out, &index),
+        Err(SavedFault::Memory) => line.settle(Err(AllocError)),
+        Err(fault) => line.out.put(format_args!("{fault}")),
+    }
+}
+
 /// What a line's call answers, or that there is no such call.
 pub(crate) fn answer_to(alloc: Global, line: &str) -> Result<String, AllocError> {
     let words = words_of(alloc, line)?;
     let mut line = Line::new(alloc, &words);
     match line.word() {
         "digest" => digest(&mut line),
+        "load" => load(&mut line),
         "save" => save(&mut line),
         _ => line.refuse(),
     }

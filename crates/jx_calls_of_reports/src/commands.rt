@@ -1,7 +1,7 @@
 // What words of the command line are.
 use jx_command::{
     ArgFault, EachOrder, Input, Inputs, LinesOrder, LiveOrder, Order, PartsOrder, PartsStep,
-    Request, ShowProgress, Told, ValuesOrder, command_of,
+    Request, SaveOrder, ShowProgress, Told, ValuesOrder, command_of,
 };
 use jx_crew::Workers;
 use jx_lines::{Line, LineFault, Out, push_text, text_of};
@@ -53,6 +53,7 @@ fn push_command(out: &mut Out, alloc: Global, owned: &[String]) -> Result<(), Al
         Ok(Order::Each(order)) => push_each(out, &order),
         Ok(Order::Lines(order)) => push_lines_order(out, &order),
         Ok(Order::Live(order)) => push_live(out, &order),
+        Ok(Order::Save(order)) => push_save(out, &order),
         Err(fault) => push_fault(out, alloc, &fault)?,
     }
     Ok(())
@@ -85,6 +86,7 @@ fn push_lines(
         Ok(Order::Each(order)) => push_each(out, &order),
         Ok(Order::Lines(order)) => push_lines_order(out, &order),
         Ok(Order::Live(order)) => push_live(out, &order),
+        Ok(Order::Save(order)) => push_save(out, &order),
         Err(fault) => push_fault(out, alloc, &fault)?,
     }
     Ok(())
@@ -163,6 +165,9 @@ fn push_values(out: &mut Out, order: &ValuesOrder) {
 fn push_each(out: &mut Out, order: &EachOrder) {
     push_file(out, "each ", order.pointer);
     push_settings(out, &order.settings);
+    if order.has_names {
+        out.push_str(", names");
+    }
     push_inputs(out, &Inputs::One(order.input));
     push_progress(out, order.progress);
 }
@@ -195,6 +200,14 @@ fn push_live(out: &mut Out, order: &LiveOrder) {
         out.push_str(", quiet");
     }
     push_inputs(out, &order.inputs);
+}
+
+fn push_save(out: &mut Out, order: &SaveOrder) {
+    out.push_str("save");
+    push_settings(out, &order.settings);
+    out.put(format_args!(", chunk {}", order.chunk.bytes()));
+    push_inputs(out, &Inputs::One(order.input));
+    push_progress(out, order.progress);
 }
 
 fn push_parts(out: &mut Out, order: &PartsOrder) {

@@ -13,6 +13,7 @@ use crate::order::Order;
 use crate::parts_arguments::parts_order_from;
 use crate::parts_command::PartsCommand;
 use crate::request::{Color, Request, Told};
+use crate::save_arguments::{SAVE, save_order_from};
 use crate::subcommand::Subcommand;
 use crate::values_arguments::{GET, values_order_from};
 use clap::ArgMatches;
@@ -229,6 +230,9 @@ fn order_from<'a>(
             Ok(order) => Ok(Order::Values(order)),
             Err(_) => Err(ArgFault::Memory),
         };
+    }
+    if name == SAVE {
+        return Ok(Order::Save(save_order_from(options)?));
     }
     if is_live(options) {
         return Ok(Order::Live(live_order_from(alloc, options)?));

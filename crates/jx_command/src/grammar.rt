@@ -3,6 +3,7 @@ use crate::each_arguments::EACH;
 use crate::help;
 use crate::lines_arguments::LINES;
 use crate::parts_command::PartsCommand;
+use crate::save_arguments::SAVE;
 use crate::subcommand::Subcommand;
 use crate::values_arguments::GET;
 use clap::builder::ValueParser;
@@ -181,6 +182,15 @@ fn container<'a>(alloc: Global) -> Arg<'a> {
         .long_help(help::LONG_CONTAINER)
 }
 
+/// Whether members are written with their names.
+fn names<'a>(alloc: Global) -> Arg<'a> {
+    Arg::new(alloc, "names")
+        .long("names")
+        .action(ArgAction::SetTrue)
+        .help(help::NAMES)
+        .long_help(help::LONG_NAMES)
+}
+
 fn pointers_file<'a>(alloc: Global) -> Arg<'a> {
     Arg::new(alloc, "pointers_file")
         .long("pointers")
@@ -262,6 +272,7 @@ fn each<'a>(alloc: Global) -> Result<Command<'a>, AllocError> {
         .after_long_help(help::AFTER_EACH)
         .arg(container(alloc))?
         .arg(one_file(alloc)?)?
+        .arg(names(alloc))?
         .arg(file(alloc))?
         .arg(depth(alloc))?
         .arg(ignore_bom(alloc))?
@@ -298,10 +309,35 @@ fn lines<'a>(alloc: Global) -> Result<Command<'a>, AllocError> {
         .after_long_help(help::AFTER_LINES)
         .arg(file(alloc))?
         .arg(depth(alloc))?
+        .arg(workers(alloc))?
+        .arg(piece(alloc))?
         .arg(ignore_bom(alloc))?
         .arg(skip_blank(alloc))?
         .arg(quiet(alloc))?
         .arg(files(alloc)?)
+}
+
+fn chunk<'a>(alloc: Global) -> Arg<'a> {
+    Arg::new(alloc, "chunk")
+        .long("chunk")
+        .value_name("N")
+        .value_parser(ValueParser::unsigned(64, 1_048_576))
+        .default_value("32768")
+        .help(help::CHUNK)
+        .long_help(help::LONG_CHUNK)
+}
+
+fn save<'a>(alloc: Global) -> Result<Command<'a>, AllocError> {
+    Command::new(alloc, SAVE)
+        .about(help::SAVE)
+        .after_long_help(help::AFTER_SAVE)
+        .arg(file(alloc))?
+        .arg(depth(alloc))?
+        .arg(chunk(alloc))?
+        .arg(ignore_bom(alloc))?
+        .arg(unique_names(alloc))?
+        .arg(progress(alloc))?
+        .arg(one_file(alloc)?)
 }
 
 /// An offset in a text, for an option with the name of its id.
@@ -386,6 +422,7 @@ pub fn grammar<'a>(alloc: Global) -> Result<Command<'a>, AllocError> {
         .subcommand(each(alloc)?)?
         .subcommand(seq(alloc)?)?
         .subcommand(lines(alloc)?)?
+        .subcommand(save(alloc)?)?
         .subcommand(part(alloc)?)?
         .subcommand(join(alloc)?)?
         .subcommand(whole(alloc)?)

@@ -24,13 +24,14 @@ pub const LONG_AFTER: &str = "Examples:
   jx each /items dump.json            a line for each element of this array
   jx seq log.json-seq                 which elements of a sequence are texts?
   jx lines log.jsonl                  which lines are none?
+  jx save dump.json > dump.json.jxi   an index of this file, kept beside it
   jx part --from 0 < part-0 > 0.run   what this part of a text comes to
   cat *.run | jx whole --to 81920     are all parts together a JSON text?
 
 Exit status:
   0  the text, every element or line is accepted, every pointer is found
-  1  otherwise: standard output tells what was refused, and where; of get
-     and each standard error does
+  1  otherwise: standard output tells what was refused, and where; of get,
+     each and save standard error does
   2  no answer: standard error tells why; a call for help ends so too
 Of several files, the greatest status of one.";
 
@@ -49,6 +50,8 @@ pub const EACH: &str = "Write each element of a container on a line of its own";
 pub const SEQ: &str = "Tell which elements of a JSON text sequence are JSON texts";
 
 pub const LINES: &str = "Tell which lines of JSON Lines are no JSON texts";
+
+pub const SAVE: &str = "Write the index of a JSON text, to keep beside it";
 
 pub const PART: &str = "Write the run of a part of a JSON text";
 
@@ -109,16 +112,17 @@ pub const WORKERS: &str = "Share the work among N workers, 1 to 64";
 
 pub const LONG_WORKERS: &str = "Share the work among N workers, 1 to 64. The answer is the same for
 every number. For check, explain and seq they read what is a MiB or
-longer; for at and get they look up many pointers: 10000, and one for
-each 128 bytes of text. One worker reads the text for index, at and
-get, and wherever a text has --unique-names.";
+longer, for lines what one read gives, if it is as long; for at and
+get they look up many pointers: 10000, and one for each 128 bytes of
+text. One worker reads the text for index, at and get, and wherever a
+text has --unique-names.";
 
 pub const PIECE: &str = "Let a worker draw N bytes at a time";
 
-pub const LONG_PIECE: &str = "Let a worker draw N bytes at a time, 1 to 1073741824; of a sequence,
-whole elements of some N bytes. The answer is the same for every
-number. Where one worker reads, N only bounds the input: 4294967295
-pieces of N bytes, and more are too many.";
+pub const LONG_PIECE: &str = "Let a worker draw N bytes at a time, 1 to 1073741824; of a sequence
+or of lines, whole ones of some N bytes. The answer is the same for
+every number. Where one worker reads, N only bounds the input:
+4294967295 pieces of N bytes, and more are too many, but for lines.";
 
 pub const IGNORE_BOM: &str = "Ignore a byte order mark in front";
 
@@ -150,6 +154,12 @@ at most: megabytes, the share of FILE's size, and megabytes a second.
 Each line stands over the last one: auto, which is where standard
 error is a terminal, always or never, which is the default. The
 output is the same. With --format gnu or json nothing is told.";
+
+pub const CHUNK: &str = "Tell of each N bytes of the text";
+
+pub const LONG_CHUNK: &str = "Tell of each N bytes of the text, a power of two from 64 to 1048576.
+The index has 64 bytes, 24 for each chunk, and some 24 for each 64
+chunks.";
 
 pub const LIVE: &str = "Tell each element as soon as it ends";
 
@@ -205,6 +215,12 @@ pub const LONG_CONTAINER: &str = "Write the elements of what POINTER leads to, a
 6901): '' or none for the whole text, or tokens that each follow a
 slash, as /data/items. Of members with the same name the first is
 taken.";
+
+pub const NAMES: &str = "Write names too, of the members of an object";
+
+pub const LONG_NAMES: &str = "Write names too, of the members of an object: each line is an object
+{\"name\":NAME,\"value\":VALUE}, with the name as it is spelt. An array
+has no names: it is refused.";
 
 pub const POINTERS: &str = "Look up the lines of FILE too";
 
@@ -314,7 +330,8 @@ Examples:
 pub const AFTER_EACH: &str =
     "Output, a line for each element of the array that POINTER leads to, or for
 the value of each member of the object: its tokens without blanks between
-them, each with its own bytes. So each line is a JSON text.
+them, each with its own bytes. So each line is a JSON text. With --names a line
+is {\"name\":NAME,\"value\":VALUE}, for each member of an object alone.
 
 A line is written once the comma or the bracket behind the element was read,
 also where the text is refused further on: what was written stays. Who must
@@ -324,6 +341,7 @@ status. The text is read to its end, and not held but for one element.
 What is told on standard error, behind the output:
   jx: VERDICT                     the text is refused, as by 'jx check'
   jx: not a container at token N  POINTER leads to a scalar by N tokens
+  jx: not an object at token N    with --names: to no object
   jx: name repeated at token N    elements of the first member were written
   jx: ANSWER                      POINTER leads nowhere, as by 'jx at'
 
@@ -332,6 +350,7 @@ answer.
 
 Examples:
   jx each /items dump.json > items.jsonl
+  jx each --names /users dump.json
   jx each '' dump.json | head -n 3
   zstd -dc dump.json.zst | jx each /items";
 
@@ -376,6 +395,22 @@ Examples:
   jx lines log.jsonl
   tail -f log.jsonl | jx lines
   jx lines --skip-blank --quiet log.jsonl && echo whole";
+
+pub const AFTER_SAVE: &str =
+    "Output, the index of the text, to be kept beside it: of each chunk of the
+text how its reading begins, what it opens and closes, and a digest. With
+chunks of 32768 bytes it has 0.075 % of the text's size. It is no text, and is
+not written to a terminal. The text is read once, and not held; its index is,
+and with --unique-names the names of open objects.
+
+What is told on standard error:
+  jx: VERDICT  the text is refused, as by 'jx check'; no output
+
+Exit status: 0 the index is written, 1 refused, 2 no answer.
+
+Examples:
+  jx save dump.json > dump.json.jxi
+  zstd -dc dump.json.zst | jx save > dump.json.jxi";
 
 pub const AFTER_PART: &str =
     "Output, one run: some KB that say what the part comes to, whatever stands

@@ -14,11 +14,14 @@ mod order;
 mod parts_arguments;
 mod parts_command;
 mod request;
+mod save_arguments;
 mod subcommand;
 mod values_arguments;
 
 pub use arg_fault::ArgFault;
 pub use arguments::command_of;
 pub use inputs::{Input, Inputs, input_of, inputs_of, reads_standard_twice};
-pub use order::{EachOrder, LinesOrder, LiveOrder, Order, PartsOrder, PartsStep, ValuesOrder};
+pub use order::{
+    EachOrder, LinesOrder, LiveOrder, Order, PartsOrder, PartsStep, SaveOrder, ValuesOrder,
+};
 pub use request::{Color, Request, ShowProgress, Told};

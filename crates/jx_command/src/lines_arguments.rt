@@ -1,21 +1,28 @@
 // The words of the subcommand that judges lines.
+ghost use Rattle.std.specs.Prelude.{◌≤◌, IfOk};
+
 use crate::arg_fault::ArgFault;
-use crate::arguments::{inputs_named, mark_of};
+use crate::arguments::{inputs_named, mark_of, piece_of, workers_of};
 use crate::options::depth_of;
 use crate::order::LinesOrder;
 use clap::ArgMatches;
+use jx_crew::Workers;
 use jx_run::{NameRule, Settings};
 use std::alloc::Global;
 
 /// The word that calls it.
 pub(crate) const LINES: &str = "lines";
 
-/// What its options ask for. The grammar has a depth where the words leave it out.
+/// What its options ask for. The grammar has a number for each option that the words leave out, so that what stands here
+/// where there is none is never met.
 pub(crate) fn lines_order_from<'a>(
     alloc: Global,
     options: &ArgMatches<'a>,
-) -> Result<LinesOrder<'a>, ArgFault> {
+) -> Result<LinesOrder<'a>, ArgFault>
+    ensures { IfOk result (λ order. 1 ≤ order.piece) }
+{
     let words = Vec::from_slice(alloc, options.get_strs("files").unwrap_or(&[]));
+    let one_worker = Workers::new(1).unwrap();
     Ok(LinesOrder {
         inputs: inputs_named(options, words)?,
         settings: Settings {
@@ -23,6 +30,8 @@ pub(crate) fn lines_order_from<'a>(
             mark: mark_of(options),
             names: NameRule::Any,
         },
+        workers: workers_of(options).unwrap_or(one_worker),
+        piece: piece_of(options).unwrap_or(1),
         skips_blanks: options.get_flag("skip_blank"),
         is_quiet: options.get_flag("quiet"),
     })

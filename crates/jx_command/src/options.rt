@@ -1,5 +1,5 @@
 // Options that several subcommands take.
-use crate::inputs::Input;
+use crate::inputs::{Input, input_of};
 use crate::request::ShowProgress;
 use clap::ArgMatches;
 use jx_lex::Depth;
@@ -14,6 +14,14 @@ pub(crate) fn input_from<'a>(options: &ArgMatches<'a>) -> Input<'a> {
     match options.get_str("file") {
         Some(file) => Input::File(file),
         None => Input::Standard,
+    }
+}
+
+/// What is read: the file of an option, what the word for it names, or standard input.
+pub(crate) fn input_of_word<'a>(options: &ArgMatches<'a>) -> Input<'a> {
+    match options.get_str("files") {
+        Some(word) => input_of(word),
+        None => input_from(options),
     }
 }
 

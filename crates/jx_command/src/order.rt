@@ -1,9 +1,11 @@
-// What the words of the command line ask for: a report, work on the parts of a text, values, elements, lines, or a sequence as
-// it comes.
+// What the words of the command line ask for: a report, work on the parts of a text, values, elements, lines, a sequence as it
+// comes, or an index that is saved.
 use crate::inputs::{Input, Inputs};
 use crate::request::{Request, ShowProgress};
+use jx_crew::Workers;
 use jx_lex::Depth;
 use jx_run::Settings;
+use jx_saved::ChunkSize;
 use jx_task::ValuesTask;
 
 /// What the words of the command line ask for.
@@ -21,6 +23,8 @@ pub enum Order<'a> {
     Lines(LinesOrder<'a>),
     /// The elements of sequences, each told as it ends.
     Live(LiveOrder<'a>),
+    /// The index of a text, which is written.
+    Save(SaveOrder<'a>),
 }
 
 /// Work on the parts of a text.
@@ -64,6 +68,8 @@ pub struct ValuesOrder<'a> {
 pub struct EachOrder<'a> {
     /// What leads to the container, as the words have it.
     pub pointer: &'a str,
+    /// Whether members are written with their names.
+    pub has_names: bool,
     /// What is read.
     pub input: Input<'a>,
     /// How it is read.
@@ -79,6 +85,10 @@ pub struct LinesOrder<'a> {
     pub inputs: Inputs<'a>,
     /// How each line is read.
     pub settings: Settings,
+    /// How many workers share the lines that are read at a time.
+    pub workers: Workers,
+    /// How many bytes a worker draws at a time, and what is left of a line then.
+    pub piece: usize,
     /// Whether blank lines are passed.
     pub skips_blanks: bool,
     /// Whether nothing is written.
@@ -94,4 +104,17 @@ pub struct LiveOrder<'a> {
     pub settings: Settings,
     /// Whether nothing is written.
     pub is_quiet: bool,
+}
+
+/// The index of a text, whose bytes are written.
+#[derive(Clone, Copy, Debug, PartialEq, Eq)]
+pub struct SaveOrder<'a> {
+    /// What is read.
+    pub input: Input<'a>,
+    /// How it is read.
+    pub settings: Settings,
+    /// How many bytes each chunk has that the index tells of.
+    pub chunk: ChunkSize,
+    /// Whether it is told how far it was read.
+    pub progress: ShowProgress,
 }

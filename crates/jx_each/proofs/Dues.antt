@@ -1,6 +1,6 @@
 -- What is due is what the lines of the bytes before the first fault are.
-use Rattle.std.specs.Prelude.{if◌then◌else◌, flat_map}
-use Rattle.std.proofs.Common.{◌≡◌, ◌⊎◌, inl, inr, ℕ, zero, suc, ◌+◌, ◌-◌, ◌<◌, ◌≤◌, List, [], ◌∷◌, ◌++◌, length, take, drop, append_assoc, Bool, true, false, refl, sym, ap, subst, ◌∙◌, arith, zero-add, lit≤}
+use Rattle.std.specs.Prelude.{if◌then◌else◌, codes, flat_map}
+use Rattle.std.proofs.Common.{◌≡◌, ◌⊎◌, inl, inr, ℕ, zero, suc, ◌+◌, ◌-◌, ◌<◌, ◌≤◌, List, [], ◌∷◌, ◌++◌, length, take, drop, append_assoc, Bool, refl, sym, ap, subst, ◌∙◌, arith, zero-add, lit≤}
 use Rattle.std.proofs.lemmas.Bool.{cases_order, cases_lt, lt-ltb, le-ltb}
 use Rattle.std.proofs.lemmas.List.{append-nil, drop_at, take_at, take_all, take-append-le, length-append, length-take-le}
 use Rattle.jx_run.specs.declared.texts.settings.FrontMark.{FrontMark}
@@ -10,12 +10,14 @@ use Rattle.jx_run.specs.declared.texts.verdict.Verdict.{Verdict}
 use Rattle.jx_run.specs.Settings.{IsFront, IsDocumentBy, BeginsBy, IsLongestBeginningBy, JudgedBy, a_text, cut_short, too_deep, stopped, byte_order_mark}
 use Rattle.jx_run.specs.Text.{Document}
 use Rattle.jx_run.specs.Tree.{Tree}
-use Rattle.jx_each.specs.declared.stand.Stage.TheVariants.{Ahead}
-use Rattle.jx_each.specs.Machine.{Made, begun, is_open, line_of, lines_next, run, step}
+use Rattle.jx_each.specs.declared.content.LineContent.{LineContent}
+use Rattle.jx_each.specs.declared.stand.Stage.{Stage}
+use Rattle.jx_each.specs.declared.stand.Stage.TheVariants.{Ahead, Elements, Members, Array, Object, Name, Pair, Over}
+use Rattle.jx_each.specs.Machine.{Aim, Made, aimed, begun, line_of, lines_next, lines_with, run, step}
 use Rattle.jx_each.specs.Turns.{turn_at}
 use Rattle.jx_each.specs.declared.sign.Turn.{Turn}
 use Rattle.jx_each.specs.declared.sign.Turn.TheVariants as turns
-use Rattle.jx_each.specs.Due.{IsDue, all_lines, behind, element_line, elements_at, lines_before}
+use Rattle.jx_each.specs.Due.{Element, IsDueBy, all_lines_by, behind, element_line, elements_at, lines_before}
 use Rattle.jx_index.specs.Pointers.{tokens}
 use Rattle.jx_each.specs.inside.Fronts.{sound, sound_part}
 use Rattle.jx_each.proofs.Bytes.{plain_list}
@@ -32,37 +34,37 @@ none_piece : (rest : List ℕ) → Piece 0 0 rest 0 rest
 none_piece rest = record { w = []; whole = refl; end = refl; sits = plain_list [] tt }
 
 -- what a text gives
-abbrev Given : List (List ℕ) → List ℕ → Tree → Type 0
-Given path text tree = Gives text path begun 0 text (elements_at text path tree) (stage_by (Ahead 0) tree)
+abbrev Given : LineContent → List (List ℕ) → List ℕ → Tree → Type 0
+Given content path text tree = Gives text (aimed content path) begun 0 text (elements_at content text path tree) (stage_by (Ahead 0) tree)
 
-front_gives : (path : List (List ℕ)) (text rest : List ℕ) (tree : Tree) (front : List ℕ) → text ≡ front ++ rest → Document (0 + length front) rest tree
-    → Piece 0 0 (front ++ rest) (0 + length front) rest → Given path text tree
-front_gives path text rest tree front whole doc p =
+front_gives : (content : LineContent) (path : List (List ℕ)) (text rest : List ℕ) (tree : Tree) (front : List ℕ) → text ≡ front ++ rest → Document (0 + length front) rest tree
+    → Piece 0 0 (front ++ rest) (0 + length front) rest → Given content path text tree
+front_gives content path text rest tree front whole doc p =
     let at : drop (0 + length front) text ≡ rest =
     ap (λ (n : ℕ). drop n text) (zero-add (length front)) ∙ ap (drop (length front)) whole ∙ drop_at front rest (length front) refl in
-    subst (λ (x : List ℕ). Gives text path begun 0 x (elements_at text path tree) (stage_by (Ahead 0) tree)) (sym whole)
-    (over_name text path 0 (Ahead 0) [] [] (elements_at text path tree) (stage_by (Ahead 0) tree) p (lit≤ tt) (document_gives text path at doc))
+    subst (λ (x : List ℕ). Gives text (aimed content path) begun 0 x (elements_at content text path tree) (stage_by (Ahead 0) tree)) (sym whole)
+    (over_name text (aimed content path) 0 (Ahead 0) [] [] (elements_at content text path tree) (stage_by (Ahead 0) tree) p (lit≤ tt) (document_gives content text path at doc))
 
-text_gives_by : (path : List (List ℕ)) (mark : FrontMark) (text rest : List ℕ) (tree : Tree) (front : List ℕ) → IsFront mark front → text ≡ front ++ rest → Document (0 + length front) rest tree
-    → Given path text tree
-text_gives_by path on_mark.Refused text rest tree front none whole doc = no_front front none whole doc
+text_gives_by : (content : LineContent) (path : List (List ℕ)) (mark : FrontMark) (text rest : List ℕ) (tree : Tree) (front : List ℕ) → IsFront mark front → text ≡ front ++ rest → Document (0 + length front) rest tree
+    → Given content path text tree
+text_gives_by content path on_mark.Refused text rest tree front none whole doc = no_front front none whole doc
   where
-    no_front : (front : List ℕ) → front ≡ [] → text ≡ front ++ rest → Document (0 + length front) rest tree → Given path text tree
+    no_front : (front : List ℕ) → front ≡ [] → text ≡ front ++ rest → Document (0 + length front) rest tree → Given content path text tree
     no_front front e =
-        subst (λ (x : List ℕ). text ≡ x ++ rest → Document (0 + length x) rest tree → Given path text tree) (sym e)
-        (λ w d. front_gives path text rest tree [] w d (none_piece rest))
-text_gives_by path on_mark.Ignored text rest tree front is whole doc = some_front front is whole doc
+        subst (λ (x : List ℕ). text ≡ x ++ rest → Document (0 + length x) rest tree → Given content path text tree) (sym e)
+        (λ w d. front_gives content path text rest tree [] w d (none_piece rest))
+text_gives_by content path on_mark.Ignored text rest tree front is whole doc = some_front front is whole doc
   where
-    some_front : (front : List ℕ) → (front ≡ []) ⊎ (front ≡ byte_order_mark) → text ≡ front ++ rest → Document (0 + length front) rest tree → Given path text tree
+    some_front : (front : List ℕ) → (front ≡ []) ⊎ (front ≡ byte_order_mark) → text ≡ front ++ rest → Document (0 + length front) rest tree → Given content path text tree
     some_front front h = elim h [
-      | inl e ↦ subst (λ (x : List ℕ). text ≡ x ++ rest → Document (0 + length x) rest tree → Given path text tree) (sym e)
-          (λ w d. front_gives path text rest tree [] w d (none_piece rest))
-      | inr e ↦ subst (λ (x : List ℕ). text ≡ x ++ rest → Document (0 + length x) rest tree → Given path text tree) (sym e)
-          (λ w d. front_gives path text rest tree byte_order_mark w d (mark_piece rest))
+      | inl e ↦ subst (λ (x : List ℕ). text ≡ x ++ rest → Document (0 + length x) rest tree → Given content path text tree) (sym e)
+          (λ w d. front_gives content path text rest tree [] w d (none_piece rest))
+      | inr e ↦ subst (λ (x : List ℕ). text ≡ x ++ rest → Document (0 + length x) rest tree → Given content path text tree) (sym e)
+          (λ w d. front_gives content path text rest tree byte_order_mark w d (mark_piece rest))
     ]
 
-pub text_gives : (path : List (List ℕ)) (settings : Settings) (text : List ℕ) (tree : Tree) → IsDocumentBy settings 0 text tree → Given path text tree
-text_gives path settings text tree d = text_gives_by path settings.mark text d.rest tree d.front d.is_front d.whole d.text.reads
+pub text_gives : (content : LineContent) (path : List (List ℕ)) (settings : Settings) (text : List ℕ) (tree : Tree) → IsDocumentBy settings 0 text tree → Given content path text tree
+text_gives content path settings text tree d = text_gives_by content path settings.mark text d.rest tree d.front d.is_front d.whole d.text.reads
 
 -- ---- longest beginnings
 
@@ -141,92 +143,98 @@ sound_is_longest settings bytes verdict (stopped {k = k} none longest lt more) =
 
 -- ---- what is due
 
-pub run_append : (path : List (List ℕ)) (s : Made) (xs ys : List ℕ) → run path s (xs ++ ys) ≡ run path (run path s xs) ys
-run_append path s [] ys = refl
-run_append path s (x ∷ xs) ys = run_append path (step path s x) xs ys
+pub run_append : (aim : Aim) (s : Made) (xs ys : List ℕ) → run aim s (xs ++ ys) ≡ run aim (run aim s xs) ys
+run_append aim s [] ys = refl
+run_append aim s (x ∷ xs) ys = run_append aim (step aim s x) xs ys
 
 -- the lines of the bytes before the first fault
-pub is_due : (settings : Settings) (pointer bytes : List ℕ) (k : ℕ) → IsLongestBeginningBy settings bytes k → IsDue settings pointer bytes (run (tokens pointer) begun (take k bytes)).lines
-is_due settings pointer bytes k x = record {
+pub is_due : {content : LineContent} (settings : Settings) (pointer bytes : List ℕ) (k : ℕ) → IsLongestBeginningBy settings bytes k → IsDueBy content settings pointer bytes (run (aimed content (tokens pointer)) begun (take k bytes)).lines
+is_due {content} settings pointer bytes k x = record {
   k = k;
   longest = x;
   more = x.begins.more;
   tree = x.begins.tree;
   text = x.begins.text;
   written =
-      ap (λ (l : List ℕ). (run (tokens pointer) begun l).lines) (sym (take_at (take k bytes) x.begins.more k (length-take-le k bytes x.within)))
-      ∙ (text_gives (tokens pointer) settings (take k bytes ++ x.begins.more) x.begins.tree x.begins.text).gives k
-      ∙ ap (λ (n : ℕ). lines_before (take k bytes ++ x.begins.more) n (elements_at (take k bytes ++ x.begins.more) (tokens pointer) x.begins.tree)) (zero-add k);
+      ap (λ (l : List ℕ). (run (aimed content (tokens pointer)) begun l).lines) (sym (take_at (take k bytes) x.begins.more k (length-take-le k bytes x.within)))
+      ∙ (text_gives content (tokens pointer) settings (take k bytes ++ x.begins.more) x.begins.tree x.begins.text).gives k
+      ∙ ap (λ (n : ℕ). lines_before content (take k bytes ++ x.begins.more) n (elements_at content (take k bytes ++ x.begins.more) (tokens pointer) x.begins.tree)) (zero-add k);
 }
 
-pub due_is : (settings : Settings) (pointer bytes output : List ℕ) → (d : IsDue settings pointer bytes output) → output ≡ (run (tokens pointer) begun (take d.k bytes)).lines
-due_is settings pointer bytes output d =
+pub due_is : {content : LineContent} (settings : Settings) (pointer bytes output : List ℕ) → (d : IsDueBy content settings pointer bytes output) → output ≡ (run (aimed content (tokens pointer)) begun (take d.k bytes)).lines
+due_is {content} settings pointer bytes output d =
     d.written
-    ∙ sym (ap (λ (n : ℕ). lines_before (take d.k bytes ++ d.more) n (elements_at (take d.k bytes ++ d.more) (tokens pointer) d.tree)) (zero-add d.k))
-    ∙ sym ((text_gives (tokens pointer) settings (take d.k bytes ++ d.more) d.tree d.text).gives d.k)
-    ∙ ap (λ (l : List ℕ). (run (tokens pointer) begun l).lines) (take_at (take d.k bytes) d.more d.k (length-take-le d.k bytes d.longest.within))
+    ∙ sym (ap (λ (n : ℕ). lines_before content (take d.k bytes ++ d.more) n (elements_at content (take d.k bytes ++ d.more) (tokens pointer) d.tree)) (zero-add d.k))
+    ∙ sym ((text_gives content (tokens pointer) settings (take d.k bytes ++ d.more) d.tree d.text).gives d.k)
+    ∙ ap (λ (l : List ℕ). (run (aimed content (tokens pointer)) begun l).lines) (take_at (take d.k bytes) d.more d.k (length-take-le d.k bytes d.longest.within))
 
-pub one_due : (settings : Settings) (pointer input x y : List ℕ) → IsDue settings pointer input x → IsDue settings pointer input y → x ≡ y
-one_due settings pointer input x y a b =
+pub one_due : {content : LineContent} (settings : Settings) (pointer input x y : List ℕ) → IsDueBy content settings pointer input x → IsDueBy content settings pointer input y → x ≡ y
+one_due {content} settings pointer input x y a b =
     due_is settings pointer input x a
-    ∙ ap (λ (k : ℕ). (run (tokens pointer) begun (take k input)).lines) (longest_is_one settings input a.k b.k a.longest b.longest)
+    ∙ ap (λ (k : ℕ). (run (aimed content (tokens pointer)) begun (take k input)).lines) (longest_is_one settings input a.k b.k a.longest b.longest)
     ∙ sym (due_is settings pointer input y b)
 
 -- lines are never taken back
-more_of : (ends : Bool) (lines part : List ℕ) → (rest : List ℕ) × ((if ends then lines ++ line_of part else lines) ≡ lines ++ rest)
-more_of true lines part = (line_of part, refl)
-more_of false lines part = ([], sym (append-nil lines))
+more_with : (stage : Stage) (lines part : List ℕ) → (rest : List ℕ) × (lines_with stage lines part ≡ lines ++ rest)
+more_with Array lines part = (line_of part, refl)
+more_with Object lines part = (line_of part, refl)
+more_with Pair lines part = (part ++ codes "}\n", refl)
+more_with Name lines part = ([], sym (append-nil lines))
+more_with (Members level) lines part = ([], sym (append-nil lines))
+more_with (Ahead level) lines part = ([], sym (append-nil lines))
+more_with (Elements level n) lines part = ([], sym (append-nil lines))
+more_with Over lines part = ([], sym (append-nil lines))
 
-more_lines : (ends : Bool) (turn : Turn) (lines part : List ℕ) → (rest : List ℕ) × (lines_next ends turn lines part ≡ lines ++ rest)
-more_lines ends turns.EnterArray lines part = ([], sym (append-nil lines))
-more_lines ends turns.EnterObject lines part = ([], sym (append-nil lines))
-more_lines ends turns.Next lines part = more_of ends lines part
-more_lines ends turns.Value lines part = ([], sym (append-nil lines))
-more_lines ends turns.Leave lines part = more_of ends lines part
-more_lines ends turns.Past lines part = ([], sym (append-nil lines))
-more_lines ends turns.Stay lines part = ([], sym (append-nil lines))
+more_lines : (stage : Stage) (turn : Turn) (lines part : List ℕ) → (rest : List ℕ) × (lines_next stage turn lines part ≡ lines ++ rest)
+more_lines stage turns.EnterArray lines part = ([], sym (append-nil lines))
+more_lines stage turns.EnterObject lines part = ([], sym (append-nil lines))
+more_lines stage turns.Next lines part = more_with stage lines part
+more_lines stage turns.Value lines part = ([], sym (append-nil lines))
+more_lines stage turns.Leave lines part = more_with stage lines part
+more_lines stage turns.Past lines part = ([], sym (append-nil lines))
+more_lines stage turns.Stay lines part = ([], sym (append-nil lines))
 
-run_grows : (path : List (List ℕ)) (s : Made) (xs : List ℕ) → (rest : List ℕ) × ((run path s xs).lines ≡ s.lines ++ rest)
-run_grows path s [] = ([], sym (append-nil s.lines))
-run_grows path s (x ∷ xs) =
-    let here = more_lines (is_open s.stand.stage) (turn_at s.stand.place s.stand.height x) s.lines s.part in
-    let there = run_grows path (step path s x) xs in
+run_grows : (aim : Aim) (s : Made) (xs : List ℕ) → (rest : List ℕ) × ((run aim s xs).lines ≡ s.lines ++ rest)
+run_grows aim s [] = ([], sym (append-nil s.lines))
+run_grows aim s (x ∷ xs) =
+    let here = more_lines s.stand.stage (turn_at s.stand.place s.stand.height x) s.lines s.part in
+    let there = run_grows aim (step aim s x) xs in
     (here.0 ++ there.0, there.1 ∙ ap (λ (l : List ℕ). l ++ there.0) here.1 ∙ append_assoc s.lines here.0 there.0)
 
-pub more_due : (settings : Settings) (pointer input more x y : List ℕ) → IsDue settings pointer input x → IsDue settings pointer (input ++ more) y → (rest : List ℕ) × (y ≡ x ++ rest)
-more_due settings pointer input more x y a b =
-    let path : List (List ℕ) = tokens pointer in
+pub more_due : {content : LineContent} (settings : Settings) (pointer input more x y : List ℕ) → IsDueBy content settings pointer input x → IsDueBy content settings pointer (input ++ more) y → (rest : List ℕ) × (y ≡ x ++ rest)
+more_due {content} settings pointer input more x y a b =
+    let aim : Aim = aimed content (tokens pointer) in
     let front : List ℕ = take a.k input in
     let behind : List ℕ = sound_part more a.k (length input) b.k in
-    let grown = run_grows path (run path begun front) behind in (
+    let grown = run_grows aim (run aim begun front) behind in (
       grown.0,
       due_is settings pointer (input ++ more) y b
-          ∙ ap (λ (l : List ℕ). (run path begun l).lines) (sound_goes_on settings input more a.k b.k a.longest b.longest)
-          ∙ ap (λ (s : Made). s.lines) (run_append path begun front behind)
+          ∙ ap (λ (l : List ℕ). (run aim begun l).lines) (sound_goes_on settings input more a.k b.k a.longest b.longest)
+          ∙ ap (λ (s : Made). s.lines) (run_append aim begun front behind)
           ∙ grown.1
           ∙ ap (λ (l : List ℕ). l ++ grown.0) (sym (due_is settings pointer input x a)),
     )
 
 -- past all of them
-past_all : List ℕ → List Tree → ℕ
+past_all : List ℕ → List Element → ℕ
 past_all text [] = 0
 past_all text (t ∷ ts) = suc (behind text t) + past_all text ts
 
-lines_past : (text : List ℕ) (ts : List Tree) (n : ℕ) → past_all text ts ≤ n → lines_before text n ts ≡ flat_map (element_line text) ts
+lines_past : (content : LineContent) (text : List ℕ) (ts : List Element) (n : ℕ) → past_all text ts ≤ n → lines_before content text n ts ≡ flat_map (element_line content text) ts
 unfolding past_all
-lines_past text [] n le = refl
-lines_past text (t ∷ ts) n le =
+lines_past content text [] n le = refl
+lines_past content text (t ∷ ts) n le =
     let h : suc (behind text t) + past_all text ts ≤ n = le in
-    first_before text n t ts (omega (arith, h)) ∙ ap (λ (l : List ℕ). element_line text t ++ l) (lines_past text ts n (omega (arith, h)))
+    first_before content text n t ts (omega (arith, h)) ∙ ap (λ (l : List ℕ). element_line content text t ++ l) (lines_past content text ts n (omega (arith, h)))
 
-pub all_due : (settings : Settings) (pointer text output : List ℕ) (tree : Tree) → IsDocumentBy settings 0 text tree → IsDue settings pointer text output → output ≡ all_lines text pointer tree
-all_due settings pointer text output tree d x =
+pub all_due : {content : LineContent} (settings : Settings) (pointer text output : List ℕ) (tree : Tree) → IsDocumentBy settings 0 text tree → IsDueBy content settings pointer text output → output ≡ all_lines_by content text pointer tree
+all_due {content} settings pointer text output tree d x =
     let path : List (List ℕ) = tokens pointer in
-    let ts : List Tree = elements_at text path tree in
+    let ts : List Element = elements_at content text path tree in
     let n : ℕ = past_all text ts + length text in
     let same : x.k ≡ length text = longest_is_one settings text x.k (length text) x.longest (whole_begins settings text tree d) in
     let all : take n text ≡ text = take_all n text (omega arith) in
     due_is settings pointer text output x
-    ∙ ap (λ (l : List ℕ). (run path begun l).lines) (take_all x.k text (omega (arith, same)) ∙ sym all)
-    ∙ (text_gives path settings text tree d).gives n
-    ∙ lines_past text ts (0 + n) (omega arith)
+    ∙ ap (λ (l : List ℕ). (run (aimed content path) begun l).lines) (take_all x.k text (omega (arith, same)) ∙ sym all)
+    ∙ (text_gives content path settings text tree d).gives n
+    ∙ lines_past content text ts (0 + n) (omega arith)

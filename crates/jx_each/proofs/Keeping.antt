@@ -6,12 +6,11 @@ use Rattle.std.proofs.lemmas.Bool.{eqb-true, not-false}
 use Rattle.std.proofs.lemmas.Bool.Decides.{nat_tests}
 use Rattle.std.proofs.lemmas.List.{get_or-drop}
 use Rattle.jx_compact.specs.declared.place.Place.{Place}
-use Rattle.jx_compact.specs.declared.place.Place.TheVariants.{Between, Inside}
+use Rattle.jx_compact.specs.declared.place.Place.TheVariants.{Between, Inside, Escaped}
 use Rattle.jx_compact.specs.Compact.{is_kept, kept, next}
 use Rattle.jx_each.specs.declared.sign.Sign.TheVariants as sign
 use Rattle.jx_each.specs.declared.sign.Turn.TheVariants.{Stay}
 use Rattle.jx_each.specs.Turns.{height_next, sign_of, turn_at, turn_by, turned}
-use Rattle.jx_each.specs.inside.Blocks.{placed}
 use Rattle.jx_each.specs.inside.Runs.{AreIn, is_blank, is_char, is_deep, is_flat, is_stop}
 use Rattle.jx_each.proofs.Bytes.{turn_other}
 
@@ -77,9 +76,10 @@ pub record Still (p : Place) (h b : ℕ) : Type 0 where
   pub stays : is_kept p b ≡ true
   pub height : height_next p h b ≡ h
 
-pub still_step : (i : Bool) (h b : ℕ) → 1 < h → (i ≡ false → is_stop b ≡ false) → Still (placed i) h b
-still_step true h b lt none = record { turn = refl; stays = refl; height = refl }
-still_step false h b lt none = record { turn = high_turn h b lt; stays = kept_above b (none refl); height = same_height h b (none refl) }
+pub still_at : (p : Place) (h b : ℕ) → 1 < h → (p ≡ Between → is_stop b ≡ false) → Still p h b
+still_at Between h b lt none = record { turn = high_turn h b lt; stays = kept_above b (none refl); height = same_height h b (none refl) }
+still_at Inside h b lt none = record { turn = refl; stays = refl; height = refl }
+still_at Escaped h b lt none = record { turn = refl; stays = refl; height = refl }
 
 deep_still : (b : ℕ) → is_deep b ≡ true → is_stop b ≡ false
 deep_still b c = grind (arith, nat_tests)

@@ -12,7 +12,7 @@ use Rattle.jx_compact.specs.Compact.{is_kept, kept, next}
 use Rattle.jx_each.specs.declared.sign.Turn.TheVariants.{Stay}
 use Rattle.jx_each.specs.declared.stand.Stage.{Stage}
 use Rattle.jx_each.specs.declared.stand.Stand.{Stand}
-use Rattle.jx_each.specs.Machine.{Made, run, step}
+use Rattle.jx_each.specs.Machine.{Aim, Made, run, step}
 use Rattle.jx_each.specs.declared.sign.Sign.{Sign}
 use Rattle.jx_each.specs.Turns.{sign_of, turn_at, turn_by, turned, height_next}
 use Rattle.jx_each.specs.inside.Runs.{AreIn, is_blank, is_char, is_deep, is_flat}
@@ -27,7 +27,7 @@ part_none true part = sym (append-nil part)
 part_none false part = sym (append-nil part)
 
 pub no_stretch : (p : Place) (h : ℕ) → IsStretch p h [] p h
-no_stretch p h = record { runs = λ path stage takes lines part. ap (spot p h stage takes lines) (part_none takes part) }
+no_stretch p h = record { runs = λ aim stage takes lines part. ap (spot p h stage takes lines) (part_none takes part) }
 
 parts_join : (takes : Bool) (part v w : List ℕ) → (part ++ (if takes then v else [])) ++ (if takes then w else []) ≡ part ++ (if takes then v ++ w else [])
 parts_join true part v w = append_assoc part v w
@@ -35,18 +35,18 @@ parts_join false part v w = append-nil (part ++ [])
 
 pub then_stretch : {p q r : Place} {h k l : ℕ} (v w : List ℕ) → IsStretch p h v q k → IsStretch q k w r l → IsStretch p h (v ++ w) r l
 then_stretch {p} {q} {r} {h} {k} {l} v w x y = record {
-  runs = λ path stage takes lines part.
-      run_append path (spot p h stage takes lines part) v w
-      ∙ ap (λ (m : Made). run path m w) (x.runs path stage takes lines part)
-      ∙ y.runs path stage takes lines (part ++ (if takes then v else []))
+  runs = λ aim stage takes lines part.
+      run_append aim (spot p h stage takes lines part) v w
+      ∙ ap (λ (m : Made). run aim m w) (x.runs aim stage takes lines part)
+      ∙ y.runs aim stage takes lines (part ++ (if takes then v else []))
       ∙ ap (spot r l stage takes lines) (parts_join takes part v w);
 }
 
 -- a byte that is kept and turns nothing
 pub one_stretch : (p : Place) (h b : ℕ) → turn_at p h b ≡ Stay → is_kept p b ≡ true → IsStretch p h (b ∷ []) (next p b) (height_next p h b)
 one_stretch p h b stay keeps = record {
-  runs = λ path stage takes lines part.
-      stay_step path p h stage takes lines part b stay
+  runs = λ aim stage takes lines part.
+      stay_step aim p h stage takes lines part b stay
       ∙ ap (λ (m : Bool). spot (next p b) (height_next p h b) stage takes lines (part ++ (if takes then (if m then b ∷ [] else []) else []))) keeps;
 }
 
@@ -81,8 +81,8 @@ kept_none false part = append-nil part
 
 one_passed : (b : ℕ) → Leaves b → IsPassed Between (b ∷ [])
 one_passed b l = record {
-  runs = λ path height stage takes lines part.
-      stay_step path Between height stage takes lines part b (ap (turn_by height) l.sign_is ∙ turn_other height)
+  runs = λ aim height stage takes lines part.
+      stay_step aim Between height stage takes lines part b (ap (turn_by height) l.sign_is ∙ turn_other height)
       ∙ ap (λ (q : Place). spot q (turned height (sign_of b)) stage takes lines (part ++ (if takes then kept Between b else []))) l.place
       ∙ ap (λ (s : Sign). spot Between (turned height s) stage takes lines (part ++ (if takes then kept Between b else []))) l.sign_is
       ∙ ap (λ (x : List ℕ). spot Between height stage takes lines (part ++ (if takes then x else []))) l.none
@@ -90,21 +90,21 @@ one_passed b l = record {
 }
 
 blanks_between : (w : List ℕ) → AreIn is_blank w → IsPassed Between w
-blanks_between [] i = record { runs = λ path height stage takes lines part. refl }
+blanks_between [] i = record { runs = λ aim height stage takes lines part. refl }
 blanks_between (b ∷ w) i =
     let first : IsPassed Between (b ∷ []) = one_passed b (blank_leaves b i.0) in
     let rest : IsPassed Between w = blanks_between w i.1 in
     record {
-      runs = λ path height stage takes lines part.
-          ap (λ (m : Made). run path m w) (first.runs path height stage takes lines part)
-          ∙ rest.runs path height stage takes lines part;
+      runs = λ aim height stage takes lines part.
+          ap (λ (m : Made). run aim m w) (first.runs aim height stage takes lines part)
+          ∙ rest.runs aim height stage takes lines part;
     }
 
 pub blanks_passed : (p : Place) (w : List ℕ) → p ≡ Between → AreIn is_blank w → IsPassed p w
 blanks_passed p w is i = subst (λ (q : Place). IsPassed q w) (sym is) (blanks_between w i)
 
 pub none_passed : (p : Place) (xs : List ℕ) (from : ℕ) → IsPassed p (slice_range xs from from)
-none_passed p xs from = subst (λ (w : List ℕ). IsPassed p w) (sym (slice-none xs from)) (record { runs = λ path height stage takes lines part. refl })
+none_passed p xs from = subst (λ (w : List ℕ). IsPassed p w) (sym (slice-none xs from)) (record { runs = λ aim height stage takes lines part. refl })
 
 -- ---- steps of loops
 
@@ -118,37 +118,37 @@ push_stretch {p} {q} {h} {k} xs from i low lt stay keeps x =
     let b : ℕ = get_or xs i 0 in
     subst (λ (w : List ℕ). IsStretch p h w (next q b) (height_next q k b)) (sym (slice-more xs from i 0 low lt)) (then_stretch (slice_range xs from i) (b ∷ []) x (one_stretch q k b stay keeps))
 
-pub run_on : (path : List (List ℕ)) (p q : Place) (h k : ℕ) (stage : Stage) (takes : Bool) (lines part longer xs : List ℕ) (at end : ℕ) (all : Made) → at ≤ end → IsStretch p h (slice_range xs at end) q k
+pub run_on : (aim : Aim) (p q : Place) (h k : ℕ) (stage : Stage) (takes : Bool) (lines part longer xs : List ℕ) (at end : ℕ) (all : Made) → at ≤ end → IsStretch p h (slice_range xs at end) q k
     → longer ≡ part ++ (if takes then slice_range xs at end else [])
-    → run path (spot p h stage takes lines part) (drop at xs) ≡ all
-    → run path (spot q k stage takes lines longer) (drop end xs) ≡ all
-run_on path p q h k stage takes lines part longer xs at end all le x e made =
+    → run aim (spot p h stage takes lines part) (drop at xs) ≡ all
+    → run aim (spot q k stage takes lines longer) (drop end xs) ≡ all
+run_on aim p q h k stage takes lines part longer xs at end all le x e made =
     let m : Made = spot p h stage takes lines part in
-    ap (λ (l : List ℕ). run path (spot q k stage takes lines l) (drop end xs)) e
-    ∙ ap (λ (z : Made). run path z (drop end xs)) (sym (x.runs path stage takes lines part))
-    ∙ sym (run_append path m (slice_range xs at end) (drop end xs))
-    ∙ ap (run path m) (sym (drop_split xs at end le))
+    ap (λ (l : List ℕ). run aim (spot q k stage takes lines l) (drop end xs)) e
+    ∙ ap (λ (z : Made). run aim z (drop end xs)) (sym (x.runs aim stage takes lines part))
+    ∙ sym (run_append aim m (slice_range xs at end) (drop end xs))
+    ∙ ap (run aim m) (sym (drop_split xs at end le))
     ∙ made
 
-pub pass_on : (path : List (List ℕ)) (p : Place) (h : ℕ) (stage : Stage) (takes : Bool) (lines part xs : List ℕ) (at end : ℕ) (all : Made) → at ≤ end → IsPassed p (slice_range xs at end)
-    → run path (spot p h stage takes lines part) (drop at xs) ≡ all
-    → run path (spot p h stage takes lines part) (drop end xs) ≡ all
-pass_on path p h stage takes lines part xs at end all le x made =
+pub pass_on : (aim : Aim) (p : Place) (h : ℕ) (stage : Stage) (takes : Bool) (lines part xs : List ℕ) (at end : ℕ) (all : Made) → at ≤ end → IsPassed p (slice_range xs at end)
+    → run aim (spot p h stage takes lines part) (drop at xs) ≡ all
+    → run aim (spot p h stage takes lines part) (drop end xs) ≡ all
+pass_on aim p h stage takes lines part xs at end all le x made =
     let m : Made = spot p h stage takes lines part in
-    ap (λ (z : Made). run path z (drop end xs)) (sym (x.runs path h stage takes lines part))
-    ∙ sym (run_append path m (slice_range xs at end) (drop end xs))
-    ∙ ap (run path m) (sym (drop_split xs at end le))
+    ap (λ (z : Made). run aim z (drop end xs)) (sym (x.runs aim h stage takes lines part))
+    ∙ sym (run_append aim m (slice_range xs at end) (drop end xs))
+    ∙ ap (run aim m) (sym (drop_split xs at end le))
     ∙ made
 
-pub run_byte : (path : List (List ℕ)) (s t : Stand) (lines part longer rest xs : List ℕ) (i b : ℕ) (all : Made) → i < length xs → b ≡ get_or xs i 0
-    → record { stand = t; lines = longer; part = rest } ≡ step path (record { stand = s; lines = lines; part = part }) b
-    → run path (record { stand = s; lines = lines; part = part }) (drop i xs) ≡ all
-    → run path (record { stand = t; lines = longer; part = rest }) (drop (i + 1) xs) ≡ all
-run_byte path s t lines part longer rest xs i b all lt is made h =
+pub run_byte : (aim : Aim) (s t : Stand) (lines part longer rest xs : List ℕ) (i b : ℕ) (all : Made) → i < length xs → b ≡ get_or xs i 0
+    → record { stand = t; lines = longer; part = rest } ≡ step aim (record { stand = s; lines = lines; part = part }) b
+    → run aim (record { stand = s; lines = lines; part = part }) (drop i xs) ≡ all
+    → run aim (record { stand = t; lines = longer; part = rest }) (drop (i + 1) xs) ≡ all
+run_byte aim s t lines part longer rest xs i b all lt is made h =
     let m : Made = record { stand = s; lines = lines; part = part } in
-    ap (λ (x : Made). run path x (drop (i + 1) xs)) made
-    ∙ ap (λ (c : ℕ). run path (step path m c) (drop (i + 1) xs)) is
-    ∙ ap (run path m) (sym (drop_more xs i 0 lt))
+    ap (λ (x : Made). run aim x (drop (i + 1) xs)) made
+    ∙ ap (λ (c : ℕ). run aim (step aim m c) (drop (i + 1) xs)) is
+    ∙ ap (run aim m) (sym (drop_more xs i 0 lt))
     ∙ h
 
 -- a byte, and the run behind it
@@ -161,14 +161,14 @@ near_on p q h k xs from end lt le turn keeps to high x =
     (push_stretch xs from from (omega arith) lt turn keeps (none_stretch p h xs from)))) x
 
 -- a stretch, and the blanks behind it
-pub made_on : (path : List (List ℕ)) (s t : Stand) (p : Place) (k : ℕ) (lines part longer xs : List ℕ) (at end next : ℕ) (all : Made) → t ≡ record { place = p; height = k; stage = s.stage; takes = s.takes }
+pub made_on : (aim : Aim) (s t : Stand) (p : Place) (k : ℕ) (lines part longer xs : List ℕ) (at end next : ℕ) (all : Made) → t ≡ record { place = p; height = k; stage = s.stage; takes = s.takes }
     → at ≤ end → end ≤ next → IsStretch s.place s.height (slice_range xs at end) p k → longer ≡ part ++ (if s.takes then slice_range xs at end else []) → IsPassed p (slice_range xs end next)
-    → run path (record { stand = s; lines = lines; part = part }) (drop at xs) ≡ all
-    → run path (record { stand = t; lines = lines; part = longer }) (drop next xs) ≡ all
-made_on path s t p k lines part longer xs at end next all is low high x pushed passed made =
-    ap (λ (u : Stand). run path (record { stand = u; lines = lines; part = longer }) (drop next xs)) is
-    ∙ pass_on path p k s.stage s.takes lines longer xs end next all high passed
-    (run_on path s.place p s.height k s.stage s.takes lines part longer xs at end all low x pushed made)
+    → run aim (record { stand = s; lines = lines; part = part }) (drop at xs) ≡ all
+    → run aim (record { stand = t; lines = lines; part = longer }) (drop next xs) ≡ all
+made_on aim s t p k lines part longer xs at end next all is low high x pushed passed made =
+    ap (λ (u : Stand). run aim (record { stand = u; lines = lines; part = longer }) (drop next xs)) is
+    ∙ pass_on aim p k s.stage s.takes lines longer xs end next all high passed
+    (run_on aim s.place p s.height k s.stage s.takes lines part longer xs at end all low x pushed made)
 
 -- ---- copies that are cut back
 

@@ -1,6 +1,6 @@
 -- How a maker of lines takes a slice.
-use Rattle.std.specs.Prelude.{if◌then◌else◌, Some, None, Option}
-use Rattle.std.proofs.Common.{◌≡◌, ℕ, ◌+◌, ◌≤◌, List, [], ◌∷◌, ◌++◌, length, take, append_assoc, Bool, true, false, refl, sym, ap, subst, ◌∙◌, arith, zero-add}
+use Rattle.std.specs.Prelude.{codes, Some, None, Option}
+use Rattle.std.proofs.Common.{◌≡◌, ℕ, ◌+◌, ◌≤◌, List, [], ◌∷◌, ◌++◌, length, take, append_assoc, refl, sym, ap, subst, ◌∙◌, arith, zero-add}
 use Rattle.std.proofs.lemmas.List.{take_all}
 use Rattle.jx_run.specs.declared.texts.settings.Settings.{Settings}
 use Rattle.jx_run.specs.declared.texts.verdict.Verdict.{Verdict}
@@ -8,15 +8,17 @@ use Rattle.jx_run.specs.Reader.{HasRead, ReaderValue}
 use Rattle.jx_run.specs.Settings.{IsDocumentBy, IsLongestBeginningBy, JudgedBy}
 use Rattle.jx_run.specs.Tree.{Tree, node}
 use Rattle.jx_lex.specs.declared.kind.Kind.TheVariants as kind
-use Rattle.jx_each.specs.declared.stand.Stage.TheVariants.{Ahead}
+use Rattle.jx_each.specs.declared.stand.Stage.TheVariants.{Ahead, Elements, Members, Array, Object, Name, Pair, Over}
 use Rattle.jx_each.proofs.Seeks.{stage_by}
+use Rattle.jx_each.specs.declared.content.LineContent.{LineContent}
+use Rattle.jx_each.specs.declared.stand.Stage.{Stage}
 use Rattle.jx_each.specs.declared.sign.Turn.{Turn}
 use Rattle.jx_each.specs.declared.sign.Turn.TheVariants as turns
 use Rattle.jx_each.specs.declared.stand.Stand.{Stand}
-use Rattle.jx_each.specs.Due.{IsDue, is_container}
+use Rattle.jx_each.specs.Due.{IsDueBy, is_container}
 use Rattle.jx_index.specs.Pointers.{tokens}
-use Rattle.jx_each.specs.Each.{EachValue, HasTaken}
-use Rattle.jx_each.specs.Machine.{Made, begun, is_open, line_of, lines_next, run, step}
+use Rattle.jx_each.specs.Each.{EachValue, HasTakenBy}
+use Rattle.jx_each.specs.Machine.{Aim, Made, aimed, begun, line_of, lines_next, lines_with, run, step}
 use Rattle.jx_each.specs.Turns.{turn_at}
 use Rattle.jx_each.specs.inside.Fronts.{has_begun, sound, sound_part}
 use Rattle.jx_each.proofs.Dues.{is_due, longest_is_one, run_append, sound_goes_on, sound_is_longest, text_gives, whole_begins}
@@ -26,27 +28,33 @@ use Rattle.jx_each.proofs.Dues.{is_due, longest_is_one, run_append, sound_goes_o
 abbrev pub with_given : List ℕ → Made → Made
 with_given g m = record { stand = m.stand; lines = g ++ m.lines; part = m.part }
 
-lines_of : (ends : Bool) (g lines part : List ℕ) → (if ends then (g ++ lines) ++ line_of part else g ++ lines) ≡ g ++ (if ends then lines ++ line_of part else lines)
-lines_of true g lines part = append_assoc g lines (line_of part)
-lines_of false g lines part = refl
+given_with : (stage : Stage) (g lines part : List ℕ) → lines_with stage (g ++ lines) part ≡ g ++ lines_with stage lines part
+given_with Array g lines part = append_assoc g lines (line_of part)
+given_with Object g lines part = append_assoc g lines (line_of part)
+given_with Pair g lines part = append_assoc g lines (part ++ codes "}\n")
+given_with Name g lines part = refl
+given_with (Members level) g lines part = refl
+given_with (Ahead level) g lines part = refl
+given_with (Elements level n) g lines part = refl
+given_with Over g lines part = refl
 
-lines_given : (ends : Bool) (turn : Turn) (g lines part : List ℕ) → lines_next ends turn (g ++ lines) part ≡ g ++ lines_next ends turn lines part
-lines_given ends turns.EnterArray g lines part = refl
-lines_given ends turns.EnterObject g lines part = refl
-lines_given ends turns.Next g lines part = lines_of ends g lines part
-lines_given ends turns.Value g lines part = refl
-lines_given ends turns.Leave g lines part = lines_of ends g lines part
-lines_given ends turns.Past g lines part = refl
-lines_given ends turns.Stay g lines part = refl
+lines_given : (stage : Stage) (turn : Turn) (g lines part : List ℕ) → lines_next stage turn (g ++ lines) part ≡ g ++ lines_next stage turn lines part
+lines_given stage turns.EnterArray g lines part = refl
+lines_given stage turns.EnterObject g lines part = refl
+lines_given stage turns.Next g lines part = given_with stage g lines part
+lines_given stage turns.Value g lines part = refl
+lines_given stage turns.Leave g lines part = given_with stage g lines part
+lines_given stage turns.Past g lines part = refl
+lines_given stage turns.Stay g lines part = refl
 
-step_given : (path : List (List ℕ)) (g : List ℕ) (m : Made) (b : ℕ) → step path (with_given g m) b ≡ with_given g (step path m b)
-step_given path g m b =
-    ap (λ (l : List ℕ). let done : Made = record { stand = (step path m b).stand; lines = l; part = (step path m b).part } in done)
-    (lines_given (is_open m.stand.stage) (turn_at m.stand.place m.stand.height b) g m.lines m.part)
+step_given : (aim : Aim) (g : List ℕ) (m : Made) (b : ℕ) → step aim (with_given g m) b ≡ with_given g (step aim m b)
+step_given aim g m b =
+    ap (λ (l : List ℕ). let done : Made = record { stand = (step aim m b).stand; lines = l; part = (step aim m b).part } in done)
+    (lines_given m.stand.stage (turn_at m.stand.place m.stand.height b) g m.lines m.part)
 
-run_given : (path : List (List ℕ)) (g : List ℕ) (m : Made) (w : List ℕ) → run path (with_given g m) w ≡ with_given g (run path m w)
-run_given path g m [] = refl
-run_given path g m (b ∷ w) = ap (λ (x : Made). run path x w) (step_given path g m b) ∙ run_given path g (step path m b) w
+run_given : (aim : Aim) (g : List ℕ) (m : Made) (w : List ℕ) → run aim (with_given g m) w ≡ with_given g (run aim m w)
+run_given aim g m [] = refl
+run_given aim g m (b ∷ w) = ap (λ (x : Made). run aim x w) (step_given aim g m b) ∙ run_given aim g (step aim m b) w
 
 -- ---- the stand
 
@@ -71,14 +79,14 @@ longest_of : (reader : ReaderValue) (bytes : List ℕ) (verdict : Verdict) → r
 longest_of reader bytes verdict at judged =
     sound_is_longest reader.settings bytes verdict (subst (λ (n : ℕ). JudgedBy reader.settings n bytes verdict) at judged)
 
-pub takes_slice : (old new : ReaderValue) (path : List (List ℕ)) (was : Option Stand) (stand next : Stand) (ready part lines left slice pointer bytes given : List ℕ) (first second : Verdict)
+pub takes_slice : {content : LineContent} (old new : ReaderValue) (path : List (List ℕ)) (has : LineContent) (was : Option Stand) (stand next : Stand) (ready part lines left slice pointer bytes given : List ℕ) (first second : Verdict)
     → Fed old new slice first second
     → was ≡ Some stand
-    → record { stand = next; lines = lines; part = left } ≡ run path (record { stand = stand; lines = ready; part = part })
+    → record { stand = next; lines = lines; part = left } ≡ run (aimed has path) (record { stand = stand; lines = ready; part = part })
     (sound_part slice (sound first (old.start + old.count)) (old.start + old.count) (sound second (new.start + new.count)))
-    → HasTaken pointer bytes given (record { reader = old; path = path; stand = was; ready = ready; part = part })
-    → HasTaken pointer (bytes ++ slice) given (record { reader = new; path = path; stand = Some next; ready = lines; part = left })
-takes_slice old new path was stand next ready part lines left slice pointer bytes given first second fed is made h =
+    → HasTakenBy content pointer bytes given (record { reader = old; path = path; content = has; stand = was; ready = ready; part = part })
+    → HasTakenBy content pointer (bytes ++ slice) given (record { reader = new; path = path; content = has; stand = Some next; ready = lines; part = left })
+takes_slice {content} old new path has was stand next ready part lines left slice pointer bytes given first second fed is made h =
     let all : List ℕ = bytes ++ slice in
     let read : HasRead all new = fed.reads bytes h.read in
     let new_start : new.start ≡ 0 = fed.start ∙ h.at_start in
@@ -95,28 +103,30 @@ takes_slice old new path was stand next ready part lines left slice pointer byte
       read = read;
       at_start = new_start;
       path_is = h.path_is;
+      content_is = h.content_is;
       k = after;
       longest = y;
       stand = next;
       stands = refl;
       made =
           ap (with_given given) (made
-          ∙ ap (λ (n : ℕ). run path (record { stand = stand; lines = ready; part = part }) (sound_part slice (sound first n) n (sound second (new.start + new.count)))) count
-          ∙ ap (λ (n : ℕ). run path (record { stand = stand; lines = ready; part = part }) (sound_part slice before (length bytes) (sound second n))) count_all)
-          ∙ sym (run_given path given (record { stand = stand; lines = ready; part = part }) more)
-          ∙ ap (λ (p : List (List ℕ)). run p (record { stand = stand; lines = given ++ ready; part = part }) more) h.path_is
-          ∙ ap (λ (s : Stand). run (tokens pointer) (record { stand = s; lines = given ++ ready; part = part }) more) (same_stand was stand h.stand is h.stands)
-          ∙ ap (λ (m : Made). run (tokens pointer) m more) h.made
-          ∙ ap (λ (n : ℕ). run (tokens pointer) (run (tokens pointer) begun (take n bytes)) more) same
-          ∙ sym (run_append (tokens pointer) begun (take before bytes) more)
-          ∙ ap (run (tokens pointer) begun) (sym (sound_goes_on old.settings bytes slice before after x y_old));
+          ∙ ap (λ (n : ℕ). run (aimed has path) (record { stand = stand; lines = ready; part = part }) (sound_part slice (sound first n) n (sound second (new.start + new.count)))) count
+          ∙ ap (λ (n : ℕ). run (aimed has path) (record { stand = stand; lines = ready; part = part }) (sound_part slice before (length bytes) (sound second n))) count_all)
+          ∙ sym (run_given (aimed has path) given (record { stand = stand; lines = ready; part = part }) more)
+          ∙ ap (λ (p : List (List ℕ)). run (aimed has p) (record { stand = stand; lines = given ++ ready; part = part }) more) h.path_is
+          ∙ ap (λ (c : LineContent). run (aimed c (tokens pointer)) (record { stand = stand; lines = given ++ ready; part = part }) more) h.content_is
+          ∙ ap (λ (s : Stand). run (aimed content (tokens pointer)) (record { stand = s; lines = given ++ ready; part = part }) more) (same_stand was stand h.stand is h.stands)
+          ∙ ap (λ (m : Made). run (aimed content (tokens pointer)) m more) h.made
+          ∙ ap (λ (n : ℕ). run (aimed content (tokens pointer)) (run (aimed content (tokens pointer)) begun (take n bytes)) more) same
+          ∙ sym (run_append (aimed content (tokens pointer)) begun (take before bytes) more)
+          ∙ ap (run (aimed content (tokens pointer)) begun) (sym (sound_goes_on old.settings bytes slice before after x y_old));
     }
 
 -- ---- what was taken
 
-pub taken_is_due : (pointer bytes given : List ℕ) (each : EachValue) → HasTaken pointer bytes given each → IsDue each.reader.settings pointer bytes (given ++ each.ready)
-taken_is_due pointer bytes given each h =
-    subst (λ (l : List ℕ). IsDue each.reader.settings pointer bytes l) (sym (ap (λ (m : Made). m.lines) h.made)) (is_due each.reader.settings pointer bytes h.k h.longest)
+pub taken_is_due : {content : LineContent} (pointer bytes given : List ℕ) (each : EachValue) → HasTakenBy content pointer bytes given each → IsDueBy content each.reader.settings pointer bytes (given ++ each.ready)
+taken_is_due {content} pointer bytes given each h =
+    subst (λ (l : List ℕ). IsDueBy content each.reader.settings pointer bytes l) (sym (ap (λ (m : Made). m.lines) h.made)) (is_due each.reader.settings pointer bytes h.k h.longest)
 
 -- what the stage behind a text tells
 has_begun_by : (tree : Tree) → has_begun (stage_by (Ahead 0) tree) ≡ is_container tree
@@ -128,14 +138,14 @@ has_begun_by (node kind.True s below) = refl
 has_begun_by (node kind.False s below) = refl
 has_begun_by (node kind.Null s below) = refl
 
-pub root_is : (each : EachValue) (stand : Stand) (pointer bytes given : List ℕ) (tree : Tree) → each.stand ≡ Some stand → HasTaken pointer bytes given each → IsDocumentBy each.reader.settings 0 bytes tree
+pub root_is : {content : LineContent} (each : EachValue) (stand : Stand) (pointer bytes given : List ℕ) (tree : Tree) → each.stand ≡ Some stand → HasTakenBy content pointer bytes given each → IsDocumentBy each.reader.settings 0 bytes tree
     → has_begun stand.stage ≡ is_container tree
-root_is each stand pointer bytes given tree is h d =
+root_is {content} each stand pointer bytes given tree is h d =
     let same : h.k ≡ length bytes = longest_is_one each.reader.settings bytes h.k (length bytes) h.longest (whole_begins each.reader.settings bytes tree d) in
     ap (λ (s : Stand). has_begun s.stage) (same_stand each.stand stand h.stand is h.stands)
     ∙ ap (λ (m : Made). has_begun m.stand.stage) h.made
-    ∙ ap (λ (l : List ℕ). has_begun (run (tokens pointer) begun l).stand.stage) (take_all h.k bytes (omega (arith, same)))
-    ∙ ap has_begun (text_gives (tokens pointer) each.reader.settings bytes tree d).stage
+    ∙ ap (λ (l : List ℕ). has_begun (run (aimed content (tokens pointer)) begun l).stand.stage) (take_all h.k bytes (omega (arith, same)))
+    ∙ ap has_begun (text_gives content (tokens pointer) each.reader.settings bytes tree d).stage
     ∙ has_begun_by tree
 
 -- ---- before the first byte
@@ -145,12 +155,13 @@ none_begins settings verdict judged =
     let longest : IsLongestBeginningBy settings [] (sound verdict 0) = sound_is_longest settings [] verdict judged in
     subst (λ (k : ℕ). IsLongestBeginningBy settings [] k) (let within : sound verdict 0 ≤ 0 = longest.within in let e : sound verdict 0 ≡ 0 = omega (arith, within) in e) longest
 
-pub starts : (reader : ReaderValue) (path : List (List ℕ)) (pointer : List ℕ) (stand : Stand) (verdict : Verdict) → HasRead [] reader → reader.start ≡ 0 → path ≡ tokens pointer → stand ≡ begun.stand → JudgedBy reader.settings 0 [] verdict
-    → HasTaken pointer [] [] (record { reader = reader; path = path; stand = Some stand; ready = []; part = [] })
-starts reader path pointer stand verdict read at is stands judged = record {
+pub starts : (content : LineContent) (reader : ReaderValue) (path : List (List ℕ)) (pointer : List ℕ) (stand : Stand) (verdict : Verdict) → HasRead [] reader → reader.start ≡ 0 → path ≡ tokens pointer → stand ≡ begun.stand → JudgedBy reader.settings 0 [] verdict
+    → HasTakenBy content pointer [] [] (record { reader = reader; path = path; content = content; stand = Some stand; ready = []; part = [] })
+starts content reader path pointer stand verdict read at is stands judged = record {
   read = read;
   at_start = at;
   path_is = is;
+  content_is = refl;
   k = 0;
   longest = none_begins reader.settings verdict judged;
   stand = stand;
@@ -158,5 +169,5 @@ starts reader path pointer stand verdict read at is stands judged = record {
   made = ap (λ (s : Stand). let m : Made = record { stand = s; lines = []; part = [] } in m) stands;
 }
 
-pub none_due : (settings : Settings) (pointer : List ℕ) (verdict : Verdict) → JudgedBy settings 0 [] verdict → IsDue settings pointer [] []
+pub none_due : {content : LineContent} (settings : Settings) (pointer : List ℕ) (verdict : Verdict) → JudgedBy settings 0 [] verdict → IsDueBy content settings pointer [] []
 none_due settings pointer verdict judged = is_due settings pointer [] 0 (none_begins settings verdict judged)

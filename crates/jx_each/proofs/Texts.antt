@@ -1,18 +1,22 @@
 -- The lines that a container gives: those of its elements.
-use Rattle.std.specs.Prelude.{if◌then◌else◌, slice_range}
+use Rattle.std.specs.Prelude.{if◌then◌else◌, codes, slice_range, Option, None, Some}
 use Rattle.std.proofs.Common.{◌≡◌, ℕ, suc, ◌+◌, ◌-◌, List, [], ◌∷◌, ◌++◌, length, take, drop, Bool, true, false, refl, sym, ap, subst, ◌∙◌, arith, lit≤}
 use Rattle.std.proofs.lemmas.List.{drop_at, drop-drop, take_at}
 use Rattle.jx_compact.specs.declared.place.Place.TheVariants.{Between}
 use Rattle.jx_compact.specs.Compact.{compact, compact_from, is_no_blank, next}
 use Rattle.jx_lex.specs.declared.kind.Kind.TheVariants as kind
 use Rattle.jx_lex.specs.Token.{space, tab, line_feed, carriage_return}
+use Rattle.jx_summary.specs.declared.span.Span.{Span}
 use Rattle.jx_run.specs.Laws.{span_of}
 use Rattle.jx_run.specs.Tree.{Tree, Children, span}
 use Rattle.jx_run.specs.Grammar.{Blanks, no_blanks, blank, Scalar, Value, leaf, empty_array, array, empty_object, object, Items, last_item, item, Members, last_member, member}
+use Rattle.jx_each.specs.declared.content.LineContent.TheVariants.{Alone, Named}
 use Rattle.jx_each.specs.declared.stand.Stage.{Stage}
-use Rattle.jx_each.specs.declared.stand.Stage.TheVariants.{Array, Object, Over}
-use Rattle.jx_each.specs.Machine.{Made, line_of, step}
-use Rattle.jx_each.specs.Due.{behind, element_line, past_blanks, trees}
+use Rattle.jx_each.specs.declared.stand.Stage.TheVariants.{Array, Object, Name, Pair, Over}
+use Rattle.jx_each.specs.Machine.{Aim, Made, aimed, line_of, lines_with, part_at, step}
+use Rattle.jx_each.specs.Due.{Element, all_in, behind, element_line, name_of, past_blanks, value_of}
+use Rattle.jx_each.proofs.Bytes.{token_sits}
+use Rattle.jx_each.proofs.Stays.{token_stays}
 use Rattle.jx_each.proofs.Pieces.{Piece, Solid, blanks_gap, scalar_piece, value_piece}
 use Rattle.jx_each.proofs.Gives.{Gives, gives_cut, gives_over, gives_step, made, over_gap, over_name, over_piece}
 
@@ -58,17 +62,25 @@ stretch_is text w u i j h e =
     ∙ ap (take (length w)) h
     ∙ take_at w u (length w) refl
 
--- the line of a value
-pub value_line : (text : List ℕ) {i j : ℕ} {t u : List ℕ} {tree : Tree} → drop i text ≡ t → (v : Value i t j u tree) → line_of (compact (value_piece v).piece.w) ≡ element_line text tree
-value_line text {i = i} {j = j} {u = u} {tree = tree} h v =
+-- what is kept of a value
+pub value_is : (text : List ℕ) {i j : ℕ} {t u : List ℕ} {tree : Tree} → drop i text ≡ t → (v : Value i t j u tree) → compact (value_piece v).piece.w ≡ value_of text tree
+value_is text {i = i} {j = j} {u = u} h v =
     let p = value_piece v in
-    solid_line p.piece.w p.solid
-    ∙ ap (λ (x : List ℕ). compact x ++ 0x0a ∷ []) (sym (stretch_is text p.piece.w u i j (h ∙ p.piece.whole) p.piece.end))
-    ∙ sym (ap (λ (s : _). compact (slice_range text s.start s.end) ++ 0x0a ∷ []) (value_span v))
+    ap compact (sym (stretch_is text p.piece.w u i j (h ∙ p.piece.whole) p.piece.end))
+    ∙ sym (ap (λ (s : _). compact (slice_range text s.start s.end)) (value_span v))
+
+-- the line of a value
+value_line : (text : List ℕ) {i j : ℕ} {t u : List ℕ} {tree : Tree} → drop i text ≡ t → (v : Value i t j u tree) → line_of (compact (value_piece v).piece.w) ≡ value_of text tree ++ 0x0a ∷ []
+value_line text h v =
+    solid_line (value_piece v).piece.w (value_piece v).solid
+    ∙ ap (λ (x : List ℕ). x ++ 0x0a ∷ []) (value_is text h v)
+
+abbrev pub an_element : Option Span → Tree → Element
+an_element name tree = record { name = name; tree = tree }
 
 -- the comma or the bracket behind it
-pub value_behind : (text : List ℕ) {i j k b : ℕ} {t u v : List ℕ} {tree : Tree} → drop j text ≡ u → Value i t j u tree → is_no_blank b ≡ true → Blanks j u k (b ∷ v) → behind text tree ≡ k
-value_behind text {j = j} h x is bs =
+pub value_behind : (text : List ℕ) {i j k b : ℕ} {t u v : List ℕ} {tree : Tree} → drop j text ≡ u → Value i t j u tree → is_no_blank b ≡ true → Blanks j u k (b ∷ v) → (name : Option Span) → behind text (an_element name tree) ≡ k
+value_behind text {j = j} h x is bs name =
     ap (λ (s : _). past_blanks s.end (drop s.end text)) (value_span x)
     ∙ ap (past_blanks j) h
     ∙ blanks_past is bs
@@ -76,69 +88,128 @@ value_behind text {j = j} h x is bs =
 -- ---- in the container
 
 -- an element, where one may stand, and the blanks around it
-over_element : (text : List ℕ) (path : List (List ℕ)) (r to : Stage) (lines : List ℕ) (ts : List Tree) {i j k l : ℕ} {t0 t1 t2 t3 : List ℕ} {tree : Tree} → Blanks i t0 j t1 → (v : Value j t1 k t2 tree) → Blanks k t2 l t3
-    → Gives text path (made 1 r true lines (compact (value_piece v).piece.w)) l t3 ts to
-    → Gives text path (made 1 r true lines []) i t0 ts to
-over_element text path r to lines ts bs v cs g =
-    over_gap text path 1 r true lines [] ts to (blanks_gap bs)
-    (over_piece text path 1 r true lines [] ts to (value_piece v).piece (lit≤ tt)
-    (over_gap text path 1 r true lines (compact (value_piece v).piece.w) ts to (blanks_gap cs) g))
+over_element : (text : List ℕ) (aim : Aim) (r to : Stage) (lines front : List ℕ) (ts : List Element) {i j k l : ℕ} {t0 t1 t2 t3 : List ℕ} {tree : Tree} → Blanks i t0 j t1 → (v : Value j t1 k t2 tree) → Blanks k t2 l t3
+    → Gives text aim (made 1 r true lines (front ++ compact (value_piece v).piece.w)) l t3 ts to
+    → Gives text aim (made 1 r true lines front) i t0 ts to
+over_element text aim r to lines front ts bs v cs g =
+    over_gap text aim 1 r true lines front ts to (blanks_gap bs)
+    (over_piece text aim 1 r true lines front ts to (value_piece v).piece (lit≤ tt)
+    (over_gap text aim 1 r true lines (front ++ compact (value_piece v).piece.w) ts to (blanks_gap cs) g))
 
 -- the last element, and the bracket behind it
-last_gives : (text : List ℕ) (path : List (List ℕ)) (r : Stage) (b : ℕ) → is_no_blank b ≡ true
-    → ((lines part : List ℕ) → step path (made 1 r true lines part) b ≡ made 0 Over false (lines ++ line_of part) [])
-    → (lines : List ℕ) {i j k l : ℕ} {t0 t1 t2 t3 : List ℕ} {tree : Tree} → drop i text ≡ t0 → Blanks i t0 j t1 → (v : Value j t1 k t2 tree) → Blanks k t2 l (b ∷ t3)
-    → Gives text path (made 1 r true lines []) i t0 (tree ∷ []) Over
-last_gives text path r b is closes lines {l = l} {t3 = t3} {tree = tree} h bs v cs =
-    let part : List ℕ = compact (value_piece v).piece.w in
+last_gives : (text : List ℕ) (aim : Aim) (r : Stage) (b : ℕ) → is_no_blank b ≡ true
+    → ((lines part : List ℕ) → step aim (made 1 r true lines part) b ≡ made 0 Over false (lines_with r lines part) [])
+    → (lines front : List ℕ) (name : Option Span) {i j k l : ℕ} {t0 t1 t2 t3 : List ℕ} {tree : Tree} → drop i text ≡ t0 → Blanks i t0 j t1 → (v : Value j t1 k t2 tree) → Blanks k t2 l (b ∷ t3)
+    → (drop j text ≡ t1 → lines_with r lines (front ++ compact (value_piece v).piece.w) ≡ lines ++ element_line aim.content text (an_element name tree))
+    → Gives text aim (made 1 r true lines front) i t0 (an_element name tree ∷ []) Over
+last_gives text aim r b is closes lines front name {l = l} {t3 = t3} {tree = tree} h bs v cs line =
+    let part : List ℕ = front ++ compact (value_piece v).piece.w in
     let h1 : _ ≡ _ = left_piece text h (blanks_gap bs).piece in
     let h2 : _ ≡ _ = left_piece text h1 (value_piece v).piece in
-    over_element text path r Over lines (tree ∷ []) bs v cs
-    (gives_cut text path (made 1 r true lines part) b l t3 tree [] Over
-    (ap (λ (m : Made). m.lines) (closes lines part) ∙ ap (λ (x : List ℕ). lines ++ x) (value_line text h1 v))
-    (value_behind text h2 v is cs)
-    (subst (λ (m : Made). Gives text path m (suc l) t3 [] Over) (sym (closes lines part)) (gives_over text path 0 false (lines ++ line_of part) [] (suc l) t3)))
+    over_element text aim r Over lines front (an_element name tree ∷ []) bs v cs
+    (gives_cut text aim (made 1 r true lines part) b l t3 (an_element name tree) [] Over
+    (ap (λ (m : Made). m.lines) (closes lines part) ∙ line h1)
+    (value_behind text h2 v is cs name)
+    (subst (λ (m : Made). Gives text aim m (suc l) t3 [] Over) (sym (closes lines part)) (gives_over text aim 0 false (lines_with r lines part) [] (suc l) t3)))
 
 -- another element, and the comma behind it
-next_gives : (text : List ℕ) (path : List (List ℕ)) (r : Stage) (takes : Bool)
-    → ((lines part : List ℕ) → step path (made 1 r true lines part) 0x2c ≡ made 1 r takes (lines ++ line_of part) [])
-    → (lines : List ℕ) (ts : List Tree) {i j k l : ℕ} {t0 t1 t2 t3 : List ℕ} {tree : Tree} → drop i text ≡ t0 → Blanks i t0 j t1 → (v : Value j t1 k t2 tree) → Blanks k t2 l (0x2c ∷ t3)
-    → ((more : List ℕ) → drop (suc l) text ≡ t3 → Gives text path (made 1 r takes more []) (suc l) t3 ts Over)
-    → Gives text path (made 1 r true lines []) i t0 (tree ∷ ts) Over
-next_gives text path r takes goes lines ts {l = l} {t3 = t3} {tree = tree} h bs v cs rest =
-    let part : List ℕ = compact (value_piece v).piece.w in
+next_gives : (text : List ℕ) (aim : Aim) (r back : Stage) (takes : Bool)
+    → ((lines part : List ℕ) → step aim (made 1 r true lines part) 0x2c ≡ made 1 back takes (lines_with r lines part) (part_at back))
+    → (lines front : List ℕ) (name : Option Span) (ts : List Element) {i j k l : ℕ} {t0 t1 t2 t3 : List ℕ} {tree : Tree} → drop i text ≡ t0 → Blanks i t0 j t1 → (v : Value j t1 k t2 tree) → Blanks k t2 l (0x2c ∷ t3)
+    → (drop j text ≡ t1 → lines_with r lines (front ++ compact (value_piece v).piece.w) ≡ lines ++ element_line aim.content text (an_element name tree))
+    → ((more : List ℕ) → drop (suc l) text ≡ t3 → Gives text aim (made 1 back takes more (part_at back)) (suc l) t3 ts Over)
+    → Gives text aim (made 1 r true lines front) i t0 (an_element name tree ∷ ts) Over
+next_gives text aim r back takes goes lines front name ts {l = l} {t3 = t3} {tree = tree} h bs v cs line rest =
+    let part : List ℕ = front ++ compact (value_piece v).piece.w in
     let h1 : _ ≡ _ = left_piece text h (blanks_gap bs).piece in
     let h2 : _ ≡ _ = left_piece text h1 (value_piece v).piece in
     let h3 : _ ≡ _ = left_piece text h2 (blanks_gap cs).piece in
-    over_element text path r Over lines (tree ∷ ts) bs v cs
-    (gives_cut text path (made 1 r true lines part) 0x2c l t3 tree ts Over
-    (ap (λ (m : Made). m.lines) (goes lines part) ∙ ap (λ (x : List ℕ). lines ++ x) (value_line text h1 v))
-    (value_behind text h2 v refl cs)
-    (subst (λ (m : Made). Gives text path m (suc l) t3 ts Over) (sym (goes lines part)) (rest (lines ++ line_of part) (left_byte text 0x2c t3 l h3))))
+    over_element text aim r Over lines front (an_element name tree ∷ ts) bs v cs
+    (gives_cut text aim (made 1 r true lines part) 0x2c l t3 (an_element name tree) ts Over
+    (ap (λ (m : Made). m.lines) (goes lines part) ∙ line h1)
+    (value_behind text h2 v refl cs name)
+    (subst (λ (m : Made). Gives text aim m (suc l) t3 ts Over) (sym (goes lines part)) (rest (lines_with r lines part) (left_byte text 0x2c t3 l h3))))
 
 pub items_give : (text : List ℕ) (path : List (List ℕ)) (lines : List ℕ) {i j : ℕ} {t u : List ℕ} {c : Children} → drop i text ≡ t → Items i t j (0x5d ∷ u) c
-    → Gives text path (made 1 Array true lines []) i t (trees c) Over
-items_give text path lines h (last_item bs v cs) = last_gives text path Array 0x5d refl (λ lines part. refl) lines h bs v cs
+    → Gives text (aimed Alone path) (made 1 Array true lines []) i t (all_in c) Over
+items_give text path lines h (last_item bs v cs) =
+    last_gives text (aimed Alone path) Array 0x5d refl (λ lines part. refl) lines [] None h bs v cs (λ h1. ap (λ (x : List ℕ). lines ++ x) (value_line text h1 v))
 items_give text path lines h (item {more = more} bs v cs xs) =
-    next_gives text path Array true (λ lines part. refl) lines (trees more) h bs v cs (λ next g. items_give text path next g xs)
+    next_gives text (aimed Alone path) Array Array true (λ lines part. refl) lines [] None (all_in more) h bs v cs (λ h1. ap (λ (x : List ℕ). lines ++ x) (value_line text h1 v))
+    (λ next g. items_give text path next g xs)
 
 -- a name and the colon behind it
-over_member : (text : List ℕ) (path : List (List ℕ)) (lines : List ℕ) (ts : List Tree) {i j k l : ℕ} {t0 t1 t2 t3 : List ℕ} → drop i text ≡ t0 → Blanks i t0 j t1 → Scalar kind.String j t1 k t2 → Blanks k t2 l (0x3a ∷ t3)
-    → (drop (suc l) text ≡ t3 → Gives text path (made 1 Object true lines []) (suc l) t3 ts Over)
-    → Gives text path (made 1 Object false lines []) i t0 ts Over
-over_member text path lines ts {l = l} {t3 = t3} h bs n cs g =
+over_member : (text : List ℕ) (aim : Aim) (lines : List ℕ) (ts : List Element) {i j k l : ℕ} {t0 t1 t2 t3 : List ℕ} → drop i text ≡ t0 → Blanks i t0 j t1 → Scalar kind.String j t1 k t2 → Blanks k t2 l (0x3a ∷ t3)
+    → (drop (suc l) text ≡ t3 → Gives text aim (made 1 Object true lines []) (suc l) t3 ts Over)
+    → Gives text aim (made 1 Object false lines []) i t0 ts Over
+over_member text aim lines ts {l = l} {t3 = t3} h bs n cs g =
     let h1 : _ ≡ _ = left_piece text h (blanks_gap bs).piece in
     let h2 : _ ≡ _ = left_piece text h1 (scalar_piece n) in
     let h3 : _ ≡ _ = left_piece text h2 (blanks_gap cs).piece in
-    over_gap text path 1 Object false lines [] ts Over (blanks_gap bs)
-    (over_name text path 1 Object lines [] ts Over (scalar_piece n) (lit≤ tt)
-    (over_gap text path 1 Object false lines [] ts Over (blanks_gap cs)
-    (gives_step text path (made 1 Object false lines []) 0x3a l t3 ts Over refl (g (left_byte text 0x3a t3 l h3)))))
+    over_gap text aim 1 Object false lines [] ts Over (blanks_gap bs)
+    (over_name text aim 1 Object lines [] ts Over (scalar_piece n) (lit≤ tt)
+    (over_gap text aim 1 Object false lines [] ts Over (blanks_gap cs)
+    (gives_step text aim (made 1 Object false lines []) 0x3a l t3 ts Over refl (g (left_byte text 0x3a t3 l h3)))))
 
 pub members_give : (text : List ℕ) (path : List (List ℕ)) (lines : List ℕ) {i j : ℕ} {t u : List ℕ} {c : Children} → drop i text ≡ t → Members i t j (0x7d ∷ u) c
-    → Gives text path (made 1 Object false lines []) i t (trees c) Over
-members_give text path lines h (last_member {tree = tree} bs n cs ds v es) =
-    over_member text path lines (tree ∷ []) h bs n cs (λ g. last_gives text path Object 0x7d refl (λ lines part. refl) lines g ds v es)
-members_give text path lines h (member {tree = tree} {more = more} bs n cs ds v es xs) =
-    over_member text path lines (tree ∷ trees more) h bs n cs
-    (λ g. next_gives text path Object false (λ lines part. refl) lines (trees more) g ds v es (λ next q. members_give text path next q xs))
+    → Gives text (aimed Alone path) (made 1 Object false lines []) i t (all_in c) Over
+members_give text path lines h (last_member {j = j} {k = k} {tree = tree} bs n cs ds v es) =
+    over_member text (aimed Alone path) lines (an_element (Some (span j k)) tree ∷ []) h bs n cs
+    (λ g. last_gives text (aimed Alone path) Object 0x7d refl (λ lines part. refl) lines [] (Some (span j k)) g ds v es (λ h1. ap (λ (x : List ℕ). lines ++ x) (value_line text h1 v)))
+members_give text path lines h (member {j = j} {k = k} {tree = tree} {more = more} bs n cs ds v es xs) =
+    over_member text (aimed Alone path) lines (an_element (Some (span j k)) tree ∷ all_in more) h bs n cs
+    (λ g. next_gives text (aimed Alone path) Object Object false (λ lines part. refl) lines [] (Some (span j k)) (all_in more) g ds v es (λ h1. ap (λ (x : List ℕ). lines ++ x) (value_line text h1 v))
+    (λ next q. members_give text path next q xs))
+
+-- ---- in the container, where names are written
+
+-- what is kept in front of a value
+abbrev front_of : List ℕ → List ℕ
+front_of w = (part_at Name ++ compact w) ++ codes ",\"value\":"
+
+-- a name
+abbrev pub name_piece : {i j : ℕ} {t u : List ℕ} → Scalar kind.String i t j u → Piece 0 i t j u
+name_piece x = record { w = x.token; whole = x.whole; end = x.end; sits = token_sits kind.String x.token x.is_token }
+
+name_as_spelt : (text : List ℕ) {j k : ℕ} {t u : List ℕ} → drop j text ≡ t → (n : Scalar kind.String j t k u) → compact n.token ≡ name_of text (Some (span j k))
+name_as_spelt text {j = j} {k = k} {u = u} h n =
+    (token_stays kind.String n.token n.is_token).form
+    ∙ sym (stretch_is text n.token u j k (h ∙ n.whole) n.end)
+
+joined : (lines p n m v e name value : List ℕ) → n ≡ name → v ≡ value → lines ++ ((((p ++ n) ++ m) ++ v) ++ e) ≡ lines ++ ((((p ++ name) ++ m) ++ value) ++ e)
+joined lines p n m v e name value a b =
+    ap (λ (l : List ℕ). lines ++ ((((p ++ l) ++ m) ++ v) ++ e)) a
+    ∙ ap (λ (l : List ℕ). lines ++ ((((p ++ name) ++ m) ++ l) ++ e)) b
+
+pair_line : (text lines : List ℕ) {j k p q : ℕ} {t u v w : List ℕ} {tree : Tree} → drop j text ≡ t → (n : Scalar kind.String j t k u) → drop p text ≡ v → (x : Value p v q w tree)
+    → lines_with Pair lines (front_of n.token ++ compact (value_piece x).piece.w) ≡ lines ++ element_line Named text (an_element (Some (span j k)) tree)
+pair_line text lines {j = j} {k = k} {tree = tree} h n g x =
+    joined lines (codes "{\"name\":") (compact n.token) (codes ",\"value\":") (compact (value_piece x).piece.w) (codes "}\n")
+    (name_of text (Some (span j k))) (value_of text tree) (name_as_spelt text h n) (value_is text g x)
+
+-- a name that is kept, and the colon behind it
+over_named : (text : List ℕ) (path : List (List ℕ)) (lines : List ℕ) (ts : List Element) {i j k l : ℕ} {t0 t1 t2 t3 : List ℕ} → drop i text ≡ t0 → Blanks i t0 j t1 → (n : Scalar kind.String j t1 k t2) → Blanks k t2 l (0x3a ∷ t3)
+    → (drop (suc l) text ≡ t3 → Gives text (aimed Named path) (made 1 Pair true lines (front_of n.token)) (suc l) t3 ts Over)
+    → Gives text (aimed Named path) (made 1 Name true lines (part_at Name)) i t0 ts Over
+over_named text path lines ts {l = l} {t3 = t3} h bs n cs g =
+    let a : Aim = aimed Named path in
+    let h1 : _ ≡ _ = left_piece text h (blanks_gap bs).piece in
+    let h2 : _ ≡ _ = left_piece text h1 (name_piece n) in
+    let h3 : _ ≡ _ = left_piece text h2 (blanks_gap cs).piece in
+    let part : List ℕ = part_at Name ++ compact n.token in
+    over_gap text a 1 Name true lines (part_at Name) ts Over (blanks_gap bs)
+    (over_piece text a 1 Name true lines (part_at Name) ts Over (name_piece n) (lit≤ tt)
+    (over_gap text a 1 Name true lines part ts Over (blanks_gap cs)
+    (gives_step text a (made 1 Name true lines part) 0x3a l t3 ts Over refl (g (left_byte text 0x3a t3 l h3)))))
+
+pub pairs_give : (text : List ℕ) (path : List (List ℕ)) (lines : List ℕ) {i j : ℕ} {t u : List ℕ} {c : Children} → drop i text ≡ t → Members i t j (0x7d ∷ u) c
+    → Gives text (aimed Named path) (made 1 Name true lines (part_at Name)) i t (all_in c) Over
+pairs_give text path lines h (last_member {j = j} {k = k} {tree = tree} bs n cs ds v es) =
+    let h1 : _ ≡ _ = left_piece text h (blanks_gap bs).piece in
+    over_named text path lines (an_element (Some (span j k)) tree ∷ []) h bs n cs
+    (λ g. last_gives text (aimed Named path) Pair 0x7d refl (λ lines part. refl) lines (front_of n.token) (Some (span j k)) g ds v es (λ h4. pair_line text lines h1 n h4 v))
+pairs_give text path lines h (member {j = j} {k = k} {tree = tree} {more = more} bs n cs ds v es xs) =
+    let h1 : _ ≡ _ = left_piece text h (blanks_gap bs).piece in
+    over_named text path lines (an_element (Some (span j k)) tree ∷ all_in more) h bs n cs
+    (λ g. next_gives text (aimed Named path) Pair Name true (λ lines part. refl) lines (front_of n.token) (Some (span j k)) (all_in more) g ds v es (λ h4. pair_line text lines h1 n h4 v)
+    (λ next q. pairs_give text path next q xs))

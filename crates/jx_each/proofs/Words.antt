@@ -12,7 +12,7 @@ use Rattle.jx_compact.specs.declared.place.Place.TheVariants.{Between, Escaped, 
 use Rattle.jx_compact.specs.Compact.{next}
 use Rattle.jx_lex.specs.inside.Bits.{bit}
 use Rattle.jx_lex.proofs.Bits.{bit-and, bit-down, bit-mask, bit-none, bit-not, bit-or, bit-up, bit-up_first, bit-xor}
-use Rattle.jx_each.specs.inside.Blocks.{IsTold, in_at, placed}
+use Rattle.jx_each.specs.inside.Blocks.{IsTold, in_at, place_by}
 use Rattle.jx_each.specs.inside.Runs.{is_stop}
 
 abbrev pub differ : Bool → Bool → Bool
@@ -41,6 +41,12 @@ one_first = refl
 pub one_others : (k : ℕ) → bit 1 (suc k) ≡ false
 one_others k = sym (bit-down 1 k) ∙ bit-none k
 
+-- ---- shifts
+
+pub shifted : (n i k : ℕ) → bit (n / 2 ^ i) k ≡ bit n (i + k)
+unfolding bit
+shifted n i k = ap (λ m. m % 2 == 1) (shr-shr n i k)
+
 -- ---- the words of a block
 
 or_none : (b : Bool) → (b || false) ≡ b
@@ -58,60 +64,132 @@ before inside s c (suc k) lt first others =
     ∙ ap (bit (s * 2 % 2 ^ 64)) more
     ∙ bit-up s 1 k (omega (arith, lt))
 
--- behind a byte, by whether it stands in a string and is a quotation mark
-goes_by : (i s : Bool) (b : ℕ) → (b == 0x5c) ≡ false → differ s i ≡ (b == 0x22) → next (placed i) b ≡ placed s
-goes_by false false b none q = ap (λ (m : Bool). if m then Inside else Between) (sym q)
-goes_by false true b none q = ap (λ (m : Bool). if m then Inside else Between) (sym q)
-goes_by true false b none q = ap (λ (m : Bool). if m then Between else if b == 0x5c then Escaped else Inside) (sym q)
-goes_by true true b none q =
-    ap (λ (m : Bool). if m then Between else if b == 0x5c then Escaped else Inside) (sym q) ∙ ap (λ (m : Bool). if m then Escaped else Inside) none
+up_one : (x k : ℕ) → k < 64 → bit (x * 2 % 2 ^ 64) k ≡ in_at false x k
+up_one x zero lt = bit-up_first x
+up_one x (suc k) lt =
+    let more : suc k ≡ k + 1 = omega arith in
+    ap (bit (x * 2 % 2 ^ 64)) more ∙ bit-up x 1 k (omega (arith, lt))
+
+and_none : (m : Bool) → (m && false) ≡ false
+and_none true = refl
+and_none false = refl
+
+and_all : (m : Bool) → (m && true) ≡ m
+and_all true = refl
+and_all false = refl
+
+third_of : (a i s n : Bool) → (((a && i) && s) && n) ≡ true → s ≡ true
+third_of a i true n h = refl
+third_of a i false n h = let e : false ≡ true = sym (ap (λ (m : Bool). m && n) (and_none (a && i))) ∙ h in absurd cc
+
+slashed : (m : Bool) → (if m then Escaped else Inside) ≡ place_by m true
+slashed true = refl
+slashed false = refl
+
+-- behind a byte: whether it is escaped and stands in a string, whether the byte behind it stands in one and is escaped
+goes_by : (e i s x : Bool) (b : ℕ) → x ≡ ((((b == 0x5c) && i) && s) && not e) → differ s i ≡ ((b == 0x22) && not e) → (e ≡ true → i ≡ true) → next (place_by e i) b ≡ place_by x s
+goes_by true i true x b h q up = sym (ap (λ (m : Bool). place_by m true) (h ∙ and_none (((b == 0x5c) && i) && true)))
+goes_by true i false x b h q up = let e : true ≡ false = sym (up refl) ∙ q ∙ and_none (b == 0x22) in absurd cc
+goes_by false false true x b h q up =
+    let none : x ≡ false = h ∙ ap (λ (m : Bool). (m && true) && true) (and_none (b == 0x5c)) in
+    let mark : (b == 0x22) ≡ true = sym (q ∙ and_all (b == 0x22)) in
+    ap (λ (m : Bool). if m then Inside else Between) mark ∙ sym (ap (λ (m : Bool). place_by m true) none)
+goes_by false false false x b h q up =
+    let none : x ≡ false = h ∙ ap (λ (m : Bool). (m && false) && true) (and_none (b == 0x5c)) in
+    let mark : (b == 0x22) ≡ false = sym (q ∙ and_all (b == 0x22)) in
+    ap (λ (m : Bool). if m then Inside else Between) mark ∙ sym (ap (λ (m : Bool). place_by m false) none)
+goes_by false true true x b h q up =
+    let slash : x ≡ (b == 0x5c) = h ∙ and_all (((b == 0x5c) && true) && true) ∙ and_all ((b == 0x5c) && true) ∙ and_all (b == 0x5c) in
+    let mark : (b == 0x22) ≡ false = sym (q ∙ and_all (b == 0x22)) in
+    ap (λ (m : Bool). if m then Between else if b == 0x5c then Escaped else Inside) mark
+    ∙ slashed (b == 0x5c)
+    ∙ sym (ap (λ (m : Bool). place_by m true) slash)
+goes_by false true false x b h q up =
+    let none : x ≡ false = h ∙ ap (λ (m : Bool). m && true) (and_none ((b == 0x5c) && true)) in
+    let mark : (b == 0x22) ≡ true = sym (q ∙ and_all (b == 0x22)) in
+    ap (λ (m : Bool). if m then Between else if b == 0x5c then Escaped else Inside) mark ∙ sym (ap (λ (m : Bool). place_by m false) none)
 
 no_stop : (b : ℕ) → (b == 0x22) ≡ true → is_stop b ≡ false
 no_stop b q = ap is_stop (eqb-true b 0x22 q)
 
-still_by : (i s : Bool) (b : ℕ) → differ s i ≡ (b == 0x22) → (is_stop b && not s) ≡ false → i ≡ false → is_stop b ≡ false
-still_by i true b q e none = no_stop b (sym q ∙ ap not none)
-still_by i false b q e none = pick (is_stop b) e
-  where
-    pick : (m : Bool) → (m && true) ≡ false → m ≡ false
-    pick true h = h
-    pick false h = refl
+still_by : (e i s : Bool) (b : ℕ) → differ s i ≡ ((b == 0x22) && not e) → (is_stop b && not s) ≡ false → place_by e i ≡ Between → is_stop b ≡ false
+still_by true i s b q n out = let x : Escaped ≡ Between = out in absurd cc
+still_by false true s b q n out = let x : Inside ≡ Between = out in absurd cc
+still_by false false true b q n out = no_stop b (sym (q ∙ and_all (b == 0x22)))
+still_by false false false b q n out = sym (and_all (is_stop b)) ∙ n
 
-outside_by : (i s : Bool) (b : ℕ) → differ s i ≡ (b == 0x22) → (is_stop b && not s) ≡ true → (i ≡ false) × (s ≡ false)
-outside_by i true b q e = pick (is_stop b) e
+-- a stop is no quotation mark
+stop_mark : (b : ℕ) → is_stop b ≡ true → (b == 0x22) ≡ false
+stop_mark b h = pick (b == 0x22) refl
   where
-    pick : (m : Bool) → (m && false) ≡ true → (i ≡ false) × (true ≡ false)
-    pick true h = absurd cc
-    pick false h = absurd cc
-outside_by false false b q e = (refl, refl)
-outside_by true false b q e =
-    let none : is_stop b ≡ false = no_stop b (sym q) in
-    let h : (false && true) ≡ true = ap (λ (m : Bool). m && true) (sym none) ∙ e in
-    absurd cc
+    pick : (m : Bool) → (b == 0x22) ≡ m → m ≡ false
+    pick true q = let x : true ≡ false = sym h ∙ no_stop b q in absurd cc
+    pick false q = refl
 
-pub words_tell : (v : List ℕ) (inside : Bool) (s c q t w e : ℕ) → length v ≡ 64 → s < 2 ^ 64 → bit c 0 ≡ inside → ((j : ℕ) → bit c (suc j) ≡ false)
-    → q ≡ mask_l (map (λ byte. byte == 0x22) v) → t ≡ mask_l (map is_stop v) → w ≡ mask_l (map (λ byte. byte == 0x5c) v) → w ≡ 0 → e ≡ bit_and t (2 ^ 64 - 1 - s)
-    → bit_xor (bit_xor s (bit_or (s * 2 % 2 ^ 64) c)) q ≡ 0
-    → IsTold v inside s e
-words_tell v inside s c q t w e long fits first others quotes stops slashes none is right = record {
-  goes = λ k lt. goes_by (in_at inside s k) (bit s k) (get_or v k 0) (plain k lt) (quote k lt);
-  still = λ k lt clear. still_by (in_at inside s k) (bit s k) (get_or v k 0) (quote k lt) (sym (stop k lt) ∙ clear);
-  outside = λ k lt set. outside_by (in_at inside s k) (bit s k) (get_or v k 0) (quote k lt) (sym (stop k lt) ∙ set);
+is_one : (a b : Bool) → (a && b) ≡ true → (a ≡ true) × (b ≡ true)
+is_one true b h = (refl, h)
+is_one false b h = let x : false ≡ true = h in absurd cc
+
+outside_by : (e i s x : Bool) (b : ℕ) → x ≡ ((((b == 0x5c) && i) && s) && not e) → differ s i ≡ ((b == 0x22) && not e) → (e ≡ true → i ≡ true) → (is_stop b && not s) ≡ true
+    → (place_by e i ≡ Between) × (place_by x s ≡ Between)
+outside_by e i true x b h q up set = let y : false ≡ true = (is_one (is_stop b) false set).1 in absurd cc
+outside_by e true false x b h q up set =
+    let mark : (b == 0x22) ≡ false = stop_mark b (is_one (is_stop b) true set).0 in
+    let y : true ≡ false = q ∙ ap (λ (m : Bool). m && not e) mark in absurd cc
+outside_by true false false x b h q up set = let y : false ≡ true = up refl in absurd cc
+outside_by false false false x b h q up set = (refl, ap (λ (m : Bool). place_by m false) (h ∙ ap (λ (m : Bool). (m && false) && true) (and_none (b == 0x5c))))
+
+pub words_tell : (v : List ℕ) (inside : Bool) (s c q w t z x e : ℕ) → length v ≡ 64 → s < 2 ^ 64 → z < 2 ^ 64 → bit c 0 ≡ inside → ((j : ℕ) → bit c (suc j) ≡ false)
+    → q ≡ mask_l (map (λ byte. byte == 0x22) v) → w ≡ mask_l (map (λ byte. byte == 0x5c) v) → t ≡ mask_l (map is_stop v)
+    → x ≡ bit_and (bit_and (bit_and w (bit_or (s * 2 % 2 ^ 64) c)) s) (2 ^ 64 - 1 - z) → e ≡ bit_and t (2 ^ 64 - 1 - s)
+    → bit_xor (bit_xor s (bit_or (s * 2 % 2 ^ 64) c)) (bit_and q (2 ^ 64 - 1 - z)) ≡ 0 → bit_xor z (x * 2 % 2 ^ 64) ≡ 0 → x / 2 ^ 63 ≡ 0
+    → IsTold v inside s x e
+words_tell v inside s c q w t z x e long fits small first others quotes slashes stops is_x is right astray over = record {
+  goes = λ k lt. goes_by (in_at false x k) (in_at inside s k) (bit s k) (bit x k) (get_or v k 0) (escape k lt) (quote k lt) (up k lt);
+  still = λ k lt clear. still_by (in_at false x k) (in_at inside s k) (bit s k) (get_or v k 0) (quote k lt) (sym (stop k lt) ∙ clear);
+  outside = λ k lt set. outside_by (in_at false x k) (in_at inside s k) (bit s k) (bit x k) (get_or v k 0) (escape k lt) (quote k lt) (up k lt) (sym (stop k lt) ∙ set);
+  ends = sym (shifted x 63 0) ∙ ap (λ (n : ℕ). bit n 0) over ∙ bit-none 0;
 }
   where
     within : (k : ℕ) → k < 64 → k < length v
     within k lt = omega (arith, lt, long)
 
-    plain : (k : ℕ) → k < 64 → (get_or v k 0 == 0x5c) ≡ false
-    plain k lt = sym (bit-mask (λ byte. byte == 0x5c) v k (within k lt)) ∙ ap (λ (n : ℕ). bit n k) (sym slashes ∙ none) ∙ bit-none k
+    escaped : (k : ℕ) → k < 64 → bit z k ≡ in_at false x k
+    escaped k lt = bit-xor z (x * 2 % 2 ^ 64) k (ap (λ (n : ℕ). bit n k) astray ∙ bit-none k) ∙ up_one x k lt
 
-    quote : (k : ℕ) → k < 64 → differ (bit s k) (in_at inside s k) ≡ (get_or v k 0 == 0x22)
+    unescaped : (k : ℕ) → k < 64 → bit (2 ^ 64 - 1 - z) k ≡ not (in_at false x k)
+    unescaped k lt = bit-not z k small lt ∙ ap not (escaped k lt)
+
+    quote : (k : ℕ) → k < 64 → differ (bit s k) (in_at inside s k) ≡ ((get_or v k 0 == 0x22) && not (in_at false x k))
     quote k lt =
         ap (differ (bit s k)) (sym (before inside s c k lt first others))
         ∙ sym (bit-differs s (bit_or (s * 2 % 2 ^ 64) c) k)
-        ∙ bit-xor (bit_xor s (bit_or (s * 2 % 2 ^ 64) c)) q k (ap (λ (n : ℕ). bit n k) right ∙ bit-none k)
-        ∙ ap (λ (n : ℕ). bit n k) quotes
-        ∙ bit-mask (λ byte. byte == 0x22) v k (within k lt)
+        ∙ bit-xor (bit_xor s (bit_or (s * 2 % 2 ^ 64) c)) (bit_and q (2 ^ 64 - 1 - z)) k (ap (λ (n : ℕ). bit n k) right ∙ bit-none k)
+        ∙ bit-and q (2 ^ 64 - 1 - z) k
+        ∙ ap (λ (b : Bool). b && bit (2 ^ 64 - 1 - z) k) (ap (λ (n : ℕ). bit n k) quotes ∙ bit-mask (λ byte. byte == 0x22) v k (within k lt))
+        ∙ ap (λ (b : Bool). (get_or v k 0 == 0x22) && b) (unescaped k lt)
+
+    slash : (k : ℕ) → k < 64 → bit w k ≡ (get_or v k 0 == 0x5c)
+    slash k lt = ap (λ (n : ℕ). bit n k) slashes ∙ bit-mask (λ byte. byte == 0x5c) v k (within k lt)
+
+    escape : (k : ℕ) → k < 64 → bit x k ≡ ((((get_or v k 0 == 0x5c) && in_at inside s k) && bit s k) && not (in_at false x k))
+    escape k lt =
+        ap (λ (n : ℕ). bit n k) is_x
+        ∙ bit-and (bit_and (bit_and w (bit_or (s * 2 % 2 ^ 64) c)) s) (2 ^ 64 - 1 - z) k
+        ∙ ap (λ (b : Bool). b && bit (2 ^ 64 - 1 - z) k)
+        (bit-and (bit_and w (bit_or (s * 2 % 2 ^ 64) c)) s k
+        ∙ ap (λ (b : Bool). b && bit s k)
+        (bit-and w (bit_or (s * 2 % 2 ^ 64) c) k
+        ∙ ap (λ (b : Bool). b && bit (bit_or (s * 2 % 2 ^ 64) c) k) (slash k lt)
+        ∙ ap (λ (b : Bool). (get_or v k 0 == 0x5c) && b) (before inside s c k lt first others)))
+        ∙ ap (λ (b : Bool). (((get_or v k 0 == 0x5c) && in_at inside s k) && bit s k) && b) (unescaped k lt)
+
+    -- what is escaped stands in a string
+    up : (k : ℕ) → k < 64 → in_at false x k ≡ true → in_at inside s k ≡ true
+    up zero lt h = let e : false ≡ true = h in absurd cc
+    up (suc k) lt h =
+        let low : k < 64 = omega (arith, lt) in
+        third_of (get_or v k 0 == 0x5c) (in_at inside s k) (bit s k) (not (in_at false x k)) (sym (escape k low) ∙ h)
 
     stop : (k : ℕ) → k < 64 → bit e k ≡ (is_stop (get_or v k 0) && not (bit s k))
     stop k lt =
@@ -121,10 +199,6 @@ words_tell v inside s c q t w e long fits first others quotes stops slashes none
         ∙ ap (λ (b : Bool). is_stop (get_or v k 0) && b) (bit-not s k fits lt)
 
 -- ---- the first bit from a place on
-
-pub shifted : (n i k : ℕ) → bit (n / 2 ^ i) k ≡ bit n (i + k)
-unfolding bit
-shifted n i k = ap (λ m. m % 2 == 1) (shr-shr n i k)
 
 above_none : (m : ℕ) → (m ≡ 0 → ⊥) → 0 < m
 above_none zero h = absurd (h refl)

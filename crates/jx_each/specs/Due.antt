@@ -1,7 +1,8 @@
 -- Which elements of an input are due, and the line of each. An element is due once the comma or the bracket behind it was
 -- read, before the first fault: of what begins a text, whatever goes on with it.
-use Rattle.std.specs.Prelude.{◌≡◌, ℕ, suc, List, [], ◌∷◌, ◌++◌, ◌==◌, ◌&&◌, drop, take, filter, flat_map, if◌then◌else◌, nat_lt, slice_range, Bool, true, false, Option, Some, None}
+use Rattle.std.specs.Prelude.{◌≡◌, ℕ, suc, List, [], ◌∷◌, ◌++◌, ◌==◌, ◌&&◌, codes, drop, take, filter, flat_map, if◌then◌else◌, nat_lt, slice_range, Bool, true, false, Option, Some, None}
 use Rattle.jx_compact.specs.Compact.{compact, is_no_blank}
+use Rattle.jx_lex.specs.declared.kind.Kind.{Kind}
 use Rattle.jx_lex.specs.declared.kind.Kind.TheVariants as kind
 use Rattle.jx_summary.specs.declared.span.Span.{Span}
 use Rattle.jx_run.specs.declared.texts.settings.Settings.{Settings}
@@ -11,6 +12,8 @@ use Rattle.jx_run.specs.Tree.{Tree, node, Children, no_children, child}
 use Rattle.jx_index.specs.ArrayTokens.{is_index, value_after}
 use Rattle.jx_index.specs.Names.{is_name}
 use Rattle.jx_index.specs.Pointers.{tokens}
+use Rattle.jx_each.specs.declared.content.LineContent.{LineContent}
+use Rattle.jx_each.specs.declared.content.LineContent.TheVariants.{Alone, Named}
 
 -- ---- what a pointer leads to, by the first member of each name (RFC 6901, section 4)
 
@@ -44,21 +47,37 @@ reached text (token ∷ more) tree = then_to (first_child text token tree) (reac
 
 -- ---- elements
 
-abbrev pub trees : Children → List Tree
-trees no_children = []
-trees (child name tree more) = tree ∷ trees more
+-- the value of an element or of a member, and the span of the member's name
+pub record Element : Type 0 where
+  pub name : Option Span
+  pub tree : Tree
 
--- the elements of an array, or the values of an object's members, in order
-abbrev pub elements : Tree → List Tree
-elements (node kind span below) = trees below
+abbrev pub all_in : Children → List Element
+all_in no_children = []
+all_in (child name tree more) = record { name = name; tree = tree } ∷ all_in more
+
+-- the members of an object, in order; no other value has names
+abbrev pub members_in : Kind → Children → List Element
+members_in kind.Object below = all_in below
+members_in kind.Array below = []
+members_in kind.String below = []
+members_in kind.Number below = []
+members_in kind.True below = []
+members_in kind.False below = []
+members_in kind.Null below = []
+
+-- what has a line: the elements of an array or the members of an object, or where names are written the latter alone
+abbrev pub elements : LineContent → Tree → List Element
+elements Alone (node kind span below) = all_in below
+elements Named (node kind span below) = members_in kind below
 
 -- those of the value that tokens lead to, if there is one
-abbrev pub elements_of : Option Tree → List Tree
-elements_of None = []
-elements_of (Some tree) = elements tree
+abbrev pub elements_of : LineContent → Option Tree → List Element
+elements_of content None = []
+elements_of content (Some tree) = elements content tree
 
-abbrev pub elements_at : List ℕ → List (List ℕ) → Tree → List Tree
-elements_at text path tree = elements_of (reached text path tree)
+abbrev pub elements_at : LineContent → List ℕ → List (List ℕ) → Tree → List Element
+elements_at content text path tree = elements_of content (reached text path tree)
 
 -- whether it is an array or an object
 abbrev pub is_container : Tree → Bool
@@ -72,9 +91,19 @@ is_container (node kind.Null span below) = false
 
 -- ---- one element
 
--- the compact form of its bytes, and a line feed
-abbrev pub element_line : List ℕ → Tree → List ℕ
-element_line text tree = compact (slice_range text (span_of tree).start (span_of tree).end) ++ 0x0a ∷ []
+-- the compact form of its bytes
+abbrev pub value_of : List ℕ → Tree → List ℕ
+value_of text tree = compact (slice_range text (span_of tree).start (span_of tree).end)
+
+-- a name as it is spelt
+abbrev pub name_of : List ℕ → Option Span → List ℕ
+name_of text None = []
+name_of text (Some span) = slice_range text span.start span.end
+
+-- its value alone, or a JSON text of its name and its value; and a line feed
+abbrev pub element_line : LineContent → List ℕ → Element → List ℕ
+element_line Alone text element = value_of text element.tree ++ 0x0a ∷ []
+element_line Named text element = codes "{\"name\":" ++ name_of text element.name ++ codes ",\"value\":" ++ value_of text element.tree ++ codes "}\n"
 
 -- the offset of the first byte that is no blank, of those from an offset on
 abbrev pub past_blanks : ℕ → List ℕ → ℕ
@@ -82,21 +111,21 @@ past_blanks at [] = at
 past_blanks at (byte ∷ bytes) = if is_no_blank byte then at else past_blanks (suc at) bytes
 
 -- the offset of the comma or the bracket behind it
-abbrev pub behind : List ℕ → Tree → ℕ
-behind text tree = past_blanks (span_of tree).end (drop (span_of tree).end text)
+abbrev pub behind : List ℕ → Element → ℕ
+behind text element = past_blanks (span_of element.tree).end (drop (span_of element.tree).end text)
 
 -- ---- all
 
 -- the lines of those whose comma or bracket stands before an offset
-abbrev pub lines_before : List ℕ → ℕ → List Tree → List ℕ
-lines_before text k elements = flat_map (element_line text) (filter (λ (tree : Tree). nat_lt (behind text tree) k) elements)
+abbrev pub lines_before : LineContent → List ℕ → ℕ → List Element → List ℕ
+lines_before content text k elements = flat_map (element_line content text) (filter (λ (element : Element). nat_lt (behind text element) k) elements)
 
 -- the lines of all elements that a pointer leads to
-abbrev pub all_lines : List ℕ → List ℕ → Tree → List ℕ
-all_lines text pointer tree = flat_map (element_line text) (elements_at text (tokens pointer) tree)
+abbrev pub all_lines_by : LineContent → List ℕ → List ℕ → Tree → List ℕ
+all_lines_by content text pointer tree = flat_map (element_line content text) (elements_at content text (tokens pointer) tree)
 
 -- what is due of an input, by a pointer to the container
-pub record IsDue (settings : Settings) (pointer input output : List ℕ) : Type 0 where
+pub record IsDueBy (content : LineContent) (settings : Settings) (pointer input output : List ℕ) : Type 0 where
   -- its first fault, if it has one, stands here
   pub k : ℕ
   pub longest : IsLongestBeginningBy settings input k
@@ -104,4 +133,11 @@ pub record IsDue (settings : Settings) (pointer input output : List ℕ) : Type 
   pub more : List ℕ
   pub tree : Tree
   pub text : IsDocumentBy settings 0 (take k input ++ more) tree
-  pub written : output ≡ lines_before (take k input ++ more) k (elements_at (take k input ++ more) (tokens pointer) tree)
+  pub written : output ≡ lines_before content (take k input ++ more) k (elements_at content (take k input ++ more) (tokens pointer) tree)
+
+-- where values alone are written
+abbrev pub all_lines : List ℕ → List ℕ → Tree → List ℕ
+all_lines text pointer tree = all_lines_by Alone text pointer tree
+
+abbrev pub IsDue : Settings → List ℕ → List ℕ → List ℕ → Type 0
+IsDue settings pointer input output = IsDueBy Alone settings pointer input output

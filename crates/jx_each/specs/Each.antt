@@ -3,14 +3,18 @@ use Rattle.std.specs.Prelude.{◌≡◌, ℕ, List, ◌++◌, take, Option, Some
 use Rattle.jx_run.specs.Reader.{ReaderValue, HasRead}
 use Rattle.jx_run.specs.Settings.{IsLongestBeginningBy}
 use Rattle.jx_index.specs.Pointers.{tokens}
+use Rattle.jx_each.specs.declared.content.LineContent.{LineContent}
+use Rattle.jx_each.specs.declared.content.LineContent.TheVariants.{Alone}
 use Rattle.jx_each.specs.declared.stand.Stand.{Stand}
-use Rattle.jx_each.specs.Machine.{begun, run}
+use Rattle.jx_each.specs.Machine.{aimed, begun, run}
 
 pub record EachValue : Type 0 where
   -- the reader of the same bytes
   pub reader : ReaderValue
   -- the units of the pointer's tokens
   pub path : List (List ℕ)
+  -- what a line has
+  pub content : LineContent
   -- where the byte behind them stands; none where memory was refused
   pub stand : Option Stand
   -- the lines that wait, and what is kept of the element or the name behind them
@@ -18,15 +22,20 @@ pub record EachValue : Type 0 where
   pub part : List ℕ
 
 -- it has taken these bytes of an input, from its start, and made these lines of them before those that wait
-pub record HasTaken (pointer bytes given : List ℕ) (each : EachValue) : Type 0 where
+pub record HasTakenBy (content : LineContent) (pointer bytes given : List ℕ) (each : EachValue) : Type 0 where
   pub read : HasRead bytes each.reader
   pub at_start : each.reader.start ≡ 0
   pub path_is : each.path ≡ tokens pointer
+  pub content_is : each.content ≡ content
   pub k : ℕ
   pub longest : IsLongestBeginningBy each.reader.settings bytes k
   pub stand : Stand
   pub stands : each.stand ≡ Some stand
-  pub made : record { stand = stand; lines = given ++ each.ready; part = each.part } ≡ run (tokens pointer) begun (take k bytes)
+  pub made : record { stand = stand; lines = given ++ each.ready; part = each.part } ≡ run (aimed content (tokens pointer)) begun (take k bytes)
+
+-- the same where values alone are written
+abbrev pub HasTaken : List ℕ → List ℕ → List ℕ → EachValue → Type 0
+HasTaken pointer bytes given each = HasTakenBy Alone pointer bytes given each
 
 -- memory was refused, and every slice will be
 abbrev pub HasFailed : EachValue → Type 0

@@ -1,18 +1,28 @@
 -- How lines are made of a text's bytes, one byte after another, by the tokens of a pointer to the container.
-use Rattle.std.specs.Prelude.{ℕ, suc, List, [], ◌∷◌, ◌++◌, if◌then◌else◌, Bool, true, false, Option, Some, None, slice_get}
+use Rattle.std.specs.Prelude.{ℕ, suc, List, [], ◌∷◌, ◌++◌, codes, if◌then◌else◌, Bool, true, false, Option, Some, None, slice_get}
 use Rattle.std.specs.Ordering.{nat_cmp, is_eq}
 use Rattle.std.specs.Cmp.Lexicographic.{slice_cmp}
 use Rattle.jx_compact.specs.declared.place.Place.TheVariants.{Between}
 use Rattle.jx_compact.specs.Compact.{kept, next}
 use Rattle.jx_index.specs.declared.units.Spelling.TheVariants.{InText}
 use Rattle.jx_index.specs.Units.{between_marks, chars_units}
+use Rattle.jx_each.specs.declared.content.LineContent.{LineContent}
+use Rattle.jx_each.specs.declared.content.LineContent.TheVariants.{Alone, Named}
 use Rattle.jx_each.specs.declared.sign.Turn.{Turn}
 use Rattle.jx_each.specs.declared.sign.Turn.TheVariants.{EnterArray, EnterObject, Next, Value, Leave, Past, Stay}
 use Rattle.jx_each.specs.declared.stand.Stage.{Stage}
-use Rattle.jx_each.specs.declared.stand.Stage.TheVariants.{Ahead, Elements, Members, Array, Object, Over}
+use Rattle.jx_each.specs.declared.stand.Stage.TheVariants.{Ahead, Elements, Members, Array, Object, Name, Pair, Over}
 use Rattle.jx_each.specs.declared.stand.Stand.{Stand}
 use Rattle.jx_each.specs.Due.{is_number}
 use Rattle.jx_each.specs.Turns.{turn_at, height_next}
+
+-- the tokens that lead to the container, and what a line has
+pub record Aim : Type 0 where
+  pub path : List (List ℕ)
+  pub content : LineContent
+
+abbrev pub aimed : LineContent → List (List ℕ) → Aim
+aimed content path = record { path = path; content = content }
 
 -- where the next byte stands, the whole lines so far, and what is kept of the element or the name behind them
 pub record Made : Type 0 where
@@ -30,47 +40,56 @@ begun = record { stand = record { place = Between; height = 0; stage = Ahead 0; 
 abbrev pub is_spelt : List ℕ → List ℕ → Bool
 is_spelt string token = is_eq (slice_cmp nat_cmp (chars_units InText 0 (between_marks string)) token)
 
+-- in the container: an array has no names
+abbrev pub in_array : LineContent → Stage
+in_array Alone = Array
+in_array Named = Over
+
+abbrev pub in_object : LineContent → Stage
+in_object Alone = Object
+in_object Named = Name
+
 -- in front of an element, by the token that leads on, if there is one
-abbrev pub at_element : Option (List ℕ) → ℕ → ℕ → Stage
-at_element None level n = Array
-at_element (Some token) level n = if is_number token n then Ahead (suc level) else Elements level n
+abbrev pub at_element : LineContent → Option (List ℕ) → ℕ → ℕ → Stage
+at_element content None level n = in_array content
+at_element content (Some token) level n = if is_number token n then Ahead (suc level) else Elements level n
 
 -- in front of a member
-abbrev pub at_member : Option (List ℕ) → ℕ → Stage
-at_member None level = Object
-at_member (Some token) level = Members level
+abbrev pub at_member : LineContent → Option (List ℕ) → ℕ → Stage
+at_member content None level = in_object content
+at_member content (Some token) level = Members level
 
 -- behind a name and its colon
 abbrev pub at_value : Option (List ℕ) → ℕ → List ℕ → Stage
 at_value None level name = Members level
 at_value (Some token) level name = if is_spelt name token then Ahead (suc level) else Members level
 
-abbrev pub ahead_next : List (List ℕ) → ℕ → Turn → Stage
-ahead_next path level EnterArray = at_element (slice_get path level) level 0
-ahead_next path level EnterObject = at_member (slice_get path level) level
-ahead_next path level Past = Over
-ahead_next path level Next = Ahead level
-ahead_next path level Value = Ahead level
-ahead_next path level Leave = Ahead level
-ahead_next path level Stay = Ahead level
+abbrev pub ahead_next : Aim → ℕ → Turn → Stage
+ahead_next aim level EnterArray = at_element aim.content (slice_get aim.path level) level 0
+ahead_next aim level EnterObject = at_member aim.content (slice_get aim.path level) level
+ahead_next aim level Past = Over
+ahead_next aim level Next = Ahead level
+ahead_next aim level Value = Ahead level
+ahead_next aim level Leave = Ahead level
+ahead_next aim level Stay = Ahead level
 
-abbrev pub elements_next : List (List ℕ) → ℕ → ℕ → Turn → Stage
-elements_next path level n Next = at_element (slice_get path level) level (suc n)
-elements_next path level n Leave = Over
-elements_next path level n EnterArray = Elements level n
-elements_next path level n EnterObject = Elements level n
-elements_next path level n Past = Elements level n
-elements_next path level n Value = Elements level n
-elements_next path level n Stay = Elements level n
+abbrev pub elements_next : Aim → ℕ → ℕ → Turn → Stage
+elements_next aim level n Next = at_element aim.content (slice_get aim.path level) level (suc n)
+elements_next aim level n Leave = Over
+elements_next aim level n EnterArray = Elements level n
+elements_next aim level n EnterObject = Elements level n
+elements_next aim level n Past = Elements level n
+elements_next aim level n Value = Elements level n
+elements_next aim level n Stay = Elements level n
 
-abbrev pub members_next : List (List ℕ) → ℕ → List ℕ → Turn → Stage
-members_next path level name Value = at_value (slice_get path level) level name
-members_next path level name Leave = Over
-members_next path level name EnterArray = Members level
-members_next path level name EnterObject = Members level
-members_next path level name Past = Members level
-members_next path level name Next = Members level
-members_next path level name Stay = Members level
+abbrev pub members_next : Aim → ℕ → List ℕ → Turn → Stage
+members_next aim level name Value = at_value (slice_get aim.path level) level name
+members_next aim level name Leave = Over
+members_next aim level name EnterArray = Members level
+members_next aim level name EnterObject = Members level
+members_next aim level name Past = Members level
+members_next aim level name Next = Members level
+members_next aim level name Stay = Members level
 
 -- in the container itself
 abbrev pub open_next : Stage → Turn → Stage
@@ -82,19 +101,43 @@ open_next stage Next = stage
 open_next stage Value = stage
 open_next stage Stay = stage
 
-abbrev pub stage_next : List (List ℕ) → Stage → List ℕ → Turn → Stage
-stage_next path (Ahead level) name turn = ahead_next path level turn
-stage_next path (Elements level n) name turn = elements_next path level n turn
-stage_next path (Members level) name turn = members_next path level name turn
-stage_next path Array name turn = open_next Array turn
-stage_next path Object name turn = open_next Object turn
-stage_next path Over name turn = Over
+-- in front of the colon of a member whose name is written
+abbrev pub name_next : Turn → Stage
+name_next Value = Pair
+name_next Leave = Over
+name_next EnterArray = Name
+name_next EnterObject = Name
+name_next Past = Name
+name_next Next = Name
+name_next Stay = Name
+
+-- and behind it
+abbrev pub pair_next : Turn → Stage
+pair_next Next = Name
+pair_next Leave = Over
+pair_next EnterArray = Pair
+pair_next EnterObject = Pair
+pair_next Past = Pair
+pair_next Value = Pair
+pair_next Stay = Pair
+
+abbrev pub stage_next : Aim → Stage → List ℕ → Turn → Stage
+stage_next aim (Ahead level) name turn = ahead_next aim level turn
+stage_next aim (Elements level n) name turn = elements_next aim level n turn
+stage_next aim (Members level) name turn = members_next aim level name turn
+stage_next aim Array name turn = open_next Array turn
+stage_next aim Object name turn = open_next Object turn
+stage_next aim Name name turn = name_next turn
+stage_next aim Pair name turn = pair_next turn
+stage_next aim Over name turn = Over
 
 -- whether an element or a name begins where a container or a comma was read
 abbrev pub begins_part : Stage → Bool
 begins_part Array = true
 begins_part (Members level) = true
+begins_part Name = true
 begins_part Object = false
+begins_part Pair = false
 begins_part (Ahead level) = false
 begins_part (Elements level n) = false
 begins_part Over = false
@@ -102,6 +145,8 @@ begins_part Over = false
 -- whether a value that is written begins behind a colon
 abbrev pub begins_value : Stage → Bool
 begins_value Object = true
+begins_value Pair = true
+begins_value Name = false
 begins_value Array = false
 begins_value (Members level) = false
 begins_value (Ahead level) = false
@@ -125,6 +170,8 @@ height_in (Elements level n) height = height
 height_in (Members level) height = height
 height_in Array height = height
 height_in Object height = height
+height_in Name height = height
+height_in Pair height = height
 height_in Over height = height
 
 abbrev pub height_by : Turn → Stage → ℕ → ℕ
@@ -136,9 +183,9 @@ height_by Leave stage height = height
 height_by Past stage height = height
 height_by Stay stage height = height
 
-abbrev pub stand_by : List (List ℕ) → Turn → Stand → List ℕ → ℕ → Stand
-stand_by path turn stand part byte =
-    let stage : Stage = stage_next path stand.stage part turn in
+abbrev pub stand_by : Aim → Turn → Stand → List ℕ → ℕ → Stand
+stand_by aim turn stand part byte =
+    let stage : Stage = stage_next aim stand.stage part turn in
     record {
       place = next stand.place byte;
       height = height_by turn stage (height_next stand.place stand.height byte);
@@ -153,43 +200,69 @@ abbrev pub line_of : List ℕ → List ℕ
 line_of [] = []
 line_of (byte ∷ bytes) = (byte ∷ bytes) ++ 0x0a ∷ []
 
--- whether what is kept is an element
-abbrev pub is_open : Stage → Bool
-is_open Array = true
-is_open Object = true
-is_open (Members level) = false
-is_open (Ahead level) = false
-is_open (Elements level n) = false
-is_open Over = false
+-- the line of what is kept, where that is an element
+abbrev pub lines_with : Stage → List ℕ → List ℕ → List ℕ
+lines_with Array lines part = lines ++ line_of part
+lines_with Object lines part = lines ++ line_of part
+lines_with Pair lines part = lines ++ (part ++ codes "}\n")
+lines_with Name lines part = lines
+lines_with (Members level) lines part = lines
+lines_with (Ahead level) lines part = lines
+lines_with (Elements level n) lines part = lines
+lines_with Over lines part = lines
 
-abbrev pub lines_next : Bool → Turn → List ℕ → List ℕ → List ℕ
-lines_next ends Next lines part = if ends then lines ++ line_of part else lines
-lines_next ends Leave lines part = if ends then lines ++ line_of part else lines
-lines_next ends EnterArray lines part = lines
-lines_next ends EnterObject lines part = lines
-lines_next ends Value lines part = lines
-lines_next ends Past lines part = lines
-lines_next ends Stay lines part = lines
+abbrev pub lines_next : Stage → Turn → List ℕ → List ℕ → List ℕ
+lines_next stage Next lines part = lines_with stage lines part
+lines_next stage Leave lines part = lines_with stage lines part
+lines_next stage EnterArray lines part = lines
+lines_next stage EnterObject lines part = lines
+lines_next stage Value lines part = lines
+lines_next stage Past lines part = lines
+lines_next stage Stay lines part = lines
 
-abbrev pub part_next : Turn → Stand → List ℕ → ℕ → List ℕ
-part_next Stay stand part byte = part ++ (if stand.takes then kept stand.place byte else [])
-part_next EnterArray stand part byte = []
-part_next EnterObject stand part byte = []
-part_next Next stand part byte = []
-part_next Value stand part byte = []
-part_next Leave stand part byte = []
-part_next Past stand part byte = []
+-- what is kept in front of an element or of a name, by the stage there
+abbrev pub part_at : Stage → List ℕ
+part_at Name = codes "{\"name\":"
+part_at Array = []
+part_at Object = []
+part_at Pair = []
+part_at (Members level) = []
+part_at (Ahead level) = []
+part_at (Elements level n) = []
+part_at Over = []
 
-abbrev pub step : List (List ℕ) → Made → ℕ → Made
-step path made byte =
+-- behind the colon, by the stage in front of it
+abbrev pub part_of_value : Stage → List ℕ → List ℕ
+part_of_value Name part = part ++ codes ",\"value\":"
+part_of_value Array part = []
+part_of_value Object part = []
+part_of_value Pair part = []
+part_of_value (Members level) part = []
+part_of_value (Ahead level) part = []
+part_of_value (Elements level n) part = []
+part_of_value Over part = []
+
+-- behind a byte that leads from one stage to another
+abbrev pub part_next : Turn → Stand → Stage → List ℕ → ℕ → List ℕ
+part_next Stay stand stage part byte = part ++ (if stand.takes then kept stand.place byte else [])
+part_next EnterArray stand stage part byte = part_at stage
+part_next EnterObject stand stage part byte = part_at stage
+part_next Next stand stage part byte = part_at stage
+part_next Value stand stage part byte = part_of_value stand.stage part
+part_next Leave stand stage part byte = []
+part_next Past stand stage part byte = []
+
+abbrev pub step : Aim → Made → ℕ → Made
+step aim made byte =
     let turn : Turn = turn_at made.stand.place made.stand.height byte in
+    let stand : Stand = stand_by aim turn made.stand made.part byte in
     record {
-      stand = stand_by path turn made.stand made.part byte;
-      lines = lines_next (is_open made.stand.stage) turn made.lines made.part;
-      part = part_next turn made.stand made.part byte;
+      stand = stand;
+      lines = lines_next made.stand.stage turn made.lines made.part;
+      part = part_next turn made.stand stand.stage made.part byte;
     }
 
 -- what is made behind some bytes
-abbrev pub run : List (List ℕ) → Made → List ℕ → Made
-run path made [] = made
-run path made (byte ∷ bytes) = run path (step path made byte) bytes
+abbrev pub run : Aim → Made → List ℕ → Made
+run aim made [] = made
+run aim made (byte ∷ bytes) = run aim (step aim made byte) bytes

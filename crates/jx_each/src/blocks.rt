@@ -1,4 +1,4 @@
-// Where strings stand among 64 bytes, and where brackets and blanks stand outside of them.
+// Where strings and escapes stand among 64 bytes, and where brackets and blanks stand outside of strings.
 ghost use Rattle.std.specs.Prelude.{◌≡◌, ◌≤◌, ◌<◌, ◌==◌, ℕ, suc, true, false, map, IfSome};
 ghost use Rattle.std.specs.Simd.Lanes.{mask_l};
 ghost use Rattle.jx_lex.specs.inside.Bits.{bit};
@@ -15,6 +15,8 @@ pub(crate) const BLOCK: usize = 64;
 pub(crate) struct Words {
     /// Whether the byte behind it stands in a string.
     pub strings: u64,
+    /// Whether the byte behind it is escaped.
+    pub escapes: u64,
     /// Whether it is a bracket or a byte up to the space, outside of strings.
     pub stops: u64,
 }
@@ -47,6 +49,15 @@ fn stops(block: u8x64) -> u64
         | folded.simd_eq(u8x64::splat(b'}'))).to_bitmask()
 }
 
+/// Which bytes are escaped, by the backslashes: every second one of a run, and the byte behind a run of odd length. Taken from the
+/// odd places, a run borrows up to its end. Callers look at each bit once more.
+#[inline(always)]
+fn escaped_by(slashes: u64) -> u64 {
+    let odd = 0xaaaa_aaaa_aaaa_aaaa;
+    let series = (slashes << 1 | odd).wrapping_sub(slashes);
+    series ^ odd ^ slashes
+}
+
 /// For each bit whether an odd number of bits is set up to it.
 #[inline(always)]
 fn parities(bits: u64) -> u64 {
@@ -73,20 +84,28 @@ fn all(set: bool) -> u64 {
     if set { u64::MAX } else { 0 }
 }
 
-/// The words of a block whose first byte stands inside a string, or outside of strings; none where a backslash stands in it.
+/// The words of a block whose first byte stands inside a string, or outside of strings, and is not escaped; none where the byte
+/// behind the block is escaped.
 #[inline(always)]
 pub(crate) fn words_of(block: u8x64, inside: bool) -> Option<Words>
-    ensures { IfSome result (λ words. IsTold block inside words.strings words.stops) }
+    ensures { IfSome result (λ words. IsTold block inside words.strings words.escapes words.stops) }
 {
-    let quotes = quotes(block);
-    let strings = parities(quotes) ^ all(inside);
-    // The parities are looked at once more, bit by bit, so that all that follows rests on this alone.
-    let wrong = strings ^ (strings << 1 | lowest(inside)) ^ quotes;
-    if wrong != 0 || backslashes(block) != 0 {
+    let slashes = backslashes(block);
+    let escaped = escaped_by(slashes);
+    let marks = quotes(block) & !escaped;
+    let strings = parities(marks) ^ all(inside);
+    let before = strings << 1 | lowest(inside);
+    let escapes = slashes & before & strings & !escaped;
+    // The parities and the escapes are looked at once more, bit by bit, so that all that follows rests on this alone.
+    let wrong = strings ^ before ^ marks;
+    let astray = escaped ^ (escapes << 1);
+    let over = escapes >> 63;
+    if wrong != 0 || astray != 0 || over != 0 {
         return None;
     }
     Some(Words {
         strings,
+        escapes,
         stops: stops(block) & !strings,
     })
 }

@@ -4,12 +4,15 @@ ghost use Rattle.jx_run.specs.Settings.{IsDocumentBy, JudgedBy};
 ghost use Rattle.jx_run.specs.Tree.{Tree};
 ghost use Rattle.jx_index.specs.Pointers.{IsPointer};
 ghost use Rattle.jx_each.specs.Due.{is_container};
-ghost use Rattle.jx_each.specs.Each.{HasFailed, HasTaken};
+ghost use Rattle.jx_each.specs.Each.{HasFailed, HasTaken, HasTakenBy};
+ghost use Rattle.jx_each.specs.declared.content.LineContent.{LineContent};
 ghost use Rattle.jx_each.specs.inside.Fronts.{has_begun, sound, sound_part};
 
+use crate::content::LineContent;
 use crate::making::make_all;
 use crate::stand::{Stage, Stand};
-use crate::token::{Token, tokens_of};
+use crate::target::Target;
+use crate::token::tokens_of;
 use crate::way::stand_at_start;
 use jx_run::{Reader, Refusal, Settings, Verdict, reader_is_grammar};
 use std::alloc::{AllocError, Global};
@@ -53,6 +56,8 @@ fn has_begun(stage: Stage) -> bool
         Stage::Members { level: _ } => true,
         Stage::Array => true,
         Stage::Object => true,
+        Stage::Name => true,
+        Stage::Pair => true,
         Stage::Over => true,
     }
 }
@@ -64,7 +69,7 @@ fn has_begun(stage: Stage) -> bool
 #[derive(Drop)]
 pub struct Each {
     reader: Reader,
-    path: Vec<Token>,
+    target: Target,
     stand: Option<Stand>,
     ready: Vec<u8>,
     part: Vec<u8>,
@@ -77,7 +82,7 @@ impl Model for Each {
 
     ghost Value = { EachValue };
 
-    ghost view = { λ each. record { reader = each.reader; path = path_of each.path.items; stand = each.stand; ready = each.ready.items; part = each.part.items } };
+    ghost view = { λ each. record { reader = each.reader; path = path_of each.target.path.items; content = each.target.content; stand = each.stand; ready = each.ready.items; part = each.part.items } };
 
     ghost invariant = { IsLawful };
 }
@@ -91,11 +96,27 @@ impl Each {
         ensures taken { IfOk result (HasTaken pointer.now [] []) }
         ensures ready { IfOk result (λ each. each.ready ≡ []) }
     {
+        Each::with_content(alloc, settings, pointer, LineContent::Alone)
+    }
+
+    /// The same, by what a line has.
+    pub fn with_content(
+        alloc: Global,
+        settings: &Settings,
+        pointer: &str,
+        content: LineContent,
+    ) -> Result<Each, AllocError>
+        requires { IsPointer pointer.now }
+        ensures settings { IfOk result (λ each. each.reader.settings ≡ settings.now) }
+        ensures content { IfOk result (λ each. each.content ≡ content) }
+        ensures taken { IfOk result (HasTakenBy content pointer.now [] []) }
+        ensures ready { IfOk result (λ each. each.ready ≡ []) }
+    {
         reader_is_grammar();
         let path = tokens_of(alloc, pointer.as_bytes())?;
         Ok(Each {
             reader: Reader::new(alloc, settings, 0),
-            path,
+            target: Target { path, content },
             stand: Some(stand_at_start()),
             ready: Vec::new(alloc),
             part: Vec::new(alloc),
@@ -108,7 +129,9 @@ impl Each {
         requires { self.old.reader.start + self.old.reader.count + length slice.now < 2 ^ 64 }
         ensures settings { self.new.reader.settings ≡ self.old.reader.settings }
         ensures path { self.new.path ≡ self.old.path }
+        ensures content { self.new.content ≡ self.old.content }
         ensures taken { OnOk result ((pointer bytes given : List ℕ) → HasTaken pointer bytes given self.old → HasTaken pointer (bytes ++ slice.now) given self.new) }
+        ensures taken_by { OnOk result ((content : LineContent) (pointer bytes given : List ℕ) → HasTakenBy content pointer bytes given self.old → HasTakenBy content pointer (bytes ++ slice.now) given self.new) }
         ensures start { self.new.reader.start ≡ self.old.reader.start }
         ensures count { OnOk result (self.new.reader.count ≡ self.old.reader.count + length slice.now) }
         ensures err { OnErr result (HasFailed self.new) }
@@ -124,7 +147,7 @@ impl Each {
         self.reader.feed(slice)?;
         let after = sound(self.reader.verdict(), self.reader.end());
         let part = sound_part(slice, before, count, after);
-        let next = make_all(&self.path, stand, &mut self.ready, &mut self.part, part)?;
+        let next = make_all(&self.target, stand, &mut self.ready, &mut self.part, part)?;
         self.stand = Some(next);
         Ok(())
     }
@@ -147,8 +170,10 @@ impl Each {
     pub fn clear_ready(&mut self)
         ensures reader { self.new.reader ≡ self.old.reader }
         ensures path { self.new.path ≡ self.old.path }
+        ensures content { self.new.content ≡ self.old.content }
         ensures ready { self.new.ready ≡ [] }
         ensures taken { (pointer bytes given : List ℕ) → HasTaken pointer bytes given self.old → HasTaken pointer bytes (given ++ self.old.ready) self.new }
+        ensures taken_by { (content : LineContent) (pointer bytes given : List ℕ) → HasTakenBy content pointer bytes given self.old → HasTakenBy content pointer bytes (given ++ self.old.ready) self.new }
     {
         self.ready.clear();
     }
@@ -160,11 +185,18 @@ impl Each {
         self.reader.verdict()
     }
 
+    /// The reader of the same bytes.
+    pub fn reader(&self) -> &Reader
+        ensures { result.now ≡ self.now.reader }
+    {
+        &self.reader
+    }
+
     /// How many tokens the pointer has.
     pub fn token_count(&self) -> usize
         ensures { result ≡ length self.now.path }
     {
-        self.path.len()
+        self.target.path.len()
     }
 
     /// Whether the bytes that it has taken are an array or an object, where they are a text.

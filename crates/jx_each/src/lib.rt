@@ -2,6 +2,7 @@
 #![tactic(auto)]
 
 mod blocks;
+mod content;
 mod each;
 mod laws;
 mod making;
@@ -10,9 +11,11 @@ mod runs;
 mod sign;
 mod stand;
 mod stretch;
+mod target;
 mod token;
 mod way;
 
+pub use content::LineContent;
 pub use each::Each;
 pub use laws::{
     all_of_a_text_is_due, due_grows, due_is_one, nothing_is_due_of_no_byte, what_is_taken_is_due,

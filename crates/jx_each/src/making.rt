@@ -1,14 +1,14 @@
 // Lines are made of a text's bytes, one byte after another.
-ghost use Rattle.std.specs.Prelude.{◌≡◌, ◌+◌, ◌<◌, ◌≤◌, ◌^◌, ◌++◌, [], IfOk, OnOk, if◌then◌else◌, length, slice_range};
+ghost use Rattle.std.specs.Prelude.{◌≡◌, ◌+◌, ◌<◌, ◌≤◌, ◌^◌, ◌++◌, [], codes, IfOk, OnOk, if◌then◌else◌, length, slice_range};
 ghost use Rattle.jx_compact.specs.Compact.{kept};
 ghost use Rattle.jx_each.specs.Turns.{turn_at};
-ghost use Rattle.jx_each.specs.Machine.{is_open, line_of, lines_next, part_next, run, stand_by, step};
-ghost use Rattle.jx_each.specs.inside.Paths.{count_in, path_of};
+ghost use Rattle.jx_each.specs.Machine.{line_of, lines_next, lines_with, part_at, part_next, part_of_value, run, step};
+ghost use Rattle.jx_each.specs.inside.Paths.{aim_of, count_in};
 
 use crate::sign::Turn;
 use crate::stand::{Stage, Stand, turn_at};
 use crate::stretch::{blanks_from, stretch_from};
-use crate::token::Token;
+use crate::target::Target;
 use crate::way::stand_by;
 use jx_compact::{Place, is_kept};
 use std::alloc::AllocError;
@@ -25,38 +25,48 @@ fn push_kept(part: &mut Vec<u8>, stand: Stand, byte: u8) -> Result<(), AllocErro
     Ok(())
 }
 
-/// Whether what is kept is an element.
-fn is_open(stage: Stage) -> bool
-    ensures { result ≡ is_open stage }
+/// Appends the line of a value, if there is one.
+fn end_value(lines: &mut Vec<u8>, part: &[u8]) -> Result<(), AllocError>
+    ensures { OnOk result (lines.new.items ≡ lines.old.items ++ line_of part.now) }
 {
-    match stage {
-        Stage::Array => true,
-        Stage::Object => true,
-        Stage::Members { level: _ } => false,
-        Stage::Ahead { level: _ } => false,
-        Stage::Elements { level: _, count: _ } => false,
-        Stage::Over => false,
-    }
-}
-
-/// Ends the line of an element, if there is one.
-fn end_line(lines: &mut Vec<u8>, ends: bool, part: &[u8]) -> Result<(), AllocError>
-    ensures { OnOk result (lines.new.items ≡ (if ends then lines.old.items ++ line_of part.now else lines.old.items)) }
-{
-    if ends && !part.is_empty() {
+    if !part.is_empty() {
         lines.extend_from_slice(part)?;
         lines.push(b'\n')?;
     }
     Ok(())
 }
 
+/// Appends the line of a name and a value.
+fn end_pair(lines: &mut Vec<u8>, part: &[u8]) -> Result<(), AllocError>
+    ensures { OnOk result (lines.new.items ≡ lines.old.items ++ (part.now ++ codes "}\n")) }
+{
+    lines.extend_from_slice(part)?;
+    lines.extend_from_slice(b"}\n")
+}
+
+/// Appends the line of what is kept, where that is an element.
+fn end_line(lines: &mut Vec<u8>, stage: Stage, part: &[u8]) -> Result<(), AllocError>
+    ensures { OnOk result (lines.new.items ≡ lines_with stage lines.old.items part.now) }
+{
+    match stage {
+        Stage::Array => end_value(lines, part),
+        Stage::Object => end_value(lines, part),
+        Stage::Pair => end_pair(lines, part),
+        Stage::Name => Ok(()),
+        Stage::Members { level: _ } => Ok(()),
+        Stage::Ahead { level: _ } => Ok(()),
+        Stage::Elements { level: _, count: _ } => Ok(()),
+        Stage::Over => Ok(()),
+    }
+}
+
 /// Ends what ends with a byte that does this.
-fn end_lines(lines: &mut Vec<u8>, ends: bool, turn: Turn, part: &[u8]) -> Result<(), AllocError>
-    ensures { OnOk result (lines.new.items ≡ lines_next ends turn lines.old.items part.now) }
+fn end_lines(lines: &mut Vec<u8>, stage: Stage, turn: Turn, part: &[u8]) -> Result<(), AllocError>
+    ensures { OnOk result (lines.new.items ≡ lines_next stage turn lines.old.items part.now) }
 {
     match turn {
-        Turn::Next => end_line(lines, ends, part),
-        Turn::Leave => end_line(lines, ends, part),
+        Turn::Next => end_line(lines, stage, part),
+        Turn::Leave => end_line(lines, stage, part),
         Turn::EnterArray => Ok(()),
         Turn::EnterObject => Ok(()),
         Turn::Value => Ok(()),
@@ -65,28 +75,77 @@ fn end_lines(lines: &mut Vec<u8>, ends: bool, turn: Turn, part: &[u8]) -> Result
     }
 }
 
-/// Keeps what stays of what stands there, or lets go what was kept before a byte that does this.
-fn keep_part(part: &mut Vec<u8>, stand: Stand, turn: Turn, byte: u8) -> Result<(), AllocError>
-    ensures { OnOk result (part.new.items ≡ part_next turn stand part.old.items byte) }
+/// Lets go what was kept, and keeps what stands in front of an element or of a name, by the stage there.
+fn begin_part(part: &mut Vec<u8>, stage: Stage) -> Result<(), AllocError>
+    ensures { OnOk result (part.new.items ≡ part_at stage) }
+{
+    part.clear();
+    match stage {
+        Stage::Name => part.extend_from_slice(b"{\"name\":"),
+        Stage::Array => Ok(()),
+        Stage::Object => Ok(()),
+        Stage::Pair => Ok(()),
+        Stage::Members { level: _ } => Ok(()),
+        Stage::Ahead { level: _ } => Ok(()),
+        Stage::Elements { level: _, count: _ } => Ok(()),
+        Stage::Over => Ok(()),
+    }
+}
+
+/// Keeps what stands between a name and its value where the name is written, by the stage in front of the colon; else lets go
+/// what was kept.
+fn begin_value(part: &mut Vec<u8>, stage: Stage) -> Result<(), AllocError>
+    ensures { OnOk result (part.new.items ≡ part_of_value stage part.old.items) }
+{
+    match stage {
+        Stage::Name => part.extend_from_slice(b",\"value\":"),
+        Stage::Array => {
+            part.clear();
+            Ok(())
+        }
+        Stage::Object => {
+            part.clear();
+            Ok(())
+        }
+        Stage::Pair => {
+            part.clear();
+            Ok(())
+        }
+        Stage::Members { level: _ } => {
+            part.clear();
+            Ok(())
+        }
+        Stage::Ahead { level: _ } => {
+            part.clear();
+            Ok(())
+        }
+        Stage::Elements { level: _, count: _ } => {
+            part.clear();
+            Ok(())
+        }
+        Stage::Over => {
+            part.clear();
+            Ok(())
+        }
+    }
+}
+
+/// Keeps what stays of what stands there, or what the byte begins that leads to another stage.
+fn keep_part(
+    part: &mut Vec<u8>,
+    stand: Stand,
+    stage: Stage,
+    turn: Turn,
+    byte: u8,
+) -> Result<(), AllocError>
+    ensures { OnOk result (part.new.items ≡ part_next turn stand stage part.old.items byte) }
 {
     match turn {
         Turn::Stay => push_kept(part, stand, byte),
-        Turn::EnterArray => {
-            part.clear();
-            Ok(())
-        }
-        Turn::EnterObject => {
-            part.clear();
-            Ok(())
-        }
-        Turn::Next => {
-            part.clear();
-            Ok(())
-        }
-        Turn::Value => {
-            part.clear();
-            Ok(())
-        }
+        Turn::EnterArray => begin_part(part, stage),
+        Turn::EnterObject => begin_part(part, stage),
+        Turn::Next => begin_part(part, stage),
+        Turn::Value => begin_value(part, stand.stage),
         Turn::Leave => {
             part.clear();
             Ok(())
@@ -100,7 +159,7 @@ fn keep_part(part: &mut Vec<u8>, stand: Stand, turn: Turn, byte: u8) -> Result<(
 
 /// Makes what a byte comes to, and answers where the byte behind it stands.
 fn make(
-    path: &[Token],
+    target: &Target,
     stand: Stand,
     lines: &mut Vec<u8>,
     part: &mut Vec<u8>,
@@ -108,14 +167,14 @@ fn make(
 ) -> Result<Stand, AllocError>
     requires height { stand.height + 1 < 2 ^ 64 }
     requires count { count_in stand.stage + 1 < 2 ^ 64 }
-    ensures made { IfOk result (λ next. record { stand = next; lines = lines.new.items; part = part.new.items } ≡ step (path_of path.now) (record { stand = stand; lines = lines.old.items; part = part.old.items }) byte) }
+    ensures made { IfOk result (λ next. record { stand = next; lines = lines.new.items; part = part.new.items } ≡ step (aim_of target.now) (record { stand = stand; lines = lines.old.items; part = part.old.items }) byte) }
     ensures height { IfOk result (λ next. next.height ≤ stand.height + 1) }
     ensures count { IfOk result (λ next. count_in next.stage ≤ count_in stand.stage + 1) }
 {
     let turn = turn_at(stand, byte);
-    let next = stand_by(path, turn, stand, part, byte);
-    end_lines(lines, is_open(stand.stage), turn, part)?;
-    keep_part(part, stand, turn, byte)?;
+    let next = stand_by(target, turn, stand, part, byte);
+    end_lines(lines, stand.stage, turn, part)?;
+    keep_part(part, stand, next.stage, turn, byte)?;
     Ok(next)
 }
 
@@ -168,7 +227,7 @@ fn moved(stand: Stand, place: Place, height: usize) -> Stand
 
 /// Makes what bytes come to, the first of which stands there, and answers where the byte behind them stands.
 pub(crate) fn make_all(
-    path: &[Token],
+    target: &Target,
     stand: Stand,
     lines: &mut Vec<u8>,
     part: &mut Vec<u8>,
@@ -176,7 +235,7 @@ pub(crate) fn make_all(
 ) -> Result<Stand, AllocError>
     requires height { stand.height + length bytes.now < 2 ^ 64 }
     requires count { count_in stand.stage + length bytes.now < 2 ^ 64 }
-    ensures made { IfOk result (λ next. record { stand = next; lines = lines.new.items; part = part.new.items } ≡ run (path_of path.now) (record { stand = stand; lines = lines.old.items; part = part.old.items }) bytes.now) }
+    ensures made { IfOk result (λ next. record { stand = next; lines = lines.new.items; part = part.new.items } ≡ run (aim_of target.now) (record { stand = stand; lines = lines.old.items; part = part.old.items }) bytes.now) }
     ensures height { IfOk result (λ next. next.height ≤ stand.height + length bytes.now) }
     ensures count { IfOk result (λ next. count_in next.stage ≤ count_in stand.stage + length bytes.now) }
 {
@@ -188,7 +247,7 @@ pub(crate) fn make_all(
         stand = moved(stand, found.place, found.height);
         at = blanks_from(found.place, bytes, found.end);
         if at == found.end && at < bytes.len() {
-            stand = make(path, stand, lines, part, bytes[at])?;
+            stand = make(target, stand, lines, part, bytes[at])?;
             at += 1;
         }
     }

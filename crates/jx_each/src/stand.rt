@@ -17,6 +17,9 @@ pub enum Stage {
     /// In the container itself.
     Array,
     Object,
+    /// In the container itself, whose members are written with their names: in front of a colon, and behind it.
+    Name,
+    Pair,
     /// Behind it, or where it cannot come any more.
     Over,
 }

@@ -119,7 +119,7 @@ fn ends_inside(strings: u64) -> bool
 /// A stretch from a block's first byte on, in two containers or more, and no longer than the block.
 fn far_stretch(words: Words, inside: bool, height: usize, bytes: &[u8], from: usize) -> Stretch
     requires within { from + 64 ≤ length bytes.now }
-    requires told { IsTold (chunk from 64 bytes.now) inside words.strings words.stops }
+    requires told { IsTold (chunk from 64 bytes.now) inside words.strings words.escapes words.stops }
     requires high { 1 < height }
     requires fits { height + (length bytes.now - from) < 2 ^ 64 }
     ensures bounds { (from ≤ result.end) × (result.end ≤ length bytes.now) }

@@ -1,11 +1,13 @@
 // How the tokens of a pointer lead on from byte to byte.
 ghost use Rattle.std.specs.Prelude.{◌≡◌, ◌+◌, ◌<◌, ◌≤◌, ◌^◌, IfSome, MatchOption, None, Some, slice_get};
-ghost use Rattle.jx_each.specs.Machine.{ahead_next, at_element, at_member, at_value, begins_part, begins_value, begun, elements_next, height_by, height_in, members_next, open_next, stage_next, stand_by, takes_next};
-ghost use Rattle.jx_each.specs.inside.Paths.{count_in, path_of};
+ghost use Rattle.jx_each.specs.Machine.{ahead_next, at_element, at_member, at_value, begins_part, begins_value, begun, elements_next, height_by, height_in, in_array, in_object, members_next, name_next, open_next, pair_next, stage_next, stand_by, takes_next};
+ghost use Rattle.jx_each.specs.inside.Paths.{aim_of, count_in, path_of};
 
+use crate::content::LineContent;
 use crate::number::is_number;
 use crate::sign::Turn;
 use crate::stand::{Stage, Stand, height_next};
+use crate::target::Target;
 use crate::token::Token;
 use jx_compact::{Place, next};
 use jx_string::has_units;
@@ -22,12 +24,32 @@ fn token_at(path: &[Token], level: usize) -> Option<&[u32]>
     }
 }
 
-/// The stage in front of an element that stands behind so many.
-fn at_element(path: &[Token], level: usize, count: usize) -> Stage
-    ensures { result ≡ at_element (slice_get (path_of path.now) level) level count }
+/// The stage in the container, where it is an array.
+fn in_array(content: LineContent) -> Stage
+    ensures { result ≡ in_array content }
 {
-    let Some(units) = token_at(path, level) else {
-        return Stage::Array;
+    match content {
+        LineContent::Alone => Stage::Array,
+        LineContent::Named => Stage::Over,
+    }
+}
+
+/// The stage in the container, where it is an object.
+fn in_object(content: LineContent) -> Stage
+    ensures { result ≡ in_object content }
+{
+    match content {
+        LineContent::Alone => Stage::Object,
+        LineContent::Named => Stage::Name,
+    }
+}
+
+/// The stage in front of an element that stands behind so many.
+fn at_element(target: &Target, level: usize, count: usize) -> Stage
+    ensures { result ≡ at_element target.now.content (slice_get (path_of target.now.path.items) level) level count }
+{
+    let Some(units) = token_at(&target.path, level) else {
+        return in_array(target.content);
     };
     if is_number(units, count) {
         Stage::Ahead { level: level + 1 }
@@ -37,12 +59,12 @@ fn at_element(path: &[Token], level: usize, count: usize) -> Stage
 }
 
 /// The stage in front of a member.
-fn at_member(path: &[Token], level: usize) -> Stage
-    ensures { result ≡ at_member (slice_get (path_of path.now) level) level }
+fn at_member(target: &Target, level: usize) -> Stage
+    ensures { result ≡ at_member target.now.content (slice_get (path_of target.now.path.items) level) level }
 {
-    match token_at(path, level) {
+    match token_at(&target.path, level) {
         Some(_) => Stage::Members { level },
-        None => Stage::Object,
+        None => in_object(target.content),
     }
 }
 
@@ -61,12 +83,12 @@ fn at_value(path: &[Token], level: usize, name: &[u8]) -> Stage
 }
 
 /// The stage behind a byte in front of a value.
-fn ahead_next(path: &[Token], level: usize, turn: Turn) -> Stage
-    ensures { result ≡ ahead_next (path_of path.now) level turn }
+fn ahead_next(target: &Target, level: usize, turn: Turn) -> Stage
+    ensures { result ≡ ahead_next (aim_of target.now) level turn }
 {
     match turn {
-        Turn::EnterArray => at_element(path, level, 0),
-        Turn::EnterObject => at_member(path, level),
+        Turn::EnterArray => at_element(target, level, 0),
+        Turn::EnterObject => at_member(target, level),
         Turn::Past => Stage::Over,
         Turn::Next => Stage::Ahead { level },
         Turn::Value => Stage::Ahead { level },
@@ -76,12 +98,12 @@ fn ahead_next(path: &[Token], level: usize, turn: Turn) -> Stage
 }
 
 /// The stage behind a byte in an array on the way.
-fn elements_next(path: &[Token], level: usize, count: usize, turn: Turn) -> Stage
+fn elements_next(target: &Target, level: usize, count: usize, turn: Turn) -> Stage
     requires { count + 1 < 2 ^ 64 }
-    ensures { result ≡ elements_next (path_of path.now) level count turn }
+    ensures { result ≡ elements_next (aim_of target.now) level count turn }
 {
     match turn {
-        Turn::Next => at_element(path, level, count + 1),
+        Turn::Next => at_element(target, level, count + 1),
         Turn::Leave => Stage::Over,
         Turn::EnterArray => Stage::Elements { level, count },
         Turn::EnterObject => Stage::Elements { level, count },
@@ -92,11 +114,11 @@ fn elements_next(path: &[Token], level: usize, count: usize, turn: Turn) -> Stag
 }
 
 /// The stage behind a byte in an object on the way, where a name may have been read.
-fn members_next(path: &[Token], level: usize, name: &[u8], turn: Turn) -> Stage
-    ensures { result ≡ members_next (path_of path.now) level name.now turn }
+fn members_next(target: &Target, level: usize, name: &[u8], turn: Turn) -> Stage
+    ensures { result ≡ members_next (aim_of target.now) level name.now turn }
 {
     match turn {
-        Turn::Value => at_value(path, level, name),
+        Turn::Value => at_value(&target.path, level, name),
         Turn::Leave => Stage::Over,
         Turn::EnterArray => Stage::Members { level },
         Turn::EnterObject => Stage::Members { level },
@@ -121,17 +143,49 @@ fn open_next(stage: Stage, turn: Turn) -> Stage
     }
 }
 
+/// The stage behind a byte in the container, in front of the colon of a member whose name is written.
+fn name_next(turn: Turn) -> Stage
+    ensures { result ≡ name_next turn }
+{
+    match turn {
+        Turn::Value => Stage::Pair,
+        Turn::Leave => Stage::Over,
+        Turn::EnterArray => Stage::Name,
+        Turn::EnterObject => Stage::Name,
+        Turn::Past => Stage::Name,
+        Turn::Next => Stage::Name,
+        Turn::Stay => Stage::Name,
+    }
+}
+
+/// The stage behind a byte in the container, behind that colon.
+fn pair_next(turn: Turn) -> Stage
+    ensures { result ≡ pair_next turn }
+{
+    match turn {
+        Turn::Next => Stage::Name,
+        Turn::Leave => Stage::Over,
+        Turn::EnterArray => Stage::Pair,
+        Turn::EnterObject => Stage::Pair,
+        Turn::Past => Stage::Pair,
+        Turn::Value => Stage::Pair,
+        Turn::Stay => Stage::Pair,
+    }
+}
+
 /// The stage behind a byte.
-fn stage_next(path: &[Token], stage: Stage, name: &[u8], turn: Turn) -> Stage
+fn stage_next(target: &Target, stage: Stage, name: &[u8], turn: Turn) -> Stage
     requires { count_in stage + 1 < 2 ^ 64 }
-    ensures { result ≡ stage_next (path_of path.now) stage name.now turn }
+    ensures { result ≡ stage_next (aim_of target.now) stage name.now turn }
 {
     match stage {
-        Stage::Ahead { level } => ahead_next(path, level, turn),
-        Stage::Elements { level, count } => elements_next(path, level, count, turn),
-        Stage::Members { level } => members_next(path, level, name, turn),
+        Stage::Ahead { level } => ahead_next(target, level, turn),
+        Stage::Elements { level, count } => elements_next(target, level, count, turn),
+        Stage::Members { level } => members_next(target, level, name, turn),
         Stage::Array => open_next(Stage::Array, turn),
         Stage::Object => open_next(Stage::Object, turn),
+        Stage::Name => name_next(turn),
+        Stage::Pair => pair_next(turn),
         Stage::Over => Stage::Over,
     }
 }
@@ -143,7 +197,9 @@ fn begins_part(stage: Stage) -> bool
     match stage {
         Stage::Array => true,
         Stage::Members { level: _ } => true,
+        Stage::Name => true,
         Stage::Object => false,
+        Stage::Pair => false,
         Stage::Ahead { level: _ } => false,
         Stage::Elements { level: _, count: _ } => false,
         Stage::Over => false,
@@ -156,6 +212,8 @@ fn begins_value(stage: Stage) -> bool
 {
     match stage {
         Stage::Object => true,
+        Stage::Pair => true,
+        Stage::Name => false,
         Stage::Array => false,
         Stage::Members { level: _ } => false,
         Stage::Ahead { level: _ } => false,
@@ -190,6 +248,8 @@ fn height_in(stage: Stage, height: usize) -> usize
         Stage::Members { level: _ } => height,
         Stage::Array => height,
         Stage::Object => height,
+        Stage::Name => height,
+        Stage::Pair => height,
         Stage::Over => height,
     }
 }
@@ -211,14 +271,14 @@ fn height_by(turn: Turn, stage: Stage, height: usize) -> usize
 }
 
 /// Where the next byte stands, behind a byte that does this; `part` is what was kept before it.
-pub(crate) fn stand_by(path: &[Token], turn: Turn, stand: Stand, part: &[u8], byte: u8) -> Stand
+pub(crate) fn stand_by(target: &Target, turn: Turn, stand: Stand, part: &[u8], byte: u8) -> Stand
     requires height { stand.height + 1 < 2 ^ 64 }
     requires count { count_in stand.stage + 1 < 2 ^ 64 }
-    ensures value { result ≡ stand_by (path_of path.now) turn stand part.now byte }
+    ensures value { result ≡ stand_by (aim_of target.now) turn stand part.now byte }
     ensures height { result.height ≤ stand.height + 1 }
     ensures count { count_in result.stage ≤ count_in stand.stage + 1 }
 {
-    let stage = stage_next(path, stand.stage, part, turn);
+    let stage = stage_next(target, stand.stage, part, turn);
     let height = height_next(stand.place, stand.height, byte);
     Stand {
         place: next(stand.place, byte),

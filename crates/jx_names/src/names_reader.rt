@@ -104,6 +104,7 @@ impl NamesReader {
     /// code units are those of an earlier name of the same object. `Err` where memory is or was refused.
     pub fn verdict(self) -> Result<Verdict, AllocError>
         ensures verdict { IfOk result (λ verdict. (settings : Settings) (bytes : List ℕ) → HasFed settings bytes self → IsVerdictBy settings bytes verdict) }
+        ensures lost { IsLost self → IsErr result }
     {
         tokens_are_read();
         reader_is_grammar();

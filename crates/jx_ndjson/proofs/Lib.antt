@@ -1,7 +1,9 @@
 pub mod Cuts
-pub mod Judging
 pub mod Fronts
-pub mod Steps
+pub mod Judging
 pub mod LineLaws
-pub mod Tallies
+pub mod Moved
 pub mod Sequences
+pub mod Steps
+pub mod Tallies
+pub mod Whole

@@ -2,7 +2,9 @@ pub mod Answers
 pub mod ElementReading
 pub mod Elements
 pub mod Lines
+pub mod LinesRun
 pub mod Parts
 pub mod Reading
 pub mod Tally
+pub mod WholeLines
 pub mod inside

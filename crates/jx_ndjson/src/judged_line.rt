@@ -2,6 +2,7 @@
 ghost use Rattle.std.specs.Prelude.{◌≡◌, ◌&&◌, not};
 ghost use Rattle.jx_lex.specs.Uneventful.{is_blank};
 ghost use Rattle.jx_ndjson.specs.Answers.{are_blanks};
+ghost use Rattle.jx_ndjson.specs.WholeLines.{moved_line, moved_refusal, moved_verdict};
 ghost use Rattle.jx_ndjson.specs.inside.Steps.{told};
 
 use jx_lex::Span;
@@ -29,6 +30,52 @@ pub struct JudgedLine {
     /// Where it stands without its line feed, as offsets in the whole input.
     pub span: Span,
     pub verdict: LineVerdict,
+}
+
+/// The same refusal of bytes that stand so much further on.
+fn moved_refusal(by: usize, refusal: Refusal) -> Refusal
+    ensures { result ≡ moved_refusal by refusal }
+{
+    match refusal {
+        Refusal::Stopped { at } => Refusal::Stopped {
+            at: by.saturating_add(at),
+        },
+        Refusal::Truncated => Refusal::Truncated,
+        Refusal::TooDeep { at } => Refusal::TooDeep {
+            at: by.saturating_add(at),
+        },
+        Refusal::RepeatedName { at } => Refusal::RepeatedName {
+            at: by.saturating_add(at),
+        },
+    }
+}
+
+/// The same verdict on bytes that stand so much further on.
+fn moved_verdict(by: usize, verdict: LineVerdict) -> LineVerdict
+    ensures { result ≡ moved_verdict by verdict }
+{
+    match verdict {
+        LineVerdict::Accepted => LineVerdict::Accepted,
+        LineVerdict::Refused(refusal) => LineVerdict::Refused(moved_refusal(by, refusal)),
+        LineVerdict::MayBeCut => LineVerdict::MayBeCut,
+        LineVerdict::Blank => LineVerdict::Blank,
+    }
+}
+
+impl JudgedLine {
+    /// The same line behind so many lines, which have so many bytes.
+    pub fn behind(self, lines: usize, bytes: usize) -> JudgedLine
+        ensures { result ≡ moved_line lines bytes self }
+    {
+        JudgedLine {
+            number: lines.saturating_add(self.number),
+            span: Span {
+                start: bytes.saturating_add(self.span.start),
+                end: bytes.saturating_add(self.span.end),
+            },
+            verdict: moved_verdict(bytes, self.verdict),
+        }
+    }
 }
 
 /// A space, a tab, a line feed or a carriage return (RFC 8259, section 2).

@@ -7,6 +7,8 @@ mod judged_line;
 mod laws;
 mod line_reader;
 mod line_tally;
+mod lines_run;
+mod whole_lines;
 
 pub use element_reader::{ElementReader, ElementStep};
 pub use judged_line::{JudgedLine, LineVerdict};
@@ -16,3 +18,5 @@ pub use laws::{
 };
 pub use line_reader::{LineReader, Step};
 pub use line_tally::{LineCounts, LineEnd, LineTally};
+pub use lines_run::LinesRun;
+pub use whole_lines::WholeLines;

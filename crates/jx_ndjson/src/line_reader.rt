@@ -1,16 +1,21 @@
 // Lines of an input that comes slice by slice.
-ghost use Rattle.std.specs.Prelude.{◌≡◌, ◌+◌, ◌<◌, ◌≤◌, ◌^◌, ◌++◌, ◌∷◌, ℕ, List, [], true, IsErr, IfOk, IfSome, OnErr, OnOk, length, take};
+ghost use Rattle.std.specs.Prelude.{◌≡◌, ◌+◌, ◌<◌, ◌≤◌, ◌^◌, ◌++◌, ◌∷◌, ℕ, List, [], true, false, IsErr, IsTrue, IfOk, IfSome, OnErr, OnOk, length, map, take};
 ghost use Rattle.jx_run.specs.declared.texts.settings.Settings.{Settings};
 ghost use Rattle.jx_run.specs.Elements.{Part, part};
 ghost use Rattle.jx_ndjson.specs.declared.judged_line.JudgedLine.{JudgedLine};
 ghost use Rattle.jx_ndjson.specs.Answers.{AreAnswers, IsAnswer};
 ghost use Rattle.jx_ndjson.specs.Lines.{line};
 ghost use Rattle.jx_ndjson.specs.Reading.{HasFailed, HasReadLines, HasTold, IsOpen, listed};
+ghost use Rattle.jx_ndjson.specs.WholeLines.{AreWhole, moved_line};
 ghost use Rattle.jx_ndjson.specs.inside.Steps.{HasNoLineFeed, is_ignored, is_next_of_mark};
 
 use crate::judged_line::{JudgedLine, blanks_behind, is_unended, told};
+use crate::whole_lines::WholeLines;
 use jx_lex::Span;
-use jx_run::{FrontMark, Reader, Settings, a_refused_mark_changes_nothing, ends_open_behind};
+use jx_run::{
+    FrontMark, Reader, Settings, a_refused_mark_changes_nothing, ends_open_behind,
+    reader_is_grammar,
+};
 use memchr::memchr;
 use std::alloc::{AllocError, Global};
 use std::marker::Model;
@@ -94,7 +99,8 @@ impl LineReader {
 
     /// How many lines a line feed has ended.
     pub fn ended(&self) -> usize
-        ensures { result ≡ self.now.ended }
+        ensures count { result ≡ self.now.ended }
+        ensures within { result ≤ self.now.reader.start }
     {
         self.ended
     }
@@ -281,5 +287,31 @@ impl LineReader {
             return None;
         }
         Some(self.judged(self.ended + 1, false))
+    }
+
+    /// Whether the next byte begins a line, and no byte order mark may begin with it.
+    pub fn is_between(&self) -> bool
+        ensures { IsTrue result → (self.now.in_front ≡ false) × (self.now.reader.count ≡ 0) }
+    {
+        !self.in_front && self.reader.start() == self.reader.end()
+    }
+
+    /// Passes whole lines that were judged without it, as if it had read their bytes behind all that it has read. It stands
+    /// between two lines.
+    pub fn pass(&mut self, lines: &WholeLines)
+        requires in_front { self.old.in_front ≡ false }
+        requires between { self.old.reader.count ≡ 0 }
+        requires fits { self.old.reader.start + lines.now.len < 2 ^ 64 }
+        ensures told { (settings : Settings) (input bytes : List ℕ) (told answers : List JudgedLine) → HasTold settings input told self.old
+            → AreWhole settings.depth bytes answers lines.now → HasTold settings (input ++ bytes) (told ++ map (moved_line self.old.ended self.old.reader.start) answers) self.new }
+        ensures start { self.new.reader.start ≡ self.old.reader.start + lines.now.len }
+        ensures count { self.new.reader.count ≡ 0 }
+        ensures ended { self.new.ended ≡ self.old.ended + lines.now.count }
+        ensures in_front { self.new.in_front ≡ self.old.in_front }
+    {
+        reader_is_grammar();
+        let start = self.reader.start() + lines.len();
+        self.begin(start);
+        self.ended += lines.count();
     }
 }

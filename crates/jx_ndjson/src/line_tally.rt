@@ -1,11 +1,15 @@
 // Lines that are counted while an input comes slice by slice. Those that are no texts are kept until they are taken.
-ghost use Rattle.std.specs.Prelude.{◌≡◌, ◌+◌, ◌<◌, ◌≤◌, ◌^◌, ◌++◌, ◌∷◌, ℕ, List, [], if◌then◌else◌, length, take, IfOk, OnOk};
+ghost use Rattle.std.specs.Prelude.{◌≡◌, ◌+◌, ◌<◌, ◌≤◌, ◌^◌, ◌++◌, ◌∷◌, ℕ, List, [], if◌then◌else◌, length, take, IfOk, IfSome, OnOk};
+ghost use Rattle.jx_run.specs.declared.texts.settings.FrontMark.TheVariants.{Refused};
 ghost use Rattle.jx_run.specs.declared.texts.settings.Settings.{Settings};
+ghost use Rattle.jx_ndjson.specs.declared.judged_line.JudgedLine.{JudgedLine};
 ghost use Rattle.jx_ndjson.specs.Reading.{listed};
 ghost use Rattle.jx_ndjson.specs.Tally.{HasTaken, IsTallied, bad_of, counted, is_accepted, is_blank_line, is_refused};
+ghost use Rattle.jx_ndjson.specs.WholeLines.{AreWhole};
 
 use crate::judged_line::{JudgedLine, LineVerdict};
 use crate::line_reader::LineReader;
+use crate::whole_lines::WholeLines;
 use jx_run::Settings;
 use std::alloc::{AllocError, Global};
 use std::marker::Model;
@@ -102,7 +106,8 @@ fn bad_line(judged: JudgedLine) -> Option<JudgedLine>
 
 /// Appends the line, if it is no text.
 fn push_bad(waiting: &mut Vec<JudgedLine>, judged: JudgedLine) -> Result<(), AllocError>
-    ensures { OnOk result (waiting.new.items ≡ waiting.old.items ++ bad_of (judged ∷ [])) }
+    ensures bad { OnOk result (waiting.new.items ≡ waiting.old.items ++ bad_of (judged ∷ [])) }
+    ensures most { length waiting.new.items ≤ length waiting.old.items + 1 }
 {
     if !is_accepted(judged.verdict) {
         waiting.push(judged)?;
@@ -120,14 +125,15 @@ pub struct LineTally {
 }
 
 impl Model for LineTally {
-    ghost use Rattle.std.specs.Prelude.{◌≤◌};
+    ghost use Rattle.std.specs.Prelude.{◌≤◌, length};
     ghost use Rattle.jx_ndjson.specs.Tally.{TallyValue};
 
     ghost Value = { TallyValue };
 
     ghost view = { λ t. record { lines = t.lines; counts = t.counts; waiting = t.waiting.items } };
 
-    ghost invariant = { λ t. (t.counts.accepted ≤ t.lines.ended) × (t.counts.refused ≤ t.lines.ended) × (t.counts.blank ≤ t.lines.ended) };
+    ghost invariant = { λ t. (t.counts.accepted ≤ t.lines.ended) × (t.counts.refused ≤ t.lines.ended) × (t.counts.blank ≤ t.lines.ended)
+        × (length t.waiting.items ≤ t.lines.ended) };
 }
 
 impl LineTally {
@@ -159,6 +165,7 @@ impl LineTally {
         requires accepted { self.old.counts.accepted + 1 ≤ self.old.lines.ended }
         requires refused { self.old.counts.refused + 1 ≤ self.old.lines.ended }
         requires blank { self.old.counts.blank + 1 ≤ self.old.lines.ended }
+        requires waiting { length self.old.waiting + 1 ≤ self.old.lines.ended }
         ensures lines { self.new.lines ≡ self.old.lines }
         ensures counts { OnOk result (self.new.counts ≡ counted self.old.counts judged.verdict) }
         ensures waiting { OnOk result (self.new.waiting ≡ self.old.waiting ++ bad_of (judged ∷ [])) }
@@ -236,5 +243,22 @@ impl LineTally {
                 counts: counted(self.counts, judged.verdict),
             },
         }
+    }
+
+    /// What it has taken, where a line feed ends the last line; none where bytes stand behind that.
+    pub(crate) fn into_whole(self) -> Option<WholeLines>
+        ensures whole { IfSome result (λ whole. (settings : Settings) (input : List ℕ) → settings.mark ≡ Refused → HasTaken settings input [] self
+            → (answers : List JudgedLine) × AreWhole settings.depth input answers whole) }
+        ensures len { IfSome result (λ whole. whole.len ≡ self.lines.reader.start + self.lines.reader.count) }
+    {
+        let LineTally {
+            lines,
+            counts: _,
+            waiting,
+        } = self;
+        if !lines.is_between() {
+            return None;
+        }
+        Some(WholeLines::new(lines.end(), lines.ended(), waiting))
     }
 }

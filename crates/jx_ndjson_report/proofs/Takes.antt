@@ -1,26 +1,69 @@
 -- A teller takes bytes, and tells the end.
-use Rattle.std.proofs.Common.{◌≡◌, ℕ, zero, suc, ◌+◌, ◌-◌, ◌≤◌, List, [], ◌∷◌, ◌++◌, length, take, drop, arith, Bool, true, false, cond, refl, sym, ap, subst, ◌∙◌, append_assoc, append-nil}
+use Rattle.std.proofs.Common.{◌≡◌, ℕ, zero, suc, ◌+◌, ◌-◌, ◌≤◌, List, [], ◌∷◌, ◌++◌, length, map, take, drop, arith, Bool, true, false, cond, refl, sym, ap, subst, ◌∙◌, append_assoc, append-nil}
 use Rattle.std.specs.List.{AllZip}
-use Rattle.std.specs.Prelude.{Ok, Err, Result, IfOk, OnOk, slice_range}
-use Rattle.std.proofs.lemmas.List.{take-take}
+use Rattle.std.specs.Prelude.{Ok, Err, Result, IfOk, IfSome, None, OnOk, Option, Some, slice_range}
+use Rattle.std.proofs.Math.ListN.{length-map}
+use lib.Seq.{take-add}
+use Rattle.std.proofs.lemmas.List.{take-take, take_all}
+use Rattle.jx_summary.specs.declared.span.Span.{Span}
 use Rattle.jx_run.specs.declared.texts.settings.Settings.{Settings}
+use Rattle.jx_run.specs.Tree.{span}
+use Rattle.jx_run.proofs.ReaderSteps.{slice_all}
 use Rattle.jx_ndjson.specs.declared.judged_line.JudgedLine.{JudgedLine}
 use Rattle.jx_ndjson.specs.Answers.{AreAnswers, IsAnswer}
 use Rattle.jx_ndjson.specs.Lines.{ended_lines}
 use Rattle.jx_ndjson.specs.Reading.{HasTold, LineReaderValue}
+use Rattle.jx_ndjson.specs.Tally.{bad_of as no_texts_of}
+use Rattle.jx_ndjson.specs.LinesRun.{HoldLines}
+use Rattle.jx_ndjson.specs.WholeLines.{AreWhole, WholeLinesValue, moved_line}
+use Rattle.jx_ndjson.proofs.Moved.{bad_moved}
 use Rattle.jx_report.specs.declared.exit.Exit.{Exit}
 use Rattle.jx_report.specs.Reports.{shown_output}
 use Rattle.jx_ndjson_report.specs.declared.task.LinesTask.{LinesTask}
 use Rattle.jx_ndjson_report.specs.Output.{IsDue, LinesOutput, bad_lines, bad_of, good_of, is_bad, is_good}
 use Rattle.jx_ndjson_report.specs.inside.LineSteps.{bad_line, exit_by, total_words}
 use Rattle.jx_ndjson_report.specs.inside.LineTeller.{HasTaken, LineTellerValue}
-use Rattle.jx_ndjson_report.proofs.Told.{one_more_bad, one_more_good, one_more_line, same_exit}
+use Rattle.jx_ndjson_report.proofs.Told.{lines_among, more_bad, more_good, more_lines, one_more_bad, one_more_good, one_more_line, others_good, same_exit, told_among}
 
 -- ---- results
 
 pub ok_with : {A E : Type 0} {P S : A → Type 0} {T : Type 0} (r : Result A E) → ((a : A) → P a → T → S a) → IfOk r P → OnOk r T → IfOk r S
 ok_with (Ok a) f p t = f a p t
 ok_with (Err e) f p t = tt
+
+-- the part up to an offset, and what stands from there up to another
+up_to : (bytes text : List ℕ) (done end : ℕ) → done ≤ end → (bytes ++ take done text) ++ slice_range text done end ≡ bytes ++ take end text
+up_to bytes text done end h =
+    let sum : done + (end - done) ≡ end = omega (arith, h) in
+    append_assoc bytes (take done text) (take (end - done) (drop done text))
+    ∙ ap (λ (xs : List ℕ). bytes ++ xs) (sym (take-add done (end - done) text) ∙ ap (λ (n : ℕ). take n text) sum)
+
+-- what stands before, between and behind two offsets
+pub three_parts : (bytes text : List ℕ) (i j : ℕ) → i ≤ j → j ≤ length text
+    → ((bytes ++ slice_range text 0 i) ++ slice_range text i j) ++ slice_range text j (length text) ≡ bytes ++ text
+three_parts bytes text i j h k =
+    ap (λ (xs : List ℕ). (xs ++ slice_range text i j) ++ slice_range text j (length text))
+    (ap (λ (xs : List ℕ). xs ++ slice_range text 0 i) (sym (append-nil bytes)) ∙ up_to bytes text 0 i (omega arith))
+    ∙ ap (λ (xs : List ℕ). xs ++ slice_range text j (length text)) (up_to bytes text i j h)
+    ∙ up_to bytes text j (length text) k
+    ∙ ap (λ (xs : List ℕ). bytes ++ xs) (take_all (length text) text (omega arith))
+
+-- what covers a text from its first byte on is over the whole text
+pub covers_all : (held text : List ℕ) (s : Span) (front : ℕ) → held ≡ text → s ≡ span front (length text) → front ≡ 0 → slice_range held s.start s.end ≡ text
+covers_all held text s front same covers from =
+    ap (λ (t : List ℕ). slice_range t s.start s.end) same
+    ∙ ap (λ (p : Span). slice_range text p.start p.end) covers
+    ∙ ap (λ (n : ℕ). slice_range text n (length text)) from
+    ∙ slice_all text
+
+-- where there are lines, they are whole
+pub some_held : (limit : ℕ) (bytes : List ℕ) (lines : Option WholeLinesValue) → HoldLines limit bytes lines → IfSome lines (λ (w : WholeLinesValue). (answers : List JudgedLine) × AreWhole limit bytes answers w)
+some_held limit bytes None h = tt
+some_held limit bytes (Some w) h = h
+
+pub held_len : (limit : ℕ) (bytes : List ℕ) (lines : Option WholeLinesValue) → HoldLines limit bytes lines → IfSome lines (λ (w : WholeLinesValue). w.len ≡ length bytes)
+held_len limit bytes None h = tt
+held_len limit bytes (Some w) h = h.1.len_is
 
 -- ---- bytes one after another
 
@@ -69,6 +112,41 @@ takes_line task bytes more given j old new h good bad ready reads =
           ∙ sym (append_assoc given old.ready (bad_line task j))
           ∙ ap (λ (xs : List ℕ). xs ++ bad_line task j) h.written
           ∙ sym (one_more_line task h.answers j);
+    }
+
+-- whole lines that were judged apart
+pub takes_whole : (task : LinesTask) (bytes more given : List ℕ) (answers : List JudgedLine) (whole : WholeLinesValue) (old new : LineTellerValue) → HasTaken task bytes given old
+    → AreWhole task.settings.depth more answers whole → length whole.bad ≤ whole.count → (lines at : ℕ)
+    → new.good ≡ old.good + (whole.count - length whole.bad)
+    → new.bad ≡ old.bad + length (bad_of task.blanks (map (moved_line lines at) whole.bad))
+    → new.ready ≡ old.ready ++ bad_lines task (map (moved_line lines at) whole.bad)
+    → ((told : List JudgedLine) → HasTold task.settings bytes told old.lines → HasTold task.settings (bytes ++ more) (told ++ map (moved_line lines at) answers) new.lines)
+    → HasTaken task (bytes ++ more) given new
+takes_whole task bytes more given answers whole old new h k few lines at good bad ready reads =
+    let moved : List JudgedLine = map (moved_line lines at) answers in
+    let same : map (moved_line lines at) whole.bad ≡ no_texts_of moved = ap (map (moved_line lines at)) k.bad_are ∙ sym (bad_moved lines at answers) in
+    let others = others_good task.blanks moved in
+    let long : length moved ≡ length answers = length-map answers (moved_line lines at) in
+    let less : length (no_texts_of moved) ≡ length whole.bad = ap length (sym same) ∙ length-map whole.bad (moved_line lines at) in
+    let count = k.count_is in
+    let all_good : whole.count - length whole.bad ≡ length (good_of moved) = omega (arith, others, long, less, count) in
+    record {
+      answers = h.answers ++ moved;
+      told = reads h.answers h.told;
+      good_are = good ∙ ap (λ (n : ℕ). old.good + n) all_good ∙ ap (λ (n : ℕ). n + length (good_of moved)) h.good_are ∙ sym (more_good h.answers moved);
+      bad_are =
+          bad
+          ∙ ap (λ (js : List JudgedLine). old.bad + length (bad_of task.blanks js)) same
+          ∙ ap (λ (js : List JudgedLine). old.bad + length js) (told_among task.blanks moved)
+          ∙ ap (λ (n : ℕ). n + length (bad_of task.blanks moved)) h.bad_are
+          ∙ sym (more_bad task h.answers moved);
+      written =
+          ap (λ (xs : List ℕ). given ++ xs) ready
+          ∙ sym (append_assoc given old.ready (bad_lines task (map (moved_line lines at) whole.bad)))
+          ∙ ap (λ (xs : List ℕ). xs ++ bad_lines task (map (moved_line lines at) whole.bad)) h.written
+          ∙ ap (λ (js : List JudgedLine). bad_lines task h.answers ++ bad_lines task js) same
+          ∙ ap (λ (xs : List ℕ). bad_lines task h.answers ++ xs) (lines_among task moved)
+          ∙ sym (more_lines task h.answers moved);
     }
 
 -- what waits was written

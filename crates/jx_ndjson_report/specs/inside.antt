@@ -2,4 +2,5 @@
 pub mod ElementTeller
 pub mod LineSteps
 pub mod LineTeller
+pub mod Shared
 pub mod Steps

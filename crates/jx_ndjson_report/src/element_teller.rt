@@ -3,9 +3,11 @@ ghost use Rattle.std.specs.Prelude.{◌≡◌, ◌+◌, ◌<◌, ◌≤◌, ◌^
 ghost use Rattle.jx_report.specs.Elements.{exit_past_verdict};
 ghost use Rattle.jx_ndjson_report.specs.inside.ElementTeller.{HasTaken, one_line};
 
+use crate::line_batch::SharedLines;
 use crate::task::ElementsTask;
 use crate::teller::Teller;
 use crate::words::add_element;
+use jx_lex::Depth;
 use jx_ndjson::{ElementReader, told_elements_are_ended};
 use jx_report::Exit;
 use jx_run::{ElementVerdict, JudgedElement};
@@ -114,6 +116,8 @@ impl Teller for ElementTeller {
 
     ghost end = { λ t. t.elements.reader.start + t.elements.reader.count };
 
+    ghost limit = { λ task. task.settings.depth };
+
     fn what_is_taken_is_due() {
         told_elements_are_ended();
     }
@@ -122,7 +126,20 @@ impl Teller for ElementTeller {
         self.elements.end()
     }
 
-    fn feed(&mut self, task: &ElementsTask, slice: &[u8]) -> Result<(), AllocError> {
+    fn depth(task: &ElementsTask) -> Depth {
+        task.settings.depth
+    }
+
+    fn shares() -> bool {
+        false
+    }
+
+    fn feed(
+        &mut self,
+        task: &ElementsTask,
+        slice: &[u8],
+        _shared: Option<SharedLines>,
+    ) -> Result<(), AllocError> {
         let mut at = 0;
         while at < slice.len() {
             at += self.take_step(task, &slice[at..])?;

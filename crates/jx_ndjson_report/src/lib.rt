@@ -4,6 +4,7 @@
 
 mod element_teller;
 mod laws;
+mod line_batch;
 mod line_teller;
 mod reporting;
 mod task;

@@ -1,14 +1,19 @@
 // Lines that are told while an input comes slice by slice.
-ghost use Rattle.std.specs.Prelude.{◌≡◌, ◌+◌, ◌<◌, ◌≤◌, ◌^◌, ◌++◌, ℕ, List, [], if◌then◌else◌, length, take, IfOk, OnOk};
+ghost use Rattle.std.specs.Prelude.{◌≡◌, ◌+◌, ◌<◌, ◌≤◌, ◌^◌, ◌++◌, ℕ, List, [], false, if◌then◌else◌, length, map, take, IfOk, OnOk};
+ghost use Rattle.jx_ndjson.specs.declared.judged_line.JudgedLine.{JudgedLine};
+ghost use Rattle.jx_ndjson.specs.WholeLines.{AreWhole, moved_line};
 ghost use Rattle.jx_report.specs.Reports.{shown_output};
-ghost use Rattle.jx_ndjson_report.specs.Output.{is_bad, is_good};
+ghost use Rattle.jx_ndjson_report.specs.Output.{bad_lines, bad_of, is_bad, is_good};
 ghost use Rattle.jx_ndjson_report.specs.inside.LineTeller.{HasTaken};
+ghost use Rattle.jx_ndjson_report.specs.inside.Shared.{IsShared};
 ghost use Rattle.jx_ndjson_report.specs.inside.LineSteps.{bad_line, exit_by, total_words};
 
+use crate::line_batch::SharedLines;
 use crate::task::LinesTask;
 use crate::teller::Teller;
 use crate::words::{add_line, add_number, is_bad, is_good};
-use jx_ndjson::{JudgedLine, LineReader, what_is_told_are_ended_lines};
+use jx_lex::{Depth, Span};
+use jx_ndjson::{JudgedLine, LineReader, WholeLines, what_is_told_are_ended_lines};
 use jx_report::Exit;
 use std::alloc::{AllocError, Global};
 use std::marker::Model;
@@ -29,6 +34,27 @@ fn add_bad(ready: &mut Vec<u8>, task: &LinesTask, judged: JudgedLine) -> Result<
         add_line(ready, &task.front, judged)?;
     }
     Ok(())
+}
+
+/// Appends what is told of lines behind so many others, which have so many bytes, and answers how many of them are bad.
+fn add_all_bad(
+    ready: &mut Vec<u8>,
+    task: &LinesTask,
+    judged: &[JudgedLine],
+    lines: usize,
+    bytes: usize,
+) -> Result<usize, AllocError>
+    ensures count { IfOk result (λ count. count ≡ length (bad_of task.now.blanks (map (moved_line lines bytes) judged.now))) }
+    ensures most { IfOk result (λ count. count ≤ length judged.now) }
+    ensures ready { OnOk result (ready.new.items ≡ ready.old.items ++ bad_lines task.now (map (moved_line lines bytes) judged.now)) }
+{
+    let mut count = 0;
+    for at in 0..judged.len() {
+        let line = judged[at].behind(lines, bytes);
+        add_bad(ready, task, line)?;
+        count = counted(count, is_bad(task.blanks, line.verdict));
+    }
+    Ok(count)
 }
 
 /// Appends how many lines are good and how many bad, unless nothing is to be written.
@@ -139,6 +165,77 @@ impl LineTeller {
             }
         }
     }
+
+    /// Takes a slice line by line.
+    fn take_alone(&mut self, task: &LinesTask, slice: &[u8]) -> Result<(), AllocError>
+        requires fits { self.old.lines.reader.start + self.old.lines.reader.count + length slice.now < 2 ^ 64 }
+        ensures taken { OnOk result ((bytes given : List ℕ) → HasTaken task.now bytes given self.old → HasTaken task.now (bytes ++ slice.now) given self.new) }
+        ensures count { OnOk result (self.new.lines.reader.start + self.new.lines.reader.count ≡ self.old.lines.reader.start + self.old.lines.reader.count + length slice.now) }
+    {
+        let mut at = 0;
+        while at < slice.len() {
+            at += self.take_step(task, &slice[at..])?;
+        }
+        Ok(())
+    }
+
+    /// Takes whole lines that were judged without it, and tells those that are no texts. It stands between two lines.
+    fn take_whole(&mut self, task: &LinesTask, whole: &WholeLines) -> Result<(), AllocError>
+        requires in_front { self.old.lines.in_front ≡ false }
+        requires between { self.old.lines.reader.count ≡ 0 }
+        requires fits { self.old.lines.reader.start + whole.now.len < 2 ^ 64 }
+        ensures taken { OnOk result ((bytes given more : List ℕ) (answers : List JudgedLine) → HasTaken task.now bytes given self.old → AreWhole task.now.settings.depth more answers whole.now
+            → HasTaken task.now (bytes ++ more) given self.new) }
+        ensures count { OnOk result (self.new.lines.reader.start + self.new.lines.reader.count ≡ self.old.lines.reader.start + whole.now.len) }
+    {
+        let bad = whole.bad();
+        let good = whole.count() - bad.len();
+        let lines = self.lines.ended();
+        let bytes = self.lines.end();
+        let told = add_all_bad(&mut self.ready, task, bad, lines, bytes)?;
+        self.lines.pass(whole);
+        self.good += good;
+        self.bad += told;
+        Ok(())
+    }
+
+    /// Takes whole lines of a slice that were judged without it, or the slice that they are line by line, where it does not stand
+    /// between two lines.
+    fn take_judged(
+        &mut self,
+        task: &LinesTask,
+        slice: &[u8],
+        whole: &WholeLines,
+    ) -> Result<(), AllocError>
+        requires fits { self.old.lines.reader.start + self.old.lines.reader.count + length slice.now < 2 ^ 64 }
+        requires whole { (answers : List JudgedLine) × AreWhole task.now.settings.depth slice.now answers whole.now }
+        requires len { whole.now.len ≡ length slice.now }
+        ensures taken { OnOk result ((bytes given : List ℕ) → HasTaken task.now bytes given self.old → HasTaken task.now (bytes ++ slice.now) given self.new) }
+        ensures count { OnOk result (self.new.lines.reader.start + self.new.lines.reader.count ≡ self.old.lines.reader.start + self.old.lines.reader.count + length slice.now) }
+    {
+        if self.lines.is_between() {
+            self.take_whole(task, whole)
+        } else {
+            self.take_alone(task, slice)
+        }
+    }
+
+    /// Takes a slice, some of whose lines were judged: those before and behind them line by line.
+    fn take_shared(
+        &mut self,
+        task: &LinesTask,
+        slice: &[u8],
+        shared: &SharedLines,
+    ) -> Result<(), AllocError>
+        requires fits { self.old.lines.reader.start + self.old.lines.reader.count + length slice.now < 2 ^ 64 }
+        requires shared { IsShared task.now.settings.depth slice.now shared.now }
+        ensures taken { OnOk result ((bytes given : List ℕ) → HasTaken task.now bytes given self.old → HasTaken task.now (bytes ++ slice.now) given self.new) }
+    {
+        let Span { start, end } = shared.span;
+        self.take_alone(task, &slice[0..start])?;
+        self.take_judged(task, &slice[start..end], &shared.lines)?;
+        self.take_alone(task, &slice[end..slice.len()])
+    }
 }
 
 impl Teller for LineTeller {
@@ -158,6 +255,8 @@ impl Teller for LineTeller {
 
     ghost end = { λ t. t.lines.reader.start + t.lines.reader.count };
 
+    ghost limit = { λ task. task.settings.depth };
+
     fn what_is_taken_is_due() {
         what_is_told_are_ended_lines();
     }
@@ -166,12 +265,24 @@ impl Teller for LineTeller {
         self.lines.end()
     }
 
-    fn feed(&mut self, task: &LinesTask, slice: &[u8]) -> Result<(), AllocError> {
-        let mut at = 0;
-        while at < slice.len() {
-            at += self.take_step(task, &slice[at..])?;
+    fn depth(task: &LinesTask) -> Depth {
+        task.settings.depth
+    }
+
+    fn shares() -> bool {
+        true
+    }
+
+    fn feed(
+        &mut self,
+        task: &LinesTask,
+        slice: &[u8],
+        shared: Option<SharedLines>,
+    ) -> Result<(), AllocError> {
+        match &shared {
+            None => self.take_alone(task, slice),
+            Some(shared) => self.take_shared(task, slice, shared),
         }
-        Ok(())
     }
 
     fn ready(&self) -> &[u8] {

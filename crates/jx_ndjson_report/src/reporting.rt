@@ -1,19 +1,43 @@
 // Lines and elements are told while an input is read.
-ghost use Rattle.std.specs.Prelude.{◌≡◌, ◌≢◌, ◌<◌, ◌↔◌, [], true, false, length, IfErr, IfOk, IsErrOf, OnErr, OnOk};
+ghost use Rattle.std.specs.Prelude.{◌≡◌, ◌≢◌, ◌<◌, ◌≤◌, ◌↔◌, [], true, false, length, IfErr, IfOk, IfSome, IsErrOf, OnErr, OnOk};
 ghost use Rattle.jx_ndjson_report.specs.Elements.{ElementsOutput, IsDue as IsDueOfElements};
 ghost use Rattle.jx_ndjson_report.specs.Output.{IsDue, LinesOutput};
 ghost use Rattle.jx_ndjson_report.specs.Reports.{ReportsAll, WroteDue, WroteInPart, WroteLines};
+ghost use Rattle.jx_ndjson_report.specs.inside.Shared.{IsShared};
 ghost use Rattle.jx_ndjson_report.specs.inside.Steps.{IsAllWritten, WritesOn, WritesPart};
 
 use crate::element_teller::ElementTeller;
+use crate::line_batch::{SharedLines, judge_batch};
 use crate::line_teller::LineTeller;
 use crate::task::{ElementsTask, LinesTask};
 use crate::teller::Teller;
+use jx_crew::{Crew, Gate};
 use jx_report::{Exit, ReportFault, Sink, Source, write_whole};
-use std::alloc::Global;
+use std::sync::Wait;
+use std::thread::Threads;
 
 /// How many bytes are read at a time, at most. So few lines wait at once, also where each one is told.
 const STEP: usize = 64 * 1024;
+
+/// The same where several workers share them.
+const SHARED_STEP: usize = 2 * 1024 * 1024;
+
+/// Has lines of a batch judged by the crew, where the teller takes such lines.
+fn shared_by<T: Teller, R: Threads + Wait + Sync, G: Gate + Sync>(
+    crew: &Crew<'_, R, G>,
+    task: &T::Task,
+    batch: &[u8],
+    piece: usize,
+) -> Option<SharedLines>
+    requires piece { 1 ≤ piece }
+    ensures { IfSome result (λ shared. IsShared (T.limit task.now) batch.now shared) }
+{
+    if T::shares() {
+        judge_batch(crew, batch, T::depth(task), piece)
+    } else {
+        None
+    }
+}
 
 /// Takes a batch behind what was read, and writes the lines that are due then. Memory is refused too where the last byte has
 /// no offset.
@@ -22,8 +46,10 @@ fn write_due<T: Teller, W: Sink>(
     task: &T::Task,
     teller: &mut T,
     batch: &[u8],
+    shared: Option<SharedLines>,
 ) -> Result<(), ReportFault>
-    requires { W.has_failed writer.old ≡ false }
+    requires shared { IfSome shared (λ shared. IsShared (T.limit task.now) batch.now shared) }
+    requires writer { W.has_failed writer.old ≡ false }
     ensures ok { OnOk result (WritesOn (T.has_taken task.now) T.ready (W.contents writer.old) (W.contents writer.new) batch.now teller.old teller.new) }
     ensures going { OnOk result (W.has_failed writer.new ≡ false) }
     ensures write { IsErrOf result ReportFault.Write ↔ (W.has_failed writer.new ≡ true) }
@@ -36,7 +62,7 @@ fn write_due<T: Teller, W: Sink>(
     if batch.len() > usize::MAX - teller.end() {
         return Err(ReportFault::Memory);
     }
-    teller.feed(task, batch)?;
+    teller.feed(task, batch, shared)?;
     write_whole(writer, teller.ready())?;
     teller.clear_ready();
     Ok(())
@@ -44,13 +70,16 @@ fn write_due<T: Teller, W: Sink>(
 
 /// Reads to the end of input, and writes each line once it is due: what a read gives is taken before the next one, which may
 /// wait.
-fn write_all_due<T: Teller, S: Source, W: Sink>(
+fn write_all_due<T: Teller, R: Threads + Wait + Sync, S: Source, W: Sink, G: Gate + Sync>(
+    crew: &Crew<'_, R, G>,
     reader: &mut S,
     writer: &mut W,
     task: &T::Task,
     teller: &mut T,
     buffer: &mut [u8],
+    piece: usize,
 ) -> Result<(), ReportFault>
+    requires piece { 1 ≤ piece }
     requires reader { S.has_failed reader.old ≡ false }
     requires writer { W.has_failed writer.old ≡ false }
     requires room { 0 < length buffer.old }
@@ -69,21 +98,40 @@ fn write_all_due<T: Teller, S: Source, W: Sink>(
     for _ in 0..u64::MAX {
         match reader.read(buffer) {
             Ok(0) => return Ok(()),
-            Ok(count) => write_due(writer, task, teller, &buffer[..count])?,
+            Ok(count) => {
+                let shared = shared_by::<T, R, G>(crew, task, &buffer[..count], piece);
+                write_due(writer, task, teller, &buffer[..count], shared)?;
+            }
             Err(_) => return Err(ReportFault::Read),
         }
     }
     Err(ReportFault::Memory)
 }
 
-/// Reads to the end of input, and writes what a teller that has taken no byte has to tell of it.
-fn report_by<T: Teller, S: Source, W: Sink>(
-    alloc: Global,
+/// How many bytes are read at a time, at most, for a crew.
+fn room_for<R, G>(crew: &Crew<'_, R, G>) -> usize
+    ensures { 0 < result }
+{
+    if crew.workers.count() > 1 {
+        SHARED_STEP
+    } else {
+        STEP
+    }
+}
+
+/// Reads to the end of input, and writes what a teller that has taken no byte has to tell of it. At most so many bytes are read
+/// at a time.
+fn report_by<T: Teller, R: Threads + Wait + Sync, S: Source, W: Sink, G: Gate + Sync>(
+    crew: &Crew<'_, R, G>,
     reader: &mut S,
     writer: &mut W,
     task: &T::Task,
     teller: &mut T,
+    room: usize,
+    piece: usize,
 ) -> Result<Exit, ReportFault>
+    requires room { 0 < room }
+    requires piece { 1 ≤ piece }
     requires reader { S.has_failed reader.old ≡ false }
     requires writer { W.has_failed writer.old ≡ false }
     requires taken { T.has_taken task.now [] [] teller.old }
@@ -97,8 +145,8 @@ fn report_by<T: Teller, S: Source, W: Sink>(
     ensures uncut { IfErr result (λ fault. fault ≢ ReportFault.Pieces) }
 {
     T::what_is_taken_is_due();
-    let mut buffer: Vec<u8> = vec![in alloc; 0; STEP]?;
-    write_all_due(reader, writer, task, teller, &mut buffer)?;
+    let mut buffer: Vec<u8> = vec![in crew.alloc; 0; room]?;
+    write_all_due(crew, reader, writer, task, teller, &mut buffer, piece)?;
     let exit = teller.finish(task)?;
     write_whole(writer, teller.ready())?;
     Ok(exit)
@@ -108,13 +156,20 @@ fn report_by<T: Teller, S: Source, W: Sink>(
 /// before the next read may wait, and at the end how many lines are texts and how many are none. The exit is good where none is
 /// told.
 ///
+/// Several workers share what one read gives, where that is a MiB or more or the gate is asked: each draws pieces of so many bytes
+/// and what is left of a line then. The gate is asked after each step of a worker and may stop it; the calling thread reads
+/// what is left, the line that goes on, and all that is shorter. For every number of workers, every piece and every gate the
+/// output is the same.
+///
 /// What is written is never taken back. One batch and no line is held; the names of the settings are of no account.
-pub fn report_lines<S: Source, W: Sink>(
-    alloc: Global,
+pub fn report_lines<R: Threads + Wait + Sync, S: Source, W: Sink, G: Gate + Sync>(
+    crew: &Crew<'_, R, G>,
     reader: &mut S,
     writer: &mut W,
     task: &LinesTask,
+    piece: usize,
 ) -> Result<Exit, ReportFault>
+    requires piece { 1 ≤ piece }
     requires reader { S.has_failed reader.old ≡ false }
     requires writer { W.has_failed writer.old ≡ false }
     // All that the reader had was read, and its whole output was written.
@@ -129,11 +184,13 @@ pub fn report_lines<S: Source, W: Sink>(
     ensures uncut { IfErr result (λ fault. fault ≢ ReportFault.Pieces) }
 {
     report_by(
-        alloc,
+        crew,
         reader,
         writer,
         task,
-        &mut LineTeller::new(alloc, task),
+        &mut LineTeller::new(crew.alloc, task),
+        room_for(crew),
+        piece,
     )
 }
 
@@ -141,9 +198,10 @@ pub fn report_lines<S: Source, W: Sink>(
 /// separator behind it is read, before the next read may wait, and that of the last one at the end. The exit is good where each
 /// is accepted.
 ///
-/// What is written is never taken back. One batch and no element is held; the names of the settings are of no account.
-pub fn report_sequence<S: Source, W: Sink>(
-    alloc: Global,
+/// The calling thread reads, whoever is in the crew. What is written is never taken back. One batch and no element is held; the
+/// names of the settings are of no account.
+pub fn report_sequence<R: Threads + Wait + Sync, S: Source, W: Sink, G: Gate + Sync>(
+    crew: &Crew<'_, R, G>,
     reader: &mut S,
     writer: &mut W,
     task: &ElementsTask,
@@ -162,10 +220,12 @@ pub fn report_sequence<S: Source, W: Sink>(
     ensures uncut { IfErr result (λ fault. fault ≢ ReportFault.Pieces) }
 {
     report_by(
-        alloc,
+        crew,
         reader,
         writer,
         task,
-        &mut ElementTeller::new(alloc, task),
+        &mut ElementTeller::new(crew.alloc, task),
+        STEP,
+        1,
     )
 }

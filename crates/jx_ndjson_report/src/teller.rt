@@ -1,5 +1,8 @@
-ghost use Rattle.std.specs.Prelude.{◌≡◌, ◌+◌, ◌<◌, ◌^◌, ◌++◌, ℕ, List, [], length, IfOk, OnOk};
+ghost use Rattle.std.specs.Prelude.{◌≡◌, ◌+◌, ◌<◌, ◌^◌, ◌++◌, ℕ, List, [], length, IfOk, IfSome, OnOk};
+ghost use Rattle.jx_ndjson_report.specs.inside.Shared.{IsShared};
 
+use crate::line_batch::SharedLines;
+use jx_lex::Depth;
 use jx_report::Exit;
 use std::alloc::AllocError;
 
@@ -34,8 +37,24 @@ pub(crate) trait Teller {
     fn end(&self) -> usize
         ensures end { result ≡ end self.now };
 
-    /// Takes a slice behind all bytes that it has taken. Only want of memory is refused.
-    fn feed(&mut self, task: &Self::Task, slice: &[u8]) -> Result<(), AllocError>
+    /// How deep its texts may be.
+    ghost limit: { Self.Task → ℕ };
+
+    /// How deep its texts may be.
+    fn depth(task: &Self::Task) -> Depth
+        ensures depth { result ≡ limit task.now };
+
+    /// Whether lines may be judged before it takes them.
+    fn shares() -> bool;
+
+    /// Takes a slice behind all bytes that it has taken, some of whose lines may have been judged. Only want of memory is refused.
+    fn feed(
+        &mut self,
+        task: &Self::Task,
+        slice: &[u8],
+        shared: Option<SharedLines>,
+    ) -> Result<(), AllocError>
+        requires shared { IfSome shared (λ shared. IsShared (limit task.now) slice.now shared) }
         requires fits { end self.old + length slice.now < 2 ^ 64 }
         ensures taken { OnOk result ((bytes given : List ℕ) → has_taken task.now bytes given self.old → has_taken task.now (bytes ++ slice.now) given self.new) };
 

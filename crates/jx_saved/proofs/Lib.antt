@@ -1,3 +1,5 @@
+pub mod Counts
+pub mod Decodings
 pub mod Feedings
 pub mod Readings
 pub mod Spellings

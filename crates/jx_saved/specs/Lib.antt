@@ -4,5 +4,6 @@ pub mod Held
 pub mod Index
 pub mod Indexer
 pub mod inside
+pub mod Saved
 pub mod Spelling
 pub mod Sums

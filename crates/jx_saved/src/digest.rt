@@ -23,7 +23,7 @@ struct Lanes {
 
 /// Eight bytes, low byte first.
 #[inline(always)]
-fn word_at(bytes: &[u8], at: usize) -> u64
+pub(crate) fn word_at(bytes: &[u8], at: usize) -> u64
     requires { at + 8 ≤ length bytes.now }
     ensures { result ≡ word_at bytes.now at }
 {
@@ -41,7 +41,7 @@ fn word_at(bytes: &[u8], at: usize) -> u64
 
 /// Four bytes, low byte first.
 #[inline(always)]
-fn half_at(bytes: &[u8], at: usize) -> u64
+pub(crate) fn half_at(bytes: &[u8], at: usize) -> u64
     requires { at + 4 ≤ length bytes.now }
     ensures { result ≡ half_at bytes.now at }
 {

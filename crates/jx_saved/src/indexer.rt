@@ -186,6 +186,7 @@ impl Indexer {
             → IsIndexOf settings chunk bytes index)) }
         ensures refused { IfOk result (λ read. IfErr read (λ refusal. (settings : Settings) (chunk : ℕ) (bytes : List ℕ) → HasFed settings chunk bytes self
             → JudgedBy settings 0 bytes (Refused refusal))) }
+        ensures lost { IsLost self → IsErr result }
     {
         let Indexer {
             alloc,

@@ -95,7 +95,7 @@ fn block_at(level: &[Entry], n: usize) -> &[Entry]
 }
 
 /// How many blocks a level has.
-fn block_count(entries: usize) -> usize
+pub(crate) fn block_count(entries: usize) -> usize
     ensures { IsCount 64 entries result }
 {
     if entries % BLOCK == 0 {

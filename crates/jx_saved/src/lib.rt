@@ -3,6 +3,7 @@
 #![tactic(auto)]
 
 mod chunk_size;
+mod decoding;
 mod digest;
 mod entry;
 mod held;
@@ -16,9 +17,10 @@ mod sum;
 mod tally;
 
 pub use chunk_size::ChunkSize;
+pub use decoding::SavedFault;
 pub use digest::digest_of;
 pub use entry::Entry;
 pub use index::Index;
 pub use indexer::Indexer;
-pub use laws::sums_are_joined;
+pub use laws::{indexes_have_their_levels, sums_are_joined};
 pub use sum::Sum;

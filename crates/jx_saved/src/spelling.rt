@@ -13,7 +13,7 @@ use jx_run::{FrontMark, NameRule, Settings};
 use std::alloc::{AllocError, Global};
 
 /// What the first bytes of an index say: it is one, of version 1.
-const TAG: [u8; 8] = [0x89, 0x6A, 0x78, 0x69, 0x64, 0x78, 0x0A, 0x01];
+pub(crate) const TAG: [u8; 8] = [0x89, 0x6A, 0x78, 0x69, 0x64, 0x78, 0x0A, 0x01];
 
 fn flags(begins: bool, ends: bool) -> u8
     ensures { result ≡ flags begins ends }

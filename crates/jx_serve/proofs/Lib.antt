@@ -1,3 +1,4 @@
+pub mod AllShown
 pub mod Documents
 pub mod LastHolding
 pub mod Outlines

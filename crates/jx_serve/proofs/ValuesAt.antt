@@ -18,7 +18,9 @@ use Rattle.jx_run.specs.declared.texts.settings.Settings.{Settings}
 use Rattle.jx_run.specs.declared.texts.verdict.Refusal.{Refusal}
 use Rattle.jx_wire.specs.declared.call.Place.{Place}
 use Rattle.jx_serve.specs.Changes.{HeldValue, position}
-use Rattle.jx_serve.specs.Values.{HasNoValueAt, no_text, in_none, IsFoundAt, IsHovered, IsInNone, IsInnermost, IsValueAt}
+use Rattle.jx_complete.specs.Completed.{IsCompleted}
+use Rattle.jx_serve.specs.Values.{any_names, in_no_value, HasNoHover, HasNoValueAt, no_text, in_none, IsFoundAt, IsHovered, IsInNone, IsInnermost, IsValueAt}
+use Rattle.jx_serve.proofs.Outlines.{not_refused}
 use Rattle.jx_serve.specs.declared.hover.Hover.{Hover}
 use Rattle.jx_serve.specs.declared.under_cursor.ValueAt.{ValueAt}
 
@@ -67,10 +69,16 @@ held_by settings text offset number told index table row pointer law a e r i g l
       led = led_in index text settings.depth number q.tree pointer q.text (law q) l;
     }
 
-pub no_value : (s t : Settings) (xs ys : List ℕ) (i j : ℕ) (value : Option ValueAt) → s ≡ t → xs ≡ ys → i ≡ j → value ≡ None → IsFoundAt s xs i value → HasNoValueAt t ys j
-no_value s t xs ys i j value e f g n found =
-    let x : IsFoundAt s xs i None = subst (IsFoundAt s xs i) n found in
-    subst (λ z. HasNoValueAt z ys j) e (subst (λ z. HasNoValueAt s z j) f (subst (λ z. HasNoValueAt s xs z) g x))
+-- nothing is found in a text that stands in the place of bytes
+no_hover_by : (settings : Settings) (bytes text : List ℕ) (kept offset : ℕ) → IsCompleted (any_names settings) bytes text kept → HasNoValueAt (any_names settings) text offset → HasNoHover settings bytes offset
+no_hover_by settings bytes text kept offset c (no_text verdict) = absurd (not_refused settings text c.tree _ c.is_text verdict)
+no_hover_by settings bytes text kept offset c (in_none is_text none) = in_no_value c is_text none
+
+pub no_hover : (settings s : Settings) (bytes text : List ℕ) (kept offset : ℕ) (value : Option ValueAt) → s ≡ any_names settings → IsCompleted (any_names settings) bytes text kept → value ≡ None
+    → IsFoundAt s text offset value → HasNoHover settings bytes offset
+no_hover settings s bytes text kept offset value is c n found =
+    let x : IsFoundAt s text offset None = subst (IsFoundAt s text offset) n found in
+    no_hover_by settings bytes text kept offset c (subst (λ z. HasNoValueAt z text offset) is x)
 
 either : {A : Type 0} (b : Bool) → (b ≡ false → A) → (b ≡ true) ⊎ A
 either true f = inl refl
@@ -78,8 +86,8 @@ either false f = inr (f refl)
 
 pub none_shown : (e : Encoding) (place : Place) (h k : HeldValue) (hover : Option Hover) → h ≡ k → hover ≡ None
     → (h.lost ≡ false → IsHovered e h.settings h.bytes (offset_at e h.bytes (position place)) hover)
-    → (k.lost ≡ true) ⊎ HasNoValueAt k.settings k.bytes (offset_at e k.bytes (position place))
+    → (k.lost ≡ true) ⊎ HasNoHover k.settings k.bytes (offset_at e k.bytes (position place))
 none_shown e place h k hover v n f =
-    subst (λ (x : HeldValue). (x.lost ≡ true) ⊎ HasNoValueAt x.settings x.bytes (offset_at e x.bytes (position place))) v
+    subst (λ (x : HeldValue). (x.lost ≡ true) ⊎ HasNoHover x.settings x.bytes (offset_at e x.bytes (position place))) v
     (either h.lost (λ (l : h.lost ≡ false). let x : IsHovered e h.settings h.bytes (offset_at e h.bytes (position place)) None =
     subst (IsHovered e h.settings h.bytes (offset_at e h.bytes (position place))) n (f l) in x))

@@ -1,6 +1,7 @@
 pub mod Changes
 pub mod Marks
 pub mod Messages
+pub mod Selections
 pub mod Served
 pub mod Standing
 pub mod Steps

@@ -1,22 +1,22 @@
 -- What a server knows of its client, and what it may tell it.
-use Rattle.std.specs.Prelude.{◌≡◌, ◌⊎◌, ℕ, List, Option, None, Some, false, true, fold, map, position, slice_get, slice_set, MatchOption, Vec}
+use Rattle.std.specs.Prelude.{◌≡◌, ◌⊎◌, ℕ, List, Bool, Option, None, Some, false, true, fold, map, position, slice_get, slice_set, MatchOption, Vec}
 use Rattle.std.specs.Global.{Global}
 use Rattle.std.specs.Str.{bytes_eq}
 use Rattle.jx_edit.specs.declared.encoding.Encoding.{Encoding}
 use Rattle.jx_edit.specs.Positions.{offset_at}
 use Rattle.jx_index.specs.ByNames.{IsVerdictBy}
 use Rattle.jx_run.specs.declared.texts.settings.Settings.{Settings}
-use Rattle.jx_run.specs.declared.texts.verdict.Refusal.{Refusal}
 use Rattle.jx_run.specs.declared.texts.verdict.Verdict.{Verdict}
-use Rattle.jx_run.specs.declared.texts.verdict.Verdict.TheVariants as verdict
 use Rattle.jx_wire.specs.declared.call.Change.{Change}
 use Rattle.jx_wire.specs.declared.call.Place.{Place}
 use Rattle.jx_serve.specs.Changes.{HeldValue, changed, lose, position as place_of}
 use Rattle.jx_serve.specs.Marks.{told}
-use Rattle.jx_serve.specs.Values.{HasNoValueAt, IsHoverAt, IsOutline}
+use Rattle.jx_serve.specs.Selections.{AreSelections}
+use Rattle.jx_serve.specs.Values.{any_names, HasNoHover, IsHoverAt, IsOutline}
+use Rattle.jx_complete.specs.Completed.{IsCutInMark}
 use Rattle.jx_serve.specs.declared.reply.Code.TheVariants.{RequestFailed}
 use Rattle.jx_serve.specs.declared.reply.Reply.{Reply}
-use Rattle.jx_serve.specs.declared.reply.Reply.TheVariants.{Nothing, Initialized, Null, Hovered, Outlined, Refused, Published, Closed, Logged}
+use Rattle.jx_serve.specs.declared.reply.Reply.TheVariants.{Nothing, Initialized, Null, Hovered, Outlined, Folded, Selected, Refused, Published, Closed, Logged}
 use Rattle.jx_serve.specs.declared.server.Phase.{Phase}
 
 -- a document that is open: what its name stands for, how that is spelt in messages, and its bytes
@@ -29,6 +29,8 @@ pub record ServerValue : Type 0 where
   pub phase : Phase
   pub encoding : Encoding
   pub settings : Settings
+  -- the client shows symbols in symbols
+  pub nested : Bool
   pub documents : List OpenValue
 
 -- the number of the first document of a name
@@ -77,7 +79,9 @@ TellsOf document Nothing = Unit {0}
 TellsOf document (Initialized id utf8) = Unit {0}
 TellsOf document (Null id) = Unit {0}
 TellsOf document (Hovered id hover) = Unit {0}
-TellsOf document (Outlined id uri outline) = Unit {0}
+TellsOf document (Outlined id uri nested outline) = Unit {0}
+TellsOf document (Folded id outline) = Unit {0}
+TellsOf document (Selected id selections) = Unit {0}
 TellsOf document (Refused id code refusal) = Unit {0}
 TellsOf document (Published uri version mark) = IsVerdictOn document uri.items (told mark)
 TellsOf document (Closed uri) = Unit {0}
@@ -96,7 +100,9 @@ IsQuiet Nothing = Unit {0}
 IsQuiet (Initialized id utf8) = Unit {0}
 IsQuiet (Null id) = Unit {0}
 IsQuiet (Hovered id hover) = Unit {0}
-IsQuiet (Outlined id uri outline) = Unit {0}
+IsQuiet (Outlined id uri nested outline) = Unit {0}
+IsQuiet (Folded id outline) = Unit {0}
+IsQuiet (Selected id selections) = Unit {0}
 IsQuiet (Refused id code refusal) = Unit {0}
 IsQuiet (Published uri version mark) = ⊥
 IsQuiet (Closed uri) = Unit {0}
@@ -111,7 +117,9 @@ HasVersion version Nothing = Unit {0}
 HasVersion version (Initialized id utf8) = Unit {0}
 HasVersion version (Null id) = Unit {0}
 HasVersion version (Hovered id hover) = Unit {0}
-HasVersion version (Outlined id uri outline) = Unit {0}
+HasVersion version (Outlined id uri nested outline) = Unit {0}
+HasVersion version (Folded id outline) = Unit {0}
+HasVersion version (Selected id selections) = Unit {0}
 HasVersion version (Refused id code refusal) = Unit {0}
 HasVersion version (Published uri told mark) = told ≡ version
 HasVersion version (Closed uri) = Unit {0}
@@ -125,7 +133,9 @@ IsAnswer (Some id) Nothing = ⊥
 IsAnswer (Some id) (Initialized other utf8) = other ≡ id
 IsAnswer (Some id) (Null other) = other ≡ id
 IsAnswer (Some id) (Hovered other hover) = other ≡ id
-IsAnswer (Some id) (Outlined other uri outline) = other ≡ id
+IsAnswer (Some id) (Outlined other uri nested outline) = other ≡ id
+IsAnswer (Some id) (Folded other outline) = other ≡ id
+IsAnswer (Some id) (Selected other selections) = other ≡ id
 IsAnswer (Some id) (Refused other code refusal) = other ≡ Some id
 IsAnswer (Some id) (Published uri version mark) = ⊥
 IsAnswer (Some id) (Closed uri) = ⊥
@@ -134,7 +144,9 @@ IsAnswer None Nothing = Unit {0}
 IsAnswer None (Initialized other utf8) = ⊥
 IsAnswer None (Null other) = ⊥
 IsAnswer None (Hovered other hover) = ⊥
-IsAnswer None (Outlined other uri outline) = ⊥
+IsAnswer None (Outlined other uri nested outline) = ⊥
+IsAnswer None (Folded other outline) = ⊥
+IsAnswer None (Selected other selections) = ⊥
 IsAnswer None (Refused other code refusal) = ⊥
 IsAnswer None (Published uri version mark) = Unit {0}
 IsAnswer None (Closed uri) = Unit {0}
@@ -153,38 +165,73 @@ IsNull (Null id) = Unit {0}
 IsNull Nothing = ⊥
 IsNull (Initialized id utf8) = ⊥
 IsNull (Hovered id hover) = ⊥
-IsNull (Outlined id uri outline) = ⊥
+IsNull (Outlined id uri nested outline) = ⊥
+IsNull (Folded id outline) = ⊥
+IsNull (Selected id selections) = ⊥
 IsNull (Refused id code refusal) = ⊥
 IsNull (Published uri version mark) = ⊥
 IsNull (Closed uri) = ⊥
 IsNull (Logged trouble) = ⊥
 
--- the value at a place of a document, or null where its bytes are lost or no value is there, or that memory was refused
+-- the value at a place of a document, or null where its bytes are lost or no value is there before the fault, or that memory was refused
 abbrev pub IsHoverIn : Encoding → Place → Reply → OpenValue → Type 0
 IsHoverIn e place (Hovered id hover) document =
     (document.held.lost ≡ false) × IsHoverAt e document.held.settings document.held.bytes (offset_at e document.held.bytes (place_of place)) hover
 IsHoverIn e place (Null id) document =
-    (document.held.lost ≡ true) ⊎ HasNoValueAt document.held.settings document.held.bytes (offset_at e document.held.bytes (place_of place))
+    (document.held.lost ≡ true) ⊎ HasNoHover document.held.settings document.held.bytes (offset_at e document.held.bytes (place_of place))
 IsHoverIn e place (Refused id code refusal) document = code ≡ RequestFailed
 IsHoverIn e place Nothing document = ⊥
 IsHoverIn e place (Initialized id utf8) document = ⊥
-IsHoverIn e place (Outlined id uri outline) document = ⊥
+IsHoverIn e place (Outlined id uri nested outline) document = ⊥
+IsHoverIn e place (Folded id outline) document = ⊥
+IsHoverIn e place (Selected id selections) document = ⊥
 IsHoverIn e place (Published uri version mark) document = ⊥
 IsHoverIn e place (Closed uri) document = ⊥
 IsHoverIn e place (Logged trouble) document = ⊥
 
--- the first values of a document, or null where its bytes are lost or no text, or that memory was refused
-abbrev pub IsOutlineIn : Encoding → Reply → OpenValue → Type 0
-IsOutlineIn e (Outlined id uri outline) document =
-    (uri.items ≡ document.spelt) × (document.held.lost ≡ false) × IsOutline e document.held.settings document.held.bytes outline
-IsOutlineIn e (Null id) document = (document.held.lost ≡ true) ⊎ ((refusal : Refusal) × IsVerdictBy document.held.settings document.held.bytes (verdict.Refused refusal))
-IsOutlineIn e (Refused id code refusal) document = code ≡ RequestFailed
-IsOutlineIn e Nothing document = ⊥
-IsOutlineIn e (Initialized id utf8) document = ⊥
-IsOutlineIn e (Hovered id hover) document = ⊥
-IsOutlineIn e (Published uri version mark) document = ⊥
-IsOutlineIn e (Closed uri) document = ⊥
-IsOutlineIn e (Logged trouble) document = ⊥
+-- the first values of a document, or null where its bytes are lost or have no value before the fault, or that memory was refused
+abbrev pub IsOutlineIn : Encoding → Bool → Reply → OpenValue → Type 0
+IsOutlineIn e inside (Outlined id uri nested outline) document =
+    (uri.items ≡ document.spelt) × (nested ≡ inside) × (document.held.lost ≡ false) × IsOutline e document.held.settings document.held.bytes outline
+IsOutlineIn e inside (Null id) document = (document.held.lost ≡ true) ⊎ IsCutInMark (any_names document.held.settings) document.held.bytes
+IsOutlineIn e inside (Refused id code refusal) document = code ≡ RequestFailed
+IsOutlineIn e inside Nothing document = ⊥
+IsOutlineIn e inside (Initialized id utf8) document = ⊥
+IsOutlineIn e inside (Hovered id hover) document = ⊥
+IsOutlineIn e inside (Folded id outline) document = ⊥
+IsOutlineIn e inside (Selected id selections) document = ⊥
+IsOutlineIn e inside (Published uri version mark) document = ⊥
+IsOutlineIn e inside (Closed uri) document = ⊥
+IsOutlineIn e inside (Logged trouble) document = ⊥
+
+-- the same to fold
+abbrev pub AreFoldsIn : Encoding → Reply → OpenValue → Type 0
+AreFoldsIn e (Folded id outline) document = (document.held.lost ≡ false) × IsOutline e document.held.settings document.held.bytes outline
+AreFoldsIn e (Null id) document = (document.held.lost ≡ true) ⊎ IsCutInMark (any_names document.held.settings) document.held.bytes
+AreFoldsIn e (Refused id code refusal) document = code ≡ RequestFailed
+AreFoldsIn e Nothing document = ⊥
+AreFoldsIn e (Initialized id utf8) document = ⊥
+AreFoldsIn e (Hovered id hover) document = ⊥
+AreFoldsIn e (Outlined id uri nested outline) document = ⊥
+AreFoldsIn e (Selected id selections) document = ⊥
+AreFoldsIn e (Published uri version mark) document = ⊥
+AreFoldsIn e (Closed uri) document = ⊥
+AreFoldsIn e (Logged trouble) document = ⊥
+
+-- what stands around places of a document, or null where its bytes are lost or have no value before the fault, or that memory was refused
+abbrev pub AreAroundIn : Encoding → List Place → Reply → OpenValue → Type 0
+AreAroundIn e places (Selected id selections) document =
+    (document.held.lost ≡ false) × AreSelections e document.held.settings document.held.bytes places selections.items
+AreAroundIn e places (Null id) document = (document.held.lost ≡ true) ⊎ IsCutInMark (any_names document.held.settings) document.held.bytes
+AreAroundIn e places (Refused id code refusal) document = code ≡ RequestFailed
+AreAroundIn e places Nothing document = ⊥
+AreAroundIn e places (Initialized id utf8) document = ⊥
+AreAroundIn e places (Hovered id hover) document = ⊥
+AreAroundIn e places (Outlined id uri nested outline) document = ⊥
+AreAroundIn e places (Folded id outline) document = ⊥
+AreAroundIn e places (Published uri version mark) document = ⊥
+AreAroundIn e places (Closed uri) document = ⊥
+AreAroundIn e places (Logged trouble) document = ⊥
 
 -- what is answered of the first document of a name; null where there is none
 abbrev pub IsHover : ServerValue → List ℕ → Place → Reply → Type 0
@@ -193,4 +240,12 @@ IsHover server name place reply =
 
 abbrev pub AreSymbols : ServerValue → List ℕ → Reply → Type 0
 AreSymbols server name reply =
-    MatchOption (number_named name server.documents) (IsNull reply) (λ number. IsOf server.documents number (IsOutlineIn server.encoding reply))
+    MatchOption (number_named name server.documents) (IsNull reply) (λ number. IsOf server.documents number (IsOutlineIn server.encoding server.nested reply))
+
+abbrev pub AreFolds : ServerValue → List ℕ → Reply → Type 0
+AreFolds server name reply =
+    MatchOption (number_named name server.documents) (IsNull reply) (λ number. IsOf server.documents number (AreFoldsIn server.encoding reply))
+
+abbrev pub AreAround : ServerValue → List ℕ → List Place → Reply → Type 0
+AreAround server name places reply =
+    MatchOption (number_named name server.documents) (IsNull reply) (λ number. IsOf server.documents number (AreAroundIn server.encoding places reply))

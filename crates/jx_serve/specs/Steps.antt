@@ -23,11 +23,11 @@ use Rattle.jx_wire.specs.declared.request_fault.RequestFault.{RequestFault}
 use Rattle.jx_wire.specs.declared.request_fault.RequestFault.TheVariants as fault
 use Rattle.jx_serve.specs.Changes.{changed, held}
 use Rattle.jx_serve.specs.Marks.{told, IsPlaced}
-use Rattle.jx_serve.specs.Served.{all_lost, number_named, AreMadeAt, AreSymbols, IsHover, IsVerdictOn, OpenValue, ServerValue}
+use Rattle.jx_serve.specs.Served.{all_lost, number_named, AreAround, AreFolds, AreMadeAt, AreSymbols, IsHover, IsVerdictOn, OpenValue, ServerValue}
 use Rattle.jx_serve.specs.declared.reply.Code.{Code}
 use Rattle.jx_serve.specs.declared.reply.Code.TheVariants.{ParseError, InvalidRequest, MethodNotFound, InvalidParams, NotInitialized}
 use Rattle.jx_serve.specs.declared.reply.Reply.{Reply}
-use Rattle.jx_serve.specs.declared.reply.Reply.TheVariants.{Nothing, Initialized, Null, Hovered, Outlined, Refused, Published, Closed, Logged}
+use Rattle.jx_serve.specs.declared.reply.Reply.TheVariants.{Nothing, Initialized, Null, Hovered, Outlined, Folded, Selected, Refused, Published, Closed, Logged}
 use Rattle.jx_serve.specs.declared.reply.Trouble.TheVariants.{WrongParameters, NotOpen, Lost, Memory}
 use Rattle.jx_serve.specs.declared.server.Phase.{Phase}
 use Rattle.jx_serve.specs.declared.server.Phase.TheVariants.{New, Ready, Down, Ended}
@@ -52,7 +52,7 @@ encoding_agreed offer = if offer.utf8 then Utf8 else Utf16
 
 -- a server that no message has come to
 abbrev pub start : ServerValue
-start = record { phase = New; encoding = Utf16; settings = record { depth = 512; mark = mark.Refused; names = names.Any }; documents = [] }
+start = record { phase = New; encoding = Utf16; settings = record { depth = 512; mark = mark.Refused; names = names.Any }; nested = false; documents = [] }
 
 -- ---- what becomes of documents
 
@@ -84,7 +84,9 @@ IsToldOf e version document Nothing = ⊥
 IsToldOf e version document (Initialized id utf8) = ⊥
 IsToldOf e version document (Null id) = ⊥
 IsToldOf e version document (Hovered id hover) = ⊥
-IsToldOf e version document (Outlined id uri outline) = ⊥
+IsToldOf e version document (Outlined id uri nested outline) = ⊥
+IsToldOf e version document (Folded id outline) = ⊥
+IsToldOf e version document (Selected id selections) = ⊥
 IsToldOf e version document (Refused id code refusal) = ⊥
 IsToldOf e version document (Closed uri) = ⊥
 
@@ -121,13 +123,15 @@ Refuses code id before after reply = (after ≡ before) × (reply ≡ Refused (S
 
 abbrev pub AnswersNew : Vec ℕ Global → Call → ServerValue → ServerValue → Reply → Type 0
 AnswersNew id (call.Initialize offer) before after reply =
-    (after ≡ record before { phase = Ready; encoding = encoding_agreed offer; settings = settings_asked offer }) × (reply ≡ Initialized id offer.utf8)
+    (after ≡ record before { phase = Ready; encoding = encoding_agreed offer; settings = settings_asked offer; nested = offer.nested }) × (reply ≡ Initialized id offer.utf8)
 AnswersNew id asked before after reply = Refuses NotInitialized id before after reply
 
 abbrev pub AnswersReady : Vec ℕ Global → Call → ServerValue → ServerValue → Reply → Type 0
 AnswersReady id call.Shutdown before after reply = (after ≡ record before { phase = Down }) × (reply ≡ Null id)
 AnswersReady id (call.Hover uri place) before after reply = (after ≡ before) × IsHover before uri.name.items place reply
 AnswersReady id (call.Symbols uri) before after reply = (after ≡ before) × AreSymbols before uri.name.items reply
+AnswersReady id (call.Folds uri) before after reply = (after ≡ before) × AreFolds before uri.name.items reply
+AnswersReady id (call.Selection uri places) before after reply = (after ≡ before) × AreAround before uri.name.items places.items reply
 AnswersReady id call.WrongParameters before after reply = Refuses InvalidParams id before after reply
 AnswersReady id (call.Initialize offer) before after reply = Refuses InvalidRequest id before after reply
 AnswersReady id asked before after reply = Refuses MethodNotFound id before after reply

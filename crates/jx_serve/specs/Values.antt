@@ -1,5 +1,6 @@
 -- The value at an offset of a document, and how it is shown.
-use Rattle.std.specs.Prelude.{◌≡◌, ℕ, ◌<◌, ◌&&◌, nat_le, nat_lt, List, Bool, true, false, Option, None, Some, Ok, IfSome, map, slice_get, take}
+use Rattle.std.specs.Prelude.{◌≡◌, ℕ, ◌<◌, ◌≤◌, ◌&&◌, min, nat_le, nat_lt, List, Bool, true, false, Option, None, Some, Ok, IfSome, map, position, slice_get, take}
+use Rattle.jx_complete.specs.Completed.{IsCompleted, IsCutInMark}
 use Rattle.jx_edit.specs.Positions.{position_at}
 use Rattle.jx_edit.specs.declared.encoding.Encoding.{Encoding}
 use Rattle.jx_index.specs.ByNames.{IsVerdictBy}
@@ -9,6 +10,7 @@ use Rattle.jx_index.specs.Rows.{rows}
 use Rattle.jx_index.specs.declared.row.Row.{Row}
 use Rattle.jx_run.specs.Settings.{IsDocumentBy}
 use Rattle.jx_run.specs.Tree.{Tree}
+use Rattle.jx_run.specs.declared.texts.settings.NameRule.TheVariants.{Any}
 use Rattle.jx_run.specs.declared.texts.settings.Settings.{Settings}
 use Rattle.jx_run.specs.declared.texts.verdict.Refusal.{Refusal}
 use Rattle.jx_run.specs.declared.texts.verdict.Verdict.TheVariants.{Refused}
@@ -59,33 +61,57 @@ IsFoundAt settings bytes offset (Some value) = IsValueAt settings bytes offset v
 
 -- ---- how it is shown
 
--- the innermost value at an offset, with the positions of both its ends
+-- the same settings, whatever names objects have
+abbrev pub any_names : Settings → Settings
+any_names settings = record settings { names = Any }
+
+-- the innermost value at an offset before the fault, and the positions of both its ends. It is a value of the text that stands in
+-- the place of the bytes, and is shown as far as that has bytes of theirs
 pub record IsHoverAt (e : Encoding) (settings : Settings) (bytes : List ℕ) (offset : ℕ) (hover : Hover) : Type 0 where
-  pub is_value : IsValueAt settings bytes offset hover.value
+  pub text : List ℕ
+  pub is_completed : IsCompleted (any_names settings) bytes text hover.kept
+  pub before : offset < hover.kept
+  pub is_value : IsValueAt (any_names settings) text offset hover.value
   pub start_is : hover.start ≡ position_at e bytes hover.value.row.span.start
-  pub end_is : hover.end ≡ position_at e bytes hover.value.row.span.end
+  pub end_is : hover.end ≡ position_at e bytes (min hover.kept hover.value.row.span.end)
+
+-- no value begins before the fault, or the offset does not stand before it, or in no value
+pub data HasNoHover (settings : Settings) (bytes : List ℕ) (offset : ℕ) : Type 0 where
+  in_mark : IsCutInMark (any_names settings) bytes → HasNoHover settings bytes offset
+  behind : {text : List ℕ} {kept : ℕ} → IsCompleted (any_names settings) bytes text kept → kept ≤ offset → HasNoHover settings bytes offset
+  in_no_value : {text : List ℕ} {kept : ℕ} {tree : Tree} → IsCompleted (any_names settings) bytes text kept → IsDocumentBy (any_names settings) 0 text tree
+      → IsInNone (rows tree) offset → HasNoHover settings bytes offset
 
 abbrev pub IsHovered : Encoding → Settings → List ℕ → ℕ → Option Hover → Type 0
-IsHovered e settings bytes offset None = HasNoValueAt settings bytes offset
+IsHovered e settings bytes offset None = HasNoHover settings bytes offset
 IsHovered e settings bytes offset (Some hover) = IsHoverAt e settings bytes offset hover
 
 -- ---- the values of a text
 
--- a row with the positions of both ends of its span
-abbrev pub symbol_of : Encoding → List ℕ → Row → Symbol
-symbol_of e bytes row = record { row = row; start = position_at e bytes row.span.start; end = position_at e bytes row.span.end }
+-- a row with the positions of both ends of its span, as far as so many bytes go
+abbrev pub symbol_of : Encoding → List ℕ → ℕ → Row → Symbol
+symbol_of e bytes kept row = record { row = row; start = position_at e bytes row.span.start; end = position_at e bytes (min kept row.span.end) }
+
+abbrev pub before_at : Option ℕ → List Row → List Row
+before_at None table = table
+before_at (Some number) table = take number table
+
+-- the rows before the first that does not begin before an offset
+abbrev pub rows_before : ℕ → List Row → List Row
+rows_before kept table = before_at (position (λ (row : Row). nat_le kept row.span.start) table) table
 
 -- at most so many are listed
 abbrev pub most_symbols : ℕ
 most_symbols = 10000
 
--- the first values of a text, in the order of their starts
+-- the first values that begin before the fault, in the order of their starts, each as far as its bytes stand before it
 pub record IsOutline (e : Encoding) (settings : Settings) (bytes : List ℕ) (outline : Outline) : Type 0 where
+  pub kept : ℕ
+  pub is_completed : IsCompleted (any_names settings) bytes outline.text.items kept
   pub tree : Tree
-  pub is_text : IsDocumentBy settings 0 bytes tree
-  pub text_is : outline.text.items ≡ bytes
-  pub symbols_are : outline.symbols.items ≡ map (symbol_of e bytes) (take most_symbols (rows tree))
+  pub is_text : IsDocumentBy (any_names settings) 0 outline.text.items tree
+  pub symbols_are : outline.symbols.items ≡ map (symbol_of e bytes kept) (take most_symbols (rows_before kept (rows tree)))
 
 abbrev pub IsOutlined : Encoding → Settings → List ℕ → Option Outline → Type 0
-IsOutlined e settings bytes None = (refusal : Refusal) × IsVerdictBy settings bytes (Refused refusal)
+IsOutlined e settings bytes None = IsCutInMark (any_names settings) bytes
 IsOutlined e settings bytes (Some outline) = IsOutline e settings bytes outline

@@ -10,7 +10,7 @@ use Rattle.jx_serve.specs.declared.mark.Mark.{Mark}
 use Rattle.jx_serve.specs.declared.reply.Code.{Code}
 use Rattle.jx_serve.specs.declared.reply.Code.TheVariants as wrong
 use Rattle.jx_serve.specs.declared.reply.Reply.{Reply}
-use Rattle.jx_serve.specs.declared.reply.Reply.TheVariants.{Nothing, Initialized, Null, Hovered, Outlined, Refused, Published, Closed, Logged}
+use Rattle.jx_serve.specs.declared.reply.Reply.TheVariants.{Nothing, Initialized, Null, Hovered, Outlined, Folded, Selected, Refused, Published, Closed, Logged}
 use Rattle.jx_serve.specs.declared.reply.Trouble.{Trouble}
 use Rattle.jx_serve.specs.declared.reply.Trouble.TheVariants as trouble
 
@@ -60,7 +60,7 @@ encoding_member false = []
 abbrev pub initialized : List ℕ → Bool → List ℕ
 initialized id utf8 = concat (
     codes "{\"jsonrpc\":\"2.0\",\"id\":" ∷ id ∷ codes ",\"result\":{\"capabilities\":{" ∷ encoding_member utf8
-    ∷ codes "\"textDocumentSync\":{\"openClose\":true,\"change\":2},\"hoverProvider\":true,\"documentSymbolProvider\":true},"
+    ∷ codes "\"textDocumentSync\":{\"openClose\":true,\"change\":2},\"hoverProvider\":true,\"documentSymbolProvider\":true,\"foldingRangeProvider\":true,\"selectionRangeProvider\":true},"
     ∷ codes "\"serverInfo\":{\"name\":\"jx-lsp\",\"version\":\"" ∷ codes "0.2.0" ∷ codes "\"}}}" ∷ []
     )
 
@@ -128,7 +128,9 @@ IsMessageOf Nothing message = message ≡ []
 IsMessageOf (Initialized id utf8) message = message ≡ initialized id.items utf8
 IsMessageOf (Null id) message = message ≡ null_of id.items
 IsMessageOf (Hovered id hover) message = Unit {0}
-IsMessageOf (Outlined id uri outline) message = Unit {0}
+IsMessageOf (Outlined id uri nested outline) message = Unit {0}
+IsMessageOf (Folded id outline) message = Unit {0}
+IsMessageOf (Selected id selections) message = Unit {0}
 IsMessageOf (Refused id code refusal) message = message ≡ refused id code refusal
 IsMessageOf (Published uri version mark) message = message ≡ published uri.items version mark
 IsMessageOf (Closed uri) message = message ≡ published uri.items None None

@@ -1,17 +1,21 @@
 // A document that a client has open.
-ghost use Rattle.std.specs.Prelude.{◌≡◌, ◌≤◌, length, not, false, true, None, IfOk, IfSome, OnErr, OnOk, fold, is_some};
+ghost use Rattle.std.specs.Prelude.{◌≡◌, ◌≤◌, ◌<◌, length, not, false, true, None, IfOk, IfSome, OnErr, OnOk, fold, is_some};
 ghost use Rattle.jx_edit.specs.declared.encoding.Encoding.{Encoding};
 ghost use Rattle.jx_index.specs.ByNames.{IsVerdictBy};
 ghost use Rattle.jx_serve.specs.Changes.{changed, held, lose, position, replaced};
 ghost use Rattle.jx_serve.specs.Marks.{told, IsPlaced};
-ghost use Rattle.jx_serve.specs.Values.{IsHovered, IsOutlined};
+ghost use Rattle.jx_serve.specs.Values.{any_names, IsHovered, IsOutline, IsOutlined};
+ghost use Rattle.jx_serve.specs.Selections.{AreSelected, AreSelections};
+ghost use Rattle.jx_complete.specs.Completed.{IsCompleted, IsCutInMark};
 ghost use Rattle.jx_serve.specs.inside.Names.{IsHeld};
 ghost use Rattle.jx_edit.specs.Positions.{offset_at};
 
 use crate::hover::Hover;
 use crate::mark::{Mark, mark_of};
+use crate::selections::{Selection, selections_of};
 use crate::symbols::{Outline, symbols_of};
 use crate::under_cursor::value_at;
+use jx_complete::{Completed, complete};
 use jx_edit::{Document, EditFault, Encoding, Position};
 use jx_index::{names_are_refused_by_rows, read_rows, verdict_with_unique_names};
 use jx_run::{NameRule, NoPause, Settings, Verdict};
@@ -172,8 +176,8 @@ impl Held {
         Ok(())
     }
 
-    /// The innermost value at a place, with its positions (RFC 8259); none where the bytes are lost or refused by the settings,
-    /// or where no value stands there. A copy of all bytes is read.
+    /// The innermost value at a place before the fault, with its positions (RFC 8259), whatever names objects have; none where the
+    /// bytes are lost, or where no value stands there before the fault. A copy of all bytes is read.
     pub fn hover(&self, place: Place, encoding: Encoding) -> Result<Option<Hover>, AllocError>
         ensures lost { self.now.lost ≡ true → IfOk result (λ hover. hover ≡ None) }
         ensures value { self.now.lost ≡ false → IfOk result (IsHovered encoding self.now.settings self.now.bytes (offset_at encoding self.now.bytes (position place))) }
@@ -182,19 +186,46 @@ impl Held {
             return Ok(None);
         }
         let offset = self.document.offset_of(position_of(place), encoding);
-        let bytes = self.copy()?;
-        match value_at(self.alloc, &bytes, &self.settings, offset)? {
+        let Some(completed) = self.completed()? else {
+            return Ok(None);
+        };
+        if completed.kept <= offset {
+            return Ok(None);
+        }
+        self.hover_in(&completed, offset, encoding)
+    }
+
+    /// The innermost value of a completed text at an offset.
+    fn hover_in(
+        &self,
+        completed: &Completed,
+        offset: usize,
+        encoding: Encoding,
+    ) -> Result<Option<Hover>, AllocError>
+        requires completed { IsCompleted (any_names self.now.settings) self.now.bytes completed.now.text.items completed.now.kept }
+        requires before { offset < completed.now.kept }
+        ensures { IfOk result (IsHovered encoding self.now.settings self.now.bytes offset) }
+    {
+        let settings = self.document.settings();
+        match value_at(self.alloc, &completed.text, &settings, offset)? {
             None => Ok(None),
             Some(value) => {
+                let kept = completed.kept;
+                let end = kept.min(value.row.span.end);
                 let start = self.document.position_of(value.row.span.start, encoding);
-                let end = self.document.position_of(value.row.span.end, encoding);
-                Ok(Some(Hover { value, start, end }))
+                let end = self.document.position_of(end, encoding);
+                Ok(Some(Hover {
+                    value,
+                    kept,
+                    start,
+                    end,
+                }))
             }
         }
     }
 
-    /// The first 10,000 values, with their positions (RFC 8259); none where the bytes are lost or refused by the settings. A
-    /// copy of all bytes is read.
+    /// The first 10,000 values that begin before the fault, with their positions (RFC 8259), whatever names objects have; none
+    /// where the bytes are lost, or begin no more than a byte order mark before the fault. A copy of all bytes is read.
     pub fn symbols(&self, encoding: Encoding) -> Result<Option<Outline>, AllocError>
         ensures lost { self.now.lost ≡ true → IfOk result (λ outline. outline ≡ None) }
         ensures values { self.now.lost ≡ false → IfOk result (IsOutlined encoding self.now.settings self.now.bytes) }
@@ -202,14 +233,89 @@ impl Held {
         if self.lost {
             return Ok(None);
         }
-        let text = self.copy()?;
-        match read_rows(self.alloc, &text, &self.settings)? {
-            Err(_) => Ok(None),
+        let Some(completed) = self.completed()? else {
+            return Ok(None);
+        };
+        let outline = self.outline_in(completed, encoding)?;
+        Ok(Some(outline))
+    }
+
+    /// The first 10,000 values of a completed text that begin before the fault.
+    fn outline_in(&self, completed: Completed, encoding: Encoding) -> Result<Outline, AllocError>
+        requires completed { IsCompleted (any_names self.now.settings) self.now.bytes completed.text.items completed.kept }
+        ensures { IfOk result (IsOutline encoding self.now.settings self.now.bytes) }
+    {
+        let settings = self.document.settings();
+        let kept = completed.kept;
+        match read_rows(self.alloc, &completed.text, &settings)? {
+            // What is completed is a text.
+            Err(_) => unreachable!(),
             Ok(rows) => {
-                let symbols = symbols_of(self.alloc, &self.document, &rows, encoding)?;
-                Ok(Some(Outline { text, symbols }))
+                let symbols = symbols_of(self.alloc, &self.document, &rows, kept, encoding)?;
+                let text = completed.text;
+                Ok(Outline { text, symbols })
             }
         }
+    }
+
+    /// What stands around each of some places before the fault, with its positions (RFC 8259), whatever names objects have; none
+    /// where the bytes are lost, or begin no more than a byte order mark before the fault. A copy of all bytes is read.
+    pub fn selections(
+        &self,
+        places: &[Place],
+        encoding: Encoding,
+    ) -> Result<Option<Vec<Selection>>, AllocError>
+        ensures lost { self.now.lost ≡ true → IfOk result (λ selections. selections ≡ None) }
+        ensures values { self.now.lost ≡ false → IfOk result (AreSelected encoding self.now.settings self.now.bytes places.now) }
+    {
+        if self.lost {
+            return Ok(None);
+        }
+        let Some(completed) = self.completed()? else {
+            return Ok(None);
+        };
+        let selections = self.selections_in(&completed, places, encoding)?;
+        Ok(Some(selections))
+    }
+
+    /// What stands around places of a completed text before the fault.
+    fn selections_in(
+        &self,
+        completed: &Completed,
+        places: &[Place],
+        encoding: Encoding,
+    ) -> Result<Vec<Selection>, AllocError>
+        requires completed { IsCompleted (any_names self.now.settings) self.now.bytes completed.now.text.items completed.now.kept }
+        ensures { IfOk result (λ selections. AreSelections encoding self.now.settings self.now.bytes places.now selections.items) }
+    {
+        let settings = self.document.settings();
+        let kept = completed.kept;
+        match read_rows(self.alloc, &completed.text, &settings)? {
+            // What is completed is a text.
+            Err(_) => unreachable!(),
+            Ok(rows) => {
+                let alloc = self.alloc;
+                let selections = selections_of(
+                    alloc,
+                    &self.document,
+                    &rows,
+                    kept,
+                    places,
+                    encoding,
+                )?;
+                Ok(selections)
+            }
+        }
+    }
+
+    /// What stands in the place of its bytes: the text that they are, or what stands before the fault, completed.
+    fn completed(&self) -> Result<Option<Completed>, AllocError>
+        ensures some { IfOk result (λ c. IfSome c (λ c. IsCompleted (any_names self.now.settings) self.now.bytes c.text.items c.kept)) }
+        ensures none { IfOk result (λ c. c ≡ None → IsCutInMark (any_names self.now.settings) self.now.bytes) }
+    {
+        let bytes = self.copy()?;
+        let settings = self.document.settings();
+        complete(self.alloc, bytes, &settings)
     }
 
     /// All bytes.
@@ -255,7 +361,7 @@ impl Held {
 }
 
 /// A place of a message as a position in a document.
-fn position_of(place: Place) -> Position
+pub(crate) fn position_of(place: Place) -> Position
     ensures { result ≡ position place }
 {
     Position {

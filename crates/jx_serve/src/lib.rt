@@ -1,12 +1,16 @@
 //! A language server as a state machine: a message goes in, and a reply comes out. It reads nothing and writes nothing.
 #![tactic(auto)]
 
+mod fold_words;
 mod held;
 mod hover;
 mod mark;
+mod nested_words;
 mod pointer_to;
 mod reply;
 mod reply_words;
+mod selection_words;
+mod selections;
 mod sentence;
 mod server;
 mod sorted_out;
@@ -20,6 +24,7 @@ pub use hover::Hover;
 pub use mark::{Mark, mark_of};
 pub use reply::{Code, Reply, Trouble};
 pub use reply_words::{ReplyFault, message_of};
+pub use selections::{Extent, Selection};
 pub use server::{Phase, Server};
 pub use sorted_out::{answer_to, broken_stream};
 pub use standing::standing_in;

@@ -1,6 +1,7 @@
 // What the server tells the client.
 use crate::hover::Hover;
 use crate::mark::Mark;
+use crate::selections::Selection;
 use crate::symbols::Outline;
 use jx_run::Refusal;
 
@@ -52,11 +53,22 @@ pub enum Reply {
         id: Vec<u8>,
         hover: Hover,
     },
-    /// The values of a document, whose name is spelt so.
+    /// The values of a document, whose name is spelt so. They are shown in each other, or one behind another.
     Outlined {
         id: Vec<u8>,
         uri: Vec<u8>,
+        nested: bool,
         outline: Outline,
+    },
+    /// The values of a document, of which those over several lines can be folded.
+    Folded {
+        id: Vec<u8>,
+        outline: Outline,
+    },
+    /// What stands around places of a document, one for each.
+    Selected {
+        id: Vec<u8>,
+        selections: Vec<Selection>,
     },
     /// An answer by an error. A body that is no JSON text has its refusal.
     Refused {

@@ -5,8 +5,11 @@ ghost use Rattle.jx_run.specs.declared.texts.verdict.Verdict.TheVariants.{Accept
 ghost use Rattle.jx_serve.specs.Messages.{message_settings};
 ghost use Rattle.jx_serve.specs.Words.{diagnostic, initialized, logged, null_of, number_of_code, published, refused, word_of_refusal, words_of_code, words_of_id, words_of_place, words_of_refusal, words_of_trouble, IsMessageOf};
 
+use crate::fold_words::add_folded;
 use crate::mark::Mark;
+use crate::nested_words::add_nested;
 use crate::reply::{Code, Reply, Trouble};
+use crate::selection_words::add_selected;
 use crate::value_words::{add_all, add_hovered, add_outlined, add_range};
 use jx_index::verdict_with_unique_names;
 use jx_lex::Depth;
@@ -123,7 +126,7 @@ fn add_initialized(out: &mut Vec<u8>, id: &[u8], utf8: bool) -> Result<(), Alloc
             id,
             b",\"result\":{\"capabilities\":{",
             encoding,
-            b"\"textDocumentSync\":{\"openClose\":true,\"change\":2},\"hoverProvider\":true,\"documentSymbolProvider\":true},",
+            b"\"textDocumentSync\":{\"openClose\":true,\"change\":2},\"hoverProvider\":true,\"documentSymbolProvider\":true,\"foldingRangeProvider\":true,\"selectionRangeProvider\":true},",
             b"\"serverInfo\":{\"name\":\"jx-lsp\",\"version\":\"",
             VERSION.as_bytes(),
             b"\"}}}",
@@ -245,7 +248,20 @@ fn add_reply(alloc: Global, out: &mut Vec<u8>, reply: &Reply) -> Result<(), Allo
         Reply::Initialized { id, utf8 } => add_initialized(out, id, *utf8),
         Reply::Null { id } => add_null(out, id),
         Reply::Hovered { id, hover } => add_hovered(alloc, out, id, hover),
-        Reply::Outlined { id, uri, outline } => add_outlined(alloc, out, id, uri, outline),
+        Reply::Outlined {
+            id,
+            uri,
+            nested,
+            outline,
+        } => {
+            if *nested {
+                add_nested(alloc, out, id, outline)
+            } else {
+                add_outlined(alloc, out, id, uri, outline)
+            }
+        }
+        Reply::Folded { id, outline } => add_folded(alloc, out, id, outline),
+        Reply::Selected { id, selections } => add_selected(alloc, out, id, selections),
         Reply::Refused { id, code, refusal } => add_refused(alloc, out, id, *code, *refusal),
         Reply::Published { uri, version, mark } => add_published(alloc, out, uri, version, mark),
         Reply::Closed { uri } => add_published(alloc, out, uri, &None, &None),

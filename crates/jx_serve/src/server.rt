@@ -1,7 +1,7 @@
 ghost use Rattle.std.specs.Prelude.{◌≡◌, ◌<◌, ◌++◌, ◌∷◌, [], ℕ, Option, Some, None, IfSome, OnOk, OnErr, Vec, false, length, map, slice_get};
 ghost use Rattle.std.specs.Global.{Global};
 ghost use Rattle.jx_index.specs.ByNames.{IsVerdictBy};
-ghost use Rattle.jx_serve.specs.Served.{all_lost, AreMade, AreMadeAt, AreSymbols, HasVersion, IsHover, IsHoverIn, IsOutlineIn, lost_open, number_named, IsAnswer, IsQuiet, OpenValue, TellsOf, TellsVerdict};
+ghost use Rattle.jx_serve.specs.Served.{all_lost, AreMade, AreAround, AreAroundIn, AreFolds, AreFoldsIn, AreMadeAt, AreSymbols, HasVersion, IsHover, IsHoverIn, IsOutlineIn, lost_open, number_named, IsAnswer, IsQuiet, OpenValue, TellsOf, TellsVerdict};
 ghost use Rattle.jx_serve.specs.Steps.{sent, settings_asked, start, with_documents, without, AnswersIn, AnswersNew, FollowsIn, IsChanged, IsClosed, IsOpened, IsToldOf, Leaves, Steps};
 
 use crate::held::Held;
@@ -103,16 +103,49 @@ impl Open {
     }
 
     /// The values of the document, as the answer to a request.
-    fn outlined(&self, alloc: Global, id: Vec<u8>, encoding: Encoding) -> Reply
+    fn outlined(&self, alloc: Global, id: Vec<u8>, nested: bool, encoding: Encoding) -> Reply
         ensures answers { IsAnswer (Some id) result }
         ensures quiet { IsQuiet result }
-        ensures shows { IsOutlineIn encoding result self.now }
+        ensures shows { IsOutlineIn encoding nested result self.now }
     {
         let Ok(uri) = Vec::from_slice(alloc, &self.uri.spelt) else {
             return refused(id, Code::RequestFailed);
         };
         match self.held.symbols(encoding) {
-            Ok(Some(outline)) => Reply::Outlined { id, uri, outline },
+            Ok(Some(outline)) => Reply::Outlined {
+                id,
+                uri,
+                nested,
+                outline,
+            },
+            Ok(None) => Reply::Null { id },
+            Err(AllocError) => refused(id, Code::RequestFailed),
+        }
+    }
+}
+
+impl Open {
+    /// The values of the document to fold, as the answer to a request.
+    fn folded(&self, id: Vec<u8>, encoding: Encoding) -> Reply
+        ensures answers { IsAnswer (Some id) result }
+        ensures quiet { IsQuiet result }
+        ensures shows { AreFoldsIn encoding result self.now }
+    {
+        match self.held.symbols(encoding) {
+            Ok(Some(outline)) => Reply::Folded { id, outline },
+            Ok(None) => Reply::Null { id },
+            Err(AllocError) => refused(id, Code::RequestFailed),
+        }
+    }
+
+    /// What stands around places of the document, as the answer to a request.
+    fn selected(&self, id: Vec<u8>, places: &[Place], encoding: Encoding) -> Reply
+        ensures answers { IsAnswer (Some id) result }
+        ensures quiet { IsQuiet result }
+        ensures shows { AreAroundIn encoding places.now result self.now }
+    {
+        match self.held.selections(places, encoding) {
+            Ok(Some(selections)) => Reply::Selected { id, selections },
             Ok(None) => Reply::Null { id },
             Err(AllocError) => refused(id, Code::RequestFailed),
         }
@@ -126,6 +159,7 @@ pub struct Server {
     phase: Phase,
     encoding: Encoding,
     settings: Settings,
+    nested: bool,
     documents: Vec<Open>,
 }
 
@@ -134,7 +168,7 @@ impl Model for Server {
 
     ghost Value = { ServerValue };
 
-    ghost view = { λ s. record { phase = s.phase; encoding = s.encoding; settings = s.settings; documents = s.documents.items } };
+    ghost view = { λ s. record { phase = s.phase; encoding = s.encoding; settings = s.settings; nested = s.nested; documents = s.documents.items } };
 }
 
 /// Forgets the bytes of all documents.
@@ -183,6 +217,7 @@ impl Server {
                 mark: FrontMark::Refused,
                 names: NameRule::Any,
             },
+            nested: false,
             documents: Vec::new(alloc),
         }
     }
@@ -231,13 +266,15 @@ impl Server {
             (Phase::Ready, Call::WrongParameters) => refused(id, Code::InvalidParams),
             (Phase::Ready, Call::Hover { uri, place }) => self.hover(id, &uri, place),
             (Phase::Ready, Call::Symbols(uri)) => self.symbols(id, &uri),
+            (Phase::Ready, Call::Folds(uri)) => self.folds(id, &uri),
+            (Phase::Ready, Call::Selection { uri, places }) => self.selections(id, &uri, &places),
             (Phase::Ready, _) => refused(id, Code::MethodNotFound),
             (Phase::Down | Phase::Ended { .. }, _) => refused(id, Code::InvalidRequest),
         }
     }
 
     /// Answers with the innermost value at a place of a document, with its pointer. Null where the document is not open, its
-    /// bytes are lost or refused, or no value stands there.
+    /// bytes are lost, or no value stands there before the fault.
     pub fn hover(&self, id: Vec<u8>, uri: &Uri, place: Place) -> Reply
         ensures answers { IsAnswer (Some id) result }
         ensures quiet { IsQuiet result }
@@ -249,7 +286,8 @@ impl Server {
         }
     }
 
-    /// Answers with the first 10,000 values of a document. Null where it is not open, or its bytes are lost or refused.
+    /// Answers with the first 10,000 values of a document that begin before the fault. Null where it is not open, or its bytes
+    /// are lost.
     pub fn symbols(&self, id: Vec<u8>, uri: &Uri) -> Reply
         ensures answers { IsAnswer (Some id) result }
         ensures quiet { IsQuiet result }
@@ -257,7 +295,35 @@ impl Server {
     {
         match self.number_of(&uri.name) {
             None => Reply::Null { id },
-            Some(number) => self.documents[number].outlined(self.alloc, id, self.encoding),
+            Some(number) => {
+                self.documents[number].outlined(self.alloc, id, self.nested, self.encoding)
+            }
+        }
+    }
+
+    /// Answers with the first 10,000 values of a document that begin before the fault: those over several lines can be folded.
+    /// Null where it is not open, or its bytes are lost.
+    pub fn folds(&self, id: Vec<u8>, uri: &Uri) -> Reply
+        ensures answers { IsAnswer (Some id) result }
+        ensures quiet { IsQuiet result }
+        ensures lists { AreFolds self.now uri.now.name.items result }
+    {
+        match self.number_of(&uri.name) {
+            None => Reply::Null { id },
+            Some(number) => self.documents[number].folded(id, self.encoding),
+        }
+    }
+
+    /// Answers with what stands around each of some places of a document before the fault. Null where it is not open, or its bytes
+    /// are lost.
+    pub fn selections(&self, id: Vec<u8>, uri: &Uri, places: &[Place]) -> Reply
+        ensures answers { IsAnswer (Some id) result }
+        ensures quiet { IsQuiet result }
+        ensures tells { AreAround self.now uri.now.name.items places.now result }
+    {
+        match self.number_of(&uri.name) {
+            None => Reply::Null { id },
+            Some(number) => self.documents[number].selected(id, places, self.encoding),
         }
     }
 
@@ -268,6 +334,7 @@ impl Server {
     {
         self.phase = Phase::Ready;
         self.settings = settings_of(offer);
+        self.nested = offer.nested;
         self.encoding = if offer.utf8 {
             Encoding::Utf8
         } else {

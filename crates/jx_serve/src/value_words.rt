@@ -5,7 +5,6 @@ ghost use Rattle.jx_serve.specs.Words.{position as position_words, range};
 
 use crate::hover::Hover;
 use crate::symbols::{Outline, Symbol};
-use crate::under_cursor::ValueAt;
 use jx_edit::Position;
 use jx_index::Row;
 use jx_lex::Kind;
@@ -39,6 +38,20 @@ fn add_position(alloc: Global, out: &mut Vec<u8>, position: Position) -> Result<
     )
 }
 
+/// Adds the positions of both ends of a value.
+pub(crate) fn add_ends(
+    alloc: Global,
+    out: &mut Vec<u8>,
+    start: Position,
+    end: Position,
+) -> Result<(), AllocError> {
+    out.extend_from_slice(b"{\"start\":")?;
+    add_position(alloc, out, start)?;
+    out.extend_from_slice(b",\"end\":")?;
+    add_position(alloc, out, end)?;
+    out.extend_from_slice(b"}")
+}
+
 /// Adds the member `range`.
 pub(crate) fn add_range(
     alloc: Global,
@@ -68,13 +81,18 @@ fn word_of_kind(kind: Kind) -> &'static str {
     }
 }
 
-/// What is shown of a value: its kind and its span as `jx at` prints them, and its pointer in a line of its own.
-fn words_of_value(alloc: Global, value: &ValueAt) -> Result<Vec<u8>, AllocError> {
+/// What is shown of a value: its kind and its span as `jx at` prints them, and its pointer in a line of its own. It is told where
+/// the value goes on behind the fault, or is cut short.
+fn words_of_value(alloc: Global, hover: &Hover) -> Result<Vec<u8>, AllocError> {
+    let value = &hover.value;
     let kind = word_of_kind(value.row.kind);
     let start = value.row.span.start;
-    let end = value.row.span.end;
+    let end = value.row.span.end.min(hover.kept);
     let first = format!(in alloc; "{kind} {start}..{end}")?;
     let mut words = Vec::from_slice(alloc, first.as_bytes())?;
+    if hover.kept < value.row.span.end {
+        words.extend_from_slice(b", as far as the fault")?;
+    }
     match &value.pointer {
         None => words.extend_from_slice(b"\nno pointer")?,
         Some(pointer) => match pointer.as_slice() {
@@ -92,7 +110,7 @@ pub(crate) fn add_hovered(
     id: &[u8],
     hover: &Hover,
 ) -> Result<(), AllocError> {
-    let words = words_of_value(alloc, &hover.value)?;
+    let words = words_of_value(alloc, hover)?;
     let words = quoted(alloc, &words)?;
     add_all(
         out,
@@ -109,7 +127,7 @@ pub(crate) fn add_hovered(
 }
 
 /// The number of a kind (Language Server Protocol 3.17, "SymbolKind").
-fn symbol_kind(kind: Kind) -> &'static [u8] {
+pub(crate) fn symbol_kind(kind: Kind) -> &'static [u8] {
     match kind {
         Kind::String => b"15",
         Kind::Number => b"16",
@@ -121,7 +139,12 @@ fn symbol_kind(kind: Kind) -> &'static [u8] {
 }
 
 /// Adds the name of a value as a string: that of a member as the text spells it, or the place in an array.
-fn add_name(alloc: Global, out: &mut Vec<u8>, text: &[u8], row: &Row) -> Result<(), AllocError> {
+pub(crate) fn add_name(
+    alloc: Global,
+    out: &mut Vec<u8>,
+    text: &[u8],
+    row: &Row,
+) -> Result<(), AllocError> {
     if let Some(span) = row.name {
         return match text.get(span.start..span.end).unwrap_or(&[]) {
             // Editors refuse an empty name.

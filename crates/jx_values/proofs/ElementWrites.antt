@@ -8,8 +8,9 @@ use Rattle.jx_run.specs.declared.texts.settings.Settings.{Settings}
 use Rattle.jx_run.specs.declared.texts.verdict.Verdict.{Verdict}
 use Rattle.jx_run.specs.Settings.{JudgedBy}
 use Rattle.jx_find.specs.declared.finder.Finder.{Finder}
-use Rattle.jx_each.specs.Due.{IsDue}
-use Rattle.jx_each.specs.Each.{EachValue, HasTaken}
+use Rattle.jx_each.specs.declared.content.LineContent.{LineContent}
+use Rattle.jx_each.specs.Due.{IsDueBy}
+use Rattle.jx_each.specs.Each.{EachValue, HasTakenBy}
 use Rattle.jx_report.specs.declared.exit.Exit.{Exit}
 use Rattle.jx_report.specs.declared.report_fault.ReportFault.{ReportFault}
 use Rattle.jx_report.specs.Ends.{AppendsBeginning}
@@ -35,25 +36,25 @@ keeps_consumed (Some xs) None n text x k = absurd x
 keeps_consumed (Some xs) (Some ys) None text x k = absurd k
 keeps_consumed (Some xs) (Some ys) (Some zs) text x k = x ∙ ap (λ (l : List ℕ). text ++ l) (sym k)
 
-pub starts : (pointer : List ℕ) (u w : Known) (each : EachValue) (sought : Option Finder) → HasTaken pointer [] [] each → HasSought (any_names each.reader.settings) pointer [] sought → each.ready ≡ []
-    → IsWritten pointer u u w w each sought
-starts pointer u w each sought h looked none =
+pub starts : {content : LineContent} (pointer : List ℕ) (u w : Known) (each : EachValue) (sought : Option Finder) → HasTakenBy content pointer [] [] each → HasSought content (any_names each.reader.settings) pointer [] sought → each.ready ≡ []
+    → IsWritten content pointer u u w w each sought
+starts {content} pointer u w each sought h looked none =
     record { text = []; given = []; read = consumes_none u; wrote = appends_none w; taken = h; looked = looked; none_wait = none }
 
-pub goes_on : (pointer : List ℕ) (u m n w x y : Known) (batch : List ℕ) (old new : EachValue) (before after : Option Finder) → IsWritten pointer u m w x old before → Consumes m n batch
-    → WritesOn x y batch old new before after → IsWritten pointer u n w y new after
-goes_on pointer u m n w x y batch old new before after h r s = record {
+pub goes_on : {content : LineContent} (pointer : List ℕ) (u m n w x y : Known) (batch : List ℕ) (old new : EachValue) (before after : Option Finder) → IsWritten content pointer u m w x old before → Consumes m n batch
+    → WritesOn x y batch old new before after → IsWritten content pointer u n w y new after
+goes_on {content} pointer u m n w x y batch old new before after h r s = record {
   text = h.text ++ batch;
   given = h.given ++ s.more;
   read = Consumes-trans _ _ _ _ _ h.read r;
   wrote = Appends-trans _ _ _ _ _ h.wrote s.wrote;
-  taken = s.takes pointer h.text h.given h.taken;
-  looked = subst (λ (k : Settings). HasSought (any_names k) pointer (h.text ++ batch) after) (sym s.settings) (s.seeks (any_names old.reader.settings) pointer h.text h.looked);
+  taken = s.takes content pointer h.text h.given h.taken;
+  looked = subst (λ (k : Settings). HasSought content (any_names k) pointer (h.text ++ batch) after) (sym s.settings) (s.seeks content (any_names old.reader.settings) pointer h.text h.looked);
   none_wait = s.none_wait;
 }
 
-pub all_written : (pointer : List ℕ) (u m n w x : Known) (each : EachValue) (sought : Option Finder) → IsWritten pointer u m w x each sought → Consumes m n [] → IsAtEnd n → IsAllWritten pointer u n w x each sought
-all_written pointer u m n w x each sought h r end = record {
+pub all_written : {content : LineContent} (pointer : List ℕ) (u m n w x : Known) (each : EachValue) (sought : Option Finder) → IsWritten content pointer u m w x each sought → Consumes m n [] → IsAtEnd n → IsAllWritten content pointer u n w x each sought
+all_written {content} pointer u m n w x each sought h r end = record {
   text = h.text;
   given = h.given;
   read = (subst (λ (l : List ℕ). Consumes u n l) (append-nil h.text) (Consumes-trans _ _ _ _ _ h.read r), end);
@@ -64,43 +65,43 @@ all_written pointer u m n w x each sought h r end = record {
 }
 
 -- what is taken is due
-abbrev TakenIsDue : Type 0
-TakenIsDue = (pointer bytes given : List ℕ) (each : EachValue) → HasTaken pointer bytes given each → IsDue each.reader.settings pointer bytes (given ++ each.ready)
+abbrev TakenIsDue : LineContent → Type 0
+TakenIsDue content = (pointer bytes given : List ℕ) (each : EachValue) → HasTakenBy content pointer bytes given each → IsDueBy content each.reader.settings pointer bytes (given ++ each.ready)
 
-due_now : (settings : Settings) (pointer : List ℕ) (each : EachValue) (text given : List ℕ) → TakenIsDue
-    → each.reader.settings ≡ settings → each.ready ≡ [] → HasTaken pointer text given each → IsDue settings pointer text given
-due_now settings pointer each text given law same none h =
-    subst (λ (s : Settings). IsDue s pointer text given) same
-    (subst (λ (l : List ℕ). IsDue each.reader.settings pointer text l) (ap (λ (l : List ℕ). given ++ l) none ∙ append-nil given) (law pointer text given each h))
+due_now : (content : LineContent) (settings : Settings) (pointer : List ℕ) (each : EachValue) (text given : List ℕ) → TakenIsDue content
+    → each.reader.settings ≡ settings → each.ready ≡ [] → HasTakenBy content pointer text given each → IsDueBy content settings pointer text given
+due_now content settings pointer each text given law same none h =
+    subst (λ (s : Settings). IsDueBy content s pointer text given) same
+    (subst (λ (l : List ℕ). IsDueBy content each.reader.settings pointer text l) (ap (λ (l : List ℕ). given ++ l) none ∙ append-nil given) (law pointer text given each h))
 
-pub due_at_fault : (settings : Settings) (pointer : List ℕ) (u m n w x : Known) (each : EachValue) (sought : Option Finder) → TakenIsDue
-    → each.reader.settings ≡ settings → IsWritten pointer u m w x each sought → Keeps m n → WroteDue settings pointer u n w x
-due_at_fault settings pointer u m n w x each sought law same h k = record {
+pub due_at_fault : (content : LineContent) (settings : Settings) (pointer : List ℕ) (u m n w x : Known) (each : EachValue) (sought : Option Finder) → TakenIsDue content
+    → each.reader.settings ≡ settings → IsWritten content pointer u m w x each sought → Keeps m n → WroteDue content settings pointer u n w x
+due_at_fault content settings pointer u m n w x each sought law same h k = record {
   text = h.text;
   output = h.given;
   read = keeps_consumed u m n h.text h.read k;
-  due = due_now settings pointer each h.text h.given law same h.none_wait h.taken;
+  due = due_now content settings pointer each h.text h.given law same h.none_wait h.taken;
   wrote = h.wrote;
 }
 
-pub lines_at_fault : (settings : Settings) (pointer : List ℕ) (u m n w x : Known) (each : EachValue) (sought : Option Finder) (batch : List ℕ) → TakenIsDue
-    → each.reader.settings ≡ settings → IsWritten pointer u m w x each sought → Consumes m n batch → WroteLines settings pointer u n w x
-lines_at_fault settings pointer u m n w x each sought batch law same h r = record {
+pub lines_at_fault : (content : LineContent) (settings : Settings) (pointer : List ℕ) (u m n w x : Known) (each : EachValue) (sought : Option Finder) (batch : List ℕ) → TakenIsDue content
+    → each.reader.settings ≡ settings → IsWritten content pointer u m w x each sought → Consumes m n batch → WroteLines content settings pointer u n w x
+lines_at_fault content settings pointer u m n w x each sought batch law same h r = record {
   text = h.text;
   more = batch;
   output = h.given;
   read = Consumes-trans _ _ _ _ _ h.read r;
-  due = due_now settings pointer each h.text h.given law same h.none_wait h.taken;
+  due = due_now content settings pointer each h.text h.given law same h.none_wait h.taken;
   wrote = h.wrote;
 }
 
-pub lines_at_end : (settings : Settings) (pointer : List ℕ) (u m w x : Known) (each : EachValue) (sought : Option Finder) → TakenIsDue
-    → each.reader.settings ≡ settings → IsWritten pointer u m w x each sought → WroteLines settings pointer u m w x
-lines_at_end settings pointer u m w x each sought law same h = lines_at_fault settings pointer u m m w x each sought [] law same h (consumes_none m)
+pub lines_at_end : (content : LineContent) (settings : Settings) (pointer : List ℕ) (u m w x : Known) (each : EachValue) (sought : Option Finder) → TakenIsDue content
+    → each.reader.settings ≡ settings → IsWritten content pointer u m w x each sought → WroteLines content settings pointer u m w x
+lines_at_end content settings pointer u m w x each sought law same h = lines_at_fault content settings pointer u m m w x each sought [] law same h (consumes_none m)
 
 -- nothing was read yet
-pub lines_at_start : (settings : Settings) (pointer : List ℕ) (u w : Known) → IsDue settings pointer [] [] → WroteLines settings pointer u u w w
-lines_at_start settings pointer u w due = record {
+pub lines_at_start : (content : LineContent) (settings : Settings) (pointer : List ℕ) (u w : Known) → IsDueBy content settings pointer [] [] → WroteLines content settings pointer u u w w
+lines_at_start content settings pointer u w due = record {
   text = [];
   more = [];
   output = [];
@@ -122,13 +123,13 @@ beginning_behind w x y given more a b = (
   subst (λ (l : List ℕ). Appends w y l) (sym (take_both given more b.0)) (Appends-trans _ _ _ _ _ a b.2),
 )
 
-pub part_at_fault : (settings : Settings) (pointer : List ℕ) (u m n w x y : Known) (each : EachValue) (sought : Option Finder) (batch : List ℕ) → each.reader.settings ≡ settings
-    → IsWritten pointer u m w x each sought → Consumes m n batch → WritesPart x y batch each → WroteInPart settings pointer u n w y
-part_at_fault settings pointer u m n w x y each sought batch same h r p = record {
+pub part_at_fault : (content : LineContent) (settings : Settings) (pointer : List ℕ) (u m n w x y : Known) (each : EachValue) (sought : Option Finder) (batch : List ℕ) → each.reader.settings ≡ settings
+    → IsWritten content pointer u m w x each sought → Consumes m n batch → WritesPart x y batch each → WroteInPart content settings pointer u n w y
+part_at_fault content settings pointer u m n w x y each sought batch same h r p = record {
   text = h.text ++ batch;
   output = h.given ++ p.more;
   read = Consumes-trans _ _ _ _ _ h.read r;
-  due = subst (λ (s : Settings). IsDue s pointer (h.text ++ batch) (h.given ++ p.more)) same (p.due pointer h.text h.given h.taken);
+  due = subst (λ (s : Settings). IsDueBy content s pointer (h.text ++ batch) (h.given ++ p.more)) same (p.due content pointer h.text h.given h.taken);
   wrote = beginning_behind w x y h.given p.more h.wrote p.wrote;
 }
 
@@ -150,24 +151,24 @@ same_fault q r x y f a b e c = a ∙ ap Err (sym e ∙ fault_is r y f b c)
 pub fault_back : {T U : Type 0} (q : Result T ReportFault) (r : Result U ReportFault) (x y f : ReportFault) → q ≡ Err x → r ≡ Err y → y ≡ x → q ≡ Err f → r ≡ Err f
 fault_back q r x y f a b e c = b ∙ ap Err (e ∙ fault_is q x f a c)
 
-pub as_written : (pointer : List ℕ) (u n w x : Known) (each : EachValue) (sought : Option Finder) → IsAllWritten pointer u n w x each sought → IsWritten pointer u n w x each sought
-as_written pointer u n w x each sought h =
+pub as_written : {content : LineContent} (pointer : List ℕ) (u n w x : Known) (each : EachValue) (sought : Option Finder) → IsAllWritten content pointer u n w x each sought → IsWritten content pointer u n w x each sought
+as_written {content} pointer u n w x each sought h =
     record { text = h.text; given = h.given; read = h.read.0; wrote = h.wrote; taken = h.taken; looked = h.looked; none_wait = h.none_wait }
 
-pub reports : (settings : Settings) (pointer : List ℕ) (u n w x : Known) (is_lost : Bool) (told retold : Known) (each : EachValue) (sought : Option Finder) (verdict : Verdict) (words : List ℕ) (exit : Exit)
-    → TakenIsDue
+pub reports : (content : LineContent) (settings : Settings) (pointer : List ℕ) (u n w x : Known) (is_lost : Bool) (told retold : Known) (each : EachValue) (sought : Option Finder) (verdict : Verdict) (words : List ℕ) (exit : Exit)
+    → TakenIsDue content
     → each.reader.settings ≡ settings
-    → IsAllWritten pointer u n w x each sought
-    → ((pointer bytes given : List ℕ) → HasTaken pointer bytes given each → JudgedBy each.reader.settings 0 bytes verdict)
-    → ((pointer text given : List ℕ) → HasTaken pointer text given each → HasSought (any_names each.reader.settings) pointer text sought → JudgedBy each.reader.settings 0 text verdict
-    → TellsByVerdict each.reader.settings pointer text verdict words)
+    → IsAllWritten content pointer u n w x each sought
+    → ((pointer bytes given : List ℕ) → HasTakenBy content pointer bytes given each → JudgedBy each.reader.settings 0 bytes verdict)
+    → ((pointer text given : List ℕ) → HasTakenBy content pointer text given each → HasSought content (any_names each.reader.settings) pointer text sought → JudgedBy each.reader.settings 0 text verdict
+    → TellsByVerdict content each.reader.settings pointer text verdict words)
     → exit ≡ exit_by words
     → (is_lost ≡ false → Appends told retold words)
-    → ReportsElements settings pointer u n w x is_lost told retold exit
-reports settings pointer u n w x is_lost told retold each sought verdict words exit law same h judged tells ends says =
+    → ReportsElements content settings pointer u n w x is_lost told retold exit
+reports content settings pointer u n w x is_lost told retold each sought verdict words exit law same h judged tells ends says =
     let is_verdict : JudgedBy each.reader.settings 0 h.text verdict = judged pointer h.text h.given h.taken in
-    let out : ElementsOutput each.reader.settings pointer h.text h.given words exit = record {
-      due = due_now each.reader.settings pointer each h.text h.given law refl h.none_wait h.taken;
+    let out : ElementsOutput content each.reader.settings pointer h.text h.given words exit = record {
+      due = due_now content each.reader.settings pointer each h.text h.given law refl h.none_wait h.taken;
       verdict = verdict;
       is_verdict = is_verdict;
       told = tells pointer h.text h.given h.taken h.looked is_verdict;
@@ -178,7 +179,7 @@ reports settings pointer u n w x is_lost told retold each sought verdict words e
       output = h.given;
       tells = words;
       read = h.read;
-      answer = subst (λ (s : Settings). ElementsOutput s pointer h.text h.given words exit) same out;
+      answer = subst (λ (s : Settings). ElementsOutput content s pointer h.text h.given words exit) same out;
       wrote = h.wrote;
       says = says;
     }

@@ -1,5 +1,5 @@
 -- What a report on the elements of a text does to the bytes of its ends.
-use Rattle.std.specs.Prelude.{◌≡◌, ℕ, List, [], ◌++◌, length, codes, Option, Bool, false, Result, Ok, Err}
+use Rattle.std.specs.Prelude.{◌≡◌, ℕ, List, [], ◌++◌, length, codes, decimal, Option, Bool, false, Result, Ok, Err}
 use Rattle.std.specs.Io.KnownBytes.{Appends, Consumes}
 use Rattle.jx_run.specs.declared.texts.settings.Settings.{Settings}
 use Rattle.jx_run.specs.declared.texts.verdict.Verdict.{Verdict}
@@ -14,7 +14,9 @@ use Rattle.jx_index.specs.declared.finder.Found.{Found}
 use Rattle.jx_index.specs.Found.{found_of}
 use Rattle.jx_index.specs.Leads.{led}
 use Rattle.jx_index.specs.Pointers.{tokens}
-use Rattle.jx_each.specs.Due.{IsDue}
+use Rattle.jx_each.specs.declared.content.LineContent.{LineContent}
+use Rattle.jx_each.specs.declared.content.LineContent.TheVariants.{Alone, Named}
+use Rattle.jx_each.specs.Due.{IsDueBy}
 use Rattle.jx_report.specs.declared.exit.Exit.{Exit}
 use Rattle.jx_report.specs.declared.pointer_answer.PointerAnswer.TheVariants.{Lost}
 use Rattle.jx_report.specs.Ends.{ReadsToEnd, AppendsBeginning}
@@ -28,6 +30,10 @@ use Rattle.jx_values.specs.Values.{exit_by}
 abbrev pub told_of_fault : FindFault → List ℕ
 told_of_fault fault = codes "jx: " ++ line (answer_words (Lost fault))
 
+-- that so many tokens lead to no object
+abbrev pub told_of_no_object : ℕ → List ℕ
+told_of_no_object n = codes "jx: " ++ line (codes "not an object at token " ++ decimal n)
+
 -- of a value of this kind, to which so many tokens lead: nothing where it has elements
 abbrev pub told_of_kind : Kind → ℕ → List ℕ
 told_of_kind Object n = []
@@ -38,58 +44,72 @@ told_of_kind True n = told_of_fault (NotAContainer n)
 told_of_kind False n = told_of_fault (NotAContainer n)
 told_of_kind Null n = told_of_fault (NotAContainer n)
 
+-- the same where names are written: nothing where it has members
+abbrev pub told_of_named : Kind → ℕ → List ℕ
+told_of_named Object n = []
+told_of_named Array n = told_of_no_object n
+told_of_named String n = told_of_no_object n
+told_of_named Number n = told_of_no_object n
+told_of_named True n = told_of_no_object n
+told_of_named False n = told_of_no_object n
+told_of_named Null n = told_of_no_object n
+
+abbrev pub told_of_value : LineContent → Kind → ℕ → List ℕ
+told_of_value Alone kind n = told_of_kind kind n
+told_of_value Named kind n = told_of_named kind n
+
 -- of what so many tokens lead to
-abbrev pub told_of_found : Result Found FindFault → ℕ → List ℕ
-told_of_found (Ok found) n = told_of_kind found.kind n
-told_of_found (Err fault) n = told_of_fault fault
+abbrev pub told_of_found : LineContent → Result Found FindFault → ℕ → List ℕ
+told_of_found content (Ok found) n = told_of_value content found.kind n
+told_of_found content (Err fault) n = told_of_fault fault
 
 -- of a refused input its verdict, and of a text what the pointer leads to in its tree
-abbrev pub TellsByVerdict : Settings → List ℕ → List ℕ → Verdict → List ℕ → Type 0
-TellsByVerdict settings pointer input Accepted tells =
-    (tree : Tree) × IsDocumentBy settings 0 input tree × (tells ≡ told_of_found (found_of (led input tree (tokens pointer))) (length (tokens pointer)))
-TellsByVerdict settings pointer input (Refused refusal) tells = tells ≡ codes "jx: " ++ line (refusal_words refusal)
+abbrev pub TellsByVerdict : LineContent → Settings → List ℕ → List ℕ → Verdict → List ℕ → Type 0
+TellsByVerdict content settings pointer input Accepted tells =
+    (tree : Tree) × IsDocumentBy settings 0 input tree × (tells ≡ told_of_found content (found_of (led input tree (tokens pointer))) (length (tokens pointer)))
+TellsByVerdict content settings pointer input (Refused refusal) tells = tells ≡ codes "jx: " ++ line (refusal_words refusal)
 
 -- the whole output for an input, all that is told of it, and the exit
-pub record ElementsOutput (settings : Settings) (pointer input output tells : List ℕ) (exit : Exit) : Type 0 where
-  pub due : IsDue settings pointer input output
+pub record ElementsOutput (content : LineContent) (settings : Settings) (pointer input output tells : List ℕ) (exit : Exit) : Type 0 where
+  pub due : IsDueBy content settings pointer input output
   pub verdict : Verdict
   pub is_verdict : JudgedBy settings 0 input verdict
-  pub told : TellsByVerdict settings pointer input verdict tells
+  pub told : TellsByVerdict content settings pointer input verdict tells
   pub ends : exit ≡ exit_by tells
 
 -- ---- of the ends
 
 -- the reader gave all that it had, the writer got the whole output for it, and what is told was told unless telling failed
-pub record ReportsElements (settings : Settings) (pointer : List ℕ) (unread left written grown : Option (List ℕ)) (is_lost : Bool) (told retold : Option (List ℕ)) (exit : Exit) : Type 0 where
+pub record ReportsElements (content : LineContent) (settings : Settings) (pointer : List ℕ) (unread left written grown : Option (List ℕ)) (is_lost : Bool) (told retold : Option (List ℕ)) (exit : Exit) : Type 0 where
   pub text : List ℕ
   pub output : List ℕ
   pub tells : List ℕ
   pub read : ReadsToEnd unread left text
-  pub answer : ElementsOutput settings pointer text output tells exit
+  pub answer : ElementsOutput content settings pointer text output tells exit
   pub wrote : Appends written grown output
   pub says : is_lost ≡ false → Appends told retold tells
 
 -- the writer got what is due of the bytes that were read
-pub record WroteDue (settings : Settings) (pointer : List ℕ) (unread left written grown : Option (List ℕ)) : Type 0 where
+pub record WroteDue (content : LineContent) (settings : Settings) (pointer : List ℕ) (unread left written grown : Option (List ℕ)) : Type 0 where
   pub text : List ℕ
   pub output : List ℕ
   pub read : Consumes unread left text
-  pub due : IsDue settings pointer text output
+  pub due : IsDueBy content settings pointer text output
   pub wrote : Appends written grown output
 
 -- the writer got what is due of a beginning of the bytes that were read: whole lines
-pub record WroteLines (settings : Settings) (pointer : List ℕ) (unread left written grown : Option (List ℕ)) : Type 0 where
+pub record WroteLines (content : LineContent) (settings : Settings) (pointer : List ℕ) (unread left written grown : Option (List ℕ)) : Type 0 where
   pub text : List ℕ
   pub more : List ℕ
   pub output : List ℕ
   pub read : Consumes unread left (text ++ more)
-  pub due : IsDue settings pointer text output
+  pub due : IsDueBy content settings pointer text output
   pub wrote : Appends written grown output
 
 -- the writer got a beginning of what is due of the bytes that were read, and not all
-pub record WroteInPart (settings : Settings) (pointer : List ℕ) (unread left written grown : Option (List ℕ)) : Type 0 where
+pub record WroteInPart (content : LineContent) (settings : Settings) (pointer : List ℕ) (unread left written grown : Option (List ℕ)) : Type 0 where
   pub text : List ℕ
   pub output : List ℕ
   pub read : Consumes unread left text
-  pub due : IsDue settings pointer text output
+  pub due : IsDueBy content settings pointer text output
   pub wrote : AppendsBeginning written grown output

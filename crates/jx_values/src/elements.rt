@@ -1,14 +1,14 @@
 // The elements of a container are written while the text is read.
 ghost use Rattle.std.specs.Prelude.{◌≡◌, ◌≢◌, ◌<◌, ◌↔◌, [], true, false, length, IfErr, IfOk, IsErrOf, OnErr, OnOk};
 ghost use Rattle.jx_index.specs.Pointers.{IsPointer};
-ghost use Rattle.jx_each.specs.Each.{HasTaken};
+ghost use Rattle.jx_each.specs.Each.{HasTakenBy};
 ghost use Rattle.jx_values.specs.Elements.{ReportsElements, WroteDue, WroteInPart, WroteLines};
 ghost use Rattle.jx_values.specs.inside.ElementSteps.{IsAllWritten, WritesOn, WritesPart};
 ghost use Rattle.jx_values.specs.inside.Sought.{HasSought, any_names};
 
-use crate::sought::{Sought, pointers_of, seek, sought_at_start, told_of_elements};
+use crate::sought::{Sought, pointers_of, seek, sought_at_start, told_of_elements, verdict_of};
 use crate::telling::{exit_by, tell};
-use jx_each::{Each, nothing_is_due_of_no_byte, what_is_taken_is_due};
+use jx_each::{Each, LineContent, nothing_is_due_of_no_byte, what_is_taken_is_due};
 use jx_report::{Exit, ReportFault, Sink, Source, write_whole};
 use jx_run::Settings;
 use std::alloc::Global;
@@ -52,23 +52,24 @@ fn write_all_due<S: Source, W: Sink>(
     writer: &mut W,
     each: &mut Each,
     sought: &mut Sought<'_>,
+    content: LineContent,
     pointer: &str,
     buffer: &mut [u8],
 ) -> Result<(), ReportFault>
     requires reader { S.has_failed reader.old ≡ false }
     requires writer { W.has_failed writer.old ≡ false }
     requires room { 0 < length buffer.old }
-    requires taken { HasTaken pointer.now [] [] each.old }
-    requires sought { HasSought (any_names each.old.reader.settings) pointer.now [] sought.old }
+    requires taken { HasTakenBy content pointer.now [] [] each.old }
+    requires sought { HasSought content (any_names each.old.reader.settings) pointer.now [] sought.old }
     requires ready { each.old.ready ≡ [] }
     ensures settings { each.new.reader.settings ≡ each.old.reader.settings }
-    ensures ok { OnOk result (IsAllWritten pointer.now (S.remaining reader.old) (S.remaining reader.new) (W.contents writer.old) (W.contents writer.new) each.new sought.new) }
+    ensures ok { OnOk result (IsAllWritten content pointer.now (S.remaining reader.old) (S.remaining reader.new) (W.contents writer.old) (W.contents writer.new) each.new sought.new) }
     ensures going { OnOk result ((S.has_failed reader.new ≡ false) × (W.has_failed writer.new ≡ false)) }
     ensures read { IsErrOf result ReportFault.Read ↔ (S.has_failed reader.new ≡ true) }
     ensures write { IsErrOf result ReportFault.Write ↔ (W.has_failed writer.new ≡ true) }
-    ensures due { IsErrOf result ReportFault.Read → WroteDue each.old.reader.settings pointer.now (S.remaining reader.old) (S.remaining reader.new) (W.contents writer.old) (W.contents writer.new) }
-    ensures lines { IsErrOf result ReportFault.Memory → WroteLines each.old.reader.settings pointer.now (S.remaining reader.old) (S.remaining reader.new) (W.contents writer.old) (W.contents writer.new) }
-    ensures beginning { IsErrOf result ReportFault.Write → WroteInPart each.old.reader.settings pointer.now (S.remaining reader.old) (S.remaining reader.new) (W.contents writer.old) (W.contents writer.new) }
+    ensures due { IsErrOf result ReportFault.Read → WroteDue content each.old.reader.settings pointer.now (S.remaining reader.old) (S.remaining reader.new) (W.contents writer.old) (W.contents writer.new) }
+    ensures lines { IsErrOf result ReportFault.Memory → WroteLines content each.old.reader.settings pointer.now (S.remaining reader.old) (S.remaining reader.new) (W.contents writer.old) (W.contents writer.new) }
+    ensures beginning { IsErrOf result ReportFault.Write → WroteInPart content each.old.reader.settings pointer.now (S.remaining reader.old) (S.remaining reader.new) (W.contents writer.old) (W.contents writer.new) }
     ensures uncut { IfErr result (λ fault. fault ≢ ReportFault.Pieces) }
 {
     what_is_taken_is_due();
@@ -83,9 +84,11 @@ fn write_all_due<S: Source, W: Sink>(
 }
 
 /// Reads to the end of input, and writes a line for each element of the array that a pointer leads to, by the first member of
-/// each of its names (RFC 6901, section 4), or for the value of each member of the object: its compact form. Each line is written
-/// before the next read may wait. Behind that it tells why the input is no text, by a line `jx: VERDICT`, or why the pointer leads
-/// to no container, by a line `jx: ANSWER`. A name on its way that is repeated is told too. The exit is good where nothing is told.
+/// each of its names (RFC 6901, section 4), or for the value of each member of the object: its compact form. Where `content` asks
+/// for names, it writes a line for each member of an object alone. Each line is written before the next read may wait. Behind
+/// that it tells why the input is no text, by a line `jx: VERDICT`, or why the pointer leads to no container, or to no object
+/// where names are asked for, by a line `jx: ANSWER`. A name on its way that is repeated is told too. The exit is good where
+/// nothing is told.
 ///
 /// What is written is never taken back: of a refused input the lines are those of the elements whose comma or bracket stands
 /// before the first fault. One batch and one element or name are held. The names of the settings are of no account: objects may
@@ -96,13 +99,14 @@ pub fn report_elements<S: Source, W: Sink, E: Sink>(
     writer: &mut W,
     errors: &mut E,
     settings: &Settings,
+    content: LineContent,
     pointer: &str,
 ) -> Result<Exit, ReportFault>
     requires pointer { IsPointer pointer.now }
     requires reader { S.has_failed reader.old ≡ false }
     requires writer { W.has_failed writer.old ≡ false }
     // All that the reader had was read, and its whole output was written and told.
-    ensures ok { IfOk result (λ exit. ReportsElements settings.now pointer.now (S.remaining reader.old) (S.remaining reader.new)
+    ensures ok { IfOk result (λ exit. ReportsElements content settings.now pointer.now (S.remaining reader.old) (S.remaining reader.new)
         (W.contents writer.old) (W.contents writer.new) (E.has_failed errors.new) (E.contents errors.old) (E.contents errors.new) exit) }
     ensures read { IsErrOf result ReportFault.Read ↔ (S.has_failed reader.new ≡ true) }
     ensures write { IsErrOf result ReportFault.Write ↔ (W.has_failed writer.new ≡ true) }
@@ -110,22 +114,30 @@ pub fn report_elements<S: Source, W: Sink, E: Sink>(
     ensures untold { OnErr result (errors.new ≡ errors.old) }
     // After a read fault what is due of the bytes read was written, after a refusal of memory whole lines of that, and after a
     // write fault a beginning of it.
-    ensures due { IsErrOf result ReportFault.Read → WroteDue settings.now pointer.now (S.remaining reader.old) (S.remaining reader.new)
+    ensures due { IsErrOf result ReportFault.Read → WroteDue content settings.now pointer.now (S.remaining reader.old) (S.remaining reader.new)
         (W.contents writer.old) (W.contents writer.new) }
-    ensures lines { IsErrOf result ReportFault.Memory → WroteLines settings.now pointer.now (S.remaining reader.old) (S.remaining reader.new)
+    ensures lines { IsErrOf result ReportFault.Memory → WroteLines content settings.now pointer.now (S.remaining reader.old) (S.remaining reader.new)
         (W.contents writer.old) (W.contents writer.new) }
-    ensures beginning { IsErrOf result ReportFault.Write → WroteInPart settings.now pointer.now (S.remaining reader.old) (S.remaining reader.new)
+    ensures beginning { IsErrOf result ReportFault.Write → WroteInPart content settings.now pointer.now (S.remaining reader.old) (S.remaining reader.new)
         (W.contents writer.old) (W.contents writer.new) }
     ensures uncut { IfErr result (λ fault. fault ≢ ReportFault.Pieces) }
 {
     nothing_is_due_of_no_byte();
     what_is_taken_is_due();
-    let mut each = Each::new(alloc, settings, pointer)?;
-    let pointers = pointers_of(alloc, pointer)?;
+    let mut each = Each::with_content(alloc, settings, pointer, content)?;
+    let pointers = pointers_of(alloc, content, pointer)?;
     let mut sought = sought_at_start(alloc, settings, pointers)?;
     let mut buffer: Vec<u8> = vec![in alloc; 0; STEP]?;
-    write_all_due(reader, writer, &mut each, &mut sought, pointer, &mut buffer)?;
-    let told = told_of_elements(alloc, &each, each.verdict(), sought)?;
+    write_all_due(
+        reader,
+        writer,
+        &mut each,
+        &mut sought,
+        content,
+        pointer,
+        &mut buffer,
+    )?;
+    let told = told_of_elements(alloc, content, &each, verdict_of(&each), sought)?;
     tell(errors, &told);
     Ok(exit_by(&told))
 }

@@ -1,15 +1,18 @@
 // What the pointer to a container leads to, looked up while elements are written, and what is told of it.
-ghost use Rattle.std.specs.Prelude.{◌≡◌, ◌++◌, ◌∷◌, [], ℕ, List, IfOk, OnOk, slice_get};
+ghost use Rattle.std.specs.Prelude.{◌≡◌, ◌++◌, ◌∷◌, [], ℕ, List, IfOk, OnOk, codes, decimal, slice_get};
 ghost use Rattle.jx_run.specs.declared.texts.settings.Settings.{Settings};
 ghost use Rattle.jx_run.specs.Settings.{JudgedBy};
 ghost use Rattle.jx_index.specs.Pointers.{IsPointer};
 ghost use Rattle.jx_find.specs.Finder.{HasFed};
-ghost use Rattle.jx_each.specs.Each.{HasTaken};
-ghost use Rattle.jx_values.specs.Elements.{TellsByVerdict, told_of_fault, told_of_found, told_of_kind};
+ghost use Rattle.jx_each.specs.declared.content.LineContent.{LineContent};
+ghost use Rattle.jx_each.specs.declared.content.LineContent.TheVariants.{Alone};
+ghost use Rattle.jx_each.specs.Each.{HasTakenBy};
+ghost use Rattle.jx_values.specs.Elements.{TellsByVerdict, told_of_fault, told_of_found, told_of_kind, told_of_named, told_of_no_object, told_of_value};
 ghost use Rattle.jx_values.specs.inside.Sought.{HasSought, TellsFound, any_names, sought_of, told_of_root};
 
 use crate::telling::told_of_refusal;
-use jx_each::Each;
+use itoa::Buffer;
+use jx_each::{Each, LineContent};
 use jx_find::Finder;
 use jx_index::{FindFault, Found, Pointer};
 use jx_lex::Kind;
@@ -32,6 +35,52 @@ fn told_of_kind(alloc: Global, kind: Kind, tokens: usize) -> Result<Vec<u8>, All
     }
 }
 
+/// The same where names are written: an object has some, and no other value.
+fn told_of_named(alloc: Global, kind: Kind, tokens: usize) -> Result<Vec<u8>, AllocError>
+    ensures { IfOk result (λ told. told.items ≡ told_of_named kind tokens) }
+{
+    match kind {
+        Kind::Object => Ok(Vec::new(alloc)),
+        Kind::Array | Kind::String | Kind::Number | Kind::True | Kind::False | Kind::Null => {
+            told_of_no_object(alloc, tokens)
+        }
+    }
+}
+
+/// Appends a number in plain decimal.
+fn add_number(out: &mut Vec<u8>, number: usize) -> Result<(), AllocError>
+    ensures { OnOk result (out.new.items ≡ out.old.items ++ decimal number) }
+{
+    let mut buffer = Buffer::new();
+    out.extend_from_slice(buffer.format(number).as_bytes())
+}
+
+/// What is told of a pointer of so many tokens that leads to no object.
+fn told_of_no_object(alloc: Global, tokens: usize) -> Result<Vec<u8>, AllocError>
+    ensures { IfOk result (λ told. told.items ≡ told_of_no_object tokens) }
+{
+    let mut told = Vec::from_slice(alloc, b"jx: ")?;
+    told.extend_from_slice(b"not an object at token ")?;
+    add_number(&mut told, tokens)?;
+    told.push(b'\n')?;
+    Ok(told)
+}
+
+/// What is told of a value of this kind by what a line has, where so many tokens lead to it.
+fn told_of_value(
+    alloc: Global,
+    content: LineContent,
+    kind: Kind,
+    tokens: usize,
+) -> Result<Vec<u8>, AllocError>
+    ensures { IfOk result (λ told. told.items ≡ told_of_value content kind tokens) }
+{
+    match content {
+        LineContent::Alone => told_of_kind(alloc, kind, tokens),
+        LineContent::Named => told_of_named(alloc, kind, tokens),
+    }
+}
+
 /// What is told of a pointer that leads to no container.
 fn told_of_fault(alloc: Global, fault: FindFault) -> Result<Vec<u8>, AllocError>
     ensures { IfOk result (λ told. told.items ≡ told_of_fault fault) }
@@ -44,13 +93,14 @@ fn told_of_fault(alloc: Global, fault: FindFault) -> Result<Vec<u8>, AllocError>
 /// What is told of a text in which a pointer of so many tokens has this answer.
 fn told_of_found(
     alloc: Global,
+    content: LineContent,
     found: Result<Found, FindFault>,
     tokens: usize,
 ) -> Result<Vec<u8>, AllocError>
-    ensures { IfOk result (λ told. told.items ≡ told_of_found found tokens) }
+    ensures { IfOk result (λ told. told.items ≡ told_of_found content found tokens) }
 {
     match found {
-        Ok(found) => told_of_kind(alloc, found.kind, tokens),
+        Ok(found) => told_of_value(alloc, content, found.kind, tokens),
         Err(fault) => told_of_fault(alloc, fault),
     }
 }
@@ -77,52 +127,86 @@ fn first_of(found: &[Result<Found, FindFault>]) -> Option<Result<Found, FindFaul
 }
 
 /// What is told of a text in which one pointer of so many tokens was looked up.
-fn told_of_sought(alloc: Global, finder: Finder<'_>, tokens: usize) -> Result<Vec<u8>, AllocError>
-    ensures { IfOk result (λ told. (settings : Settings) (pointer bytes : List ℕ) → HasFed settings (pointer ∷ []) bytes finder.entry → TellsFound settings pointer bytes tokens told.items) }
+fn told_of_sought(
+    alloc: Global,
+    content: LineContent,
+    finder: Finder<'_>,
+    tokens: usize,
+) -> Result<Vec<u8>, AllocError>
+    ensures { IfOk result (λ told. (settings : Settings) (pointer bytes : List ℕ) → HasFed settings (pointer ∷ []) bytes finder.entry → TellsFound content settings pointer bytes tokens told.items) }
 {
     let Ok(found) = finder.finish()? else {
         return Err(AllocError);
     };
     match first_of(&found) {
-        Some(found) => told_of_found(alloc, found, tokens),
+        Some(found) => told_of_found(alloc, content, found, tokens),
         None => Err(AllocError),
     }
+}
+
+/// The verdict on what a maker of lines took, whatever names its objects have.
+pub(crate) fn verdict_of(each: &Each) -> Verdict
+    ensures { (content : LineContent) (pointer text given : List ℕ) → HasTakenBy content pointer text given each.now → JudgedBy each.now.reader.settings 0 text result }
+{
+    each.reader().verdict()
 }
 
 /// What is told of an input with this verdict, where what a maker of lines took of it is a text.
 pub(crate) fn told_of_elements(
     alloc: Global,
+    content: LineContent,
     each: &Each,
     verdict: Verdict,
     sought: Sought<'_>,
 ) -> Result<Vec<u8>, AllocError>
-    ensures { IfOk result (λ told. (pointer text given : List ℕ) → HasTaken pointer text given each.now → HasSought (any_names each.now.reader.settings) pointer text sought.entry
-        → JudgedBy each.now.reader.settings 0 text verdict → TellsByVerdict each.now.reader.settings pointer text verdict told.items) }
+    ensures { IfOk result (λ told. (pointer text given : List ℕ) → HasTakenBy content pointer text given each.now → HasSought content (any_names each.now.reader.settings) pointer text sought.entry
+        → JudgedBy each.now.reader.settings 0 text verdict → TellsByVerdict content each.now.reader.settings pointer text verdict told.items) }
 {
     match verdict {
         Verdict::Refused(refusal) => told_of_refusal(alloc, refusal),
         Verdict::Accepted => match sought {
-            Some(finder) => told_of_sought(alloc, finder, each.token_count()),
+            Some(finder) => told_of_sought(alloc, content, finder, each.token_count()),
             None => told_of_root(alloc, each.is_container()),
         },
     }
 }
 
-/// The pointer that is looked up: none where it leads to the root.
+/// A pointer.
+fn one_pointer<'p>(alloc: Global, pointer: &'p str) -> Result<Vec<Pointer<'p>>, AllocError>
+    requires { IsPointer pointer.now }
+    ensures { IfOk result (λ pointers. pointers.items ≡ pointer.now ∷ []) }
+{
+    let mut pointers = Vec::new(alloc);
+    if let Ok(pointer) = Pointer::read(pointer) {
+        pointers.push(pointer)?;
+    }
+    Ok(pointers)
+}
+
+/// A pointer, if it does not lead to the root.
+fn pointer_to_part<'p>(alloc: Global, pointer: &'p str) -> Result<Vec<Pointer<'p>>, AllocError>
+    requires { IsPointer pointer.now }
+    ensures { IfOk result (λ pointers. pointers.items ≡ sought_of Alone pointer.now) }
+{
+    if pointer.is_empty() {
+        return Ok(Vec::new(alloc));
+    }
+    one_pointer(alloc, pointer)
+}
+
+/// The pointer that is looked up: none where it leads to the root, and no name is written.
 pub(crate) fn pointers_of<'p>(
     alloc: Global,
+    content: LineContent,
     pointer: &'p str,
 ) -> Result<Vec<Pointer<'p>>, AllocError>
     requires { IsPointer pointer.now }
-    ensures { IfOk result (λ pointers. pointers.items ≡ sought_of pointer.now) }
+    ensures { IfOk result (λ pointers. pointers.items ≡ sought_of content pointer.now) }
 {
-    let mut pointers = Vec::new(alloc);
-    if !pointer.is_empty() {
-        if let Ok(pointer) = Pointer::read(pointer) {
-            pointers.push(pointer)?;
-        }
+    match content {
+        LineContent::Alone => pointer_to_part(alloc, pointer),
+        LineContent::Named => one_pointer(alloc, pointer),
     }
-    Ok(pointers)
 }
 
 /// A look-up of pointers that was fed no byte, where there are some.
@@ -131,7 +215,7 @@ pub(crate) fn sought_at_start<'p>(
     settings: &Settings,
     pointers: Vec<Pointer<'p>>,
 ) -> Result<Sought<'p>, AllocError>
-    ensures { IfOk result (λ sought. (pointer : List ℕ) → pointers.entry.items ≡ sought_of pointer → HasSought (any_names settings.now) pointer [] sought) }
+    ensures { IfOk result (λ sought. (content : LineContent) (pointer : List ℕ) → pointers.entry.items ≡ sought_of content pointer → HasSought content (any_names settings.now) pointer [] sought) }
 {
     if pointers.is_empty() {
         return Ok(None);
@@ -147,7 +231,7 @@ pub(crate) fn sought_at_start<'p>(
 
 /// Looks up in a batch behind what was read. Memory is refused too where the last byte has no offset.
 pub(crate) fn seek(sought: &mut Sought<'_>, batch: &[u8]) -> Result<(), AllocError>
-    ensures { OnOk result ((settings : Settings) (pointer bytes : List ℕ) → HasSought settings pointer bytes sought.old → HasSought settings pointer (bytes ++ batch.now) sought.new) }
+    ensures { OnOk result ((content : LineContent) (settings : Settings) (pointer bytes : List ℕ) → HasSought content settings pointer bytes sought.old → HasSought content settings pointer (bytes ++ batch.now) sought.new) }
 {
     match sought {
         None => Ok(()),

@@ -18,6 +18,8 @@ open_parts at (call.Change document changes) h = absurd h
 open_parts at (call.Close uri) h = absurd h
 open_parts at (call.Hover uri place) h = absurd h
 open_parts at (call.Symbols uri) h = absurd h
+open_parts at (call.Folds uri) h = absurd h
+open_parts at (call.Selection uri places) h = absurd h
 open_parts at call.WrongParameters h = absurd h
 open_parts at call.Other h = absurd h
 
@@ -31,6 +33,8 @@ changed_document at (call.Change document changes) h = (document, h.0)
 changed_document at (call.Close uri) h = absurd h
 changed_document at (call.Hover uri place) h = absurd h
 changed_document at (call.Symbols uri) h = absurd h
+changed_document at (call.Folds uri) h = absurd h
+changed_document at (call.Selection uri places) h = absurd h
 changed_document at call.WrongParameters h = absurd h
 changed_document at call.Other h = absurd h
 
@@ -44,5 +48,7 @@ closed_document at (call.Change document changes) h = absurd h
 closed_document at (call.Close uri) h = (uri, h)
 closed_document at (call.Hover uri place) h = absurd h
 closed_document at (call.Symbols uri) h = absurd h
+closed_document at (call.Folds uri) h = absurd h
+closed_document at (call.Selection uri places) h = absurd h
 closed_document at call.WrongParameters h = absurd h
 closed_document at call.Other h = absurd h

@@ -2,7 +2,7 @@
 use Rattle.std.proofs.Common.{◌≡◌, ◌≢◌, ℕ, zero, suc, ◌+◌, ◌%◌, ◌^◌, ◌<◌, Bool, true, false, eqb, not, ◌&&◌, List, [], ◌∷◌, ◌++◌, length, refl, ap, arith, slice_index, codes, decimal}
 use Rattle.std.proofs.lemmas.Fmt.{decimal_by_steps}
 use Rattle.jx_index.specs.Pointers.{IsPointer}
-use Rattle.jx_wire.specs.Requests.{change_pointer, encoding_pointer}
+use Rattle.jx_wire.specs.Requests.{change_pointer, encoding_pointer, position_pointer}
 use Rattle.jx_wire.specs.inside.Spelt.{has_no_tilde, has_slash, is_plain}
 
 both : (b c : Bool) → (b && c) ≡ true → (b ≡ true) × (c ≡ true)
@@ -66,3 +66,9 @@ change_some n e = absurd cc
 
 pub encoding_plain : (n : ℕ) → n < 2 ^ 64 → is_plain (encoding_pointer n) ≡ true
 encoding_plain n h = longer (codes "/params/capabilities/general/positionEncodings/") (decimal n) refl (λ e. absurd cc) (digits_plain n h)
+
+pub position_plain : (n : ℕ) → n < 2 ^ 64 → is_plain (position_pointer n) ≡ true
+position_plain n h = longer (codes "/params/positions/") (decimal n) refl (λ e. absurd cc) (digits_plain n h)
+
+pub position_some : (n : ℕ) → position_pointer n ≢ []
+position_some n e = absurd cc

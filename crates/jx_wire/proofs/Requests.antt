@@ -6,7 +6,7 @@ use Rattle.std.proofs.lemmas.Result.{err_from_is_err_and}
 use Rattle.jx_lex.specs.declared.kind.Kind.{Kind}
 use Rattle.jx_lex.specs.declared.kind.Kind.TheVariants as kind
 use Rattle.jx_run.specs.Tree.{Tree}
-use Rattle.jx_wire.specs.Requests.{change_pointer, AreFrom, IsDepth, IsBetween, IsChange, of_all, of_range, IsRange, IsWhole}
+use Rattle.jx_wire.specs.Requests.{change_pointer, position_pointer, AreFrom, ArePlacesFrom, IsDepth, IsBetween, IsChange, IsPlace, of_all, of_range, IsRange, IsWhole}
 use Rattle.jx_wire.specs.Values.{number_by, number_spelt_by, text_by, seen, value_at, ValueIn, Values}
 use Rattle.jx_wire.specs.declared.call.Change.{Change}
 use Rattle.jx_wire.specs.declared.call.Change.TheVariants.{Whole, Range, Unknown}
@@ -121,3 +121,16 @@ pub no_others : (at : Values) (number : ℕ) (all : List Change) → AreFrom at 
     → ((change : Change) → IsChange at (change_pointer number) change → ⊥) → ⊥
 no_others at number [] h some none = some h
 no_others at number (change ∷ changes) h some none = none change h.1
+
+-- ---- places
+
+-- behind a place that is there come the others
+pub other_places : (at : Values) (number : ℕ) (all : List Place) → ArePlacesFrom at number all → at (position_pointer number) ≢ None → (rest : List Place) × ArePlacesFrom at (number + 1) rest
+other_places at number [] h some = absurd (some h)
+other_places at number (place ∷ places) h some = (places, h.2)
+
+-- what is no place is none of them
+pub no_other_places : (at : Values) (number : ℕ) (all : List Place) → ArePlacesFrom at number all → at (position_pointer number) ≢ None
+    → ((place : Place) → IsPlace at (position_pointer number) place → ⊥) → ⊥
+no_other_places at number [] h some none = some h
+no_other_places at number (place ∷ places) h some none = none place h.1

@@ -5,7 +5,7 @@ use Rattle.std.specs.Global.{Global}
 use Rattle.std.specs.Str.{bytes_eq}
 use Rattle.jx_lex.specs.declared.kind.Kind.{Kind}
 use Rattle.jx_lex.specs.declared.kind.Kind.TheVariants as kind
-use Rattle.jx_wire.specs.Values.{flag_by, id_by, number_by, number_spelt_by, text_by, ValueIn, Values}
+use Rattle.jx_wire.specs.Values.{flag_by, id_by, is_true, number_by, number_spelt_by, text_by, ValueIn, Values}
 use Rattle.jx_wire.specs.declared.call.Call.{Call}
 use Rattle.jx_wire.specs.declared.call.Call.TheVariants as call
 use Rattle.jx_wire.specs.declared.call.Change.{Change}
@@ -46,6 +46,11 @@ abbrev pub flag_in : Option ValueIn → Option Bool
 flag_in None = Some false
 flag_in (Some value) = flag_by value.kind
 
+-- whether a capability is told
+abbrev pub is_true_in : Option ValueIn → Bool
+is_true_in None = false
+is_true_in (Some value) = is_true value.kind
+
 -- how an id is spelt
 abbrev pub id_in : Option ValueIn → Option (List ℕ)
 id_in None = None
@@ -74,6 +79,19 @@ pub record IsVersioned (at : Values) (document : Versioned) : Type 0 where
 pub record IsPlace (at : Values) (pointer : List ℕ) (place : Place) : Type 0 where
   pub line : number_in (at (pointer ++ codes "/line")) ≡ Some place.line
   pub character : number_in (at (pointer ++ codes "/character")) ≡ Some place.character
+
+abbrev pub position_pointer : ℕ → List ℕ
+position_pointer number = codes "/params/positions/" ++ decimal number
+
+-- the places from one of them on, in order
+abbrev pub ArePlacesFrom : Values → ℕ → List Place → Type 0
+ArePlacesFrom at number [] = at (position_pointer number) ≡ None
+ArePlacesFrom at number (place ∷ places) = (at (position_pointer number) ≢ None) × IsPlace at (position_pointer number) place × ArePlacesFrom at (number + 1) places
+
+-- the places of a message, each of them, in order
+pub record ArePlaces (at : Values) (places : List Place) : Type 0 where
+  pub list : IsOfKind kind.Array (at (codes "/params/positions"))
+  pub each : ArePlacesFrom at 0 places
 
 -- ---- changes
 
@@ -135,6 +153,7 @@ pub record IsOffer (at : Values) (offer : Offer) : Type 0 where
   pub depth : IsDepth (at (codes "/params/initializationOptions/depth")) offer.depth
   pub ignore_bom : flag_in (at (codes "/params/initializationOptions/ignoreBom")) ≡ Some offer.ignore_bom
   pub unique_names : flag_in (at (codes "/params/initializationOptions/uniqueNames")) ≡ Some offer.unique_names
+  pub nested : is_true_in (at (codes "/params/capabilities/textDocument/documentSymbol/hierarchicalDocumentSymbolSupport")) ≡ offer.nested
 
 -- ---- methods
 
@@ -148,6 +167,8 @@ method_of name =
     if bytes_eq name (codes "textDocument/didClose") then method.Close else
     if bytes_eq name (codes "textDocument/hover") then method.Hover else
     if bytes_eq name (codes "textDocument/documentSymbol") then method.Symbols else
+    if bytes_eq name (codes "textDocument/foldingRange") then method.Folds else
+    if bytes_eq name (codes "textDocument/selectionRange") then method.Selection else
     method.Other
 
 -- ---- requests
@@ -171,12 +192,28 @@ AsksForSymbols at (call.Symbols uri) = IsUri at uri
 AsksForSymbols at call.WrongParameters = (uri : Uri) → IsUri at uri → ⊥
 AsksForSymbols at _ = ⊥
 
+abbrev pub AsksForFolds : Values → Call → Type 0
+AsksForFolds at (call.Folds uri) = IsUri at uri
+AsksForFolds at call.WrongParameters = (uri : Uri) → IsUri at uri → ⊥
+AsksForFolds at _ = ⊥
+
+pub record IsSelection (at : Values) (uri : Uri) (places : List Place) : Type 0 where
+  pub of : IsUri at uri
+  pub there : ArePlaces at places
+
+abbrev pub AsksForSelection : Values → Call → Type 0
+AsksForSelection at (call.Selection uri places) = IsSelection at uri places.items
+AsksForSelection at call.WrongParameters = (uri : Uri) (places : List Place) → IsSelection at uri places → ⊥
+AsksForSelection at _ = ⊥
+
 -- what a request of a method calls for. A method of a notification is none that can be answered
 abbrev pub AsksFor : Values → Method → Call → Type 0
 AsksFor at method.Initialize asked = AsksToBegin at asked
 AsksFor at method.Shutdown asked = asked ≡ call.Shutdown
 AsksFor at method.Hover asked = AsksForHover at asked
 AsksFor at method.Symbols asked = AsksForSymbols at asked
+AsksFor at method.Folds asked = AsksForFolds at asked
+AsksFor at method.Selection asked = AsksForSelection at asked
 AsksFor at method.Exit asked = asked ≡ call.Other
 AsksFor at method.Open asked = asked ≡ call.Other
 AsksFor at method.Change asked = asked ≡ call.Other
@@ -207,6 +244,8 @@ TellsOf at method.Initialize told = told ≡ call.Other
 TellsOf at method.Shutdown told = told ≡ call.Other
 TellsOf at method.Hover told = told ≡ call.Other
 TellsOf at method.Symbols told = told ≡ call.Other
+TellsOf at method.Folds told = told ≡ call.Other
+TellsOf at method.Selection told = told ≡ call.Other
 TellsOf at method.Other told = told ≡ call.Other
 
 -- ---- messages

@@ -63,6 +63,10 @@ id_by kind.String bytes = Some bytes
 id_by kind.Number bytes = Some bytes
 id_by _ bytes = None
 
+abbrev pub is_true : Kind → Bool
+is_true kind.True = true
+is_true _ = false
+
 abbrev pub flag_by : Kind → Option Bool
 flag_by kind.True = Some true
 flag_by kind.False = Some false

@@ -49,6 +49,8 @@ pub struct Offer {
     pub ignore_bom: bool,
     /// Whether names have to be unique.
     pub unique_names: bool,
+    /// Whether it can show symbols in symbols.
+    pub nested: bool,
 }
 
 /// What a message calls for.
@@ -73,6 +75,13 @@ pub enum Call {
     },
     /// The values of a document.
     Symbols(Uri),
+    /// The lines of a document that can be folded.
+    Folds(Uri),
+    /// The values and members around each of some places of a document.
+    Selection {
+        uri: Uri,
+        places: Vec<Place>,
+    },
     /// A request about a document, whose parameters are missing or of a wrong kind.
     WrongParameters,
     /// Nothing that this server knows.

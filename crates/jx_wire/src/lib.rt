@@ -10,6 +10,7 @@ mod message;
 mod method;
 mod number;
 mod parameters;
+mod positions;
 mod quoting;
 mod request;
 mod request_fault;

@@ -13,6 +13,8 @@ pub(crate) enum Method {
     Close,
     Hover,
     Symbols,
+    Folds,
+    Selection,
     Other,
 }
 
@@ -36,6 +38,10 @@ pub(crate) fn method_of(name: &[u8]) -> Method
         Method::Hover
     } else if name == b"textDocument/documentSymbol".as_slice() {
         Method::Symbols
+    } else if name == b"textDocument/foldingRange".as_slice() {
+        Method::Folds
+    } else if name == b"textDocument/selectionRange".as_slice() {
+        Method::Selection
     } else {
         Method::Other
     }

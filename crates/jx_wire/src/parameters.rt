@@ -6,7 +6,7 @@ ghost use Rattle.jx_wire.specs.declared.call.Offer.{Offer};
 ghost use Rattle.jx_wire.specs.declared.call.Place.{Place};
 ghost use Rattle.jx_wire.specs.declared.call.Uri.{Uri};
 ghost use Rattle.jx_wire.specs.declared.call.Versioned.{Versioned};
-ghost use Rattle.jx_wire.specs.Requests.{flag_in, items_in, number_in, number_spelt, change_pointer, AreChanges, AreFrom, IsBetween, IsChange, IsDepth, IsOffer, IsOfKind, IsPlace, IsUri, IsVersioned, IsWhole, Offers};
+ghost use Rattle.jx_wire.specs.Requests.{flag_in, is_true_in, items_in, number_in, number_spelt, change_pointer, AreChanges, AreFrom, IsBetween, IsChange, IsDepth, IsOffer, IsOfKind, IsPlace, IsUri, IsVersioned, IsWhole, Offers};
 ghost use Rattle.jx_wire.specs.Values.{seen, text_by, Says};
 ghost use Rattle.jx_wire.specs.inside.Changes.{ranged, IsNext, IsNoNext};
 ghost use Rattle.jx_wire.specs.inside.Spelt.{is_plain, IsSpelt};
@@ -255,6 +255,19 @@ fn is_on(message: &Message, pointer: &str) -> Option<bool>
     }
 }
 
+/// Whether a capability is told: it is `true`.
+fn is_true(message: &Message, pointer: &str) -> bool
+    ensures { is_plain pointer.now ≡ true → Says message.now (λ at. is_true_in (at pointer.now) ≡ result) }
+{
+    match message.plain_at(pointer) {
+        None => false,
+        Some(value) => match value.kind {
+            Kind::True => true,
+            _ => false,
+        },
+    }
+}
+
 /// The depth that is asked for. It is at most 65,535.
 fn depth_of(message: &Message) -> Result<Option<usize>, ParameterFault>
     ensures ok { IfOk result (λ depth. Says message.now (λ at. IsDepth (at (codes "/params/initializationOptions/depth")) depth)) }
@@ -286,6 +299,10 @@ fn counts_bytes(alloc: Global, message: &Message) -> Result<bool, AllocError>
     Err(AllocError)
 }
 
+/// Where a client tells that it can show symbols in symbols.
+const NESTED: &str =
+    "/params/capabilities/textDocument/documentSymbol/hierarchicalDocumentSymbolSupport";
+
 /// What a client asks for with `initialize`.
 pub(crate) fn offer_of(alloc: Global, message: &Message) -> Result<Offer, ParameterFault>
     ensures ok { IfOk result (λ offer. Says message.now (λ at. IsOffer at offer)) }
@@ -299,10 +316,12 @@ pub(crate) fn offer_of(alloc: Global, message: &Message) -> Result<Offer, Parame
     let Some(unique_names) = is_on(message, "/params/initializationOptions/uniqueNames") else {
         return Err(ParameterFault::Wrong);
     };
+    let nested = is_true(message, NESTED);
     Ok(Offer {
         utf8,
         depth,
         ignore_bom,
         unique_names,
+        nested,
     })
 }

@@ -2,7 +2,7 @@ ghost use Rattle.std.specs.Prelude.{◌≡◌, ◌≢◌, ℕ, List, Option, Som
 ghost use Rattle.jx_index.specs.ByNames.{IsVerdictBy};
 ghost use Rattle.jx_run.specs.declared.texts.verdict.Verdict.TheVariants.{Accepted};
 ghost use Rattle.jx_wire.specs.Messages.{wire_settings, IsFaultOf};
-ghost use Rattle.jx_wire.specs.Requests.{text_in, AsksFor, AsksForHover, AsksForSymbols, CallsFor, IsHover, IsId, IsNamed, IsRefusedFor, IsRequest, TellsChange, TellsOf, TellsOpen};
+ghost use Rattle.jx_wire.specs.Requests.{text_in, AsksFor, AsksForHover, AsksForFolds, AsksForSelection, AsksForSymbols, CallsFor, IsHover, IsId, IsNamed, IsRefusedFor, IsRequest, IsSelection, TellsChange, TellsOf, TellsOpen};
 ghost use Rattle.jx_wire.specs.Values.{Says};
 ghost use Rattle.jx_wire.specs.declared.call.Call.{Call};
 ghost use Rattle.jx_wire.specs.declared.call.Place.{Place};
@@ -14,6 +14,7 @@ use crate::method::{Method, method_of};
 use crate::parameters::{
     ParameterFault, changes_of, offer_of, place_at, uri_of, versioned_of, whole_of,
 };
+use crate::positions::positions_of;
 use crate::request_fault::RequestFault;
 use jx_lex::Kind;
 use jx_string::StringFault;
@@ -84,6 +85,8 @@ fn request_call(alloc: Global, message: &Message, method: Method) -> Result<Call
         Method::Shutdown => Ok(Call::Shutdown),
         Method::Hover => hover_call(alloc, message),
         Method::Symbols => symbols_call(alloc, message),
+        Method::Folds => folds_call(alloc, message),
+        Method::Selection => selection_call(alloc, message),
         Method::Exit | Method::Open | Method::Change | Method::Close | Method::Other => {
             Ok(Call::Other)
         }
@@ -124,6 +127,40 @@ fn symbols_call(alloc: Global, message: &Message) -> Result<Call, ParameterFault
     }
 }
 
+/// Another request about a document.
+fn folds_call(alloc: Global, message: &Message) -> Result<Call, ParameterFault>
+    ensures ok { IfOk result (λ call. Says message.now (λ at. AsksForFolds at call)) }
+    ensures memory { IfErr result (λ fault. fault ≡ ParameterFault.Memory) }
+{
+    match uri_of(alloc, message) {
+        Ok(uri) => Ok(Call::Folds(uri)),
+        Err(ParameterFault::Wrong) => Ok(Call::WrongParameters),
+        Err(ParameterFault::Memory) => Err(ParameterFault::Memory),
+    }
+}
+
+/// The document and the places that a request asks about.
+fn selection_of(alloc: Global, message: &Message) -> Result<(Uri, Vec<Place>), ParameterFault>
+    ensures ok { IfOk result (λ asked. Says message.now (λ at. IsSelection at asked.0 asked.1.items)) }
+    ensures wrong { IsErrOf result ParameterFault.Wrong → Says message.now (λ at. (uri : Uri) (places : List Place) → IsSelection at uri places → ⊥) }
+{
+    let uri = uri_of(alloc, message)?;
+    let places = positions_of(alloc, message)?;
+    Ok((uri, places))
+}
+
+/// A request about places of a document.
+fn selection_call(alloc: Global, message: &Message) -> Result<Call, ParameterFault>
+    ensures ok { IfOk result (λ call. Says message.now (λ at. AsksForSelection at call)) }
+    ensures memory { IfErr result (λ fault. fault ≡ ParameterFault.Memory) }
+{
+    match selection_of(alloc, message) {
+        Ok((uri, places)) => Ok(Call::Selection { uri, places }),
+        Err(ParameterFault::Wrong) => Ok(Call::WrongParameters),
+        Err(ParameterFault::Memory) => Err(ParameterFault::Memory),
+    }
+}
+
 /// A document is opened.
 fn open_call(alloc: Global, message: &Message) -> Result<Call, ParameterFault>
     ensures ok { IfOk result (λ call. Says message.now (λ at. TellsOpen at call)) }
@@ -158,8 +195,13 @@ fn notification_call(
         Method::Open => open_call(alloc, message),
         Method::Change => change_call(alloc, message),
         Method::Close => Ok(Call::Close(uri_of(alloc, message)?)),
-        Method::Initialize | Method::Shutdown | Method::Hover | Method::Symbols | Method::Other =>
-            Ok(Call::Other),
+        Method::Initialize
+        | Method::Shutdown
+        | Method::Hover
+        | Method::Symbols
+        | Method::Folds
+        | Method::Selection
+        | Method::Other => Ok(Call::Other),
     }
 }
 

@@ -1,7 +1,7 @@
 // Commands under refused growths.
 use jx_command::{
     ArgFault, EachOrder, Input, Inputs, LinesOrder, LiveOrder, Order, PartsOrder, PartsStep,
-    Request, ValuesOrder, command_of,
+    Request, SaveOrder, ValuesOrder, command_of,
 };
 use jx_crew::Workers;
 use jx_hostile_runs::lines::Lines;
@@ -11,7 +11,7 @@ use std::alloc::{AllocError, Global};
 use std::test::Fail;
 
 // Words behind the program's name, and what they ask for.
-const COMMANDS: [(&[&str], &str); 11] = [
+const COMMANDS: [(&[&str], &str); 12] = [
     (&["chek"], "wrong words"),
     (
         &["at", "/1", "/2", "x"],
@@ -55,6 +55,10 @@ const COMMANDS: [(&[&str], &str); 11] = [
             "-q",
         ],
         "seq, live; depth 7, mark Ignored, quiet, inputs F G",
+    ),
+    (
+        &["save", "F", "--depth", "7", "--chunk", "64"],
+        "save; depth 7, chunk 64, file F",
     ),
     (
         &["check", "F", "-", "G"],
@@ -105,6 +109,7 @@ fn asked_by(alloc: Global, words: &[&str]) -> Result<String, AllocError> {
         Ok(Order::Each(order)) => line_of_each(alloc, &order),
         Ok(Order::Lines(order)) => line_of_lines(alloc, &order),
         Ok(Order::Live(order)) => line_of_live(alloc, &order),
+        Ok(Order::Save(order)) => line_of_save(alloc, &order),
         Err(ArgFault::Memory) => Err(AllocError),
         Err(_) => String::from_str(alloc, "wrong words"),
     }
@@ -178,6 +183,9 @@ fn line_of_each(alloc: Global, order: &EachOrder<'_>) -> Result<String, AllocErr
     let depth = order.settings.depth.containers();
     let pointer = order.pointer;
     let mut line = format!(in alloc; "each {pointer}; depth {depth}")?;
+    if order.has_names {
+        line.push_str(", names")?;
+    }
     add_inputs(&mut line, &Inputs::One(order.input))?;
     Ok(line)
 }
@@ -205,6 +213,14 @@ fn line_of_live(alloc: Global, order: &LiveOrder<'_>) -> Result<String, AllocErr
         line.push_str(", quiet")?;
     }
     add_inputs(&mut line, &order.inputs)?;
+    Ok(line)
+}
+
+fn line_of_save(alloc: Global, order: &SaveOrder<'_>) -> Result<String, AllocError> {
+    let depth = order.settings.depth.containers();
+    let chunk = order.chunk.bytes();
+    let mut line = format!(in alloc; "save; depth {depth}, chunk {chunk}")?;
+    add_inputs(&mut line, &Inputs::One(order.input))?;
     Ok(line)
 }
 

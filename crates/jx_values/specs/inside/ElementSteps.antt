@@ -3,8 +3,9 @@ use Rattle.std.specs.Prelude.{◌≡◌, ℕ, List, [], ◌++◌, Option}
 use Rattle.std.specs.Io.KnownBytes.{Appends, Consumes}
 use Rattle.jx_run.specs.declared.texts.settings.Settings.{Settings}
 use Rattle.jx_find.specs.declared.finder.Finder.{Finder}
-use Rattle.jx_each.specs.Due.{IsDue}
-use Rattle.jx_each.specs.Each.{EachValue, HasTaken}
+use Rattle.jx_each.specs.declared.content.LineContent.{LineContent}
+use Rattle.jx_each.specs.Due.{IsDueBy}
+use Rattle.jx_each.specs.Each.{EachValue, HasTakenBy}
 use Rattle.jx_report.specs.Ends.{ReadsToEnd, AppendsBeginning}
 use Rattle.jx_values.specs.inside.Sought.{HasSought, any_names}
 
@@ -13,32 +14,32 @@ pub record WritesOn (written grown : Option (List ℕ)) (batch : List ℕ) (old 
   pub more : List ℕ
   pub wrote : Appends written grown more
   pub settings : new.reader.settings ≡ old.reader.settings
-  pub takes : (pointer text given : List ℕ) → HasTaken pointer text given old → HasTaken pointer (text ++ batch) (given ++ more) new
-  pub seeks : (settings : Settings) (pointer text : List ℕ) → HasSought settings pointer text before → HasSought settings pointer (text ++ batch) after
+  pub takes : (content : LineContent) (pointer text given : List ℕ) → HasTakenBy content pointer text given old → HasTakenBy content pointer (text ++ batch) (given ++ more) new
+  pub seeks : (content : LineContent) (settings : Settings) (pointer text : List ℕ) → HasSought content settings pointer text before → HasSought content settings pointer (text ++ batch) after
   pub none_wait : new.ready ≡ []
 
 -- a batch was taken, and a beginning of the lines that were due then was written
 pub record WritesPart (written grown : Option (List ℕ)) (batch : List ℕ) (old : EachValue) : Type 0 where
   pub more : List ℕ
   pub wrote : AppendsBeginning written grown more
-  pub due : (pointer text given : List ℕ) → HasTaken pointer text given old → IsDue old.reader.settings pointer (text ++ batch) (given ++ more)
+  pub due : (content : LineContent) (pointer text given : List ℕ) → HasTakenBy content pointer text given old → IsDueBy content old.reader.settings pointer (text ++ batch) (given ++ more)
 
 -- all that was read was taken, and all that is due of it was written
-pub record IsWritten (pointer : List ℕ) (unread left written grown : Option (List ℕ)) (each : EachValue) (sought : Option Finder) : Type 0 where
+pub record IsWritten (content : LineContent) (pointer : List ℕ) (unread left written grown : Option (List ℕ)) (each : EachValue) (sought : Option Finder) : Type 0 where
   pub text : List ℕ
   pub given : List ℕ
   pub read : Consumes unread left text
   pub wrote : Appends written grown given
-  pub taken : HasTaken pointer text given each
-  pub looked : HasSought (any_names each.reader.settings) pointer text sought
+  pub taken : HasTakenBy content pointer text given each
+  pub looked : HasSought content (any_names each.reader.settings) pointer text sought
   pub none_wait : each.ready ≡ []
 
 -- and nothing is left to read
-pub record IsAllWritten (pointer : List ℕ) (unread left written grown : Option (List ℕ)) (each : EachValue) (sought : Option Finder) : Type 0 where
+pub record IsAllWritten (content : LineContent) (pointer : List ℕ) (unread left written grown : Option (List ℕ)) (each : EachValue) (sought : Option Finder) : Type 0 where
   pub text : List ℕ
   pub given : List ℕ
   pub read : ReadsToEnd unread left text
   pub wrote : Appends written grown given
-  pub taken : HasTaken pointer text given each
-  pub looked : HasSought (any_names each.reader.settings) pointer text sought
+  pub taken : HasTakenBy content pointer text given each
+  pub looked : HasSought content (any_names each.reader.settings) pointer text sought
   pub none_wait : each.ready ≡ []

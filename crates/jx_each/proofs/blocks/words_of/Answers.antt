@@ -5,6 +5,6 @@ use Rattle.jx_each.proofs.blocks.words_of.Goals as goal
 
 pub returns : goal.returns
 returns c =
-    words_tell c.args.block c.args.inside _ c.lowest.result c.quotes-quotes.result c.stops.result c.backslashes.result _ c.fits-block.0
-    (xor_lt 64 c.parities.result c.all.result c.parities.type_inv c.all.type_inv) c.lowest.ensures.first c.lowest.ensures.others
-    c.quotes-quotes.ensures c.stops.ensures c.backslashes.ensures c.if-backslashes-ne0.false refl c.if-wrong-ne0.false
+    words_tell c.args.block c.args.inside _ c.lowest.result c.quotes.result c.backslashes-slashes.result c.stops.result c.escaped_by-escaped.result _ _ c.fits-block.0
+    (xor_lt 64 c.parities.result c.all.result c.parities.type_inv c.all.type_inv) c.escaped_by-escaped.type_inv c.lowest.ensures.first c.lowest.ensures.others
+    c.quotes.ensures c.backslashes-slashes.ensures c.stops.ensures refl refl c.if-wrong-ne0.false c.if-astray-ne0.false c.if-over-ne0.false

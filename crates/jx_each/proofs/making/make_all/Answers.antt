@@ -1,6 +1,6 @@
 use Rattle.std.proofs.Common.{◌≡◌, ◌≤◌, ap, arith, refl}
 use Rattle.jx_each.specs.declared.stand.Stand.{Stand}
-use Rattle.jx_each.specs.inside.Paths.{count_in, path_of}
+use Rattle.jx_each.specs.inside.Paths.{aim_of, count_in}
 use Rattle.jx_each.proofs.Stretching.{made_on, run_byte}
 use Rattle.jx_each.proofs.making.make_all.Goals as goal
 
@@ -17,7 +17,7 @@ loop-at-preserved c =
       within = past.bounds.1;
       height = omega (arith, low, high, height, found.high, i.height);
       count = omega (arith, low, high, count, i.count);
-      made = made_on (path_of c.args.path.now) c.loop-at.stand c.moved-stand.result c.stretch_from-found.result.place c.stretch_from-found.result.height c.loop-at.lines.items c.loop-at.part.items c.push_stretch.new.part.items c.args.bytes.now
+      made = made_on (aim_of c.args.target.now) c.loop-at.stand c.moved-stand.result c.stretch_from-found.result.place c.stretch_from-found.result.height c.loop-at.lines.items c.loop-at.part.items c.push_stretch.new.part.items c.args.bytes.now
           c.loop-at.at c.stretch_from-found.result.end c.blanks_from-at.result _ c.moved-stand.ensures low high found.stretch c.in_ok-push_stretch.ensures past.passed i.made;
     }
 
@@ -34,8 +34,8 @@ loop-at-preserved-then-at-bytes c =
       within = omega (arith, c.if-at-bytes.true);
       height = omega (arith, low, high, height, found.high, i.height, c.in_ok-stand.ensures.height);
       count = omega (arith, low, high, count, i.count, c.in_ok-stand.ensures.count);
-      made = run_byte (path_of c.args.path.now) c.moved-stand.result c.in_ok-stand.stand c.loop-at.lines.items c.push_stretch.new.part.items c.make.new.lines.items c.make.new.part.items c.args.bytes.now c.blanks_from-at.result _ _
+      made = run_byte (aim_of c.args.target.now) c.moved-stand.result c.in_ok-stand.stand c.loop-at.lines.items c.push_stretch.new.part.items c.make.new.lines.items c.make.new.part.items c.args.bytes.now c.blanks_from-at.result _ _
           c.if-at-bytes.true refl c.in_ok-stand.ensures.made
-          (made_on (path_of c.args.path.now) c.loop-at.stand c.moved-stand.result c.stretch_from-found.result.place c.stretch_from-found.result.height c.loop-at.lines.items c.loop-at.part.items c.push_stretch.new.part.items c.args.bytes.now
+          (made_on (aim_of c.args.target.now) c.loop-at.stand c.moved-stand.result c.stretch_from-found.result.place c.stretch_from-found.result.height c.loop-at.lines.items c.loop-at.part.items c.push_stretch.new.part.items c.args.bytes.now
           c.loop-at.at c.stretch_from-found.result.end c.blanks_from-at.result _ c.moved-stand.ensures low high found.stretch c.in_ok-push_stretch.ensures past.passed i.made);
     }

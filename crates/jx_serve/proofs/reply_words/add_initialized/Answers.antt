@@ -17,7 +17,7 @@ returns c =
     let version_is : version ≡ codes "0.2.0" = c.as_bytes.ensures.value in
     let all : List ℕ → List ℕ → List ℕ = λ one two. o ++ concat (
     codes "{\"jsonrpc\":\"2.0\",\"id\":" ∷ c.args.id.now ∷ codes ",\"result\":{\"capabilities\":{" ∷ one
-    ∷ codes "\"textDocumentSync\":{\"openClose\":true,\"change\":2},\"hoverProvider\":true,\"documentSymbolProvider\":true},"
+    ∷ codes "\"textDocumentSync\":{\"openClose\":true,\"change\":2},\"hoverProvider\":true,\"documentSymbolProvider\":true,\"foldingRangeProvider\":true,\"selectionRangeProvider\":true},"
     ∷ codes "\"serverInfo\":{\"name\":\"jx-lsp\",\"version\":\"" ∷ two ∷ codes "\"}}}" ∷ []
     ) in
     same_by c.add_all.result c.add_all.new.out.items (all encoding version) (o ++ initialized c.args.id.now c.args.utf8) c.add_all.ensures

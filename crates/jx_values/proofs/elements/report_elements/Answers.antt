@@ -11,24 +11,24 @@ use Rattle.jx_values.proofs.elements.report_elements.Goals as goal
 
 pub returns-in_err-each-clause-lines : goal.returns-in_err-each-clause-lines
 returns-in_err-each-clause-lines g c = λ is.
-    lines_at_start c.args.settings.now c.args.pointer.now (g.S.Source.remaining c.args.reader.now) (g.W.Sink.contents c.args.writer.now) (c.nothing_is_due_of_no_byte.ensures.none c.args.settings.now c.args.pointer.now)
+    lines_at_start c.args.content c.args.settings.now c.args.pointer.now (g.S.Source.remaining c.args.reader.now) (g.W.Sink.contents c.args.writer.now) (c.nothing_is_due_of_no_byte.ensures.none_by c.args.content c.args.settings.now c.args.pointer.now)
 
 pub returns-in_err-pointers-clause-lines : goal.returns-in_err-pointers-clause-lines
 returns-in_err-pointers-clause-lines g c = λ is.
-    lines_at_start c.args.settings.now c.args.pointer.now (g.S.Source.remaining c.args.reader.now) (g.W.Sink.contents c.args.writer.now) (c.nothing_is_due_of_no_byte.ensures.none c.args.settings.now c.args.pointer.now)
+    lines_at_start c.args.content c.args.settings.now c.args.pointer.now (g.S.Source.remaining c.args.reader.now) (g.W.Sink.contents c.args.writer.now) (c.nothing_is_due_of_no_byte.ensures.none_by c.args.content c.args.settings.now c.args.pointer.now)
 
 pub returns-in_err-sought-clause-lines : goal.returns-in_err-sought-clause-lines
 returns-in_err-sought-clause-lines g c = λ is.
-    lines_at_start c.args.settings.now c.args.pointer.now (g.S.Source.remaining c.args.reader.now) (g.W.Sink.contents c.args.writer.now) (c.nothing_is_due_of_no_byte.ensures.none c.args.settings.now c.args.pointer.now)
+    lines_at_start c.args.content c.args.settings.now c.args.pointer.now (g.S.Source.remaining c.args.reader.now) (g.W.Sink.contents c.args.writer.now) (c.nothing_is_due_of_no_byte.ensures.none_by c.args.content c.args.settings.now c.args.pointer.now)
 
 pub returns-in_err-buffer-clause-lines : goal.returns-in_err-buffer-clause-lines
 returns-in_err-buffer-clause-lines g c = λ is.
-    lines_at_start c.args.settings.now c.args.pointer.now (g.S.Source.remaining c.args.reader.now) (g.W.Sink.contents c.args.writer.now) (c.nothing_is_due_of_no_byte.ensures.none c.args.settings.now c.args.pointer.now)
+    lines_at_start c.args.content c.args.settings.now c.args.pointer.now (g.S.Source.remaining c.args.reader.now) (g.W.Sink.contents c.args.writer.now) (c.nothing_is_due_of_no_byte.ensures.none_by c.args.content c.args.settings.now c.args.pointer.now)
 
 pub write_all_due-requires-clause-sought : goal.write_all_due-requires-clause-sought
 write_all_due-requires-clause-sought g c =
-    subst (λ (s : Settings). HasSought (any_names s) c.args.pointer.now [] c.in_ok-sought.sought) (sym c.in_ok-each.ensures.settings)
-    (c.in_ok-sought.ensures c.args.pointer.now c.in_ok-pointers.ensures)
+    subst (λ (s : Settings). HasSought c.args.content (any_names s) c.args.pointer.now [] c.in_ok-sought.sought) (sym c.in_ok-each.ensures.settings)
+    (c.in_ok-sought.ensures c.args.content c.args.pointer.now c.in_ok-pointers.ensures)
 
 pub returns-in_err-write_all_due-clause-read : goal.returns-in_err-write_all_due-clause-read
 returns-in_err-write_all_due-clause-read g c =
@@ -47,20 +47,20 @@ returns-in_err-write_all_due-clause-write g c =
 pub returns-in_err-write_all_due-clause-due : goal.returns-in_err-write_all_due-clause-due
 returns-in_err-write_all_due-clause-due g c = λ is.
     let p = err_from_is_err_and c.from_residual-in_err-write_all_due.result c.from_residual-in_err-write_all_due.ensures.1 in
-    subst (λ (s : Settings). WroteDue s c.args.pointer.now (g.S.Source.remaining c.args.reader.now) (g.S.Source.remaining c.write_all_due.new.reader) (g.W.Sink.contents c.args.writer.now) (g.W.Sink.contents c.write_all_due.new.writer)) c.in_ok-each.ensures.settings
+    subst (λ (s : Settings). WroteDue c.args.content s c.args.pointer.now (g.S.Source.remaining c.args.reader.now) (g.S.Source.remaining c.write_all_due.new.reader) (g.W.Sink.contents c.args.writer.now) (g.W.Sink.contents c.write_all_due.new.writer)) c.in_ok-each.ensures.settings
     (c.write_all_due.ensures.due (same_fault c.write_all_due.result c.from_residual-in_err-write_all_due.result c.in_err-write_all_due.field-0.0 p.0 fault.Read c.in_err-write_all_due.was p.1 p.2 is))
 
 pub returns-in_err-write_all_due-clause-lines : goal.returns-in_err-write_all_due-clause-lines
 returns-in_err-write_all_due-clause-lines g c = λ is.
     let p = err_from_is_err_and c.from_residual-in_err-write_all_due.result c.from_residual-in_err-write_all_due.ensures.1 in
-    subst (λ (s : Settings). WroteLines s c.args.pointer.now (g.S.Source.remaining c.args.reader.now) (g.S.Source.remaining c.write_all_due.new.reader) (g.W.Sink.contents c.args.writer.now) (g.W.Sink.contents c.write_all_due.new.writer)) c.in_ok-each.ensures.settings
+    subst (λ (s : Settings). WroteLines c.args.content s c.args.pointer.now (g.S.Source.remaining c.args.reader.now) (g.S.Source.remaining c.write_all_due.new.reader) (g.W.Sink.contents c.args.writer.now) (g.W.Sink.contents c.write_all_due.new.writer)) c.in_ok-each.ensures.settings
     (c.write_all_due.ensures.lines (same_fault c.write_all_due.result c.from_residual-in_err-write_all_due.result c.in_err-write_all_due.field-0.0 p.0 fault.Memory c.in_err-write_all_due.was p.1 p.2 is))
 
 pub returns-in_err-write_all_due-clause-beginning :
     goal.returns-in_err-write_all_due-clause-beginning
 returns-in_err-write_all_due-clause-beginning g c = λ is.
     let p = err_from_is_err_and c.from_residual-in_err-write_all_due.result c.from_residual-in_err-write_all_due.ensures.1 in
-    subst (λ (s : Settings). WroteInPart s c.args.pointer.now (g.S.Source.remaining c.args.reader.now) (g.S.Source.remaining c.write_all_due.new.reader) (g.W.Sink.contents c.args.writer.now) (g.W.Sink.contents c.write_all_due.new.writer)) c.in_ok-each.ensures.settings
+    subst (λ (s : Settings). WroteInPart c.args.content s c.args.pointer.now (g.S.Source.remaining c.args.reader.now) (g.S.Source.remaining c.write_all_due.new.reader) (g.W.Sink.contents c.args.writer.now) (g.W.Sink.contents c.write_all_due.new.writer)) c.in_ok-each.ensures.settings
     (c.write_all_due.ensures.beginning (same_fault c.write_all_due.result c.from_residual-in_err-write_all_due.result c.in_err-write_all_due.field-0.0 p.0 fault.Write c.in_err-write_all_due.was p.1 p.2 is))
 
 pub returns-in_err-told-clause-lines : goal.returns-in_err-told-clause-lines
@@ -69,15 +69,15 @@ returns-in_err-told-clause-lines g c = λ is.
     let n = g.S.Source.remaining c.write_all_due.new.reader in
     let w = g.W.Sink.contents c.args.writer.now in
     let x = g.W.Sink.contents c.write_all_due.new.writer in
-    lines_at_end c.args.settings.now c.args.pointer.now u n w x c.write_all_due.new.each c.write_all_due.new.sought c.what_is_taken_is_due.ensures.due (c.write_all_due.ensures.settings ∙ c.in_ok-each.ensures.settings)
+    lines_at_end c.args.content c.args.settings.now c.args.pointer.now u n w x c.write_all_due.new.each c.write_all_due.new.sought (c.what_is_taken_is_due.ensures.due_by c.args.content) (c.write_all_due.ensures.settings ∙ c.in_ok-each.ensures.settings)
     (as_written c.args.pointer.now u n w x c.write_all_due.new.each c.write_all_due.new.sought c.in_ok-write_all_due.ensures.ok)
 
 pub returns-clause-ok : goal.returns-clause-ok
 returns-clause-ok g c =
     let told = g.E.Sink.contents c.args.errors.now in
     let retold = g.E.Sink.contents c.tell.new.errors in
-    reports c.args.settings.now c.args.pointer.now (g.S.Source.remaining c.args.reader.now) (g.S.Source.remaining c.write_all_due.new.reader) (g.W.Sink.contents c.args.writer.now) (g.W.Sink.contents c.write_all_due.new.writer)
-    (g.E.Sink.has_failed c.tell.new.errors) told retold c.write_all_due.new.each c.write_all_due.new.sought c.verdict.result c.in_ok-told.told.items c.exit_by.result
-    c.what_is_taken_is_due.ensures.due (c.write_all_due.ensures.settings ∙ c.in_ok-each.ensures.settings) c.in_ok-write_all_due.ensures.ok c.verdict.ensures c.in_ok-told.ensures
+    reports c.args.content c.args.settings.now c.args.pointer.now (g.S.Source.remaining c.args.reader.now) (g.S.Source.remaining c.write_all_due.new.reader) (g.W.Sink.contents c.args.writer.now) (g.W.Sink.contents c.write_all_due.new.writer)
+    (g.E.Sink.has_failed c.tell.new.errors) told retold c.write_all_due.new.each c.write_all_due.new.sought c.verdict_of.result c.in_ok-told.told.items c.exit_by.result
+    (c.what_is_taken_is_due.ensures.due_by c.args.content) (c.write_all_due.ensures.settings ∙ c.in_ok-each.ensures.settings) c.in_ok-write_all_due.ensures.ok (c.verdict_of.ensures c.args.content) c.in_ok-told.ensures
     (c.exit_by.ensures ∙ ap exit_by c.deref-2.ensures.value)
     (λ lost. subst (λ l. Appends told retold l) c.deref.ensures.value (c.tell.ensures lost))

@@ -7,4 +7,5 @@ returns-clause-ok c = λ tree is. record {
   depth = c.in_ok-depth.ensures.ok tree is;
   ignore_bom = c.in-Some.ensures refl tree is;
   unique_names = c.in-Some-is_on.ensures refl tree is;
+  nested = c.is_true-nested.ensures refl tree is;
 }

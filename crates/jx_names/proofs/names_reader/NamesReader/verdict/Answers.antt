@@ -10,23 +10,21 @@ use Rattle.jx_names.specs.inside.KeptNames.{kept}
 use Rattle.jx_names.proofs.Feeds.{all_held, by_names, judged_as}
 use Rattle.jx_names.proofs.names_reader.NamesReader.verdict.Goals as goal
 
-pub returns-in-Refused : goal.returns-in-Refused
-returns-in-Refused c = record {
-  verdict = λ settings bytes h. no_text (judged_as settings bytes c.args.self h c.verdict.result (Refused c.in-Refused.refusal) c.in-Refused.is c.verdict.ensures.verdict);
-}
+pub returns-in-Refused-clause-verdict : goal.returns-in-Refused-clause-verdict
+returns-in-Refused-clause-verdict c =
+    λ settings bytes h. no_text (judged_as settings bytes c.args.self h c.verdict.result (Refused c.in-Refused.refusal) c.in-Refused.is c.verdict.ensures.verdict)
 
-pub returns : goal.returns
-returns c = record {
-  verdict = λ settings bytes h.
-      let f = c.args.self in
-      let track = tokens_by settings.mark bytes in
-      let judged : JudgedBy settings 0 bytes Accepted = judged_as settings bytes f h c.verdict.result Accepted c.in-Accepted.is c.verdict.ensures.verdict in
-      let accepted : verdict_on (read_by settings.mark settings.depth 0 bytes) ≡ Accepted =
-      c.verdict_by_settings_is_one.ensures.one_verdict settings 0 bytes (verdict_on (read_by settings.mark settings.depth 0 bytes)) Accepted (c.reader_is_grammar.ensures.by_settings settings 0 bytes) judged in
-      let held = all_held settings bytes f h c.in-Some.held c.in-Some.is accepted in
-      let names = c.in_ok-names-in-Accepted.names in
-      let a = c.accepted_texts_stand_behind_fronts.ensures settings bytes judged in
-      by_names settings bytes a (record { reads = c.tokens_are_read.ensures.reads; stays = c.tokens_are_read.ensures.stays }) (kept names)
-      (c.in_ok-names-in-Accepted.ensures bytes track.marks track.ends held) h.names (λ i front x. c.indexes_stand_behind_fronts.ensures.index settings bytes a.count i front x) c.accepted_unless.result
-      (c.accepted_unless.ensures ∙ ap accepted_unless c.first.ensures);
-}
+pub returns-clause-verdict : goal.returns-clause-verdict
+returns-clause-verdict c =
+    λ settings bytes h.
+    let f = c.args.self in
+    let track = tokens_by settings.mark bytes in
+    let judged : JudgedBy settings 0 bytes Accepted = judged_as settings bytes f h c.verdict.result Accepted c.in-Accepted.is c.verdict.ensures.verdict in
+    let accepted : verdict_on (read_by settings.mark settings.depth 0 bytes) ≡ Accepted =
+    c.verdict_by_settings_is_one.ensures.one_verdict settings 0 bytes (verdict_on (read_by settings.mark settings.depth 0 bytes)) Accepted (c.reader_is_grammar.ensures.by_settings settings 0 bytes) judged in
+    let held = all_held settings bytes f h c.in-Some.held c.in-Some.is accepted in
+    let names = c.in_ok-names-in-Accepted.names in
+    let a = c.accepted_texts_stand_behind_fronts.ensures settings bytes judged in
+    by_names settings bytes a (record { reads = c.tokens_are_read.ensures.reads; stays = c.tokens_are_read.ensures.stays }) (kept names)
+    (c.in_ok-names-in-Accepted.ensures bytes track.marks track.ends held) h.names (λ i front x. c.indexes_stand_behind_fronts.ensures.index settings bytes a.count i front x) c.accepted_unless.result
+    (c.accepted_unless.ensures ∙ ap accepted_unless c.first.ensures)

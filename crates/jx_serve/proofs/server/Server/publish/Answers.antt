@@ -8,7 +8,7 @@ pub returns-clause-same : goal.returns-clause-same
 returns-clause-same c =
     let documents : set c.self.inside.documents.items c.args.number c.published.new.self ≡ c.self.inside.documents.items =
     cc (set-get_or c.self.inside.documents.items c.args.number c.index_mut.result.now, c.index_mut.ensures.value, c.published.ensures.same) in
-    let view = λ (l : List OpenValue). let s : ServerValue = record { phase = c.self.inside.phase; encoding = c.self.inside.encoding; settings = c.self.inside.settings; documents = l } in s in
+    let view = λ (l : List OpenValue). let s : ServerValue = record { phase = c.self.inside.phase; encoding = c.self.inside.encoding; settings = c.self.inside.settings; nested = c.self.inside.nested; documents = l } in s in
     cc (ap view documents, c.self.view_is)
 
 pub returns-clause-tells : goal.returns-clause-tells

@@ -1,0 +1,29 @@
+// The words of the subcommand that saves an index.
+use crate::arg_fault::ArgFault;
+use crate::arguments::settings_of;
+use crate::options::{input_of_word, progress_of};
+use crate::order::SaveOrder;
+use clap::ArgMatches;
+use jx_saved::ChunkSize;
+
+/// The word that calls it.
+pub(crate) const SAVE: &str = "save";
+
+/// How many bytes a chunk has by the options, if they tell and it is one of its sizes.
+fn chunk_of(options: &ArgMatches<'_>) -> Option<ChunkSize> {
+    let bytes: u32 = options.get_one::<u32>("chunk")?;
+    ChunkSize::new(bytes as usize)
+}
+
+/// What its options ask for. The grammar has a number of bytes where the words leave it out.
+pub(crate) fn save_order_from<'a>(options: &ArgMatches<'a>) -> Result<SaveOrder<'a>, ArgFault> {
+    let Some(chunk) = chunk_of(options) else {
+        return Err(ArgFault::Chunk);
+    };
+    Ok(SaveOrder {
+        input: input_of_word(options),
+        settings: settings_of(options),
+        chunk,
+        progress: progress_of(options),
+    })
+}

@@ -1,0 +1,199 @@
+-- Answers on lines that stand further on.
+use Rattle.std.proofs.Common.{◌≡◌, ℕ, suc, ◌+◌, ◌^◌, ◌<◌, ◌≤◌, List, [], ◌∷◌, ◌++◌, length, map, Bool, true, false, cond, refl, sym, ap, subst, ◌∙◌, arith}
+use Rattle.std.proofs.Math.Nat.{add-suc}
+use Rattle.std.specs.List.{AllZip}
+use Rattle.std.specs.Prelude.{not}
+use Rattle.jx_summary.specs.declared.span.Span.{Span}
+use Rattle.jx_lex.specs.declared.alphabet.state.LexState.TheVariants as state
+use Rattle.jx_reduce.specs.declared.expect.Expect.TheVariants as expect
+use Rattle.jx_run.specs.declared.texts.verdict.Refusal.{Refusal}
+use Rattle.jx_run.specs.declared.texts.verdict.Refusal.TheVariants as refusal
+use Rattle.jx_run.specs.declared.texts.verdict.Verdict.{Verdict}
+use Rattle.jx_run.specs.declared.texts.verdict.Verdict.TheVariants as verdict
+use Rattle.jx_run.specs.Elements.{Part, part}
+use Rattle.jx_run.specs.Laws.{is_end, verdict_of}
+use Rattle.jx_run.specs.Reading.{TextReading, went, stopped, too_deep, read, read_text}
+use Rattle.jx_run.specs.ReaderInside.{offset_at, shifted}
+use Rattle.jx_run.specs.Tree.{span}
+use Rattle.jx_run.specs.Verdict as by
+use Rattle.jx_run.specs.Verdict.{Judged, a_text, cut_short}
+use Rattle.jx_run.proofs.LawProofs.{Verdicts}
+use Rattle.jx_run.proofs.Moves.{moved_part, shifted-twice}
+use Rattle.jx_run.proofs.ReaderSteps.{read-shift}
+use Rattle.jx_run.proofs.VerdictLaws.{one_verdict}
+use Rattle.jx_ndjson.specs.declared.judged_line.JudgedLine.{JudgedLine}
+use Rattle.jx_ndjson.specs.declared.judged_line.LineVerdict.{LineVerdict}
+use Rattle.jx_ndjson.specs.declared.judged_line.LineVerdict.TheVariants.{Accepted, Refused, MayBeCut, Blank}
+use Rattle.jx_ndjson.specs.Answers.{IsAnswer, IsVerdictOn}
+use Rattle.jx_ndjson.specs.Lines.{line}
+use Rattle.jx_ndjson.specs.Parts.{before_first, behind_each, parts_by}
+use Rattle.jx_ndjson.specs.Reading.{ended_from}
+use Rattle.jx_ndjson.specs.Tally.{bad_of, is_accepted}
+use Rattle.jx_ndjson.specs.WholeLines.{moved_line, moved_refusal, moved_verdict}
+
+-- ---- verdicts
+
+text_moved : (limit more at : ℕ) (bytes : List ℕ) → read_text limit (more + at) bytes ≡ shifted more (read_text limit at bytes)
+text_moved limit more at bytes =
+    read-shift limit (more + at) state.Gap expect.Value [] bytes
+    ∙ shifted-twice more at (read limit state.Gap expect.Value [] 0 bytes)
+    ∙ ap (shifted more) (sym (read-shift limit at state.Gap expect.Value [] bytes))
+
+-- with offsets that may be greater than a word
+abbrev grown : ℕ → Verdict → Verdict
+grown more verdict.Accepted = verdict.Accepted
+grown more (verdict.Refused (refusal.Stopped at)) = verdict.Refused (refusal.Stopped (more + at))
+grown more (verdict.Refused refusal.Truncated) = verdict.Refused refusal.Truncated
+grown more (verdict.Refused (refusal.TooDeep at)) = verdict.Refused (refusal.TooDeep (more + at))
+grown more (verdict.Refused (refusal.RepeatedName at)) = verdict.Refused (refusal.RepeatedName (more + at))
+
+verdict_shifted : (more : ℕ) (r : TextReading) → verdict_of (shifted more r) ≡ grown more (verdict_of r)
+verdict_shifted more (went s e o) = pick (is_end s e o)
+  where
+    pick : (b : Bool) → cond b verdict.Accepted (verdict.Refused refusal.Truncated) ≡ grown more (cond b verdict.Accepted (verdict.Refused refusal.Truncated))
+    pick true = refl
+    pick false = refl
+verdict_shifted more (stopped at) = refl
+verdict_shifted more (too_deep at) = refl
+
+judged_grown : Verdicts → (limit more at : ℕ) (bytes : List ℕ) (v : Verdict) → Judged at bytes limit v → Judged (more + at) bytes limit (grown more v)
+judged_grown law limit more at bytes v j =
+    subst (λ (x : Verdict). Judged (more + at) bytes limit x)
+    (ap verdict_of (text_moved limit more at bytes)
+    ∙ verdict_shifted more (read_text limit at bytes)
+    ∙ ap (grown more) (one_verdict at bytes limit (verdict_of (read_text limit at bytes)) v (law limit at bytes) j))
+    (law limit (more + at) bytes)
+
+fits : (b at : ℕ) → b + at < 2 ^ 64 → offset_at b at ≡ b + at
+fits b at h = omega arith
+
+-- no fault lies past the bytes
+grown_fits : (more at : ℕ) (bytes : List ℕ) (limit : ℕ) (v : Verdict) (r : Refusal) → Judged at bytes limit v → v ≡ verdict.Refused r → more + (at + length bytes) < 2 ^ 64
+    → grown more v ≡ verdict.Refused (moved_refusal more r)
+grown_fits more at bytes limit _ r (a_text d) e low = absurd (cc)
+grown_fits more at bytes limit _ r (cut_short n x) e low = let same : refusal.Truncated ≡ r = cc in ap (λ (z : Refusal). verdict.Refused (moved_refusal more z)) same
+grown_fits more at bytes limit _ r (by.too_deep {k = k} n x lt b) e low =
+    let same : refusal.TooDeep (at + k) ≡ r = cc in
+    let small : more + (at + k) < 2 ^ 64 = omega (arith, lt, low) in
+    ap (λ (i : ℕ). verdict.Refused (refusal.TooDeep i)) (sym (fits more (at + k) small)) ∙ ap (λ (z : Refusal). verdict.Refused (moved_refusal more z)) same
+grown_fits more at bytes limit _ r (by.stopped {k = k} n x lt b) e low =
+    let same : refusal.Stopped (at + k) ≡ r = cc in
+    let small : more + (at + k) < 2 ^ 64 = omega (arith, lt, low) in
+    ap (λ (i : ℕ). verdict.Refused (refusal.Stopped i)) (sym (fits more (at + k) small)) ∙ ap (λ (z : Refusal). verdict.Refused (moved_refusal more z)) same
+
+-- ---- lines that a line feed ends
+
+not_false : {A : Type 0} → true ≡ false → A
+not_false h = absurd (cc)
+
+verdict_moved : Verdicts → (limit n k more : ℕ) (p : Part) (v : LineVerdict) → more + (p.at + length p.bytes) < 2 ^ 64 → IsVerdictOn (line k p true) limit v
+    → IsVerdictOn (line n (moved_part more p) true) limit (moved_verdict more v)
+verdict_moved law limit n k more p Blank low h = h
+verdict_moved law limit n k more p (Refused r) low h = (
+  h.0,
+  subst (λ (x : Verdict). Judged (more + p.at) p.bytes limit x) (grown_fits more p.at p.bytes limit (verdict.Refused r) r h.1 refl low) (judged_grown law limit more p.at p.bytes (verdict.Refused r) h.1),
+)
+verdict_moved law limit n k more p MayBeCut low h = not_false h.1.0
+verdict_moved law limit n k more p Accepted low h = (h.0, judged_grown law limit more p.at p.bytes verdict.Accepted h.1, λ cut. not_false cut.0)
+
+line_moved : Verdicts → (limit n k more : ℕ) (p : Part) (j : JudgedLine) → n + k < 2 ^ 64 → more + (p.at + length p.bytes) < 2 ^ 64 → IsAnswer limit (line k p true) j
+    → IsAnswer limit (line (n + k) (moved_part more p) true) (moved_line n more j)
+line_moved law limit n k more p j few low h =
+    let number = h.number_is in
+    let start : j.span.start ≡ p.at = ap (λ (s : Span). s.start) h.span_is in
+    let end : j.span.end ≡ p.at + length p.bytes = ap (λ (s : Span). s.end) h.span_is in
+    record {
+      number_is = (let x : offset_at n j.number ≡ n + k = omega (arith, number, few) in x);
+      span_is = ap (λ (i : ℕ). span i (offset_at more j.span.end)) (let x : offset_at more j.span.start ≡ more + p.at = omega (arith, start, low) in x)
+          ∙ ap (span (more + p.at)) (let x : offset_at more j.span.end ≡ more + p.at + length p.bytes = omega (arith, end, low) in x);
+      verdict_is = verdict_moved law limit (n + k) k more p j.verdict low h.verdict_is;
+    }
+
+-- ---- parts that end by an offset
+
+abbrev pub AllEndBy : ℕ → List Part → Type 0
+AllEndBy n [] = Unit {0}
+AllEndBy n (p ∷ ps) = (p.at + length p.bytes ≤ n) × AllEndBy n ps
+
+pub first_end : (n : ℕ) (ps qs : List Part) → AllEndBy n (ps ++ qs) → AllEndBy n ps
+first_end n [] qs h = tt
+first_end n (p ∷ ps) qs h = (h.0, first_end n ps qs h.1)
+
+pub lines_moved : Verdicts → (limit n k more top : ℕ) (ps : List Part) (js : List JudgedLine) → n + (k + length ps) ≤ 2 ^ 64 → more + top < 2 ^ 64 → AllEndBy top ps
+    → AllZip (IsAnswer limit) (ended_from k ps) js → AllZip (IsAnswer limit) (ended_from (n + k) (map (moved_part more) ps)) (map (moved_line n more) js)
+lines_moved law limit n k more top [] [] few low ends z = tt
+lines_moved law limit n k more top [] (j ∷ js) few low ends z = absurd z
+lines_moved law limit n k more top (p ∷ ps) [] few low ends z = absurd z
+lines_moved law limit n k more top (p ∷ ps) (j ∷ js) few low ends z =
+    let end = ends.0 in (
+      line_moved law limit n k more p j (omega (arith, few)) (omega (arith, end, low)) z.0,
+      subst (λ (m : ℕ). AllZip (IsAnswer limit) (ended_from m (map (moved_part more) ps)) (map (moved_line n more) js)) (let e : n + suc k ≡ suc (n + k) = omega arith in e)
+          (lines_moved law limit n (suc k) more top ps js (omega (arith, few)) low ends.1 z.1),
+    )
+
+module _ (separates : ℕ → Bool) where
+  short : (xs : List ℕ) → length (before_first separates xs) ≤ length xs
+  short [] = omega arith
+  short (b ∷ xs) = pick (separates b) (short xs)
+    where
+      pick : (m : Bool) → length (before_first separates xs) ≤ length xs → length (cond m [] (b ∷ before_first separates xs)) ≤ length (b ∷ xs)
+      pick true h = omega arith
+      pick false h = omega (arith, h)
+
+  behind_end : (at n : ℕ) (xs : List ℕ) → at + length xs ≤ n → AllEndBy n (behind_each separates at xs)
+  behind_end at n [] low = tt
+  behind_end at n (b ∷ xs) low = pick (separates b) (behind_end (suc at) n xs (omega (arith, low)))
+    where
+      pick : (m : Bool) → AllEndBy n (behind_each separates (suc at) xs)
+          → AllEndBy n (cond m (part (suc at) (before_first separates xs) ∷ behind_each separates (suc at) xs) (behind_each separates (suc at) xs))
+      pick true rest = ((let h = short xs in omega (arith, h, low)), rest)
+      pick false rest = rest
+
+  pub parts_end : (at : ℕ) (xs : List ℕ) → AllEndBy (at + length xs) (parts_by separates at xs)
+  parts_end at xs = ((let h = short xs in omega (arith, h)), behind_end at (at + length xs) xs (omega arith))
+
+  behind_few : (at : ℕ) (xs : List ℕ) → length (behind_each separates at xs) ≤ length xs
+  behind_few at [] = omega arith
+  behind_few at (b ∷ xs) = pick (separates b) (behind_few (suc at) xs)
+    where
+      pick : (m : Bool) → length (behind_each separates (suc at) xs) ≤ length xs
+          → length (cond m (part (suc at) (before_first separates xs) ∷ behind_each separates (suc at) xs) (behind_each separates (suc at) xs)) ≤ length (b ∷ xs)
+      pick true h = omega (arith, h)
+      pick false h = omega (arith, h)
+
+  -- no more separators than bytes
+  pub parts_few : (at : ℕ) (xs : List ℕ) → length (parts_by separates at xs) ≤ suc (length xs)
+  parts_few at xs = let h = behind_few at xs in omega (arith, h)
+
+  behind_moved : (more at : ℕ) (xs : List ℕ) → behind_each separates (more + at) xs ≡ map (moved_part more) (behind_each separates at xs)
+  behind_moved more at [] = refl
+  behind_moved more at (b ∷ xs) =
+      ap (λ (i : ℕ). cond (separates b) (part i (before_first separates xs) ∷ behind_each separates i xs) (behind_each separates i xs)) (sym (add-suc more at)) ∙ pick (separates b) (behind_moved more (suc at) xs)
+    where
+      pick : (m : Bool) → behind_each separates (more + suc at) xs ≡ map (moved_part more) (behind_each separates (suc at) xs)
+          → cond m (part (more + suc at) (before_first separates xs) ∷ behind_each separates (more + suc at) xs) (behind_each separates (more + suc at) xs)
+          ≡ map (moved_part more) (cond m (part (suc at) (before_first separates xs) ∷ behind_each separates (suc at) xs) (behind_each separates (suc at) xs))
+      pick true h = ap (λ (ps : List Part). part (more + suc at) (before_first separates xs) ∷ ps) h
+      pick false h = h
+
+  pub parts_moved : (more at : ℕ) (xs : List ℕ) → parts_by separates (more + at) xs ≡ map (moved_part more) (parts_by separates at xs)
+  parts_moved more at xs = ap (λ (ps : List Part). part (more + at) (before_first separates xs) ∷ ps) (behind_moved more at xs)
+
+-- ---- those that are no texts
+
+still_accepted : (more : ℕ) (v : LineVerdict) → is_accepted (moved_verdict more v) ≡ is_accepted v
+still_accepted more Accepted = refl
+still_accepted more (Refused r) = refl
+still_accepted more MayBeCut = refl
+still_accepted more Blank = refl
+
+pub bad_moved : (n more : ℕ) (js : List JudgedLine) → bad_of (map (moved_line n more) js) ≡ map (moved_line n more) (bad_of js)
+bad_moved n more [] = refl
+bad_moved n more (j ∷ js) =
+    ap (λ (b : Bool). cond (not b) (moved_line n more j ∷ bad_of (map (moved_line n more) js)) (bad_of (map (moved_line n more) js))) (still_accepted more j.verdict)
+    ∙ pick (not (is_accepted j.verdict)) (bad_moved n more js)
+  where
+    pick : (b : Bool) → bad_of (map (moved_line n more) js) ≡ map (moved_line n more) (bad_of js)
+        → cond b (moved_line n more j ∷ bad_of (map (moved_line n more) js)) (bad_of (map (moved_line n more) js)) ≡ map (moved_line n more) (cond b (j ∷ bad_of js) (bad_of js))
+    pick true h = ap (λ (xs : List JudgedLine). moved_line n more j ∷ xs) h
+    pick false h = h

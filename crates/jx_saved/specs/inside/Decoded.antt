@@ -1,0 +1,16 @@
+-- What was read of the head of an index.
+use Rattle.std.specs.Prelude.{◌≡◌, Option, None, Some}
+use Rattle.jx_saved.specs.declared.decoding.Head.{Head}
+use Rattle.jx_saved.specs.declared.index.Index.{Index}
+
+-- a head says what an index does
+pub record IsHead (i : Index) (h : Head) : Type 0 where
+  pub settings : h.settings ≡ i.settings
+  pub chunk : h.chunk ≡ i.chunk
+  pub size : h.size ≡ i.size
+  pub top : h.top ≡ i.top
+
+-- the head was read
+abbrev pub IsHeadOf : Index → Option Head → Type 0
+IsHeadOf i None = ⊥
+IsHeadOf i (Some h) = IsHead i h

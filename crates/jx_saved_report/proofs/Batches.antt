@@ -1,0 +1,56 @@
+-- How an input is read batch by batch, and what its index gives.
+use Rattle.std.specs.Prelude.{Some, None, Option, Ok, Err, Result}
+use Rattle.std.proofs.Common.{◌≡◌, ℕ, List, [], ◌++◌, refl, sym, ap, ◌∙◌}
+use Rattle.std.proofs.lemmas.List.{append-nil}
+use Rattle.std.specs.Io.KnownBytes.{Appends, Consumes}
+use Rattle.std.proofs.KnownBytes.{Consumes-trans}
+use Rattle.jx_run.specs.declared.texts.settings.Settings.{Settings}
+use Rattle.jx_run.specs.declared.texts.verdict.Verdict.TheVariants.{Accepted}
+use Rattle.jx_saved.specs.declared.index.Index.{Index}
+use Rattle.jx_saved.specs.Spelling.{spelt_index}
+use Rattle.jx_report.specs.declared.exit.Exit.TheVariants.{Good}
+use Rattle.jx_report.specs.declared.report_fault.ReportFault.{ReportFault}
+use Rattle.jx_saved_report.specs.declared.saving.Saving.{Saving}
+use Rattle.jx_saved_report.specs.inside.Saving.{Comes, HasReadOn, IsSavingOf}
+use Rattle.jx_saved_report.specs.Output.{IndexOutput}
+
+abbrev Known : Type 0
+Known = Option (List ℕ)
+
+consumes_none : (u : Known) → Consumes u u []
+consumes_none None = tt
+consumes_none (Some xs) = refl
+
+pub appends_none : (w : Known) → Appends w w []
+appends_none None = tt
+appends_none (Some xs) = sym (append-nil xs)
+
+pub goes_on : (settings : Settings) (chunk : ℕ) (u m n : Known) (batch : List ℕ) (old new : Saving) → HasReadOn settings chunk u m old → Consumes m n batch
+    → ((bytes : List ℕ) → IsSavingOf settings chunk bytes old → IsSavingOf settings chunk (bytes ++ batch) new) → HasReadOn settings chunk u n new
+goes_on settings chunk u m n batch old new h r fed = record {
+  text = h.text ++ batch;
+  read = Consumes-trans _ _ _ _ _ h.read r;
+  of = fed h.text h.of;
+}
+
+-- for a text
+pub gives_index : (settings : Settings) (chunk : ℕ) (text : List ℕ) (index : Index) → Comes settings chunk text (Ok index) → IndexOutput settings chunk text (spelt_index index) [] Good
+gives_index settings chunk text index comes = record {
+  verdict = Accepted;
+  is_verdict = comes.0;
+  gives = record { index = index; is_index = comes.1; written = refl; told = refl; ends = refl };
+}
+
+-- ---- faults
+
+fault_or : {T : Type 0} → Result T ReportFault → ReportFault → ReportFault
+fault_or (Ok x) d = d
+fault_or (Err e) d = e
+
+fault_is : {T : Type 0} (r : Result T ReportFault) (y f : ReportFault) → r ≡ Err y → r ≡ Err f → y ≡ f
+unfolding fault_or
+fault_is r y f a b = ap (λ q. fault_or q y) (sym a ∙ b)
+
+-- a fault that is handed on is the same
+pub same_fault : {T U : Type 0} (q : Result T ReportFault) (r : Result U ReportFault) (x y f : ReportFault) → q ≡ Err x → r ≡ Err y → y ≡ x → r ≡ Err f → q ≡ Err f
+same_fault q r x y f a b e c = a ∙ ap Err (sym e ∙ fault_is r y f b c)

@@ -1,0 +1,2 @@
+pub mod AnyNames
+pub mod Batches

@@ -1,0 +1,37 @@
+-- What is written and told of an input whose index is saved.
+use Rattle.std.specs.Prelude.{◌≡◌, ℕ, List, [], ◌++◌, codes}
+use Rattle.jx_run.specs.declared.texts.settings.Settings.{Settings}
+use Rattle.jx_run.specs.declared.texts.verdict.Refusal.{Refusal}
+use Rattle.jx_run.specs.declared.texts.verdict.Verdict.{Verdict}
+use Rattle.jx_run.specs.declared.texts.verdict.Verdict.TheVariants.{Accepted, Refused}
+use Rattle.jx_index.specs.ByNames.{IsVerdictBy}
+use Rattle.jx_saved.specs.declared.index.Index.{Index}
+use Rattle.jx_saved.specs.Index.{IsIndexOf}
+use Rattle.jx_saved.specs.Spelling.{spelt_index}
+use Rattle.jx_report.specs.declared.exit.Exit.{Exit}
+use Rattle.jx_report.specs.declared.exit.Exit.TheVariants.{Good, Bad}
+use Rattle.jx_report.specs.Words.{line, refusal_words}
+
+-- for a text: the bytes of its index are written, and nothing is told
+pub record GivesIndex (settings : Settings) (chunk : ℕ) (text output tells : List ℕ) (exit : Exit) : Type 0 where
+  pub index : Index
+  pub is_index : IsIndexOf settings chunk text index
+  pub written : output ≡ spelt_index index
+  pub told : tells ≡ []
+  pub ends : exit ≡ Good
+
+-- for what is refused: nothing is written, and jx: VERDICT is told
+pub record GivesNoIndex (refusal : Refusal) (output tells : List ℕ) (exit : Exit) : Type 0 where
+  pub written : output ≡ []
+  pub told : tells ≡ codes "jx: " ++ line (refusal_words refusal)
+  pub ends : exit ≡ Bad
+
+abbrev pub GivesByVerdict : Settings → ℕ → List ℕ → Verdict → List ℕ → List ℕ → Exit → Type 0
+GivesByVerdict settings chunk input Accepted output tells exit = GivesIndex settings chunk input output tells exit
+GivesByVerdict settings chunk input (Refused refusal) output tells exit = GivesNoIndex refusal output tells exit
+
+-- the whole output for an input, all that is told of it, and the exit
+pub record IndexOutput (settings : Settings) (chunk : ℕ) (input output tells : List ℕ) (exit : Exit) : Type 0 where
+  pub verdict : Verdict
+  pub is_verdict : IsVerdictBy settings input verdict
+  pub gives : GivesByVerdict settings chunk input verdict output tells exit

@@ -1,0 +1,49 @@
+-- What was read of an input whose index is saved.
+use Rattle.std.specs.Prelude.{◌≡◌, ℕ, List, Option, Result, Ok, Err}
+use Rattle.std.specs.Io.KnownBytes.{Consumes}
+use Rattle.jx_run.specs.declared.texts.settings.NameRule.TheVariants.{Any, Unique}
+use Rattle.jx_run.specs.declared.texts.settings.Settings.{Settings}
+use Rattle.jx_run.specs.declared.texts.verdict.Refusal.{Refusal}
+use Rattle.jx_run.specs.declared.texts.verdict.Verdict.{Verdict}
+use Rattle.jx_run.specs.declared.texts.verdict.Verdict.TheVariants.{Accepted, Refused}
+use Rattle.jx_index.specs.ByNames.{IsVerdictBy}
+use Rattle.jx_names.specs.Fed as fed
+use Rattle.jx_saved.specs.declared.index.Index.{Index}
+use Rattle.jx_saved.specs.declared.indexer.Indexer.{Indexer}
+use Rattle.jx_saved.specs.Index.{IsIndexOf}
+use Rattle.jx_saved.specs.Indexer.{HasFed}
+use Rattle.jx_report.specs.Ends.{ReadsToEnd}
+use Rattle.jx_saved_report.specs.declared.saving.Saving.{Saving}
+use Rattle.jx_saved_report.specs.declared.saving.Saving.TheVariants as saving
+
+-- the same settings, but for the names, which may be any
+abbrev pub any_names : Settings → Settings
+any_names settings = record { depth = settings.depth; mark = settings.mark; names = Any }
+
+-- these bytes were read from the start of an input
+abbrev pub IsSavingOf : Settings → ℕ → List ℕ → Saving → Type 0
+IsSavingOf settings chunk bytes (saving.Any indexer) = HasFed settings chunk bytes indexer
+IsSavingOf settings chunk bytes (saving.Unique indexer names) = HasFed (any_names settings) chunk bytes indexer × fed.HasFed settings bytes names
+
+-- they were read for an index, and this is the verdict by their names, which have to be unique
+pub record IsByNames (settings : Settings) (chunk : ℕ) (bytes : List ℕ) (indexer : Indexer) (verdict : Verdict) : Type 0 where
+  pub unique : settings.names ≡ Unique
+  pub fed : HasFed (any_names settings) chunk bytes indexer
+  pub is_verdict : IsVerdictBy settings bytes verdict
+
+-- the reader gave these bytes, and they were read
+pub record HasReadOn (settings : Settings) (chunk : ℕ) (unread left : Option (List ℕ)) (saving : Saving) : Type 0 where
+  pub text : List ℕ
+  pub read : Consumes unread left text
+  pub of : IsSavingOf settings chunk text saving
+
+-- what a text comes to: its index, or why it is none
+abbrev pub Comes : Settings → ℕ → List ℕ → Result Index Refusal → Type 0
+Comes settings chunk text (Ok index) = IsVerdictBy settings text Accepted × IsIndexOf settings chunk text index
+Comes settings chunk text (Err refusal) = IsVerdictBy settings text (Refused refusal)
+
+-- all that the reader had was read, and this is what it comes to
+pub record IsRead (settings : Settings) (chunk : ℕ) (unread left : Option (List ℕ)) (saved : Result Index Refusal) : Type 0 where
+  pub text : List ℕ
+  pub read : ReadsToEnd unread left text
+  pub comes : Comes settings chunk text saved

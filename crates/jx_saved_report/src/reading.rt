@@ -1,0 +1,39 @@
+// The index of what a reader has, which is read batch by batch.
+ghost use Rattle.std.specs.Prelude.{◌≡◌, ◌≢◌, ◌≤◌, ◌↔◌, true, false, IfOk, IfErr, IsErrOf};
+ghost use Rattle.jx_report.specs.declared.report_fault.ReportFault.TheVariants.{Read, Write};
+ghost use Rattle.jx_saved_report.specs.inside.Saving.{IsRead};
+
+use crate::saving::Saving;
+use jx_report::{ReportFault, Source, fill_buffer};
+use jx_run::{Refusal, Settings};
+use jx_saved::{ChunkSize, Index};
+use std::alloc::Global;
+
+/// Reads to the end of input, so many bytes at a time, and answers what they come to.
+pub(crate) fn read_index<S: Source>(
+    alloc: Global,
+    reader: &mut S,
+    settings: &Settings,
+    chunk: ChunkSize,
+    batch: usize,
+) -> Result<Result<Index, Refusal>, ReportFault>
+    requires unfailed { S.has_failed reader.old ≡ false }
+    requires some { 1 ≤ batch }
+    ensures ok { IfOk result (IsRead settings.now chunk (S.remaining reader.old) (S.remaining reader.new)) }
+    ensures read { IsErrOf result ReportFault.Read ↔ (S.has_failed reader.new ≡ true) }
+    ensures unwritten { IfErr result (λ fault. fault ≢ ReportFault.Write) }
+    ensures uncut { IfErr result (λ fault. fault ≢ ReportFault.Pieces) }
+{
+    let mut buffer = Vec::new(alloc);
+    let mut saving = Saving::new(alloc, settings, chunk);
+    'batches: for _ in 0..u64::MAX {
+        let filled = fill_buffer(reader, &mut buffer, batch)?;
+        saving.feed(&buffer[..filled])?;
+        if filled < batch {
+            let read = saving.finish()?;
+            return Ok(read);
+        }
+    }
+    // There are more bytes than a word counts.
+    Err(ReportFault::Memory)
+}

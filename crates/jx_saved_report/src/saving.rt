@@ -1,0 +1,119 @@
+// What the bytes of an input come to whose index is saved, while they are read.
+ghost use Rattle.std.specs.Prelude.{◌≡◌, ◌++◌, [], ℕ, List, IfOk, OnOk};
+ghost use Rattle.jx_run.specs.declared.texts.settings.NameRule.TheVariants.{Unique};
+ghost use Rattle.jx_run.specs.declared.texts.settings.Settings.{Settings};
+ghost use Rattle.jx_saved.specs.Index.{IsIndexOf};
+ghost use Rattle.jx_saved_report.specs.inside.Saving.{Comes, IsByNames, IsSavingOf, any_names};
+
+use jx_names::NamesReader;
+use jx_run::{NameRule, Refusal, Settings, Verdict, verdict_by_settings_is_one};
+use jx_saved::{ChunkSize, Index, Indexer};
+use std::alloc::{AllocError, Global};
+
+/// What the bytes of an input that were read come to.
+#[derive(Drop)]
+pub(crate) enum Saving {
+    /// The index of a text.
+    Any(Indexer),
+    /// The same of a text whose names have to be unique.
+    Unique {
+        indexer: Indexer,
+        names: NamesReader,
+    },
+}
+
+/// The same settings, but for the names, which may be any.
+fn any_names(settings: &Settings) -> Settings
+    ensures { result ≡ any_names settings.now }
+{
+    Settings {
+        depth: settings.depth,
+        mark: settings.mark,
+        names: NameRule::Any,
+    }
+}
+
+/// The index of a text whose names are unique, which says so.
+fn with_unique_names(index: Index) -> Index
+    ensures { (settings : Settings) (chunk : ℕ) (bytes : List ℕ) → settings.names ≡ Unique → IsIndexOf (any_names settings) chunk bytes index → IsIndexOf settings chunk bytes result }
+{
+    let Index {
+        settings,
+        chunk,
+        size,
+        entries,
+        top,
+    } = index;
+    Index {
+        settings: Settings {
+            depth: settings.depth,
+            mark: settings.mark,
+            names: NameRule::Unique,
+        },
+        chunk,
+        size,
+        entries,
+        top,
+    }
+}
+
+/// What a text comes to whose names have this verdict.
+fn finish_by_names(indexer: Indexer, verdict: Verdict) -> Result<Result<Index, Refusal>, AllocError>
+    ensures { IfOk result (λ read. (settings : Settings) (chunk : ℕ) (bytes : List ℕ) → IsByNames settings chunk bytes indexer verdict → Comes settings chunk bytes read) }
+{
+    verdict_by_settings_is_one();
+    match verdict {
+        Verdict::Refused(refusal) => Ok(Err(refusal)),
+        Verdict::Accepted => {
+            let read = indexer.finish()?;
+            match read {
+                Ok(index) => Ok(Ok(with_unique_names(index))),
+                Err(refusal) => Ok(Err(refusal)),
+            }
+        }
+    }
+}
+
+impl Saving {
+    /// Before the first byte.
+    pub fn new(alloc: Global, settings: &Settings, chunk: ChunkSize) -> Saving
+        ensures { IsSavingOf settings.now chunk [] result }
+    {
+        match settings.names {
+            NameRule::Any => Saving::Any(Indexer::new(alloc, settings, chunk)),
+            NameRule::Unique => Saving::Unique {
+                indexer: Indexer::new(alloc, &any_names(settings), chunk),
+                names: NamesReader::new(alloc, settings),
+            },
+        }
+    }
+
+    /// Reads a batch behind what was read. Memory is refused too where the last byte has no offset.
+    pub fn feed(&mut self, batch: &[u8]) -> Result<(), AllocError>
+        ensures { OnOk result ((settings : Settings) (chunk : ℕ) (bytes : List ℕ) → IsSavingOf settings chunk bytes self.old → IsSavingOf settings chunk (bytes ++ batch.now) self.new) }
+    {
+        match self {
+            Saving::Any(indexer) => indexer.feed(batch),
+            Saving::Unique { indexer, names } => {
+                if batch.len() > usize::MAX - names.end() {
+                    return Err(AllocError);
+                }
+                names.feed(batch)?;
+                indexer.feed(batch)
+            }
+        }
+    }
+
+    /// What all bytes that were read come to: the index of the text that they are, or why they are none.
+    pub fn finish(self) -> Result<Result<Index, Refusal>, AllocError>
+        ensures { IfOk result (λ read. (settings : Settings) (chunk : ℕ) (bytes : List ℕ) → IsSavingOf settings chunk bytes self → Comes settings chunk bytes read) }
+    {
+        match self {
+            Saving::Any(indexer) => indexer.finish(),
+            Saving::Unique { indexer, names } => {
+                let verdict = names.verdict()?;
+                finish_by_names(indexer, verdict)
+            }
+        }
+    }
+}

@@ -1,0 +1,68 @@
+// Lines of a document that can be folded, in messages.
+use crate::symbols::{Outline, Symbol};
+use crate::value_words::add_all;
+use jx_lex::Kind;
+use std::alloc::{AllocError, Global};
+
+/// The first line of a container and the last one before its closing bracket, where these are two.
+fn lines_of(symbol: &Symbol) -> Option<(usize, usize)> {
+    let (Kind::Object | Kind::Array) = symbol.row.kind else {
+        return None;
+    };
+    let first = symbol.start.line;
+    let last = symbol.end.line.saturating_sub(1);
+    if first < last {
+        Some((first, last))
+    } else {
+        None
+    }
+}
+
+/// Adds lines as a `FoldingRange`, behind others or as the first.
+fn add_fold(
+    alloc: Global,
+    out: &mut Vec<u8>,
+    is_first: bool,
+    first: usize,
+    last: usize,
+) -> Result<(), AllocError> {
+    if !is_first {
+        out.extend_from_slice(b",")?;
+    }
+    let first = format!(in alloc; "{first}")?;
+    let last = format!(in alloc; "{last}")?;
+    add_all(
+        out,
+        &[
+            b"{\"startLine\":",
+            first.as_bytes(),
+            b",\"endLine\":",
+            last.as_bytes(),
+            b"}",
+        ],
+    )
+}
+
+/// Adds the answer that tells which lines can be folded. Of containers that begin in one line the outermost is told.
+pub(crate) fn add_folded(
+    alloc: Global,
+    out: &mut Vec<u8>,
+    id: &[u8],
+    outline: &Outline,
+) -> Result<(), AllocError> {
+    add_all(
+        out,
+        &[b"{\"jsonrpc\":\"2.0\",\"id\":", id, b",\"result\":["],
+    )?;
+    let mut told = None;
+    for symbol in outline.symbols.iter() {
+        let Some((first, last)) = lines_of(symbol) else {
+            continue;
+        };
+        if told != Some(first) {
+            add_fold(alloc, out, told.is_none(), first, last)?;
+            told = Some(first);
+        }
+    }
+    out.extend_from_slice(b"]}")
+}

@@ -1,0 +1,76 @@
+// What stands around places of a document, in messages.
+use crate::selections::{Extent, Selection};
+use crate::value_words::{add_all, add_range};
+use jx_edit::Position;
+use std::alloc::{AllocError, Global};
+
+/// How many ranges are shown around a place at most. A message has a container for each.
+const LEVELS: usize = 200;
+
+/// Adds a range of a `SelectionRange`, as the parent of the one before it or as the first.
+fn add_extent(
+    alloc: Global,
+    out: &mut Vec<u8>,
+    is_first: bool,
+    start: Position,
+    end: Position,
+) -> Result<(), AllocError> {
+    if !is_first {
+        out.extend_from_slice(b",\"parent\":")?;
+    }
+    out.extend_from_slice(b"{")?;
+    add_range(alloc, out, start, end)
+}
+
+/// Ends so many ranges.
+fn close(out: &mut Vec<u8>, count: usize) -> Result<(), AllocError> {
+    for _ in 0..count {
+        out.extend_from_slice(b"}")?;
+    }
+    Ok(())
+}
+
+/// Adds the ranges around a place, the innermost first.
+fn add_around(alloc: Global, out: &mut Vec<u8>, around: &[Extent]) -> Result<(), AllocError> {
+    let mut count = 0;
+    for extent in around.iter().rev() {
+        if count < LEVELS {
+            add_extent(alloc, out, count == 0, extent.start, extent.end)?;
+            count += 1;
+        }
+    }
+    close(out, count)
+}
+
+/// Adds a `SelectionRange`: the ranges around a place, or an empty one there.
+fn add_selection(
+    alloc: Global,
+    out: &mut Vec<u8>,
+    selection: &Selection,
+) -> Result<(), AllocError> {
+    if selection.around.is_empty() {
+        add_extent(alloc, out, true, selection.place, selection.place)?;
+        return close(out, 1);
+    }
+    add_around(alloc, out, &selection.around)
+}
+
+/// Adds the answer that tells what stands around places: for each the 200 innermost ranges.
+pub(crate) fn add_selected(
+    alloc: Global,
+    out: &mut Vec<u8>,
+    id: &[u8],
+    selections: &[Selection],
+) -> Result<(), AllocError> {
+    add_all(
+        out,
+        &[b"{\"jsonrpc\":\"2.0\",\"id\":", id, b",\"result\":["],
+    )?;
+    for (number, selection) in selections.iter().enumerate() {
+        if 0 < number {
+            out.extend_from_slice(b",")?;
+        }
+        add_selection(alloc, out, selection)?;
+    }
+    out.extend_from_slice(b"]}")
+}
