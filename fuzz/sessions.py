@@ -160,9 +160,10 @@ class Session:
         told = []
         for position in positions:
             at = offset_of(text, position["line"], position["character"], self.encoding)
-            chain = [(at, at)] + [span for row in rows.all[: rows.count] for span in spans_of(row) if span[0] <= at < span[1] and at < kept]
-            parent = None
-            for start, end in chain[1:] or chain:
+            here = self.position_of(text, at)
+            chain = [span for row in rows.all[: rows.count] for span in spans_of(row) if span[0] <= at < span[1] and at < kept]
+            parent = None if chain else {"range": {"start": here, "end": here}}
+            for start, end in chain:
                 there = {"start": self.position_of(text, start), "end": self.position_of(text, min(end, kept))}
                 parent = {"range": there, "parent": parent} if parent else {"range": there}
             told.append(parent)
