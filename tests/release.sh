@@ -7,8 +7,14 @@ version=$("$program" --version | sed 's/^jx //')
 
 # copy_clone: a copy of what tools/release reads, built by now as it says itself.
 copy_clone() {
+    local page crate
     mkdir -p "$clone"/crates/{jx,jx_c,jx_lsp}/{src,out}
     cp -R "$root"/{install,jx,tools,jx.1,jx-lsp.1,completions,crates.txt,include,jx.pc,README.md,CHANGELOG.md,docs,.pre-commit-hooks.yaml} "$clone"
+    for page in "$root"/crates/*/README.md; do
+        crate=${page%/README.md}
+        mkdir -p "$clone/crates/${crate##*/}"
+        cp "$page" "$clone/crates/${crate##*/}"
+    done
     mkdir "$clone/bindings"
     cp -R "$root/bindings/c" "$root/bindings/python" "$clone/bindings"
     mkdir "$clone/bindings/rust"
