@@ -44,6 +44,11 @@ static void look_up_fed(input *in, const pointers *p, size_t given) {
     require_bounded(library_bytes(), given, 256, "a look-up that is fed takes too much memory");
     for (size_t k = 0; k < p->count; k++) REQUIRE(same_answer(&answers[k], &wanted[k]), "an answer of a look-up that is fed");
     free(answers);
+    library_enter(-1);
+    REQUIRE(jx_finder_new(p->all, p->count, &in->settings, &finder) == JX_OK && finder.inside != NULL, "a look-up that begins again");
+    jx_finder_free(&finder);
+    REQUIRE(finder.inside == NULL, "a look-up that is freed");
+    library_leave();
 }
 
 void look_up(input *in) {

@@ -100,7 +100,7 @@ static void feed_for(input *in, const jx_pointer *pointer) {
         count = take(in, &values, is_lost ? 0 : count);
         if (cuts < 8 || at == in->size) hold_due(in, pointer, at, count);
     }
-    if (choice(in) % 8 != 0) hold_outcome(in, pointer, &values);
+    if (choice(in) % 8 != 7) hold_outcome(in, pointer, &values);
     library_enter(-1);
     jx_values_free(&values);
     library_leave();
