@@ -13,15 +13,19 @@ use std::alloc::{AllocError, Global};
 /// array names a place from its count on and below `next`. Also a token that has begun, and of a name the bytes so far.
 #[derive(Drop)]
 pub struct Held {
+    /// What was met, and what is open.
     pub state: State,
+    /// The least place in the innermost open array that a pointer may want.
     pub next: usize,
+    /// A token that has begun and not ended.
     pub begun: Option<Mark>,
+    /// Its bytes so far, where it is a name.
     pub name: Vec<u8>,
 }
 
 impl Held {
-    /// What is held before the first byte, of a trie with so many edges.
-    pub(crate) fn new(alloc: Global, edges: &[Edge]) -> Result<Held, AllocError>
+    /// What is held before the first byte, of a trie with so many edges. Only want of memory is refused.
+    pub fn new(alloc: Global, edges: &[Edge]) -> Result<Held, AllocError>
         ensures { IfOk result (λ held. IsTrie edges.now → IsHeld [] edges.now [] [] held.state held.next held.begun held.name.items) }
     {
         let seeker = Seeker::new(alloc, edges.len(), &[])?;
@@ -33,8 +37,8 @@ impl Held {
         })
     }
 
-    /// What was met up to the end of a text, which ends at `last`.
-    pub(crate) fn into_met(
+    /// What was met up to the end of a text, which ends at `last`. Only want of memory is refused.
+    pub fn into_met(
         self,
         edges: &[Edge],
         starts: &[usize],

@@ -40,14 +40,18 @@ impl Before for Brand {
 /// mark. What is told in another order is refused, as for want of memory.
 #[derive(Drop)]
 pub struct OnSlice<'a, 'p, B> {
-    slice: &'a [u8],
-    base: usize,
-    edges: &'a [Edge<'p>],
-    seeker: Seeker<'a>,
+    /// The bytes of the slice.
+    pub slice: &'a [u8],
+    /// How many bytes of the text stand before it.
+    pub base: usize,
+    /// The edges of the trie.
+    pub edges: &'a [Edge<'p>],
+    /// What was found so far.
+    pub seeker: Seeker<'a>,
     /// A token that has begun, and that the seeker was not told of yet.
-    begun: Option<Mark>,
+    pub begun: Option<Mark>,
     /// The bytes before the slice of a name that has begun there.
-    name: Vec<u8>,
+    pub name: Vec<u8>,
     before: PhantomData<B>,
 }
 
@@ -110,7 +114,7 @@ fn held_name(name: Vec<u8>, slice: &[u8], base: usize, at: usize) -> Result<Vec<
 
 impl<'a, 'p, B: Before> OnSlice<'a, 'p, B> {
     /// What was held is told no token of the slice yet.
-    pub(crate) fn new(
+    pub fn new(
         slice: &'a [u8],
         base: usize,
         edges: &'a [Edge<'p>],
@@ -162,8 +166,8 @@ impl<'a, 'p, B: Before> OnSlice<'a, 'p, B> {
         Ok(())
     }
 
-    /// What is held behind the slice.
-    pub(crate) fn into_held(self) -> Result<Held, AllocError>
+    /// What is held behind the slice. Only want of memory is refused.
+    pub fn into_held(self) -> Result<Held, AllocError>
         ensures { IfOk result (λ held. (marks : List Mark) (ends : List ℕ)
             → HasSought B.held B.slice B.edges marks ends self.entry.slice.now self.entry.base self.entry.edges.now self.entry.seeker self.entry.begun self.entry.name.items
             → (bytes : List ℕ) (ms : List Mark) (es : List ℕ) → B.held bytes ms es
