@@ -13,7 +13,7 @@ use Rattle.jx_run.specs.Settings.{JudgedBy}
 use Rattle.jx_run.specs.Telling.{moved_ends, moved_marks, no_tokens, tokens_by, track_of}
 use Rattle.jx_index.specs.declared.trie.Edge.{Edge}
 use Rattle.jx_find.specs.declared.finder.Finder.{Finder}
-use Rattle.jx_find.specs.declared.held.Held.{Held}
+use Rattle.jx_find.specs.declared.held.Sought.{Sought}
 use Rattle.jx_find.specs.Finder.{HasFed}
 use Rattle.jx_find.specs.Held.{IsHeld}
 
@@ -24,15 +24,15 @@ verdict_goes (reads (went s e o)) h = refl
 verdict_goes (reads (stopped at)) h = absurd cc
 verdict_goes (reads (too_deep at)) h = absurd cc
 
-abbrev pub HeldOf : List ℕ → List Edge → Track → Held → Type 0
+abbrev pub HeldOf : List ℕ → List Edge → Track → Sought → Type 0
 HeldOf bytes edges track h = IsHeld bytes edges track.marks track.ends h.state h.next h.begun h.name.items
 
 -- what is held of no byte
-pub held_none : (edges : List Edge) (m : FrontMark) (h : Held) → tokens_by m [] ≡ no_tokens → HeldOf [] edges no_tokens h → HeldOf [] edges (tokens_by m []) h
+pub held_none : (edges : List Edge) (m : FrontMark) (h : Sought) → tokens_by m [] ≡ no_tokens → HeldOf [] edges no_tokens h → HeldOf [] edges (tokens_by m []) h
 held_none edges m h none held = subst (λ (t : Track). HeldOf [] edges t h) (sym none) held
 
 -- what is held of the bytes up to the end of a slice
-pub held_on : (edges : List Edge) (m : FrontMark) (limit : ℕ) (bytes slice : List ℕ) (next : Held)
+pub held_on : (edges : List Edge) (m : FrontMark) (limit : ℕ) (bytes slice : List ℕ) (next : Sought)
     → (tokens_by m (bytes ++ slice)).marks ≡ (tokens_by m bytes).marks ++ moved_marks (length bytes) (track_of (read_by m limit 0 bytes) slice).marks
     → (tokens_by m (bytes ++ slice)).ends ≡ (tokens_by m bytes).ends ++ moved_ends (length bytes) (track_of (read_by m limit 0 bytes) slice).ends
     → IsHeld (bytes ++ slice) edges ((tokens_by m bytes).marks ++ moved_marks (length bytes) (track_of (read_by m limit 0 bytes) slice).marks)
@@ -43,7 +43,7 @@ held_on edges m limit bytes slice next marks ends held =
     (subst (λ (xs : List ℕ). IsHeld (bytes ++ slice) edges ((tokens_by m bytes).marks ++ moved_marks (length bytes) (track_of (read_by m limit 0 bytes) slice).marks) xs next.state next.next next.begun next.name.items) (sym ends) held)
 
 -- a finder that is fed one slice more
-pub fed_more : (settings : Settings) (pointers : List (List ℕ)) (bytes slice : List ℕ) (f : Finder) (h : HasFed settings pointers bytes f) (reader : ReaderValue) (old next : Held) (edges : List Edge)
+pub fed_more : (settings : Settings) (pointers : List (List ℕ)) (bytes slice : List ℕ) (f : Finder) (h : HasFed settings pointers bytes f) (reader : ReaderValue) (old next : Sought) (edges : List Edge)
     → f.held ≡ Some old → f.edges.items ≡ edges → reader.settings ≡ f.reader.settings → reader.start ≡ f.reader.start
     → ((xs : List ℕ) → HasRead xs f.reader → HasRead (xs ++ slice) reader)
     → (is_fault (Some (read_by settings.mark settings.depth 0 (bytes ++ slice))) ≡ false → is_fault (Some (read_by settings.mark settings.depth 0 bytes)) ≡ false)
@@ -92,7 +92,7 @@ fed_more settings pointers bytes slice f h reader old next edges held_is edges_a
         let before : is_fault (Some (read_by settings.mark settings.depth 0 bytes)) ≡ false = stays (subst (λ (o : Option Outcome). is_fault o ≡ false) is going) in
         let first : HeldOf bytes f.edges.items (tokens_by settings.mark bytes) h.kept = h.held (subst (λ (o : Option Outcome). is_fault o ≡ false) (sym was) before) in
         let first_old : HeldOf bytes edges (tokens_by settings.mark bytes) old =
-        subst (λ (x : Held). HeldOf bytes edges (tokens_by settings.mark bytes) x) same_held (subst (λ (es : List Edge). HeldOf bytes es (tokens_by settings.mark bytes) h.kept) edges_are first) in
+        subst (λ (x : Sought). HeldOf bytes edges (tokens_by settings.mark bytes) x) same_held (subst (λ (es : List Edge). HeldOf bytes es (tokens_by settings.mark bytes) h.kept) edges_are first) in
         subst (λ (es : List Edge). HeldOf (bytes ++ slice) es (tokens_by settings.mark (bytes ++ slice)) next) (sym edges_are)
         (held_on edges settings.mark settings.depth bytes slice next (marks before) (ends before)
         (holds going (read_by settings.mark settings.depth 0 bytes) was (tokens_by settings.mark bytes).marks (tokens_by settings.mark bytes).ends (long, first_old)))
@@ -107,7 +107,7 @@ judged_as settings pointers bytes f h v w is judged =
     (subst (λ (s : Settings). JudgedBy s f.reader.start bytes v) h.settings_are (judged bytes h.read)))
 
 -- of an accepted text all tokens were sought
-pub all_held : (settings : Settings) (pointers : List (List ℕ)) (bytes : List ℕ) (f : Finder) → HasFed settings pointers bytes f → (held : Held) (edges : List Edge) → f.held ≡ Some held → f.edges.items ≡ edges
+pub all_held : (settings : Settings) (pointers : List (List ℕ)) (bytes : List ℕ) (f : Finder) → HasFed settings pointers bytes f → (held : Sought) (edges : List Edge) → f.held ≡ Some held → f.edges.items ≡ edges
     → (verdict_on (read_by settings.mark settings.depth 0 bytes) ≡ verdict.Accepted) → HeldOf bytes edges (tokens_by settings.mark bytes) held
 all_held settings pointers bytes f h held edges is edges_are accepted =
     let same : h.kept ≡ held = let e : Some h.kept ≡ Some held = sym h.kept_is ∙ is in cc in
@@ -115,7 +115,7 @@ all_held settings pointers bytes f h held edges is edges_are accepted =
     h.read.outcome ∙ ap (λ (s : Settings). Some (read_by s.mark s.depth f.reader.start bytes)) h.settings_are ∙ ap (λ (i : ℕ). Some (read_by settings.mark settings.depth i bytes)) h.start in
     let goes : is_fault f.reader.outcome ≡ false = ap is_fault came ∙ verdict_goes (read_by settings.mark settings.depth 0 bytes) accepted in
     subst (λ (es : List Edge). HeldOf bytes es (tokens_by settings.mark bytes) held) edges_are
-    (subst (λ (x : Held). HeldOf bytes f.edges.items (tokens_by settings.mark bytes) x) same (h.held goes))
+    (subst (λ (x : Sought). HeldOf bytes f.edges.items (tokens_by settings.mark bytes) x) same (h.held goes))
 
 pub end_is : (settings : Settings) (pointers : List (List ℕ)) (bytes : List ℕ) (f : Finder) → HasFed settings pointers bytes f → f.reader.start + f.reader.count ≡ length bytes
 end_is settings pointers bytes f h = let zero = h.start in let count = h.read.count in omega (arith, zero, count)

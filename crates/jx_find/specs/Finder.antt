@@ -6,7 +6,7 @@ use Rattle.jx_run.specs.Reader.{HasRead, is_fault}
 use Rattle.jx_run.specs.Telling.{tokens_by}
 use Rattle.jx_index.specs.inside.Trie.{HasWay, IsTrie}
 use Rattle.jx_find.specs.declared.finder.Finder.{Finder}
-use Rattle.jx_find.specs.declared.held.Held.{Held}
+use Rattle.jx_find.specs.declared.held.Sought.{Sought}
 use Rattle.jx_find.specs.Held.{IsHeld}
 
 -- by settings and for pointers, it was fed these bytes since it was made
@@ -18,7 +18,7 @@ pub record HasFed (settings : Settings) (pointers : List (List ℕ)) (bytes : Li
   pub read : HasRead bytes f.reader
   pub trie : IsTrie f.edges.items
   pub ways : All (λ (pointer : List ℕ). HasWay f.edges.items pointer) pointers
-  pub kept : Held
+  pub kept : Sought
   pub kept_is : f.held ≡ Some kept
   pub held : is_fault f.reader.outcome ≡ false
       → IsHeld bytes f.edges.items (tokens_by settings.mark bytes).marks (tokens_by settings.mark bytes).ends kept.state kept.next kept.begun kept.name.items

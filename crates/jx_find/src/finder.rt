@@ -11,7 +11,7 @@ ghost use Rattle.jx_index.specs.Found.{AreFoundIn};
 ghost use Rattle.jx_find.specs.Finder.{HasFed, IsLost, end_of};
 ghost use Rattle.jx_find.specs.Held.{IsHeld};
 
-use crate::held::Held;
+use crate::held::Sought;
 use crate::on_slice::{Before, OnSlice};
 use jx_index::{
     Edge, FindFault, Found, Pointer, answers_of, names_are_refused_by_rows, starts_of, trie_of,
@@ -34,7 +34,7 @@ pub struct Finder<'p> {
     edges: Vec<Edge<'p>>,
     starts: Vec<usize>,
     /// None where memory was refused.
-    held: Option<Held>,
+    held: Option<Sought>,
 }
 
 /// Reads a slice behind all bytes that were read, and seeks by its tokens.
@@ -42,9 +42,9 @@ fn feed_held<B: Before>(
     reader: &mut Reader,
     edges: &[Edge],
     starts: &[usize],
-    held: Held,
+    held: Sought,
     slice: &[u8],
-) -> Result<Held, AllocError>
+) -> Result<Sought, AllocError>
     requires fits { reader.old.start + reader.old.count + length slice.now < 2 ^ 64 }
     requires slice { slice.now ≡ B.slice }
     requires edges { edges.now ≡ B.edges }
@@ -80,7 +80,7 @@ impl<'p> Finder<'p> {
         slices_are_told_in_turn();
         let edges = trie_of(alloc, &pointers)?;
         let starts = starts_of(alloc, &edges)?;
-        let held = Held::new(alloc, &edges)?;
+        let held = Sought::new(alloc, &edges)?;
         Ok(Finder {
             alloc,
             reader: Reader::new(alloc, settings, 0),

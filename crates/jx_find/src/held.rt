@@ -12,7 +12,7 @@ use std::alloc::{AllocError, Global};
 /// What was met at the nodes of a trie, and the open containers at its nodes; no edge from the node of the innermost open
 /// array names a place from its count on and below `next`. Also a token that has begun, and of a name the bytes so far.
 #[derive(Drop)]
-pub struct Held {
+pub struct Sought {
     /// What was met, and what is open.
     pub state: State,
     /// The least place in the innermost open array that a pointer may want.
@@ -23,13 +23,13 @@ pub struct Held {
     pub name: Vec<u8>,
 }
 
-impl Held {
+impl Sought {
     /// What is held before the first byte, of a trie with so many edges. Only want of memory is refused.
-    pub fn new(alloc: Global, edges: &[Edge]) -> Result<Held, AllocError>
+    pub fn new(alloc: Global, edges: &[Edge]) -> Result<Sought, AllocError>
         ensures { IfOk result (λ held. IsTrie edges.now → IsHeld [] edges.now [] [] held.state held.next held.begun held.name.items) }
     {
         let seeker = Seeker::new(alloc, edges.len(), &[])?;
-        Ok(Held {
+        Ok(Sought {
             state: seeker.state,
             next: seeker.next,
             begun: None,

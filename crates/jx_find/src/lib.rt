@@ -6,5 +6,5 @@ mod held;
 mod on_slice;
 
 pub use finder::Finder;
-pub use held::Held;
+pub use held::Sought;
 pub use on_slice::{Before, OnSlice};

@@ -6,7 +6,7 @@ ghost use Rattle.jx_index.specs.inside.Building.{is_token};
 ghost use Rattle.jx_find.specs.Held.{IsHeld};
 ghost use Rattle.jx_find.specs.OnSlice.{HasSought};
 
-use crate::held::Held;
+use crate::held::Sought;
 use jx_index::{Edge, Seeker};
 use jx_lex::{Mark, MarkKind, TokenSink};
 use std::alloc::AllocError;
@@ -119,7 +119,7 @@ impl<'a, 'p, B: Before> OnSlice<'a, 'p, B> {
         base: usize,
         edges: &'a [Edge<'p>],
         starts: &'a [usize],
-        held: Held,
+        held: Sought,
     ) -> OnSlice<'a, 'p, B>
         requires slice { slice.now ≡ B.slice }
         requires edges { edges.now ≡ B.edges }
@@ -167,14 +167,14 @@ impl<'a, 'p, B: Before> OnSlice<'a, 'p, B> {
     }
 
     /// What is held behind the slice. Only want of memory is refused.
-    pub fn into_held(self) -> Result<Held, AllocError>
+    pub fn into_held(self) -> Result<Sought, AllocError>
         ensures { IfOk result (λ held. (marks : List Mark) (ends : List ℕ)
             → HasSought B.held B.slice B.edges marks ends self.entry.slice.now self.entry.base self.entry.edges.now self.entry.seeker self.entry.begun self.entry.name.items
             → (bytes : List ℕ) (ms : List Mark) (es : List ℕ) → B.held bytes ms es
             → IsHeld (bytes ++ B.slice) B.edges (ms ++ moved_marks (length bytes) marks) (es ++ moved_ends (length bytes) ends) held.state held.next held.begun held.name.items) }
     {
         let Some(mark) = self.begun else {
-            return Ok(Held {
+            return Ok(Sought {
                 state: self.seeker.state,
                 next: self.seeker.next,
                 begun: None,
@@ -182,7 +182,7 @@ impl<'a, 'p, B: Before> OnSlice<'a, 'p, B> {
             });
         };
         if !self.seeker.is_name_next(mark.kind) {
-            return Ok(Held {
+            return Ok(Sought {
                 state: self.seeker.state,
                 next: self.seeker.next,
                 begun: Some(mark),
@@ -190,7 +190,7 @@ impl<'a, 'p, B: Before> OnSlice<'a, 'p, B> {
             });
         }
         let name = held_name(self.name, self.slice, self.base, mark.at)?;
-        Ok(Held {
+        Ok(Sought {
             state: self.seeker.state,
             next: self.seeker.next,
             begun: Some(mark),

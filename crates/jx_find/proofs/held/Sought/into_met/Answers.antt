@@ -4,7 +4,7 @@ use Rattle.jx_index.specs.declared.seeker.Seeker.{Seeker}
 use Rattle.jx_find.specs.Held.{IsHeld}
 use Rattle.jx_find.proofs.Helds.{met_all, met_last}
 use Rattle.jx_find.proofs.Soughts.{Tells}
-use Rattle.jx_find.proofs.held.Held.into_met.Goals as goal
+use Rattle.jx_find.proofs.held.Sought.into_met.Goals as goal
 
 pub returns-in_default : goal.returns-in_default
 returns-in_default c = λ bytes marks ends end h.
