@@ -1,4 +1,4 @@
-# Completions of jx for bash.
+# Completions of jx for bash. Made by tools/words.py.
 _jx() {
     local word=${COMP_WORDS[COMP_CWORD]} before=${COMP_WORDS[COMP_CWORD - 1]} command='' at
     COMPREPLY=()
@@ -11,7 +11,7 @@ _jx() {
         esac
     done
     case $before in
-    --file | --pointers)
+    --file | --index | --pointers)
         compopt -o filenames 2>/dev/null
         mapfile -t COMPREPLY < <(compgen -f -- "$word")
         return
@@ -24,7 +24,7 @@ _jx() {
         mapfile -t COMPREPLY < <(compgen -W 'plain gnu json' -- "$word")
         return
         ;;
-    --depth | --workers | --piece | --chunk | --from | --to) return ;;
+    --chunk | --depth | --from | --piece | --to | --workers) return ;;
     esac
     case $command in
     check | explain | index | each | seq | lines | save)
@@ -39,17 +39,17 @@ _jx() {
     '') mapfile -t COMPREPLY < <(compgen -W 'check explain index at get each seq lines save part join whole help -h --help -V --version' -- "$word") ;;
     help) mapfile -t COMPREPLY < <(compgen -W 'check explain index at get each seq lines save part join whole' -- "$word") ;;
     check) mapfile -t COMPREPLY < <(compgen -W '--file --depth --workers --piece --ignore-bom --unique-names -q --quiet -l --list --format --progress -h --help' -- "$word") ;;
-    seq) mapfile -t COMPREPLY < <(compgen -W '--file --depth --workers --piece --ignore-bom --unique-names --live -q --quiet -h --help' -- "$word") ;;
     explain) mapfile -t COMPREPLY < <(compgen -W '--file --depth --workers --piece --ignore-bom --unique-names --color -h --help' -- "$word") ;;
-    at) mapfile -t COMPREPLY < <(compgen -W '--file --pointers --depth --workers --piece --ignore-bom --unique-names -h --help' -- "$word") ;;
-    get) mapfile -t COMPREPLY < <(compgen -W '--file --pointers -c --compact -r --raw --depth --workers --piece --ignore-bom --unique-names -h --help' -- "$word") ;;
+    index) mapfile -t COMPREPLY < <(compgen -W '--file --depth --workers --piece --ignore-bom --unique-names -h --help' -- "$word") ;;
+    at) mapfile -t COMPREPLY < <(compgen -W '--file --depth --workers --piece --ignore-bom --unique-names --pointers --index -h --help' -- "$word") ;;
+    get) mapfile -t COMPREPLY < <(compgen -W '--file --depth --workers --piece --ignore-bom --unique-names --pointers -c --compact -r --raw --lines --skip-blank -h --help' -- "$word") ;;
     each) mapfile -t COMPREPLY < <(compgen -W '--names --file --depth --ignore-bom --progress -h --help' -- "$word") ;;
+    seq) mapfile -t COMPREPLY < <(compgen -W '--file --depth --workers --piece --ignore-bom --unique-names --live -q --quiet -h --help' -- "$word") ;;
     lines) mapfile -t COMPREPLY < <(compgen -W '--file --depth --workers --piece --ignore-bom --skip-blank -q --quiet -h --help' -- "$word") ;;
     save) mapfile -t COMPREPLY < <(compgen -W '--file --depth --chunk --ignore-bom --unique-names --progress -h --help' -- "$word") ;;
     part) mapfile -t COMPREPLY < <(compgen -W '--file --from --depth -h --help' -- "$word") ;;
     join) mapfile -t COMPREPLY < <(compgen -W '--file --depth -h --help' -- "$word") ;;
     whole) mapfile -t COMPREPLY < <(compgen -W '--file --to --from --depth -q --quiet -h --help' -- "$word") ;;
-    *) mapfile -t COMPREPLY < <(compgen -W '--file --depth --workers --piece --ignore-bom --unique-names -h --help' -- "$word") ;;
     esac
 }
 complete -F _jx jx

@@ -46,7 +46,7 @@ def texts_of_tables():
 
 def texts_of_calls():
     """Each word of a call: most are texts, or say what texts come to."""
-    for path in sorted(ROOT.glob("crates/jx_calls*/stdin")):
+    for path in sorted(ROOT.glob("crates/test_calls*/stdin")):
         for line in path.read_bytes().splitlines():
             if not line.startswith(b"#"):
                 yield from (spelt(word) for word in line.split(b" ")[1:])

@@ -6,13 +6,17 @@ import texts
 from positions import character_at, offset_of, position_of
 
 PIECES = ["{", "}", "[", "]", ",", ":", '"', '"a"', '"é"', '"😀"', "\\u00e9", "\\", "1", "-0.5e3", "true", "null", " ", "\n", "\r\n", "\r", "\t", "€", "𝄞", '{"b":[1,2]}', "[[[", "]]]", "x", "\ufeff", '{"a":1,"a":{}}', '"\\ud800":0', "\0", "\x7f"]
-URIS = ["file:///a.json", "file:///b.json", "untitled:é😀"]
+URIS = ["file:///a.json", "file:///b.json", "untitled:é😀", "file:///c.jsonl", "file:///d.ndjson"]
+# Which of these stand for JSON Lines; so do names with such an ending.
+LANGUAGES = {"json": False, "jsonl": True, "ndjson": True, "jsonlines": True, "jsonc": False, None: False}
+ENDINGS = (".jsonl", ".ndjson")
 OPTIONS = [None, {"depth": 0}, {"depth": 2}, {"depth": 512}, {"depth": 65535}, {"ignoreBom": True}, {"uniqueNames": True}, {"depth": 3, "ignoreBom": True, "uniqueNames": True}]
 FAR = 2**31 - 1
 # What may end a token that was begun, and what may be due behind it, the shortest first.
 ENDS = [b"", b" ", b"0 ", b'"', b'0"', b'00"', b'000"', b'0000"', b'n"', b"e", b"ue", b"rue", b"se", b"lse", b"alse", b"l", b"ll", b"ull"]
 ENDS += [b'\x80"', b'\x80\x80"', b'\x80\x80\x80"', b'\xa0\x80"', b'\x90\x80\x80"']
 DUE = [b"", b"0 ", b":0 ", b'"":0 ']
+VERDICT_WORDS = [words.partition(" at ")[0] for words in plain.VERDICTS]
 
 
 def frame(body):
@@ -46,6 +50,7 @@ class Session:
     def __init__(self, readers, dice, encoding=None, options=None):
         self.readers, self.dice = readers, dice
         self.sent, self.wanted, self.documents, self.number = [], [], {}, 1
+        self.of_lines = set()
         self.encoding = encoding or dice.choice(["utf-8", "utf-16"])
         said = options or {}
         flags = plain.IGNORE_MARK * said.get("ignoreBom", False) | plain.UNIQUE_NAMES * said.get("uniqueNames", False)
@@ -75,6 +80,10 @@ class Session:
         if text is None:
             self.wanted.append(lambda got: got.get("method") == "window/logMessage")
             return
+        if uri in self.of_lines:
+            marks = [self.mark_of(text, *bad) for bad in self.bad_lines(text)]
+            self.wanted.append(lambda got: self.are_told(got, uri, version, marks))
+            return
         verdict, _ = self.readers.read(text, self.settings)
         start = self.position_of(text, character_at(text, verdict.offset)) if verdict.has_offset() else None
         self.wanted.append(lambda got: self.is_told(got, uri, version, str(verdict), start))
@@ -89,6 +98,45 @@ class Session:
         kind, _, at = word.partition(" at ")
         said = all(it["code"] == kind and it["message"].endswith(" (byte %s)" % at if at else "") for it in marks)
         return len(marks) == 1 and said and (start is None or marks[0]["range"]["start"] == start)
+
+    def bad_lines(self, text):
+        """Of JSON Lines the lines that are no texts: where each stands, its verdict in words, and where it has a fault of one byte, where."""
+        settings = plain.Settings(self.settings.depth, 0)
+        at = 3 if self.settings.flags & plain.IGNORE_MARK and text.startswith(b"\xef\xbb\xbf") else 0
+        lines = text[at:].split(b"\n")
+        for number, line in enumerate(lines):
+            verdict, rows = self.readers.read(line, settings)
+            is_last = number == len(lines) - 1
+            if not line.strip(b" \t\r\n"):
+                if line or not is_last:
+                    yield at, at + len(line), "blank", None
+            elif verdict.kind != 0:
+                yield at, at + len(line), VERDICT_WORDS[verdict.kind], at + verdict.offset if verdict.has_offset() else None
+            elif is_last and rows.all[0].span.end == len(line) and plain.KINDS[rows.all[0].kind] in ("number", "true", "false", "null"):
+                yield at, at + len(line), "may be cut", None
+            at += len(line) + 1
+
+    def mark_of(self, text, start, end, word, fault):
+        """The code, the end of the message, and the range of a line's mark, of which only the start is known but where the line is blank."""
+        if word == "blank":
+            return word, "the line is blank", self.position_of(text, start), self.position_of(text, end)
+        message = "" if fault is None else " (byte %d)" % fault
+        first = max(start, character_at(text, end - 1 if fault is None else fault))
+        return word, message, self.position_of(text, first), None
+
+    def are_told(self, got, uri, version, wanted):
+        params = got.get("params", {})
+        if (got.get("method"), params.get("uri"), params.get("version")) != ("textDocument/publishDiagnostics", uri, version):
+            return False
+        marks = params.get("diagnostics", [])
+        return len(marks) == len(wanted) and all(
+            mark["code"] == word and mark["message"].endswith(message) and mark["range"]["start"] == start and end in (None, mark["range"]["end"])
+            for mark, (word, message, start, end) in zip(marks, wanted)
+        )
+
+    def is_known_text(self, uri):
+        """Whether what a document has is known, and one text: of JSON Lines no value is shown."""
+        return self.documents[uri] is not None and uri not in self.of_lines
 
     def ended(self, text):
         """A text that begins with the bytes before the fault, found by trying, its verdict and rows, and how many bytes that are. None where
@@ -178,7 +226,9 @@ class Session:
 
     def open(self, uri, text):
         self.documents[uri] = text.encode()
-        document = {"uri": uri, "languageId": "json", "version": 1, "text": text}
+        language = self.dice.choice(["json", "json", "json"] + list(LANGUAGES))
+        (self.of_lines.add if LANGUAGES[language] or uri.endswith(ENDINGS) else self.of_lines.discard)(uri)
+        document = {"uri": uri, "version": 1, "text": text, **({"languageId": language} if language else {})}
         self.send({"method": "textDocument/didOpen", "params": {"textDocument": document}})
         self.publish(uri, 1)
 
@@ -222,13 +272,13 @@ class Session:
         text = self.documents[uri]
         position = self.position(text or b"")
         number = self.ask("hover", uri, position=position)
-        wanted = None if text is None else self.shown(text, position)
+        wanted = self.shown(text, position) if self.is_known_text(uri) else None
         self.wanted.append(lambda got: got.get("id") == number and got["result"] == wanted)
 
     def outline(self, uri):
         text, wanted = self.documents[uri], None
         number = self.ask("documentSymbol", uri)
-        if text is not None:
+        if self.is_known_text(uri):
             rows, kept = self.listed(text)
             wanted = None if rows is None else [self.range_to(text, row, kept) for row in rows]
         self.wanted.append(lambda got: got.get("id") == number and (got["result"] and [it["location"]["range"] for it in got["result"]]) == wanted)
@@ -236,14 +286,14 @@ class Session:
     def folds(self, uri):
         text = self.documents[uri]
         number = self.ask("foldingRange", uri)
-        wanted = None if text is None else self.folded(text)
+        wanted = self.folded(text) if self.is_known_text(uri) else None
         self.wanted.append(lambda got: got.get("id") == number and got["result"] == wanted)
 
     def select(self, uri):
         text = self.documents[uri]
         positions = [self.position(text or b"") for _ in range(self.dice.randrange(3))]
         number = self.ask("selectionRange", uri, positions=positions)
-        wanted = None if text is None else self.around(text, positions)
+        wanted = self.around(text, positions) if self.is_known_text(uri) else None
         self.wanted.append(lambda got: got.get("id") == number and got["result"] == wanted)
 
     def close(self, uri):

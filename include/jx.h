@@ -1,4 +1,4 @@
-/* Checks whether bytes are a JSON text (RFC 8259), and tells at which byte they stop being one. Version 0.2.0.
+/* Checks whether bytes are a JSON text (RFC 8259), and tells at which byte they stop being one. Version 0.3.0.
  *
  * Every call returns a status. Any status but JX_OK leaves the caller's structs unchanged, unless a call says more. Offsets and
  * sizes count bytes, depths count containers.
@@ -709,7 +709,7 @@ uint32_t jx_run_join(const uint8_t *left, size_t left_size, const uint8_t *right
  * Allocates memory in proportion to the run and frees it. Returns JX_OK, JX_NO_MEMORY, JX_NOT_A_RUN or JX_NOT_NEIGHBOURS. */
 uint32_t jx_run_verdict(const uint8_t *run, size_t run_size, size_t start, size_t end, jx_verdict *verdict);
 
-/* Returns the version: 10,000 times its first number, plus 100 times the second, plus the third. 200 is 0.2.0. */
+/* Returns the version: 10,000 times its first number, plus 100 times the second, plus the third. 300 is 0.3.0. */
 uint32_t jx_version(void);
 
 #ifdef __cplusplus

@@ -1,5 +1,5 @@
 #!/usr/bin/env bash
-# The completions name what the help names, and no more, and bash takes its own.
+# The completions: each shell reads its own, and bash offers what the help names. tests/manual.sh holds them to the help texts.
 . "$(dirname "$0")/lib.sh"
 
 # options_of COMMAND: the long options that the help on a command lists.
@@ -19,17 +19,11 @@ bash_reads_its_file() {
     . "$root/completions/jx.bash"
 }
 
-the_commands_and_their_options_are_offered() {
-    local command option
-    for command in check explain index at get each seq lines save part join whole; do
+the_options_of_each_command_are_offered() {
+    local command
+    for command in $(offered jx help ''); do
         same "bash: the options of $command" "$(options_of $command)" "$(offered jx $command --)"
         has "bash: $command itself" "$command" "$(offered jx '')"
-        for option in $(options_of $command); do
-            has "zsh: $option" "$option" "$(cat "$root/completions/_jx")"
-            has "fish: $option" "-l ${option#--} " "$(cat "$root/completions/jx.fish") "
-        done
-        has "zsh: $command" "'${command}[" "$(cat "$root/completions/_jx")"
-        has "fish: $command" "-a $command " "$(cat "$root/completions/jx.fish")"
     done
 }
 
@@ -49,16 +43,10 @@ bash_completes_what_is_begun() {
     same 'bash: sizes of chunks' '' "$(offered jx save --chunk '')"
     same 'bash: formats' "$(printf '%s\n' gnu json plain)" "$(offered jx check --format '')"
     same 'bash: a file of pointers' text.json "$(offered jx at --pointers te)"
+    same 'bash: a file of an index' text.json "$(offered jx at --index te)"
     same 'bash: a file of pointers of get' text.json "$(offered jx get --pointers te)"
     same 'bash: no file as a word of get' '' "$(offered jx get te)"
     same 'bash: a number' '' "$(offered jx check --depth '')"
-}
-
-fish_offers_no_other_option() {
-    local option
-    for option in $(grep -oE -- "-l [a-z-]+" "$root/completions/jx.fish" | sort -u | sed 's/-l /--/'); do
-        has "fish: $option is one" "$option" "$(for command in '' check explain index at get each seq lines save part join whole; do options_of "$command"; done)"
-    done
 }
 
 zsh_and_fish_read_their_files() {
@@ -73,7 +61,6 @@ zsh_and_fish_read_their_files() {
 }
 
 tests bash_reads_its_file \
-    the_commands_and_their_options_are_offered \
+    the_options_of_each_command_are_offered \
     bash_completes_what_is_begun \
-    fish_offers_no_other_option \
     zsh_and_fish_read_their_files

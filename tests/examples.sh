@@ -11,7 +11,7 @@ import re
 import sys
 
 root = pathlib.Path(sys.argv[1])
-sources = [path.read_text() for path in sorted(root.glob("crates/jx_examples/src/*.rt"))]
+sources = [path.read_text() for path in sorted(root.glob("crates/test_examples/src/*.rt"))]
 page = (root / "docs" / "CALLING.md").read_text()
 # An indented part that begins with a function, up to the next line that is not indented.
 parts = re.findall(r"^    (?:pub )?fn .*(?:\n    .*|\n(?=\n*    (?! *$)))*", page, re.M)

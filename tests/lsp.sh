@@ -17,7 +17,7 @@ it_is_there() {
 }
 
 words_are_read() {
-    same 'the version' 'jx-lsp 0.2.0, status 0' "$("$JX_LSP_PROGRAM" --version), status $?"
+    same 'the version' 'jx-lsp 0.3.0, status 0' "$("$JX_LSP_PROGRAM" --version), status $?"
     has 'help' 'Usage: jx-lsp [--stdio]' "$("$JX_LSP_PROGRAM" --help)"
     same 'wrong words' 'jx-lsp: wrong words; see jx-lsp --help, status 2' "$("$JX_LSP_PROGRAM" --port 1 2>&1 </dev/null), status $?"
     same 'exit without shutdown' 'status 1' "$(played framed 'Content-Length: 33\r\n\r\n{"jsonrpc":"2.0","method":"exit"}')"
@@ -42,6 +42,51 @@ the_page_has_the_words_of_the_help() {
 changes_are_followed() {
     local told='2500 changes are told as jx check tells them'
     same 'random changes, columns in UTF-16 and in bytes, by three settings' "$(printf '%s\n' "$told" "$told" "$told" "$told")" "$(played replays 10000)"
+}
+
+lines_are_told() {
+    local told='500 changes are told as jx lines tells them' language name wanted options text
+    same 'random changes of JSON Lines' "$(printf '%s\n' "$told" "$told" "$told" "$told")" "$(played replays_of_lines 2000)"
+    while read -r language name wanted; do
+        same "the language $language of $name" "$wanted" "$(played content_of "$language" "$name")"
+    done <<'LANGUAGES'
+"jsonl" file:///a lines
+"ndjson" file:///a.json lines
+"jsonlines" file:///a.json lines
+"json" file:///a.json one text
+"json" file:///a.jsonl lines
+"json" file:///a.ndjson lines
+"plaintext" untitled:a.jsonl lines
+"json" file:///a.jsonl.json one text
+"json" file:///jsonl one text
+"JSONL" file:///a.json one text
+"json" file:///a.JSONL one text
+"jsonl2" file:///a.json one text
+"" file:///a.json one text
+"\ud800" file:///a.json one text
+null file:///a.json one text
+["jsonl"] file:///a.json one text
+"\u006asonl" file:///a.json lines
+LANGUAGES
+    while IFS='|' read -r options text wanted; do
+        same "the lines $text by the settings $options" "$wanted" "$(played told_lines "$options" "$text")"
+    done <<'LINES'
+null||0
+null|{}\r\n[]\n"a"|0
+null|\n|blank: the line is blank 0:0 0:0; 1
+null|{}\n \r\n{}\n|blank: the line is blank 1:0 1:2; 1
+null|1\n1|may be cut: the value may be cut: nothing behind it ends it 1:0 1:1; 1
+null|{}\ntrue |0
+null|[\n]\n|truncated: the text ends where a value or ] is expected 0:0 0:1; stopped: expected a value, found ] (byte 2) 1:0 1:1; 2
+null|{}\n{"a":"\u00e9|truncated: the text ends inside a string that began at line 2, column 6 1:6 1:7; 1
+null|{}\n[\U0001f600]\n[tru\n|stopped: expected a value or ], found 😀 (byte 4) 1:1 1:3; truncated: the text ends where e, as in true, is expected 2:3 2:4; 2
+{"depth":1}|[]\n[[]]\n|too deep: more than 1 containers open (byte 4) 1:1 1:2; 1
+{"uniqueNames":true}|{"a":1,"a":2}\n|0
+null|\ufeff{}\n{}\n|stopped: a byte order mark stands in front of the text (byte 0) 0:0 0:1; 1
+{"ignoreBom":true}|\ufeff{}\n{}\n|0
+{"ignoreBom":true}|\ufeff{\n{}\n|truncated: the text ends where a string or } is expected 0:1 0:2; 1
+{"ignoreBom":true}|{}\n\ufeff{}\n|stopped: a byte order mark stands in front of the text (byte 3) 1:0 1:1; 1
+LINES
 }
 
 settings_are_kept() {
@@ -232,6 +277,7 @@ tests it_is_there \
     words_are_read \
     the_page_has_the_words_of_the_help \
     changes_are_followed \
+    lines_are_told \
     settings_are_kept \
     cut_characters_are_marked \
     values_are_shown \

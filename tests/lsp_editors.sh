@@ -1,6 +1,6 @@
 #!/usr/bin/env bash
 # Editors in a terminal, set up with exactly the lines that docs/EDITORS.md prints, open files with faults: one server starts, each fault
-# has one mark, and a buffer that is saved under another name is told under that name.
+# has one mark, also each bad line of JSON Lines, and a buffer that is saved under another name is told under that name.
 . "$(dirname "$0")/lib.sh"
 
 server=${JX_LSP_PROGRAM:-$root/crates/jx_lsp/out/jx_lsp}
@@ -22,6 +22,7 @@ write_server() {
     chmod +x "$1/bin/jx-lsp"
     printf '{"a":}\n' >"$1/texts/a.json"
     printf '[1,}\n' >"$1/texts/b.json"
+    printf '{}\n{"a":}\n[]\n[1,}\n' >"$1/texts/d.jsonl"
 }
 
 # begin FOLDER COMMAND..: runs an editor in a terminal.
@@ -86,6 +87,10 @@ neovim_has_one_server_and_one_mark() {
     until_it is_told nvim didChange c.json
     same 'neovim: the new name is told' '1 1' "$(told nvim didClose a.json) $(told nvim didOpen c.json)"
     same 'neovim: the old name is not told of again' 0 "$(told nvim didChange a.json)"
+    press ':e! d.jsonl' Enter
+    until_it is_told nvim didOpen d.jsonl
+    sleep 1
+    same 'neovim: each bad line of JSON Lines has one mark' 2 "$(shown | grep -o '■' | wc -l)"
     same 'neovim: one server' 1 "$(servers nvim)"
     press ':qa!' Enter
     "${screen[@]}" kill-server 2>/dev/null
@@ -107,6 +112,10 @@ emacs_has_one_server_and_one_mark() {
     until_it is_told emacs didChange c.json
     same 'emacs: the new name is told' 1 "$(told emacs didOpen c.json)"
     has 'emacs: the mark is there' 'Flymake[1 0]' "$(shown)"
+    press C-x C-f 'd.jsonl' Enter
+    until_it is_told emacs didOpen d.jsonl
+    until_it is_shown 'Flymake[2'
+    has 'emacs: each bad line of JSON Lines has one mark' 'Flymake[2 0]' "$(shown)"
     same 'emacs: one server' 1 "$(servers emacs)"
     "${screen[@]}" kill-server 2>/dev/null
 }

@@ -1,20 +1,7 @@
 #!/usr/bin/env bash
-# The manual page: it is laid out with no warning, and has each paragraph of the help texts word for word.
+# The manual page: it is made from the help texts of this program, is laid out with no warning, and names each fault.
 . "$(dirname "$0")/lib.sh"
 page=$root/jx.1
-
-# paragraphs COMMAND: each paragraph of its help text, on a line of its own.
-paragraphs() {
-    "$program" $1 --help 2>&1 | sed 's/<\([A-Z]*\)>/\1/g' | awk '
-        BEGIN { RS = "" }
-        {
-            gsub(/[ \n]+/, " "); sub(/^ /, ""); sub(/ $/, "")
-            sub(/^(Usage|Options|Arguments|Examples): /, "")
-            if ($0 ~ /^(Commands:|-h, --help|-V, --version|jx COMMAND$)/) next
-            sub(/^Exit status: 0 the/, "0 the")
-            print
-        }'
-}
 
 # Leaves the words of the page in `text`.
 the_page_is_laid_out_with_no_warning() {
@@ -37,16 +24,8 @@ the_page_has_its_sections_and_the_version() {
     has 'the version' "$("$program" --version)" "$text"
 }
 
-each_paragraph_of_the_help_stands_there() {
-    local command count paragraph
-    for command in '' check explain index at get each seq lines save part join whole; do
-        count=0
-        while read -r paragraph; do
-            has "jx $command --help: a paragraph" "$paragraph" "$text"
-            count=$((count + 1))
-        done < <(paragraphs "$command")
-        same "jx $command --help has paragraphs" yes "$([ "$count" -gt 3 ] && echo yes)"
-    done
+the_page_and_the_completions_are_made_from_the_help_texts() {
+    same 'tools/words.py has nothing to write' '' "$(python3 "$root/tools/words.py" --check "$program" 2>&1)"
 }
 
 each_fault_stands_there() {
@@ -54,7 +33,9 @@ each_fault_stands_there() {
     for line in 'FILE: cannot open: REASON' 'FILE: is a directory' 'FILE: read failed: REASON' 'FILE: too many pieces' \
         'FILE: a file and no pointer: write --file in front of it' 'write failed' 'out of memory' 'no runs' 'the runs cover A..B and not C..D' \
         'a run is not written to a terminal: write it to a file or a pipe' 'an index is not written to a terminal: write it to a file or a pipe' \
-        'FAULT: the first word is a pointer, and FILE the second'; do
+        'FAULT: the first word is a pointer, and FILE the second' 'FILE: not a saved index' 'FILE: another version' 'FILE: cut short' \
+        'FILE: damaged' 'FILE: malformed' 'FILE: more bytes than an index has' 'FILE: N bytes, and the index is of M' \
+        'FILE: changed in S..E'; do
         has "the fault $line" "jx: $line" "$text"
     done
     for line in 'not a run' 'of another version' 'cut short' 'damaged' 'not well formed' 'read with depth D' \
@@ -65,5 +46,5 @@ each_fault_stands_there() {
 
 tests the_page_is_laid_out_with_no_warning \
     the_page_has_its_sections_and_the_version \
-    each_paragraph_of_the_help_stands_there \
+    the_page_and_the_completions_are_made_from_the_help_texts \
     each_fault_stands_there

@@ -53,7 +53,7 @@ def wrong_parts():
     above, apart = [], []
     for part, listed in found.items():
         for name, below in listed.items():
-            yield from ("%s stands on %s, which is no crate above it" % (name, it) for it in below if it.startswith("jx") and it not in above)
+            yield from ("%s stands on %s, which is no crate above it" % (name, it) for it in below if it.startswith(("jx", "test_")) and it not in above)
             yield from ("%s of %s stands on %s" % (name, part, it) for it in below if it in apart and part not in APART)
             above.append(name)
             apart += [name] if part in APART else []
@@ -61,7 +61,7 @@ def wrong_parts():
     if list(tables) != [part[0].upper() + part[1:] for part in found]:
         yield "ARCHITECTURE.md has the parts %s" % ", ".join(tables)
     for part, rows in zip(found, tables.values()):
-        named = [name for row in rows.splitlines() for name in re.findall(r"`(jx\w*)`", row.split("|")[1])]
+        named = [name for row in rows.splitlines() for name in re.findall(r"`((?:jx|test_)\w*)`", row.split("|")[1])]
         if named != list(found[part]):
             yield "%s: ARCHITECTURE.md has %s" % (part, " ".join(named))
 

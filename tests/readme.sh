@@ -28,7 +28,7 @@ the_recipes_are_among_the_sessions() {
 }
 
 readme_is_short() {
-    same 'README has at most 14,000 bytes' yes "$([ "$(wc -c <"$root/README.md")" -le 14000 ] && echo yes)"
+    same 'README has at most 13,000 bytes' yes "$([ "$(wc -c <"$root/README.md")" -le 13000 ] && echo yes)"
 }
 
 links_lead_to_files() {

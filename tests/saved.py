@@ -1,6 +1,6 @@
 """Saved indexes: the bytes of the index of a text, and what bytes say, by docs/FORMAT.md and RFC 8259 alone. Nothing of a crate is called.
 
-    saved.py lines SEED COUNT     writes lines for crates/jx_calls_of_indexes: for each of so many random texts one to index it, in chunks from
+    saved.py lines SEED COUNT     writes lines for crates/test_calls_of_indexes: for each of so many random texts one to index it, in chunks from
                                   64 bytes, and one to read bytes of its index, which often have something amiss
     saved.py answers < LINES      writes the answer to each line, on the line of the same number
     saved.py files SEED COUNT     writes random texts as N.json, what `jx save` has to write of each as N.jxi, and the options for it to N.options

@@ -1,9 +1,9 @@
 #!/usr/bin/env bash
 # Saved indexes: those of texts that dice make, in chunks from 64 bytes and fed by slices of several sizes, are byte by byte those that
 # saved.py makes by docs/FORMAT.md and RFC 8259 alone; bytes of indexes, intact and not, say what it reads in them, or are refused for the same.
-# `jx save` writes the same as saved.py, and of what is no text nothing.
+# `jx save` writes the same as saved.py, and of what is no text nothing. `jx at --index` answers as by_index.py does.
 . "$(dirname "$0")/lib.sh"
-calls=$root/crates/jx_calls_of_indexes/out/jx_calls_of_indexes
+calls=$root/crates/test_calls_of_indexes/out/test_calls_of_indexes
 # Another one each day; JX_SEED plays one again.
 seed=${JX_SEED:-$(date +%Y%m%d)}
 model() { python3 "$root/tests/saved.py" "$@"; }
@@ -89,6 +89,54 @@ faults_are_told() {
     fi
 }
 
+pointers_by_an_index_are_those_of_a_reader() {
+    python3 "$root/tests/by_index.py" "$seed" 300 >answers
+    same "pointers by indexes of seed $seed" '' "$(grep -v ' passed, ' answers | head -n 20 | cut -c 1-600)"
+    same 'each text has four answers or more' yes "$([ "$(tail -n 1 answers | cut -d ' ' -f 1)" -ge 1200 ] && echo yes)"
+}
+
+# looked WORD..: what looking up by an index comes to.
+looked() { said '' at --index "$@"; }
+
+what_is_wrong_with_an_index_is_told() {
+    printf '[1,{"a":"b"}]' >two.json
+    "$program" save two.json >two.jxi
+    same 'a look-up' "$(lines 'status 1' 'out: found string 8..11' 'out: past end at token 0' 'out: no slash')" "$(looked two.jxi --file two.json /1/a /2 x)"
+    lines '' /1/a >list
+    same 'a list' "$(lines 'status 0' 'out: found array 0..13' 'out: found string 8..11')" "$(looked two.jxi --file two.json --pointers list)"
+    same 'no index' "$(lines 'status 2' 'err: jx: missing.jxi: cannot open: No such file or directory')" "$(looked missing.jxi --file two.json /1)"
+    same 'no text' "$(lines 'status 2' 'err: jx: missing.json: cannot open: No such file or directory')" "$(looked two.jxi --file missing.json /1)"
+    mkdir -p folder
+    same 'a folder for an index' "$(lines 'status 2' 'err: jx: folder: is a directory')" "$(looked folder --file two.json /1)"
+    same 'a folder for a text' "$(lines 'status 2' 'err: jx: folder: is a directory')" "$(looked two.jxi --file folder /1)"
+    same 'a text for an index' "$(lines 'status 2' 'err: jx: two.json: not a saved index')" "$(looked two.json --file two.json /1)"
+    same 'nothing for an index' "$(lines 'status 2' 'err: jx: /dev/null: not a saved index')" "$(looked /dev/null --file two.json /1)"
+    (printf '\211jxidx\n\002'; tail -c +9 two.jxi) >other.jxi
+    same 'another version' "$(lines 'status 2' 'err: jx: other.jxi: another version')" "$(looked other.jxi --file two.json /1)"
+    head -c 40 two.jxi >short.jxi
+    same 'a part of an index' "$(lines 'status 2' 'err: jx: short.jxi: cut short')" "$(looked short.jxi --file two.json /1)"
+    (cat two.jxi; echo) >longer.jxi
+    same 'a byte more' "$(lines 'status 2' 'err: jx: longer.jxi: more bytes than an index has')" "$(looked longer.jxi --file two.json /1)"
+    (head -c 20 two.jxi; printf x; tail -c +22 two.jxi) >damaged.jxi
+    same 'another byte' "$(lines 'status 2' 'err: jx: damaged.jxi: damaged')" "$(looked damaged.jxi --file two.json /1)"
+    printf '[1,{"a":"b"}] ' >longer.json
+    same 'another size' "$(lines 'status 2' 'err: jx: longer.json: 14 bytes, and the index is of 13')" "$(looked two.jxi --file longer.json /1)"
+    same 'no regular file' "$(lines 'status 2' 'err: jx: /dev/null: 0 bytes, and the index is of 13')" "$(looked two.jxi --file /dev/null /1)"
+    printf '[1,{"a":"c"}]' >changed.json
+    same 'another text of that size' "$(lines 'status 2' 'err: jx: changed.json: changed in 0..13')" "$(looked two.jxi --file changed.json /1)"
+    cp changed.json $'a\nb.json'
+    same 'a name of two lines' "$(lines 'status 2' 'err: jx: a\x0Ab.json: changed in 0..13')" "$(looked two.jxi --file $'a\nb.json' /1)"
+    if [ -w /dev/full ]; then
+        same 'nowhere to write to' "$(lines 'jx: write failed' 'status 2')" "$("$program" at --index two.jxi --file two.json /1 2>&1 >/dev/full; echo "status $?")"
+    fi
+}
+
+an_index_says_how_its_text_is_read() {
+    printf '\357\273\277[[1]]' >mark.json
+    "$program" save --ignore-bom --depth 2 --unique-names mark.json >mark.jxi
+    same 'as it was saved' "$(lines 'status 0' 'out: found number 5..6')" "$(looked mark.jxi --file mark.json /0/0)"
+}
+
 # The program gets no signal, as where what calls it ignores it. The reader is gone before the call begins.
 a_closed_pipe_ends_it_without_a_word() {
     exec 5> >(true)
@@ -110,4 +158,7 @@ tests $all \
     names_may_have_to_be_unique \
     what_is_no_text_has_no_index \
     faults_are_told \
+    pointers_by_an_index_are_those_of_a_reader \
+    what_is_wrong_with_an_index_is_told \
+    an_index_says_how_its_text_is_read \
     a_closed_pipe_ends_it_without_a_word

@@ -41,7 +41,9 @@ COMMANDS = {
     "`get`": ({"jx_values/src/reporting": ["report_values"]}, without("Check Index Seq")),
     "`each`": ({"jx_values/src/elements": ["report_elements"]}, without("Index At Seq")),
     "`lines`": ({"jx_ndjson_report/src/reporting": ["report_lines"]}, without("Index At Seq")),
+    "`get --lines`": ({"jx_line_values/src/reporting": ["report_line_values"]}, without("Index At Seq")),
     "`seq --live`": ({"jx_ndjson_report/src/reporting": ["report_sequence"]}, without("Index At Seq")),
+    "`at --index`": ({"jx_walk_report/src/reporting": ["report_places"]}, without("Check Index Seq")),
     "`save`": ({"jx_saved_report/src/reporting": ["report_index"]}, without("Index At Seq")),
     "`explain`": (
         {

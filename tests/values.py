@@ -127,6 +127,19 @@ class Spelling:
         return b"{" + (b",".join(texts) or self.blanks()) + b"}", b"{" + b",".join(compacts) + b"}"
 
 
+class LongSpelling(Spelling):
+    """The same, with blanks and strings that are longer than what the program looks at at a time."""
+
+    def blanks(self):
+        length = self.chance.choice([0] * 9 + [1, 1, 1, 2, 15, 63, 64, 65, 130])
+        return bytes(self.chance.choice(b" \t\n\r") for _ in range(length))
+
+    def string(self, pointer, depth):
+        parts = ["a", "abcdefgh", " ", "[1, 2]", "{", "}", '\\"', "\\\\", "\\\\" * 7, "\\u00e9", "\u20ac", "\\n" * 9, "    ", ":,"]
+        text = '"' + "".join(self.chance.choice(parts) for _ in range(self.chance.choice([0, 1, 2, 3, 9, 40]))) + '"'
+        return text.encode(), text.encode()
+
+
 def lost(text):
     """Why the pointer /no leads to no value in a random text."""
     first = text.strip()[:1]
@@ -196,10 +209,9 @@ def ends_of_elements(text):
     return ends
 
 
-def elements_of_random_texts():
-    chance = random.Random(58)
-    for number in range(TEXTS):
-        made = Spelling(chance)
+def elements_of_texts(spelling, chance, count):
+    for number in range(count):
+        made = spelling(chance)
         lines = [compact + b"\n" for pointer, _, compact, _ in made.nodes if pointer.count(b"/") == 1]
         pieces = chance.choice([1, 2, 3, 7, 50, 65536])
         is_container = made.text.strip()[:1] in (b"[", b"{")
@@ -215,6 +227,14 @@ def elements_of_random_texts():
         same("elements of random text %d, cut at %d" % (number, cut), (due, told, int(told != b"")), each_of(made.text[:cut], pieces))
         faulty = made.text[:cut] + b"\0" + made.text[cut:]
         same("elements of random text %d, a fault at %d" % (number, cut), (due, b"jx: stopped at %d\n" % cut, 1), each_of(faulty, pieces))
+
+
+def elements_of_random_texts():
+    elements_of_texts(Spelling, random.Random(58), TEXTS)
+
+
+def elements_of_long_texts():
+    elements_of_texts(LongSpelling, random.Random(61), 2 * TEXTS)
 
 
 # ---- elements of what a pointer leads to
@@ -344,6 +364,6 @@ def members_by_pointers():
     elements_by_pointers(named=True)
 
 
-for test in (table, random_texts, elements_of_random_texts, elements_by_pointers, members_by_pointers):
+for test in (table, random_texts, elements_of_random_texts, elements_of_long_texts, elements_by_pointers, members_by_pointers):
     test()
 print("%d passed, %d failed" % (passed, failed))

@@ -5,10 +5,11 @@
 # lines TEXT..: each on a line of its own.
 lines() { printf '%s\n' "$@"; }
 
-values_are_those_that_pointers_lead_to() {
+# compared FILE: the counts of a comparison in Python are added to those here.
+compared() {
     local said last
-    said=$(JX_PROGRAM=$program python3 "$root/tests/values.py" 2>&1)
-    same 'values.py ends well' 0 $?
+    said=$(JX_PROGRAM=$program python3 "$root/tests/$1" 2>&1)
+    same "$1 ends well" 0 $?
     last=${said##*$'\n'}
     if [[ $last =~ ([0-9]+)\ passed,\ ([0-9]+)\ failed ]]; then
         passed=$((passed + BASH_REMATCH[1]))
@@ -16,6 +17,10 @@ values_are_those_that_pointers_lead_to() {
     fi
     if [[ ! $last =~ \ 0\ failed$ ]]; then echo "${said: -3000}"; fi
 }
+
+values_are_those_that_pointers_lead_to() { compared values.py; }
+
+values_of_lines_are_those_that_pointers_lead_to() { compared line_values.py; }
 
 each_pointer_has_its_line() {
     same 'a line for each pointer, in order' "$(lines 'status 0' 'out: 2' 'out: 1')" "$(said '{"a":1,"b":2}' get /b /a)"
@@ -174,6 +179,63 @@ open("wanted", "w").write("".join(item + "\n" for item in items[:-1]) + "[" + "1
     same 'a reader of elements that goes away' 'status 2, told: ' "status $status, told: $(cat err)"
 }
 
+each_line_has_its_values() {
+    same 'a line for each line' "$(lines 'status 0' 'out: 1' 'out: [2,3]')" "$(said '{"a":1}\n{"a" : [2 ,\r3] }\n' get --lines /a)"
+    same 'a tab between the values, in the order of the pointers' "$(lines 'status 0' $'out: 2\t1' $'out: "\\u0061\\t"\t{}')" \
+        "$(said '{"a":1,"b":2}\n{"a":{ },"b":"\\u0061\\t"}\n' get --lines /b /a)"
+    same 'a value that is not there' "$(lines 'status 1' $'out: 1\t' $'out: \t2' 'err: jx: line 1: /b: no such member at token 0' \
+        'err: jx: line 2: /a: no such member at token 0')" "$(said '{"a":1}\n{"b":2}\n' get --lines /a /b)"
+    same 'a line that is no text' "$(lines 'status 1' 'out: 1' 'out: ' 'out: 3' 'err: jx: line 2: stopped at 5')" "$(said '{"a":1}\n{"a":}\n{"a":3}\n' get --lines /a)"
+    same 'of several pointers' "$(lines 'status 1' $'out: \t\t' 'err: jx: line 1: truncated')" "$(said '[1\n' get --lines '' /0 /1)"
+    same 'a line that is too deep' "$(lines 'status 1' 'out: ' 'out: 1' 'err: jx: line 1: too deep at 1')" "$(said '[[1]]\n[1]\n' get --lines --depth 1 /0)"
+    same 'a name that comes again' "$(lines 'status 1' 'out: ' 'err: jx: line 1: /a: name repeated at token 0')" "$(said '{"a":1,"a":2}\n' get --lines /a)"
+    same 'a blank line' "$(lines 'status 1' 'out: ' 'out: 1' 'err: jx: line 1: blank')" "$(said '\n{"a":1}\n' get --lines /a)"
+    same 'a blank line that is passed' "$(lines 'status 0' $'out: \t' $'out: 1\t2')" "$(said ' \r\n{"a":1,"b":2}\n' get --lines --skip-blank /a /b)"
+    same 'the last line may do without an end' "$(lines 'status 0' 'out: {"a":1}')" "$(said '{"a":1}' get --lines '')"
+    same 'unless more of it may follow' "$(lines 'status 1' 'out: 1' 'out: ' 'err: jx: line 2: may be cut')" "$(said '1\n23' get --lines '')"
+    same 'a mark in front of the first line alone' "$(lines 'status 1' 'out: 1' 'out: ' 'err: jx: line 2: stopped at 0')" \
+        "$(said '\357\273\277[1]\n\357\273\277[2]\n' get --lines --ignore-bom /0)"
+    same 'a mark that is refused' "$(lines 'status 1' 'out: ' 'err: jx: line 1: stopped at 0')" "$(said '\357\273\277[1]\n' get --lines /0)"
+    same 'no line' 'status 0' "$(said '' get --lines /a)"
+    same 'a word that is no pointer' "$(lines 'status 2' 'err: jx: a: no slash')" "$(said '{"a":1}\n' get --lines /a a)"
+    same 'a pointer with a bad escape' "$(lines 'status 2' 'err: jx: /~2: bad escape at 1')" "$(said '1\n' get --lines '/~2')"
+    has 'not with texts of strings' "'--lines' cannot be used with '--raw'" "$(said '1\n' get --lines -r '')"
+    has 'not with unique names' "'--lines' cannot be used with '--unique-names'" "$(said '1\n' get --lines --unique-names '')"
+    has 'blank lines are passed of lines alone' 'required arguments' "$(said '1\n' get --skip-blank '')"
+    printf '{"a":1}\n\n[2]' >log
+    printf '\n/0\n' >list
+    same 'of a file, and pointers of a file' "$(lines '1	{"a":1}	' '		' '	[2]	2')" "$("$program" get --lines /a --pointers list --file log 2>/dev/null)"
+    same 'no such file' "$(lines 'jx: missing: cannot open: No such file or directory' 'status 2')" "$("$program" get --lines '' --file missing 2>&1; echo "status $?")"
+    same 'a folder as standard input' "$(lines 'jx: -: read failed: Is a directory' 'status 2')" "$("$program" get --lines '' <. 2>&1; echo "status $?")"
+}
+
+# The values of a line are there, and what is told of it, before the input goes on.
+values_of_lines_come_while_the_input_is_read() {
+    printf '{"a":1}\n' >log
+    (timeout 3 tail -n +1 -f log 2>/dev/null | "$program" get --lines /a >told 2>lacking) &
+    sleep 0.5
+    printf '{"b":2}\n{"a"' >>log
+    sleep 1
+    same 'values of a log that grows' "$(lines 1 '')" "$(cat told)"
+    same 'what is missing of it' 'jx: line 2: /a: no such member at token 0' "$(cat lacking)"
+    printf ':3}\n' >>log
+    sleep 0.7
+    same 'a line that goes on' "$(lines 1 '' 3)" "$(cat told)"
+    wait
+}
+
+values_of_lines_that_cannot_be_written_or_told() {
+    local status
+    yes '{"a":[1, 2]}' | head -n 200000 >many
+    same 'many lines' 200000 "$("$program" get --lines /a --file many | grep -cx '\[1,2\]')"
+    if [ -w /dev/full ]; then
+        same 'nowhere to write to' "$(lines 'jx: write failed' 'status 2')" "$("$program" get --lines /a --file many 2>&1 >/dev/full; echo "status $?")"
+        same 'nowhere to tell to' "$(lines '' 1 'status 1')" "$(printf '{}\n{"a":1}\n' | "$program" get --lines /a 2>/dev/full; echo "status $?")"
+    fi
+    status=$( (trap '' PIPE; "$program" get --lines /a --file many 2>err; echo $? >status) | head -c 1 >/dev/null; cat status)
+    same 'a reader of values of lines that goes away' 'status 2, told: ' "status $status, told: $(cat err)"
+}
+
 # The program gets no signal, as where what calls it ignores it.
 a_closed_pipe_ends_it_without_a_word() {
     local status
@@ -184,6 +246,10 @@ a_closed_pipe_ends_it_without_a_word() {
 }
 
 tests values_are_those_that_pointers_lead_to \
+    values_of_lines_are_those_that_pointers_lead_to \
+    each_line_has_its_values \
+    values_of_lines_come_while_the_input_is_read \
+    values_of_lines_that_cannot_be_written_or_told \
     each_pointer_has_its_line \
     compact_values_are_one_line \
     strings_are_written_as_texts \

@@ -12,7 +12,7 @@ proved_tests_are_few() {
     local count
     count=$(grep -rh '#\[test\]' --include='*.rt' "$root/crates" | wc -l)
     same 'there are 20 to 60 proved tests' yes "$([ "$count" -ge 20 ] && [ "$count" -le 60 ] && echo yes || echo "$count")"
-    same 'crates with proved tests' 'jx_hostile jx_hostile_reports jx_hostile_runs jx_threads' \
+    same 'crates with proved tests' 'test_memory_of_answers test_memory_of_reports test_memory_of_runs test_threads' \
         "$(grep -rl '#\[test\]' --include='*.rt' "$root/crates" | sed "s|^$root/crates/||; s|/.*||" | sort -u | flat | sed 's/ $//')"
 }
 

@@ -141,7 +141,7 @@ int main(void) {
     rows();
     pointers();
     refusals();
-    expect(jx_version() == 200, "the version");
+    expect(jx_version() == 300, "the version");
     printf("indexed: %d passed, %d failed\n", passed, failed);
     return failed != 0;
 }

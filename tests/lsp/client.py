@@ -10,6 +10,7 @@ import tempfile
 SERVER = os.environ["JX_LSP_PROGRAM"]
 JX = os.environ["JX_PROGRAM"]
 URI = "file:///home/ann/text.json"
+LINES_URI = "file:///home/ann/text.jsonl"
 
 
 def frame(body):
@@ -27,8 +28,8 @@ def notification(method, params=None):
     return frame({"jsonrpc": "2.0", "method": method, "params": params})
 
 
-def opened(text, version=1, uri=URI):
-    document = {"uri": uri, "languageId": "json", "version": version, "text": text}
+def opened(text, version=1, uri=URI, language="json"):
+    document = {"uri": uri, "languageId": language, "version": version, "text": text}
     return notification("textDocument/didOpen", {"textDocument": document})
 
 
@@ -185,6 +186,102 @@ def replays(count):
     print(replay(2, each, "utf-8", None, []))
     print(replay(3, each, "utf-16", {"uniqueNames": True}, ["--unique-names"]))
     print(replay(4, each, "utf-16", {"depth": 2, "ignoreBom": True}, ["--depth", "2", "--ignore-bom"]))
+
+
+# ---- JSON Lines
+
+
+def lines_told(texts, *words):
+    """What jx lines tells of each text: for each bad line its number, its span and its verdict."""
+    told = []
+    with tempfile.TemporaryDirectory() as folder:
+        for text in texts:
+            with open(os.path.join(folder, "text.jsonl"), "wb") as file:
+                file.write(text.encode())
+            run = subprocess.run([JX, "lines", *words, file.name], capture_output=True)
+            bad = [line.split(" ", 2) for line in run.stdout.decode().splitlines()[:-1]]
+            told.append([(int(number), *map(int, span.split("..")), verdict) for number, span, verdict in bad])
+    return told
+
+
+def line_sentence(text, start, line, verdict, said, encoding):
+    """The message of a line's mark: the sentence of jx explain on the line alone, with places and offsets of the whole text."""
+    if verdict == "blank":
+        return "the line is blank"
+    if verdict == "may be cut":
+        return "the value may be cut: nothing behind it ends it"
+    sentence = said["sentence"]
+    string = re.fullmatch(r"(the text ends inside a string that began at) line 1, column (\d+)", sentence)
+    if string:
+        column = units(line[: int(string[2]) - 1], encoding)
+        sentence = "%s line %d, column %d" % (string[1], text.encode()[:start].count(b"\n") + 1, column + 1)
+    return sentence if verdict == "truncated" else "%s (byte %d)" % (sentence, start + said["offset"])
+
+
+def compare_lines(text, version, bad, said, published, encoding):
+    """Whether what was published is what jx lines tells of the text, each line at its place."""
+    assert published["version"] == version, (version, published)
+    data = text.encode()
+    wanted = []
+    for number, start, end, verdict in bad:
+        line = data[start:end].decode()
+        word, _, at = verdict.partition(" at ")
+        message = line_sentence(text, start, line, verdict, said.get(line), encoding)
+        first = start if word == "blank" else int(at) if at else len((data[:start].decode() + line[:-1]).encode())
+        wanted.append((word, message, place_of_byte(text, first, encoding), number - 1))
+    marks = published["diagnostics"]
+    told = [(mark["code"], mark["message"], mark["range"]["start"], mark["range"]["end"]["line"]) for mark in marks]
+    assert told == wanted, (text, wanted, told)
+
+
+def replay_lines(seed, count, encoding, options, words, uri, language):
+    """Random changes of JSON Lines; each message is compared with what jx lines tells of the client's own copy."""
+    dice = random.Random(seed)
+    text = '{"a": 1}\r\n[1, "é😀"]\n\n{"b": tru}\n'
+    stream = [greeting(options, ["utf-8", "utf-16"] if encoding == "utf-8" else None), opened(text, 0, uri, language)]
+    texts = [text]
+    for version in range(1, count + 1):
+        change, text = random_change(dice, text, encoding)
+        if len(text) > 200:
+            change, text = {"text": "1\n2"}, "1\n2"
+        stream.append(changed([change], version, uri))
+        texts.append(text)
+    out, err, status = served(b"".join(stream) + farewell())
+    assert (err, status) == (b"", 0), (err, status)
+    published = list(diagnostics(out))
+    assert len(published) == len(texts), (len(published), len(texts))
+    told = lines_told(texts, *words)
+    lines = sorted({text.encode()[bad[1] : bad[2]].decode() for text, all_bad in zip(texts, told) for bad in all_bad})
+    said = dict(zip(lines, checked(lines, *[word for word in words if word != "--ignore-bom"])))
+    for version, (text, bad, params) in enumerate(zip(texts, told, published)):
+        compare_lines(text, version, bad, said, params, encoding)
+    return "%d changes are told as jx lines tells them" % count
+
+
+def replays_of_lines(count):
+    each = int(count) // 4
+    print(replay_lines(1, each, "utf-16", None, [], LINES_URI, "jsonl"))
+    print(replay_lines(2, each, "utf-8", None, [], URI, "ndjson"))
+    print(replay_lines(3, each, "utf-16", {"depth": 2}, ["--depth", "2"], URI, "jsonlines"))
+    print(replay_lines(4, each, "utf-16", {"ignoreBom": True}, ["--ignore-bom"], LINES_URI, "json"))
+
+
+def content_of(language, name):
+    """Prints how many diagnostics two texts in two lines have, by the language and the name of the document."""
+    out, err, status = served(greeting() + opened("[1]\n[2]\n", 1, name, json.loads(language)) + farewell())
+    assert (err, status) == (b"", 0), (err, status)
+    print({0: "lines", 1: "one text"}[len(list(diagnostics(out))[0]["diagnostics"])])
+
+
+def told_lines(options, text):
+    """Prints what is published of JSON Lines by settings, each diagnostic with both ends of its range."""
+    text = text.encode().decode("unicode_escape")
+    out, err, status = served(greeting(json.loads(options)) + opened(text, 1, LINES_URI, "jsonl") + farewell())
+    assert (err, status) == (b"", 0), (err, status)
+    for params in diagnostics(out):
+        for mark in params["diagnostics"]:
+            print("%s: %s" % (mark["code"], mark["message"]), *("%d:%d" % (mark["range"][end]["line"], mark["range"][end]["character"]) for end in ("start", "end")), end="; ")
+        print("%d" % len(params["diagnostics"]))
 
 
 def told(options, text):

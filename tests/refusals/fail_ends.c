@@ -1,6 +1,6 @@
 // Loaded before the C library: one read or write of a run fails, or moves a single byte, and it tells whether it did.
 //
-// FAIL_NTH: which call of read or write, from 1. FAIL_HOW: `fail` or `short`. FAIL_TOLD: a file that is made when it does.
+// FAIL_NTH: which call of read, of read at an offset or of write, from 1. FAIL_HOW: `fail` or `short`. FAIL_TOLD: a file that is made when it does.
 // Standard error is left alone: a fault has to be told.
 #define _GNU_SOURCE
 #include <dlfcn.h>
@@ -45,6 +45,21 @@ ssize_t read(int file, void *bytes, size_t count) {
   }
   return syscall(SYS_read, file, bytes, count);
 }
+
+static ssize_t read_there(int file, void *bytes, size_t count, off_t offset) {
+  if (is_chosen(file)) {
+    if (!shortened) {
+      errno = EIO;
+      return -1;
+    }
+    if (count > 1) count = 1;
+  }
+  return syscall(SYS_pread64, file, bytes, count, offset);
+}
+
+ssize_t pread(int file, void *bytes, size_t count, off_t offset) { return read_there(file, bytes, count, offset); }
+
+ssize_t pread64(int file, void *bytes, size_t count, off_t offset) { return read_there(file, bytes, count, offset); }
 
 static ssize_t write_some(int file, const void *bytes, size_t count) {
   if (is_chosen(file)) {

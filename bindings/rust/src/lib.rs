@@ -80,7 +80,7 @@ pub fn check(text: &[u8], settings: impl Into<Settings>) -> Result<(), Fault> {
 /// The library's version: its three numbers.
 ///
 /// ```
-/// assert_eq!(jx::version(), (0, 2, 0));
+/// assert_eq!(jx::version(), (0, 3, 0));
 /// ```
 #[must_use]
 pub fn version() -> (u32, u32, u32) {

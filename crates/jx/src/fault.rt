@@ -22,6 +22,9 @@ pub enum Fault {
     /// A word is no text, as clap puts it.
     #[error("error: invalid UTF-8 was detected in one or more arguments\n")]
     NotText,
+    /// A string for a pointer is none, and no line is read.
+    #[error("jx: {0}: {1}\n")]
+    Misspelt(String, PointerFault),
     /// A word for a pointer is none.
     #[error("jx: {0}: the first word is a pointer, and FILE the second\n")]
     Pointer(PointerFault),

@@ -23,7 +23,7 @@ enum Origin {
 #[derive(Drop)]
 pub struct Opened<'r> {
     origin: Origin,
-    why: Reason,
+    pub why: Reason,
     watch: Option<Watch<'r>>,
 }
 
@@ -63,7 +63,7 @@ fn unopened_by(error: &io::Error) -> OpenFault {
 }
 
 /// Opens a file. A folder opens too, and is told by what the system says of it.
-fn file_of(rt: &HostRuntime, path: &str) -> Result<File, OpenFault> {
+pub fn file_of(rt: &HostRuntime, path: &str) -> Result<File, OpenFault> {
     match File::open(rt, path) {
         Err(error) => Err(unopened_by(&error)),
         Ok(file) => match file.metadata() {

@@ -11,28 +11,33 @@ mod fault;
 mod first_pass;
 mod input;
 mod judged_lines;
+mod line_values;
 mod lines;
 mod listing;
 mod misplaced;
 mod output;
 mod parts;
+mod places;
 mod progress;
 mod reporting;
 mod saves;
+mod text_file;
 mod values;
 
 use elements::write_elements_of;
 use explaining::{explain_inputs, marking_for};
 use fault::Fault;
 use judged_lines::{tell_elements_of, tell_lines_of};
-use jx_command::{Order, Request, Told, command_of};
+use jx_command::{Input, Inputs, Order, Request, Told, command_of};
 use jx_explain::Form;
 use jx_files::Status;
 use jx_report::ReportFault;
+use jx_task::{Command, Task};
 use lines::add_lines;
 use listing::list_refused;
 use misplaced::refuse_misplaced_in;
 use parts::work_on_parts;
+use places::write_places;
 use reporting::report_on_inputs;
 use saves::save_index;
 use std::env;
@@ -44,6 +49,21 @@ use values::write_values_of;
 
 /// The status of a call that ends by a fault.
 const FAULT: u8 = 2;
+
+/// Answers a request for a report by the index of a text. The words have a file for it, and pointers.
+fn answer_by_index(
+    rt: &HostRuntime,
+    index: &str,
+    inputs: &Inputs<'_>,
+    command: &Command,
+) -> Result<Status, Fault> {
+    match (inputs, &command.task) {
+        (Inputs::One(Input::File(path)), Task::At(pointers)) => {
+            write_places(rt, index, path, pointers)
+        }
+        _ => Ok(Status::Fault),
+    }
+}
 
 /// Answers a request for a report.
 fn answer_request<R: Threads + Wait + Sync>(
@@ -57,11 +77,15 @@ fn answer_request<R: Threads + Wait + Sync>(
         mut command,
         inputs,
         pointers,
+        index,
         told,
         progress,
     } = request;
     refuse_misplaced_in(rt, &inputs, &command.task)?;
     add_lines(rt, &mut command, pointers)?;
+    if let Some(index) = index {
+        return answer_by_index(rt, index, &inputs, &command);
+    }
     match told {
         Told::Lines => report_on_inputs(rt, threads, &inputs, &command, progress),
         Told::Refused => list_refused(rt, threads, &inputs, &command, progress),

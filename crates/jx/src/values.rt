@@ -3,6 +3,7 @@ ghost use Rattle.std.specs.Prelude.{◌≤◌};
 
 use crate::fault::Fault;
 use crate::input::{fault_of_report, open};
+use crate::line_values::write_line_values_of;
 use crate::lines::text_of;
 use crate::misplaced::refuse_misplaced;
 use crate::output::Output;
@@ -29,11 +30,15 @@ pub fn write_values_of<R: Threads + Wait + Sync>(
         pointers,
         is_compact,
         is_raw,
+        by_line,
     } = order;
     refuse_misplaced(rt, input, &task.pointers)?;
     if let Some(path) = pointers {
         let lines = text_of(rt, path)?;
         task.add_pointers(alloc, lines.as_str())?;
+    }
+    if let Some(by_line) = by_line {
+        return write_line_values_of(rt, input, task, by_line);
     }
     let mut reader = open(rt, input)?;
     let mut writer = End::new(Output::of(rt));

@@ -158,6 +158,14 @@ fn pointers_file_of<'a>(called: Subcommand, options: &ArgMatches<'a>) -> Option<
     }
 }
 
+/// The file of an index that a subcommand is given, if it takes one.
+fn index_file_of<'a>(called: Subcommand, options: &ArgMatches<'a>) -> Option<&'a str> {
+    match called {
+        Subcommand::At => options.get_str("index"),
+        Subcommand::Check | Subcommand::Explain | Subcommand::Index | Subcommand::Seq => None,
+    }
+}
+
 /// Whether what is told to people has colors by the options.
 fn color_of(options: &ArgMatches<'_>) -> Color {
     match options.get_str("color") {
@@ -203,6 +211,7 @@ fn request_from<'a>(
         command,
         inputs: inputs_named(options, words_of(alloc, called, options))?,
         pointers: pointers_file_of(called, options),
+        index: index_file_of(called, options),
         told: told_by(called, options),
         progress: progress_of(options),
     })

@@ -165,6 +165,17 @@ fn raw<'a>(alloc: Global) -> Arg<'a> {
         .long_help(help::LONG_RAW)
 }
 
+/// Whether each line of what is read is a text of its own.
+fn by_line<'a>(alloc: Global) -> Result<Arg<'a>, AllocError> {
+    Arg::new(alloc, "by_line")
+        .long("lines")
+        .action(ArgAction::SetTrue)
+        .help(help::BY_LINE)
+        .long_help(help::LONG_BY_LINE)
+        .conflicts_with("raw")?
+        .conflicts_with("unique_names")
+}
+
 fn pointers<'a>(alloc: Global) -> Result<Arg<'a>, AllocError> {
     Arg::new(alloc, "pointers")
         .value_name("POINTER")
@@ -198,6 +209,20 @@ fn pointers_file<'a>(alloc: Global) -> Arg<'a> {
         .allow_hyphen_values(true)
         .help(help::POINTERS)
         .long_help(help::LONG_POINTERS)
+}
+
+/// The index of the text that is read, which tells how it is read.
+fn index_file<'a>(alloc: Global) -> Result<Arg<'a>, AllocError> {
+    Arg::new(alloc, "index")
+        .long("index")
+        .value_name("FILE")
+        .allow_hyphen_values(true)
+        .help(help::INDEX_FILE)
+        .long_help(help::LONG_INDEX_FILE)
+        .conflicts_with("depth")?
+        .conflicts_with("ignore_bom")?
+        .conflicts_with("unique_names")?
+        .requires_arg("file")
 }
 
 /// A subcommand with the options that each of them takes.
@@ -255,7 +280,8 @@ fn index<'a>(alloc: Global) -> Result<Command<'a>, AllocError> {
 fn at<'a>(alloc: Global) -> Result<Command<'a>, AllocError> {
     subcommand(alloc, Subcommand::At, help::AT, help::AFTER_AT)?
         .arg(pointers(alloc)?)?
-        .arg(pointers_file(alloc))
+        .arg(pointers_file(alloc))?
+        .arg(index_file(alloc)?)
 }
 
 fn get<'a>(alloc: Global) -> Result<Command<'a>, AllocError> {
@@ -263,7 +289,9 @@ fn get<'a>(alloc: Global) -> Result<Command<'a>, AllocError> {
         .arg(pointers(alloc)?)?
         .arg(pointers_file(alloc))?
         .arg(compact(alloc))?
-        .arg(raw(alloc))
+        .arg(raw(alloc))?
+        .arg(by_line(alloc)?)?
+        .arg(skip_blank(alloc).requires_arg("by_line")?)
 }
 
 fn each<'a>(alloc: Global) -> Result<Command<'a>, AllocError> {

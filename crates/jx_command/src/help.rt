@@ -1,6 +1,6 @@
 // What the program says of itself. No line is longer than 79 characters, and the manual page has the same words.
 
-pub const VERSION: &str = "0.2.0";
+pub const VERSION: &str = "0.3.0";
 
 pub const ABOUT: &str = "Validates and indexes JSON texts (RFC 8259) and text sequences (RFC 7464)";
 
@@ -142,9 +142,9 @@ section 4).";
 
 pub const SKIP_BLANK: &str = "Pass blank lines";
 
-pub const LONG_SKIP_BLANK: &str =
-    "Pass lines that have no byte, or blanks alone. They are numbered and
-not counted. Without this option each is refused.";
+pub const LONG_SKIP_BLANK: &str = "Pass lines that have no byte, or blanks alone. They are numbered;
+lines does not count them, and get writes a line without values and
+tells nothing. Without this option each is refused.";
 
 pub const PROGRESS: &str = "Tell progress: auto, always or never";
 
@@ -194,6 +194,12 @@ pub const LONG_COMPACT: &str =
     "Leave out blanks between tokens, so that each value is one line. Each
 token keeps its bytes: no number, name or string is spelt anew.";
 
+pub const BY_LINE: &str = "Answer each line of JSON Lines by itself";
+
+pub const LONG_BY_LINE: &str = "Read JSON Lines, and write a line for each line: the values of its
+text, a tab between, without blanks between tokens. It is written
+as soon as the line has ended. Not with --raw or --unique-names.";
+
 pub const RAW: &str = "Write the text that a string stands for";
 
 pub const LONG_RAW: &str = "Write the text that a string stands for, in UTF-8, without quotation
@@ -229,6 +235,15 @@ pub const LONG_POINTERS: &str =
 line feed ends a line, or a carriage return and a line feed, and the
 last line may do without; an empty line is the empty pointer. There
 has to be a POINTER or this option.";
+
+pub const INDEX_FILE: &str = "Look up by the index of the text in FILE";
+
+pub const LONG_INDEX_FILE: &str =
+    "Look up by the index of the text in FILE, which 'jx save' wrote. Of
+the text, which has to stand behind --file, only those chunks are
+read that are needed. Each is held to its digest; whether others have
+changed is not seen. Depth, byte order mark and unique names are
+those of the index.";
 
 pub const AFTER_CHECK: &str = "Output, one line:
   accepted            the input is a JSON text
@@ -303,10 +318,15 @@ Exit status: 0 all found, 1 refused or not all found, 2 no answer.
 The text is read once, in constant memory. With --unique-names, or with 10000
 pointers or more, the whole input is held.
 
+With --index the index is held, and of the text a chunk at a time. There is no
+output where the bytes of a chunk that is read have changed, where the text
+has another size, or where FILE is no index.
+
 Examples:
   jx at '' /users/0/name --file dump.json
   jx at --file dump.json -- \"$pointer\"
-  jx at --file dump.json --pointers list";
+  jx at --file dump.json --pointers list
+  jx at --index dump.json.jxi --file dump.json /users/0/name";
 
 pub const AFTER_GET: &str =
     "Output, a line for each pointer: the bytes of its value as they stand in the
@@ -318,12 +338,19 @@ What is not written is told on standard error, behind the output:
                        or with --raw: half a surrogate pair
   jx: VERDICT          the text is refused, as by 'jx check'; no output
 
+With --lines line i of the output answers line i of the input, and what is not
+written is told while the input is read:
+  jx: line N: POINTER: ANSWER  as above, in the text of line N
+  jx: line N: VERDICT          line N is no text, as by 'jx lines'; offsets
+                               count from the start of the line
+
 Exit status: 0 all written, 1 refused or not all written, 2 no answer.
 
 Examples:
   jx get /users/0/name --file dump.json
   jx get -r /users/0/name --file dump.json
   jx get -c '' --file dump.json
+  tail -f log | jx get --lines /time /level
   jx get --file dump.json -- \"$pointer\"
   jx get --file dump.json --pointers list";
 

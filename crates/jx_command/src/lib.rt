@@ -22,6 +22,6 @@ pub use arg_fault::ArgFault;
 pub use arguments::command_of;
 pub use inputs::{Input, Inputs, input_of, inputs_of, reads_standard_twice};
 pub use order::{
-    EachOrder, LinesOrder, LiveOrder, Order, PartsOrder, PartsStep, SaveOrder, ValuesOrder,
+    ByLine, EachOrder, LinesOrder, LiveOrder, Order, PartsOrder, PartsStep, SaveOrder, ValuesOrder,
 };
 pub use request::{Color, Request, ShowProgress, Told};

@@ -61,6 +61,15 @@ pub struct ValuesOrder<'a> {
     pub is_compact: bool,
     /// Whether a string is written as the text that it stands for.
     pub is_raw: bool,
+    /// How the lines of the input are answered one by one. None where the input is one text.
+    pub by_line: Option<ByLine>,
+}
+
+/// How the lines of an input are answered one by one.
+#[derive(Clone, Copy, Debug, PartialEq, Eq)]
+pub struct ByLine {
+    /// Whether nothing is told of blank lines.
+    pub skips_blanks: bool,
 }
 
 /// The elements of a container in a text, which are written while it is read.

@@ -10,6 +10,8 @@ pub struct Request<'a> {
     pub inputs: Inputs<'a>,
     /// FILE whose lines are looked up behind the pointers among the words.
     pub pointers: Option<&'a str>,
+    /// FILE with the index by which pointers are looked up.
+    pub index: Option<&'a str>,
     /// How the answer is told.
     pub told: Told,
     /// Whether it is told how far an input was read.

@@ -3,7 +3,7 @@ ghost use Rattle.std.specs.Prelude.{◌≤◌, IfOk};
 
 use crate::arguments::{piece_of, pointers_of, settings_of, workers_of};
 use crate::options::input_from;
-use crate::order::ValuesOrder;
+use crate::order::{ByLine, ValuesOrder};
 use clap::ArgMatches;
 use jx_crew::Workers;
 use jx_task::ValuesTask;
@@ -11,6 +11,17 @@ use std::alloc::{AllocError, Global};
 
 /// The word that calls it.
 pub(crate) const GET: &str = "get";
+
+/// How the lines of what is read are answered by the options, if they are to be.
+fn by_line_from(options: &ArgMatches<'_>) -> Option<ByLine> {
+    if options.get_flag("by_line") {
+        Some(ByLine {
+            skips_blanks: options.get_flag("skip_blank"),
+        })
+    } else {
+        None
+    }
+}
 
 /// What its options ask for. The grammar has a number for each option that the words leave out, so that what stands here
 /// where there is none is never met.
@@ -32,5 +43,6 @@ pub(crate) fn values_order_from<'a>(
         pointers: options.get_str("pointers_file"),
         is_compact: options.get_flag("compact"),
         is_raw: options.get_flag("raw"),
+        by_line: by_line_from(options),
     })
 }

@@ -1,13 +1,13 @@
 -- Runs of bytes of a set, and what the bytes of each set do: they keep the place and the height.
 use Rattle.std.specs.Prelude.{if◌then◌else◌, ◌==◌, slice_range}
 use Rattle.std.specs.Slice.Scan.{IsFirstPlace}
-use Rattle.std.proofs.Common.{◌≡◌, ℕ, zero, suc, ◌+◌, ◌-◌, ◌<◌, List, [], ◌∷◌, take, drop, get_or, Bool, true, false, not, refl, sym, ap, subst, ◌∙◌, arith}
+use Rattle.std.proofs.Common.{◌≡◌, ℕ, zero, suc, ◌+◌, ◌-◌, ◌<◌, ◌≤◌, List, [], ◌∷◌, take, drop, get_or, Bool, true, false, not, refl, sym, ap, subst, ◌∙◌, arith}
 use Rattle.std.proofs.lemmas.Bool.{eqb-true, not-false}
 use Rattle.std.proofs.lemmas.Bool.Decides.{nat_tests}
 use Rattle.std.proofs.lemmas.List.{get_or-drop}
 use Rattle.jx_compact.specs.declared.place.Place.{Place}
 use Rattle.jx_compact.specs.declared.place.Place.TheVariants.{Between, Inside, Escaped}
-use Rattle.jx_compact.specs.Compact.{is_kept, kept, next}
+use Rattle.jx_compact.specs.Compact.{is_kept, is_no_blank, kept, next}
 use Rattle.jx_each.specs.declared.sign.Sign.TheVariants as sign
 use Rattle.jx_each.specs.declared.sign.Turn.TheVariants.{Stay}
 use Rattle.jx_each.specs.Turns.{height_next, sign_of, turn_at, turn_by, turned}
@@ -21,11 +21,15 @@ in_take p zero ys h = tt
 in_take p (suc n) [] h = tt
 in_take p (suc n) (y ∷ ys) h = (h 0 (omega arith), in_take p n ys (λ k lt. h (suc k) (omega arith)))
 
+-- each byte from one offset up to another is in the set
+pub set_in : (p : ℕ → Bool) (xs : List ℕ) (from to : ℕ) → ((k : ℕ) → from ≤ k → k < to → p (get_or xs k 0) ≡ true) → AreIn p (slice_range xs from to)
+set_in p xs from to h =
+    in_take p (to - from) (drop from xs)
+    (λ k lt. subst (λ b. p b ≡ true) (sym (get_or-drop from xs k 0)) (h (from + k) (omega arith) (omega (arith, lt))))
+
 -- a run up to the first byte that is not in the set
 pub run_in : (p : ℕ → Bool) (xs : List ℕ) (from to r : ℕ) → IsFirstPlace (λ k. not (p (get_or xs k 0))) from to r → AreIn p (slice_range xs from r)
-run_in p xs from to r first =
-    in_take p (r - from) (drop from xs)
-    (λ k lt. subst (λ b. p b ≡ true) (sym (get_or-drop from xs k 0)) (not-false (p (get_or xs (from + k) 0)) (first.before (from + k) (omega arith) (omega (arith, lt)))))
+run_in p xs from to r first = set_in p xs from r (λ k low lt. not-false (p (get_or xs k 0)) (first.before k low lt))
 
 -- ---- what bytes do
 
@@ -65,7 +69,7 @@ same_height h b c =
     last false true = refl
     last false false = refl
 
-high_turn : (h b : ℕ) → 1 < h → turn_by h (sign_of b) ≡ Stay
+pub high_turn : (h b : ℕ) → 1 < h → turn_by h (sign_of b) ≡ Stay
 high_turn zero b lt = absurd (omega (arith, lt))
 high_turn (suc zero) b lt = absurd (omega (arith, lt))
 high_turn (suc (suc n)) b lt = refl
@@ -139,3 +143,7 @@ blank_leaves b h = first (b == 0x20) refl h
     first : (m : Bool) → (b == 0x20) ≡ m → not (if m then false else if b == 0x09 then false else if b == 0x0a then false else if b == 0x0d then false else true) ≡ true → Leaves b
     first true q h = of 0x20 q (record { sign_is = refl; place = refl; none = refl })
     first false q h = second (b == 0x09) refl h
+
+-- what is no blank is kept
+pub other_kept : (b : ℕ) → is_blank b ≡ false → is_kept Between b ≡ true
+other_kept b h = not-false (is_no_blank b) h

@@ -1,4 +1,5 @@
 mod Bytes
+mod Walked
 mod Walking
 mod Words
 mod Dues

@@ -29,7 +29,7 @@ part_none false part = sym (append-nil part)
 pub no_stretch : (p : Place) (h : ℕ) → IsStretch p h [] p h
 no_stretch p h = record { runs = λ aim stage takes lines part. ap (spot p h stage takes lines) (part_none takes part) }
 
-parts_join : (takes : Bool) (part v w : List ℕ) → (part ++ (if takes then v else [])) ++ (if takes then w else []) ≡ part ++ (if takes then v ++ w else [])
+pub parts_join : (takes : Bool) (part v w : List ℕ) → (part ++ (if takes then v else [])) ++ (if takes then w else []) ≡ part ++ (if takes then v ++ w else [])
 parts_join true part v w = append_assoc part v w
 parts_join false part v w = append-nil (part ++ [])
 
@@ -172,16 +172,16 @@ made_on aim s t p k lines part longer xs at end next all is low high x pushed pa
 
 -- ---- copies that are cut back
 
-pub cut_back : (part xs longer cut : List ℕ) (from to len : ℕ) → from ≤ to → to ≤ from + 16 → from + 16 ≤ length xs → longer ≡ part ++ slice_range xs from (from + 16) → len ≡ length longer
-    → cut ≡ take (len - (from + 16 - to)) longer → cut ≡ part ++ slice_range xs from to
+pub cut_back : (part xs longer cut : List ℕ) (from to len : ℕ) → from ≤ to → to ≤ from + 64 → from + 64 ≤ length xs → longer ≡ part ++ slice_range xs from (from + 64) → len ≡ length longer
+    → cut ≡ take (len - (from + 64 - to)) longer → cut ≡ part ++ slice_range xs from to
 cut_back part xs longer cut from to len low high room is counted h =
-    let long : from + 16 ≡ from + length (slice_range xs from (from + 16)) = slice-length xs from (from + 16) (omega arith) room in
-    let both : length longer ≡ length part + length (slice_range xs from (from + 16)) = ap length is ∙ length-append part (slice_range xs from (from + 16)) in
-    let n : len - (from + 16 - to) ≡ length part + (to - from) = omega (arith, low, high, long, both, counted) in
-    let span : from + 16 - from ≡ 16 = omega arith in
+    let long : from + 64 ≡ from + length (slice_range xs from (from + 64)) = slice-length xs from (from + 64) (omega arith) room in
+    let both : length longer ≡ length part + length (slice_range xs from (from + 64)) = ap length is ∙ length-append part (slice_range xs from (from + 64)) in
+    let n : len - (from + 64 - to) ≡ length part + (to - from) = omega (arith, low, high, long, both, counted) in
+    let span : from + 64 - from ≡ 64 = omega arith in
     h
-    ∙ ap (λ (l : List ℕ). take (len - (from + 16 - to)) l) is
-    ∙ ap (λ (m : ℕ). take m (part ++ slice_range xs from (from + 16))) n
-    ∙ take-append-add part (slice_range xs from (from + 16)) (to - from)
+    ∙ ap (λ (l : List ℕ). take (len - (from + 64 - to)) l) is
+    ∙ ap (λ (m : ℕ). take m (part ++ slice_range xs from (from + 64))) n
+    ∙ take-append-add part (slice_range xs from (from + 64)) (to - from)
     ∙ ap (λ (m : ℕ). part ++ take (to - from) (take m (drop from xs))) span
-    ∙ ap (λ (l : List ℕ). part ++ l) (take-again (to - from) 16 (drop from xs) (omega (arith, low, high)))
+    ∙ ap (λ (l : List ℕ). part ++ l) (take-again (to - from) 64 (drop from xs) (omega (arith, low, high)))

@@ -5,7 +5,7 @@ use Rattle.std.specs.Simd.Lanes.{mask_l}
 use Rattle.std.proofs.Common.{◌≡◌, ℕ, zero, suc, ◌+◌, ◌-◌, ◌*◌, ◌/◌, ◌%◌, ◌^◌, ◌<◌, ◌≤◌, Bool, true, false, not, List, length, map, get_or, refl, sym, ap, ◌∙◌, arith, bit_and, bit_or, bit_xor, inl, inr, w64}
 use Rattle.std.specs.Int.Count.{count_trailing_zeros}
 use Rattle.std.proofs.Math.Nat.{div-le_self}
-use Rattle.std.proofs.lemmas.Bool.{cases_lt, eqb-true}
+use Rattle.std.proofs.lemmas.Bool.{cases_lt, eqb-true, not-false}
 use Rattle.std.proofs.lemmas.Nat.{shr-shr}
 use Rattle.std.proofs.lemmas.Nat.Bits.{bit_at_above, bit_at_xor, bit_at-lt, bit_at-trailing_zeros}
 use Rattle.jx_compact.specs.declared.place.Place.TheVariants.{Between, Escaped, Inside}
@@ -246,3 +246,16 @@ pub none_set : (n i k : ℕ) → n / 2 ^ i ≡ 0 → i ≤ k → bit n k ≡ fal
 none_set n i k none le =
     let e : i + (k - i) ≡ k = omega (arith, le) in
     ap (bit n) (sym e) ∙ sym (shifted n i (k - i)) ∙ ap (λ (m : ℕ). bit m (k - i)) none ∙ bit-none (k - i)
+
+-- ---- bits that are not set
+
+pub clear_before : (n k : ℕ) → n < 2 ^ 64 → k < 64 → bit (2 ^ 64 - 1 - n) k ≡ false → bit n k ≡ true
+clear_before n k fits lt clear = not-false (bit n k) (sym (bit-not n k fits lt) ∙ clear)
+
+-- a place whose bit is set is not the first one whose bit is not
+pub clear_past : (n at r : ℕ) → n < 2 ^ 64 → at < 64 → at ≤ r → bit n at ≡ true → (r < 64 → bit (2 ^ 64 - 1 - n) r ≡ true) → at < r
+clear_past n at r fits lt low set clear = elim (cases_lt at r) [
+  | inl less ↦ less
+  | inr ge ↦ (let same : r ≡ at = omega (arith, low, ge) in
+      let not_set : true ≡ false = sym (clear (omega (arith, same, lt))) ∙ ap (bit (2 ^ 64 - 1 - n)) same ∙ bit-not n at fits lt ∙ ap not set in absurd cc)
+]

@@ -3,7 +3,7 @@ ghost use Rattle.std.specs.Prelude.{◌≡◌, ◌≤◌, ◌<◌, ◌==◌, ℕ
 ghost use Rattle.std.specs.Simd.Lanes.{mask_l};
 ghost use Rattle.jx_lex.specs.inside.Bits.{bit};
 ghost use Rattle.jx_each.specs.inside.Blocks.{IsTold};
-ghost use Rattle.jx_each.specs.inside.Runs.{is_stop};
+ghost use Rattle.jx_each.specs.inside.Runs.{is_blank, is_stop};
 
 use std::simd::prelude::*;
 
@@ -19,6 +19,8 @@ pub(crate) struct Words {
     pub escapes: u64,
     /// Whether it is a bracket or a byte up to the space, outside of strings.
     pub stops: u64,
+    /// Whether it is a blank, in a string or not.
+    pub blanks: u64,
 }
 
 /// Which bytes are quotation marks.
@@ -47,6 +49,17 @@ fn stops(block: u8x64) -> u64
     (block.simd_lt(u8x64::splat(0x21))
         | folded.simd_eq(u8x64::splat(b'{'))
         | folded.simd_eq(u8x64::splat(b'}'))).to_bitmask()
+}
+
+/// Which bytes are blanks.
+#[inline(always)]
+fn blanks(block: u8x64) -> u64
+    ensures { result ≡ mask_l (map is_blank block) }
+{
+    (block.simd_eq(u8x64::splat(b' '))
+        | block.simd_eq(u8x64::splat(b'\t'))
+        | block.simd_eq(u8x64::splat(b'\n'))
+        | block.simd_eq(u8x64::splat(b'\r'))).to_bitmask()
 }
 
 /// Which bytes are escaped, by the backslashes: every second one of a run, and the byte behind a run of odd length. Taken from the
@@ -88,7 +101,8 @@ fn all(set: bool) -> u64 {
 /// behind the block is escaped.
 #[inline(always)]
 pub(crate) fn words_of(block: u8x64, inside: bool) -> Option<Words>
-    ensures { IfSome result (λ words. IsTold block inside words.strings words.escapes words.stops) }
+    ensures told { IfSome result (λ words. IsTold block inside words.strings words.escapes words.stops) }
+    ensures blanks { IfSome result (λ words. words.blanks ≡ mask_l (map is_blank block)) }
 {
     let slashes = backslashes(block);
     let escaped = escaped_by(slashes);
@@ -107,6 +121,7 @@ pub(crate) fn words_of(block: u8x64, inside: bool) -> Option<Words>
         strings,
         escapes,
         stops: stops(block) & !strings,
+        blanks: blanks(block),
     })
 }
 
@@ -123,4 +138,24 @@ pub(crate) fn next_set(bits: u64, at: usize) -> usize
         return BLOCK;
     }
     at + rest.trailing_zeros() as usize
+}
+
+/// Whether the bit of a place is set.
+#[inline(always)]
+pub(crate) fn is_set(bits: u64, at: usize) -> bool
+    requires { at < 64 }
+    ensures { result ≡ bit bits at }
+{
+    bits >> at & 1 == 1
+}
+
+/// The first place from `at` on whose bit is not set, or 64.
+#[inline(always)]
+pub(crate) fn next_clear(bits: u64, at: usize) -> usize
+    requires { at < 64 }
+    ensures bounds { (at ≤ result) × (result ≤ 64) }
+    ensures all { (k : ℕ) → at ≤ k → k < result → bit bits k ≡ true }
+    ensures past { bit bits at ≡ true → at < result }
+{
+    next_set(!bits, at)
 }

@@ -3,6 +3,8 @@
 
 mod blocks;
 mod content;
+mod copies;
+mod deep;
 mod each;
 mod laws;
 mod making;

@@ -1,18 +1,14 @@
 // Stretches of bytes that are kept one behind another, so that they are copied at once.
-ghost use Rattle.std.specs.Prelude.{◌≡◌, ◌+◌, ◌-◌, ◌<◌, ◌≤◌, ◌^◌, IfSome, IsTrue, length, slice_index, slice_range, true};
-ghost use Rattle.std.specs.Simd.Lanes.{chunk};
+ghost use Rattle.std.specs.Prelude.{◌≡◌, ◌+◌, ◌-◌, ◌<◌, ◌≤◌, ◌^◌, IsTrue, length, slice_index, slice_range, true};
 ghost use Rattle.jx_compact.specs.Compact.{is_kept};
-ghost use Rattle.jx_lex.specs.inside.Bits.{bit};
 ghost use Rattle.jx_each.specs.Turns.{turn_at};
-ghost use Rattle.jx_each.specs.inside.Blocks.{IsTold, placed};
 ghost use Rattle.jx_each.specs.inside.Stretches.{IsPassed, IsStretch};
 
-use crate::blocks::{BLOCK, Words, next_set, words_of};
+use crate::blocks::BLOCK;
 use crate::runs::{blanks_end, chars_end, deep_end, flat_end};
 use crate::sign::Turn;
 use crate::stand::height_next;
 use jx_compact::{Place, next};
-use std::simd::prelude::*;
 
 /// Where a stretch ends, and where the byte there stands.
 #[derive(Clone, Copy, Debug)]
@@ -73,7 +69,7 @@ fn near_stretch(place: Place, height: usize, bytes: &[u8], from: usize) -> Stret
     requires within { from < length bytes.now }
     requires fits { height + (length bytes.now - from) < 2 ^ 64 }
     requires goes { (turn_at place height (slice_index bytes.now from) ≡ Turn.Stay) × (is_kept place (slice_index bytes.now from) ≡ true) }
-    ensures bounds { (from ≤ result.end) × (result.end ≤ length bytes.now) }
+    ensures bounds { (from < result.end) × (result.end ≤ length bytes.now) }
     ensures high { result.height ≤ height + (result.end - from) }
     ensures stretch { IsStretch place height (slice_range bytes.now from result.end) result.place result.height }
 {
@@ -84,99 +80,17 @@ fn near_stretch(place: Place, height: usize, bytes: &[u8], from: usize) -> Stret
     Stretch { end, place, height }
 }
 
-/// Whether a byte stands in a string, unless a backslash escapes it.
+/// Whether bytes from there on are walked over a block at a time.
 #[inline(always)]
-fn inside_of(place: Place) -> Option<bool>
-    ensures { IfSome result (λ inside. place ≡ placed inside) }
+pub(crate) fn is_deep(height: usize, bytes: &[u8], from: usize) -> bool
+    requires { from ≤ length bytes.now }
+    ensures { IsTrue result → (1 < height) × (from + 64 ≤ length bytes.now) }
 {
-    match place {
-        Place::Between => Some(false),
-        Place::Inside => Some(true),
-        Place::Escaped => None,
-    }
+    height > 1 && bytes.len() - from >= BLOCK
 }
 
-/// The place in a string, or between tokens.
-#[inline(always)]
-fn place_of(inside: bool) -> Place
-    ensures { result ≡ placed inside }
-{
-    if inside {
-        Place::Inside
-    } else {
-        Place::Between
-    }
-}
-
-/// Whether the byte behind a block stands in a string.
-#[inline(always)]
-fn ends_inside(strings: u64) -> bool
-    ensures { result ≡ bit strings 63 }
-{
-    strings >> 63 & 1 == 1
-}
-
-/// A stretch from a block's first byte on, in two containers or more, and no longer than the block.
-fn far_stretch(words: Words, inside: bool, height: usize, bytes: &[u8], from: usize) -> Stretch
-    requires within { from + 64 ≤ length bytes.now }
-    requires told { IsTold (chunk from 64 bytes.now) inside words.strings words.escapes words.stops }
-    requires high { 1 < height }
-    requires fits { height + (length bytes.now - from) < 2 ^ 64 }
-    ensures bounds { (from ≤ result.end) × (result.end ≤ length bytes.now) }
-    ensures high { result.height ≤ height + (result.end - from) }
-    ensures stretch { IsStretch (placed inside) height (slice_range bytes.now from result.end) result.place result.height }
-{
-    let mut height = height;
-    let mut at = 0;
-    while at < BLOCK && height > 1 {
-        let stop = next_set(words.stops, at);
-        if stop == BLOCK {
-            let place = place_of(ends_inside(words.strings));
-            return Stretch {
-                end: from + BLOCK,
-                place,
-                height,
-            };
-        }
-        let byte = bytes[from + stop];
-        if !goes_on(Place::Between, height, byte) {
-            return Stretch {
-                end: from + stop,
-                place: Place::Between,
-                height,
-            };
-        }
-        height = height_next(Place::Between, height, byte);
-        at = stop + 1;
-    }
-    Stretch {
-        end: from + at,
-        place: Place::Between,
-        height,
-    }
-}
-
-/// A stretch from a byte on with which it goes on.
-#[inline(always)]
-fn next_stretch(place: Place, height: usize, bytes: &[u8], from: usize) -> Stretch
-    requires within { from < length bytes.now }
-    requires fits { height + (length bytes.now - from) < 2 ^ 64 }
-    requires goes { (turn_at place height (slice_index bytes.now from) ≡ Turn.Stay) × (is_kept place (slice_index bytes.now from) ≡ true) }
-    ensures bounds { (from ≤ result.end) × (result.end ≤ length bytes.now) }
-    ensures high { result.height ≤ height + (result.end - from) }
-    ensures stretch { IsStretch place height (slice_range bytes.now from result.end) result.place result.height }
-{
-    if height > 1 && bytes.len() - from >= BLOCK {
-        if let Some(inside) = inside_of(place) {
-            if let Some(words) = words_of(u8x64::from_slice(&bytes[from..]), inside) {
-                return far_stretch(words, inside, height, bytes, from);
-            }
-        }
-    }
-    near_stretch(place, height, bytes, from)
-}
-
-/// A stretch from a byte on that stands there, as long as one is found; it may have no byte.
+/// A stretch from a byte on that stands there, as long as one is found, and up to where bytes are walked over by blocks; it may
+/// have no byte.
 pub(crate) fn stretch_from(place: Place, height: usize, bytes: &[u8], from: usize) -> Stretch
     requires within { from ≤ length bytes.now }
     requires fits { height + (length bytes.now - from) < 2 ^ 64 }
@@ -187,11 +101,8 @@ pub(crate) fn stretch_from(place: Place, height: usize, bytes: &[u8], from: usiz
     let mut place = place;
     let mut height = height;
     let mut end = from;
-    while end < bytes.len() && goes_on(place, height, bytes[end]) {
-        let next = next_stretch(place, height, bytes, end);
-        if next.end == end {
-            break;
-        }
+    while end < bytes.len() && !is_deep(height, bytes, end) && goes_on(place, height, bytes[end]) {
+        let next = near_stretch(place, height, bytes, end);
         place = next.place;
         height = next.height;
         end = next.end;

@@ -24,7 +24,7 @@ Exit status: 0 after shutdown and exit, 1 where the client ends otherwise or
 its messages cannot be read, 2 for wrong words.
 ";
 
-const VERSION: &str = "jx-lsp 0.2.0\n";
+const VERSION: &str = "jx-lsp 0.3.0\n";
 
 const WRONG: &str = "jx-lsp: wrong words; see jx-lsp --help\n";
 

@@ -4,6 +4,7 @@ use Rattle.std.specs.Prelude.{slice_get, IfSome, MatchOption, Vec}
 use Rattle.std.specs.Global.{Global}
 use Rattle.jx_edit.specs.declared.encoding.Encoding.{Encoding}
 use Rattle.jx_wire.specs.declared.call.Change.{Change}
+use Rattle.jx_wire.specs.declared.call.Content.{Content}
 use Rattle.jx_wire.specs.declared.call.Uri.{Uri}
 use Rattle.jx_wire.specs.declared.call.Versioned.{Versioned}
 use Rattle.jx_serve.specs.Served.{number_named, AreMadeAt, OpenValue, ServerValue}
@@ -52,19 +53,19 @@ changed_untold number version changes before after reply made alone e = record {
   tells = subst (λ (r : Reply). IsToldOf before.encoding version made.now r) (sym e) tt;
 }
 
-added : (uri : Uri) (text : Change) (before cut mid : ServerValue) → cut ≡ with_documents (without uri.name.items before.documents) before
-    → mid ≡ with_documents (cut.documents ++ sent cut uri text ∷ []) cut → mid ≡ with_documents (without uri.name.items before.documents ++ sent before uri text ∷ []) before
-added uri text before cut mid e f = subst (λ (s : ServerValue). mid ≡ with_documents (s.documents ++ sent s uri text ∷ []) s) e f
+added : (uri : Uri) (content : Content) (text : Change) (before cut mid : ServerValue) → cut ≡ with_documents (without uri.name.items before.documents) before
+    → mid ≡ with_documents (cut.documents ++ sent cut uri content text ∷ []) cut → mid ≡ with_documents (without uri.name.items before.documents ++ sent before uri content text ∷ []) before
+added uri content text before cut mid e f = subst (λ (s : ServerValue). mid ≡ with_documents (s.documents ++ sent s uri content text ∷ []) s) e f
 
 -- a document that was opened is the last one
-pub opened : (document : Versioned) (text : Change) (before cut mid after : ServerValue) (last : ℕ) (reply : Reply)
-    → cut ≡ with_documents (without document.uri.name.items before.documents) before → mid ≡ with_documents (cut.documents ++ sent cut document.uri text ∷ []) cut
+pub opened : (document : Versioned) (content : Content) (text : Change) (before cut mid after : ServerValue) (last : ℕ) (reply : Reply)
+    → cut ≡ with_documents (without document.uri.name.items before.documents) before → mid ≡ with_documents (cut.documents ++ sent cut document.uri content text ∷ []) cut
     → last ≡ length mid.documents - 1 → after ≡ mid → IfSome (slice_get mid.documents last) (λ d. IsToldOf mid.encoding document.version d reply)
-    → IsOpened document text before after reply
-opened document text before cut mid after last reply e f n same told =
+    → IsOpened document content text before after reply
+opened document content text before cut mid after last reply e f n same told =
     let rest = without document.uri.name.items before.documents in
-    let new = sent before document.uri text in
-    let m : mid ≡ with_documents (rest ++ new ∷ []) before = added document.uri text before cut mid e f in
+    let new = sent before document.uri content text in
+    let m : mid ≡ with_documents (rest ++ new ∷ []) before = added document.uri content text before cut mid e f in
     let documents : mid.documents ≡ rest ++ new ∷ [] = ap (λ (s : ServerValue). s.documents) m in
     let count : last ≡ length rest = n ∙ omega (arith, ap (λ (l : List OpenValue). length l) documents, length-append rest (new ∷ [])) in
     let there : slice_get mid.documents last ≡ Some new = ap (λ (l : List OpenValue). slice_get l last) documents ∙ ap (λ (i : ℕ). slice_get (rest ++ new ∷ []) i) count ∙ get_last rest new in
@@ -72,6 +73,6 @@ opened document text before cut mid after last reply e f n same told =
     let of : IsToldOf mid.encoding document.version new reply = subst (λ (o : Option OpenValue). IfSome o Told) there told in
     inl (same ∙ m, subst (λ (x : Encoding). IsToldOf x document.version new reply) (ap (λ (s : ServerValue). s.encoding) m) of)
 
-pub not_opened : (document : Versioned) (text : Change) (before cut after : ServerValue) (reply : Reply) → cut ≡ with_documents (without document.uri.name.items before.documents) before
-    → after ≡ cut → reply ≡ Logged Memory → IsOpened document text before after reply
-not_opened document text before cut after reply e same r = inr (same ∙ e, r)
+pub not_opened : (document : Versioned) (content : Content) (text : Change) (before cut after : ServerValue) (reply : Reply) → cut ≡ with_documents (without document.uri.name.items before.documents) before
+    → after ≡ cut → reply ≡ Logged Memory → IsOpened document content text before after reply
+not_opened document content text before cut after reply e same r = inr (same ∙ e, r)

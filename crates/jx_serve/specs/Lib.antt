@@ -1,4 +1,5 @@
 pub mod Changes
+pub mod LineMarks
 pub mod Marks
 pub mod Messages
 pub mod Selections

@@ -8,21 +8,26 @@ use Rattle.jx_index.specs.ByNames.{IsVerdictBy}
 use Rattle.jx_run.specs.declared.texts.settings.Settings.{Settings}
 use Rattle.jx_run.specs.declared.texts.verdict.Verdict.{Verdict}
 use Rattle.jx_wire.specs.declared.call.Change.{Change}
+use Rattle.jx_wire.specs.declared.call.Content.{Content}
+use Rattle.jx_wire.specs.declared.call.Content.TheVariants.{Text, Lines}
 use Rattle.jx_wire.specs.declared.call.Place.{Place}
 use Rattle.jx_serve.specs.Changes.{HeldValue, changed, lose, position as place_of}
+use Rattle.jx_serve.specs.LineMarks.{AreLineMarks}
 use Rattle.jx_serve.specs.Marks.{told}
 use Rattle.jx_serve.specs.Selections.{AreSelections}
 use Rattle.jx_serve.specs.Values.{any_names, HasNoHover, IsHoverAt, IsOutline}
 use Rattle.jx_complete.specs.Completed.{IsCutInMark}
 use Rattle.jx_serve.specs.declared.reply.Code.TheVariants.{RequestFailed}
 use Rattle.jx_serve.specs.declared.reply.Reply.{Reply}
-use Rattle.jx_serve.specs.declared.reply.Reply.TheVariants.{Nothing, Initialized, Null, Hovered, Outlined, Folded, Selected, Refused, Published, Closed, Logged}
+use Rattle.jx_serve.specs.declared.line_mark.LineMark.{LineMark}
+use Rattle.jx_serve.specs.declared.reply.Reply.TheVariants.{Nothing, Initialized, Null, Hovered, Outlined, Folded, Selected, Refused, Published, PublishedLines, Closed, Logged}
 use Rattle.jx_serve.specs.declared.server.Phase.{Phase}
 
--- a document that is open: what its name stands for, how that is spelt in messages, and its bytes
+-- a document that is open: what its name stands for, how that is spelt in messages, whether it is one text or lines, and its bytes
 pub record OpenValue : Type 0 where
   pub name : List ℕ
   pub spelt : List ℕ
+  pub content : Content
   pub held : HeldValue
 
 pub record ServerValue : Type 0 where
@@ -43,6 +48,7 @@ number_named name documents = position (λ (d : OpenValue). bytes_eq d.name name
 pub record IsFollowed (e : Encoding) (changes : List Change) (before after : OpenValue) : Type 0 where
   pub same_name : after.name ≡ before.name
   pub same_spelling : after.spelt ≡ before.spelt
+  pub same_content : after.content ≡ before.content
   pub made : (after.held ≡ fold (changed e) before.held changes) ⊎ (after.held.lost ≡ true)
 
 -- changes of the document of this number, and of no other
@@ -67,32 +73,42 @@ all_lost server = record server { documents = map lost_open server.documents }
 
 -- ---- what is published
 
--- the document has this verdict on exactly its bytes, by its settings; its name is spelt so, and its bytes are not lost
+-- the document is one text, and has this verdict on exactly its bytes, by its settings; its name is spelt so, and its bytes are not lost
 pub record IsVerdictOn (document : OpenValue) (uri : List ℕ) (verdict : Verdict) : Type 0 where
   pub is_spelt : document.spelt ≡ uri
   pub is_known : document.held.lost ≡ false
+  pub is_text : document.content ≡ Text
   pub is_verdict : IsVerdictBy document.held.settings document.held.bytes verdict
 
--- what is published is the verdict on this document
-abbrev pub TellsOf : OpenValue → Reply → Type 0
-TellsOf document Nothing = Unit {0}
-TellsOf document (Initialized id utf8) = Unit {0}
-TellsOf document (Null id) = Unit {0}
-TellsOf document (Hovered id hover) = Unit {0}
-TellsOf document (Outlined id uri nested outline) = Unit {0}
-TellsOf document (Folded id outline) = Unit {0}
-TellsOf document (Selected id selections) = Unit {0}
-TellsOf document (Refused id code refusal) = Unit {0}
-TellsOf document (Published uri version mark) = IsVerdictOn document uri.items (told mark)
-TellsOf document (Closed uri) = Unit {0}
-TellsOf document (Logged trouble) = Unit {0}
+-- the document is JSON Lines, and these marks tell of each of its lines that is no text, by its settings; its name is spelt so, and its
+-- bytes are not lost
+pub record AreLinesOn (e : Encoding) (document : OpenValue) (uri : List ℕ) (marks : List LineMark) : Type 0 where
+  pub is_spelt : document.spelt ≡ uri
+  pub is_known : document.held.lost ≡ false
+  pub has_lines : document.content ≡ Lines
+  pub are_marks : AreLineMarks e document.held.settings document.held.bytes marks
 
--- what is published is the verdict on a document that is open
+-- what is published is the verdict on this document, or on its lines
+abbrev pub TellsOf : Encoding → OpenValue → Reply → Type 0
+TellsOf e document Nothing = Unit {0}
+TellsOf e document (Initialized id utf8) = Unit {0}
+TellsOf e document (Null id) = Unit {0}
+TellsOf e document (Hovered id hover) = Unit {0}
+TellsOf e document (Outlined id uri nested outline) = Unit {0}
+TellsOf e document (Folded id outline) = Unit {0}
+TellsOf e document (Selected id selections) = Unit {0}
+TellsOf e document (Refused id code refusal) = Unit {0}
+TellsOf e document (Published uri version mark) = IsVerdictOn document uri.items (told mark)
+TellsOf e document (PublishedLines uri version marks) = AreLinesOn e document uri.items marks.items
+TellsOf e document (Closed uri) = Unit {0}
+TellsOf e document (Logged trouble) = Unit {0}
+
+-- what is published is the verdict on a document that is open, or on its lines
 pub record Tells (server : ServerValue) (reply : Reply) : Type 0 where
   pub number : ℕ
   pub document : OpenValue
   pub is_open : slice_get server.documents number ≡ Some document
-  pub tells : TellsOf document reply
+  pub tells : TellsOf server.encoding document reply
 
 -- it publishes nothing
 abbrev pub IsQuiet : Reply → Type 0
@@ -105,6 +121,7 @@ IsQuiet (Folded id outline) = Unit {0}
 IsQuiet (Selected id selections) = Unit {0}
 IsQuiet (Refused id code refusal) = Unit {0}
 IsQuiet (Published uri version mark) = ⊥
+IsQuiet (PublishedLines uri version marks) = ⊥
 IsQuiet (Closed uri) = Unit {0}
 IsQuiet (Logged trouble) = Unit {0}
 
@@ -122,6 +139,7 @@ HasVersion version (Folded id outline) = Unit {0}
 HasVersion version (Selected id selections) = Unit {0}
 HasVersion version (Refused id code refusal) = Unit {0}
 HasVersion version (Published uri told mark) = told ≡ version
+HasVersion version (PublishedLines uri told marks) = told ≡ version
 HasVersion version (Closed uri) = Unit {0}
 HasVersion version (Logged trouble) = Unit {0}
 
@@ -138,6 +156,7 @@ IsAnswer (Some id) (Folded other outline) = other ≡ id
 IsAnswer (Some id) (Selected other selections) = other ≡ id
 IsAnswer (Some id) (Refused other code refusal) = other ≡ Some id
 IsAnswer (Some id) (Published uri version mark) = ⊥
+IsAnswer (Some id) (PublishedLines uri version marks) = ⊥
 IsAnswer (Some id) (Closed uri) = ⊥
 IsAnswer (Some id) (Logged trouble) = ⊥
 IsAnswer None Nothing = Unit {0}
@@ -149,6 +168,7 @@ IsAnswer None (Folded other outline) = ⊥
 IsAnswer None (Selected other selections) = ⊥
 IsAnswer None (Refused other code refusal) = ⊥
 IsAnswer None (Published uri version mark) = Unit {0}
+IsAnswer None (PublishedLines uri version marks) = Unit {0}
 IsAnswer None (Closed uri) = Unit {0}
 IsAnswer None (Logged trouble) = Unit {0}
 
@@ -170,15 +190,17 @@ IsNull (Folded id outline) = ⊥
 IsNull (Selected id selections) = ⊥
 IsNull (Refused id code refusal) = ⊥
 IsNull (Published uri version mark) = ⊥
+IsNull (PublishedLines uri version marks) = ⊥
 IsNull (Closed uri) = ⊥
 IsNull (Logged trouble) = ⊥
 
--- the value at a place of a document, or null where its bytes are lost or no value is there before the fault, or that memory was refused
+-- the value at a place of a document, or null where it is JSON Lines, its bytes are lost, or no value is there before the fault, or that
+-- memory was refused
 abbrev pub IsHoverIn : Encoding → Place → Reply → OpenValue → Type 0
 IsHoverIn e place (Hovered id hover) document =
-    (document.held.lost ≡ false) × IsHoverAt e document.held.settings document.held.bytes (offset_at e document.held.bytes (place_of place)) hover
+    (document.content ≡ Text) × (document.held.lost ≡ false) × IsHoverAt e document.held.settings document.held.bytes (offset_at e document.held.bytes (place_of place)) hover
 IsHoverIn e place (Null id) document =
-    (document.held.lost ≡ true) ⊎ HasNoHover document.held.settings document.held.bytes (offset_at e document.held.bytes (place_of place))
+    (document.content ≡ Lines) ⊎ ((document.held.lost ≡ true) ⊎ HasNoHover document.held.settings document.held.bytes (offset_at e document.held.bytes (place_of place)))
 IsHoverIn e place (Refused id code refusal) document = code ≡ RequestFailed
 IsHoverIn e place Nothing document = ⊥
 IsHoverIn e place (Initialized id utf8) document = ⊥
@@ -186,14 +208,16 @@ IsHoverIn e place (Outlined id uri nested outline) document = ⊥
 IsHoverIn e place (Folded id outline) document = ⊥
 IsHoverIn e place (Selected id selections) document = ⊥
 IsHoverIn e place (Published uri version mark) document = ⊥
+IsHoverIn e place (PublishedLines uri version marks) document = ⊥
 IsHoverIn e place (Closed uri) document = ⊥
 IsHoverIn e place (Logged trouble) document = ⊥
 
--- the first values of a document, or null where its bytes are lost or have no value before the fault, or that memory was refused
+-- the first values of a document, or null where it is JSON Lines, or its bytes are lost or have no value before the fault, or that memory
+-- was refused
 abbrev pub IsOutlineIn : Encoding → Bool → Reply → OpenValue → Type 0
 IsOutlineIn e inside (Outlined id uri nested outline) document =
-    (uri.items ≡ document.spelt) × (nested ≡ inside) × (document.held.lost ≡ false) × IsOutline e document.held.settings document.held.bytes outline
-IsOutlineIn e inside (Null id) document = (document.held.lost ≡ true) ⊎ IsCutInMark (any_names document.held.settings) document.held.bytes
+    (uri.items ≡ document.spelt) × (nested ≡ inside) × (document.content ≡ Text) × (document.held.lost ≡ false) × IsOutline e document.held.settings document.held.bytes outline
+IsOutlineIn e inside (Null id) document = (document.content ≡ Lines) ⊎ ((document.held.lost ≡ true) ⊎ IsCutInMark (any_names document.held.settings) document.held.bytes)
 IsOutlineIn e inside (Refused id code refusal) document = code ≡ RequestFailed
 IsOutlineIn e inside Nothing document = ⊥
 IsOutlineIn e inside (Initialized id utf8) document = ⊥
@@ -201,13 +225,14 @@ IsOutlineIn e inside (Hovered id hover) document = ⊥
 IsOutlineIn e inside (Folded id outline) document = ⊥
 IsOutlineIn e inside (Selected id selections) document = ⊥
 IsOutlineIn e inside (Published uri version mark) document = ⊥
+IsOutlineIn e inside (PublishedLines uri version marks) document = ⊥
 IsOutlineIn e inside (Closed uri) document = ⊥
 IsOutlineIn e inside (Logged trouble) document = ⊥
 
 -- the same to fold
 abbrev pub AreFoldsIn : Encoding → Reply → OpenValue → Type 0
-AreFoldsIn e (Folded id outline) document = (document.held.lost ≡ false) × IsOutline e document.held.settings document.held.bytes outline
-AreFoldsIn e (Null id) document = (document.held.lost ≡ true) ⊎ IsCutInMark (any_names document.held.settings) document.held.bytes
+AreFoldsIn e (Folded id outline) document = (document.content ≡ Text) × (document.held.lost ≡ false) × IsOutline e document.held.settings document.held.bytes outline
+AreFoldsIn e (Null id) document = (document.content ≡ Lines) ⊎ ((document.held.lost ≡ true) ⊎ IsCutInMark (any_names document.held.settings) document.held.bytes)
 AreFoldsIn e (Refused id code refusal) document = code ≡ RequestFailed
 AreFoldsIn e Nothing document = ⊥
 AreFoldsIn e (Initialized id utf8) document = ⊥
@@ -215,14 +240,16 @@ AreFoldsIn e (Hovered id hover) document = ⊥
 AreFoldsIn e (Outlined id uri nested outline) document = ⊥
 AreFoldsIn e (Selected id selections) document = ⊥
 AreFoldsIn e (Published uri version mark) document = ⊥
+AreFoldsIn e (PublishedLines uri version marks) document = ⊥
 AreFoldsIn e (Closed uri) document = ⊥
 AreFoldsIn e (Logged trouble) document = ⊥
 
--- what stands around places of a document, or null where its bytes are lost or have no value before the fault, or that memory was refused
+-- what stands around places of a document, or null where it is JSON Lines, or its bytes are lost or have no value before the fault, or that
+-- memory was refused
 abbrev pub AreAroundIn : Encoding → List Place → Reply → OpenValue → Type 0
 AreAroundIn e places (Selected id selections) document =
-    (document.held.lost ≡ false) × AreSelections e document.held.settings document.held.bytes places selections.items
-AreAroundIn e places (Null id) document = (document.held.lost ≡ true) ⊎ IsCutInMark (any_names document.held.settings) document.held.bytes
+    (document.content ≡ Text) × (document.held.lost ≡ false) × AreSelections e document.held.settings document.held.bytes places selections.items
+AreAroundIn e places (Null id) document = (document.content ≡ Lines) ⊎ ((document.held.lost ≡ true) ⊎ IsCutInMark (any_names document.held.settings) document.held.bytes)
 AreAroundIn e places (Refused id code refusal) document = code ≡ RequestFailed
 AreAroundIn e places Nothing document = ⊥
 AreAroundIn e places (Initialized id utf8) document = ⊥
@@ -230,6 +257,7 @@ AreAroundIn e places (Hovered id hover) document = ⊥
 AreAroundIn e places (Outlined id uri nested outline) document = ⊥
 AreAroundIn e places (Folded id outline) document = ⊥
 AreAroundIn e places (Published uri version mark) document = ⊥
+AreAroundIn e places (PublishedLines uri version marks) document = ⊥
 AreAroundIn e places (Closed uri) document = ⊥
 AreAroundIn e places (Logged trouble) document = ⊥
 

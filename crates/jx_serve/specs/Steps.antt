@@ -15,6 +15,7 @@ use Rattle.jx_wire.specs.Values.{Says}
 use Rattle.jx_wire.specs.declared.call.Call.{Call}
 use Rattle.jx_wire.specs.declared.call.Call.TheVariants as call
 use Rattle.jx_wire.specs.declared.call.Change.{Change}
+use Rattle.jx_wire.specs.declared.call.Content.{Content}
 use Rattle.jx_wire.specs.declared.call.Offer.{Offer}
 use Rattle.jx_wire.specs.declared.call.Request.{Request}
 use Rattle.jx_wire.specs.declared.call.Uri.{Uri}
@@ -23,11 +24,11 @@ use Rattle.jx_wire.specs.declared.request_fault.RequestFault.{RequestFault}
 use Rattle.jx_wire.specs.declared.request_fault.RequestFault.TheVariants as fault
 use Rattle.jx_serve.specs.Changes.{changed, held}
 use Rattle.jx_serve.specs.Marks.{told, IsPlaced}
-use Rattle.jx_serve.specs.Served.{all_lost, number_named, AreAround, AreFolds, AreMadeAt, AreSymbols, IsHover, IsVerdictOn, OpenValue, ServerValue}
+use Rattle.jx_serve.specs.Served.{all_lost, number_named, AreAround, AreFolds, AreLinesOn, AreMadeAt, AreSymbols, IsHover, IsVerdictOn, OpenValue, ServerValue}
 use Rattle.jx_serve.specs.declared.reply.Code.{Code}
 use Rattle.jx_serve.specs.declared.reply.Code.TheVariants.{ParseError, InvalidRequest, MethodNotFound, InvalidParams, NotInitialized}
 use Rattle.jx_serve.specs.declared.reply.Reply.{Reply}
-use Rattle.jx_serve.specs.declared.reply.Reply.TheVariants.{Nothing, Initialized, Null, Hovered, Outlined, Folded, Selected, Refused, Published, Closed, Logged}
+use Rattle.jx_serve.specs.declared.reply.Reply.TheVariants.{Nothing, Initialized, Null, Hovered, Outlined, Folded, Selected, Refused, Published, PublishedLines, Closed, Logged}
 use Rattle.jx_serve.specs.declared.reply.Trouble.TheVariants.{WrongParameters, NotOpen, Lost, Memory}
 use Rattle.jx_serve.specs.declared.server.Phase.{Phase}
 use Rattle.jx_serve.specs.declared.server.Phase.TheVariants.{New, Ready, Down, Ended}
@@ -68,14 +69,15 @@ abbrev pub without : List ℕ → List OpenValue → List OpenValue
 without name documents = without_at (number_named name documents) documents
 
 -- a document that has the text that was sent
-abbrev pub sent : ServerValue → Uri → Change → OpenValue
-sent server uri text = record { name = uri.name.items; spelt = uri.spelt.items; held = changed server.encoding (held server.settings []) text }
+abbrev pub sent : ServerValue → Uri → Content → Change → OpenValue
+sent server uri content text = record { name = uri.name.items; spelt = uri.spelt.items; content = content; held = changed server.encoding (held server.settings []) text }
 
--- what is told of a document: its verdict, with the version of the message and a mark that stands where it is refused; or that its
--- bytes are lost, or that memory was refused
+-- what is told of a document, with the version of the message: its verdict and a mark that stands where it is refused, or a mark for each
+-- of its lines that is no text; or that its bytes are lost, or that memory was refused
 abbrev pub IsToldOf : Encoding → Option (Vec ℕ Global) → OpenValue → Reply → Type 0
 IsToldOf e version document (Published uri told_version shown) =
     IsVerdictOn document uri.items (told shown) × (told_version ≡ version) × IfSome shown (IsPlaced e document.held.bytes)
+IsToldOf e version document (PublishedLines uri told_version marks) = AreLinesOn e document uri.items marks.items × (told_version ≡ version)
 IsToldOf e version document (Logged Lost) = document.held.lost ≡ true
 IsToldOf e version document (Logged Memory) = Unit {0}
 IsToldOf e version document (Logged NotOpen) = ⊥
@@ -91,10 +93,10 @@ IsToldOf e version document (Refused id code refusal) = ⊥
 IsToldOf e version document (Closed uri) = ⊥
 
 -- an open document of the same name goes, and the new one stands behind the others; where memory is refused, there is none
-abbrev pub IsOpened : Versioned → Change → ServerValue → ServerValue → Reply → Type 0
-IsOpened document text before after reply =
+abbrev pub IsOpened : Versioned → Content → Change → ServerValue → ServerValue → Reply → Type 0
+IsOpened document content text before after reply =
     let rest = without document.uri.name.items before.documents in
-    let new = sent before document.uri text in
+    let new = sent before document.uri content text in
     ((after ≡ with_documents (rest ++ new ∷ []) before) × IsToldOf before.encoding document.version new reply)
     ⊎ ((after ≡ with_documents rest before) × (reply ≡ Logged Memory))
 
@@ -156,7 +158,7 @@ LeavesOrPasses clean call.Exit before after reply = Leaves clean before after re
 LeavesOrPasses clean asked before after reply = Passes before after reply
 
 abbrev pub FollowsReady : Call → ServerValue → ServerValue → Reply → Type 0
-FollowsReady (call.Open document text) before after reply = IsOpened document text before after reply
+FollowsReady (call.Open document content text) before after reply = IsOpened document content text before after reply
 FollowsReady (call.Change document changes) before after reply = IsChanged document changes.items before after reply
 FollowsReady (call.Close uri) before after reply = IsClosed uri before after reply
 FollowsReady asked before after reply = LeavesOrPasses false asked before after reply

@@ -2,15 +2,18 @@
 -- Notification"). Ids, versions and the names of documents are spelt as the client spelt them.
 use Rattle.std.specs.Prelude.{◌≡◌, ℕ, List, [], ◌∷◌, ◌++◌, Bool, false, true, Option, None, Some, Vec, codes, decimal}
 use Rattle.std.specs.Global.{Global}
-use Rattle.std.specs.List.{concat}
+use Rattle.std.specs.List.{concat, flat_map}
 use Rattle.jx_edit.specs.declared.position.Position.{Position}
+use Rattle.jx_ndjson.specs.declared.judged_line.LineVerdict.{LineVerdict}
+use Rattle.jx_ndjson.specs.declared.judged_line.LineVerdict.TheVariants as on_line
 use Rattle.jx_run.specs.declared.texts.verdict.Refusal.{Refusal}
 use Rattle.jx_run.specs.declared.texts.verdict.Refusal.TheVariants.{Stopped, Truncated, TooDeep, RepeatedName}
+use Rattle.jx_serve.specs.declared.line_mark.LineMark.{LineMark}
 use Rattle.jx_serve.specs.declared.mark.Mark.{Mark}
 use Rattle.jx_serve.specs.declared.reply.Code.{Code}
 use Rattle.jx_serve.specs.declared.reply.Code.TheVariants as wrong
 use Rattle.jx_serve.specs.declared.reply.Reply.{Reply}
-use Rattle.jx_serve.specs.declared.reply.Reply.TheVariants.{Nothing, Initialized, Null, Hovered, Outlined, Folded, Selected, Refused, Published, Closed, Logged}
+use Rattle.jx_serve.specs.declared.reply.Reply.TheVariants.{Nothing, Initialized, Null, Hovered, Outlined, Folded, Selected, Refused, Published, PublishedLines, Closed, Logged}
 use Rattle.jx_serve.specs.declared.reply.Trouble.{Trouble}
 use Rattle.jx_serve.specs.declared.reply.Trouble.TheVariants as trouble
 
@@ -61,7 +64,7 @@ abbrev pub initialized : List ℕ → Bool → List ℕ
 initialized id utf8 = concat (
     codes "{\"jsonrpc\":\"2.0\",\"id\":" ∷ id ∷ codes ",\"result\":{\"capabilities\":{" ∷ encoding_member utf8
     ∷ codes "\"textDocumentSync\":{\"openClose\":true,\"change\":2},\"hoverProvider\":true,\"documentSymbolProvider\":true,\"foldingRangeProvider\":true,\"selectionRangeProvider\":true},"
-    ∷ codes "\"serverInfo\":{\"name\":\"jx-lsp\",\"version\":\"" ∷ codes "0.2.0" ∷ codes "\"}}}" ∷ []
+    ∷ codes "\"serverInfo\":{\"name\":\"jx-lsp\",\"version\":\"" ∷ codes "0.3.0" ∷ codes "\"}}}" ∷ []
     )
 
 abbrev pub null_of : List ℕ → List ℕ
@@ -97,25 +100,59 @@ words_of_place Truncated = []
 words_of_place (TooDeep at) = codes " (byte " ++ decimal at ++ codes ")"
 words_of_place (RepeatedName at) = codes " (byte " ++ decimal at ++ codes ")"
 
+-- a range, the word for what is wrong there, its sentence, and the place that stands behind it
+abbrev pub told_at : Position → Position → List ℕ → List ℕ → List ℕ → List ℕ
+told_at start end word sentence place =
+    codes "{" ++ range start end ++ concat (codes ",\"severity\":1,\"code\":\"" ∷ word ∷ codes "\",\"source\":\"jx\",\"message\":\"" ∷ [])
+    ++ sentence ++ place ++ codes "\"}"
+
 abbrev pub diagnostic : Mark → List ℕ
-diagnostic mark =
-    codes "{" ++ range mark.start mark.end
-    ++ concat (codes ",\"severity\":1,\"code\":\"" ∷ word_of_refusal mark.refusal ∷ codes "\",\"source\":\"jx\",\"message\":\"" ∷ [])
-    ++ mark.sentence.items ++ words_of_place mark.refusal ++ codes "\"}"
+diagnostic mark = told_at mark.start mark.end (word_of_refusal mark.refusal) mark.sentence.items (words_of_place mark.refusal)
 
 -- none where the text is accepted
 abbrev pub diagnostics : Option Mark → List ℕ
 diagnostics None = []
 diagnostics (Some mark) = diagnostic mark
 
+-- what `jx lines` prints of a line
+abbrev pub word_of_line : LineVerdict → List ℕ
+word_of_line on_line.Accepted = codes "accepted"
+word_of_line (on_line.Refused refusal) = word_of_refusal refusal
+word_of_line on_line.MayBeCut = codes "may be cut"
+word_of_line on_line.Blank = codes "blank"
+
+abbrev pub words_of_line_place : LineVerdict → List ℕ
+words_of_line_place on_line.Accepted = []
+words_of_line_place (on_line.Refused refusal) = words_of_place refusal
+words_of_line_place on_line.MayBeCut = []
+words_of_line_place on_line.Blank = []
+
+abbrev pub line_diagnostic : LineMark → List ℕ
+line_diagnostic mark = told_at mark.start mark.end (word_of_line mark.line.verdict) mark.sentence.items (words_of_line_place mark.line.verdict)
+
+abbrev pub next_diagnostic : LineMark → List ℕ
+next_diagnostic mark = codes "," ++ line_diagnostic mark
+
+-- one for each, in order
+abbrev pub line_diagnostics : List LineMark → List ℕ
+line_diagnostics [] = []
+line_diagnostics (mark ∷ marks) = line_diagnostic mark ++ flat_map next_diagnostic marks
+
 abbrev pub version_member : Option (Vec ℕ Global) → List ℕ
 version_member None = []
 version_member (Some version) = concat (codes ",\"version\":" ∷ version.items ∷ [])
 
-abbrev pub published : List ℕ → Option (Vec ℕ Global) → Option Mark → List ℕ
-published uri version mark =
+-- the message up to the first diagnostic
+abbrev pub opening : List ℕ → Option (Vec ℕ Global) → List ℕ
+opening uri version =
     concat (codes "{\"jsonrpc\":\"2.0\",\"method\":\"textDocument/publishDiagnostics\",\"params\":{\"uri\":" ∷ uri ∷ []) ++ version_member version
-    ++ codes ",\"diagnostics\":[" ++ diagnostics mark ++ codes "]}}"
+    ++ codes ",\"diagnostics\":["
+
+abbrev pub published : List ℕ → Option (Vec ℕ Global) → Option Mark → List ℕ
+published uri version mark = opening uri version ++ diagnostics mark ++ codes "]}}"
+
+abbrev pub published_lines : List ℕ → Option (Vec ℕ Global) → List LineMark → List ℕ
+published_lines uri version marks = opening uri version ++ line_diagnostics marks ++ codes "]}}"
 
 abbrev pub logged : Trouble → List ℕ
 logged why = codes "{\"jsonrpc\":\"2.0\",\"method\":\"window/logMessage\",\"params\":{\"type\":2,\"message\":\"" ++ words_of_trouble why ++ codes "\"}}"
@@ -133,5 +170,6 @@ IsMessageOf (Folded id outline) message = Unit {0}
 IsMessageOf (Selected id selections) message = Unit {0}
 IsMessageOf (Refused id code refusal) message = message ≡ refused id code refusal
 IsMessageOf (Published uri version mark) message = message ≡ published uri.items version mark
+IsMessageOf (PublishedLines uri version marks) message = message ≡ published_lines uri.items version marks.items
 IsMessageOf (Closed uri) message = message ≡ published uri.items None None
 IsMessageOf (Logged why) message = message ≡ logged why

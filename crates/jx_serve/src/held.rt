@@ -3,6 +3,7 @@ ghost use Rattle.std.specs.Prelude.{◌≡◌, ◌≤◌, ◌<◌, length, not, 
 ghost use Rattle.jx_edit.specs.declared.encoding.Encoding.{Encoding};
 ghost use Rattle.jx_index.specs.ByNames.{IsVerdictBy};
 ghost use Rattle.jx_serve.specs.Changes.{changed, held, lose, position, replaced};
+ghost use Rattle.jx_serve.specs.LineMarks.{AreLineMarks};
 ghost use Rattle.jx_serve.specs.Marks.{told, IsPlaced};
 ghost use Rattle.jx_serve.specs.Values.{any_names, IsHovered, IsOutline, IsOutlined};
 ghost use Rattle.jx_serve.specs.Selections.{AreSelected, AreSelections};
@@ -11,6 +12,7 @@ ghost use Rattle.jx_serve.specs.inside.Names.{IsHeld};
 ghost use Rattle.jx_edit.specs.Positions.{offset_at};
 
 use crate::hover::Hover;
+use crate::line_mark::{LineMark, line_marks_of};
 use crate::mark::{Mark, mark_of};
 use crate::selections::{Selection, selections_of};
 use crate::symbols::{Outline, symbols_of};
@@ -357,6 +359,19 @@ impl Held {
                 Ok(Some(verdict))
             }
         }
+    }
+
+    /// The lines that are no texts, as JSON Lines has them, and how they are shown; none where the bytes are lost. Names may be
+    /// repeated, whatever the settings say. All bytes are read.
+    pub fn line_marks(&self, encoding: Encoding) -> Result<Option<Vec<LineMark>>, AllocError>
+        ensures lost { IfOk result (λ marks. is_some marks ≡ not self.now.lost) }
+        ensures marks { IfOk result (λ marks. IfSome marks (λ marks. AreLineMarks encoding self.now.settings self.now.bytes marks.items)) }
+    {
+        if self.lost {
+            return Ok(None);
+        }
+        let marks = line_marks_of(self.alloc, &self.document, &self.settings, encoding)?;
+        Ok(Some(marks))
     }
 }
 

@@ -4,6 +4,9 @@
 mod fold_words;
 mod held;
 mod hover;
+mod line_mark;
+mod line_sentence;
+mod line_words;
 mod mark;
 mod nested_words;
 mod pointer_to;
@@ -21,6 +24,7 @@ mod value_words;
 
 pub use held::Held;
 pub use hover::Hover;
+pub use line_mark::LineMark;
 pub use mark::{Mark, mark_of};
 pub use reply::{Code, Reply, Trouble};
 pub use reply_words::{ReplyFault, message_of};

@@ -44,7 +44,7 @@ fn length_by(first: u8) -> usize
 
 /// Where the character begins that the byte at an offset is of. It is the byte itself where no character has it: an edit may cut
 /// one.
-fn character_start(document: &Document, offset: usize) -> usize
+pub(crate) fn character_start(document: &Document, offset: usize) -> usize
     ensures before { result ≤ offset }
     ensures near { offset ≤ result + 3 }
 {
@@ -68,7 +68,7 @@ fn character_start(document: &Document, offset: usize) -> usize
 }
 
 /// Where a character ends that begins at an offset, as far as its bytes are there.
-fn character_end(document: &Document, start: usize) -> usize
+pub(crate) fn character_end(document: &Document, start: usize) -> usize
     ensures { result ≤ start + 4 }
 {
     let count = length_by(byte_at(document, start));

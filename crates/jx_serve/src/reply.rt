@@ -1,5 +1,6 @@
 // What the server tells the client.
 use crate::hover::Hover;
+use crate::line_mark::LineMark;
 use crate::mark::Mark;
 use crate::selections::Selection;
 use crate::symbols::Outline;
@@ -81,6 +82,12 @@ pub enum Reply {
         uri: Vec<u8>,
         version: Option<Vec<u8>>,
         mark: Option<Mark>,
+    },
+    /// The lines of a document of this version that are no texts. Where each is one there is no mark.
+    PublishedLines {
+        uri: Vec<u8>,
+        version: Option<Vec<u8>>,
+        marks: Vec<LineMark>,
     },
     /// That a document is closed: its mark is taken away.
     Closed {

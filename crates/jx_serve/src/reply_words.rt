@@ -3,13 +3,15 @@ ghost use Rattle.std.specs.Prelude.{◌≡◌, ◌++◌, [], IfOk, OnOk, string_
 ghost use Rattle.jx_index.specs.ByNames.{IsVerdictBy};
 ghost use Rattle.jx_run.specs.declared.texts.verdict.Verdict.TheVariants.{Accepted};
 ghost use Rattle.jx_serve.specs.Messages.{message_settings};
-ghost use Rattle.jx_serve.specs.Words.{diagnostic, initialized, logged, null_of, number_of_code, published, refused, word_of_refusal, words_of_code, words_of_id, words_of_place, words_of_refusal, words_of_trouble, IsMessageOf};
+ghost use Rattle.jx_serve.specs.Words.{diagnostic, initialized, logged, null_of, number_of_code, opening, published, refused, told_at, word_of_refusal, words_of_code, words_of_id, words_of_place, words_of_refusal, words_of_trouble, IsMessageOf};
 
 use crate::fold_words::add_folded;
+use crate::line_words::add_published_lines;
 use crate::mark::Mark;
 use crate::nested_words::add_nested;
 use crate::reply::{Code, Reply, Trouble};
 use crate::selection_words::add_selected;
+use crate::selections::Extent;
 use crate::value_words::{add_all, add_hovered, add_outlined, add_range};
 use jx_index::verdict_with_unique_names;
 use jx_lex::Depth;
@@ -35,7 +37,7 @@ impl From<AllocError> for ReplyFault {
 }
 
 /// The version of the program.
-pub const VERSION: &str = "0.2.0";
+pub const VERSION: &str = "0.3.0";
 
 fn number_of_code(code: Code) -> &'static str
     ensures { result.now ≡ number_of_code code }
@@ -75,7 +77,7 @@ fn words_of_trouble(trouble: Trouble) -> &'static str
 }
 
 /// The word for a refusal.
-fn code_of_refusal(refusal: Refusal) -> &'static str
+pub(crate) fn code_of_refusal(refusal: Refusal) -> &'static str
     ensures { result.now ≡ word_of_refusal refusal }
 {
     match refusal {
@@ -100,7 +102,7 @@ fn words_of_refusal(alloc: Global, refusal: Refusal) -> Result<String, AllocErro
 }
 
 /// The offset of a refusal, behind its sentence.
-fn words_of_place(alloc: Global, refusal: Refusal) -> Result<String, AllocError>
+pub(crate) fn words_of_place(alloc: Global, refusal: Refusal) -> Result<String, AllocError>
     ensures { IfOk result (λ words. string_bytes words ≡ words_of_place refusal) }
 {
     match refusal {
@@ -181,33 +183,51 @@ fn add_refused(
     out.extend_from_slice(b"}}")
 }
 
-fn add_mark(alloc: Global, out: &mut Vec<u8>, mark: &Mark) -> Result<(), AllocError>
-    ensures { OnOk result (out.new.items ≡ out.old.items ++ diagnostic mark.now) }
+/// Adds a diagnostic: a range, the word for what is wrong there, its sentence, and the place behind it.
+pub(crate) fn add_told(
+    alloc: Global,
+    out: &mut Vec<u8>,
+    extent: Extent,
+    word: &str,
+    sentence: &[u8],
+    place: &str,
+) -> Result<(), AllocError>
+    ensures { OnOk result (out.new.items ≡ out.old.items ++ told_at extent.start extent.end word.now sentence.now place.now) }
 {
     out.extend_from_slice(b"{")?;
-    add_range(alloc, out, mark.start, mark.end)?;
+    add_range(alloc, out, extent.start, extent.end)?;
     add_all(
         out,
         &[
             b",\"severity\":1,\"code\":\"",
-            code_of_refusal(mark.refusal).as_bytes(),
+            word.as_bytes(),
             b"\",\"source\":\"jx\",\"message\":\"",
         ],
     )?;
-    out.extend_from_slice(&mark.sentence)?;
-    let place = words_of_place(alloc, mark.refusal)?;
+    out.extend_from_slice(sentence)?;
     out.extend_from_slice(place.as_bytes())?;
     out.extend_from_slice(b"\"}")
 }
 
-fn add_published(
-    alloc: Global,
+fn add_mark(alloc: Global, out: &mut Vec<u8>, mark: &Mark) -> Result<(), AllocError>
+    ensures { OnOk result (out.new.items ≡ out.old.items ++ diagnostic mark.now) }
+{
+    let extent = Extent {
+        start: mark.start,
+        end: mark.end,
+    };
+    let word = code_of_refusal(mark.refusal);
+    let place = words_of_place(alloc, mark.refusal)?;
+    add_told(alloc, out, extent, word, &mark.sentence, place.as_str())
+}
+
+/// Adds the message that publishes diagnostics, up to the first of them.
+pub(crate) fn add_opening(
     out: &mut Vec<u8>,
     uri: &[u8],
     version: &Option<Vec<u8>>,
-    mark: &Option<Mark>,
 ) -> Result<(), AllocError>
-    ensures { OnOk result (out.new.items ≡ out.old.items ++ published uri.now version.now mark.now) }
+    ensures { OnOk result (out.new.items ≡ out.old.items ++ opening uri.now version.now) }
 {
     add_all(
         out,
@@ -219,7 +239,19 @@ fn add_published(
     if let Some(version) = version {
         add_all(out, &[b",\"version\":", version])?;
     }
-    out.extend_from_slice(b",\"diagnostics\":[")?;
+    out.extend_from_slice(b",\"diagnostics\":[")
+}
+
+fn add_published(
+    alloc: Global,
+    out: &mut Vec<u8>,
+    uri: &[u8],
+    version: &Option<Vec<u8>>,
+    mark: &Option<Mark>,
+) -> Result<(), AllocError>
+    ensures { OnOk result (out.new.items ≡ out.old.items ++ published uri.now version.now mark.now) }
+{
+    add_opening(out, uri, version)?;
     if let Some(mark) = mark {
         add_mark(alloc, out, mark)?;
     }
@@ -264,6 +296,11 @@ fn add_reply(alloc: Global, out: &mut Vec<u8>, reply: &Reply) -> Result<(), Allo
         Reply::Selected { id, selections } => add_selected(alloc, out, id, selections),
         Reply::Refused { id, code, refusal } => add_refused(alloc, out, id, *code, *refusal),
         Reply::Published { uri, version, mark } => add_published(alloc, out, uri, version, mark),
+        Reply::PublishedLines {
+            uri,
+            version,
+            marks,
+        } => add_published_lines(alloc, out, uri, version, marks),
         Reply::Closed { uri } => add_published(alloc, out, uri, &None, &None),
         Reply::Logged { trouble } => add_logged(out, *trouble),
     }

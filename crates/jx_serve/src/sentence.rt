@@ -16,7 +16,11 @@ const CHARACTER: usize = 4;
 const NEAR: usize = 65536;
 
 /// A copy of the bytes from one offset up to another, as far as there are so many.
-fn bytes_between(document: &Document, start: usize, end: usize) -> Result<Vec<u8>, AllocError> {
+pub(crate) fn bytes_between(
+    document: &Document,
+    start: usize,
+    end: usize,
+) -> Result<Vec<u8>, AllocError> {
     let end = end.min(document.len());
     match document.copy(start.min(end), end) {
         Ok(bytes) => Ok(bytes),
@@ -77,6 +81,13 @@ fn push_name(
     push_sentence(alloc, out, &text, refusal, settings)
 }
 
+/// A sentence as it is spelt in a string, without the quotation marks.
+pub(crate) fn inside_quotes(alloc: Global, sentence: &String) -> Result<Vec<u8>, AllocError> {
+    let spelt = quoted(alloc, sentence.as_bytes())?;
+    let inside = spelt.get(1..spelt.len().saturating_sub(1)).unwrap_or(&[]);
+    Vec::from_slice(alloc, inside)
+}
+
 /// What is wrong with a document that settings refuse, in a sentence, as it is spelt in a string. Behind a verdict of the document
 /// a few bytes are read, and all bytes where a name is repeated.
 pub(crate) fn sentence_on(
@@ -97,7 +108,5 @@ pub(crate) fn sentence_on(
         Refusal::TooDeep { .. } => push_too_deep(&mut out, settings.depth)?,
         Refusal::RepeatedName { .. } => push_name(alloc, &mut out, document, settings, refusal)?,
     }
-    let spelt = quoted(alloc, out.as_bytes())?;
-    let inside = spelt.get(1..spelt.len().saturating_sub(1)).unwrap_or(&[]);
-    Vec::from_slice(alloc, inside)
+    inside_quotes(alloc, &out)
 }

@@ -1,5 +1,6 @@
 ghost use Rattle.std.specs.Prelude.{◌≡◌, ◌<◌, ◌++◌, ◌∷◌, [], ℕ, Option, Some, None, IfSome, OnOk, OnErr, Vec, false, length, map, slice_get};
 ghost use Rattle.std.specs.Global.{Global};
+ghost use Rattle.jx_edit.specs.declared.encoding.Encoding.{Encoding};
 ghost use Rattle.jx_index.specs.ByNames.{IsVerdictBy};
 ghost use Rattle.jx_serve.specs.Served.{all_lost, AreMade, AreAround, AreAroundIn, AreFolds, AreFoldsIn, AreMadeAt, AreSymbols, HasVersion, IsHover, IsHoverIn, IsOutlineIn, lost_open, number_named, IsAnswer, IsQuiet, OpenValue, TellsOf, TellsVerdict};
 ghost use Rattle.jx_serve.specs.Steps.{sent, settings_asked, start, with_documents, without, AnswersIn, AnswersNew, FollowsIn, IsChanged, IsClosed, IsOpened, IsToldOf, Leaves, Steps};
@@ -9,7 +10,7 @@ use crate::reply::{Code, Reply, Trouble};
 use jx_edit::Encoding;
 use jx_lex::Depth;
 use jx_run::{FrontMark, NameRule, Settings, Verdict};
-use jx_wire::{Call, Change, Offer, Place, Request, Uri, Versioned};
+use jx_wire::{Call, Change, Content, Offer, Place, Request, Uri, Versioned};
 use std::alloc::{AllocError, Global};
 use std::marker::Model;
 
@@ -29,6 +30,7 @@ pub enum Phase {
 #[derive(Drop)]
 pub struct Open {
     uri: Uri,
+    content: Content,
     held: Held,
 }
 
@@ -37,15 +39,35 @@ impl Model for Open {
 
     ghost Value = { OpenValue };
 
-    ghost view = { λ o. record { name = o.uri.name.items; spelt = o.uri.spelt.items; held = o.held } };
+    ghost view = { λ o. record { name = o.uri.name.items; spelt = o.uri.spelt.items; content = o.content; held = o.held } };
 }
 
 impl Open {
-    /// The verdict on the document.
+    /// The verdict on the document, or on its lines.
     fn published(&mut self, alloc: Global, encoding: Encoding, version: Option<Vec<u8>>) -> Reply
         ensures same { self.new ≡ self.old }
         ensures answers { IsAnswer None result }
-        ensures tells { TellsOf self.new result }
+        ensures tells { TellsOf encoding self.new result }
+        ensures version { HasVersion version result }
+        ensures told { IsToldOf encoding version self.old result }
+    {
+        match self.content {
+            Content::Text => self.published_text(alloc, encoding, version),
+            Content::Lines => self.published_lines(alloc, encoding, version),
+        }
+    }
+
+    /// The verdict on the document, which is one text.
+    fn published_text(
+        &mut self,
+        alloc: Global,
+        encoding: Encoding,
+        version: Option<Vec<u8>>,
+    ) -> Reply
+        requires text { self.old.content ≡ Content.Text }
+        ensures same { self.new ≡ self.old }
+        ensures answers { IsAnswer None result }
+        ensures tells { TellsOf encoding self.new result }
         ensures version { HasVersion version result }
         ensures told { IsToldOf encoding version self.old result }
     {
@@ -53,6 +75,28 @@ impl Open {
             Err(AllocError) => logged(Trouble::Memory),
             Ok(None) => logged(Trouble::Lost),
             Ok(Some(verdict)) => self.told(alloc, encoding, version, verdict),
+        }
+    }
+
+    /// The lines of the document that are no texts.
+    fn published_lines(&self, alloc: Global, encoding: Encoding, version: Option<Vec<u8>>) -> Reply
+        requires lines { self.now.content ≡ Content.Lines }
+        ensures answers { IsAnswer None result }
+        ensures tells { TellsOf encoding self.now result }
+        ensures version { HasVersion version result }
+        ensures told { IsToldOf encoding version self.now result }
+    {
+        let Ok(uri) = Vec::from_slice(alloc, &self.uri.spelt) else {
+            return logged(Trouble::Memory);
+        };
+        match self.held.line_marks(encoding) {
+            Err(AllocError) => logged(Trouble::Memory),
+            Ok(None) => logged(Trouble::Lost),
+            Ok(Some(marks)) => Reply::PublishedLines {
+                uri,
+                version,
+                marks,
+            },
         }
     }
 
@@ -65,9 +109,10 @@ impl Open {
         verdict: Verdict,
     ) -> Reply
         requires known { self.now.held.lost ≡ false }
+        requires text { self.now.content ≡ Content.Text }
         requires judged { IsVerdictBy self.now.held.settings self.now.held.bytes verdict }
         ensures answers { IsAnswer None result }
-        ensures tells { TellsOf self.now result }
+        ensures tells { TellsOf encoding self.now result }
         ensures version { HasVersion version result }
         ensures told { IsToldOf encoding version self.now result }
     {
@@ -95,10 +140,13 @@ impl Open {
         ensures quiet { IsQuiet result }
         ensures shows { IsHoverIn encoding place result self.now }
     {
-        match self.held.hover(place, encoding) {
-            Ok(Some(hover)) => Reply::Hovered { id, hover },
-            Ok(None) => Reply::Null { id },
-            Err(AllocError) => refused(id, Code::RequestFailed),
+        match self.content {
+            Content::Lines => Reply::Null { id },
+            Content::Text => match self.held.hover(place, encoding) {
+                Ok(Some(hover)) => Reply::Hovered { id, hover },
+                Ok(None) => Reply::Null { id },
+                Err(AllocError) => refused(id, Code::RequestFailed),
+            },
         }
     }
 
@@ -111,15 +159,18 @@ impl Open {
         let Ok(uri) = Vec::from_slice(alloc, &self.uri.spelt) else {
             return refused(id, Code::RequestFailed);
         };
-        match self.held.symbols(encoding) {
-            Ok(Some(outline)) => Reply::Outlined {
-                id,
-                uri,
-                nested,
-                outline,
+        match self.content {
+            Content::Lines => Reply::Null { id },
+            Content::Text => match self.held.symbols(encoding) {
+                Ok(Some(outline)) => Reply::Outlined {
+                    id,
+                    uri,
+                    nested,
+                    outline,
+                },
+                Ok(None) => Reply::Null { id },
+                Err(AllocError) => refused(id, Code::RequestFailed),
             },
-            Ok(None) => Reply::Null { id },
-            Err(AllocError) => refused(id, Code::RequestFailed),
         }
     }
 }
@@ -131,10 +182,13 @@ impl Open {
         ensures quiet { IsQuiet result }
         ensures shows { AreFoldsIn encoding result self.now }
     {
-        match self.held.symbols(encoding) {
-            Ok(Some(outline)) => Reply::Folded { id, outline },
-            Ok(None) => Reply::Null { id },
-            Err(AllocError) => refused(id, Code::RequestFailed),
+        match self.content {
+            Content::Lines => Reply::Null { id },
+            Content::Text => match self.held.symbols(encoding) {
+                Ok(Some(outline)) => Reply::Folded { id, outline },
+                Ok(None) => Reply::Null { id },
+                Err(AllocError) => refused(id, Code::RequestFailed),
+            },
         }
     }
 
@@ -144,10 +198,13 @@ impl Open {
         ensures quiet { IsQuiet result }
         ensures shows { AreAroundIn encoding places.now result self.now }
     {
-        match self.held.selections(places, encoding) {
-            Ok(Some(selections)) => Reply::Selected { id, selections },
-            Ok(None) => Reply::Null { id },
-            Err(AllocError) => refused(id, Code::RequestFailed),
+        match self.content {
+            Content::Lines => Reply::Null { id },
+            Content::Text => match self.held.selections(places, encoding) {
+                Ok(Some(selections)) => Reply::Selected { id, selections },
+                Ok(None) => Reply::Null { id },
+                Err(AllocError) => refused(id, Code::RequestFailed),
+            },
         }
     }
 }
@@ -273,8 +330,8 @@ impl Server {
         }
     }
 
-    /// Answers with the innermost value at a place of a document, with its pointer. Null where the document is not open, its
-    /// bytes are lost, or no value stands there before the fault.
+    /// Answers with the innermost value at a place of a document, with its pointer. Null where the document is not open or is
+    /// JSON Lines, its bytes are lost, or no value stands there before the fault.
     pub fn hover(&self, id: Vec<u8>, uri: &Uri, place: Place) -> Reply
         ensures answers { IsAnswer (Some id) result }
         ensures quiet { IsQuiet result }
@@ -286,8 +343,8 @@ impl Server {
         }
     }
 
-    /// Answers with the first 10,000 values of a document that begin before the fault. Null where it is not open, or its bytes
-    /// are lost.
+    /// Answers with the first 10,000 values of a document that begin before the fault. Null where it is not open or is JSON
+    /// Lines, or its bytes are lost.
     pub fn symbols(&self, id: Vec<u8>, uri: &Uri) -> Reply
         ensures answers { IsAnswer (Some id) result }
         ensures quiet { IsQuiet result }
@@ -302,7 +359,7 @@ impl Server {
     }
 
     /// Answers with the first 10,000 values of a document that begin before the fault: those over several lines can be folded.
-    /// Null where it is not open, or its bytes are lost.
+    /// Null where it is not open or is JSON Lines, or its bytes are lost.
     pub fn folds(&self, id: Vec<u8>, uri: &Uri) -> Reply
         ensures answers { IsAnswer (Some id) result }
         ensures quiet { IsQuiet result }
@@ -314,8 +371,8 @@ impl Server {
         }
     }
 
-    /// Answers with what stands around each of some places of a document before the fault. Null where it is not open, or its bytes
-    /// are lost.
+    /// Answers with what stands around each of some places of a document before the fault. Null where it is not open or is JSON
+    /// Lines, or its bytes are lost.
     pub fn selections(&self, id: Vec<u8>, uri: &Uri, places: &[Place]) -> Reply
         ensures answers { IsAnswer (Some id) result }
         ensures quiet { IsQuiet result }
@@ -353,7 +410,14 @@ impl Server {
         ensures tells { TellsVerdict self.new result }
     {
         match (self.phase, call) {
-            (Phase::Ready, Call::Open { document, text }) => self.open(document, text),
+            (
+                Phase::Ready,
+                Call::Open {
+                    document,
+                    content,
+                    text,
+                },
+            ) => self.open(document, content, text),
             (Phase::Ready, Call::Change { document, changes }) => self.change(document, &changes),
             (Phase::Ready, Call::Close(uri)) => self.close(uri),
             (Phase::Ready, Call::Exit) => self.leave(false),
@@ -383,14 +447,14 @@ impl Server {
             .position(|open| open.uri.name.as_slice() == name)
     }
 
-    fn open(&mut self, document: Versioned, text: Change) -> Reply
-        ensures steps { IsOpened document text self.old self.new result }
+    fn open(&mut self, document: Versioned, content: Content, text: Change) -> Reply
+        ensures steps { IsOpened document content text self.old self.new result }
         ensures answers { IsAnswer None result }
         ensures tells { TellsVerdict self.new result }
     {
         let Versioned { uri, version } = document;
         self.forget(&uri.name);
-        match self.add(uri, &text) {
+        match self.add(uri, content, &text) {
             Ok(()) => {
                 let last = self.documents.len() - 1;
                 self.publish(last, version)
@@ -409,19 +473,19 @@ impl Server {
     }
 
     /// Adds a document behind those that are open.
-    fn add(&mut self, uri: Uri, text: &Change) -> Result<(), AllocError>
+    fn add(&mut self, uri: Uri, content: Content, text: &Change) -> Result<(), AllocError>
         ensures some { OnOk result (0 < length self.new.documents) }
-        ensures ok { OnOk result (self.new ≡ with_documents (self.old.documents ++ sent self.old uri text.now ∷ []) self.old) }
+        ensures ok { OnOk result (self.new ≡ with_documents (self.old.documents ++ sent self.old uri content text.now ∷ []) self.old) }
         ensures err { OnErr result (self.new ≡ self.old) }
     {
         let encoding = self.encoding;
         let mut held = Held::of(self.alloc, &[], self.settings)?;
         held.change(text, encoding)?;
-        self.documents.push(Open { uri, held })?;
+        self.documents.push(Open { uri, content, held })?;
         Ok(())
     }
 
-    /// Follows the changes of a document, and publishes the verdict behind them.
+    /// Follows the changes of a document, and publishes the verdict behind them, or that on its lines.
     pub fn change(&mut self, document: Versioned, changes: &[Change]) -> Reply
         ensures answers { IsAnswer None result }
         ensures tells { TellsVerdict self.new result }
@@ -463,7 +527,7 @@ impl Server {
         }
     }
 
-    /// Publishes the verdict on a document.
+    /// Publishes the verdict on a document, or on its lines.
     fn publish(&mut self, number: usize, version: Option<Vec<u8>>) -> Reply
         requires { number < length self.old.documents }
         ensures same { self.new ≡ self.old }
@@ -492,7 +556,7 @@ fn logged(trouble: Trouble) -> Reply
     ensures same { result ≡ Reply.Logged trouble }
     ensures answers { IsAnswer None result }
     ensures quiet { IsQuiet result }
-    ensures of_none { (document : OpenValue) → TellsOf document result }
+    ensures of_none { (encoding : Encoding) (document : OpenValue) → TellsOf encoding document result }
     ensures of_any { (version : Option (Vec ℕ Global)) → HasVersion version result }
 {
     Reply::Logged { trouble }

@@ -1,7 +1,15 @@
+pub mod Chunkings
+pub mod Comings
 pub mod Elements
+pub mod Endings
 pub mod Holdings
+pub mod Moved
 pub mod Moves
+pub mod Overs
 pub mod Paired
 pub mod Pairings
 pub mod Passings
+pub mod Pieces
+pub mod Standing
 pub mod Sums
+pub mod Walks

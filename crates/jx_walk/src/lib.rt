@@ -1,6 +1,12 @@
-//! What a look-up of JSON Pointers (RFC 6901) need not read of a text of which an index is saved: a law, and no look-up yet.
+//! The look-up of JSON Pointers (RFC 6901) in a text of which an index is saved, from chunks of it.
 #![tactic(auto)]
 
+mod chunks;
 mod laws;
+mod passing;
+mod reaching;
+mod reading;
+mod walk;
 
 pub use laws::parts_are_passed;
+pub use walk::{Walk, WalkFault};

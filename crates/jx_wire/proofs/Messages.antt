@@ -13,7 +13,7 @@ pub open_parts : (at : Values) (c : Call) → TellsOpen at c → (document : Ver
 open_parts at (call.Initialize offer) h = absurd h
 open_parts at call.Shutdown h = absurd h
 open_parts at call.Exit h = absurd h
-open_parts at (call.Open document text) h = (document, text, h.0, h.1)
+open_parts at (call.Open document what text) h = (document, text, h.0, h.2)
 open_parts at (call.Change document changes) h = absurd h
 open_parts at (call.Close uri) h = absurd h
 open_parts at (call.Hover uri place) h = absurd h
@@ -28,7 +28,7 @@ pub changed_document : (at : Values) (c : Call) → TellsChange at c → (docume
 changed_document at (call.Initialize offer) h = absurd h
 changed_document at call.Shutdown h = absurd h
 changed_document at call.Exit h = absurd h
-changed_document at (call.Open document text) h = absurd h
+changed_document at (call.Open document what text) h = absurd h
 changed_document at (call.Change document changes) h = (document, h.0)
 changed_document at (call.Close uri) h = absurd h
 changed_document at (call.Hover uri place) h = absurd h
@@ -43,7 +43,7 @@ pub closed_document : (at : Values) (c : Call) → TellsClose at c → (uri : Ur
 closed_document at (call.Initialize offer) h = absurd h
 closed_document at call.Shutdown h = absurd h
 closed_document at call.Exit h = absurd h
-closed_document at (call.Open document text) h = absurd h
+closed_document at (call.Open document what text) h = absurd h
 closed_document at (call.Change document changes) h = absurd h
 closed_document at (call.Close uri) h = (uri, h)
 closed_document at (call.Hover uri place) h = absurd h

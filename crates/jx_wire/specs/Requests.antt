@@ -1,6 +1,6 @@
 -- What the body of a message calls for, by the values to which pointers (RFC 6901) lead in its tree: JSON-RPC 2.0, section 4, and the
 -- Language Server Protocol 3.17.
-use Rattle.std.specs.Prelude.{◌≡◌, ◌≢◌, ◌≤◌, ℕ, ◌+◌, List, [], ◌∷◌, ◌++◌, Bool, true, false, Option, None, Some, Vec, codes, decimal, if◌then◌else◌}
+use Rattle.std.specs.Prelude.{◌≡◌, ◌≢◌, ◌≤◌, ◌||◌, ℕ, ◌+◌, ◌-◌, List, [], ◌∷◌, ◌++◌, Bool, true, false, Option, None, Some, Vec, codes, decimal, drop, if◌then◌else◌, length}
 use Rattle.std.specs.Global.{Global}
 use Rattle.std.specs.Str.{bytes_eq}
 use Rattle.jx_lex.specs.declared.kind.Kind.{Kind}
@@ -10,6 +10,8 @@ use Rattle.jx_wire.specs.declared.call.Call.{Call}
 use Rattle.jx_wire.specs.declared.call.Call.TheVariants as call
 use Rattle.jx_wire.specs.declared.call.Change.{Change}
 use Rattle.jx_wire.specs.declared.call.Change.TheVariants.{Whole, Range, Unknown}
+use Rattle.jx_wire.specs.declared.call.Content.{Content}
+use Rattle.jx_wire.specs.declared.call.Content.TheVariants as content
 use Rattle.jx_wire.specs.declared.call.Offer.{Offer}
 use Rattle.jx_wire.specs.declared.call.Place.{Place}
 use Rattle.jx_wire.specs.declared.call.Request.{Request}
@@ -74,6 +76,25 @@ pub record IsUri (at : Values) (uri : Uri) : Type 0 where
 pub record IsVersioned (at : Values) (document : Versioned) : Type 0 where
   pub uri : IsUri at document.uri
   pub version : number_spelt (at (codes "/params/textDocument/version")) ≡ items_in document.version
+
+-- a language of JSON Lines, as editors name it
+abbrev pub is_of_lines : List ℕ → Bool
+is_of_lines language = bytes_eq language (codes "jsonl") || bytes_eq language (codes "ndjson") || bytes_eq language (codes "jsonlines")
+
+-- a language that is missing, or no string, is none of them
+abbrev pub has_lines : Option (List ℕ) → Bool
+has_lines None = false
+has_lines (Some language) = is_of_lines language
+
+abbrev pub ends_in : List ℕ → List ℕ → Bool
+ends_in ending name = bytes_eq (drop (length name - length ending) name) ending
+
+-- what a document is by its language, and by the ending of its name, whatever its language is
+abbrev pub content_by : Option (List ℕ) → List ℕ → Content
+content_by language name = if has_lines language || ends_in (codes ".jsonl") name || ends_in (codes ".ndjson") name then content.Lines else content.Text
+
+abbrev pub HasContent : Values → Uri → Content → Type 0
+HasContent at uri what = content_by (text_in (at (codes "/params/textDocument/languageId"))) uri.name.items ≡ what
 
 -- the place that a pointer leads to
 pub record IsPlace (at : Values) (pointer : List ℕ) (place : Place) : Type 0 where
@@ -223,7 +244,8 @@ AsksFor at method.Other asked = asked ≡ call.Other
 -- ---- notifications
 
 abbrev pub TellsOpen : Values → Call → Type 0
-TellsOpen at (call.Open document text) = IsVersioned at document × IsWhole (at (codes "/params/textDocument/text")) text
+TellsOpen at (call.Open document what text) =
+    IsVersioned at document × HasContent at document.uri what × IsWhole (at (codes "/params/textDocument/text")) text
 TellsOpen at _ = ⊥
 
 abbrev pub TellsChange : Values → Call → Type 0

@@ -38,6 +38,15 @@ pub struct Versioned {
     pub version: Option<Vec<u8>>,
 }
 
+/// What a document is to be.
+#[derive(Clone, Copy, Debug, PartialEq, Eq)]
+pub enum Content {
+    /// One JSON text.
+    Text,
+    /// JSON Lines: each line a JSON text.
+    Lines,
+}
+
 /// What a client asks for with `initialize`.
 #[derive(Clone, Copy, Debug)]
 pub struct Offer {
@@ -61,6 +70,7 @@ pub enum Call {
     Exit,
     Open {
         document: Versioned,
+        content: Content,
         text: Change,
     },
     Change {

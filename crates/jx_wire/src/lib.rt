@@ -2,6 +2,7 @@
 #![tactic(auto)]
 
 mod call;
+mod content;
 mod field;
 mod frame_fault;
 mod frame_reader;
@@ -16,7 +17,7 @@ mod request;
 mod request_fault;
 mod writing;
 
-pub use call::{Call, Change, Offer, Place, Request, Uri, Versioned};
+pub use call::{Call, Change, Content, Offer, Place, Request, Uri, Versioned};
 pub use frame_fault::FrameFault;
 pub use frame_reader::{Fed, FrameReader, Part};
 pub use jx_string::{StringFault, unescaped};

@@ -9,6 +9,7 @@ ghost use Rattle.jx_wire.specs.declared.call.Place.{Place};
 ghost use Rattle.jx_wire.specs.declared.call.Uri.{Uri};
 
 use crate::call::{Call, Place, Request, Uri};
+use crate::content::content_of;
 use crate::message::Message;
 use crate::method::{Method, method_of};
 use crate::parameters::{
@@ -167,8 +168,13 @@ fn open_call(alloc: Global, message: &Message) -> Result<Call, ParameterFault>
     ensures wrong { IsErrOf result ParameterFault.Wrong → Says message.now (λ at. (call : Call) → TellsOpen at call → ⊥) }
 {
     let document = versioned_of(alloc, message)?;
+    let content = content_of(alloc, message, &document.uri)?;
     let text = whole_of(alloc, message.plain_at("/params/textDocument/text"))?;
-    Ok(Call::Open { document, text })
+    Ok(Call::Open {
+        document,
+        content,
+        text,
+    })
 }
 
 /// A document is changed.

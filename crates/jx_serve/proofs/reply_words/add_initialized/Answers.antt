@@ -14,7 +14,7 @@ returns c =
       | else-utf8 w ↦ ap (λ v. v.now) w.encoding-is ∙ sym (ap encoding_member w.if-utf8.false)
     ] in
     let version : List ℕ = c.as_bytes.result.now in
-    let version_is : version ≡ codes "0.2.0" = c.as_bytes.ensures.value in
+    let version_is : version ≡ codes "0.3.0" = c.as_bytes.ensures.value in
     let all : List ℕ → List ℕ → List ℕ = λ one two. o ++ concat (
     codes "{\"jsonrpc\":\"2.0\",\"id\":" ∷ c.args.id.now ∷ codes ",\"result\":{\"capabilities\":{" ∷ one
     ∷ codes "\"textDocumentSync\":{\"openClose\":true,\"change\":2},\"hoverProvider\":true,\"documentSymbolProvider\":true,\"foldingRangeProvider\":true,\"selectionRangeProvider\":true},"

@@ -1,32 +1,16 @@
-use Rattle.std.proofs.Common.{◌≡◌, ℕ, List, [], ◌∷◌, ◌++◌, ap, ◌∙◌, codes, refl}
-use Rattle.std.specs.List.{concat}
-use Rattle.jx_serve.specs.Words.{range, word_of_refusal, words_of_place}
-use Rattle.jx_serve.proofs.Grown.{grown, grown_last}
+use Rattle.std.proofs.Common.{◌++◌, ◌∙◌, ℕ, List, ap}
+use Rattle.jx_serve.specs.Words.{diagnostic, told_at, word_of_refusal}
+use Rattle.jx_serve.proofs.Grown.{same_by}
 use Rattle.jx_serve.proofs.reply_words.add_mark.Goals as goal
 
 pub returns : goal.returns
 returns c =
     let mark = c.args.mark.now in
     let o : List ℕ = c.args.out.now.items in
-    let n1 : List ℕ = c.extend_from_slice.new.self.items in
-    let n2 : List ℕ = c.add_range.new.out.items in
-    let n3 : List ℕ = c.add_all.new.out.items in
-    let n4 : List ℕ = c.extend_from_slice-2.new.self.items in
-    let n5 : List ℕ = c.extend_from_slice-3.new.self.items in
-    let n6 : List ℕ = c.extend_from_slice-4.new.self.items in
-    let a : List ℕ = codes "{" in
-    let b : List ℕ = range mark.start mark.end in
-    let words : List ℕ → List ℕ = λ word. concat (codes ",\"severity\":1,\"code\":\"" ∷ word ∷ codes "\",\"source\":\"jx\",\"message\":\"" ∷ []) in
-    let word : List ℕ = c.as_bytes.result.now in
-    let d : List ℕ = words (word_of_refusal mark.refusal) in
-    let e : List ℕ = mark.sentence.items in
-    let f : List ℕ = words_of_place mark.refusal in
-    let g : List ℕ = codes "\"}" in
-    let one : n1 ≡ o ++ a = c.in_ok-extend_from_slice.ensures.items in
-    let two : n2 ≡ o ++ (a ++ b) = grown o n1 n2 a b b one c.in_ok-add_range.ensures refl in
-    let word_is : word ≡ word_of_refusal mark.refusal = c.as_bytes.ensures.value ∙ c.code_of_refusal.ensures in
-    let three : n3 ≡ o ++ ((a ++ b) ++ d) = grown o n2 n3 (a ++ b) (words word) d two c.in_ok-add_all.ensures (ap words word_is) in
-    let four : n4 ≡ o ++ (((a ++ b) ++ d) ++ e) = grown o n3 n4 ((a ++ b) ++ d) c.deref.result.now e three c.in_ok-extend_from_slice-2.ensures.items c.deref.ensures.value in
-    let five : n5 ≡ o ++ ((((a ++ b) ++ d) ++ e) ++ f) =
-    grown o n4 n5 (((a ++ b) ++ d) ++ e) c.as_bytes-2.result.now f four c.in_ok-extend_from_slice-3.ensures.items (c.as_bytes-2.ensures.value ∙ c.in_ok-place.ensures) in
-    grown_last c.extend_from_slice-4.result o n5 n6 ((((a ++ b) ++ d) ++ e) ++ f) g g five c.extend_from_slice-4.ensures.items refl
+    let told : List ℕ → List ℕ → List ℕ → List ℕ = λ word sentence place. o ++ told_at mark.start mark.end word sentence place in
+    let word : List ℕ = c.code_of_refusal-word.result.now in
+    let sentence : List ℕ = c.deref.result.now in
+    let place : List ℕ = c.as_str.result.now in
+    same_by c.add_told.result c.add_told.new.out.items (told word sentence place) (o ++ diagnostic mark) c.add_told.ensures
+    (ap (λ (l : List ℕ). told l sentence place) c.code_of_refusal-word.ensures ∙ ap (λ (l : List ℕ). told (word_of_refusal mark.refusal) l place) c.deref.ensures.value
+    ∙ ap (λ (l : List ℕ). told (word_of_refusal mark.refusal) mark.sentence.items l) (c.as_str.ensures.value ∙ c.in_ok-place.ensures))

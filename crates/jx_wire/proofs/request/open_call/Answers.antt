@@ -18,4 +18,4 @@ returns-in_err-text-clause-wrong c = λ e tree is told h.
 
 pub returns-clause-ok : goal.returns-clause-ok
 returns-clause-ok c = λ tree is.
-    (c.in_ok-document.ensures.ok tree is, subst (λ (o : Option ValueIn). IsWhole o c.in_ok-text.text) (sym (c.plain_at.ensures.at refl tree is)) (c.in_ok-text.ensures.ok c.plain_at.ensures.spelt))
+    (c.in_ok-document.ensures.ok tree is, c.in_ok-content.ensures tree is, subst (λ (o : Option ValueIn). IsWhole o c.in_ok-text.text) (sym (c.plain_at.ensures.at refl tree is)) (c.in_ok-text.ensures.ok c.plain_at.ensures.spelt))

@@ -1,0 +1,127 @@
+-- Bits of words.
+use Rattle.std.proofs.Common.{◌≡◌, ◌≢◌, ℕ, zero, suc, ◌+◌, ◌-◌, ◌*◌, ◌/◌, ◌%◌, ◌^◌, ◌<◌, ◌≤◌, Bool, true, false, not, refl, sym, ap, ◌∙◌, ◌⊎◌, inl, inr, arith, w64, bit_and, bit_xor}
+use Rattle.std.specs.Prelude.{◌==◌, ◌&&◌}
+use Rattle.std.specs.Int.{bit_at, trailing_zeros}
+use Rattle.std.proofs.lemmas.Bool.{cases_lt}
+use Rattle.std.proofs.lemmas.Nat.{shr-shr}
+use Rattle.std.proofs.lemmas.Nat.Bits.{bit_at-trailing_zeros, bit_at_xor, bit_at-lt, bit_at_lowest, bit_at-suc, bit_at-zero, ones_shr, bit_at_ones}
+use Rattle.jx_lex.specs.inside.Bits.{bit}
+use Rattle.jx_lex.proofs.Bits.{bit-and, bit-xor, bit-up, no_difference_above}
+
+abbrev pub differ : Bool → Bool → Bool
+differ true b = not b
+differ false b = b
+
+-- a shift to the right
+pub bit-shr : (a k j : ℕ) → bit (a / 2 ^ k) j ≡ bit a (k + j)
+unfolding bit
+bit-shr a k j = ap (λ n. n % 2 == 1) (shr-shr a k j)
+
+odd_sum : (x y : ℕ) → x < 2 → y < 2 → ((x + y) % 2 == 1) ≡ differ (x == 1) (y == 1)
+odd_sum zero zero h k = refl
+odd_sum zero (suc zero) h k = refl
+odd_sum (suc zero) zero h k = refl
+odd_sum (suc zero) (suc zero) h k = refl
+odd_sum (suc (suc x)) y h k = absurd (omega arith)
+odd_sum zero (suc (suc y)) h k = absurd (omega arith)
+odd_sum (suc zero) (suc (suc y)) h k = absurd (omega arith)
+
+pub bit-differ : (a b k : ℕ) → bit (bit_xor a b) k ≡ differ (bit a k) (bit b k)
+unfolding bit
+bit-differ a b k = ap (λ n. n == 1) (bit_at_xor a b k) ∙ odd_sum (bit_at a k) (bit_at b k) (bit_at-lt a k) (bit_at-lt b k)
+
+-- the lowest n bits
+pub bit-low : (n k : ℕ) → n ≤ 64 → k < n → bit ((2 ^ 64 - 1) / 2 ^ (64 - n)) k ≡ true
+unfolding bit
+bit-low n k le lt =
+    let e : 64 - (64 - n) ≡ n = omega arith in
+    ap (λ m. bit_at m k == 1) (ones_shr 64 (64 - n) (omega arith) ∙ ap (λ m. 2 ^ m - 1) e) ∙ ap (λ m. m == 1) (bit_at_ones n k lt)
+
+-- one bit
+pub bit-one : (k : ℕ) → k < 64 → bit (1 * 2 ^ k % 2 ^ 64) k ≡ true
+unfolding bit
+bit-one k lt = let e : 0 + k ≡ k = omega arith in ap (bit (1 * 2 ^ k % 2 ^ 64)) (sym e) ∙ bit-up 1 k 0 (omega arith)
+
+-- the lowest set bit
+pub lowest_set : (w : ℕ) → 0 < w → w < 2 ^ 64
+    → (trailing_zeros w64 w < 64) × (bit w (trailing_zeros w64 w) ≡ true) × ((j : ℕ) → j < trailing_zeros w64 w → bit w j ≡ false)
+unfolding bit
+lowest_set w some fits =
+    let h = bit_at-trailing_zeros w64 w some fits in
+    (h.0, ap (λ n. n == 1) h.1, λ j lt. ap (λ n. n == 1) (h.2 j lt))
+
+both : (a b : Bool) → a ≡ b → a ≡ true → (a && b) ≡ true
+both a b e h = ap (λ x. x && b) h ∙ sym e ∙ h
+
+-- without its lowest bit a word has all its others
+pub only_lowest : (w m k j : ℕ) → suc m ≡ w → bit w k ≡ true → ((i : ℕ) → i < k → bit w i ≡ false) → bit w j ≡ true → bit (bit_and w m) j ≡ false → j ≡ k
+only_lowest w m k j e low none set cleared = by_order (cases_lt k j) (cases_lt j k)
+  where
+    by_order : (k < j) ⊎ (j ≤ k) → (j < k) ⊎ (k ≤ j) → j ≡ k
+    by_order (inl lt) o =
+        let same : bit w j ≡ bit m j = bit-xor w m j (no_difference_above w m k j e lt low) in
+        let clash : true ≡ false = sym (both (bit w j) (bit m j) same set) ∙ sym (bit-and w m j) ∙ cleared in
+        cc
+    by_order (inr le) (inl lt) = let clash : true ≡ false = sym set ∙ none j lt in cc
+    by_order (inr le) (inr ge) = omega arith
+
+pub and_true : (a : Bool) → (a && true) ≡ a
+and_true true = refl
+and_true false = refl
+
+pub low_kept : (a b k : ℕ) → bit (bit_and a b) k ≡ true → bit a k ≡ true
+low_kept a b k h = of_both (bit a k) (bit b k) (sym (bit-and a b k) ∙ h)
+  where
+    of_both : (x y : Bool) → (x && y) ≡ true → x ≡ true
+    of_both true y h = refl
+    of_both false y h = cc
+
+-- one less than a word has a zero where the word has its lowest one
+bit_below : (k w m : ℕ) → suc m ≡ w → bit_at w k ≡ 1 → ((j : ℕ) → j < k → bit_at w j ≡ 0) → bit_at m k ≡ 0
+bit_below zero w m e set none = let odd = sym (bit_at_lowest w) ∙ set in bit_at_lowest m ∙ omega (arith, odd)
+bit_below (suc k) w m e set none =
+    let even = sym (bit_at_lowest w) ∙ none 0 (omega arith) in
+    let half : bit_at (w / 2) k ≡ 1 = sym (bit_at-suc w k) ∙ set in
+    let more = some (w / 2) half in
+    bit_at-suc m k ∙ bit_below k (w / 2) (m / 2) (omega (arith, even, more)) half (λ j lt. sym (bit_at-suc w j) ∙ none (suc j) (omega arith))
+  where
+    some : (n : ℕ) → bit_at n k ≡ 1 → 0 < n
+    some zero h = let none = bit_at-zero k in absurd (omega (arith, none))
+    some (suc n) h = omega arith
+
+-- a word and what is left of it without its lowest bit
+pub record Cleared (w v k : ℕ) : Type 0 where
+  pub none : (j : ℕ) → j < k → bit w j ≡ false
+  pub set : bit w k ≡ true
+  pub here : bit v k ≡ false
+  pub others : (j : ℕ) → j ≢ k → bit v j ≡ bit w j
+
+and_same : (a b : Bool) → a ≡ b → (a && b) ≡ a
+and_same true b e = sym e
+and_same false b e = refl
+
+pub cleared : (w : ℕ) → 0 < w → w < 2 ^ 64 → Cleared w (bit_and w (w - 1)) (trailing_zeros w64 w)
+unfolding bit
+cleared w some fits =
+    let low = bit_at-trailing_zeros w64 w some fits in
+    let set = lowest_set w some fits in
+    let e : suc (w - 1) ≡ w = omega arith in
+    record {
+      none = set.2;
+      set = set.1;
+      here =
+          bit-and w (w - 1) (trailing_zeros w64 w) ∙ ap (λ t. bit w (trailing_zeros w64 w) && t) (ap (λ n. n == 1) (bit_below (trailing_zeros w64 w) w (w - 1) e low.1 low.2))
+          ∙ and_none (bit w (trailing_zeros w64 w));
+      others = λ j apart. bit-and w (w - 1) j ∙ by_order j (cases_lt j (trailing_zeros w64 w)) (cases_lt (trailing_zeros w64 w) j) apart;
+    }
+  where
+    and_none : (a : Bool) → (a && false) ≡ false
+    and_none true = refl
+    and_none false = refl
+
+    by_order : (j : ℕ) → (j < trailing_zeros w64 w) ⊎ (trailing_zeros w64 w ≤ j) → (trailing_zeros w64 w < j) ⊎ (j ≤ trailing_zeros w64 w) → j ≢ trailing_zeros w64 w → (bit w j && bit (w - 1) j) ≡ bit w j
+    by_order j (inl before) o apart = let none = (lowest_set w some fits).2 j before in ap (λ t. t && bit (w - 1) j) none ∙ sym none
+    by_order j (inr past) (inl after) apart =
+        let e : suc (w - 1) ≡ w = omega arith in
+        and_same (bit w j) (bit (w - 1) j) (bit-xor w (w - 1) j (no_difference_above w (w - 1) (trailing_zeros w64 w) j e after (lowest_set w some fits).1))
+    by_order j (inr past) (inr before) apart = absurd (apart (omega arith))

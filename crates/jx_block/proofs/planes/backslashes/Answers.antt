@@ -1,0 +1,12 @@
+use Rattle.std.proofs.Common.{◌∙◌, refl, arith}
+use Rattle.std.specs.Prelude.{◌==◌}
+use Rattle.std.proofs.lemmas.Simd.{zip2_splat}
+use Rattle.jx_lex.proofs.Lanes.{masked, lanes_mask}
+use Rattle.jx_block.proofs.planes.backslashes.Goals as goal
+
+pub returns : goal.returns
+returns c =
+    let v = c.args.block in
+    let long = c.fits-block.0 in
+    masked (zip2_splat _ v 64 0x5c long)
+    ∙ lanes_mask 64 (omega arith) _ (λ byte. byte == 0x5c) v long c.fits-block.1 refl

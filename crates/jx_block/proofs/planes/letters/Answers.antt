@@ -1,0 +1,19 @@
+use Rattle.std.proofs.Common.{◌∙◌, refl, bit_or, arith}
+use Rattle.jx_lex.specs.Uneventful.{is_escaped}
+use Rattle.std.proofs.lemmas.Simd.{zip2_splat, zip2_of_maps}
+use Rattle.jx_lex.proofs.Lanes.{masked, lanes_mask}
+use Rattle.jx_block.proofs.planes.letters.Goals as goal
+
+pub returns : goal.returns
+returns c =
+    let v = c.args.block in
+    let long = c.fits-block.0 in
+    masked (zip2_of_maps bit_or _ _ v
+    (zip2_of_maps bit_or _ _ v
+    (zip2_of_maps bit_or _ _ v
+    (zip2_of_maps bit_or _ _ v
+    (zip2_of_maps bit_or _ _ v
+    (zip2_of_maps bit_or _ _ v
+    (zip2_of_maps bit_or _ _ v
+    (zip2_splat _ v 64 0x22 long) (zip2_splat _ v 64 0x5c long)) (zip2_splat _ v 64 0x2f long)) (zip2_splat _ v 64 0x62 long)) (zip2_splat _ v 64 0x66 long)) (zip2_splat _ v 64 0x6e long)) (zip2_splat _ v 64 0x72 long)) (zip2_splat _ v 64 0x74 long))
+    ∙ lanes_mask 64 (omega arith) _ is_escaped v long c.fits-block.1 refl

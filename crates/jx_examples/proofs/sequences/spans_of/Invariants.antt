@@ -1,6 +1,0 @@
-use Rattle.std.proofs.Common.{◌≡◌, take}
-use Rattle.jx_examples.specs.Wholes.{accepted_spans}
-use Rattle.jx_examples.proofs.sequences.spans_of.Given as goal
-
-abbrev pub invariant-loop-element : goal.invariant-loop-element
-invariant-loop-element l = l.spans.items ≡ accepted_spans (take l.element-index l.elements)

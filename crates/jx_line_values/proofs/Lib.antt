@@ -1,0 +1,6 @@
+pub mod Adds
+pub mod Cuts
+pub mod Marks
+pub mod Spelt
+pub mod Verdicts
+pub mod Writes

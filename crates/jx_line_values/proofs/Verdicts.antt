@@ -1,0 +1,133 @@
+-- What is added for a line, by the verdict on its bytes and by what was found.
+use Rattle.std.proofs.Common.{◌≡◌, ℕ, suc, List, [], ◌∷◌, ◌++◌, length, map, Bool, true, false, refl, sym, ap, subst, ◌∙◌}
+use Rattle.std.specs.Prelude.{◌&&◌, not, Ok, Err, OnOk, Result, if◌then◌else◌, is_ok, flat_map, slice_range}
+use Rattle.std.specs.List.{AllZip}
+use Rattle.jx_run.specs.declared.texts.verdict.Refusal.{Refusal}
+use Rattle.jx_run.specs.declared.texts.verdict.Verdict.TheVariants as verdict
+use Rattle.jx_run.specs.Elements.{Part, part}
+use Rattle.jx_run.specs.Text.{IsDocument}
+use Rattle.jx_run.specs.Tree.{Tree}
+use Rattle.jx_run.specs.Unclosed.{ends_open}
+use Rattle.jx_run.specs.Verdict.{Judged, a_text}
+use Rattle.jx_run.proofs.OpenEnds.{element_shows}
+use Rattle.jx_run.proofs.ReaderSteps.{slice_all}
+use Rattle.jx_index.specs.declared.find_fault.FindFault.{FindFault}
+use Rattle.jx_index.specs.declared.finder.Found.{Found}
+use Rattle.jx_index.specs.Found.{FindsIn, found_of}
+use Rattle.jx_index.specs.Leads.{led}
+use Rattle.jx_index.specs.Pointers.{tokens}
+use Rattle.jx_ndjson.specs.declared.judged_line.LineVerdict.{LineVerdict}
+use Rattle.jx_ndjson.specs.declared.judged_line.LineVerdict.TheVariants.{Accepted, Refused, MayBeCut, Blank}
+use Rattle.jx_ndjson.specs.Answers.{IsCut, are_blanks}
+use Rattle.jx_ndjson.specs.Lines.{line}
+use Rattle.jx_line_values.specs.declared.task.LineValuesTask.{LineValuesTask}
+use Rattle.jx_line_values.specs.LineValues.{LineGiven, none_given, pointers_of, tabbed, told_of_found, told_of_verdict, value_bytes, values_given}
+use Rattle.jx_line_values.specs.inside.Adding.{IsAdded, told_of_all, written_of}
+
+-- ---- results
+
+pub on_ok_both : {A E : Type 0} {P Q S : Type 0} (r : Result A E) → (P → Q → S) → OnOk r P → OnOk r Q → OnOk r S
+on_ok_both (Ok a) f p q = f p q
+on_ok_both (Err e) f p q = tt
+
+-- what is added where there is memory
+pub on_ok_first : {A E X : Type 0} (r : Result A E) (x a b : X) → x ≡ (if is_ok r then a else b) → OnOk r (x ≡ a)
+on_ok_first (Ok y) x a b h = h
+on_ok_first (Err e) x a b h = tt
+
+-- as many answers as pointers
+pub as_many : {A B : Type 0} (R : A → B → Type 0) (xs : List A) (ys : List B) → AllZip R xs ys → length xs ≡ length ys
+as_many R [] [] h = refl
+as_many R [] (y ∷ ys) h = absurd h
+as_many R (x ∷ xs) [] h = absurd h
+as_many R (x ∷ xs) (y ∷ ys) h = ap suc (as_many R xs ys h.1)
+
+-- ---- the verdict
+
+tree_in : {at limit : ℕ} {bytes : List ℕ} → Judged at bytes limit verdict.Accepted → (tree : Tree) × IsDocument at bytes limit tree
+tree_in (a_text {tree = tree} d) = (tree, d)
+
+not_true : {A : Type 0} → false ≡ true → A
+not_true h = absurd (cc)
+
+-- where more of a line's value may follow, no line feed ends the line
+opens : (more ended : Bool) → (more && not ended) ≡ true → (more ≡ true) × (ended ≡ false)
+opens true true h = absurd (cc)
+opens true false h = (refl, refl)
+opens false ended h = absurd (cc)
+
+-- where none may, and none ends it, the end shows
+closed : (more ended : Bool) → (more && not ended) ≡ false → ended ≡ false → more ≡ false
+closed true true h e = absurd (cc)
+closed true false h e = absurd (cc)
+closed false ended h e = refl
+
+module _ (task : LineValuesTask) (number : ℕ) (bytes : List ℕ) (is_ended : Bool) (ready longer told retold : List ℕ) where
+  abbrev here : Part
+  here = part 0 bytes
+
+  abbrev added : Type 0
+  added = IsAdded task (line number here is_ended) ready longer told retold
+
+  abbrev none_by : LineVerdict → LineGiven
+  none_by v = none_given (pointers_of task) (told_of_verdict task.skips_blank number v)
+
+  abbrev limit : ℕ
+  limit = task.settings.depth
+
+  pub blank_added : are_blanks bytes ≡ true → longer ≡ ready ++ (none_by Blank).written → retold ≡ told ++ (none_by Blank).told → added
+  blank_added blank w t = record { given = none_by Blank; is_given = record { verdict = Blank; is_verdict = blank; gives = refl }; written = w; telling = t }
+
+  pub refused_added : (refusal : Refusal) → are_blanks bytes ≡ false → Judged 0 (slice_range bytes 0 (length bytes)) limit (verdict.Refused refusal)
+      → longer ≡ ready ++ (none_by (Refused refusal)).written → retold ≡ told ++ (none_by (Refused refusal)).told → added
+  refused_added refusal filled judged w t =
+      let j : Judged 0 bytes limit (verdict.Refused refusal) = subst (λ (xs : List ℕ). Judged 0 xs limit (verdict.Refused refusal)) (slice_all bytes) judged in
+      record { given = none_by (Refused refusal); is_given = record { verdict = Refused refusal; is_verdict = (filled, j); gives = refl }; written = w; telling = t }
+
+  pub cut_added : are_blanks bytes ≡ false → Judged 0 bytes limit verdict.Accepted → (ends_open bytes && not is_ended) ≡ true → longer ≡ ready ++ (none_by MayBeCut).written
+      → retold ≡ told ++ (none_by MayBeCut).told → added
+  cut_added filled j may w t =
+      let o = opens (ends_open bytes) is_ended may in
+      let tree = tree_in j in
+      let cut : IsCut (line number here is_ended) limit =
+      (o.1, record { tree = tree.0; accepted = record { judged = j; is_text = tree.1 }; unclosed = (element_shows here limit tree.0 tree.1).1 o.0 }) in
+      record { given = none_by MayBeCut; is_given = record { verdict = MayBeCut; is_verdict = (filled, cut); gives = refl }; written = w; telling = t }
+
+  -- ---- the values
+
+  abbrev found_for : Tree → List ℕ → Result Found FindFault
+  found_for tree pointer = found_of (led bytes tree (tokens pointer))
+
+  found_are : (tree : Tree) → IsDocument 0 bytes limit tree → (pointers : List (List ℕ)) (found : List (Result Found FindFault)) → AllZip (FindsIn bytes 0 (length bytes)) pointers found
+      → found ≡ map (found_for tree) pointers
+  found_are tree d [] [] h = refl
+  found_are tree d [] (one ∷ found) h = absurd h
+  found_are tree d (pointer ∷ pointers) [] h = absurd h
+  found_are tree d (pointer ∷ pointers) (one ∷ found) h =
+      let e : one ≡ found_for tree pointer = h.0 limit tree (subst (λ (xs : List ℕ). IsDocument 0 xs limit tree) (sym (slice_all bytes)) d) in
+      ap (λ (x : Result Found FindFault). x ∷ found) e ∙ ap (λ (xs : List (Result Found FindFault)). found_for tree pointer ∷ xs) (found_are tree d pointers found h.1)
+
+  values_are : (tree : Tree) (pointers : List (List ℕ)) → map (value_bytes bytes) (map (found_for tree) pointers) ≡ map (λ (pointer : List ℕ). value_bytes bytes (found_for tree pointer)) pointers
+  values_are tree [] = refl
+  values_are tree (pointer ∷ pointers) = ap (λ (xs : List (List ℕ)). value_bytes bytes (found_for tree pointer) ∷ xs) (values_are tree pointers)
+
+  told_are : (tree : Tree) (pointers : List (List ℕ)) → told_of_all number pointers (map (found_for tree) pointers) ≡ flat_map (λ (pointer : List ℕ). told_of_found number pointer (found_for tree pointer)) pointers
+  told_are tree [] = refl
+  told_are tree (pointer ∷ pointers) = ap (λ (xs : List ℕ). told_of_found number pointer (found_for tree pointer) ++ xs) (told_are tree pointers)
+
+  pub values_added : (found : List (Result Found FindFault)) → are_blanks bytes ≡ false → Judged 0 bytes limit verdict.Accepted → (ends_open bytes && not is_ended) ≡ false
+      → AllZip (FindsIn bytes 0 (length bytes)) (pointers_of task) found → longer ≡ ready ++ written_of bytes found → retold ≡ told ++ told_of_all number (pointers_of task) found → added
+  values_added found filled j shut finds w t =
+      let tree = tree_in j in
+      let are = found_are tree.0 tree.1 (pointers_of task) found finds in
+      let uncut : IsCut (line number here is_ended) limit → ⊥ =
+      λ cut. not_true (sym (closed (ends_open bytes) is_ended shut cut.0) ∙ (element_shows here limit cut.1.tree cut.1.accepted.is_text).0 cut.1.unclosed) in
+      record {
+        given = values_given (pointers_of task) number bytes tree.0;
+        is_given = record { verdict = Accepted; is_verdict = (filled, j, uncut); gives = (tree.0, tree.1, refl) };
+        written =
+            w
+            ∙ ap (λ (fs : List (Result Found FindFault)). ready ++ written_of bytes fs) are
+            ∙ ap (λ (vs : List (List ℕ)). ready ++ (tabbed vs ++ 10 ∷ [])) (values_are tree.0 (pointers_of task));
+        telling = t ∙ ap (λ (fs : List (Result Found FindFault)). told ++ told_of_all number (pointers_of task) fs) are ∙ ap (λ (xs : List ℕ). told ++ xs) (told_are tree.0 (pointers_of task));
+      }

@@ -1,0 +1,3 @@
+pub mod LineValues
+pub mod Reports
+pub mod inside

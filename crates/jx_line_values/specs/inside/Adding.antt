@@ -1,0 +1,36 @@
+-- What is told of the pointers of a line by what was found.
+use Rattle.std.specs.Prelude.{◌≡◌, ℕ, zero, suc, List, [], ◌∷◌, ◌++◌, Result, map}
+use Rattle.jx_index.specs.declared.find_fault.FindFault.{FindFault}
+use Rattle.jx_index.specs.declared.finder.Found.{Found}
+use Rattle.jx_report.specs.declared.exit.Exit.{Exit}
+use Rattle.jx_report.specs.declared.exit.Exit.TheVariants.{Bad}
+use Rattle.jx_ndjson.specs.Lines.{Line}
+use Rattle.jx_line_values.specs.declared.task.LineValuesTask.{LineValuesTask}
+use Rattle.jx_line_values.specs.LineValues.{IsGiven, LineGiven, tabbed, told_of_found, value_bytes}
+
+-- of each, in order
+abbrev pub told_of_all : ℕ → List (List ℕ) → List (Result Found FindFault) → List ℕ
+told_of_all number [] found = []
+told_of_all number (pointer ∷ pointers) [] = []
+told_of_all number (pointer ∷ pointers) (one ∷ found) = told_of_found number pointer one ++ told_of_all number pointers found
+
+-- a tab in front of each value but the first
+abbrev pub tab_before : ℕ → List ℕ
+tab_before zero = []
+tab_before (suc place) = 0x09 ∷ []
+
+-- bad where something is told now, else the exit that there was before
+abbrev pub exit_past : Exit → List ℕ → Exit
+exit_past exit [] = exit
+exit_past exit (byte ∷ told) = Bad
+
+-- what is written by what was found
+abbrev pub written_of : List ℕ → List (Result Found FindFault) → List ℕ
+written_of bytes found = tabbed (map (value_bytes bytes) found) ++ 10 ∷ []
+
+-- what is written for a line stands behind what waited to be written, and what is told of it behind what waited to be told
+pub record IsAdded (task : LineValuesTask) (l : Line) (ready longer told retold : List ℕ) : Type 0 where
+  pub given : LineGiven
+  pub is_given : IsGiven task l given
+  pub written : longer ≡ ready ++ given.written
+  pub telling : retold ≡ told ++ given.told

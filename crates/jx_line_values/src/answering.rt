@@ -1,0 +1,135 @@
+// The values of one line that is held.
+ghost use Rattle.std.specs.Prelude.{◌≡◌, ◌++◌, ◌&&◌, false, length, not, OnOk};
+ghost use Rattle.std.specs.List.{AllZip};
+ghost use Rattle.jx_run.specs.declared.texts.verdict.Verdict.TheVariants.{Accepted};
+ghost use Rattle.jx_run.specs.Elements.{part};
+ghost use Rattle.jx_run.specs.Unclosed.{ends_open};
+ghost use Rattle.jx_run.specs.Verdict.{Judged};
+ghost use Rattle.jx_lex.specs.Uneventful.{is_blank};
+ghost use Rattle.jx_index.specs.Found.{FindsIn};
+ghost use Rattle.jx_ndjson.specs.Answers.{are_blanks};
+ghost use Rattle.jx_ndjson.specs.Lines.{line};
+ghost use Rattle.jx_line_values.specs.LineValues.{none_given, pointers_of, told_of_verdict};
+ghost use Rattle.jx_line_values.specs.inside.Adding.{IsAdded, told_of_all, written_of};
+
+use crate::adding::{add_no_values, add_values};
+use crate::task::LineValuesTask;
+use crate::telling::{add_all_found, add_verdict};
+use jx_index::{FindFault, Found, Pointer, find_each_in};
+use jx_lex::Span;
+use jx_ndjson::LineVerdict;
+use jx_run::{NoPause, ends_open_behind};
+use std::alloc::{AllocError, Global};
+
+/// A space, a tab, a line feed or a carriage return (RFC 8259, section 2).
+fn is_blank(byte: u8) -> bool
+    ensures { result ≡ is_blank byte }
+{
+    byte == b' ' || byte == b'\t' || byte == b'\n' || byte == b'\r'
+}
+
+/// Whether there is no byte but blanks.
+fn are_blanks(bytes: &[u8]) -> bool
+    ensures { result ≡ are_blanks bytes.now }
+{
+    for byte in bytes {
+        if !is_blank(*byte) {
+            return false;
+        }
+    }
+    true
+}
+
+/// Adds a line without a value for any pointer, which has this verdict.
+fn add_none(
+    ready: &mut Vec<u8>,
+    told: &mut Vec<u8>,
+    task: &LineValuesTask,
+    number: usize,
+    verdict: LineVerdict,
+) -> Result<(), AllocError>
+    ensures ready { OnOk result (ready.new.items ≡ ready.old.items ++ (none_given (pointers_of task.now) (told_of_verdict task.now.skips_blank number verdict)).written) }
+    ensures told { OnOk result (told.new.items ≡ told.old.items ++ told_of_verdict task.now.skips_blank number verdict) }
+{
+    add_no_values(ready, &task.pointers)?;
+    add_verdict(told, task.skips_blank, number, verdict)
+}
+
+/// Adds the values of a line in which this was found for the pointers.
+fn add_found_values(
+    ready: &mut Vec<u8>,
+    told: &mut Vec<u8>,
+    task: &LineValuesTask,
+    number: usize,
+    bytes: &[u8],
+    found: &[Result<Found, FindFault>],
+) -> Result<(), AllocError>
+    requires { length task.now.pointers.items ≡ length found.now }
+    ensures ready { OnOk result (ready.new.items ≡ ready.old.items ++ written_of bytes.now found.now) }
+    ensures told { OnOk result (told.new.items ≡ told.old.items ++ told_of_all number (pointers_of task.now) found.now) }
+{
+    add_values(ready, bytes, found)?;
+    add_all_found(told, number, &task.pointers, found)
+}
+
+/// Whether more of a line's value may follow its last byte, where a line feed ends the line or none does.
+fn may_go_on(bytes: &[u8], is_ended: bool) -> bool
+    ensures { result ≡ (ends_open bytes.now && not is_ended) }
+{
+    ends_open_behind(false, bytes) && !is_ended
+}
+
+/// Adds the values of an accepted line, or none where it may have been cut.
+fn add_accepted(
+    ready: &mut Vec<u8>,
+    told: &mut Vec<u8>,
+    task: &LineValuesTask,
+    number: usize,
+    bytes: &[u8],
+    is_ended: bool,
+    found: &[Result<Found, FindFault>],
+) -> Result<(), AllocError>
+    requires filled { are_blanks bytes.now ≡ false }
+    requires accepted { Judged 0 bytes.now task.now.settings.depth Accepted }
+    requires found { AllZip (FindsIn bytes.now 0 (length bytes.now)) (pointers_of task.now) found.now }
+    ensures { OnOk result (IsAdded task.now (line number (part 0 bytes.now) is_ended) ready.old.items ready.new.items told.old.items told.new.items) }
+{
+    if may_go_on(bytes, is_ended) {
+        return add_none(ready, told, task, number, LineVerdict::MayBeCut);
+    }
+    add_found_values(ready, told, task, number, bytes, found)
+}
+
+/// Adds what is written for a line and what is told of it. The pointers are those of the task.
+pub(crate) fn add_line(
+    alloc: Global,
+    ready: &mut Vec<u8>,
+    told: &mut Vec<u8>,
+    task: &LineValuesTask,
+    pointers: &[Pointer],
+    number: usize,
+    bytes: &[u8],
+    is_ended: bool,
+) -> Result<(), AllocError>
+    requires { pointers.now ≡ pointers_of task.now }
+    ensures { OnOk result (IsAdded task.now (line number (part 0 bytes.now) is_ended) ready.old.items ready.new.items told.old.items told.new.items) }
+{
+    if are_blanks(bytes) {
+        return add_none(ready, told, task, number, LineVerdict::Blank);
+    }
+    let span = Span {
+        start: 0,
+        end: bytes.len(),
+    };
+    match find_each_in(
+        alloc,
+        bytes,
+        span,
+        task.settings.depth,
+        pointers,
+        &mut NoPause,
+    )? {
+        Err(refusal) => add_none(ready, told, task, number, LineVerdict::Refused(refusal)),
+        Ok(found) => add_accepted(ready, told, task, number, bytes, is_ended, &found),
+    }
+}

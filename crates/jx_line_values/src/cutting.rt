@@ -1,0 +1,218 @@
+// The values of lines of an input that comes slice by slice.
+ghost use Rattle.std.specs.Prelude.{◌≡◌, ◌<◌, ◌≤◌, ◌++◌, ◌∷◌, ℕ, List, [], IfOk, OnOk, length, take};
+ghost use Rattle.jx_ndjson.specs.Lines.{mark_length};
+ghost use Rattle.jx_ndjson.specs.inside.Steps.{HasNoLineFeed};
+ghost use Rattle.jx_line_values.specs.declared.task.LineValuesTask.{LineValuesTask};
+ghost use Rattle.jx_line_values.specs.LineValues.{LineValuesOutput, pointers_of};
+ghost use Rattle.jx_line_values.specs.inside.Cutting.{HasTaken, bare_bytes, line_bytes};
+
+use crate::answering::add_line;
+use crate::task::LineValuesTask;
+use crate::telling::exit_past;
+use jx_index::Pointer;
+use jx_report::Exit;
+use jx_run::{Front, FrontMark, front};
+use memchr::memchr;
+use std::alloc::{AllocError, Global};
+use std::marker::Model;
+
+/// How many bytes a byte order mark in front of a line takes, where it is ignored.
+fn mark_length(mark: FrontMark, line: &[u8]) -> usize
+    ensures value { result ≡ mark_length mark line.now }
+    ensures within { result ≤ length line.now }
+{
+    match front(line, mark) {
+        Front::Skip(count) => count,
+        Front::Refused(_) => 0,
+    }
+}
+
+/// The first line, without a byte order mark in front where it is ignored.
+fn bare_line(mark: FrontMark, line: &[u8]) -> &[u8]
+    ensures { result.now ≡ bare_bytes mark line.now }
+{
+    let count = mark_length(mark, line);
+    &line[count..]
+}
+
+/// A line behind so many others.
+fn line_at(mark: FrontMark, ended: usize, line: &[u8]) -> &[u8]
+    ensures { result.now ≡ line_bytes mark ended line.now }
+{
+    if ended == 0 {
+        bare_line(mark, line)
+    } else {
+        line
+    }
+}
+
+/// The line that goes on, and what waits to be written and told for those that a line feed has ended.
+#[derive(Drop)]
+pub(crate) struct LineCutter {
+    kept: Vec<u8>,
+    ended: usize,
+    ready: Vec<u8>,
+    told: Vec<u8>,
+    exit: Exit,
+}
+
+impl Model for LineCutter {
+    ghost use Rattle.jx_line_values.specs.inside.Cutting.{CutterValue};
+
+    ghost Value = { CutterValue };
+
+    ghost view = { λ t. record { kept = t.kept.items; ended = t.ended; ready = t.ready.items; told = t.told.items; exit = t.exit } };
+}
+
+impl LineCutter {
+    /// One that has taken no byte. Nothing is allocated.
+    pub fn new(alloc: Global) -> LineCutter
+        ensures taken { (task : LineValuesTask) → HasTaken task [] [] [] result }
+        ensures ready { result.ready ≡ [] }
+        ensures told { result.told ≡ [] }
+    {
+        LineCutter {
+            kept: Vec::new(alloc),
+            ended: 0,
+            ready: Vec::new(alloc),
+            told: Vec::new(alloc),
+            exit: Exit::Good,
+        }
+    }
+
+    /// Ends the line that goes on by a line feed. Memory is refused too where its number would be too large.
+    fn end_line(
+        &mut self,
+        alloc: Global,
+        task: &LineValuesTask,
+        pointers: &[Pointer],
+    ) -> Result<(), AllocError>
+        requires { pointers.now ≡ pointers_of task.now }
+        ensures { OnOk result ((bytes given said : List ℕ) → HasTaken task.now bytes given said self.old → HasTaken task.now (bytes ++ 0x0a ∷ []) given said self.new) }
+    {
+        if self.ended == usize::MAX {
+            return Err(AllocError);
+        }
+        add_line(
+            alloc,
+            &mut self.ready,
+            &mut self.told,
+            task,
+            pointers,
+            self.ended + 1,
+            line_at(task.settings.mark, self.ended, &self.kept),
+            true,
+        )?;
+        self.ended += 1;
+        self.kept.clear();
+        Ok(())
+    }
+
+    /// Keeps bytes of the line that goes on.
+    fn keep(&mut self, bytes: &[u8]) -> Result<(), AllocError>
+        requires { HasNoLineFeed bytes.now }
+        ensures { OnOk result ((task : LineValuesTask) (before given said : List ℕ) → HasTaken task before given said self.old → HasTaken task (before ++ bytes.now) given said self.new) }
+    {
+        self.kept.extend_from_slice(bytes)
+    }
+
+    /// Takes a slice up to and with its first line feed, or all of it, and answers how many bytes those are.
+    fn take_step(
+        &mut self,
+        alloc: Global,
+        task: &LineValuesTask,
+        pointers: &[Pointer],
+        slice: &[u8],
+    ) -> Result<usize, AllocError>
+        requires { pointers.now ≡ pointers_of task.now }
+        ensures within { IfOk result (λ taken. taken ≤ length slice.now) }
+        ensures some { IfOk result (λ taken. 0 < length slice.now → 0 < taken) }
+        ensures taken { IfOk result (λ taken. (bytes given said : List ℕ) → HasTaken task.now bytes given said self.old → HasTaken task.now (bytes ++ take taken slice.now) given said self.new) }
+    {
+        match memchr(b'\n', slice) {
+            None => {
+                self.keep(slice)?;
+                Ok(slice.len())
+            }
+            Some(at) => {
+                self.keep(&slice[..at])?;
+                self.end_line(alloc, task, pointers)?;
+                Ok(at + 1)
+            }
+        }
+    }
+
+    /// Takes a slice behind all bytes that it has taken. Only want of memory is refused.
+    pub fn feed(
+        &mut self,
+        alloc: Global,
+        task: &LineValuesTask,
+        pointers: &[Pointer],
+        slice: &[u8],
+    ) -> Result<(), AllocError>
+        requires { pointers.now ≡ pointers_of task.now }
+        ensures { OnOk result ((bytes given said : List ℕ) → HasTaken task.now bytes given said self.old → HasTaken task.now (bytes ++ slice.now) given said self.new) }
+    {
+        let mut at = 0;
+        while at < slice.len() {
+            at += self.take_step(alloc, task, pointers, &slice[at..])?;
+        }
+        Ok(())
+    }
+
+    /// What waits to be written.
+    pub fn ready(&self) -> &[u8]
+        ensures { result.now ≡ self.now.ready }
+    {
+        &self.ready
+    }
+
+    /// What waits to be told.
+    pub fn told(&self) -> &[u8]
+        ensures { result.now ≡ self.now.told }
+    {
+        &self.told
+    }
+
+    /// Lets what waits go, which was written and told.
+    pub fn clear(&mut self)
+        ensures ready { self.new.ready ≡ [] }
+        ensures told { self.new.told ≡ [] }
+        ensures taken { (task : LineValuesTask) (bytes given said : List ℕ) → HasTaken task bytes given said self.old → HasTaken task bytes (given ++ self.old.ready) (said ++ self.old.told) self.new }
+    {
+        self.exit = exit_past(self.exit, &self.told);
+        self.ready.clear();
+        self.told.clear();
+    }
+
+    /// Takes the end of the input: what waits then is the rest of what is written and told.
+    pub fn finish(
+        &mut self,
+        alloc: Global,
+        task: &LineValuesTask,
+        pointers: &[Pointer],
+    ) -> Result<Exit, AllocError>
+        requires { pointers.now ≡ pointers_of task.now }
+        ensures { IfOk result (λ exit. (bytes given said : List ℕ) → HasTaken task.now bytes given said self.old
+            → LineValuesOutput task.now bytes (given ++ self.new.ready) (said ++ self.new.told) exit) }
+    {
+        if self.ended == usize::MAX {
+            return Err(AllocError);
+        }
+        let line = line_at(task.settings.mark, self.ended, &self.kept);
+        if line.is_empty() {
+            return Ok(exit_past(self.exit, &self.told));
+        }
+        add_line(
+            alloc,
+            &mut self.ready,
+            &mut self.told,
+            task,
+            pointers,
+            self.ended + 1,
+            line,
+            false,
+        )?;
+        Ok(exit_past(self.exit, &self.told))
+    }
+}

@@ -1,0 +1,185 @@
+// Where the lines of a document that are no texts are shown.
+ghost use Rattle.std.specs.Prelude.{◌≡◌, ◌≤◌, ◌<◌, ◌+◌, ◌++◌, [], IfOk};
+ghost use Rattle.jx_ndjson.specs.Reading.{listed};
+ghost use Rattle.jx_ndjson.specs.Tally.{HasTaken};
+ghost use Rattle.jx_serve.specs.LineMarks.{fault_in, AreLineMarks, AreMarksOf, IsAround, IsMarkOf, IsShownBy, IsWhole};
+ghost use Rattle.jx_serve.specs.inside.BadLines.{AreBadLines};
+
+use crate::line_sentence::sentence_on_line;
+use crate::mark::{character_end, character_start};
+use crate::selections::Extent;
+use jx_edit::{Document, Encoding, Position};
+use jx_lex::Span;
+use jx_ndjson::{JudgedLine, LineTally, LineVerdict};
+use jx_run::{Refusal, Settings};
+use std::alloc::{AllocError, Global};
+
+/// A line of a document that is no text, and how it is shown.
+#[derive(Debug, Drop)]
+pub struct LineMark {
+    pub line: JudgedLine,
+    /// What is wrong with it, as it is spelt in a string.
+    pub sentence: Vec<u8>,
+    pub start: Position,
+    pub end: Position,
+}
+
+/// The tally of all lines of a document.
+fn tally_of(
+    alloc: Global,
+    document: &Document,
+    settings: &Settings,
+) -> Result<LineTally, AllocError>
+    ensures { IfOk result (HasTaken settings.now document.now.bytes []) }
+{
+    // No sum of offsets wraps: so many bytes there are.
+    let _len = document.len();
+    let mut tally = LineTally::new(alloc, settings);
+    for piece in document.chunks() {
+        tally.feed(piece)?;
+    }
+    Ok(tally)
+}
+
+/// The lines that wait, and the last one behind them, if it is told.
+fn with_last(
+    alloc: Global,
+    waiting: &[JudgedLine],
+    last: Option<JudgedLine>,
+) -> Result<Vec<JudgedLine>, AllocError>
+    ensures { IfOk result (λ bad. bad.items ≡ waiting.now ++ listed last) }
+{
+    let mut bad = Vec::from_slice(alloc, waiting)?;
+    match last {
+        None => Ok(bad),
+        Some(last) => {
+            bad.push(last)?;
+            Ok(bad)
+        }
+    }
+}
+
+/// The lines of a document that are no texts, in order. All bytes are read.
+fn bad_lines(
+    alloc: Global,
+    document: &Document,
+    settings: &Settings,
+) -> Result<Vec<JudgedLine>, AllocError>
+    ensures { IfOk result (λ bad. AreBadLines settings.now document.now.bytes bad.items) }
+{
+    let tally = tally_of(alloc, document, settings)?;
+    let bad = with_last(alloc, tally.waiting(), tally.told_at_end().bad)?;
+    Ok(bad)
+}
+
+/// The offset at which a refusal of a line is shown.
+fn fault_in(span: Span, refusal: Refusal) -> usize
+    ensures { result ≡ fault_in span refusal }
+{
+    match refusal {
+        Refusal::Stopped { at } | Refusal::TooDeep { at } | Refusal::RepeatedName { at } => at,
+        Refusal::Truncated => span.end.saturating_sub(1),
+    }
+}
+
+/// The bytes of the character that the byte at an offset is of, as far as they stand in a line.
+fn span_around(document: &Document, span: Span, offset: usize) -> Span
+    ensures begins { result.start ≤ offset }
+    ensures holds { offset < span.end → (offset < result.end) × (result.end ≤ span.end) }
+    ensures inside { span.start ≤ offset → span.start ≤ result.start }
+    ensures short { result.end ≤ result.start + 4 }
+{
+    let first = character_start(document, offset);
+    let start = first.max(span.start).min(offset);
+    let behind = offset.saturating_add(1);
+    let end = character_end(document, start).max(behind).min(span.end);
+    Span { start, end }
+}
+
+/// The positions of both ends of a line.
+fn whole(document: &Document, encoding: Encoding, span: Span) -> Extent
+    ensures { IsWhole encoding document.now.bytes span result.start result.end }
+{
+    Extent {
+        start: document.position_of(span.start, encoding),
+        end: document.position_of(span.end, encoding),
+    }
+}
+
+/// The positions of both ends of the character at an offset of a line.
+fn around(document: &Document, encoding: Encoding, span: Span, offset: usize) -> Extent
+    ensures { IsAround encoding document.now.bytes span offset result.start result.end }
+{
+    let Span { start, end } = span_around(document, span, offset);
+    Extent {
+        start: document.position_of(start, encoding),
+        end: document.position_of(end, encoding),
+    }
+}
+
+/// Where a line is shown by what it comes to.
+fn extent_of(document: &Document, encoding: Encoding, line: &JudgedLine) -> Extent
+    ensures { IsShownBy encoding document.now.bytes line.now.span line.now.verdict result.start result.end }
+{
+    let span = line.span;
+    match line.verdict {
+        LineVerdict::Refused(refusal) => {
+            around(document, encoding, span, fault_in(span, refusal))
+        }
+        LineVerdict::MayBeCut => around(document, encoding, span, span.end.saturating_sub(1)),
+        LineVerdict::Accepted | LineVerdict::Blank => whole(document, encoding, span),
+    }
+}
+
+/// How a line is shown that is no text.
+fn mark_of_line(
+    alloc: Global,
+    document: &Document,
+    settings: &Settings,
+    encoding: Encoding,
+    line: &JudgedLine,
+) -> Result<LineMark, AllocError>
+    ensures { IfOk result (IsMarkOf encoding document.now.bytes line.now) }
+{
+    let sentence = sentence_on_line(alloc, document, settings, encoding, line)?;
+    let Extent { start, end } = extent_of(document, encoding, line);
+    Ok(LineMark {
+        line: *line,
+        sentence,
+        start,
+        end,
+    })
+}
+
+/// How lines are shown that are no texts.
+fn marks_of(
+    alloc: Global,
+    document: &Document,
+    settings: &Settings,
+    encoding: Encoding,
+    lines: &[JudgedLine],
+) -> Result<Vec<LineMark>, AllocError>
+    ensures { IfOk result (λ marks. AreMarksOf encoding document.now.bytes lines.now marks.items) }
+{
+    let mut marks = Vec::new(alloc);
+    for line in lines {
+        let mark = mark_of_line(alloc, document, settings, encoding, line)?;
+        marks.push(mark)?;
+    }
+    Ok(marks)
+}
+
+/// The lines of a document that are no texts by settings, and how they are shown. Names may be repeated, whatever the settings say.
+/// All bytes are read.
+pub(crate) fn line_marks_of(
+    alloc: Global,
+    document: &Document,
+    settings: &Settings,
+    encoding: Encoding,
+) -> Result<Vec<LineMark>, AllocError>
+    ensures { IfOk result (λ marks. AreLineMarks encoding settings.now document.now.bytes marks.items) }
+{
+    let bad = bad_lines(alloc, document, settings)?;
+    let marks = marks_of(alloc, document, settings, encoding, &bad)?;
+    Ok(marks)
+}

@@ -1,0 +1,99 @@
+// The lines of a document that are no texts, in messages.
+ghost use Rattle.std.specs.Prelude.{◌≡◌, ◌++◌, IfOk, OnOk, string_bytes};
+ghost use Rattle.std.specs.List.{flat_map};
+ghost use Rattle.jx_serve.specs.Words.{line_diagnostic, line_diagnostics, next_diagnostic, published_lines, word_of_line, words_of_line_place};
+
+use crate::line_mark::LineMark;
+use crate::reply_words::{add_opening, add_told, code_of_refusal, words_of_place};
+use crate::selections::Extent;
+use jx_ndjson::LineVerdict;
+use std::alloc::{AllocError, Global};
+
+/// What `jx lines` prints of a line, without the offset.
+fn word_of_line(verdict: LineVerdict) -> &'static str
+    ensures { result.now ≡ word_of_line verdict }
+{
+    match verdict {
+        LineVerdict::Accepted => "accepted",
+        LineVerdict::Refused(refusal) => code_of_refusal(refusal),
+        LineVerdict::MayBeCut => "may be cut",
+        LineVerdict::Blank => "blank",
+    }
+}
+
+/// The offset of a refusal, behind the sentence of a line.
+fn words_of_line_place(alloc: Global, verdict: LineVerdict) -> Result<String, AllocError>
+    ensures { IfOk result (λ words. string_bytes words ≡ words_of_line_place verdict) }
+{
+    match verdict {
+        LineVerdict::Refused(refusal) => words_of_place(alloc, refusal),
+        LineVerdict::Accepted => Ok(String::new(alloc)),
+        LineVerdict::MayBeCut => Ok(String::new(alloc)),
+        LineVerdict::Blank => Ok(String::new(alloc)),
+    }
+}
+
+fn add_line_mark(alloc: Global, out: &mut Vec<u8>, mark: &LineMark) -> Result<(), AllocError>
+    ensures { OnOk result (out.new.items ≡ out.old.items ++ line_diagnostic mark.now) }
+{
+    let extent = Extent {
+        start: mark.start,
+        end: mark.end,
+    };
+    let word = word_of_line(mark.line.verdict);
+    let place = words_of_line_place(alloc, mark.line.verdict)?;
+    add_told(alloc, out, extent, word, &mark.sentence, place.as_str())
+}
+
+/// Adds a diagnostic behind another one.
+fn add_next(alloc: Global, out: &mut Vec<u8>, mark: &LineMark) -> Result<(), AllocError>
+    ensures { OnOk result (out.new.items ≡ out.old.items ++ next_diagnostic mark.now) }
+{
+    out.extend_from_slice(b",")?;
+    add_line_mark(alloc, out, mark)
+}
+
+fn add_others(alloc: Global, out: &mut Vec<u8>, marks: &[LineMark]) -> Result<(), AllocError>
+    ensures { OnOk result (out.new.items ≡ out.old.items ++ flat_map next_diagnostic marks.now) }
+{
+    for mark in marks {
+        add_next(alloc, out, mark)?;
+    }
+    Ok(())
+}
+
+fn add_first(
+    alloc: Global,
+    out: &mut Vec<u8>,
+    first: &LineMark,
+    others: &[LineMark],
+) -> Result<(), AllocError>
+    ensures { OnOk result (out.new.items ≡ out.old.items ++ (line_diagnostic first.now ++ flat_map next_diagnostic others.now)) }
+{
+    add_line_mark(alloc, out, first)?;
+    add_others(alloc, out, others)
+}
+
+fn add_line_marks(alloc: Global, out: &mut Vec<u8>, marks: &[LineMark]) -> Result<(), AllocError>
+    ensures { OnOk result (out.new.items ≡ out.old.items ++ line_diagnostics marks.now) }
+{
+    match marks.split_first() {
+        None => Ok(()),
+        Some((first, others)) => add_first(alloc, out, first, others),
+    }
+}
+
+/// Adds the message that publishes the lines of a document that are no texts.
+pub(crate) fn add_published_lines(
+    alloc: Global,
+    out: &mut Vec<u8>,
+    uri: &[u8],
+    version: &Option<Vec<u8>>,
+    marks: &[LineMark],
+) -> Result<(), AllocError>
+    ensures { OnOk result (out.new.items ≡ out.old.items ++ published_lines uri.now version.now marks.now) }
+{
+    add_opening(out, uri, version)?;
+    add_line_marks(alloc, out, marks)?;
+    out.extend_from_slice(b"]}}")
+}

@@ -1,0 +1,12 @@
+use Rattle.std.proofs.Common.{arith}
+use Rattle.jx_walk.proofs.reaching.pass_on.Goals as goal
+
+pub chunks-init : goal.chunks-init
+chunks-init c = record { later = omega arith; held = λ settings chunk text known was. was }
+
+pub chunks-preserved : goal.chunks-preserved
+chunks-preserved c = record {
+  later = omega arith;
+  held = λ settings chunk text known was.
+      c.in-Some.ensures settings chunk text known (c.chunks.invariant.held settings chunk text known was) c.of-next.result c.of-next.ensures.finding c.of-next.ensures.next c.of-next.ensures.begun;
+}

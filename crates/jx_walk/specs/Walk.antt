@@ -1,0 +1,37 @@
+-- What a walk through the chunks of a text needs, and what it was given.
+use Rattle.std.specs.Prelude.{◌≡◌, ℕ, ◌-◌, ◌*◌, All, List, slice_range, Option, None, Some}
+use Rattle.jx_summary.specs.declared.span.Span.{Span}
+use Rattle.jx_run.specs.declared.texts.settings.Settings.{Settings}
+use Rattle.jx_index.specs.inside.Trie.{HasWay, IsTrie}
+use Rattle.jx_find.specs.declared.held.Sought.{Sought}
+use Rattle.jx_saved.specs.Digest.{xxh64}
+use Rattle.jx_walk.specs.declared.walk.Walk.{Walk}
+use Rattle.jx_walk.specs.Chunks.{chunk_at}
+use Rattle.jx_walk.specs.HeldAt.{IsHeldAt}
+use Rattle.jx_walk.specs.Known.{IsKnown}
+
+-- where the bytes stand that are to be given next
+abbrev pub needed : Walk → Option Span
+needed w = chunk_at w.index.now w.at
+
+-- how many bytes of the text stand from there on
+abbrev pub left : Walk → ℕ
+left w = w.index.now.size - w.at * w.index.now.chunk
+
+-- bytes that have the digest of a part of a text are those of the part
+abbrev pub IsToldApart : List ℕ → Span → List ℕ → Type 0
+IsToldApart text s bytes = xxh64 bytes ≡ xxh64 (slice_range text s.start s.end) → bytes ≡ slice_range text s.start s.end
+
+-- it has the index of this text, these pointers, and what a finder holds that was fed the text up to what it needs
+pub record HasCome (settings : Settings) (chunk : ℕ) (text : List ℕ) (pointers : List (List ℕ)) (w : Walk) : Type 0 where
+  pub known : IsKnown settings chunk text w.index.now
+  pub pointers_are : w.pointers.items ≡ pointers
+  pub trie : IsTrie w.edges.items
+  pub ways : All (λ (pointer : List ℕ). HasWay w.edges.items pointer) pointers
+  pub kept : Sought
+  pub kept_is : w.held ≡ Some kept
+  pub held : IsHeldAt settings chunk text w.edges.items w.at kept
+
+-- memory was refused, or the index was found to be of no text, and no bytes will be taken
+abbrev pub IsLost : Walk → Type 0
+IsLost w = w.held ≡ None

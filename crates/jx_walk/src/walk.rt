@@ -1,0 +1,170 @@
+// The look-up of several pointers (RFC 6901, section 4) in a text of which an index is saved.
+ghost use Rattle.std.specs.Prelude.{◌≡◌, ◌≢◌, ◌≤◌, ◌<◌, None, Some, ℕ, List, false, length, slice_range, IfOk, IfErr, IfSome, IsErr, OnErr};
+ghost use Rattle.jx_summary.specs.declared.span.Span.{Span};
+ghost use Rattle.jx_run.specs.declared.texts.settings.Settings.{Settings};
+ghost use Rattle.jx_index.specs.Found.{AreFoundIn};
+ghost use Rattle.jx_saved.specs.Index.{IsIndexOf};
+ghost use Rattle.jx_walk.specs.declared.walk.WalkFault.TheVariants.{Changed, Damaged};
+ghost use Rattle.jx_walk.specs.Walk.{HasCome, IsLost, IsToldApart, left, needed};
+
+use crate::chunks::{chunk_at, is_kept};
+use crate::laws::parts_are_passed;
+use crate::reaching::read_on;
+use jx_find::Sought;
+use jx_index::{Edge, FindFault, Found, Pointer, answers_of, starts_of, trie_of};
+use jx_lex::Span;
+use jx_run::{reader_is_grammar, verdict_by_settings_is_one};
+use jx_saved::Index;
+use std::alloc::{AllocError, Global};
+use thiserror::Error;
+
+/// Why a look-up by a saved index has no answer.
+#[derive(Clone, Copy, Debug, Error, PartialEq, Eq)]
+pub enum WalkFault {
+    /// The bytes of this chunk are not those of the text that was indexed.
+    #[error("changed in {}..{}", .0.start, .0.end)]
+    Changed(Span),
+    /// The index is of no text.
+    #[error("damaged")]
+    Damaged,
+}
+
+/// A look-up of several pointers in a JSON text (RFC 8259) of which an index is saved. It tells which bytes of the text it
+/// needs, and is given them; chunks that have nothing to do with the pointers are passed over. It keeps what a `Finder` does.
+#[derive(Drop)]
+pub struct Walk<'a, 'p> {
+    alloc: Global,
+    index: &'a Index,
+    pointers: Vec<Pointer<'p>>,
+    edges: Vec<Edge<'p>>,
+    starts: Vec<usize>,
+    /// Which chunk is needed next.
+    at: usize,
+    /// What is held of the bytes before it. None where memory was refused, or the index is of no text.
+    held: Option<Sought>,
+}
+
+/// Whether no container stands open.
+fn is_whole(held: &Sought) -> bool
+    ensures { result ≡ false → held.now.state.skipped ≡ 0 → length held.now.state.opened.items ≡ 0 → ⊥ }
+{
+    held.state.skipped == 0 && held.state.opened.is_empty()
+}
+
+impl<'a, 'p> Walk<'a, 'p> {
+    /// A walk for pointers that was given no byte. `Err` where memory is refused.
+    pub fn new(
+        alloc: Global,
+        index: &'a Index,
+        pointers: Vec<Pointer<'p>>,
+    ) -> Result<Walk<'a, 'p>, AllocError>
+        ensures index { IfOk result (λ walk. walk.index.now ≡ index.now) }
+        ensures come { IfOk result (λ walk. (settings : Settings) (chunk : ℕ) (text : List ℕ) → IsIndexOf settings chunk text index.now
+            → HasCome settings chunk text pointers.entry.items walk) }
+    {
+        reader_is_grammar();
+        verdict_by_settings_is_one();
+        // Shows the proof how long a chunk is at least.
+        let _ = index.chunk.bytes();
+        let edges = trie_of(alloc, &pointers)?;
+        let starts = starts_of(alloc, &edges)?;
+        let held = Sought::new(alloc, &edges)?;
+        Ok(Walk {
+            alloc,
+            index,
+            pointers,
+            edges,
+            starts,
+            at: 0,
+            held: Some(held),
+        })
+    }
+
+    /// Where the bytes stand that are to be given next, or none where all were.
+    pub fn needs(&self) -> Option<Span>
+        ensures needed { result ≡ needed self.now }
+        ensures some { IfSome result (λ span. span.start < span.end) }
+        ensures within { IfSome result (λ span. span.end ≤ self.now.index.now.size) }
+    {
+        chunk_at(self.index, self.at)
+    }
+
+    /// Gives it the bytes that it needs. Where they are others than those of the text that was indexed, nothing is taken, and
+    /// other bytes may be given. Where it needs none, nothing is done. `Err` where memory is refused or the index was found
+    /// to be of no text, and from then on always.
+    pub fn give(&mut self, bytes: &[u8]) -> Result<Result<(), WalkFault>, AllocError>
+        ensures index { self.new.index.now ≡ self.old.index.now }
+        // Bytes of the text, as far as their digest tells, lead on.
+        ensures come { IfOk result (λ told. IfOk told (λ _. (settings : Settings) (chunk : ℕ) (text : List ℕ) (pointers : List (List ℕ)) → HasCome settings chunk text pointers self.old
+            → ((span : Span) → needed self.old ≡ Some span → IsToldApart text span bytes.now) → HasCome settings chunk text pointers self.new)) }
+        // Whatever the index, it goes forward.
+        ensures behind { IfOk result (λ told. IfOk told (λ _. (span next : Span) → needed self.old ≡ Some span → needed self.new ≡ Some next → span.end ≤ next.start)) }
+        ensures nearer { IfOk result (λ told. IfOk told (λ _. (span : Span) → needed self.old ≡ Some span → left self.new < left self.old)) }
+        // What a fault says.
+        ensures changed { IfOk result (λ told. IfErr told (λ fault. (span : Span) → fault ≡ Changed span → (self.new ≡ self.old) × (needed self.old ≡ Some span)
+            × ((settings : Settings) (chunk : ℕ) (text : List ℕ) (pointers : List (List ℕ)) → HasCome settings chunk text pointers self.old → bytes.now ≢ slice_range text span.start span.end))) }
+        ensures damaged { IfOk result (λ told. IfErr told (λ fault. fault ≡ Damaged → IsLost self.new × ((settings : Settings) (chunk : ℕ) (text : List ℕ) (pointers : List (List ℕ)) → HasCome settings chunk text pointers self.old
+            → ((span : Span) → needed self.old ≡ Some span → IsToldApart text span bytes.now) → ⊥))) }
+        ensures err { OnErr result (IsLost self.new) }
+        ensures lost { IsLost self.old → IsErr result }
+    {
+        if self.held.is_none() {
+            return Err(AllocError);
+        }
+        let Some(span) = self.needs() else {
+            return Ok(Ok(()));
+        };
+        if !is_kept(self.index, self.at, span, bytes) {
+            return Ok(Err(WalkFault::Changed(span)));
+        }
+        let held = self.held.take();
+        let read = read_on(
+            self.alloc,
+            self.index,
+            &self.edges,
+            &self.starts,
+            held,
+            self.at,
+            span,
+            bytes,
+        )?;
+        let Some(reached) = read else {
+            return Ok(Err(WalkFault::Damaged));
+        };
+        self.at = reached.at;
+        self.held = Some(reached.held);
+        Ok(Ok(()))
+    }
+
+    /// The answers: for each pointer, in order, the value, or the first token that leads nowhere; or that the index is of no
+    /// text, as where containers stay open. `Err` where memory is or was refused.
+    pub fn answers(self) -> Result<Result<Vec<Result<Found, FindFault>>, WalkFault>, AllocError>
+        requires all { needed self ≡ None }
+        ensures found { IfOk result (λ told. IfOk told (λ found. (settings : Settings) (chunk : ℕ) (text : List ℕ) (pointers : List (List ℕ)) → HasCome settings chunk text pointers self.entry
+            → AreFoundIn settings text pointers found.items)) }
+        ensures damaged { IfOk result (λ told. IfErr told (λ fault. (settings : Settings) (chunk : ℕ) (text : List ℕ) (pointers : List (List ℕ)) → HasCome settings chunk text pointers self.entry → ⊥)) }
+        ensures lost { IsLost self.entry → IsErr result }
+    {
+        reader_is_grammar();
+        verdict_by_settings_is_one();
+        parts_are_passed();
+        let Walk {
+            alloc,
+            index,
+            pointers,
+            edges,
+            starts,
+            held,
+            ..
+        } = self;
+        let Some(held) = held else {
+            return Err(AllocError);
+        };
+        if !is_whole(&held) {
+            return Ok(Err(WalkFault::Damaged));
+        }
+        let met = held.into_met(&edges, &starts, index.size)?;
+        let found = answers_of(alloc, &edges, &starts, &met, &pointers)?;
+        Ok(Ok(found))
+    }
+}

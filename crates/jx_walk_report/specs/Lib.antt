@@ -1,0 +1,4 @@
+pub mod Offsets
+pub mod Reports
+pub mod Saved
+pub mod inside

@@ -1,0 +1,49 @@
+// Pointers are looked up in a text of which an index is saved.
+ghost use Rattle.std.specs.Prelude.{◌≡◌, ◌≢◌, ◌↔◌, true, false, Some, ℕ, List, slice_range, IfOk, IfErr, IsErrOf};
+ghost use Rattle.jx_summary.specs.declared.span.Span.{Span};
+ghost use Rattle.jx_run.specs.declared.texts.settings.Settings.{Settings};
+ghost use Rattle.jx_index.specs.Found.{AreFoundIn};
+ghost use Rattle.jx_saved.specs.Index.{IsIndexOf};
+ghost use Rattle.jx_walk_report.specs.inside.Faults.{IsChange};
+ghost use Rattle.jx_walk_report.specs.Offsets.{HasSize};
+ghost use Rattle.jx_walk_report.specs.Reports.{IsOfText};
+ghost use Rattle.jx_walk_report.specs.Saved.{TellsApart};
+
+use crate::look_fault::{LookFault, walk_fault};
+use crate::part::read_part;
+use crate::read_at::ReadAt;
+use jx_index::{FindFault, Found, Pointer};
+use jx_saved::Index;
+use jx_walk::Walk;
+use std::alloc::Global;
+
+/// What each pointer, in order, leads to in the text with this index. Of the file those chunks are read that have to be, one
+/// at a time.
+pub(crate) fn found_in<F: ReadAt>(
+    alloc: Global,
+    file: &mut F,
+    index: &Index,
+    pointers: Vec<Pointer<'_>>,
+) -> Result<Vec<Result<Found, FindFault>>, LookFault>
+    requires unfailed { F.has_failed file.old ≡ false }
+    requires size { HasSize (F.content file.old) index.now.size }
+    ensures found { IfOk result (λ found. (settings : Settings) (chunk : ℕ) (text bytes : List ℕ) → IsIndexOf settings chunk text index.now → F.content file.old ≡ Some bytes
+        → TellsApart chunk text bytes → AreFoundIn settings text pointers.entry.items found.items) }
+    ensures changed { IfErr result (λ fault. (settings : Settings) (chunk : ℕ) (text bytes : List ℕ) → IsIndexOf settings chunk text index.now → F.content file.old ≡ Some bytes
+        → TellsApart chunk text bytes → IsChange text bytes fault) }
+    ensures read { IsErrOf result LookFault.TextRead ↔ (F.has_failed file.new ≡ true) }
+    ensures fault { IfErr result IsOfText }
+{
+    let mut walk = Walk::new(alloc, index, pointers)?;
+    let mut bytes = Vec::new(alloc);
+    'chunks: while let Some(span) = walk.needs() {
+        read_part(file, &mut bytes, span)?;
+        if let Err(fault) = walk.give(&bytes)? {
+            return Err(walk_fault(fault));
+        }
+    }
+    match walk.answers()? {
+        Ok(found) => Ok(found),
+        Err(fault) => Err(walk_fault(fault)),
+    }
+}

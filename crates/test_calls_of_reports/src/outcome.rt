@@ -1,0 +1,165 @@
+// What a report comes to.
+ghost use Rattle.std.specs.Prelude.{◌≤◌, ◌<◌};
+
+use crate::reader::{Giver, Giving};
+use crate::writer::{Taker, Taking};
+use jx_crew::{Event, Gate, Go};
+use jx_report::{End, Exit, ReportFault, Sink, Source, report, report_in_batches};
+use jx_task::Command;
+use std::alloc::Global;
+use std::sync::Wait;
+use std::thread::Threads;
+use test_words::Out;
+
+/// Lets every worker go on. Since it may be asked, short inputs have workers too.
+#[derive(Clone, Copy)]
+struct Passing;
+
+impl Gate for Passing {
+    fn pass(&self, _event: Event) -> Go {
+        Go::On
+    }
+}
+
+/// What a report answered, what it wrote, and which of its ends has failed.
+#[derive(Drop)]
+pub struct Outcome {
+    pub answer: Result<Exit, ReportFault>,
+    pub output: Vec<u8>,
+    /// Whether all of the input was read.
+    pub is_read: bool,
+    pub reader_failed: bool,
+    pub writer_failed: bool,
+}
+
+/// What a report comes to between such ends, which reads so many bytes at a time if they are told. There is none for a piece or a
+/// batch of no bytes, and for a batch of more than 4 GiB.
+pub fn outcome_of<R: Threads + Wait + Sync>(
+    rt: &R,
+    alloc: Global,
+    command: &Command,
+    text: &[u8],
+    giving: Giving,
+    taking: Taking,
+    batch: Option<usize>,
+) -> Option<Outcome> {
+    if command.piece == 0 {
+        return None;
+    }
+    let Some(batch) = batch else {
+        return Some(reported(rt, alloc, command, text, giving, taking));
+    };
+    if batch == 0 || batch > 4_294_967_295 {
+        return None;
+    }
+    Some(reported_in_batches(rt, alloc, command, text, giving, taking, batch))
+}
+
+/// What an answer comes to with its ends.
+fn come_to(
+    answer: Result<Exit, ReportFault>,
+    reader: &End<Giver<'_>>,
+    writer: End<Taker>,
+) -> Outcome {
+    let writer_failed = writer.failed();
+    let End { inner, .. } = writer;
+    let Taker { taken, .. } = inner;
+    Outcome {
+        answer,
+        output: taken,
+        is_read: reader.inner.is_at_end(),
+        reader_failed: reader.failed(),
+        writer_failed,
+    }
+}
+
+fn reported<R: Threads + Wait + Sync>(
+    rt: &R,
+    alloc: Global,
+    command: &Command,
+    text: &[u8],
+    giving: Giving,
+    taking: Taking,
+) -> Outcome
+    requires { 1 ≤ command.now.piece }
+{
+    let mut reader = End::new(Giver::new(text, giving));
+    let mut writer = End::new(Taker::new(alloc, taking));
+    let answer = report(rt, alloc, &mut reader, &mut writer, command, &Passing);
+    come_to(answer, &reader, writer)
+}
+
+fn reported_in_batches<R: Threads + Wait + Sync>(
+    rt: &R,
+    alloc: Global,
+    command: &Command,
+    text: &[u8],
+    giving: Giving,
+    taking: Taking,
+    batch: usize,
+) -> Outcome
+    requires piece { 1 ≤ command.now.piece }
+    requires some { 1 ≤ batch }
+    requires few { batch < 4294967296 }
+{
+    let mut reader = End::new(Giver::new(text, giving));
+    let mut writer = End::new(Taker::new(alloc, taking));
+    let answer = report_in_batches(
+        rt,
+        alloc,
+        &mut reader,
+        &mut writer,
+        command,
+        &Passing,
+        batch,
+    );
+    come_to(answer, &reader, writer)
+}
+
+/// An output that is longer is told by its length.
+const LONG: usize = 32768;
+
+/// What was written, with `|` for a line feed, or `-` for nothing.
+pub fn push_output(out: &mut Out, output: &[u8]) {
+    match output.len() {
+        0 => out.push_str("-"),
+        count if count > LONG => out.put(format_args!("{count} bytes")),
+        _ => push_lines(out, output),
+    }
+}
+
+fn push_lines(out: &mut Out, output: &[u8]) {
+    for byte in output {
+        match byte {
+            b'\n' => out.push_str("|"),
+            _ => out.put(char::from(*byte)),
+        }
+    }
+}
+
+fn answer_word(answer: Result<Exit, ReportFault>) -> &'static str {
+    match answer {
+        Ok(Exit::Good) => "good: ",
+        Ok(Exit::Bad) => "bad: ",
+        Err(ReportFault::Read) => "read failed: ",
+        Err(ReportFault::Write) => "write failed: ",
+        Err(ReportFault::Memory) => "out of memory: ",
+        Err(ReportFault::Pieces) => "too many pieces: ",
+    }
+}
+
+/// Whether the ends have failed as the answer tells, and all of the input was read unless the reader failed.
+fn is_told(outcome: &Outcome) -> bool {
+    outcome.reader_failed == (outcome.answer == Err(ReportFault::Read))
+        && outcome.writer_failed == (outcome.answer == Err(ReportFault::Write))
+        && (outcome.is_read || outcome.reader_failed)
+}
+
+/// The exit or the fault, and what was written.
+pub fn push_outcome(out: &mut Out, outcome: &Outcome) {
+    if !is_told(outcome) {
+        out.push_str("not as its ends tell: ");
+    }
+    out.push_str(answer_word(outcome.answer));
+    push_output(out, &outcome.output);
+}

@@ -1,0 +1,55 @@
+// Gates that stop workers.
+use jx_crew::{Event, Gate, Go};
+use test_words::{Line, LineFault, number_of};
+
+/// The step at which workers are stopped.
+#[derive(Clone, Copy)]
+pub enum StopOn {
+    Nothing,
+    Everything,
+    /// The draw of the piece of this number.
+    Drew(usize),
+    Stored,
+    Took,
+    /// A draw by the worker of this seat.
+    Worker(usize),
+}
+
+impl Gate for StopOn {
+    fn pass(&self, event: Event) -> Go {
+        let stops = match (*self, event) {
+            (StopOn::Everything, _) => true,
+            (StopOn::Drew(number), Event::Drew { piece, .. }) => piece.0 as usize == number,
+            (StopOn::Worker(number), Event::Drew { worker, .. }) => worker == number,
+            (StopOn::Stored, Event::Stored { .. }) => true,
+            (StopOn::Took, Event::Took { .. }) => true,
+            _ => false,
+        };
+        if stops { Go::Stop } else { Go::On }
+    }
+}
+
+/// `open`, `shut`, `stored`, `took`, `drew:PIECE` or `worker:SEAT`.
+pub fn next_gate(line: &mut Line<'_>) -> StopOn {
+    let read = gate_of(line.word());
+    line.read_or(read, StopOn::Nothing)
+}
+
+fn gate_of(word: &str) -> Result<StopOn, LineFault> {
+    match word.split_once(":") {
+        Some(("drew", number)) => Ok(StopOn::Drew(number_of(number)?)),
+        Some(("worker", number)) => Ok(StopOn::Worker(number_of(number)?)),
+        Some(_) => Err(LineFault::NoSuchCall),
+        None => plain_gate_of(word),
+    }
+}
+
+fn plain_gate_of(word: &str) -> Result<StopOn, LineFault> {
+    match word {
+        "open" => Ok(StopOn::Nothing),
+        "shut" => Ok(StopOn::Everything),
+        "stored" => Ok(StopOn::Stored),
+        "took" => Ok(StopOn::Took),
+        _ => Err(LineFault::NoSuchCall),
+    }
+}

@@ -1,0 +1,166 @@
+// Reports in batches whose workers stop: the output is the same.
+ghost use Rattle.std.specs.Prelude.{◌≤◌, ◌<◌};
+
+use jx_crew::Workers;
+use jx_lex::Depth;
+use jx_report::{End, Exit, report_in_batches};
+use jx_run::{FrontMark, NameRule};
+use jx_task::{Command, Task};
+use std::alloc::Global;
+use std::process::Abort;
+use std::sync::Wait;
+use std::sync::atomic::AtomicBool;
+use std::test::Fail;
+use std::thread::Threads;
+use test_memory_of_runs::gates::{MANY, StopFrom};
+use test_memory_of_runs::inputs::settings;
+
+// A text, what is written for it, and how the report ends.
+type Case = (&'static [u8], &'static [u8], Exit);
+
+const MARK_REFUSED: [Case; 5] = [
+    (b"{\"a\":[1,{\"b\":2}]}", b"accepted\n", Exit::Good),
+    (b"[1,22,333,x4]", b"stopped at 10\n", Exit::Bad),
+    (b"[[[[[[[[[1]]]]]]]]]", b"too deep at 8\n", Exit::Bad),
+    (b"[1,\"a\",\xEF\xBB\xBF2]", b"stopped at 7\n", Exit::Bad),
+    (b"\xEF\xBB\xBF[1,22,333,4]", b"stopped at 0\n", Exit::Bad),
+];
+
+const MARK_IGNORED: [Case; 5] = [
+    (
+        b"\xEF\xBB\xBF{\"a\":[1,{\"b\":2}]}",
+        b"accepted\n",
+        Exit::Good,
+    ),
+    (b"\xEF\xBB\xBF[1,22,333,x4]", b"stopped at 13\n", Exit::Bad),
+    (
+        b"\xEF\xBB\xBF[1,2,\"\xE6\x97\xA5\"",
+        b"truncated\n",
+        Exit::Bad,
+    ),
+    (
+        b"\xEF\xBB\xBF[[[[[[[[[1]]]]]]]]]",
+        b"too deep at 11\n",
+        Exit::Bad,
+    ),
+    (b"[1,\"a\",\xEF\xBB\xBF2]", b"stopped at 7\n", Exit::Bad),
+];
+
+#[test]
+fn workers_who_stop_change_no_verdict(rt: HostRuntime) -> Result<(), Fail> {
+    for case in &MARK_REFUSED {
+        check_text(&rt, rt.alloc(), FrontMark::Refused, *case)?;
+    }
+    for case in &MARK_IGNORED {
+        check_text(&rt, rt.alloc(), FrontMark::Ignored, *case)?;
+    }
+    Ok(())
+}
+
+// They stop in each batch. The first one has two events for each of its parts, of which there are three at the most.
+#[test]
+fn workers_who_stop_in_a_sequence_change_no_verdict(rt: HostRuntime) -> Result<(), Fail> {
+    let case: Case = (
+        b"\x1E[1]\n\x1E[2]\n\x1E{\"a\":[3]}\x1E4\n\x1E[5,6",
+        b"1..5 accepted\n6..10 accepted\n11..20 accepted\n21..23 accepted\n24..28 truncated\n",
+        Exit::Bad,
+    );
+    for count in &[2u8, 5] {
+        let mut sequence = command(Task::Seq, 2, FrontMark::Refused, *count)?;
+        sequence.piece = 1;
+        let events = stopped_from_each(&rt, rt.alloc(), &sequence, 12, case)?;
+        assert!(rt; events > 6);
+    }
+    Ok(())
+}
+
+// A command within a depth, for so many workers who read a byte at a time.
+fn command(task: Task, containers: u32, mark: FrontMark, count: u8) -> Result<Command, Fail> {
+    let depth = Depth::new(containers).ok_or("a depth")?;
+    Ok(Command {
+        task,
+        settings: settings(depth, mark, NameRule::Any),
+        workers: Workers::new(count).ok_or("workers")?,
+        piece: 1,
+        quiet: false,
+    })
+}
+
+/// Checks reports whose workers stop from an event on: first from the event 0, then from 1, and so on, until a run meets no
+/// stop. Answers how many runs met a stop, which is how many events there are.
+fn stopped_from_each<R: Abort + Threads + Wait + Sync>(
+    rt: &R,
+    alloc: Global,
+    command: &Command,
+    batch: usize,
+    case: Case,
+) -> Result<u64, Fail>
+    requires piece { 1 ≤ command.now.piece }
+    requires some { 1 ≤ batch }
+    requires few { batch < 4294967296 }
+{
+    let (text, output, exit) = case;
+    let begun = AtomicBool::new(true);
+    for number in 0..MANY {
+        let gate = StopFrom::new(number, &begun);
+        let mut reader = End::new(text);
+        let mut writer = End::new(Vec::new(alloc));
+        let answer = report_in_batches(rt, alloc, &mut reader, &mut writer, command, &gate, batch);
+        assert_eq!(rt; answer, Ok(exit), "{text:?}, stopped at {number}");
+        assert_eq!(rt;
+            writer.inner.as_slice(),
+            output,
+            "{text:?}, stopped at {number}"
+        );
+        assert!(rt; !gate.was_ignored(), "{text:?}, stopped at {number}");
+        if !gate.has_stopped() {
+            return Ok(number);
+        }
+    }
+    Err("a run that meets no stop".into())
+}
+
+/// How many bytes of a text are read at a time.
+const BATCH: usize = 8;
+
+/// Checks a text whose workers stop in any batch. The first batch of each text meets a stop. What is behind a fault asks no
+/// gate, so that only an accepted text has more events than one batch. One worker asks as it begins each piece. Of several, the
+/// first asks before and behind the front, and all of them ask after each step with a piece. Where names have to be unique, no
+/// gate is asked.
+fn check_stops<R: Abort + Threads + Wait + Sync>(
+    rt: &R,
+    alloc: Global,
+    mark: FrontMark,
+    count: u8,
+    case: Case,
+) -> Result<(), Fail> {
+    let mut command = command(Task::Check, 8, mark, count)?;
+    command.piece = 1;
+    let batches = stopped_from_each(rt, alloc, &command, BATCH, case)?;
+    command.settings.names = NameRule::Unique;
+    let by_names = stopped_from_each(rt, alloc, &command, BATCH, case)?;
+    let of_one_batch = if count == 1 {
+        BATCH as u64
+    } else {
+        2 * u64::from(count)
+    };
+    assert!(rt; batches > 0, "{:?} meets no stop", case.0);
+    assert!(rt; by_names == 0, "{:?} asks by names", case.0);
+    if case.2 == Exit::Good {
+        assert!(rt; batches > of_one_batch);
+    }
+    Ok(())
+}
+
+// A text by one, two and five workers.
+fn check_text<R: Abort + Threads + Wait + Sync>(
+    rt: &R,
+    alloc: Global,
+    mark: FrontMark,
+    case: Case,
+) -> Result<(), Fail> {
+    for count in &[1u8, 2, 5] {
+        check_stops(rt, alloc, mark, *count, case)?;
+    }
+    Ok(())
+}

@@ -1,0 +1,28 @@
+use Rattle.std.proofs.Common.{◌≡◌, ◌-◌, length, take, drop, sym, subst, arith, length-drop}
+use Rattle.std.proofs.lemmas.List.{take_all}
+use Rattle.jx_reduce.specs.Reductions.{IsBefore}
+use Rattle.jx_reduce.proofs.Cuts.{RisingFrom-take, RisingFrom-drop, before_of_parts}
+use Rattle.test_memory_of_runs.proofs.tests.marks.lists.joined_at.Goals as goal
+
+pub of-requires : goal.of-requires
+of-requires c = record { rising = RisingFrom-take c.args.cut 0 c.args.marks.now c.requires.rising }
+
+pub of-requires-2 : goal.of-requires-2
+of-requires-2 c =
+    let all : take (length c.args.marks.now - c.args.cut) (drop c.args.cut c.args.marks.now) ≡ drop c.args.cut c.args.marks.now
+    = take_all _ (drop c.args.cut c.args.marks.now) (omega (arith, length-drop c.args.cut c.args.marks.now)) in
+    record { rising = rw all (RisingFrom-drop c.args.cut 0 c.args.marks.now c.requires.rising) }
+
+pub join-requires-clause-before : goal.join-requires-clause-before
+join-requires-clause-before c =
+    let all : take (length c.args.marks.now - c.args.cut) (drop c.args.cut c.args.marks.now) ≡ drop c.args.cut c.args.marks.now
+    = take_all _ (drop c.args.cut c.args.marks.now) (omega (arith, length-drop c.args.cut c.args.marks.now)) in
+    before_of_parts c.args.cut c.args.marks.now c.in_ok-left.left c.in_ok-right.right c.requires.rising c.in_ok-left.ensures.offsets (rw all at c.in_ok-right.ensures.offsets)
+
+pub join-requires-in-Err-clause-before : goal.join-requires-in-Err-clause-before
+join-requires-in-Err-clause-before c =
+    let all : take (length c.args.marks.now - c.args.cut) (drop c.args.cut c.args.marks.now) ≡ drop c.args.cut c.args.marks.now
+    = take_all _ (drop c.args.cut c.args.marks.now) (omega (arith, length-drop c.args.cut c.args.marks.now)) in
+    let was = before_of_parts c.args.cut c.args.marks.now c.in_ok-left.left c.in_ok-right.right c.requires.rising c.in_ok-left.ensures.offsets (rw all at c.in_ok-right.ensures.offsets) in
+    let same = c.in-Err.ensures.err in
+    subst (λ r. IsBefore c.in-Err.field-0.left r) (sym same.1) (subst (λ l. IsBefore l c.in_ok-right.right) (sym same.0) was)
