@@ -73,7 +73,7 @@ class Player:
         """A range of bytes that cuts a character. What is left of it is a fault on its own line."""
         session = sessions.Session(self.readers, random.Random(0), encoding="utf-8")
         uri = sessions.URIS[0]
-        session.open(uri, "\n€")
+        session.open_as("json", uri, "\n€")
         cut = {"start": {"line": 1, "character": 0}, "end": {"line": 1, "character": 1}}
         session.send_changes(uri, [{"range": cut, "text": ""}], b"\n" + "€".encode()[1:])
         is_told = session.wanted.pop()

@@ -225,8 +225,10 @@ class Session:
         return "".join(self.dice.choice(PIECES) for _ in range(self.dice.choice([0, 1, 3, 12, 60])))
 
     def open(self, uri, text):
+        self.open_as(self.dice.choice(["json", "json", "json"] + list(LANGUAGES)), uri, text)
+
+    def open_as(self, language, uri, text):
         self.documents[uri] = text.encode()
-        language = self.dice.choice(["json", "json", "json"] + list(LANGUAGES))
         (self.of_lines.add if LANGUAGES[language] or uri.endswith(ENDINGS) else self.of_lines.discard)(uri)
         document = {"uri": uri, "version": 1, "text": text, **({"languageId": language} if language else {})}
         self.send({"method": "textDocument/didOpen", "params": {"textDocument": document}})

@@ -14,9 +14,10 @@ LINES_URI = "file:///home/ann/text.jsonl"
 
 
 def frame(body):
-    """A frame of a message, or of bytes as they are."""
+    """A frame of a message, or of bytes as they are. Half of a surrogate pair alone is spelt by an escape."""
     if not isinstance(body, bytes):
-        body = json.dumps(body, ensure_ascii=False).encode()
+        text = json.dumps(body, ensure_ascii=False)
+        body = (json.dumps(body) if re.search("[\ud800-\udfff]", text) else text).encode()
     return b"Content-Length: %d\r\n\r\n" % len(body) + body
 
 
