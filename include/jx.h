@@ -697,7 +697,7 @@ uint32_t jx_run_of(const uint8_t *part, size_t size, uint64_t from, uint32_t dep
 /* Writes the run of both parts' bytes, those of `right` behind those of `left`, which must end where `right` begins. Joins
  * may be made in any order: (a b) c comes to the verdict of a (b c). `run` and `run_size` as with jx_run_of.
  *
- * Allocates memory in proportion to the runs and frees it. Returns JX_OK, JX_NO_ROOM, JX_NO_MEMORY, JX_NOT_A_RUN,
+ * Allocates memory in proportion to the runs, the joined one too, and frees it. Returns JX_OK, JX_NO_ROOM, JX_NO_MEMORY, JX_NOT_A_RUN,
  * JX_OTHER_DEPTH, JX_NOT_NEIGHBOURS, also where one run tells its offset and the other does not, or JX_TOO_MANY_BYTES. */
 uint32_t jx_run_join(const uint8_t *left, size_t left_size, const uint8_t *right, size_t right_size, uint8_t *run, size_t room,
                      size_t *run_size);

@@ -41,7 +41,8 @@ uint32_t run_join(input *in, const run *left, const run *right, run *joined) {
     size_t told = 0x5A;
     CALL(status, jx_run_join(left->bytes, left->size, right->bytes, right->size, room, JX_RUN_MOST(JX_DEPTH_MAX), &told),
          told == 0x5A && room[0] == 0x5A);
-    require_bounded(library_bytes(), left->size + right->size, 24, "a join takes too much memory");
+    /* The joined run may be several times as large as both: its forms stand once for each transition that leads to them. */
+    require_bounded(library_bytes(), left->size + right->size + told, 24, "a join takes too much memory");
     if (status != JX_OK) return status;
     *joined = run_from(room, told);
     REQUIRE(record_read(joined->bytes, joined->size, &joined->read), "a joined run is a record");
