@@ -4,7 +4,7 @@ _jx() {
     COMPREPLY=()
     for ((at = 1; at < COMP_CWORD; at++)); do
         case ${COMP_WORDS[at]} in
-        check | explain | index | at | get | each | seq | lines | save | part | join | whole | help)
+        check | explain | index | at | get | each | seq | lines | save | split | part | join | whole | help)
             command=${COMP_WORDS[at]}
             break
             ;;
@@ -24,7 +24,7 @@ _jx() {
         mapfile -t COMPREPLY < <(compgen -W 'plain gnu json' -- "$word")
         return
         ;;
-    --chunk | --depth | --from | --piece | --to | --workers) return ;;
+    --chunk | --depth | --from | --parts | --piece | --to | --workers) return ;;
     esac
     case $command in
     check | explain | index | each | seq | lines | save)
@@ -36,17 +36,18 @@ _jx() {
         ;;
     esac
     case $command in
-    '') mapfile -t COMPREPLY < <(compgen -W 'check explain index at get each seq lines save part join whole help -h --help -V --version' -- "$word") ;;
-    help) mapfile -t COMPREPLY < <(compgen -W 'check explain index at get each seq lines save part join whole' -- "$word") ;;
+    '') mapfile -t COMPREPLY < <(compgen -W 'check explain index at get each seq lines save split part join whole help -h --help -V --version' -- "$word") ;;
+    help) mapfile -t COMPREPLY < <(compgen -W 'check explain index at get each seq lines save split part join whole' -- "$word") ;;
     check) mapfile -t COMPREPLY < <(compgen -W '--file --depth --workers --piece --ignore-bom --unique-names -q --quiet -l --list --format --progress -h --help' -- "$word") ;;
     explain) mapfile -t COMPREPLY < <(compgen -W '--file --depth --workers --piece --ignore-bom --unique-names --color -h --help' -- "$word") ;;
     index) mapfile -t COMPREPLY < <(compgen -W '--file --depth --workers --piece --ignore-bom --unique-names -h --help' -- "$word") ;;
     at) mapfile -t COMPREPLY < <(compgen -W '--file --depth --workers --piece --ignore-bom --unique-names --pointers --index -h --help' -- "$word") ;;
-    get) mapfile -t COMPREPLY < <(compgen -W '--file --depth --workers --piece --ignore-bom --unique-names --pointers -c --compact -r --raw --lines --skip-blank -h --help' -- "$word") ;;
-    each) mapfile -t COMPREPLY < <(compgen -W '--names --file --depth --ignore-bom --progress -h --help' -- "$word") ;;
+    get) mapfile -t COMPREPLY < <(compgen -W '--file --depth --workers --piece --ignore-bom --unique-names --pointers -c --compact -r --raw --lines --skip-blank --index -h --help' -- "$word") ;;
+    each) mapfile -t COMPREPLY < <(compgen -W '--names --file --depth --workers --piece --ignore-bom --progress -h --help' -- "$word") ;;
     seq) mapfile -t COMPREPLY < <(compgen -W '--file --depth --workers --piece --ignore-bom --unique-names --live -q --quiet -h --help' -- "$word") ;;
     lines) mapfile -t COMPREPLY < <(compgen -W '--file --depth --workers --piece --ignore-bom --skip-blank -q --quiet -h --help' -- "$word") ;;
     save) mapfile -t COMPREPLY < <(compgen -W '--file --depth --chunk --ignore-bom --unique-names --progress -h --help' -- "$word") ;;
+    split) mapfile -t COMPREPLY < <(compgen -W '--index --file --parts -h --help' -- "$word") ;;
     part) mapfile -t COMPREPLY < <(compgen -W '--file --from --depth -h --help' -- "$word") ;;
     join) mapfile -t COMPREPLY < <(compgen -W '--file --depth -h --help' -- "$word") ;;
     whole) mapfile -t COMPREPLY < <(compgen -W '--file --to --from --depth -q --quiet -h --help' -- "$word") ;;

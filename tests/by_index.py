@@ -1,6 +1,7 @@
 """Pointers by a saved index: `jx at --index` answers as a reader does that is written from RFC 8259 and RFC 6901 alone. Texts are those that
 saved.py makes, and their indexes too. Then what is wrong with a text or an index is told by its name, or the answer is that on the text
-that was indexed. The last line is `N passed, M failed`.
+that was indexed. `jx get --index` writes and tells what `jx get` does of that text, or whole lines for the first of the pointers before
+such a fault; of a value in a chunk that has changed there is no line. The last line is `N passed, M failed`.
 
     by_index.py SEED COUNT    so many random texts
 """
@@ -149,6 +150,22 @@ def looked_up(index, text, pointers, words=()):
     return done.stdout.decode(), done.stderr.decode(), done.returncode
 
 
+# How values are written.
+FORMS = ([], ["-c"], ["-r"], ["-c", "-r"])
+
+
+def got(text, pointers, words):
+    """What `jx get` writes and tells of a text, and its status."""
+    pathlib.Path("text").write_bytes(text)
+    done = subprocess.run([PROGRAM, "get", "--file", "text", *words, "--", *(pointer.encode() for pointer in pointers)], capture_output=True)
+    return done.stdout, done.stderr.decode(), done.returncode
+
+
+def got_by_index(index, text, pointers, words=()):
+    pathlib.Path("text.jxi").write_bytes(index)
+    return got(text, pointers, ["--index", "text.jxi", *words])
+
+
 class Case:
     """A random text, its index, and pointers into it."""
 
@@ -165,8 +182,20 @@ class Case:
 
     def changed(self, other):
         """That each chunk in which the text differs is told to be changed."""
+        return [fault("text: changed in %d..%d" % span) for span in self.chunks_changed(other)]
+
+    def chunks_changed(self, other):
         spans = [(at, min(at + self.chunk, len(self.text))) for at in range(0, len(self.text), self.chunk)]
-        return [fault("text: changed in %d..%d" % (low, high)) for low, high in spans if self.text[low:high] != other[low:high]]
+        return [(low, high) for low, high in spans if self.text[low:high] != other[low:high]]
+
+    def values(self):
+        """Where the value of each pointer stands, and nothing where it has none."""
+        answers = [answer(self.root, pointer).split() for pointer in self.pointers]
+        return [tuple(map(int, words[2].split(".."))) if words[0] == "found" else (0, 0) for words in answers]
+
+    def got(self, form=()):
+        """What `jx get` writes and tells of the text."""
+        return got(self.text, self.pointers, [*form, *(["--ignore-bom"] if self.ignores else [])])
 
 
 def as_it_is(rng, case):
@@ -174,6 +203,38 @@ def as_it_is(rng, case):
     if rng.random() < 0.1 and not any("\n" in pointer or "\r" in pointer for pointer in case.pointers):
         pathlib.Path("list").write_text("".join(pointer + "\n" for pointer in case.pointers), newline="")
         same("a list of %r into %r" % (case.pointers, case.text), [case.right], looked_up(case.index, case.text, [], ["--pointers", "list"]))
+
+
+def values_as_they_are(rng, case):
+    form = rng.choice(FORMS)
+    same("values of %r by %r in %r" % (case.pointers, form, case.text), [case.got(form)], got_by_index(case.index, case.text, case.pointers, form))
+    if rng.random() < 0.1 and not any("\n" in pointer or "\r" in pointer for pointer in case.pointers):
+        pathlib.Path("list").write_text("".join(pointer + "\n" for pointer in case.pointers), newline="")
+        same("values of a list of %r in %r" % (case.pointers, case.text), [case.got(form)], got_by_index(case.index, case.text, [], [*form, "--pointers", "list"]))
+
+
+def values_of_another_text(rng, case):
+    """A byte of the text is another. Whole lines stand before the fault, and none of a value with bytes in the chunk that has it."""
+    at = rng.randrange(len(case.text))
+    flipped = case.text[:at] + bytes([case.text[at] ^ 1 << rng.randrange(8)]) + case.text[at + 1:]
+    (low, high), = case.chunks_changed(flipped)
+    values = case.values()
+    lines = [case.text[start:end] + b"\n" for start, end in values]
+    within = [number for number, (start, end) in enumerate(values) if start < high and low < end]
+    most = within[0] if within else len(lines)
+    told = "jx: text: changed in %d..%d\n" % (low, high)
+    wanted = [(b"".join(lines[:count]), told, 2) for count in range(most + 1)]
+    if not within:
+        wanted.append(case.got())
+    same("values, and the byte %d of %r is another" % (at, case.text), wanted, got_by_index(case.index, flipped, case.pointers))
+
+
+def values_without_a_text(rng, case):
+    """The text has another size, or the index is none: there is no output."""
+    other = rng.choice((case.text[:-1], case.text + b" ", b""))
+    told = "jx: text: %d bytes, and the index is of %d\n" % (len(other), len(case.text))
+    same("values of %r in place of %r" % (other, case.text), [(b"", told, 2)], got_by_index(case.index, other, case.pointers))
+    same("values by no index", [(b"", "jx: text.jxi: not a saved index\n", 2)], got_by_index(b"x" + case.index[1:], case.text, case.pointers))
 
 
 def of_another_text(rng, case):
@@ -216,8 +277,24 @@ def of_another_index(rng, case):
     same("another index %r of %r" % (index, case.text), wanted, looked_up(index, case.text, case.pointers))
 
 
+def of_many_chunks(rng):
+    """Of a text of more chunks than a block of blocks has, so that whole blocks are passed over: 64 times 64 chunks of 64 bytes."""
+    values = []
+    while sum(map(len, values)) < 70 * 64 * 64:
+        values.append(saved.value(rng, rng.choice((0, 1, 2, 4))))
+    text = ('{"front":[1,{}],"all":[%s],"behind":{"last":[7]}}' % ",".join(values)).encode("utf-8", "surrogatepass")
+    pathlib.Path("many").write_bytes(text)
+    index = subprocess.run([PROGRAM, "save", "--chunk", "64", "many"], stdout=subprocess.PIPE).stdout
+    root = tree(text, 0)
+    every = [pointer for pointer in all_pointers(root) if can_be_a_word(pointer)]
+    for count in (1, 1, 1, 2, 5, 40):
+        pointers = rng.sample(every, count) + ["/all/%d" % rng.randrange(len(values)), "/behind/last/0", "/all/%d" % len(values)]
+        same("pointers %r into many chunks" % pointers, [right(root, pointers)], looked_up(index, text, pointers))
+
+
 def main():
     rng = random.Random(int(sys.argv[1]))
+    of_many_chunks(rng)
     last = Case(rng)
     for _ in range(int(sys.argv[2])):
         case = Case(rng)
@@ -225,8 +302,12 @@ def main():
         of_another_text(rng, case)
         of_the_index_of_another(rng, case, last)
         of_another_index(rng, case)
+        values_as_they_are(rng, case)
+        values_of_another_text(rng, case)
+        values_without_a_text(rng, case)
         last = case
     print("%d passed, %d failed" % (passed, failed))
 
 
-main()
+if __name__ == "__main__":
+    main()

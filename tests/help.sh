@@ -7,7 +7,7 @@ help_on() { "$program" $1 "$2" 2>&1; }
 
 the_help_on_each_command_fits_and_is_complete() {
     local command flag text short long
-    for command in '' check explain index at get each seq lines save part join whole; do
+    for command in '' check explain index at get each seq lines save split part join whole; do
         for flag in -h --help; do
             text=$(help_on "$command" $flag)
             same "jx $command $flag: no line has more than 79 columns" '' "$(printf '%s\n' "$text" | grep -E '.{80}')"
@@ -61,7 +61,6 @@ the_nearest_right_word_is_told() {
     has 'quiet is for check and seq alone' "error: unexpected argument '-q' found" "$(said '' at -q /a)"
     has 'quiet is not for get' "error: unexpected argument '-q' found" "$(said '' get -q /a)"
     has 'a wrong command' "'lines'" "$(said '' line)"
-    has 'workers are not for each' "error: unexpected argument '--workers' found" "$(said '' each --workers 2)"
     has 'quiet is not for each' "error: unexpected argument '-q' found" "$(said '' each -q)"
     has 'each takes two words' "error: unexpected argument 'b' found" "$(said '' each /a a b)"
     has 'quiet is not for part' "error: unexpected argument '-q' found" "$(said '' part -q)"
@@ -72,7 +71,12 @@ the_nearest_right_word_is_told() {
     has 'the depth stands in the index' "error: the argument '--index <FILE>' cannot be used with '--depth <N>'" "$(said '' at --index a.jxi --file a --depth 3 /a)"
     has 'so does the byte order mark' "cannot be used with '--ignore-bom'" "$(said '' at --index a.jxi --file a --ignore-bom /a)"
     has 'so do unique names' "cannot be used with '--unique-names'" "$(said '' at --index a.jxi --file a --unique-names /a)"
-    has 'an index is for at alone' "error: unexpected argument '--index' found" "$(said '' check --index a.jxi)"
+    has 'the depth of get too' "error: the argument '--index <FILE>' cannot be used with '--depth <N>'" "$(said '' get --index a.jxi --file a --depth 3 /a)"
+    has 'an index is of one text' "error: the argument '--index <FILE>' cannot be used with '--lines'" "$(said '' get --index a.jxi --file a --lines /a)"
+    has 'parts need a number' '  --parts <N>' "$(said '' split --index a.jxi --file a)"
+    has 'split reads no standard input' '  --file <FILE>' "$(said '' split --index a.jxi --parts 2)"
+    has 'split has no depth' "error: unexpected argument '--depth' found" "$(said '' split --index a.jxi --file a --parts 2 --depth 3)"
+    has 'an index is not for check' "error: unexpected argument '--index' found" "$(said '' check --index a.jxi)"
     has 'whole needs the end' 'error: the following required arguments were not provided:' "$(said '' whole)"
     has 'color is for explain alone' "error: unexpected argument '--color' found" "$(said '' check --color never)"
     has 'a format is for check alone' "error: unexpected argument '--format' found" "$(said '' explain --format json)"

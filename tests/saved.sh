@@ -1,7 +1,7 @@
 #!/usr/bin/env bash
 # Saved indexes: those of texts that dice make, in chunks from 64 bytes and fed by slices of several sizes, are byte by byte those that
 # saved.py makes by docs/FORMAT.md and RFC 8259 alone; bytes of indexes, intact and not, say what it reads in them, or are refused for the same.
-# `jx save` writes the same as saved.py, and of what is no text nothing. `jx at --index` answers as by_index.py does.
+# `jx save` writes the same as saved.py, and of what is no text nothing. `jx at --index` and `jx get --index` answer as by_index.py does.
 . "$(dirname "$0")/lib.sh"
 calls=$root/crates/test_calls_of_indexes/out/test_calls_of_indexes
 # Another one each day; JX_SEED plays one again.
@@ -92,7 +92,7 @@ faults_are_told() {
 pointers_by_an_index_are_those_of_a_reader() {
     python3 "$root/tests/by_index.py" "$seed" 300 >answers
     same "pointers by indexes of seed $seed" '' "$(grep -v ' passed, ' answers | head -n 20 | cut -c 1-600)"
-    same 'each text has four answers or more' yes "$([ "$(tail -n 1 answers | cut -d ' ' -f 1)" -ge 1200 ] && echo yes)"
+    same 'each text has eight answers or more' yes "$([ "$(tail -n 1 answers | cut -d ' ' -f 1)" -ge 2400 ] && echo yes)"
 }
 
 # looked WORD..: what looking up by an index comes to.

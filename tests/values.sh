@@ -22,6 +22,8 @@ values_are_those_that_pointers_lead_to() { compared values.py; }
 
 values_of_lines_are_those_that_pointers_lead_to() { compared line_values.py; }
 
+elements_are_one_for_all_workers() { compared elements_by_workers.py; }
+
 each_pointer_has_its_line() {
     same 'a line for each pointer, in order' "$(lines 'status 0' 'out: 2' 'out: 1')" "$(said '{"a":1,"b":2}' get /b /a)"
     same 'bytes as they stand' "$(lines 'status 0' 'out: "\u0061\/"')" "$(said '{"a" : "\\u0061\\/" }' get /a)"
@@ -88,6 +90,34 @@ long_values_are_written_whole() {
 text = open("text").read()[:-1]
 open("wanted", "w").write("\"" + "x" * 300000 + "\"\n0\n" + text + "\n49999\n")'
     same 'values longer than a buffer' same "$(cmp -s wanted got && echo same)"
+}
+
+values_by_an_index() {
+    printf '{"a": [1,\n2],"b":"x\\u0041","c":"%0300d"}' 0 >many
+    "$program" save --chunk 64 many >many.jxi
+    same 'as without an index' "$(said '' get --file many /a /b /c '' /d x)" "$(said '' get --index many.jxi --file many /a /b /c '' /d x)"
+    same 'compact' "$(lines 'status 0' 'out: [1,2]')" "$(said '' get -c --index many.jxi --file many /a)"
+    same 'a text' "$(lines 'status 0' 'out: xA')" "$(said '' get -r --index many.jxi --file many /b)"
+    printf '/b\n/a/1' >list
+    same 'a list' "$(lines 'status 0' 'out: 1' 'out: "x\u0041"' 'out: 2')" "$(said '' get --index many.jxi --file many --pointers list /a/0)"
+    (head -c 200 many; printf 1; tail -c +202 many) >changed
+    same 'whole lines stand before a fault' "$(lines 'status 2' 'out: [1,' 'out: 2]' 'err: jx: changed: changed in 192..256')" \
+        "$(said '' get --index many.jxi --file changed /a /c /b)"
+    same 'what is not read may have changed' "$(lines 'status 0' 'out: 1')" "$(said '' get --index many.jxi --file changed /a/0)"
+    same 'the look-up needs the end' "$(lines 'status 2' 'err: jx: changed: changed in 320..334')" \
+        "$( (head -c 333 many; printf ' ') >changed; said '' get --index many.jxi --file changed /a)"
+    same 'another size' "$(lines 'status 2' 'err: jx: list: 7 bytes, and the index is of 334')" "$(said '' get --index many.jxi --file list /a)"
+    same 'a text for an index' "$(lines 'status 2' 'err: jx: many: not a saved index')" "$(said '' get --index many --file many /a)"
+    same 'no index' "$(lines 'status 2' 'err: jx: missing: cannot open: No such file or directory')" "$(said '' get --index missing --file many /a)"
+    python3 -c 'print("[%s,%s]" % ("\"" + "x" * 300000 + "\"", ",".join(map(str, range(50000)))), end="")' >long
+    "$program" save long >long.jxi
+    "$program" get /0 /1 '' /50000 <long >wanted
+    "$program" get --index long.jxi --file long /0 /1 '' /50000 >got
+    same 'values of many chunks' same "$(cmp -s wanted got && echo same)"
+    if [ -w /dev/full ]; then
+        same 'nowhere to write to by an index' "$(lines 'jx: write failed' 'status 2')" "$("$program" get --index many.jxi --file many /a 2>&1 >/dev/full; echo "status $?")"
+        same 'nowhere to tell to by an index' "$(lines '' 'status 1')" "$("$program" get --index many.jxi --file many /d 2>/dev/full; echo "status $?")"
+    fi
 }
 
 what_cannot_be_written_or_told() {
@@ -255,8 +285,10 @@ tests values_are_those_that_pointers_lead_to \
     strings_are_written_as_texts \
     pointers_are_lines_of_a_file \
     long_values_are_written_whole \
+    values_by_an_index \
     what_cannot_be_written_or_told \
     each_element_has_its_line \
+    elements_are_one_for_all_workers \
     a_pointer_leads_to_the_container \
     lines_come_while_the_input_is_read \
     long_elements_and_many_are_written_whole \

@@ -1,7 +1,7 @@
 #!/usr/bin/env python3
-"""Writes the manual page and the completions of bash, zsh and fish from what the program says of itself.
+"""Writes the manual page, the completions of bash, zsh and fish, and README's table of options from what the program says of itself.
 
-    tools/words.py PROGRAM            writes jx.1 and completions/
+    tools/words.py PROGRAM            writes jx.1, completions/ and the table
     tools/words.py --check PROGRAM    writes nothing, and tells which of them are old
 
 The help texts stand in crates/jx_command alone. What only the manual page says stands in tools/jx.1.in: a line that begins with
@@ -32,7 +32,7 @@ class Option:
         value = re.search(r"[<\[]([A-Z]+)[>\]]", head)
         self.value = value[1] if value else None
         self.paragraphs = []
-        self.short = ""
+        self.short, self.default = "", ""
 
     def kind(self):
         """What its value is: `file`, `number`, or the words that it may be."""
@@ -83,6 +83,8 @@ class Command:
             option.paragraphs = [paragraph for paragraph in option.paragraphs if paragraph]
             found = re.search(r"^ +%s  +(.*)$" % re.escape(option.head), text, re.M)
             option.short = re.sub(r" \[default: .*\]| \(see more .*\)|'", "", found[1]) if found else ""
+            default = re.search(r"\[default: (.*?)\]", found[1]) if found else None
+            option.default = default[1] if default else ""
 
     def takes_files(self):
         return any(word.value == "FILE" for word in self.words)
@@ -368,6 +370,27 @@ def fish(commands):
     }
 
 
+# ---- README
+
+HEAD = "| Option | Meaning |\n|---|---|\n"
+# An option that fewer commands take is one of theirs.
+SHARED = 4
+
+
+def table(commands):
+    """README with a row for each option that several commands take; each command has a row of its own there."""
+    rows = []
+    for option, names in merged(commands, "options", lambda option: option.head):
+        if len(names) >= SHARED:
+            default = " Default: %s." % option.default if option.default else ""
+            rows.append("| %s | %s.%s |\n" % (", ".join("`%s`" % word for word in bare(option.head).split(", ")), option.short, default))
+    before, found, behind = (ROOT / "README.md").read_text().partition(HEAD)
+    missing = [command.name for command in commands if not re.search(r"^\| `%s[` ]" % command.name, before, re.M)]
+    if not found or missing:
+        sys.exit("README.md has no row for %s" % (", ".join(missing) or "options"))
+    return before + found + "".join(rows) + behind[behind.index("\n\n") + 1:]
+
+
 def main(words):
     only_check = words[:1] == ["--check"]
     program = str(pathlib.Path(words[-1]).resolve())
@@ -379,6 +402,7 @@ def main(words):
         "completions/jx.bash": bash(commands),
         "completions/_jx": zsh(commands),
         "completions/jx.fish": fish(commands),
+        "README.md": table(commands),
     }
     old = [name for name, text in made.items() if not (ROOT / name).exists() or (ROOT / name).read_text() != text]
     for name in old:

@@ -5,16 +5,24 @@ use crate::fault::Fault;
 use crate::input::{fault_of_report, open_watched};
 use crate::output::Output;
 use jx_command::EachOrder;
+use jx_crew::{Crew, OpenGate};
 use jx_each::LineContent;
 use jx_files::Status;
 use jx_index::Pointer;
 use jx_report::End;
 use jx_values::report_elements;
+use std::sync::Wait;
+use std::thread::Threads;
 
-/// Reads what an order names, and writes the elements of the container that it asks for, or tells that its pointer is none.
-pub fn write_elements_of(rt: &HostRuntime, order: &EachOrder<'_>) -> Result<Status, Fault> {
+/// Reads what an order names by its workers, and writes the elements of the container that it asks for, or tells that its pointer
+/// is none.
+pub fn write_elements_of<R: Threads + Wait + Sync>(
+    rt: &HostRuntime,
+    threads: &R,
+    order: &EachOrder<'_>,
+) -> Result<Status, Fault> {
     match Pointer::read(order.pointer) {
-        Ok(_) => write_elements(rt, order),
+        Ok(_) => write_elements(rt, threads, order),
         Err(fault) => Err(Fault::Pointer(fault)),
     }
 }
@@ -29,20 +37,31 @@ fn content_of(order: &EachOrder<'_>) -> LineContent {
 }
 
 /// The same, where the pointer is one.
-fn write_elements(rt: &HostRuntime, order: &EachOrder<'_>) -> Result<Status, Fault>
+fn write_elements<R: Threads + Wait + Sync>(
+    rt: &HostRuntime,
+    threads: &R,
+    order: &EachOrder<'_>,
+) -> Result<Status, Fault>
     requires { IsPointer order.now.pointer.now }
 {
+    let crew = Crew {
+        rt: threads,
+        alloc: rt.alloc(),
+        workers: order.workers,
+        gate: &OpenGate,
+    };
     let mut reader = open_watched(rt, order.input, order.progress)?;
     let mut writer = End::new(Output::of(rt));
     let mut errors = End::new(rt.stderr());
     match report_elements(
-        rt.alloc(),
+        &crew,
         &mut reader,
         &mut writer,
         &mut errors,
         &order.settings,
         content_of(order),
         order.pointer,
+        order.piece,
     ) {
         Ok(exit) => Ok(Status::of_exit(exit)),
         Err(fault) => Err(fault_of_report(rt, order.input, &reader, &writer, fault)),

@@ -14,6 +14,7 @@ mod judged_lines;
 mod line_values;
 mod lines;
 mod listing;
+mod look_faults;
 mod misplaced;
 mod output;
 mod parts;
@@ -21,8 +22,10 @@ mod places;
 mod progress;
 mod reporting;
 mod saves;
+mod splits;
 mod text_file;
 mod values;
+mod values_by_index;
 
 use elements::write_elements_of;
 use explaining::{explain_inputs, marking_for};
@@ -40,6 +43,7 @@ use parts::work_on_parts;
 use places::write_places;
 use reporting::report_on_inputs;
 use saves::save_index;
+use splits::write_parts;
 use std::env;
 use std::io::ErrorKind;
 use std::process::ExitCode;
@@ -106,10 +110,11 @@ fn answer<R: Threads + Wait + Sync>(rt: &HostRuntime, threads: &R) -> Result<Sta
         Order::Report(request) => answer_request(rt, threads, request),
         Order::Parts(order) => work_on_parts(rt, &order),
         Order::Values(order) => write_values_of(rt, threads, order),
-        Order::Each(order) => write_elements_of(rt, &order),
+        Order::Each(order) => write_elements_of(rt, threads, &order),
         Order::Lines(order) => tell_lines_of(rt, threads, order),
         Order::Live(order) => tell_elements_of(rt, threads, order),
         Order::Save(order) => save_index(rt, &order),
+        Order::Split(order) => write_parts(rt, &order),
     }
 }
 

@@ -1,48 +1,13 @@
 // Pointers that are looked up in a text by its index.
 use crate::fault::Fault;
-use crate::input::{Reader, open, told_of};
-use crate::output::{Output, Writer};
+use crate::input::open;
+use crate::look_faults::fault_of_look;
+use crate::output::Output;
 use crate::text_file::TextFile;
 use jx_command::Input;
-use jx_files::{FileFault, Status, shown_name};
-use jx_report::{End, ReportFault, write_whole};
-use jx_walk_report::{LookFault, report_places};
-use std::alloc::AllocError;
-
-/// Tells what is wrong with a file.
-fn told_of_file(rt: &HostRuntime, path: &str, fault: &LookFault) -> Result<Fault, AllocError> {
-    let alloc = rt.alloc();
-    let mut line = Vec::from_slice(alloc, b"jx: ")?;
-    line.extend_from_slice(&shown_name(alloc, path)?)?;
-    let words = format!(in alloc; ": {fault}\n")?;
-    line.extend_from_slice(words.as_bytes())?;
-    let _ = write_whole(&mut End::new(rt.stderr()), &line);
-    Ok(Fault::Told)
-}
-
-/// What the fault of a look-up comes to. That of a file is told.
-fn fault_of_look(
-    rt: &HostRuntime,
-    index: &str,
-    path: &str,
-    saved: &Reader<'_>,
-    text: &TextFile,
-    writer: &Writer,
-    fault: &LookFault,
-) -> Result<Fault, AllocError> {
-    match fault {
-        LookFault::SavedRead => {
-            let why = FileFault::Read(saved.inner.why);
-            Ok(told_of(rt, Input::File(index), why))
-        }
-        LookFault::TextRead => Ok(told_of(rt, Input::File(path), FileFault::Read(text.why))),
-        LookFault::Write if writer.inner.is_closed => Ok(Fault::Closed),
-        LookFault::Write => Ok(Fault::Report(ReportFault::Write)),
-        LookFault::Memory => Err(AllocError),
-        LookFault::Saved(_) | LookFault::NoText => told_of_file(rt, index, fault),
-        LookFault::OtherSize { .. } | LookFault::Changed(_) => told_of_file(rt, path, fault),
-    }
-}
+use jx_files::Status;
+use jx_report::End;
+use jx_walk_report::report_places;
 
 /// Writes where pointers lead in the text of a file, by the index in another one.
 pub fn write_places(

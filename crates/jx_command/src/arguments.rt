@@ -14,6 +14,7 @@ use crate::parts_arguments::parts_order_from;
 use crate::parts_command::PartsCommand;
 use crate::request::{Color, Request, Told};
 use crate::save_arguments::{SAVE, save_order_from};
+use crate::split_arguments::{SPLIT, split_order_from};
 use crate::subcommand::Subcommand;
 use crate::values_arguments::{GET, values_order_from};
 use clap::ArgMatches;
@@ -242,6 +243,9 @@ fn order_from<'a>(
     }
     if name == SAVE {
         return Ok(Order::Save(save_order_from(options)?));
+    }
+    if name == SPLIT {
+        return Ok(Order::Split(split_order_from(options)));
     }
     if is_live(options) {
         return Ok(Order::Live(live_order_from(alloc, options)?));

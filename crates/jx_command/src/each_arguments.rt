@@ -1,15 +1,22 @@
 // The words of the subcommand that writes elements.
-use crate::arguments::mark_of;
+ghost use Rattle.std.specs.Prelude.{◌≤◌};
+
+use crate::arguments::{mark_of, piece_of, workers_of};
 use crate::options::{depth_of, input_of_word, progress_of};
 use crate::order::EachOrder;
 use clap::ArgMatches;
+use jx_crew::Workers;
 use jx_run::{NameRule, Settings};
 
 /// The word that calls it.
 pub(crate) const EACH: &str = "each";
 
-/// What its options ask for. The grammar has a depth where the words leave it out.
-pub(crate) fn each_order_from<'a>(options: &ArgMatches<'a>) -> EachOrder<'a> {
+/// What its options ask for. The grammar has a number for each option that the words leave out, so that what stands here
+/// where there is none is never met.
+pub(crate) fn each_order_from<'a>(options: &ArgMatches<'a>) -> EachOrder<'a>
+    ensures { 1 ≤ result.piece }
+{
+    let one_worker = Workers::new(1).unwrap();
     EachOrder {
         pointer: options.get_str("pointer").unwrap_or(""),
         has_names: options.get_flag("names"),
@@ -19,6 +26,8 @@ pub(crate) fn each_order_from<'a>(options: &ArgMatches<'a>) -> EachOrder<'a> {
             mark: mark_of(options),
             names: NameRule::Any,
         },
+        workers: workers_of(options).unwrap_or(one_worker),
+        piece: piece_of(options).unwrap_or(1),
         progress: progress_of(options),
     }
 }

@@ -4,6 +4,7 @@ use crate::help;
 use crate::lines_arguments::LINES;
 use crate::parts_command::PartsCommand;
 use crate::save_arguments::SAVE;
+use crate::split_arguments::{MOST_PARTS, SPLIT};
 use crate::subcommand::Subcommand;
 use crate::values_arguments::GET;
 use clap::builder::ValueParser;
@@ -212,13 +213,18 @@ fn pointers_file<'a>(alloc: Global) -> Arg<'a> {
 }
 
 /// The index of the text that is read, which tells how it is read.
-fn index_file<'a>(alloc: Global) -> Result<Arg<'a>, AllocError> {
+fn index_alone<'a>(alloc: Global) -> Arg<'a> {
     Arg::new(alloc, "index")
         .long("index")
         .value_name("FILE")
         .allow_hyphen_values(true)
         .help(help::INDEX_FILE)
         .long_help(help::LONG_INDEX_FILE)
+}
+
+/// The same, where options tell how a text without an index is read.
+fn index_file<'a>(alloc: Global) -> Result<Arg<'a>, AllocError> {
+    index_alone(alloc)
         .conflicts_with("depth")?
         .conflicts_with("ignore_bom")?
         .conflicts_with("unique_names")?
@@ -291,7 +297,8 @@ fn get<'a>(alloc: Global) -> Result<Command<'a>, AllocError> {
         .arg(compact(alloc))?
         .arg(raw(alloc))?
         .arg(by_line(alloc)?)?
-        .arg(skip_blank(alloc).requires_arg("by_line")?)
+        .arg(skip_blank(alloc).requires_arg("by_line")?)?
+        .arg(index_file(alloc)?.conflicts_with("by_line")?)
 }
 
 fn each<'a>(alloc: Global) -> Result<Command<'a>, AllocError> {
@@ -303,6 +310,8 @@ fn each<'a>(alloc: Global) -> Result<Command<'a>, AllocError> {
         .arg(names(alloc))?
         .arg(file(alloc))?
         .arg(depth(alloc))?
+        .arg(workers(alloc))?
+        .arg(piece(alloc))?
         .arg(ignore_bom(alloc))?
         .arg(progress(alloc))
 }
@@ -366,6 +375,36 @@ fn save<'a>(alloc: Global) -> Result<Command<'a>, AllocError> {
         .arg(unique_names(alloc))?
         .arg(progress(alloc))?
         .arg(one_file(alloc)?)
+}
+
+/// How many parts a container is split into.
+fn parts<'a>(alloc: Global) -> Arg<'a> {
+    Arg::new(alloc, "parts")
+        .long("parts")
+        .value_name("N")
+        .value_parser(ValueParser::unsigned(1, MOST_PARTS))
+        .required(true)
+        .help(help::PARTS)
+        .long_help(help::LONG_PARTS)
+}
+
+fn split<'a>(alloc: Global) -> Result<Command<'a>, AllocError> {
+    Command::new(alloc, SPLIT)
+        .about(help::SPLIT)
+        .after_long_help(help::AFTER_SPLIT)
+        .arg(index_alone(alloc).required(true))?
+        .arg(
+            file(alloc)
+                .required(true)
+                .help(help::TEXT_FILE)
+                .long_help(help::LONG_TEXT_FILE),
+        )?
+        .arg(parts(alloc))?
+        .arg(
+            container(alloc)
+                .help(help::SPLIT_CONTAINER)
+                .long_help(help::LONG_SPLIT_CONTAINER),
+        )
 }
 
 /// An offset in a text, for an option with the name of its id.
@@ -451,6 +490,7 @@ pub fn grammar<'a>(alloc: Global) -> Result<Command<'a>, AllocError> {
         .subcommand(seq(alloc)?)?
         .subcommand(lines(alloc)?)?
         .subcommand(save(alloc)?)?
+        .subcommand(split(alloc)?)?
         .subcommand(part(alloc)?)?
         .subcommand(join(alloc)?)?
         .subcommand(whole(alloc)?)

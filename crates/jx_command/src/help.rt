@@ -31,7 +31,7 @@ pub const LONG_AFTER: &str = "Examples:
 Exit status:
   0  the text, every element or line is accepted, every pointer is found
   1  otherwise: standard output tells what was refused, and where; of get,
-     each and save standard error does
+     each, save and split standard error does
   2  no answer: standard error tells why; a call for help ends so too
 Of several files, the greatest status of one.";
 
@@ -52,6 +52,8 @@ pub const SEQ: &str = "Tell which elements of a JSON text sequence are JSON text
 pub const LINES: &str = "Tell which lines of JSON Lines are no JSON texts";
 
 pub const SAVE: &str = "Write the index of a JSON text, to keep beside it";
+
+pub const SPLIT: &str = "Print where to cut a container into parts, by an index";
 
 pub const PART: &str = "Write the run of a part of a JSON text";
 
@@ -112,17 +114,18 @@ pub const WORKERS: &str = "Share the work among N workers, 1 to 64";
 
 pub const LONG_WORKERS: &str = "Share the work among N workers, 1 to 64. The answer is the same for
 every number. For check, explain and seq they read what is a MiB or
-longer, for lines what one read gives, if it is as long; for at and
-get they look up many pointers: 10000, and one for each 128 bytes of
-text. One worker reads the text for index, at and get, and wherever a
-text has --unique-names.";
+longer, for each and lines what one read gives, if it is as long; for
+at and get they look up many pointers: 10000, and one for each 128
+bytes of text. One worker reads the text for index, at and get, and
+wherever a text has --unique-names, and looks up by --index.";
 
 pub const PIECE: &str = "Let a worker draw N bytes at a time";
 
 pub const LONG_PIECE: &str = "Let a worker draw N bytes at a time, 1 to 1073741824; of a sequence
 or of lines, whole ones of some N bytes. The answer is the same for
 every number. Where one worker reads, N only bounds the input:
-4294967295 pieces of N bytes, and more are too many, but for lines.";
+4294967295 pieces of N bytes, and more are too many, but for each and
+lines.";
 
 pub const IGNORE_BOM: &str = "Ignore a byte order mark in front";
 
@@ -245,6 +248,24 @@ read that are needed. Each is held to its digest; whether others have
 changed is not seen. Depth, byte order mark and unique names are
 those of the index.";
 
+pub const TEXT_FILE: &str = "Read the text in FILE";
+
+pub const LONG_TEXT_FILE: &str =
+    "Read the text in FILE, whose index is given. The word behind --file
+is taken as it stands, also where it begins with a hyphen.";
+
+pub const PARTS: &str = "Cut into N parts, 1 to 65536";
+
+pub const LONG_PARTS: &str = "Cut into N parts, 1 to 65536, each with about as many bytes. No child
+is cut, so that parts may be empty.";
+
+pub const SPLIT_CONTAINER: &str = "Cut the container that POINTER leads to";
+
+pub const LONG_SPLIT_CONTAINER: &str =
+    "Cut the container that POINTER leads to, a JSON Pointer (RFC 6901):
+'' or none for the whole text, or tokens that each follow a slash, as
+/data/items.";
+
 pub const AFTER_CHECK: &str = "Output, one line:
   accepted            the input is a JSON text
   stopped at K        no JSON text goes on with the byte at K
@@ -346,13 +367,18 @@ written is told while the input is read:
 
 Exit status: 0 all written, 1 refused or not all written, 2 no answer.
 
+With --index the index is held, and of the text a chunk and a value at a time.
+A line is written once each chunk that has bytes of its value was held to its
+digest. So whole lines stand before a fault, those of the pointers before it.
+
 Examples:
   jx get /users/0/name --file dump.json
   jx get -r /users/0/name --file dump.json
   jx get -c '' --file dump.json
   tail -f log | jx get --lines /time /level
   jx get --file dump.json -- \"$pointer\"
-  jx get --file dump.json --pointers list";
+  jx get --file dump.json --pointers list
+  jx get --index dump.json.jxi --file dump.json /users/0/name";
 
 pub const AFTER_EACH: &str =
     "Output, a line for each element of the array that POINTER leads to, or for
@@ -438,6 +464,27 @@ Exit status: 0 the index is written, 1 refused, 2 no answer.
 Examples:
   jx save dump.json > dump.json.jxi
   zstd -dc dump.json.zst | jx save > dump.json.jxi";
+
+pub const AFTER_SPLIT: &str = "Output, a line for each part that is not empty:
+  S..E I..J  the span S..E has the children I up to J of the container
+Children are elements, or members with their names. They count from 0; J is
+left out. S is behind the comma or the bracket before child I, and E before the
+one behind the last child. With brackets of the container's kind around them
+the bytes of a part are a JSON text.
+
+What is told on standard error, with no output:
+  jx: not a container at token K  POINTER leads to a scalar by K tokens
+  jx: ANSWER                      POINTER leads nowhere, as by 'jx at'
+
+The index is held, and of the text a chunk at a time. There is no output where
+the bytes of a chunk that is read have changed, where the text has another
+size, or where FILE is no index.
+
+Exit status: 0 the parts are told, 1 no container, 2 no answer.
+
+Examples:
+  jx split --index dump.json.jxi --file dump.json --parts 8
+  jx split --index dump.json.jxi --file dump.json --parts 64 /items";
 
 pub const AFTER_PART: &str =
     "Output, one run: some KB that say what the part comes to, whatever stands

@@ -15,6 +15,7 @@ mod parts_arguments;
 mod parts_command;
 mod request;
 mod save_arguments;
+mod split_arguments;
 mod subcommand;
 mod values_arguments;
 
@@ -22,6 +23,7 @@ pub use arg_fault::ArgFault;
 pub use arguments::command_of;
 pub use inputs::{Input, Inputs, input_of, inputs_of, reads_standard_twice};
 pub use order::{
-    ByLine, EachOrder, LinesOrder, LiveOrder, Order, PartsOrder, PartsStep, SaveOrder, ValuesOrder,
+    ByLine, EachOrder, LinesOrder, LiveOrder, Order, PartsOrder, PartsStep, SaveOrder, SplitOrder,
+    ValuesOrder,
 };
 pub use request::{Color, Request, ShowProgress, Told};

@@ -1,5 +1,5 @@
 // What the words of the command line ask for: a report, work on the parts of a text, values, elements, lines, a sequence as it
-// comes, or an index that is saved.
+// comes, an index that is saved, or the borders of a container's parts.
 use crate::inputs::{Input, Inputs};
 use crate::request::{Request, ShowProgress};
 use jx_crew::Workers;
@@ -25,6 +25,8 @@ pub enum Order<'a> {
     Live(LiveOrder<'a>),
     /// The index of a text, which is written.
     Save(SaveOrder<'a>),
+    /// The borders of the parts of a container.
+    Split(SplitOrder<'a>),
 }
 
 /// Work on the parts of a text.
@@ -57,6 +59,8 @@ pub struct ValuesOrder<'a> {
     pub input: Input<'a>,
     /// FILE whose lines are looked up behind the pointers among the words.
     pub pointers: Option<&'a str>,
+    /// FILE with the index by which they are looked up. Then the input is a file, and it is read as the index says.
+    pub index: Option<&'a str>,
     /// Whether blanks between tokens are left out.
     pub is_compact: bool,
     /// Whether a string is written as the text that it stands for.
@@ -83,6 +87,10 @@ pub struct EachOrder<'a> {
     pub input: Input<'a>,
     /// How it is read.
     pub settings: Settings,
+    /// How many workers share what is read at a time.
+    pub workers: Workers,
+    /// How many bytes a worker draws at a time.
+    pub piece: usize,
     /// Whether it is told how far it was read.
     pub progress: ShowProgress,
 }
@@ -126,4 +134,17 @@ pub struct SaveOrder<'a> {
     pub chunk: ChunkSize,
     /// Whether it is told how far it was read.
     pub progress: ShowProgress,
+}
+
+/// The borders of the parts of a container, by the index of its text.
+#[derive(Clone, Copy, Debug, PartialEq, Eq)]
+pub struct SplitOrder<'a> {
+    /// What leads to the container, as the words have it.
+    pub pointer: &'a str,
+    /// FILE with the index.
+    pub index: &'a str,
+    /// FILE with the text.
+    pub file: &'a str,
+    /// How many parts there are, also those that are empty: 1 to 65,536.
+    pub parts: usize,
 }

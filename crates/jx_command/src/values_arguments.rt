@@ -41,6 +41,7 @@ pub(crate) fn values_order_from<'a>(
         },
         input: input_from(options),
         pointers: options.get_str("pointers_file"),
+        index: options.get_str("index"),
         is_compact: options.get_flag("compact"),
         is_raw: options.get_flag("raw"),
         by_line: by_line_from(options),

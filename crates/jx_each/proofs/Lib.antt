@@ -12,3 +12,4 @@ mod Texts
 pub mod Stays
 mod Seeks
 mod Numbers
+mod Joins

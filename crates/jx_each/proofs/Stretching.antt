@@ -11,7 +11,7 @@ use Rattle.jx_compact.specs.declared.place.Place.TheVariants.{Between, Inside}
 use Rattle.jx_compact.specs.Compact.{is_kept, kept, next}
 use Rattle.jx_each.specs.declared.sign.Turn.TheVariants.{Stay}
 use Rattle.jx_each.specs.declared.stand.Stage.{Stage}
-use Rattle.jx_each.specs.declared.stand.Stand.{Stand}
+use Rattle.jx_each.specs.declared.stand.LineStand.{LineStand}
 use Rattle.jx_each.specs.Machine.{Aim, Made, run, step}
 use Rattle.jx_each.specs.declared.sign.Sign.{Sign}
 use Rattle.jx_each.specs.Turns.{sign_of, turn_at, turn_by, turned, height_next}
@@ -140,7 +140,7 @@ pass_on aim p h stage takes lines part xs at end all le x made =
     ∙ ap (run aim m) (sym (drop_split xs at end le))
     ∙ made
 
-pub run_byte : (aim : Aim) (s t : Stand) (lines part longer rest xs : List ℕ) (i b : ℕ) (all : Made) → i < length xs → b ≡ get_or xs i 0
+pub run_byte : (aim : Aim) (s t : LineStand) (lines part longer rest xs : List ℕ) (i b : ℕ) (all : Made) → i < length xs → b ≡ get_or xs i 0
     → record { stand = t; lines = longer; part = rest } ≡ step aim (record { stand = s; lines = lines; part = part }) b
     → run aim (record { stand = s; lines = lines; part = part }) (drop i xs) ≡ all
     → run aim (record { stand = t; lines = longer; part = rest }) (drop (i + 1) xs) ≡ all
@@ -161,12 +161,12 @@ near_on p q h k xs from end lt le turn keeps to high x =
     (push_stretch xs from from (omega arith) lt turn keeps (none_stretch p h xs from)))) x
 
 -- a stretch, and the blanks behind it
-pub made_on : (aim : Aim) (s t : Stand) (p : Place) (k : ℕ) (lines part longer xs : List ℕ) (at end next : ℕ) (all : Made) → t ≡ record { place = p; height = k; stage = s.stage; takes = s.takes }
+pub made_on : (aim : Aim) (s t : LineStand) (p : Place) (k : ℕ) (lines part longer xs : List ℕ) (at end next : ℕ) (all : Made) → t ≡ record { place = p; height = k; stage = s.stage; takes = s.takes }
     → at ≤ end → end ≤ next → IsStretch s.place s.height (slice_range xs at end) p k → longer ≡ part ++ (if s.takes then slice_range xs at end else []) → IsPassed p (slice_range xs end next)
     → run aim (record { stand = s; lines = lines; part = part }) (drop at xs) ≡ all
     → run aim (record { stand = t; lines = lines; part = longer }) (drop next xs) ≡ all
 made_on aim s t p k lines part longer xs at end next all is low high x pushed passed made =
-    ap (λ (u : Stand). run aim (record { stand = u; lines = lines; part = longer }) (drop next xs)) is
+    ap (λ (u : LineStand). run aim (record { stand = u; lines = lines; part = longer }) (drop next xs)) is
     ∙ pass_on aim p k s.stage s.takes lines longer xs end next all high passed
     (run_on aim s.place p s.height k s.stage s.takes lines part longer xs at end all low x pushed made)
 

@@ -14,7 +14,7 @@ use Rattle.jx_each.specs.declared.content.LineContent.{LineContent}
 use Rattle.jx_each.specs.declared.stand.Stage.{Stage}
 use Rattle.jx_each.specs.declared.sign.Turn.{Turn}
 use Rattle.jx_each.specs.declared.sign.Turn.TheVariants as turns
-use Rattle.jx_each.specs.declared.stand.Stand.{Stand}
+use Rattle.jx_each.specs.declared.stand.LineStand.{LineStand}
 use Rattle.jx_each.specs.Due.{IsDueBy, is_container}
 use Rattle.jx_index.specs.Pointers.{tokens}
 use Rattle.jx_each.specs.Each.{EachValue, HasTakenBy}
@@ -52,17 +52,17 @@ step_given aim g m b =
     ap (λ (l : List ℕ). let done : Made = record { stand = (step aim m b).stand; lines = l; part = (step aim m b).part } in done)
     (lines_given m.stand.stage (turn_at m.stand.place m.stand.height b) g m.lines m.part)
 
-run_given : (aim : Aim) (g : List ℕ) (m : Made) (w : List ℕ) → run aim (with_given g m) w ≡ with_given g (run aim m w)
+pub run_given : (aim : Aim) (g : List ℕ) (m : Made) (w : List ℕ) → run aim (with_given g m) w ≡ with_given g (run aim m w)
 run_given aim g m [] = refl
 run_given aim g m (b ∷ w) = ap (λ (x : Made). run aim x w) (step_given aim g m b) ∙ run_given aim g (step aim m b) w
 
 -- ---- the stand
 
-abbrev stand_in : Option Stand → Stand
+abbrev stand_in : Option LineStand → LineStand
 stand_in (Some s) = s
 stand_in None = begun.stand
 
-same_stand : (o : Option Stand) (s t : Stand) → o ≡ Some s → o ≡ Some t → s ≡ t
+same_stand : (o : Option LineStand) (s t : LineStand) → o ≡ Some s → o ≡ Some t → s ≡ t
 same_stand o s t a b = ap stand_in (sym a ∙ b)
 
 -- ---- a slice
@@ -79,7 +79,7 @@ longest_of : (reader : ReaderValue) (bytes : List ℕ) (verdict : Verdict) → r
 longest_of reader bytes verdict at judged =
     sound_is_longest reader.settings bytes verdict (subst (λ (n : ℕ). JudgedBy reader.settings n bytes verdict) at judged)
 
-pub takes_slice : {content : LineContent} (old new : ReaderValue) (path : List (List ℕ)) (has : LineContent) (was : Option Stand) (stand next : Stand) (ready part lines left slice pointer bytes given : List ℕ) (first second : Verdict)
+pub takes_slice : {content : LineContent} (old new : ReaderValue) (path : List (List ℕ)) (has : LineContent) (was : Option LineStand) (stand next : LineStand) (ready part lines left slice pointer bytes given : List ℕ) (first second : Verdict)
     → Fed old new slice first second
     → was ≡ Some stand
     → record { stand = next; lines = lines; part = left } ≡ run (aimed has path) (record { stand = stand; lines = ready; part = part })
@@ -115,7 +115,7 @@ takes_slice {content} old new path has was stand next ready part lines left slic
           ∙ sym (run_given (aimed has path) given (record { stand = stand; lines = ready; part = part }) more)
           ∙ ap (λ (p : List (List ℕ)). run (aimed has p) (record { stand = stand; lines = given ++ ready; part = part }) more) h.path_is
           ∙ ap (λ (c : LineContent). run (aimed c (tokens pointer)) (record { stand = stand; lines = given ++ ready; part = part }) more) h.content_is
-          ∙ ap (λ (s : Stand). run (aimed content (tokens pointer)) (record { stand = s; lines = given ++ ready; part = part }) more) (same_stand was stand h.stand is h.stands)
+          ∙ ap (λ (s : LineStand). run (aimed content (tokens pointer)) (record { stand = s; lines = given ++ ready; part = part }) more) (same_stand was stand h.stand is h.stands)
           ∙ ap (λ (m : Made). run (aimed content (tokens pointer)) m more) h.made
           ∙ ap (λ (n : ℕ). run (aimed content (tokens pointer)) (run (aimed content (tokens pointer)) begun (take n bytes)) more) same
           ∙ sym (run_append (aimed content (tokens pointer)) begun (take before bytes) more)
@@ -138,11 +138,11 @@ has_begun_by (node kind.True s below) = refl
 has_begun_by (node kind.False s below) = refl
 has_begun_by (node kind.Null s below) = refl
 
-pub root_is : {content : LineContent} (each : EachValue) (stand : Stand) (pointer bytes given : List ℕ) (tree : Tree) → each.stand ≡ Some stand → HasTakenBy content pointer bytes given each → IsDocumentBy each.reader.settings 0 bytes tree
+pub root_is : {content : LineContent} (each : EachValue) (stand : LineStand) (pointer bytes given : List ℕ) (tree : Tree) → each.stand ≡ Some stand → HasTakenBy content pointer bytes given each → IsDocumentBy each.reader.settings 0 bytes tree
     → has_begun stand.stage ≡ is_container tree
 root_is {content} each stand pointer bytes given tree is h d =
     let same : h.k ≡ length bytes = longest_is_one each.reader.settings bytes h.k (length bytes) h.longest (whole_begins each.reader.settings bytes tree d) in
-    ap (λ (s : Stand). has_begun s.stage) (same_stand each.stand stand h.stand is h.stands)
+    ap (λ (s : LineStand). has_begun s.stage) (same_stand each.stand stand h.stand is h.stands)
     ∙ ap (λ (m : Made). has_begun m.stand.stage) h.made
     ∙ ap (λ (l : List ℕ). has_begun (run (aimed content (tokens pointer)) begun l).stand.stage) (take_all h.k bytes (omega (arith, same)))
     ∙ ap has_begun (text_gives content (tokens pointer) each.reader.settings bytes tree d).stage
@@ -155,7 +155,7 @@ none_begins settings verdict judged =
     let longest : IsLongestBeginningBy settings [] (sound verdict 0) = sound_is_longest settings [] verdict judged in
     subst (λ (k : ℕ). IsLongestBeginningBy settings [] k) (let within : sound verdict 0 ≤ 0 = longest.within in let e : sound verdict 0 ≡ 0 = omega (arith, within) in e) longest
 
-pub starts : (content : LineContent) (reader : ReaderValue) (path : List (List ℕ)) (pointer : List ℕ) (stand : Stand) (verdict : Verdict) → HasRead [] reader → reader.start ≡ 0 → path ≡ tokens pointer → stand ≡ begun.stand → JudgedBy reader.settings 0 [] verdict
+pub starts : (content : LineContent) (reader : ReaderValue) (path : List (List ℕ)) (pointer : List ℕ) (stand : LineStand) (verdict : Verdict) → HasRead [] reader → reader.start ≡ 0 → path ≡ tokens pointer → stand ≡ begun.stand → JudgedBy reader.settings 0 [] verdict
     → HasTakenBy content pointer [] [] (record { reader = reader; path = path; content = content; stand = Some stand; ready = []; part = [] })
 starts content reader path pointer stand verdict read at is stands judged = record {
   read = read;
@@ -166,7 +166,7 @@ starts content reader path pointer stand verdict read at is stands judged = reco
   longest = none_begins reader.settings verdict judged;
   stand = stand;
   stands = refl;
-  made = ap (λ (s : Stand). let m : Made = record { stand = s; lines = []; part = [] } in m) stands;
+  made = ap (λ (s : LineStand). let m : Made = record { stand = s; lines = []; part = [] } in m) stands;
 }
 
 pub none_due : {content : LineContent} (settings : Settings) (pointer : List ℕ) (verdict : Verdict) → JudgedBy settings 0 [] verdict → IsDueBy content settings pointer [] []

@@ -6,7 +6,7 @@ use Rattle.std.proofs.lemmas.List.Folds.{drop_split}
 use Rattle.jx_lex.proofs.Slices.{slice-none, slice-split}
 use Rattle.jx_compact.specs.declared.place.Place.{Place}
 use Rattle.jx_each.specs.declared.deep.Walk.{Walk}
-use Rattle.jx_each.specs.declared.stand.Stand.{Stand}
+use Rattle.jx_each.specs.declared.stand.LineStand.{LineStand}
 use Rattle.jx_each.specs.Machine.{Aim, Made, run}
 use Rattle.jx_each.specs.inside.Stretches.{IsCopied, IsPassed, IsStretch, IsWalked, spot, waiting}
 use Rattle.jx_each.proofs.Dues.{run_append}
@@ -70,13 +70,13 @@ walked_copied {takes} {b} {part} {longer} xs pushed p h from is x = record {
 }
 
 -- the rest makes what all make
-pub deep_on : (aim : Aim) (s t : Stand) (q : Place) (k : ℕ) (lines part longer xs : List ℕ) (at end : ℕ) (all : Made) → t ≡ record { place = q; height = k; stage = s.stage; takes = s.takes } → at ≤ end
+pub deep_on : (aim : Aim) (s t : LineStand) (q : Place) (k : ℕ) (lines part longer xs : List ℕ) (at end : ℕ) (all : Made) → t ≡ record { place = q; height = k; stage = s.stage; takes = s.takes } → at ≤ end
     → IsCopied s.takes s.place s.height (slice_range xs at end) part q k longer
     → run aim (record { stand = s; lines = lines; part = part }) (drop at xs) ≡ all
     → run aim (record { stand = t; lines = lines; part = longer }) (drop end xs) ≡ all
 deep_on aim s t q k lines part longer xs at end all is le x made =
     let m : Made = record { stand = s; lines = lines; part = part } in
-    ap (λ (u : Stand). run aim (record { stand = u; lines = lines; part = longer }) (drop end xs)) is
+    ap (λ (u : LineStand). run aim (record { stand = u; lines = lines; part = longer }) (drop end xs)) is
     ∙ ap (λ (z : Made). run aim z (drop end xs)) (sym (x.runs aim s.stage lines))
     ∙ sym (run_append aim m (slice_range xs at end) (drop end xs))
     ∙ ap (run aim m) (sym (drop_split xs at end le))

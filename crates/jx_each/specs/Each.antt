@@ -5,7 +5,7 @@ use Rattle.jx_run.specs.Settings.{IsLongestBeginningBy}
 use Rattle.jx_index.specs.Pointers.{tokens}
 use Rattle.jx_each.specs.declared.content.LineContent.{LineContent}
 use Rattle.jx_each.specs.declared.content.LineContent.TheVariants.{Alone}
-use Rattle.jx_each.specs.declared.stand.Stand.{Stand}
+use Rattle.jx_each.specs.declared.stand.LineStand.{LineStand}
 use Rattle.jx_each.specs.Machine.{aimed, begun, run}
 
 pub record EachValue : Type 0 where
@@ -16,7 +16,7 @@ pub record EachValue : Type 0 where
   -- what a line has
   pub content : LineContent
   -- where the byte behind them stands; none where memory was refused
-  pub stand : Option Stand
+  pub stand : Option LineStand
   -- the lines that wait, and what is kept of the element or the name behind them
   pub ready : List ℕ
   pub part : List ℕ
@@ -29,7 +29,7 @@ pub record HasTakenBy (content : LineContent) (pointer bytes given : List ℕ) (
   pub content_is : each.content ≡ content
   pub k : ℕ
   pub longest : IsLongestBeginningBy each.reader.settings bytes k
-  pub stand : Stand
+  pub stand : LineStand
   pub stands : each.stand ≡ Some stand
   pub made : record { stand = stand; lines = given ++ each.ready; part = each.part } ≡ run (aimed content (tokens pointer)) begun (take k bytes)
 

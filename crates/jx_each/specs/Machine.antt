@@ -12,7 +12,7 @@ use Rattle.jx_each.specs.declared.sign.Turn.{Turn}
 use Rattle.jx_each.specs.declared.sign.Turn.TheVariants.{EnterArray, EnterObject, Next, Value, Leave, Past, Stay}
 use Rattle.jx_each.specs.declared.stand.Stage.{Stage}
 use Rattle.jx_each.specs.declared.stand.Stage.TheVariants.{Ahead, Elements, Members, Array, Object, Name, Pair, Over}
-use Rattle.jx_each.specs.declared.stand.Stand.{Stand}
+use Rattle.jx_each.specs.declared.stand.LineStand.{LineStand}
 use Rattle.jx_each.specs.Due.{is_number}
 use Rattle.jx_each.specs.Turns.{turn_at, height_next}
 
@@ -26,7 +26,7 @@ aimed content path = record { path = path; content = content }
 
 -- where the next byte stands, the whole lines so far, and what is kept of the element or the name behind them
 pub record Made : Type 0 where
-  pub stand : Stand
+  pub stand : LineStand
   pub lines : List ℕ
   pub part : List ℕ
 
@@ -183,7 +183,7 @@ height_by Leave stage height = height
 height_by Past stage height = height
 height_by Stay stage height = height
 
-abbrev pub stand_by : Aim → Turn → Stand → List ℕ → ℕ → Stand
+abbrev pub stand_by : Aim → Turn → LineStand → List ℕ → ℕ → LineStand
 stand_by aim turn stand part byte =
     let stage : Stage = stage_next aim stand.stage part turn in
     record {
@@ -243,7 +243,7 @@ part_of_value (Elements level n) part = []
 part_of_value Over part = []
 
 -- behind a byte that leads from one stage to another
-abbrev pub part_next : Turn → Stand → Stage → List ℕ → ℕ → List ℕ
+abbrev pub part_next : Turn → LineStand → Stage → List ℕ → ℕ → List ℕ
 part_next Stay stand stage part byte = part ++ (if stand.takes then kept stand.place byte else [])
 part_next EnterArray stand stage part byte = part_at stage
 part_next EnterObject stand stage part byte = part_at stage
@@ -255,7 +255,7 @@ part_next Past stand stage part byte = []
 abbrev pub step : Aim → Made → ℕ → Made
 step aim made byte =
     let turn : Turn = turn_at made.stand.place made.stand.height byte in
-    let stand : Stand = stand_by aim turn made.stand made.part byte in
+    let stand : LineStand = stand_by aim turn made.stand made.part byte in
     record {
       stand = stand;
       lines = lines_next made.stand.stage turn made.lines made.part;

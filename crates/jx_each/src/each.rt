@@ -1,20 +1,27 @@
 // Lines of elements, made of a text that comes slice by slice.
-ghost use Rattle.std.specs.Prelude.{◌≡◌, ◌+◌, ◌<◌, ◌≤◌, ◌^◌, ◌++◌, ℕ, List, [], IfOk, OnOk, OnErr, IsErr, length};
+ghost use Rattle.std.specs.Prelude.{◌≡◌, ◌+◌, ◌<◌, ◌≤◌, ◌^◌, ◌++◌, ℕ, List, [], All, IfOk, IfSome, OnOk, OnErr, IsErr, length};
+ghost use Rattle.jx_run.specs.OutcomeRun.{IsOutcomeRun};
+ghost use Rattle.jx_run.specs.Reader.{IsInFront};
 ghost use Rattle.jx_run.specs.Settings.{IsDocumentBy, JudgedBy};
 ghost use Rattle.jx_run.specs.Tree.{Tree};
 ghost use Rattle.jx_index.specs.Pointers.{IsPointer};
 ghost use Rattle.jx_each.specs.Due.{is_container};
 ghost use Rattle.jx_each.specs.Each.{HasFailed, HasTaken, HasTakenBy};
+ghost use Rattle.jx_each.specs.Machine.{aimed};
+ghost use Rattle.jx_each.specs.Sections.{IsSection};
 ghost use Rattle.jx_each.specs.declared.content.LineContent.{LineContent};
 ghost use Rattle.jx_each.specs.inside.Fronts.{has_begun, sound, sound_part};
+ghost use Rattle.jx_each.specs.inside.Paths.{aim_of};
 
 use crate::content::LineContent;
+use crate::joining::make_by_sections;
 use crate::making::make_all;
-use crate::stand::{Stage, Stand};
+use crate::section::Section;
+use crate::stand::{LineStand, Stage};
 use crate::target::Target;
 use crate::token::tokens_of;
 use crate::way::stand_at_start;
-use jx_run::{Reader, Refusal, Settings, Verdict, reader_is_grammar};
+use jx_run::{OutcomeRun, Reader, Refusal, Settings, Verdict, reader_is_grammar};
 use std::alloc::{AllocError, Global};
 use std::marker::Model;
 
@@ -70,7 +77,7 @@ fn has_begun(stage: Stage) -> bool
 pub struct Each {
     reader: Reader,
     target: Target,
-    stand: Option<Stand>,
+    stand: Option<LineStand>,
     ready: Vec<u8>,
     part: Vec<u8>,
 }
@@ -150,6 +157,67 @@ impl Each {
         let next = make_all(&self.target, stand, &mut self.ready, &mut self.part, part)?;
         self.stand = Some(next);
         Ok(())
+    }
+
+    /// Takes the slice behind all bytes that it has taken by a run over it, and by sections of it, the last one first: their lines
+    /// are taken in where the bytes before lead to where they begin. No byte order mark may stand in the slice, as in
+    /// `Reader::follow`. Only want of memory is refused, and from then on every slice is.
+    pub fn follow(
+        &mut self,
+        slice: &[u8],
+        run: &OutcomeRun,
+        sections: Vec<Option<Section>>,
+    ) -> Result<(), AllocError>
+        requires fits { self.old.reader.start + self.old.reader.count + length slice.now < 2 ^ 64 }
+        requires behind { IsInFront self.old.reader → ⊥ }
+        requires depth { run.now.depth ≡ self.old.reader.settings.depth }
+        requires start { run.now.start ≡ 0 }
+        requires of { IsOutcomeRun slice.now run.now }
+        requires sections { All (λ s. IfSome s (IsSection (aimed self.old.content self.old.path) slice.now)) sections.items }
+        ensures settings { self.new.reader.settings ≡ self.old.reader.settings }
+        ensures path { self.new.path ≡ self.old.path }
+        ensures content { self.new.content ≡ self.old.content }
+        ensures taken_by { OnOk result ((content : LineContent) (pointer bytes given : List ℕ) → HasTakenBy content pointer bytes given self.old → HasTakenBy content pointer (bytes ++ slice.now) given self.new) }
+        ensures start { self.new.reader.start ≡ self.old.reader.start }
+        ensures count { OnOk result (self.new.reader.count ≡ self.old.reader.count + length slice.now) }
+        ensures err { OnErr result (HasFailed self.new) }
+        ensures failed { HasFailed self.old → IsErr result }
+    {
+        reader_is_grammar();
+        let Some(stand) = self.stand else {
+            return Err(AllocError);
+        };
+        self.stand = None;
+        let count = self.reader.end();
+        let before = sound(self.reader.verdict(), count);
+        self.reader.follow(run)?;
+        let after = sound(self.reader.verdict(), self.reader.end());
+        let part = sound_part(slice, before, count, after);
+        let next = make_by_sections(
+            &self.target,
+            stand,
+            &mut self.ready,
+            &mut self.part,
+            part,
+            sections,
+        )?;
+        self.stand = Some(next);
+        Ok(())
+    }
+
+    /// What is looked for, and what is written of it.
+    pub fn target(&self) -> &Target
+        ensures { aim_of result.now ≡ aimed self.now.content self.now.path }
+    {
+        &self.target
+    }
+
+    /// How far the container is found; none where memory was refused.
+    pub fn stage(&self) -> Option<Stage> {
+        match self.stand {
+            Some(stand) => Some(stand.stage),
+            None => None,
+        }
     }
 
     /// The offset just past the last byte that it has taken.

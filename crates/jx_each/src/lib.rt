@@ -6,10 +6,12 @@ mod content;
 mod copies;
 mod deep;
 mod each;
+mod joining;
 mod laws;
 mod making;
 mod number;
 mod runs;
+mod section;
 mod sign;
 mod stand;
 mod stretch;
@@ -22,3 +24,6 @@ pub use each::Each;
 pub use laws::{
     all_of_a_text_is_due, due_grows, due_is_one, nothing_is_due_of_no_byte, what_is_taken_is_due,
 };
+pub use section::Section;
+pub use stand::{LineStand, Stage};
+pub use target::Target;

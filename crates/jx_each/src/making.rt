@@ -9,7 +9,7 @@ ghost use Rattle.jx_each.specs.inside.Stretches.{spot_in_array};
 use crate::copies::push_stretch;
 use crate::deep::push_deep;
 use crate::sign::Turn;
-use crate::stand::{Stage, Stand, turn_at};
+use crate::stand::{LineStand, Stage, turn_at};
 use crate::stretch::{blanks_from, stretch_from};
 use crate::target::Target;
 use crate::way::stand_by;
@@ -17,7 +17,7 @@ use jx_compact::{Place, is_kept};
 use std::alloc::AllocError;
 
 /// Appends a byte of an element where it stays.
-fn push_kept(part: &mut Vec<u8>, stand: Stand, byte: u8) -> Result<(), AllocError>
+fn push_kept(part: &mut Vec<u8>, stand: LineStand, byte: u8) -> Result<(), AllocError>
     ensures { OnOk result (part.new.items ≡ part.old.items ++ (if stand.takes then kept stand.place byte else [])) }
 {
     if stand.takes {
@@ -136,7 +136,7 @@ fn begin_value(part: &mut Vec<u8>, stage: Stage) -> Result<(), AllocError>
 /// Keeps what stays of what stands there, or what the byte begins that leads to another stage.
 fn keep_part(
     part: &mut Vec<u8>,
-    stand: Stand,
+    stand: LineStand,
     stage: Stage,
     turn: Turn,
     byte: u8,
@@ -163,11 +163,11 @@ fn keep_part(
 /// Makes what a byte comes to, and answers where the byte behind it stands.
 fn make(
     target: &Target,
-    stand: Stand,
+    stand: LineStand,
     lines: &mut Vec<u8>,
     part: &mut Vec<u8>,
     byte: u8,
-) -> Result<Stand, AllocError>
+) -> Result<LineStand, AllocError>
     requires height { stand.height + 1 < 2 ^ 64 }
     requires count { count_in stand.stage + 1 < 2 ^ 64 }
     ensures made { IfOk result (λ next. record { stand = next; lines = lines.new.items; part = part.new.items } ≡ step (aim_of target.now) (record { stand = stand; lines = lines.old.items; part = part.old.items }) byte) }
@@ -200,7 +200,7 @@ fn is_array(stage: Stage) -> bool
 
 /// Whether a byte stands behind an element of the container, an array, where another one follows.
 #[inline(always)]
-fn is_border(stand: Stand, byte: u8) -> bool
+fn is_border(stand: LineStand, byte: u8) -> bool
     ensures { IsTrue result → (stand ≡ spot_in_array stand.takes) × (byte ≡ 0x2c) }
 {
     if byte != b',' || stand.height != 1 {
@@ -215,13 +215,13 @@ fn is_border(stand: Stand, byte: u8) -> bool
 /// Makes what a comma comes to behind an element of an array, and answers where the byte behind it stands. That is what `make`
 /// does there, in less time.
 #[inline(always)]
-fn end_element(lines: &mut Vec<u8>, part: &mut Vec<u8>) -> Result<Stand, AllocError>
+fn end_element(lines: &mut Vec<u8>, part: &mut Vec<u8>) -> Result<LineStand, AllocError>
     ensures made { IfOk result (λ next. (aim : Aim) (takes : Bool) → record { stand = next; lines = lines.new.items; part = part.new.items } ≡ step aim (record { stand = spot_in_array takes; lines = lines.old.items; part = part.old.items }) 0x2c) }
     ensures next { IfOk result (λ next. next ≡ spot_in_array true) }
 {
     end_value(lines, part)?;
     part.clear();
-    Ok(Stand {
+    Ok(LineStand {
         place: Place::Between,
         height: 1,
         stage: Stage::Array,
@@ -231,10 +231,10 @@ fn end_element(lines: &mut Vec<u8>, part: &mut Vec<u8>) -> Result<Stand, AllocEr
 
 /// The same stand at another place and height.
 #[inline(always)]
-fn moved(stand: Stand, place: Place, height: usize) -> Stand
+fn moved(stand: LineStand, place: Place, height: usize) -> LineStand
     ensures { result ≡ record { place = place; height = height; stage = stand.stage; takes = stand.takes } }
 {
-    Stand {
+    LineStand {
         place,
         height,
         stage: stand.stage,
@@ -245,11 +245,11 @@ fn moved(stand: Stand, place: Place, height: usize) -> Stand
 /// Makes what bytes come to, the first of which stands there, and answers where the byte behind them stands.
 pub(crate) fn make_all(
     target: &Target,
-    stand: Stand,
+    stand: LineStand,
     lines: &mut Vec<u8>,
     part: &mut Vec<u8>,
     bytes: &[u8],
-) -> Result<Stand, AllocError>
+) -> Result<LineStand, AllocError>
     requires height { stand.height + length bytes.now < 2 ^ 64 }
     requires count { count_in stand.stage + length bytes.now < 2 ^ 64 }
     ensures made { IfOk result (λ next. record { stand = next; lines = lines.new.items; part = part.new.items } ≡ run (aim_of target.now) (record { stand = stand; lines = lines.old.items; part = part.old.items }) bytes.now) }

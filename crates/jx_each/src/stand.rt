@@ -26,7 +26,7 @@ pub enum Stage {
 
 /// Where a byte stands.
 #[derive(Clone, Copy, Debug)]
-pub struct Stand {
+pub struct LineStand {
     /// In a string or between tokens.
     pub place: Place,
     /// How many containers are open from the value on that tokens lead to.
@@ -37,7 +37,7 @@ pub struct Stand {
 }
 
 /// What a byte does that stands there.
-pub(crate) fn turn_at(stand: Stand, byte: u8) -> Turn
+pub(crate) fn turn_at(stand: LineStand, byte: u8) -> Turn
     ensures { result ≡ turn_at stand.place stand.height byte }
 {
     match stand.place {

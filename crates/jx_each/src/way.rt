@@ -6,7 +6,7 @@ ghost use Rattle.jx_each.specs.inside.Paths.{aim_of, count_in, path_of};
 use crate::content::LineContent;
 use crate::number::is_number;
 use crate::sign::Turn;
-use crate::stand::{Stage, Stand, height_next};
+use crate::stand::{LineStand, Stage, height_next};
 use crate::target::Target;
 use crate::token::Token;
 use jx_compact::{Place, next};
@@ -271,7 +271,13 @@ fn height_by(turn: Turn, stage: Stage, height: usize) -> usize
 }
 
 /// Where the next byte stands, behind a byte that does this; `part` is what was kept before it.
-pub(crate) fn stand_by(target: &Target, turn: Turn, stand: Stand, part: &[u8], byte: u8) -> Stand
+pub(crate) fn stand_by(
+    target: &Target,
+    turn: Turn,
+    stand: LineStand,
+    part: &[u8],
+    byte: u8,
+) -> LineStand
     requires height { stand.height + 1 < 2 ^ 64 }
     requires count { count_in stand.stage + 1 < 2 ^ 64 }
     ensures value { result ≡ stand_by (aim_of target.now) turn stand part.now byte }
@@ -280,7 +286,7 @@ pub(crate) fn stand_by(target: &Target, turn: Turn, stand: Stand, part: &[u8], b
 {
     let stage = stage_next(target, stand.stage, part, turn);
     let height = height_next(stand.place, stand.height, byte);
-    Stand {
+    LineStand {
         place: next(stand.place, byte),
         height: height_by(turn, stage, height),
         stage,
@@ -289,10 +295,10 @@ pub(crate) fn stand_by(target: &Target, turn: Turn, stand: Stand, part: &[u8], b
 }
 
 /// Where the first byte of a text stands.
-pub(crate) fn stand_at_start() -> Stand
+pub(crate) fn stand_at_start() -> LineStand
     ensures { result ≡ begun.stand }
 {
-    Stand {
+    LineStand {
         place: Place::Between,
         height: 0,
         stage: Stage::Ahead { level: 0 },

@@ -94,6 +94,29 @@ fn find_each_of<S: Search, P: Pace>(
     }
 }
 
+/// The same as `find_each_in`, through a trie of the pointers that `trie_of` made, and what `starts_of` tells of it. So many
+/// texts are read through one trie.
+pub fn find_each_through<P: Pace>(
+    alloc: Global,
+    text: &[u8],
+    span: Span,
+    depth: Depth,
+    edges: &[Edge],
+    starts: &[usize],
+    pointers: &[Pointer],
+    pace: &mut P,
+) -> Result<Result<Vec<Result<Found, FindFault>>, Refusal>, AllocError>
+    requires trie { IsTrie edges.now }
+    requires ways { All (λ (pointer : List ℕ). HasWay edges.now pointer) pointers.now }
+    requires ordered { span.start ≤ span.end }
+    requires within { span.end ≤ length text.now }
+    ensures accepted { IfOk result (λ read. IfOk read (λ _. Judged span.start (slice_range text.now span.start span.end) depth Accepted)) }
+    ensures refused { IfOk result (λ read. IfErr read (λ refusal. Judged span.start (slice_range text.now span.start span.end) depth (Refused refusal))) }
+    ensures found { IfOk result (λ read. IfOk read (λ found. AllZip (FindsIn text.now span.start span.end) pointers.now found.items)) }
+{
+    find_each_of::<Brand, P>(alloc, text, span, depth, edges, starts, pointers, pace)
+}
+
 /// Reads the bytes of a span as a whole text (RFC 8259, section 2) in one pass, and looks pointers up in it (RFC 6901,
 /// section 4). It keeps what was met where the tokens of each pointer lead and the open containers on that way, and no rows.
 /// Returns the refusal where the text is refused; else for each pointer, in order, the value, or the first token that leads
@@ -114,7 +137,7 @@ pub fn find_each_in<P: Pace>(
 {
     let edges = trie_of(alloc, pointers)?;
     let starts = starts_of(alloc, &edges)?;
-    find_each_of::<Brand, P>(alloc, text, span, depth, &edges, &starts, pointers, pace)
+    find_each_through(alloc, text, span, depth, &edges, &starts, pointers, pace)
 }
 
 /// Reads a JSON text (RFC 8259) by settings on the calling thread in one pass, and looks pointers up in it (RFC 6901,

@@ -42,7 +42,7 @@ pub use fed::answers_of;
 pub use find_fault::FindFault;
 pub use finder::{Cursor, Found, Met, State};
 pub use found_by::find_by;
-pub use found_each::{find_each_by, find_each_in};
+pub use found_each::{find_each_by, find_each_in, find_each_through};
 pub use found_in::find_in;
 pub use indexed::Indexed;
 pub use judging::{judge_elements, judged_by_names};

@@ -11,11 +11,13 @@ ghost use Rattle.jx_ndjson.specs.Answers.{are_blanks};
 ghost use Rattle.jx_ndjson.specs.Lines.{line};
 ghost use Rattle.jx_line_values.specs.LineValues.{none_given, pointers_of, told_of_verdict};
 ghost use Rattle.jx_line_values.specs.inside.Adding.{IsAdded, told_of_all, written_of};
+ghost use Rattle.jx_line_values.specs.inside.Looking.{IsReady};
 
 use crate::adding::{add_no_values, add_values};
+use crate::looking::LookUp;
 use crate::task::LineValuesTask;
 use crate::telling::{add_all_found, add_verdict};
-use jx_index::{FindFault, Found, Pointer, find_each_in};
+use jx_index::{FindFault, Found, find_each_through};
 use jx_lex::Span;
 use jx_ndjson::LineVerdict;
 use jx_run::{NoPause, ends_open_behind};
@@ -100,18 +102,18 @@ fn add_accepted(
     add_found_values(ready, told, task, number, bytes, found)
 }
 
-/// Adds what is written for a line and what is told of it. The pointers are those of the task.
+/// Adds what is written for a line and what is told of it. The look-up is that of the task's pointers.
 pub(crate) fn add_line(
     alloc: Global,
     ready: &mut Vec<u8>,
     told: &mut Vec<u8>,
     task: &LineValuesTask,
-    pointers: &[Pointer],
+    look_up: LookUp,
     number: usize,
     bytes: &[u8],
     is_ended: bool,
 ) -> Result<(), AllocError>
-    requires { pointers.now ≡ pointers_of task.now }
+    requires { IsReady (pointers_of task.now) look_up }
     ensures { OnOk result (IsAdded task.now (line number (part 0 bytes.now) is_ended) ready.old.items ready.new.items told.old.items told.new.items) }
 {
     if are_blanks(bytes) {
@@ -121,12 +123,14 @@ pub(crate) fn add_line(
         start: 0,
         end: bytes.len(),
     };
-    match find_each_in(
+    match find_each_through(
         alloc,
         bytes,
         span,
         task.settings.depth,
-        pointers,
+        look_up.edges,
+        look_up.starts,
+        look_up.pointers,
         &mut NoPause,
     )? {
         Err(refusal) => add_none(ready, told, task, number, LineVerdict::Refused(refusal)),

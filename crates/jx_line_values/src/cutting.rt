@@ -5,11 +5,12 @@ ghost use Rattle.jx_ndjson.specs.inside.Steps.{HasNoLineFeed};
 ghost use Rattle.jx_line_values.specs.declared.task.LineValuesTask.{LineValuesTask};
 ghost use Rattle.jx_line_values.specs.LineValues.{LineValuesOutput, pointers_of};
 ghost use Rattle.jx_line_values.specs.inside.Cutting.{HasTaken, bare_bytes, line_bytes};
+ghost use Rattle.jx_line_values.specs.inside.Looking.{IsReady};
 
 use crate::answering::add_line;
+use crate::looking::LookUp;
 use crate::task::LineValuesTask;
 use crate::telling::exit_past;
-use jx_index::Pointer;
 use jx_report::Exit;
 use jx_run::{Front, FrontMark, front};
 use memchr::memchr;
@@ -85,9 +86,9 @@ impl LineCutter {
         &mut self,
         alloc: Global,
         task: &LineValuesTask,
-        pointers: &[Pointer],
+        look_up: LookUp,
     ) -> Result<(), AllocError>
-        requires { pointers.now ≡ pointers_of task.now }
+        requires { IsReady (pointers_of task.now) look_up }
         ensures { OnOk result ((bytes given said : List ℕ) → HasTaken task.now bytes given said self.old → HasTaken task.now (bytes ++ 0x0a ∷ []) given said self.new) }
     {
         if self.ended == usize::MAX {
@@ -98,7 +99,7 @@ impl LineCutter {
             &mut self.ready,
             &mut self.told,
             task,
-            pointers,
+            look_up,
             self.ended + 1,
             line_at(task.settings.mark, self.ended, &self.kept),
             true,
@@ -121,10 +122,10 @@ impl LineCutter {
         &mut self,
         alloc: Global,
         task: &LineValuesTask,
-        pointers: &[Pointer],
+        look_up: LookUp,
         slice: &[u8],
     ) -> Result<usize, AllocError>
-        requires { pointers.now ≡ pointers_of task.now }
+        requires { IsReady (pointers_of task.now) look_up }
         ensures within { IfOk result (λ taken. taken ≤ length slice.now) }
         ensures some { IfOk result (λ taken. 0 < length slice.now → 0 < taken) }
         ensures taken { IfOk result (λ taken. (bytes given said : List ℕ) → HasTaken task.now bytes given said self.old → HasTaken task.now (bytes ++ take taken slice.now) given said self.new) }
@@ -136,7 +137,7 @@ impl LineCutter {
             }
             Some(at) => {
                 self.keep(&slice[..at])?;
-                self.end_line(alloc, task, pointers)?;
+                self.end_line(alloc, task, look_up)?;
                 Ok(at + 1)
             }
         }
@@ -147,15 +148,15 @@ impl LineCutter {
         &mut self,
         alloc: Global,
         task: &LineValuesTask,
-        pointers: &[Pointer],
+        look_up: LookUp,
         slice: &[u8],
     ) -> Result<(), AllocError>
-        requires { pointers.now ≡ pointers_of task.now }
+        requires { IsReady (pointers_of task.now) look_up }
         ensures { OnOk result ((bytes given said : List ℕ) → HasTaken task.now bytes given said self.old → HasTaken task.now (bytes ++ slice.now) given said self.new) }
     {
         let mut at = 0;
         while at < slice.len() {
-            at += self.take_step(alloc, task, pointers, &slice[at..])?;
+            at += self.take_step(alloc, task, look_up, &slice[at..])?;
         }
         Ok(())
     }
@@ -190,9 +191,9 @@ impl LineCutter {
         &mut self,
         alloc: Global,
         task: &LineValuesTask,
-        pointers: &[Pointer],
+        look_up: LookUp,
     ) -> Result<Exit, AllocError>
-        requires { pointers.now ≡ pointers_of task.now }
+        requires { IsReady (pointers_of task.now) look_up }
         ensures { IfOk result (λ exit. (bytes given said : List ℕ) → HasTaken task.now bytes given said self.old
             → LineValuesOutput task.now bytes (given ++ self.new.ready) (said ++ self.new.told) exit) }
     {
@@ -208,7 +209,7 @@ impl LineCutter {
             &mut self.ready,
             &mut self.told,
             task,
-            pointers,
+            look_up,
             self.ended + 1,
             line,
             false,

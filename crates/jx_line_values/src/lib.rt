@@ -4,6 +4,7 @@
 mod adding;
 mod answering;
 mod cutting;
+mod looking;
 mod pointers;
 mod reporting;
 mod task;

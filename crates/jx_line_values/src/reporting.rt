@@ -4,13 +4,13 @@ ghost use Rattle.jx_index.specs.Pointers.{IsPointer};
 ghost use Rattle.jx_line_values.specs.LineValues.{pointers_of};
 ghost use Rattle.jx_line_values.specs.Reports.{ReportsLineValues, WroteDue, WroteInPart, WroteLines};
 ghost use Rattle.jx_line_values.specs.inside.Cutting.{HasTaken};
+ghost use Rattle.jx_line_values.specs.inside.Looking.{IsReady};
 ghost use Rattle.jx_line_values.specs.inside.Steps.{IsAllWritten, WritesOn, WritesPart};
 
 use crate::cutting::LineCutter;
-use crate::pointers::read_all;
+use crate::looking::{LookUp, Trie};
 use crate::task::LineValuesTask;
 use crate::telling::tell;
-use jx_index::Pointer;
 use jx_report::{Exit, ReportFault, Sink, Source, write_whole};
 use std::alloc::Global;
 
@@ -23,11 +23,11 @@ fn write_due<W: Sink, E: Sink>(
     writer: &mut W,
     errors: &mut E,
     task: &LineValuesTask,
-    pointers: &[Pointer],
+    look_up: LookUp,
     cutter: &mut LineCutter,
     batch: &[u8],
 ) -> Result<(), ReportFault>
-    requires pointers { pointers.now ≡ pointers_of task.now }
+    requires pointers { IsReady (pointers_of task.now) look_up }
     requires writer { W.has_failed writer.old ≡ false }
     ensures ok { OnOk result (WritesOn task.now (W.contents writer.old) (W.contents writer.new) (E.has_failed errors.old) (E.has_failed errors.new) (E.contents errors.old) (E.contents errors.new) batch.now cutter.old cutter.new) }
     ensures going { OnOk result (W.has_failed writer.new ≡ false) }
@@ -38,7 +38,7 @@ fn write_due<W: Sink, E: Sink>(
     ensures unread { IfErr result (λ fault. fault ≢ ReportFault.Read) }
     ensures uncut { IfErr result (λ fault. fault ≢ ReportFault.Pieces) }
 {
-    cutter.feed(alloc, task, pointers, batch)?;
+    cutter.feed(alloc, task, look_up, batch)?;
     write_whole(writer, cutter.ready())?;
     tell(errors, cutter.told());
     cutter.clear();
@@ -52,11 +52,11 @@ fn write_all_due<S: Source, W: Sink, E: Sink>(
     writer: &mut W,
     errors: &mut E,
     task: &LineValuesTask,
-    pointers: &[Pointer],
+    look_up: LookUp,
     cutter: &mut LineCutter,
     buffer: &mut [u8],
 ) -> Result<(), ReportFault>
-    requires pointers { pointers.now ≡ pointers_of task.now }
+    requires pointers { IsReady (pointers_of task.now) look_up }
     requires reader { S.has_failed reader.old ≡ false }
     requires writer { W.has_failed writer.old ≡ false }
     requires room { 0 < length buffer.old }
@@ -84,7 +84,7 @@ fn write_all_due<S: Source, W: Sink, E: Sink>(
                 writer,
                 errors,
                 task,
-                pointers,
+                look_up,
                 cutter,
                 &buffer[..count],
             )?,
@@ -131,7 +131,8 @@ pub fn report_line_values<S: Source, W: Sink, E: Sink>(
         (E.has_failed errors.new) (E.contents errors.old) (E.contents errors.new) }
     ensures uncut { IfErr result (λ fault. fault ≢ ReportFault.Pieces) }
 {
-    let pointers = read_all(alloc, &task.pointers)?;
+    let trie = Trie::of(alloc, &task.pointers)?;
+    let look_up = trie.look_up();
     let mut buffer: Vec<u8> = vec![in alloc; 0; STEP]?;
     let mut cutter = LineCutter::new(alloc);
     write_all_due(
@@ -140,11 +141,11 @@ pub fn report_line_values<S: Source, W: Sink, E: Sink>(
         writer,
         errors,
         task,
-        &pointers,
+        look_up,
         &mut cutter,
         &mut buffer,
     )?;
-    let exit = cutter.finish(alloc, task, &pointers)?;
+    let exit = cutter.finish(alloc, task, look_up)?;
     write_whole(writer, cutter.ready())?;
     tell(errors, cutter.told());
     Ok(exit)

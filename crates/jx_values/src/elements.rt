@@ -1,5 +1,5 @@
 // The elements of a container are written while the text is read.
-ghost use Rattle.std.specs.Prelude.{◌≡◌, ◌≢◌, ◌<◌, ◌↔◌, [], true, false, length, IfErr, IfOk, IsErrOf, OnErr, OnOk};
+ghost use Rattle.std.specs.Prelude.{◌≡◌, ◌≢◌, ◌<◌, ◌≤◌, ◌↔◌, [], true, false, length, IfErr, IfOk, IsErrOf, OnErr, OnOk};
 ghost use Rattle.jx_index.specs.Pointers.{IsPointer};
 ghost use Rattle.jx_each.specs.Each.{HasTakenBy};
 ghost use Rattle.jx_values.specs.Elements.{ReportsElements, WroteDue, WroteInPart, WroteLines};
@@ -8,23 +8,32 @@ ghost use Rattle.jx_values.specs.inside.Sought.{HasSought, any_names};
 
 use crate::sought::{Sought, pointers_of, seek, sought_at_start, told_of_elements, verdict_of};
 use crate::telling::{exit_by, tell};
+use jx_crew::{Crew, Gate};
 use jx_each::{Each, LineContent, nothing_is_due_of_no_byte, what_is_taken_is_due};
+use jx_each_batch::feed_shared;
 use jx_report::{Exit, ReportFault, Sink, Source, write_whole};
 use jx_run::Settings;
-use std::alloc::Global;
+use std::sync::Wait;
+use std::thread::Threads;
 
 /// How many bytes are read at a time, at most. What is read is looked at before it leaves the processor's cache.
 const STEP: usize = 256 * 1024;
 
+/// The same where several workers share them.
+const SHARED_STEP: usize = 4 * 1024 * 1024;
+
 /// Takes a batch behind what was read, and writes the lines that are due then. Memory is refused too where the last byte has
 /// no offset.
-fn write_due<W: Sink>(
+fn write_due<R: Threads + Wait + Sync, W: Sink, G: Gate + Sync>(
+    crew: &Crew<'_, R, G>,
     writer: &mut W,
     each: &mut Each,
     sought: &mut Sought<'_>,
     batch: &[u8],
+    piece: usize,
 ) -> Result<(), ReportFault>
-    requires { W.has_failed writer.old ≡ false }
+    requires writer { W.has_failed writer.old ≡ false }
+    requires piece { 1 ≤ piece }
     ensures settings { each.new.reader.settings ≡ each.old.reader.settings }
     ensures ok { OnOk result (WritesOn (W.contents writer.old) (W.contents writer.new) batch.now each.old each.new sought.old sought.new) }
     ensures going { OnOk result (W.has_failed writer.new ≡ false) }
@@ -39,7 +48,7 @@ fn write_due<W: Sink>(
         return Err(ReportFault::Memory);
     }
     seek(sought, batch)?;
-    each.feed(batch)?;
+    feed_shared(crew, each, batch, piece)?;
     write_whole(writer, each.ready())?;
     each.clear_ready();
     Ok(())
@@ -47,7 +56,8 @@ fn write_due<W: Sink>(
 
 /// Reads to the end of input, and writes each line once it is due: what a read gives is taken before the next one, which may
 /// wait.
-fn write_all_due<S: Source, W: Sink>(
+fn write_all_due<R: Threads + Wait + Sync, S: Source, W: Sink, G: Gate + Sync>(
+    crew: &Crew<'_, R, G>,
     reader: &mut S,
     writer: &mut W,
     each: &mut Each,
@@ -55,7 +65,9 @@ fn write_all_due<S: Source, W: Sink>(
     content: LineContent,
     pointer: &str,
     buffer: &mut [u8],
+    piece: usize,
 ) -> Result<(), ReportFault>
+    requires piece { 1 ≤ piece }
     requires reader { S.has_failed reader.old ≡ false }
     requires writer { W.has_failed writer.old ≡ false }
     requires room { 0 < length buffer.old }
@@ -76,11 +88,22 @@ fn write_all_due<S: Source, W: Sink>(
     for _ in 0..u64::MAX {
         match reader.read(buffer) {
             Ok(0) => return Ok(()),
-            Ok(count) => write_due(writer, each, sought, &buffer[..count])?,
+            Ok(count) => write_due(crew, writer, each, sought, &buffer[..count], piece)?,
             Err(_) => return Err(ReportFault::Read),
         }
     }
     Err(ReportFault::Memory)
+}
+
+/// How many bytes are read at a time, at most, for a crew.
+fn room_for<R, G>(crew: &Crew<'_, R, G>) -> usize
+    ensures { 0 < result }
+{
+    if crew.workers.count() > 1 {
+        SHARED_STEP
+    } else {
+        STEP
+    }
 }
 
 /// Reads to the end of input, and writes a line for each element of the array that a pointer leads to, by the first member of
@@ -93,14 +116,19 @@ fn write_all_due<S: Source, W: Sink>(
 /// What is written is never taken back: of a refused input the lines are those of the elements whose comma or bracket stands
 /// before the first fault. One batch and one element or name are held. The names of the settings are of no account: objects may
 /// repeat them. Where telling fails, no more is told, and the exit is the same.
-pub fn report_elements<S: Source, W: Sink, E: Sink>(
-    alloc: Global,
+///
+/// Several workers share what one read gives, where that is a MiB or more or the gate is asked: they read it by pieces of so many
+/// bytes, and make its lines. Where the pointer has tokens or names are asked for, one of them looks the pointer up. The gate is
+/// asked as pieces are read. For every number of workers, every piece and every gate the output is the same.
+pub fn report_elements<R: Threads + Wait + Sync, S: Source, W: Sink, E: Sink, G: Gate + Sync>(
+    crew: &Crew<'_, R, G>,
     reader: &mut S,
     writer: &mut W,
     errors: &mut E,
     settings: &Settings,
     content: LineContent,
     pointer: &str,
+    piece: usize,
 ) -> Result<Exit, ReportFault>
     requires pointer { IsPointer pointer.now }
     requires reader { S.has_failed reader.old ≡ false }
@@ -124,11 +152,13 @@ pub fn report_elements<S: Source, W: Sink, E: Sink>(
 {
     nothing_is_due_of_no_byte();
     what_is_taken_is_due();
+    let alloc = crew.alloc;
     let mut each = Each::with_content(alloc, settings, pointer, content)?;
     let pointers = pointers_of(alloc, content, pointer)?;
     let mut sought = sought_at_start(alloc, settings, pointers)?;
-    let mut buffer: Vec<u8> = vec![in alloc; 0; STEP]?;
+    let mut buffer: Vec<u8> = vec![in alloc; 0; room_for(crew)]?;
     write_all_due(
+        crew,
         reader,
         writer,
         &mut each,
@@ -136,6 +166,7 @@ pub fn report_elements<S: Source, W: Sink, E: Sink>(
         content,
         pointer,
         &mut buffer,
+        piece.max(1),
     )?;
     let told = told_of_elements(alloc, content, &each, verdict_of(&each), sought)?;
     tell(errors, &told);

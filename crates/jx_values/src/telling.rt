@@ -46,8 +46,8 @@ fn add_told_of_value(
     told.extend_from_slice(b"half a surrogate pair\n")
 }
 
-/// Appends what is told of a pointer with this answer.
-fn add_told(
+/// Appends what is told of a pointer with this answer in a text.
+pub fn add_told(
     told: &mut Vec<u8>,
     form: Form,
     text: &[u8],
@@ -108,7 +108,7 @@ pub(crate) fn told_of_answers(
 }
 
 /// Tells what there is to tell, unless telling has failed before. Where telling fails, no more is told.
-pub(crate) fn tell<E: Sink>(errors: &mut E, told: &[u8])
+pub fn tell<E: Sink>(errors: &mut E, told: &[u8])
     ensures { E.has_failed errors.new ≡ false → Appends (E.contents errors.old) (E.contents errors.new) told.now }
 {
     if !errors.failed() {
@@ -117,7 +117,7 @@ pub(crate) fn tell<E: Sink>(errors: &mut E, told: &[u8])
 }
 
 /// Good where nothing is told.
-pub(crate) fn exit_by(told: &[u8]) -> Exit
+pub fn exit_by(told: &[u8]) -> Exit
     ensures { result ≡ exit_by told.now }
 {
     if told.is_empty() {

@@ -125,8 +125,8 @@ fn put_values<W: Sink>(
     Ok(())
 }
 
-/// Writes a line for each answer, in their order, through a buffer of so many bytes, or of a chunk where that is more.
-pub(crate) fn write_values<W: Sink>(
+/// Writes a line for each answer in a text, in their order, through a buffer of so many bytes, or of a chunk where that is more.
+pub fn write_values<W: Sink>(
     alloc: Global,
     writer: &mut W,
     form: Form,

@@ -1,5 +1,5 @@
 -- The chunks of a text, and what its index keeps of each.
-use Rattle.std.proofs.Common.{◌≡◌, ℕ, zero, suc, ◌+◌, ◌*◌, ◌-◌, ◌<◌, ◌≤◌, min, List, [], ◌∷◌, ◌++◌, length, take, drop, refl, sym, ap, ◌∙◌, arith, Bool, true, false, ltb, Option, None, Some, inl, inr, ◌⊎◌}
+use Rattle.std.proofs.Common.{◌≡◌, ℕ, zero, suc, ◌+◌, ◌*◌, ◌-◌, ◌<◌, ◌≤◌, min, List, [], ◌∷◌, ◌++◌, length, take, drop, refl, sym, ap, ◌∙◌, arith, Bool, true, false, Option, None, Some, inl, inr, ◌⊎◌}
 use Rattle.std.specs.Prelude.{nat_lt, slice_get, slice_range, if◌then◌else◌}
 use Rattle.std.proofs.lemmas.Bool.{cases_lt, le-ltb, ltb-true, ltb-false}
 use Rattle.std.proofs.lemmas.List.{length-append, length-drop, take_all}
@@ -17,18 +17,18 @@ use Rattle.jx_walk.specs.Chunks.{chunk_at}
 
 -- ---- entries
 
-get_left : (xs ys : List Entry) (i : ℕ) → i < length xs → slice_get (xs ++ ys) i ≡ slice_get xs i
+pub get_left : (xs ys : List Entry) (i : ℕ) → i < length xs → slice_get (xs ++ ys) i ≡ slice_get xs i
 get_left [] ys i low = absurd (omega (arith, low))
 get_left (x ∷ xs) ys zero low = refl
 get_left (x ∷ xs) ys (suc i) low = get_left xs ys i (omega (arith, low))
 
-get_seam : (xs : List Entry) (y : Entry) (i : ℕ) → i ≡ length xs → slice_get (xs ++ y ∷ []) i ≡ Some y
+pub get_seam : (xs : List Entry) (y : Entry) (i : ℕ) → i ≡ length xs → slice_get (xs ++ y ∷ []) i ≡ Some y
 get_seam [] y zero e = refl
 get_seam [] y (suc i) e = absurd (omega (arith, e))
 get_seam (x ∷ xs) y zero e = absurd (omega (arith, e))
 get_seam (x ∷ xs) y (suc i) e = get_seam xs y i (omega (arith, e))
 
-one_more : (es : List Entry) (e : Entry) (n : ℕ) → length es ≡ n → length (es ++ e ∷ []) ≡ suc n
+pub one_more : (es : List Entry) (e : Entry) (n : ℕ) → length es ≡ n → length (es ++ e ∷ []) ≡ suc n
 one_more es e n h = let l : length (es ++ e ∷ []) ≡ length es + length (e ∷ []) = length-append es (e ∷ []) in omega (arith, l, h)
 
 module _ (settings : Settings) (size : ℕ) (text : List ℕ) where

@@ -3,13 +3,17 @@ pub mod Comings
 pub mod Elements
 pub mod Endings
 pub mod Holdings
+pub mod Joins
+pub mod Levels
 pub mod Moved
 pub mod Moves
 pub mod Overs
 pub mod Paired
 pub mod Pairings
+pub mod Parts
 pub mod Passings
 pub mod Pieces
 pub mod Standing
 pub mod Sums
+pub mod Told
 pub mod Walks

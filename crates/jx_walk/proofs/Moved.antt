@@ -12,6 +12,7 @@ use Rattle.jx_lex.specs.Lex.{lex, LexExit, Track, after_step, on_next, with_end,
 use Rattle.jx_lex.specs.Moves.{move}
 use Rattle.jx_run.specs.Telling.{moved_ends, moved_marks}
 use Rattle.jx_saved.specs.declared.sum.Sum.{Sum}
+use Rattle.jx_saved.specs.Chunks.{has_some}
 use Rattle.jx_saved.specs.Sums.{noted, nothing, sum_of}
 use Rattle.jx_walk.proofs.Sums.{on_from}
 
@@ -58,7 +59,7 @@ marks_on b s xs = ap (λ (t : Track). t.marks) (from_first b s xs)
 pub ends_on : (b : ℕ) (s : LexState) (xs : List ℕ) → (lex s b xs).ends ≡ moved_ends b (lex s 0 xs).ends
 ends_on b s xs = ap (λ (t : Track). t.ends) (from_first b s xs)
 
-same_sum : (b : ℕ) (ms : List Mark) (s : Sum) → on_from s (moved_marks b ms) ≡ on_from s ms
+pub same_sum : (b : ℕ) (ms : List Mark) (s : Sum) → on_from s (moved_marks b ms) ≡ on_from s ms
 same_sum b [] s = refl
 same_sum b (m ∷ ms) s = same_sum b ms (noted m.kind s)
 
@@ -71,3 +72,11 @@ state_on b s to xs e = back (lex s 0 xs).exit (ap (λ (t : Track). t.exit) (sym 
     back : (x : LexExit) → moved_exit b x ≡ lexical.state to → x ≡ lexical.state to
     back (lexical.state t) h = h
     back (lexical.fault at) h = absurd cc
+
+pub some_moved : (b : ℕ) (ms : List Mark) → has_some (moved_marks b ms) ≡ has_some ms
+some_moved b [] = refl
+some_moved b (m ∷ ms) = refl
+
+pub some_ends_moved : (b : ℕ) (es : List ℕ) → has_some (moved_ends b es) ≡ has_some es
+some_ends_moved b [] = refl
+some_ends_moved b (e ∷ es) = refl

@@ -1,40 +1,30 @@
--- Chunks of a text of which an index is known, as pieces that may be passed over.
-use Rattle.std.proofs.Common.{◌≡◌, ℕ, suc, ◌*◌, List, [], ◌∷◌, ◌++◌, length, take, refl, sym, ap, subst, ◌∙◌, ◌<◌, Option, None, Some}
+-- Parts of a text of which an index is known, as pieces that may be passed over.
+use Rattle.std.proofs.Common.{◌≡◌, ℕ, suc, ◌*◌, List, ◌++◌, length, take, refl, sym, ap, subst, ◌∙◌, ◌<◌, ◌≤◌, Option, None, Some}
 use Rattle.std.specs.Prelude.{IfSome, slice_get}
-use Rattle.jx_lex.specs.declared.alphabet.mark.Mark.{Mark}
-use Rattle.jx_lex.specs.Lex.{lex}
+use Rattle.jx_lex.specs.declared.alphabet.state.LexState.{LexState}
+use Rattle.jx_lex.specs.Lex.{lex, LexExit}
+use Rattle.jx_reduce.specs.declared.expect.Expect.{Expect}
+use Rattle.jx_reduce.specs.Read.{Reading, read}
 use Rattle.jx_summary.specs.declared.span.Span.{Span}
 use Rattle.jx_run.specs.declared.texts.settings.FrontMark.{FrontMark}
 use Rattle.jx_run.specs.declared.texts.settings.Settings.{Settings}
 use Rattle.jx_run.specs.Reader.{Outcome, reads, read_by}
 use Rattle.jx_run.specs.Reading.{went}
-use Rattle.jx_run.specs.Telling.{moved_ends, moved_marks, tokens_by}
+use Rattle.jx_run.specs.Telling.{tokens_by}
 use Rattle.jx_run.proofs.InTurn.{InPieces}
-use Rattle.jx_index.specs.declared.trie.Edge.{Edge}
-use Rattle.jx_index.specs.inside.Found.{finding}
-use Rattle.jx_find.specs.declared.held.Sought.{Sought}
-use Rattle.jx_find.specs.Held.{IsHeld}
 use Rattle.jx_saved.specs.declared.entry.Entry.{Entry}
 use Rattle.jx_saved.specs.declared.index.Index.{Index}
 use Rattle.jx_saved.specs.Chunks.{before, entry_behind, has_some, part}
 use Rattle.jx_saved.specs.Index.{AreLevels}
-use Rattle.jx_walk.specs.declared.passing.Over.{Over}
+use Rattle.jx_saved.specs.Sums.{sum_of}
 use Rattle.jx_walk.specs.Chunks.{chunk_at}
-use Rattle.jx_walk.specs.HeldAt.{IsHeldAt}
 use Rattle.jx_walk.specs.Known.{IsKnown}
-use Rattle.jx_walk.specs.inside.Over.{IsPiece, LeadsOver, finding_over}
-use Rattle.jx_walk.proofs.Chunkings.{entry, entry_is, part_taken}
-use Rattle.jx_walk.proofs.Comings.{later_track, stands_behind, stands_here, track_held}
-use Rattle.jx_walk.proofs.Moved.{ends_on, marks_on, sum_on}
-use Rattle.jx_walk.proofs.Standing.{Stands, leads, marks_stand}
-
-some_moved : (b : ℕ) (ms : List Mark) → has_some (moved_marks b ms) ≡ has_some ms
-some_moved b [] = refl
-some_moved b (m ∷ ms) = refl
-
-some_ends_moved : (b : ℕ) (es : List ℕ) → has_some (moved_ends b es) ≡ has_some es
-some_ends_moved b [] = refl
-some_ends_moved b (e ∷ es) = refl
+use Rattle.jx_walk.specs.inside.Blocks.{TellsOf}
+use Rattle.jx_walk.specs.inside.Over.{IsPiece}
+use Rattle.jx_walk.proofs.Chunkings.{entry_is, part_taken}
+use Rattle.jx_walk.proofs.Moved.{ends_on, marks_on, some_ends_moved, some_moved, sum_on}
+use Rattle.jx_walk.proofs.Parts.{stands_behind, stands_here}
+use Rattle.jx_walk.proofs.Standing.{Goes, Stands, leads, marks_stand}
 
 -- what is kept of the chunk at a place is its entry
 pub entry_some : (index : Index) (at : ℕ) (s : Span) → chunk_at index at ≡ Some s → (o : Option Entry) → ((es : List Entry) → AreLevels es index.entries.items index.top → at < length es → o ≡ slice_get es at)
@@ -60,7 +50,8 @@ module _ (m : FrontMark) (limit : ℕ) (bytes piece more : List ℕ) where
         reads = l.marks;
       }))
 
-module _ (settings : Settings) (chunk : ℕ) (text : List ℕ) (index : Index) (known : IsKnown settings chunk text index) (two : InPieces) where
+-- a part of a text without a fault, by entries that tell of it and of what stands behind it
+module _ (settings : Settings) (size : ℕ) (text : List ℕ) (goes : Goes settings.mark settings.depth text) (two : InPieces) where
   abbrev m : FrontMark
   m = settings.mark
 
@@ -68,28 +59,37 @@ module _ (settings : Settings) (chunk : ℕ) (text : List ℕ) (index : Index) (
   limit = settings.depth
 
   abbrev bytes : ℕ → List ℕ
-  bytes at = take (at * chunk) text
+  bytes n = take (n * size) text
 
   abbrev piece : ℕ → List ℕ
-  piece at = part chunk text at
+  piece n = part size text n
 
-  pub piece_at : (at : ℕ) (s : Span) (e later : Entry) → (at ≡ 0 → ⊥) → chunk_at index at ≡ Some s → e ≡ entry settings chunk text at → later ≡ entry settings chunk text (suc at)
-      → IsPiece limit (bytes at) (piece at) (tokens_by m (bytes at)).marks e later
-  piece_at at s e later other is same same_later =
-      subst (λ (x : Entry). IsPiece limit (bytes at) (piece at) (tokens_by m (bytes at)).marks x later) (sym same)
-      (subst (λ (x : Entry). IsPiece limit (bytes at) (piece at) (tokens_by m (bytes at)).marks (entry settings chunk text at) x) (sym same_later)
-      (subst (λ (xs : List ℕ). IsPiece limit (bytes at) (piece at) (tokens_by m (bytes at)).marks (entry settings chunk text at) (entry_behind (read_by m limit 0 xs) (piece (suc at)))) (part_taken chunk text at)
-      (piece_of m limit (bytes at) (piece at) (piece (suc at)) (stands_here settings chunk text index known two at s other is) (stands_behind settings chunk text index known two at s other is))))
+  -- what a piece is of another entry that says the same
+  told_piece : (n : ℕ) (e here later there : Entry) → TellsOf (before settings text (n * size)) (piece n) e → here ≡ entry_behind (before settings text (n * size)) (piece n) → later.state ≡ there.state → later.expect ≡ there.expect
+      → IsPiece limit (bytes n) (piece n) (tokens_by m (bytes n)).marks here there → IsPiece limit (bytes n) (piece n) (tokens_by m (bytes n)).marks e later
+  told_piece n e here later there tells is state expect p =
+      let b = length (bytes n) in
+      let z = before settings text (n * size) in
+      let same_state : here.state ≡ e.state = ap (λ (x : Entry). x.state) is ∙ sym tells.state in
+      let same_expect : here.expect ≡ e.expect = ap (λ (x : Entry). x.expect) is ∙ sym tells.expect in
+      record {
+        exit = ap (λ (s : LexState). (lex s b (piece n)).exit) (sym same_state) ∙ p.exit ∙ ap LexExit.state (sym state);
+        sum = tells.sum ∙ ap (λ (x : Entry). x.sum) (sym is) ∙ p.sum ∙ ap (λ (s : LexState). sum_of (lex s b (piece n)).marks) same_state;
+        begins = tells.begins ∙ ap (λ (x : Entry). x.begins) (sym is) ∙ p.begins ∙ ap (λ (s : LexState). has_some (lex s b (piece n)).marks) same_state;
+        ends = tells.ends ∙ ap (λ (x : Entry). x.ends) (sym is) ∙ p.ends ∙ ap (λ (s : LexState). has_some (lex s b (piece n)).ends) same_state;
+        holders = p.holders;
+        later = p.later;
+        stands = p.stands ∙ ap (λ (x : Expect). Reading.went x p.holders) same_expect;
+        reads =
+            ap (λ (s : LexState). read limit (lex s b (piece n)).marks (Reading.went e.expect p.holders)) (sym same_state)
+            ∙ ap (λ (x : Expect). read limit (lex here.state b (piece n)).marks (Reading.went x p.holders)) (sym same_expect)
+            ∙ p.reads ∙ ap (λ (x : Expect). Reading.went x p.later) (sym expect);
+      }
 
-  pub over_held : (at : ℕ) (sp : Span) (edges : List Edge) (e : Entry) (held : Sought) (over : Over) (next : Sought) → (at ≡ 0 → ⊥) → chunk_at index at ≡ Some sp → e ≡ entry settings chunk text at
-      → LeadsOver (bytes at) (piece at) edges (tokens_by m (bytes at)).marks (tokens_by m (bytes at)).ends held e over
-      → finding next.state ≡ finding_over over (finding held.state) → next.next ≡ over.next → next.begun ≡ over.begun → IsHeldAt settings chunk text edges (suc at) next
-  over_held at sp edges e held over next other is same leads_over found next_is begun_is =
-      let b = length (bytes at) in
-      let track = later_track settings chunk text index known two at sp e (piece at) other is same refl in
-      let h = leads_over next.state next.name.items found in
-      let with_next = subst (λ (n : ℕ). IsHeld (bytes at ++ piece at) edges ((tokens_by m (bytes at)).marks ++ (lex e.state b (piece at)).marks) ((tokens_by m (bytes at)).ends ++ (lex e.state b (piece at)).ends) next.state n over.begun next.name.items) (sym next_is) h in
-      let with_begun = subst (λ (o : Option Mark). IsHeld (bytes at ++ piece at) edges ((tokens_by m (bytes at)).marks ++ (lex e.state b (piece at)).marks) ((tokens_by m (bytes at)).ends ++ (lex e.state b (piece at)).ends) next.state next.next o next.name.items) (sym begun_is) with_next in
-      track_held settings chunk text index known two at edges (piece at) (lex e.state 0 (piece at)) next refl track
-      (subst (λ (ms : List Mark). IsHeld (bytes at ++ piece at) edges ((tokens_by m (bytes at)).marks ++ ms) ((tokens_by m (bytes at)).ends ++ moved_ends b (lex e.state 0 (piece at)).ends) next.state next.next next.begun next.name.items) (marks_on b e.state (piece at))
-      (subst (λ (es : List ℕ). IsHeld (bytes at ++ piece at) edges ((tokens_by m (bytes at)).marks ++ (lex e.state b (piece at)).marks) ((tokens_by m (bytes at)).ends ++ es) next.state next.next next.begun next.name.items) (ends_on b e.state (piece at)) with_begun))
+  pub piece_at : (n : ℕ) (e later : Entry) (more : List ℕ) → 64 ≤ size → (n ≡ 0 → ⊥) → n * size ≤ length text → TellsOf (before settings text (n * size)) (piece n) e → later ≡ entry_behind (before settings text (suc n * size)) more
+      → IsPiece limit (bytes n) (piece n) (tokens_by m (bytes n)).marks e later
+  piece_at n e later more wide other within tells is =
+      let there = entry_behind (read_by m limit 0 (bytes n ++ piece n)) more in
+      let same : later ≡ there = is ∙ ap (λ (xs : List ℕ). entry_behind (read_by m limit 0 xs) more) (sym (part_taken size text n)) in
+      told_piece n e (entry_behind (before settings text (n * size)) (piece n)) later there tells refl (ap (λ (x : Entry). x.state) same) (ap (λ (x : Entry). x.expect) same)
+      (piece_of m limit (bytes n) (piece n) more (stands_here settings size text goes two n wide other within) (stands_behind settings size text goes two n wide other within))

@@ -16,7 +16,7 @@ use Rattle.jx_run.specs.Front.{agreed}
 use Rattle.jx_run.specs.Reader.{Outcome, in_front, reads, is_fault, read_by}
 use Rattle.jx_run.specs.Reading.{went, stopped, too_deep, at_exit, read, read_text}
 use Rattle.jx_run.specs.Settings.{byte_order_mark}
-use Rattle.jx_run.specs.Telling.{tokens_by}
+use Rattle.jx_run.specs.Telling.{at_start, tokens_by}
 use Rattle.jx_run.proofs.Fronts.{agreed_short}
 use Rattle.jx_run.proofs.InTurn.{faults_stay}
 use Rattle.jx_run.proofs.ReaderFeeds.{Case, cases, whole, part, none, cut, at_front, by_cut, by_none, by_part, by_whole, goes_on_by}
@@ -28,6 +28,11 @@ Goes m limit bytes = is_fault (Some (read_by m limit 0 bytes)) ≡ false
 -- the first bytes of what has no fault have none
 pub front_goes : (m : FrontMark) (limit n : ℕ) (text : List ℕ) → Goes m limit text → Goes m limit (take n text)
 front_goes m limit n text h = faults_stay m limit (take n text) (drop n text) (subst (Goes m limit) (sym (take-append-drop n text)) h)
+
+pub none_read : (m : FrontMark) (limit : ℕ) → read_by m limit 0 [] ≡ at_start m
+unfolding read lex
+none_read on_mark.Refused limit = refl
+none_read on_mark.Ignored limit = refl
 
 -- ---- where a reading stands behind some bytes
 

@@ -11,7 +11,7 @@ use jx_saved::{Entry, Index, digest_of};
 
 /// Where the chunk at a place stands in the text, if it has one there.
 #[tactic(auto, using(crate::proofs::Chunkings::none_at))]
-pub(crate) fn chunk_at(index: &Index, at: usize) -> Option<Span>
+pub fn chunk_at(index: &Index, at: usize) -> Option<Span>
     ensures value { result ≡ chunk_at index.now at }
     ensures some { IfSome result (λ span. span.start < span.end) }
     ensures within { IfSome result (λ span. span.end ≤ index.now.size) }
@@ -33,7 +33,7 @@ pub(crate) fn chunk_at(index: &Index, at: usize) -> Option<Span>
 }
 
 /// What is kept of the chunk at a place. Of a text of one chunk that is the top.
-pub(crate) fn entry_at(index: &Index, at: usize) -> Option<Entry>
+pub fn entry_at(index: &Index, at: usize) -> Option<Entry>
     ensures { (es : List Entry) → AreLevels es index.now.entries.items index.now.top → at < length es → result ≡ slice_get es at }
 {
     if index.entries.is_empty() {
@@ -43,7 +43,7 @@ pub(crate) fn entry_at(index: &Index, at: usize) -> Option<Entry>
 }
 
 /// Whether bytes are as long as the chunk at a place, and have the digest that is kept of it.
-pub(crate) fn is_kept(index: &Index, at: usize, span: Span, bytes: &[u8]) -> bool
+pub fn is_kept(index: &Index, at: usize, span: Span, bytes: &[u8]) -> bool
     ensures same { IsTrue result → (settings : Settings) (chunk : ℕ) (text : List ℕ) → IsIndexOf settings chunk text index.now → chunk_at index.now at ≡ Some span
         → xxh64 bytes.now ≡ xxh64 (slice_range text span.start span.end) }
     ensures other { result ≡ false → (settings : Settings) (chunk : ℕ) (text : List ℕ) → IsIndexOf settings chunk text index.now → chunk_at index.now at ≡ Some span

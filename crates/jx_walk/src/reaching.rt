@@ -1,14 +1,15 @@
 // How far chunks are read, or passed over.
 ghost use Rattle.std.specs.Prelude.{◌≡◌, ◌+◌, ◌*◌, ◌≤◌, ℕ, List, Some, slice_range, IfNone, IfOk, IfSome};
 ghost use Rattle.jx_run.specs.declared.texts.settings.Settings.{Settings};
-ghost use Rattle.jx_index.specs.inside.Found.{finding};
 ghost use Rattle.jx_find.specs.declared.held.Sought.{Sought as SoughtOf};
 ghost use Rattle.jx_saved.specs.Chunks.{before, entry_behind, part};
 ghost use Rattle.jx_walk.specs.Chunks.{chunk_at};
 ghost use Rattle.jx_walk.specs.HeldAt.{IsHeldAt};
 ghost use Rattle.jx_walk.specs.Known.{IsKnown};
-ghost use Rattle.jx_walk.specs.inside.Over.{finding_over};
+ghost use Rattle.jx_walk.specs.inside.Blocks.{IsBlockAt};
+ghost use Rattle.jx_walk.specs.inside.Stretch.{IsStretch};
 
+use crate::blocks::{Block, entry_of, lowest_at};
 use crate::chunks::{chunk_at, entry_at};
 use crate::passing::{Over, pass};
 use crate::reading::read_chunk;
@@ -41,21 +42,51 @@ fn kept_of(index: &Index, at: usize, span: Span) -> Option<Entry>
     entry_at(index, at)
 }
 
-/// What changes of what is held where the chunk at a place is passed over, if it can be. The first chunk and the last are read.
-fn over_at(index: &Index, edges: &[Edge], held: &Sought, at: usize) -> Option<Over>
-    ensures { IfSome result (λ over. (settings : Settings) (chunk : ℕ) (text : List ℕ) → IsKnown settings chunk text index.now → IsHeldAt settings chunk text edges.now at held.now
-        → (next : SoughtOf) → finding next.state ≡ finding_over over (finding held.now.state) → next.next ≡ over.next → next.begun ≡ over.begun → IsHeldAt settings chunk text edges.now (at + 1) next) }
+/// What is passed over from a place on: what changes of what is held, and which chunk stands behind.
+#[derive(Clone, Copy)]
+pub(crate) struct Stretch {
+    pub over: Over,
+    pub end: usize,
+}
+
+/// What is passed over where a block is, if it can be. The first block and the last of each level are not.
+fn over_block(
+    index: &Index,
+    edges: &[Edge],
+    held: &Sought,
+    at: usize,
+    block: Block,
+) -> Option<Stretch>
+    requires block { IsBlockAt index.now at block }
+    ensures { IfSome result (IsStretch index.now edges.now held.now at) }
 {
     pieces_are_read_in_turn();
     if at == 0 {
         return None;
     }
-    let behind = at.checked_add(1)?;
-    let span = chunk_at(index, at)?;
-    let here = kept_of(index, at, span)?;
-    let later_span = chunk_at(index, behind)?;
-    let later = kept_of(index, behind, later_span)?;
-    pass(held, edges, &here, &later)
+    let end = at.checked_add(block.chunks)?;
+    let here = entry_of(index, block)?;
+    let later_span = chunk_at(index, end)?;
+    let later = kept_of(index, end, later_span)?;
+    let over = pass(held, edges, &here, &later)?;
+    Some(Stretch { over, end })
+}
+
+/// What is passed over from a place on, if the chunk there can be: the largest block that begins there of those that can be.
+/// What lets a block be passed lets the block below that begins with it, so none is tried above one that is not passed.
+fn over_from(index: &Index, edges: &[Edge], held: &Sought, at: usize) -> Option<Stretch>
+    ensures { IfSome result (IsStretch index.now edges.now held.now at) }
+{
+    let mut block = lowest_at(index, at);
+    let mut stretch = over_block(index, edges, held, at, block)?;
+    'levels: while let Some(above) = block.above() {
+        let Some(farther) = over_block(index, edges, held, at, above) else {
+            return Some(stretch);
+        };
+        block = above;
+        stretch = farther;
+    }
+    Some(stretch)
 }
 
 /// Passes over all chunks from a place on that can be.
@@ -68,12 +99,12 @@ fn pass_on(index: &Index, edges: &[Edge], held: Sought, at: usize) -> Reached
     let mut at = at;
     let end = index.entries.len();
     'chunks: while at < end {
-        let Some(over) = over_at(index, edges, &held, at) else {
+        let Some(stretch) = over_from(index, edges, &held, at) else {
             return Reached { held, at };
         };
-        let next = over.of(held);
+        let next = stretch.over.of(held);
         held = next;
-        at += 1;
+        at = stretch.end;
     }
     Reached { held, at }
 }

@@ -19,6 +19,7 @@ use Rattle.jx_report.proofs.PointerReplies.{reply_is}
 use Rattle.jx_walk_report.specs.declared.look_fault.LookFault.{LookFault}
 use Rattle.jx_walk_report.specs.declared.look_fault.LookFault.TheVariants.{Changed, Memory, NoText, OtherSize, Saved, SavedRead, TextRead, Write}
 use Rattle.jx_walk_report.specs.inside.Faults.{IsChange}
+use Rattle.jx_walk_report.specs.Looked.{AreAnswersBySaved, IsReadOf}
 use Rattle.jx_walk_report.specs.Reports.{ArePlaces, FailsFor, IsOfText}
 use Rattle.jx_walk_report.specs.Saved.{IsSavedOf, TellsApart}
 
@@ -46,15 +47,20 @@ read_is saved index reads settings chunk text bytes s e = is_of settings chunk t
 
 -- ---- what is written
 
-abbrev pub Answers : List (List ℕ) → Option (List ℕ) → Index → List PointerAnswer → Type 0
+abbrev Answers : List (List ℕ) → Option (List ℕ) → Index → List PointerAnswer → Type 0
 Answers pointers content index answers = (settings : Settings) (chunk : ℕ) (text all : List ℕ) → IsIndexOf settings chunk text index → content ≡ Some all → TellsApart chunk text all
     → AreAnswersIn settings text pointers answers
 
-pub places : (pointers : List (List ℕ)) (saved content : Option (List ℕ)) (index : Index) (answers : Vec PointerAnswer Global) (exit : Exit) → Reads saved index → Answers pointers content index answers.items
+pub looked : (pointers : List (List ℕ)) (saved content : Option (List ℕ)) (index : Index) (answers : List PointerAnswer) → Reads saved index → Answers pointers content index answers
+    → AreAnswersBySaved pointers saved content answers
+looked pointers saved content index answers reads answered = λ settings chunk text bytes file s of is tells.
+    answered settings chunk text file (read_is saved index reads settings chunk text bytes s of) is tells
+
+pub places : (pointers : List (List ℕ)) (saved content : Option (List ℕ)) (answers : Vec PointerAnswer Global) (exit : Exit) → AreAnswersBySaved pointers saved content answers.items
     → exit ≡ exit_past_lines Good answers.items → ArePlaces pointers saved content (pointer_lines answers.items) exit
-places pointers saved content index answers exit reads answered e = λ settings chunk text bytes file s of is tells.
+places pointers saved content answers exit answered e = λ settings chunk text bytes file s of is tells.
     subst (λ (x : Exit). TextOutput (AnswersPointers pointers settings text) settings text (pointer_lines answers.items) x) (sym e)
-    (reply_is settings text pointers answers (s.accepted, answered settings chunk text file (read_is saved index reads settings chunk text bytes s of) is tells))
+    (reply_is settings text pointers answers (s.accepted, answered settings chunk text bytes file s of is tells))
 
 -- ---- faults
 

@@ -1,4 +1,6 @@
+pub mod Looked
 pub mod Offsets
+pub mod Parts
 pub mod Reports
 pub mod Saved
 pub mod inside

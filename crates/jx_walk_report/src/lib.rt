@@ -5,13 +5,20 @@
 mod answers;
 mod lines;
 mod look_fault;
+mod looking;
 mod part;
+mod part_lines;
+mod parts_reporting;
 mod read_at;
 mod reporting;
 mod saved_reading;
 mod sought;
+mod splitting;
 mod walking;
 
 pub use look_fault::LookFault;
+pub use looking::{Looked, look_up};
+pub use part::read_part;
+pub use parts_reporting::report_parts;
 pub use read_at::ReadAt;
 pub use reporting::report_places;

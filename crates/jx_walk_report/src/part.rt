@@ -36,12 +36,9 @@ fn read_on<F: ReadAt>(
     file.read_at(&mut buffer[filled..], start + filled)
 }
 
-/// Reads the bytes of a part of a file, or fewer where the file ends before the part does.
-pub(crate) fn read_part<F: ReadAt>(
-    file: &mut F,
-    buffer: &mut Vec<u8>,
-    span: Span,
-) -> Result<(), LookFault>
+/// Reads the bytes of a part of a file, or fewer where the file ends before the part does. The buffer has them alone. It grows
+/// at once, so that where memory is refused nothing was read.
+pub fn read_part<F: ReadAt>(file: &mut F, buffer: &mut Vec<u8>, span: Span) -> Result<(), LookFault>
     requires unfailed { F.has_failed file.old ≡ false }
     requires order { span.start ≤ span.end }
     ensures there { OnOk result (StandThere (F.content file.old) span.start buffer.new.items) }

@@ -4,16 +4,15 @@ ghost use Rattle.std.specs.Io.KnownBytes.{Appends};
 ghost use Rattle.jx_report.specs.Ends.{AppendsBeginning};
 ghost use Rattle.jx_walk_report.specs.Reports.{FailsFor, IsOfText, WritesPlaces, WritesPlacesInPart};
 
-use crate::answers::answers_of;
 use crate::lines::lines_of;
 use crate::look_fault::LookFault;
+use crate::looking::{Looked, look_up};
 use crate::read_at::ReadAt;
-use crate::saved_reading::read_saved;
 use jx_report::{Exit, Sink, Source, write_whole};
 use std::alloc::Global;
 
 /// Writes all of these bytes.
-fn write_lines<W: Sink>(writer: &mut W, bytes: &[u8]) -> Result<(), LookFault>
+pub(crate) fn write_lines<W: Sink>(writer: &mut W, bytes: &[u8]) -> Result<(), LookFault>
     requires { W.has_failed writer.old ≡ false }
     ensures ok { OnOk result (Appends (W.contents writer.old) (W.contents writer.new) bytes.now) }
     ensures beginning { IsErrOf result LookFault.Write → AppendsBeginning (W.contents writer.old) (W.contents writer.new) bytes.now }
@@ -58,8 +57,7 @@ pub fn report_places<S: Source, F: ReadAt, W: Sink>(
     // What is wrong with the index is told before the text is read.
     ensures unread { IfErr result (λ fault. IsOfText fault ⊎ (fault ≡ LookFault.Write) ⊎ (file.new ≡ file.old)) }
 {
-    let index = read_saved(alloc, saved, file.size())?;
-    let answers = answers_of(alloc, file, &index, pointers)?;
+    let Looked { answers, .. } = look_up(alloc, saved, file, pointers)?;
     let lines = lines_of(alloc, &answers)?;
     write_lines(writer, &lines.bytes)?;
     Ok(lines.exit)

@@ -16,12 +16,13 @@ fn empty_pointer() -> Pointer<'static> {
 
 /// A string that is read as a pointer: the pointer, or the empty one and why the string is none.
 #[derive(Debug, Drop)]
-struct Word<'p> {
-    pointer: Pointer<'p>,
-    unread: Option<PointerFault>,
+pub(crate) struct Word<'p> {
+    pub pointer: Pointer<'p>,
+    pub unread: Option<PointerFault>,
 }
 
-fn read_word(spelt: &str) -> Word<'_>
+/// Reads a string as a pointer.
+pub(crate) fn read_word(spelt: &str) -> Word<'_>
     ensures { IsReadPointer spelt.now result.pointer result.unread }
 {
     match Pointer::read(spelt) {

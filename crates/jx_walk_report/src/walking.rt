@@ -31,6 +31,7 @@ pub(crate) fn found_in<F: ReadAt>(
         → TellsApart chunk text bytes → AreFoundIn settings text pointers.entry.items found.items) }
     ensures changed { IfErr result (λ fault. (settings : Settings) (chunk : ℕ) (text bytes : List ℕ) → IsIndexOf settings chunk text index.now → F.content file.old ≡ Some bytes
         → TellsApart chunk text bytes → IsChange text bytes fault) }
+    ensures kept { F.content file.new ≡ F.content file.old }
     ensures read { IsErrOf result LookFault.TextRead ↔ (F.has_failed file.new ≡ true) }
     ensures fault { IfErr result IsOfText }
 {

@@ -1,7 +1,7 @@
 // What words of the command line are.
 use jx_command::{
     ArgFault, ByLine, EachOrder, Input, Inputs, LinesOrder, LiveOrder, Order, PartsOrder,
-    PartsStep, Request, SaveOrder, ShowProgress, Told, ValuesOrder, command_of,
+    PartsStep, Request, SaveOrder, ShowProgress, SplitOrder, Told, ValuesOrder, command_of,
 };
 use jx_crew::Workers;
 use jx_run::Settings;
@@ -54,6 +54,7 @@ fn push_command(out: &mut Out, alloc: Global, owned: &[String]) -> Result<(), Al
         Ok(Order::Lines(order)) => push_lines_order(out, &order),
         Ok(Order::Live(order)) => push_live(out, &order),
         Ok(Order::Save(order)) => push_save(out, &order),
+        Ok(Order::Split(order)) => push_split(out, &order),
         Err(fault) => push_fault(out, alloc, &fault)?,
     }
     Ok(())
@@ -87,6 +88,7 @@ fn push_lines(
         Ok(Order::Lines(order)) => push_lines_order(out, &order),
         Ok(Order::Live(order)) => push_live(out, &order),
         Ok(Order::Save(order)) => push_save(out, &order),
+        Ok(Order::Split(order)) => push_split(out, &order),
         Err(fault) => push_fault(out, alloc, &fault)?,
     }
     Ok(())
@@ -136,10 +138,15 @@ fn push_request(out: &mut Out, request: &Request) {
     push_inputs(out, &request.inputs);
     push_told(out, request.told);
     push_progress(out, request.progress);
-    if let Some(file) = request.pointers {
+    push_files_of(out, request.pointers, request.index);
+}
+
+/// The files of pointers and of an index, if they are given.
+fn push_files_of(out: &mut Out, pointers: Option<&str>, index: Option<&str>) {
+    if let Some(file) = pointers {
         push_file(out, "; pointers ", file);
     }
-    if let Some(file) = request.index {
+    if let Some(file) = index {
         push_file(out, "; index ", file);
     }
 }
@@ -170,14 +177,13 @@ fn push_values(out: &mut Out, order: &ValuesOrder) {
     }
     push_by_line(out, order.by_line);
     push_inputs(out, &Inputs::One(order.input));
-    if let Some(file) = order.pointers {
-        push_file(out, "; pointers ", file);
-    }
+    push_files_of(out, order.pointers, order.index);
 }
 
 fn push_each(out: &mut Out, order: &EachOrder) {
     push_file(out, "each ", order.pointer);
     push_settings(out, &order.settings);
+    push_workers(out, order.workers, order.piece);
     if order.has_names {
         out.push_str(", names");
     }
@@ -221,6 +227,13 @@ fn push_save(out: &mut Out, order: &SaveOrder) {
     out.put(format_args!(", chunk {}", order.chunk.bytes()));
     push_inputs(out, &Inputs::One(order.input));
     push_progress(out, order.progress);
+}
+
+fn push_split(out: &mut Out, order: &SplitOrder) {
+    push_file(out, "split ", order.pointer);
+    out.put(format_args!(", parts {}", order.parts));
+    push_file(out, "; file ", order.file);
+    push_file(out, "; index ", order.index);
 }
 
 fn push_parts(out: &mut Out, order: &PartsOrder) {

@@ -5,7 +5,7 @@ use Rattle.jx_run.specs.declared.texts.verdict.Verdict.TheVariants.{Accepted, Re
 use Rattle.jx_run.specs.declared.texts.verdict.Refusal.TheVariants.{Stopped, Truncated, TooDeep, RepeatedName}
 use Rattle.jx_each.specs.declared.stand.Stage.{Stage}
 use Rattle.jx_each.specs.declared.stand.Stage.TheVariants.{Ahead, Elements, Members, Array, Object, Name, Pair, Over}
-use Rattle.jx_each.specs.declared.stand.Stand.{Stand}
+use Rattle.jx_each.specs.declared.stand.LineStand.{LineStand}
 use Rattle.jx_each.specs.declared.each.Each.TheInside.{Inside}
 use Rattle.jx_each.specs.inside.Paths.{count_in}
 
@@ -22,7 +22,7 @@ abbrev pub sound_part : List ℕ → ℕ → ℕ → ℕ → List ℕ
 sound_part slice before count after = if nat_lt before count then [] else take (after - count) slice
 
 -- no more containers are open, and no more elements were passed, than bytes were read
-abbrev pub IsLow : ℕ → Option Stand → Type 0
+abbrev pub IsLow : ℕ → Option LineStand → Type 0
 IsLow count None = Unit {0}
 IsLow count (Some stand) = (stand.height ≤ count) × (count_in stand.stage ≤ count)
 

@@ -5,14 +5,14 @@ use Rattle.jx_compact.specs.declared.place.Place.TheVariants.{Between}
 use Rattle.jx_each.specs.declared.deep.Walk.{Walk}
 use Rattle.jx_each.specs.declared.stand.Stage.{Stage}
 use Rattle.jx_each.specs.declared.stand.Stage.TheVariants.{Array}
-use Rattle.jx_each.specs.declared.stand.Stand.{Stand}
+use Rattle.jx_each.specs.declared.stand.LineStand.{LineStand}
 use Rattle.jx_each.specs.Machine.{Aim, Made, run}
 
 abbrev pub spot : Place → ℕ → Stage → Bool → List ℕ → List ℕ → Made
 spot place height stage takes lines part = record { stand = record { place = place; height = height; stage = stage; takes = takes }; lines = lines; part = part }
 
 -- behind an element of the container, an array
-abbrev pub spot_in_array : Bool → Stand
+abbrev pub spot_in_array : Bool → LineStand
 spot_in_array takes = record { place = Between; height = 1; stage = Array; takes = takes }
 
 -- each one is kept where elements are kept at all, and they lead from one place and height to another

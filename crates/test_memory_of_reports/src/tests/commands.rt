@@ -1,7 +1,7 @@
 // Commands under refused growths.
 use jx_command::{
     ArgFault, EachOrder, Input, Inputs, LinesOrder, LiveOrder, Order, PartsOrder, PartsStep,
-    Request, SaveOrder, ValuesOrder, command_of,
+    Request, SaveOrder, SplitOrder, ValuesOrder, command_of,
 };
 use jx_crew::Workers;
 use jx_run::{FrontMark, NameRule, Settings};
@@ -11,7 +11,7 @@ use std::test::Fail;
 use test_memory_of_runs::lines::Lines;
 
 // Words behind the program's name, and what they ask for.
-const COMMANDS: [(&[&str], &str); 12] = [
+const COMMANDS: [(&[&str], &str); 14] = [
     (&["chek"], "wrong words"),
     (
         &["at", "/1", "/2", "x"],
@@ -36,8 +36,12 @@ const COMMANDS: [(&[&str], &str); 12] = [
         "get /1 x; depth 512, mark Refused, names Any, workers 4, piece 65536, compact, raw, file F, pointers G",
     ),
     (
-        &["each", "/a", "--file", "F", "--depth", "7"],
-        "each /a; depth 7, file F",
+        &["get", "/1", "--index", "I", "--file", "F"],
+        "get /1; depth 512, mark Refused, names Any, workers 4, piece 65536, file F, index I",
+    ),
+    (
+        &["each", "/a", "--file", "F", "--depth", "7", "--piece", "5"],
+        "each /a; depth 7, workers 4, piece 5, file F",
     ),
     (
         &["lines", "F", "G", "--depth", "7", "--skip-blank", "-q"],
@@ -59,6 +63,10 @@ const COMMANDS: [(&[&str], &str); 12] = [
     (
         &["save", "F", "--depth", "7", "--chunk", "64"],
         "save; depth 7, chunk 64, file F",
+    ),
+    (
+        &["split", "/a", "--index", "I", "--file", "F", "--parts", "8"],
+        "split /a, parts 8, file F, index I",
     ),
     (
         &["check", "F", "-", "G"],
@@ -110,6 +118,7 @@ fn asked_by(alloc: Global, words: &[&str]) -> Result<String, AllocError> {
         Ok(Order::Lines(order)) => line_of_lines(alloc, &order),
         Ok(Order::Live(order)) => line_of_live(alloc, &order),
         Ok(Order::Save(order)) => line_of_save(alloc, &order),
+        Ok(Order::Split(order)) => line_of_split(alloc, &order),
         Err(ArgFault::Memory) => Err(AllocError),
         Err(_) => String::from_str(alloc, "wrong words"),
     }
@@ -152,6 +161,10 @@ fn line_of_values(alloc: Global, order: &ValuesOrder<'_>) -> Result<String, Allo
         line.push_str(", pointers ")?;
         line.push_str(file)?;
     }
+    if let Some(file) = order.index {
+        line.push_str(", index ")?;
+        line.push_str(file)?;
+    }
     Ok(line)
 }
 
@@ -182,7 +195,10 @@ fn add_settings(
 fn line_of_each(alloc: Global, order: &EachOrder<'_>) -> Result<String, AllocError> {
     let depth = order.settings.depth.containers();
     let pointer = order.pointer;
-    let mut line = format!(in alloc; "each {pointer}; depth {depth}")?;
+    let (workers, piece) = (order.workers.count(), order.piece);
+    let mut line = format!(in alloc;
+        "each {pointer}; depth {depth}, workers {workers}, piece {piece}"
+    )?;
     if order.has_names {
         line.push_str(", names")?;
     }
@@ -222,6 +238,16 @@ fn line_of_save(alloc: Global, order: &SaveOrder<'_>) -> Result<String, AllocErr
     let mut line = format!(in alloc; "save; depth {depth}, chunk {chunk}")?;
     add_inputs(&mut line, &Inputs::One(order.input))?;
     Ok(line)
+}
+
+fn line_of_split(alloc: Global, order: &SplitOrder<'_>) -> Result<String, AllocError> {
+    let SplitOrder {
+        pointer,
+        index,
+        file,
+        parts,
+    } = *order;
+    format!(in alloc; "split {pointer}, parts {parts}, file {file}, index {index}")
 }
 
 fn line_of_parts(alloc: Global, order: &PartsOrder<'_>) -> Result<String, AllocError> {

@@ -1,5 +1,5 @@
 use Rattle.std.proofs.Common.{◌≡◌, ◌≤◌, ap, arith, refl, subst, sym, true}
-use Rattle.jx_each.specs.declared.stand.Stand.{Stand}
+use Rattle.jx_each.specs.declared.stand.LineStand.{LineStand}
 use Rattle.jx_each.specs.Machine.{step}
 use Rattle.jx_each.specs.inside.Paths.{aim_of, count_in}
 use Rattle.jx_each.specs.inside.Stretches.{spot_in_array}
@@ -19,8 +19,8 @@ loop-at-preserved-then-is_border c =
     let from : c.loop-at.at ≤ c.in_ok-deep.deep.end = deep.bounds.0 in
     let low : c.in_ok-deep.deep.end ≤ c.stretch_from-found.result.end = found.bounds.0 in
     let next : c.in_ok-stand.stand ≡ spot_in_array true = c.in_ok-stand.ensures.next in
-    let height : c.in_ok-stand.stand.height ≡ 1 = ap (λ (x : Stand). x.height) next in
-    let count : count_in c.in_ok-stand.stand.stage ≡ 0 = ap (λ (x : Stand). count_in x.stage) next in
+    let height : c.in_ok-stand.stand.height ≡ 1 = ap (λ (x : LineStand). x.height) next in
+    let count : count_in c.in_ok-stand.stand.stage ≡ 0 = ap (λ (x : LineStand). count_in x.stage) next in
     record {
       within = omega (arith, c.if-found-bytes.true);
       height = omega (arith, height);
@@ -28,7 +28,7 @@ loop-at-preserved-then-is_border c =
       made =
           run_byte (aim_of c.args.target.now) u c.in_ok-stand.stand c.loop-at.lines.items c.push_stretch.new.part.items c.end_element.new.lines.items c.end_element.new.part.items c.args.bytes.now c.stretch_from-found.result.end 0x2c _
           c.if-found-bytes.true (sym border.1)
-          (subst (λ (x : Stand). record { stand = c.in_ok-stand.stand; lines = c.end_element.new.lines.items; part = c.end_element.new.part.items } ≡ step (aim_of c.args.target.now) (record { stand = x; lines = c.loop-at.lines.items; part = c.push_stretch.new.part.items }) 0x2c) (sym border.0)
+          (subst (λ (x : LineStand). record { stand = c.in_ok-stand.stand; lines = c.end_element.new.lines.items; part = c.end_element.new.part.items } ≡ step (aim_of c.args.target.now) (record { stand = x; lines = c.loop-at.lines.items; part = c.push_stretch.new.part.items }) 0x2c) (sym border.0)
           (c.in_ok-stand.ensures.made (aim_of c.args.target.now) u.takes))
           (made_on (aim_of c.args.target.now) t u c.stretch_from-found.result.place c.stretch_from-found.result.height c.loop-at.lines.items c.push_deep.new.part.items c.push_stretch.new.part.items c.args.bytes.now
           c.in_ok-deep.deep.end c.stretch_from-found.result.end c.stretch_from-found.result.end _ c.moved-stand-in-loop-at.ensures low (omega arith) found.stretch c.in_ok-push_stretch.ensures
@@ -49,10 +49,10 @@ loop-at-preserved c =
     let from : c.loop-at.at ≤ c.in_ok-deep.deep.end = deep.bounds.0 in
     let low : c.in_ok-deep.deep.end ≤ c.stretch_from-found.result.end = found.bounds.0 in
     let high : c.stretch_from-found.result.end ≤ c.blanks_from-at.result = past.bounds.0 in
-    let height : t.height ≡ c.in_ok-deep.deep.height = ap (λ (x : Stand). x.height) c.moved-stand.ensures in
-    let height_behind : u.height ≡ c.stretch_from-found.result.height = ap (λ (x : Stand). x.height) c.moved-stand-in-loop-at.ensures in
-    let count : count_in t.stage ≡ count_in s.stage = ap (λ (x : Stand). count_in x.stage) c.moved-stand.ensures in
-    let count_behind : count_in u.stage ≡ count_in t.stage = ap (λ (x : Stand). count_in x.stage) c.moved-stand-in-loop-at.ensures in
+    let height : t.height ≡ c.in_ok-deep.deep.height = ap (λ (x : LineStand). x.height) c.moved-stand.ensures in
+    let height_behind : u.height ≡ c.stretch_from-found.result.height = ap (λ (x : LineStand). x.height) c.moved-stand-in-loop-at.ensures in
+    let count : count_in t.stage ≡ count_in s.stage = ap (λ (x : LineStand). count_in x.stage) c.moved-stand.ensures in
+    let count_behind : count_in u.stage ≡ count_in t.stage = ap (λ (x : LineStand). count_in x.stage) c.moved-stand-in-loop-at.ensures in
     record {
       within = past.bounds.1;
       height = omega (arith, from, low, high, height, height_behind, deep.high, found.high, i.height);
@@ -76,10 +76,10 @@ loop-at-preserved-then-at-bytes c =
     let from : c.loop-at.at ≤ c.in_ok-deep.deep.end = deep.bounds.0 in
     let low : c.in_ok-deep.deep.end ≤ c.stretch_from-found.result.end = found.bounds.0 in
     let high : c.stretch_from-found.result.end ≤ c.blanks_from-at.result = past.bounds.0 in
-    let height : t.height ≡ c.in_ok-deep.deep.height = ap (λ (x : Stand). x.height) c.moved-stand.ensures in
-    let height_behind : u.height ≡ c.stretch_from-found.result.height = ap (λ (x : Stand). x.height) c.moved-stand-in-loop-at.ensures in
-    let count : count_in t.stage ≡ count_in s.stage = ap (λ (x : Stand). count_in x.stage) c.moved-stand.ensures in
-    let count_behind : count_in u.stage ≡ count_in t.stage = ap (λ (x : Stand). count_in x.stage) c.moved-stand-in-loop-at.ensures in
+    let height : t.height ≡ c.in_ok-deep.deep.height = ap (λ (x : LineStand). x.height) c.moved-stand.ensures in
+    let height_behind : u.height ≡ c.stretch_from-found.result.height = ap (λ (x : LineStand). x.height) c.moved-stand-in-loop-at.ensures in
+    let count : count_in t.stage ≡ count_in s.stage = ap (λ (x : LineStand). count_in x.stage) c.moved-stand.ensures in
+    let count_behind : count_in u.stage ≡ count_in t.stage = ap (λ (x : LineStand). count_in x.stage) c.moved-stand-in-loop-at.ensures in
     record {
       within = omega (arith, c.if-at-bytes.true);
       height = omega (arith, from, low, high, height, height_behind, deep.high, found.high, i.height, c.in_ok-stand-2.ensures.height);

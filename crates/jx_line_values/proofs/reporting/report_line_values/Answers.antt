@@ -1,18 +1,29 @@
 use Rattle.std.proofs.Common.{List, ℕ, subst}
 use Rattle.std.proofs.lemmas.Result.{err_from_is_err_and}
+use Rattle.std.specs.Prelude.{map, string_bytes}
 use Rattle.std.specs.Io.KnownBytes.{Appends}
 use Rattle.jx_report.specs.declared.report_fault.ReportFault.TheVariants as fault
 use Rattle.jx_report.specs.Ends.{AppendsBeginning}
 use Rattle.jx_line_values.proofs.Writes.{as_written, fault_back, lines_at_end, lines_of_nothing, part_at_end, reports, same_fault}
+use Rattle.jx_line_values.specs.LineValues.{pointers_of}
+use Rattle.jx_line_values.specs.inside.Looking.{IsTrieOf}
 use Rattle.jx_line_values.proofs.reporting.report_line_values.Goals as goal
 
-pub returns-in_err-pointers-clause-lines : goal.returns-in_err-pointers-clause-lines
-returns-in_err-pointers-clause-lines g c = λ is.
+pub returns-in_err-trie-clause-lines : goal.returns-in_err-trie-clause-lines
+returns-in_err-trie-clause-lines g c = λ is.
     lines_of_nothing c.args.task.now (g.S.Source.remaining c.args.reader.now) (g.W.Sink.contents c.args.writer.now) (g.E.Sink.has_failed c.args.errors.now) (g.E.Sink.contents c.args.errors.now)
 
 pub returns-in_err-buffer-clause-lines : goal.returns-in_err-buffer-clause-lines
 returns-in_err-buffer-clause-lines g c = λ is.
     lines_of_nothing c.args.task.now (g.S.Source.remaining c.args.reader.now) (g.W.Sink.contents c.args.writer.now) (g.E.Sink.has_failed c.args.errors.now) (g.E.Sink.contents c.args.errors.now)
+
+pub write_all_due-requires-clause-pointers : goal.write_all_due-requires-clause-pointers
+write_all_due-requires-clause-pointers g c =
+    c.look_up-look_up.ensures (pointers_of c.args.task.now) (subst (λ ss. IsTrieOf (map string_bytes ss) c.in_ok-trie.trie) c.deref.ensures.value c.in_ok-trie.ensures)
+
+pub finish-requires : goal.finish-requires
+finish-requires g c =
+    c.look_up-look_up.ensures (pointers_of c.args.task.now) (subst (λ ss. IsTrieOf (map string_bytes ss) c.in_ok-trie.trie) c.deref.ensures.value c.in_ok-trie.ensures)
 
 pub write_all_due-requires-clause-taken : goal.write_all_due-requires-clause-taken
 write_all_due-requires-clause-taken g c = c.new-cutter.ensures.taken c.args.task.now

@@ -26,7 +26,7 @@ returns-in_err-buffer-clause-lines g c = λ is.
     lines_at_start c.args.content c.args.settings.now c.args.pointer.now (g.S.Source.remaining c.args.reader.now) (g.W.Sink.contents c.args.writer.now) (c.nothing_is_due_of_no_byte.ensures.none_by c.args.content c.args.settings.now c.args.pointer.now)
 
 pub write_all_due-requires-clause-sought : goal.write_all_due-requires-clause-sought
-write_all_due-requires-clause-sought g c =
+write_all_due-requires-clause-sought g c = λ κs lives.
     subst (λ (s : Settings). HasSought c.args.content (any_names s) c.args.pointer.now [] c.in_ok-sought.sought) (sym c.in_ok-each.ensures.settings)
     (c.in_ok-sought.ensures c.args.content c.args.pointer.now c.in_ok-pointers.ensures)
 

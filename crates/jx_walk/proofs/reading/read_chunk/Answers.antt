@@ -1,12 +1,14 @@
-use Rattle.std.proofs.Common.{◌≡◌, ◌+◌, ◌*◌, ℕ, suc, List, ap, arith, subst, sym, ◌∙◌, take, length, true, Some}
+use Rattle.std.proofs.Common.{◌≡◌, ◌+◌, ◌*◌, ◌≤◌, ℕ, suc, List, ap, arith, subst, sym, ◌∙◌, take, length, Some}
 use Rattle.std.proofs.lemmas.Result.{IfOk-weaker}
 use Rattle.jx_lex.specs.Lex.{lex}
 use Rattle.jx_run.specs.declared.texts.settings.Settings.{Settings}
 use Rattle.jx_run.specs.Reader.{is_fault, read_by}
 use Rattle.jx_run.specs.Telling.{tokens_by}
+use Rattle.jx_saved.specs.declared.entry.Entry.{Entry}
 use Rattle.jx_walk.specs.HeldAt.{IsHeldAt}
 use Rattle.jx_walk.proofs.Chunkings.{entry_is, kept_some}
-use Rattle.jx_walk.proofs.Comings.{base_is, first_goes, first_track, later_goes, later_track, none_before, none_weaker, piece_is, some_weaker, track_held}
+use Rattle.jx_walk.proofs.Comings.{base_is, inside, later_goes, none_weaker, piece_is, some_weaker}
+use Rattle.jx_walk.proofs.Parts.{first_goes, first_track, later_track, none_before, track_held}
 use Rattle.jx_walk.proofs.reading.read_chunk.Goals as goal
 
 pub returns-then-at-eq0-clause-none : goal.returns-then-at-eq0-clause-none
@@ -15,7 +17,7 @@ returns-then-at-eq0-clause-none c = IfOk-weaker c.read_first.result _ _
     (λ fault settings chunk text known are.
     let index = c.args.index.now in
     let two = c.pieces_are_read_in_turn.ensures.two in
-    first_goes settings chunk text index known two c.args.at c.args.bytes.now c.if-at-eq0.true (piece_is settings chunk text index known two c.args.at c.args.span c.args.bytes.now c.requires.here are)
+    first_goes settings chunk text known.goes two c.args.at c.args.bytes.now c.if-at-eq0.true (piece_is settings chunk text index known c.args.at c.args.span c.args.bytes.now c.requires.here are)
     (ap (λ (s : Settings). is_fault (Some (read_by s.mark s.depth 0 c.args.bytes.now))) (sym known.indexed.settings_are) ∙ fault)) h)
     c.read_first.ensures.none
 
@@ -26,12 +28,12 @@ returns-then-at-eq0-clause-held c = IfOk-weaker c.read_first.result _ _
     let index = c.args.index.now in
     let at = c.args.at in
     let two = c.pieces_are_read_in_turn.ensures.two in
-    let here = piece_is settings chunk text index known two at c.args.span c.args.bytes.now c.requires.here are in
+    let here = piece_is settings chunk text index known at c.args.span c.args.bytes.now c.requires.here are in
     let before = take (at * chunk) text in
-    let none : 0 ≡ length before = sym (ap (λ (xs : List ℕ). length xs) (none_before settings chunk text index known two at c.if-at-eq0.true)) in
+    let none : 0 ≡ length before = sym (ap (λ (xs : List ℕ). length xs) (none_before settings chunk text known.goes two at c.if-at-eq0.true)) in
     subst (λ (n : ℕ). IsHeldAt settings chunk text c.args.edges.now n next) (let e : suc at ≡ at + 1 = omega arith in e)
-    (track_held settings chunk text index known two at c.args.edges.now c.args.bytes.now (tokens_by index.settings.mark c.args.bytes.now) next here
-    (ap (λ (s : Settings). tokens_by s.mark c.args.bytes.now) known.indexed.settings_are ∙ first_track settings chunk text index known two at c.args.bytes.now c.if-at-eq0.true here)
+    (track_held settings chunk text known.goes two at c.args.edges.now c.args.bytes.now (tokens_by index.settings.mark c.args.bytes.now) next here
+    (ap (λ (s : Settings). tokens_by s.mark c.args.bytes.now) known.indexed.settings_are ∙ first_track settings chunk text known.goes two at c.args.bytes.now c.if-at-eq0.true here)
     (got before (tokens_by settings.mark before).marks (tokens_by settings.mark before).ends (none, was)))) h)
     c.read_first.ensures.held
 
@@ -48,7 +50,7 @@ returns-clause-none c = IfOk-weaker c.read_later.result _ _
     let entry = c.in-Some.entry in
     let same = entry_is settings chunk text index known.indexed c.args.at c.args.span entry c.requires.here c.in-Some.ensures in
     later_goes settings chunk text index known two c.args.at c.args.span entry c.args.bytes.now c.if-at-eq0.false c.requires.here same
-    (piece_is settings chunk text index known two c.args.at c.args.span c.args.bytes.now c.requires.here are) fault) h)
+    (piece_is settings chunk text index known c.args.at c.args.span c.args.bytes.now c.requires.here are) fault) h)
     c.read_later.ensures.none
 
 pub returns-clause-held : goal.returns-clause-held
@@ -60,10 +62,11 @@ returns-clause-held c = IfOk-weaker c.read_later.result _ _
     let two = c.pieces_are_read_in_turn.ensures.two in
     let entry = c.in-Some.entry in
     let same = entry_is settings chunk text index known.indexed at c.args.span entry c.requires.here c.in-Some.ensures in
-    let here = piece_is settings chunk text index known two at c.args.span c.args.bytes.now c.requires.here are in
+    let here = piece_is settings chunk text index known at c.args.span c.args.bytes.now c.requires.here are in
     let before = take (at * chunk) text in
+    let within : at * chunk ≤ length text = (let i = inside settings chunk text index known at c.args.span c.requires.here in omega (arith, i)) in
     subst (λ (n : ℕ). IsHeldAt settings chunk text c.args.edges.now n next) (let e : suc at ≡ at + 1 = omega arith in e)
-    (track_held settings chunk text index known two at c.args.edges.now c.args.bytes.now (lex entry.state 0 c.args.bytes.now) next here
-    (later_track settings chunk text index known two at c.args.span entry c.args.bytes.now c.if-at-eq0.false c.requires.here same here)
-    (got before (tokens_by settings.mark before).marks (tokens_by settings.mark before).ends (base_is settings chunk text index known two at c.args.span c.requires.here, was)))) h)
+    (track_held settings chunk text known.goes two at c.args.edges.now c.args.bytes.now (lex entry.state 0 c.args.bytes.now) next here
+    (later_track settings chunk text known.goes two at entry.state c.args.bytes.now known.size c.if-at-eq0.false within (ap (λ (x : Entry). x.state) same) here)
+    (got before (tokens_by settings.mark before).marks (tokens_by settings.mark before).ends (base_is settings chunk text index known at c.args.span c.requires.here, was)))) h)
     c.read_later.ensures.held

@@ -6,29 +6,20 @@ use Rattle.jx_report.specs.Ends.{AppendsBeginning}
 use Rattle.jx_report.specs.declared.exit.Exit.TheVariants.{Good}
 use Rattle.jx_report.specs.inside.Replies.{exit_past_lines, pointer_lines}
 use Rattle.jx_walk_report.specs.declared.look_fault.LookFault.TheVariants as fault
-use Rattle.jx_walk_report.specs.Reports.{FailsFor}
-use Rattle.jx_walk_report.proofs.Reports.{fails, handed, places, same_fault}
+use Rattle.jx_walk_report.proofs.Reports.{places, same_fault}
 use Rattle.jx_walk_report.proofs.reporting.report_places.Goals as goal
-
-pub returns-in_err-answers-clause-fault : goal.returns-in_err-answers-clause-fault
-returns-in_err-answers-clause-fault g c =
-    let saved = g.S.Source.remaining c.args.saved.now in
-    let content = g.F.ReadAt.content c.args.file.now in
-    let p = err_from_is_err_and c.from_residual-in_err-answers.result c.from_residual-in_err-answers.ensures.1 in
-    handed (FailsFor saved content) c.from_residual-in_err-answers.result c.in_err-answers.field-0.0 p.0 p.1 p.2
-    (fails saved content c.in_ok-index.index c.in_err-answers.field-0.0 c.in_ok-index.ensures.reads c.in_err-answers.ensures.fault c.in_err-answers.ensures.changed)
 
 pub returns-in_err-write_lines-clause-beginning : goal.returns-in_err-write_lines-clause-beginning
 returns-in_err-write_lines-clause-beginning g c = λ is.
     let saved = g.S.Source.remaining c.args.saved.now in
     let content = g.F.ReadAt.content c.args.file.now in
-    let answers = c.in_ok-answers.answers in
+    let answers = c.in_ok-answers.field-0.answers in
     let p = err_from_is_err_and c.from_residual-in_err-write_lines.result c.from_residual-in_err-write_lines.ensures.1 in
     let all : c.deref-2.result.now ≡ pointer_lines answers.items = c.deref-2.ensures.value ∙ c.in_ok-lines.ensures.bytes ∙ ap (λ x. pointer_lines x) c.deref.ensures.value in
     record {
       output = pointer_lines answers.items;
       exit = c.in_ok-lines.lines.exit;
-      are_places = places (map string_bytes c.args.pointers.now) saved content c.in_ok-index.index answers c.in_ok-lines.lines.exit c.in_ok-index.ensures.reads c.in_ok-answers.ensures.answers
+      are_places = places (map string_bytes c.args.pointers.now) saved content answers c.in_ok-lines.lines.exit c.in_ok-answers.ensures.answers
           (c.in_ok-lines.ensures.exit ∙ ap (λ x. exit_past_lines Good x) c.deref.ensures.value);
       wrote = subst (λ (l : List ℕ). AppendsBeginning (g.W.Sink.contents c.args.writer.now) (g.W.Sink.contents c.write_lines.new.writer) l) all
           (c.write_lines.ensures.beginning
@@ -39,11 +30,11 @@ pub returns-clause-ok : goal.returns-clause-ok
 returns-clause-ok g c =
     let saved = g.S.Source.remaining c.args.saved.now in
     let content = g.F.ReadAt.content c.args.file.now in
-    let answers = c.in_ok-answers.answers in
+    let answers = c.in_ok-answers.field-0.answers in
     let all : c.deref-2.result.now ≡ pointer_lines answers.items = c.deref-2.ensures.value ∙ c.in_ok-lines.ensures.bytes ∙ ap (λ x. pointer_lines x) c.deref.ensures.value in
     record {
       output = pointer_lines answers.items;
-      are_places = places (map string_bytes c.args.pointers.now) saved content c.in_ok-index.index answers c.in_ok-lines.lines.exit c.in_ok-index.ensures.reads c.in_ok-answers.ensures.answers
+      are_places = places (map string_bytes c.args.pointers.now) saved content answers c.in_ok-lines.lines.exit c.in_ok-answers.ensures.answers
           (c.in_ok-lines.ensures.exit ∙ ap (λ x. exit_past_lines Good x) c.deref.ensures.value);
       wrote = subst (λ (l : List ℕ). Appends (g.W.Sink.contents c.args.writer.now) (g.W.Sink.contents c.write_lines.new.writer) l) all c.in_ok-write_lines.ensures.ok;
     }

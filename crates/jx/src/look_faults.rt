@@ -1,0 +1,45 @@
+// What is told where a look-up by an index has no answer.
+use crate::fault::Fault;
+use crate::input::{Reader, told_of};
+use crate::output::Writer;
+use crate::text_file::TextFile;
+use jx_command::Input;
+use jx_files::{FileFault, shown_name};
+use jx_report::{End, ReportFault, write_whole};
+use jx_walk_report::LookFault;
+use std::alloc::AllocError;
+
+/// Tells what is wrong with a file.
+fn told_of_file(rt: &HostRuntime, path: &str, fault: &LookFault) -> Result<Fault, AllocError> {
+    let alloc = rt.alloc();
+    let mut line = Vec::from_slice(alloc, b"jx: ")?;
+    line.extend_from_slice(&shown_name(alloc, path)?)?;
+    let words = format!(in alloc; ": {fault}\n")?;
+    line.extend_from_slice(words.as_bytes())?;
+    let _ = write_whole(&mut End::new(rt.stderr()), &line);
+    Ok(Fault::Told)
+}
+
+/// What the fault of a look-up comes to. That of a file is told.
+pub fn fault_of_look(
+    rt: &HostRuntime,
+    index: &str,
+    path: &str,
+    saved: &Reader<'_>,
+    text: &TextFile,
+    writer: &Writer,
+    fault: &LookFault,
+) -> Result<Fault, AllocError> {
+    match fault {
+        LookFault::SavedRead => {
+            let why = FileFault::Read(saved.inner.why);
+            Ok(told_of(rt, Input::File(index), why))
+        }
+        LookFault::TextRead => Ok(told_of(rt, Input::File(path), FileFault::Read(text.why))),
+        LookFault::Write if writer.inner.is_closed => Ok(Fault::Closed),
+        LookFault::Write => Ok(Fault::Report(ReportFault::Write)),
+        LookFault::Memory => Err(AllocError),
+        LookFault::Saved(_) | LookFault::NoText => told_of_file(rt, index, fault),
+        LookFault::OtherSize { .. } | LookFault::Changed(_) => told_of_file(rt, path, fault),
+    }
+}

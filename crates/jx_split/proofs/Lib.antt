@@ -1,0 +1,16 @@
+pub mod Behinds
+pub mod Bounds
+pub mod Comings
+pub mod Ended
+pub mod Fills
+pub mod Flats
+pub mod Levels
+pub mod Lists
+pub mod Marks
+pub mod Needs
+pub mod Numbers
+pub mod Passings
+pub mod Steps
+pub mod Texts
+pub mod Ways
+pub mod Wholes

@@ -1,0 +1,101 @@
+// How far chunks are read, or passed over.
+ghost use Rattle.std.specs.Prelude.{◌≡◌, ◌+◌, ◌*◌, ◌≤◌, ℕ, List, Some, slice_range, IfNone, IfOk, IfSome};
+ghost use Rattle.jx_run.specs.declared.texts.settings.Settings.{Settings};
+ghost use Rattle.jx_saved.specs.Chunks.{before, entry_behind, part};
+ghost use Rattle.jx_walk.specs.Chunks.{chunk_at};
+ghost use Rattle.jx_walk.specs.Known.{IsKnown};
+ghost use Rattle.jx_split.specs.Cuts.{cuts_of};
+ghost use Rattle.jx_split.specs.Split.{IsCutAt};
+ghost use Rattle.jx_split.specs.declared.cutting.Parting.{Parting as CuttingOf};
+
+use crate::cutting::{Aim, Parting};
+use crate::passing::pass;
+use crate::reading::read_chunk;
+use jx_lex::{Span, pieces_are_read_in_turn};
+use jx_saved::{Entry, Index, Sum};
+use jx_walk::{chunk_at, entry_at};
+use std::alloc::{AllocError, Global};
+
+/// How far chunks were passed over, and what the marks came to.
+#[derive(Drop)]
+pub(crate) struct Reached {
+    pub held: Parting,
+    pub at: usize,
+}
+
+/// One chunk further.
+fn step(at: usize) -> Result<usize, AllocError>
+    ensures { IfOk result (λ next. next ≡ at + 1) }
+{
+    at.checked_add(1).ok_or(AllocError)
+}
+
+/// What is kept of the chunk at a place where the text has one.
+fn kept_of(index: &Index, at: usize, span: Span) -> Option<Entry>
+    requires here { chunk_at index.now at ≡ Some span }
+    ensures kept { IfSome result (λ e. (settings : Settings) (chunk : ℕ) (text : List ℕ) → IsKnown settings chunk text index.now → e ≡ entry_behind (before settings text (at * chunk)) (part chunk text at)) }
+{
+    entry_at(index, at)
+}
+
+/// The sum behind the chunk at a place, where it need not be read. The first chunk is read.
+fn sum_over(index: &Index, aim: Aim, held: &Parting, at: usize) -> Option<Sum>
+    ensures { IfSome result (λ sum. (settings : Settings) (chunk : ℕ) (text : List ℕ) → IsKnown settings chunk text index.now → IsCutAt settings chunk text aim at (cuts_of held.now)
+        → IsCutAt settings chunk text aim (at + 1) (record (cuts_of held.now) { sum = sum })) }
+{
+    pieces_are_read_in_turn();
+    if at == 0 {
+        return None;
+    }
+    let span = chunk_at(index, at)?;
+    let here = kept_of(index, at, span)?;
+    pass(held, aim, span, here.sum)
+}
+
+/// Passes over all chunks from a place on that need not be read.
+fn pass_on(index: &Index, aim: Aim, held: Parting, at: usize) -> Reached
+    ensures later { at ≤ result.at }
+    ensures cut { (settings : Settings) (chunk : ℕ) (text : List ℕ) → IsKnown settings chunk text index.now → IsCutAt settings chunk text aim at (cuts_of held)
+        → IsCutAt settings chunk text aim result.at (cuts_of result.held) }
+{
+    let mut held = held;
+    let mut at = at;
+    let end = index.entries.len();
+    'chunks: while at < end {
+        let Some(sum) = sum_over(index, aim, &held, at) else {
+            return Reached { held, at };
+        };
+        held.sum = sum;
+        at += 1;
+    }
+    Reached { held, at }
+}
+
+/// Reads the chunk at a place behind what the marks before it came to, and passes over those behind it that need not be read;
+/// none where it is a chunk of no text that has this index.
+pub(crate) fn read_on(
+    alloc: Global,
+    index: &Index,
+    aim: Aim,
+    held: Option<Parting>,
+    at: usize,
+    span: Span,
+    bytes: &[u8],
+) -> Result<Option<Reached>, AllocError>
+    requires here { chunk_at index.now at ≡ Some span }
+    ensures none { IfOk result (λ read. IfNone read ((settings : Settings) (chunk : ℕ) (text : List ℕ) → IsKnown settings chunk text index.now → bytes.now ≡ slice_range text span.start span.end → ⊥)) }
+    ensures later { IfOk result (λ read. IfSome read (λ reached. at + 1 ≤ reached.at)) }
+    ensures cut { IfOk result (λ read. IfSome read (λ reached. (before : CuttingOf) → held ≡ Some before → (settings : Settings) (chunk : ℕ) (text : List ℕ) → IsKnown settings chunk text index.now
+        → bytes.now ≡ slice_range text span.start span.end → IsCutAt settings chunk text aim at (cuts_of before) → IsCutAt settings chunk text aim reached.at (cuts_of reached.held))) }
+{
+    let Some(held) = held else {
+        return Err(AllocError);
+    };
+    let read = read_chunk(alloc, index, aim, held, at, span, bytes)?;
+    let Some(next) = read else {
+        return Ok(None);
+    };
+    let later = step(at)?;
+    let reached = pass_on(index, aim, next, later);
+    Ok(Some(reached))
+}

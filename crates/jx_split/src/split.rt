@@ -1,0 +1,142 @@
+// The parts of a container in a text of which an index is saved.
+ghost use Rattle.std.specs.Prelude.{◌≡◌, ◌≢◌, ◌≤◌, ◌<◌, None, Some, ℕ, List, slice_range, IfOk, IfErr, IfSome, IsErr, OnErr};
+ghost use Rattle.jx_summary.specs.declared.span.Span.{Span};
+ghost use Rattle.jx_run.specs.declared.texts.settings.Settings.{Settings};
+ghost use Rattle.jx_run.specs.Laws.{span_of};
+ghost use Rattle.jx_run.specs.Tree.{Tree};
+ghost use Rattle.jx_saved.specs.Index.{IsIndexOf};
+ghost use Rattle.jx_walk.specs.declared.walk.WalkFault.TheVariants.{Changed, Damaged};
+ghost use Rattle.jx_walk.specs.Walk.{IsToldApart};
+ghost use Rattle.jx_split.specs.Parts.{IsIn, parts_of};
+ghost use Rattle.jx_split.specs.Split.{HasCome, IsLost, is_going, left, needed};
+
+use crate::cutting::{Aim, Parting};
+use crate::part::ContainerPart;
+use crate::reaching::read_on;
+use jx_index::indexes_stand_behind_fronts;
+use jx_lex::{Span, pieces_are_read_in_turn, tokens_are_read};
+use jx_run::{
+    accepted_texts_stand_behind_fronts, reader_is_grammar, text_by_settings_has_one_tree,
+    verdict_by_settings_is_one,
+};
+use jx_saved::Index;
+use jx_walk::{WalkFault, chunk_at, is_kept};
+use std::alloc::{AllocError, Global};
+
+/// The parts of an array or an object for so many loaders, in a JSON text (RFC 8259) of which an index is saved. It tells which
+/// bytes of the text it needs, and is given them; chunks in which no part begins or ends are passed over. It keeps the parts.
+#[derive(Drop)]
+pub struct Split<'a> {
+    alloc: Global,
+    index: &'a Index,
+    aim: Aim,
+    /// Which chunk is needed next.
+    at: usize,
+    /// What the marks before it came to. None where memory was refused, or the index is of no text.
+    held: Option<Parting>,
+}
+
+/// Whether the closing bracket was not seen, and memory was not refused.
+fn is_going(held: &Option<Parting>) -> bool
+    ensures { result ≡ is_going held.now }
+{
+    match held {
+        Some(cutting) => cutting.sum.closed == 0,
+        None => false,
+    }
+}
+
+impl<'a> Split<'a> {
+    /// A split of the container with this span into so many parts, which was given no byte.
+    pub fn new(alloc: Global, index: &'a Index, aim: Aim) -> Split<'a>
+        ensures index { result.index.now ≡ index.now }
+        ensures aim { result.aim ≡ aim }
+        ensures come { (settings : Settings) (chunk : ℕ) (text : List ℕ) → IsIndexOf settings chunk text index.now → HasCome settings chunk text result }
+    {
+        reader_is_grammar();
+        verdict_by_settings_is_one();
+        let at = aim.whole.start / index.chunk.bytes();
+        Split {
+            alloc,
+            index,
+            aim,
+            at,
+            held: Some(Parting::new(alloc, aim.whole)),
+        }
+    }
+
+    /// Where the bytes stand that are to be given next, or none where no more are needed.
+    pub fn needs(&self) -> Option<Span>
+        ensures needed { result ≡ needed self.now }
+        ensures some { IfSome result (λ span. span.start < span.end) }
+        ensures within { IfSome result (λ span. span.end ≤ self.now.index.now.size) }
+    {
+        if !is_going(&self.held) {
+            return None;
+        }
+        chunk_at(self.index, self.at)
+    }
+
+    /// Gives it the bytes that it needs. Where they are others than those of the text that was indexed, nothing is taken, and
+    /// other bytes may be given. Where it needs none, nothing is done. `Err` where memory is refused or the index was found
+    /// to be of no text, and from then on always.
+    pub fn give(&mut self, bytes: &[u8]) -> Result<Result<(), WalkFault>, AllocError>
+        ensures index { self.new.index.now ≡ self.old.index.now }
+        ensures aim { self.new.aim ≡ self.old.aim }
+        // Bytes of the text, as far as their digest tells, lead on.
+        ensures come { IfOk result (λ told. IfOk told (λ _. (settings : Settings) (chunk : ℕ) (text : List ℕ) → HasCome settings chunk text self.old
+            → ((span : Span) → needed self.old ≡ Some span → IsToldApart text span bytes.now) → HasCome settings chunk text self.new)) }
+        // Whatever the index, it goes forward.
+        ensures nearer { IfOk result (λ told. IfOk told (λ _. (span : Span) → needed self.old ≡ Some span → left self.new < left self.old)) }
+        // What a fault says.
+        ensures changed { IfOk result (λ told. IfErr told (λ fault. (span : Span) → fault ≡ Changed span → (self.new ≡ self.old) × (needed self.old ≡ Some span)
+            × ((settings : Settings) (chunk : ℕ) (text : List ℕ) → HasCome settings chunk text self.old → bytes.now ≢ slice_range text span.start span.end))) }
+        ensures damaged { IfOk result (λ told. IfErr told (λ fault. fault ≡ Damaged → IsLost self.new × ((settings : Settings) (chunk : ℕ) (text : List ℕ) → HasCome settings chunk text self.old
+            → ((span : Span) → needed self.old ≡ Some span → IsToldApart text span bytes.now) → ⊥))) }
+        ensures err { OnErr result (IsLost self.new) }
+        ensures lost { IsLost self.old → IsErr result }
+    {
+        if self.held.is_none() {
+            return Err(AllocError);
+        }
+        let Some(span) = self.needs() else {
+            return Ok(Ok(()));
+        };
+        if !is_kept(self.index, self.at, span, bytes) {
+            return Ok(Err(WalkFault::Changed(span)));
+        }
+        let held = self.held.take();
+        let read = read_on(self.alloc, self.index, self.aim, held, self.at, span, bytes)?;
+        let Some(reached) = read else {
+            return Ok(Err(WalkFault::Damaged));
+        };
+        self.at = reached.at;
+        self.held = Some(reached.held);
+        Ok(Ok(()))
+    }
+
+    /// The parts that have a child, in order; or that the index is of no text, as where the container stays open. `Err` where
+    /// memory is or was refused.
+    pub fn parts(self) -> Result<Result<Vec<ContainerPart>, WalkFault>, AllocError>
+        requires all { needed self ≡ None }
+        ensures found { IfOk result (λ told. IfOk told (λ parts. (settings : Settings) (chunk : ℕ) (text : List ℕ) (container : Tree) → HasCome settings chunk text self.entry
+            → IsIn settings text container → span_of container ≡ self.entry.aim.whole → parts.items ≡ parts_of self.entry.aim.parts text container)) }
+        ensures damaged { IfOk result (λ told. IfErr told (λ fault. (settings : Settings) (chunk : ℕ) (text : List ℕ) (container : Tree) → HasCome settings chunk text self.entry
+            → IsIn settings text container → span_of container ≡ self.entry.aim.whole → ⊥)) }
+        ensures lost { IsLost self.entry → IsErr result }
+    {
+        accepted_texts_stand_behind_fronts();
+        indexes_stand_behind_fronts();
+        pieces_are_read_in_turn();
+        text_by_settings_has_one_tree();
+        tokens_are_read();
+        let Split { held, .. } = self;
+        let Some(held) = held else {
+            return Err(AllocError);
+        };
+        if held.sum.closed == 0 {
+            return Ok(Err(WalkFault::Damaged));
+        }
+        Ok(Ok(held.ended))
+    }
+}

@@ -1,0 +1,20 @@
+-- The split has come on by the chunks of the file, if these are told apart from those of the text.
+use Rattle.std.specs.Prelude.{Some}
+use Rattle.std.proofs.Common.{◌≡◌, ℕ, List, false}
+use Rattle.jx_run.specs.declared.texts.settings.Settings.{Settings}
+use Rattle.jx_saved.specs.Index.{IsIndexOf}
+use Rattle.jx_split.specs.Split.{HasCome, left}
+use Rattle.jx_walk_report.specs.Saved.{TellsApart}
+use Rattle.jx_walk_report.proofs.splitting.parts_in.Given as goal
+
+abbrev pub invariant-chunks : goal.invariant-chunks
+invariant-chunks g l = record {
+  unfailed : g.F.ReadAt.has_failed l.file ≡ false;
+  kept : g.F.ReadAt.content l.file ≡ g.F.ReadAt.content l.initial.file;
+  index : l.split.index.now ≡ l.index;
+  aim : l.split.aim ≡ l.fn.aim;
+  come : (settings : Settings) (chunk : ℕ) (text all : List ℕ) → IsIndexOf settings chunk text l.index → g.F.ReadAt.content l.initial.file ≡ Some all → TellsApart chunk text all → HasCome settings chunk text l.split;
+}
+
+abbrev pub decreases-chunks : goal.decreases-chunks
+decreases-chunks g l = left l.split

@@ -1,0 +1,19 @@
+-- What a look-up by a saved index gives.
+use Rattle.std.specs.Prelude.{◌≡◌, ℕ, List, Option, Some}
+use Rattle.jx_run.specs.declared.texts.settings.Settings.{Settings}
+use Rattle.jx_report.specs.declared.pointer_answer.PointerAnswer.{PointerAnswer}
+use Rattle.jx_report.specs.Answers.{AreAnswersIn}
+use Rattle.jx_saved.specs.declared.index.Index.{Index}
+use Rattle.jx_saved.specs.Index.{IsIndexOf}
+use Rattle.jx_walk_report.specs.Saved.{IsSavedOf, TellsApart}
+
+-- where bytes are those of the index of a text, this is its index
+abbrev pub IsReadOf : Option (List ℕ) → Index → Type 0
+IsReadOf saved index = (settings : Settings) (chunk : ℕ) (text bytes : List ℕ) → IsSavedOf settings chunk text bytes → saved ≡ Some bytes → IsIndexOf settings chunk text index
+
+-- where the index is that of a text, and the file has no other chunk with the digest of one of the text, these are the answers
+-- in the text
+abbrev pub AreAnswersBySaved : List (List ℕ) → Option (List ℕ) → Option (List ℕ) → List PointerAnswer → Type 0
+AreAnswersBySaved pointers saved content answers =
+    (settings : Settings) (chunk : ℕ) (text bytes file : List ℕ) → IsSavedOf settings chunk text bytes → saved ≡ Some bytes → content ≡ Some file → TellsApart chunk text file
+    → AreAnswersIn settings text pointers answers

@@ -1,0 +1,52 @@
+// Pointers are looked up by an index that is read.
+ghost use Rattle.std.specs.Prelude.{◌≡◌, ◌≢◌, ◌↔◌, ◌⊎◌, true, false, map, string_bytes, IfOk, IfErr, IsErrOf};
+ghost use Rattle.jx_walk_report.specs.Looked.{AreAnswersBySaved, IsReadOf};
+ghost use Rattle.jx_walk_report.specs.Offsets.{HasSize};
+ghost use Rattle.jx_walk_report.specs.Reports.{FailsFor, IsOfText};
+
+use crate::answers::answers_of;
+use crate::look_fault::LookFault;
+use crate::read_at::ReadAt;
+use crate::saved_reading::read_saved;
+use jx_report::{PointerAnswer, Source};
+use jx_saved::Index;
+use std::alloc::Global;
+
+/// What pointers come to in a text, and the index that they were looked up by.
+#[derive(Debug, Drop)]
+pub struct Looked {
+    pub index: Index,
+    /// For each pointer, in order.
+    pub answers: Vec<PointerAnswer>,
+}
+
+/// Reads an index to its end, and looks strings up as pointers (RFC 6901, section 4) in the text by it.
+///
+/// The index is held, and of the text one chunk. An index that is none, or is that of a text with another size, is told before
+/// a byte of the text is read. Each chunk that is read is held to its digest; those that are not read may have changed.
+pub fn look_up<S: Source, F: ReadAt>(
+    alloc: Global,
+    saved: &mut S,
+    file: &mut F,
+    pointers: &[String],
+) -> Result<Looked, LookFault>
+    requires saved { S.has_failed saved.old ≡ false }
+    requires file { F.has_failed file.old ≡ false }
+    // The index is that of the text, and the answers are those in the text that was indexed.
+    ensures index { IfOk result (λ looked. IsReadOf (S.remaining saved.old) looked.index) }
+    ensures answers { IfOk result (λ looked. AreAnswersBySaved (map string_bytes pointers.now) (S.remaining saved.old) (F.content file.old) looked.answers.items) }
+    // The file is as long as the text, and stays as it is.
+    ensures size { IfOk result (λ looked. HasSize (F.content file.old) looked.index.size) }
+    ensures kept { F.content file.new ≡ F.content file.old }
+    ensures saved_read { IsErrOf result LookFault.SavedRead ↔ (S.has_failed saved.new ≡ true) }
+    ensures read { IsErrOf result LookFault.TextRead ↔ (F.has_failed file.new ≡ true) }
+    // Each fault of the index or of the text is one.
+    ensures fault { IfErr result (FailsFor (S.remaining saved.old) (F.content file.old)) }
+    ensures unwritten { IfErr result (λ fault. fault ≢ LookFault.Write) }
+    // What is wrong with the index is told before the text is read.
+    ensures unread { IfErr result (λ fault. IsOfText fault ⊎ (file.new ≡ file.old)) }
+{
+    let index = read_saved(alloc, saved, file.size())?;
+    let answers = answers_of(alloc, file, &index, pointers)?;
+    Ok(Looked { index, answers })
+}

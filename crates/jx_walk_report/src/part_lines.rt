@@ -1,0 +1,61 @@
+// The lines for parts.
+ghost use Rattle.std.specs.Prelude.{◌≡◌, ◌++◌, decimal, IfOk, OnOk};
+ghost use Rattle.jx_report.specs.Words.{line, span_words};
+ghost use Rattle.jx_walk_report.specs.Parts.{part_lines, part_words, told_words};
+
+use itoa::Buffer;
+use jx_lex::Span;
+use jx_report::{PointerAnswer, add_answer};
+use jx_split::ContainerPart;
+use std::alloc::{AllocError, Global};
+
+/// Appends a number in plain decimal.
+fn add_number(out: &mut Vec<u8>, number: usize) -> Result<(), AllocError>
+    ensures { OnOk result (out.new.items ≡ out.old.items ++ decimal number) }
+{
+    let mut buffer = Buffer::new();
+    out.extend_from_slice(buffer.format(number).as_bytes())
+}
+
+/// Appends a span, as `S..E`.
+fn add_span(out: &mut Vec<u8>, span: Span) -> Result<(), AllocError>
+    ensures { OnOk result (out.new.items ≡ out.old.items ++ span_words span) }
+{
+    add_number(out, span.start)?;
+    out.extend_from_slice(b"..")?;
+    add_number(out, span.end)
+}
+
+/// Appends the line of a part.
+fn add_part(out: &mut Vec<u8>, part: ContainerPart) -> Result<(), AllocError>
+    ensures { OnOk result (out.new.items ≡ out.old.items ++ line (part_words part)) }
+{
+    let children = Span {
+        start: part.first,
+        end: part.end,
+    };
+    add_span(out, part.span)?;
+    out.extend_from_slice(b" ")?;
+    add_span(out, children)?;
+    out.extend_from_slice(b"\n")
+}
+
+/// A line for each part, in their order.
+pub(crate) fn part_lines(alloc: Global, parts: &[ContainerPart]) -> Result<Vec<u8>, AllocError>
+    ensures { IfOk result (λ lines. lines.items ≡ part_lines parts.now) }
+{
+    let mut lines = Vec::new(alloc);
+    for part in parts {
+        add_part(&mut lines, *part)?;
+    }
+    Ok(lines)
+}
+
+/// What is told of a string that has no parts.
+pub(crate) fn told_of(alloc: Global, answer: PointerAnswer) -> Result<Vec<u8>, AllocError>
+    ensures { IfOk result (λ told. told.items ≡ told_words answer) }
+{
+    let mut told = Vec::from_slice(alloc, b"jx: ")?;
+    add_answer(&mut told, answer)?;
+    Ok(told)
+}

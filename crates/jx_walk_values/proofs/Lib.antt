@@ -1,0 +1,4 @@
+pub mod Chunks
+pub mod LineSteps
+pub mod Reports
+pub mod ValueSteps

@@ -1,0 +1,5 @@
+-- What the contracts of this crate's own functions cite, and no public one.
+pub mod Alone
+pub mod HeldChunks
+pub mod Lines
+pub mod Texts
