@@ -49,7 +49,7 @@ out: jx ' "$(said '' $flag)"
 
 the_nearest_right_word_is_told() {
     has 'a wrong command' "tip: a similar subcommand exists: 'check'" "$(said '' chek)"
-    has 'a wrong command' "tip: a similar subcommand exists: 'explain'" "$(said '' explai)"
+    has 'a wrong command' "tip: some similar subcommands exist: 'split', 'explain'" "$(said '' explai)"
     has 'a wrong command' "tip: a similar subcommand exists: 'index'" "$(said '' indx)"
     has 'a wrong command' "tip: a similar subcommand exists: 'seq'" "$(said '' sequ)"
     has 'a wrong option' "tip: a similar argument exists: '--depth'" "$(said '' check --dpth 3)"
