@@ -25,8 +25,8 @@ def same(name, wanted, got):
 
 
 def each_of(words, text):
-    pathlib.Path("text").write_bytes(text)
-    done = subprocess.run([PROGRAM, "each", *words, "--file", "text"], capture_output=True)
+    pathlib.Path("shared").write_bytes(text)
+    done = subprocess.run([PROGRAM, "each", *words, "--file", "shared"], capture_output=True)
     return done.stdout, done.stderr, done.returncode
 
 
