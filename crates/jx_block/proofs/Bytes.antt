@@ -33,7 +33,7 @@ one_of P c (k ∷ ks) all h = pick (eqb_tells (code c) (code k)) (λ h'. one_of 
     pick (inr e) rest = rest (subst (λ t. (t || is_one_of c ks) ≡ true) e.0 h)
 
 -- this holds of the class of each byte of a set, where it holds of these classes and each byte of the set has one of them
-of_set : (p : ℕ → Bool) (P : Class → Type 0) (ks : List Class) → All P ks → all_below 256 (λ b. implies (p b) (is_one_of (first_with all_classes b) ks)) ≡ true
+pub of_set : (p : ℕ → Bool) (P : Class → Type 0) (ks : List Class) → All P ks → all_below 256 (λ b. implies (p b) (is_one_of (first_with all_classes b) ks)) ≡ true
     → (b : ℕ) → b < 256 → p b ≡ true → P (class_at b)
 unfolding class_at
 of_set p P ks all tested b lt h =

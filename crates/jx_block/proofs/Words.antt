@@ -125,3 +125,19 @@ cleared w some fits =
         let e : suc (w - 1) ≡ w = omega arith in
         and_same (bit w j) (bit (w - 1) j) (bit-xor w (w - 1) j (no_difference_above w (w - 1) (trailing_zeros w64 w) j e after (lowest_set w some fits).1))
     by_order j (inr past) (inr before) apart = absurd (apart (omega arith))
+
+-- a bit that is not among all of them is not set
+pub in_neither : (w all k : ℕ) → k < 64 → all ≡ 2 ^ 64 - 1 → bit (bit_and w all) k ≡ false → bit w k ≡ false
+unfolding bit
+in_neither w all k lt is none = of_both (bit w k) (bit all k) (ap (λ a. bit_at a k == 1) is ∙ ap (λ n. n == 1) (bit_at_ones 64 k lt)) (sym (bit-and w all k) ∙ none)
+  where
+    of_both : (a b : Bool) → b ≡ true → (a && b) ≡ false → a ≡ false
+    of_both true true e h = h
+    of_both true false e h = absurd cc
+    of_both false b e h = refl
+
+-- where a bit is set and none is left, it is among the others
+pub left_none : (s a : Bool) → (s && not a) ≡ false → s ≡ true → a ≡ true
+left_none true true h e = e
+left_none true false h e = absurd cc
+left_none false a h e = absurd cc

@@ -1,5 +1,5 @@
 -- The words of a block say, bit by bit, what its bytes are.
-use Rattle.std.proofs.Common.{◌≡◌, ℕ, zero, suc, ◌+◌, ◌-◌, ◌*◌, ◌/◌, ◌%◌, ◌^◌, ◌<◌, ◌≤◌, Bool, true, false, not, List, ◌∷◌, length, get_or, map, drop, if◌then◌else◌, refl, ap, sym, ◌∙◌, arith, mod-lt, bit_and, bit_or, bit_xor}
+use Rattle.std.proofs.Common.{◌≡◌, ◌⊎◌, inl, inr, ℕ, zero, suc, ◌+◌, ◌-◌, ◌*◌, ◌/◌, ◌%◌, ◌^◌, ◌<◌, ◌≤◌, Bool, true, false, not, List, ◌∷◌, length, get_or, map, drop, if◌then◌else◌, refl, ap, sym, ◌∙◌, arith, mod-lt, bit_and, bit_or, bit_xor}
 use Rattle.std.specs.Prelude.{◌==◌, ◌||◌, ◌&&◌, slice_range}
 use Rattle.std.specs.Simd.Lanes.{mask_l, chunk}
 use Rattle.std.proofs.lemmas.Bool.{or_parts}
@@ -42,7 +42,7 @@ but a b k fits lt = bit-and a (flip b) k ∙ ap (λ t. bit a k && t) (bit-not b 
 pub and_but : (a b k : ℕ) → b < 2 ^ 64 → k < 64 → bit (bit_and (flip b) a) k ≡ (not (bit b k) && bit a k)
 and_but a b k fits lt = bit-and (flip b) a k ∙ ap (λ t. t && bit a k) (bit-not b k fits lt)
 
-neither : (a b k : ℕ) → bit (bit_or a b) k ≡ false → (bit a k ≡ false) × (bit b k ≡ false)
+pub neither : (a b k : ℕ) → bit (bit_or a b) k ≡ false → (bit a k ≡ false) × (bit b k ≡ false)
 neither a b k h = or_parts _ _ (sym (bit-or a b k) ∙ h)
 
 -- a difference that is none
@@ -74,11 +74,11 @@ not_false true h = refl
 not_false false h = sym h
 
 -- The words of a block: c 1 inside a string and 0 between tokens; q quotation marks, b backslashes, l letters behind them, o no ordinary
--- ASCII, w blanks, s structural characters, z stops; e what is escaped, i what goes on inside a string; x scalars that are wrong.
-module _ (text : List ℕ) (at c q b l o w s z e i x n fs fe : ℕ) (fits : at + 64 ≤ length text) (q_is : q ≡ mask_l (map (λ byte. byte == 0x22) (chunk at 64 text)))
-    (b_is : b ≡ mask_l (map (λ byte. byte == 0x5c) (chunk at 64 text))) (l_is : l ≡ mask_l (map is_escaped (chunk at 64 text)))
+-- ASCII, w blanks, s structural characters; e what is escaped, i what goes on inside a string; x scalars that are wrong.
+module _ (text : List ℕ) (at c q b l o w s e i x n fs fe : ℕ) (fits : at + 64 ≤ length text) (q_is : q ≡ mask_l (map (λ byte. byte == 0x22) (chunk at 64 text)))
+    (b_is : b ≡ mask_l (map (λ byte. byte == 0x5c) (chunk at 64 text))) (l_is : (e ≡ 0) ⊎ (l ≡ mask_l (map is_escaped (chunk at 64 text))))
     (o_is : o ≡ mask_l (map (λ byte. not (is_plain byte)) (chunk at 64 text))) (w_is : w ≡ mask_l (map is_blank (chunk at 64 text)))
-    (s_is : s ≡ mask_l (map is_structural (chunk at 64 text))) (z_is : z ≡ mask_l (map is_stop (chunk at 64 text)))
+    (s_is : s ≡ mask_l (map is_structural (chunk at 64 text)))
     (c_fits : c < 2) (q_fits : q < 2 ^ 64) (b_fits : b < 2 ^ 64) (w_fits : w < 2 ^ 64) (s_fits : s < 2 ^ 64) (l_fits : l < 2 ^ 64) (e_fits : e < 2 ^ 64) where
   abbrev pub real : ℕ
   real = bit_and (flip e) q
@@ -103,6 +103,9 @@ module _ (text : List ℕ) (at c q b l o w s z e i x n fs fe : ℕ) (fits : at +
 
   abbrev byte : ℕ → ℕ
   byte k = get_or text (at + k) 0
+
+  abbrev stop : ℕ → Bool
+  stop k = is_stop (byte k)
 
   before_fits : before < 2 ^ 64
   before_fits = or_lt 64 (i * 2 % 2 ^ 64) c (mod-lt (i * 2) (pow_pos 64)) (omega arith)
@@ -163,14 +166,21 @@ module _ (text : List ℕ) (at c q b l o w s z e i x n fs fe : ℕ) (fits : at +
       (bit-and real before k ∙ ap (λ t. t && bit before k) (real_at k low)) j
       || (but scalars (scalars / 2) k half_fits low ∙ ap (λ t. bit scalars k && not t) (bit-down scalars k)) j)
 
+  letter_at : (k : ℕ) → k < 64 → bit e k ≡ true → bit l k ≡ is_escaped (byte k)
+  letter_at k lt set = by_word l_is
+    where
+      by_word : (e ≡ 0) ⊎ (l ≡ mask_l (map is_escaped (chunk at 64 text))) → bit l k ≡ is_escaped (byte k)
+      by_word (inl none) = let clash : true ≡ false = sym set ∙ ap (λ w. bit w k) none ∙ bit-none k in cc
+      by_word (inr is) = test_at is_escaped text at l fits is k lt
+
   escaped_fits : bit_and l before < 2 ^ 64
   escaped_fits = let le = and_le_l l before in omega (arith, le)
 
   marked_fits : bit_or (bit_or e q) b < 2 ^ 64
   marked_fits = or_lt 64 (bit_or e q) b (or_lt 64 e q e_fits q_fits) b_fits
 
-  module _ (few : n < 64) (right : (k : ℕ) → k < n → bit wrong k ≡ false) (stop : bit (bit_or e (scalars * 2 % 2 ^ 64)) n ≡ false)
-      (whole : (k : ℕ) → k < 64 → bit firsts k ≡ true → ((j : ℕ) → j ≤ k → bit x j ≡ false) → IsWhole text at (bit scalars) (bit z) k)
+  module _ (few : n < 64) (right : (k : ℕ) → k < n → bit wrong k ≡ false) (between : bit (bit_or e (scalars * 2 % 2 ^ 64)) n ≡ false)
+      (whole : (k : ℕ) → k < 64 → bit firsts k ≡ true → ((j : ℕ) → j ≤ k → bit x j ≡ false) → IsWhole text at (bit scalars) stop k)
       (fs_kept : (k : ℕ) → k < n → bit fs k ≡ bit starts k) (fe_kept : (k : ℕ) → k < n + 1 → bit fe k ≡ bit ends k) where
     low : (k : ℕ) → k < n → k < 64
     low k lt = omega arith
@@ -185,7 +195,7 @@ module _ (text : List ℕ) (at c q b l o w s z e i x n fs fe : ℕ) (fits : at +
         let g = neither (bit_xor i (bit_xor before real)) (bit_xor (e / 2) (bit_and (flip e) b)) k f.0 in
         (g.0, g.1, f.1, d.1, a.1)
 
-    told : Told text at fs fe (bit e) (bit i) (bit before) (bit scalars) (bit z) n
+    told : Told text at fs fe (bit e) (bit i) (bit before) (bit scalars) stop n
     unfolding bit
     told = record {
       few = few;
@@ -198,7 +208,7 @@ module _ (text : List ℕ) (at c q b l o w s z e i x n fs fe : ℕ) (fits : at +
           ∙ ap (λ t. not (bit e k) && t) (test_at (λ byte. byte == 0x5c) text at b fits b_is k (low k lt));
       letter = λ k lt set.
           let both = both_of (bit e k) (bit l k) (bit before k) (sym (but e (bit_and l before) k escaped_fits (low k lt) ∙ ap (λ t. bit e k && not t) (bit-and l before k)) ∙ (parts k lt).2) set in
-          (sym (test_at is_escaped text at l fits l_is k (low k lt)) ∙ both.0, both.1);
+          (sym (letter_at k (low k lt) set) ∙ both.0, both.1);
       plain = λ k lt inside free no_quote no_backslash.
           let at_o = test_at (λ byte. not (is_plain byte)) text at o fits o_is k (low k lt) in
           not_false _ (sym at_o ∙ plain_of (bit before k) (bit o k) (bit e k) (bit q k) (bit b k)
@@ -206,16 +216,16 @@ module _ (text : List ℕ) (at c q b l o w s z e i x n fs fe : ℕ) (fits : at +
           ∙ (λ j. bit-and before o k j && not ((bit-or (bit_or e q) b k ∙ ap (λ t. t || bit b k) (bit-or e q k)) j))) ∙ (parts k lt).3)
           inside free (quote_at k (low k lt) ∙ no_quote) (test_at (λ byte. byte == 0x5c) text at b fits b_is k (low k lt) ∙ no_backslash));
       other = scalar_at;
-      stops = test_at is_stop text at z fits z_is;
+      stops = λ k lt. refl;
       whole = λ k lt set fresh.
           whole k (low k lt) (first_at k (low k lt) ∙ (λ j. set j && not (fresh j))) (λ j le. (parts j (omega arith)).4);
       starts_are = λ k lt. fs_kept k lt ∙ starts_at k (low k lt);
       ends_are = λ k lt. fe_kept (suc k) (omega arith) ∙ ends_at k (omega arith);
-      boundary = sym (shifted scalars n few) ∙ (neither e (scalars * 2 % 2 ^ 64) n stop).1;
+      boundary = sym (shifted scalars n few) ∙ (neither e (scalars * 2 % 2 ^ 64) n between).1;
     }
 
     escape_none : bit e n ≡ false
-    escape_none = (neither e (scalars * 2 % 2 ^ 64) n stop).0
+    escape_none = (neither e (scalars * 2 % 2 ^ 64) n between).0
 
     carry_is : (c : ℕ) → c < 2 → bit c 0 ≡ (c == 1)
     unfolding bit
@@ -236,7 +246,7 @@ module _ (text : List ℕ) (at c q b l o w s z e i x n fs fe : ℕ) (fits : at +
         ap (places fe 0 at) k ∙ ap (λ (t : Bool). if t then at ∷ places fe 1 (suc at) n else places fe 1 (suc at) n) none_first ∙ (λ j. places fe 1 (a j) (m j))
 
     abbrev first_state : LexState
-    first_state = stands text at fs fe (bit e) (bit i) (bit before) (bit scalars) (bit z) n fits told 0
+    first_state = stands text at fs fe (bit e) (bit i) (bit before) (bit scalars) stop n fits told 0
 
     -- the bytes before n are read as the words list them
     pub block_read : (from : LexState) → from ≡ (if c == 1 then state.Str else state.Gap) → bit e 0 ≡ false
@@ -250,6 +260,6 @@ module _ (text : List ℕ) (at c q b l o w s z e i x n fs fe : ℕ) (fits : at +
         let at_0 : at ≡ at + 0 = omega arith in
         ap (λ f. lex f at (slice_range text at (at + n))) begun
         ∙ ap (λ a. lex first_state a (slice_range text a (at + n))) at_0
-        ∙ told_read text at fs fe (bit e) (bit i) (bit before) (bit scalars) (bit z) n fits told
+        ∙ told_read text at fs fe (bit e) (bit i) (bit before) (bit scalars) stop n fits told
         ∙ track_of (ap (λ a. marks_of fs 0 a (slice_range text a (at + n))) (sym at_0)) (sym ends_from_0)
         (ap (λ t. reading.state (if bit before n then (if t then state.Esc else state.Str) else state.Gap)) escape_none)

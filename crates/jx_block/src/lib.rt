@@ -2,6 +2,7 @@
 #![tactic(auto)]
 
 mod cutting;
+mod kinds;
 mod masks;
 mod planes;
 mod reading;
@@ -9,6 +10,7 @@ mod scalars;
 mod strings;
 mod telling;
 
+pub use kinds::{TokenKinds, kinds_of};
 pub use masks::Masks;
-pub use reading::read_block;
+pub use reading::{read_block, read_tokens};
 pub use telling::{read_on, tell};

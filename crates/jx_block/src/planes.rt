@@ -1,8 +1,9 @@
 // Sets of bytes as words: bit k of a word says whether byte k of a block is in the set.
-ghost use Rattle.std.specs.Prelude.{◌≡◌, ◌==◌, map, not};
+ghost use Rattle.std.specs.Prelude.{◌≡◌, ◌⊎◌, ◌==◌, map, not};
 ghost use Rattle.std.specs.Simd.Lanes.{mask_l};
 ghost use Rattle.jx_lex.specs.Uneventful.{is_blank, is_escaped, is_plain};
-ghost use Rattle.jx_block.specs.inside.Planes.{is_stop, is_structural};
+ghost use Rattle.jx_block.specs.inside.Planes.{is_structural};
+ghost use Rattle.jx_block.specs.Kinds.{begins_scalar};
 
 use std::simd::prelude::*;
 
@@ -22,9 +23,20 @@ pub(crate) fn backslashes(block: u8x64) -> u64
     block.simd_eq(u8x64::splat(b'\\')).to_bitmask()
 }
 
+/// What may stand behind a backslash, other than `u`, where any byte is escaped.
+#[inline(always)]
+pub(crate) fn letters_where(block: u8x64, escaped: u64) -> u64
+    ensures { (escaped ≡ 0) ⊎ (result ≡ mask_l (map is_escaped block)) }
+{
+    if escaped == 0 {
+        return 0;
+    }
+    letters(block)
+}
+
 /// What may stand behind a backslash, other than `u`.
 #[inline(always)]
-pub(crate) fn letters(block: u8x64) -> u64
+fn letters(block: u8x64) -> u64
     ensures { result ≡ mask_l (map is_escaped block) }
 {
     (block.simd_eq(u8x64::splat(b'"'))
@@ -71,15 +83,22 @@ pub(crate) fn structurals(block: u8x64) -> u64
         | block.simd_eq(u8x64::splat(b','))).to_bitmask()
 }
 
-/// What mostly stands behind a number or a literal.
+/// One byte.
 #[inline(always)]
-pub(crate) fn stops(block: u8x64) -> u64
-    ensures { result ≡ mask_l (map is_stop block) }
+pub(crate) fn equal(block: u8x64, byte: u8) -> u64
+    ensures { result ≡ mask_l (map (λ b. b == byte) block) }
 {
-    (block.simd_eq(u8x64::splat(b','))
-        | block.simd_eq(u8x64::splat(b']'))
-        | block.simd_eq(u8x64::splat(b'}'))
-        | block.simd_eq(u8x64::splat(b' '))
-        | block.simd_eq(u8x64::splat(b'\n'))
-        | block.simd_eq(u8x64::splat(b'\r'))).to_bitmask()
+    block.simd_eq(u8x64::splat(byte)).to_bitmask()
+}
+
+/// The first bytes of numbers and literals.
+#[inline(always)]
+pub(crate) fn scalar_firsts(block: u8x64) -> u64
+    ensures { result ≡ mask_l (map begins_scalar block) }
+{
+    (block.simd_eq(u8x64::splat(b'-'))
+        | block.simd_eq(u8x64::splat(b't'))
+        | block.simd_eq(u8x64::splat(b'f'))
+        | block.simd_eq(u8x64::splat(b'n'))
+        | (block - u8x64::splat(b'0')).simd_le(u8x64::splat(9))).to_bitmask()
 }

@@ -1,9 +1,9 @@
 // Numbers and literals of a block, read at their places.
-ghost use Rattle.std.specs.Prelude.{◌≡◌, ◌≤◌, ◌<◌, ◌+◌, ℕ, IsTrue, true, false, length};
+ghost use Rattle.std.specs.Prelude.{◌≡◌, ◌≤◌, ◌<◌, ◌+◌, ℕ, IsTrue, true, false, length, slice_index};
 ghost use Rattle.jx_lex.specs.inside.Bits.{bit};
+ghost use Rattle.jx_block.specs.inside.Planes.{is_stop};
 ghost use Rattle.jx_block.specs.inside.Whole.{IsScalar, IsWhole};
 
-use crate::cutting::is_bit;
 use jx_lex::{pass_literal, pass_number};
 
 /// Whether the bytes between two offsets are one number or one literal, as far as what follows lets it end.
@@ -33,15 +33,23 @@ fn run_end(word: u64, k: usize) -> usize
     k + from.trailing_ones() as usize
 }
 
+/// Whether the byte is one that mostly stands behind a number or a literal.
+#[inline(always)]
+fn is_stop(byte: u8) -> bool
+    ensures { IsTrue result → is_stop byte ≡ true }
+{
+    byte == b',' || byte == b']' || byte == b'}' || byte == b'\n' || byte == b' ' || byte == b'\r'
+}
+
 /// Whether the run of bytes of scalars that begins at byte k of a block is one scalar, which ends there.
 #[inline(always)]
-fn is_whole(text: &[u8], at: usize, scalars: u64, stops: u64, k: usize) -> bool
+fn is_whole(text: &[u8], at: usize, scalars: u64, k: usize) -> bool
     requires bounds { (at + 64 ≤ length text.now) × (k < 64) }
     requires begun { bit scalars k ≡ true }
-    ensures { IsTrue result → IsWhole text.now at (bit scalars) (bit stops) k }
+    ensures { IsTrue result → IsWhole text.now at (bit scalars) (λ j. is_stop (slice_index text.now (at + j))) k }
 {
     let end = run_end(scalars, k);
-    if end >= 64 || !is_bit(stops, end) {
+    if end >= 64 || !is_stop(text[at + end]) {
         return false;
     }
     is_scalar(text, at + k, at + end)
@@ -49,15 +57,15 @@ fn is_whole(text: &[u8], at: usize, scalars: u64, stops: u64, k: usize) -> bool
 
 /// The bit of the first run that is not one whole scalar, or 0. Each run begins at a bit of `firsts`.
 #[inline(always)]
-pub(crate) fn wrong_scalar(text: &[u8], at: usize, scalars: u64, stops: u64, firsts: u64) -> u64
+pub(crate) fn wrong_scalar(text: &[u8], at: usize, scalars: u64, firsts: u64) -> u64
     requires bounds { at + 64 ≤ length text.now }
     requires begun { (k : ℕ) → k < 64 → bit firsts k ≡ true → bit scalars k ≡ true }
-    ensures whole { (k : ℕ) → k < 64 → bit firsts k ≡ true → ((j : ℕ) → j ≤ k → bit result j ≡ false) → IsWhole text.now at (bit scalars) (bit stops) k }
+    ensures whole { (k : ℕ) → k < 64 → bit firsts k ≡ true → ((j : ℕ) → j ≤ k → bit result j ≡ false) → IsWhole text.now at (bit scalars) (λ j. is_stop (slice_index text.now (at + j))) k }
 {
     let mut rest = firsts;
     while rest != 0 {
         let k = rest.trailing_zeros() as usize;
-        if !is_whole(text, at, scalars, stops, k) {
+        if !is_whole(text, at, scalars, k) {
             return 1 << k;
         }
         rest &= rest - 1;

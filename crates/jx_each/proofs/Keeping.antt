@@ -11,7 +11,7 @@ use Rattle.jx_compact.specs.Compact.{is_kept, is_no_blank, kept, next}
 use Rattle.jx_each.specs.declared.sign.Sign.TheVariants as sign
 use Rattle.jx_each.specs.declared.sign.Turn.TheVariants.{Stay}
 use Rattle.jx_each.specs.Turns.{height_next, sign_of, turn_at, turn_by, turned}
-use Rattle.jx_each.specs.inside.Runs.{AreIn, is_blank, is_char, is_deep, is_flat, is_stop}
+use Rattle.jx_each.specs.inside.Runs.{AreIn, is_blank, is_border, is_bracket, is_char, is_deep, is_flat}
 use Rattle.jx_each.proofs.Bytes.{turn_other}
 
 -- ---- runs
@@ -46,17 +46,12 @@ char_keeps h b c =
     let f : (b == 0x5c) ≡ false = grind (arith, nat_tests) in
     record { turn = refl; stays = refl; place = rw e (rw f refl); height = refl }
 
--- neither a bracket nor a byte up to the space
-kept_above : (b : ℕ) → is_stop b ≡ false → is_kept Between b ≡ true
-kept_above b c =
-    let e : (b == 0x20) ≡ false = grind (arith, nat_tests) in
-    let f : (b == 0x09) ≡ false = grind (arith, nat_tests) in
-    let g : (b == 0x0a) ≡ false = grind (arith, nat_tests) in
-    let i : (b == 0x0d) ≡ false = grind (arith, nat_tests) in
-    rw (e, f, g, i) refl
+-- what is no blank is kept
+pub other_kept : (b : ℕ) → is_blank b ≡ false → is_kept Between b ≡ true
+other_kept b h = not-false (is_no_blank b) h
 
 -- a comma or a colon, or none of the structural bytes
-same_height : (h b : ℕ) → is_stop b ≡ false → turned h (sign_of b) ≡ h
+same_height : (h b : ℕ) → is_bracket b ≡ false → turned h (sign_of b) ≡ h
 same_height h b c =
     let e1 : (b == 0x5b) ≡ false = grind (arith, nat_tests) in
     let e2 : (b == 0x7b) ≡ false = grind (arith, nat_tests) in
@@ -80,21 +75,43 @@ pub record Still (p : Place) (h b : ℕ) : Type 0 where
   pub stays : is_kept p b ≡ true
   pub height : height_next p h b ≡ h
 
-pub still_at : (p : Place) (h b : ℕ) → 1 < h → (p ≡ Between → is_stop b ≡ false) → Still p h b
-still_at Between h b lt none = record { turn = high_turn h b lt; stays = kept_above b (none refl); height = same_height h b (none refl) }
-still_at Inside h b lt none = record { turn = refl; stays = refl; height = refl }
-still_at Escaped h b lt none = record { turn = refl; stays = refl; height = refl }
+pub still_at : (p : Place) (h b : ℕ) → 1 < h → (p ≡ Between → is_bracket b ≡ false) → (p ≡ Between → is_blank b ≡ false) → Still p h b
+still_at Between h b lt none solid = record { turn = high_turn h b lt; stays = other_kept b (solid refl); height = same_height h b (none refl) }
+still_at Inside h b lt none solid = record { turn = refl; stays = refl; height = refl }
+still_at Escaped h b lt none solid = record { turn = refl; stays = refl; height = refl }
 
-deep_still : (b : ℕ) → is_deep b ≡ true → is_stop b ≡ false
+other_sign : (b : ℕ) → is_bracket b ≡ false → is_border b ≡ false → sign_of b ≡ sign.Other
+other_sign b c d =
+    let e1 : (b == 0x5b) ≡ false = grind (arith, nat_tests) in
+    let e2 : (b == 0x7b) ≡ false = grind (arith, nat_tests) in
+    let e3 : (b == 0x5d) ≡ false = grind (arith, nat_tests) in
+    let e4 : (b == 0x7d) ≡ false = grind (arith, nat_tests) in
+    let e5 : (b == 0x2c) ≡ false = grind (arith, nat_tests) in
+    let e6 : (b == 0x3a) ≡ false = grind (arith, nat_tests) in
+    rw (e1, e2, e3, e4, e5, e6) refl
+
+-- at any height, where it is no comma and no colon either
+pub still_flat : (p : Place) (h b : ℕ) → (p ≡ Between → is_bracket b ≡ false) → (p ≡ Between → is_blank b ≡ false) → (p ≡ Between → is_border b ≡ false) → Still p h b
+still_flat Between h b none solid plain = record {
+  turn = ap (turn_by h) (other_sign b (none refl) (plain refl)) ∙ turn_other h;
+  stays = other_kept b (solid refl);
+  height = ap (turned h) (other_sign b (none refl) (plain refl));
+}
+still_flat Inside h b none solid plain = record { turn = refl; stays = refl; height = refl }
+still_flat Escaped h b none solid plain = record { turn = refl; stays = refl; height = refl }
+
+deep_still : (b : ℕ) → is_deep b ≡ true → is_bracket b ≡ false
 deep_still b c = grind (arith, nat_tests)
+
+deep_solid : (b : ℕ) → is_deep b ≡ true → is_blank b ≡ false
+deep_solid b c = grind (arith, nat_tests)
 
 deep_next : (b : ℕ) → is_deep b ≡ true → next Between b ≡ Between
 deep_next b c = let e : (b == 0x22) ≡ false = grind (arith, nat_tests) in rw e refl
 
 pub deep_keeps : (h b : ℕ) → 1 < h → is_deep b ≡ true → Keeps Between h b
 deep_keeps h b lt c =
-    let d : is_stop b ≡ false = deep_still b c in
-    record { turn = high_turn h b lt; stays = kept_above b d; place = deep_next b c; height = same_height h b d }
+    record { turn = high_turn h b lt; stays = other_kept b (deep_solid b c); place = deep_next b c; height = same_height h b (deep_still b c) }
 
 flat_deep : (b : ℕ) → is_flat b ≡ true → is_deep b ≡ true
 flat_deep b c = grind (arith, nat_tests)
@@ -112,7 +129,7 @@ flat_sign b c =
 pub flat_keeps : (h b : ℕ) → is_flat b ≡ true → Keeps Between h b
 flat_keeps h b c =
     let d : is_deep b ≡ true = flat_deep b c in
-    record { turn = ap (turn_by h) (flat_sign b c) ∙ turn_other h; stays = kept_above b (deep_still b d); place = deep_next b d; height = same_height h b (deep_still b d) }
+    record { turn = ap (turn_by h) (flat_sign b c) ∙ turn_other h; stays = other_kept b (deep_solid b d); place = deep_next b d; height = same_height h b (deep_still b d) }
 
 -- ---- blanks
 
@@ -144,6 +161,10 @@ blank_leaves b h = first (b == 0x20) refl h
     first true q h = of 0x20 q (record { sign_is = refl; place = refl; none = refl })
     first false q h = second (b == 0x09) refl h
 
--- what is no blank is kept
-pub other_kept : (b : ℕ) → is_blank b ≡ false → is_kept Between b ≡ true
-other_kept b h = not-false (is_no_blank b) h
+-- ---- what is marked
+
+pub bracket_solid : (b : ℕ) → is_bracket b ≡ true → is_blank b ≡ false
+bracket_solid b h = grind (arith, nat_tests)
+
+pub border_solid : (b : ℕ) → is_border b ≡ true → is_blank b ≡ false
+border_solid b h = grind (arith, nat_tests)

@@ -13,3 +13,5 @@ pub mod Stays
 mod Seeks
 mod Numbers
 mod Joins
+mod Leading
+mod Ending

@@ -1,12 +1,14 @@
 -- How walks over blocks follow one another, and what is copied of them.
 use Rattle.std.specs.Prelude.{if◌then◌else◌, slice_range}
-use Rattle.std.proofs.Common.{◌≡◌, ℕ, ◌≤◌, List, [], ◌++◌, drop, Bool, true, false, sym, ap, ◌∙◌}
+use Rattle.std.proofs.Common.{◌≡◌, ℕ, ◌≤◌, List, [], ◌++◌, drop, Bool, true, false, sym, ap, subst, ◌∙◌}
 use Rattle.std.proofs.lemmas.List.{append-nil}
 use Rattle.std.proofs.lemmas.List.Folds.{drop_split}
 use Rattle.jx_lex.proofs.Slices.{slice-none, slice-split}
 use Rattle.jx_compact.specs.declared.place.Place.{Place}
 use Rattle.jx_each.specs.declared.deep.Walk.{Walk}
 use Rattle.jx_each.specs.declared.stand.LineStand.{LineStand}
+use Rattle.jx_each.specs.declared.stand.Stage.{Stage}
+use Rattle.jx_each.specs.declared.stand.Stage.TheVariants.{Array}
 use Rattle.jx_each.specs.Machine.{Aim, Made, run}
 use Rattle.jx_each.specs.inside.Stretches.{IsCopied, IsPassed, IsStretch, IsWalked, spot, waiting}
 use Rattle.jx_each.proofs.Dues.{run_append}
@@ -70,14 +72,22 @@ walked_copied {takes} {b} {part} {longer} xs pushed p h from is x = record {
 }
 
 -- the rest makes what all make
-pub deep_on : (aim : Aim) (s t : LineStand) (q : Place) (k : ℕ) (lines part longer xs : List ℕ) (at end : ℕ) (all : Made) → t ≡ record { place = q; height = k; stage = s.stage; takes = s.takes } → at ≤ end
-    → IsCopied s.takes s.place s.height (slice_range xs at end) part q k longer
+pub blocks_on : (aim : Aim) (s t : LineStand) (q : Place) (k : ℕ) (lines part more longer xs : List ℕ) (at end : ℕ) (all : Made) → t ≡ record { place = q; height = k; stage = s.stage; takes = s.takes } → at ≤ end
+    → run aim (record { stand = s; lines = lines; part = part }) (slice_range xs at end) ≡ spot q k s.stage s.takes more longer
     → run aim (record { stand = s; lines = lines; part = part }) (drop at xs) ≡ all
-    → run aim (record { stand = t; lines = lines; part = longer }) (drop end xs) ≡ all
-deep_on aim s t q k lines part longer xs at end all is le x made =
+    → run aim (record { stand = t; lines = more; part = longer }) (drop end xs) ≡ all
+blocks_on aim s t q k lines part more longer xs at end all is le x made =
     let m : Made = record { stand = s; lines = lines; part = part } in
-    ap (λ (u : LineStand). run aim (record { stand = u; lines = lines; part = longer }) (drop end xs)) is
-    ∙ ap (λ (z : Made). run aim z (drop end xs)) (sym (x.runs aim s.stage lines))
+    ap (λ (u : LineStand). run aim (record { stand = u; lines = more; part = longer }) (drop end xs)) is
+    ∙ ap (λ (z : Made). run aim z (drop end xs)) (sym x)
     ∙ sym (run_append aim m (slice_range xs at end) (drop end xs))
     ∙ ap (run aim m) (sym (drop_split xs at end le))
     ∙ made
+
+-- where they stand in an array
+pub elements_on : (aim : Aim) (s : LineStand) (q : Place) (k : ℕ) (lines part more longer w : List ℕ) → s.stage ≡ Array → s.takes ≡ true
+    → run aim (spot s.place s.height Array true lines part) w ≡ spot q k Array true more longer
+    → run aim (record { stand = s; lines = lines; part = part }) w ≡ spot q k s.stage s.takes more longer
+elements_on aim s q k lines part more longer w stage takes x =
+    subst (λ (r : Stage). run aim (spot s.place s.height r s.takes lines part) w ≡ spot q k r s.takes more longer) (sym stage)
+    (subst (λ (t : Bool). run aim (spot s.place s.height Array t lines part) w ≡ spot q k Array t more longer) (sym takes) x)

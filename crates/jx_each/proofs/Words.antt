@@ -6,14 +6,16 @@ use Rattle.std.proofs.Common.{◌≡◌, ℕ, zero, suc, ◌+◌, ◌-◌, ◌*�
 use Rattle.std.specs.Int.Count.{count_trailing_zeros}
 use Rattle.std.proofs.Math.Nat.{div-le_self}
 use Rattle.std.proofs.lemmas.Bool.{cases_lt, eqb-true, not-false}
+use Rattle.std.proofs.lemmas.Bool.Decides.{nat_tests}
 use Rattle.std.proofs.lemmas.Nat.{shr-shr}
 use Rattle.std.proofs.lemmas.Nat.Bits.{bit_at_above, bit_at_xor, bit_at-lt, bit_at-trailing_zeros}
 use Rattle.jx_compact.specs.declared.place.Place.TheVariants.{Between, Escaped, Inside}
 use Rattle.jx_compact.specs.Compact.{next}
 use Rattle.jx_lex.specs.inside.Bits.{bit}
 use Rattle.jx_lex.proofs.Bits.{bit-and, bit-down, bit-mask, bit-none, bit-not, bit-or, bit-up, bit-up_first, bit-xor}
-use Rattle.jx_each.specs.inside.Blocks.{IsTold, in_at, place_by}
-use Rattle.jx_each.specs.inside.Runs.{is_stop}
+use Rattle.jx_each.specs.declared.blocks.Words.{Words}
+use Rattle.jx_each.specs.inside.Blocks.{IsMarked, IsTold, in_at, place_by}
+use Rattle.jx_each.specs.inside.Runs.{is_blank, is_border, is_bracket, is_low}
 
 abbrev pub differ : Bool → Bool → Bool
 differ true b = not b
@@ -109,48 +111,61 @@ goes_by false true false x b h q up =
     let mark : (b == 0x22) ≡ true = sym (q ∙ and_all (b == 0x22)) in
     ap (λ (m : Bool). if m then Between else if b == 0x5c then Escaped else Inside) mark ∙ sym (ap (λ (m : Bool). place_by m false) none)
 
-no_stop : (b : ℕ) → (b == 0x22) ≡ true → is_stop b ≡ false
-no_stop b q = ap is_stop (eqb-true b 0x22 q)
-
-still_by : (e i s : Bool) (b : ℕ) → differ s i ≡ ((b == 0x22) && not e) → (is_stop b && not s) ≡ false → place_by e i ≡ Between → is_stop b ≡ false
-still_by true i s b q n out = let x : Escaped ≡ Between = out in absurd cc
-still_by false true s b q n out = let x : Inside ≡ Between = out in absurd cc
-still_by false false true b q n out = no_stop b (sym (q ∙ and_all (b == 0x22)))
-still_by false false false b q n out = sym (and_all (is_stop b)) ∙ n
-
--- a stop is no quotation mark
-stop_mark : (b : ℕ) → is_stop b ≡ true → (b == 0x22) ≡ false
-stop_mark b h = pick (b == 0x22) refl
-  where
-    pick : (m : Bool) → (b == 0x22) ≡ m → m ≡ false
-    pick true q = let x : true ≡ false = sym h ∙ no_stop b q in absurd cc
-    pick false q = refl
-
 is_one : (a b : Bool) → (a && b) ≡ true → (a ≡ true) × (b ≡ true)
 is_one true b h = (refl, h)
 is_one false b h = let x : false ≡ true = h in absurd cc
 
-outside_by : (e i s x : Bool) (b : ℕ) → x ≡ ((((b == 0x5c) && i) && s) && not e) → differ s i ≡ ((b == 0x22) && not e) → (e ≡ true → i ≡ true) → (is_stop b && not s) ≡ true
-    → (place_by e i ≡ Between) × (place_by x s ≡ Between)
-outside_by e i true x b h q up set = let y : false ≡ true = (is_one (is_stop b) false set).1 in absurd cc
-outside_by e true false x b h q up set =
-    let mark : (b == 0x22) ≡ false = stop_mark b (is_one (is_stop b) true set).0 in
-    let y : true ≡ false = q ∙ ap (λ (m : Bool). m && not e) mark in absurd cc
-outside_by true false false x b h q up set = let y : false ≡ true = up refl in absurd cc
-outside_by false false false x b h q up set = (refl, ap (λ (m : Bool). place_by m false) (h ∙ ap (λ (m : Bool). (m && false) && true) (and_none (b == 0x5c))))
+module _ (set : ℕ → Bool) (no_mark : set 0x22 ≡ false) where
+  mark_left : (b : ℕ) → (b == 0x22) ≡ true → set b ≡ false
+  mark_left b q = ap set (eqb-true b 0x22 q) ∙ no_mark
 
-pub words_tell : (v : List ℕ) (inside : Bool) (s c q w t z x e : ℕ) → length v ≡ 64 → s < 2 ^ 64 → z < 2 ^ 64 → bit c 0 ≡ inside → ((j : ℕ) → bit c (suc j) ≡ false)
-    → q ≡ mask_l (map (λ byte. byte == 0x22) v) → w ≡ mask_l (map (λ byte. byte == 0x5c) v) → t ≡ mask_l (map is_stop v)
-    → x ≡ bit_and (bit_and (bit_and w (bit_or (s * 2 % 2 ^ 64) c)) s) (2 ^ 64 - 1 - z) → e ≡ bit_and t (2 ^ 64 - 1 - s)
-    → bit_xor (bit_xor s (bit_or (s * 2 % 2 ^ 64) c)) (bit_and q (2 ^ 64 - 1 - z)) ≡ 0 → bit_xor z (x * 2 % 2 ^ 64) ≡ 0 → x / 2 ^ 63 ≡ 0
-    → IsTold v inside s x e
-words_tell v inside s c q w t z x e long fits small first others quotes slashes stops is_x is right astray over = record {
+  still_by : (e i s : Bool) (b : ℕ) → differ s i ≡ ((b == 0x22) && not e) → (set b && not s) ≡ false → place_by e i ≡ Between → set b ≡ false
+  still_by true i s b q n out = let x : Escaped ≡ Between = out in absurd cc
+  still_by false true s b q n out = let x : Inside ≡ Between = out in absurd cc
+  still_by false false true b q n out = mark_left b (sym (q ∙ and_all (b == 0x22)))
+  still_by false false false b q n out = sym (and_all (set b)) ∙ n
+
+  -- a byte of the set is no quotation mark
+  other_mark : (b : ℕ) → set b ≡ true → (b == 0x22) ≡ false
+  other_mark b h = pick (b == 0x22) refl
+    where
+      pick : (m : Bool) → (b == 0x22) ≡ m → m ≡ false
+      pick true q = let x : true ≡ false = sym h ∙ mark_left b q in absurd cc
+      pick false q = refl
+
+  outside_by : (e i s x : Bool) (b : ℕ) → x ≡ ((((b == 0x5c) && i) && s) && not e) → differ s i ≡ ((b == 0x22) && not e) → (e ≡ true → i ≡ true) → (set b && not s) ≡ true
+      → (place_by e i ≡ Between) × (place_by x s ≡ Between) × (set b ≡ true)
+  outside_by e i true x b h q up is = let y : false ≡ true = (is_one (set b) false is).1 in absurd cc
+  outside_by e true false x b h q up is =
+      let mark : (b == 0x22) ≡ false = other_mark b (is_one (set b) true is).0 in
+      let y : true ≡ false = q ∙ ap (λ (m : Bool). m && not e) mark in absurd cc
+  outside_by true false false x b h q up is = let y : false ≡ true = up refl in absurd cc
+  outside_by false false false x b h q up is =
+      (refl, ap (λ (m : Bool). place_by m false) (h ∙ ap (λ (m : Bool). (m && false) && true) (and_none (b == 0x5c))), (is_one (set b) true is).0)
+
+pub words_tell : (v : List ℕ) (inside : Bool) (words : Words) (c q w z t u : ℕ) → length v ≡ 64 → words.strings < 2 ^ 64 → z < 2 ^ 64 → bit c 0 ≡ inside → ((j : ℕ) → bit c (suc j) ≡ false)
+    → q ≡ mask_l (map (λ byte. byte == 0x22) v) → w ≡ mask_l (map (λ byte. byte == 0x5c) v) → t ≡ mask_l (map is_bracket v) → u ≡ mask_l (map is_border v)
+    → words.escapes ≡ bit_and (bit_and (bit_and w (bit_or (words.strings * 2 % 2 ^ 64) c)) words.strings) (2 ^ 64 - 1 - z)
+    → words.brackets ≡ bit_and t (2 ^ 64 - 1 - words.strings) → words.borders ≡ bit_and u (2 ^ 64 - 1 - words.strings)
+    → ((k : ℕ) → k < 64 → bit words.gaps k ≡ (is_blank (get_or v k 0) && not (bit words.strings k)))
+    → bit_xor (bit_xor words.strings (bit_or (words.strings * 2 % 2 ^ 64) c)) (bit_and q (2 ^ 64 - 1 - z)) ≡ 0 → bit_xor z (words.escapes * 2 % 2 ^ 64) ≡ 0
+    → (63 ≤ words.len) × (words.len ≤ 64) → bit words.escapes (words.len - 1) ≡ false
+    → IsTold v inside words
+words_tell v inside words c q w z t u long fits small first others quotes slashes brackets borders is_x is_b is_o is_gap right astray bounds ends = record {
   goes = λ k lt. goes_by (in_at false x k) (in_at inside s k) (bit s k) (bit x k) (get_or v k 0) (escape k lt) (quote k lt) (up k lt);
-  still = λ k lt clear. still_by (in_at false x k) (in_at inside s k) (bit s k) (get_or v k 0) (quote k lt) (sym (stop k lt) ∙ clear);
-  outside = λ k lt set. outside_by (in_at false x k) (in_at inside s k) (bit s k) (bit x k) (get_or v k 0) (escape k lt) (quote k lt) (up k lt) (sym (stop k lt) ∙ set);
-  ends = sym (shifted x 63 0) ∙ ap (λ (n : ℕ). bit n 0) over ∙ bit-none 0;
+  brackets = marked is_bracket refl words.brackets (masked is_bracket t words.brackets brackets is_b);
+  borders = marked is_border refl words.borders (masked is_border u words.borders borders is_o);
+  gaps = marked is_blank refl words.gaps is_gap;
+  bounds = bounds;
+  ends = ends;
 }
   where
+    s : ℕ
+    s = words.strings
+
+    x : ℕ
+    x = words.escapes
+
     within : (k : ℕ) → k < 64 → k < length v
     within k lt = omega (arith, lt, long)
 
@@ -191,12 +206,43 @@ words_tell v inside s c q w t z x e long fits small first others quotes slashes 
         let low : k < 64 = omega (arith, lt) in
         third_of (get_or v k 0 == 0x5c) (in_at inside s k) (bit s k) (not (in_at false x k)) (sym (escape k low) ∙ h)
 
-    stop : (k : ℕ) → k < 64 → bit e k ≡ (is_stop (get_or v k 0) && not (bit s k))
-    stop k lt =
-        ap (λ (n : ℕ). bit n k) is
-        ∙ bit-and t (2 ^ 64 - 1 - s) k
-        ∙ ap (λ (b : Bool). b && bit (2 ^ 64 - 1 - s) k) (ap (λ (n : ℕ). bit n k) stops ∙ bit-mask is_stop v k (within k lt))
-        ∙ ap (λ (b : Bool). is_stop (get_or v k 0) && b) (bit-not s k fits lt)
+    -- of the bytes of a set those outside of strings
+    masked : (set : ℕ → Bool) (m e : ℕ) → m ≡ mask_l (map set v) → e ≡ bit_and m (2 ^ 64 - 1 - s) → (k : ℕ) → k < 64 → bit e k ≡ (set (get_or v k 0) && not (bit s k))
+    masked set m e is by k lt =
+        ap (λ (n : ℕ). bit n k) by
+        ∙ bit-and m (2 ^ 64 - 1 - s) k
+        ∙ ap (λ (b : Bool). b && bit (2 ^ 64 - 1 - s) k) (ap (λ (n : ℕ). bit n k) is ∙ bit-mask set v k (within k lt))
+        ∙ ap (λ (b : Bool). set (get_or v k 0) && b) (bit-not s k fits lt)
+
+    marked : (set : ℕ → Bool) → set 0x22 ≡ false → (e : ℕ) → ((k : ℕ) → k < 64 → bit e k ≡ (set (get_or v k 0) && not (bit s k))) → IsMarked set v inside words e
+    marked set no_mark e is = record {
+      still = λ k lt clear. still_by set no_mark (in_at false x k) (in_at inside s k) (bit s k) (get_or v k 0) (quote k lt) (sym (is k lt) ∙ clear);
+      outside = λ k lt on. outside_by set no_mark (in_at false x k) (in_at inside s k) (bit s k) (bit x k) (get_or v k 0) (escape k lt) (quote k lt) (up k lt) (sym (is k lt) ∙ on);
+    }
+
+-- where no byte outside of strings is low, none is a blank
+low_blank : (b : ℕ) → is_low b ≡ false → is_blank b ≡ false
+low_blank b h = grind (arith, nat_tests)
+
+none_low : (b : ℕ) (m : Bool) → (is_low b && m) ≡ false → (is_blank b && m) ≡ false
+none_low b true h = and_all (is_blank b) ∙ low_blank b (sym (and_all (is_low b)) ∙ h)
+none_low b false h = and_none (is_blank b)
+
+pub no_gaps : (v : List ℕ) (t s : ℕ) → length v ≡ 64 → s < 2 ^ 64 → t ≡ mask_l (map is_low v) → bit_and t (2 ^ 64 - 1 - s) ≡ 0 → (k : ℕ) → k < 64 → bit 0 k ≡ (is_blank (get_or v k 0) && not (bit s k))
+no_gaps v t s long fits is none k lt =
+    bit-none k ∙ sym (none_low (get_or v k 0) (not (bit s k))
+    (sym
+    (sym (bit-none k)
+    ∙ ap (λ (n : ℕ). bit n k) (sym none)
+    ∙ bit-and t (2 ^ 64 - 1 - s) k
+    ∙ ap (λ (b : Bool). b && bit (2 ^ 64 - 1 - s) k) (ap (λ (n : ℕ). bit n k) is ∙ bit-mask is_low v k (omega (arith, lt, long)))
+    ∙ ap (λ (b : Bool). is_low (get_or v k 0) && b) (bit-not s k fits lt))))
+
+pub some_gaps : (v : List ℕ) (t s : ℕ) → length v ≡ 64 → s < 2 ^ 64 → t ≡ mask_l (map is_blank v) → (k : ℕ) → k < 64 → bit (bit_and t (2 ^ 64 - 1 - s)) k ≡ (is_blank (get_or v k 0) && not (bit s k))
+some_gaps v t s long fits is k lt =
+    bit-and t (2 ^ 64 - 1 - s) k
+    ∙ ap (λ (b : Bool). b && bit (2 ^ 64 - 1 - s) k) (ap (λ (n : ℕ). bit n k) is ∙ bit-mask is_blank v k (omega (arith, lt, long)))
+    ∙ ap (λ (b : Bool). is_blank (get_or v k 0) && b) (bit-not s k fits lt)
 
 -- ---- the first bit from a place on
 

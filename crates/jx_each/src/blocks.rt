@@ -1,9 +1,9 @@
-// Where strings and escapes stand among 64 bytes, and where brackets and blanks stand outside of strings.
-ghost use Rattle.std.specs.Prelude.{◌≡◌, ◌≤◌, ◌<◌, ◌==◌, ℕ, suc, true, false, map, IfSome};
+// Where strings and escapes stand among 64 bytes, and where brackets, blanks, commas and colons stand outside of strings.
+ghost use Rattle.std.specs.Prelude.{◌≡◌, ◌+◌, ◌-◌, ◌≤◌, ◌<◌, ◌==◌, ◌&&◌, ℕ, suc, not, true, false, get_or, length, map, IfSome};
 ghost use Rattle.std.specs.Simd.Lanes.{mask_l};
 ghost use Rattle.jx_lex.specs.inside.Bits.{bit};
 ghost use Rattle.jx_each.specs.inside.Blocks.{IsTold};
-ghost use Rattle.jx_each.specs.inside.Runs.{is_blank, is_stop};
+ghost use Rattle.jx_each.specs.inside.Runs.{is_blank, is_border, is_bracket, is_low};
 
 use std::simd::prelude::*;
 
@@ -17,10 +17,14 @@ pub(crate) struct Words {
     pub strings: u64,
     /// Whether the byte behind it is escaped.
     pub escapes: u64,
-    /// Whether it is a bracket or a byte up to the space, outside of strings.
-    pub stops: u64,
-    /// Whether it is a blank, in a string or not.
-    pub blanks: u64,
+    /// Whether it is a bracket outside of strings.
+    pub brackets: u64,
+    /// Whether it is a comma or a colon outside of strings.
+    pub borders: u64,
+    /// Whether it is a blank outside of strings.
+    pub gaps: u64,
+    /// How many bytes of the block are looked at: all but the last one where that one escapes the byte behind it.
+    pub len: usize,
 }
 
 /// Which bytes are quotation marks.
@@ -39,16 +43,30 @@ fn backslashes(block: u8x64) -> u64
     block.simd_eq(u8x64::splat(b'\\')).to_bitmask()
 }
 
-/// Which bytes are brackets, or stand up to the space.
+/// Which bytes are brackets.
 #[inline(always)]
-fn stops(block: u8x64) -> u64
-    ensures { result ≡ mask_l (map is_stop block) }
+fn brackets(block: u8x64) -> u64
+    ensures { result ≡ mask_l (map is_bracket block) }
 {
     // In ASCII this bit alone tells brackets from braces.
     let folded = block | u8x64::splat(0x20);
-    (block.simd_lt(u8x64::splat(0x21))
-        | folded.simd_eq(u8x64::splat(b'{'))
-        | folded.simd_eq(u8x64::splat(b'}'))).to_bitmask()
+    (folded.simd_eq(u8x64::splat(b'{')) | folded.simd_eq(u8x64::splat(b'}'))).to_bitmask()
+}
+
+/// Which bytes are commas and colons.
+#[inline(always)]
+fn borders(block: u8x64) -> u64
+    ensures { result ≡ mask_l (map is_border block) }
+{
+    (block.simd_eq(u8x64::splat(b',')) | block.simd_eq(u8x64::splat(b':'))).to_bitmask()
+}
+
+/// Which bytes stand up to the space.
+#[inline(always)]
+fn lows(block: u8x64) -> u64
+    ensures { result ≡ mask_l (map is_low block) }
+{
+    block.simd_lt(u8x64::splat(0x21)).to_bitmask()
 }
 
 /// Which bytes are blanks.
@@ -60,6 +78,27 @@ fn blanks(block: u8x64) -> u64
         | block.simd_eq(u8x64::splat(b'\t'))
         | block.simd_eq(u8x64::splat(b'\n'))
         | block.simd_eq(u8x64::splat(b'\r'))).to_bitmask()
+}
+
+/// Which bytes are blanks outside of strings. Mostly no byte there is low enough for one.
+#[inline(always)]
+fn gaps(block: u8x64, strings: u64) -> u64
+    ensures { (k : ℕ) → k < 64 → bit result k ≡ (is_blank (get_or block k 0) && not (bit strings k)) }
+{
+    if lows(block) & !strings == 0 {
+        return 0;
+    }
+    blanks(block) & !strings
+}
+
+/// Whether a line feed and a space behind it stand among the 65 bytes from an offset on.
+#[inline(always)]
+pub(crate) fn is_indented(bytes: &[u8], at: usize) -> bool
+    requires { at + 64 < length bytes.now }
+{
+    let feeds = u8x64::from_slice(&bytes[at..]).simd_eq(u8x64::splat(b'\n'));
+    let spaces = u8x64::from_slice(&bytes[at + 1..]).simd_eq(u8x64::splat(b' '));
+    (feeds & spaces).to_bitmask() != 0
 }
 
 /// Which bytes are escaped, by the backslashes: every second one of a run, and the byte behind a run of odd length. Taken from the
@@ -97,12 +136,26 @@ fn all(set: bool) -> u64 {
     if set { u64::MAX } else { 0 }
 }
 
-/// The words of a block whose first byte stands inside a string, or outside of strings, and is not escaped; none where the byte
-/// behind the block is escaped.
+/// How many bytes of a block to look at, so that the byte behind them is not escaped; none where there are no such bytes.
+#[inline(always)]
+fn len_by(escapes: u64) -> Option<usize>
+    ensures bounds { IfSome result (λ len. (63 ≤ len) × (len ≤ 64)) }
+    ensures ends { IfSome result (λ len. bit escapes (len - 1) ≡ false) }
+{
+    if !is_set(escapes, 63) {
+        return Some(BLOCK);
+    }
+    if is_set(escapes, 62) {
+        return None;
+    }
+    Some(BLOCK - 1)
+}
+
+/// The words of a block whose first byte stands inside a string, or outside of strings, and is not escaped; none where they cannot
+/// be told.
 #[inline(always)]
 pub(crate) fn words_of(block: u8x64, inside: bool) -> Option<Words>
-    ensures told { IfSome result (λ words. IsTold block inside words.strings words.escapes words.stops) }
-    ensures blanks { IfSome result (λ words. words.blanks ≡ mask_l (map is_blank block)) }
+    ensures { IfSome result (IsTold block inside) }
 {
     let slashes = backslashes(block);
     let escaped = escaped_by(slashes);
@@ -113,15 +166,19 @@ pub(crate) fn words_of(block: u8x64, inside: bool) -> Option<Words>
     // The parities and the escapes are looked at once more, bit by bit, so that all that follows rests on this alone.
     let wrong = strings ^ before ^ marks;
     let astray = escaped ^ (escapes << 1);
-    let over = escapes >> 63;
-    if wrong != 0 || astray != 0 || over != 0 {
+    if wrong != 0 || astray != 0 {
         return None;
     }
+    let Some(len) = len_by(escapes) else {
+        return None;
+    };
     Some(Words {
         strings,
         escapes,
-        stops: stops(block) & !strings,
-        blanks: blanks(block),
+        brackets: brackets(block) & !strings,
+        borders: borders(block) & !strings,
+        gaps: gaps(block, strings),
+        len,
     })
 }
 

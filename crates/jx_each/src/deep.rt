@@ -1,12 +1,12 @@
 // Bytes in two containers or more. Each block of 64 is looked at once, and what stands between its blanks is copied.
-ghost use Rattle.std.specs.Prelude.{◌≡◌, ◌+◌, ◌-◌, ◌<◌, ◌≤◌, ◌^◌, IfOk, IfSome, length, map, slice_range};
-ghost use Rattle.std.specs.Simd.Lanes.{chunk, mask_l};
+ghost use Rattle.std.specs.Prelude.{◌≡◌, ◌+◌, ◌-◌, ◌<◌, ◌≤◌, ◌^◌, IfOk, length, slice_range};
+ghost use Rattle.std.specs.Simd.Lanes.{chunk};
 ghost use Rattle.jx_each.specs.inside.Blocks.{IsTold, placed};
-ghost use Rattle.jx_each.specs.inside.Runs.{is_blank};
 ghost use Rattle.jx_each.specs.inside.Stretches.{IsCopied, IsWalked};
 
 use crate::blocks::{BLOCK, Words, is_set, next_clear, next_set, words_of};
 use crate::copies::push_stretch;
+use crate::places::{inside_of, place_of};
 use crate::stand::height_next;
 use crate::stretch::{Stretch, is_deep};
 use jx_compact::Place;
@@ -22,30 +22,6 @@ pub struct Walk {
     pub height: usize,
 }
 
-/// Whether a byte stands in a string, unless a backslash escapes it.
-#[inline(always)]
-fn inside_of(place: Place) -> Option<bool>
-    ensures { IfSome result (λ inside. place ≡ placed inside) }
-{
-    match place {
-        Place::Between => Some(false),
-        Place::Inside => Some(true),
-        Place::Escaped => None,
-    }
-}
-
-/// The place in a string, or between tokens.
-#[inline(always)]
-fn place_of(inside: bool) -> Place
-    ensures { result ≡ placed inside }
-{
-    if inside {
-        Place::Inside
-    } else {
-        Place::Between
-    }
-}
-
 /// Walks over a block, or up to the byte behind which one container is open, and copies what stands before the last blanks.
 fn walk_block(
     words: Words,
@@ -57,8 +33,8 @@ fn walk_block(
 ) -> Result<Walk, AllocError>
     requires order { walk.start ≤ walk.end }
     requires within { walk.end + 64 ≤ length bytes.now }
-    requires told { IsTold (chunk walk.end 64 bytes.now) inside words.strings words.escapes words.stops }
-    requires blanks { words.blanks ≡ mask_l (map is_blank (chunk walk.end 64 bytes.now)) }
+    requires told { IsTold (chunk walk.end 64 bytes.now) inside words }
+    requires whole { words.len ≡ 64 }
     requires place { walk.place ≡ placed inside }
     requires high { 1 < walk.height }
     requires fits { walk.height + (length bytes.now - walk.end) < 2 ^ 64 }
@@ -72,7 +48,7 @@ fn walk_block(
     let mut height = walk.height;
     let mut at = 0;
     while at < BLOCK && height > 1 {
-        let stop = next_set(words.stops, at);
+        let stop = next_set(words.brackets | words.gaps, at);
         if stop == BLOCK {
             let place = place_of(is_set(words.strings, 63));
             return Ok(Walk {
@@ -82,9 +58,9 @@ fn walk_block(
                 height,
             });
         }
-        if is_set(words.blanks, stop) {
+        if is_set(words.gaps, stop) {
             push_stretch(part, takes, bytes, start, base + stop)?;
-            at = next_clear(words.blanks, stop);
+            at = next_clear(words.gaps, stop);
             start = base + at;
         } else {
             height = height_next(Place::Between, height, bytes[base + stop]);
@@ -128,6 +104,9 @@ pub(crate) fn push_deep(
         let Some(words) = words_of(u8x64::from_slice(&bytes[walk.end..]), inside) else {
             break;
         };
+        if words.len < BLOCK {
+            break;
+        }
         walk = walk_block(words, inside, takes, part, bytes, walk)?;
     }
     push_stretch(part, takes, bytes, walk.start, walk.end)?;

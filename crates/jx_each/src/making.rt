@@ -1,16 +1,18 @@
 // Lines are made of a text's bytes, one byte after another.
-ghost use Rattle.std.specs.Prelude.{◌≡◌, ◌+◌, ◌<◌, ◌≤◌, ◌^◌, ◌++◌, [], Bool, codes, IfOk, IsTrue, OnOk, if◌then◌else◌, length, true};
+ghost use Rattle.std.specs.Prelude.{◌≡◌, ◌+◌, ◌-◌, ◌<◌, ◌≤◌, ◌^◌, ◌++◌, [], Bool, codes, IfOk, IsTrue, OnOk, if◌then◌else◌, length, slice_range, true};
 ghost use Rattle.jx_compact.specs.Compact.{kept};
 ghost use Rattle.jx_each.specs.Turns.{turn_at};
 ghost use Rattle.jx_each.specs.Machine.{Aim, line_of, lines_next, lines_with, part_at, part_next, part_of_value, run, step};
 ghost use Rattle.jx_each.specs.inside.Paths.{aim_of, count_in};
-ghost use Rattle.jx_each.specs.inside.Stretches.{spot_in_array};
+ghost use Rattle.jx_each.specs.inside.Stretches.{spot, spot_in_array};
 
+use crate::blocks::{BLOCK, is_indented};
 use crate::copies::push_stretch;
 use crate::deep::push_deep;
+use crate::elements::make_elements;
 use crate::sign::Turn;
 use crate::stand::{LineStand, Stage, turn_at};
-use crate::stretch::{blanks_from, stretch_from};
+use crate::stretch::{Stretch, blanks_from, stretch_from};
 use crate::target::Target;
 use crate::way::stand_by;
 use jx_compact::{Place, is_kept};
@@ -229,6 +231,52 @@ fn end_element(lines: &mut Vec<u8>, part: &mut Vec<u8>) -> Result<LineStand, All
     })
 }
 
+/// Whether a byte stands in an array whose elements are written.
+#[inline(always)]
+fn is_in_elements(stand: LineStand) -> bool
+    ensures { IsTrue result → (stand.stage ≡ Stage.Array) × (stand.takes ≡ true) × (1 ≤ stand.height) }
+{
+    is_array(stand.stage) && stand.takes && stand.height >= 1
+}
+
+/// Whether the next bytes are many and no line among them is indented. Where blanks cut most of what is copied, elements are made
+/// one by one in less time.
+#[inline(always)]
+fn is_compact(bytes: &[u8], at: usize) -> bool
+    requires { at ≤ length bytes.now }
+{
+    bytes.len() - at > 4 * BLOCK
+        && !is_indented(bytes, at)
+        && !is_indented(bytes, at + BLOCK)
+        && !is_indented(bytes, at + 2 * BLOCK)
+        && !is_indented(bytes, at + 3 * BLOCK)
+}
+
+/// Makes what blocks come to from a byte on that stands there, as far as that takes less time, and answers where the byte behind
+/// them stands. What is kept of an element is moved only where it is shorter than the bytes, or where it is moved at once.
+#[inline(always)]
+fn make_blocks(
+    stand: LineStand,
+    lines: &mut Vec<u8>,
+    part: &mut Vec<u8>,
+    bytes: &[u8],
+    at: usize,
+) -> Result<Stretch, AllocError>
+    requires within { at ≤ length bytes.now }
+    requires fits { stand.height + (length bytes.now - at) < 2 ^ 64 }
+    ensures bounds { IfOk result (λ deep. (at ≤ deep.end) × (deep.end ≤ length bytes.now)) }
+    ensures high { IfOk result (λ deep. deep.height ≤ stand.height + (deep.end - at)) }
+    ensures made { IfOk result (λ deep. (aim : Aim) → run aim (record { stand = stand; lines = lines.old.items; part = part.old.items }) (slice_range bytes.now at deep.end)
+        ≡ spot deep.place deep.height stand.stage stand.takes lines.new.items part.new.items) }
+{
+    let is_short = lines.is_empty() || part.len() <= bytes.len();
+    if is_in_elements(stand) && is_short && is_compact(bytes, at) {
+        make_elements(lines, part, stand.place, stand.height, bytes, at)
+    } else {
+        push_deep(part, stand.place, stand.height, stand.takes, bytes, at)
+    }
+}
+
 /// The same stand at another place and height.
 #[inline(always)]
 fn moved(stand: LineStand, place: Place, height: usize) -> LineStand
@@ -259,7 +307,7 @@ pub(crate) fn make_all(
     let mut stand = stand;
     let mut at = 0;
     while at < bytes.len() {
-        let deep = push_deep(part, stand.place, stand.height, stand.takes, bytes, at)?;
+        let deep = make_blocks(stand, lines, part, bytes, at)?;
         stand = moved(stand, deep.place, deep.height);
         let found = stretch_from(stand.place, stand.height, bytes, deep.end);
         push_stretch(part, stand.takes, bytes, deep.end, found.end)?;

@@ -29,16 +29,23 @@ slice_range-append_back xs ys =
     ap (λ n. take n (drop (length xs) (xs ++ ys))) e ∙ ap (take (length ys)) (drop-append_seam xs ys) ∙ take-length ys
 
 module _ (text : List ℕ) (rows : List Row) (after starts children list : List ℕ) (n next : ℕ) (long : length starts ≡ n + 1) where
+  pub list_kept : (k : ℕ) → k < n → HasChildList text rows after starts children k → child_list starts children k ≡ child_list (starts ++ (next ∷ [])) (children ++ list) k
+  list_kept k h p =
+      let a : slice_index (starts ++ (next ∷ [])) k ≡ slice_index starts k = get_or-append_front starts (next ∷ []) k (omega arith) in
+      let b : slice_index (starts ++ (next ∷ [])) (k + 1) ≡ slice_index starts (k + 1) = get_or-append_front starts (next ∷ []) (k + 1) (omega arith) in
+      let o = p.ordered in
+      let w = p.within in
+      sym (slice_range-append_front children list (slice_index starts k) (slice_index starts (k + 1)) o w)
+      ∙ ap (λ x. slice_range (children ++ list) x (slice_index starts (k + 1))) (sym a)
+      ∙ ap (λ x. slice_range (children ++ list) (slice_index (starts ++ (next ∷ [])) k) x) (sym b)
+
   kept : (k : ℕ) → k < n → HasChildList text rows after starts children k → HasChildList text rows after (starts ++ (next ∷ [])) (children ++ list) k
   kept k h p =
       let a : slice_index (starts ++ (next ∷ [])) k ≡ slice_index starts k = get_or-append_front starts (next ∷ []) k (omega arith) in
       let b : slice_index (starts ++ (next ∷ [])) (k + 1) ≡ slice_index starts (k + 1) = get_or-append_front starts (next ∷ []) (k + 1) (omega arith) in
       let o = p.ordered in
       let w = p.within in
-      let same : child_list starts children k ≡ child_list (starts ++ (next ∷ [])) (children ++ list) k =
-      sym (slice_range-append_front children list (slice_index starts k) (slice_index starts (k + 1)) o w)
-      ∙ ap (λ x. slice_range (children ++ list) x (slice_index starts (k + 1))) (sym a)
-      ∙ ap (λ x. slice_range (children ++ list) (slice_index (starts ++ (next ∷ [])) k) x) (sym b) in
+      let same = list_kept k h p in
       record {
         ordered = omega arith;
         within = omega (arith, length-append children list);
@@ -49,16 +56,21 @@ module _ (text : List ℕ) (rows : List Row) (after starts children list : List 
   last_start : slice_index (starts ++ (next ∷ [])) (n + 1) ≡ next
   last_start = ap (λ x. get_or (starts ++ (next ∷ [])) x 0) (sym long) ∙ get_or-append_seam starts next [] 0
 
+  pub list_added : slice_index starts n ≡ length children → next ≡ length (children ++ list) → list ≡ child_list (starts ++ (next ∷ [])) (children ++ list) n
+  list_added l e =
+      let a : slice_index (starts ++ (next ∷ [])) n ≡ length children = get_or-append_front starts (next ∷ []) n (omega arith) ∙ l in
+      let b : slice_index (starts ++ (next ∷ [])) (n + 1) ≡ length (children ++ list) = last_start ∙ e in
+      sym (slice_range-append_back children list)
+      ∙ ap (λ x. slice_range (children ++ list) x (length (children ++ list))) (sym a)
+      ∙ ap (λ x. slice_range (children ++ list) (slice_index (starts ++ (next ∷ [])) n) x) (sym b)
+
   added : slice_index starts n ≡ length children → next ≡ length (children ++ list)
       → (IsObjectAt rows n → IsInNameOrder text rows (walk_children after n) list) → (IsArrayAt rows n → list ≡ walk_children after n)
       → HasChildList text rows after (starts ++ (next ∷ [])) (children ++ list) n
   added l e named placed =
       let a : slice_index (starts ++ (next ∷ [])) n ≡ length children = get_or-append_front starts (next ∷ []) n (omega arith) ∙ l in
       let b : slice_index (starts ++ (next ∷ [])) (n + 1) ≡ length (children ++ list) = last_start ∙ e in
-      let same : list ≡ child_list (starts ++ (next ∷ [])) (children ++ list) n =
-      sym (slice_range-append_back children list)
-      ∙ ap (λ x. slice_range (children ++ list) x (length (children ++ list))) (sym a)
-      ∙ ap (λ x. slice_range (children ++ list) (slice_index (starts ++ (next ∷ [])) n) x) (sym b) in
+      let same = list_added l e in
       record {
         ordered = omega (arith, length-append children list);
         within = omega arith;

@@ -1,7 +1,8 @@
 -- Among members by rising names those of some units stand together, from the first that is not below them.
-use Rattle.std.proofs.Common.{◌≡◌, ℕ, zero, suc, ◌+◌, ◌<◌, ◌≤◌, List, [], ◌∷◌, length, drop, Bool, true, false, cond, refl, ap, ◌∙◌, arith, get_or, drop-cons, inl, inr, ◌⊎◌}
-use Rattle.std.specs.Prelude.{filter}
-use Rattle.std.specs.List.Sorted.{IsNonDecreasingBy, IsPartitionPoint}
+use Rattle.std.proofs.Common.{◌≡◌, ℕ, zero, suc, ◌+◌, ◌-◌, ◌<◌, ◌≤◌, List, [], ◌∷◌, length, take, drop, Bool, true, false, cond, refl, ap, ◌∙◌, arith, get_or, drop-cons, inl, inr, ◌⊎◌}
+use Rattle.std.specs.Prelude.{filter, slice_range}
+use Rattle.std.specs.List.Sorted.{IsNonDecreasingBy, IsPartitionPoint, IsSortedBy}
+use Rattle.std.proofs.lemmas.List.{get_or-drop, get_or-take, length-drop, length-take}
 use Rattle.std.specs.declared.cmp.Ordering.{Ordering}
 use Rattle.std.specs.declared.cmp.Ordering.TheVariants.{Less, Equal, Greater}
 use Rattle.std.specs.Ordering.{is_eq, ordering_index}
@@ -27,6 +28,12 @@ pass_later p [] (suc at) h = refl
 pass_later p (x ∷ xs) (suc at) h =
     ap (λ c. cond c (x ∷ filter p xs) (filter p xs)) (h 0 (omega arith) (omega arith)) ∙ pass_later p xs at (λ k l m. h (suc k) (omega arith) (omega arith))
 
+-- elements at the end that do not pass
+pass_earlier : (p : ℕ → Bool) (xs : List ℕ) (n : ℕ) → ((k : ℕ) → n ≤ k → k < length xs → p (get_or xs k 0) ≡ false) → filter p xs ≡ filter p (take n xs)
+pass_earlier p xs zero h = none_pass p xs (λ k l. h k (omega arith) l)
+pass_earlier p [] (suc n) h = refl
+pass_earlier p (x ∷ xs) (suc n) h = ap (λ l. cond (p x) (x ∷ l) l) (pass_earlier p xs n (λ k l m. h (suc k) (omega (arith, l)) (omega (arith, m))))
+
 get_or-drop_at : (xs : List ℕ) (at k : ℕ) → get_or (drop at xs) k 0 ≡ get_or xs (at + k) 0
 get_or-drop_at xs zero k = ap (λ n. get_or xs n 0) (let e : k ≡ 0 + k = omega arith in e)
 get_or-drop_at [] (suc at) k = refl
@@ -36,6 +43,23 @@ length-drop_at : (xs : List ℕ) (at k : ℕ) → k < length (drop at xs) → at
 length-drop_at xs zero k h = omega arith
 length-drop_at [] (suc at) k h = absurd (omega arith)
 length-drop_at (x ∷ xs) (suc at) k h = omega (arith, length-drop_at xs at k h)
+
+-- those that pass stand between two places
+pub pass_between : (p : ℕ → Bool) (xs : List ℕ) (from to : ℕ) → from ≤ to → ((k : ℕ) → k < from → k < length xs → p (get_or xs k 0) ≡ false)
+    → ((k : ℕ) → to ≤ k → k < length xs → p (get_or xs k 0) ≡ false) → filter p xs ≡ filter p (slice_range xs from to)
+pass_between p xs from to le before behind =
+    pass_later p xs from before
+    ∙ pass_earlier p (drop from xs) (to - from)
+    (λ k l m. ap p (get_or-drop_at xs from k) ∙ behind (from + k) (omega (arith, l, le)) (length-drop_at xs from k m))
+
+pub sorted_between : (lt : ℕ → ℕ → Bool) (xs : List ℕ) (from to : ℕ) → IsSortedBy lt xs → IsSortedBy lt (slice_range xs from to)
+sorted_between lt xs from to h k d low high =
+    let long = length-take (to - from) (drop from xs) in
+    let rest = length-drop from xs in
+    let e : from + (k + 1) ≡ from + k + 1 = omega arith in
+    ap (λ x. lt x (get_or (slice_range xs from to) k d)) (get_or-take (to - from) (drop from xs) (k + 1) d (omega (arith, long, high)) ∙ get_or-drop from xs (k + 1) d ∙ ap (λ n. get_or xs n d) e)
+    ∙ ap (λ x. lt (get_or xs (from + k + 1) d) x) (get_or-take (to - from) (drop from xs) k d (omega (arith, long, high)) ∙ get_or-drop from xs k d)
+    ∙ h (from + k) d (omega arith) (omega (arith, long, rest, high))
 
 -- equal is what stands at 1
 pub eq_at_one : (o : Ordering) → ordering_index o ≡ 1 → is_eq o ≡ true

@@ -34,6 +34,7 @@ pub mod RowsAlone
 pub mod Uniques
 pub mod OpenNames
 pub mod NamesBelow
+pub mod NameFronts
 pub mod NameKeys
 pub mod ByNames
 pub mod Settled
@@ -56,3 +57,4 @@ pub mod FindersKeeping
 pub mod FindEach
 pub mod FoundFronts
 pub mod Feeding
+pub mod WideObjects

@@ -9,6 +9,7 @@ pub mod Found
 pub mod JudgedIn
 pub mod LookUp
 pub mod Low
+pub mod NameFronts
 pub mod NameKeys
 pub mod NameLists
 pub mod OpenNames
@@ -18,3 +19,4 @@ pub mod Seeking
 pub mod Ties
 pub mod Trie
 pub mod UnitsLeft
+pub mod WideObjects

@@ -13,7 +13,7 @@ ghost use Rattle.jx_index.specs.Units.{chars_units};
 use crate::array_token::{Place, place_of_token};
 use crate::find_fault::FindFault;
 use crate::indexed::Indexed;
-use crate::look_up::find_name;
+use crate::look_up::find_member;
 use crate::names::keep;
 use crate::pointer::Pointer;
 use crate::row::NodeId;
@@ -50,7 +50,8 @@ impl<'a> Indexed<'a> {
         requires { IsObjectAt self.now.rows object }
         ensures { result ≡ only (filter (is_equal self.now.text self.now.rows (chars_units InToken 0 name.now)) (child_numbers self.now.rows object)) token }
     {
-        find_name(self.text(), self.rows(), self.names(object), name, token)
+        let order = self.name_order(object);
+        find_member(self.text(), self.rows(), order, name, token)
     }
 
     /// The element of an array that a token names; refused where it names none.

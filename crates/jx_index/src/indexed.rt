@@ -1,4 +1,4 @@
-ghost use Rattle.std.specs.Prelude.{◌≡◌, ◌<◌, ◌≤◌, ℕ, length, slice_get, slice_range, Some, IfOk, IfErr};
+ghost use Rattle.std.specs.Prelude.{◌≡◌, ◌<◌, ◌≤◌, ℕ, length, map, slice_get, slice_range, Some, IfOk, IfErr, IfSome};
 ghost use Rattle.std.specs.List.Sorted.{IsPermutation, IsSortedBy, IsStableBy};
 ghost use Rattle.jx_run.specs.declared.texts.verdict.Verdict.TheVariants.{Accepted, Refused};
 ghost use Rattle.jx_run.specs.Started.{IsStarted};
@@ -7,12 +7,13 @@ ghost use Rattle.jx_run.specs.TextRun.{IsTextRun, text_span};
 ghost use Rattle.jx_run.specs.Tree.{Tree};
 ghost use Rattle.jx_run.specs.Verdict.{Judged};
 ghost use Rattle.jx_index.specs.Indexed.{HasNodes, HasTree};
-ghost use Rattle.jx_index.specs.Names.{is_below};
+ghost use Rattle.jx_index.specs.Names.{is_below, IsInNameOrder};
 ghost use Rattle.jx_index.specs.Nodes.{IsArrayAt, IsObjectAt, child_numbers};
 ghost use Rattle.jx_index.specs.Rows.{rows as rows_of};
+ghost use Rattle.jx_index.specs.inside.NameFronts.{front_at};
 
 use crate::builder::{Nodes, nodes_from_marks, nodes_of_track};
-use crate::child_lists::{ChildLists, child_list};
+use crate::child_lists::{ChildLists, child_list, fronts_of};
 use crate::children::{Children, children_in};
 use crate::row::{NodeId, Row};
 use crate::rows_alone::read_nodes;
@@ -20,6 +21,13 @@ use jx_lex::{Depth, Span, tokens_are_read};
 use jx_run::{Pace, Refusal, Started, Summary, TextRun, text_has_one_tree};
 use std::alloc::{AllocError, Global};
 use std::marker::Model;
+
+/// The members of an object by rising names, and the fronts of their names where these are kept.
+#[derive(Clone, Copy, Debug)]
+pub struct NameOrder<'i> {
+    pub names: &'i [NodeId],
+    pub fronts: Option<&'i [u64]>,
+}
 
 /// A JSON text with its rows: all its values in the order of their starts, so that each stands before its children.
 #[derive(Debug, Drop)]
@@ -31,13 +39,16 @@ pub struct Indexed<'a> {
 }
 
 impl<'a> Model for Indexed<'a> {
+    ghost use Rattle.std.specs.Prelude.{All, length};
     ghost use Rattle.jx_index.specs.Indexed.{IndexedValue, IsIndexed};
+    ghost use Rattle.jx_index.specs.inside.WideObjects.{IsWide};
 
     ghost Value = { IndexedValue };
 
     ghost view = { λ i. record { text = i.text.now; span = i.span; rows = i.nodes.rows.items } };
 
-    ghost invariant = { λ i. IsIndexed i.text.now i.span i.nodes.rows.items i.nodes.after.items i.lists.starts.items i.lists.children.items };
+    ghost invariant = { λ i. IsIndexed i.text.now i.span i.nodes.rows.items i.nodes.after.items i.lists.starts.items i.lists.children.items
+        × All (IsWide i.text.now i.nodes.rows.items i.lists.starts.items i.lists.children.items (length i.nodes.rows.items)) i.lists.wide.items };
 }
 
 impl<'a> Indexed<'a> {
@@ -202,6 +213,19 @@ impl<'a> Indexed<'a> {
         ensures equal_by_place { IsStableBy (is_below self.now.text self.now.rows) (child_numbers self.now.rows object) result.now }
     {
         child_list(&self.lists.starts, &self.lists.children, object.number())
+    }
+
+    /// The same members, with the fronts of their names where these are kept.
+    pub(crate) fn name_order(&self, object: NodeId) -> NameOrder<'_>
+        requires { IsObjectAt self.now.rows object }
+        ensures order { IsInNameOrder self.now.text self.now.rows (child_numbers self.now.rows object) result.names.now }
+        ensures fronts { IfSome result.fronts (λ fronts. fronts.now ≡ map (front_at self.now.text self.now.rows) result.names.now) }
+    {
+        let number = object.number();
+        NameOrder {
+            names: child_list(&self.lists.starts, &self.lists.children, number),
+            fronts: fronts_of(&self.lists.wide, number),
+        }
     }
 
     /// The elements of an array by place.

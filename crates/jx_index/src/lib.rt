@@ -19,6 +19,7 @@ mod indexed;
 mod judging;
 mod laws;
 mod look_up;
+mod member_order;
 mod name_keys;
 mod name_lists;
 mod names;

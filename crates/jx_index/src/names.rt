@@ -1,9 +1,9 @@
 // Names by their values.
-ghost use Rattle.std.specs.Prelude.{◌≡◌, ◌<◌, ◌↔◌, ◌∷◌, [], take, drop, length, Some, IsTrue, IfOk, IfSome};
+ghost use Rattle.std.specs.Prelude.{◌≡◌, ◌<◌, ◌↔◌, ◌∷◌, [], take, drop, length, Some, IsTrue, IfSome};
 ghost use Rattle.std.specs.Ordering.{nat_cmp};
 ghost use Rattle.std.specs.Cmp.Lexicographic.{slice_cmp};
 ghost use Rattle.jx_index.specs.declared.units.Spelling.TheVariants.{InText, InToken};
-ghost use Rattle.jx_index.specs.Names.{is_name, name_units, IsInNameOrder};
+ghost use Rattle.jx_index.specs.Names.{is_name, name_units};
 ghost use Rattle.jx_index.specs.Nodes.{IsObjectAt};
 ghost use Rattle.jx_index.specs.Units.{units_at, chars_units};
 ghost use Rattle.jx_index.specs.inside.UnitsLeft.{units_left};
@@ -11,7 +11,6 @@ ghost use Rattle.jx_index.specs.inside.UnitsLeft.{units_left};
 use crate::row::{NodeId, Row};
 use crate::units::{Spelling, Units, skip};
 use jx_lex::{Kind, Span};
-use std::alloc::AllocError;
 use std::cmp::Ordering;
 
 /// Units in order: the first different unit decides, and a beginning comes before what it begins.
@@ -66,7 +65,7 @@ fn no_bytes<'a>() -> &'a [u8]
 }
 
 /// The bytes of a member's name; none where the row has no name.
-fn name_bytes<'a>(text: &'a [u8], rows: &[Row], node: NodeId) -> &'a [u8]
+pub(crate) fn name_bytes<'a>(text: &'a [u8], rows: &[Row], node: NodeId) -> &'a [u8]
     ensures { chars_units InText 0 result.now ≡ name_units text.now rows.now node }
 {
     let Some(row) = rows.get(node.number()) else {
@@ -170,19 +169,6 @@ pub(crate) fn is_spelt(text: &[u8], name: Span, token: &[u8]) -> bool
     ensures { result ≡ is_name text.now (chars_units InToken 0 token.now) (Some name) }
 {
     compare_spelt(string_bytes(text, name), Spelling::InText, token).is_eq()
-}
-
-/// Sorts members by the units of their names; equal names keep their order. Where the order holds already, one comparison
-/// for each two neighbours is all that it costs, and up to 20 members take no memory.
-pub(crate) fn sort_members(
-    text: &[u8],
-    rows: &[Row],
-    members: &mut Vec<NodeId>,
-) -> Result<(), AllocError>
-    ensures { IfOk result (λ _. IsInNameOrder text.now rows.now members.old.items members.new.items) }
-{
-    members.sort_by(|a, b| compare_members(text, rows, *a, *b))?;
-    Ok(())
 }
 
 /// Whether the row with this number is that of an object.

@@ -342,7 +342,7 @@ pub fn scan<K: TokenSink>(
     ensures done { IfOk result (λ exit. IsNone exit → WantsNoMore (K.has_seen sink.new)) }
 {
     let mut state = state;
-    let mut i = from;
+    let mut i = pass_on(sink, state, text, from, to);
     let mut ahead = known_ahead(state);
     while i < to {
         if sink.is_done() {

@@ -110,18 +110,19 @@ impl ElementReader {
         Ok(())
     }
 
-    /// Reads bytes of the element that goes on.
-    fn go_on(&mut self, bytes: &[u8]) -> Result<(), AllocError>
-        requires fits { self.old.reader.start + self.old.reader.count + length bytes.now < 2 ^ 64 }
-        requires in_the_element { HasNoSeparator bytes.now }
+    /// Reads the bytes of a slice before `to`, which are of the element that goes on.
+    fn go_on(&mut self, slice: &[u8], to: usize) -> Result<(), AllocError>
+        requires within { to ≤ length slice.now }
+        requires fits { self.old.reader.start + self.old.reader.count + to < 2 ^ 64 }
+        requires in_the_element { HasNoSeparator (take to slice.now) }
         ensures told { OnOk result ((settings : Settings) (input : List ℕ) (told : List JudgedElement) → HasToldElements settings input told self.old
-            → HasToldElements settings (input ++ bytes.now) told self.new) }
-        ensures count { OnOk result (self.new.reader.start + self.new.reader.count ≡ self.old.reader.start + self.old.reader.count + length bytes.now) }
+            → HasToldElements settings (input ++ take to slice.now) told self.new) }
+        ensures count { OnOk result (self.new.reader.start + self.new.reader.count ≡ self.old.reader.start + self.old.reader.count + to) }
     {
         sequences_are_read_part_by_part();
-        self.keep(bytes)?;
-        self.reader.feed(bytes)?;
-        self.open_ended = ends_open_behind(self.open_ended, bytes);
+        self.keep(&slice[..to])?;
+        self.reader.feed_beginning(slice, to)?;
+        self.open_ended = ends_open_behind(self.open_ended, &slice[..to]);
         Ok(())
     }
 
@@ -191,14 +192,14 @@ impl ElementReader {
     {
         match memchr(RECORD_SEPARATOR, slice) {
             None => {
-                self.go_on(slice)?;
+                self.go_on(slice, slice.len())?;
                 Ok(ElementStep {
                     taken: slice.len(),
                     element: None,
                 })
             }
             Some(at) => {
-                self.go_on(&slice[..at])?;
+                self.go_on(slice, at)?;
                 Ok(ElementStep {
                     taken: at + 1,
                     element: self.end_element(),

@@ -119,21 +119,22 @@ impl LineReader {
         self.open_ended = false;
     }
 
-    /// Reads bytes of the line that goes on.
-    fn go_on(&mut self, bytes: &[u8]) -> Result<(), AllocError>
-        requires fits { self.old.reader.start + self.old.reader.count + length bytes.now < 2 ^ 64 }
-        requires on_the_line { HasNoLineFeed bytes.now }
-        ensures told { OnOk result ((limit at : ℕ) (before : List ℕ) (told : List JudgedLine) → HasReadLines limit at before told self.old → HasReadLines limit at (before ++ bytes.now) told self.new) }
+    /// Reads the bytes of a slice before `to`, which are of the line that goes on.
+    fn go_on(&mut self, slice: &[u8], to: usize) -> Result<(), AllocError>
+        requires within { to ≤ length slice.now }
+        requires fits { self.old.reader.start + self.old.reader.count + to < 2 ^ 64 }
+        requires on_the_line { HasNoLineFeed (take to slice.now) }
+        ensures told { OnOk result ((limit at : ℕ) (before : List ℕ) (told : List JudgedLine) → HasReadLines limit at before told self.old → HasReadLines limit at (before ++ take to slice.now) told self.new) }
         ensures start { self.new.reader.start ≡ self.old.reader.start }
-        ensures count { OnOk result (self.new.reader.count ≡ self.old.reader.count + length bytes.now) }
+        ensures count { OnOk result (self.new.reader.count ≡ self.old.reader.count + to) }
         ensures ended { self.new.ended ≡ self.old.ended }
         ensures in_front { self.new.in_front ≡ self.old.in_front }
         ensures err { OnErr result (HasFailed self.new) }
         ensures failed { HasFailed self.old → IsErr result }
     {
-        self.reader.feed(bytes)?;
-        self.is_blank = blanks_behind(self.is_blank, bytes);
-        self.open_ended = ends_open_behind(self.open_ended, bytes);
+        self.reader.feed_beginning(slice, to)?;
+        self.is_blank = blanks_behind(self.is_blank, &slice[..to]);
+        self.open_ended = ends_open_behind(self.open_ended, &slice[..to]);
         Ok(())
     }
 
@@ -189,14 +190,14 @@ impl LineReader {
     {
         match memchr(b'\n', slice) {
             None => {
-                self.go_on(slice)?;
+                self.go_on(slice, slice.len())?;
                 Ok(Step {
                     taken: slice.len(),
                     line: None,
                 })
             }
             Some(at) => {
-                self.go_on(&slice[..at])?;
+                self.go_on(slice, at)?;
                 Ok(Step {
                     taken: at + 1,
                     line: Some(self.end_line()),
@@ -217,7 +218,7 @@ impl LineReader {
         ensures err { OnErr result (HasFailed self.new) }
         ensures failed { HasFailed self.old → IsErr result }
     {
-        self.go_on(&[byte])?;
+        self.go_on(&[byte], 1)?;
         if self.reader.end() == MARK {
             self.in_front = false;
             self.begin(MARK);
@@ -240,7 +241,7 @@ impl LineReader {
         ensures failed { HasFailed self.old → IsErr result }
     {
         let Some(byte) = slice.first() else {
-            self.go_on(slice)?;
+            self.go_on(slice, 0)?;
             return Ok(Step {
                 taken: 0,
                 line: None,

@@ -22,12 +22,12 @@ unfolding in_word
 top_of_word zero b r h = absurd (omega arith)
 top_of_word (suc n) b r h = refl
 
-length-in_word : (n b : ℕ) → length (in_word n b) ≡ n
+pub length-in_word : (n b : ℕ) → length (in_word n b) ≡ n
 unfolding in_word
 length-in_word zero b = refl
 length-in_word (suc n) b = omega (arith, length-in_word n (b / 2))
 
-length-in_words : (ws : List ℕ) → length (in_words ws) ≡ length ws * 64
+pub length-in_words : (ws : List ℕ) → length (in_words ws) ≡ length ws * 64
 length-in_words [] = refl
 length-in_words (w ∷ ws) = omega (arith, length-append (in_word 64 w) (in_words ws), length-in_word 64 w, length-in_words ws)
 

@@ -22,6 +22,9 @@ mod StructureJoins
 mod StructureShifts
 pub mod Spans
 pub mod Cuts
+mod BlockBits
+mod BlockMarks
+mod BlockWalk
 mod KnownWords
 mod KnownMoves
 mod Passed

@@ -50,7 +50,7 @@ reads-then d xs a b c r s t f g =
 
 -- ---- one mark
 
-moves : (d : ℕ) (m : Mark) (c : Change) (e f : Expect) (s : List Holder) → change_of m.kind ≡ c → next_of m.kind e (top s) ≡ Some f → step d m (went e s) ≡ changed d m.at c f s
+pub moves : (d : ℕ) (m : Mark) (c : Change) (e f : Expect) (s : List Holder) → change_of m.kind ≡ c → next_of m.kind e (top s) ≡ Some f → step d m (went e s) ≡ changed d m.at c f s
 moves d m c e f s h k =
     ap (λ (x : Change). moved d m.at x (next_of m.kind e (top s)) s) h ∙ ap (λ (o : Option Expect). moved d m.at c o s) k
 
@@ -62,7 +62,7 @@ pub reads-removed : (d : ℕ) (xs : List ℕ) (a b : ℕ) (m : Mark) (e f : Expe
     → t ≡ without_top s → Reads d xs a b (went e s) (went f t)
 reads-removed d xs a b m e f s t p h k out = reads-of d xs a b (m ∷ []) (went e s) (went f t) p (ap (went f) out ∙ sym (moves d m removed e f s h k))
 
-within_depth : (d at : ℕ) (h : Holder) (f : Expect) (s : List Holder) → length s < d → changed d at (added h) f s ≡ went f (h ∷ s)
+pub within_depth : (d at : ℕ) (h : Holder) (f : Expect) (s : List Holder) → length s < d → changed d at (added h) f s ≡ went f (h ∷ s)
 within_depth d at h f s low = ap (λ (b : Bool). if b then went f (h ∷ s) else too_deep at) (lt-ltb (length s) d low)
 
 pub reads-added : (d : ℕ) (xs : List ℕ) (a b : ℕ) (m : Mark) (h : Holder) (e f : Expect) (s : List Holder) → Passes xs a b (m ∷ []) → change_of m.kind ≡ added h → next_of m.kind e (top s) ≡ Some f

@@ -10,12 +10,13 @@ ghost use Rattle.jx_lex.specs.declared.alphabet.state.LexState.TheVariants.{Gap}
 ghost use Rattle.jx_lex.specs.Lex.{lex};
 ghost use Rattle.jx_lex.specs.Lex as exits;
 
+use crate::blocks::stretches;
 use crate::expect::Expect;
 use crate::holder::Holder;
 use crate::moves::next;
 use crate::open_containers::OpenContainers;
 use crate::whole::Whole;
-use crate::whole_tokens::{rounds, takes_value};
+use crate::whole_tokens::{ROOM, takes_value};
 use jx_lex::{Depth, Mark, MarkKind};
 use std::alloc::{AllocError, Global};
 use std::marker::Model;
@@ -37,7 +38,7 @@ pub struct KnownStack {
 }
 
 /// How many bytes must be left for `pass` to look at them.
-const LEAST: usize = 64;
+const LEAST: usize = 8;
 
 /// Whether a list of numbers may begin or go on with this byte.
 #[inline(always)]
@@ -220,14 +221,14 @@ impl KnownStack {
         ensures reads { self.new.reading ≡ read self.old.depth (lex Gap from (slice_range text.now from result)).marks self.old.reading }
         ensures marks { (before : List Mark) → HasRead before self.old → HasRead (before ++ (lex Gap from (slice_range text.now from result)).marks) self.new }
     {
-        if to - from < LEAST || begins_list(text[from]) {
+        if to - from < LEAST || text.len() - from < ROOM || begins_list(text[from]) {
             return from;
         }
         if self.fault.is_some() || !takes_value(self.expect) {
             return from;
         }
         let most = self.depth.containers() as usize;
-        let (at, expect) = rounds(text, from, to, self.expect, &mut self.open, most);
+        let (at, expect) = stretches(text, from, to, self.expect, &mut self.open, most);
         self.expect = expect;
         at
     }

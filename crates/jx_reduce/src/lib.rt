@@ -2,6 +2,8 @@
 #![tactic(auto)]
 
 mod act;
+mod blocks;
+mod bracket_walk;
 mod checks;
 mod ended_level;
 mod entry;
@@ -14,6 +16,7 @@ mod laws;
 mod level;
 mod levels;
 mod moves;
+mod next_words;
 mod open_containers;
 mod outcome;
 mod parts;

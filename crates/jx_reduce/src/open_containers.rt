@@ -1,10 +1,16 @@
 // Open containers, one bit each.
 
-ghost use Rattle.std.specs.Prelude.{◌≡◌, ◌+◌, ◌<◌, ◌≤◌, ◌^◌, ◌++◌, List, [], ◌∷◌, OnOk, OnErr, IfOk, length, reverse};
-ghost use Rattle.jx_reduce.specs.Read.{top, without_top};
+ghost use Rattle.std.specs.Prelude.{◌≡◌, ◌+◌, ◌<◌, ◌≤◌, ◌^◌, ◌++◌, ℕ, List, [], ◌∷◌, OnOk, OnErr, IfOk, IfSome, IsNone, length, reverse, slice_range};
+ghost use Rattle.jx_block.specs.Kinds.{AreKinds};
+ghost use Rattle.jx_block.specs.Listed.{marks_of};
+ghost use Rattle.jx_reduce.specs.Read.{read, top, went, without_top};
 ghost use Rattle.jx_reduce.specs.Bits.{holder_of};
 
+use crate::bracket_walk::{Innermost, walk};
+use crate::expect::Expect;
 use crate::holder::Holder;
+use crate::next_words::next_behind;
+use jx_block::TokenKinds;
 use std::alloc::{AllocError, Global};
 use std::marker::Model;
 
@@ -134,6 +140,37 @@ impl OpenContainers {
                 }
             }
         }
+    }
+
+    /// Reads the tokens that begin in the first bytes of a block, from what may stand next before them, and gives what may stand
+    /// next behind them. It gives nothing, and changes nothing, where one of them may not stand where it does, and where no
+    /// container is open, or the innermost word of them would run full or empty.
+    #[inline(always)]
+    pub fn follow(
+        &mut self,
+        kinds: &TokenKinds,
+        starts: u64,
+        len: usize,
+        expect: Expect,
+        most: usize,
+    ) -> Option<Expect>
+        requires within { (length self.old ≤ most) × (most < 2 ^ 32) }
+        requires few { (len < 64) × (starts < 2 ^ len) }
+        ensures reads { IfSome result (λ then. (text : List ℕ) (at : ℕ) → at + 64 ≤ length text → AreKinds text at starts kinds.now → read most (marks_of starts 0 at (slice_range text at (at + len))) (went expect self.old) ≡ went then self.new) }
+        ensures none { IsNone result → self.new ≡ self.old }
+    {
+        if self.count == 0 {
+            return None;
+        }
+        let inner = Innermost {
+            bits: self.bits,
+            count: self.count,
+        };
+        let walked = walk(kinds, inner, most - self.words.len() * WORD)?;
+        let then = next_behind(kinds, starts, walked.objects, len, expect)?;
+        self.bits = walked.inner.bits;
+        self.count = walked.inner.count;
+        Some(then)
     }
 
     /// Closes all containers, and lists them outermost first.

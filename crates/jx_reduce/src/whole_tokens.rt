@@ -13,8 +13,8 @@ use crate::holder::Holder;
 use crate::open_containers::OpenContainers;
 use jx_lex::{Ahead, pass_blanks, pass_literal, pass_number, pass_string};
 
-/// How many bytes must follow wherever a token is read: none of those that are compared stands past the end.
-const ROOM: usize = 32;
+/// How many bytes the text must have from wherever a token is read on: none of those that are compared stands past its end.
+pub(crate) const ROOM: usize = 32;
 
 /// What may stand next, and whether reading goes on there.
 #[derive(Clone, Copy)]
@@ -31,25 +31,44 @@ pub(crate) fn takes_value(expect: Expect) -> bool
     matches!(expect, Expect::Value | Expect::ArrayFirst)
 }
 
-/// Goes past blanks, and says whether there is room behind them.
+/// The first offset at which no token is read: `to`, or an earlier one behind which the text has no room.
 #[inline(always)]
-fn skip(text: &[u8], at: &mut usize, to: usize) -> bool
-    requires { (at.old ≤ to) × (to ≤ length text.now) }
+fn last_start(text: &[u8], to: usize) -> usize
+    requires { (32 ≤ length text.now) × (to ≤ length text.now) }
+    ensures within { result ≤ to }
+    ensures room { result + 31 ≤ length text.now }
+{
+    (text.len() - ROOM + 1).min(to)
+}
+
+/// Goes past blanks, and says whether a token may be read behind them: one that begins before `last`.
+#[inline(always)]
+fn skip(text: &[u8], at: &mut usize, last: usize, to: usize) -> bool
+    requires bounds { (at.old ≤ to) × (last ≤ to) × (to ≤ length text.now) }
+    requires room { last + 31 ≤ length text.now }
     ensures bounds { (at.old ≤ at.new) × (at.new ≤ to) }
     ensures passes { Passes text.now at.old at.new [] }
-    ensures room { IsTrue result → at.new + 32 ≤ to }
+    ensures room { IsTrue result → at.new < last }
 {
-    if to - *at < ROOM {
+    if *at >= last {
         return false;
     }
     *at = pass_blanks(text, *at, to);
-    to - *at >= ROOM
+    *at < last
 }
 
 /// Goes past blanks and the name behind them, and says whether one stands there. Where none does, it goes past the blanks.
 #[inline(always)]
-fn name(text: &[u8], at: &mut usize, to: usize, expect: Expect, ahead: &mut Ahead) -> bool
-    requires bounds { (at.old ≤ to) × (to ≤ length text.now) }
+fn name(
+    text: &[u8],
+    at: &mut usize,
+    last: usize,
+    to: usize,
+    expect: Expect,
+    ahead: &mut Ahead,
+) -> bool
+    requires bounds { (at.old ≤ to) × (last ≤ to) × (to ≤ length text.now) }
+    requires room { last + 31 ≤ length text.now }
     requires takes { where_string expect ≡ Some expected.Colon }
     requires sound { IsSound text.now ahead.old }
     ensures bounds { (at.old ≤ at.new) × (at.new ≤ to) }
@@ -57,7 +76,7 @@ fn name(text: &[u8], at: &mut usize, to: usize, expect: Expect, ahead: &mut Ahea
     ensures unnamed { IsFalse result → (depth : ℕ) (holders : List Container) → Reads depth text.now at.old at.new (went expect holders) (went expect holders) }
     ensures sound { IsSound text.now ahead.new }
 {
-    if !skip(text, at, to) || text[*at] != b'"' {
+    if !skip(text, at, last, to) || text[*at] != b'"' {
         return false;
     }
     let end = pass_string(text, *at, to, ahead);
@@ -70,12 +89,13 @@ fn name(text: &[u8], at: &mut usize, to: usize, expect: Expect, ahead: &mut Ahea
 
 /// The colon behind a name.
 #[inline(always)]
-fn colon(text: &[u8], at: &mut usize, to: usize) -> Turn
-    requires { (at.old ≤ to) × (to ≤ length text.now) }
+fn colon(text: &[u8], at: &mut usize, last: usize, to: usize) -> Turn
+    requires bounds { (at.old ≤ to) × (last ≤ to) × (to ≤ length text.now) }
+    requires room { last + 31 ≤ length text.now }
     ensures bounds { (at.old ≤ at.new) × (at.new ≤ to) }
     ensures reads { (depth : ℕ) (holders : List Container) → Reads depth text.now at.old at.new (went expected.Colon holders) (went (expect_of result) holders) }
 {
-    if !skip(text, at, to) || text[*at] != b':' {
+    if !skip(text, at, last, to) || text[*at] != b':' {
         return Turn::Stop(Expect::Colon);
     }
     *at += 1;
@@ -84,16 +104,24 @@ fn colon(text: &[u8], at: &mut usize, to: usize) -> Turn
 
 /// A name and its colon, from the blanks in front of it on.
 #[inline(always)]
-fn pair(text: &[u8], at: &mut usize, to: usize, expect: Expect, ahead: &mut Ahead) -> Turn
-    requires bounds { (at.old ≤ to) × (to ≤ length text.now) }
+fn pair(
+    text: &[u8],
+    at: &mut usize,
+    last: usize,
+    to: usize,
+    expect: Expect,
+    ahead: &mut Ahead,
+) -> Turn
+    requires bounds { (at.old ≤ to) × (last ≤ to) × (to ≤ length text.now) }
+    requires room { last + 31 ≤ length text.now }
     requires takes { where_string expect ≡ Some expected.Colon }
     requires sound { IsSound text.now ahead.old }
     ensures bounds { (at.old ≤ at.new) × (at.new ≤ to) }
     ensures reads { (depth : ℕ) (holders : List Container) → Reads depth text.now at.old at.new (went expect holders) (went (expect_of result) holders) }
     ensures sound { IsSound text.now ahead.new }
 {
-    if name(text, at, to, expect, ahead) {
-        return colon(text, at, to);
+    if name(text, at, last, to, expect, ahead) {
+        return colon(text, at, last, to);
     }
     Turn::Stop(expect)
 }
@@ -108,15 +136,23 @@ fn takes_name(expect: Expect) -> bool
 
 /// A name and its colon, where they stand next.
 #[inline(always)]
-fn member(turn: Turn, text: &[u8], at: &mut usize, to: usize, ahead: &mut Ahead) -> Turn
-    requires bounds { (at.old ≤ to) × (to ≤ length text.now) }
+fn member(
+    turn: Turn,
+    text: &[u8],
+    at: &mut usize,
+    last: usize,
+    to: usize,
+    ahead: &mut Ahead,
+) -> Turn
+    requires bounds { (at.old ≤ to) × (last ≤ to) × (to ≤ length text.now) }
+    requires room { last + 31 ≤ length text.now }
     requires sound { IsSound text.now ahead.old }
     ensures bounds { (at.old ≤ at.new) × (at.new ≤ to) }
     ensures reads { (depth : ℕ) (holders : List Container) → Reads depth text.now at.old at.new (went (expect_of turn) holders) (went (expect_of result) holders) }
     ensures sound { IsSound text.now ahead.new }
 {
     match turn {
-        Turn::On(expect) if takes_name(expect) => pair(text, at, to, expect, ahead),
+        Turn::On(expect) if takes_name(expect) => pair(text, at, last, to, expect, ahead),
         _ => turn,
     }
 }
@@ -124,7 +160,7 @@ fn member(turn: Turn, text: &[u8], at: &mut usize, to: usize, ahead: &mut Ahead)
 /// A string, where a value stands next.
 #[inline(always)]
 fn string(text: &[u8], at: &mut usize, to: usize, expect: Expect, ahead: &mut Ahead) -> Turn
-    requires bounds { (at.old + 32 ≤ to) × (to ≤ length text.now) }
+    requires bounds { (at.old < to) × (to ≤ length text.now) }
     requires quote { slice_index text.now at.old ≡ 0x22 }
     requires takes { TakesValue expect }
     requires sound { IsSound text.now ahead.old }
@@ -143,7 +179,7 @@ fn string(text: &[u8], at: &mut usize, to: usize, expect: Expect, ahead: &mut Ah
 /// A literal, where a value stands next.
 #[inline(always)]
 fn literal(text: &[u8], at: &mut usize, to: usize, expect: Expect) -> Turn
-    requires bounds { (at.old + 32 ≤ to) × (to ≤ length text.now) }
+    requires bounds { (at.old < to) × (to ≤ length text.now) }
     requires takes { TakesValue expect }
     ensures bounds { (at.old ≤ at.new) × (at.new ≤ to) }
     ensures reads { (depth : ℕ) (holders : List Container) → Reads depth text.now at.old at.new (went expect holders) (went (expect_of result) holders) }
@@ -224,7 +260,7 @@ fn number(
     expect: Expect,
     holders: &mut OpenContainers,
 ) -> Turn
-    requires bounds { (at.old + 32 ≤ to) × (to ≤ length text.now) }
+    requires bounds { (at.old < to) × (to ≤ length text.now) }
     requires takes { TakesValue expect }
     ensures bounds { (at.old ≤ at.new) × (at.new ≤ to) }
     ensures reads { (depth : ℕ) → Reads depth text.now at.old at.new (went expect holders.old) (went (expect_of result) holders.new) }
@@ -244,12 +280,14 @@ fn number(
 fn object(
     text: &[u8],
     at: &mut usize,
+    last: usize,
     to: usize,
     expect: Expect,
     holders: &mut OpenContainers,
     most: usize,
 ) -> Turn
-    requires bounds { (at.old + 32 ≤ to) × (to ≤ length text.now) }
+    requires bounds { (at.old < to) × (last ≤ to) × (to ≤ length text.now) }
+    requires room { last + 31 ≤ length text.now }
     requires bracket { slice_index text.now at.old ≡ 0x7b }
     requires takes { TakesValue expect }
     requires few { length holders.old < 2 ^ 32 }
@@ -260,7 +298,7 @@ fn object(
         return Turn::Stop(expect);
     }
     let mut first = *at + 1;
-    if skip(text, &mut first, to) && text[first] == b'}' {
+    if skip(text, &mut first, last, to) && text[first] == b'}' {
         *at = first + 1;
         return Turn::On(Expect::After);
     }
@@ -278,12 +316,14 @@ fn object(
 fn array(
     text: &[u8],
     at: &mut usize,
+    last: usize,
     to: usize,
     expect: Expect,
     holders: &mut OpenContainers,
     most: usize,
 ) -> Turn
-    requires bounds { (at.old + 32 ≤ to) × (to ≤ length text.now) }
+    requires bounds { (at.old < to) × (last ≤ to) × (to ≤ length text.now) }
+    requires room { last + 31 ≤ length text.now }
     requires bracket { slice_index text.now at.old ≡ 0x5b }
     requires takes { TakesValue expect }
     requires few { length holders.old < 2 ^ 32 }
@@ -294,7 +334,7 @@ fn array(
         return Turn::Stop(expect);
     }
     let mut first = *at + 1;
-    if skip(text, &mut first, to) && text[first] == b']' {
+    if skip(text, &mut first, last, to) && text[first] == b']' {
         *at = first + 1;
         return Turn::On(Expect::After);
     }
@@ -312,13 +352,15 @@ fn array(
 fn value(
     text: &[u8],
     at: &mut usize,
+    last: usize,
     to: usize,
     expect: Expect,
     holders: &mut OpenContainers,
     most: usize,
     ahead: &mut Ahead,
 ) -> Turn
-    requires bounds { (at.old ≤ to) × (to ≤ length text.now) }
+    requires bounds { (at.old ≤ to) × (last ≤ to) × (to ≤ length text.now) }
+    requires room { last + 31 ≤ length text.now }
     requires takes { TakesValue expect }
     requires few { length holders.old < 2 ^ 32 }
     requires sound { IsSound text.now ahead.old }
@@ -326,13 +368,13 @@ fn value(
     ensures reads { Reads most text.now at.old at.new (went expect holders.old) (went (expect_of result) holders.new) }
     ensures sound { IsSound text.now ahead.new }
 {
-    if !skip(text, at, to) {
+    if !skip(text, at, last, to) {
         return Turn::Stop(expect);
     }
     match text[*at] {
         b'"' => string(text, at, to, expect, ahead),
-        b'{' => object(text, at, to, expect, holders, most),
-        b'[' => array(text, at, to, expect, holders, most),
+        b'{' => object(text, at, last, to, expect, holders, most),
+        b'[' => array(text, at, last, to, expect, holders, most),
         b't' | b'f' | b'n' => literal(text, at, to, expect),
         _ => number(text, at, to, expect, holders),
     }
@@ -340,13 +382,14 @@ fn value(
 
 /// The closing brackets and the comma behind a value.
 #[inline(always)]
-fn after(text: &[u8], at: &mut usize, to: usize, holders: &mut OpenContainers) -> Turn
-    requires { (at.old ≤ to) × (to ≤ length text.now) }
+fn after(text: &[u8], at: &mut usize, last: usize, to: usize, holders: &mut OpenContainers) -> Turn
+    requires bounds { (at.old ≤ to) × (last ≤ to) × (to ≤ length text.now) }
+    requires room { last + 31 ≤ length text.now }
     ensures bounds { (at.old ≤ at.new) × (at.new ≤ to) }
     ensures reads { (depth : ℕ) → Reads depth text.now at.old at.new (went expected.After holders.old) (went (expect_of result) holders.new) }
 {
     for _ in *at..to {
-        if !skip(text, at, to) {
+        if !skip(text, at, last, to) {
             break;
         }
         match leave(text[*at], holders) {
@@ -371,13 +414,21 @@ fn is_after(expect: Expect) -> bool
 
 /// The closing brackets and the comma behind a value, where they stand next.
 #[inline(always)]
-fn ends(turn: Turn, text: &[u8], at: &mut usize, to: usize, holders: &mut OpenContainers) -> Turn
-    requires { (at.old ≤ to) × (to ≤ length text.now) }
+fn ends(
+    turn: Turn,
+    text: &[u8],
+    at: &mut usize,
+    last: usize,
+    to: usize,
+    holders: &mut OpenContainers,
+) -> Turn
+    requires bounds { (at.old ≤ to) × (last ≤ to) × (to ≤ length text.now) }
+    requires room { last + 31 ≤ length text.now }
     ensures bounds { (at.old ≤ at.new) × (at.new ≤ to) }
     ensures reads { (depth : ℕ) → Reads depth text.now at.old at.new (went (expect_of turn) holders.old) (went (expect_of result) holders.new) }
 {
     match turn {
-        Turn::On(expect) if is_after(expect) => after(text, at, to, holders),
+        Turn::On(expect) if is_after(expect) => after(text, at, last, to, holders),
         _ => turn,
     }
 }
@@ -387,13 +438,15 @@ fn ends(turn: Turn, text: &[u8], at: &mut usize, to: usize, holders: &mut OpenCo
 fn round(
     text: &[u8],
     at: &mut usize,
+    last: usize,
     to: usize,
     expect: Expect,
     holders: &mut OpenContainers,
     most: usize,
     ahead: &mut Ahead,
 ) -> Turn
-    requires bounds { (at.old ≤ to) × (to ≤ length text.now) }
+    requires bounds { (at.old ≤ to) × (last ≤ to) × (to ≤ length text.now) }
+    requires room { last + 31 ≤ length text.now }
     requires takes { TakesValue expect }
     requires few { length holders.old < 2 ^ 32 }
     requires sound { IsSound text.now ahead.old }
@@ -401,9 +454,9 @@ fn round(
     ensures reads { Reads most text.now at.old at.new (went expect holders.old) (went (expect_of result) holders.new) }
     ensures sound { IsSound text.now ahead.new }
 {
-    let begun = value(text, at, to, expect, holders, most, ahead);
-    let ended = ends(begun, text, at, to, holders);
-    member(ended, text, at, to, ahead)
+    let begun = value(text, at, last, to, expect, holders, most, ahead);
+    let ended = ends(begun, text, at, last, to, holders);
+    member(ended, text, at, last, to, ahead)
 }
 
 /// Reads whole tokens from a place where a value stands next. Gives the offset behind them, and what may stand next there.
@@ -417,16 +470,18 @@ pub(crate) fn rounds(
     most: usize,
 ) -> (usize, Expect)
     requires bounds { (from ≤ to) × (to ≤ length text.now) }
+    requires room { 32 ≤ length text.now }
     requires takes { TakesValue expect }
     requires within { (length holders.old ≤ most) × (most < 2 ^ 32) }
     ensures bounds { (from ≤ result.0) × (result.0 ≤ to) }
     ensures reads { Reads most text.now from result.0 (went expect holders.old) (went result.1 holders.new) }
 {
+    let last = last_start(text, to);
     let mut at = from;
     let mut expect = expect;
     let mut ahead = Ahead::nothing();
     for _ in from..to {
-        match round(text, &mut at, to, expect, holders, most, &mut ahead) {
+        match round(text, &mut at, last, to, expect, holders, most, &mut ahead) {
             Turn::On(next) if takes_value(next) => expect = next,
             Turn::On(next) => return (at, next),
             Turn::Stop(next) => return (at, next),

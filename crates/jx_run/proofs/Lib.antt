@@ -17,6 +17,7 @@ pub mod OpenEnds
 pub mod Paces
 pub mod PartedJoins
 pub mod Parts
+pub mod PlacedElements
 pub mod ReaderFeeds
 pub mod ReaderSteps
 pub mod Reducing

@@ -1,5 +1,5 @@
 -- The reading of a text goes on, slice by slice.
-use Rattle.std.proofs.Common.{◌≡◌, ℕ, suc, ◌+◌, ◌^◌, ◌<◌, List, [], ◌∷◌, ◌++◌, length, drop, refl, sym, ◌∙◌, ap, subst, arith, Option, Some, None, Bool, true, false, cond}
+use Rattle.std.proofs.Common.{◌≡◌, ℕ, suc, ◌+◌, ◌-◌, ◌^◌, ◌<◌, List, [], ◌∷◌, ◌++◌, length, take, drop, refl, sym, ◌∙◌, ap, subst, arith, Option, Some, None, Bool, true, false, cond}
 use Rattle.std.specs.Prelude.{nat_lt, IfSome}
 use Rattle.std.specs.Prelude.{slice_range}
 use Rattle.std.proofs.Math.Nat.{add-suc}
@@ -190,6 +190,9 @@ read_is limit d s e o xs r i j =
 
 pub slice_all : (xs : List ℕ) → slice_range xs 0 (length xs) ≡ xs
 slice_all xs = take_all _ xs (omega arith)
+
+pub slice_first : (n : ℕ) (xs : List ℕ) → slice_range xs 0 n ≡ take n xs
+slice_first n xs = let e : n - 0 ≡ n = omega arith in ap (λ (k : ℕ). take k xs) e
 
 -- ---- a stack that wants no more
 

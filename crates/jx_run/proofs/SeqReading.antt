@@ -78,7 +78,7 @@ pub record IsReadTo {D : Type 0} (R : Part → D → Type 0) (all rest : List Pa
 filled-push : (ps : List Part) (p : Part) → filled (ps ++ p ∷ []) ≡ filled ps ++ filled (p ∷ [])
 filled-push ps p = filter-append has_bytes ps (p ∷ [])
 
-read_more : {D : Type 0} (R : Part → D → Type 0) (all rest : List Part) (p : Part) (done more : List D) → IsReadTo R all (p ∷ rest) done
+pub read_more : {D : Type 0} (R : Part → D → Type 0) (all rest : List Part) (p : Part) (done more : List D) → IsReadTo R all (p ∷ rest) done
     → AllZip R (filled (p ∷ [])) more → IsReadTo R all rest (done ++ more)
 read_more R all rest p done more h k =
     record {

@@ -15,7 +15,9 @@ pub use laws::{
     values_fill_their_spans, verdict_by_settings_is_one, verdict_is_one,
 };
 pub use readers::one_pass::{NoPause, OnePass, Pace, read_into};
-pub use readers::progress::{OpenStack, Progress, progress_at_start, read_on, verdict_at};
+pub use readers::progress::{
+    OpenStack, Progress, progress_at_start, read_beginning, read_on, verdict_at,
+};
 pub use readers::reader::Reader;
 pub use readers::started::Started;
 pub use readers::telling::{accepted_texts_stand_behind_fronts, slices_are_told_in_turn};
@@ -28,6 +30,7 @@ pub use runs::transition::Transition;
 pub use sequences::element_verdict::{ElementVerdict, JudgedElement, ended_there};
 pub use sequences::mark_alone::{is_mark_alone, judged_by_mark};
 pub use sequences::open_end::ends_open_behind;
+pub use sequences::part_elements::elements_of_part;
 pub use sequences::separators::separated_part;
 pub use texts::byte_order_mark::front;
 pub use texts::settings::{Front, FrontMark, NameRule, Settings};

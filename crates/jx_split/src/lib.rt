@@ -13,4 +13,4 @@ mod split;
 pub use cutting::{Aim, Parting};
 pub use laws::parts_have_each_child;
 pub use part::ContainerPart;
-pub use split::Split;
+pub use split::{PausedSplit, Split};

@@ -8,6 +8,7 @@ ghost use Rattle.jx_saved.specs.Index.{IsIndexOf};
 ghost use Rattle.jx_walk.specs.declared.walk.WalkFault.TheVariants.{Changed, Damaged};
 ghost use Rattle.jx_walk.specs.Walk.{IsToldApart};
 ghost use Rattle.jx_split.specs.Parts.{IsIn, parts_of};
+ghost use Rattle.jx_split.specs.Paused.{HasPaused, needed_by, paused_of};
 ghost use Rattle.jx_split.specs.Split.{HasCome, IsLost, is_going, left, needed};
 
 use crate::cutting::{Aim, Parting};
@@ -33,6 +34,15 @@ pub struct Split<'a> {
     /// Which chunk is needed next.
     at: usize,
     /// What the marks before it came to. None where memory was refused, or the index is of no text.
+    held: Option<Parting>,
+}
+
+/// A split without its index, for whoever owns both.
+#[derive(Drop)]
+pub struct PausedSplit {
+    alloc: Global,
+    aim: Aim,
+    at: usize,
     held: Option<Parting>,
 }
 
@@ -138,5 +148,62 @@ impl<'a> Split<'a> {
             return Ok(Err(WalkFault::Damaged));
         }
         Ok(Ok(held.ended))
+    }
+
+    /// The split without its index.
+    pub fn pause(self) -> PausedSplit
+        ensures value { result ≡ paused_of self.entry }
+        ensures needed { needed_by self.entry.index.now result ≡ needed self.entry }
+        ensures come { (settings : Settings) (chunk : ℕ) (text : List ℕ) → HasCome settings chunk text self.entry → HasPaused settings chunk text self.entry.index.now result }
+    {
+        let Split {
+            alloc,
+            aim,
+            at,
+            held,
+            ..
+        } = self;
+        PausedSplit {
+            alloc,
+            aim,
+            at,
+            held,
+        }
+    }
+}
+
+impl PausedSplit {
+    /// Where the bytes stand that are to be given next, by its index.
+    pub fn needs(&self, index: &Index) -> Option<Span>
+        ensures needed { result ≡ needed_by index.now self.now }
+        ensures some { IfSome result (λ span. span.start < span.end) }
+        ensures within { IfSome result (λ span. span.end ≤ index.now.size) }
+    {
+        if !is_going(&self.held) {
+            return None;
+        }
+        chunk_at(index, self.at)
+    }
+
+    /// The split with its index again.
+    pub fn resume<'a>(self, index: &'a Index) -> Split<'a>
+        ensures index { result.index.now ≡ index.now }
+        ensures value { paused_of result ≡ self }
+        ensures needed { needed result ≡ needed_by index.now self }
+        ensures come { (settings : Settings) (chunk : ℕ) (text : List ℕ) → HasPaused settings chunk text index.now self → HasCome settings chunk text result }
+    {
+        let PausedSplit {
+            alloc,
+            aim,
+            at,
+            held,
+        } = self;
+        Split {
+            alloc,
+            index,
+            aim,
+            at,
+            held,
+        }
     }
 }

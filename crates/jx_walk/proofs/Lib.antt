@@ -1,9 +1,11 @@
+pub mod Chains
 pub mod Chunkings
 pub mod Comings
 pub mod Elements
 pub mod Endings
 pub mod Holdings
 pub mod Joins
+pub mod Led
 pub mod Levels
 pub mod Moved
 pub mod Moves
@@ -16,4 +18,6 @@ pub mod Pieces
 pub mod Standing
 pub mod Sums
 pub mod Told
+pub mod Unwanted
 pub mod Walks
+pub mod Wants

@@ -125,7 +125,7 @@ naming_array : (os : List Cursor) (name : Option (Option ℕ)) (c : Cursor) (out
 naming_array os None c outer e array = ap (λ (xs : List Cursor). naming xs None) e ∙ ap (λ (b : Bool). cond b (Some c.level) None) array
 naming_array os (Some x) c outer e array = ap (λ (xs : List Cursor). naming xs (Some x)) e
 
-none_unnamed : (k : MarkKind) (f : Finding) → naming f.opened f.name ≡ None → is_name_next k f ≡ false
+pub none_unnamed : (k : MarkKind) (f : Finding) → naming f.opened f.name ≡ None → is_name_next k f ≡ false
 none_unnamed k f e = other_unnamed k f (and_right (f.skipped == 0) (is_some (naming f.opened f.name)) (ap is_some e))
 
 pub array_unnamed : (k : MarkKind) (f : Finding) (c : Cursor) (outer : List Cursor) → f.opened ≡ c ∷ outer → c.is_object ≡ false → is_name_next k f ≡ false
@@ -153,7 +153,7 @@ waits_as false None e token = waits_none
 waits_as true None e token = absurd cc
 waits_as false (Some m) e token = absurd cc
 
-waiting_token : (b : Bool) (m : Mark) → waiting b ≡ Some m → is_token m.kind ≡ true
+pub waiting_token : (b : Bool) (m : Mark) → waiting b ≡ Some m → is_token m.kind ≡ true
 waiting_token true m e = let same : some_token ≡ m = cc in subst (λ (x : Mark). is_token x.kind ≡ true) same refl
 waiting_token false m e = absurd cc
 

@@ -69,11 +69,11 @@ stands m limit bytes goes long = pick (read_by m limit 0 bytes) refl
 
 -- ---- what the lexical machine and the marks came to
 
-record Came (x : LexExit) (r : Reading) (s : LexState) (e : Expect) (o : List Holder) : Type 0 where
-  exit : x ≡ lexical.state s
-  marks : r ≡ Reading.went e o
+pub record Came (x : LexExit) (r : Reading) (s : LexState) (e : Expect) (o : List Holder) : Type 0 where
+  pub exit : x ≡ lexical.state s
+  pub marks : r ≡ Reading.went e o
 
-came : (x : LexExit) (r : Reading) (s : LexState) (e : Expect) (o : List Holder) → at_exit x r ≡ went s e o → Came x r s e o
+pub came : (x : LexExit) (r : Reading) (s : LexState) (e : Expect) (o : List Holder) → at_exit x r ≡ went s e o → Came x r s e o
 came (lexical.state t) (Reading.went f p) s e o h = record { exit = (cc); marks = (cc) }
 came (lexical.fault i) (Reading.went f p) s e o h = absurd cc
 came (lexical.state t) (Reading.stopped at) s e o h = absurd cc
@@ -81,15 +81,15 @@ came (lexical.fault i) (Reading.stopped at) s e o h = absurd cc
 came (lexical.state t) (Reading.too_deep at) s e o h = absurd cc
 came (lexical.fault i) (Reading.too_deep at) s e o h = absurd cc
 
-read_came : (limit : ℕ) (s : LexState) (e : Expect) (o : List Holder) (at : ℕ) (bytes : List ℕ) (t : LexState) (f : Expect) (p : List Holder) → read limit s e o at bytes ≡ went t f p
+pub read_came : (limit : ℕ) (s : LexState) (e : Expect) (o : List Holder) (at : ℕ) (bytes : List ℕ) (t : LexState) (f : Expect) (p : List Holder) → read limit s e o at bytes ≡ went t f p
     → Came (lex s at bytes).exit (read_marks limit (lex s at bytes).marks (Reading.went e o)) t f p
 unfolding read
 read_came limit s e o at bytes t f p h = came (lex s at bytes).exit (read_marks limit (lex s at bytes).marks (Reading.went e o)) t f p h
 
-tokens_whole : (bytes : List ℕ) → agreed bytes byte_order_mark ≡ 3 → tokens_by on_mark.Ignored bytes ≡ lex Gap 3 (drop 3 bytes)
+pub tokens_whole : (bytes : List ℕ) → agreed bytes byte_order_mark ≡ 3 → tokens_by on_mark.Ignored bytes ≡ lex Gap 3 (drop 3 bytes)
 tokens_whole bytes e = front_whole 0 bytes (0 + agreed bytes (drop 0 byte_order_mark)) (omega (arith, e))
 
-tokens_bare : (bytes : List ℕ) → agreed bytes byte_order_mark ≡ 0 → tokens_by on_mark.Ignored bytes ≡ lex Gap 0 bytes
+pub tokens_bare : (bytes : List ℕ) → agreed bytes byte_order_mark ≡ 0 → tokens_by on_mark.Ignored bytes ≡ lex Gap 0 bytes
 tokens_bare bytes e = front_none 0 bytes (0 + agreed bytes (drop 0 byte_order_mark)) (omega (arith, e))
 
 -- the marks from the start on

@@ -27,7 +27,7 @@ use Rattle.jx_walk.proofs.Parts.{over_held}
 use Rattle.jx_walk.proofs.Pieces.{piece_at}
 
 -- fewer parts than all
-fewer : (size long n k : ℕ) → long ≤ n * size → k * size < long → k < n
+pub fewer : (size long n k : ℕ) → long ≤ n * size → k * size < long → k < n
 fewer size long n k enough low = pick (cases_lt k n)
   where
     pick : ((k < n) ⊎ (n ≤ k)) → k < n

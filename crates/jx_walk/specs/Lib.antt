@@ -2,7 +2,10 @@ pub mod Chunks
 pub mod HeldAt
 pub mod Holding
 pub mod Known
+pub mod Members
+pub mod Numbers
 pub mod Passed
 pub mod Passing
+pub mod Paused
 pub mod Walk
 pub mod inside

@@ -5,10 +5,14 @@ use Rattle.jx_run.specs.declared.texts.settings.Settings.{Settings}
 use Rattle.jx_index.specs.inside.Trie.{HasWay, IsTrie}
 use Rattle.jx_find.specs.declared.held.Sought.{Sought}
 use Rattle.jx_saved.specs.Digest.{xxh64}
+use Rattle.jx_name_tables.specs.Tables.{AreTablesOf}
+use Rattle.jx_index.specs.declared.trie.Edge.{Edge}
+use Rattle.jx_walk.specs.declared.members.TextNames.{TextNames}
 use Rattle.jx_walk.specs.declared.walk.Walk.{Walk}
 use Rattle.jx_walk.specs.Chunks.{chunk_at}
 use Rattle.jx_walk.specs.HeldAt.{IsHeldAt}
 use Rattle.jx_walk.specs.Known.{IsKnown}
+use Rattle.jx_walk.specs.Numbers.{HaveNumbers}
 
 -- where the bytes stand that are to be given next
 abbrev pub needed : Walk → Option Span
@@ -22,12 +26,23 @@ left w = w.index.now.size - w.at * w.index.now.chunk
 abbrev pub IsToldApart : List ℕ → Span → List ℕ → Type 0
 IsToldApart text s bytes = xxh64 bytes ≡ xxh64 (slice_range text s.start s.end) → bytes ≡ slice_range text s.start s.end
 
+-- the tables are those of the names of this text, and the numbers those of the edges' names
+pub record AreNamesOf (settings : Settings) (size : ℕ) (text : List ℕ) (edges : List Edge) (names : TextNames) : Type 0 where
+  pub tables : AreTablesOf settings size text names.tables.now
+  pub numbers : HaveNumbers edges names.numbers.items
+
+-- if it has tables
+abbrev pub HasNamesOf : Settings → ℕ → List ℕ → List Edge → Option TextNames → Type 0
+HasNamesOf settings size text edges None = Unit {0}
+HasNamesOf settings size text edges (Some names) = AreNamesOf settings size text edges names
+
 -- it has the index of this text, these pointers, and what a finder holds that was fed the text up to what it needs
 pub record HasCome (settings : Settings) (chunk : ℕ) (text : List ℕ) (pointers : List (List ℕ)) (w : Walk) : Type 0 where
   pub known : IsKnown settings chunk text w.index.now
   pub pointers_are : w.pointers.items ≡ pointers
   pub trie : IsTrie w.edges.items
   pub ways : All (λ (pointer : List ℕ). HasWay w.edges.items pointer) pointers
+  pub names : HasNamesOf settings chunk text w.edges.items w.names
   pub kept : Sought
   pub kept_is : w.held ≡ Some kept
   pub held : IsHeldAt settings chunk text w.edges.items w.at kept

@@ -30,14 +30,14 @@ pub(crate) struct Over {
 }
 
 /// Whether a state is one of a token.
-fn is_in_token(state: LexState) -> bool
+pub(crate) fn is_in_token(state: LexState) -> bool
     ensures { result ≡ in_token state }
 {
     !matches!(state, LexState::Gap)
 }
 
 /// A token that stands for any other, where one has begun.
-fn waiting(begun: bool) -> Option<Mark>
+pub(crate) fn waiting(begun: bool) -> Option<Mark>
     ensures { result ≡ waiting begun }
 {
     if begun {
@@ -51,7 +51,7 @@ fn waiting(begun: bool) -> Option<Mark>
 }
 
 /// The innermost open container.
-fn innermost(opened: &[Cursor]) -> Option<Cursor>
+pub(crate) fn innermost(opened: &[Cursor]) -> Option<Cursor>
     ensures { result ≡ first_open (reverse opened.now) }
 {
     match opened.last() {

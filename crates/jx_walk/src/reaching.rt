@@ -1,16 +1,20 @@
 // How far chunks are read, or passed over.
-ghost use Rattle.std.specs.Prelude.{◌≡◌, ◌+◌, ◌*◌, ◌≤◌, ℕ, List, Some, slice_range, IfNone, IfOk, IfSome};
+ghost use Rattle.std.specs.Prelude.{◌≡◌, ◌+◌, ◌*◌, ◌<◌, ◌≤◌, ℕ, List, Some, slice_range, IfNone, IfOk, IfSome};
 ghost use Rattle.jx_run.specs.declared.texts.settings.Settings.{Settings};
 ghost use Rattle.jx_find.specs.declared.held.Sought.{Sought as SoughtOf};
 ghost use Rattle.jx_saved.specs.Chunks.{before, entry_behind, part};
 ghost use Rattle.jx_walk.specs.Chunks.{chunk_at};
 ghost use Rattle.jx_walk.specs.HeldAt.{IsHeldAt};
 ghost use Rattle.jx_walk.specs.Known.{IsKnown};
+ghost use Rattle.jx_walk.specs.Walk.{HasNamesOf};
 ghost use Rattle.jx_walk.specs.inside.Blocks.{IsBlockAt};
+ghost use Rattle.jx_walk.specs.inside.Members.{LeadsPast};
 ghost use Rattle.jx_walk.specs.inside.Stretch.{IsStretch};
 
+use crate::among::{Past, pass_members};
 use crate::blocks::{Block, entry_of, lowest_at};
 use crate::chunks::{chunk_at, entry_at};
+use crate::members::TextNames;
 use crate::passing::{Over, pass};
 use crate::reading::read_chunk;
 use jx_find::Sought;
@@ -34,7 +38,7 @@ fn step(at: usize) -> Result<usize, AllocError>
 }
 
 /// What is kept of the chunk at a place where the text has one.
-fn kept_of(index: &Index, at: usize, span: Span) -> Option<Entry>
+pub(crate) fn kept_of(index: &Index, at: usize, span: Span) -> Option<Entry>
     requires here { chunk_at index.now at ≡ Some span }
     ensures at { chunk_at index.now at ≡ Some span }
     ensures kept { IfSome result (λ e. (settings : Settings) (chunk : ℕ) (text : List ℕ) → IsKnown settings chunk text index.now → e ≡ entry_behind (before settings text (at * chunk)) (part chunk text at)) }
@@ -89,22 +93,71 @@ fn over_from(index: &Index, edges: &[Edge], held: &Sought, at: usize) -> Option<
     Some(stretch)
 }
 
-/// Passes over all chunks from a place on that can be.
-fn pass_on(index: &Index, edges: &[Edge], held: Sought, at: usize) -> Reached
+/// Passes over chunks of the innermost object from a place on, by the names of the text, if they are known.
+fn by_names(
+    index: &Index,
+    names: &Option<TextNames>,
+    edges: &[Edge],
+    held: &Sought,
+    at: usize,
+) -> Option<Past>
+    ensures later { IfSome result (λ past. at < past.end) }
+    ensures leads { IfSome result (λ past. LeadsPast index.now names.now edges.now held.now at past.among past.entry past.end) }
+{
+    match names {
+        Some(names) => pass_members(index, names, edges, held, at),
+        None => None,
+    }
+}
+
+/// Passes over chunks from a place on, if the first of them can be.
+fn over_some(
+    index: &Index,
+    names: &Option<TextNames>,
+    edges: &[Edge],
+    held: Sought,
+    at: usize,
+) -> Reached
     ensures later { at ≤ result.at }
-    ensures held { (settings : Settings) (chunk : ℕ) (text : List ℕ) → IsKnown settings chunk text index.now → IsHeldAt settings chunk text edges.now at held
+    ensures held { (settings : Settings) (chunk : ℕ) (text : List ℕ) → IsKnown settings chunk text index.now → HasNamesOf settings chunk text edges.now names.now → IsHeldAt settings chunk text edges.now at held
+        → IsHeldAt settings chunk text edges.now result.at result.held }
+{
+    if let Some(stretch) = over_from(index, edges, &held, at) {
+        let held = stretch.over.of(held);
+        return Reached {
+            held,
+            at: stretch.end,
+        };
+    }
+    let Some(past) = by_names(index, names, edges, &held, at) else {
+        return Reached { held, at };
+    };
+    let held = past.of(held);
+    Reached { held, at: past.end }
+}
+
+/// Passes over all chunks from a place on that can be.
+fn pass_on(
+    index: &Index,
+    names: &Option<TextNames>,
+    edges: &[Edge],
+    held: Sought,
+    at: usize,
+) -> Reached
+    ensures later { at ≤ result.at }
+    ensures held { (settings : Settings) (chunk : ℕ) (text : List ℕ) → IsKnown settings chunk text index.now → HasNamesOf settings chunk text edges.now names.now → IsHeldAt settings chunk text edges.now at held
         → IsHeldAt settings chunk text edges.now result.at result.held }
 {
     let mut held = held;
     let mut at = at;
     let end = index.entries.len();
     'chunks: while at < end {
-        let Some(stretch) = over_from(index, edges, &held, at) else {
-            return Reached { held, at };
-        };
-        let next = stretch.over.of(held);
-        held = next;
-        at = stretch.end;
+        let reached = over_some(index, names, edges, held, at);
+        if reached.at <= at {
+            return reached;
+        }
+        held = reached.held;
+        at = reached.at;
     }
     Reached { held, at }
 }
@@ -114,6 +167,7 @@ fn pass_on(index: &Index, edges: &[Edge], held: Sought, at: usize) -> Reached
 pub(crate) fn read_on(
     alloc: Global,
     index: &Index,
+    names: &Option<TextNames>,
     edges: &[Edge],
     starts: &[usize],
     held: Option<Sought>,
@@ -125,7 +179,7 @@ pub(crate) fn read_on(
     ensures none { IfOk result (λ read. IfNone read ((settings : Settings) (chunk : ℕ) (text : List ℕ) → IsKnown settings chunk text index.now → bytes.now ≡ slice_range text span.start span.end → ⊥)) }
     ensures later { IfOk result (λ read. IfSome read (λ reached. at + 1 ≤ reached.at)) }
     ensures held { IfOk result (λ read. IfSome read (λ reached. (before : SoughtOf) → held ≡ Some before → (settings : Settings) (chunk : ℕ) (text : List ℕ) → IsKnown settings chunk text index.now
-        → bytes.now ≡ slice_range text span.start span.end → IsHeldAt settings chunk text edges.now at before → IsHeldAt settings chunk text edges.now reached.at reached.held)) }
+        → bytes.now ≡ slice_range text span.start span.end → HasNamesOf settings chunk text edges.now names.now → IsHeldAt settings chunk text edges.now at before → IsHeldAt settings chunk text edges.now reached.at reached.held)) }
 {
     let Some(held) = held else {
         return Err(AllocError);
@@ -135,6 +189,6 @@ pub(crate) fn read_on(
         return Ok(None);
     };
     let later = step(at)?;
-    let reached = pass_on(index, edges, next, later);
+    let reached = pass_on(index, names, edges, next, later);
     Ok(Some(reached))
 }

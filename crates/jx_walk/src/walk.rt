@@ -4,15 +4,19 @@ ghost use Rattle.jx_summary.specs.declared.span.Span.{Span};
 ghost use Rattle.jx_run.specs.declared.texts.settings.Settings.{Settings};
 ghost use Rattle.jx_index.specs.Found.{AreFoundIn};
 ghost use Rattle.jx_saved.specs.Index.{IsIndexOf};
+ghost use Rattle.jx_name_tables.specs.Tables.{AreTablesOf};
 ghost use Rattle.jx_walk.specs.declared.walk.WalkFault.TheVariants.{Changed, Damaged};
+ghost use Rattle.jx_walk.specs.Paused.{HasPaused, needed_by, paused_of};
 ghost use Rattle.jx_walk.specs.Walk.{HasCome, IsLost, IsToldApart, left, needed};
 
 use crate::chunks::{chunk_at, is_kept};
 use crate::laws::parts_are_passed;
+use crate::members::{TextNames, numbers_of};
 use crate::reaching::read_on;
 use jx_find::Sought;
 use jx_index::{Edge, FindFault, Found, Pointer, answers_of, starts_of, trie_of};
 use jx_lex::Span;
+use jx_name_tables::NameTables;
 use jx_run::{reader_is_grammar, verdict_by_settings_is_one};
 use jx_saved::Index;
 use std::alloc::{AllocError, Global};
@@ -38,9 +42,22 @@ pub struct Walk<'a, 'p> {
     pointers: Vec<Pointer<'p>>,
     edges: Vec<Edge<'p>>,
     starts: Vec<usize>,
+    /// The names of the text, where they are known.
+    names: Option<TextNames<'a>>,
     /// Which chunk is needed next.
     at: usize,
     /// What is held of the bytes before it. None where memory was refused, or the index is of no text.
+    held: Option<Sought>,
+}
+
+/// A walk without its index, for whoever owns both.
+#[derive(Drop)]
+pub struct PausedWalk<'p> {
+    alloc: Global,
+    pointers: Vec<Pointer<'p>>,
+    edges: Vec<Edge<'p>>,
+    starts: Vec<usize>,
+    at: usize,
     held: Option<Sought>,
 }
 
@@ -75,8 +92,29 @@ impl<'a, 'p> Walk<'a, 'p> {
             pointers,
             edges,
             starts,
+            names: None,
             at: 0,
             held: Some(held),
+        })
+    }
+
+    /// The same with the tables of the text's names. By them chunks of an object on the way are passed over that have no member
+    /// that is wanted.
+    pub fn with_names(
+        alloc: Global,
+        index: &'a Index,
+        tables: &'a NameTables,
+        pointers: Vec<Pointer<'p>>,
+    ) -> Result<Walk<'a, 'p>, AllocError>
+        ensures index { IfOk result (λ walk. walk.index.now ≡ index.now) }
+        ensures come { IfOk result (λ walk. (settings : Settings) (chunk : ℕ) (text : List ℕ) → IsIndexOf settings chunk text index.now → AreTablesOf settings chunk text tables.now
+            → HasCome settings chunk text pointers.entry.items walk) }
+    {
+        let walk = Walk::new(alloc, index, pointers)?;
+        let numbers = numbers_of(alloc, &walk.edges)?;
+        Ok(Walk {
+            names: Some(TextNames { tables, numbers }),
+            ..walk
         })
     }
 
@@ -121,6 +159,7 @@ impl<'a, 'p> Walk<'a, 'p> {
         let read = read_on(
             self.alloc,
             self.index,
+            &self.names,
             &self.edges,
             &self.starts,
             held,
@@ -166,5 +205,70 @@ impl<'a, 'p> Walk<'a, 'p> {
         let met = held.into_met(&edges, &starts, index.size)?;
         let found = answers_of(alloc, &edges, &starts, &met, &pointers)?;
         Ok(Ok(found))
+    }
+
+    /// The walk without its index, and without tables of names.
+    pub fn pause(self) -> PausedWalk<'p>
+        ensures value { result ≡ paused_of self.entry }
+        ensures needed { needed_by self.entry.index.now result ≡ needed self.entry }
+        ensures come { (settings : Settings) (chunk : ℕ) (text : List ℕ) (pointers : List (List ℕ)) → HasCome settings chunk text pointers self.entry
+            → HasPaused settings chunk text pointers self.entry.index.now result }
+    {
+        let Walk {
+            alloc,
+            pointers,
+            edges,
+            starts,
+            at,
+            held,
+            ..
+        } = self;
+        PausedWalk {
+            alloc,
+            pointers,
+            edges,
+            starts,
+            at,
+            held,
+        }
+    }
+}
+
+impl<'p> PausedWalk<'p> {
+    /// Where the bytes stand that are to be given next, by its index.
+    pub fn needs(&self, index: &Index) -> Option<Span>
+        ensures needed { result ≡ needed_by index.now self.now }
+        ensures some { IfSome result (λ span. span.start < span.end) }
+        ensures within { IfSome result (λ span. span.end ≤ index.now.size) }
+    {
+        chunk_at(index, self.at)
+    }
+
+    /// The walk with its index again.
+    pub fn resume<'a>(self, index: &'a Index) -> Walk<'a, 'p>
+        ensures index { result.index.now ≡ index.now }
+        ensures value { paused_of result ≡ self.entry }
+        ensures needed { needed result ≡ needed_by index.now self.entry }
+        ensures come { (settings : Settings) (chunk : ℕ) (text : List ℕ) (pointers : List (List ℕ)) → HasPaused settings chunk text pointers index.now self.entry
+            → HasCome settings chunk text pointers result }
+    {
+        let PausedWalk {
+            alloc,
+            pointers,
+            edges,
+            starts,
+            at,
+            held,
+        } = self;
+        Walk {
+            alloc,
+            index,
+            pointers,
+            edges,
+            starts,
+            names: None,
+            at,
+            held,
+        }
     }
 }

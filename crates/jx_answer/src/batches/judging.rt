@@ -11,8 +11,10 @@ use jx_claim::Cutting;
 use jx_crew::{Crew, Gate};
 use jx_index::judged_by_names;
 use jx_lex::Depth;
-use jx_run::{ElementsRun, FrontMark, JudgedElement, Settings, Summary, front, judged_by_mark};
-use std::alloc::{AllocError, Global};
+use jx_run::{
+    ElementsRun, FrontMark, JudgedElement, Settings, elements_of_part, front, judged_by_mark,
+};
+use std::alloc::AllocError;
 use std::sync::Wait;
 use std::thread::Threads;
 
@@ -35,21 +37,6 @@ pub fn judge_sequence<R: Threads + Wait + Sync, G: Gate + Sync>(
     judged_by_names(crew.alloc, text, settings, elements)
 }
 
-/// Judges the elements of a batch that begins with a record separator and stands behind `before` bytes, on this thread.
-fn judge_alone(
-    alloc: Global,
-    batch: &[u8],
-    before: usize,
-    depth: Depth,
-) -> Result<Vec<JudgedElement>, AllocError>
-    requires starts { StartsWithSeparator batch.now }
-    requires fits { before + length batch.now < 2 ^ 64 }
-    ensures elements { IfOk result (λ judged. AllZip (IsJudgedElement depth) (elements_of before batch.now) judged.items) }
-{
-    let run = ElementsRun::of(alloc, batch, 0, batch.len(), depth)?;
-    run.into_elements_behind(before)
-}
-
 /// Judges the elements of a batch of a text sequence, which begins with a record separator and stands behind `before` bytes,
 /// by the crew. The last element ends with the batch. Offsets are those in the whole sequence. Several workers draw pieces of
 /// the batch, which have so many bytes and what is left of an element then, so that each element is read from its start; they
@@ -69,10 +56,10 @@ pub fn judge_batch<R: Threads + Wait + Sync, G: Gate + Sync>(
     ensures elements { IfOk result (λ judged. AllZip (IsJudgedElement depth) (elements_of before batch.now) judged.items) }
 {
     if crew.workers.count() == 1 {
-        return judge_alone(crew.alloc, batch, before, depth);
+        return elements_of_part(crew.alloc, batch, before, depth);
     }
     let Ok(cutting) = element_cutting(crew.alloc, batch, piece) else {
-        return judge_alone(crew.alloc, batch, before, depth);
+        return elements_of_part(crew.alloc, batch, before, depth);
     };
     let run = read_text::<ElementsRun, R, G>(crew, batch, &cutting, depth)?;
     run.into_run().into_elements_behind(before)

@@ -6,13 +6,20 @@ use Rattle.jx_compact.specs.Compact.{is_no_blank}
 abbrev pub is_char : ℕ → Bool
 is_char byte = not (byte == 0x22) && not (byte == 0x5c)
 
--- between tokens: a bracket, or a byte up to the space
-abbrev pub is_stop : ℕ → Bool
-is_stop byte = nat_le byte 0x20 || byte == 0x5b || byte == 0x5d || byte == 0x7b || byte == 0x7d
+abbrev pub is_bracket : ℕ → Bool
+is_bracket byte = byte == 0x5b || byte == 0x5d || byte == 0x7b || byte == 0x7d
 
--- between tokens: no such byte, and none up to the quotation mark
+-- a comma or a colon
+abbrev pub is_border : ℕ → Bool
+is_border byte = byte == 0x2c || byte == 0x3a
+
+-- up to the space
+abbrev pub is_low : ℕ → Bool
+is_low byte = nat_le byte 0x20
+
+-- between tokens: no bracket, and no byte up to the quotation mark
 abbrev pub is_deep : ℕ → Bool
-is_deep byte = nat_le 0x23 byte && not (is_stop byte)
+is_deep byte = nat_le 0x23 byte && not (is_bracket byte)
 
 -- the same, and no comma or colon
 abbrev pub is_flat : ℕ → Bool

@@ -1,8 +1,9 @@
 -- Bytes among which no element ends.
-use Rattle.std.specs.Prelude.{◌≡◌, ℕ, List, [], ◌++◌, Bool, if◌then◌else◌, slice_range}
+use Rattle.std.specs.Prelude.{◌≡◌, ℕ, List, [], ◌++◌, Bool, true, drop, take, if◌then◌else◌, slice_range}
 use Rattle.jx_compact.specs.declared.place.Place.{Place}
 use Rattle.jx_compact.specs.declared.place.Place.TheVariants.{Between}
 use Rattle.jx_each.specs.declared.deep.Walk.{Walk}
+use Rattle.jx_each.specs.declared.nest.Nest.{Nest}
 use Rattle.jx_each.specs.declared.stand.Stage.{Stage}
 use Rattle.jx_each.specs.declared.stand.Stage.TheVariants.{Array}
 use Rattle.jx_each.specs.declared.stand.LineStand.{LineStand}
@@ -38,3 +39,11 @@ pub record IsWalked (takes : Bool) (xs : List ℕ) (old : Walk) (part : List ℕ
   pub runs : (aim : Aim) (stage : Stage) (lines : List ℕ)
       → run aim (spot old.place old.height stage takes lines (part ++ waiting takes xs old)) (slice_range xs old.end new.end)
       ≡ spot new.place new.height stage takes lines (longer ++ waiting takes xs new)
+
+-- in the container, an array: the lines end where the element begins that is open, and what is kept of it stands behind them
+abbrev pub opened : Place → Nest → List ℕ → Made
+opened place nest out = spot place nest.height Array true (take nest.begin out) (drop nest.begin out)
+
+-- bytes lead from what was made before them to what is made behind them
+pub record IsLed (place : Place) (nest : Nest) (out w : List ℕ) (to : Place) (next : Nest) (longer : List ℕ) : Type 0 where
+  pub runs : (aim : Aim) → run aim (opened place nest out) w ≡ opened to next longer

@@ -157,18 +157,22 @@ fn marks_of_64<R: ByteSet>(text: &[u8], i: usize) -> u64
     R::others_of_64(u8x64::from_slice(&text[i..]))
 }
 
-/// The first offset from `from` on whose byte is not in the set, or `to`. Most stretches end in their first 16 bytes.
+/// The first offset from `from` on whose byte is not in the set, or `to`. Most stretches end in their first 16 bytes. Those
+/// behind `to` are looked at where the text has them, and change nothing.
 #[inline(always)]
 fn members_end<R: ByteSet>(text: &[u8], from: usize, to: usize) -> usize
     requires { (from ≤ to) × (to ≤ length text.now) }
     ensures { IsFirstPlace (λ k. not (R.goes_on (slice_index text.now k))) from to result }
 {
-    if to - from < 16 {
+    if text.len() - from < 16 {
         return members_end_by_one::<R>(text, from, from, to);
     }
     let found = marks::<R>(text, from);
     if found != 0 {
-        return from + found.trailing_zeros() as usize;
+        return (from + found.trailing_zeros() as usize).min(to);
+    }
+    if to - from <= 16 {
+        return to;
     }
     long_members_end::<R>(text, from, from + 16, to)
 }
@@ -198,14 +202,14 @@ fn members_end_by_16<R: ByteSet>(text: &[u8], from: usize, seen: usize, to: usiz
     ensures { IsFirstPlace (λ k. not (R.goes_on (slice_index text.now k))) from to result }
 {
     let mut i = seen;
-    while to - i >= 16 {
+    while i < to && text.len() - i >= 16 {
         let found = marks::<R>(text, i);
         if found != 0 {
-            return i + found.trailing_zeros() as usize;
+            return (i + found.trailing_zeros() as usize).min(to);
         }
         i += 16;
     }
-    members_end_by_one::<R>(text, from, i, to)
+    members_end_by_one::<R>(text, from, i.min(to), to)
 }
 
 /// `members_end`, where all bytes before `seen` are in the set: it goes on one byte at a time.

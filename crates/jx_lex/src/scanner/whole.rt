@@ -16,7 +16,7 @@ use crate::scanner::token_rest::{literal_end, number_rest};
 /// The offset behind the blanks that follow. Mostly there is none, or one space.
 #[inline(always)]
 pub fn pass_blanks(text: &[u8], from: usize, to: usize) -> usize
-    requires { (from + 2 ≤ to) × (to ≤ length text.now) }
+    requires { (from < to) × (from + 2 ≤ length text.now) × (to ≤ length text.now) }
     ensures bounds { (from ≤ result) × (result ≤ to) }
     ensures passes { Passes text.now from result [] }
 {

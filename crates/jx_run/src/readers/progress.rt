@@ -1,5 +1,5 @@
 // How far the reading of a text came, and how it goes on over a stack that knows all open containers.
-ghost use Rattle.std.specs.Prelude.{◌≡◌, ◌+◌, ◌<◌, ◌^◌, ◌++◌, ℕ, List, [], IfOk, IsErr, length};
+ghost use Rattle.std.specs.Prelude.{◌≡◌, ◌+◌, ◌<◌, ◌^◌, ◌++◌, ◌≤◌, ℕ, List, [], IfOk, IsErr, length, take};
 ghost use Rattle.jx_lex.specs.declared.alphabet.mark.Mark.{Mark};
 ghost use Rattle.jx_lex.specs.Lex.{lex};
 ghost use Rattle.jx_reduce.specs.KnownStack.{Known, HasRead as StackHasRead};
@@ -75,8 +75,25 @@ pub(crate) fn settled(base: usize, exit: Option<LexExit>, whole: Whole) -> Progr
     }
 }
 
-/// Reads a slice that stands from `base` on.
+/// Reads the bytes of a slice before `to`, which stand from `base` on.
 fn read_slice<S: OpenStack>(
+    stack: &mut S,
+    state: LexState,
+    slice: &[u8],
+    to: usize,
+    base: usize,
+) -> Result<Progress, AllocError>
+    requires { to ≤ length slice.now }
+    ensures cut { IfOk result IsCut }
+    ensures goes_on { IfOk result (λ progress. (marks : List Mark) → StackHasRead marks (S.known stack.old)
+        → GoesOn (S.known stack.old) (lex state 0 (take to slice.now)) (read_marks (S.known stack.old).depth (lex state 0 (take to slice.now)).marks (S.known stack.old).reading) base progress (S.known stack.new)) }
+{
+    let exit = scan(stack, state, slice, 0, to)?;
+    Ok(settled(base, exit, stack.whole()))
+}
+
+/// Reads a slice that stands from `base` on.
+fn read_all<S: OpenStack>(
     stack: &mut S,
     state: LexState,
     slice: &[u8],
@@ -86,8 +103,7 @@ fn read_slice<S: OpenStack>(
     ensures goes_on { IfOk result (λ progress. (marks : List Mark) → StackHasRead marks (S.known stack.old)
         → GoesOn (S.known stack.old) (lex state 0 slice.now) (read_marks (S.known stack.old).depth (lex state 0 slice.now).marks (S.known stack.old).reading) base progress (S.known stack.new)) }
 {
-    let exit = scan(stack, state, slice, 0, slice.len())?;
-    Ok(settled(base, exit, stack.whole()))
+    read_slice(stack, state, slice, slice.len(), base)
 }
 
 /// Reads a slice behind so many bytes of a byte order mark.
@@ -109,15 +125,45 @@ fn read_front<S: OpenStack>(
     let count = count_agreed(slice, before);
     let more = count - before;
     if count == 3 {
-        return read_slice(stack, LexState::Gap, &slice[more..slice.len()], base + more);
+        return read_all(stack, LexState::Gap, &slice[more..slice.len()], base + more);
     }
     if more == slice.len() {
         return Ok(Progress::Front(count));
     }
     if count == 0 {
-        return read_slice(stack, LexState::Gap, slice, base);
+        return read_all(stack, LexState::Gap, slice, base);
     }
     Ok(Progress::Stopped(base + more))
+}
+
+/// Reads the bytes of a slice before `to` behind all bytes that were read; they stand from `base` on. Those behind are only
+/// room for a reader that looks at many bytes at a time: nothing depends on them. Behind a fault no byte is looked at. Only
+/// want of memory is refused, and then the stack is of no more use.
+#[inline]
+pub fn read_beginning<S: OpenStack>(
+    stack: &mut S,
+    progress: Progress,
+    slice: &[u8],
+    to: usize,
+    base: usize,
+) -> Result<Progress, AllocError>
+    requires cut { IsCut progress }
+    requires within { to ≤ length slice.now }
+    requires fits { base + to < 2 ^ 64 }
+    ensures cut { IfOk result IsCut }
+    ensures of_use { IfOk result (λ next. (mark : FrontMark) (depth : ℕ) → IsOfUse progress mark depth (S.known stack.old) → IsOfUse next mark depth (S.known stack.new)) }
+    ensures reads { IfOk result (λ next. (settings : Settings) (start : ℕ) (bytes : List ℕ) → base ≡ start + length bytes
+        → IsReadTo settings start bytes progress (S.known stack.old) → IsReadTo settings start (bytes ++ take to slice.now) next (S.known stack.new)) }
+    ensures failed { progress ≡ Progress.Failed → IsErr result }
+{
+    reader_is_grammar();
+    match progress {
+        Progress::Front(before) => read_front(stack, before, &slice[..to], base),
+        Progress::Going(state) => read_slice(stack, state, slice, to, base),
+        Progress::Stopped(_) => Ok(progress),
+        Progress::TooDeep(_) => Ok(progress),
+        Progress::Failed => Err(AllocError),
+    }
 }
 
 /// Reads a slice behind all bytes that were read; it stands from `base` on. Behind a fault no byte is looked at. Only want
@@ -137,14 +183,7 @@ pub fn read_on<S: OpenStack>(
         → IsReadTo settings start bytes progress (S.known stack.old) → IsReadTo settings start (bytes ++ slice.now) next (S.known stack.new)) }
     ensures failed { progress ≡ Progress.Failed → IsErr result }
 {
-    reader_is_grammar();
-    match progress {
-        Progress::Front(before) => read_front(stack, before, slice, base),
-        Progress::Going(state) => read_slice(stack, state, slice, base),
-        Progress::Stopped(_) => Ok(progress),
-        Progress::TooDeep(_) => Ok(progress),
-        Progress::Failed => Err(AllocError),
-    }
+    read_beginning(stack, progress, slice, slice.len(), base)
 }
 
 /// The verdict on the bytes that were read, as a whole text, by what their marks have come to. Where memory was refused

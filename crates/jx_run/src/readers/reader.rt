@@ -1,6 +1,6 @@
 // A text that is read from its start, slice by slice or run by run.
 
-ghost use Rattle.std.specs.Prelude.{◌≡◌, ◌+◌, ◌<◌, ◌^◌, ◌↔◌, ◌++◌, ℕ, List, [], Some, false, IsTrue, OnOk, OnErr, IfOk, IsErr, length};
+ghost use Rattle.std.specs.Prelude.{◌≡◌, ◌+◌, ◌<◌, ◌^◌, ◌↔◌, ◌++◌, ◌≤◌, ℕ, List, [], Some, false, IsTrue, OnOk, OnErr, IfOk, IsErr, length, take};
 ghost use Rattle.jx_lex.specs.declared.alphabet.mark.Mark.{Mark};
 ghost use Rattle.jx_lex.specs.Lex.{lex};
 ghost use Rattle.jx_lex.specs.Seen.{SeesTrack};
@@ -13,7 +13,7 @@ ghost use Rattle.jx_run.specs.Telling.{SeesPast, standing_of, track_of};
 
 use crate::laws::reader_is_grammar;
 use crate::readers::progress::{
-    OpenStack, Progress, progress_at_start, read_on, settled, verdict_at,
+    OpenStack, Progress, progress_at_start, read_beginning, read_on, settled, verdict_at,
 };
 use crate::readers::telling::tell_on;
 use crate::runs::outcome_run::OutcomeRun;
@@ -206,6 +206,27 @@ impl Reader {
         // Where memory is refused, what the stack holds is of no use.
         self.progress = Progress::Failed;
         self.progress = read_on(&mut self.kept, progress, slice, base)?;
+        Ok(())
+    }
+
+    /// Reads the bytes of the slice before `to` as `feed` does. Those behind are only looked at: whoever has read on already,
+    /// as to the next line, lets the reader take the last tokens as fast as the others.
+    pub fn feed_beginning(&mut self, slice: &[u8], to: usize) -> Result<(), AllocError>
+        requires within { to ≤ length slice.now }
+        requires fits { self.old.start + self.old.count + to < 2 ^ 64 }
+        ensures settings { self.new.settings ≡ self.old.settings }
+        ensures start { self.new.start ≡ self.old.start }
+        ensures reads { OnOk result ((bytes : List ℕ) → HasRead bytes self.old → HasRead (bytes ++ take to slice.now) self.new) }
+        ensures count { OnOk result (self.new.count ≡ self.old.count + to) }
+        ensures err { OnErr result (HasFailed self.new) }
+        ensures failed { HasFailed self.old → IsErr result }
+    {
+        let base = self.start + self.count;
+        let progress = self.progress;
+        self.count += to;
+        // Where memory is refused, what the stack holds is of no use.
+        self.progress = Progress::Failed;
+        self.progress = read_beginning(&mut self.kept, progress, slice, to, base)?;
         Ok(())
     }
 

@@ -1,5 +1,5 @@
 // Elements of a JSON text sequence that stand between two record separators, of which verdicts alone are kept.
-ghost use Rattle.std.specs.Prelude.{◌≡◌, ◌≤◌, ◌<◌, ◌+◌, ◌^◌, ℕ, List, length, map, slice_range, IfOk};
+ghost use Rattle.std.specs.Prelude.{◌≡◌, ◌<◌, ◌+◌, ◌^◌, ℕ, List, length, map, IfOk};
 ghost use Rattle.std.specs.List.{AllZip};
 ghost use Rattle.jx_run.specs.Elements.{Part, filled, part};
 ghost use Rattle.jx_run.specs.ElementsRun.{IsPartRun};
@@ -21,24 +21,22 @@ use jx_lex::{Depth, Span};
 use jx_summary::Summary;
 use std::alloc::{AllocError, Global};
 
-/// The verdict on an element that two separators enclose. The reader begins anew.
-fn read_element(
+/// The verdict on an element behind a record separator, whose first byte has this offset. The reader begins anew.
+pub(crate) fn read_element(
     reader: &mut Reader,
-    text: &[u8],
+    bytes: &[u8],
     start: usize,
-    end: usize,
 ) -> Result<JudgedElement, AllocError>
     requires marked { 0 < start }
-    requires ordered { start ≤ end }
-    requires within { end ≤ length text.now }
+    requires fits { start + length bytes.now < 2 ^ 64 }
     requires plain { reader.old.settings.mark ≡ Refused }
     ensures settings { reader.new.settings ≡ reader.old.settings }
-    ensures judged { IfOk result (IsJudgedElement reader.old.settings.depth (part start (slice_range text.now start end))) }
+    ensures judged { IfOk result (IsJudgedElement reader.old.settings.depth (part start bytes.now)) }
 {
     a_refused_mark_changes_nothing();
-    let bytes = &text[start..end];
     reader.reset(start);
     reader.feed(bytes)?;
+    let end = start + bytes.len();
     Ok(JudgedElement {
         span: Span { start, end },
         verdict: told(reader.verdict(), ends_open(bytes)),
@@ -69,7 +67,7 @@ impl Piece for PartRun {
         let mut from = start;
         while let Some(at) = next_separator(text, from, end) {
             if from < at {
-                done.push(read_element(&mut reader, text, from, at)?)?;
+                done.push(read_element(&mut reader, &text[from..at], from)?)?;
             }
             from = at + 1;
         }

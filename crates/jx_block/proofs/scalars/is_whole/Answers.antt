@@ -29,6 +29,6 @@ returns c h =
       high = c.if-end-ge64.false;
       run = λ j low lt. end.run j c.if-end-ge64.false low lt;
       over = end.over c.if-end-ge64.false;
-      stops = sym c.is_bit.ensures ∙ c.if-not-is_bit.false;
+      stops = c.is_stop.ensures c.if-not-is_stop.false;
       is = c.is_scalar.ensures h;
     }

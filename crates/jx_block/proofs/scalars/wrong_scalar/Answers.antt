@@ -1,7 +1,8 @@
-use Rattle.std.proofs.Common.{◌≡◌, ◌<◌, ◌≤◌, ◌⊎◌, ◌-◌, ◌*◌, ◌%◌, ◌^◌, ℕ, suc, Bool, true, false, inl, inr, refl, sym, subst, ◌∙◌, arith, w64, bit_and}
+use Rattle.std.proofs.Common.{◌≡◌, ◌+◌, ◌<◌, ◌≤◌, ◌⊎◌, ◌-◌, ◌*◌, ◌%◌, ◌^◌, ℕ, suc, Bool, true, false, inl, inr, refl, sym, subst, ◌∙◌, arith, w64, bit_and, get_or}
 use Rattle.std.specs.Int.{trailing_zeros}
 use Rattle.std.proofs.lemmas.Bool.{cases_lt, cases_Bool}
 use Rattle.jx_lex.specs.inside.Bits.{bit}
+use Rattle.jx_block.specs.inside.Planes.{is_stop}
 use Rattle.jx_block.specs.inside.Whole.{IsWhole}
 use Rattle.jx_block.proofs.Words.{bit-one, lowest_set, only_lowest, low_kept}
 use Rattle.jx_block.proofs.scalars.wrong_scalar.Goals as goal
@@ -39,11 +40,11 @@ is_whole-requires-clause-begun c =
 
 pub returns-then-not-is_whole : goal.returns-then-not-is_whole
 returns-then-not-is_whole c = record {
-  whole = before_lowest (λ k. IsWhole c.args.text.now c.args.at (bit c.args.scalars) (bit c.args.stops) k) c.loop-rest.rest (bit c.args.firsts) (omega arith) (omega arith) c.loop-rest.invariant.whole;
+  whole = before_lowest (λ k. IsWhole c.args.text.now c.args.at (bit c.args.scalars) (λ j. is_stop (get_or c.args.text.now (c.args.at + j) 0)) k) c.loop-rest.rest (bit c.args.firsts) (omega arith) (omega arith) c.loop-rest.invariant.whole;
 }
 
 pub loop-rest-preserved : goal.loop-rest-preserved
 loop-rest-preserved c = record {
   among = λ k set. c.loop-rest.invariant.among k (low_kept c.loop-rest.rest (c.loop-rest.rest - 1) k set);
-  whole = one_more (λ k. IsWhole c.args.text.now c.args.at (bit c.args.scalars) (bit c.args.stops) k) c.loop-rest.rest (bit c.args.firsts) (omega arith) (omega arith) (c.if-not-is_whole.ensures refl) c.loop-rest.invariant.whole;
+  whole = one_more (λ k. IsWhole c.args.text.now c.args.at (bit c.args.scalars) (λ j. is_stop (get_or c.args.text.now (c.args.at + j) 0)) k) c.loop-rest.rest (bit c.args.firsts) (omega arith) (omega arith) (c.if-not-is_whole.ensures refl) c.loop-rest.invariant.whole;
 }

@@ -1,4 +1,4 @@
-use Rattle.std.proofs.Common.{◌≡◌, ℕ, ◌+◌, ◌-◌, ◌<◌, ◌≤◌, ◌∙◌, true, ap, get_or, sym, subst, arith}
+use Rattle.std.proofs.Common.{◌≡◌, ℕ, ◌+◌, ◌<◌, ◌≤◌, ◌∙◌, true, false, ap, get_or, sym, subst, arith}
 use Rattle.std.specs.Prelude.{slice_range}
 use Rattle.jx_compact.specs.declared.place.Place.{Place}
 use Rattle.jx_compact.specs.declared.place.Place.TheVariants.{Between}
@@ -6,9 +6,11 @@ use Rattle.jx_compact.specs.Compact.{is_kept}
 use Rattle.jx_each.specs.inside.Blocks.{place_at, placed}
 use Rattle.jx_each.specs.inside.Stretches.{IsStretch, IsWalked}
 use Rattle.jx_each.specs.Turns.{height_next}
-use Rattle.jx_each.proofs.Keeping.{other_kept}
+use Rattle.jx_lex.specs.inside.Bits.{bit}
+use Rattle.jx_each.specs.inside.Runs.{is_bracket}
+use Rattle.jx_each.proofs.Keeping.{bracket_solid, other_kept}
 use Rattle.jx_each.proofs.Walked.{walked_blanks, walked_none, walked_stretch}
-use Rattle.jx_each.proofs.Walking.{blank_at, blanks_lead, blanks_pass, is_outside, walk_end, walk_over, walk_stop}
+use Rattle.jx_each.proofs.Walking.{blanks_lead, blanks_pass, first_of, is_outside, set_at, walk_end, walk_over, walk_stop}
 use Rattle.jx_each.proofs.deep.walk_block.Goals as goal
 
 pub loop-at-init : goal.loop-at-init
@@ -33,10 +35,10 @@ returns-then-stop-eq-BLOCK-clause-walked c =
     let xs = c.args.bytes.now in
     let base = c.args.walk.end in
     walked_stretch xs (base + 64) (omega arith) i.order (omega (arith, i.within))
-    (subst (λ (q : Place). IsStretch (place_at c.args.inside c.args.words.strings c.args.words.escapes c.loop-at.at) c.loop-at.height (slice_range xs (base + c.loop-at.at) (base + 64)) q c.loop-at.height)
+    (subst (λ (q : Place). IsStretch (place_at c.args.inside c.args.words c.loop-at.at) c.loop-at.height (slice_range xs (base + c.loop-at.at) (base + 64)) q c.loop-at.height)
     (sym (c.place_of-place.ensures ∙ ap placed c.is_set.ensures))
-    (walk_end xs base c.args.inside c.args.words.strings c.args.words.escapes c.args.words.stops c.requires.within c.requires.told
-    c.loop-at.height c.loop-at.at c.next_set-stop.result c.if-height-gt1.true n.bounds.0 n.none c.if-stop-eq-BLOCK.true))
+    (walk_end xs base c.args.inside c.args.words c.requires.within c.requires.told
+    c.loop-at.height c.loop-at.at c.next_set-stop.result c.if-height-gt1.true n.bounds.0 n.none c.if-stop-eq-BLOCK.true c.requires.whole))
     i.walked
 
 pub loop-at-preserved-then-is_set : goal.loop-at-preserved-then-is_set
@@ -51,13 +53,10 @@ loop-at-preserved-then-is_set c =
     let le : stop ≤ 64 = n.bounds.1 in
     let lt : stop < 64 = omega (arith, le, c.if-stop-eq-BLOCK.false) in
     let low : c.loop-at.at ≤ stop = n.bounds.0 in
-    let on : stop < past = m.past (sym c.is_set-in-loop-at.ensures ∙ c.if-is_set.true) in
+    let gap : bit c.args.words.gaps stop ≡ true = sym c.is_set-in-loop-at.ensures ∙ c.if-is_set.true in
+    let on : stop < past = m.past gap in
     let far : past ≤ 64 = m.bounds.1 in
-    let all : stop + (past - stop) ≡ past = omega (arith, on) in
-    let out : place_at c.args.inside c.args.words.strings c.args.words.escapes past ≡ Between =
-    ap (place_at c.args.inside c.args.words.strings c.args.words.escapes) (sym all)
-    ∙ blanks_lead xs base c.args.inside c.args.words.strings c.args.words.escapes c.args.words.stops c.requires.within c.requires.told c.args.words.blanks c.requires.blanks
-    stop (past - stop) (omega (arith, all, far)) (c.requires.told.outside stop lt (n.set lt)).0 (λ k l u. m.all k l (omega (arith, u, all))) in
+    let out : place_at c.args.inside c.args.words past ≡ Between = blanks_lead xs base c.args.inside c.args.words c.requires.within c.requires.told stop past on far m.all in
     record {
       within = far;
       order = omega arith;
@@ -67,10 +66,10 @@ loop-at-preserved-then-is_set c =
       walked =
           subst (λ (q : Place). IsWalked c.args.takes xs c.args.walk c.args.part.now.items (record { start = base + past; end = base + past; place = q; height = c.loop-at.height }) c.push_stretch.new.part.items) (sym out)
           (walked_blanks xs c.push_stretch.new.part.items (base + past) (omega arith) (omega (arith, on)) c.in_ok-push_stretch.ensures
-          (blanks_pass xs base c.args.inside c.args.words.strings c.args.words.escapes c.args.words.stops c.requires.within c.requires.told c.args.words.blanks c.requires.blanks stop past far m.all)
+          (blanks_pass xs base c.args.inside c.args.words c.requires.within c.requires.told stop past far m.all)
           (walked_stretch xs (base + stop) (omega arith) i.order (omega (arith, low))
-          (walk_stop xs base c.args.inside c.args.words.strings c.args.words.escapes c.args.words.stops c.requires.within c.requires.told
-          c.loop-at.height c.loop-at.at stop c.if-height-gt1.true low n.none lt (n.set lt))
+          (walk_stop xs base c.args.inside c.args.words c.requires.within c.requires.told
+          c.loop-at.height c.loop-at.at stop c.if-height-gt1.true low n.none lt (c.requires.told.gaps.outside stop lt gap).0)
           i.walked));
     }
 
@@ -78,18 +77,18 @@ pub loop-at-preserved : goal.loop-at-preserved
 loop-at-preserved c =
     let n = c.next_set-stop.ensures in
     let i = c.loop-at.invariant in
+    let told = c.requires.told in
     let xs = c.args.bytes.now in
     let base = c.args.walk.end in
     let stop = c.next_set-stop.result in
     let le : stop ≤ 64 = n.bounds.1 in
     let lt : stop < 64 = omega (arith, le, c.if-stop-eq-BLOCK.false) in
     let low : c.loop-at.at ≤ stop = n.bounds.0 in
-    let keeps : is_kept Between (get_or xs (base + stop) 0) ≡ true =
-    other_kept (get_or xs (base + stop) 0)
-    (sym (blank_at xs base c.args.inside c.args.words.strings c.args.words.escapes c.args.words.stops c.requires.within c.requires.told c.args.words.blanks c.requires.blanks stop lt)
-    ∙ sym c.is_set-in-loop-at.ensures ∙ c.if-is_set.false) in
-    let out = is_outside xs base c.args.inside c.args.words.strings c.args.words.escapes c.args.words.stops c.requires.within c.requires.told
-    c.loop-at.height c.loop-at.at stop c.if-height-gt1.true low n.none lt (n.set lt) in
+    let solid : bit c.args.words.gaps stop ≡ false = sym c.is_set-in-loop-at.ensures ∙ c.if-is_set.false in
+    let bracket : bit c.args.words.brackets stop ≡ true = first_of c.args.words.brackets c.args.words.gaps stop (n.set lt) solid in
+    let keeps : is_kept Between (get_or xs (base + stop) 0) ≡ true = other_kept (get_or xs (base + stop) 0) (bracket_solid (get_or xs (base + stop) 0)
+    (set_at xs base c.args.inside c.args.words c.requires.within told is_bracket c.args.words.brackets stop told.brackets lt bracket)) in
+    let out = is_outside xs base c.args.inside c.args.words c.requires.within told is_bracket c.args.words.brackets stop told.brackets lt bracket in
     record {
       within = omega (arith, lt);
       order = omega (arith, i.order, low);
@@ -98,11 +97,11 @@ loop-at-preserved c =
       high = omega (arith, i.high, low, c.height_next-height.ensures.most);
       walked =
           subst (λ (k : ℕ). IsWalked c.args.takes xs c.args.walk c.args.part.now.items
-          (record { start = c.loop-at.start; end = base + (stop + 1); place = place_at c.args.inside c.args.words.strings c.args.words.escapes (stop + 1); height = k }) c.loop-at.part.items) (sym c.height_next-height.ensures.value)
+          (record { start = c.loop-at.start; end = base + (stop + 1); place = place_at c.args.inside c.args.words (stop + 1); height = k }) c.loop-at.part.items) (sym c.height_next-height.ensures.value)
           (subst (λ (q : Place). IsWalked c.args.takes xs c.args.walk c.args.part.now.items
           (record { start = c.loop-at.start; end = base + (stop + 1); place = q; height = height_next Between c.loop-at.height (get_or xs (base + stop) 0) }) c.loop-at.part.items) (sym out)
           (walked_stretch xs (base + (stop + 1)) (omega arith) i.order (omega (arith, low))
-          (walk_over xs base c.args.inside c.args.words.strings c.args.words.escapes c.args.words.stops c.requires.within c.requires.told
-          c.loop-at.height c.loop-at.at stop c.if-height-gt1.true low n.none lt (n.set lt) keeps)
+          (walk_over xs base c.args.inside c.args.words c.requires.within told
+          c.loop-at.height c.loop-at.at stop c.if-height-gt1.true low n.none lt bracket keeps)
           i.walked));
     }

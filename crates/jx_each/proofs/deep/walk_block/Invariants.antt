@@ -10,10 +10,10 @@ invariant-loop-at l = record {
   within : l.at ≤ 64;
   order : l.start ≤ l.fn.walk.end + l.at;
   first : l.at ≡ 0 → 1 < l.height;
-  outside : 0 < l.at → place_at l.inside l.words.strings l.words.escapes l.at ≡ Between;
+  outside : 0 < l.at → place_at l.inside l.words l.at ≡ Between;
   high : l.height ≤ l.fn.walk.height + l.at;
   walked : IsWalked l.takes l.bytes l.fn.walk l.initial.part.items
-      (record { start = l.start; end = l.fn.walk.end + l.at; place = place_at l.inside l.words.strings l.words.escapes l.at; height = l.height }) l.part.items;
+      (record { start = l.start; end = l.fn.walk.end + l.at; place = place_at l.inside l.words l.at; height = l.height }) l.part.items;
 }
 
 abbrev pub decreases-loop-at : goal.decreases-loop-at

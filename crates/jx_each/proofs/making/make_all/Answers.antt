@@ -4,7 +4,7 @@ use Rattle.jx_each.specs.Machine.{step}
 use Rattle.jx_each.specs.inside.Paths.{aim_of, count_in}
 use Rattle.jx_each.specs.inside.Stretches.{spot_in_array}
 use Rattle.jx_each.proofs.Stretching.{made_on, none_passed, run_byte}
-use Rattle.jx_each.proofs.Walked.{deep_on}
+use Rattle.jx_each.proofs.Walked.{blocks_on}
 use Rattle.jx_each.proofs.making.make_all.Goals as goal
 
 pub loop-at-preserved-then-is_border : goal.loop-at-preserved-then-is_border
@@ -26,15 +26,15 @@ loop-at-preserved-then-is_border c =
       height = omega (arith, height);
       count = omega (arith, count);
       made =
-          run_byte (aim_of c.args.target.now) u c.in_ok-stand.stand c.loop-at.lines.items c.push_stretch.new.part.items c.end_element.new.lines.items c.end_element.new.part.items c.args.bytes.now c.stretch_from-found.result.end 0x2c _
+          run_byte (aim_of c.args.target.now) u c.in_ok-stand.stand c.make_blocks.new.lines.items c.push_stretch.new.part.items c.end_element.new.lines.items c.end_element.new.part.items c.args.bytes.now c.stretch_from-found.result.end 0x2c _
           c.if-found-bytes.true (sym border.1)
-          (subst (λ (x : LineStand). record { stand = c.in_ok-stand.stand; lines = c.end_element.new.lines.items; part = c.end_element.new.part.items } ≡ step (aim_of c.args.target.now) (record { stand = x; lines = c.loop-at.lines.items; part = c.push_stretch.new.part.items }) 0x2c) (sym border.0)
+          (subst (λ (x : LineStand). record { stand = c.in_ok-stand.stand; lines = c.end_element.new.lines.items; part = c.end_element.new.part.items } ≡ step (aim_of c.args.target.now) (record { stand = x; lines = c.make_blocks.new.lines.items; part = c.push_stretch.new.part.items }) 0x2c) (sym border.0)
           (c.in_ok-stand.ensures.made (aim_of c.args.target.now) u.takes))
-          (made_on (aim_of c.args.target.now) t u c.stretch_from-found.result.place c.stretch_from-found.result.height c.loop-at.lines.items c.push_deep.new.part.items c.push_stretch.new.part.items c.args.bytes.now
+          (made_on (aim_of c.args.target.now) t u c.stretch_from-found.result.place c.stretch_from-found.result.height c.make_blocks.new.lines.items c.make_blocks.new.part.items c.push_stretch.new.part.items c.args.bytes.now
           c.in_ok-deep.deep.end c.stretch_from-found.result.end c.stretch_from-found.result.end _ c.moved-stand-in-loop-at.ensures low (omega arith) found.stretch c.in_ok-push_stretch.ensures
           (none_passed c.stretch_from-found.result.place c.args.bytes.now c.stretch_from-found.result.end)
-          (deep_on (aim_of c.args.target.now) s t c.in_ok-deep.deep.place c.in_ok-deep.deep.height c.loop-at.lines.items c.loop-at.part.items c.push_deep.new.part.items c.args.bytes.now
-          c.loop-at.at c.in_ok-deep.deep.end _ c.moved-stand.ensures from deep.copied i.made));
+          (blocks_on (aim_of c.args.target.now) s t c.in_ok-deep.deep.place c.in_ok-deep.deep.height c.loop-at.lines.items c.loop-at.part.items c.make_blocks.new.lines.items c.make_blocks.new.part.items c.args.bytes.now
+          c.loop-at.at c.in_ok-deep.deep.end _ c.moved-stand.ensures from (deep.made (aim_of c.args.target.now)) i.made));
     }
 
 pub loop-at-preserved : goal.loop-at-preserved
@@ -58,10 +58,10 @@ loop-at-preserved c =
       height = omega (arith, from, low, high, height, height_behind, deep.high, found.high, i.height);
       count = omega (arith, from, low, high, count, count_behind, i.count);
       made =
-          made_on (aim_of c.args.target.now) t u c.stretch_from-found.result.place c.stretch_from-found.result.height c.loop-at.lines.items c.push_deep.new.part.items c.push_stretch.new.part.items c.args.bytes.now
+          made_on (aim_of c.args.target.now) t u c.stretch_from-found.result.place c.stretch_from-found.result.height c.make_blocks.new.lines.items c.make_blocks.new.part.items c.push_stretch.new.part.items c.args.bytes.now
           c.in_ok-deep.deep.end c.stretch_from-found.result.end c.blanks_from-at.result _ c.moved-stand-in-loop-at.ensures low high found.stretch c.in_ok-push_stretch.ensures past.passed
-          (deep_on (aim_of c.args.target.now) s t c.in_ok-deep.deep.place c.in_ok-deep.deep.height c.loop-at.lines.items c.loop-at.part.items c.push_deep.new.part.items c.args.bytes.now
-          c.loop-at.at c.in_ok-deep.deep.end _ c.moved-stand.ensures from deep.copied i.made);
+          (blocks_on (aim_of c.args.target.now) s t c.in_ok-deep.deep.place c.in_ok-deep.deep.height c.loop-at.lines.items c.loop-at.part.items c.make_blocks.new.lines.items c.make_blocks.new.part.items c.args.bytes.now
+          c.loop-at.at c.in_ok-deep.deep.end _ c.moved-stand.ensures from (deep.made (aim_of c.args.target.now)) i.made);
     }
 
 pub loop-at-preserved-then-at-bytes : goal.loop-at-preserved-then-at-bytes
@@ -85,10 +85,10 @@ loop-at-preserved-then-at-bytes c =
       height = omega (arith, from, low, high, height, height_behind, deep.high, found.high, i.height, c.in_ok-stand-2.ensures.height);
       count = omega (arith, from, low, high, count, count_behind, i.count, c.in_ok-stand-2.ensures.count);
       made =
-          run_byte (aim_of c.args.target.now) u c.in_ok-stand-2.stand c.loop-at.lines.items c.push_stretch.new.part.items c.make.new.lines.items c.make.new.part.items c.args.bytes.now c.blanks_from-at.result _ _
+          run_byte (aim_of c.args.target.now) u c.in_ok-stand-2.stand c.make_blocks.new.lines.items c.push_stretch.new.part.items c.make.new.lines.items c.make.new.part.items c.args.bytes.now c.blanks_from-at.result _ _
           c.if-at-bytes.true refl c.in_ok-stand-2.ensures.made
-          (made_on (aim_of c.args.target.now) t u c.stretch_from-found.result.place c.stretch_from-found.result.height c.loop-at.lines.items c.push_deep.new.part.items c.push_stretch.new.part.items c.args.bytes.now
+          (made_on (aim_of c.args.target.now) t u c.stretch_from-found.result.place c.stretch_from-found.result.height c.make_blocks.new.lines.items c.make_blocks.new.part.items c.push_stretch.new.part.items c.args.bytes.now
           c.in_ok-deep.deep.end c.stretch_from-found.result.end c.blanks_from-at.result _ c.moved-stand-in-loop-at.ensures low high found.stretch c.in_ok-push_stretch.ensures past.passed
-          (deep_on (aim_of c.args.target.now) s t c.in_ok-deep.deep.place c.in_ok-deep.deep.height c.loop-at.lines.items c.loop-at.part.items c.push_deep.new.part.items c.args.bytes.now
-          c.loop-at.at c.in_ok-deep.deep.end _ c.moved-stand.ensures from deep.copied i.made));
+          (blocks_on (aim_of c.args.target.now) s t c.in_ok-deep.deep.place c.in_ok-deep.deep.height c.loop-at.lines.items c.loop-at.part.items c.make_blocks.new.lines.items c.make_blocks.new.part.items c.args.bytes.now
+          c.loop-at.at c.in_ok-deep.deep.end _ c.moved-stand.ensures from (deep.made (aim_of c.args.target.now)) i.made));
     }

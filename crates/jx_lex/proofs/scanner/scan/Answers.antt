@@ -3,13 +3,13 @@ use Rattle.std.specs.Prelude.{slice_range}
 use Rattle.jx_lex.specs.Lex as reading
 use Rattle.jx_lex.specs.Lex.{lex, Track}
 use Rattle.jx_lex.specs.Seen.{GoesTo}
-use Rattle.jx_lex.proofs.Keeping.{goes-none, goes-byte, goes-then, sees-then, exit-then, fault-at, sees-same}
+use Rattle.jx_lex.proofs.Keeping.{goes-byte, goes-then, sees-then, exit-then, fault-at, sees-same}
 use Rattle.jx_lex.proofs.scanner.scan.Goals as goal
 
 pub loop-i-init : goal.loop-i-init
 loop-i-init g c =
-    let b = c.requires in
-    record { low = omega arith; high = b.0; sound = c.known_ahead-ahead.ensures.sound c.args.text.now; read = goes-none c.args.text.now c.args.from c.args.state (g.K.TokenSink.has_seen c.args.sink.now) }
+    let p = c.pass_on-i.ensures in
+    record { low = p.bounds.0; high = p.bounds.1; sound = c.known_ahead-ahead.ensures.sound c.args.text.now; read = p.read }
 
 pub returns-then-is_done-clause-seen : goal.returns-then-is_done-clause-seen
 returns-then-is_done-clause-seen g c =

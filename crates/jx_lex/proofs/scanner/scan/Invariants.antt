@@ -11,7 +11,7 @@ invariant-loop-i g l = record {
   low : l.from ≤ l.i;
   high : l.i ≤ l.to;
   sound : IsSound l.text l.ahead;
-  read : GoesTo (g.K.TokenSink.has_seen l.initial.sink) (g.K.TokenSink.has_seen l.sink) (lex l.initial.state l.from (slice_range l.text l.from l.i)) l.state;
+  read : GoesTo (g.K.TokenSink.has_seen l.fn.sink) (g.K.TokenSink.has_seen l.sink) (lex l.initial.state l.from (slice_range l.text l.from l.i)) l.state;
 }
 
 abbrev pub decreases-loop-i : goal.decreases-loop-i

@@ -14,7 +14,7 @@ up_to : (d : ℕ) (xs : List ℕ) (a b i : ℕ) (s t : List Holder) → Reads d 
 up_to d xs a b i s t r p = reads-then d xs a b i (went expected.After s) (went expected.After t) (went expected.After t) r (reads-blank d xs b i (went expected.After t) p)
 
 pub loop-init : goal.loop-init
-loop-init c = let b = c.requires in record { low = omega arith; high = b.0; reads = λ depth. reads-none depth c.args.text.now c.args.at.now (went expected.After c.args.holders.now) (omega (arith, b)) }
+loop-init c = let b = c.requires.bounds in record { low = omega arith; high = b.0; reads = λ depth. reads-none depth c.args.text.now c.args.at.now (went expected.After c.args.holders.now) (omega (arith, b)) }
 
 pub returns-in-Some : goal.returns-in-Some
 returns-in-Some c =
@@ -24,7 +24,7 @@ returns-in-Some c =
     let a = c.args.at.now in
     let i = c.skip.new.at in
     let s = c.loop.holders in
-    let b = c.requires in
+    let b = c.requires.bounds in
     let k = c.skip.ensures.bounds in
     let room = c.if-not-skip.ensures.room in
     record {
@@ -44,7 +44,7 @@ loop-preserved c =
     let i = c.skip.new.at in
     let s = c.loop.holders in
     let t = c.leave.new.holders in
-    let b = c.requires in
+    let b = c.requires.bounds in
     let k = c.skip.ensures.bounds in
     let room = c.if-not-skip.ensures.room in
     let leaves : Leaves (slice_index xs i) expected.After s t = subst (λ (f : Expect). Leaves (slice_index xs i) f s t) c.in-Some-After.field-0-is c.in-Some-After.ensures.some in

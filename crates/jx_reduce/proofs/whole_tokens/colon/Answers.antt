@@ -8,7 +8,7 @@ pub returns-clause-reads : goal.returns-clause-reads
 returns-clause-reads c = λ depth holders.
     let xs = c.args.text.now in
     let i = c.skip.new.at in
-    let b = c.requires in
+    let b = c.requires.bounds in
     let room = c.if-not-skip.ensures.room in
     reads-then depth xs c.args.at.now i (i + 1) (went expected.Colon holders) (went expected.Colon holders) (went expected.Value holders)
     (reads-blank depth xs c.args.at.now i (went expected.Colon holders) c.skip.ensures.passes)

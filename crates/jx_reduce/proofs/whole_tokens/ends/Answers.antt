@@ -14,10 +14,10 @@ returns-in-On-clause-reads c = λ depth.
 
 pub returns-in_default-clause-reads : goal.returns-in_default-clause-reads
 returns-in_default-clause-reads c = λ depth.
-    let b = c.requires in
+    let b = c.requires.bounds in
     let before = went (expect_of c.args.turn) c.args.holders.now in
     subst (λ (f : Expect). Reads depth c.args.text.now c.args.at.now c.args.at.now before (went f c.args.holders.now)) (ap expect_of c.in-On.is)
     (reads-none depth c.args.text.now c.args.at.now before (omega (arith, b)))
 
 pub returns-in_default-2-clause-reads : goal.returns-in_default-2-clause-reads
-returns-in_default-2-clause-reads c = λ depth. let b = c.requires in reads-none depth c.args.text.now c.args.at.now (went (expect_of c.args.turn) c.args.holders.now) (omega (arith, b))
+returns-in_default-2-clause-reads c = λ depth. let b = c.requires.bounds in reads-none depth c.args.text.now c.args.at.now (went (expect_of c.args.turn) c.args.holders.now) (omega (arith, b))

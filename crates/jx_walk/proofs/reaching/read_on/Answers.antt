@@ -5,13 +5,13 @@ use Rattle.jx_walk.proofs.Comings.{some_got}
 use Rattle.jx_walk.proofs.reaching.read_on.Goals as goal
 
 pub returns-clause-held : goal.returns-clause-held
-returns-clause-held c = λ before is settings chunk text known are was.
+returns-clause-held c = λ before is settings chunk text known are names was.
     let both : Some before ≡ Some c.in-Some.held = sym is ∙ c.in-Some.is in
     let same : before ≡ c.in-Some.held = cc in
     let edges = c.args.edges.now in
     let later = c.in_ok-later.ensures in
     let reaches = c.pass_on-reached.ensures.held settings chunk text known in
-    reaches
+    reaches names
     (subst (λ (n : ℕ). IsHeldAt settings chunk text edges n c.in-Some-read.next) (sym later)
     (some_got c.in_ok-read.read _ c.in-Some-read.next c.in-Some-read.is c.in_ok-read.ensures.held settings chunk text known are
     (subst (λ (h : Sought). IsHeldAt settings chunk text edges c.args.at h) same was)))

@@ -1,10 +1,11 @@
-use Rattle.std.proofs.Common.{◌≡◌, ℕ, List, Option, Err, sym, ap, subst, Vec}
+use Rattle.std.proofs.Common.{◌≡◌, ℕ, List, Option, Result, Err, IfErr, sym, ap, subst, Vec}
 use Rattle.std.specs.Prelude.{IfSome}
 use Rattle.std.specs.Global.{Global}
-use Rattle.std.proofs.lemmas.Result.{IfOk-at_ok}
-use Rattle.jx_wire.specs.Requests.{CallsFor, HasWrongParameters, IsNamed, IsRequest}
+use Rattle.std.proofs.lemmas.Result.{IfOk-at_ok, err_from_is_err_and}
+use Rattle.jx_wire.specs.Requests.{CallsFor, HasWrongParameters, IsNamed, IsNoMessage, IsRefusedFor, IsRequest}
 use Rattle.jx_wire.specs.Values.{value_at, Says}
 use Rattle.jx_wire.specs.declared.call.Request.{Request}
+use Rattle.jx_wire.specs.declared.request_fault.RequestFault.{RequestFault}
 use Rattle.jx_wire.proofs.request.request_of.Goals as goal
 
 pub returns-in-Ok-call_of-clause-says : goal.returns-in-Ok-call_of-clause-says
@@ -29,4 +30,24 @@ returns-in-Err-Wrong-clause-why c =
       name = c.in-Some.name.items;
       message = record { named = named tree is; marked = c.in_ok-id.ensures.ok tree is };
       none = λ asked h. c.in-Err-Wrong.ensures.wrong (ap Err c.in-Err-Wrong.field-0-is) tree is asked (subst (λ (l : List ℕ). CallsFor (value_at body tree) l id asked) (sym c.deref.ensures.value) h);
+    })
+
+pub returns-in_err-id-clause-why : goal.returns-in_err-id-clause-why
+returns-in_err-id-clause-why c =
+    let body : List ℕ = c.in-Ok.message in
+    let same : body ≡ c.args.body.now = IfOk-at_ok (λ m. m ≡ c.args.body.now) c.in-Ok.is c.in_ok-message.ensures.same in
+    let p = err_from_is_err_and c.from_residual-in_err-id.result c.from_residual-in_err-id.ensures.1 in
+    let fault : RequestFault = c.in_err-id.field-0.0 in
+    let why : Says c.args.body.now (λ at. IsRefusedFor at fault) = subst (λ (l : List ℕ). Says l (λ at. IsRefusedFor at fault)) same c.in_err-id.ensures.why in
+    let told : Says c.args.body.now (λ at. IsRefusedFor at p.0) = subst (λ (f : RequestFault). Says c.args.body.now (λ at. IsRefusedFor at f)) (sym p.2) why in
+    subst (λ (r : Result Request RequestFault). IfErr r (λ f. Says c.args.body.now (λ at. IsRefusedFor at f))) (sym p.1) told
+
+pub returns-in_default-clause-why : goal.returns-in_default-clause-why
+returns-in_default-clause-why c =
+    let body : List ℕ = c.in-Ok.message in
+    let same : body ≡ c.args.body.now = IfOk-at_ok (λ m. m ≡ c.args.body.now) c.in-Ok.is c.in_ok-message.ensures.same in
+    let id = c.in_ok-id.id in
+    subst (λ (l : List ℕ). Says l (λ at. IsNoMessage at id)) same (λ tree is. record {
+      marked = (c.in_ok-id.ensures.ok tree is).0;
+      none = λ marked name h. c.in_ok-name.ensures.none c.in_default.is tree is name h.named;
     })

@@ -15,8 +15,8 @@ pub returns : goal.returns
 returns c =
     let v = c.args.self.now in
     let units = chars_units InToken 0 c.args.name.now in
-    let names = c.names.result.now in
-    c.find_name.ensures
+    let names = c.name_order-order.result.names.now in
+    c.find_member.ensures
     ∙ ap (λ (t : List ℕ). only (filter (is_equal t c.rows.result.now units) names) c.args.token) c.text.ensures
     ∙ ap (λ (r : List Row). only (filter (is_equal v.text r units) names) c.args.token) c.rows.ensures.same
-    ∙ ap (λ (x : List ℕ). only x c.args.token) (equal_kept (name_units v.text v.rows) units (child_numbers v.rows c.args.object) names c.names.ensures.equal_by_place)
+    ∙ ap (λ (x : List ℕ). only x c.args.token) (equal_kept (name_units v.text v.rows) units (child_numbers v.rows c.args.object) names c.name_order-order.ensures.order.equal_by_place)

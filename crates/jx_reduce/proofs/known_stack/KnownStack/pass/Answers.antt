@@ -46,7 +46,7 @@ returns-then-is_some-clause-marks c = λ before h.
 
 pub invariant_of-self : goal.invariant_of-self
 invariant_of-self c =
-    let r = c.rounds-at in
+    let r = c.stretches-at in
     let i = c.self.inside in
     let none : i.fault ≡ None = no_fault i.fault (sym c.is_some.ensures ∙ c.if-is_some.false) in
     let same = c.containers-most.ensures.value in

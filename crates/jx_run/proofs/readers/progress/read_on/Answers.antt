@@ -1,27 +1,12 @@
-use Rattle.std.proofs.Common.{ap, subst}
+use Rattle.std.proofs.Common.{◌++◌, ℕ, List, subst}
+use Rattle.std.proofs.Math.Seq.{take-length}
 use Rattle.std.proofs.lemmas.Result.{IfOk-weaker}
-use Rattle.jx_run.specs.ReaderInside.{IsReadTo, outcome_at}
-use Rattle.jx_run.specs.Reader.{is_fault}
-use Rattle.jx_run.proofs.ReaderFeeds.{going, passed}
+use Rattle.jx_run.specs.ReaderInside.{IsReadTo}
 use Rattle.jx_run.proofs.readers.progress.read_on.Goals as goal
 
-pub returns-in-Going-clause-reads : goal.returns-in-Going-clause-reads
-returns-in-Going-clause-reads g c =
-    let a = c.args in
-    let old = g.S.OpenStack.known a.stack.now in
-    let new = g.S.OpenStack.known c.read_slice.new.stack in
-    IfOk-weaker c.read_slice.result _ _
-    (λ p goes settings start bytes at h.
-    let here = subst (λ q. IsReadTo settings start bytes q old) c.in-Going.is h in
-    going c.reader_is_grammar.ensures.first_fault settings start a.base bytes a.slice.now c.in-Going.state old new p at c.requires.fits here (goes here.of_use.0.marks here.of_use.0.read))
-    c.read_slice.ensures.goes_on
-
-pub returns-in-Stopped-clause-reads : goal.returns-in-Stopped-clause-reads
-returns-in-Stopped-clause-reads g c = λ settings start bytes at h.
-    let r = (g.S.OpenStack.known c.args.stack.now).reading in
-    record { outcome = passed settings start bytes c.args.slice.now (outcome_at c.args.progress r) (ap (λ p. is_fault (outcome_at p r)) c.in-Stopped.is) h.outcome; of_use = h.of_use }
-
-pub returns-in-TooDeep-clause-reads : goal.returns-in-TooDeep-clause-reads
-returns-in-TooDeep-clause-reads g c = λ settings start bytes at h.
-    let r = (g.S.OpenStack.known c.args.stack.now).reading in
-    record { outcome = passed settings start bytes c.args.slice.now (outcome_at c.args.progress r) (ap (λ p. is_fault (outcome_at p r)) c.in-TooDeep.is) h.outcome; of_use = h.of_use }
+pub returns-clause-reads : goal.returns-clause-reads
+returns-clause-reads g c =
+    IfOk-weaker c.read_beginning.result _ _
+    (λ p reads settings start bytes at h.
+    subst (λ (xs : List ℕ). IsReadTo settings start (bytes ++ xs) p (g.S.OpenStack.known c.read_beginning.new.stack)) (take-length c.args.slice.now) (reads settings start bytes at h))
+    c.read_beginning.ensures.reads

@@ -3,7 +3,7 @@ use Rattle.std.specs.Prelude.{slice_range}
 use Rattle.jx_summary.specs.declared.span.Span.{Span}
 use Rattle.jx_index.specs.declared.trie.Edge.{Edge}
 use Rattle.jx_walk.specs.HeldAt.{IsHeldAt}
-use Rattle.jx_walk.specs.Walk.{needed}
+use Rattle.jx_walk.specs.Walk.{HasNamesOf, needed}
 use Rattle.jx_walk.proofs.Comings.{none_got, some_got}
 use Rattle.jx_walk.proofs.walk.Walk.give.Goals as goal
 
@@ -41,10 +41,12 @@ returns-clause-come c = λ settings chunk text pointers come apart.
       pointers_are = come.pointers_are;
       trie = come.trie;
       ways = come.ways;
+      names = come.names;
       kept = reached.held;
       kept_is = refl;
       held =
           subst (λ (es : List Edge). IsHeldAt settings chunk text es reached.at reached.held) edges
           (some_got c.in_ok-read.read _ reached c.in-Some-read.is c.in_ok-read.ensures.held come.kept (c.take-held.ensures.value ∙ come.kept_is) settings chunk text come.known are
+          (subst (λ (es : List Edge). HasNamesOf settings chunk text es w.names) (sym edges) come.names)
           (subst (λ (es : List Edge). IsHeldAt settings chunk text es w.at come.kept) (sym edges) come.held));
     }

@@ -21,6 +21,7 @@ returns-clause-come c = λ settings chunk text h.
       pointers_are = refl;
       trie = trie;
       ways = subst (λ (ps : List (List ℕ)). All (λ (p : List ℕ). HasWay edges p) ps) c.deref.ensures.value c.in_ok-edges.ensures.ways;
+      names = tt;
       kept = held;
       kept_is = refl;
       held = held_first settings chunk text edges held first;

@@ -1,0 +1,343 @@
+// Elements of an array, written while their bytes are walked over: of each block of 64 what stands between blanks is copied at
+// once, and commas behind elements become line feeds.
+ghost use Rattle.std.specs.Prelude.{◌≡◌, ◌+◌, ◌-◌, ◌<◌, ◌≤◌, ◌^◌, ℕ, false, true, [], ◌++◌, ◌⊎◌, IfOk, IsTrue, OnOk, bit_or, drop, length, slice_range, take};
+ghost use Rattle.std.specs.Simd.Lanes.{chunk};
+ghost use Rattle.jx_compact.specs.declared.place.Place.TheVariants.{Between};
+ghost use Rattle.jx_lex.specs.inside.Bits.{bit};
+ghost use Rattle.jx_each.specs.Machine.{Aim, run};
+ghost use Rattle.jx_each.specs.declared.stand.Stage.TheVariants.{Array};
+ghost use Rattle.jx_each.specs.inside.Blocks.{IsTold, place_at};
+ghost use Rattle.jx_each.specs.inside.Stretches.{IsLed, spot};
+
+use crate::blocks::{BLOCK, Words, is_set, next_clear, next_set, words_of};
+use crate::copies::push_stretch;
+use crate::nest::{Nest, pass_stop};
+use crate::places::{inside_of, place_of};
+use crate::stretch::Stretch;
+use jx_compact::Place;
+use std::alloc::AllocError;
+use std::mem;
+use std::simd::prelude::*;
+
+/// How far the bytes of a block were walked over, and what is open there.
+#[derive(Clone, Copy, Debug)]
+struct Reach {
+    at: usize,
+    nest: Nest,
+}
+
+/// How far bytes were walked over, where the next one stands, and what is open there.
+#[derive(Clone, Copy, Debug)]
+struct Front {
+    end: usize,
+    place: Place,
+    nest: Nest,
+}
+
+/// The bytes at which a walk stops, where so many containers are open.
+#[inline(always)]
+fn stops_at(words: Words, height: usize) -> u64
+    ensures brackets { (k : ℕ) → bit result k ≡ false → bit words.brackets k ≡ false }
+    ensures borders { height ≤ 1 → (k : ℕ) → bit result k ≡ false → bit words.borders k ≡ false }
+    ensures set { (k : ℕ) → bit result k ≡ true → (bit words.brackets k ≡ true) ⊎ (bit words.borders k ≡ true) }
+{
+    if height > 1 {
+        words.brackets
+    } else {
+        words.brackets | words.borders
+    }
+}
+
+/// Ends the elements of a block from one byte up to another, which were copied behind what was made: a comma behind an element
+/// becomes a line feed. It stops before a byte that ends the array.
+#[inline(always)]
+fn end_elements(
+    words: Words,
+    inside: bool,
+    lines: &mut Vec<u8>,
+    bytes: &[u8],
+    base: usize,
+    from: usize,
+    to: usize,
+    nest: Nest,
+) -> Reach
+    requires room { base + 64 ≤ length bytes.now }
+    requires told { IsTold (chunk base 64 bytes.now) inside words }
+    requires order { (from ≤ to) × (to ≤ 64) }
+    requires solid { (k : ℕ) → from ≤ k → k < to → bit words.gaps k ≡ false }
+    requires long { to - from ≤ length lines.old.items }
+    requires copied { drop (length lines.old.items - (to - from)) lines.old.items ≡ slice_range bytes.now (base + from) (base + to) }
+    requires begin { nest.begin ≤ length lines.old.items - (to - from) }
+    requires high { 1 ≤ nest.height }
+    requires fits { nest.height + (to - from) < 2 ^ 64 }
+    ensures bounds { (from ≤ result.at) × (result.at ≤ to) }
+    ensures length { length lines.new.items ≡ length lines.old.items }
+    ensures begin { result.nest.begin ≤ length lines.new.items - (to - result.at) }
+    ensures high { (1 ≤ result.nest.height) × (result.nest.height ≤ nest.height + (result.at - from)) }
+    ensures outside { result.at < to → place_at inside words result.at ≡ Between }
+    ensures led { IsLed (place_at inside words from) nest (take (length lines.old.items - (to - from)) lines.old.items) (slice_range bytes.now (base + from) (base + result.at)) (place_at inside words result.at) result.nest (take (length lines.new.items - (to - result.at)) lines.new.items) }
+{
+    let len = lines.len();
+    let mut at = from;
+    let mut nest = nest;
+    while at < to {
+        let stop = next_set(stops_at(words, nest.height), at);
+        if stop >= to {
+            return Reach { at: to, nest };
+        }
+        let Some(next) = pass_stop(lines, len - (to - stop), bytes[base + stop], nest) else {
+            return Reach { at: stop, nest };
+        };
+        nest = next;
+        at = stop + 1;
+    }
+    Reach { at, nest }
+}
+
+/// Copies the bytes of a block from one up to another, among which no blank stands outside of strings, and ends the elements there.
+#[inline(always)]
+fn walk_stretch(
+    words: Words,
+    inside: bool,
+    lines: &mut Vec<u8>,
+    bytes: &[u8],
+    base: usize,
+    from: usize,
+    to: usize,
+    nest: Nest,
+) -> Result<Reach, AllocError>
+    requires room { base + 64 ≤ length bytes.now }
+    requires told { IsTold (chunk base 64 bytes.now) inside words }
+    requires order { (from ≤ to) × (to ≤ 64) }
+    requires solid { (k : ℕ) → from ≤ k → k < to → bit words.gaps k ≡ false }
+    requires begin { nest.begin ≤ length lines.old.items }
+    requires high { 1 ≤ nest.height }
+    requires fits { nest.height + (to - from) < 2 ^ 64 }
+    ensures bounds { IfOk result (λ reach. (from ≤ reach.at) × (reach.at ≤ to)) }
+    ensures begin { IfOk result (λ reach. reach.nest.begin ≤ length lines.new.items) }
+    ensures high { IfOk result (λ reach. (1 ≤ reach.nest.height) × (reach.nest.height ≤ nest.height + (reach.at - from))) }
+    ensures outside { IfOk result (λ reach. reach.at < to → place_at inside words reach.at ≡ Between) }
+    ensures led { IfOk result (λ reach. IsLed (place_at inside words from) nest lines.old.items (slice_range bytes.now (base + from) (base + reach.at)) (place_at inside words reach.at) reach.nest lines.new.items) }
+{
+    push_stretch(lines, true, bytes, base + from, base + to)?;
+    let reach = end_elements(words, inside, lines, bytes, base, from, to, nest);
+    lines.truncate(lines.len() - (to - reach.at));
+    Ok(reach)
+}
+
+/// The first blank outside of strings from a byte of a block on, or the end of those that are looked at.
+#[inline(always)]
+fn next_gap(words: Words, at: usize) -> usize
+    requires within { (at < words.len) × (words.len ≤ 64) }
+    ensures bounds { (at ≤ result) × (result ≤ words.len) }
+    ensures none { (k : ℕ) → at ≤ k → k < result → bit words.gaps k ≡ false }
+    ensures gap { result < words.len → bit words.gaps result ≡ true }
+{
+    next_set(words.gaps, at).min(words.len)
+}
+
+/// The end of the blanks of a block that begin at a byte, where it is one, or else that byte.
+#[inline(always)]
+fn past_gap(words: Words, at: usize) -> usize
+    requires within { (at ≤ words.len) × (words.len ≤ 64) }
+    requires gap { at < words.len → bit words.gaps at ≡ true }
+    ensures bounds { (at ≤ result) × (result ≤ words.len) }
+    ensures past { at < words.len → at < result }
+    ensures all { (k : ℕ) → at ≤ k → k < result → bit words.gaps k ≡ true }
+{
+    if at < words.len {
+        next_clear(words.gaps, at).min(words.len)
+    } else {
+        at
+    }
+}
+
+/// Walks over the bytes of a block that are looked at, or up to one that ends the array, from one blank to the next.
+#[inline(always)]
+fn walk_words(
+    words: Words,
+    inside: bool,
+    lines: &mut Vec<u8>,
+    bytes: &[u8],
+    base: usize,
+    nest: Nest,
+) -> Result<Reach, AllocError>
+    requires room { base + 64 ≤ length bytes.now }
+    requires told { IsTold (chunk base 64 bytes.now) inside words }
+    requires begin { nest.begin ≤ length lines.old.items }
+    requires high { 1 ≤ nest.height }
+    requires fits { nest.height + 64 < 2 ^ 64 }
+    ensures bounds { IfOk result (λ reach. reach.at ≤ words.len) }
+    ensures begin { IfOk result (λ reach. reach.nest.begin ≤ length lines.new.items) }
+    ensures high { IfOk result (λ reach. (1 ≤ reach.nest.height) × (reach.nest.height ≤ nest.height + reach.at)) }
+    ensures outside { IfOk result (λ reach. reach.at < words.len → place_at inside words reach.at ≡ Between) }
+    ensures led { IfOk result (λ reach. IsLed (place_at inside words 0) nest lines.old.items (slice_range bytes.now base (base + reach.at)) (place_at inside words reach.at) reach.nest lines.new.items) }
+{
+    let mut at = 0;
+    let mut nest = nest;
+    while at < words.len {
+        let to = next_gap(words, at);
+        let reach = walk_stretch(words, inside, lines, bytes, base, at, to, nest)?;
+        nest = reach.nest;
+        if reach.at < to {
+            return Ok(reach);
+        }
+        at = past_gap(words, to);
+    }
+    Ok(Reach { at, nest })
+}
+
+/// Whether no byte of a block opens or closes a container or is a blank, outside of strings, and none ends an element.
+#[inline(always)]
+fn is_quiet(words: Words, height: usize) -> bool
+    ensures high { IsTrue result → 1 < height }
+    ensures none { IsTrue result → bit_or words.brackets words.gaps ≡ 0 }
+{
+    height > 1 && words.brackets | words.gaps == 0
+}
+
+/// Walks over the bytes of a block that are looked at, or up to one that ends the array. Where none of them does anything, they
+/// are copied.
+#[inline(always)]
+fn walk_block(
+    words: Words,
+    inside: bool,
+    lines: &mut Vec<u8>,
+    bytes: &[u8],
+    base: usize,
+    nest: Nest,
+) -> Result<Reach, AllocError>
+    requires room { base + 64 ≤ length bytes.now }
+    requires told { IsTold (chunk base 64 bytes.now) inside words }
+    requires begin { nest.begin ≤ length lines.old.items }
+    requires high { 1 ≤ nest.height }
+    requires fits { nest.height + 64 < 2 ^ 64 }
+    ensures bounds { IfOk result (λ reach. reach.at ≤ words.len) }
+    ensures begin { IfOk result (λ reach. reach.nest.begin ≤ length lines.new.items) }
+    ensures high { IfOk result (λ reach. (1 ≤ reach.nest.height) × (reach.nest.height ≤ nest.height + reach.at)) }
+    ensures outside { IfOk result (λ reach. reach.at < words.len → place_at inside words reach.at ≡ Between) }
+    ensures led { IfOk result (λ reach. IsLed (place_at inside words 0) nest lines.old.items (slice_range bytes.now base (base + reach.at)) (place_at inside words reach.at) reach.nest lines.new.items) }
+{
+    if is_quiet(words, nest.height) {
+        push_stretch(lines, true, bytes, base, base + words.len)?;
+        return Ok(Reach {
+            at: words.len,
+            nest,
+        });
+    }
+    walk_words(words, inside, lines, bytes, base, nest)
+}
+
+/// Where the byte stands behind those of a block that were walked over.
+#[inline(always)]
+fn place_behind(words: Words, inside: bool, at: usize) -> Place
+    requires bounds { (63 ≤ words.len) × (words.len ≤ 64) × (at ≤ words.len) }
+    requires outside { at < words.len → place_at inside words at ≡ Between }
+    requires ends { bit words.escapes (words.len - 1) ≡ false }
+    ensures { result ≡ place_at inside words at }
+{
+    if at < words.len {
+        Place::Between
+    } else {
+        place_of(is_set(words.strings, words.len - 1))
+    }
+}
+
+/// Walks over the blocks of an array, the first byte of which stands there, and up to a byte that ends it. What is kept of the
+/// element that is open stands behind the lines.
+fn walk_blocks(lines: &mut Vec<u8>, bytes: &[u8], from: Front) -> Result<Front, AllocError>
+    requires within { from.end ≤ length bytes.now }
+    requires begin { from.nest.begin ≤ length lines.old.items }
+    requires high { 1 ≤ from.nest.height }
+    requires fits { from.nest.height + (length bytes.now - from.end) < 2 ^ 64 }
+    ensures bounds { IfOk result (λ front. (from.end ≤ front.end) × (front.end ≤ length bytes.now)) }
+    ensures begin { IfOk result (λ front. front.nest.begin ≤ length lines.new.items) }
+    ensures high { IfOk result (λ front. front.nest.height ≤ from.nest.height + (front.end - from.end)) }
+    ensures led { IfOk result (λ front. IsLed from.place from.nest lines.old.items (slice_range bytes.now from.end front.end) front.place front.nest lines.new.items) }
+{
+    let mut front = from;
+    while bytes.len() - front.end >= BLOCK {
+        let Some(inside) = inside_of(front.place) else {
+            break;
+        };
+        let Some(words) = words_of(u8x64::from_slice(&bytes[front.end..]), inside) else {
+            break;
+        };
+        let reach = walk_block(words, inside, lines, bytes, front.end, front.nest)?;
+        let place = place_behind(words, inside, reach.at);
+        front = Front {
+            end: front.end + reach.at,
+            place,
+            nest: reach.nest,
+        };
+        if reach.at < words.len {
+            break;
+        }
+    }
+    Ok(front)
+}
+
+/// Moves what is kept of an element behind the lines, and answers where it begins there. Where there is no line, and more is kept
+/// than a length, it is moved at once; else the lines keep their room.
+fn join_part(lines: &mut Vec<u8>, part: &mut Vec<u8>, len: usize) -> Result<usize, AllocError>
+    ensures begin { IfOk result (λ begin. begin ≡ length lines.old.items) }
+    ensures lines { IfOk result (λ _. lines.new.items ≡ lines.old.items ++ part.old.items) }
+    ensures part { IfOk result (λ _. part.new.items ≡ []) }
+{
+    let begin = lines.len();
+    if begin == 0 && part.len() > len {
+        mem::swap(lines, part);
+    } else {
+        lines.extend_from_slice(part)?;
+    }
+    part.clear();
+    Ok(begin)
+}
+
+/// Moves what stands behind the lines back.
+fn split_part(lines: &mut Vec<u8>, part: &mut Vec<u8>, begin: usize) -> Result<(), AllocError>
+    requires begin { begin ≤ length lines.old.items }
+    requires part { part.old.items ≡ [] }
+    ensures lines { OnOk result (lines.new.items ≡ take begin lines.old.items) }
+    ensures part { OnOk result (part.new.items ≡ drop begin lines.old.items) }
+{
+    if begin == 0 {
+        mem::swap(lines, part);
+        return Ok(());
+    }
+    part.extend_from_slice(&lines[begin..])?;
+    lines.truncate(begin);
+    Ok(())
+}
+
+/// Makes what the blocks of an array come to from a byte on that stands there, up to one that ends the array, and answers where the
+/// byte behind them stands.
+pub(crate) fn make_elements(
+    lines: &mut Vec<u8>,
+    part: &mut Vec<u8>,
+    place: Place,
+    height: usize,
+    bytes: &[u8],
+    from: usize,
+) -> Result<Stretch, AllocError>
+    requires within { from ≤ length bytes.now }
+    requires high { 1 ≤ height }
+    requires fits { height + (length bytes.now - from) < 2 ^ 64 }
+    ensures bounds { IfOk result (λ deep. (from ≤ deep.end) × (deep.end ≤ length bytes.now)) }
+    ensures high { IfOk result (λ deep. deep.height ≤ height + (deep.end - from)) }
+    ensures made { IfOk result (λ deep. (aim : Aim) → run aim (spot place height Array true lines.old.items part.old.items) (slice_range bytes.now from deep.end) ≡ spot deep.place deep.height Array true lines.new.items part.new.items) }
+{
+    let begin = join_part(lines, part, bytes.len())?;
+    let from = Front {
+        end: from,
+        place,
+        nest: Nest { begin, height },
+    };
+    let front = walk_blocks(lines, bytes, from)?;
+    split_part(lines, part, front.nest.begin)?;
+    Ok(Stretch {
+        end: front.end,
+        place: front.place,
+        height: front.nest.height,
+    })
+}

@@ -1,0 +1,4 @@
+pub mod Hash
+pub mod Named
+pub mod Names
+pub mod Tables
