@@ -32,15 +32,16 @@ returns-in-Err-Wrong-clause-why c =
       none = λ asked h. c.in-Err-Wrong.ensures.wrong (ap Err c.in-Err-Wrong.field-0-is) tree is asked (subst (λ (l : List ℕ). CallsFor (value_at body tree) l id asked) (sym c.deref.ensures.value) h);
     })
 
+-- the fault of the call that reads the id is handed on as it is
 pub returns-in_err-id-clause-why : goal.returns-in_err-id-clause-why
 returns-in_err-id-clause-why c =
     let body : List ℕ = c.in-Ok.message in
     let same : body ≡ c.args.body.now = IfOk-at_ok (λ m. m ≡ c.args.body.now) c.in-Ok.is c.in_ok-message.ensures.same in
-    let p = err_from_is_err_and c.from_residual-in_err-id.result c.from_residual-in_err-id.ensures.1 in
+    let handed = err_from_is_err_and c.from_residual-in_err-id.result c.from_residual-in_err-id.ensures.1 in
     let fault : RequestFault = c.in_err-id.field-0.0 in
     let why : Says c.args.body.now (λ at. IsRefusedFor at fault) = subst (λ (l : List ℕ). Says l (λ at. IsRefusedFor at fault)) same c.in_err-id.ensures.why in
-    let told : Says c.args.body.now (λ at. IsRefusedFor at p.0) = subst (λ (f : RequestFault). Says c.args.body.now (λ at. IsRefusedFor at f)) (sym p.2) why in
-    subst (λ (r : Result Request RequestFault). IfErr r (λ f. Says c.args.body.now (λ at. IsRefusedFor at f))) (sym p.1) told
+    let told : Says c.args.body.now (λ at. IsRefusedFor at handed.0) = subst (λ (it : RequestFault). Says c.args.body.now (λ at. IsRefusedFor at it)) (sym handed.2) why in
+    subst (λ (answer : Result Request RequestFault). IfErr answer (λ it. Says c.args.body.now (λ at. IsRefusedFor at it))) (sym handed.1) told
 
 pub returns-in_default-clause-why : goal.returns-in_default-clause-why
 returns-in_default-clause-why c =
