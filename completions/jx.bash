@@ -46,7 +46,7 @@ _jx() {
     each) mapfile -t COMPREPLY < <(compgen -W '--names --file --depth --workers --piece --ignore-bom --progress -h --help' -- "$word") ;;
     seq) mapfile -t COMPREPLY < <(compgen -W '--file --depth --workers --piece --ignore-bom --unique-names --live -q --quiet -h --help' -- "$word") ;;
     lines) mapfile -t COMPREPLY < <(compgen -W '--file --depth --workers --piece --ignore-bom --skip-blank -q --quiet -h --help' -- "$word") ;;
-    save) mapfile -t COMPREPLY < <(compgen -W '--file --depth --chunk --ignore-bom --unique-names --progress -h --help' -- "$word") ;;
+    save) mapfile -t COMPREPLY < <(compgen -W '--file --depth --chunk --names --ignore-bom --unique-names --progress -h --help' -- "$word") ;;
     split) mapfile -t COMPREPLY < <(compgen -W '--index --file --parts -h --help' -- "$word") ;;
     part) mapfile -t COMPREPLY < <(compgen -W '--file --from --depth -h --help' -- "$word") ;;
     join) mapfile -t COMPREPLY < <(compgen -W '--file --depth -h --help' -- "$word") ;;

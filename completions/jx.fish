@@ -36,6 +36,7 @@ complete -c jx -n '__fish_seen_subcommand_from get lines' -l skip-blank -d 'Pass
 complete -c jx -n '__fish_seen_subcommand_from each' -l names -d 'Write names too, of the members of an object'
 complete -c jx -n '__fish_seen_subcommand_from seq' -l live -d 'Tell each element as soon as it ends'
 complete -c jx -n '__fish_seen_subcommand_from save' -l chunk -x -d 'Tell of each N bytes of the text'
+complete -c jx -n '__fish_seen_subcommand_from save' -l names -d 'Write tables of names too'
 complete -c jx -n '__fish_seen_subcommand_from split' -l file -r -F -d 'Read the text in FILE'
 complete -c jx -n '__fish_seen_subcommand_from split' -l parts -x -d 'Cut into N parts, 1 to 65536'
 complete -c jx -n '__fish_seen_subcommand_from part' -l from -x -d 'The part begins at the offset N of the text'

@@ -3,15 +3,14 @@
  * Every call returns a status. Any status but JX_OK leaves the caller's structs unchanged, unless a call says more. Offsets and
  * sizes count bytes, depths count containers.
  *
- * Ownership: the caller owns all memory that it passes, and no call but jx_index_new, jx_finder_new and jx_values_new keeps a
- * pointer to it. A document, an index, a look-up, a stream of values and a reader of lines are memory of the library: what its
- * calls that end in _new take, those that end in _free give back. A pointer must not be null, not even one to bytes with the
- * size 0, but for settings, and in the calls on documents, indexes, look-ups, values and lines, which answer it. What a call
- * writes to must not overlap anything else that it is passed.
+ * Ownership: the caller owns all memory that it passes, and no call but jx_index_new, jx_finder_new, jx_values_new and
+ * jx_saved_seek keeps a pointer to it. A document, an index, a saved index, a text whose index is made, a look-up, a stream of
+ * values and a reader of lines are memory of the library: what calls that end in _new or _open take, those that end in _free
+ * give back. A pointer must not be null, not even one to bytes with the size 0, but for settings, and in the calls on handles,
+ * which answer it. What a call writes to must not overlap anything else that it is passed.
  *
- * Threads: calls share no state, so any number of threads may call at once, each with its own structs. One call at a time
- * may use a struct that it writes to, a document, an index, a look-up, a stream of values or a reader of lines. No call starts
- * a thread or waits for one. Do not call from a signal handler.
+ * Threads: calls share no state, so any number of threads may call at once, each with its own structs. One call at a time may
+ * use a struct that it writes to, or a handle. No call starts a thread or waits for one. Do not call from a signal handler.
  *
  * Names that end in _non_null are what the inline call below them calls, which answers null pointers: call that one. The libraries
  * export it too, for languages that do not read this header.
@@ -41,10 +40,10 @@ enum {
     JX_NOT_STARTED = 3,     /* the reader was not started */
     JX_TOO_MANY_BYTES = 4,  /* the reader would have been fed 2^64 bytes or more, or a part would end there or behind */
     JX_UNKNOWN_FLAG = 5,    /* unknown flag */
-    JX_NO_UNIQUE_NAMES = 6, /* a reader, a document, a look-up, a stream or a reader of lines keeps no names to check */
-    JX_OUT_OF_BOUNDS = 7,   /* the range ends before it starts, or behind the document's last byte; or there is no such row */
+    JX_NO_UNIQUE_NAMES = 6, /* a reader, a document, a look-up, a stream, a save or a reader of lines keeps no names to check */
+    JX_OUT_OF_BOUNDS = 7,   /* the range ends before it starts, or behind the last byte; or there is no such row or chunk */
     JX_NO_DOCUMENT = 8,     /* the struct holds no document, or the pointer to it is null */
-    JX_NULL_POINTER = 9,    /* another pointer to a call on a document, an index, a look-up, values or lines is null */
+    JX_NULL_POINTER = 9,    /* another pointer to a call on a handle is null */
     JX_NO_INDEX = 10,       /* the struct holds no index, or the pointer to it is null */
     JX_NO_ROOM = 11,        /* there is more than the buffer has room for, and nothing was written to it: see the size or count */
     JX_NOT_A_RUN = 12,      /* the bytes are no run that this version of the library writes */
@@ -53,7 +52,21 @@ enum {
     JX_NO_LINES = 15,       /* the struct holds no reader of lines, or the pointer to it is null */
     JX_NO_FINDER = 17,      /* the struct holds no look-up, or the pointer to it is null */
     JX_NO_VALUES = 18,      /* the struct holds no stream of values, or the pointer to it is null */
-    JX_NOT_A_POINTER = 19   /* the bytes are no JSON Pointer: jx_at tells why, of any text */
+    JX_NOT_A_POINTER = 19,  /* the bytes are no JSON Pointer: jx_at tells why, of any text */
+    JX_NOT_SAVED = 20,      /* the bytes do not begin as a saved index does */
+    JX_OTHER_VERSION = 21,  /* the saved index is of another version of the format */
+    JX_CUT_SHORT = 22,      /* the bytes of the saved index end too early */
+    JX_DAMAGED = 23,        /* the saved index is of no text */
+    JX_MALFORMED = 24,      /* a field of the saved index is none that an index has */
+    JX_MORE_BYTES = 25,     /* other bytes than tables of names stand behind the saved index, or any behind the tables */
+    JX_OTHER_SIZE = 26,     /* the saved index is of a text of another size */
+    JX_CHANGED = 27,        /* the bytes of the chunk are not those of the text that was indexed */
+    JX_NO_SAVED = 28,       /* the struct holds no saved index, or the pointer to it is null */
+    JX_NO_SAVE = 29,        /* the struct holds no text whose index is made, or the pointer to it is null */
+    JX_NOT_A_CHUNK = 30,    /* the size of a chunk is no power of two from 64 to 1,048,576 */
+    JX_MORE_NEEDED = 31,    /* bytes of the text are needed first */
+    JX_NOT_BEGUN = 32,      /* no such look-up or split was begun; or the text has ended, or has not */
+    JX_READ_FAILED = 33     /* jx_saved_find: the caller's read_at failed, or gave fewer bytes */
 };
 
 /* Depths: how many containers may be open at once (RFC 8259, section 9, allows such a limit). A scalar has depth 0, a
@@ -463,6 +476,282 @@ static inline uint32_t jx_index_row(jx_index *index, size_t number, jx_row *row)
  * with a null pointer. */
 static inline void jx_index_free(jx_index *index) {
     if (index != NULL) jx_index_free_non_null(index);
+}
+
+/* The index of a text that comes slice by slice, to be saved beside it: 0.075 % of its size with chunks of 32 KiB. docs/FORMAT.md
+ * says what its bytes are; they depend on the text, the settings and the size of a chunk alone.
+ *
+ * The struct is a handle, which the library alone writes. Set it to {0}, which holds no text, before its first call. Free it once.
+ * It may be moved, also to another thread. Do not use a copy of it after a call on another copy.
+ *
+ * Null pointers are answered, and change nothing: JX_NO_SAVE where `save` is null, else JX_NULL_POINTER. Settings may be null, and
+ * so may bytes of the size 0, and a buffer without room. */
+typedef struct jx_save {
+    void *inside;
+} jx_save;
+
+/* The size of a chunk that the program jx takes. It changes no answer. */
+enum { JX_CHUNK_DEFAULT = 32768 };
+
+uint32_t jx_save_new_non_null(const jx_settings *settings, size_t chunk, jx_save *save);
+uint32_t jx_save_new_with_names_non_null(const jx_settings *settings, size_t chunk, jx_save *save);
+uint32_t jx_save_feed_non_null(jx_save *save, const uint8_t *bytes, size_t size);
+uint32_t jx_save_end_non_null(jx_save *save, size_t *index_size, jx_verdict *verdict);
+uint32_t jx_save_take_non_null(jx_save *save, uint8_t *index, size_t room, size_t *index_size);
+void jx_save_free_non_null(jx_save *save);
+
+/* Begins a text by settings, for an index of chunks of `chunk` bytes: a power of two from 64 to 1,048,576. A text that the struct
+ * held is freed. Any status but JX_OK leaves the struct as it was. It keeps no names, so it refuses JX_UNIQUE_NAMES.
+ *
+ * Allocates some 200 bytes, which jx_save_free frees. Returns JX_OK, JX_NO_MEMORY, JX_DEPTH_TOO_GREAT, JX_UNKNOWN_FLAG,
+ * JX_NO_UNIQUE_NAMES, JX_NOT_A_CHUNK or JX_NO_SAVE. */
+static inline uint32_t jx_save_new(const jx_settings *settings, size_t chunk, jx_save *save) {
+    if (save == NULL) return JX_NO_SAVE;
+    return jx_save_new_non_null(jx_settings_or_default(settings), chunk, save);
+}
+
+/* The same, with tables of the text's names behind the index. By these a look-up needs only the chunks of an object that may have
+ * the name. Without them it needs all chunks of the object. The answers are the same. The calls below speak of the index and mean
+ * the tables too. A name takes at most four bytes of them.
+ *
+ * Allocates some 300 bytes, which jx_save_free frees. Returns what jx_save_new returns. */
+static inline uint32_t jx_save_new_with_names(const jx_settings *settings, size_t chunk, jx_save *save) {
+    if (save == NULL) return JX_NO_SAVE;
+    return jx_save_new_with_names_non_null(jx_settings_or_default(settings), chunk, save);
+}
+
+/* Feeds the next bytes of the text. A slice may have any size, including 0, and may end anywhere: the index is the same for all
+ * slices. Bytes behind a fault are not looked at.
+ *
+ * Allocates 32 bytes or some more for each chunk, and keeps less than one chunk of the text. With tables it allocates 8 bytes or
+ * some more for each name too, and keeps a name that a chunk cuts. After JX_NO_MEMORY, also for 2^64 bytes or more in all, the struct
+ * holds no text. Returns JX_OK, JX_NO_MEMORY, JX_NOT_BEGUN where the text has ended, JX_NO_SAVE or JX_NULL_POINTER. */
+static inline uint32_t jx_save_feed(jx_save *save, const uint8_t *bytes, size_t size) {
+    static const uint8_t none[1] = {0};
+    if (save == NULL) return JX_NO_SAVE;
+    if (bytes == NULL && size != 0) return JX_NULL_POINTER;
+    return jx_save_feed_non_null(save, bytes == NULL ? none : bytes, size);
+}
+
+/* Ends the text: writes the verdict on all bytes that were fed, that of jx_check, and how many bytes the index has. Where the text
+ * is accepted, they wait in the struct until it is freed: jx_save_take copies them. Else the struct holds no text, and the size
+ * is 0.
+ *
+ * Allocates memory in proportion to the index. After JX_NO_MEMORY the struct holds no text. Returns JX_OK, JX_NO_MEMORY,
+ * JX_NOT_BEGUN where the text has ended before, JX_NO_SAVE or JX_NULL_POINTER. */
+static inline uint32_t jx_save_end(jx_save *save, size_t *index_size, jx_verdict *verdict) {
+    if (save == NULL) return JX_NO_SAVE;
+    if (index_size == NULL || verdict == NULL) return JX_NULL_POINTER;
+    return jx_save_end_non_null(save, index_size, verdict);
+}
+
+/* Copies the bytes of the index to `index`, once the text has ended, and writes their size to `index_size`. More than `room` bytes
+ * are not written, and JX_NO_ROOM is returned. No byte of `index` behind them is changed.
+ *
+ * Allocates nothing. Returns JX_OK, JX_NO_ROOM, JX_NOT_BEGUN where the text has not ended, JX_NO_SAVE or JX_NULL_POINTER. */
+static inline uint32_t jx_save_take(jx_save *save, uint8_t *index, size_t room, size_t *index_size) {
+    uint8_t none[1] = {0};
+    if (save == NULL) return JX_NO_SAVE;
+    if (index_size == NULL || (index == NULL && room != 0)) return JX_NULL_POINTER;
+    return jx_save_take_non_null(save, index == NULL ? none : index, room, index_size);
+}
+
+/* Frees what the struct holds, if it holds something, and sets it to {0}. So a second call on the same struct does nothing, nor
+ * does one with a null pointer. */
+static inline void jx_save_free(jx_save *save) {
+    if (save != NULL) jx_save_free_non_null(save);
+}
+
+/* A saved index of a text: pointers into the text, and parts of its containers, from a few chunks of it. The library reads no file.
+ * It tells which bytes of the text it needs, and the caller gives them, from a file, a map or a request to a server.
+ *
+ * An answer is RFC 6901's on the text that was indexed, unless a chunk that was given has the kept digest and other bytes. A chunk
+ * that is changed is told where it is given. Chunks that are not needed are not looked at. A digest finds change, not forgery: of a
+ * made-up index answers are of no use, but all calls are safe and end.
+ *
+ * One look-up of pointers or one split at a time goes on by an index. The next one that begins takes its place.
+ *
+ * The struct is a handle, which the library alone writes. Set it to {0}, which holds no index, before its first call. Free it once.
+ * It may be moved, also to another thread. Do not use a copy of it after a call on another copy.
+ *
+ * Null pointers are answered, and change nothing: JX_NO_SAVED where `saved` is null, else JX_NULL_POINTER. Bytes of the size 0 may
+ * be null, and so may a list or a buffer without room. */
+typedef struct jx_saved {
+    void *inside;
+} jx_saved;
+
+/* What a saved index says of its text. */
+typedef struct jx_saved_text {
+    size_t size;    /* of the text, in bytes */
+    size_t chunk;   /* how many bytes each chunk has, but for the last one */
+    uint32_t depth; /* the settings by which the text was accepted */
+    uint32_t flags;
+} jx_saved_text;
+
+/* Whole children of a container, one behind another, and what stands between them. With brackets around it, it is a JSON text. */
+typedef struct jx_part {
+    jx_span span;  /* from behind the comma or bracket before its first child, up to the one behind its last */
+    size_t number; /* which part of the container's bytes it is, from 0 */
+    size_t first;  /* its first child, counted from 0 in the container */
+    size_t end;    /* the child behind its last one */
+} jx_part;
+
+/* Into at most so many parts a container is split. */
+enum { JX_PARTS_MAX = 65536 };
+
+uint32_t jx_saved_open_non_null(const uint8_t *index, size_t index_size, size_t text_size, jx_saved *saved);
+uint32_t jx_saved_about_non_null(jx_saved *saved, jx_saved_text *text);
+uint32_t jx_saved_seek_non_null(jx_saved *saved, const jx_pointer *pointers, size_t count);
+uint32_t jx_saved_split_non_null(jx_saved *saved, const jx_span *container, size_t parts);
+uint32_t jx_saved_needs_non_null(jx_saved *saved, jx_span *need);
+uint32_t jx_saved_give_non_null(jx_saved *saved, const uint8_t *bytes, size_t size);
+uint32_t jx_saved_answers_non_null(jx_saved *saved, jx_answer *answers, size_t room);
+uint32_t jx_saved_parts_non_null(jx_saved *saved, jx_part *parts, size_t room, size_t *count);
+uint32_t jx_saved_chunk_non_null(jx_saved *saved, size_t at, jx_span *chunk);
+uint32_t jx_saved_check_non_null(jx_saved *saved, size_t at, const uint8_t *bytes, size_t size);
+void jx_saved_free_non_null(jx_saved *saved);
+
+/* Opens a saved index by its bytes, of a text of `text_size` bytes. It keeps no pointer to the bytes, and looks at them before it
+ * uses them: any bytes may be passed. An index that the struct held is freed. Any status but JX_OK leaves the struct as it was.
+ * Where tables of names stand behind the index, look-ups go by them.
+ *
+ * Allocates memory in proportion to the index, which jx_saved_free frees. Returns JX_OK, JX_NO_MEMORY, JX_NOT_SAVED,
+ * JX_OTHER_VERSION, JX_CUT_SHORT, JX_DAMAGED, JX_MALFORMED, JX_MORE_BYTES, JX_OTHER_SIZE, JX_NO_SAVED or JX_NULL_POINTER. */
+static inline uint32_t jx_saved_open(const uint8_t *index, size_t index_size, size_t text_size, jx_saved *saved) {
+    static const uint8_t none[1] = {0};
+    if (saved == NULL) return JX_NO_SAVED;
+    if (index == NULL && index_size != 0) return JX_NULL_POINTER;
+    return jx_saved_open_non_null(index == NULL ? none : index, index_size, text_size, saved);
+}
+
+/* Tells what the index says of its text.
+ *
+ * Allocates nothing. Returns JX_OK, JX_NO_SAVED or JX_NULL_POINTER. */
+static inline uint32_t jx_saved_about(jx_saved *saved, jx_saved_text *text) {
+    if (saved == NULL) return JX_NO_SAVED;
+    if (text == NULL) return JX_NULL_POINTER;
+    return jx_saved_about_non_null(saved, text);
+}
+
+/* Begins a look-up of pointers (RFC 6901). The list, and the bytes of each pointer, must stay as they are until the look-up ends,
+ * another look-up or a split begins, or the index is freed: the library keeps pointers to them.
+ *
+ * Allocates memory in proportion to the pointers, which the end of the look-up frees. After JX_NO_MEMORY what went on goes on.
+ * Returns JX_OK, JX_NO_MEMORY, JX_NO_SAVED or JX_NULL_POINTER. */
+static inline uint32_t jx_saved_seek(jx_saved *saved, const jx_pointer *pointers, size_t count) {
+    static const uint8_t empty[1] = {0};
+    static const jx_pointer none[1] = {{empty, 0}};
+    if (saved == NULL) return JX_NO_SAVED;
+    if (pointers == NULL && count != 0) return JX_NULL_POINTER;
+    return jx_saved_seek_non_null(saved, pointers == NULL ? none : pointers, count);
+}
+
+/* Begins a split of an array or an object into `parts` parts, from 1 to JX_PARTS_MAX, by its span as a look-up told it. Of another
+ * span the parts are of no use. In a container a..b the child behind a comma at c, or at a for the first one, stands in part
+ * (c - a) * parts / (b - a), without the remainder. So the parts are the text's, whatever the size of a chunk.
+ *
+ * Allocates nothing. Returns JX_OK, JX_OUT_OF_BOUNDS for a span that is empty or ends behind the text, or no such number of parts,
+ * JX_NO_SAVED or JX_NULL_POINTER. */
+static inline uint32_t jx_saved_split(jx_saved *saved, const jx_span *container, size_t parts) {
+    if (saved == NULL) return JX_NO_SAVED;
+    if (container == NULL) return JX_NULL_POINTER;
+    return jx_saved_split_non_null(saved, container, parts);
+}
+
+/* Tells which bytes of the text are to be given next: one chunk. Start and end are 0 where no more are needed, or nothing goes on.
+ * Each chunk stands behind those before it.
+ *
+ * Allocates nothing. Returns JX_OK, JX_NO_SAVED or JX_NULL_POINTER. */
+static inline uint32_t jx_saved_needs(jx_saved *saved, jx_span *need) {
+    if (saved == NULL) return JX_NO_SAVED;
+    if (need == NULL) return JX_NULL_POINTER;
+    return jx_saved_needs_non_null(saved, need);
+}
+
+/* Gives the bytes that are needed, all of them. Where they are not those of the text that was indexed, JX_CHANGED is returned, and
+ * other bytes may be given. After JX_DAMAGED and JX_NO_MEMORY nothing goes on any more. Where none are needed, nothing is done.
+ *
+ * Allocates memory for how deep the text nests where pointers lead, for a name that a chunk cuts, and for the parts. With tables it
+ * allocates four bytes or some more for each token of the pointers, and frees them. Returns JX_OK, JX_CHANGED, JX_DAMAGED,
+ * JX_NO_MEMORY, JX_NOT_BEGUN where nothing goes on, JX_NO_SAVED or JX_NULL_POINTER. */
+static inline uint32_t jx_saved_give(jx_saved *saved, const uint8_t *bytes, size_t size) {
+    static const uint8_t none[1] = {0};
+    if (saved == NULL) return JX_NO_SAVED;
+    if (bytes == NULL && size != 0) return JX_NULL_POINTER;
+    return jx_saved_give_non_null(saved, bytes == NULL ? none : bytes, size);
+}
+
+/* Ends the look-up: writes what each pointer names in the text that was indexed, as jx_at tells it, in the order of the pointers.
+ * Writes as many answers as fit, and leaves the rest of `answers` unchanged. Names may repeat, whatever settings the index has.
+ *
+ * Allocates memory in proportion to the pointers and frees it. Returns JX_OK, JX_MORE_NEEDED, JX_DAMAGED, JX_NO_MEMORY, JX_NOT_BEGUN
+ * where no look-up goes on, JX_NO_SAVED or JX_NULL_POINTER. */
+static inline uint32_t jx_saved_answers(jx_saved *saved, jx_answer *answers, size_t room) {
+    jx_answer none[1];
+    if (saved == NULL) return JX_NO_SAVED;
+    if (answers == NULL && room != 0) return JX_NULL_POINTER;
+    return jx_saved_answers_non_null(saved, answers == NULL ? none : answers, room);
+}
+
+/* Ends the split: writes the parts that have a child, in order, as many as fit, and leaves the rest of `parts` unchanged. Writes how
+ * many there are to `count`: none for an empty container, and at most as many as were asked for.
+ *
+ * Allocates nothing. Returns JX_OK, JX_MORE_NEEDED, JX_DAMAGED, JX_NO_MEMORY where memory was refused before, JX_NOT_BEGUN where no
+ * split goes on, JX_NO_SAVED or JX_NULL_POINTER. */
+static inline uint32_t jx_saved_parts(jx_saved *saved, jx_part *parts, size_t room, size_t *count) {
+    jx_part none[1];
+    if (saved == NULL) return JX_NO_SAVED;
+    if (count == NULL || (parts == NULL && room != 0)) return JX_NULL_POINTER;
+    return jx_saved_parts_non_null(saved, parts == NULL ? none : parts, room, count);
+}
+
+/* Tells where the chunk stands in whose place an offset of the text falls. The last chunk may end before its place does.
+ *
+ * Allocates nothing. Returns JX_OK, JX_OUT_OF_BOUNDS behind the place of the last chunk, JX_NO_SAVED or JX_NULL_POINTER. */
+static inline uint32_t jx_saved_chunk(jx_saved *saved, size_t at, jx_span *chunk) {
+    if (saved == NULL) return JX_NO_SAVED;
+    if (chunk == NULL) return JX_NULL_POINTER;
+    return jx_saved_chunk_non_null(saved, at, chunk);
+}
+
+/* Tells whether bytes are those of the chunk that has the byte at an offset, as far as their digest tells. So a value that was found
+ * is read as it was indexed: check the chunks in which it stands.
+ *
+ * Allocates nothing. Returns JX_OK, JX_CHANGED, JX_OUT_OF_BOUNDS as of jx_saved_chunk, JX_NO_SAVED or JX_NULL_POINTER. */
+static inline uint32_t jx_saved_check(jx_saved *saved, size_t at, const uint8_t *bytes, size_t size) {
+    static const uint8_t none[1] = {0};
+    if (saved == NULL) return JX_NO_SAVED;
+    if (bytes == NULL && size != 0) return JX_NULL_POINTER;
+    return jx_saved_check_non_null(saved, at, bytes == NULL ? none : bytes, size);
+}
+
+/* Frees the index and what goes on by it, if there is one, and sets the struct to {0}. So a second call on the same struct does
+ * nothing, nor does one with a null pointer. */
+static inline void jx_saved_free(jx_saved *saved) {
+    if (saved != NULL) jx_saved_free_non_null(saved);
+}
+
+/* Reads `size` bytes of the text from the offset `from` on, all of them. Returns 0, or anything else where that fails. */
+typedef int (*jx_read_at)(void *context, size_t from, uint8_t *bytes, size_t size);
+
+/* Looks pointers up in one call: begins a look-up, reads each chunk that it needs into `buffer` by `read_at`, and ends it. `room` is
+ * at least the size of a chunk, which jx_saved_about tells. `read_at` is called by this function, not by the library.
+ *
+ * Returns what jx_saved_seek, jx_saved_give and jx_saved_answers return; JX_NO_ROOM for a buffer that is smaller than a chunk, or
+ * JX_READ_FAILED. */
+static inline uint32_t jx_saved_find(jx_saved *saved, jx_read_at read_at, void *context, uint8_t *buffer, size_t room,
+                                     const jx_pointer *pointers, size_t count, jx_answer *answers) {
+    jx_span need = {0, 0};
+    uint32_t status;
+    if (saved == NULL) return JX_NO_SAVED;
+    if (read_at == NULL || buffer == NULL || (answers == NULL && count != 0)) return JX_NULL_POINTER;
+    status = jx_saved_seek(saved, pointers, count);
+    while (status == JX_OK && (status = jx_saved_needs(saved, &need)) == JX_OK && need.start != need.end) {
+        if (need.end - need.start > room) return JX_NO_ROOM;
+        if (read_at(context, need.start, buffer, need.end - need.start) != 0) return JX_READ_FAILED;
+        status = jx_saved_give(saved, buffer, need.end - need.start);
+    }
+    return status == JX_OK ? jx_saved_answers(saved, answers, count) : status;
 }
 
 /* Kinds of verdicts on elements of sequences, in addition to those on texts. */

@@ -1,5 +1,5 @@
 """Pointers by a saved index: `jx at --index` answers as a reader does that is written from RFC 8259 and RFC 6901 alone. Texts are those that
-saved.py makes, and their indexes too. Then what is wrong with a text or an index is told by its name, or the answer is that on the text
+saved.py makes, and their indexes too, half of them with tables of names, which change no answer. Then what is wrong with a text or an index is told by its name, or the answer is that on the text
 that was indexed. `jx get --index` writes and tells what `jx get` does of that text, or whole lines for the first of the pointers before
 such a fault; of a value in a chunk that has changed there is no line. The last line is `N passed, M failed`.
 
@@ -167,10 +167,11 @@ def got_by_index(index, text, pointers, words=()):
 
 
 class Case:
-    """A random text, its index, and pointers into it."""
+    """A random text, its index, with tables of its names or without, and pointers into it."""
 
     def __init__(self, rng):
-        self.text = saved.text_of(rng)
+        self.names = rng.random() < 0.5
+        self.text = saved.text_of_names(rng) if self.names and rng.random() < 0.5 else saved.text_of(rng)
         self.ignores = rng.random() < 0.3
         if self.ignores and rng.random() < 0.5:
             self.text = saved.MARK + self.text
@@ -178,7 +179,7 @@ class Case:
         self.root = tree(self.text, 3 if self.text.startswith(saved.MARK) else 0)
         self.pointers = some_pointers(rng, self.root)
         self.right = right(self.root, self.pointers)
-        self.index = saved.index(self.text, 512, self.ignores, self.chunk)
+        self.index = saved.saved(self.text, 512, self.ignores, self.chunk, names=self.names)
 
     def changed(self, other):
         """That each chunk in which the text differs is told to be changed."""
@@ -251,7 +252,7 @@ def of_the_index_of_another(rng, case, last):
     """The index is that of another text, which is as long where that can be."""
     longer, shorter = (case, last) if len(case.text) >= len(last.text) else (last, case)
     filled = shorter.text + b" " * (len(longer.text) - len(shorter.text))
-    index = saved.index(filled, 512, shorter.ignores, shorter.chunk)
+    index = saved.saved(filled, 512, shorter.ignores, shorter.chunk, names=shorter.names)
     wanted = right(shorter.root, longer.pointers)
     spans = [(at, min(at + shorter.chunk, len(filled))) for at in range(0, len(filled), shorter.chunk)]
     told = [fault("text: changed in %d..%d" % (low, high)) for low, high in spans if filled[low:high] != longer.text[low:high]]
@@ -260,8 +261,8 @@ def of_the_index_of_another(rng, case, last):
 
 def of_another_index(rng, case):
     """Bytes of the index are others, with digests made anew or not, or some are gone or more than there were."""
-    index = saved.changed(rng, case.index)
-    told = saved.load(index)
+    index = saved.tables_changed(rng, case.index) if case.names and rng.random() < 0.5 else saved.changed(rng, case.index)
+    told = saved.load_all(index)
     size = struct.unpack_from("<Q", index, 8)[0] if len(index) >= 16 else 0
     if told in ("not a saved index", "another version") or len(index) < 64 or saved.xxh64(index[:56]) != struct.unpack_from("<Q", index, 56)[0]:
         wanted = [fault("text.jxi: " + told)]
@@ -277,24 +278,69 @@ def of_another_index(rng, case):
     same("another index %r of %r" % (index, case.text), wanted, looked_up(index, case.text, case.pointers))
 
 
+def of_the_tables_of_another(rng, case, last):
+    """The tables behind the index are those of another text, with the digest that they had. No more is read than a text of this size asks for."""
+    if not (case.names and last.names):
+        return
+    front, other = saved.end_of_index(case.index), saved.end_of_index(last.index)
+    swapped = case.index[:front] + last.index[other:]
+    told = saved.load_all(swapped[:saved.most_bytes(len(case.text))])
+    wanted = [case.right] if swapped == case.index else [fault("text.jxi: " + told)]
+    same("the tables of %r behind the index of %r" % (last.text, case.text), wanted, looked_up(swapped, case.text, case.pointers))
+
+
+def of_many_members(rng):
+    """Of a long object those chunks alone are looked at in which a member with a wanted name may stand: all others may have changed."""
+    members = 5000
+    text = ("{" + ",".join('"member %d":{"number":%d,"more":"%s"}' % (n, n, "x" * rng.randrange(20)) for n in range(members)) + "}").encode()
+    chunks = -(-len(text) // 64)
+    index = saved.saved(text, 512, False, 64, names=True)
+    reading, root = saved.Reading(text, 0), tree(text, 0)
+    # Where a chunk begins within a name of the object, it is read if the one before is.
+    cut = {k for k in range(chunks) if reading.state(64 * k) != "Gap" and reading.expect(64 * k) == "Colon" and reading.depth(64 * k) == 1}
+
+    def with_cut_names(low, high):
+        while low in cut:
+            low -= 1
+        while high in cut:
+            high += 1
+        return range(low, min(high, chunks))
+
+    for number in (0, 1, 777, 1234, members - 1, members):
+        wanted = saved.number_of(b'"member %d"' % number)
+        keys = [k for k in range(chunks) if any(key // 64 == wanted for key in saved.keys_of(reading, 64, k))]
+        # A value ends in the chunk of its name or in the next one. The first chunk has the bracket of the object, and names that no table has.
+        read = {k for spans in [(0, 2), (chunks - 1, chunks), *((key, key + 2) for key in keys)] for k in with_cut_names(*spans)}
+        other = b"".join(text[64 * k:64 * k + 64] if k in read else b"x" * len(text[64 * k:64 * k + 64]) for k in range(chunks))
+        pointers = ["/member %d/number" % number]
+        same("the member %d by tables" % number, [right(root, pointers)], looked_up(index, text, pointers))
+        same("the member %d by tables, where other chunks have changed" % number, [right(root, pointers)], looked_up(index, other, pointers))
+        without = looked_up(saved.index(text, 512, False, 64), other, pointers)
+        same("the member %d without tables, where they have" % number, [("", 2)], (without[0], without[2]))
+
+
 def of_many_chunks(rng):
     """Of a text of more chunks than a block of blocks has, so that whole blocks are passed over: 64 times 64 chunks of 64 bytes."""
     values = []
     while sum(map(len, values)) < 70 * 64 * 64:
         values.append(saved.value(rng, rng.choice((0, 1, 2, 4))))
-    text = ('{"front":[1,{}],"all":[%s],"behind":{"last":[7]}}' % ",".join(values)).encode("utf-8", "surrogatepass")
-    pathlib.Path("many").write_bytes(text)
-    index = subprocess.run([PROGRAM, "save", "--chunk", "64", "many"], stdout=subprocess.PIPE).stdout
-    root = tree(text, 0)
-    every = [pointer for pointer in all_pointers(root) if can_be_a_word(pointer)]
-    for count in (1, 1, 1, 2, 5, 40):
-        pointers = rng.sample(every, count) + ["/all/%d" % rng.randrange(len(values)), "/behind/last/0", "/all/%d" % len(values)]
-        same("pointers %r into many chunks" % pointers, [right(root, pointers)], looked_up(index, text, pointers))
+    named = ",".join('"%d":%s' % (number, value) for number, value in enumerate(values))
+    for all_of in ("[%s]" % ",".join(values), "{%s}" % named):
+        text = ('{"front":[1,{}],"all":%s,"behind":{"last":[7]}}' % all_of).encode("utf-8", "surrogatepass")
+        pathlib.Path("many").write_bytes(text)
+        root = tree(text, 0)
+        every = [pointer for pointer in all_pointers(root) if can_be_a_word(pointer)]
+        for options in ([], ["--names"]):
+            index = subprocess.run([PROGRAM, "save", "--chunk", "64", *options, "many"], stdout=subprocess.PIPE).stdout
+            for count in (1, 1, 1, 2, 5, 40):
+                pointers = rng.sample(every, count) + ["/all/%d" % rng.randrange(len(values)), "/behind/last/0", "/all/%d" % len(values)]
+                same("pointers %r into many chunks" % pointers, [right(root, pointers)], looked_up(index, text, pointers))
 
 
 def main():
     rng = random.Random(int(sys.argv[1]))
     of_many_chunks(rng)
+    of_many_members(rng)
     last = Case(rng)
     for _ in range(int(sys.argv[2])):
         case = Case(rng)
@@ -302,6 +348,7 @@ def main():
         of_another_text(rng, case)
         of_the_index_of_another(rng, case, last)
         of_another_index(rng, case)
+        of_the_tables_of_another(rng, case, last)
         values_as_they_are(rng, case)
         values_of_another_text(rng, case)
         values_without_a_text(rng, case)

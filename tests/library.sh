@@ -38,7 +38,7 @@ c_programs_come_to_what_the_table_says() {
             continue
         fi
         is_compiled=yes
-        for name in verdicts indexed indexes finder values sequences lines settings documents runs compact; do
+        for name in verdicts indexed indexes finder values saved sequences lines settings documents runs compact; do
             c_program "$compiler" "$name"
         done
     done

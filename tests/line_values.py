@@ -12,22 +12,13 @@ import tempfile
 import threading
 import time
 
-HERE = pathlib.Path(__file__).resolve().parent
-PROGRAM = os.environ.get("JX_PROGRAM", HERE.parent / "crates" / "jx" / "out" / "jx")
+import counts
+from counts import HERE, PROGRAM, same
+
 INPUTS = int(os.environ.get("JX_LINE_VALUES", "1000"))
 BLANKS = b" \t\n\r"
 MARK = b"\xef\xbb\xbf"
-failed = passed = 0
 sys.setrecursionlimit(10000)
-
-
-def same(name, wanted, got):
-    global failed, passed
-    if wanted == got:
-        passed += 1
-        return
-    failed += 1
-    print("line_values.py: FAILED: %s\n--- wanted\n%s\n--- got\n%s" % (name, str(wanted)[:2000], str(got)[:2000]))
 
 
 # ---- one line
@@ -350,4 +341,4 @@ with tempfile.TemporaryDirectory() as folder:
     for test in (randomly, each_line_alone, in_slices, long_lines):
         test()
     os.chdir(HERE)
-print("%d passed, %d failed" % (passed, failed))
+counts.ended()

@@ -10,23 +10,14 @@ import sys
 import threading
 import time
 
-HERE = pathlib.Path(__file__).resolve().parent
-PROGRAM = os.environ.get("JX_PROGRAM", HERE.parent / "crates" / "jx" / "out" / "jx")
+import counts
+from counts import PROGRAM, same
+
 INPUTS = int(os.environ.get("JX_LINES", "1200"))
 SHARED = int(os.environ.get("JX_SHARED_LINES", "8"))
 BLANKS = b" \t\n\r"
 MARK = b"\xef\xbb\xbf"
-failed = passed = 0
 sys.setrecursionlimit(10000)
-
-
-def same(name, wanted, got):
-    global failed, passed
-    if wanted == got:
-        passed += 1
-        return
-    failed += 1
-    print("lines.py: FAILED: %s\n--- wanted\n%s\n--- got\n%s" % (name, str(wanted)[:2000], str(got)[:2000]))
 
 
 # ---- one text
@@ -367,4 +358,4 @@ random_sequences()
 in_slices()
 sequences_in_slices()
 long_lines()
-print("%d passed, %d failed" % (passed, failed))
+counts.ended()

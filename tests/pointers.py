@@ -136,7 +136,8 @@ def most_memory(process):
 
 
 def a_long_text_from_a_pipe():
-    """Of 64 MB one worker holds a batch of 256 KiB, several two of 8 MiB. Its memory is asked for before the last bytes are written."""
+    """Of 64 MB one worker holds a batch of 256 KiB, several two of 8 MiB, also where names have to be unique. Its memory is asked for before
+    the last bytes are written. Then a name is repeated behind what was found."""
     record = b'{"name":"\\u0061","values":[10,20,30,true,null]},'
     part = record * (1000000 // len(record))
     start = 1 + 7 * len(record)
@@ -147,20 +148,30 @@ def a_long_text_from_a_pipe():
         (b"not an index at token 0", b"/values"),
         (b"no such member at token 1", b"/9/b"),
     ]
-    for count in (1, len(lines)):
+    one, all_of_them = (of_lines([answer for answer, _ in part_of_lines]) for part_of_lines in (lines[:1], lines))
+    unique, twice = ["--unique-names"], b'{"a":1,"a":2}]'
+    repeated = b"repeated name at %d\n" % (1 + 64 * len(part) + twice.rindex(b'"a"'))
+    cases = [
+        (1, [], b"0]", one),
+        (1, unique, b"0]", one),
+        (len(lines), [], twice, all_of_them),
+        (len(lines), unique, b"0]", all_of_them),
+        (len(lines), unique, twice, (repeated, 1)),
+    ]
+    for count, options, end, wanted in cases:
         for workers, most in (("1", 8000000), ("4", 32000000)):
-            name = "%d pointers into 64 MB from a pipe by workers: %s" % (count, workers)
-            words = [PROGRAM, "at", "--workers", workers, *(pointer for _, pointer in lines[:count])]
+            name = "%d pointers %s into 64 MB from a pipe that ends with %r by workers: %s" % (count, options, end, workers)
+            words = [PROGRAM, "at", *options, "--workers", workers, *(pointer for _, pointer in lines[:count])]
             with subprocess.Popen(words, stdin=subprocess.PIPE, stdout=subprocess.PIPE) as process:
                 process.stdin.write(b"[")
                 for _ in range(64):
                     process.stdin.write(part)
                 process.stdin.flush()
                 held = most_memory(process)
-                process.stdin.write(b"0]")
+                process.stdin.write(end)
                 process.stdin.close()
                 out = process.stdout.read()
-            same(name, of_lines([answer for answer, _ in lines[:count]]), (out, process.returncode))
+            same(name, wanted, (out, process.returncode))
             same(name + ": memory", "at most %d bytes" % most, "at most %d bytes" % most if held <= most else "%d bytes" % held)
 
 

@@ -30,6 +30,31 @@ the_tests_of_the_package_pass() {
     fi
 }
 
+# Another one each day; JX_SEED plays one again.
+seed=${JX_SEED:-$(date +%Y%m%d)}
+
+# all_right NAME SAID LEAST: counts what a script tells that it looked at, of which all is right.
+all_right() {
+    if [[ ${2##*$'\n'} =~ ^([0-9]+)\ passed,\ 0\ failed$ ]] && [ "${BASH_REMATCH[1]}" -ge "$3" ]; then
+        passed=$((passed + BASH_REMATCH[1]))
+    else
+        same "$1 of seed $seed" 'all right' "${2: -3000}"
+    fi
+}
+
+saved_texts_are_as_a_plain_reader_reads_them() {
+    all_right 'random texts and their indexes' "$(JX_PYTHON=ctypes "$python" "$root/tests/by_library.py" "$seed" 10000 2>&1)" 110000
+}
+
+# Else a wrong answer might pass too.
+a_wrong_answer_by_an_index_is_told() {
+    mkdir -p wrong
+    cp -R "$root/bindings/python/jx" wrong
+    sed -i 's/return \[(one.outcome, one.at, one.kind, one.span.start, one.span.end) for one in told\]/return [(one.outcome, one.at, one.kind, one.span.start, one.span.end + 1) for one in told]/' wrong/jx/_saved.py
+    same 'the copy differs' yes "$(cmp -s wrong/jx/_saved.py "$root/bindings/python/jx/_saved.py" || echo yes)"
+    has 'a wrong answer is told' 'by_library.py: FAILED: pointers: ' "$(JX_LIBRARY=${JX_LIBRARY:-$root/crates/jx_c/out/libjx.so.0} JX_PYTHON=ctypes PYTHONPATH=$room/wrong "$python" "$root/tests/by_library.py" 1 20 2>&1)"
+}
+
 the_samples_of_the_pages_run() {
     local page
     for page in PYTHON RECIPES; do
@@ -88,6 +113,8 @@ the_wheel_works_in_a_fresh_environment() {
 
 if "$root/tools/library" >built 2>&1; then
     tests the_tests_of_the_package_pass \
+        saved_texts_are_as_a_plain_reader_reads_them \
+        a_wrong_answer_by_an_index_is_told \
         the_samples_of_the_pages_run \
         the_loader_of_the_page_loads \
         the_types_are_accepted \

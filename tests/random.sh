@@ -1,5 +1,6 @@
 #!/usr/bin/env bash
-# The program and the language server by texts, cuts and sessions that dice make, held to the plain readers of fuzz/readers.
+# The program and the language server by texts, cuts and sessions that dice make, held to the plain readers of fuzz/readers; and the program by
+# texts with one fault at each place of a block.
 . "$(dirname "$0")/lib.sh"
 server=${JX_LSP_PROGRAM:-$root/crates/jx_lsp/out/jx_lsp}
 # Another one each day; JX_SEED plays one again.
@@ -26,6 +27,10 @@ the_program_answers_as_the_plain_readers_do() {
         ': ([0-9]+) answers are right, 0 wrong$' 20000
 }
 
+a_fault_is_found_at_each_place_of_a_block() {
+    all_right 'faults in blocks' "$(JX_PROGRAM=$program python3 "$root/tests/blocks.py" 2>&1)" '^([0-9]+) passed, 0 failed$' 8000
+}
+
 # Else a fault of the program might pass too.
 a_wrong_answer_is_told() {
     printf '#!/bin/sh\n"%s" "$@" | sed "s/truncated/accepted/"\n' "$program" >wrong
@@ -46,4 +51,5 @@ if ! command -v python3 >/dev/null || ! "$root/fuzz/build" "$room" READERS; then
     tests
 fi
 echo "random.sh: the seed is $seed"
-tests the_plain_readers_read_the_standards_examples the_program_answers_as_the_plain_readers_do a_wrong_answer_is_told the_server_answers_as_the_plain_readers_do
+tests the_plain_readers_read_the_standards_examples the_program_answers_as_the_plain_readers_do a_fault_is_found_at_each_place_of_a_block \
+    a_wrong_answer_is_told the_server_answers_as_the_plain_readers_do

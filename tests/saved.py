@@ -1,4 +1,5 @@
-"""Saved indexes: the bytes of the index of a text, and what bytes say, by docs/FORMAT.md and RFC 8259 alone. Nothing of a crate is called.
+"""Saved indexes: the bytes of the index of a text and of tables of its names, and what bytes say, by docs/FORMAT.md and RFC 8259 alone. Nothing
+of a crate is called.
 
     saved.py lines SEED COUNT     writes lines for crates/test_calls_of_indexes: for each of so many random texts one to index it, in chunks from
                                   64 bytes, and one to read bytes of its index, which often have something amiss
@@ -9,6 +10,7 @@
 The sum of a chunk is taken from the depths at its marks, and not mark by mark as the crate takes it.
 """
 import bisect
+import json
 import random
 import re
 import struct
@@ -251,6 +253,54 @@ def index(text, depth, ignores, chunk, unique=False):
     return head + struct.pack("<Q", xxh64(head)) + body
 
 
+# ---- tables of names
+
+NAMES_TAG = b"\x89jxnam\x0a\x01"
+NONE_KEPT = (1 << 32) - 1
+
+
+def number_of(name):
+    """The number of a name, by its bytes with the quotation marks."""
+    spelt_so = json.loads(name.decode("utf-8", "surrogatepass"), strict=False).encode("utf-16-le", "surrogatepass")
+    units = struct.unpack("<%dH" % (len(spelt_so) // 2), spelt_so)
+    return xxh64(struct.pack("<%dI" % len(units), *units)) % (1 << 26)
+
+
+def keys_of(reading, chunk, k):
+    """The keys of the names that end in a chunk, and stand where as few containers are open as anywhere in it."""
+    low, high = k * chunk, min((k + 1) * chunk, len(reading.text))
+    lowest = min([reading.depth(low)] + [mark[2] for mark in reading.marks[reading.count(low):reading.count(high)]])
+    keys = []
+    # A name whose end lies in the chunk has begun there, or is the last token before it.
+    for place in range(max(0, reading.count(low) - 1), reading.count(high)):
+        kind, begin, end = reading.tokens[place]
+        if kind == "string" and low < end <= high and reading.marks[place][2:] == (lowest, "Colon"):
+            keys.append(64 * number_of(reading.text[begin:end]) + k % 64)
+    return keys
+
+
+def table(reading, chunk, first, count):
+    """The table of 64 chunks, or of those that are left."""
+    keys = sorted(key for k in range(first, min(first + 64, count)) for key in keys_of(reading, chunk, k))
+    if len(keys) > 4 * chunk:
+        return struct.pack("<I", NONE_KEPT)
+    return struct.pack("<%dI" % (len(keys) + 1), len(keys), *keys)
+
+
+def names_behind(front, text, ignores, chunk):
+    """The bytes of an index, and behind them those of tables."""
+    reading = Reading(text, 3 if ignores and text.startswith(MARK) else 0)
+    count = -(-len(text) // chunk)
+    front += NAMES_TAG + b"".join(table(reading, chunk, first, count) for first in range(0, count, 64))
+    return front + struct.pack("<Q", xxh64(front))
+
+
+def saved(text, depth, ignores, chunk, unique=False, names=False):
+    """What is saved of a text: its index, and tables of its names where they are wanted."""
+    front = index(text, depth, ignores, chunk, unique)
+    return names_behind(front, text, ignores, chunk) if names else front
+
+
 # ---- what bytes say
 
 class Fault(Exception):
@@ -313,8 +363,75 @@ def load(data):
         return str(fault)
 
 
+def end_of_index(data):
+    """Where tables begin, or the end of the bytes where none do."""
+    if len(data) >= 64:
+        size, chunk = struct.unpack_from("<QI", data, 8)
+        if size and chunk >= 64:
+            end = 64 + 24 * kept_of(size, chunk)
+            if data[end:end + 8] == NAMES_TAG:
+                return end
+    return len(data)
+
+
+def most_bytes(size):
+    """How many bytes are read at most of an index, and of tables behind it, where the text has so many."""
+    return size + 52 * (size // 64 + 1) + 81
+
+
+def tables_said(data, at, count):
+    """The keys of so many tables, the first of which begins there."""
+    said = []
+    for _ in range(count):
+        needed(len(data) >= at + 4, "cut short")
+        keys, = struct.unpack_from("<I", data, at)
+        at += 4
+        if keys == NONE_KEPT:
+            said.append(" none")
+            continue
+        needed(len(data) - at >= 4 * keys, "cut short")
+        said.append(" " + ",".join(map(str, struct.unpack_from("<%dI" % keys, data, at))))
+        at += 4 * keys
+    needed(len(data) - at >= 8, "cut short")
+    needed(len(data) - at == 8, "more bytes than an index has")
+    needed(xxh64(data[:-8]) == struct.unpack_from("<Q", data, at)[0], "damaged")
+    return "".join(said)
+
+
+def load_all(data):
+    """What bytes say, of an index and of the tables behind it if there are any."""
+    end = end_of_index(data)
+    try:
+        said = loaded(data[:end])
+        if end == len(data):
+            return said
+        size, chunk = struct.unpack_from("<QI", data, 8)
+        return said + tables_said(data, end + 8, -(-(-(-size // chunk)) // 64))
+    except Fault as fault:
+        return str(fault)
+
+
 def sealed(front):
     return front[:56] + struct.pack("<Q", xxh64(front[:56])) + front[64:]
+
+
+def tables_changed(rng, data):
+    """The bytes of an index with tables behind it, with something amiss in these."""
+    end = end_of_index(data)
+    if end == len(data):
+        return data
+    way = rng.randrange(6)
+    if way == 0:
+        return data[:rng.choice((end + rng.randrange(9), len(data) - rng.randrange(1, 9), rng.randrange(end, len(data))))]
+    if way == 1:
+        return data + bytes(rng.randrange(256) for _ in range(rng.choice((1, 4, 8))))
+    if way < 4:
+        at = rng.randrange(end, len(data))
+        return data[:at] + bytes([data[at] ^ 1 << rng.randrange(8)]) + data[at + 1:]
+    # The count of the first table's keys.
+    count, = struct.unpack_from("<I", data, end + 8)
+    other = struct.pack("<I", rng.choice((0, 1, (count + 1) & NONE_KEPT, max(count, 1) - 1, NONE_KEPT, NONE_KEPT - 1, 1 << 31)))
+    return data[:end + 8] + other + data[end + 12:]
 
 
 def changed(rng, data):
@@ -376,6 +493,29 @@ def bytes_of(spelling):
     return re.sub(rb"\\x(..)", lambda m: bytes([int(m.group(1), 16)]), spelling.encode())
 
 
+# Names that are spelt in several ways, or are one when escapes are read.
+NAMES = ['""', '"a"', '"\\u0061"', '"b"', '"a\\/b"', '"a/b"', '"~"', '"\\ud83d"', '"\\ud83d\\ude00"', '"\U0001F600"', '"\u00e9"', '"\\u00E9"', '"%s"' % ("long" * 40)]
+
+
+def members_of(rng):
+    """An object of many members, which stand in many chunks. In some there are more names than are kept."""
+    ways = rng.choice(("few", "few", "spelt", "empty", "nested"))
+    names = {
+        "few": lambda n: '"%d"' % rng.randrange(300),
+        "spelt": lambda n: rng.choice(NAMES),
+        "empty": lambda n: '""',
+        "nested": lambda n: rng.choice(NAMES + [string(rng), '"%d"' % n]),
+    }[ways]
+    member = {"empty": lambda: "0", "nested": lambda: value(rng, rng.choice((0, 0, 1, 3)))}.get(ways, lambda: rng.choice(("0", "true", "[7]", '{"a":1}', '"x"')))
+    return "{" + ",".join(names(n) + ":" + member() for n in range(rng.choice((3, 40, 400, 900)))) + "}"
+
+
+def text_of_names(rng):
+    """A text with an object of many members, somewhere in it."""
+    front, behind = rng.choice((("", ""), ("[1,", "]"), ('{"a":{"b":', '},"a":2}'), ("[[" + " " * 50, "],[]]"), (" ", "\n" * 70)))
+    return (front + members_of(rng) + behind).encode("utf-8", "surrogatepass")
+
+
 def lines(seed, count):
     rng = random.Random(seed)
     for _ in range(count):
@@ -391,14 +531,14 @@ def lines(seed, count):
 def index_by(text, options):
     """The index by options of the program."""
     value = lambda name, default: int(options[options.index(name) + 1]) if name in options else default
-    return index(text, value("--depth", 512), "--ignore-bom" in options, value("--chunk", 32768), "--unique-names" in options)
+    return saved(text, value("--depth", 512), "--ignore-bom" in options, value("--chunk", 32768), "--unique-names" in options, "--names" in options)
 
 
 def files(seed, count):
     rng = random.Random(seed)
     for number in range(count):
-        text = text_of(rng)
-        options = []
+        options = ["--names"] if rng.random() < 0.5 else []
+        text = text_of_names(rng) if options and rng.random() < 0.6 else text_of(rng)
         if rng.random() < 0.9:
             options += ["--chunk", str(rng.choice((64, 64, 128, 256, 1024, 4096, 32768, 1048576)))]
         if rng.random() < 0.3:

@@ -50,6 +50,14 @@ a_long_text_is_saved_as_by_the_model() {
         (head -c 100001 long.json; sleep 0.05; tail -c +100002 long.json) | "$program" save --chunk $chunk | cmp - wanted.jxi
         same "chunks of $chunk, of a pipe" '0 0 0' "${PIPESTATUS[*]}"
     done
+    python3 -c 'print("{" + ",".join("\"%s\":[%d,%s]" % ("name" * (n % 7) + str(n), n, "{\"a\":1}" * (n % 3 == 0) or 2) for n in range(20000)) + "}")' >members.json
+    for chunk in 64 4096 32768 524288; do
+        model file members.json --names --chunk $chunk >wanted.jxi
+        "$program" save --names --chunk $chunk members.json | cmp - wanted.jxi
+        same "tables of names, chunks of $chunk" '0 0' "${PIPESTATUS[*]}"
+        (head -c 100001 members.json; sleep 0.05; tail -c +100002 members.json) | "$program" save --chunk $chunk --names | cmp - wanted.jxi
+        same "tables of names, chunks of $chunk, of a pipe" '0 0 0' "${PIPESTATUS[*]}"
+    done
     same 'the size of an index' "$((64 + 24 * (8192 / 32 + 4)))" "$(head -c 8388606 /dev/zero | tr '\0' 1 | sed 's/^/[/; s/$/]/' | "$program" save | wc -c)"
     "$program" save --progress always long.json 2>told | cmp - <(model file long.json)
     same 'progress changes no byte' '0 0' "${PIPESTATUS[*]}"
@@ -61,10 +69,14 @@ names_may_have_to_be_unique() {
     same 'the index says so' '0 0' "${PIPESTATUS[*]}"
     same 'a name that is repeated' "$(lines 'status 1' 'err: jx: repeated name at 7')" "$(said '{"a":1,"\\u0061":2}' save --unique-names)"
     same 'else it may be' 64 "$(printf '{"a":1,"a":2}' | "$program" save | wc -c)"
+    "$program" save --unique-names --names --chunk 64 unique.json | cmp - <(model file unique.json --chunk 64 --unique-names --names)
+    same 'with tables of names too' '0 0' "${PIPESTATUS[*]}"
+    same 'a name that is repeated, where tables are wanted' "$(lines 'status 1' 'err: jx: repeated name at 7')" "$(said '{"a":1,"\\u0061":2}' save --unique-names --names)"
 }
 
 what_is_no_text_has_no_index() {
     same 'no text' "$(lines 'status 1' 'err: jx: stopped at 3')" "$(said nulx save)"
+    same 'no text has names' "$(lines 'status 1' 'err: jx: truncated')" "$(said '{"a":' save --names)"
     same 'too short a text' "$(lines 'status 1' 'err: jx: truncated')" "$(said '[1,' save)"
     same 'no byte' "$(lines 'status 1' 'err: jx: truncated')" "$(said '' save)"
     same 'a byte order mark alone' "$(lines 'status 1' 'err: jx: truncated')" "$(said '\357\273\277' save --ignore-bom)"

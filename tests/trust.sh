@@ -23,14 +23,14 @@ wrong() {
 a_page_that_is_wrong_is_told() {
     wrong 'a file that is left out' '/^| `jx_run\/specs\/Grammar.antt`/d' \
         '`jx check`: is left out: | `jx_run/specs/Grammar.antt` |'
-    wrong 'a declaration that is left out' '/^| `Exit` of /d' '`jx check`: is left out: | `Exit` of `jx_report/src/exit.rt` |'
+    wrong 'a declaration that is left out' '/^| `Exit` of /d' '`jx check`: is left out: | `Exit` of `jx_ends/src/exit.rt` |'
     wrong 'a wrong count' 's/^\(| `jx_run\/specs\/Text.antt` | \)/\11/' '`jx check`: is not so: | `jx_run/specs/Text.antt` | 1'
-    wrong 'a file that is not reached' '/^| `jx_report\/specs\/Ends.antt`/i | `jx_report/specs/RowWords.antt` | 32 | lines |' \
+    wrong 'a file that is not reached' '/^| `jx_ends\/specs\/Ends.antt`/i | `jx_report/specs/RowWords.antt` | 32 | lines |' \
         '`jx check`: is not so: | `jx_report/specs/RowWords.antt` | 32 |'
     wrong 'a file that stands twice' '/^| `jx_run\/specs\/Tree.antt`/p' '`jx check`: stands twice: | `jx_run/specs/Tree.antt` |'
     wrong 'a file in front of what cites it' '/^| `report` of /{h; d}; /^| `jx_run\/specs\/Tree.antt`/{G}' \
         'nothing above cites it: '
-    wrong 'a wrong sum' 's/^    [0-9]* lines of definitions in 12 files/    1 lines of definitions in 12 files/' '`jx check`: is not said: '
+    wrong 'a wrong sum' 's/^    [0-9]* lines of definitions in 13 files/    1 lines of definitions in 13 files/' '`jx check`: is not said: '
     wrong 'a file that a further command needs' 's/`specs\/Repeats.antt` [0-9]*, //' '`--unique-names`: is left out: | `jx_index` |'
     wrong 'a ported crate that is left out' 's/ `simdutf8`,//' 'the ported crate simdutf8 is named in one of TRUST.md and crates.txt'
     wrong 'a part that is left out' '/^### `lines`/d' '`lines`: is left out: '

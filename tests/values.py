@@ -1,29 +1,19 @@
 """Writes values: those of the pointers that stand in `pointers` beside this file, and those of random texts. What a random text has at each pointer is
 known by how it is made, and Python's json reads the same there. The last line is `N passed, M failed`."""
 import json
-import os
 import pathlib
 import random
 import re
 import subprocess
 
-HERE = pathlib.Path(__file__).resolve().parent
-PROGRAM = os.environ.get("JX_PROGRAM", HERE.parent / "crates" / "jx" / "out" / "jx")
+import counts
+from counts import HERE, PROGRAM, same
+
 TEXTS = 1500
-failed = passed = 0
 
 
 def spelt(line):
     return re.sub(rb"\\x(..)", lambda byte: bytes.fromhex(byte[1].decode()), line)
-
-
-def same(name, wanted, got):
-    global failed, passed
-    if wanted == got:
-        passed += 1
-        return
-    failed += 1
-    print("values.py: FAILED: %s\n--- wanted\n%s\n--- got\n%s" % (name, str(wanted)[:2000], str(got)[:2000]))
 
 
 def written(text, words, pointers):
@@ -366,4 +356,4 @@ def members_by_pointers():
 
 for test in (table, random_texts, elements_of_random_texts, elements_of_long_texts, elements_by_pointers, members_by_pointers):
     test()
-print("%d passed, %d failed" % (passed, failed))
+counts.ended()

@@ -92,6 +92,36 @@ open("wanted", "w").write("\"" + "x" * 300000 + "\"\n0\n" + text + "\n49999\n")'
     same 'values longer than a buffer' same "$(cmp -s wanted got && echo same)"
 }
 
+one_value_is_kept_while_a_text_is_read() {
+    cat >texts.py <<'END'
+import os, subprocess, sys, time
+program, how = sys.argv[1:]
+values = ['"abc\\u0064ef"', "-123.5e6", '[{ }, [1,\n2]]', "null"]
+failed = 0
+def answers(bytes_of, pointer, size):
+    run = subprocess.Popen([program, "get", pointer], stdin=subprocess.PIPE, stdout=subprocess.PIPE)
+    if size:
+        for at in range(0, len(bytes_of), size):
+            os.write(run.stdin.fileno(), bytes_of[at : at + size])
+            time.sleep(0.001)
+        run.stdin.close()
+        return run.stdout.read()
+    return run.communicate(bytes_of)[0]
+for before in range(262144 - 12, 262144) if how == "border" else [2]:
+    for at, value in enumerate(values):
+        text = ("[" + " " * (before - 1) + value + ",[" + ",".join(values) + "]]").encode()
+        for pointer, wanted in (("/0", value), ("/1/%d" % at, value), ("/2", "")):
+            failed += answers(text, pointer, 1 if how == "bytes" else 0) != (wanted + "\n").encode()
+print("failed", failed)
+END
+    same 'values over the border of a read' 'failed 0' "$(python3 texts.py "$program" border 2>err)"
+    same 'a text that comes byte by byte' 'failed 0' "$(python3 texts.py "$program" bytes 2>err)"
+    same 'a value that is met again' "$(lines 'out: ' 'jx: /a: name repeated at token 0')" \
+        "$(python3 -c 'print("{\"a\":[1],%s\"a\":2}" % (" " * 300000))' | "$program" get /a 2>&1 | sed '1s/^/out: /')"
+    same 'one value of a text that is longer than the memory' '[1]' \
+        "$(python3 -c 'print("[%s[1]%s]" % ("0," * 10000000, ",0" * 10000000))' | (ulimit -v 30000 && "$program" get --workers 1 /10000000))"
+}
+
 values_by_an_index() {
     printf '{"a": [1,\n2],"b":"x\\u0041","c":"%0300d"}' 0 >many
     "$program" save --chunk 64 many >many.jxi
@@ -285,6 +315,7 @@ tests values_are_those_that_pointers_lead_to \
     strings_are_written_as_texts \
     pointers_are_lines_of_a_file \
     long_values_are_written_whole \
+    one_value_is_kept_while_a_text_is_read \
     values_by_an_index \
     what_cannot_be_written_or_told \
     each_element_has_its_line \

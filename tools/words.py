@@ -377,13 +377,21 @@ HEAD = "| Option | Meaning |\n|---|---|\n"
 SHARED = 4
 
 
+def defaults(commands, head, common):
+    """The default of an option, and of each command that has another one."""
+    if not common:
+        return ""
+    others = [(command.name, option.default) for command in commands for option in command.options if option.head == head and option.default != common]
+    return " Default: %s." % ", ".join([common] + ["of `%s` %s" % other for other in others])
+
+
 def table(commands):
     """README with a row for each option that several commands take; each command has a row of its own there."""
     rows = []
     for option, names in merged(commands, "options", lambda option: option.head):
         if len(names) >= SHARED:
-            default = " Default: %s." % option.default if option.default else ""
-            rows.append("| %s | %s.%s |\n" % (", ".join("`%s`" % word for word in bare(option.head).split(", ")), option.short, default))
+            words = ", ".join("`%s`" % word for word in bare(option.head).split(", "))
+            rows.append("| %s | %s.%s |\n" % (words, option.short, defaults(commands, option.head, option.default)))
     before, found, behind = (ROOT / "README.md").read_text().partition(HEAD)
     missing = [command.name for command in commands if not re.search(r"^\| `%s[` ]" % command.name, before, re.M)]
     if not found or missing:

@@ -18,6 +18,24 @@
 #define jx_index_find jx_index_find_inline
 #define jx_index_row jx_index_row_inline
 #define jx_index_free jx_index_free_inline
+#define jx_save_new jx_save_new_inline
+#define jx_save_new_with_names jx_save_new_with_names_inline
+#define jx_save_feed jx_save_feed_inline
+#define jx_save_end jx_save_end_inline
+#define jx_save_take jx_save_take_inline
+#define jx_save_free jx_save_free_inline
+#define jx_saved_open jx_saved_open_inline
+#define jx_saved_about jx_saved_about_inline
+#define jx_saved_seek jx_saved_seek_inline
+#define jx_saved_split jx_saved_split_inline
+#define jx_saved_needs jx_saved_needs_inline
+#define jx_saved_give jx_saved_give_inline
+#define jx_saved_answers jx_saved_answers_inline
+#define jx_saved_parts jx_saved_parts_inline
+#define jx_saved_chunk jx_saved_chunk_inline
+#define jx_saved_check jx_saved_check_inline
+#define jx_saved_free jx_saved_free_inline
+#define jx_saved_find jx_saved_find_inline
 #define jx_elements jx_elements_inline
 #define jx_lines_new jx_lines_new_inline
 #define jx_lines_feed jx_lines_feed_inline
@@ -50,6 +68,24 @@
 #undef jx_index_find
 #undef jx_index_row
 #undef jx_index_free
+#undef jx_save_new
+#undef jx_save_new_with_names
+#undef jx_save_feed
+#undef jx_save_end
+#undef jx_save_take
+#undef jx_save_free
+#undef jx_saved_open
+#undef jx_saved_about
+#undef jx_saved_seek
+#undef jx_saved_split
+#undef jx_saved_needs
+#undef jx_saved_give
+#undef jx_saved_answers
+#undef jx_saved_parts
+#undef jx_saved_chunk
+#undef jx_saved_check
+#undef jx_saved_free
+#undef jx_saved_find
 #undef jx_elements
 #undef jx_lines_new
 #undef jx_lines_feed
@@ -124,6 +160,65 @@ uint32_t jx_index_find(jx_index *index, const uint8_t *pointer, size_t pointer_s
 uint32_t jx_index_row(jx_index *index, size_t number, jx_row *row) { return jx_index_row_inline(index, number, row); }
 
 void jx_index_free(jx_index *index) { jx_index_free_inline(index); }
+
+uint32_t jx_save_new(const jx_settings *settings, size_t chunk, jx_save *save) {
+    return jx_save_new_inline(settings, chunk, save);
+}
+
+uint32_t jx_save_new_with_names(const jx_settings *settings, size_t chunk, jx_save *save) {
+    return jx_save_new_with_names_inline(settings, chunk, save);
+}
+
+uint32_t jx_save_feed(jx_save *save, const uint8_t *bytes, size_t size) { return jx_save_feed_inline(save, bytes, size); }
+
+uint32_t jx_save_end(jx_save *save, size_t *index_size, jx_verdict *verdict) {
+    return jx_save_end_inline(save, index_size, verdict);
+}
+
+uint32_t jx_save_take(jx_save *save, uint8_t *index, size_t room, size_t *index_size) {
+    return jx_save_take_inline(save, index, room, index_size);
+}
+
+void jx_save_free(jx_save *save) { jx_save_free_inline(save); }
+
+uint32_t jx_saved_open(const uint8_t *index, size_t index_size, size_t text_size, jx_saved *saved) {
+    return jx_saved_open_inline(index, index_size, text_size, saved);
+}
+
+uint32_t jx_saved_about(jx_saved *saved, jx_saved_text *text) { return jx_saved_about_inline(saved, text); }
+
+uint32_t jx_saved_seek(jx_saved *saved, const jx_pointer *pointers, size_t count) {
+    return jx_saved_seek_inline(saved, pointers, count);
+}
+
+uint32_t jx_saved_split(jx_saved *saved, const jx_span *container, size_t parts) {
+    return jx_saved_split_inline(saved, container, parts);
+}
+
+uint32_t jx_saved_needs(jx_saved *saved, jx_span *need) { return jx_saved_needs_inline(saved, need); }
+
+uint32_t jx_saved_give(jx_saved *saved, const uint8_t *bytes, size_t size) { return jx_saved_give_inline(saved, bytes, size); }
+
+uint32_t jx_saved_answers(jx_saved *saved, jx_answer *answers, size_t room) {
+    return jx_saved_answers_inline(saved, answers, room);
+}
+
+uint32_t jx_saved_parts(jx_saved *saved, jx_part *parts, size_t room, size_t *count) {
+    return jx_saved_parts_inline(saved, parts, room, count);
+}
+
+uint32_t jx_saved_chunk(jx_saved *saved, size_t at, jx_span *chunk) { return jx_saved_chunk_inline(saved, at, chunk); }
+
+uint32_t jx_saved_check(jx_saved *saved, size_t at, const uint8_t *bytes, size_t size) {
+    return jx_saved_check_inline(saved, at, bytes, size);
+}
+
+void jx_saved_free(jx_saved *saved) { jx_saved_free_inline(saved); }
+
+uint32_t jx_saved_find(jx_saved *saved, jx_read_at read_at, void *context, uint8_t *buffer, size_t room,
+                       const jx_pointer *pointers, size_t count, jx_answer *answers) {
+    return jx_saved_find_inline(saved, read_at, context, buffer, room, pointers, count, answers);
+}
 
 uint32_t jx_elements(const uint8_t *sequence, size_t size, const jx_settings *settings, jx_element *elements, size_t room,
                      size_t *count) {

@@ -18,5 +18,7 @@ void take_any_runs(input *in);       /* any bytes as runs */
 void compact_texts(input *in);       /* too little, just enough and more room; the form reads as the same values */
 void feed_lines(input *in);          /* cut anywhere, too little and just enough room; a reader that wants memory is lost */
 void feed_values(input *in);         /* cut anywhere, several pointers; what was taken is what is due; a stream that wants memory is lost */
+void find_in_saved(input *in);       /* chunks from 64 bytes, changed chunks told, the answers of the text, the parts of a container */
+void open_forged_saved(input *in);   /* an index that is changed and sealed: a status of the header, and calls that end */
 
 #endif

@@ -1,41 +1,10 @@
 /* Compact forms: the texts of the table and each beginning of them in rooms of every size, marks, names that are repeated, statuses, and
  * each request for memory refused in turn: compact FILE. Linked with --wrap=malloc and --wrap=realloc. */
-#include "jx.h"
-
-#include <stdio.h>
-#include <stdlib.h>
-#include <string.h>
-
-void *__real_malloc(size_t size);
-void *__real_realloc(void *block, size_t size);
-void *__wrap_malloc(size_t size);
-void *__wrap_realloc(void *block, size_t size);
+#define TEST "compact"
+#define REFUSES_MEMORY
+#include "testing.h"
 
 enum { MOST = 4200 };
-
-static int passed;
-static int failed;
-/* How many requests are granted before one is refused; none is where it is negative. */
-static long granted = -1;
-
-static int is_refused(void) { return granted >= 0 && granted-- == 0; }
-
-void *__wrap_malloc(size_t size) { return is_refused() ? NULL : __real_malloc(size); }
-
-void *__wrap_realloc(void *block, size_t size) { return is_refused() ? NULL : __real_realloc(block, size); }
-
-static void expect(int holds, const char *what, size_t line) {
-    if (holds) {
-        passed++;
-    } else {
-        failed++;
-        fprintf(stderr, "compact: FAILED: %s, line %zu\n", what, line);
-    }
-}
-
-static const uint8_t *bytes(const char *text) { return (const uint8_t *)text; }
-
-static int is(const jx_verdict *verdict, uint32_t kind, size_t offset) { return verdict->kind == kind && verdict->offset == offset; }
 
 /* The bytes of a text without its blanks outside of strings. */
 static size_t compacted(const uint8_t *text, size_t size, uint8_t *form) {
@@ -80,37 +49,10 @@ static void in_room(const uint8_t *text, size_t size, const jx_settings *setting
     free(copy);
 }
 
-/* Writes the bytes that the text spells, and gives how many they are. */
-static size_t spelt(const char *text, uint8_t *into) {
-    size_t size = 0;
-    while (*text != 0) {
-        if (strncmp(text, "\\x", 2) == 0) {
-            const char digits[3] = {text[2], text[3], 0};
-            into[size++] = (uint8_t)strtoul(digits, NULL, 16);
-            text += 4;
-        } else {
-            into[size++] = (uint8_t)*text++;
-        }
-    }
-    return size;
-}
-
-static void each_of_table(const char *file) {
-    static char row[4096];
-    static uint8_t text[4096];
-    FILE *table = fopen(file, "r");
-    if (table == NULL) exit(2);
-    for (size_t line = 1; fgets(row, sizeof row, table) != NULL; line++) {
-        uint32_t depth;
-        int at = 0;
-        if (row[0] == '#') continue;
-        row[strcspn(row, "\n")] = 0;
-        if (sscanf(row, "%*15s %*u %u%n", &depth, &at) != 1) exit(2);
-        const size_t size = spelt(row + at + 1, text);
-        for (size_t end = 0; end <= size; end++) in_room(text, end, &(jx_settings){depth, 0}, end, line);
-        for (size_t room = 0; room <= size + 2; room++) in_room(text, size, &(jx_settings){depth, 0}, room, line);
-    }
-    fclose(table);
+static void in_rooms(const row *row) {
+    const jx_settings settings = {row->depth, 0};
+    for (size_t end = 0; end <= row->size; end++) in_room(row->text, end, &settings, end, row->line);
+    for (size_t room = 0; room <= row->size + 2; room++) in_room(row->text, row->size, &settings, room, row->line);
 }
 
 static int comes_to(const char *text, const jx_settings *settings, const char *wanted) {
@@ -169,10 +111,9 @@ static void memory(void) {
 
 int main(int count, char **words) {
     if (count != 2) return 2;
-    each_of_table(words[1]);
+    each_row(words[1], in_rooms);
     forms();
     statuses();
     memory();
-    printf("compact: %d passed, %d failed\n", passed, failed);
-    return failed != 0;
+    return counted();
 }

@@ -1,41 +1,10 @@
 /* Documents: what each status says, edits beside jx_check on the same bytes, and each request for memory refused in turn:
  * documents FILE. Linked with --wrap=malloc and --wrap=realloc. */
-#include "jx.h"
-
-#include <stdio.h>
-#include <stdlib.h>
-#include <string.h>
-
-void *__real_malloc(size_t size);
-void *__real_realloc(void *block, size_t size);
-void *__wrap_malloc(size_t size);
-void *__wrap_realloc(void *block, size_t size);
+#define TEST "documents"
+#define REFUSES_MEMORY
+#include "testing.h"
 
 enum { ROOM = 1 << 18 };
-
-static int passed;
-static int failed;
-/* How many requests are granted before one is refused; none is where it is negative. */
-static long granted = -1;
-
-static int is_refused(void) { return granted >= 0 && granted-- == 0; }
-
-void *__wrap_malloc(size_t size) { return is_refused() ? NULL : __real_malloc(size); }
-
-void *__wrap_realloc(void *block, size_t size) { return is_refused() ? NULL : __real_realloc(block, size); }
-
-static void expect(int holds, const char *what, size_t line) {
-    if (holds) {
-        passed++;
-    } else {
-        failed++;
-        fprintf(stderr, "documents: FAILED: %s, %zu\n", what, line);
-    }
-}
-
-static const uint8_t *bytes(const char *text) { return (const uint8_t *)text; }
-
-static int same(const jx_verdict *a, const jx_verdict *b) { return a->kind == b->kind && a->offset == b->offset; }
 
 /* The bytes that a document should have. */
 typedef struct kept {
@@ -268,6 +237,5 @@ int main(void) {
     each_request_refused(200);
     edits_and_back(0);
     edits_and_back(200);
-    printf("documents: %d passed, %d failed\n", passed, failed);
-    return failed != 0;
+    return counted();
 }

@@ -1,37 +1,10 @@
 /* Look-ups that are fed: a few texts cut at each byte and in slices of each size, beside jx_at_all, and each request for memory
  * refused in turn: finder FILE, whose texts are fed too. Linked with --wrap=malloc and --wrap=realloc. */
-#include "jx.h"
-
-#include <stdio.h>
-#include <stdlib.h>
-#include <string.h>
-
-void *__real_malloc(size_t size);
-void *__real_realloc(void *block, size_t size);
-void *__wrap_malloc(size_t size);
-void *__wrap_realloc(void *block, size_t size);
+#define TEST "finder"
+#define REFUSES_MEMORY
+#include "testing.h"
 
 enum { COUNT = 12, MOST = 1 << 16 };
-
-static int passed;
-static int failed;
-/* How many requests are granted before one is refused; none is where it is negative. */
-static long granted = -1;
-
-static int is_refused(void) { return granted >= 0 && granted-- == 0; }
-
-void *__wrap_malloc(size_t size) { return is_refused() ? NULL : __real_malloc(size); }
-
-void *__wrap_realloc(void *block, size_t size) { return is_refused() ? NULL : __real_realloc(block, size); }
-
-static void expect(int holds, const char *what, size_t line) {
-    if (holds) {
-        passed++;
-    } else {
-        failed++;
-        fprintf(stderr, "finder: FAILED: %s, text %zu\n", what, line);
-    }
-}
 
 static const char *const words[COUNT] = {"", "/a", "/a/1", "/a/-", "/a/b~1c", "/0", "/0/a", "/1/\xC3\xA9", "/x", "x", "/~2", "/a/\xFF"};
 static jx_pointer pointers[COUNT];
@@ -150,6 +123,5 @@ int main(int count, char **arguments) {
     each_of_table(arguments[1]);
     refusals();
     null_pointers_and_settings();
-    printf("finder: %d passed, %d failed\n", passed, failed);
-    return failed != 0;
+    return counted();
 }

@@ -1,40 +1,11 @@
 /* Many pointers at once, and indexes that are kept: beside jx_at and jx_rows on the same bytes, what each status says,
  * and each request for memory refused in turn. Linked with --wrap=malloc and --wrap=realloc. */
-#include "jx.h"
-
-#include <stdio.h>
-#include <stdlib.h>
-#include <string.h>
-
-void *__real_malloc(size_t size);
-void *__real_realloc(void *block, size_t size);
-void *__wrap_malloc(size_t size);
-void *__wrap_realloc(void *block, size_t size);
+#define TEST "indexes"
+#define REFUSES_MEMORY
+#include "testing.h"
 
 /* How many pointers there are, and as many again, each of which there is twice. */
 enum { COUNT = 16, MANY = 2 * COUNT, ROOM = 64 };
-
-static int passed;
-static int failed;
-/* How many requests are granted before one is refused; none is where it is negative. */
-static long granted = -1;
-
-static int is_refused(void) { return granted >= 0 && granted-- == 0; }
-
-void *__wrap_malloc(size_t size) { return is_refused() ? NULL : __real_malloc(size); }
-
-void *__wrap_realloc(void *block, size_t size) { return is_refused() ? NULL : __real_realloc(block, size); }
-
-static void expect(int holds, const char *what, size_t at) {
-    if (holds) {
-        passed++;
-    } else {
-        failed++;
-        fprintf(stderr, "indexes: FAILED: %s, %zu\n", what, at);
-    }
-}
-
-static const uint8_t *bytes(const char *text) { return (const uint8_t *)text; }
 
 static const char *const texts[] = {
     "{\"a\":[1,{\"b\":2}],\"\":null,\"m~n\":true,\"x/y\":\"\\u00e9\"}",
@@ -47,7 +18,7 @@ static const char *const texts[] = {
     "7",
 };
 
-static const char *const spelt[COUNT] = {
+static const char *const spellings[COUNT] = {
     "", "/a", "/a/1/b", "/a/1/b/0", "/", "/m~0n", "/x~1y", "/1", "/01", "/-", "/4", "a", "/~2", "/\xC3", "/0/0/0/0", "/99999999999999999999",
 };
 
@@ -62,8 +33,8 @@ static int is_same_row(const jx_row *a, const jx_row *b) {
 
 static void fill(jx_pointer *pointers, size_t count) {
     for (size_t at = 0; at < count; at++) {
-        pointers[at].bytes = bytes(spelt[at % COUNT]);
-        pointers[at].size = strlen(spelt[at % COUNT]);
+        pointers[at].bytes = bytes(spellings[at % COUNT]);
+        pointers[at].size = strlen(spellings[at % COUNT]);
     }
 }
 
@@ -256,6 +227,5 @@ int main(void) {
     buffers();
     statuses();
     refusals();
-    printf("indexes: %d passed, %d failed\n", passed, failed);
-    return failed != 0;
+    return counted();
 }

@@ -1,38 +1,11 @@
 /* JSON Lines: a few by their definition, short inputs cut at each byte and in slices of each size, the texts of the table and each
  * beginning of them as lines, and each request for memory refused in turn: lines FILE. Linked with --wrap=malloc and
  * --wrap=realloc. */
-#include "jx.h"
-
-#include <stdio.h>
-#include <stdlib.h>
-#include <string.h>
-
-void *__real_malloc(size_t size);
-void *__real_realloc(void *block, size_t size);
-void *__wrap_malloc(size_t size);
-void *__wrap_realloc(void *block, size_t size);
+#define TEST "lines"
+#define REFUSES_MEMORY
+#include "testing.h"
 
 enum { MOST = 64 };
-
-static int passed;
-static int failed;
-/* How many requests are granted before one is refused; none is where it is negative. */
-static long granted = -1;
-
-static int is_refused(void) { return granted >= 0 && granted-- == 0; }
-
-void *__wrap_malloc(size_t size) { return is_refused() ? NULL : __real_malloc(size); }
-
-void *__wrap_realloc(void *block, size_t size) { return is_refused() ? NULL : __real_realloc(block, size); }
-
-static void expect(int holds, const char *what, size_t line) {
-    if (holds) {
-        passed++;
-    } else {
-        failed++;
-        fprintf(stderr, "lines: FAILED: %s, line %zu\n", what, line);
-    }
-}
 
 /* What an input comes to: its bad lines, the last one without a line feed among them, and how many lines there are. */
 typedef struct told {
@@ -194,43 +167,22 @@ static void few(void) {
 }
 
 /* Each text of the table, and each beginning of it, as a line among others. */
-static void each_of_table(const char *file) {
-    static char row[4096];
-    static uint8_t input[8192];
-    FILE *table = fopen(file, "r");
-    if (table == NULL) exit(2);
-    for (size_t line = 1; fgets(row, sizeof row, table) != NULL; line++) {
-        uint32_t depth;
-        int at = 0;
-        size_t size = 0;
+static void each_beginning(const row *row) {
+    static uint8_t input[ROW + 4] = "[]\n";
+    memcpy(input + 3, row->text, row->size);
+    for (size_t length = 0; length <= row->size; length++) {
+        const uint8_t next = input[3 + length];
+        const jx_settings settings = {row->depth, (uint32_t)(length % 2)};
         told wants;
         told all;
-        if (row[0] == '#') continue;
-        row[strcspn(row, "\n")] = 0;
-        if (sscanf(row, "%*s %*u %u%n", &depth, &at) != 1) exit(2);
-        memcpy(input, "[]\n", 3);
-        for (const char *text = row + at + 1; *text != 0; size++) {
-            if (strncmp(text, "\\x", 2) == 0) {
-                const char digits[3] = {text[2], text[3], 0};
-                input[3 + size] = (uint8_t)strtoul(digits, NULL, 16);
-                text += 4;
-            } else {
-                input[3 + size] = (uint8_t)*text++;
-            }
+        for (size_t fed = 0; fed < 2; fed++) {
+            if (fed == 1) input[3 + length] = '\n';
+            wanted(input, 3 + length + fed, &settings, &wants);
+            by_slices(input, 3 + length + fed, &settings, length % 5, 1 + length % 97, &all, row->line);
+            expect(same_told(&all, &wants), "a beginning is a line", row->line);
         }
-        for (size_t length = 0; length <= size; length++) {
-            const uint8_t next = input[3 + length];
-            const jx_settings settings = {depth, (uint32_t)(length % 2)};
-            for (size_t fed = 0; fed < 2; fed++) {
-                if (fed == 1) input[3 + length] = '\n';
-                wanted(input, 3 + length + fed, &settings, &wants);
-                by_slices(input, 3 + length + fed, &settings, length % 5, 1 + length % 97, &all, line);
-                expect(same_told(&all, &wants), "a beginning is a line", line);
-            }
-            input[3 + length] = next;
-        }
+        input[3 + length] = next;
     }
-    fclose(table);
 }
 
 /* Each request refused in turn. A reader that wants memory is lost, and told to be. */
@@ -285,9 +237,8 @@ static void null_pointers_and_settings(void) {
 int main(int count, char **words) {
     if (count != 2) return 2;
     few();
-    each_of_table(words[1]);
+    each_row(words[1], each_beginning);
     refusals();
     null_pointers_and_settings();
-    printf("lines: %d passed, %d failed\n", passed, failed);
-    return failed != 0;
+    return counted();
 }

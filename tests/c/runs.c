@@ -1,39 +1,8 @@
 /* Runs: the texts of the table in parts that are cut anywhere, what each status says, bytes that are no run, and each request
  * for memory refused in turn: runs FILE. Linked with --wrap=malloc and --wrap=realloc. */
-#include "jx.h"
-
-#include <stdio.h>
-#include <stdlib.h>
-#include <string.h>
-
-void *__real_malloc(size_t size);
-void *__real_realloc(void *block, size_t size);
-void *__wrap_malloc(size_t size);
-void *__wrap_realloc(void *block, size_t size);
-
-static int passed;
-static int failed;
-/* How many requests are granted before one is refused; none is where it is negative. */
-static long granted = -1;
-
-static int is_refused(void) { return granted >= 0 && granted-- == 0; }
-
-void *__wrap_malloc(size_t size) { return is_refused() ? NULL : __real_malloc(size); }
-
-void *__wrap_realloc(void *block, size_t size) { return is_refused() ? NULL : __real_realloc(block, size); }
-
-static void expect(int holds, const char *what, size_t line) {
-    if (holds) {
-        passed++;
-    } else {
-        failed++;
-        fprintf(stderr, "runs: FAILED: %s, %zu\n", what, line);
-    }
-}
-
-static const uint8_t *bytes(const char *text) { return (const uint8_t *)text; }
-
-static int same(const jx_verdict *a, const jx_verdict *b) { return a->kind == b->kind && a->offset == b->offset; }
+#define TEST "runs"
+#define REFUSES_MEMORY
+#include "testing.h"
 
 /* A run in a buffer that ends where its bytes do, so that one byte too many that is read is seen. */
 typedef struct run {
@@ -92,37 +61,10 @@ static void in_parts(const char *text, size_t size, uint32_t depth, const jx_ver
     has_verdict(run_of(text, size, 1000, depth, line), 1000, 1000 + size, &further, "offsets count from the text's start", line);
 }
 
-static void each_of_table(const char *file) {
-    static char row[4096];
-    static char text[4096];
-    static const char *const words[] = {"accepted", "stopped", "truncated", "too_deep"};
-    FILE *table = fopen(file, "r");
-    if (table == NULL) exit(2);
-    for (size_t line = 1; fgets(row, sizeof row, table) != NULL; line++) {
-        char word[16];
-        jx_verdict wanted = {0, 99};
-        uint32_t depth;
-        int at = 0;
-        if (row[0] == '#') continue;
-        row[strcspn(row, "\n")] = 0;
-        if (sscanf(row, "%15s %zu %u%n", word, &wanted.offset, &depth, &at) != 3) exit(2);
-        for (uint32_t kind = 0; kind < 4; kind++) {
-            if (strcmp(word, words[kind]) == 0) wanted.kind = kind;
-        }
-        if (wanted.kind == JX_TRUNCATED) wanted.offset = 0;
-        size_t size = 0;
-        for (const char *from = row + at + 1; *from != 0;) {
-            if (strncmp(from, "\\x", 2) == 0) {
-                const char digits[3] = {from[2], from[3], 0};
-                text[size++] = (char)strtoul(digits, NULL, 16);
-                from += 4;
-            } else {
-                text[size++] = *from++;
-            }
-        }
-        in_parts(text, size, depth, &wanted, line);
-    }
-    fclose(table);
+static void parts_of(const row *row) {
+    jx_verdict wanted = row->verdict;
+    if (wanted.kind == JX_TRUNCATED) wanted.offset = 0;
+    in_parts((const char *)row->text, row->size, row->depth, &wanted, row->line);
 }
 
 static uint32_t join_status(run left, run right) {
@@ -253,11 +195,10 @@ static void each_request_refused(void) {
 
 int main(int count, char **words) {
     if (count < 2) return 2;
-    each_of_table(words[1]);
+    each_row(words[1], parts_of);
     statuses();
     room();
     no_runs();
     each_request_refused();
-    printf("runs: %d passed, %d failed\n", passed, failed);
-    return failed != 0;
+    return counted();
 }

@@ -1,38 +1,11 @@
 /* Elements of JSON text sequences: a few by the standard, the texts of the table and each beginning of them behind a mark, all of
  * them in one sequence, and each request for memory refused in turn: sequences FILE. Linked with --wrap=malloc and
  * --wrap=realloc. */
-#include "jx.h"
-
-#include <stdio.h>
-#include <stdlib.h>
-#include <string.h>
-
-void *__real_malloc(size_t size);
-void *__real_realloc(void *block, size_t size);
-void *__wrap_malloc(size_t size);
-void *__wrap_realloc(void *block, size_t size);
+#define TEST "sequences"
+#define REFUSES_MEMORY
+#include "testing.h"
 
 enum { MARK = 0x1E, MOST = 64 };
-
-static int passed;
-static int failed;
-/* How many requests are granted before one is refused; none is where it is negative. */
-static long granted = -1;
-
-static int is_refused(void) { return granted >= 0 && granted-- == 0; }
-
-void *__wrap_malloc(size_t size) { return is_refused() ? NULL : __real_malloc(size); }
-
-void *__wrap_realloc(void *block, size_t size) { return is_refused() ? NULL : __real_realloc(block, size); }
-
-static void expect(int holds, const char *what, size_t line) {
-    if (holds) {
-        passed++;
-    } else {
-        failed++;
-        fprintf(stderr, "sequences: FAILED: %s, line %zu\n", what, line);
-    }
-}
 
 static int is_element(const jx_element *element, size_t start, size_t end, uint32_t kind, size_t offset) {
     return element->span.start == start && element->span.end == end && element->verdict.kind == kind && element->verdict.offset == offset;
@@ -103,21 +76,6 @@ static void beginnings(const uint8_t *bytes, size_t size, uint32_t depth, size_t
     }
 }
 
-/* Writes the bytes that the text spells, and gives how many they are. */
-static size_t spelt(const char *text, uint8_t *bytes) {
-    size_t size = 0;
-    while (*text != 0) {
-        if (strncmp(text, "\\x", 2) == 0) {
-            const char digits[3] = {text[2], text[3], 0};
-            bytes[size++] = (uint8_t)strtoul(digits, NULL, 16);
-            text += 4;
-        } else {
-            bytes[size++] = (uint8_t)*text++;
-        }
-    }
-    return size;
-}
-
 /* All texts behind one another, each judged within the same depth. */
 static void in_a_row(const uint8_t *sequence, size_t size, const jx_span *places, size_t count) {
     static jx_element all[MOST];
@@ -131,33 +89,21 @@ static void in_a_row(const uint8_t *sequence, size_t size, const jx_span *places
     }
 }
 
-static void each_of_table(const char *file) {
-    static char row[4096];
-    static uint8_t bytes[4096];
-    static uint8_t sequence[MOST * 128];
-    static jx_span places[MOST];
-    size_t count = 0;
-    size_t size = 0;
-    FILE *table = fopen(file, "r");
-    if (table == NULL) exit(2);
-    for (size_t line = 1; fgets(row, sizeof row, table) != NULL; line++) {
-        uint32_t depth;
-        int at = 0;
-        if (row[0] == '#') continue;
-        row[strcspn(row, "\n")] = 0;
-        if (sscanf(row, "%*s %*u %u%n", &depth, &at) != 1) exit(2);
-        const size_t length = spelt(row + at + 1, bytes);
-        if (memchr(bytes, MARK, length) != NULL) exit(2);
-        beginnings(bytes, length, depth, line);
-        if (length == 0) continue;
-        if (count == MOST || size + 1 + length > sizeof sequence) exit(2);
-        sequence[size] = MARK;
-        memcpy(sequence + size + 1, bytes, length);
-        places[count++] = (jx_span){size + 1, size + 1 + length};
-        size += 1 + length;
-    }
-    fclose(table);
-    in_a_row(sequence, size, places, count);
+/* The texts of the table so far, each behind a mark, and where they stand. */
+static uint8_t sequence[MOST * 128];
+static size_t sequence_size;
+static jx_span places[MOST];
+static size_t place_count;
+
+static void behind_a_mark(const row *row) {
+    if (memchr(row->text, MARK, row->size) != NULL) exit(2);
+    beginnings(row->text, row->size, row->depth, row->line);
+    if (row->size == 0) return;
+    if (place_count == MOST || sequence_size + 1 + row->size > sizeof sequence) exit(2);
+    sequence[sequence_size++] = MARK;
+    memcpy(sequence + sequence_size, row->text, row->size);
+    places[place_count++] = (jx_span){sequence_size, sequence_size + row->size};
+    sequence_size += row->size;
 }
 
 /* Each request refused in turn: there is no memory, and nothing has changed. */
@@ -186,8 +132,8 @@ static void refusals(void) {
 int main(int count, char **words) {
     if (count != 2) return 2;
     few();
-    each_of_table(words[1]);
+    each_row(words[1], behind_a_mark);
+    in_a_row(sequence, sequence_size, places, place_count);
     refusals();
-    printf("sequences: %d passed, %d failed\n", passed, failed);
-    return failed != 0;
+    return counted();
 }

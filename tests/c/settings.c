@@ -1,46 +1,13 @@
 /* Calls with settings: the texts of the table and each beginning of them, with a byte order mark in front and without, at once and in
  * slices of one byte; names that are repeated; and each request for memory refused in turn: settings FILE. Linked with
  * --wrap=malloc and --wrap=realloc. */
-#include "jx.h"
-
-#include <stdio.h>
-#include <stdlib.h>
-#include <string.h>
-
-void *__real_malloc(size_t size);
-void *__real_realloc(void *block, size_t size);
-void *__wrap_malloc(size_t size);
-void *__wrap_realloc(void *block, size_t size);
+#define TEST "settings"
+#define REFUSES_MEMORY
+#include "testing.h"
 
 enum { MOST = 4200 };
 
-static int passed;
-static int failed;
-/* How many requests are granted before one is refused; none is where it is negative. */
-static long granted = -1;
-
-static int is_refused(void) { return granted >= 0 && granted-- == 0; }
-
-void *__wrap_malloc(size_t size) { return is_refused() ? NULL : __real_malloc(size); }
-
-void *__wrap_realloc(void *block, size_t size) { return is_refused() ? NULL : __real_realloc(block, size); }
-
-static void expect(int holds, const char *what, size_t line) {
-    if (holds) {
-        passed++;
-    } else {
-        failed++;
-        fprintf(stderr, "settings: FAILED: %s, line %zu\n", what, line);
-    }
-}
-
-static const uint8_t *bytes(const char *text) { return (const uint8_t *)text; }
-
 static const uint8_t mark[] = {0xEF, 0xBB, 0xBF};
-
-static int is(const jx_verdict *verdict, uint32_t kind, size_t offset) { return verdict->kind == kind && verdict->offset == offset; }
-
-static int same(const jx_verdict *a, const jx_verdict *b) { return is(a, b->kind, b->offset); }
 
 /* What the bytes come to where a mark is ignored, by what jx_check tells of the bytes behind it. */
 static jx_verdict wanted(const uint8_t *text, size_t size, uint32_t depth) {
@@ -135,45 +102,19 @@ static void halves(const uint8_t *text, size_t size, uint32_t depth, size_t line
     }
 }
 
-/* Writes the bytes that the text spells, and gives how many they are. */
-static size_t spelt(const char *text, uint8_t *into) {
-    size_t size = 0;
-    while (*text != 0) {
-        if (strncmp(text, "\\x", 2) == 0) {
-            const char digits[3] = {text[2], text[3], 0};
-            into[size++] = (uint8_t)strtoul(digits, NULL, 16);
-            text += 4;
-        } else {
-            into[size++] = (uint8_t)*text++;
-        }
-    }
-    return size;
-}
-
 static void all_of(const uint8_t *text, size_t size, size_t front, uint32_t depth, size_t line) {
     beginnings(text, size, depth, line);
     halves(text, size, depth, line);
     indexed(text, size, front, depth, line);
 }
 
-static void each_of_table(const char *file) {
-    static char row[MOST];
-    static uint8_t text[MOST + 3];
-    FILE *table = fopen(file, "r");
-    if (table == NULL) exit(2);
-    for (size_t line = 1; fgets(row, sizeof row, table) != NULL; line++) {
-        uint32_t depth;
-        int at = 0;
-        if (row[0] == '#') continue;
-        row[strcspn(row, "\n")] = 0;
-        if (sscanf(row, "%*s %*u %u%n", &depth, &at) != 1) exit(2);
-        memcpy(text, mark, 3);
-        const size_t size = spelt(row + at + 1, text + 3);
-        const size_t front = size >= 3 && memcmp(text + 3, mark, 3) == 0 ? 3 : 0;
-        all_of(text + 3, size, front, depth, line);
-        all_of(text, size + 3, 3, depth, line);
-    }
-    fclose(table);
+static void with_a_mark_and_without(const row *row) {
+    static uint8_t text[ROW + 3];
+    const size_t front = row->size >= 3 && memcmp(row->text, mark, 3) == 0 ? 3 : 0;
+    memcpy(text, mark, 3);
+    memcpy(text + 3, row->text, row->size);
+    all_of(text + 3, row->size, front, row->depth, row->line);
+    all_of(text, row->size + 3, 3, row->depth, row->line);
 }
 
 /* Marks and what is nearly one (RFC 8259, section 8.1). */
@@ -384,13 +325,12 @@ static void null_settings(void) {
 
 int main(int count, char **words) {
     if (count != 2) return 2;
-    each_of_table(words[1]);
+    each_row(words[1], with_a_mark_and_without);
     marks();
     names();
     sequences();
     null_settings();
     refusals();
     memory();
-    printf("settings: %d passed, %d failed\n", passed, failed);
-    return failed != 0;
+    return counted();
 }

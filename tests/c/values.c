@@ -1,38 +1,11 @@
 /* The values of a container: a few by hand, cut at each byte and in slices of each size; those of each accepted text of the table, by its
  * rows, behind each slice; and each request for memory refused in turn: values FILE. Linked with --wrap=malloc and
  * --wrap=realloc. */
-#include "jx.h"
-
-#include <stdio.h>
-#include <stdlib.h>
-#include <string.h>
-
-void *__real_malloc(size_t size);
-void *__real_realloc(void *block, size_t size);
-void *__wrap_malloc(size_t size);
-void *__wrap_realloc(void *block, size_t size);
+#define TEST "values"
+#define REFUSES_MEMORY
+#include "testing.h"
 
 enum { MOST = 8192 };
-
-static int passed;
-static int failed;
-/* How many requests are granted before one is refused; none is where it is negative. */
-static long granted = -1;
-
-static int is_refused(void) { return granted >= 0 && granted-- == 0; }
-
-void *__wrap_malloc(size_t size) { return is_refused() ? NULL : __real_malloc(size); }
-
-void *__wrap_realloc(void *block, size_t size) { return is_refused() ? NULL : __real_realloc(block, size); }
-
-static void expect(int holds, const char *what, size_t line) {
-    if (holds) {
-        passed++;
-    } else {
-        failed++;
-        fprintf(stderr, "values: FAILED: %s, line %zu\n", what, line);
-    }
-}
 
 /* ---- a text by the library */
 
@@ -220,31 +193,9 @@ static void each_container(const uint8_t *text, size_t size, const jx_settings *
     }
 }
 
-static void each_of_table(const char *file) {
-    static char row[4096];
-    static uint8_t text[4096];
-    FILE *table = fopen(file, "r");
-    if (table == NULL) exit(2);
-    for (size_t line = 1; fgets(row, sizeof row, table) != NULL; line++) {
-        uint32_t depth;
-        int at = 0;
-        size_t size = 0;
-        if (row[0] == '#') continue;
-        row[strcspn(row, "\n")] = 0;
-        if (sscanf(row, "%*s %*u %u%n", &depth, &at) != 1) exit(2);
-        for (const char *byte = row + at + 1; *byte != 0; size++) {
-            if (strncmp(byte, "\\x", 2) == 0) {
-                const char digits[3] = {byte[2], byte[3], 0};
-                text[size] = (uint8_t)strtoul(digits, NULL, 16);
-                byte += 4;
-            } else {
-                text[size] = (uint8_t)*byte++;
-            }
-        }
-        each_container(text, size, &(jx_settings){depth, 0}, line);
-        each_container(text, size, &(jx_settings){depth, JX_IGNORE_MARK}, line);
-    }
-    fclose(table);
+static void containers_of(const row *row) {
+    each_container(row->text, row->size, &(jx_settings){row->depth, 0}, row->line);
+    each_container(row->text, row->size, &(jx_settings){row->depth, JX_IGNORE_MARK}, row->line);
 }
 
 /* ---- refusals */
@@ -310,9 +261,8 @@ static void null_pointers_and_settings(void) {
 int main(int count, char **words) {
     if (count != 2) return 2;
     each_of_few();
-    each_of_table(words[1]);
+    each_row(words[1], containers_of);
     refusals();
     null_pointers_and_settings();
-    printf("values: %d passed, %d failed\n", passed, failed);
-    return failed != 0;
+    return counted();
 }

@@ -1,47 +1,7 @@
 /* Reads the texts of the table, each beginning of them, and each of these in slices of one byte: verdicts FILE. */
-#include "jx.h"
+#define TEST "verdicts"
+#include "testing.h"
 
-#include <stdio.h>
-#include <stdlib.h>
-#include <string.h>
-
-static int passed;
-static int failed;
-
-static void expect(int holds, const char *what, size_t line) {
-    if (holds) {
-        passed++;
-    } else {
-        failed++;
-        fprintf(stderr, "verdicts: FAILED: %s, line %zu\n", what, line);
-    }
-}
-
-static int same(const jx_verdict *a, const jx_verdict *b) { return a->kind == b->kind && a->offset == b->offset; }
-
-static uint32_t kind_of(const char *word) {
-    static const char *const words[] = {"accepted", "stopped", "truncated", "too_deep"};
-    for (uint32_t kind = 0; kind < 4; kind++) {
-        if (strcmp(word, words[kind]) == 0) return kind;
-    }
-    fprintf(stderr, "verdicts: no verdict: %s\n", word);
-    exit(2);
-}
-
-/* Writes the bytes that the text spells, and gives how many they are. */
-static size_t spelt(const char *text, uint8_t *bytes) {
-    size_t size = 0;
-    while (*text != 0) {
-        if (strncmp(text, "\\x", 2) == 0) {
-            const char digits[3] = {text[2], text[3], 0};
-            bytes[size++] = (uint8_t)strtoul(digits, NULL, 16);
-            text += 4;
-        } else {
-            bytes[size++] = (uint8_t)*text++;
-        }
-    }
-    return size;
-}
 
 /* A copy that ends where its bytes do, so that one byte too many that is read is seen. */
 static uint8_t *copied(const uint8_t *bytes, size_t size) {
@@ -86,27 +46,11 @@ static void halves(const uint8_t *bytes, size_t size, uint32_t depth, const jx_v
     }
 }
 
-static void each_of_table(const char *file) {
-    static char row[4096];
-    static uint8_t bytes[4096];
-    FILE *table = fopen(file, "r");
-    if (table == NULL) exit(2);
-    for (size_t line = 1; fgets(row, sizeof row, table) != NULL; line++) {
-        char word[16];
-        jx_verdict wanted;
-        uint32_t depth;
-        int at = 0;
-        if (row[0] == '#') continue;
-        row[strcspn(row, "\n")] = 0;
-        if (sscanf(row, "%15s %zu %u%n", word, &wanted.offset, &depth, &at) != 3) exit(2);
-        wanted.kind = kind_of(word);
-        const size_t size = spelt(row + at + 1, bytes);
-        jx_verdict told;
-        expect(jx_check(bytes, size, &(jx_settings){depth, 0}, &told) == JX_OK && same(&told, &wanted), "the verdict", line);
-        beginnings(bytes, size, depth, &wanted, line);
-        halves(bytes, size, depth, &wanted, line);
-    }
-    fclose(table);
+static void verdict_of(const row *row) {
+    jx_verdict told;
+    expect(jx_check(row->text, row->size, &(jx_settings){row->depth, 0}, &told) == JX_OK && same(&told, &row->verdict), "the verdict", row->line);
+    beginnings(row->text, row->size, row->depth, &row->verdict, row->line);
+    halves(row->text, row->size, row->depth, &row->verdict, row->line);
 }
 
 /* 65,535 containers of both kinds, and one more. */
@@ -177,10 +121,9 @@ static void garbage(void) {
 
 int main(int count, char **words) {
     if (count != 2) return 2;
-    each_of_table(words[1]);
+    each_row(words[1], verdict_of);
     deep();
     refusals();
     garbage();
-    printf("verdicts: %d passed, %d failed\n", passed, failed);
-    return failed != 0;
+    return counted();
 }

@@ -1,12 +1,14 @@
 """Whether bytes are a JSON text (RFC 8259), at which byte they stop being one, and where JSON Pointers (RFC 6901) lead.
 
-No call makes a tree of values, and none but `compact` and `each` copies the data. Other threads run during a call.
+No call makes a tree of values, and none but `compact`, `each` and views of saved texts copies the data. Other threads run during a call.
 """
 from ._document import Document
 from ._elements import Element, elements
 from ._faults import (
     AfterLast,
+    BadIndex,
     BadPointer,
+    Changed,
     Kind,
     NameRepeated,
     NoSuchMember,
@@ -15,6 +17,7 @@ from ._faults import (
     NotFound,
     PastEnd,
     Refused,
+    Stale,
     Verdict,
 )
 from ._find import get, get_all, loads
@@ -23,17 +26,23 @@ from ._index import Index, Row, Value, ValueKind
 from ._library import DEPTH_DEFAULT, DEPTH_MAX, version
 from ._lines import Line, LineReader, Lines, lines, lines_file
 from ._runs import NoRun, NotARun, NotNeighbours, OtherDepth, Run
+from ._saved import save
 from ._texts import Reader, check, check_file, compact, verdict
 from ._values import ValueReader, each, each_file
+from ._views import ArrayView, Elements, ObjectView, Part, View, open
 
 __version__ = version()
 __all__ = [
     "AfterLast",
+    "ArrayView",
+    "BadIndex",
     "BadPointer",
+    "Changed",
     "DEPTH_DEFAULT",
     "DEPTH_MAX",
     "Document",
     "Element",
+    "Elements",
     "Finder",
     "Found",
     "Index",
@@ -49,16 +58,20 @@ __all__ = [
     "NotAnIndex",
     "NotFound",
     "NotNeighbours",
+    "ObjectView",
     "OtherDepth",
+    "Part",
     "PastEnd",
     "Reader",
     "Refused",
     "Row",
     "Run",
+    "Stale",
     "Value",
     "ValueKind",
     "ValueReader",
     "Verdict",
+    "View",
     "check",
     "check_file",
     "compact",
@@ -71,5 +84,7 @@ __all__ = [
     "lines",
     "lines_file",
     "loads",
+    "open",
+    "save",
     "verdict",
 ]

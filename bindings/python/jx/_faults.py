@@ -125,6 +125,26 @@ class BadPointer(ValueError):
     """The words are no JSON Pointer (RFC 6901, section 3)."""
 
 
+class BadIndex(ValueError):
+    """The bytes are no saved index, or one of no text."""
+
+
+class Stale(ValueError):
+    """The text is not the one that was indexed."""
+
+
+class Changed(Stale):
+    """The bytes from `start` up to, but not including, `end` are not those of the text that was indexed."""
+
+    def __init__(self, start: int, end: int):
+        super().__init__(start, end)
+        self.start = start
+        self.end = end
+
+    def __str__(self) -> str:
+        return "changed in %d..%d" % (self.start, self.end)
+
+
 class NotFound(LookupError):
     """The pointer leads to no value of the text. `token` counts the pointer's tokens from 0."""
 

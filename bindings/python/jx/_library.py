@@ -44,6 +44,19 @@ class Status(enum.IntEnum):
     NO_FINDER = 17
     NO_VALUES = 18
     NOT_A_POINTER = 19
+    NOT_SAVED = 20
+    OTHER_VERSION = 21
+    CUT_SHORT = 22
+    DAMAGED = 23
+    MALFORMED = 24
+    MORE_BYTES = 25
+    OTHER_SIZE = 26
+    CHANGED = 27
+    NO_SAVED = 28
+    NO_SAVE = 29
+    NOT_A_CHUNK = 30
+    MORE_NEEDED = 31
+    NOT_BEGUN = 32
 
 
 class CSettings(ctypes.Structure):
@@ -75,6 +88,14 @@ class CValues(ctypes.Structure):
 
 
 class CLines(ctypes.Structure):
+    _fields_ = [("inside", ctypes.c_void_p)]
+
+
+class CSave(ctypes.Structure):
+    _fields_ = [("inside", ctypes.c_void_p)]
+
+
+class CSaved(ctypes.Structure):
     _fields_ = [("inside", ctypes.c_void_p)]
 
 
@@ -116,6 +137,14 @@ class CLineCounts(ctypes.Structure):
     _fields_ = [("accepted", ctypes.c_size_t), ("refused", ctypes.c_size_t), ("blank", ctypes.c_size_t)]
 
 
+class CSavedText(ctypes.Structure):
+    _fields_ = [("size", ctypes.c_size_t), ("chunk", ctypes.c_size_t), ("depth", ctypes.c_uint32), ("flags", ctypes.c_uint32)]
+
+
+class CPart(ctypes.Structure):
+    _fields_ = [("span", CSpan), ("number", ctypes.c_size_t), ("first", ctypes.c_size_t), ("end", ctypes.c_size_t)]
+
+
 _POINTER = ctypes.c_void_p
 _SIZE = ctypes.c_size_t
 _CALLS = {
@@ -141,6 +170,23 @@ _CALLS = {
     "jx_values_take_non_null": [_POINTER, _POINTER, _SIZE, _POINTER],
     "jx_values_end_non_null": [_POINTER, _POINTER],
     "jx_values_free_non_null": [_POINTER],
+    "jx_save_new_non_null": [_POINTER, _SIZE, _POINTER],
+    "jx_save_new_with_names_non_null": [_POINTER, _SIZE, _POINTER],
+    "jx_save_feed_non_null": [_POINTER, _POINTER, _SIZE],
+    "jx_save_end_non_null": [_POINTER, _POINTER, _POINTER],
+    "jx_save_take_non_null": [_POINTER, _POINTER, _SIZE, _POINTER],
+    "jx_save_free_non_null": [_POINTER],
+    "jx_saved_open_non_null": [_POINTER, _SIZE, _SIZE, _POINTER],
+    "jx_saved_about_non_null": [_POINTER, _POINTER],
+    "jx_saved_seek_non_null": [_POINTER, _POINTER, _SIZE],
+    "jx_saved_split_non_null": [_POINTER, _POINTER, _SIZE],
+    "jx_saved_needs_non_null": [_POINTER, _POINTER],
+    "jx_saved_give_non_null": [_POINTER, _POINTER, _SIZE],
+    "jx_saved_answers_non_null": [_POINTER, _POINTER, _SIZE],
+    "jx_saved_parts_non_null": [_POINTER, _POINTER, _SIZE, _POINTER],
+    "jx_saved_chunk_non_null": [_POINTER, _SIZE, _POINTER],
+    "jx_saved_check_non_null": [_POINTER, _SIZE, _POINTER, _SIZE],
+    "jx_saved_free_non_null": [_POINTER],
     "jx_lines_new_non_null": [_POINTER, _POINTER],
     "jx_lines_feed_non_null": [_POINTER, _POINTER, _SIZE],
     "jx_lines_take_non_null": [_POINTER, _POINTER, _SIZE, _POINTER],

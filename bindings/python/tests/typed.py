@@ -1,7 +1,7 @@
 """What a checker of types says of calls of the package: `mypy --strict` accepts this file, and would refuse it without its comments."""
 import mmap
 import pathlib
-from typing import List, Optional, Union, assert_type
+from typing import List, Optional, Tuple, Union, assert_type
 
 import jx
 
@@ -56,6 +56,30 @@ def indexes() -> None:
     assert_type(value.get("b"), Optional[jx.Value])
     assert_type(index.row(0), jx.Row)
     index[0]  # type: ignore[index]
+
+
+def saved(path: pathlib.Path) -> None:
+    assert_type(jx.save(path, chunk=4096, names=True), str)
+    with open(path, "rb") as file:
+        assert_type(jx.save(file, path, depth=3, ignore_bom=True), str)
+        jx.open(file, DATA)
+    with jx.open(path) as root:
+        assert_type(root, jx.View)
+        assert_type(root.span, Tuple[int, int])
+        assert_type(root.kind, jx.ValueKind)
+        assert_type(bytes(root), bytes)
+        if isinstance(root, jx.ArrayView):
+            assert_type(root[1:], jx.Elements)
+            for part in root.split(8):
+                assert_type(part, jx.Part)
+                assert_type(part.last - part.first, int)
+        if isinstance(root, jx.ObjectView):
+            assert_type(list(root), List[str])
+    try:
+        jx.open(path)
+    except jx.Changed as changed:
+        assert_type(changed.end - changed.start, int)
+    jx.save(path, unique_names=True)  # type: ignore[call-arg]
 
 
 def others() -> None:

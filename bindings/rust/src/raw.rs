@@ -94,6 +94,34 @@ impl Default for Values {
     }
 }
 
+/// The pointer is the library's alone; null where it holds no text whose index is made.
+#[repr(C)]
+pub struct Save {
+    pub inside: *mut c_void,
+}
+
+impl Default for Save {
+    fn default() -> Save {
+        Save {
+            inside: ptr::null_mut(),
+        }
+    }
+}
+
+/// The pointer is the library's alone; null where it holds no saved index.
+#[repr(C)]
+pub struct Saved {
+    pub inside: *mut c_void,
+}
+
+impl Default for Saved {
+    fn default() -> Saved {
+        Saved {
+            inside: ptr::null_mut(),
+        }
+    }
+}
+
 /// The bytes of a pointer.
 #[repr(C)]
 #[derive(Clone, Copy)]
@@ -158,6 +186,24 @@ pub struct LineCounts {
     pub blank: usize,
 }
 
+#[repr(C)]
+#[derive(Clone, Copy, Default)]
+pub struct SavedText {
+    pub size: usize,
+    pub chunk: usize,
+    pub depth: u32,
+    pub flags: u32,
+}
+
+#[repr(C)]
+#[derive(Clone, Copy, Default)]
+pub struct Part {
+    pub span: Span,
+    pub number: usize,
+    pub first: usize,
+    pub end: usize,
+}
+
 pub const OK: u32 = 0;
 pub const NO_MEMORY: u32 = 1;
 pub const TOO_MANY_BYTES: u32 = 4;
@@ -171,6 +217,16 @@ pub const NO_LINES: u32 = 15;
 pub const NO_FINDER: u32 = 17;
 pub const NO_VALUES: u32 = 18;
 pub const NOT_A_POINTER: u32 = 19;
+pub const NOT_SAVED: u32 = 20;
+pub const OTHER_VERSION: u32 = 21;
+pub const CUT_SHORT: u32 = 22;
+pub const DAMAGED: u32 = 23;
+pub const MALFORMED: u32 = 24;
+pub const MORE_BYTES: u32 = 25;
+pub const OTHER_SIZE: u32 = 26;
+pub const CHANGED: u32 = 27;
+pub const NO_SAVE: u32 = 29;
+pub const NOT_A_CHUNK: u32 = 30;
 
 pub const NO_FROM: u64 = u64::MAX;
 
@@ -275,6 +331,52 @@ extern "C" {
     ) -> u32;
     pub fn jx_values_end_non_null(values: *mut Values, outcome: *mut Outcome) -> u32;
     pub fn jx_values_free_non_null(values: *mut Values);
+    pub fn jx_save_new_non_null(settings: *const Settings, chunk: usize, save: *mut Save) -> u32;
+    pub fn jx_save_new_with_names_non_null(
+        settings: *const Settings,
+        chunk: usize,
+        save: *mut Save,
+    ) -> u32;
+    pub fn jx_save_feed_non_null(save: *mut Save, bytes: *const u8, size: usize) -> u32;
+    pub fn jx_save_end_non_null(
+        save: *mut Save,
+        index_size: *mut usize,
+        verdict: *mut Verdict,
+    ) -> u32;
+    pub fn jx_save_take_non_null(
+        save: *mut Save,
+        index: *mut u8,
+        room: usize,
+        index_size: *mut usize,
+    ) -> u32;
+    pub fn jx_save_free_non_null(save: *mut Save);
+    pub fn jx_saved_open_non_null(
+        index: *const u8,
+        index_size: usize,
+        text_size: usize,
+        saved: *mut Saved,
+    ) -> u32;
+    pub fn jx_saved_about_non_null(saved: *mut Saved, text: *mut SavedText) -> u32;
+    pub fn jx_saved_seek_non_null(saved: *mut Saved, pointers: *const Pointer, count: usize)
+        -> u32;
+    pub fn jx_saved_split_non_null(saved: *mut Saved, container: *const Span, parts: usize) -> u32;
+    pub fn jx_saved_needs_non_null(saved: *mut Saved, need: *mut Span) -> u32;
+    pub fn jx_saved_give_non_null(saved: *mut Saved, bytes: *const u8, size: usize) -> u32;
+    pub fn jx_saved_answers_non_null(saved: *mut Saved, answers: *mut Answer, room: usize) -> u32;
+    pub fn jx_saved_parts_non_null(
+        saved: *mut Saved,
+        parts: *mut Part,
+        room: usize,
+        count: *mut usize,
+    ) -> u32;
+    pub fn jx_saved_chunk_non_null(saved: *mut Saved, at: usize, chunk: *mut Span) -> u32;
+    pub fn jx_saved_check_non_null(
+        saved: *mut Saved,
+        at: usize,
+        bytes: *const u8,
+        size: usize,
+    ) -> u32;
+    pub fn jx_saved_free_non_null(saved: *mut Saved);
     pub fn jx_lines_new_non_null(settings: *const Settings, lines: *mut Lines) -> u32;
     pub fn jx_lines_feed_non_null(lines: *mut Lines, bytes: *const u8, size: usize) -> u32;
     pub fn jx_lines_take_non_null(

@@ -1,8 +1,8 @@
 use clap::error::ErrorKind;
 use jx_command::ArgFault;
+use jx_ends::ReportFault;
 use jx_index::PointerFault;
 use jx_parts::PartsFault;
-use jx_report::ReportFault;
 use std::alloc::AllocError;
 use std::io;
 use thiserror::Error;

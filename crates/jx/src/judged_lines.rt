@@ -6,9 +6,9 @@ use crate::input::{fault_of_report, open, told_of};
 use crate::output::{Output, Writer};
 use jx_command::{Input, Inputs, LinesOrder, LiveOrder, input_of};
 use jx_crew::{Crew, OpenGate, Workers};
+use jx_ends::{End, ReportFault};
 use jx_files::{FileFault, Status, shown_name};
 use jx_ndjson_report::{BlankRule, ElementsTask, LinesTask, report_lines, report_sequence};
-use jx_report::{End, ReportFault};
 use std::sync::Wait;
 use std::thread::Threads;
 

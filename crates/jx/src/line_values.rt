@@ -7,9 +7,9 @@ use crate::fault::Fault;
 use crate::input::{fault_of_report, open};
 use crate::output::Output;
 use jx_command::{ByLine, Input};
+use jx_ends::End;
 use jx_files::Status;
 use jx_line_values::{LineValuesTask, first_misspelt, report_line_values};
-use jx_report::End;
 use jx_task::ValuesTask;
 
 /// Writes the values that pointers lead to in each line of an input.

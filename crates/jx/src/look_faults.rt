@@ -4,8 +4,8 @@ use crate::input::{Reader, told_of};
 use crate::output::Writer;
 use crate::text_file::TextFile;
 use jx_command::Input;
+use jx_ends::{End, ReportFault, write_whole};
 use jx_files::{FileFault, shown_name};
-use jx_report::{End, ReportFault, write_whole};
 use jx_walk_report::LookFault;
 use std::alloc::AllocError;
 

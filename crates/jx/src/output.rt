@@ -1,6 +1,6 @@
 // Standard output.
 use crate::fault::Fault;
-use jx_report::{End, ReportFault, write_whole};
+use jx_ends::{End, ReportFault, write_whole};
 use std::io;
 use std::io::{Stdout, Write};
 

@@ -5,9 +5,9 @@ use crate::fault::Fault;
 use crate::input::{Reader, fault_of_report, open};
 use crate::output::{Output, Writer};
 use jx_command::{PartsOrder, PartsStep};
+use jx_ends::{End, Exit};
 use jx_files::Status;
 use jx_parts::{PartsFault, report_joined, report_part, report_whole};
-use jx_report::{End, Exit};
 use std::io::IsTerminal;
 
 /// Does the step of an order between its ends. A run that is written is good.

@@ -5,8 +5,8 @@ use crate::look_faults::fault_of_look;
 use crate::output::Output;
 use crate::text_file::TextFile;
 use jx_command::Input;
+use jx_ends::End;
 use jx_files::Status;
-use jx_report::End;
 use jx_walk_report::report_places;
 
 /// Writes where pointers lead in the text of a file, by the index in another one.

@@ -3,8 +3,8 @@ use crate::fault::Fault;
 use crate::input::{fault_of_report, open_watched};
 use crate::output::Output;
 use jx_command::SaveOrder;
+use jx_ends::End;
 use jx_files::Status;
-use jx_report::End;
 use jx_saved_report::report_index;
 use std::io::IsTerminal;
 
@@ -23,6 +23,7 @@ pub fn save_index(rt: &HostRuntime, order: &SaveOrder<'_>) -> Result<Status, Fau
         &mut errors,
         &order.settings,
         order.chunk,
+        order.has_names,
     ) {
         Ok(exit) => Ok(Status::of_exit(exit)),
         Err(fault) => Err(fault_of_report(rt, order.input, &reader, &writer, fault)),

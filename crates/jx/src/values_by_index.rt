@@ -5,8 +5,8 @@ use crate::look_faults::fault_of_look;
 use crate::output::Output;
 use crate::text_file::TextFile;
 use jx_command::Input;
+use jx_ends::End;
 use jx_files::Status;
-use jx_report::End;
 use jx_values::Form;
 use jx_walk_values::report_values_by_index;
 

@@ -6,6 +6,7 @@ pub mod Holding
 pub mod Led
 pub mod LedIndex
 pub mod Moves
+pub mod Opening
 pub mod Outcomes
 pub mod ReaderSteps
 pub mod Records

@@ -7,9 +7,11 @@ pub mod Held
 pub mod Indexes
 pub mod Lines
 pub mod LookUps
+pub mod Opened
 pub mod Reader
 pub mod Rows
 pub mod Runs
+pub mod Saves
 pub mod Seeks
 pub mod Settings
 pub mod Stack

@@ -53,3 +53,42 @@ pub const NO_VALUES: u32 = 18;
 
 /// The bytes spell no pointer (RFC 6901, section 3).
 pub const NOT_A_POINTER: u32 = 19;
+
+/// The bytes do not begin as a saved index does.
+pub const NOT_SAVED: u32 = 20;
+
+/// The saved index is of another version of the format.
+pub const OTHER_VERSION: u32 = 21;
+
+/// The bytes of the saved index end too early.
+pub const CUT_SHORT: u32 = 22;
+
+/// The saved index is of no text.
+pub const DAMAGED: u32 = 23;
+
+/// A field of the saved index is none that an index has.
+pub const MALFORMED: u32 = 24;
+
+/// Bytes stand behind the saved index.
+pub const MORE_BYTES: u32 = 25;
+
+/// The saved index is of a text of another size.
+pub const OTHER_SIZE: u32 = 26;
+
+/// The bytes of a chunk are not those of the text that was indexed.
+pub const CHANGED: u32 = 27;
+
+/// The struct holds no saved index.
+pub const NO_SAVED: u32 = 28;
+
+/// The struct holds no text whose index is made.
+pub const NO_SAVE: u32 = 29;
+
+/// A chunk cannot have so many bytes.
+pub const NOT_A_CHUNK: u32 = 30;
+
+/// Bytes are needed first.
+pub const MORE_NEEDED: u32 = 31;
+
+/// No look-up and no split was begun, or the text has ended.
+pub const NOT_BEGUN: u32 = 32;

@@ -69,12 +69,18 @@ fn depth<'a>(alloc: Global) -> Arg<'a> {
         .long_help(help::LONG_DEPTH)
 }
 
-fn workers<'a>(alloc: Global) -> Arg<'a> {
+/// Among how many workers a command shares its work where the words leave it out.
+const SHARED_BY: &str = "4";
+
+/// One worker makes the lines of elements in less processor time, and mostly in less time.
+const EACH_SHARED_BY: &str = "1";
+
+fn workers<'a>(alloc: Global, default: &'a str) -> Arg<'a> {
     Arg::new(alloc, "workers")
         .long("workers")
         .value_name("N")
         .value_parser(ValueParser::unsigned(1, 64))
-        .default_value("4")
+        .default_value(default)
         .help(help::WORKERS)
         .long_help(help::LONG_WORKERS)
 }
@@ -253,7 +259,7 @@ fn reading<'a>(
         .after_long_help(after)
         .arg(file(alloc))?
         .arg(depth(alloc))?
-        .arg(workers(alloc))?
+        .arg(workers(alloc, SHARED_BY))?
         .arg(piece(alloc))?
         .arg(ignore_bom(alloc))?
         .arg(unique_names(alloc))
@@ -310,7 +316,7 @@ fn each<'a>(alloc: Global) -> Result<Command<'a>, AllocError> {
         .arg(names(alloc))?
         .arg(file(alloc))?
         .arg(depth(alloc))?
-        .arg(workers(alloc))?
+        .arg(workers(alloc, EACH_SHARED_BY))?
         .arg(piece(alloc))?
         .arg(ignore_bom(alloc))?
         .arg(progress(alloc))
@@ -346,7 +352,7 @@ fn lines<'a>(alloc: Global) -> Result<Command<'a>, AllocError> {
         .after_long_help(help::AFTER_LINES)
         .arg(file(alloc))?
         .arg(depth(alloc))?
-        .arg(workers(alloc))?
+        .arg(workers(alloc, SHARED_BY))?
         .arg(piece(alloc))?
         .arg(ignore_bom(alloc))?
         .arg(skip_blank(alloc))?
@@ -371,6 +377,7 @@ fn save<'a>(alloc: Global) -> Result<Command<'a>, AllocError> {
         .arg(file(alloc))?
         .arg(depth(alloc))?
         .arg(chunk(alloc))?
+        .arg(names(alloc).help(help::TABLES).long_help(help::LONG_TABLES))?
         .arg(ignore_bom(alloc))?
         .arg(unique_names(alloc))?
         .arg(progress(alloc))?

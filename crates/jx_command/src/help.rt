@@ -231,6 +231,12 @@ pub const LONG_NAMES: &str = "Write names too, of the members of an object: each
 {\"name\":NAME,\"value\":VALUE}, with the name as it is spelt. An array
 has no names: it is refused.";
 
+pub const TABLES: &str = "Write tables of names too";
+
+pub const LONG_TABLES: &str = "Write tables of names too, behind the index. By them fewer chunks are
+read of an object with many members. They have some four bytes for
+each member of the objects that stand in several chunks.";
+
 pub const POINTERS: &str = "Look up the lines of FILE too";
 
 pub const LONG_POINTERS: &str =
@@ -336,8 +342,8 @@ Of a text that is refused, one line as by 'jx check'.
 
 Exit status: 0 all found, 1 refused or not all found, 2 no answer.
 
-The text is read once, in constant memory. With --unique-names, or with 10000
-pointers or more, the whole input is held.
+The text is read once, in constant memory; with --unique-names the names of
+open objects are kept. With 10000 pointers or more the whole input is held.
 
 With --index the index is held, and of the text a chunk at a time. There is no
 output where the bytes of a chunk that is read have changed, where the text
@@ -454,7 +460,7 @@ pub const AFTER_SAVE: &str =
 text how its reading begins, what it opens and closes, and a digest. With
 chunks of 32768 bytes it has 0.075 % of the text's size. It is no text, and is
 not written to a terminal. The text is read once, and not held; its index is,
-and with --unique-names the names of open objects.
+with --names its tables, and with --unique-names the names of open objects.
 
 What is told on standard error:
   jx: VERDICT  the text is refused, as by 'jx check'; no output
@@ -463,6 +469,7 @@ Exit status: 0 the index is written, 1 refused, 2 no answer.
 
 Examples:
   jx save dump.json > dump.json.jxi
+  jx save --names dump.json > dump.json.jxi
   zstd -dc dump.json.zst | jx save > dump.json.jxi";
 
 pub const AFTER_SPLIT: &str = "Output, a line for each part that is not empty:

@@ -132,6 +132,8 @@ pub struct SaveOrder<'a> {
     pub settings: Settings,
     /// How many bytes each chunk has that the index tells of.
     pub chunk: ChunkSize,
+    /// Whether tables of its names stand behind the index.
+    pub has_names: bool,
     /// Whether it is told how far it was read.
     pub progress: ShowProgress,
 }

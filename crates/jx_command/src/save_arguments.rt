@@ -24,6 +24,7 @@ pub(crate) fn save_order_from<'a>(options: &ArgMatches<'a>) -> Result<SaveOrder<
         input: input_of_word(options),
         settings: settings_of(options),
         chunk,
+        has_names: options.get_flag("names"),
         progress: progress_of(options),
     })
 }

@@ -5,7 +5,7 @@ use Rattle.std.specs.Simd.Lanes.{chunk}
 use Rattle.std.proofs.lemmas.Bool.{cases_lt}
 use Rattle.jx_lex.specs.inside.Bits.{bit}
 use Rattle.jx_lex.proofs.Bits.{bit-none}
-use Rattle.std.proofs.lemmas.List.{drop-drop, drop-take, drop_at, get_or-drop, get_or-take, length-append, length-take-le, take_at}
+use Rattle.std.proofs.lemmas.List.{append-nil, drop-drop, drop-take, drop_all, drop_at, get_or-drop, get_or-take, length-append, length-take-le, take-append-le, take_all, take_at}
 use Rattle.std.proofs.Math.Seq.{take-add}
 use Rattle.jx_lex.proofs.Running.{take-again}
 use Rattle.jx_lex.proofs.Slices.{slice-length, slice-more, slice-none}
@@ -110,6 +110,14 @@ lies_copied ys zs xs base at to le room is =
       n,
     )
 
+-- bytes of a vector that were written over in place
+pub written : (n : ℕ) (items old new : List ℕ) → old ≡ items → length old ≡ n → length new ≡ length old → take n (new ++ drop (length new) items) ≡ new
+written n items old new is all same =
+    let m : length old ≡ length items = ap length is in
+    ap (λ (xs : List ℕ). take n (new ++ xs)) (drop_all (length new) items (omega (arith, same, m)))
+    ∙ ap (take n) (append-nil new)
+    ∙ take_all n new (omega (arith, same, all))
+
 -- over one byte
 pub led_stop : (ys zs xs : List ℕ) (base stop to at : ℕ) (p q : Place) (n m : Nest) → stop < to → to - stop ≤ length ys → base + to ≤ length xs → length zs ≡ length ys → at ≡ length ys - (to - stop) → p ≡ Between → q ≡ Between
     → IsLed Between n (take at ys) (get_or xs (base + stop) 0 ∷ []) Between m (take (at + 1) zs)
@@ -132,6 +140,48 @@ pub copied_at : (ys zs xs : List ℕ) (base at to : ℕ) → base + 64 ≤ lengt
 copied_at ys zs xs base at to room order is =
     let most : to ≤ 64 = order.1 in
     lies_copied ys zs xs base at to order.0 (omega (arith, most, room)) is
+
+-- ---- 64 bytes that were put behind what was made, of which some are looked at
+
+-- as many of them
+put_is : (made ys xs : List ℕ) (len base at to : ℕ) → (at ≤ to) × (to ≤ 64) → len + 64 ≤ length made → take (len + 64) ys ≡ take len made ++ slice_range xs (base + at) (base + at + 64)
+    → take (len + (to - at)) ys ≡ take len made ++ slice_range xs (base + at) (base + to)
+put_is made ys xs len base at to order room is =
+    let low : at ≤ to = order.0 in
+    let most : to ≤ 64 = order.1 in
+    let front : List ℕ = take len made in
+    let w : List ℕ = slice_range xs (base + at) (base + at + 64) in
+    let count : length front ≡ len = length-take-le len made (omega (arith, room)) in
+    let end : base + at + (to - at) ≡ base + to = omega (arith, low) in
+    sym (take-again (len + (to - at)) (len + 64) ys (omega (arith, most)))
+    ∙ ap (take (len + (to - at))) is
+    ∙ take-add len (to - at) (front ++ w)
+    ∙ ap (λ (v : List ℕ). v ++ take (to - at) (drop len (front ++ w))) (take_at front w len count)
+    ∙ ap (λ (v : List ℕ). front ++ take (to - at) v) (drop_at front w len count)
+    ∙ ap (λ (v : List ℕ). front ++ v) (slice-take xs (base + at) (to - at) (base + at + 64) (omega (arith, most)) ∙ ap (slice_range xs (base + at)) end)
+
+module _ (made ys xs : List ℕ) (len base at to : ℕ) (inside : base + 64 ≤ length xs) (order : (at ≤ to) × (to ≤ 64)) (room : len + 64 ≤ length made)
+    (is : take (len + 64) ys ≡ take len made ++ slice_range xs (base + at) (base + at + 64)) where
+  pub put_copied : (Lies (take (len + (to - at)) ys) xs base at to) × (made_at (take (len + (to - at)) ys) at to ≡ take len made) × (length (take (len + (to - at)) ys) - (to - at) ≡ length (take len made))
+  put_copied = copied_at (take len made) (take (len + (to - at)) ys) xs base at to inside order (put_is made ys xs len base at to order room is)
+
+  pub put_long : length (take (len + (to - at)) ys) ≡ len + (to - at)
+  put_long =
+      let c = put_copied in
+      let long : to - at ≤ length (take (len + (to - at)) ys) = c.0.long in
+      let rest : length (take (len + (to - at)) ys) - (to - at) ≡ length (take len made) = c.2 in
+      let count : length (take len made) ≡ len = length-take-le len made (omega (arith, room)) in
+      omega (arith, long, rest, count)
+
+  -- what they lead to
+  pub put_led : (ws rest w : List ℕ) (k : ℕ) (p q : Place) (n m : Nest) → length ws ≡ length (take (len + (to - at)) ys) → IsLed p n (made_at (take (len + (to - at)) ys) at to) w q m (made_at ws k to)
+      → IsLed p n (take len made) w q m (take (len + (to - at) - (to - k)) (ws ++ rest))
+  put_led ws rest w k p q n m same led =
+      let long : length ws ≡ len + (to - at) = same ∙ put_long in
+      let cut : take (len + (to - at) - (to - k)) (ws ++ rest) ≡ made_at ws k to =
+      take-append-le (len + (to - at) - (to - k)) ws rest (omega (arith, long)) ∙ ap (λ (j : ℕ). take (j - (to - k)) ws) (sym long) in
+      subst (λ (out : List ℕ). IsLed p n out w q m (take (len + (to - at) - (to - k)) (ws ++ rest))) put_copied.1
+      (subst (λ (out : List ℕ). IsLed p n (made_at (take (len + (to - at)) ys) at to) w q m out) (sym cut) led)
 
 -- ---- blanks of a block
 

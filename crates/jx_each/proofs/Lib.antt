@@ -15,3 +15,4 @@ mod Numbers
 mod Joins
 mod Leading
 mod Ending
+mod Feeding

@@ -51,7 +51,7 @@ module _ (xs : List ℕ) (base : ℕ) (inside : Bool) (w : Words) (room : base +
   byte_is : (k : ℕ) → k < 64 → get_or (chunk base 64 xs) k 0 ≡ get_or xs (base + k) 0
   byte_is k lt = get_or-chunk base 64 xs k 0 lt
 
-  goes : (k : ℕ) → k < 64 → next (place_at inside w k) (get_or xs (base + k) 0) ≡ place_at inside w (suc k)
+  pub goes : (k : ℕ) → k < 64 → next (place_at inside w k) (get_or xs (base + k) 0) ≡ place_at inside w (suc k)
   goes k lt = subst (λ (b : ℕ). next (place_at inside w k) b ≡ place_at inside w (suc k)) (byte_is k lt) (told.goes k lt)
 
   -- what a word says of a byte

@@ -56,7 +56,7 @@ or_none true = refl
 or_none false = refl
 
 -- what stands before each place
-before : (inside : Bool) (s c k : ℕ) → k < 64 → bit c 0 ≡ inside → ((j : ℕ) → bit c (suc j) ≡ false) → bit (bit_or (s * 2 % 2 ^ 64) c) k ≡ in_at inside s k
+pub before : (inside : Bool) (s c k : ℕ) → k < 64 → bit c 0 ≡ inside → ((j : ℕ) → bit c (suc j) ≡ false) → bit (bit_or (s * 2 % 2 ^ 64) c) k ≡ in_at inside s k
 before inside s c zero lt first others = bit-or (s * 2 % 2 ^ 64) c 0 ∙ ap (λ (b : Bool). b || bit c 0) (bit-up_first s) ∙ first
 before inside s c (suc k) lt first others =
     let more : suc k ≡ k + 1 = omega arith in

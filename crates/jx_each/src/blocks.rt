@@ -123,7 +123,7 @@ fn parities(bits: u64) -> u64 {
 
 /// A word whose lowest bit alone may be set.
 #[inline(always)]
-fn lowest(set: bool) -> u64
+pub(crate) fn lowest(set: bool) -> u64
     ensures first { bit result 0 ≡ set }
     ensures others { (k : ℕ) → bit result (suc k) ≡ false }
 {

@@ -1,16 +1,18 @@
 // Elements of an array, written while their bytes are walked over: of each block of 64 what stands between blanks is copied at
 // once, and commas behind elements become line feeds.
-ghost use Rattle.std.specs.Prelude.{◌≡◌, ◌+◌, ◌-◌, ◌<◌, ◌≤◌, ◌^◌, ℕ, false, true, [], ◌++◌, ◌⊎◌, IfOk, IsTrue, OnOk, bit_or, drop, length, slice_range, take};
+ghost use Rattle.std.specs.Prelude.{◌≡◌, ◌+◌, ◌-◌, ◌<◌, ◌≤◌, ◌^◌, ℕ, false, true, [], ◌++◌, ◌⊎◌, IfOk, IfSome, IsTrue, OnOk, bit_or, drop, length, nat_lt, slice_range, take};
 ghost use Rattle.std.specs.Simd.Lanes.{chunk};
 ghost use Rattle.jx_compact.specs.declared.place.Place.TheVariants.{Between};
 ghost use Rattle.jx_lex.specs.inside.Bits.{bit};
 ghost use Rattle.jx_each.specs.Machine.{Aim, run};
 ghost use Rattle.jx_each.specs.declared.stand.Stage.TheVariants.{Array};
 ghost use Rattle.jx_each.specs.inside.Blocks.{IsTold, place_at};
+ghost use Rattle.jx_each.specs.inside.Flat.{IsFlat};
 ghost use Rattle.jx_each.specs.inside.Stretches.{IsLed, spot};
 
 use crate::blocks::{BLOCK, Words, is_set, next_clear, next_set, words_of};
 use crate::copies::push_stretch;
+use crate::flat::{commas_end, with_feeds};
 use crate::nest::{Nest, pass_stop};
 use crate::places::{inside_of, place_of};
 use crate::stretch::Stretch;
@@ -19,11 +21,26 @@ use std::alloc::AllocError;
 use std::mem;
 use std::simd::prelude::*;
 
+/// The words of the block at an offset, and whether the first byte there stands inside a string.
+#[derive(Clone, Copy, Debug)]
+struct View {
+    words: Words,
+    inside: bool,
+    base: usize,
+}
+
 /// How far the bytes of a block were walked over, and what is open there.
 #[derive(Clone, Copy, Debug)]
 struct Reach {
     at: usize,
     nest: Nest,
+}
+
+/// How many bytes are made then.
+#[derive(Clone, Copy, Debug)]
+struct Squeezed {
+    len: usize,
+    reach: Reach,
 }
 
 /// How far bytes were walked over, where the next one stands, and what is open there.
@@ -52,40 +69,38 @@ fn stops_at(words: Words, height: usize) -> u64
 /// becomes a line feed. It stops before a byte that ends the array.
 #[inline(always)]
 fn end_elements(
-    words: Words,
-    inside: bool,
-    lines: &mut Vec<u8>,
+    view: View,
+    made: &mut [u8],
     bytes: &[u8],
-    base: usize,
     from: usize,
     to: usize,
     nest: Nest,
 ) -> Reach
-    requires room { base + 64 ≤ length bytes.now }
-    requires told { IsTold (chunk base 64 bytes.now) inside words }
+    requires room { view.base + 64 ≤ length bytes.now }
+    requires told { IsTold (chunk view.base 64 bytes.now) view.inside view.words }
     requires order { (from ≤ to) × (to ≤ 64) }
-    requires solid { (k : ℕ) → from ≤ k → k < to → bit words.gaps k ≡ false }
-    requires long { to - from ≤ length lines.old.items }
-    requires copied { drop (length lines.old.items - (to - from)) lines.old.items ≡ slice_range bytes.now (base + from) (base + to) }
-    requires begin { nest.begin ≤ length lines.old.items - (to - from) }
+    requires solid { (k : ℕ) → from ≤ k → k < to → bit view.words.gaps k ≡ false }
+    requires long { to - from ≤ length made.old }
+    requires copied { drop (length made.old - (to - from)) made.old ≡ slice_range bytes.now (view.base + from) (view.base + to) }
+    requires begin { nest.begin ≤ length made.old - (to - from) }
     requires high { 1 ≤ nest.height }
     requires fits { nest.height + (to - from) < 2 ^ 64 }
     ensures bounds { (from ≤ result.at) × (result.at ≤ to) }
-    ensures length { length lines.new.items ≡ length lines.old.items }
-    ensures begin { result.nest.begin ≤ length lines.new.items - (to - result.at) }
+    ensures length { length made.new ≡ length made.old }
+    ensures begin { result.nest.begin ≤ length made.new - (to - result.at) }
     ensures high { (1 ≤ result.nest.height) × (result.nest.height ≤ nest.height + (result.at - from)) }
-    ensures outside { result.at < to → place_at inside words result.at ≡ Between }
-    ensures led { IsLed (place_at inside words from) nest (take (length lines.old.items - (to - from)) lines.old.items) (slice_range bytes.now (base + from) (base + result.at)) (place_at inside words result.at) result.nest (take (length lines.new.items - (to - result.at)) lines.new.items) }
+    ensures outside { result.at < to → place_at view.inside view.words result.at ≡ Between }
+    ensures led { IsLed (place_at view.inside view.words from) nest (take (length made.old - (to - from)) made.old) (slice_range bytes.now (view.base + from) (view.base + result.at)) (place_at view.inside view.words result.at) result.nest (take (length made.new - (to - result.at)) made.new) }
 {
-    let len = lines.len();
+    let len = made.len();
     let mut at = from;
     let mut nest = nest;
     while at < to {
-        let stop = next_set(stops_at(words, nest.height), at);
+        let stop = next_set(stops_at(view.words, nest.height), at);
         if stop >= to {
             return Reach { at: to, nest };
         }
-        let Some(next) = pass_stop(lines, len - (to - stop), bytes[base + stop], nest) else {
+        let Some(next) = pass_stop(made, len - (to - stop), bytes[view.base + stop], nest) else {
             return Reach { at: stop, nest };
         };
         nest = next;
@@ -97,30 +112,28 @@ fn end_elements(
 /// Copies the bytes of a block from one up to another, among which no blank stands outside of strings, and ends the elements there.
 #[inline(always)]
 fn walk_stretch(
-    words: Words,
-    inside: bool,
+    view: View,
     lines: &mut Vec<u8>,
     bytes: &[u8],
-    base: usize,
     from: usize,
     to: usize,
     nest: Nest,
 ) -> Result<Reach, AllocError>
-    requires room { base + 64 ≤ length bytes.now }
-    requires told { IsTold (chunk base 64 bytes.now) inside words }
+    requires room { view.base + 64 ≤ length bytes.now }
+    requires told { IsTold (chunk view.base 64 bytes.now) view.inside view.words }
     requires order { (from ≤ to) × (to ≤ 64) }
-    requires solid { (k : ℕ) → from ≤ k → k < to → bit words.gaps k ≡ false }
+    requires solid { (k : ℕ) → from ≤ k → k < to → bit view.words.gaps k ≡ false }
     requires begin { nest.begin ≤ length lines.old.items }
     requires high { 1 ≤ nest.height }
     requires fits { nest.height + (to - from) < 2 ^ 64 }
     ensures bounds { IfOk result (λ reach. (from ≤ reach.at) × (reach.at ≤ to)) }
     ensures begin { IfOk result (λ reach. reach.nest.begin ≤ length lines.new.items) }
     ensures high { IfOk result (λ reach. (1 ≤ reach.nest.height) × (reach.nest.height ≤ nest.height + (reach.at - from))) }
-    ensures outside { IfOk result (λ reach. reach.at < to → place_at inside words reach.at ≡ Between) }
-    ensures led { IfOk result (λ reach. IsLed (place_at inside words from) nest lines.old.items (slice_range bytes.now (base + from) (base + reach.at)) (place_at inside words reach.at) reach.nest lines.new.items) }
+    ensures outside { IfOk result (λ reach. reach.at < to → place_at view.inside view.words reach.at ≡ Between) }
+    ensures led { IfOk result (λ reach. IsLed (place_at view.inside view.words from) nest lines.old.items (slice_range bytes.now (view.base + from) (view.base + reach.at)) (place_at view.inside view.words reach.at) reach.nest lines.new.items) }
 {
-    push_stretch(lines, true, bytes, base + from, base + to)?;
-    let reach = end_elements(words, inside, lines, bytes, base, from, to, nest);
+    push_stretch(lines, true, bytes, view.base + from, view.base + to)?;
+    let reach = end_elements(view, lines, bytes, from, to, nest);
     lines.truncate(lines.len() - (to - reach.at));
     Ok(reach)
 }
@@ -152,39 +165,78 @@ fn past_gap(words: Words, at: usize) -> usize
     }
 }
 
-/// Walks over the bytes of a block that are looked at, or up to one that ends the array, from one blank to the next.
+/// Copies the 64 bytes from an offset on over what was made behind so many bytes.
 #[inline(always)]
-fn walk_words(
-    words: Words,
-    inside: bool,
-    lines: &mut Vec<u8>,
-    bytes: &[u8],
-    base: usize,
-    nest: Nest,
-) -> Result<Reach, AllocError>
-    requires room { base + 64 ≤ length bytes.now }
-    requires told { IsTold (chunk base 64 bytes.now) inside words }
+fn put_block(made: &mut [u8], at: usize, bytes: &[u8], from: usize)
+    requires room { at + 64 ≤ length made.old }
+    requires bytes { from + 64 ≤ length bytes.now }
+    ensures length { length made.new ≡ length made.old }
+    ensures copied { take (at + 64) made.new ≡ take at made.old ++ slice_range bytes.now from (from + 64) }
+{
+    u8x64::from_slice(&bytes[from..]).copy_to_slice(&mut made[at..]);
+}
+
+/// Walks over the bytes of a block that are looked at, or up to one that ends the array, from one blank to the next. What stays of
+/// them is put behind so many bytes that were made, and counted with them. A copy of 64 bytes takes less time than one of any length.
+#[inline(always)]
+fn squeeze(view: View, made: &mut [u8], start: usize, bytes: &[u8], nest: Nest) -> Squeezed
+    requires room { view.base + 128 ≤ length bytes.now }
+    requires space { start + 128 ≤ length made.old }
+    requires told { IsTold (chunk view.base 64 bytes.now) view.inside view.words }
+    requires begin { nest.begin ≤ start }
+    requires high { 1 ≤ nest.height }
+    requires fits { nest.height + 64 < 2 ^ 64 }
+    ensures bounds { result.reach.at ≤ view.words.len }
+    ensures length { length made.new ≡ length made.old }
+    ensures within { result.len ≤ length made.new }
+    ensures begin { result.reach.nest.begin ≤ result.len }
+    ensures high { (1 ≤ result.reach.nest.height) × (result.reach.nest.height ≤ nest.height + result.reach.at) }
+    ensures outside { result.reach.at < view.words.len → place_at view.inside view.words result.reach.at ≡ Between }
+    ensures led { IsLed (place_at view.inside view.words 0) nest (take start made.old) (slice_range bytes.now view.base (view.base + result.reach.at)) (place_at view.inside view.words result.reach.at) result.reach.nest (take result.len made.new) }
+{
+    let mut len = start;
+    let mut at = 0;
+    let mut nest = nest;
+    while at < view.words.len {
+        let to = next_gap(view.words, at);
+        put_block(made, len, bytes, view.base + at);
+        let end = len + (to - at);
+        let reach = end_elements(view, &mut made[..end], bytes, at, to, nest);
+        nest = reach.nest;
+        if reach.at < to {
+            return Squeezed {
+                len: end - (to - reach.at),
+                reach,
+            };
+        }
+        len = end;
+        at = past_gap(view.words, to);
+    }
+    Squeezed {
+        len,
+        reach: Reach { at, nest },
+    }
+}
+
+/// Walks over the bytes of a block that are looked at, or up to one that ends the array, where there are blanks among them.
+#[inline(always)]
+fn walk_gaps(view: View, lines: &mut Vec<u8>, bytes: &[u8], nest: Nest) -> Result<Reach, AllocError>
+    requires room { view.base + 128 ≤ length bytes.now }
+    requires told { IsTold (chunk view.base 64 bytes.now) view.inside view.words }
     requires begin { nest.begin ≤ length lines.old.items }
     requires high { 1 ≤ nest.height }
     requires fits { nest.height + 64 < 2 ^ 64 }
-    ensures bounds { IfOk result (λ reach. reach.at ≤ words.len) }
+    ensures bounds { IfOk result (λ reach. reach.at ≤ view.words.len) }
     ensures begin { IfOk result (λ reach. reach.nest.begin ≤ length lines.new.items) }
     ensures high { IfOk result (λ reach. (1 ≤ reach.nest.height) × (reach.nest.height ≤ nest.height + reach.at)) }
-    ensures outside { IfOk result (λ reach. reach.at < words.len → place_at inside words reach.at ≡ Between) }
-    ensures led { IfOk result (λ reach. IsLed (place_at inside words 0) nest lines.old.items (slice_range bytes.now base (base + reach.at)) (place_at inside words reach.at) reach.nest lines.new.items) }
+    ensures outside { IfOk result (λ reach. reach.at < view.words.len → place_at view.inside view.words reach.at ≡ Between) }
+    ensures led { IfOk result (λ reach. IsLed (place_at view.inside view.words 0) nest lines.old.items (slice_range bytes.now view.base (view.base + reach.at)) (place_at view.inside view.words reach.at) reach.nest lines.new.items) }
 {
-    let mut at = 0;
-    let mut nest = nest;
-    while at < words.len {
-        let to = next_gap(words, at);
-        let reach = walk_stretch(words, inside, lines, bytes, base, at, to, nest)?;
-        nest = reach.nest;
-        if reach.at < to {
-            return Ok(reach);
-        }
-        at = past_gap(words, to);
-    }
-    Ok(Reach { at, nest })
+    let start = lines.len();
+    lines.extend_from_slice(&bytes[view.base..view.base + 2 * BLOCK])?;
+    let squeezed = squeeze(view, lines, start, bytes, nest);
+    lines.truncate(squeezed.len);
+    Ok(squeezed.reach)
 }
 
 /// Whether no byte of a block opens or closes a container or is a blank, outside of strings, and none ends an element.
@@ -196,36 +248,88 @@ fn is_quiet(words: Words, height: usize) -> bool
     height > 1 && words.brackets | words.gaps == 0
 }
 
+/// Appends a block whose commas alone do anything, the last one of which stands before a place, and makes line feeds of them.
+#[inline(always)]
+fn push_flat(
+    view: View,
+    lines: &mut Vec<u8>,
+    bytes: &[u8],
+    end: usize,
+    nest: Nest,
+) -> Result<Reach, AllocError>
+    requires room { view.base + 128 ≤ length bytes.now }
+    requires told { IsTold (chunk view.base 64 bytes.now) view.inside view.words }
+    requires flat { IsFlat (chunk view.base 64 bytes.now) view.inside view.words (nat_lt nest.begin (length lines.old.items)) end }
+    requires begin { nest.begin ≤ length lines.old.items }
+    requires high { nest.height ≡ 1 }
+    ensures bounds { IfOk result (λ reach. reach.at ≡ view.words.len) }
+    ensures begin { IfOk result (λ reach. reach.nest.begin ≤ length lines.new.items) }
+    ensures high { IfOk result (λ reach. reach.nest.height ≡ 1) }
+    ensures led { IfOk result (λ reach. IsLed (place_at view.inside view.words 0) nest lines.old.items (slice_range bytes.now view.base (view.base + reach.at)) (place_at view.inside view.words reach.at) reach.nest lines.new.items) }
+{
+    let block = u8x64::from_slice(&bytes[view.base..]);
+    lines.extend_from_slice(&with_feeds(block).to_array())?;
+    let begin = if end == 0 {
+        nest.begin
+    } else {
+        lines.len() - (BLOCK - end)
+    };
+    Ok(Reach {
+        at: BLOCK,
+        nest: Nest { begin, height: 1 },
+    })
+}
+
+/// The place behind the last comma of a block whose commas alone do anything, and each of them ends an element. None where it is
+/// another block.
+#[inline(always)]
+fn flat_block(view: View, lines: &[u8], bytes: &[u8], nest: Nest) -> Option<usize>
+    requires room { view.base + 128 ≤ length bytes.now }
+    requires told { IsTold (chunk view.base 64 bytes.now) view.inside view.words }
+    ensures high { IfSome result (λ _. nest.height ≡ 1) }
+    ensures flat { IfSome result (IsFlat (chunk view.base 64 bytes.now) view.inside view.words (nat_lt nest.begin (length lines.now))) }
+{
+    if nest.height != 1 {
+        return None;
+    }
+    let block = u8x64::from_slice(&bytes[view.base..]);
+    commas_end(view.words, view.inside, block, nest.begin < lines.len())
+}
+
 /// Walks over the bytes of a block that are looked at, or up to one that ends the array. Where none of them does anything, they
 /// are copied.
 #[inline(always)]
 fn walk_block(
-    words: Words,
-    inside: bool,
+    view: View,
     lines: &mut Vec<u8>,
     bytes: &[u8],
-    base: usize,
     nest: Nest,
 ) -> Result<Reach, AllocError>
-    requires room { base + 64 ≤ length bytes.now }
-    requires told { IsTold (chunk base 64 bytes.now) inside words }
+    requires room { view.base + 128 ≤ length bytes.now }
+    requires told { IsTold (chunk view.base 64 bytes.now) view.inside view.words }
     requires begin { nest.begin ≤ length lines.old.items }
     requires high { 1 ≤ nest.height }
     requires fits { nest.height + 64 < 2 ^ 64 }
-    ensures bounds { IfOk result (λ reach. reach.at ≤ words.len) }
+    ensures bounds { IfOk result (λ reach. reach.at ≤ view.words.len) }
     ensures begin { IfOk result (λ reach. reach.nest.begin ≤ length lines.new.items) }
     ensures high { IfOk result (λ reach. (1 ≤ reach.nest.height) × (reach.nest.height ≤ nest.height + reach.at)) }
-    ensures outside { IfOk result (λ reach. reach.at < words.len → place_at inside words reach.at ≡ Between) }
-    ensures led { IfOk result (λ reach. IsLed (place_at inside words 0) nest lines.old.items (slice_range bytes.now base (base + reach.at)) (place_at inside words reach.at) reach.nest lines.new.items) }
+    ensures outside { IfOk result (λ reach. reach.at < view.words.len → place_at view.inside view.words reach.at ≡ Between) }
+    ensures led { IfOk result (λ reach. IsLed (place_at view.inside view.words 0) nest lines.old.items (slice_range bytes.now view.base (view.base + reach.at)) (place_at view.inside view.words reach.at) reach.nest lines.new.items) }
 {
-    if is_quiet(words, nest.height) {
-        push_stretch(lines, true, bytes, base, base + words.len)?;
+    if is_quiet(view.words, nest.height) {
+        push_stretch(lines, true, bytes, view.base, view.base + view.words.len)?;
         return Ok(Reach {
-            at: words.len,
+            at: view.words.len,
             nest,
         });
     }
-    walk_words(words, inside, lines, bytes, base, nest)
+    if let Some(end) = flat_block(view, lines, bytes, nest) {
+        return push_flat(view, lines, bytes, end, nest);
+    }
+    if view.words.gaps == 0 {
+        return walk_stretch(view, lines, bytes, 0, view.words.len, nest);
+    }
+    walk_gaps(view, lines, bytes, nest)
 }
 
 /// Where the byte stands behind those of a block that were walked over.
@@ -256,14 +360,19 @@ fn walk_blocks(lines: &mut Vec<u8>, bytes: &[u8], from: Front) -> Result<Front, 
     ensures led { IfOk result (λ front. IsLed from.place from.nest lines.old.items (slice_range bytes.now from.end front.end) front.place front.nest lines.new.items) }
 {
     let mut front = from;
-    while bytes.len() - front.end >= BLOCK {
+    while bytes.len() - front.end >= 2 * BLOCK {
         let Some(inside) = inside_of(front.place) else {
             break;
         };
         let Some(words) = words_of(u8x64::from_slice(&bytes[front.end..]), inside) else {
             break;
         };
-        let reach = walk_block(words, inside, lines, bytes, front.end, front.nest)?;
+        let view = View {
+            words,
+            inside,
+            base: front.end,
+        };
+        let reach = walk_block(view, lines, bytes, front.nest)?;
         let place = place_behind(words, inside, reach.at);
         front = Front {
             end: front.end + reach.at,

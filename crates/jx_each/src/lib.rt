@@ -7,6 +7,7 @@ mod copies;
 mod deep;
 mod each;
 mod elements;
+mod flat;
 mod joining;
 mod laws;
 mod making;

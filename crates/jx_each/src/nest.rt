@@ -29,19 +29,19 @@ fn is_within(height: usize, byte: u8) -> bool
 /// Makes what a byte comes to that is a bracket, a comma or a colon outside of strings, and stands at an offset among what was made:
 /// a comma behind an element becomes a line feed. None where the array ends or where no element stands before the byte.
 #[inline(always)]
-pub(crate) fn pass_stop(lines: &mut Vec<u8>, at: usize, byte: u8, nest: Nest) -> Option<Nest>
-    requires within { at < length lines.old.items }
-    requires byte { get_or lines.old.items at 0 ≡ byte }
+pub(crate) fn pass_stop(made: &mut [u8], at: usize, byte: u8, nest: Nest) -> Option<Nest>
+    requires within { at < length made.old }
+    requires byte { get_or made.old at 0 ≡ byte }
     requires begin { nest.begin ≤ at }
     requires high { 1 ≤ nest.height }
     requires fits { nest.height + 1 < 2 ^ 64 }
     requires outside { (next Between byte ≡ Between) × (is_kept Between byte ≡ true) }
-    ensures length { length lines.new.items ≡ length lines.old.items }
-    ensures rest { drop (at + 1) lines.new.items ≡ drop (at + 1) lines.old.items }
-    ensures none { IsNone result → lines.new.items ≡ lines.old.items }
+    ensures length { length made.new ≡ length made.old }
+    ensures rest { drop (at + 1) made.new ≡ drop (at + 1) made.old }
+    ensures none { IsNone result → made.new ≡ made.old }
     ensures begin { IfSome result (λ next. next.begin ≤ at + 1) }
     ensures high { IfSome result (λ next. (1 ≤ next.height) × (next.height ≤ nest.height + 1)) }
-    ensures led { IfSome result (λ next. IsLed Between nest (take at lines.old.items) (byte ∷ []) Between next (take (at + 1) lines.new.items)) }
+    ensures led { IfSome result (λ next. IsLed Between nest (take at made.old) (byte ∷ []) Between next (take (at + 1) made.new)) }
 {
     if is_within(nest.height, byte) {
         return Some(Nest {
@@ -50,7 +50,7 @@ pub(crate) fn pass_stop(lines: &mut Vec<u8>, at: usize, byte: u8, nest: Nest) ->
         });
     }
     if byte == b',' && nest.begin < at {
-        lines[at] = b'\n';
+        made[at] = b'\n';
         return Some(Nest {
             begin: at + 1,
             height: nest.height,

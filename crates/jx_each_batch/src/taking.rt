@@ -18,8 +18,9 @@ use std::alloc::AllocError;
 use std::sync::Wait;
 use std::thread::Threads;
 
-/// How many bytes the calling thread takes before the others are shared, so that the container may be reached.
-const FRONT: usize = 16 * 1024;
+/// How many bytes the calling thread takes before the others are shared, so that the container may be reached. Where no line ends
+/// there, elements are taken to be so long that no section begins with one.
+const FRONT: usize = 64 * 1024;
 
 /// Takes a slice by a run over it and by sections of it.
 fn follow_run(
@@ -62,12 +63,13 @@ fn sections_for<R: Threads + Sync, G: Sync>(
     }
 }
 
-/// Takes a slice, which the crew reads; each of its workers makes a section.
+/// Takes a slice, which the crew reads; each of its workers makes a section, where that is asked for.
 fn follow_shared<R: Threads + Wait + Sync, G: Gate + Sync>(
     crew: &Crew<'_, R, G>,
     each: &mut Each,
     slice: &[u8],
     piece: usize,
+    by_sections: bool,
 ) -> Result<(), AllocError>
     requires piece { 1 ≤ piece }
     requires fits { each.old.reader.start + each.old.reader.count + length slice.now < 2 ^ 64 }
@@ -90,7 +92,11 @@ fn follow_shared<R: Threads + Wait + Sync, G: Gate + Sync>(
     let Ok(run) = read_whole::<OutcomeRun, R, G>(crew, slice, &cutting, depth) else {
         return each.feed(slice);
     };
-    let sections = sections_for(crew, each, slice, piece);
+    let sections = if by_sections {
+        sections_for(crew, each, slice, piece)
+    } else {
+        Vec::new(crew.alloc)
+    };
     follow_run(each, slice, &run, sections)
 }
 
@@ -99,7 +105,8 @@ fn follow_shared<R: Threads + Wait + Sync, G: Gate + Sync>(
 ///
 /// Of several workers each draws pieces of so many bytes, reads them and puts the runs into a book, and makes the lines of one
 /// section of the slice. Where a section is made from another place than the bytes before it lead to, the calling thread makes
-/// its lines. The gate is asked as pieces are read. Only want of memory is refused, and from then on every slice is.
+/// its lines, and it makes all of them where none ends among the first bytes. The gate is asked as pieces are read. Only want of
+/// memory is refused, and from then on every slice is.
 pub fn feed_shared<R: Threads + Wait + Sync, G: Gate + Sync>(
     crew: &Crew<'_, R, G>,
     each: &mut Each,
@@ -123,6 +130,8 @@ pub fn feed_shared<R: Threads + Wait + Sync, G: Gate + Sync>(
         return each.feed(slice);
     }
     let (front, rest) = slice.split_at(FRONT.min(slice.len()));
+    let lines = each.ready().len();
     each.feed(front)?;
-    follow_shared(crew, each, rest, piece)
+    let by_sections = lines < each.ready().len();
+    follow_shared(crew, each, rest, piece, by_sections)
 }

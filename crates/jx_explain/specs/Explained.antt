@@ -4,9 +4,9 @@ use Rattle.jx_run.specs.declared.texts.verdict.Verdict.{Verdict}
 use Rattle.jx_run.specs.declared.texts.verdict.Verdict.TheVariants.{Accepted, Refused}
 use Rattle.jx_index.specs.ByNames.{IsVerdictBy}
 use Rattle.jx_task.specs.declared.command.Command.{Command}
-use Rattle.jx_report.specs.declared.exit.Exit.{Exit}
-use Rattle.jx_report.specs.declared.exit.Exit.TheVariants.{Good, Bad}
-use Rattle.jx_report.specs.Ends.{ReadsToEnd}
+use Rattle.jx_ends.specs.declared.exit.Exit.{Exit}
+use Rattle.jx_ends.specs.declared.exit.Exit.TheVariants.{Good, Bad}
+use Rattle.jx_ends.specs.Ends.{ReadsToEnd}
 use Rattle.jx_report.specs.Reports.{greatest_length}
 
 -- good where the text is accepted

@@ -5,7 +5,8 @@ ghost use Rattle.jx_report.specs.Reports.{HasTooManyPieces};
 ghost use Rattle.jx_explain.specs.Explained.{Explains};
 
 use jx_crew::{Crew, Gate};
-use jx_report::{Exit, ReportFault, Sink, Source, report};
+use jx_ends::{Exit, ReportFault, Sink, Source};
+use jx_report::report;
 use jx_task::{Command, Task};
 use std::sync::Wait;
 use std::thread::Threads;

@@ -10,7 +10,7 @@ use crate::explain::{Form, explained};
 use jx_answer::{Balance, any_names_change_nothing, read_batch, verdict_of_text};
 use jx_claim::Cutting;
 use jx_crew::{Crew, Gate};
-use jx_report::{Exit, ReportFault, Sink, Source, read_to_end, write_whole};
+use jx_ends::{Exit, ReportFault, Sink, Source, read_to_end, write_whole};
 use jx_run::{NameRule, Reader, Settings, Verdict};
 use jx_task::Command;
 use std::alloc::AllocError;

@@ -8,7 +8,7 @@ use Rattle.std.proofs.lemmas.Option.{get_or_from_slice_get}
 use Rattle.std.specs.Io.KnownBytes.{Appends}
 use Rattle.std.proofs.KnownBytes.{Appends-trans}
 use Rattle.jx_task.specs.declared.command.Command.{Command}
-use Rattle.jx_report.proofs.PutSteps.{put_in_part}
+use Rattle.jx_words.proofs.PutSteps.{put_in_part}
 use Rattle.jx_files.specs.declared.status.Status.{Status}
 use Rattle.jx_files.specs.Files.{Ways, AreReported, one_more, ReportsEach, ReportsFirst}
 use Rattle.jx_files.specs.Status.{greatest}

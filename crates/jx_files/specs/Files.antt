@@ -2,10 +2,11 @@
 use Rattle.std.specs.Prelude.{◌≡◌, ℕ, ◌≤◌, List, [], ◌∷◌, ◌++◌, codes, length, Bool, true, false, Option, Result, Ok, Err}
 use Rattle.std.specs.Io.KnownBytes.{Appends}
 use Rattle.jx_task.specs.declared.command.Command.{Command}
-use Rattle.jx_report.specs.declared.exit.Exit.{Exit}
-use Rattle.jx_report.specs.Ends.{ReadsToEnd, AppendsBeginning}
+use Rattle.jx_ends.specs.declared.exit.Exit.{Exit}
+use Rattle.jx_ends.specs.Ends.{ReadsToEnd, AppendsBeginning}
 use Rattle.jx_report.specs.Output.{Output}
-use Rattle.jx_report.specs.Reports.{HasTooManyPieces, greatest_length, shown_output}
+use Rattle.jx_words.specs.Verdicts.{shown_output}
+use Rattle.jx_report.specs.Reports.{HasTooManyPieces, greatest_length}
 use Rattle.jx_files.specs.declared.file_fault.FileFault.{FileFault}
 use Rattle.jx_files.specs.declared.file_fault.FileFault.TheVariants.{Read, Memory, Pieces}
 use Rattle.jx_files.specs.declared.file_fault.OpenFault.{OpenFault}

@@ -1,6 +1,6 @@
 -- What reports on several inputs come to.
-use Rattle.jx_report.specs.declared.exit.Exit.{Exit}
-use Rattle.jx_report.specs.declared.exit.Exit.TheVariants as exit
+use Rattle.jx_ends.specs.declared.exit.Exit.{Exit}
+use Rattle.jx_ends.specs.declared.exit.Exit.TheVariants as exit
 use Rattle.jx_files.specs.declared.status.Status.{Status}
 use Rattle.jx_files.specs.declared.status.Status.TheVariants.{Good, Bad, Fault}
 

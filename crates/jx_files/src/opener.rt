@@ -2,7 +2,7 @@ ghost use Rattle.std.specs.Prelude.{◌≡◌, false, IfOk};
 
 use crate::file_fault::OpenFault;
 use crate::reason::Reason;
-use jx_report::Source;
+use jx_ends::Source;
 
 /// Opens what words name.
 pub trait Opener<S: Source> {

@@ -4,7 +4,7 @@ ghost use Rattle.std.specs.Char.{encode_utf8};
 ghost use Rattle.std.specs.Io.KnownBytes.{Appends};
 ghost use Rattle.jx_files.specs.Naming.{escaped, hex_digit, is_hidden, shown, shown_byte, shown_character};
 
-use jx_report::{End, ReportFault, Sink, write_whole};
+use jx_ends::{End, ReportFault, Sink, write_whole};
 use std::alloc::{AllocError, Global};
 
 /// Whether a character is told by its bytes: a backslash, and what a terminal does not print but obeys.

@@ -1,7 +1,7 @@
 ghost use Rattle.std.specs.Prelude.{◌≡◌};
 ghost use Rattle.jx_files.specs.Status.{greatest, status_of};
 
-use jx_report::Exit;
+use jx_ends::Exit;
 
 /// What reports on several inputs come to.
 #[derive(Clone, Copy, Debug, PartialEq, Eq)]

@@ -5,7 +5,7 @@ ghost use Rattle.jx_files.specs.Faults.{fault_head, fault_line, fault_reason, fa
 
 use crate::file_fault::FileFault;
 use crate::showing::write_shown;
-use jx_report::{ReportFault, Sink, write_whole};
+use jx_ends::{ReportFault, Sink, write_whole};
 
 /// Writes the words of a fault.
 fn write_words<E: Sink>(errors: &mut E, fault: FileFault) -> Result<(), ReportFault>

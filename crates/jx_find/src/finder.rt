@@ -98,6 +98,15 @@ impl<'p> Finder<'p> {
         self.reader.end()
     }
 
+    /// What it holds of the bytes that it was fed; none where memory was refused. So who keeps bytes of the text can tell which
+    /// of them the value of a pointer may have.
+    pub fn sought(&self) -> Option<&Sought> {
+        match &self.held {
+            Some(held) => Some(held),
+            None => None,
+        }
+    }
+
     /// Reads the slice behind all bytes that it was fed. Only want of memory is refused, and from then on every slice is.
     pub fn feed(&mut self, slice: &[u8]) -> Result<(), AllocError>
         requires fits { end_of self.old + length slice.now < 2 ^ 64 }

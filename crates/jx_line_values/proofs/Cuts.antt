@@ -17,8 +17,8 @@ use Rattle.jx_ndjson.specs.Reading.{ended_from}
 use Rattle.jx_ndjson.specs.inside.Steps.{HasNoLineFeed}
 use Rattle.jx_ndjson.proofs.Cuts.{longer, none-behind, parts-append, take-snoc}
 use Rattle.jx_ndjson.proofs.Steps.{lines-split}
-use Rattle.jx_report.specs.declared.exit.Exit.{Exit}
-use Rattle.jx_report.specs.declared.exit.Exit.TheVariants.{Good}
+use Rattle.jx_ends.specs.declared.exit.Exit.{Exit}
+use Rattle.jx_ends.specs.declared.exit.Exit.TheVariants.{Good}
 use Rattle.jx_line_values.specs.declared.task.LineValuesTask.{LineValuesTask}
 use Rattle.jx_line_values.specs.LineValues.{IsDue, IsGiven, LineGiven, LineValuesOutput, all_told, all_written, exit_by}
 use Rattle.jx_line_values.specs.inside.Adding.{IsAdded, exit_past}

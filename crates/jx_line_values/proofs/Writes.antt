@@ -4,10 +4,10 @@ use Rattle.std.proofs.Common.{◌≡◌, ℕ, suc, ◌+◌, List, [], ◌∷◌,
 use Rattle.std.proofs.lemmas.List.{append-nil, length-append}
 use Rattle.std.specs.Io.KnownBytes.{Appends, Consumes, IsAtEnd, Keeps}
 use Rattle.std.proofs.KnownBytes.{Appends-trans, Consumes-trans}
-use Rattle.jx_report.specs.declared.exit.Exit.{Exit}
-use Rattle.jx_report.specs.declared.exit.Exit.TheVariants.{Good}
-use Rattle.jx_report.specs.declared.report_fault.ReportFault.{ReportFault}
-use Rattle.jx_report.specs.Ends.{AppendsBeginning}
+use Rattle.jx_ends.specs.declared.exit.Exit.{Exit}
+use Rattle.jx_ends.specs.declared.exit.Exit.TheVariants.{Good}
+use Rattle.jx_ends.specs.declared.report_fault.ReportFault.{ReportFault}
+use Rattle.jx_ends.specs.Ends.{AppendsBeginning}
 use Rattle.jx_line_values.specs.declared.task.LineValuesTask.{LineValuesTask}
 use Rattle.jx_line_values.specs.LineValues.{IsDue, LineValuesOutput}
 use Rattle.jx_line_values.specs.Reports.{ReportsLineValues, WroteDue, WroteInPart, WroteLines}

@@ -17,11 +17,11 @@ use Rattle.jx_ndjson.specs.declared.judged_line.LineVerdict.TheVariants.{Accepte
 use Rattle.jx_ndjson.specs.Answers.{IsVerdictOn}
 use Rattle.jx_ndjson.specs.Lines as lines
 use Rattle.jx_ndjson.specs.Lines.{Line, ended_lines}
-use Rattle.jx_report.specs.declared.exit.Exit.{Exit}
-use Rattle.jx_report.specs.declared.exit.Exit.TheVariants.{Good, Bad}
-use Rattle.jx_report.specs.declared.pointer_answer.PointerAnswer.TheVariants.{Lost}
-use Rattle.jx_report.specs.Pointers.{answer_words}
-use Rattle.jx_report.specs.Words.{line, refusal_words}
+use Rattle.jx_ends.specs.declared.exit.Exit.{Exit}
+use Rattle.jx_ends.specs.declared.exit.Exit.TheVariants.{Good, Bad}
+use Rattle.jx_words.specs.declared.pointer_answer.PointerAnswer.TheVariants.{Lost}
+use Rattle.jx_words.specs.Pointers.{answer_words}
+use Rattle.jx_words.specs.Words.{line, refusal_words}
 use Rattle.jx_line_values.specs.declared.task.LineValuesTask.{LineValuesTask}
 
 -- ---- of one value

@@ -11,7 +11,7 @@ use crate::answering::add_line;
 use crate::looking::LookUp;
 use crate::task::LineValuesTask;
 use crate::telling::exit_past;
-use jx_report::Exit;
+use jx_ends::Exit;
 use jx_run::{Front, FrontMark, front};
 use memchr::memchr;
 use std::alloc::{AllocError, Global};

@@ -11,7 +11,7 @@ use crate::cutting::LineCutter;
 use crate::looking::{LookUp, Trie};
 use crate::task::LineValuesTask;
 use crate::telling::tell;
-use jx_report::{Exit, ReportFault, Sink, Source, write_whole};
+use jx_ends::{Exit, ReportFault, Sink, Source, write_whole};
 use std::alloc::Global;
 
 /// How many bytes are read at a time, at most. So few values wait at once.

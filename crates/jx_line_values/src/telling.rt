@@ -6,19 +6,18 @@ ghost use Rattle.jx_line_values.specs.inside.Adding.{exit_past, told_of_all};
 
 use crate::adding::found_at;
 use crate::pointers::spelt_at;
-use itoa::Buffer;
+use jx_ends::{Exit, Sink, write_whole};
 use jx_index::{FindFault, Found};
 use jx_ndjson::LineVerdict;
-use jx_report::{Exit, PointerAnswer, Sink, add_answer, add_refusal, write_whole};
+use jx_words::{PointerAnswer, add_answer, add_number, add_refusal};
 use std::alloc::AllocError;
 
 /// Appends `jx: line `, the number, a colon and a space.
 fn add_front(told: &mut Vec<u8>, number: usize) -> Result<(), AllocError>
     ensures { OnOk result (told.new.items ≡ told.old.items ++ (codes "jx: line " ++ decimal number ++ codes ": ")) }
 {
-    let mut buffer = Buffer::new();
     told.extend_from_slice(b"jx: line ")?;
-    told.extend_from_slice(buffer.format(number).as_bytes())?;
+    add_number(told, number)?;
     told.extend_from_slice(b": ")
 }
 

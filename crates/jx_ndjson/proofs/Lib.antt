@@ -6,4 +6,5 @@ pub mod Moved
 pub mod Sequences
 pub mod Steps
 pub mod Tallies
+pub mod Texts
 pub mod Whole

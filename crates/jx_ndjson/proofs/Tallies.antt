@@ -1,15 +1,19 @@
 -- A tally takes lines, and tells the end.
-use Rattle.std.proofs.Common.{◌≡◌, ℕ, zero, suc, ◌+◌, ◌-◌, ◌≤◌, List, [], ◌∷◌, ◌++◌, length, take, drop, arith, Bool, true, false, cond, refl, sym, ap, subst, ◌∙◌, append_assoc, append-nil, length-append}
+use Rattle.std.proofs.Common.{◌≡◌, ℕ, zero, suc, ◌+◌, ◌-◌, ◌<◌, ◌≤◌, map, List, [], ◌∷◌, ◌++◌, length, take, drop, arith, Bool, true, false, cond, refl, sym, ap, subst, ◌∙◌, append_assoc, append-nil, length-append}
 use Rattle.std.specs.Prelude.{slice_range, filter, not}
+use Rattle.std.proofs.Math.ListN.{length-map}
 use Rattle.std.proofs.lemmas.List.{take-take}
 use Rattle.std.proofs.lemmas.List.Elements.{filter-append}
 use Rattle.jx_run.specs.declared.texts.settings.Settings.{Settings}
 use Rattle.jx_ndjson.specs.declared.judged_line.JudgedLine.{JudgedLine}
 use Rattle.jx_ndjson.specs.declared.judged_line.LineVerdict.{LineVerdict}
+use Rattle.jx_ndjson.specs.declared.judged_line.LineVerdict.TheVariants.{Accepted, Refused, MayBeCut, Blank}
 use Rattle.jx_ndjson.specs.declared.line_tally.LineCounts.{LineCounts}
 use Rattle.jx_ndjson.specs.Answers.{AreAnswers}
 use Rattle.jx_ndjson.specs.Reading.{HasTold, LineReaderValue}
 use Rattle.jx_ndjson.specs.Tally.{HasTaken, IsTallied, TallyValue, bad_of, count_of, counted, counts_of, is_accepted, is_blank_line, is_refused, one_if}
+use Rattle.jx_ndjson.specs.WholeLines.{AreWhole, WholeLinesValue, moved_line}
+use Rattle.jx_ndjson.proofs.Moved.{bad_moved}
 
 -- ---- bytes one after another
 
@@ -133,3 +137,71 @@ ends_with settings bytes given bad j t counts h last is are =
           ∙ sym (more_bad h.answers j);
       counts_are = are ∙ ap (λ (c : LineCounts). counted c j.verdict) h.counts_are ∙ sym (more_counts h.answers j);
     }
+
+-- ---- whole lines that are texts
+
+-- where no line is bad, all are accepted
+all_accepted : (js : List JudgedLine) → bad_of js ≡ [] → (count_of is_accepted js ≡ length js) × (count_of is_refused js ≡ 0) × (count_of is_blank_line js ≡ 0)
+all_accepted [] h = (refl, refl, refl)
+all_accepted (j ∷ js) h = pick j.verdict h (all_accepted js)
+  where
+    among : (LineVerdict → Bool) → Bool → List JudgedLine
+    among is first = cond first (j ∷ filter (λ (x : JudgedLine). is x.verdict) js) (filter (λ (x : JudgedLine). is x.verdict) js)
+
+    pick : (v : LineVerdict) → cond (not (is_accepted v)) (j ∷ bad_of js) (bad_of js) ≡ []
+        → (bad_of js ≡ [] → (count_of is_accepted js ≡ length js) × (count_of is_refused js ≡ 0) × (count_of is_blank_line js ≡ 0))
+        → (length (among is_accepted (is_accepted v)) ≡ suc (length js)) × (length (among is_refused (is_refused v)) ≡ 0) × (length (among is_blank_line (is_blank_line v)) ≡ 0)
+    pick Accepted e more = let rest = more e in (ap suc rest.0, rest.1, rest.2)
+    pick (Refused refusal) e more = absurd (cc)
+    pick MayBeCut e more = absurd (cc)
+    pick Blank e more = absurd (cc)
+
+count-append : (is : LineVerdict → Bool) (xs ys : List JudgedLine) → count_of is (xs ++ ys) ≡ count_of is xs + count_of is ys
+count-append is xs ys =
+    ap length (filter-append (λ (x : JudgedLine). is x.verdict) xs ys)
+    ∙ length-append (filter (λ (x : JudgedLine). is x.verdict) xs) (filter (λ (x : JudgedLine). is x.verdict) ys)
+
+-- counts with so many accepted lines more
+abbrev with_accepted : LineCounts → ℕ → LineCounts
+with_accepted counts more = record { accepted = counts.accepted + more; refused = counts.refused; blank = counts.blank }
+
+counts_with : (xs js : List JudgedLine) → bad_of js ≡ [] → counts_of (xs ++ js) ≡ with_accepted (counts_of xs) (length js)
+counts_with xs js none =
+    let all = all_accepted js none in
+    let a : count_of is_accepted (xs ++ js) ≡ count_of is_accepted xs + length js = count-append is_accepted xs js ∙ ap (λ (n : ℕ). count_of is_accepted xs + n) all.0 in
+    let r : count_of is_refused (xs ++ js) ≡ count_of is_refused xs = count-append is_refused xs js ∙ (let z = all.1 in let e : count_of is_refused xs + count_of is_refused js ≡ count_of is_refused xs = omega (arith, z) in e) in
+    let b : count_of is_blank_line (xs ++ js) ≡ count_of is_blank_line xs =
+    count-append is_blank_line xs js ∙ (let z = all.2 in let e : count_of is_blank_line xs + count_of is_blank_line js ≡ count_of is_blank_line xs = omega (arith, z) in e) in
+    ap (λ (n : ℕ). record { accepted = n; refused = count_of is_refused (xs ++ js); blank = count_of is_blank_line (xs ++ js) }) a
+    ∙ ap (λ (n : ℕ). record { accepted = count_of is_accepted xs + length js; refused = n; blank = count_of is_blank_line (xs ++ js) }) r
+    ∙ ap (λ (n : ℕ). record { accepted = count_of is_accepted xs + length js; refused = count_of is_refused xs; blank = n }) b
+
+pub takes_texts : (settings : Settings) (bytes more : List ℕ) (given answers : List JudgedLine) (whole : WholeLinesValue) (lines at : ℕ) (old new : TallyValue) → HasTaken settings bytes given old
+    → AreWhole settings.depth more answers whole → whole.bad ≡ [] → new.counts ≡ record { accepted = old.counts.accepted + whole.count; refused = old.counts.refused; blank = old.counts.blank }
+    → new.waiting ≡ old.waiting
+    → ((told : List JudgedLine) → HasTold settings bytes told old.lines → HasTold settings (bytes ++ more) (told ++ map (moved_line lines at) answers) new.lines)
+    → HasTaken settings (bytes ++ more) given new
+takes_texts settings bytes more given answers whole lines at old new h k none counts waiting reads =
+    let moved : List JudgedLine = map (moved_line lines at) answers in
+    let empty : bad_of moved ≡ [] = bad_moved lines at answers ∙ ap (map (moved_line lines at)) (sym k.bad_are ∙ none) in
+    let many : whole.count ≡ length moved = k.count_is ∙ sym (length-map answers (moved_line lines at)) in
+    record {
+      answers = h.answers ++ moved;
+      told = reads h.answers h.told;
+      counts_are =
+          counts
+          ∙ ap (λ (c : LineCounts). with_accepted c whole.count) h.counts_are
+          ∙ ap (with_accepted (counts_of h.answers)) many
+          ∙ sym (counts_with h.answers moved empty);
+      bad_are =
+          ap (λ (js : List JudgedLine). given ++ js) waiting
+          ∙ h.bad_are
+          ∙ sym (append-nil (bad_of h.answers))
+          ∙ ap (λ (js : List JudgedLine). bad_of h.answers ++ js) (sym empty)
+          ∙ sym (filter-append (λ (x : JudgedLine). not (is_accepted x.verdict)) h.answers moved);
+    }
+
+-- one of two steps takes a byte where there is one
+pub goes_some : (n m all : ℕ) → (0 < all - n → 0 < m) → 0 < all → 0 < n + m
+goes_some zero m all h some = let e = h (omega (arith, some)) in omega (arith, e)
+goes_some (suc n) m all h some = omega arith

@@ -5,9 +5,11 @@
 mod element_reader;
 mod judged_line;
 mod laws;
+mod line_end;
 mod line_reader;
 mod line_tally;
 mod lines_run;
+mod text_lines;
 mod whole_lines;
 
 pub use element_reader::{ElementReader, ElementStep};
@@ -19,4 +21,5 @@ pub use laws::{
 pub use line_reader::{LineReader, Step};
 pub use line_tally::{LineCounts, LineEnd, LineTally};
 pub use lines_run::LinesRun;
+pub use text_lines::texts_in_front;
 pub use whole_lines::WholeLines;

@@ -11,7 +11,7 @@ ghost use Rattle.jx_ndjson.specs.inside.Steps.{HasNoLineFeed, is_ignored, is_nex
 
 use crate::judged_line::{JudgedLine, blanks_behind, is_unended, told};
 use crate::whole_lines::WholeLines;
-use jx_lex::Span;
+use jx_lex::{Depth, Span};
 use jx_run::{
     FrontMark, Reader, Settings, a_refused_mark_changes_nothing, ends_open_behind,
     reader_is_grammar,
@@ -103,6 +103,13 @@ impl LineReader {
         ensures within { result ≤ self.now.reader.start }
     {
         self.ended
+    }
+
+    /// How many containers may stand open at once in a line.
+    pub(crate) fn depth(&self) -> Depth
+        ensures { result ≡ self.now.reader.settings.depth }
+    {
+        self.reader.settings().depth
     }
 
     /// Begins a line whose first byte has this offset.

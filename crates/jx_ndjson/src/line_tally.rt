@@ -9,6 +9,7 @@ ghost use Rattle.jx_ndjson.specs.WholeLines.{AreWhole};
 
 use crate::judged_line::{JudgedLine, LineVerdict};
 use crate::line_reader::LineReader;
+use crate::text_lines::texts_in_front;
 use crate::whole_lines::WholeLines;
 use jx_run::Settings;
 use std::alloc::{AllocError, Global};
@@ -119,6 +120,7 @@ fn push_bad(waiting: &mut Vec<JudgedLine>, judged: JudgedLine) -> Result<(), All
 /// no byte of the input.
 #[derive(Drop)]
 pub struct LineTally {
+    alloc: Global,
     lines: LineReader,
     counts: LineCounts,
     waiting: Vec<JudgedLine>,
@@ -143,6 +145,7 @@ impl LineTally {
         ensures start { result.lines.reader.start + result.lines.reader.count ≡ 0 }
     {
         LineTally {
+            alloc,
             lines: LineReader::new(alloc, settings),
             counts: LineCounts {
                 accepted: 0,
@@ -177,8 +180,27 @@ impl LineTally {
         Ok(())
     }
 
+    /// Takes lines in front of a slice that are texts, where it stands between two lines, and answers how many bytes those are.
+    fn take_texts(&mut self, slice: &[u8]) -> Result<usize, AllocError>
+        requires fits { self.old.lines.reader.start + self.old.lines.reader.count + length slice.now < 2 ^ 64 }
+        ensures within { IfOk result (λ taken. taken ≤ length slice.now) }
+        ensures taken { IfOk result (λ taken. (settings : Settings) (input : List ℕ) (given : List JudgedLine) → HasTaken settings input given self.old
+            → HasTaken settings (input ++ take taken slice.now) given self.new) }
+        ensures count { IfOk result (λ taken. self.new.lines.reader.start + self.new.lines.reader.count ≡ self.old.lines.reader.start + self.old.lines.reader.count + taken) }
+    {
+        if !self.lines.is_between() {
+            return Ok(0);
+        }
+        let texts = texts_in_front(self.alloc, slice, self.lines.depth())?;
+        self.lines.pass(&texts);
+        // It is no less than the count of those accepted.
+        let _ended = self.lines.ended();
+        self.counts.accepted += texts.count();
+        Ok(texts.len())
+    }
+
     /// Takes a slice up to and with its first line feed, or less, and answers how many bytes those are.
-    fn take_step(&mut self, slice: &[u8]) -> Result<usize, AllocError>
+    fn take_line(&mut self, slice: &[u8]) -> Result<usize, AllocError>
         requires fits { self.old.lines.reader.start + self.old.lines.reader.count + length slice.now < 2 ^ 64 }
         ensures within { IfOk result (λ taken. taken ≤ length slice.now) }
         ensures some { IfOk result (λ taken. 0 < length slice.now → 0 < taken) }
@@ -194,6 +216,21 @@ impl LineTally {
                 Ok(step.taken)
             }
         }
+    }
+
+    /// Takes lines in front of a slice that are texts, and what stands behind them up to and with the next line feed, or less.
+    /// Answers how many bytes those are.
+    fn take_step(&mut self, slice: &[u8]) -> Result<usize, AllocError>
+        requires fits { self.old.lines.reader.start + self.old.lines.reader.count + length slice.now < 2 ^ 64 }
+        ensures within { IfOk result (λ taken. taken ≤ length slice.now) }
+        ensures some { IfOk result (λ taken. 0 < length slice.now → 0 < taken) }
+        ensures taken { IfOk result (λ taken. (settings : Settings) (input : List ℕ) (given : List JudgedLine) → HasTaken settings input given self.old
+            → HasTaken settings (input ++ take taken slice.now) given self.new) }
+        ensures count { IfOk result (λ taken. self.new.lines.reader.start + self.new.lines.reader.count ≡ self.old.lines.reader.start + self.old.lines.reader.count + taken) }
+    {
+        let passed = self.take_texts(slice)?;
+        let taken = self.take_line(&slice[passed..])?;
+        Ok(passed + taken)
     }
 
     /// Takes a slice behind all bytes that it has taken. Only want of memory is refused; some of the slice may be taken then.
@@ -252,6 +289,7 @@ impl LineTally {
         ensures len { IfSome result (λ whole. whole.len ≡ self.lines.reader.start + self.lines.reader.count) }
     {
         let LineTally {
+            alloc: _,
             lines,
             counts: _,
             waiting,

@@ -21,11 +21,11 @@ use Rattle.jx_answer.proofs.Verdicts.{all_answered, answered_by}
 use Rattle.jx_task.specs.declared.task.Task.TheVariants.{Seq}
 use Rattle.jx_ndjson.specs.ElementReading.{AreJudgedElements, ElementReaderValue, HasToldElements}
 use Rattle.jx_ndjson.specs.Elements.{ended_elements}
-use Rattle.jx_report.specs.declared.exit.Exit.{Exit}
-use Rattle.jx_report.specs.declared.exit.Exit.TheVariants.{Good}
+use Rattle.jx_ends.specs.declared.exit.Exit.{Exit}
+use Rattle.jx_ends.specs.declared.exit.Exit.TheVariants.{Good}
 use Rattle.jx_report.specs.Elements.{element_lines, exit_past, exit_past_all, exit_past_judged, exit_past_verdict, judged_line, judged_lines}
 use Rattle.jx_report.specs.Output.{Output}
-use Rattle.jx_report.specs.Reports.{shown_output}
+use Rattle.jx_words.specs.Verdicts.{shown_output}
 use Rattle.jx_ndjson_report.specs.declared.task.ElementsTask.{ElementsTask}
 use Rattle.jx_ndjson_report.specs.Elements.{ElementsOutput, IsDue, element_line, lines_of}
 use Rattle.jx_ndjson_report.specs.inside.ElementTeller.{ElementTellerValue, HasTaken, one_line}

@@ -17,8 +17,8 @@ use Rattle.jx_ndjson.specs.Tally.{bad_of as no_texts_of}
 use Rattle.jx_ndjson.specs.LinesRun.{HoldLines}
 use Rattle.jx_ndjson.specs.WholeLines.{AreWhole, WholeLinesValue, moved_line}
 use Rattle.jx_ndjson.proofs.Moved.{bad_moved}
-use Rattle.jx_report.specs.declared.exit.Exit.{Exit}
-use Rattle.jx_report.specs.Reports.{shown_output}
+use Rattle.jx_ends.specs.declared.exit.Exit.{Exit}
+use Rattle.jx_words.specs.Verdicts.{shown_output}
 use Rattle.jx_ndjson_report.specs.declared.task.LinesTask.{LinesTask}
 use Rattle.jx_ndjson_report.specs.Output.{IsDue, LinesOutput, bad_lines, bad_of, good_of, is_bad, is_good}
 use Rattle.jx_ndjson_report.specs.inside.LineSteps.{bad_line, exit_by, total_words}

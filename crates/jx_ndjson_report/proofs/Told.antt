@@ -7,7 +7,7 @@ use Rattle.jx_ndjson.specs.declared.judged_line.JudgedLine.{JudgedLine}
 use Rattle.jx_ndjson.specs.declared.judged_line.LineVerdict.{LineVerdict}
 use Rattle.jx_ndjson.specs.declared.judged_line.LineVerdict.TheVariants.{Accepted, Refused, MayBeCut, Blank}
 use Rattle.jx_ndjson.specs.Tally.{is_accepted, bad_of as no_texts_of}
-use Rattle.jx_report.specs.Reports.{shown_output}
+use Rattle.jx_words.specs.Verdicts.{shown_output}
 use Rattle.jx_ndjson_report.specs.declared.task.BlankRule.{BlankRule}
 use Rattle.jx_ndjson_report.specs.declared.task.LinesTask.{LinesTask}
 use Rattle.jx_ndjson_report.specs.Output.{bad_lines, bad_of, exit_of, good_of, is_bad, is_good, told_line}

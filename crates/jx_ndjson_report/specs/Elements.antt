@@ -5,10 +5,10 @@ use Rattle.jx_run.specs.declared.sequences.element_verdict.JudgedElement.{Judged
 use Rattle.jx_run.specs.ElementVerdict.{IsJudgedElement}
 use Rattle.jx_ndjson.specs.ElementReading.{AreJudgedElements}
 use Rattle.jx_ndjson.specs.Elements.{ended_elements}
-use Rattle.jx_report.specs.declared.exit.Exit.{Exit}
-use Rattle.jx_report.specs.declared.exit.Exit.TheVariants.{Good}
+use Rattle.jx_ends.specs.declared.exit.Exit.{Exit}
+use Rattle.jx_ends.specs.declared.exit.Exit.TheVariants.{Good}
 use Rattle.jx_report.specs.Elements.{exit_past_judged, judged_line}
-use Rattle.jx_report.specs.Reports.{shown_output}
+use Rattle.jx_words.specs.Verdicts.{shown_output}
 use Rattle.jx_ndjson_report.specs.declared.task.ElementsTask.{ElementsTask}
 
 -- S..E VERDICT, behind what stands in front of each line

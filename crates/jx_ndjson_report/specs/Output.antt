@@ -6,10 +6,10 @@ use Rattle.jx_ndjson.specs.declared.judged_line.LineVerdict.{LineVerdict}
 use Rattle.jx_ndjson.specs.declared.judged_line.LineVerdict.TheVariants.{Accepted, Refused, MayBeCut, Blank}
 use Rattle.jx_ndjson.specs.Answers.{AreAnswers, IsAnswer}
 use Rattle.jx_ndjson.specs.Lines.{ended_lines}
-use Rattle.jx_report.specs.declared.exit.Exit.{Exit}
-use Rattle.jx_report.specs.declared.exit.Exit.TheVariants.{Good, Bad}
-use Rattle.jx_report.specs.Reports.{shown_output}
-use Rattle.jx_report.specs.Words.{line, refusal_words, span_words}
+use Rattle.jx_ends.specs.declared.exit.Exit.{Exit}
+use Rattle.jx_ends.specs.declared.exit.Exit.TheVariants.{Good, Bad}
+use Rattle.jx_words.specs.Verdicts.{shown_output}
+use Rattle.jx_words.specs.Words.{line, refusal_words, span_words}
 use Rattle.jx_ndjson_report.specs.declared.task.BlankRule.{BlankRule}
 use Rattle.jx_ndjson_report.specs.declared.task.BlankRule.TheVariants as on_blank
 use Rattle.jx_ndjson_report.specs.declared.task.LinesTask.{LinesTask}

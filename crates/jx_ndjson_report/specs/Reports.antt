@@ -1,8 +1,8 @@
 -- What a report on lines or elements does to the bytes of its ends, by what is due of an input, and by the whole output for it.
 use Rattle.std.specs.Prelude.{◌⊎◌, ℕ, List, ◌++◌, Option}
 use Rattle.std.specs.Io.KnownBytes.{Appends, Consumes}
-use Rattle.jx_report.specs.declared.exit.Exit.{Exit}
-use Rattle.jx_report.specs.Ends.{ReadsToEnd, AppendsBeginning}
+use Rattle.jx_ends.specs.declared.exit.Exit.{Exit}
+use Rattle.jx_ends.specs.Ends.{ReadsToEnd, AppendsBeginning}
 
 abbrev pub Dues : Type 1
 Dues = List ℕ → List ℕ → Type 0

@@ -2,7 +2,7 @@
 ghost use Rattle.std.specs.Prelude.{◌≡◌, ℕ, List, [], false};
 ghost use Rattle.jx_run.specs.declared.texts.settings.NameRule.TheVariants.{Any};
 ghost use Rattle.jx_task.specs.declared.task.Task.TheVariants.{Seq};
-ghost use Rattle.jx_report.specs.declared.exit.Exit.{Exit};
+ghost use Rattle.jx_ends.specs.declared.exit.Exit.{Exit};
 ghost use Rattle.jx_report.specs.Output.{Output};
 ghost use Rattle.jx_ndjson_report.specs.declared.task.ElementsTask.{ElementsTask};
 ghost use Rattle.jx_ndjson_report.specs.Elements.{ElementsOutput};

@@ -2,7 +2,7 @@
 ghost use Rattle.std.specs.Prelude.{◌≡◌, ◌+◌, ◌<◌, ◌≤◌, ◌^◌, ◌++◌, ℕ, List, [], false, if◌then◌else◌, length, map, take, IfOk, OnOk};
 ghost use Rattle.jx_ndjson.specs.declared.judged_line.JudgedLine.{JudgedLine};
 ghost use Rattle.jx_ndjson.specs.WholeLines.{AreWhole, moved_line};
-ghost use Rattle.jx_report.specs.Reports.{shown_output};
+ghost use Rattle.jx_words.specs.Verdicts.{shown_output};
 ghost use Rattle.jx_ndjson_report.specs.Output.{bad_lines, bad_of, is_bad, is_good};
 ghost use Rattle.jx_ndjson_report.specs.inside.LineTeller.{HasTaken};
 ghost use Rattle.jx_ndjson_report.specs.inside.Shared.{IsShared};
@@ -11,10 +11,11 @@ ghost use Rattle.jx_ndjson_report.specs.inside.LineSteps.{bad_line, exit_by, tot
 use crate::line_batch::SharedLines;
 use crate::task::LinesTask;
 use crate::teller::Teller;
-use crate::words::{add_line, add_number, is_bad, is_good};
+use crate::words::{add_line, is_bad, is_good};
+use jx_ends::Exit;
 use jx_lex::{Depth, Span};
-use jx_ndjson::{JudgedLine, LineReader, WholeLines, what_is_told_are_ended_lines};
-use jx_report::Exit;
+use jx_ndjson::{JudgedLine, LineReader, WholeLines, texts_in_front, what_is_told_are_ended_lines};
+use jx_words::add_number;
 use std::alloc::{AllocError, Global};
 use std::marker::Model;
 
@@ -100,6 +101,7 @@ fn add_end(
 /// A reader of lines, and what is told of those that a line feed has ended. What is told waits here to be written.
 #[derive(Drop)]
 pub(crate) struct LineTeller {
+    alloc: Global,
     lines: LineReader,
     good: usize,
     bad: usize,
@@ -124,6 +126,7 @@ impl LineTeller {
         ensures ready { result.ready ≡ [] }
     {
         LineTeller {
+            alloc,
             lines: LineReader::new(alloc, &task.settings),
             good: 0,
             bad: 0,
@@ -148,37 +151,6 @@ impl LineTeller {
         Ok(())
     }
 
-    /// Takes a slice up to and with its first line feed, or less, and answers how many bytes those are.
-    fn take_step(&mut self, task: &LinesTask, slice: &[u8]) -> Result<usize, AllocError>
-        requires fits { self.old.lines.reader.start + self.old.lines.reader.count + length slice.now < 2 ^ 64 }
-        ensures within { IfOk result (λ taken. taken ≤ length slice.now) }
-        ensures some { IfOk result (λ taken. 0 < length slice.now → 0 < taken) }
-        ensures taken { IfOk result (λ taken. (bytes given : List ℕ) → HasTaken task.now bytes given self.old → HasTaken task.now (bytes ++ take taken slice.now) given self.new) }
-        ensures count { IfOk result (λ taken. self.new.lines.reader.start + self.new.lines.reader.count ≡ self.old.lines.reader.start + self.old.lines.reader.count + taken) }
-    {
-        let step = self.lines.feed(slice)?;
-        match step.line {
-            None => Ok(step.taken),
-            Some(judged) => {
-                self.tell(task, judged)?;
-                Ok(step.taken)
-            }
-        }
-    }
-
-    /// Takes a slice line by line.
-    fn take_alone(&mut self, task: &LinesTask, slice: &[u8]) -> Result<(), AllocError>
-        requires fits { self.old.lines.reader.start + self.old.lines.reader.count + length slice.now < 2 ^ 64 }
-        ensures taken { OnOk result ((bytes given : List ℕ) → HasTaken task.now bytes given self.old → HasTaken task.now (bytes ++ slice.now) given self.new) }
-        ensures count { OnOk result (self.new.lines.reader.start + self.new.lines.reader.count ≡ self.old.lines.reader.start + self.old.lines.reader.count + length slice.now) }
-    {
-        let mut at = 0;
-        while at < slice.len() {
-            at += self.take_step(task, &slice[at..])?;
-        }
-        Ok(())
-    }
-
     /// Takes whole lines that were judged without it, and tells those that are no texts. It stands between two lines.
     fn take_whole(&mut self, task: &LinesTask, whole: &WholeLines) -> Result<(), AllocError>
         requires in_front { self.old.lines.in_front ≡ false }
@@ -196,6 +168,66 @@ impl LineTeller {
         self.lines.pass(whole);
         self.good += good;
         self.bad += told;
+        Ok(())
+    }
+
+    /// Takes lines in front of a slice that are texts, where it stands between two lines, and answers how many bytes those are.
+    fn take_texts(&mut self, task: &LinesTask, slice: &[u8]) -> Result<usize, AllocError>
+        requires fits { self.old.lines.reader.start + self.old.lines.reader.count + length slice.now < 2 ^ 64 }
+        ensures within { IfOk result (λ taken. taken ≤ length slice.now) }
+        ensures taken { IfOk result (λ taken. (bytes given : List ℕ) → HasTaken task.now bytes given self.old → HasTaken task.now (bytes ++ take taken slice.now) given self.new) }
+        ensures count { IfOk result (λ taken. self.new.lines.reader.start + self.new.lines.reader.count ≡ self.old.lines.reader.start + self.old.lines.reader.count + taken) }
+    {
+        if !self.lines.is_between() {
+            return Ok(0);
+        }
+        let texts = texts_in_front(self.alloc, slice, task.settings.depth)?;
+        self.take_whole(task, &texts)?;
+        Ok(texts.len())
+    }
+
+    /// Takes a slice up to and with its first line feed, or less, and answers how many bytes those are.
+    fn take_line(&mut self, task: &LinesTask, slice: &[u8]) -> Result<usize, AllocError>
+        requires fits { self.old.lines.reader.start + self.old.lines.reader.count + length slice.now < 2 ^ 64 }
+        ensures within { IfOk result (λ taken. taken ≤ length slice.now) }
+        ensures some { IfOk result (λ taken. 0 < length slice.now → 0 < taken) }
+        ensures taken { IfOk result (λ taken. (bytes given : List ℕ) → HasTaken task.now bytes given self.old → HasTaken task.now (bytes ++ take taken slice.now) given self.new) }
+        ensures count { IfOk result (λ taken. self.new.lines.reader.start + self.new.lines.reader.count ≡ self.old.lines.reader.start + self.old.lines.reader.count + taken) }
+    {
+        let step = self.lines.feed(slice)?;
+        match step.line {
+            None => Ok(step.taken),
+            Some(judged) => {
+                self.tell(task, judged)?;
+                Ok(step.taken)
+            }
+        }
+    }
+
+    /// Takes lines in front of a slice that are texts, and what stands behind them up to and with the next line feed, or less.
+    /// Answers how many bytes those are.
+    fn take_step(&mut self, task: &LinesTask, slice: &[u8]) -> Result<usize, AllocError>
+        requires fits { self.old.lines.reader.start + self.old.lines.reader.count + length slice.now < 2 ^ 64 }
+        ensures within { IfOk result (λ taken. taken ≤ length slice.now) }
+        ensures some { IfOk result (λ taken. 0 < length slice.now → 0 < taken) }
+        ensures taken { IfOk result (λ taken. (bytes given : List ℕ) → HasTaken task.now bytes given self.old → HasTaken task.now (bytes ++ take taken slice.now) given self.new) }
+        ensures count { IfOk result (λ taken. self.new.lines.reader.start + self.new.lines.reader.count ≡ self.old.lines.reader.start + self.old.lines.reader.count + taken) }
+    {
+        let passed = self.take_texts(task, slice)?;
+        let taken = self.take_line(task, &slice[passed..])?;
+        Ok(passed + taken)
+    }
+
+    /// Takes a slice line by line.
+    fn take_alone(&mut self, task: &LinesTask, slice: &[u8]) -> Result<(), AllocError>
+        requires fits { self.old.lines.reader.start + self.old.lines.reader.count + length slice.now < 2 ^ 64 }
+        ensures taken { OnOk result ((bytes given : List ℕ) → HasTaken task.now bytes given self.old → HasTaken task.now (bytes ++ slice.now) given self.new) }
+        ensures count { OnOk result (self.new.lines.reader.start + self.new.lines.reader.count ≡ self.old.lines.reader.start + self.old.lines.reader.count + length slice.now) }
+    {
+        let mut at = 0;
+        while at < slice.len() {
+            at += self.take_step(task, &slice[at..])?;
+        }
         Ok(())
     }
 

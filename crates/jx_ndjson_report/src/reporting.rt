@@ -12,7 +12,7 @@ use crate::line_teller::LineTeller;
 use crate::task::{ElementsTask, LinesTask};
 use crate::teller::Teller;
 use jx_crew::{Crew, Gate};
-use jx_report::{Exit, ReportFault, Sink, Source, write_whole};
+use jx_ends::{Exit, ReportFault, Sink, Source, write_whole};
 use std::sync::Wait;
 use std::thread::Threads;
 

@@ -2,14 +2,14 @@ ghost use Rattle.std.specs.Prelude.{◌≡◌, ◌+◌, ◌<◌, ◌^◌, ◌++�
 ghost use Rattle.jx_ndjson_report.specs.inside.Shared.{IsShared};
 
 use crate::line_batch::SharedLines;
+use jx_ends::Exit;
 use jx_lex::Depth;
-use jx_report::Exit;
 use std::alloc::AllocError;
 
 /// What takes an input slice by slice, and has ready what is due of it.
 pub(crate) trait Teller {
     ghost use Rattle.std.specs.Prelude.{ℕ, List};
-    ghost use Rattle.jx_report.specs.declared.exit.Exit.{Exit};
+    ghost use Rattle.jx_ends.specs.declared.exit.Exit.{Exit};
 
     /// What it is to do.
     type Task;

@@ -1,16 +1,14 @@
 // The lines that are written.
-ghost use Rattle.std.specs.Prelude.{◌≡◌, ◌++◌, codes, decimal, OnOk};
+ghost use Rattle.std.specs.Prelude.{◌≡◌, ◌++◌, codes, OnOk};
 ghost use Rattle.jx_report.specs.Elements.{verdict_words as element_words};
-ghost use Rattle.jx_report.specs.Words.{line, span_words};
+ghost use Rattle.jx_words.specs.Words.{line};
 ghost use Rattle.jx_ndjson_report.specs.Elements.{element_line};
 ghost use Rattle.jx_ndjson_report.specs.Output.{is_bad, is_good, told_line, verdict_words};
 
 use crate::task::BlankRule;
-use itoa::Buffer;
-use jx_lex::Span;
 use jx_ndjson::{JudgedLine, LineVerdict};
-use jx_report::add_refusal;
 use jx_run::{ElementVerdict, JudgedElement};
+use jx_words::{add_number, add_refusal, add_span};
 use std::alloc::AllocError;
 
 /// Whether a line is a text.
@@ -38,23 +36,6 @@ pub(crate) fn is_bad(rule: BlankRule, verdict: LineVerdict) -> bool
             BlankRule::Passed => false,
         },
     }
-}
-
-/// Appends a number in plain decimal.
-pub(crate) fn add_number(out: &mut Vec<u8>, number: usize) -> Result<(), AllocError>
-    ensures { OnOk result (out.new.items ≡ out.old.items ++ decimal number) }
-{
-    let mut buffer = Buffer::new();
-    out.extend_from_slice(buffer.format(number).as_bytes())
-}
-
-/// Appends a span, as `S..E`.
-fn add_span(out: &mut Vec<u8>, span: Span) -> Result<(), AllocError>
-    ensures { OnOk result (out.new.items ≡ out.old.items ++ span_words span) }
-{
-    add_number(out, span.start)?;
-    out.extend_from_slice(b"..")?;
-    add_number(out, span.end)
 }
 
 /// Appends the words for what a line comes to, and a line feed.

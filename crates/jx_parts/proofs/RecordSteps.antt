@@ -9,7 +9,7 @@ use Rattle.std.specs.Io.KnownBytes.{Consumes}
 use Rattle.std.specs.Int.{from_be_bytes, w64}
 use Rattle.jx_portion.specs.Fields.{RunFields}
 use Rattle.jx_portion.specs.Portion.{portion_in, Adjoin, IsPortion, IsRecord, IsSaidBy, IsSpelt, Meets, PortionValue}
-use Rattle.jx_report.specs.Ends.{ReadsToEnd}
+use Rattle.jx_ends.specs.Ends.{ReadsToEnd}
 use Rattle.jx_parts.specs.Records.{behind, no_run, one_more, AreRecords, AreRuns}
 use Rattle.jx_parts.proofs.Heads.{depth_spelt}
 use Rattle.jx_parts.specs.inside.Reading.{told_depth, told_size, HasItsLength, IsTaken, IsJoined, AreCounted, AreTaken, IsLast}

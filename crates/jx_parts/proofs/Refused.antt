@@ -14,8 +14,8 @@ use Rattle.jx_portion.specs.declared.portion.Mismatch.TheVariants.{Depths, Froms
 use Rattle.jx_portion.specs.Fields.{RunFields}
 use Rattle.jx_portion.specs.Portion.{end_of, portion_in, start_of, Adjoin, IsAnswer, IsMismatch, PortionValue}
 use Rattle.jx_portion.specs.Reading.{head_at, record_at, Fails}
-use Rattle.jx_report.specs.Ends.{ReadsToEnd}
-use Rattle.jx_report.specs.declared.report_fault.ReportFault.TheVariants.{Memory}
+use Rattle.jx_ends.specs.Ends.{ReadsToEnd}
+use Rattle.jx_ends.specs.declared.report_fault.ReportFault.TheVariants.{Memory}
 use Rattle.jx_parts.specs.declared.parts_fault.PartsFault.{PartsFault}
 use Rattle.jx_parts.specs.declared.parts_fault.PartsFault.TheVariants.{Report, NoRuns, Run, Elsewhere}
 use Rattle.jx_parts.specs.declared.parts_fault.RunRefusal.{RunRefusal}

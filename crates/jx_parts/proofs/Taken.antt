@@ -24,7 +24,7 @@ use Rattle.jx_parts.specs.Refusals.{alone, another_depth, by_end, by_head, by_re
 use Rattle.jx_parts.specs.inside.Reading.{told_size, HasItsLength}
 use Rattle.jx_parts.proofs.Heads.{spelt_told}
 use Rattle.std.specs.Io.KnownBytes.{IsAtEnd}
-use Rattle.jx_report.specs.Ends.{ReadsToEnd}
+use Rattle.jx_ends.specs.Ends.{ReadsToEnd}
 use Rattle.jx_parts.proofs.Refused.{left_over}
 use Rattle.jx_parts.proofs.RecordSteps.{behind-behind, behind-none, head_kept, one_cut}
 use Rattle.jx_parts.proofs.Sizes.{spelt_small}

@@ -3,10 +3,10 @@ use Rattle.std.specs.Prelude.{◌≡◌, ℕ, ◌+◌, List, length, Option, unw
 use Rattle.std.specs.List.{concat}
 use Rattle.std.specs.Io.KnownBytes.{Appends}
 use Rattle.jx_portion.specs.Portion.{IsRecord}
-use Rattle.jx_report.specs.declared.exit.Exit.{Exit}
-use Rattle.jx_report.specs.Ends.{ReadsToEnd, AppendsBeginning}
-use Rattle.jx_report.specs.Output.{ByVerdict, SaysAccepted}
-use Rattle.jx_report.specs.Reports.{shown_output}
+use Rattle.jx_ends.specs.declared.exit.Exit.{Exit}
+use Rattle.jx_ends.specs.Ends.{ReadsToEnd, AppendsBeginning}
+use Rattle.jx_words.specs.Verdicts.{ByVerdict, SaysAccepted}
+use Rattle.jx_words.specs.Verdicts.{shown_output}
 use Rattle.jx_run.specs.declared.texts.verdict.Verdict.{Verdict}
 use Rattle.jx_run.specs.Verdict.{Judged}
 use Rattle.jx_parts.specs.Records.{AreRecords, HoldsRuns}

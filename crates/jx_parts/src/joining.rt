@@ -1,15 +1,15 @@
 // The joined run of the runs of a stream.
 ghost use Rattle.std.specs.Prelude.{◌≡◌, ◌≢◌, ◌+◌, ◌↔◌, ◌++◌, ℕ, List, Option, Some, false, true, IfOk, IfErr, IsErrOf};
 ghost use Rattle.jx_portion.specs.Portion.{IsMismatch, IsPortion, Meets};
-ghost use Rattle.jx_report.specs.declared.report_fault.ReportFault.TheVariants.{Read, Write};
+ghost use Rattle.jx_ends.specs.declared.report_fault.ReportFault.TheVariants.{Read, Write};
 ghost use Rattle.jx_parts.specs.Refusals.{IsJoinFault};
 ghost use Rattle.jx_parts.specs.inside.Reading.{IsApart, IsJoined};
 
 use crate::next_portion::next_portion;
 use crate::parts_fault::{PartsFault, RunRefusal};
+use jx_ends::{ReportFault, Source};
 use jx_lex::Depth;
 use jx_portion::{Mismatch, Portion};
-use jx_report::{ReportFault, Source};
 use std::alloc::Global;
 
 /// Why a run, which has this number, does not stand behind those before it.

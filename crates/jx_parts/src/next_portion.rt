@@ -1,15 +1,15 @@
 // What the next record of a stream says.
 ghost use Rattle.std.specs.Prelude.{◌≡◌, ◌≢◌, ◌↔◌, [], ℕ, List, Option, Some, false, true, IfOk, IfErr, IsErrOf};
 ghost use Rattle.jx_portion.specs.Portion.{IsPortion, IsRecord, IsSaidBy};
-ghost use Rattle.jx_report.specs.declared.report_fault.ReportFault.TheVariants.{Read, Write};
+ghost use Rattle.jx_ends.specs.declared.report_fault.ReportFault.TheVariants.{Read, Write};
 ghost use Rattle.jx_parts.specs.Refusals.{IsNoRecord, IsNoRun};
 ghost use Rattle.jx_parts.specs.inside.Reading.{IsFaultOf, IsNext};
 
 use crate::parts_fault::{PartsFault, fault_of_run};
 use crate::record_reading::next_record;
+use jx_ends::Source;
 use jx_lex::Depth;
 use jx_portion::{Portion, decode};
-use jx_report::Source;
 use std::alloc::Global;
 
 /// The portion that a record says, whose number is told where it is refused.

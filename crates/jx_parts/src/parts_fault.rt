@@ -1,11 +1,11 @@
 // Why work on the parts of a text gives no answer.
 ghost use Rattle.std.specs.Prelude.{◌≡◌, ◌≢◌};
-ghost use Rattle.jx_report.specs.declared.report_fault.ReportFault.TheVariants.{Read, Write};
+ghost use Rattle.jx_ends.specs.declared.report_fault.ReportFault.TheVariants.{Read, Write};
 ghost use Rattle.jx_parts.specs.Refusals.{refusal_of};
 ghost use Rattle.jx_parts.specs.inside.Reading.{fault_of_run};
 
+use jx_ends::ReportFault;
 use jx_portion::{DecodeFault, RunFault};
-use jx_report::ReportFault;
 use std::alloc::AllocError;
 use thiserror::Error;
 
@@ -48,7 +48,7 @@ impl From<ReportFault> for PartsFault {
 impl From<AllocError> for PartsFault {
     ghost use Rattle.std.specs.Prelude.{◌≡◌};
     ghost use Rattle.jx_parts.specs.declared.parts_fault.PartsFault.TheVariants.{Report};
-    ghost use Rattle.jx_report.specs.declared.report_fault.ReportFault.TheVariants.{Memory};
+    ghost use Rattle.jx_ends.specs.declared.report_fault.ReportFault.TheVariants.{Memory};
 
     ghost from_gives = { λ _ parts. parts ≡ Report Memory };
 

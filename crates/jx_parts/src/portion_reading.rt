@@ -3,9 +3,9 @@ ghost use Rattle.std.specs.Prelude.{◌≡◌, ◌≢◌, ◌+◌, ◌<◌, ◌�
 ghost use Rattle.jx_portion.specs.Portion.{IsPortion};
 ghost use Rattle.jx_parts.specs.inside.Reading.{IsRead};
 
+use jx_ends::{ReportFault, Source, fill_buffer};
 use jx_lex::Depth;
 use jx_portion::Portion;
-use jx_report::{ReportFault, Source, fill_buffer};
 use std::alloc::{AllocError, Global};
 
 /// How many bytes of a part are read at a time.

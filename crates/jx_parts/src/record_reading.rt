@@ -1,15 +1,15 @@
 // The bytes of the next record of a stream.
 ghost use Rattle.std.specs.Prelude.{◌≡◌, ◌≢◌, ◌+◌, ◌<◌, ◌≤◌, ◌↔◌, ◌++◌, [], ℕ, List, Some, length, false, true, vec_len, IfOk, IfErr, IsErrOf};
 ghost use Rattle.std.specs.Io.KnownBytes.{Consumes, IsAtEnd};
-ghost use Rattle.jx_report.specs.declared.report_fault.ReportFault.TheVariants.{Read, Write};
+ghost use Rattle.jx_ends.specs.declared.report_fault.ReportFault.TheVariants.{Read, Write};
 ghost use Rattle.jx_parts.specs.Refusals.{most, IsHead, IsNoHead, IsNoRecord};
 ghost use Rattle.jx_parts.specs.inside.Reading.{told_depth, told_size, IsFaultOf, IsNextRecord};
 ghost use Rattle.jx_parts.specs.declared.parts_fault.RunRefusal.TheVariants as refusal;
 
 use crate::parts_fault::{PartsFault, RunRefusal, fault_of_run};
+use jx_ends::{ReportFault, Source, fill_buffer};
 use jx_lex::Depth;
 use jx_portion::{HEAD, head_of};
-use jx_report::{ReportFault, Source, fill_buffer};
 use std::alloc::Global;
 
 /// Reads so many bytes, or fewer where the input ends.

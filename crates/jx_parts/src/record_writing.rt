@@ -1,14 +1,14 @@
 // A record, as it is written.
 ghost use Rattle.std.specs.Prelude.{◌≡◌, ◌≢◌, ◌↔◌, false, true, IfErr, IsErrOf, OnOk};
 ghost use Rattle.std.specs.Io.KnownBytes.{Appends};
-ghost use Rattle.jx_report.specs.Ends.{AppendsBeginning};
-ghost use Rattle.jx_report.specs.declared.report_fault.ReportFault.TheVariants.{Read, Write};
+ghost use Rattle.jx_ends.specs.Ends.{AppendsBeginning};
+ghost use Rattle.jx_ends.specs.declared.report_fault.ReportFault.TheVariants.{Read, Write};
 ghost use Rattle.jx_parts.specs.Refusals.{IsReport};
 ghost use Rattle.jx_parts.specs.inside.Writing.{IsWritten};
 
 use crate::parts_fault::PartsFault;
+use jx_ends::{Sink, write_whole};
 use jx_portion::Portion;
-use jx_report::{Sink, write_whole};
 use std::alloc::Global;
 
 /// Writes the record of a portion.

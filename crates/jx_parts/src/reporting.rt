@@ -1,7 +1,7 @@
 // What is written for a part, for the runs of parts, and for the runs of a whole text.
 ghost use Rattle.std.specs.Prelude.{◌≡◌, ◌≢◌, ◌↔◌, ℕ, List, Option, Some, true, false, IfOk, IfErr, IsErrOf, OnOk};
 ghost use Rattle.jx_portion.specs.Portion.{IsRecord};
-ghost use Rattle.jx_report.specs.declared.report_fault.ReportFault.TheVariants.{Read, Write};
+ghost use Rattle.jx_ends.specs.declared.report_fault.ReportFault.TheVariants.{Read, Write};
 ghost use Rattle.jx_parts.specs.Records.{HoldsRuns};
 ghost use Rattle.jx_parts.specs.Refusals.{IsJoinFault, IsOfBounds, IsReport, IsWholeFault};
 ghost use Rattle.jx_parts.specs.Reports.{Joins, SaysWhole, SaysWholeSo, Writes, WritesInPart};
@@ -10,8 +10,9 @@ use crate::joining::read_joined;
 use crate::parts_fault::PartsFault;
 use crate::portion_reading::{BATCH, read_portion};
 use crate::record_writing::write_record;
+use jx_ends::{Exit, Sink, Source};
 use jx_lex::Depth;
-use jx_report::{Exit, Sink, Source, write_verdict};
+use jx_words::write_verdict;
 use std::alloc::Global;
 
 /// Reads a part of a text to its end, batch by batch, and then writes its run. Where `from` is told, the part begins at that

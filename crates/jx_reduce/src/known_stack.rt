@@ -1,6 +1,6 @@
 // The moves over marks from the start of a text.
 
-ghost use Rattle.std.specs.Prelude.{◌≡◌, ◌↔◌, ◌++◌, ◌≤◌, List, [], ◌∷◌, IsTrue, OnOk, OnErr, IfOk, length, reverse, slice_range};
+ghost use Rattle.std.specs.Prelude.{◌≡◌, ◌↔◌, ◌++◌, ◌+◌, ◌<◌, ◌≤◌, List, [], ◌∷◌, IsTrue, OnOk, OnErr, IfOk, length, reverse, slice_range};
 ghost use Rattle.jx_reduce.specs.Table.{added};
 ghost use Rattle.jx_reduce.specs.Read.{changed, then_by, step, read, went};
 ghost use Rattle.jx_reduce.specs.Whole.{whole_of};
@@ -40,10 +40,18 @@ pub struct KnownStack {
 /// How many bytes must be left for `pass` to look at them.
 const LEAST: usize = 8;
 
-/// Whether a list of numbers may begin or go on with this byte.
+/// Whether a number begins with the byte (RFC 8259, section 6).
 #[inline(always)]
-fn begins_list(byte: u8) -> bool {
-    byte == b'[' || byte == b'-' || (byte >= b'0' && byte <= b'9')
+fn begins_number(byte: u8) -> bool {
+    byte == b'-' || (byte >= b'0' && byte <= b'9')
+}
+
+/// Whether a list of numbers may begin or go on here.
+#[inline(always)]
+fn begins_list(text: &[u8], at: usize) -> bool
+    requires { at + 1 < length text.now }
+{
+    begins_number(text[at]) || (text[at] == b'[' && begins_number(text[at + 1]))
 }
 
 impl Model for KnownStack {
@@ -221,7 +229,7 @@ impl KnownStack {
         ensures reads { self.new.reading ≡ read self.old.depth (lex Gap from (slice_range text.now from result)).marks self.old.reading }
         ensures marks { (before : List Mark) → HasRead before self.old → HasRead (before ++ (lex Gap from (slice_range text.now from result)).marks) self.new }
     {
-        if to - from < LEAST || text.len() - from < ROOM || begins_list(text[from]) {
+        if to - from < LEAST || text.len() - from < ROOM || begins_list(text, from) {
             return from;
         }
         if self.fault.is_some() || !takes_value(self.expect) {

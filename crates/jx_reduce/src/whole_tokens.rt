@@ -23,6 +23,17 @@ pub(crate) enum Turn {
     Stop(Expect),
 }
 
+/// The same, but that reading does not go on.
+#[inline(always)]
+fn stopped(turn: Turn) -> Turn
+    ensures { expect_of result ≡ expect_of turn }
+{
+    match turn {
+        Turn::On(expect) => Turn::Stop(expect),
+        Turn::Stop(expect) => Turn::Stop(expect),
+    }
+}
+
 /// Whether a value may stand next.
 #[inline(always)]
 pub(crate) fn takes_value(expect: Expect) -> bool
@@ -250,8 +261,20 @@ fn number_end(
     }
 }
 
-/// A number, with the byte behind it, where a value stands next. Those of arrays are left: mostly others follow them, and a
-/// reader of one number after another is faster there.
+/// Whether numbers without blanks between them stand in an array from here on, behind its first one: a reader of one number
+/// after another is faster there.
+#[inline(always)]
+fn goes_on(text: &[u8], end: usize, expect: Expect, holder: Holder) -> bool
+    requires { end + 1 < length text.now }
+{
+    if !matches!(holder, Holder::Array) || text[end] != b',' {
+        return false;
+    }
+    let next = text[end + 1];
+    matches!(expect, Expect::Value) && (next == b'-' || (next >= b'0' && next <= b'9'))
+}
+
+/// A number, with the byte behind it, where a value stands next.
 #[inline(always)]
 fn number(
     text: &[u8],
@@ -265,14 +288,13 @@ fn number(
     ensures bounds { (at.old ≤ at.new) × (at.new ≤ to) }
     ensures reads { (depth : ℕ) → Reads depth text.now at.old at.new (went expect holders.old) (went (expect_of result) holders.new) }
 {
-    if matches!(holders.top(), Holder::Array) {
-        return Turn::Stop(expect);
-    }
     let end = pass_number(text, *at, to);
-    if end == *at || end == to {
+    if end == *at || end == to || text.len() - end < 2 {
         return Turn::Stop(expect);
     }
-    number_end(text, at, end, expect, holders)
+    let more = goes_on(text, end, expect, holders.top());
+    let turn = number_end(text, at, end, expect, holders);
+    if more { stopped(turn) } else { turn }
 }
 
 /// The beginning of an object, or a whole one that is empty, where a value stands next.

@@ -1,8 +1,6 @@
--- The output for a verdict alone, and for the elements of a text sequence.
+-- The output for the elements of a text sequence.
 use Rattle.std.proofs.Common.{◌≡◌, ℕ, List, [], ◌∷◌, ◌++◌, map, refl, sym, ap, ◌∙◌}
 use Rattle.jx_run.specs.declared.texts.settings.Settings.{Settings}
-use Rattle.jx_run.specs.declared.texts.verdict.Verdict.{Verdict}
-use Rattle.jx_run.specs.declared.texts.verdict.Verdict.TheVariants.{Accepted, Refused}
 use Rattle.jx_index.specs.ByNames.{AreJudgedBy, IsJudgedBy}
 use Rattle.jx_answer.specs.Settled.{IsElementBy}
 use Rattle.jx_answer.specs.declared.element.Element.{Element}
@@ -11,16 +9,10 @@ use Rattle.jx_answer.proofs.Verdicts.{all_answered, answered_by}
 use Rattle.jx_run.specs.declared.sequences.element_verdict.JudgedElement.{JudgedElement}
 use Rattle.jx_run.specs.MarkAlone.{elements_by}
 use Rattle.jx_task.specs.declared.task.Task.TheVariants.{Seq}
-use Rattle.jx_report.specs.declared.exit.Exit.{Exit}
-use Rattle.jx_report.specs.declared.exit.Exit.TheVariants.{Good}
+use Rattle.jx_ends.specs.declared.exit.Exit.{Exit}
+use Rattle.jx_ends.specs.declared.exit.Exit.TheVariants.{Good}
 use Rattle.jx_report.specs.Elements.{element_lines, exit_past, exit_past_all, exit_past_judged, judged_line, judged_lines}
-use Rattle.jx_report.specs.Output.{ByVerdict, Output, SaysAccepted}
-use Rattle.jx_report.specs.inside.Replies.{verdict_exit, verdict_line}
-
--- what is written for a verdict alone, whatever is written for a text that is accepted
-pub says_verdict : (verdict : Verdict) → ByVerdict SaysAccepted verdict (verdict_line verdict) (verdict_exit verdict)
-says_verdict Accepted = (refl, refl)
-says_verdict (Refused refusal) = (refl, refl)
+use Rattle.jx_report.specs.Output.{Output}
 
 -- ---- elements
 

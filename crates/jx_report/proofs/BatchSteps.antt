@@ -7,7 +7,7 @@ use Rattle.jx_names.specs.declared.names_reader.NamesReader.{NamesReader}
 use Rattle.jx_names.specs.Fed.{HasFed, end_of}
 use Rattle.jx_task.specs.declared.task.Task.{Task}
 use Rattle.jx_report.specs.declared.reading.Reading.{Reading}
-use Rattle.jx_report.specs.Ends.{ReadsToEnd}
+use Rattle.jx_ends.specs.Ends.{ReadsToEnd}
 use Rattle.jx_report.specs.inside.Batches.{IsPending, IsReadingOf, ReadsOn}
 
 -- the batch that was held is taken in

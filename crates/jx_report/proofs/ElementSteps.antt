@@ -2,7 +2,7 @@
 use Rattle.std.proofs.Common.{◌≡◌, ℕ, suc, ◌+◌, ◌<◌, ◌≤◌, List, ◌++◌, length, drop, sym, ap, ◌∙◌, arith, get_or, drop-cons, append_assoc, append-nil}
 use Rattle.std.proofs.Math.ListN.{drop_of_length-le}
 use Rattle.jx_run.specs.declared.sequences.element_verdict.JudgedElement.{JudgedElement}
-use Rattle.jx_report.specs.declared.exit.Exit.{Exit}
+use Rattle.jx_ends.specs.declared.exit.Exit.{Exit}
 use Rattle.jx_report.specs.Elements.{judged_line, judged_lines, exit_past_verdict, exit_past_judged}
 
 module _ (i : ℕ) (elements : List JudgedElement) where

@@ -23,15 +23,16 @@ use Rattle.jx_answer.specs.declared.element.Element.{Element}
 use Rattle.jx_answer.specs.Settled.{AreElementsBy}
 use Rattle.jx_task.specs.declared.task.Task.{Task}
 use Rattle.jx_task.specs.declared.task.Task.TheVariants.{Check, Index, At, Seq}
-use Rattle.jx_report.specs.declared.exit.Exit.{Exit}
-use Rattle.jx_report.specs.declared.exit.Exit.TheVariants.{Good}
-use Rattle.jx_report.specs.declared.pointer_answer.PointerAnswer.{PointerAnswer}
-use Rattle.jx_report.specs.declared.pointer_answer.PointerAnswer.TheVariants.{Found, Unread, Lost}
+use Rattle.jx_ends.specs.declared.exit.Exit.{Exit}
+use Rattle.jx_ends.specs.declared.exit.Exit.TheVariants.{Good}
+use Rattle.jx_words.specs.declared.pointer_answer.PointerAnswer.{PointerAnswer}
+use Rattle.jx_words.specs.declared.pointer_answer.PointerAnswer.TheVariants.{Found, Unread, Lost}
 use Rattle.jx_report.specs.Elements.{element_lines, exit_past_all}
-use Rattle.jx_report.specs.Output.{SaysAccepted, ListsRows, AnswersPointers, ByVerdict, Output}
-use Rattle.jx_report.specs.Pointers.{LeadsTo, IsAnswerTo, answer_words, exit_after, PointerLines, no_pointer, one_more}
+use Rattle.jx_words.specs.Verdicts.{SaysAccepted, ByVerdict}
+use Rattle.jx_report.specs.Output.{ListsRows, AnswersPointers, Output}
+use Rattle.jx_words.specs.Pointers.{LeadsTo, IsAnswerTo, answer_words, exit_after, PointerLines, no_pointer, one_more}
 use Rattle.jx_report.specs.RowWords.{row_lines}
-use Rattle.jx_report.specs.Words.{line, refusal_words}
+use Rattle.jx_words.specs.Words.{line, refusal_words}
 
 -- ---- lists that end in one element more
 
@@ -72,10 +73,10 @@ module _ (text : List ℕ) (tree : Tree) where
   one_row p k l a b f g =
       let there : Ok f.node ≡ Ok g.node = sym f.leads_there ∙ g.leads_there in
       let node : f.node ≡ g.node = cc in
-      let rows_are : Some f.there.row ≡ Some g.there.row = sym f.there.is_row ∙ ap (slice_get (rows tree)) node ∙ g.there.is_row in
-      let same : f.there.row ≡ g.there.row = cc in (
-        sym f.there.kind_is ∙ ap (λ (r : Row). r.kind) same ∙ g.there.kind_is,
-        sym f.there.span_is ∙ ap (λ (r : Row). r.span) same ∙ g.there.span_is,
+      let rows_are : Some f.row ≡ Some g.row = sym f.is_row ∙ ap (slice_get (rows tree)) node ∙ g.is_row in
+      let same : f.row ≡ g.row = cc in (
+        sym f.kind_is ∙ ap (λ (r : Row). r.kind) same ∙ g.kind_is,
+        sym f.span_is ∙ ap (λ (r : Row). r.span) same ∙ g.span_is,
       )
 
   no_loss : (p : List ℕ) (k : Kind) (a : Span) (f : FindFault) → LeadsTo text tree p k a → leads text tree (tokens p) ≡ Err f → ⊥

@@ -8,7 +8,7 @@ use Rattle.jx_find.specs.Finder as finder
 use Rattle.jx_report.specs.declared.pointer_reader.PointerReader.{PointerReader}
 use Rattle.jx_report.specs.Output.{AnswersPointers, TextOutput}
 use Rattle.jx_report.specs.inside.PointerReads.{AreLookedUp}
-use Rattle.jx_report.specs.inside.Replies.{verdict_exit, verdict_line}
+use Rattle.jx_words.specs.inside.Lines.{verdict_exit, verdict_line}
 
 module _ (settings : Settings) (spelt : List (List ℕ)) (text : List ℕ) where
   -- as many bytes were read as there are

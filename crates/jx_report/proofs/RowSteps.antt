@@ -3,7 +3,7 @@ use Rattle.std.proofs.Common.{◌≡◌, ℕ, suc, ◌+◌, ◌<◌, ◌≤◌, 
 use Rattle.std.proofs.Math.ListN.{drop_of_length-le}
 use Rattle.jx_index.specs.declared.row.Row.{Row}
 use Rattle.jx_report.specs.RowWords.{row_words, row_lines}
-use Rattle.jx_report.specs.Words.{line}
+use Rattle.jx_words.specs.Words.{line}
 
 pub rows_step : (i : ℕ) (table : List Row) (row d : Row) (out next : List ℕ) → i < length table → row ≡ get_or table i d
     → next ≡ out ++ line (row_words i row) → next ++ row_lines (i + 1) (drop (i + 1) table) ≡ out ++ row_lines i (drop i table)

@@ -6,9 +6,9 @@ use Rattle.jx_answer.specs.Sequence.{judged, without_index}
 use Rattle.jx_run.specs.declared.sequences.element_verdict.ElementVerdict.{ElementVerdict}
 use Rattle.jx_run.specs.declared.sequences.element_verdict.ElementVerdict.TheVariants.{Accepted, Refused, MayBeCut, Unmarked}
 use Rattle.jx_run.specs.declared.sequences.element_verdict.JudgedElement.{JudgedElement}
-use Rattle.jx_report.specs.declared.exit.Exit.{Exit}
-use Rattle.jx_report.specs.declared.exit.Exit.TheVariants.{Bad}
-use Rattle.jx_report.specs.Words.{line, refusal_words, span_words}
+use Rattle.jx_ends.specs.declared.exit.Exit.{Exit}
+use Rattle.jx_ends.specs.declared.exit.Exit.TheVariants.{Bad}
+use Rattle.jx_words.specs.Words.{line, refusal_words, span_words}
 
 abbrev pub verdict_words : ElementVerdict → List ℕ
 verdict_words Accepted = codes "accepted"

@@ -1,9 +1,5 @@
-pub mod Answers
 pub mod Elements
-pub mod Ends
 pub mod Output
-pub mod Pointers
 pub mod Reports
 pub mod RowWords
-pub mod Words
 pub mod inside

@@ -1,8 +1,6 @@
 -- What is written for an input, and how the program then ends.
 use Rattle.std.specs.Prelude.{◌≡◌, ℕ, List, ◌++◌, codes, map, string_bytes}
 use Rattle.jx_run.specs.declared.texts.verdict.Verdict.{Verdict}
-use Rattle.jx_run.specs.declared.texts.verdict.Verdict.TheVariants.{Accepted, Refused}
-use Rattle.jx_run.specs.declared.texts.verdict.Refusal.{Refusal}
 use Rattle.jx_run.specs.declared.texts.settings.Settings.{Settings}
 use Rattle.jx_run.specs.Settings.{IsDocumentBy}
 use Rattle.jx_run.specs.Tree.{Tree}
@@ -13,20 +11,15 @@ use Rattle.jx_answer.specs.declared.element.Element.{Element}
 use Rattle.jx_answer.specs.Settled.{AreElementsBy}
 use Rattle.jx_task.specs.declared.task.Task.{Task}
 use Rattle.jx_task.specs.declared.task.Task.TheVariants.{Check, Index, At, Seq}
-use Rattle.jx_report.specs.declared.exit.Exit.{Exit}
-use Rattle.jx_report.specs.declared.exit.Exit.TheVariants.{Good, Bad}
+use Rattle.jx_ends.specs.declared.exit.Exit.{Exit}
+use Rattle.jx_ends.specs.declared.exit.Exit.TheVariants.{Good}
 use Rattle.jx_report.specs.Elements.{element_lines, exit_past_all}
-use Rattle.jx_report.specs.Pointers.{PointerLines}
+use Rattle.jx_words.specs.Pointers.{PointerLines}
 use Rattle.jx_report.specs.RowWords.{row_lines}
-use Rattle.jx_report.specs.Words.{line, refusal_words}
+use Rattle.jx_words.specs.Verdicts.{ByVerdict, SaysAccepted}
+use Rattle.jx_words.specs.Words.{line}
 
 -- ---- what is written
-
-abbrev pub SaysAccepted : List ℕ → Exit → Type 0
-SaysAccepted output exit = (output ≡ line (codes "accepted")) × (exit ≡ Good)
-
-abbrev pub SaysRefused : Refusal → List ℕ → Exit → Type 0
-SaysRefused refusal output exit = (output ≡ line (refusal_words refusal)) × (exit ≡ Bad)
 
 abbrev pub SaysRows : List Row → List ℕ → Exit → Type 0
 SaysRows table output exit = (output ≡ line (codes "accepted") ++ row_lines 0 table) × (exit ≡ Good)
@@ -45,11 +38,6 @@ abbrev pub AnswersPointers : List (List ℕ) → Settings → List ℕ → List 
 AnswersPointers pointers settings text output exit = (tree : Tree) × IsDocumentBy settings 0 text tree × PointerLines text tree pointers output exit
 
 -- ---- for any input
-
--- for what is refused, one line
-abbrev pub ByVerdict : (List ℕ → Exit → Type 0) → Verdict → List ℕ → Exit → Type 0
-ByVerdict IsForText Accepted output exit = IsForText output exit
-ByVerdict IsForText (Refused refusal) output exit = SaysRefused refusal output exit
 
 abbrev pub TextOutput : (List ℕ → Exit → Type 0) → Settings → List ℕ → List ℕ → Exit → Type 0
 TextOutput IsForText settings input output exit = (verdict : Verdict) × IsVerdictBy settings input verdict × ByVerdict IsForText verdict output exit

@@ -1,19 +1,15 @@
 -- What a report does to the bytes of its ends.
-use Rattle.std.specs.Prelude.{ℕ, ◌*◌, ◌<◌, ◌≤◌, List, [], length, Option, Bool, true, false}
+use Rattle.std.specs.Prelude.{ℕ, ◌*◌, ◌<◌, ◌≤◌, List, length, Option}
 use Rattle.std.specs.Io.KnownBytes.{Appends}
 use Rattle.jx_task.specs.declared.command.Command.{Command}
-use Rattle.jx_report.specs.declared.exit.Exit.{Exit}
-use Rattle.jx_report.specs.Ends.{ReadsToEnd, AppendsBeginning}
+use Rattle.jx_ends.specs.declared.exit.Exit.{Exit}
+use Rattle.jx_ends.specs.Ends.{ReadsToEnd, AppendsBeginning}
+use Rattle.jx_words.specs.Verdicts.{shown_output}
 use Rattle.jx_report.specs.Output.{Output}
 
 -- how many bytes there may be, in pieces of that many each
 abbrev pub greatest_length : ℕ → ℕ
 greatest_length piece = 4294967295 * piece
-
--- what is written of an output: nothing where a command is quiet
-abbrev pub shown_output : Bool → List ℕ → List ℕ
-shown_output true output = []
-shown_output false output = output
 
 -- the reader gave all that it had, in no more pieces than there may be, and this is the output for it
 pub record IsAnswered (IsFor : List ℕ → List ℕ → Exit → Type 0) (piece : ℕ) (unread left : Option (List ℕ)) (output : List ℕ) (exit : Exit) : Type 0 where

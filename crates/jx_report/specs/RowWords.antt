@@ -2,7 +2,7 @@
 use Rattle.std.specs.Prelude.{ℕ, suc, List, [], ◌∷◌, ◌++◌, Option, None, Some, codes, decimal}
 use Rattle.jx_summary.specs.declared.span.Span.{Span}
 use Rattle.jx_index.specs.declared.row.Row.{Row}
-use Rattle.jx_report.specs.Words.{line, kind_words, span_words}
+use Rattle.jx_words.specs.Words.{line, kind_words, span_words}
 
 -- the number of the parent's row
 abbrev pub parent_words : Option ℕ → List ℕ

@@ -9,14 +9,12 @@ ghost use Rattle.jx_report.specs.inside.Batches.{IsFilled, IsReadingOf, ReadsOn}
 ghost use Rattle.jx_report.specs.inside.Replies.{reply_exit, reply_output};
 
 use crate::pointer_reader::few_pointers;
-use crate::read_all::{fill, read_all};
 use crate::reading::Reading;
 use crate::reply::{Reply, reply_to};
-use crate::report_fault::ReportFault;
-use crate::source::Source;
 use jx_answer::is_short;
 use jx_claim::Cutting;
 use jx_crew::{Crew, Gate};
+use jx_ends::{ReportFault, Source, fill_buffer, read_to_end};
 use jx_task::Command;
 use std::alloc::AllocError;
 use std::sync::Wait;
@@ -78,7 +76,7 @@ fn read_beside<R: Threads + Wait + Sync, S: Source + Send, G: Gate + Sync>(
         &mut || -> Result<usize, ReportFault>
             requires { (S.has_failed reader.now ≡ false) × (vec_len next.now ≤ step) }
             ensures { IsFilled S.remaining S.has_failed step reader.entry.now reader.exit.now next.exit.now result }
-        { fill(reader, next, step) },
+        { fill_buffer(reader, next, step) },
         &mut || -> Result<(), AllocError>
             requires { 1 ≤ piece }
             ensures { OnOk result (ReadsOn bytes.entry.now reading.entry.now reading.exit.now) }
@@ -104,7 +102,7 @@ fn answer_to_all<R: Threads + Wait + Sync, S: Source, G: Gate + Sync>(
     ensures pieces { IsErrOf result ReportFault.Pieces → HasTooManyPieces command.now (S.remaining reader.old)
         (S.remaining reader.new) }
 {
-    let text = read_all(crew.alloc, reader)?;
+    let text = read_to_end(crew.alloc, reader)?;
     let Ok(cutting) = Cutting::every(text.len(), command.piece) else {
         return Err(ReportFault::Pieces);
     };
@@ -136,7 +134,7 @@ fn answer_in_batches<R: Threads + Wait + Sync, S: Source + Send, G: Gate + Sync>
     let mut bytes = Vec::new(crew.alloc);
     let mut next = Vec::new(crew.alloc);
     let mut step = first_step(command, batch);
-    let mut filled = fill(reader, &mut bytes, step)?;
+    let mut filled = fill_buffer(reader, &mut bytes, step)?;
     for _ in crew.rt.forever() {
         if filled < step {
             reading.read(crew, &bytes[..filled], command.piece)?;
@@ -157,7 +155,7 @@ fn answer_in_batches<R: Threads + Wait + Sync, S: Source + Send, G: Gate + Sync>
             mem::swap(&mut bytes, &mut next);
         } else {
             reading.read(crew, slice, command.piece)?;
-            filled = fill(reader, &mut bytes, step)?;
+            filled = fill_buffer(reader, &mut bytes, step)?;
         }
     }
     unreachable!()
@@ -165,8 +163,8 @@ fn answer_in_batches<R: Threads + Wait + Sync, S: Source + Send, G: Gate + Sync>
 
 /// Reads to the end of input, and has it answered by the crew. While a text or the elements of a sequence are judged, or few
 /// pointers are looked up, at most two batches of the input are kept, of so many bytes each. Beside them a name is kept for
-/// pointers, the names of open objects of a text whose names have to be unique, and the last element of such a sequence. For rows and
-/// many pointers the whole input is kept, and also for pointers where names have to be unique.
+/// pointers, the names of open objects of a text whose names have to be unique, and the last element of such a sequence. For
+/// rows and many pointers the whole input is kept.
 pub(crate) fn answer_to_input<R: Threads + Wait + Sync, S: Source + Send, G: Gate + Sync>(
     crew: &Crew<'_, R, G>,
     reader: &mut S,

@@ -1,12 +1,12 @@
 // The lines that stand for the elements of a text sequence.
 ghost use Rattle.std.specs.Prelude.{◌≡◌, ◌<◌, ◌++◌, Some, length, slice_get};
 ghost use Rattle.jx_report.specs.Elements.{exit_past_judged, exit_past_verdict, judged_line, verdict_words};
-ghost use Rattle.jx_report.specs.inside.Room.{HasRoom, TakesRoom};
-ghost use Rattle.jx_report.specs.declared.exit.Exit.TheVariants.{Good};
+ghost use Rattle.jx_words.specs.inside.Room.{HasRoom, TakesRoom};
+ghost use Rattle.jx_ends.specs.declared.exit.Exit.TheVariants.{Good};
 
-use crate::exit::Exit;
-use crate::words::{push_bytes, push_refusal, push_span};
+use jx_ends::Exit;
 use jx_run::{ElementVerdict, JudgedElement};
+use jx_words::{push_bytes, push_refusal, push_span};
 
 /// Appends the words for what an element comes to.
 fn push_word(out: &mut Vec<u8>, verdict: ElementVerdict)

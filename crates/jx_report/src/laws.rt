@@ -1,7 +1,7 @@
 ghost use Rattle.std.specs.Prelude.{◌≡◌, ℕ, List};
 ghost use Rattle.jx_run.specs.declared.texts.settings.Settings.{Settings};
 ghost use Rattle.jx_task.specs.declared.task.Task.{Task};
-ghost use Rattle.jx_report.specs.declared.exit.Exit.{Exit};
+ghost use Rattle.jx_ends.specs.declared.exit.Exit.{Exit};
 ghost use Rattle.jx_report.specs.Output.{Output};
 
 use jx_answer::{elements_by_settings_are_one, verdicts_by_settings_are_one};

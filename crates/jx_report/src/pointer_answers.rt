@@ -3,17 +3,19 @@ ghost use Rattle.std.specs.Prelude.{◌≡◌, ◌∷◌, [], length, map, strin
 ghost use Rattle.jx_run.specs.declared.texts.settings.NameRule.TheVariants.{Any};
 ghost use Rattle.jx_run.specs.declared.texts.verdict.Verdict.TheVariants.{Accepted};
 ghost use Rattle.jx_index.specs.ByNames.{IsVerdictBy};
-ghost use Rattle.jx_report.specs.Answers.{AreAnswersBy};
-ghost use Rattle.jx_report.specs.inside.ReadPointers.{AreAnswersIn};
+ghost use Rattle.jx_words.specs.Answers.{AreAnswersBy};
+ghost use Rattle.jx_report.specs.inside.PointerReads.{any_names};
+ghost use Rattle.jx_report.specs.inside.IndexAnswers.{AreAnswersIn, answer_of};
+ghost use Rattle.jx_words.specs.inside.ReadPointers.{each_answer};
 
-use crate::pointer_answer::{
-    PointerAnswer, answer_in, answers_in, answers_of, read_pointer, read_pointers,
-};
-use jx_answer::{TextAnswer, find_all, verdict_of_text, verdicts_by_settings_are_one};
+use jx_answer::{Answer, TextAnswer, find_all, verdict_of_text, verdicts_by_settings_are_one};
 use jx_claim::Cutting;
 use jx_crew::{Crew, Gate};
-use jx_index::{Indexed, find_by, find_each_by, indexes_stand_behind_fronts, look_ups_end_at_rows};
+use jx_index::{
+    Indexed, PointerFault, find_by, find_each_by, indexes_stand_behind_fronts, look_ups_end_at_rows,
+};
 use jx_run::{NameRule, Refusal, Settings, Verdict};
+use jx_words::{PointerAnswer, answer_in, answers_in, read_pointer, read_pointers};
 use std::alloc::{AllocError, Global};
 use std::sync::Wait;
 use std::thread::Threads;
@@ -26,6 +28,35 @@ const BYTES_FOR_EACH: usize = 128;
 /// Whether to make an index takes less time than to look so many pointers up while the text is read.
 fn are_many(pointers: usize, bytes: usize) -> bool {
     pointers >= MANY && pointers >= bytes / BYTES_FOR_EACH
+}
+
+/// What a string that was read as a pointer comes to in an index: why it is none, or what was answered.
+fn answer_of(unread: Option<PointerFault>, answer: Answer) -> PointerAnswer
+    ensures { result ≡ answer_of unread answer }
+{
+    match unread {
+        Some(fault) => PointerAnswer::Unread(fault),
+        None => match answer {
+            Answer::Found { kind, span, .. } => PointerAnswer::Found { kind, span },
+            Answer::Fault(fault) => PointerAnswer::Lost(fault),
+        },
+    }
+}
+
+/// What strings that were read as pointers come to in an index, in their order.
+fn answers_of(
+    alloc: Global,
+    unread: &[Option<PointerFault>],
+    answered: &[Answer],
+) -> Result<Vec<PointerAnswer>, AllocError>
+    requires { length unread.now ≡ length answered.now }
+    ensures { IfOk result (λ answers. answers.items ≡ each_answer answer_of unread.now answered.now) }
+{
+    let mut answers = Vec::with_capacity(alloc, unread.len())?;
+    for at in 0..unread.len() {
+        answers.push(answer_of(unread[at], answered[at]))?;
+    }
+    Ok(answers)
 }
 
 /// What one pointer comes to in a text that is read once.
@@ -140,8 +171,8 @@ fn answers_in_one_pass(
 }
 
 /// The same settings, but objects may have any names.
-fn with_any_names(settings: &Settings) -> Settings
-    ensures { result ≡ record { depth = settings.now.depth; mark = settings.now.mark; names = Any } }
+pub(crate) fn with_any_names(settings: &Settings) -> Settings
+    ensures { result ≡ any_names settings.now }
 {
     Settings {
         depth: settings.depth,
@@ -164,9 +195,9 @@ fn answers_in_accepted(
     answers_in_one_pass(alloc, &with_any_names(settings), pointers, text)
 }
 
-/// What pointers, in their order, come to in a text by the rule on names, or why it is refused. The crew looks many up in an index. Few are looked up while the calling thread
-/// reads the text. Where names have to be unique it is then read twice: it is judged first, as no pass both compares names and
-/// looks pointers up.
+/// What pointers, in their order, come to in a text by the rule on names, or why it is refused. The crew looks many up in an
+/// index. Few are looked up while the calling thread reads the text. Where names have to be unique it is then read twice: it
+/// is judged first.
 pub fn answers_to_pointers<R: Threads + Wait + Sync, G: Gate + Sync>(
     crew: &Crew<'_, R, G>,
     settings: &Settings,

@@ -9,17 +9,17 @@ ghost use Rattle.jx_report.specs.inside.Batches.{end_of, IsReadingOf, ReadsOn};
 ghost use Rattle.jx_report.specs.inside.PointerReads.{AreSought};
 ghost use Rattle.jx_report.specs.inside.Replies.{reply_exit, reply_output};
 
-use crate::pointer_answer::ReadPointers;
 use crate::pointer_reader::PointerReader;
 use crate::reply::Reply;
-use crate::report_fault::ReportFault;
 use crate::sequence_reader::SequenceReader;
 use jx_answer::{Balance, any_names_change_nothing, read_batch, read_pieces};
 use jx_claim::Cutting;
 use jx_crew::{Crew, Gate};
+use jx_ends::ReportFault;
 use jx_names::NamesReader;
 use jx_run::{NameRule, Reader};
 use jx_task::{Command, Task};
+use jx_words::ReadPointers;
 use std::alloc::{AllocError, Global};
 use std::sync::Wait;
 use std::thread::Threads;
@@ -47,7 +47,7 @@ impl<'p> Reading<'p> {
         command: &Command,
         few: Option<ReadPointers<'p>>,
     ) -> Result<Option<Reading<'p>>, AllocError>
-        requires few { IfSome few (λ read. AreSought command.now.task command.now.settings read.pointers.items read.unread.items) }
+        requires few { IfSome few (λ read. AreSought command.now.task read.pointers.items read.unread.items) }
         ensures begins { IfOk result (λ reading. IfSome reading (IsReadingOf command.now.task command.now.settings [])) }
     {
         if let Some(read) = few {

@@ -1,18 +1,18 @@
 ghost use Rattle.std.specs.Prelude.{◌≡◌, length, IfOk};
 ghost use Rattle.jx_task.specs.declared.task.Task.TheVariants.{Index, Seq};
 ghost use Rattle.jx_report.specs.Output.{Output};
-ghost use Rattle.jx_report.specs.inside.Replies.{reply_exit, reply_output, verdict_exit};
+ghost use Rattle.jx_report.specs.inside.Replies.{reply_exit, reply_output};
 
 use crate::element_words::exit_of_elements;
-use crate::exit::Exit;
-use crate::pointer_answer::{PointerAnswer, exit_of_answers};
 use crate::pointer_reply::reply_for_pointers;
 use jx_answer::{judge_sequence, rows_of_text, verdict_of_text};
 use jx_claim::Cutting;
 use jx_crew::{Crew, Gate};
+use jx_ends::Exit;
 use jx_index::Row;
 use jx_run::{JudgedElement, Settings, Verdict};
 use jx_task::{Command, Task};
+use jx_words::{PointerAnswer, exit_of_answers, exit_of_verdict};
 use std::alloc::AllocError;
 use std::sync::Wait;
 use std::thread::Threads;
@@ -41,16 +41,6 @@ impl Reply {
             Reply::Pointers(answers) => exit_of_answers(answers),
             Reply::Elements(elements) => exit_of_elements(elements),
         }
-    }
-}
-
-/// Good where the text is accepted.
-fn exit_of_verdict(verdict: Verdict) -> Exit
-    ensures { result ≡ verdict_exit verdict }
-{
-    match verdict {
-        Verdict::Accepted => Exit::Good,
-        Verdict::Refused(_) => Exit::Bad,
     }
 }
 

@@ -2,12 +2,9 @@ ghost use Rattle.std.specs.Prelude.{◌≡◌, ◌≢◌, ◌<◌, ◌≤◌, �
 ghost use Rattle.jx_report.specs.Reports.{Reports, ReportsInPart, HasTooManyPieces};
 
 use crate::answering::answer_to_input;
-use crate::exit::Exit;
-use crate::report_fault::ReportFault;
-use crate::sink::Sink;
-use crate::source::Source;
 use crate::writing::show_reply;
 use jx_crew::{Crew, Gate};
+use jx_ends::{Exit, ReportFault, Sink, Source};
 use jx_task::Command;
 use std::alloc::Global;
 use std::sync::Wait;

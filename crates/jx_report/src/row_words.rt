@@ -1,12 +1,12 @@
 // The lines that stand for the rows of a text.
 ghost use Rattle.std.specs.Prelude.{◌≡◌, ◌++◌};
-ghost use Rattle.jx_report.specs.inside.Room.{HasRoom, TakesRoom};
-ghost use Rattle.jx_report.specs.Words.{line};
+ghost use Rattle.jx_words.specs.inside.Room.{HasRoom, TakesRoom};
+ghost use Rattle.jx_words.specs.Words.{line};
 ghost use Rattle.jx_report.specs.RowWords.{node_words, parent_words, name_words, place_words, row_words};
 
-use crate::words::{push_byte, push_kind, push_number, push_span};
 use jx_index::{NodeId, Row};
 use jx_lex::Span;
+use jx_words::{push_byte, push_kind, push_number, push_span};
 
 /// Appends the number of the parent's row, or `-` where there is no parent.
 fn push_parent(out: &mut Vec<u8>, parent: Option<NodeId>)

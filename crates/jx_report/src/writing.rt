@@ -2,26 +2,20 @@
 ghost use Rattle.std.specs.Prelude.{◌≡◌, ◌≢◌, ◌≤◌, ◌↔◌, ◌++◌, ℕ, List, false, true, is_err, vec_capacity, IfErr, IfOk, IsErrOf, OnErr, OnOk};
 ghost use Rattle.std.specs.Io.KnownBytes.{Appends};
 ghost use Rattle.jx_report.specs.Elements.{judged_lines};
-ghost use Rattle.jx_report.specs.Ends.{AppendsBeginning};
-ghost use Rattle.jx_report.specs.inside.Replies.{pointer_lines, reply_exit, reply_output, verdict_line};
-ghost use Rattle.jx_report.specs.inside.Room.{HasRoom, IsPut};
-ghost use Rattle.jx_report.specs.Output.{ByVerdict, SaysAccepted};
-ghost use Rattle.jx_report.specs.Reports.{shown_output};
+ghost use Rattle.jx_ends.specs.Ends.{AppendsBeginning};
+ghost use Rattle.jx_words.specs.inside.Lines.{pointer_lines};
+ghost use Rattle.jx_report.specs.inside.Replies.{reply_exit, reply_output};
+ghost use Rattle.jx_words.specs.inside.Room.{HasRoom, IsPut};
+ghost use Rattle.jx_words.specs.Verdicts.{shown_output};
 ghost use Rattle.jx_report.specs.RowWords.{row_lines};
-ghost use Rattle.jx_report.specs.declared.exit.Exit.{Exit};
 
 use crate::element_words::{element_at, push_element};
-use crate::exit::Exit;
-use crate::pointer_answer::{PointerAnswer, answer_at};
-use crate::pointer_words::push_pointer;
 use crate::reply::Reply;
-use crate::report_fault::ReportFault;
 use crate::row_words::push_row;
-use crate::sink::Sink;
-use crate::words::{push_bytes, push_refusal};
-use crate::write_all::write_all;
+use jx_ends::{Exit, ReportFault, Sink, write_whole};
 use jx_index::Row;
-use jx_run::{JudgedElement, Verdict};
+use jx_run::JudgedElement;
+use jx_words::{PointerAnswer, answer_at, push_bytes, push_pointer, push_verdict};
 use std::alloc::Global;
 
 /// How many bytes the longest line has: that of a row whose numbers have 20 digits each.
@@ -38,22 +32,10 @@ fn make_room<W: Sink>(writer: &mut W, out: &mut Vec<u8>) -> Result<(), ReportFau
     ensures failed { W.has_failed writer.new ≡ is_err result }
 {
     if out.capacity() - out.len() < LONGEST_LINE {
-        write_all(writer, out)?;
+        write_whole(writer, out)?;
         out.clear();
     }
     Ok(())
-}
-
-/// Appends the line of a verdict.
-fn push_verdict(out: &mut Vec<u8>, verdict: Verdict)
-    requires { HasRoom out.old LONGEST_LINE }
-    ensures { out.new.items ≡ out.old.items ++ verdict_line verdict }
-{
-    match verdict {
-        Verdict::Accepted => push_bytes(out, b"accepted"),
-        Verdict::Refused(refusal) => push_refusal(out, refusal),
-    }
-    push_bytes(out, b"\n");
 }
 
 /// Writes the lines of all rows, which are numbered from 0. The last lines may be left in the buffer.
@@ -153,7 +135,7 @@ fn write_reply<W: Sink>(
 {
     let mut out = Vec::with_capacity(alloc, size.max(LONGEST_LINE))?;
     write_lines(writer, &mut out, reply)?;
-    write_all(writer, &out)
+    write_whole(writer, &out)
 }
 
 /// Writes a reply, or nothing where it is quiet, and answers the exit.
@@ -177,25 +159,4 @@ pub(crate) fn show_reply<W: Sink>(
         write_reply(alloc, writer, reply, size)?;
     }
     Ok(reply.exit())
-}
-
-/// Writes the line of a verdict on a text, or nothing where it is quiet, and answers the exit.
-pub fn write_verdict<W: Sink>(
-    alloc: Global,
-    writer: &mut W,
-    verdict: Verdict,
-    quiet: bool,
-) -> Result<Exit, ReportFault>
-    requires { W.has_failed writer.old ≡ false }
-    ensures ok { IfOk result (λ exit. (output : List ℕ) × (ByVerdict SaysAccepted verdict output exit
-        × Appends (W.contents writer.old) (W.contents writer.new) (shown_output quiet output))) }
-    ensures write { IsErrOf result ReportFault.Write ↔ (W.has_failed writer.new ≡ true) }
-    ensures beginning { IsErrOf result ReportFault.Write → (exit : Exit) × ((output : List ℕ) × (ByVerdict SaysAccepted verdict output exit
-        × AppendsBeginning (W.contents writer.old) (W.contents writer.new) (shown_output quiet output))) }
-    // Where the buffer is not to be had, the writer is as it was.
-    ensures unwritten { IfErr result (λ fault. fault ≢ ReportFault.Write → writer.new ≡ writer.old) }
-    ensures unread { IfErr result (λ fault. fault ≢ ReportFault.Read) }
-    ensures uncut { IfErr result (λ fault. fault ≢ ReportFault.Pieces) }
-{
-    show_reply(alloc, writer, &Reply::Verdict(verdict), quiet, LONGEST_LINE)
 }

@@ -1,17 +1,17 @@
 -- How an input is read batch by batch, and what its index gives.
 use Rattle.std.specs.Prelude.{Some, None, Option, Ok, Err, Result}
-use Rattle.std.proofs.Common.{◌≡◌, ℕ, List, [], ◌++◌, refl, sym, ap, ◌∙◌}
+use Rattle.std.proofs.Common.{◌≡◌, ℕ, Bool, List, [], ◌++◌, refl, sym, ap, ◌∙◌}
 use Rattle.std.proofs.lemmas.List.{append-nil}
 use Rattle.std.specs.Io.KnownBytes.{Appends, Consumes}
 use Rattle.std.proofs.KnownBytes.{Consumes-trans}
 use Rattle.jx_run.specs.declared.texts.settings.Settings.{Settings}
 use Rattle.jx_run.specs.declared.texts.verdict.Verdict.TheVariants.{Accepted}
-use Rattle.jx_saved.specs.declared.index.Index.{Index}
-use Rattle.jx_saved.specs.Spelling.{spelt_index}
-use Rattle.jx_report.specs.declared.exit.Exit.TheVariants.{Good}
-use Rattle.jx_report.specs.declared.report_fault.ReportFault.{ReportFault}
-use Rattle.jx_saved_report.specs.declared.saving.Saving.{Saving}
-use Rattle.jx_saved_report.specs.inside.Saving.{Comes, HasReadOn, IsSavingOf}
+use Rattle.jx_saved_names.specs.declared.saved_text.SavedText.{SavedText}
+use Rattle.jx_saved_names.specs.Spelling.{spelt_saved}
+use Rattle.jx_ends.specs.declared.exit.Exit.TheVariants.{Good}
+use Rattle.jx_ends.specs.declared.report_fault.ReportFault.{ReportFault}
+use Rattle.jx_saved_report.specs.declared.naming.TextSaving.{TextSaving}
+use Rattle.jx_saved_report.specs.inside.Saving.{ComesToSaved, HasReadOn, IsTextSavingOf}
 use Rattle.jx_saved_report.specs.Output.{IndexOutput}
 
 abbrev Known : Type 0
@@ -25,20 +25,21 @@ pub appends_none : (w : Known) → Appends w w []
 appends_none None = tt
 appends_none (Some xs) = sym (append-nil xs)
 
-pub goes_on : (settings : Settings) (chunk : ℕ) (u m n : Known) (batch : List ℕ) (old new : Saving) → HasReadOn settings chunk u m old → Consumes m n batch
-    → ((bytes : List ℕ) → IsSavingOf settings chunk bytes old → IsSavingOf settings chunk (bytes ++ batch) new) → HasReadOn settings chunk u n new
-goes_on settings chunk u m n batch old new h r fed = record {
+pub goes_on : (has_names : Bool) (settings : Settings) (chunk : ℕ) (u m n : Known) (batch : List ℕ) (old new : TextSaving) → HasReadOn has_names settings chunk u m old → Consumes m n batch
+    → ((bytes : List ℕ) → IsTextSavingOf has_names settings chunk bytes old → IsTextSavingOf has_names settings chunk (bytes ++ batch) new) → HasReadOn has_names settings chunk u n new
+goes_on has_names settings chunk u m n batch old new h r fed = record {
   text = h.text ++ batch;
   read = Consumes-trans _ _ _ _ _ h.read r;
   of = fed h.text h.of;
 }
 
 -- for a text
-pub gives_index : (settings : Settings) (chunk : ℕ) (text : List ℕ) (index : Index) → Comes settings chunk text (Ok index) → IndexOutput settings chunk text (spelt_index index) [] Good
-gives_index settings chunk text index comes = record {
+pub gives_index : (has_names : Bool) (settings : Settings) (chunk : ℕ) (text : List ℕ) (saved : SavedText) → ComesToSaved has_names settings chunk text (Ok saved)
+    → IndexOutput has_names settings chunk text (spelt_saved saved) [] Good
+gives_index has_names settings chunk text saved comes = record {
   verdict = Accepted;
-  is_verdict = comes.0;
-  gives = record { index = index; is_index = comes.1; written = refl; told = refl; ends = refl };
+  is_verdict = comes.accepted;
+  gives = record { saved = saved; is_index = comes.index; names = comes.names; written = refl; told = refl; ends = refl };
 }
 
 -- ---- faults

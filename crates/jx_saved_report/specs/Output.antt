@@ -1,22 +1,32 @@
 -- What is written and told of an input whose index is saved.
-use Rattle.std.specs.Prelude.{◌≡◌, ℕ, List, [], ◌++◌, codes}
+use Rattle.std.specs.Prelude.{◌≡◌, ℕ, List, [], ◌++◌, Bool, true, false, Option, None, Some, codes}
 use Rattle.jx_run.specs.declared.texts.settings.Settings.{Settings}
 use Rattle.jx_run.specs.declared.texts.verdict.Refusal.{Refusal}
 use Rattle.jx_run.specs.declared.texts.verdict.Verdict.{Verdict}
 use Rattle.jx_run.specs.declared.texts.verdict.Verdict.TheVariants.{Accepted, Refused}
 use Rattle.jx_index.specs.ByNames.{IsVerdictBy}
-use Rattle.jx_saved.specs.declared.index.Index.{Index}
+use Rattle.jx_name_tables.specs.declared.tables.NameTables.{NameTables}
 use Rattle.jx_saved.specs.Index.{IsIndexOf}
-use Rattle.jx_saved.specs.Spelling.{spelt_index}
-use Rattle.jx_report.specs.declared.exit.Exit.{Exit}
-use Rattle.jx_report.specs.declared.exit.Exit.TheVariants.{Good, Bad}
-use Rattle.jx_report.specs.Words.{line, refusal_words}
+use Rattle.jx_saved_names.specs.declared.saved_text.SavedText.{SavedText}
+use Rattle.jx_saved_names.specs.Fed.{HasTables}
+use Rattle.jx_saved_names.specs.Spelling.{spelt_saved}
+use Rattle.jx_ends.specs.declared.exit.Exit.{Exit}
+use Rattle.jx_ends.specs.declared.exit.Exit.TheVariants.{Good, Bad}
+use Rattle.jx_words.specs.Words.{line, refusal_words}
 
--- for a text: the bytes of its index are written, and nothing is told
-pub record GivesIndex (settings : Settings) (chunk : ℕ) (text output tells : List ℕ) (exit : Exit) : Type 0 where
-  pub index : Index
-  pub is_index : IsIndexOf settings chunk text index
-  pub written : output ≡ spelt_index index
+-- tables of the names of a text, where these are asked for, and else none
+abbrev pub HasNames : Bool → Settings → ℕ → List ℕ → Option NameTables → Type 0
+HasNames true settings chunk text (Some tables) = HasTables settings chunk text tables
+HasNames true settings chunk text None = ⊥
+HasNames false settings chunk text (Some tables) = ⊥
+HasNames false settings chunk text None = Unit {0}
+
+-- for a text: the bytes of its index are written, and these tables behind it, and nothing is told
+pub record GivesIndex (has_names : Bool) (settings : Settings) (chunk : ℕ) (text output tells : List ℕ) (exit : Exit) : Type 0 where
+  pub saved : SavedText
+  pub is_index : IsIndexOf settings chunk text saved.index
+  pub names : HasNames has_names settings chunk text saved.names
+  pub written : output ≡ spelt_saved saved
   pub told : tells ≡ []
   pub ends : exit ≡ Good
 
@@ -26,12 +36,12 @@ pub record GivesNoIndex (refusal : Refusal) (output tells : List ℕ) (exit : Ex
   pub told : tells ≡ codes "jx: " ++ line (refusal_words refusal)
   pub ends : exit ≡ Bad
 
-abbrev pub GivesByVerdict : Settings → ℕ → List ℕ → Verdict → List ℕ → List ℕ → Exit → Type 0
-GivesByVerdict settings chunk input Accepted output tells exit = GivesIndex settings chunk input output tells exit
-GivesByVerdict settings chunk input (Refused refusal) output tells exit = GivesNoIndex refusal output tells exit
+abbrev pub GivesByVerdict : Bool → Settings → ℕ → List ℕ → Verdict → List ℕ → List ℕ → Exit → Type 0
+GivesByVerdict has_names settings chunk input Accepted output tells exit = GivesIndex has_names settings chunk input output tells exit
+GivesByVerdict has_names settings chunk input (Refused refusal) output tells exit = GivesNoIndex refusal output tells exit
 
 -- the whole output for an input, all that is told of it, and the exit
-pub record IndexOutput (settings : Settings) (chunk : ℕ) (input output tells : List ℕ) (exit : Exit) : Type 0 where
+pub record IndexOutput (has_names : Bool) (settings : Settings) (chunk : ℕ) (input output tells : List ℕ) (exit : Exit) : Type 0 where
   pub verdict : Verdict
   pub is_verdict : IsVerdictBy settings input verdict
-  pub gives : GivesByVerdict settings chunk input verdict output tells exit
+  pub gives : GivesByVerdict has_names settings chunk input verdict output tells exit

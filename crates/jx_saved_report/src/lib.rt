@@ -1,6 +1,8 @@
-//! The index of a text is saved: the text is read once, and then the bytes of its index are written.
+//! The index of a text is saved, and tables of its names where these are asked for: the text is read once, and then the bytes are
+//! written.
 #![tactic(auto)]
 
+mod naming;
 mod reading;
 mod reporting;
 mod saving;

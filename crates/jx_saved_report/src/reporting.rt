@@ -1,31 +1,33 @@
-// The index of an input is written, or it is told why it has none.
+// What is saved of an input is written, or it is told why nothing is.
 ghost use Rattle.std.specs.Prelude.{◌≡◌, ◌≢◌, ◌↔◌, ◌++◌, true, false, codes, IfOk, IfErr, IsErrOf, OnErr, OnOk};
 ghost use Rattle.std.specs.Io.KnownBytes.{Appends};
-ghost use Rattle.jx_saved.specs.Spelling.{spelt_index};
-ghost use Rattle.jx_report.specs.Ends.{AppendsBeginning};
-ghost use Rattle.jx_report.specs.Words.{line, refusal_words};
+ghost use Rattle.jx_ends.specs.Ends.{AppendsBeginning};
+ghost use Rattle.jx_words.specs.Words.{line, refusal_words};
+ghost use Rattle.jx_saved_names.specs.Spelling.{spelt_saved};
 ghost use Rattle.jx_saved_report.specs.Reports.{ReportsIndex, ReportsIndexInPart};
 
-use crate::reading::read_index;
-use jx_report::{Exit, ReportFault, Sink, Source, add_refusal, write_whole};
+use crate::reading::read_text;
+use jx_ends::{Exit, ReportFault, Sink, Source, write_whole};
 use jx_run::{Refusal, Settings};
-use jx_saved::{ChunkSize, Index};
+use jx_saved::ChunkSize;
+use jx_saved_names::SavedText;
+use jx_words::add_refusal;
 use std::alloc::{AllocError, Global};
 
 /// How many bytes are read at a time, at least. They are looked at before they leave the processor's cache.
 const BATCH: usize = 256 * 1024;
 
-/// Writes the bytes of an index.
-fn write_index<W: Sink>(alloc: Global, writer: &mut W, index: &Index) -> Result<(), ReportFault>
+/// Writes the bytes of what is saved of a text.
+fn write_saved<W: Sink>(alloc: Global, writer: &mut W, saved: &SavedText) -> Result<(), ReportFault>
     requires { W.has_failed writer.old ≡ false }
-    ensures ok { OnOk result (Appends (W.contents writer.old) (W.contents writer.new) (spelt_index index.now)) }
+    ensures ok { OnOk result (Appends (W.contents writer.old) (W.contents writer.new) (spelt_saved saved.now)) }
     ensures write { IsErrOf result ReportFault.Write ↔ (W.has_failed writer.new ≡ true) }
-    ensures beginning { IsErrOf result ReportFault.Write → AppendsBeginning (W.contents writer.old) (W.contents writer.new) (spelt_index index.now) }
+    ensures beginning { IsErrOf result ReportFault.Write → AppendsBeginning (W.contents writer.old) (W.contents writer.new) (spelt_saved saved.now) }
     ensures unwritten { IfErr result (λ fault. fault ≢ ReportFault.Write → writer.new ≡ writer.old) }
     ensures unread { IfErr result (λ fault. fault ≢ ReportFault.Read) }
     ensures uncut { IfErr result (λ fault. fault ≢ ReportFault.Pieces) }
 {
-    let bytes = index.encode(alloc)?;
+    let bytes = saved.encode(alloc)?;
     write_whole(writer, &bytes)
 }
 
@@ -47,12 +49,13 @@ fn tell<E: Sink>(errors: &mut E, told: &[u8])
     }
 }
 
-/// Reads a text to the end of input, and then writes the bytes of its index, for chunks of this size. Of an input that is refused
-/// nothing is written, and `jx: VERDICT` is told. The exit is good where nothing is told.
+/// Reads a text to the end of input, and then writes the bytes of its index, for chunks of this size, with tables of its names
+/// behind it where these are asked for. Of an input that is refused nothing is written, and `jx: VERDICT` is told. The exit is good
+/// where nothing is told.
 ///
 /// Of the input one batch is held, or one chunk where that is longer, and the entries of its chunks, which are 24 bytes for each;
-/// where names have to be unique, also the names of open objects. The bytes of the index are made before the first one is
-/// written. Where telling fails, the exit is the same.
+/// where names have to be unique, also the names of open objects; and with tables four bytes for each name that they have. The bytes
+/// are made before the first one is written. Where telling fails, the exit is the same.
 pub fn report_index<S: Source, W: Sink, E: Sink>(
     alloc: Global,
     reader: &mut S,
@@ -60,26 +63,28 @@ pub fn report_index<S: Source, W: Sink, E: Sink>(
     errors: &mut E,
     settings: &Settings,
     chunk: ChunkSize,
+    has_names: bool,
 ) -> Result<Exit, ReportFault>
     requires reader { S.has_failed reader.old ≡ false }
     requires writer { W.has_failed writer.old ≡ false }
     // All that the reader had was read, and its whole output was written and told.
-    ensures ok { IfOk result (λ exit. ReportsIndex settings.now chunk (S.remaining reader.old) (S.remaining reader.new)
+    ensures ok { IfOk result (λ exit. ReportsIndex has_names settings.now chunk (S.remaining reader.old) (S.remaining reader.new)
         (W.contents writer.old) (W.contents writer.new) (E.has_failed errors.new) (E.contents errors.old) (E.contents errors.new) exit) }
     ensures read { IsErrOf result ReportFault.Read ↔ (S.has_failed reader.new ≡ true) }
     ensures write { IsErrOf result ReportFault.Write ↔ (W.has_failed writer.new ≡ true) }
     // After any other fault the writer is as it was, and after each fault nothing was told.
     ensures unwritten { IfErr result (λ fault. fault ≢ ReportFault.Write → writer.new ≡ writer.old) }
     ensures untold { OnErr result (errors.new ≡ errors.old) }
-    // After a write fault all was read, it is a text, and a beginning of its index was written.
-    ensures beginning { IsErrOf result ReportFault.Write → ReportsIndexInPart settings.now chunk (S.remaining reader.old)
+    // After a write fault all was read, it is a text, and a beginning of its output was written.
+    ensures beginning { IsErrOf result ReportFault.Write → ReportsIndexInPart has_names settings.now chunk (S.remaining reader.old)
         (S.remaining reader.new) (W.contents writer.old) (W.contents writer.new) }
     ensures uncut { IfErr result (λ fault. fault ≢ ReportFault.Pieces) }
 {
-    let read = read_index(alloc, reader, settings, chunk, BATCH.max(chunk.bytes()))?;
+    let batch = BATCH.max(chunk.bytes());
+    let read = read_text(alloc, reader, settings, chunk, has_names, batch)?;
     match read {
-        Ok(index) => {
-            write_index(alloc, writer, &index)?;
+        Ok(saved) => {
+            write_saved(alloc, writer, &saved)?;
             Ok(Exit::Good)
         }
         Err(refusal) => {

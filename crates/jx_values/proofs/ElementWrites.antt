@@ -11,9 +11,9 @@ use Rattle.jx_find.specs.declared.finder.Finder.{Finder}
 use Rattle.jx_each.specs.declared.content.LineContent.{LineContent}
 use Rattle.jx_each.specs.Due.{IsDueBy}
 use Rattle.jx_each.specs.Each.{EachValue, HasTakenBy}
-use Rattle.jx_report.specs.declared.exit.Exit.{Exit}
-use Rattle.jx_report.specs.declared.report_fault.ReportFault.{ReportFault}
-use Rattle.jx_report.specs.Ends.{AppendsBeginning}
+use Rattle.jx_ends.specs.declared.exit.Exit.{Exit}
+use Rattle.jx_ends.specs.declared.report_fault.ReportFault.{ReportFault}
+use Rattle.jx_ends.specs.Ends.{AppendsBeginning}
 use Rattle.jx_values.specs.Elements.{ElementsOutput, ReportsElements, TellsByVerdict, WroteDue, WroteInPart, WroteLines}
 use Rattle.jx_values.specs.Values.{exit_by}
 use Rattle.jx_values.specs.inside.ElementSteps.{IsAllWritten, IsWritten, WritesOn, WritesPart}
@@ -22,7 +22,7 @@ use Rattle.jx_values.specs.inside.Sought.{HasSought, any_names}
 abbrev Known : Type 0
 Known = Option (List ℕ)
 
-consumes_none : (u : Known) → Consumes u u []
+pub consumes_none : (u : Known) → Consumes u u []
 consumes_none None = tt
 consumes_none (Some xs) = refl
 

@@ -5,3 +5,6 @@ mod Lines
 mod Tells
 mod TextSteps
 mod Lookups
+mod Keeps
+mod Holds
+mod Looks

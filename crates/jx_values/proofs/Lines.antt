@@ -4,10 +4,10 @@ use Rattle.std.specs.Prelude.{Option, flat_map}
 use Rattle.std.specs.Io.KnownBytes.{Appends}
 use Rattle.std.proofs.KnownBytes.{Appends-trans}
 use Rattle.std.proofs.lemmas.List.{drop_all, drop_more}
-use Rattle.jx_report.specs.declared.pointer_answer.PointerAnswer.{PointerAnswer}
-use Rattle.jx_report.specs.Ends.{AppendsBeginning}
-use Rattle.jx_report.specs.inside.Room.{IsPut}
-use Rattle.jx_report.proofs.PutSteps.{IsPutUpTo, beginning_of_more, put_in_part, put_more, put_on}
+use Rattle.jx_words.specs.declared.pointer_answer.PointerAnswer.{PointerAnswer}
+use Rattle.jx_ends.specs.Ends.{AppendsBeginning}
+use Rattle.jx_words.specs.inside.Room.{IsPut}
+use Rattle.jx_words.proofs.PutSteps.{IsPutUpTo, beginning_of_more, put_in_part, put_more, put_on}
 use Rattle.jx_values.specs.declared.form.Form.{Form}
 use Rattle.jx_values.specs.Values.{value_line}
 

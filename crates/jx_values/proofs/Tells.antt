@@ -1,7 +1,7 @@
 -- What is told of pointers, one by one.
 use Rattle.std.proofs.Common.{◌≡◌, ℕ, ◌+◌, ◌<◌, ◌≤◌, List, ◌∷◌, ◌++◌, length, drop, get_or, sym, ap, ◌∙◌, append_assoc, append-nil}
 use Rattle.std.proofs.lemmas.List.{drop_all, drop_more}
-use Rattle.jx_report.specs.declared.pointer_answer.PointerAnswer.{PointerAnswer}
+use Rattle.jx_words.specs.declared.pointer_answer.PointerAnswer.{PointerAnswer}
 use Rattle.jx_values.specs.declared.form.Form.{Form}
 use Rattle.jx_values.specs.Values.{told_line, told_lines}
 

@@ -17,11 +17,11 @@ use Rattle.jx_index.specs.Pointers.{tokens}
 use Rattle.jx_each.specs.declared.content.LineContent.{LineContent}
 use Rattle.jx_each.specs.declared.content.LineContent.TheVariants.{Alone, Named}
 use Rattle.jx_each.specs.Due.{IsDueBy}
-use Rattle.jx_report.specs.declared.exit.Exit.{Exit}
-use Rattle.jx_report.specs.declared.pointer_answer.PointerAnswer.TheVariants.{Lost}
-use Rattle.jx_report.specs.Ends.{ReadsToEnd, AppendsBeginning}
-use Rattle.jx_report.specs.Pointers.{answer_words}
-use Rattle.jx_report.specs.Words.{line, refusal_words}
+use Rattle.jx_ends.specs.declared.exit.Exit.{Exit}
+use Rattle.jx_words.specs.declared.pointer_answer.PointerAnswer.TheVariants.{Lost}
+use Rattle.jx_ends.specs.Ends.{ReadsToEnd, AppendsBeginning}
+use Rattle.jx_words.specs.Pointers.{answer_words}
+use Rattle.jx_words.specs.Words.{line, refusal_words}
 use Rattle.jx_values.specs.Values.{exit_by}
 
 -- ---- of an input

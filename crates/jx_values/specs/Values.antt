@@ -12,12 +12,12 @@ use Rattle.jx_index.specs.ByNames.{IsVerdictBy}
 use Rattle.jx_string.specs.Texts.{text_of}
 use Rattle.jx_compact.specs.Compact.{compact}
 use Rattle.jx_task.specs.declared.values_task.ValuesTask.{ValuesTask}
-use Rattle.jx_report.specs.declared.exit.Exit.{Exit}
-use Rattle.jx_report.specs.declared.exit.Exit.TheVariants.{Good, Bad}
-use Rattle.jx_report.specs.declared.pointer_answer.PointerAnswer.{PointerAnswer}
-use Rattle.jx_report.specs.declared.pointer_answer.PointerAnswer.TheVariants.{Found, Unread, Lost}
-use Rattle.jx_report.specs.Pointers.{IsAnswerTo, answer_words}
-use Rattle.jx_report.specs.Words.{line, refusal_words}
+use Rattle.jx_ends.specs.declared.exit.Exit.{Exit}
+use Rattle.jx_ends.specs.declared.exit.Exit.TheVariants.{Good, Bad}
+use Rattle.jx_words.specs.declared.pointer_answer.PointerAnswer.{PointerAnswer}
+use Rattle.jx_words.specs.declared.pointer_answer.PointerAnswer.TheVariants.{Found, Unread, Lost}
+use Rattle.jx_words.specs.Pointers.{IsAnswerTo, answer_words}
+use Rattle.jx_words.specs.Words.{line, refusal_words}
 use Rattle.jx_values.specs.declared.form.Form.{Form}
 
 -- ---- of one value

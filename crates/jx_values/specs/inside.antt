@@ -1,5 +1,7 @@
 -- What the contracts of this crate's own functions cite, and no public one.
 pub mod Characters
 pub mod ElementSteps
+pub mod Kept
+pub mod Moved
 pub mod Replies
 pub mod Sought

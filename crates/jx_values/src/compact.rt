@@ -1,11 +1,11 @@
 // The compact form of values is written through the same buffer, chunk by chunk.
 ghost use Rattle.std.specs.Prelude.{◌≡◌, ◌+◌, ◌≤◌, ◌++◌, false, is_err, length, vec_capacity, IfErr, IfOk, OnErr, OnOk};
 ghost use Rattle.jx_compact.specs.Compact.{compact, compact_from, place_behind};
-ghost use Rattle.jx_report.specs.Ends.{AppendsBeginning};
-ghost use Rattle.jx_report.specs.inside.Room.{HasRoom, IsPut};
+ghost use Rattle.jx_ends.specs.Ends.{AppendsBeginning};
+ghost use Rattle.jx_words.specs.inside.Room.{HasRoom, IsPut};
 
 use jx_compact::{Place, compact_onto};
-use jx_report::{ReportFault, Sink, write_whole};
+use jx_ends::{ReportFault, Sink, write_whole};
 
 /// How many bytes of a value are made compact at a time. The buffer has room for as many.
 pub(crate) const CHUNK: usize = 4096;

@@ -11,7 +11,7 @@ use crate::telling::{exit_by, tell};
 use jx_crew::{Crew, Gate};
 use jx_each::{Each, LineContent, nothing_is_due_of_no_byte, what_is_taken_is_due};
 use jx_each_batch::feed_shared;
-use jx_report::{Exit, ReportFault, Sink, Source, write_whole};
+use jx_ends::{Exit, ReportFault, Sink, Source, write_whole};
 use jx_run::Settings;
 use std::sync::Wait;
 use std::thread::Threads;

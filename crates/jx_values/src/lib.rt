@@ -5,6 +5,7 @@
 mod compact;
 mod elements;
 mod form;
+mod kept;
 mod laws;
 mod putting;
 mod raw;
@@ -13,6 +14,7 @@ mod reporting;
 mod sought;
 mod telling;
 mod value;
+mod value_reader;
 mod writing;
 
 pub use elements::report_elements;

@@ -1,9 +1,9 @@
 // Bytes wait to be written in a buffer that does not grow. What it has no room for is written from where it stands.
 ghost use Rattle.std.specs.Prelude.{◌≡◌, ◌+◌, ◌≤◌, ◌++◌, false, is_err, length, vec_capacity, vec_len, IfErr, OnErr, OnOk};
-ghost use Rattle.jx_report.specs.Ends.{AppendsBeginning};
-ghost use Rattle.jx_report.specs.inside.Room.{IsPut};
+ghost use Rattle.jx_ends.specs.Ends.{AppendsBeginning};
+ghost use Rattle.jx_words.specs.inside.Room.{IsPut};
 
-use jx_report::{ReportFault, Sink, write_whole};
+use jx_ends::{ReportFault, Sink, write_whole};
 
 /// Appends bytes where there is room for them.
 fn add(out: &mut Vec<u8>, bytes: &[u8])

@@ -2,14 +2,14 @@
 ghost use Rattle.std.specs.Prelude.{◌≡◌, ◌≤◌, ◌++◌, [], false, is_err, unwrap_or, vec_capacity, IfErr, OnErr, OnOk};
 ghost use Rattle.std.specs.Char.{encode_utf8};
 ghost use Rattle.std.specs.Char.Utf16.{utf16_chars};
-ghost use Rattle.jx_report.specs.Ends.{AppendsBeginning};
-ghost use Rattle.jx_report.specs.inside.Room.{IsPut};
+ghost use Rattle.jx_ends.specs.Ends.{AppendsBeginning};
+ghost use Rattle.jx_words.specs.inside.Room.{IsPut};
 ghost use Rattle.jx_string.specs.Texts.{string_units, text_of};
 ghost use Rattle.jx_values.specs.inside.Characters.{spelt_characters};
 
 use crate::compact::CHUNK;
 use crate::putting::put;
-use jx_report::{ReportFault, Sink};
+use jx_ends::{ReportFault, Sink};
 use jx_string::{Characters, has_text};
 
 /// Writes the UTF-8 of a character behind what waits in the buffer.

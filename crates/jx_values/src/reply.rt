@@ -6,8 +6,10 @@ use crate::form::Form;
 use crate::telling::{told_of_answers, told_of_refusal};
 use jx_claim::Cutting;
 use jx_crew::{Crew, Gate};
-use jx_report::{PointerAnswer, ReportFault, answers_to_pointers};
+use jx_ends::ReportFault;
+use jx_report::answers_to_pointers;
 use jx_task::ValuesTask;
+use jx_words::PointerAnswer;
 use std::sync::Wait;
 use std::thread::Threads;
 
@@ -18,6 +20,13 @@ pub struct Reply {
     pub answers: Vec<PointerAnswer>,
     /// What is told.
     pub told: Vec<u8>,
+}
+
+/// A reply, and bytes of the text, among which the answers have their spans: all of them, or those of the value that is written.
+#[derive(Drop)]
+pub struct Held {
+    pub text: Vec<u8>,
+    pub reply: Reply,
 }
 
 /// The reply on a text.

@@ -1,12 +1,20 @@
-ghost use Rattle.std.specs.Prelude.{◌≡◌, ◌≢◌, ◌≤◌, ◌↔◌, true, false, IfOk, IfErr, IsErrOf, OnErr};
+ghost use Rattle.std.specs.Prelude.{◌≡◌, ◌≢◌, ◌<◌, ◌≤◌, ◌↔◌, ◌∷◌, [], length, map, string_bytes, true, false, IfOk, IfErr, IfSome, IsErrOf, OnErr, OnOk};
+ghost use Rattle.jx_run.specs.declared.texts.settings.NameRule.TheVariants.{Any};
+ghost use Rattle.jx_index.specs.Pointers.{IsPointer};
+ghost use Rattle.jx_report.specs.Reports.{greatest_length};
 ghost use Rattle.jx_values.specs.Reports.{IsTooLong, ReportsValues, ReportsValuesInPart};
+ghost use Rattle.jx_values.specs.inside.Kept.{IsAllRead, IsHeldAnswer, IsValueRead};
 
 use crate::form::Form;
-use crate::reply::reply_on;
+use crate::reply::{Held, reply_on};
 use crate::telling::{exit_by, tell};
+use crate::value_reader::ValueReader;
 use crate::writing::write_values;
+use jx_claim::Cutting;
 use jx_crew::{Crew, Gate};
-use jx_report::{Exit, ReportFault, Sink, Source, read_to_end};
+use jx_ends::{Exit, ReportFault, Sink, Source, read_to_end};
+use jx_index::Pointer;
+use jx_run::{NameRule, Settings};
 use jx_task::ValuesTask;
 use std::alloc::Global;
 use std::sync::Wait;
@@ -15,12 +23,139 @@ use std::thread::Threads;
 /// How many bytes are written at a time, where values are shorter.
 const BUFFER: usize = 64 * 1024;
 
+/// How many bytes are read at a time, at most, where one pointer is looked up. What is read is looked at before it leaves the
+/// processor's cache.
+const STEP: usize = 256 * 1024;
+
+/// The pointer of a task that asks for one alone, where the string is one and objects may have any names.
+fn only_pointer(task: &ValuesTask) -> Option<&str>
+    ensures only { IfSome result (λ pointer. map string_bytes task.now.pointers.items ≡ pointer.now ∷ []) }
+    ensures is_pointer { IfSome result (λ pointer. IsPointer pointer.now) }
+    ensures any { IfSome result (λ _. task.now.settings.names ≡ Any) }
+{
+    match (task.pointers.as_slice(), task.settings.names) {
+        ([pointer], NameRule::Any) => match Pointer::read(pointer.as_str()) {
+            Ok(_) => Some(pointer.as_str()),
+            Err(_) => None,
+        },
+        _ => None,
+    }
+}
+
+/// Reads to the end of input, and looks the pointer up in what each read gives.
+fn look_up_all<S: Source>(
+    reader: &mut S,
+    value: &mut ValueReader<'_>,
+    settings: &Settings,
+    pointer: &str,
+    buffer: &mut [u8],
+) -> Result<(), ReportFault>
+    requires reader { S.has_failed reader.old ≡ false }
+    requires room { 0 < length buffer.old }
+    requires looked { IsValueRead settings.now pointer.now [] value.old }
+    ensures ok { OnOk result (IsAllRead settings.now pointer.now (S.remaining reader.old) (S.remaining reader.new) value.new) }
+    ensures read { IsErrOf result ReportFault.Read ↔ (S.has_failed reader.new ≡ true) }
+    ensures going { OnOk result (S.has_failed reader.new ≡ false) }
+    ensures unwritten { IfErr result (λ fault. fault ≢ ReportFault.Write) }
+    ensures uncut { IfErr result (λ fault. fault ≢ ReportFault.Pieces) }
+{
+    for _ in 0..u64::MAX {
+        match reader.read(buffer) {
+            Ok(0) => return Ok(()),
+            Ok(count) => value.read(&buffer[..count])?,
+            Err(_) => return Err(ReportFault::Read),
+        }
+    }
+    Err(ReportFault::Memory)
+}
+
+/// Whether so many bytes make no more pieces than there may be.
+fn count_pieces(len: usize, piece: usize) -> Result<(), ReportFault>
+    requires { 1 ≤ piece }
+    ensures few { IfOk result (λ _. len ≤ greatest_length piece) }
+    ensures pieces { IsErrOf result ReportFault.Pieces → greatest_length piece < len }
+    ensures unread { IfErr result (λ fault. fault ≢ ReportFault.Read) }
+    ensures unwritten { IfErr result (λ fault. fault ≢ ReportFault.Write) }
+{
+    let Ok(_) = Cutting::every(len, piece) else {
+        return Err(ReportFault::Pieces);
+    };
+    Ok(())
+}
+
+/// Reads to the end of input, and answers the only pointer of a task, while what is read is let go but for its value.
+fn held_for_one<S: Source>(
+    alloc: Global,
+    reader: &mut S,
+    form: Form,
+    task: &ValuesTask,
+    pointer: &str,
+) -> Result<Held, ReportFault>
+    requires reader { S.has_failed reader.old ≡ false }
+    requires only { map string_bytes task.now.pointers.items ≡ pointer.now ∷ [] }
+    requires any { task.now.settings.names ≡ Any }
+    requires pointer { IsPointer pointer.now }
+    requires piece { 1 ≤ task.now.piece }
+    ensures ok { IfOk result (IsHeldAnswer form task.now (S.remaining reader.old) (S.remaining reader.new)) }
+    ensures read { IsErrOf result ReportFault.Read ↔ (S.has_failed reader.new ≡ true) }
+    ensures unwritten { IfErr result (λ fault. fault ≢ ReportFault.Write) }
+    ensures pieces { IsErrOf result ReportFault.Pieces → IsTooLong task.now.piece (S.remaining reader.old) (S.remaining reader.new) }
+{
+    let settings = &task.settings;
+    let mut value = ValueReader::new(alloc, settings, pointer)?;
+    let mut buffer: Vec<u8> = vec![in alloc; 0; STEP]?;
+    look_up_all(reader, &mut value, settings, pointer, &mut buffer)?;
+    count_pieces(value.end(), task.piece)?;
+    let held = value.into_held(form, pointer)?;
+    Ok(held)
+}
+
+/// Reads to the end of input, holds all of it, and answers the pointers of a task.
+fn held_for_all<R: Threads + Wait + Sync, S: Source, G: Gate + Sync>(
+    crew: &Crew<'_, R, G>,
+    reader: &mut S,
+    form: Form,
+    task: &ValuesTask,
+) -> Result<Held, ReportFault>
+    requires reader { S.has_failed reader.old ≡ false }
+    requires piece { 1 ≤ task.now.piece }
+    ensures ok { IfOk result (IsHeldAnswer form task.now (S.remaining reader.old) (S.remaining reader.new)) }
+    ensures read { IsErrOf result ReportFault.Read ↔ (S.has_failed reader.new ≡ true) }
+    ensures unwritten { IfErr result (λ fault. fault ≢ ReportFault.Write) }
+    ensures pieces { IsErrOf result ReportFault.Pieces → IsTooLong task.now.piece (S.remaining reader.old) (S.remaining reader.new) }
+{
+    let text = read_to_end(crew.alloc, reader)?;
+    let reply = reply_on(crew, form, task, &text)?;
+    Ok(Held { text, reply })
+}
+
+/// Reads to the end of input, and answers the pointers of a task.
+fn held_for<R: Threads + Wait + Sync, S: Source, G: Gate + Sync>(
+    crew: &Crew<'_, R, G>,
+    reader: &mut S,
+    form: Form,
+    task: &ValuesTask,
+) -> Result<Held, ReportFault>
+    requires reader { S.has_failed reader.old ≡ false }
+    requires piece { 1 ≤ task.now.piece }
+    ensures ok { IfOk result (IsHeldAnswer form task.now (S.remaining reader.old) (S.remaining reader.new)) }
+    ensures read { IsErrOf result ReportFault.Read ↔ (S.has_failed reader.new ≡ true) }
+    ensures unwritten { IfErr result (λ fault. fault ≢ ReportFault.Write) }
+    ensures pieces { IsErrOf result ReportFault.Pieces → IsTooLong task.now.piece (S.remaining reader.old) (S.remaining reader.new) }
+{
+    match only_pointer(task) {
+        Some(pointer) => held_for_one(crew.alloc, reader, form, task, pointer),
+        None => held_for_all(crew, reader, form, task),
+    }
+}
+
 /// Reads to the end of input, looks pointers up in it, and writes a line for each, in their order: the bytes of its value, their
 /// compact form, or where texts are asked for that of a string. The line is empty where there is none of these. Behind that it
 /// tells why, by a line `jx: POINTER: ANSWER`. Of a text that is refused nothing is written, and `jx: VERDICT` is told. The exit is
 /// good where nothing is told.
 ///
-/// The text is held, and values are written from where they stand in it. No memory is taken once the first byte is written.
+/// The text is held, or of a single pointer its value while it is read, where objects may have any names. Values are written from
+/// where they stand in it. No memory is taken once the first byte is written.
 /// Where telling fails, no more is told, and the exit is the same. Many pointers are looked up in an index by the workers. Where
 /// names have to be unique and pointers are few, the workers judge the text first. They ask the gate; a thread that reads alone
 /// asks nothing.
@@ -58,9 +193,8 @@ pub fn report_values<R: Threads + Wait + Sync, S: Source, W: Sink, E: Sink, G: G
         workers: task.workers,
         gate,
     };
-    let text = read_to_end(alloc, reader)?;
-    let reply = reply_on(&crew, form, task, &text)?;
-    write_values(alloc, writer, form, &text, &reply.answers, BUFFER)?;
-    tell(errors, &reply.told);
-    Ok(exit_by(&reply.told))
+    let held = held_for(&crew, reader, form, task)?;
+    write_values(alloc, writer, form, &held.text, &held.reply.answers, BUFFER)?;
+    tell(errors, &held.reply.told);
+    Ok(exit_by(&held.reply.told))
 }

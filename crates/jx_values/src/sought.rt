@@ -1,5 +1,5 @@
 // What the pointer to a container leads to, looked up while elements are written, and what is told of it.
-ghost use Rattle.std.specs.Prelude.{◌≡◌, ◌++◌, ◌∷◌, [], ℕ, List, IfOk, OnOk, codes, decimal, slice_get};
+ghost use Rattle.std.specs.Prelude.{◌≡◌, ◌++◌, ◌∷◌, [], ℕ, List, IfOk, OnOk, slice_get};
 ghost use Rattle.jx_run.specs.declared.texts.settings.Settings.{Settings};
 ghost use Rattle.jx_run.specs.Settings.{JudgedBy};
 ghost use Rattle.jx_index.specs.Pointers.{IsPointer};
@@ -11,13 +11,12 @@ ghost use Rattle.jx_values.specs.Elements.{TellsByVerdict, told_of_fault, told_o
 ghost use Rattle.jx_values.specs.inside.Sought.{HasSought, TellsFound, any_names, sought_of, told_of_root};
 
 use crate::telling::told_of_refusal;
-use itoa::Buffer;
 use jx_each::{Each, LineContent};
 use jx_find::Finder;
 use jx_index::{FindFault, Found, Pointer};
 use jx_lex::Kind;
-use jx_report::{PointerAnswer, add_answer};
 use jx_run::{NameRule, Settings, Verdict};
+use jx_words::{PointerAnswer, add_answer, add_number};
 use std::alloc::{AllocError, Global};
 
 /// The look-up of a pointer in the bytes that are read, where it has tokens: what its root comes to is told without one.
@@ -45,14 +44,6 @@ fn told_of_named(alloc: Global, kind: Kind, tokens: usize) -> Result<Vec<u8>, Al
             told_of_no_object(alloc, tokens)
         }
     }
-}
-
-/// Appends a number in plain decimal.
-fn add_number(out: &mut Vec<u8>, number: usize) -> Result<(), AllocError>
-    ensures { OnOk result (out.new.items ≡ out.old.items ++ decimal number) }
-{
-    let mut buffer = Buffer::new();
-    out.extend_from_slice(buffer.format(number).as_bytes())
 }
 
 /// What is told of a pointer of so many tokens that leads to no object.
@@ -117,7 +108,7 @@ fn told_of_root(alloc: Global, is_container: bool) -> Result<Vec<u8>, AllocError
 }
 
 /// The first answer, if there is one.
-fn first_of(found: &[Result<Found, FindFault>]) -> Option<Result<Found, FindFault>>
+pub(crate) fn first_of(found: &[Result<Found, FindFault>]) -> Option<Result<Found, FindFault>>
     ensures { result ≡ slice_get found.now 0 }
 {
     match found.get(0) {
@@ -172,7 +163,10 @@ pub(crate) fn told_of_elements(
 }
 
 /// A pointer.
-fn one_pointer<'p>(alloc: Global, pointer: &'p str) -> Result<Vec<Pointer<'p>>, AllocError>
+pub(crate) fn one_pointer<'p>(
+    alloc: Global,
+    pointer: &'p str,
+) -> Result<Vec<Pointer<'p>>, AllocError>
     requires { IsPointer pointer.now }
     ensures { IfOk result (λ pointers. pointers.items ≡ pointer.now ∷ []) }
 {

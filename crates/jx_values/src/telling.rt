@@ -1,14 +1,15 @@
 // What is told of a text, or of pointers for which nothing is written.
 ghost use Rattle.std.specs.Prelude.{◌≡◌, ◌<◌, ◌++◌, Some, true, false, codes, length, map, slice_get, string_bytes, IfOk, OnOk};
 ghost use Rattle.std.specs.Io.KnownBytes.{Appends};
-ghost use Rattle.jx_report.specs.Words.{line, refusal_words};
+ghost use Rattle.jx_words.specs.Words.{line, refusal_words};
 ghost use Rattle.jx_values.specs.Values.{exit_by, told_line, told_lines, told_of_value, value_written};
 
 use crate::form::Form;
 use crate::value::{bytes_at, is_written};
+use jx_ends::{Exit, Sink, write_whole};
 use jx_lex::Kind;
-use jx_report::{Exit, PointerAnswer, Sink, add_answer, add_refusal, write_whole};
 use jx_run::Refusal;
+use jx_words::{PointerAnswer, add_answer, add_refusal};
 use std::alloc::{AllocError, Global};
 
 /// What is told of a text that is refused.

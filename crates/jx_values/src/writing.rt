@@ -1,8 +1,8 @@
 // Values are written through one buffer, which is taken before the first byte is written and does not grow.
 ghost use Rattle.std.specs.Prelude.{◌≡◌, ◌≢◌, ◌≤◌, ◌↔◌, ◌++◌, [], false, true, flat_map, is_err, unwrap_or, vec_capacity, IfErr, IsErrOf, OnErr, OnOk};
 ghost use Rattle.std.specs.Io.KnownBytes.{Appends};
-ghost use Rattle.jx_report.specs.Ends.{AppendsBeginning};
-ghost use Rattle.jx_report.specs.inside.Room.{IsPut};
+ghost use Rattle.jx_ends.specs.Ends.{AppendsBeginning};
+ghost use Rattle.jx_words.specs.inside.Room.{IsPut};
 ghost use Rattle.jx_values.specs.Values.{formed, value_line, value_written, written};
 
 use crate::compact::{CHUNK, put_compact};
@@ -11,8 +11,9 @@ use crate::putting::put;
 use crate::raw::put_text;
 use crate::telling::answer_at;
 use crate::value::{bytes_at, is_string};
+use jx_ends::{ReportFault, Sink, write_whole};
 use jx_lex::Kind;
-use jx_report::{PointerAnswer, ReportFault, Sink, write_whole};
+use jx_words::PointerAnswer;
 use std::alloc::Global;
 
 /// Writes the bytes of a value, or their compact form, behind what waits in the buffer.

@@ -111,10 +111,21 @@ impl<'a, 'p> Walk<'a, 'p> {
             → HasCome settings chunk text pointers.entry.items walk) }
     {
         let walk = Walk::new(alloc, index, pointers)?;
-        let numbers = numbers_of(alloc, &walk.edges)?;
+        walk.by_names(tables)
+    }
+
+    /// The walk as far as it has come, from now on by the tables of the text's names. `Err` where memory is refused.
+    pub fn by_names(self, tables: &'a NameTables) -> Result<Walk<'a, 'p>, AllocError>
+        ensures index { IfOk result (λ walk. walk.index.now ≡ self.entry.index.now) }
+        ensures value { IfOk result (λ walk. paused_of walk ≡ paused_of self.entry) }
+        ensures needed { IfOk result (λ walk. needed walk ≡ needed self.entry) }
+        ensures come { IfOk result (λ walk. (settings : Settings) (chunk : ℕ) (text : List ℕ) (pointers : List (List ℕ)) → HasCome settings chunk text pointers self.entry → AreTablesOf settings chunk text tables.now
+            → HasCome settings chunk text pointers walk) }
+    {
+        let numbers = numbers_of(self.alloc, &self.edges)?;
         Ok(Walk {
             names: Some(TextNames { tables, numbers }),
-            ..walk
+            ..self
         })
     }
 

@@ -1,5 +1,4 @@
 pub mod Chunks
-pub mod Kept
 pub mod LineSteps
 pub mod Parts
 pub mod Reports

@@ -1,19 +1,25 @@
 -- What is written and told by an index that was read.
-use Rattle.std.specs.Prelude.{Option, Some, Result, Ok, Err, IfErr, Vec}
-use Rattle.std.proofs.Common.{◌≡◌, ℕ, List, refl, sym, ap, subst, ◌∙◌}
+use Rattle.std.specs.Prelude.{Option, None, Some, Result, Ok, Err, IfErr, Vec, slice_get}
+use Rattle.std.proofs.Common.{◌≡◌, ℕ, zero, suc, List, [], ◌∷◌, refl, sym, ap, subst, ◌∙◌}
 use Rattle.std.specs.declared.alloc.Global.{Global}
 use Rattle.jx_run.specs.declared.texts.settings.Settings.{Settings}
 use Rattle.jx_saved.specs.declared.entry.Entry.{Entry}
 use Rattle.jx_saved.specs.declared.index.Index.{Index}
 use Rattle.jx_saved.specs.Chunks.{IsCount, entries_of}
 use Rattle.jx_saved.specs.Index.{AreLevels, IsIndexOf}
-use Rattle.jx_saved.specs.Saved.{IsSavable, SaysSame}
-use Rattle.jx_saved.specs.Spelling.{spelt_index}
-use Rattle.jx_report.specs.declared.exit.Exit.{Exit}
-use Rattle.jx_report.specs.declared.exit.Exit.TheVariants.{Good}
-use Rattle.jx_report.specs.declared.pointer_answer.PointerAnswer.{PointerAnswer}
-use Rattle.jx_report.specs.Answers.{AreAnswersIn}
-use Rattle.jx_report.specs.inside.Replies.{exit_past_lines, pointer_lines}
+use Rattle.jx_saved.specs.Saved.{SaysSame}
+use Rattle.jx_name_tables.specs.declared.tables.NameTable.{NameTable}
+use Rattle.jx_name_tables.specs.declared.tables.NameTables.{NameTables}
+use Rattle.jx_name_tables.specs.Tables.{AreTablesOf, IsTableOf}
+use Rattle.jx_saved_names.specs.declared.saved_text.SavedText.{SavedText}
+use Rattle.jx_saved_names.specs.Fed.{KeepsNames}
+use Rattle.jx_saved_names.specs.Saved.{IsSavableToo, SaysSameToo, SaysTable, SayNames, SayTables}
+use Rattle.jx_saved_names.specs.Spelling.{spelt_saved}
+use Rattle.jx_ends.specs.declared.exit.Exit.{Exit}
+use Rattle.jx_ends.specs.declared.exit.Exit.TheVariants.{Good}
+use Rattle.jx_words.specs.declared.pointer_answer.PointerAnswer.{PointerAnswer}
+use Rattle.jx_words.specs.Answers.{AreAnswersIn}
+use Rattle.jx_words.specs.inside.Lines.{exit_past_lines, pointer_lines}
 use Rattle.jx_report.specs.Output.{AnswersPointers, TextOutput}
 use Rattle.jx_report.proofs.PointerReplies.{reply_is}
 use Rattle.jx_walk_report.specs.declared.look_fault.LookFault.{LookFault}
@@ -21,7 +27,7 @@ use Rattle.jx_walk_report.specs.declared.look_fault.LookFault.TheVariants.{Chang
 use Rattle.jx_walk_report.specs.inside.Faults.{IsChange}
 use Rattle.jx_walk_report.specs.Looked.{AreAnswersBySaved, IsReadOf}
 use Rattle.jx_walk_report.specs.Reports.{ArePlaces, FailsFor, IsOfText}
-use Rattle.jx_walk_report.specs.Saved.{IsSavedOf, TellsApart}
+use Rattle.jx_walk_report.specs.Saved.{IsKeptOf, IsSavedOf, TellsApart}
 
 -- an index that says what the index of a text says is that of the text
 is_of : (settings : Settings) (chunk : ℕ) (text : List ℕ) (a b : Index) → SaysSame a b → IsIndexOf settings chunk text b → IsIndexOf settings chunk text a
@@ -37,24 +43,53 @@ is_of settings chunk text a b same is = record {
       (subst (λ (es : List Entry). AreLevels (entries_of settings chunk text is.count) es b.top) (sym same.entries) is.levels);
 }
 
-abbrev pub Reads : Option (List ℕ) → Index → Type 0
-Reads saved index = (i : Index) → IsSavable i → saved ≡ Some (spelt_index i) → SaysSame index i
+-- tables that say what those of a text say have its names too
+record HasSame (others : List NameTable) (block : ℕ) (one : NameTable) : Type 0 where
+  other : NameTable
+  is : slice_get others block ≡ Some other
+  says : SaysTable one other
 
--- what was read of the index of a text is its index
-pub read_is : (saved : Option (List ℕ)) (index : Index) → Reads saved index → (settings : Settings) (chunk : ℕ) (text bytes : List ℕ) → IsSavedOf settings chunk text bytes → saved ≡ Some bytes
-    → IsIndexOf settings chunk text index
-read_is saved index reads settings chunk text bytes s e = is_of settings chunk text index s.index (reads s.index s.savable (e ∙ ap Some s.spelt)) s.is_index
+same_at : (ones others : List NameTable) (block : ℕ) (one : NameTable) → SayTables ones others → slice_get ones block ≡ Some one → HasSame others block one
+same_at [] others block one say e = absurd (cc)
+same_at (x ∷ ones) [] block one say e = absurd say
+same_at (x ∷ ones) (y ∷ others) zero one say e = record { other = y; is = refl; says = subst (λ (t : NameTable). SaysTable t y) (let h : x ≡ one = cc in h) say.0 }
+same_at (x ∷ ones) (y ∷ others) (suc block) one say e = let h = same_at ones others block one say.1 e in record { other = h.other; is = h.is; says = h.says }
+
+names_of : (settings : Settings) (chunk : ℕ) (text : List ℕ) (a b : Option NameTables) → SayNames a b → KeepsNames settings chunk text b → KeepsNames settings chunk text a
+names_of settings chunk text None None say keeps = tt
+names_of settings chunk text None (Some b) say keeps = tt
+names_of settings chunk text (Some a) None say keeps = absurd say
+names_of settings chunk text (Some a) (Some b) say keeps = record {
+  count = keeps.count;
+  counted = keeps.counted;
+  begun = keeps.begun;
+  names = keeps.names;
+  named = keeps.named;
+  each = λ block table is kept.
+      let h = same_at a.tables.items b.tables.items block table say is in
+      subst (λ (keys : List ℕ). IsTableOf keeps.names block keys) (sym h.says.1) (keeps.each block h.other h.is (sym h.says.0 ∙ kept));
+}
+
+abbrev pub Reads : Option (List ℕ) → SavedText → Type 0
+Reads known read = (s : SavedText) → IsSavableToo s → known ≡ Some (spelt_saved s) → SaysSameToo read s
+
+-- what was read of what is saved of a text is so of the text
+pub read_is : (known : Option (List ℕ)) (read : SavedText) → Reads known read → (settings : Settings) (chunk : ℕ) (text bytes : List ℕ) → IsSavedOf settings chunk text bytes → known ≡ Some bytes
+    → IsKeptOf settings chunk text read
+read_is known read reads settings chunk text bytes s e =
+    let same = reads s.saved s.savable (e ∙ ap Some s.spelt) in
+    record { index = is_of settings chunk text read.index s.saved.index same.index s.kept.index; names = names_of settings chunk text read.names s.saved.names same.names s.kept.names }
 
 -- ---- what is written
 
-abbrev Answers : List (List ℕ) → Option (List ℕ) → Index → List PointerAnswer → Type 0
-Answers pointers content index answers = (settings : Settings) (chunk : ℕ) (text all : List ℕ) → IsIndexOf settings chunk text index → content ≡ Some all → TellsApart chunk text all
+abbrev Answers : List (List ℕ) → Option (List ℕ) → SavedText → List PointerAnswer → Type 0
+Answers pointers content read answers = (settings : Settings) (chunk : ℕ) (text all : List ℕ) → IsKeptOf settings chunk text read → content ≡ Some all → TellsApart chunk text all
     → AreAnswersIn settings text pointers answers
 
-pub looked : (pointers : List (List ℕ)) (saved content : Option (List ℕ)) (index : Index) (answers : List PointerAnswer) → Reads saved index → Answers pointers content index answers
+pub looked : (pointers : List (List ℕ)) (saved content : Option (List ℕ)) (read : SavedText) (answers : List PointerAnswer) → Reads saved read → Answers pointers content read answers
     → AreAnswersBySaved pointers saved content answers
-looked pointers saved content index answers reads answered = λ settings chunk text bytes file s of is tells.
-    answered settings chunk text file (read_is saved index reads settings chunk text bytes s of) is tells
+looked pointers saved content read answers reads answered = λ settings chunk text bytes file s of is tells.
+    answered settings chunk text file (read_is saved read reads settings chunk text bytes s of) is tells
 
 pub places : (pointers : List (List ℕ)) (saved content : Option (List ℕ)) (answers : Vec PointerAnswer Global) (exit : Exit) → AreAnswersBySaved pointers saved content answers.items
     → exit ≡ exit_past_lines Good answers.items → ArePlaces pointers saved content (pointer_lines answers.items) exit
@@ -64,16 +99,16 @@ places pointers saved content answers exit answered e = λ settings chunk text b
 
 -- ---- faults
 
-pub fails : (saved content : Option (List ℕ)) (index : Index) (fault : LookFault) → Reads saved index → IsOfText fault
-    → ((settings : Settings) (chunk : ℕ) (text all : List ℕ) → IsIndexOf settings chunk text index → content ≡ Some all → TellsApart chunk text all → IsChange text all fault) → FailsFor saved content fault
-fails saved content index SavedRead reads of change = tt
-fails saved content index TextRead reads of change = tt
-fails saved content index Write reads of change = tt
-fails saved content index Memory reads of change = tt
-fails saved content index (Saved fault) reads of change = tt
-fails saved content index (OtherSize size indexed) reads of change = absurd of
-fails saved content index (Changed span) reads of change = λ settings chunk text bytes file s e is tells. change settings chunk text file (read_is saved index reads settings chunk text bytes s e) is tells
-fails saved content index NoText reads of change = λ settings chunk text bytes file s e is tells. change settings chunk text file (read_is saved index reads settings chunk text bytes s e) is tells
+pub fails : (saved content : Option (List ℕ)) (read : SavedText) (fault : LookFault) → Reads saved read → IsOfText fault
+    → ((settings : Settings) (chunk : ℕ) (text all : List ℕ) → IsKeptOf settings chunk text read → content ≡ Some all → TellsApart chunk text all → IsChange text all fault) → FailsFor saved content fault
+fails saved content read SavedRead reads of change = tt
+fails saved content read TextRead reads of change = tt
+fails saved content read Write reads of change = tt
+fails saved content read Memory reads of change = tt
+fails saved content read (Saved fault) reads of change = tt
+fails saved content read (OtherSize size indexed) reads of change = absurd of
+fails saved content read (Changed span) reads of change = λ settings chunk text bytes file s e is tells. change settings chunk text file (read_is saved read reads settings chunk text bytes s e) is tells
+fails saved content read NoText reads of change = λ settings chunk text bytes file s e is tells. change settings chunk text file (read_is saved read reads settings chunk text bytes s e) is tells
 
 -- a fault that is handed on is the same
 pub handed : {A : Type 0} (P : LookFault → Type 0) (r : Result A LookFault) (x y : LookFault) → r ≡ Err y → y ≡ x → P x → IfErr r P

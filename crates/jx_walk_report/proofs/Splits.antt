@@ -16,17 +16,16 @@ use Rattle.jx_index.specs.declared.pointer.PointerFault.{PointerFault}
 use Rattle.jx_index.specs.Found.{AreFoundIn, IsFoundIn, found_of, value_of}
 use Rattle.jx_index.specs.Leads.{Numbered, kind_of, led}
 use Rattle.jx_index.specs.Pointers.{tokens}
-use Rattle.jx_report.specs.declared.exit.Exit.{Exit}
-use Rattle.jx_report.specs.declared.exit.Exit.TheVariants.{Good, Bad}
-use Rattle.jx_report.specs.declared.pointer_answer.PointerAnswer.{PointerAnswer}
-use Rattle.jx_report.specs.declared.pointer_answer.PointerAnswer.TheVariants.{Lost, Unread}
-use Rattle.jx_report.specs.inside.ReadPointers.{IsReadPointer}
-use Rattle.jx_saved.specs.declared.index.Index.{Index}
-use Rattle.jx_saved.specs.Index.{IsIndexOf}
+use Rattle.jx_ends.specs.declared.exit.Exit.{Exit}
+use Rattle.jx_ends.specs.declared.exit.Exit.TheVariants.{Good, Bad}
+use Rattle.jx_words.specs.declared.pointer_answer.PointerAnswer.{PointerAnswer}
+use Rattle.jx_words.specs.declared.pointer_answer.PointerAnswer.TheVariants.{Lost, Unread}
+use Rattle.jx_words.specs.inside.ReadPointers.{IsReadPointer}
+use Rattle.jx_saved_names.specs.declared.saved_text.SavedText.{SavedText}
 use Rattle.jx_split.specs.declared.part.ContainerPart.{ContainerPart}
 use Rattle.jx_split.specs.Parts.{IsContainer, IsIn, parts_of}
 use Rattle.jx_walk_report.specs.Parts.{AreParts, SplitOutput, Splits, container, lost, part_lines, scalar, told_words, unread}
-use Rattle.jx_walk_report.specs.Saved.{TellsApart}
+use Rattle.jx_walk_report.specs.Saved.{IsKeptOf, TellsApart}
 use Rattle.jx_walk_report.specs.inside.Splitting.{AreSplit, ComesToParts, HasNoParts}
 use Rattle.jx_walk_report.specs.inside.Splitting as inside
 use Rattle.jx_walk_report.proofs.Reports.{Reads, read_is}
@@ -56,13 +55,13 @@ splits_by parts pointer text tree (Ok found) h =
     subst (λ (ps : List ContainerPart). Splits parts pointer text tree (part_lines ps) [] Good) (sym h.parts_are) (container h.there h.is_pointer h.led_there h.is_container)
 splits_by parts pointer text tree (Err answer) h = no_parts parts pointer text tree answer h
 
-abbrev pub Answers : ℕ → List ℕ → Option (List ℕ) → Index → Split → Type 0
-Answers parts pointer content index answer = (settings : Settings) (chunk : ℕ) (text all : List ℕ) → IsIndexOf settings chunk text index → content ≡ Some all → TellsApart chunk text all → AreSplit settings parts pointer text answer
+abbrev pub Answers : ℕ → List ℕ → Option (List ℕ) → SavedText → Split → Type 0
+Answers parts pointer content read answer = (settings : Settings) (chunk : ℕ) (text all : List ℕ) → IsKeptOf settings chunk text read → content ≡ Some all → TellsApart chunk text all → AreSplit settings parts pointer text answer
 
-pub are_parts : (parts : ℕ) (pointer : List ℕ) (saved content : Option (List ℕ)) (index : Index) (r answer : Split) → Reads saved index → Answers parts pointer content index r → r ≡ answer
+pub are_parts : (parts : ℕ) (pointer : List ℕ) (saved content : Option (List ℕ)) (read : SavedText) (r answer : Split) → Reads saved read → Answers parts pointer content read r → r ≡ answer
     → AreParts parts pointer saved content (output_of answer) (tells_of answer) (exit_of answer)
-are_parts parts pointer saved content index r answer reads answered e = λ settings chunk text bytes file s of is tells.
-    let h = answered settings chunk text file (read_is saved index reads settings chunk text bytes s of) is tells in
+are_parts parts pointer saved content read r answer reads answered e = λ settings chunk text bytes file s of is tells.
+    let h = answered settings chunk text file (read_is saved read reads settings chunk text bytes s of) is tells in
     subst (λ (x : Split). SplitOutput settings parts pointer text (output_of x) (tells_of x) (exit_of x)) e
     (record { tree = h.tree; is_text = h.is_text; splits = splits_by parts pointer text h.tree r h.comes })
 

@@ -1,13 +1,13 @@
 -- What a look-up by a saved index gives.
 use Rattle.std.specs.Prelude.{◌≡◌, ℕ, List, Option, Some}
 use Rattle.jx_run.specs.declared.texts.settings.Settings.{Settings}
-use Rattle.jx_report.specs.declared.pointer_answer.PointerAnswer.{PointerAnswer}
-use Rattle.jx_report.specs.Answers.{AreAnswersIn}
+use Rattle.jx_words.specs.declared.pointer_answer.PointerAnswer.{PointerAnswer}
+use Rattle.jx_words.specs.Answers.{AreAnswersIn}
 use Rattle.jx_saved.specs.declared.index.Index.{Index}
 use Rattle.jx_saved.specs.Index.{IsIndexOf}
 use Rattle.jx_walk_report.specs.Saved.{IsSavedOf, TellsApart}
 
--- where bytes are those of the index of a text, this is its index
+-- where bytes are those of the index of a text, with tables of its names or without, this is its index
 abbrev pub IsReadOf : Option (List ℕ) → Index → Type 0
 IsReadOf saved index = (settings : Settings) (chunk : ℕ) (text bytes : List ℕ) → IsSavedOf settings chunk text bytes → saved ≡ Some bytes → IsIndexOf settings chunk text index
 

@@ -11,13 +11,13 @@ use Rattle.jx_index.specs.declared.pointer.PointerFault.{PointerFault}
 use Rattle.jx_index.specs.Leads.{Numbered, kind_of, led}
 use Rattle.jx_index.specs.PointerFaults.{IsFaultOf}
 use Rattle.jx_index.specs.Pointers.{IsPointer, tokens}
-use Rattle.jx_report.specs.declared.exit.Exit.{Exit}
-use Rattle.jx_report.specs.declared.exit.Exit.TheVariants.{Good, Bad}
-use Rattle.jx_report.specs.declared.pointer_answer.PointerAnswer.{PointerAnswer}
-use Rattle.jx_report.specs.declared.pointer_answer.PointerAnswer.TheVariants.{Unread, Lost}
-use Rattle.jx_report.specs.Ends.{AppendsBeginning}
-use Rattle.jx_report.specs.Pointers.{answer_words}
-use Rattle.jx_report.specs.Words.{line, span_words}
+use Rattle.jx_ends.specs.declared.exit.Exit.{Exit}
+use Rattle.jx_ends.specs.declared.exit.Exit.TheVariants.{Good, Bad}
+use Rattle.jx_words.specs.declared.pointer_answer.PointerAnswer.{PointerAnswer}
+use Rattle.jx_words.specs.declared.pointer_answer.PointerAnswer.TheVariants.{Unread, Lost}
+use Rattle.jx_ends.specs.Ends.{AppendsBeginning}
+use Rattle.jx_words.specs.Pointers.{answer_words}
+use Rattle.jx_words.specs.Words.{line, span_words}
 use Rattle.jx_split.specs.declared.part.ContainerPart.{ContainerPart}
 use Rattle.jx_split.specs.Parts.{IsContainer, parts_of}
 use Rattle.jx_walk_report.specs.Saved.{IsSavedOf, TellsApart}

@@ -2,8 +2,8 @@
 use Rattle.std.specs.Prelude.{◌≡◌, ◌≢◌, ℕ, List, Option, Some, slice_range}
 use Rattle.std.specs.Io.KnownBytes.{Appends}
 use Rattle.jx_run.specs.declared.texts.settings.Settings.{Settings}
-use Rattle.jx_report.specs.declared.exit.Exit.{Exit}
-use Rattle.jx_report.specs.Ends.{AppendsBeginning}
+use Rattle.jx_ends.specs.declared.exit.Exit.{Exit}
+use Rattle.jx_ends.specs.Ends.{AppendsBeginning}
 use Rattle.jx_report.specs.Output.{AnswersPointers, TextOutput}
 use Rattle.jx_walk_report.specs.declared.look_fault.LookFault.{LookFault}
 use Rattle.jx_walk_report.specs.declared.look_fault.LookFault.TheVariants.{Changed, Memory, NoText, OtherSize, Saved, SavedRead, TextRead, Write}

@@ -1,22 +1,28 @@
--- Which bytes are the index of a text, and what tells a file from the text.
+-- Which bytes are saved of a text, and what tells a file from the text.
 use Rattle.std.specs.Prelude.{◌≡◌, ℕ, List}
 use Rattle.jx_run.specs.declared.texts.settings.Settings.{Settings}
 use Rattle.jx_run.specs.declared.texts.verdict.Verdict.TheVariants.{Accepted}
 use Rattle.jx_index.specs.ByNames.{IsVerdictBy}
-use Rattle.jx_saved.specs.declared.index.Index.{Index}
 use Rattle.jx_saved.specs.Chunks.{part}
 use Rattle.jx_saved.specs.Digest.{xxh64}
 use Rattle.jx_saved.specs.Index.{IsIndexOf}
-use Rattle.jx_saved.specs.Saved.{IsSavable}
-use Rattle.jx_saved.specs.Spelling.{spelt_index}
+use Rattle.jx_saved_names.specs.declared.saved_text.SavedText.{SavedText}
+use Rattle.jx_saved_names.specs.Fed.{KeepsNames}
+use Rattle.jx_saved_names.specs.Saved.{IsSavableToo}
+use Rattle.jx_saved_names.specs.Spelling.{spelt_saved}
 
--- the bytes are those of the index of a text that is accepted by settings, for chunks of a size
+-- an index for chunks of a size is that of a text that is accepted by settings, and the tables of names are, if there are any
+pub record IsKeptOf (settings : Settings) (chunk : ℕ) (text : List ℕ) (saved : SavedText) : Type 0 where
+  pub index : IsIndexOf settings chunk text saved.index
+  pub names : KeepsNames settings chunk text saved.names
+
+-- the bytes are those of such an index, and of such tables behind it, if there are any
 pub record IsSavedOf (settings : Settings) (chunk : ℕ) (text bytes : List ℕ) : Type 0 where
   pub accepted : IsVerdictBy settings text Accepted
-  pub index : Index
-  pub is_index : IsIndexOf settings chunk text index
-  pub savable : IsSavable index
-  pub spelt : bytes ≡ spelt_index index
+  pub saved : SavedText
+  pub kept : IsKeptOf settings chunk text saved
+  pub savable : IsSavableToo saved
+  pub spelt : bytes ≡ spelt_saved saved
 
 -- a chunk of a file that has the digest of the text's is the text's
 abbrev pub TellsApart : ℕ → List ℕ → List ℕ → Type 0

@@ -12,7 +12,6 @@ mod parts_reporting;
 mod read_at;
 mod reporting;
 mod saved_reading;
-mod sought;
 mod splitting;
 mod walking;
 

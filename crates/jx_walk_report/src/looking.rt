@@ -8,8 +8,9 @@ use crate::answers::answers_of;
 use crate::look_fault::LookFault;
 use crate::read_at::ReadAt;
 use crate::saved_reading::read_saved;
-use jx_report::{PointerAnswer, Source};
+use jx_ends::Source;
 use jx_saved::Index;
+use jx_words::PointerAnswer;
 use std::alloc::Global;
 
 /// What pointers come to in a text, and the index that they were looked up by.
@@ -22,7 +23,8 @@ pub struct Looked {
 
 /// Reads an index to its end, and looks strings up as pointers (RFC 6901, section 4) in the text by it.
 ///
-/// The index is held, and of the text one chunk. An index that is none, or is that of a text with another size, is told before
+/// By tables of the text's names behind the index fewer chunks are read; the answers are the same. The index is held, and of the
+/// text one chunk. An index that is none, or is that of a text with another size, is told before
 /// a byte of the text is read. Each chunk that is read is held to its digest; those that are not read may have changed.
 pub fn look_up<S: Source, F: ReadAt>(
     alloc: Global,
@@ -46,7 +48,10 @@ pub fn look_up<S: Source, F: ReadAt>(
     // What is wrong with the index is told before the text is read.
     ensures unread { IfErr result (λ fault. IsOfText fault ⊎ (file.new ≡ file.old)) }
 {
-    let index = read_saved(alloc, saved, file.size())?;
-    let answers = answers_of(alloc, file, &index, pointers)?;
-    Ok(Looked { index, answers })
+    let read = read_saved(alloc, saved, file.size())?;
+    let answers = answers_of(alloc, file, &read, pointers)?;
+    Ok(Looked {
+        index: read.index,
+        answers,
+    })
 }

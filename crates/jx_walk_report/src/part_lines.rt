@@ -1,30 +1,12 @@
 // The lines for parts.
-ghost use Rattle.std.specs.Prelude.{◌≡◌, ◌++◌, decimal, IfOk, OnOk};
-ghost use Rattle.jx_report.specs.Words.{line, span_words};
+ghost use Rattle.std.specs.Prelude.{◌≡◌, ◌++◌, IfOk, OnOk};
+ghost use Rattle.jx_words.specs.Words.{line};
 ghost use Rattle.jx_walk_report.specs.Parts.{part_lines, part_words, told_words};
 
-use itoa::Buffer;
 use jx_lex::Span;
-use jx_report::{PointerAnswer, add_answer};
 use jx_split::ContainerPart;
+use jx_words::{PointerAnswer, add_answer, add_span};
 use std::alloc::{AllocError, Global};
-
-/// Appends a number in plain decimal.
-fn add_number(out: &mut Vec<u8>, number: usize) -> Result<(), AllocError>
-    ensures { OnOk result (out.new.items ≡ out.old.items ++ decimal number) }
-{
-    let mut buffer = Buffer::new();
-    out.extend_from_slice(buffer.format(number).as_bytes())
-}
-
-/// Appends a span, as `S..E`.
-fn add_span(out: &mut Vec<u8>, span: Span) -> Result<(), AllocError>
-    ensures { OnOk result (out.new.items ≡ out.old.items ++ span_words span) }
-{
-    add_number(out, span.start)?;
-    out.extend_from_slice(b"..")?;
-    add_number(out, span.end)
-}
 
 /// Appends the line of a part.
 fn add_part(out: &mut Vec<u8>, part: ContainerPart) -> Result<(), AllocError>

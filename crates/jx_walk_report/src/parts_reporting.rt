@@ -10,7 +10,7 @@ use crate::read_at::ReadAt;
 use crate::reporting::write_lines;
 use crate::saved_reading::read_saved;
 use crate::splitting::split_of;
-use jx_report::{Exit, Sink, Source, write_whole};
+use jx_ends::{Exit, Sink, Source, write_whole};
 use std::alloc::Global;
 
 /// Tells what there is to tell, unless telling has failed before. Where telling fails, no more is told.
@@ -56,8 +56,8 @@ pub fn report_parts<S: Source, F: ReadAt, W: Sink, E: Sink>(
     // What is wrong with the index is told before the text is read.
     ensures unread { IfErr result (λ fault. IsOfText fault ⊎ (fault ≡ LookFault.Write) ⊎ (file.new ≡ file.old)) }
 {
-    let index = read_saved(alloc, saved, file.size())?;
-    match split_of(alloc, file, &index, pointer, parts)? {
+    let read = read_saved(alloc, saved, file.size())?;
+    match split_of(alloc, file, &read, pointer, parts)? {
         Ok(parts) => {
             let lines = part_lines(alloc, &parts)?;
             write_lines(writer, &lines)?;

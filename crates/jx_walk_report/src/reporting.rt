@@ -1,14 +1,14 @@
 // Where pointers lead in a text of which an index is saved.
 ghost use Rattle.std.specs.Prelude.{◌≡◌, ◌≢◌, ◌↔◌, ◌⊎◌, true, false, map, string_bytes, IfOk, IfErr, IsErrOf, OnOk};
 ghost use Rattle.std.specs.Io.KnownBytes.{Appends};
-ghost use Rattle.jx_report.specs.Ends.{AppendsBeginning};
+ghost use Rattle.jx_ends.specs.Ends.{AppendsBeginning};
 ghost use Rattle.jx_walk_report.specs.Reports.{FailsFor, IsOfText, WritesPlaces, WritesPlacesInPart};
 
 use crate::lines::lines_of;
 use crate::look_fault::LookFault;
 use crate::looking::{Looked, look_up};
 use crate::read_at::ReadAt;
-use jx_report::{Exit, Sink, Source, write_whole};
+use jx_ends::{Exit, Sink, Source, write_whole};
 use std::alloc::Global;
 
 /// Writes all of these bytes.

@@ -1,15 +1,16 @@
-// The index of a text is read.
-ghost use Rattle.std.specs.Prelude.{◌≡◌, ◌≢◌, ◌+◌, ◌*◌, ◌/◌, ◌<◌, ◌≤◌, ◌↔◌, true, false, Some, length, IfOk, IfErr, IsErrOf};
+// What is saved of a text is read.
+ghost use Rattle.std.specs.Prelude.{◌≡◌, ◌≢◌, ◌+◌, ◌<◌, ◌≤◌, ◌↔◌, true, false, Some, length, IfOk, IfErr, IsErrOf};
 ghost use Rattle.std.specs.Io.KnownBytes.{Consumes, IsAtEnd};
-ghost use Rattle.jx_report.specs.Ends.{ReadsToEnd};
-ghost use Rattle.jx_saved.specs.Saved.{HasItsLevels, IsSavable, SaysSame};
-ghost use Rattle.jx_saved.specs.declared.index.Index.{Index};
-ghost use Rattle.jx_saved.specs.Spelling.{spelt_index};
+ghost use Rattle.jx_ends.specs.Ends.{ReadsToEnd};
+ghost use Rattle.jx_saved_names.specs.declared.saved_text.SavedText.{SavedText};
+ghost use Rattle.jx_saved_names.specs.Saved.{IsSavableToo, SaysSameToo};
+ghost use Rattle.jx_saved_names.specs.Spelling.{spelt_saved};
 ghost use Rattle.jx_walk_report.specs.inside.Faults.{IsOfSaved};
 
 use crate::look_fault::{LookFault, saved_fault};
-use jx_report::{ReportFault, Source, fill_buffer};
+use jx_ends::{ReportFault, Source, fill_buffer};
 use jx_saved::{Index, SavedFault, digest_of};
+use jx_saved_names::SavedText;
 use std::alloc::Global;
 
 /// How many bytes the head of an index has, and how many of them its digest is of.
@@ -20,11 +21,23 @@ const SEALED: usize = 56;
 /// Where the head tells the size of the text.
 const SIZE_AT: usize = 8;
 
+/// How many bytes an entry has, and a key of a table, or the count of its keys.
+const ENTRY: usize = 24;
+
+const KEY: usize = 4;
+
+/// How many bytes stand before the tables of names and behind them.
+const TABLES: usize = 16;
+
+/// How many bytes a chunk has at least.
+const LEAST_CHUNK: usize = 64;
+
 /// How many bytes stand behind the head at most, for a text of so many bytes, and one more.
-fn most_behind(size: usize) -> usize
-    ensures { result ≡ 48 * (size / 64 + 1) + 1 }
-{
-    48 * (size / 64 + 1) + 1
+fn most_behind(size: usize) -> usize {
+    // For each chunk two entries and a count of keys; what else tables have, and one byte more.
+    let all = (2 * ENTRY + KEY) * (size / LEAST_CHUNK + 1) + TABLES + 1;
+    // A member has five bytes or more, and a key four.
+    all.saturating_add(size)
 }
 
 /// Eight bytes, low byte first.
@@ -94,48 +107,49 @@ fn check_head(alloc: Global, head: &[u8], size: usize) -> Result<(), LookFault>
     }
 }
 
-/// The index of a text of so many bytes that these bytes are.
-fn index_of(alloc: Global, bytes: &[u8], size: usize) -> Result<Index, LookFault>
-    ensures found { IfOk result (λ index. spelt_index index ≡ bytes.now) }
-    ensures levels { IfOk result HasItsLevels }
-    ensures chunk { IfOk result (λ index. 64 ≤ index.chunk) }
-    ensures size { IfOk result (λ index. index.size ≡ size) }
-    ensures reads { IfOk result (λ index. (i : Index) → IsSavable i → bytes.now ≡ spelt_index i → SaysSame index i) }
+/// What is saved of a text of so many bytes, by these bytes.
+fn saved_of(alloc: Global, bytes: &[u8], size: usize) -> Result<SavedText, LookFault>
+    ensures found { IfOk result (λ read. spelt_saved read ≡ bytes.now) }
+    ensures size { IfOk result (λ read. read.index.size ≡ size) }
+    ensures reads { IfOk result (λ read. (s : SavedText) → IsSavableToo s → bytes.now ≡ spelt_saved s → SaysSameToo read s) }
     ensures fault { IfErr result (IsOfSaved size) }
     ensures unfailed { IfErr result (λ fault. fault ≢ LookFault.SavedRead) }
 {
-    match Index::decode(alloc, bytes) {
+    match SavedText::decode(alloc, bytes) {
         Err(fault) => Err(saved_fault(fault)),
-        Ok(index) => {
-            // Shows the proof how long a chunk is at least.
-            let _ = index.chunk.bytes();
-            if index.size != size {
-                let indexed = index.size;
+        Ok(read) => {
+            if read.index.size != size {
+                let indexed = read.index.size;
                 return Err(LookFault::OtherSize { size, indexed });
             }
-            Ok(index)
+            Ok(read)
         }
     }
 }
 
-/// Reads an index to its end, which is that of a text of so many bytes. No more is read than such an index has, and a byte
-/// behind it.
+/// Reads an index to its end, which is that of a text of so many bytes, and the tables of names behind it, if there are any. No
+/// more is read than these have, and a byte behind them.
 pub(crate) fn read_saved<S: Source>(
     alloc: Global,
     saved: &mut S,
     size: usize,
-) -> Result<Index, LookFault>
+) -> Result<SavedText, LookFault>
     requires unfailed { S.has_failed saved.old ≡ false }
-    ensures ok { IfOk result (λ index. ReadsToEnd (S.remaining saved.old) (S.remaining saved.new) (spelt_index index)) }
-    ensures levels { IfOk result HasItsLevels }
-    ensures size { IfOk result (λ index. index.size ≡ size) }
-    ensures reads { IfOk result (λ index. (i : Index) → IsSavable i → S.remaining saved.old ≡ Some (spelt_index i) → SaysSame index i) }
+    ensures ok { IfOk result (λ read. ReadsToEnd (S.remaining saved.old) (S.remaining saved.new) (spelt_saved read)) }
+    ensures size { IfOk result (λ read. read.index.size ≡ size) }
+    ensures reads { IfOk result (λ read. (s : SavedText) → IsSavableToo s → S.remaining saved.old ≡ Some (spelt_saved s) → SaysSameToo read s) }
     ensures fault { IfErr result (IsOfSaved size) }
     ensures read { IsErrOf result LookFault.SavedRead ↔ (S.has_failed saved.new ≡ true) }
 {
     let mut bytes = fill_saved(alloc, saved, HEAD)?;
     check_head(alloc, &bytes, size)?;
-    let rest = fill_saved(alloc, saved, most_behind(size))?;
+    let most = most_behind(size);
+    let rest = fill_saved(alloc, saved, most)?;
     bytes.extend_from_slice(&rest)?;
-    index_of(alloc, &bytes, size)
+    let read = saved_of(alloc, &bytes, size)?;
+    if rest.len() < most {
+        Ok(read)
+    } else {
+        Err(LookFault::Saved(SavedFault::Longer))
+    }
 }

@@ -11,18 +11,18 @@ ghost use Rattle.jx_walk_report.specs.inside.Faults.{IsChange};
 ghost use Rattle.jx_walk_report.specs.inside.Splitting.{AreSplit};
 ghost use Rattle.jx_walk_report.specs.Offsets.{HasSize};
 ghost use Rattle.jx_walk_report.specs.Reports.{IsOfText};
-ghost use Rattle.jx_walk_report.specs.Saved.{TellsApart};
+ghost use Rattle.jx_walk_report.specs.Saved.{IsKeptOf, TellsApart};
 
 use crate::look_fault::{LookFault, walk_fault};
 use crate::part::read_part;
 use crate::read_at::ReadAt;
-use crate::sought::{Word, read_word};
 use crate::walking::found_in;
 use jx_index::{FindFault, Found, Pointer};
 use jx_lex::Kind;
-use jx_report::PointerAnswer;
 use jx_saved::Index;
+use jx_saved_names::SavedText;
 use jx_split::{Aim, ContainerPart, Split};
+use jx_words::{PointerAnswer, ReadPointer, read_pointer};
 use std::alloc::{AllocError, Global};
 
 /// How many slashes a byte is.
@@ -99,53 +99,53 @@ fn first_of(found: &[Result<Found, FindFault>]) -> Option<Result<Found, FindFaul
     found.get(0).copied()
 }
 
-/// What a pointer leads to in the text with this index.
+/// What a pointer leads to in the text of which this is saved.
 fn found_one<F: ReadAt>(
     alloc: Global,
     file: &mut F,
-    index: &Index,
+    saved: &SavedText,
     pointer: Pointer<'_>,
 ) -> Result<Result<Found, FindFault>, LookFault>
     requires unfailed { F.has_failed file.old ≡ false }
-    requires size { HasSize (F.content file.old) index.now.size }
-    ensures found { IfOk result (λ found. (settings : Settings) (chunk : ℕ) (text bytes : List ℕ) → IsIndexOf settings chunk text index.now → F.content file.old ≡ Some bytes
+    requires size { HasSize (F.content file.old) saved.now.index.size }
+    ensures found { IfOk result (λ found. (settings : Settings) (chunk : ℕ) (text bytes : List ℕ) → IsKeptOf settings chunk text saved.now → F.content file.old ≡ Some bytes
         → TellsApart chunk text bytes → IsFoundIn settings text pointer.entry found) }
-    ensures changed { IfErr result (λ fault. (settings : Settings) (chunk : ℕ) (text bytes : List ℕ) → IsIndexOf settings chunk text index.now → F.content file.old ≡ Some bytes
+    ensures changed { IfErr result (λ fault. (settings : Settings) (chunk : ℕ) (text bytes : List ℕ) → IsKeptOf settings chunk text saved.now → F.content file.old ≡ Some bytes
         → TellsApart chunk text bytes → IsChange text bytes fault) }
     ensures kept { F.content file.new ≡ F.content file.old }
     ensures read { IsErrOf result LookFault.TextRead ↔ (F.has_failed file.new ≡ true) }
     ensures fault { IfErr result IsOfText }
 {
     let pointers = one_pointer(alloc, pointer)?;
-    let found = found_in(alloc, file, index, pointers)?;
+    let found = found_in(alloc, file, saved, pointers)?;
     match first_of(&found) {
         Some(one) => Ok(one),
         None => Err(LookFault::Memory),
     }
 }
 
-/// The parts of the container that a string, read as a pointer, leads to in the text with this index, or why there are none.
+/// The parts of the container that a string, read as a pointer, leads to in the text of which this is saved, or why there are none.
 pub(crate) fn split_of<F: ReadAt>(
     alloc: Global,
     file: &mut F,
-    index: &Index,
+    saved: &SavedText,
     spelt: &str,
     parts: usize,
 ) -> Result<Result<Vec<ContainerPart>, PointerAnswer>, LookFault>
     requires unfailed { F.has_failed file.old ≡ false }
-    requires size { HasSize (F.content file.old) index.now.size }
-    ensures split { IfOk result (λ answer. (settings : Settings) (chunk : ℕ) (text bytes : List ℕ) → IsIndexOf settings chunk text index.now → F.content file.old ≡ Some bytes
+    requires size { HasSize (F.content file.old) saved.now.index.size }
+    ensures split { IfOk result (λ answer. (settings : Settings) (chunk : ℕ) (text bytes : List ℕ) → IsKeptOf settings chunk text saved.now → F.content file.old ≡ Some bytes
         → TellsApart chunk text bytes → AreSplit settings parts spelt.now text answer) }
-    ensures changed { IfErr result (λ fault. (settings : Settings) (chunk : ℕ) (text bytes : List ℕ) → IsIndexOf settings chunk text index.now → F.content file.old ≡ Some bytes
+    ensures changed { IfErr result (λ fault. (settings : Settings) (chunk : ℕ) (text bytes : List ℕ) → IsKeptOf settings chunk text saved.now → F.content file.old ≡ Some bytes
         → TellsApart chunk text bytes → IsChange text bytes fault) }
     ensures read { IsErrOf result LookFault.TextRead ↔ (F.has_failed file.new ≡ true) }
     ensures fault { IfErr result IsOfText }
 {
-    let Word { pointer, unread } = read_word(spelt);
+    let ReadPointer { pointer, unread } = read_pointer(spelt);
     if let Some(fault) = unread {
         return Ok(Err(PointerAnswer::Unread(fault)));
     }
-    let found = match found_one(alloc, file, index, pointer)? {
+    let found = match found_one(alloc, file, saved, pointer)? {
         Ok(found) => found,
         Err(fault) => return Ok(Err(PointerAnswer::Lost(fault))),
     };
@@ -154,6 +154,6 @@ pub(crate) fn split_of<F: ReadAt>(
         return Ok(Err(PointerAnswer::Lost(FindFault::NotAContainer { token })));
     }
     let whole = found.span;
-    let parts = parts_in(alloc, file, index, Aim { whole, parts })?;
+    let parts = parts_in(alloc, file, &saved.index, Aim { whole, parts })?;
     Ok(Ok(parts))
 }

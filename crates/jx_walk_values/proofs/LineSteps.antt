@@ -8,11 +8,11 @@ use Rattle.std.proofs.KnownBytes.{Appends-nil, Appends-trans}
 use Rattle.jx_summary.specs.declared.span.Span.{Span}
 use Rattle.jx_lex.specs.declared.kind.Kind.{Kind}
 use Rattle.jx_saved.specs.declared.index.Index.{Index}
-use Rattle.jx_report.specs.declared.pointer_answer.PointerAnswer.{PointerAnswer}
-use Rattle.jx_report.specs.declared.pointer_answer.PointerAnswer.TheVariants.{Found, Lost, Unread}
-use Rattle.jx_report.specs.Ends.{AppendsBeginning}
-use Rattle.jx_report.specs.Words.{line}
-use Rattle.jx_report.proofs.PutSteps.{put_in_part}
+use Rattle.jx_words.specs.declared.pointer_answer.PointerAnswer.{PointerAnswer}
+use Rattle.jx_words.specs.declared.pointer_answer.PointerAnswer.TheVariants.{Found, Lost, Unread}
+use Rattle.jx_ends.specs.Ends.{AppendsBeginning}
+use Rattle.jx_words.specs.Words.{line}
+use Rattle.jx_words.proofs.PutSteps.{put_in_part}
 use Rattle.jx_values.specs.declared.form.Form.{Form}
 use Rattle.jx_values.specs.Values.{told_line, told_lines, told_of_value, value_line, value_written}
 use Rattle.jx_walk_values.specs.inside.Alone.{alone, span_of}

@@ -8,9 +8,9 @@ use Rattle.jx_run.specs.declared.texts.settings.Settings.{Settings}
 use Rattle.jx_run.specs.declared.texts.verdict.Verdict.TheVariants.{Accepted}
 use Rattle.jx_saved.specs.declared.index.Index.{Index}
 use Rattle.jx_task.specs.declared.values_task.ValuesTask.{ValuesTask}
-use Rattle.jx_report.specs.declared.exit.Exit.{Exit}
-use Rattle.jx_report.specs.declared.pointer_answer.PointerAnswer.{PointerAnswer}
-use Rattle.jx_report.specs.Pointers.{IsAnswerTo}
+use Rattle.jx_ends.specs.declared.exit.Exit.{Exit}
+use Rattle.jx_words.specs.declared.pointer_answer.PointerAnswer.{PointerAnswer}
+use Rattle.jx_words.specs.Pointers.{IsAnswerTo}
 use Rattle.jx_values.specs.declared.form.Form.{Form}
 use Rattle.jx_values.specs.Values.{exit_by, told_lines}
 use Rattle.jx_walk_report.specs.declared.look_fault.LookFault.{LookFault}

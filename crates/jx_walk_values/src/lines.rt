@@ -1,7 +1,7 @@
 // The lines of values, which are written one by one.
 ghost use Rattle.std.specs.Prelude.{◌≡◌, ◌≢◌, ◌<◌, ◌++◌, ◌↔◌, Some, true, false, length, map, slice_get, string_bytes, IfErr, IfOk, IsErrOf, OnOk};
 ghost use Rattle.std.specs.Io.KnownBytes.{Appends};
-ghost use Rattle.jx_report.specs.Ends.{AppendsBeginning};
+ghost use Rattle.jx_ends.specs.Ends.{AppendsBeginning};
 ghost use Rattle.jx_values.specs.Values.{told_line, value_line};
 ghost use Rattle.jx_walk_report.specs.Offsets.{HasSize};
 ghost use Rattle.jx_walk_report.specs.Reports.{IsOfText};
@@ -12,11 +12,12 @@ ghost use Rattle.jx_walk_values.specs.inside.Texts.{IsChangeIn};
 
 use crate::held_chunk::HeldChunk;
 use crate::value::read_value;
+use jx_ends::{ReportFault, Sink};
 use jx_lex::Span;
-use jx_report::{PointerAnswer, ReportFault, Sink};
 use jx_saved::Index;
 use jx_values::{Form, add_told, write_values};
 use jx_walk_report::{LookFault, ReadAt};
+use jx_words::PointerAnswer;
 use std::alloc::Global;
 
 /// How many bytes are written at a time, where a value has more.

@@ -4,7 +4,7 @@ ghost use Rattle.jx_walk_report.specs.Reports.{FailsFor, IsOfText};
 ghost use Rattle.jx_walk_values.specs.Reports.{WritesFirst, WritesFirstInPart, WritesValues};
 
 use crate::lines::write_answers;
-use jx_report::{Exit, Sink, Source};
+use jx_ends::{Exit, Sink, Source};
 use jx_values::{Form, exit_by, tell};
 use jx_walk_report::{LookFault, Looked, ReadAt, look_up};
 use std::alloc::Global;

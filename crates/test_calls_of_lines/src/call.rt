@@ -1,5 +1,5 @@
 // Which call a line names.
-use crate::answers::told_by;
+use crate::answers::{texts_of, told_by};
 use jx_run::Settings;
 use std::alloc::{AllocError, Global};
 use test_words::{Line, Ways, words_of};
@@ -37,12 +37,22 @@ fn lines(line: &mut Line<'_>) {
     ways.push_to(&mut line.out);
 }
 
+/// `texts DEPTH TEXT`: how many lines in front of a text are texts, and how many bytes they have.
+fn texts(line: &mut Line<'_>) {
+    let depth = line.depth();
+    let text = line.text();
+    let mut ways = Ways::new(line.alloc);
+    ways.add_made(format_args!("at once"), texts_of(line.alloc, depth, &text));
+    ways.push_to(&mut line.out);
+}
+
 /// What a line's call answers, or that there is no such call.
 pub(crate) fn answer_to(alloc: Global, line: &str) -> Result<String, AllocError> {
     let words = words_of(alloc, line)?;
     let mut line = Line::new(alloc, &words);
     match line.word() {
         "lines" => lines(&mut line),
+        "texts" => texts(&mut line),
         _ => line.refuse(),
     }
     line.answer()

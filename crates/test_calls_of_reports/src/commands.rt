@@ -225,6 +225,9 @@ fn push_save(out: &mut Out, order: &SaveOrder) {
     out.push_str("save");
     push_settings(out, &order.settings);
     out.put(format_args!(", chunk {}", order.chunk.bytes()));
+    if order.has_names {
+        out.push_str(", with names");
+    }
     push_inputs(out, &Inputs::One(order.input));
     push_progress(out, order.progress);
 }

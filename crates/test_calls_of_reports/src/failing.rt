@@ -3,7 +3,7 @@ use crate::outcome::{Outcome, outcome_of, push_outcome};
 use crate::reader::Giving;
 use crate::reports::{Asked, Way, next_asked, ways_of, workers_of};
 use crate::writer::{Refusal, Taking};
-use jx_report::ReportFault;
+use jx_ends::ReportFault;
 use std::alloc::Global;
 use std::io;
 use std::sync::Wait;

@@ -2,7 +2,7 @@
 use jx_answer::Fault;
 use jx_claim::CutFault;
 use jx_command::ArgFault;
-use jx_report::ReportFault;
+use jx_ends::ReportFault;
 use std::alloc::AllocError;
 use test_examples::ExampleFault;
 use test_words::{Line, Out};

@@ -1,6 +1,6 @@
 use jx_answer::Fault;
 use jx_claim::CutFault;
-use jx_report::ReportFault;
+use jx_ends::ReportFault;
 use std::alloc::AllocError;
 use thiserror::Error;
 

@@ -2,13 +2,14 @@ ghost use Rattle.std.specs.Prelude.{IfOk};
 ghost use Rattle.jx_task.specs.declared.task.Task.{Task};
 ghost use Rattle.jx_run.specs.declared.texts.settings.FrontMark.{FrontMark};
 ghost use Rattle.jx_run.specs.declared.texts.settings.NameRule.{NameRule};
-ghost use Rattle.jx_report.specs.declared.exit.Exit.{Exit};
+ghost use Rattle.jx_ends.specs.declared.exit.Exit.{Exit};
 ghost use Rattle.jx_report.specs.Output.{Output};
 
 use crate::example_fault::ExampleFault;
 use jx_crew::{OpenGate, Workers};
+use jx_ends::End;
 use jx_lex::Depth;
-use jx_report::{End, report};
+use jx_report::report;
 use jx_run::{FrontMark, NameRule, Settings};
 use jx_task::{Command, Task};
 use std::alloc::Global;

@@ -2,8 +2,8 @@
 use Rattle.std.specs.Prelude.{◌≡◌, ℕ, List, [], Option, Bool, false}
 use Rattle.std.specs.Io.KnownBytes.{Appends}
 use Rattle.jx_task.specs.declared.command.Command.{Command}
-use Rattle.jx_report.specs.Ends.{AppendsBeginning}
-use Rattle.jx_report.specs.Reports.{shown_output}
+use Rattle.jx_ends.specs.Ends.{AppendsBeginning}
+use Rattle.jx_words.specs.Verdicts.{shown_output}
 use Rattle.jx_files.specs.declared.reports.Answer.{Answer}
 use Rattle.jx_files.specs.declared.reports.Part.{Part}
 use Rattle.jx_files.specs.declared.status.Status.{Status}

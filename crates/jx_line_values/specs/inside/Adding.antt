@@ -2,8 +2,8 @@
 use Rattle.std.specs.Prelude.{◌≡◌, ℕ, zero, suc, List, [], ◌∷◌, ◌++◌, Result, map}
 use Rattle.jx_index.specs.declared.find_fault.FindFault.{FindFault}
 use Rattle.jx_index.specs.declared.finder.Found.{Found}
-use Rattle.jx_report.specs.declared.exit.Exit.{Exit}
-use Rattle.jx_report.specs.declared.exit.Exit.TheVariants.{Bad}
+use Rattle.jx_ends.specs.declared.exit.Exit.{Exit}
+use Rattle.jx_ends.specs.declared.exit.Exit.TheVariants.{Bad}
 use Rattle.jx_ndjson.specs.Lines.{Line}
 use Rattle.jx_line_values.specs.declared.task.LineValuesTask.{LineValuesTask}
 use Rattle.jx_line_values.specs.LineValues.{IsGiven, LineGiven, tabbed, told_of_found, value_bytes}

@@ -6,7 +6,7 @@ use Rattle.jx_run.specs.Elements.{Part, part}
 use Rattle.jx_ndjson.specs.Lines.{is_line_feed, mark_length}
 use Rattle.jx_ndjson.specs.Parts.{parts_by}
 use Rattle.jx_ndjson.specs.Reading.{ended_from}
-use Rattle.jx_report.specs.declared.exit.Exit.{Exit}
+use Rattle.jx_ends.specs.declared.exit.Exit.{Exit}
 use Rattle.jx_line_values.specs.declared.task.LineValuesTask.{LineValuesTask}
 use Rattle.jx_line_values.specs.LineValues.{IsGiven, LineGiven, all_told, all_written, exit_by}
 

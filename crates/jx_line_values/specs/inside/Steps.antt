@@ -1,7 +1,7 @@
 -- How the values of lines are written batch by batch.
 use Rattle.std.specs.Prelude.{◌≡◌, ℕ, List, [], ◌++◌, Option, Bool, false}
 use Rattle.std.specs.Io.KnownBytes.{Appends, Consumes}
-use Rattle.jx_report.specs.Ends.{ReadsToEnd, AppendsBeginning}
+use Rattle.jx_ends.specs.Ends.{ReadsToEnd, AppendsBeginning}
 use Rattle.jx_line_values.specs.declared.task.LineValuesTask.{LineValuesTask}
 use Rattle.jx_line_values.specs.LineValues.{IsDue}
 use Rattle.jx_line_values.specs.inside.Cutting.{CutterValue, HasTaken}

@@ -2,10 +2,10 @@
 use Rattle.std.specs.Prelude.{◌≡◌, ℕ, List, ◌++◌}
 use Rattle.jx_run.specs.declared.sequences.element_verdict.JudgedElement.{JudgedElement}
 use Rattle.jx_ndjson.specs.ElementReading.{ElementReaderValue, HasToldElements}
-use Rattle.jx_report.specs.declared.exit.Exit.{Exit}
-use Rattle.jx_report.specs.declared.exit.Exit.TheVariants.{Good}
+use Rattle.jx_ends.specs.declared.exit.Exit.{Exit}
+use Rattle.jx_ends.specs.declared.exit.Exit.TheVariants.{Good}
 use Rattle.jx_report.specs.Elements.{exit_past_judged}
-use Rattle.jx_report.specs.Reports.{shown_output}
+use Rattle.jx_words.specs.Verdicts.{shown_output}
 use Rattle.jx_ndjson_report.specs.declared.task.ElementsTask.{ElementsTask}
 use Rattle.jx_ndjson_report.specs.Elements.{element_line, lines_of}
 

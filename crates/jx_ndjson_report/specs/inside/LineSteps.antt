@@ -1,10 +1,10 @@
 -- What is written for one line, and for the counts of all.
 use Rattle.std.specs.Prelude.{ℕ, zero, suc, List, [], ◌++◌, codes, decimal, if◌then◌else◌}
 use Rattle.jx_ndjson.specs.declared.judged_line.JudgedLine.{JudgedLine}
-use Rattle.jx_report.specs.declared.exit.Exit.{Exit}
-use Rattle.jx_report.specs.declared.exit.Exit.TheVariants.{Good, Bad}
-use Rattle.jx_report.specs.Reports.{shown_output}
-use Rattle.jx_report.specs.Words.{line}
+use Rattle.jx_ends.specs.declared.exit.Exit.{Exit}
+use Rattle.jx_ends.specs.declared.exit.Exit.TheVariants.{Good, Bad}
+use Rattle.jx_words.specs.Verdicts.{shown_output}
+use Rattle.jx_words.specs.Words.{line}
 use Rattle.jx_ndjson_report.specs.declared.task.LinesTask.{LinesTask}
 use Rattle.jx_ndjson_report.specs.Output.{is_bad, told_line}
 

@@ -1,7 +1,7 @@
 -- How what is due is written batch by batch, by what a teller has taken and by what waits.
 use Rattle.std.specs.Prelude.{◌≡◌, ℕ, List, [], ◌++◌, Option}
 use Rattle.std.specs.Io.KnownBytes.{Appends, Consumes}
-use Rattle.jx_report.specs.Ends.{ReadsToEnd, AppendsBeginning}
+use Rattle.jx_ends.specs.Ends.{ReadsToEnd, AppendsBeginning}
 use Rattle.jx_ndjson_report.specs.Reports.{Dues}
 
 -- a batch was taken, and the lines that were due then were written

@@ -7,8 +7,8 @@ use Rattle.std.specs.declared.alloc.Global.{Global}
 use Rattle.jx_portion.specs.declared.fault.DecodeFault.{DecodeFault}
 use Rattle.jx_portion.specs.declared.fault.DecodeFault.TheVariants as refused
 use Rattle.jx_portion.specs.Portion.{PortionValue, IsPortion, IsRecord, IsSaidBy}
-use Rattle.jx_report.specs.Ends.{ReadsToEnd}
-use Rattle.jx_report.specs.declared.report_fault.ReportFault.TheVariants.{Memory}
+use Rattle.jx_ends.specs.Ends.{ReadsToEnd}
+use Rattle.jx_ends.specs.declared.report_fault.ReportFault.TheVariants.{Memory}
 use Rattle.jx_parts.specs.Records.{behind, AreRecords, AreRuns, HoldsRuns}
 use Rattle.jx_parts.specs.Refusals.{refusal_of, IsHead}
 use Rattle.jx_parts.specs.declared.parts_fault.PartsFault.{PartsFault}

@@ -11,8 +11,8 @@ use Rattle.jx_task.specs.declared.task.Task.{Task}
 use Rattle.jx_task.specs.declared.task.Task.TheVariants.{Check, Seq}
 use Rattle.jx_report.specs.declared.reading.Reading.{Reading}
 use Rattle.jx_report.specs.declared.reading.Reading.TheVariants.{Text, Names, Pointers, Elements}
-use Rattle.jx_report.specs.declared.report_fault.ReportFault.{ReportFault}
-use Rattle.jx_report.specs.declared.report_fault.ReportFault.TheVariants.{Read, Write, Pieces}
+use Rattle.jx_ends.specs.declared.report_fault.ReportFault.{ReportFault}
+use Rattle.jx_ends.specs.declared.report_fault.ReportFault.TheVariants.{Read, Write, Pieces}
 use Rattle.jx_report.specs.inside.PointerReads.{IsPointerRead}
 use Rattle.jx_report.specs.inside.Sequences.{IsSequenceRead}
 

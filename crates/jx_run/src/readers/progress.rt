@@ -1,7 +1,10 @@
 // How far the reading of a text came, and how it goes on over a stack that knows all open containers.
-ghost use Rattle.std.specs.Prelude.{◌≡◌, ◌+◌, ◌<◌, ◌^◌, ◌++◌, ◌≤◌, ℕ, List, [], IfOk, IsErr, length, take};
+ghost use Rattle.std.specs.Prelude.{◌≡◌, ◌+◌, ◌<◌, ◌^◌, ◌++◌, ◌≤◌, ℕ, List, [], IfOk, IfSome, IsErr, IsNone, OnOk, length, slice_range, take};
 ghost use Rattle.jx_lex.specs.declared.alphabet.mark.Mark.{Mark};
+ghost use Rattle.jx_lex.specs.declared.alphabet.state.LexState.TheVariants.{Gap};
 ghost use Rattle.jx_lex.specs.Lex.{lex};
+ghost use Rattle.jx_lex.specs.Seen.{GoesTo, SeesTrack, WantsNoMore};
+ghost use Rattle.jx_lex.specs.View.{exit_of};
 ghost use Rattle.jx_reduce.specs.KnownStack.{Known, HasRead as StackHasRead};
 ghost use Rattle.jx_reduce.specs.Read.{Reading, read as read_marks};
 ghost use Rattle.jx_reduce.specs.Whole.{whole_of};
@@ -75,6 +78,56 @@ pub(crate) fn settled(base: usize, exit: Option<LexExit>, whole: Whole) -> Progr
     }
 }
 
+/// Lets the stack read whole tokens from between tokens on, where a slice begins. `scan` has a loop of its own for them.
+#[inline(never)]
+fn passed<S: OpenStack>(stack: &mut S, slice: &[u8], to: usize) -> usize
+    requires { to ≤ length slice.now }
+    ensures bounds { result ≤ to }
+    ensures read { GoesTo (S.has_seen stack.old) (S.has_seen stack.new) (lex Gap 0 (slice_range slice.now 0 result)) Gap }
+{
+    stack.pass(slice, 0, to)
+}
+
+/// Reads the bytes of a slice before `to` from between tokens on, and gives where that ends; none where the stack wanted no more
+/// before. Mostly the stack reads a short slice by itself, and no scan begins.
+#[inline(always)]
+fn read_between<S: OpenStack>(
+    stack: &mut S,
+    slice: &[u8],
+    to: usize,
+) -> Result<Option<LexExit>, AllocError>
+    requires { to ≤ length slice.now }
+    ensures seen { OnOk result (SeesTrack (S.has_seen stack.old) (S.has_seen stack.new) (lex Gap 0 (slice_range slice.now 0 to))) }
+    ensures exit { IfOk result (λ exit. IfSome exit (λ e. exit_of e ≡ (lex Gap 0 (slice_range slice.now 0 to)).exit)) }
+    ensures done { IfOk result (λ exit. IsNone exit → WantsNoMore (S.has_seen stack.new)) }
+{
+    let at = passed(stack, slice, to);
+    if at == to {
+        return Ok(Some(LexExit::State(LexState::Gap)));
+    }
+    let exit = scan(stack, LexState::Gap, slice, at, to)?;
+    Ok(exit)
+}
+
+/// Reads the bytes of a slice before `to`, and gives where that ends; none where the stack wanted no more before.
+#[inline(always)]
+fn read_to<S: OpenStack>(
+    stack: &mut S,
+    state: LexState,
+    slice: &[u8],
+    to: usize,
+) -> Result<Option<LexExit>, AllocError>
+    requires { to ≤ length slice.now }
+    ensures seen { OnOk result (SeesTrack (S.has_seen stack.old) (S.has_seen stack.new) (lex state 0 (slice_range slice.now 0 to))) }
+    ensures exit { IfOk result (λ exit. IfSome exit (λ e. exit_of e ≡ (lex state 0 (slice_range slice.now 0 to)).exit)) }
+    ensures done { IfOk result (λ exit. IsNone exit → WantsNoMore (S.has_seen stack.new)) }
+{
+    match state {
+        LexState::Gap => read_between(stack, slice, to),
+        _ => scan(stack, state, slice, 0, to),
+    }
+}
+
 /// Reads the bytes of a slice before `to`, which stand from `base` on.
 fn read_slice<S: OpenStack>(
     stack: &mut S,
@@ -88,7 +141,7 @@ fn read_slice<S: OpenStack>(
     ensures goes_on { IfOk result (λ progress. (marks : List Mark) → StackHasRead marks (S.known stack.old)
         → GoesOn (S.known stack.old) (lex state 0 (take to slice.now)) (read_marks (S.known stack.old).depth (lex state 0 (take to slice.now)).marks (S.known stack.old).reading) base progress (S.known stack.new)) }
 {
-    let exit = scan(stack, state, slice, 0, to)?;
+    let exit = read_to(stack, state, slice, to)?;
     Ok(settled(base, exit, stack.whole()))
 }
 

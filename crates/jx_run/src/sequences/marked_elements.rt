@@ -1,5 +1,5 @@
 // Elements of a JSON text sequence that stand between two record separators, of which verdicts alone are kept.
-ghost use Rattle.std.specs.Prelude.{◌≡◌, ◌<◌, ◌+◌, ◌^◌, ℕ, List, length, map, IfOk};
+ghost use Rattle.std.specs.Prelude.{◌≡◌, ◌<◌, ◌≤◌, ◌+◌, ◌-◌, ◌^◌, ℕ, List, length, map, slice_range, IfOk};
 ghost use Rattle.std.specs.List.{AllZip};
 ghost use Rattle.jx_run.specs.Elements.{Part, filled, part};
 ghost use Rattle.jx_run.specs.ElementsRun.{IsPartRun};
@@ -21,25 +21,31 @@ use jx_lex::{Depth, Span};
 use jx_summary::Summary;
 use std::alloc::{AllocError, Global};
 
-/// The verdict on an element behind a record separator, whose first byte has this offset. The reader begins anew.
+/// The verdict on an element behind a record separator: the bytes of a text between two places, the first of which has the
+/// offset `start`. The reader begins anew, and takes what stands behind as room, so that it takes the last tokens as fast as
+/// the others.
 pub(crate) fn read_element(
     reader: &mut Reader,
-    bytes: &[u8],
+    text: &[u8],
+    from: usize,
+    to: usize,
     start: usize,
 ) -> Result<JudgedElement, AllocError>
+    requires ordered { from ≤ to }
+    requires within { to ≤ length text.now }
     requires marked { 0 < start }
-    requires fits { start + length bytes.now < 2 ^ 64 }
+    requires fits { start + (to - from) < 2 ^ 64 }
     requires plain { reader.old.settings.mark ≡ Refused }
     ensures settings { reader.new.settings ≡ reader.old.settings }
-    ensures judged { IfOk result (IsJudgedElement reader.old.settings.depth (part start bytes.now)) }
+    ensures judged { IfOk result (IsJudgedElement reader.old.settings.depth (part start (slice_range text.now from to))) }
 {
     a_refused_mark_changes_nothing();
     reader.reset(start);
-    reader.feed(bytes)?;
-    let end = start + bytes.len();
+    reader.feed_beginning(&text[from..], to - from)?;
+    let end = start + (to - from);
     Ok(JudgedElement {
         span: Span { start, end },
-        verdict: told(reader.verdict(), ends_open(bytes)),
+        verdict: told(reader.verdict(), ends_open(&text[from..to])),
     })
 }
 
@@ -67,7 +73,7 @@ impl Piece for PartRun {
         let mut from = start;
         while let Some(at) = next_separator(text, from, end) {
             if from < at {
-                done.push(read_element(&mut reader, &text[from..at], from)?)?;
+                done.push(read_element(&mut reader, text, from, at, from)?)?;
             }
             from = at + 1;
         }

@@ -34,12 +34,12 @@ pub fn elements_of_part(
     let mut from = 1;
     while let Some(at) = next_separator(part, from, part.len()) {
         if from < at {
-            judged.push(read_element(&mut reader, &part[from..at], before + from)?)?;
+            judged.push(read_element(&mut reader, part, from, at, before + from)?)?;
         }
         from = at + 1;
     }
     if from < part.len() {
-        judged.push(read_element(&mut reader, &part[from..part.len()], before + from)?)?;
+        judged.push(read_element(&mut reader, part, from, part.len(), before + from)?)?;
     }
     Ok(judged)
 }

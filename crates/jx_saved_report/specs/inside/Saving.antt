@@ -1,5 +1,5 @@
 -- What was read of an input whose index is saved.
-use Rattle.std.specs.Prelude.{◌≡◌, ℕ, List, Option, Result, Ok, Err}
+use Rattle.std.specs.Prelude.{◌≡◌, ℕ, List, Bool, true, false, Option, None, Some, Result, Ok, Err}
 use Rattle.std.specs.Io.KnownBytes.{Consumes}
 use Rattle.jx_run.specs.declared.texts.settings.NameRule.TheVariants.{Any, Unique}
 use Rattle.jx_run.specs.declared.texts.settings.Settings.{Settings}
@@ -12,9 +12,14 @@ use Rattle.jx_saved.specs.declared.index.Index.{Index}
 use Rattle.jx_saved.specs.declared.indexer.Indexer.{Indexer}
 use Rattle.jx_saved.specs.Index.{IsIndexOf}
 use Rattle.jx_saved.specs.Indexer.{HasFed}
-use Rattle.jx_report.specs.Ends.{ReadsToEnd}
+use Rattle.jx_saved_names.specs.declared.names_maker.NamesMaker.{NamesMaker}
+use Rattle.jx_saved_names.specs.declared.saved_text.SavedText.{SavedText}
+use Rattle.jx_saved_names.specs.Fed as tables
+use Rattle.jx_ends.specs.Ends.{ReadsToEnd}
+use Rattle.jx_saved_report.specs.declared.naming.TextSaving.{TextSaving}
 use Rattle.jx_saved_report.specs.declared.saving.Saving.{Saving}
 use Rattle.jx_saved_report.specs.declared.saving.Saving.TheVariants as saving
+use Rattle.jx_saved_report.specs.Output.{HasNames}
 
 -- the same settings, but for the names, which may be any
 abbrev pub any_names : Settings → Settings
@@ -31,19 +36,44 @@ pub record IsByNames (settings : Settings) (chunk : ℕ) (bytes : List ℕ) (ind
   pub fed : HasFed (any_names settings) chunk bytes indexer
   pub is_verdict : IsVerdictBy settings bytes verdict
 
--- the reader gave these bytes, and they were read
-pub record HasReadOn (settings : Settings) (chunk : ℕ) (unread left : Option (List ℕ)) (saving : Saving) : Type 0 where
-  pub text : List ℕ
-  pub read : Consumes unread left text
-  pub of : IsSavingOf settings chunk text saving
-
 -- what a text comes to: its index, or why it is none
 abbrev pub Comes : Settings → ℕ → List ℕ → Result Index Refusal → Type 0
 Comes settings chunk text (Ok index) = IsVerdictBy settings text Accepted × IsIndexOf settings chunk text index
 Comes settings chunk text (Err refusal) = IsVerdictBy settings text (Refused refusal)
 
+-- ---- with tables of names, where these are asked for
+
+-- a maker of tables was fed these bytes, where there has to be one
+abbrev pub AreFed : Bool → Settings → ℕ → List ℕ → Option NamesMaker → Type 0
+AreFed true settings chunk bytes (Some maker) = tables.HasFed settings chunk bytes maker
+AreFed true settings chunk bytes None = ⊥
+AreFed false settings chunk bytes (Some maker) = ⊥
+AreFed false settings chunk bytes None = Unit {0}
+
+-- these bytes were read from the start of an input
+pub record IsTextSavingOf (has_names : Bool) (settings : Settings) (chunk : ℕ) (bytes : List ℕ) (saving : TextSaving) : Type 0 where
+  pub index : IsSavingOf settings chunk bytes saving.index
+  pub names : AreFed has_names settings chunk bytes saving.names
+
+-- the reader gave these bytes, and they were read
+pub record HasReadOn (has_names : Bool) (settings : Settings) (chunk : ℕ) (unread left : Option (List ℕ)) (saving : TextSaving) : Type 0 where
+  pub text : List ℕ
+  pub read : Consumes unread left text
+  pub of : IsTextSavingOf has_names settings chunk text saving
+
+-- what is saved of a text
+pub record IsSaved (has_names : Bool) (settings : Settings) (chunk : ℕ) (text : List ℕ) (saved : SavedText) : Type 0 where
+  pub accepted : IsVerdictBy settings text Accepted
+  pub index : IsIndexOf settings chunk text saved.index
+  pub names : HasNames has_names settings chunk text saved.names
+
+-- what a text comes to: what is saved of it, or why it is none
+abbrev pub ComesToSaved : Bool → Settings → ℕ → List ℕ → Result SavedText Refusal → Type 0
+ComesToSaved has_names settings chunk text (Ok saved) = IsSaved has_names settings chunk text saved
+ComesToSaved has_names settings chunk text (Err refusal) = IsVerdictBy settings text (Refused refusal)
+
 -- all that the reader had was read, and this is what it comes to
-pub record IsRead (settings : Settings) (chunk : ℕ) (unread left : Option (List ℕ)) (saved : Result Index Refusal) : Type 0 where
+pub record IsRead (has_names : Bool) (settings : Settings) (chunk : ℕ) (unread left : Option (List ℕ)) (saved : Result SavedText Refusal) : Type 0 where
   pub text : List ℕ
   pub read : ReadsToEnd unread left text
-  pub comes : Comes settings chunk text saved
+  pub comes : ComesToSaved has_names settings chunk text saved

@@ -6,7 +6,7 @@ use Rattle.jx_find.specs.declared.finder.Finder.{Finder}
 use Rattle.jx_each.specs.declared.content.LineContent.{LineContent}
 use Rattle.jx_each.specs.Due.{IsDueBy}
 use Rattle.jx_each.specs.Each.{EachValue, HasTakenBy}
-use Rattle.jx_report.specs.Ends.{ReadsToEnd, AppendsBeginning}
+use Rattle.jx_ends.specs.Ends.{ReadsToEnd, AppendsBeginning}
 use Rattle.jx_values.specs.inside.Sought.{HasSought, any_names}
 
 -- a batch was taken, and the lines that were due then were written

@@ -10,8 +10,8 @@ use Rattle.jx_index.specs.declared.pointer.PointerFault.{PointerFault}
 use Rattle.jx_index.specs.Leads.{Numbered, kind_of, led}
 use Rattle.jx_index.specs.PointerFaults.{IsFaultOf}
 use Rattle.jx_index.specs.Pointers.{IsPointer, tokens}
-use Rattle.jx_report.specs.declared.pointer_answer.PointerAnswer.{PointerAnswer}
-use Rattle.jx_report.specs.declared.pointer_answer.PointerAnswer.TheVariants.{Lost, Unread}
+use Rattle.jx_words.specs.declared.pointer_answer.PointerAnswer.{PointerAnswer}
+use Rattle.jx_words.specs.declared.pointer_answer.PointerAnswer.TheVariants.{Lost, Unread}
 use Rattle.jx_split.specs.declared.part.ContainerPart.{ContainerPart}
 use Rattle.jx_split.specs.Parts.{IsContainer, parts_of}
 

@@ -1,8 +1,8 @@
 -- The answer on a value that stands alone.
 use Rattle.std.specs.Prelude.{ℕ}
 use Rattle.jx_summary.specs.declared.span.Span.{Span}
-use Rattle.jx_report.specs.declared.pointer_answer.PointerAnswer.{PointerAnswer}
-use Rattle.jx_report.specs.declared.pointer_answer.PointerAnswer.TheVariants.{Found, Lost, Unread}
+use Rattle.jx_words.specs.declared.pointer_answer.PointerAnswer.{PointerAnswer}
+use Rattle.jx_words.specs.declared.pointer_answer.PointerAnswer.TheVariants.{Found, Lost, Unread}
 
 -- where the value stands in its text; no bytes where there is none
 abbrev pub span_of : PointerAnswer → Span

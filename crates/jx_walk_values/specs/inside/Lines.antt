@@ -2,8 +2,8 @@
 use Rattle.std.specs.Prelude.{◌≡◌, ◌≤◌, ℕ, List, ◌++◌, Option, flat_map, length, min, take}
 use Rattle.std.specs.Io.KnownBytes.{Appends}
 use Rattle.jx_saved.specs.declared.index.Index.{Index}
-use Rattle.jx_report.specs.declared.pointer_answer.PointerAnswer.{PointerAnswer}
-use Rattle.jx_report.specs.Ends.{AppendsBeginning}
+use Rattle.jx_words.specs.declared.pointer_answer.PointerAnswer.{PointerAnswer}
+use Rattle.jx_ends.specs.Ends.{AppendsBeginning}
 use Rattle.jx_values.specs.declared.form.Form.{Form}
 use Rattle.jx_values.specs.Values.{told_line, told_lines, value_line}
 use Rattle.jx_walk_values.specs.inside.Texts.{OfEachText}

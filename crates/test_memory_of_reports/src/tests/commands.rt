@@ -41,7 +41,7 @@ const COMMANDS: [(&[&str], &str); 14] = [
     ),
     (
         &["each", "/a", "--file", "F", "--depth", "7", "--piece", "5"],
-        "each /a; depth 7, workers 4, piece 5, file F",
+        "each /a; depth 7, workers 1, piece 5, file F",
     ),
     (
         &["lines", "F", "G", "--depth", "7", "--skip-blank", "-q"],
@@ -61,8 +61,8 @@ const COMMANDS: [(&[&str], &str); 14] = [
         "seq, live; depth 7, mark Ignored, quiet, inputs F G",
     ),
     (
-        &["save", "F", "--depth", "7", "--chunk", "64"],
-        "save; depth 7, chunk 64, file F",
+        &["save", "F", "--depth", "7", "--chunk", "64", "--names"],
+        "save; depth 7, chunk 64, with names, file F",
     ),
     (
         &["split", "/a", "--index", "I", "--file", "F", "--parts", "8"],
@@ -236,6 +236,9 @@ fn line_of_save(alloc: Global, order: &SaveOrder<'_>) -> Result<String, AllocErr
     let depth = order.settings.depth.containers();
     let chunk = order.chunk.bytes();
     let mut line = format!(in alloc; "save; depth {depth}, chunk {chunk}")?;
+    if order.has_names {
+        line.push_str(", with names")?;
+    }
     add_inputs(&mut line, &Inputs::One(order.input))?;
     Ok(line)
 }

@@ -3,8 +3,9 @@
 ghost use Rattle.std.specs.Prelude.{◌≡◌, IfOk};
 
 use jx_crew::{Event, Gate, Go, Workers};
+use jx_ends::{End, Exit, ReportFault};
 use jx_lex::Depth;
-use jx_report::{End, Exit, ReportFault, report, report_in_batches};
+use jx_report::{report, report_in_batches};
 use jx_run::{FrontMark, NameRule};
 use jx_task::{Command, Task};
 use std::alloc::{AllocError, Global};

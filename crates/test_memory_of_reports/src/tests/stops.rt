@@ -2,8 +2,9 @@
 ghost use Rattle.std.specs.Prelude.{◌≤◌, ◌<◌};
 
 use jx_crew::Workers;
+use jx_ends::{End, Exit};
 use jx_lex::Depth;
-use jx_report::{End, Exit, report_in_batches};
+use jx_report::report_in_batches;
 use jx_run::{FrontMark, NameRule};
 use jx_task::{Command, Task};
 use std::alloc::Global;

@@ -3,8 +3,9 @@ ghost use Rattle.std.specs.Prelude.{◌≡◌, IfOk};
 
 use crate::tests::meeting::{Meeting, Until};
 use jx_crew::Workers;
+use jx_ends::{End, Exit};
 use jx_lex::Depth;
-use jx_report::{End, Exit, report, report_in_batches};
+use jx_report::{report, report_in_batches};
 use jx_run::{FrontMark, NameRule, Settings};
 use jx_task::{Command, Task};
 use std::test::Fail;

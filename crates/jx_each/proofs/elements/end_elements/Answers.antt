@@ -18,7 +18,7 @@ loop-at-init c =
       begin = r.begin;
       high = r.high;
       most = omega arith;
-      led = led_none_at _ c.args.nest _ c.args.bytes.now (c.args.base + c.args.from);
+      led = led_none_at _ c.args.nest _ c.args.bytes.now (c.args.view.base + c.args.from);
     }
 
 pub returns-then-stop-to-clause-led : goal.returns-then-stop-to-clause-led
@@ -27,26 +27,26 @@ returns-then-stop-to-clause-led c =
     let n = c.next_set-stop.ensures in
     let s = c.stops_at.ensures in
     let xs = c.args.bytes.now in
-    let base = c.args.base in
+    let base = c.args.view.base in
     let most : c.args.to ≤ 64 = c.requires.order.1 in
     led_slice xs (base + c.args.from) (base + c.loop-at.at) (base + c.args.to) (omega (arith, i.low)) (omega (arith, i.within)) i.led
-    (lies_led c.loop-at.lines.items xs base c.loop-at.at c.args.to i.lies _ _ c.loop-at.nest c.args.to i.within (omega arith) i.begin
-    (walk_quiet xs base c.args.inside c.args.words c.requires.room c.requires.told c.loop-at.nest.height c.loop-at.at c.args.to i.within most
-    (λ k low lt. still_by xs base c.args.inside c.args.words c.requires.room c.requires.told c.loop-at.nest.height c.stops_at.result s.brackets s.borders s.set k (omega (arith, lt, most))
+    (lies_led c.loop-at.made xs base c.loop-at.at c.args.to i.lies _ _ c.loop-at.nest c.args.to i.within (omega arith) i.begin
+    (walk_quiet xs base c.args.view.inside c.args.view.words c.requires.room c.requires.told c.loop-at.nest.height c.loop-at.at c.args.to i.within most
+    (λ k low lt. still_by xs base c.args.view.inside c.args.view.words c.requires.room c.requires.told c.loop-at.nest.height c.stops_at.result s.brackets s.borders s.set k (omega (arith, lt, most))
     (n.none k low (omega (arith, lt, c.if-stop-to.true))) (c.requires.solid k (omega (arith, low, i.low)) lt))))
 
 pub pass_stop-requires-clause-byte : goal.pass_stop-requires-clause-byte
 pass_stop-requires-clause-byte c =
     let i = c.loop-at.invariant in
     let n = c.next_set-stop.ensures in
-    let ys = c.loop-at.lines.items in
+    let ys = c.loop-at.made in
     let stop = c.next_set-stop.result in
-    let long : c.len-len.result ≡ length ys = c.len-len.ensures ∙ c.args.lines.now.ok.0 ∙ sym i.same in
+    let long : length c.args.made.now ≡ length ys = sym i.same in
     let lt : stop < c.args.to = omega (arith, c.if-stop-to.false) in
     let most : c.args.to ≤ 64 = c.requires.order.1 in
-    let room : c.args.base + 64 ≤ length c.args.bytes.now = c.requires.room in
+    let room : c.args.view.base + 64 ≤ length c.args.bytes.now = c.requires.room in
     ap (λ (m : ℕ). get_or ys (m - (c.args.to - stop)) 0) long
-    ∙ lies_byte ys c.args.bytes.now c.args.base stop c.args.to (lies_on ys c.args.bytes.now c.args.base c.loop-at.at c.args.to i.lies stop n.bounds.0 (omega (arith, lt))) lt (omega (arith, most, room))
+    ∙ lies_byte ys c.args.bytes.now c.args.view.base stop c.args.to (lies_on ys c.args.bytes.now c.args.view.base c.loop-at.at c.args.to i.lies stop n.bounds.0 (omega (arith, lt))) lt (omega (arith, most, room))
 
 pub pass_stop-requires-clause-outside : goal.pass_stop-requires-clause-outside
 pass_stop-requires-clause-outside c =
@@ -54,7 +54,7 @@ pass_stop-requires-clause-outside c =
     let s = c.stops_at.ensures in
     let most : c.args.to ≤ 64 = c.requires.order.1 in
     let lt : c.next_set-stop.result < 64 = omega (arith, c.if-stop-to.false, most) in
-    let b = stop_by c.args.bytes.now c.args.base c.args.inside c.args.words c.requires.room c.requires.told c.loop-at.nest.height c.stops_at.result s.brackets s.borders s.set c.next_set-stop.result lt (n.set lt) in
+    let b = stop_by c.args.bytes.now c.args.view.base c.args.view.inside c.args.view.words c.requires.room c.requires.told c.loop-at.nest.height c.stops_at.result s.brackets s.borders s.set c.next_set-stop.result lt (n.set lt) in
     (b.2, b.3)
 
 pub returns-in_default-clause-led : goal.returns-in_default-clause-led
@@ -63,16 +63,16 @@ returns-in_default-clause-led c =
     let n = c.next_set-stop.ensures in
     let s = c.stops_at.ensures in
     let xs = c.args.bytes.now in
-    let base = c.args.base in
+    let base = c.args.view.base in
     let stop = c.next_set-stop.result in
     let most : c.args.to ≤ 64 = c.requires.order.1 in
     let lt : stop < c.args.to = omega (arith, c.if-stop-to.false) in
-    subst (λ (l : List ℕ). IsLed (place_at c.args.inside c.args.words c.args.from) c.args.nest (made_at c.args.lines.now.items c.args.from c.args.to) (slice_range xs (base + c.args.from) (base + stop)) (place_at c.args.inside c.args.words stop) c.loop-at.nest (made_at l stop c.args.to))
+    subst (λ (l : List ℕ). IsLed (place_at c.args.view.inside c.args.view.words c.args.from) c.args.nest (made_at c.args.made.now c.args.from c.args.to) (slice_range xs (base + c.args.from) (base + stop)) (place_at c.args.view.inside c.args.view.words stop) c.loop-at.nest (made_at l stop c.args.to))
     (sym (c.in_default.ensures.none refl))
     (led_slice xs (base + c.args.from) (base + c.loop-at.at) (base + stop) (omega (arith, i.low)) (omega (arith, n.bounds.0)) i.led
-    (lies_led c.loop-at.lines.items xs base c.loop-at.at c.args.to i.lies _ _ c.loop-at.nest stop n.bounds.0 (omega (arith, lt)) i.begin
-    (walk_quiet xs base c.args.inside c.args.words c.requires.room c.requires.told c.loop-at.nest.height c.loop-at.at stop n.bounds.0 (omega (arith, lt, most))
-    (λ k low l. still_by xs base c.args.inside c.args.words c.requires.room c.requires.told c.loop-at.nest.height c.stops_at.result s.brackets s.borders s.set k (omega (arith, l, lt, most))
+    (lies_led c.loop-at.made xs base c.loop-at.at c.args.to i.lies _ _ c.loop-at.nest stop n.bounds.0 (omega (arith, lt)) i.begin
+    (walk_quiet xs base c.args.view.inside c.args.view.words c.requires.room c.requires.told c.loop-at.nest.height c.loop-at.at stop n.bounds.0 (omega (arith, lt, most))
+    (λ k low l. still_by xs base c.args.view.inside c.args.view.words c.requires.room c.requires.told c.loop-at.nest.height c.stops_at.result s.brackets s.borders s.set k (omega (arith, l, lt, most))
     (n.none k low l) (c.requires.solid k (omega (arith, low, i.low)) (omega (arith, l, lt)))))))
 
 pub loop-at-preserved : goal.loop-at-preserved
@@ -81,9 +81,9 @@ loop-at-preserved c =
     let n = c.next_set-stop.ensures in
     let s = c.stops_at.ensures in
     let xs = c.args.bytes.now in
-    let ys = c.loop-at.lines.items in
-    let zs = c.pass_stop.new.lines.items in
-    let base = c.args.base in
+    let ys = c.loop-at.made in
+    let zs = c.pass_stop.new.made in
+    let base = c.args.view.base in
     let stop = c.next_set-stop.result in
     let to = c.args.to in
     let most : to ≤ 64 = c.requires.order.1 in
@@ -92,13 +92,13 @@ loop-at-preserved c =
     let low : c.loop-at.at ≤ stop = n.bounds.0 in
     let lies : Lies ys xs base stop to = lies_on ys xs base c.loop-at.at to i.lies stop low (omega (arith, lt)) in
     let long : to - stop ≤ length ys = lies.long in
-    let len : c.len-len.result ≡ length ys = c.len-len.ensures ∙ c.args.lines.now.ok.0 ∙ sym i.same in
-    let at : c.len-len.result - (to - stop) ≡ length ys - (to - stop) = ap (λ (m : ℕ). m - (to - stop)) len in
+    let len : length c.args.made.now ≡ length ys = sym i.same in
+    let at : length c.args.made.now - (to - stop) ≡ length ys - (to - stop) = ap (λ (m : ℕ). m - (to - stop)) len in
     let same : length zs ≡ length ys = c.pass_stop.ensures.length in
     let next = c.in-Some.ensures in
-    let begin : c.in-Some.next.begin ≤ c.len-len.result - (to - stop) + 1 = next.begin in
+    let begin : c.in-Some.next.begin ≤ length c.args.made.now - (to - stop) + 1 = next.begin in
     let high : c.in-Some.next.height ≤ c.loop-at.nest.height + 1 = next.high.1 in
-    let b = stop_by xs base c.args.inside c.args.words room c.requires.told c.loop-at.nest.height c.stops_at.result s.brackets s.borders s.set stop (omega (arith, lt, most)) (n.set (omega (arith, lt, most))) in
+    let b = stop_by xs base c.args.view.inside c.args.view.words room c.requires.told c.loop-at.nest.height c.stops_at.result s.brackets s.borders s.set stop (omega (arith, lt, most)) (n.set (omega (arith, lt, most))) in
     record {
       low = omega (arith, i.low, low);
       within = omega (arith, lt);
@@ -111,8 +111,8 @@ loop-at-preserved c =
           led_slice xs (base + c.args.from) (base + stop) (base + (stop + 1)) (omega (arith, i.low, low)) (omega arith)
           (led_slice xs (base + c.args.from) (base + c.loop-at.at) (base + stop) (omega (arith, i.low)) (omega (arith, low)) i.led
           (lies_led ys xs base c.loop-at.at to i.lies _ _ c.loop-at.nest stop low (omega (arith, lt)) i.begin
-          (walk_quiet xs base c.args.inside c.args.words room c.requires.told c.loop-at.nest.height c.loop-at.at stop low (omega (arith, lt, most))
-          (λ k l u. still_by xs base c.args.inside c.args.words room c.requires.told c.loop-at.nest.height c.stops_at.result s.brackets s.borders s.set k (omega (arith, u, lt, most))
+          (walk_quiet xs base c.args.view.inside c.args.view.words room c.requires.told c.loop-at.nest.height c.loop-at.at stop low (omega (arith, lt, most))
+          (λ k l u. still_by xs base c.args.view.inside c.args.view.words room c.requires.told c.loop-at.nest.height c.stops_at.result s.brackets s.borders s.set k (omega (arith, u, lt, most))
           (n.none k l u) (c.requires.solid k (omega (arith, l, i.low)) (omega (arith, u, lt)))))))
-          (led_stop ys zs xs base stop to (c.len-len.result - (to - stop)) _ _ c.loop-at.nest c.in-Some.next lt long (omega (arith, most, room)) same at b.0 b.1 next.led);
+          (led_stop ys zs xs base stop to (length c.args.made.now - (to - stop)) _ _ c.loop-at.nest c.in-Some.next lt long (omega (arith, most, room)) same at b.0 b.1 next.led);
     }

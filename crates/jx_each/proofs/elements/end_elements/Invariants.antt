@@ -10,13 +10,13 @@ abbrev pub invariant-loop-at : goal.invariant-loop-at
 invariant-loop-at l = record {
   low : l.from ≤ l.at;
   within : l.at ≤ l.to;
-  same : length l.lines.items ≡ length l.initial.lines.items;
-  lies : Lies l.lines.items l.bytes l.base l.at l.to;
-  begin : l.nest.begin ≤ length l.lines.items - (l.to - l.at);
+  same : length l.made ≡ length l.initial.made;
+  lies : Lies l.made l.bytes l.view.base l.at l.to;
+  begin : l.nest.begin ≤ length l.made - (l.to - l.at);
   high : 1 ≤ l.nest.height;
   most : l.nest.height ≤ l.initial.nest.height + (l.at - l.from);
-  led : IsLed (place_at l.inside l.words l.from) l.initial.nest (made_at l.initial.lines.items l.from l.to) (slice_range l.bytes (l.base + l.from) (l.base + l.at))
-      (place_at l.inside l.words l.at) l.nest (made_at l.lines.items l.at l.to);
+  led : IsLed (place_at l.view.inside l.view.words l.from) l.initial.nest (made_at l.initial.made l.from l.to) (slice_range l.bytes (l.view.base + l.from) (l.view.base + l.at))
+      (place_at l.view.inside l.view.words l.at) l.nest (made_at l.made l.at l.to);
 }
 
 abbrev pub decreases-loop-at : goal.decreases-loop-at

@@ -11,11 +11,11 @@ use Rattle.jx_each.proofs.nest.pass_stop.Goals as goal
 
 pub returns-then-is_within-clause-led : goal.returns-then-is_within-clause-led
 returns-then-is_within-clause-led c =
-    let out = take c.args.at c.args.lines.now.items in
+    let out = take c.args.at c.args.made.now in
     let b = c.args.byte in
     let high : height_next Between c.args.nest.height b ≡ c.height_next.result = sym c.height_next.ensures.value in
-    let long : length out ≡ c.args.at = length-take-le c.args.at c.args.lines.now.items (omega (arith, c.requires.within)) in
-    let more : take (c.args.at + 1) c.args.lines.now.items ≡ out ++ (b ∷ []) = take_more c.args.lines.now.items c.args.at 0 c.requires.within ∙ ap (λ (x : ℕ). out ++ x ∷ []) c.requires.byte in
+    let long : length out ≡ c.args.at = length-take-le c.args.at c.args.made.now (omega (arith, c.requires.within)) in
+    let more : take (c.args.at + 1) c.args.made.now ≡ out ++ (b ∷ []) = take_more c.args.made.now c.args.at 0 c.requires.within ∙ ap (λ (x : ℕ). out ++ x ∷ []) c.requires.byte in
     subst (λ (l : List ℕ). IsLed Between c.args.nest out (b ∷ []) Between (record { begin = c.args.nest.begin; height = c.height_next.result }) l) (sym more)
     (led_stretch Between Between c.args.nest c.height_next.result out (b ∷ []) (omega (arith, long, c.requires.begin))
     (subst (λ (k : ℕ). IsStretch Between c.args.nest.height (b ∷ []) Between k) high
@@ -24,10 +24,10 @@ returns-then-is_within-clause-led c =
 
 pub returns-then-nest-at-clause-led : goal.returns-then-nest-at-clause-led
 returns-then-nest-at-clause-led c =
-    let out = take c.args.at c.args.lines.now.items in
-    let long : length out ≡ c.args.at = length-take-le c.args.at c.args.lines.now.items (omega (arith, c.requires.within)) in
+    let out = take c.args.at c.args.made.now in
+    let long : length out ≡ c.args.at = length-take-le c.args.at c.args.made.now (omega (arith, c.requires.within)) in
     let one = c.is_within.ensures.near c.if-is_within.false in
     let to : Nest = record { begin = c.args.at + 1; height = c.args.nest.height } in
-    subst (λ (l : List ℕ). IsLed Between c.args.nest out (c.args.byte ∷ []) Between to l) (sym (take_more_set c.args.lines.now.items c.args.at 10 c.requires.within))
+    subst (λ (l : List ℕ). IsLed Between c.args.nest out (c.args.byte ∷ []) Between to l) (sym (take_more_set c.args.made.now c.args.at 10 c.requires.within))
     (subst (λ (b : ℕ). IsLed Between c.args.nest out (b ∷ []) Between to (out ++ 10 ∷ [])) (sym c.if-byte-eq44.true)
     (led_border c.args.nest to out (omega (arith, long, c.if-nest-at.true)) one one (omega (arith, long))))

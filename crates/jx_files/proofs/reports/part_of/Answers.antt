@@ -1,5 +1,5 @@
 use Rattle.std.proofs.Common.{◌≡◌, ℕ, List, [], ◌++◌, codes, ap, ◌∙◌, subst, sym}
-use Rattle.jx_report.specs.Reports.{shown_output}
+use Rattle.jx_words.specs.Verdicts.{shown_output}
 use Rattle.jx_files.specs.declared.status.Status.{Status}
 use Rattle.jx_files.specs.Files.{ways_of, answered, no_memory, part, IsReportedAt}
 use Rattle.jx_files.specs.Naming.{named, shown}

@@ -2,8 +2,8 @@ use Rattle.std.proofs.Common.{List, ℕ, subst}
 use Rattle.std.proofs.lemmas.Result.{err_from_is_err_and}
 use Rattle.std.specs.Prelude.{map, string_bytes}
 use Rattle.std.specs.Io.KnownBytes.{Appends}
-use Rattle.jx_report.specs.declared.report_fault.ReportFault.TheVariants as fault
-use Rattle.jx_report.specs.Ends.{AppendsBeginning}
+use Rattle.jx_ends.specs.declared.report_fault.ReportFault.TheVariants as fault
+use Rattle.jx_ends.specs.Ends.{AppendsBeginning}
 use Rattle.jx_line_values.proofs.Writes.{as_written, fault_back, lines_at_end, lines_of_nothing, part_at_end, reports, same_fault}
 use Rattle.jx_line_values.specs.LineValues.{pointers_of}
 use Rattle.jx_line_values.specs.inside.Looking.{IsTrieOf}
@@ -69,18 +69,18 @@ returns-in_err-exit-clause-lines g c = λ is.
     let f = g.E.Sink.contents c.write_all_due.new.errors in
     lines_at_end task u n w x lost e f c.write_all_due.new.cutter (as_written task u n w x lost e f c.write_all_due.new.cutter c.in_ok-write_all_due.ensures.ok)
 
-pub returns-in_err-write_all-clause-beginning : goal.returns-in_err-write_all-clause-beginning
-returns-in_err-write_all-clause-beginning g c = λ is.
+pub returns-in_err-write_whole-clause-beginning : goal.returns-in_err-write_whole-clause-beginning
+returns-in_err-write_whole-clause-beginning g c = λ is.
     let u = g.S.Source.remaining c.args.reader.now in
     let n = g.S.Source.remaining c.write_all_due.new.reader in
     let w = g.W.Sink.contents c.args.writer.now in
     let x = g.W.Sink.contents c.write_all_due.new.writer in
-    let y = g.W.Sink.contents c.write_all.new.writer in
+    let y = g.W.Sink.contents c.write_whole.new.writer in
     let lost = g.E.Sink.has_failed c.write_all_due.new.errors in
     let e = g.E.Sink.contents c.args.errors.now in
     let f = g.E.Sink.contents c.write_all_due.new.errors in
     part_at_end c.args.task.now u n w x y lost e f c.write_all_due.new.cutter c.finish.new.self c.in_ok-exit.exit c.in_ok-write_all_due.ensures.ok c.in_ok-exit.ensures
-    (subst (λ (l : List ℕ). AppendsBeginning x y l) c.ready.ensures c.in_err-write_all.ensures.err)
+    (subst (λ (l : List ℕ). AppendsBeginning x y l) c.ready.ensures c.in_err-write_whole.ensures.err)
 
 pub returns-clause-ok : goal.returns-clause-ok
 returns-clause-ok g c =
@@ -88,12 +88,12 @@ returns-clause-ok g c =
     let n = g.S.Source.remaining c.write_all_due.new.reader in
     let w = g.W.Sink.contents c.args.writer.now in
     let x = g.W.Sink.contents c.write_all_due.new.writer in
-    let y = g.W.Sink.contents c.write_all.new.writer in
+    let y = g.W.Sink.contents c.write_whole.new.writer in
     let was = g.E.Sink.has_failed c.write_all_due.new.errors in
     let now = g.E.Sink.has_failed c.tell.new.errors in
     let e = g.E.Sink.contents c.args.errors.now in
     let f = g.E.Sink.contents c.write_all_due.new.errors in
     let h = g.E.Sink.contents c.tell.new.errors in
     reports c.args.task.now u n w x y was now e f h c.write_all_due.new.cutter c.finish.new.self c.in_ok-exit.exit c.in_ok-write_all_due.ensures.ok c.in_ok-exit.ensures
-    (subst (λ (l : List ℕ). Appends x y l) c.ready.ensures c.in_ok-write_all.ensures.ok)
+    (subst (λ (l : List ℕ). Appends x y l) c.ready.ensures c.in_ok-write_whole.ensures.ok)
     c.tell.ensures.lost (λ lost. subst (λ (l : List ℕ). Appends f h l) c.told.ensures (c.tell.ensures.told lost))

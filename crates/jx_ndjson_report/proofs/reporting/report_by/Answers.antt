@@ -1,8 +1,8 @@
 use Rattle.std.proofs.Common.{List, ℕ, subst}
 use Rattle.std.proofs.lemmas.Result.{err_from_is_err_and}
 use Rattle.std.specs.Io.KnownBytes.{Appends}
-use Rattle.jx_report.specs.declared.report_fault.ReportFault.TheVariants as fault
-use Rattle.jx_report.specs.Ends.{AppendsBeginning}
+use Rattle.jx_ends.specs.declared.report_fault.ReportFault.TheVariants as fault
+use Rattle.jx_ends.specs.Ends.{AppendsBeginning}
 use Rattle.jx_ndjson_report.proofs.Writes.{as_written, lines_at_end, part_at_end, reports, same_fault}
 use Rattle.jx_ndjson_report.proofs.reporting.report_by.Goals as goal
 
@@ -30,15 +30,15 @@ returns-in_err-exit-clause-lines g c = λ is.
     let x = g.W.Sink.contents c.write_all_due.new.writer in
     lines_at_end (g.T.Teller.has_taken c.args.task.now) g.T.Teller.ready (g.T.Teller.is_due c.args.task.now) (g.T.Teller.is_output c.args.task.now) (c.what_is_taken_is_due.ensures.due c.args.task.now) u n w x c.write_all_due.new.teller (as_written (g.T.Teller.has_taken c.args.task.now) g.T.Teller.ready (g.T.Teller.is_due c.args.task.now) (g.T.Teller.is_output c.args.task.now) u n w x c.write_all_due.new.teller c.in_ok-write_all_due.ensures.ok)
 
-pub returns-in_err-write_all-clause-beginning : goal.returns-in_err-write_all-clause-beginning
-returns-in_err-write_all-clause-beginning g c = λ is.
+pub returns-in_err-write_whole-clause-beginning : goal.returns-in_err-write_whole-clause-beginning
+returns-in_err-write_whole-clause-beginning g c = λ is.
     let u = g.S.Source.remaining c.args.reader.now in
     let n = g.S.Source.remaining c.write_all_due.new.reader in
     let w = g.W.Sink.contents c.args.writer.now in
     let x = g.W.Sink.contents c.write_all_due.new.writer in
-    let y = g.W.Sink.contents c.write_all.new.writer in
+    let y = g.W.Sink.contents c.write_whole.new.writer in
     part_at_end (g.T.Teller.has_taken c.args.task.now) g.T.Teller.ready (g.T.Teller.is_due c.args.task.now) (g.T.Teller.is_output c.args.task.now) u n w x y c.write_all_due.new.teller (g.T.Teller.ready c.finish.new.self) c.in_ok-exit.exit c.in_ok-write_all_due.ensures.ok c.in_ok-exit.ensures.output
-    (subst (λ (l : List ℕ). AppendsBeginning x y l) c.ready.ensures.ready c.in_err-write_all.ensures.err)
+    (subst (λ (l : List ℕ). AppendsBeginning x y l) c.ready.ensures.ready c.in_err-write_whole.ensures.err)
 
 pub returns-clause-ok : goal.returns-clause-ok
 returns-clause-ok g c =
@@ -46,6 +46,6 @@ returns-clause-ok g c =
     let n = g.S.Source.remaining c.write_all_due.new.reader in
     let w = g.W.Sink.contents c.args.writer.now in
     let x = g.W.Sink.contents c.write_all_due.new.writer in
-    let y = g.W.Sink.contents c.write_all.new.writer in
+    let y = g.W.Sink.contents c.write_whole.new.writer in
     reports (g.T.Teller.has_taken c.args.task.now) g.T.Teller.ready (g.T.Teller.is_due c.args.task.now) (g.T.Teller.is_output c.args.task.now) u n w x y c.write_all_due.new.teller (g.T.Teller.ready c.finish.new.self) c.in_ok-exit.exit c.in_ok-write_all_due.ensures.ok c.in_ok-exit.ensures.output
-    (subst (λ (l : List ℕ). Appends x y l) c.ready.ensures.ready c.in_ok-write_all.ensures.ok)
+    (subst (λ (l : List ℕ). Appends x y l) c.ready.ensures.ready c.in_ok-write_whole.ensures.ok)

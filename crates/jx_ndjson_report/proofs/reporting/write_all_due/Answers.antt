@@ -1,6 +1,6 @@
 use Rattle.std.proofs.Common.{◌≡◌, ◌∙◌, rules, subst, sym}
 use Rattle.std.proofs.lemmas.Result.{err_from_is_err_and}
-use Rattle.jx_report.specs.declared.report_fault.ReportFault.TheVariants as fault
+use Rattle.jx_ends.specs.declared.report_fault.ReportFault.TheVariants as fault
 use Rattle.jx_ndjson_report.specs.Reports.{WroteLines}
 use Rattle.jx_ndjson_report.proofs.Writes.{due_at_fault, fault_is, goes_on, lines_at_end, lines_at_fault, part_at_fault, same_fault}
 use Rattle.jx_ndjson_report.proofs.reporting.write_all_due.Goals as goal

@@ -1,7 +1,7 @@
 -- The exit so far, past the rest.
 use Rattle.std.proofs.Common.{◌≡◌, drop}
 use Rattle.jx_report.specs.Elements.{exit_past_judged}
-use Rattle.jx_report.specs.declared.exit.Exit.TheVariants.{Good}
+use Rattle.jx_ends.specs.declared.exit.Exit.TheVariants.{Good}
 use Rattle.jx_report.proofs.element_words.exit_of_elements.Given as goal
 
 abbrev pub invariant-loop-number : goal.invariant-loop-number

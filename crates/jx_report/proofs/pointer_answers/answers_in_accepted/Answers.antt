@@ -4,8 +4,8 @@ use Rattle.std.specs.declared.alloc.Global.{Global}
 use Rattle.std.proofs.lemmas.Result.{IfOk-weaker}
 use Rattle.jx_run.specs.declared.texts.settings.Settings.{Settings}
 use Rattle.jx_run.specs.declared.texts.verdict.Refusal.{Refusal}
-use Rattle.jx_report.specs.declared.pointer_answer.PointerAnswer.{PointerAnswer}
-use Rattle.jx_report.specs.Answers.{AreAnswersBy}
+use Rattle.jx_words.specs.declared.pointer_answer.PointerAnswer.{PointerAnswer}
+use Rattle.jx_words.specs.Answers.{AreAnswersBy}
 use Rattle.jx_report.proofs.AnyNames.{answers_by_names}
 use Rattle.jx_report.proofs.pointer_answers.answers_in_accepted.Goals as goal
 

@@ -5,9 +5,10 @@ use Rattle.std.proofs.lemmas.Result.{IfOk-weaker}
 use Rattle.jx_index.specs.declared.pointer.PointerFault.{PointerFault}
 use Rattle.jx_answer.specs.declared.find_answer.Answer.{Answer}
 use Rattle.jx_answer.specs.Found.{IsAnswerTo}
-use Rattle.jx_report.specs.inside.ReadPointers.{answer_of, each_answer}
+use Rattle.jx_words.specs.inside.ReadPointers.{each_answer}
+use Rattle.jx_report.specs.inside.IndexAnswers.{answer_of}
 use Rattle.jx_report.proofs.PointerReplies.{answers_there}
-use Rattle.jx_report.proofs.PointerSteps.{as_many}
+use Rattle.jx_words.proofs.PointerSteps.{as_many}
 use Rattle.jx_report.proofs.pointer_answers.answers_in_index.Goals as goal
 
 pub answers_of-requires : goal.answers_of-requires

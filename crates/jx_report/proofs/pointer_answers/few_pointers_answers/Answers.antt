@@ -5,8 +5,8 @@ use Rattle.jx_index.specs.declared.find_fault.FindFault.{FindFault}
 use Rattle.jx_index.specs.declared.finder.Found.{Found}
 use Rattle.jx_index.specs.declared.pointer.PointerFault.{PointerFault}
 use Rattle.jx_index.specs.Found.{AreFoundIn}
-use Rattle.jx_report.specs.inside.ReadPointers.{answer_in, each_answer}
-use Rattle.jx_report.proofs.PointerReplies.{are_answered}
+use Rattle.jx_words.specs.inside.ReadPointers.{answer_in, each_answer}
+use Rattle.jx_words.proofs.PointersFound.{are_answered}
 use Rattle.jx_report.proofs.pointer_answers.few_pointers_answers.Goals as goal
 
 pub returns : goal.returns

@@ -4,9 +4,9 @@ use Rattle.jx_run.specs.declared.texts.verdict.Refusal.{Refusal}
 use Rattle.jx_index.specs.declared.find_fault.FindFault.{FindFault}
 use Rattle.jx_index.specs.declared.finder.Found.{Found}
 use Rattle.jx_index.specs.Found.{IsFoundBy}
-use Rattle.jx_report.specs.declared.pointer_answer.PointerAnswer.{PointerAnswer}
-use Rattle.jx_report.specs.inside.ReadPointers.{answer_in}
-use Rattle.jx_report.proofs.PointerReplies.{one_answered}
+use Rattle.jx_words.specs.declared.pointer_answer.PointerAnswer.{PointerAnswer}
+use Rattle.jx_words.specs.inside.ReadPointers.{answer_in}
+use Rattle.jx_words.proofs.PointersFound.{one_answered}
 use Rattle.jx_report.proofs.pointer_answers.one_pointer_answers.Goals as goal
 
 pub returns-in_ok-push-in-Ok : goal.returns-in_ok-push-in-Ok

@@ -4,7 +4,7 @@ use Rattle.std.proofs.lemmas.Result.{IfErr-at_err, IfOk-at_ok}
 use Rattle.jx_run.specs.declared.texts.verdict.Verdict.TheVariants.{Accepted, Refused}
 use Rattle.jx_index.specs.declared.row.Row.{Row}
 use Rattle.jx_report.specs.RowWords.{row_lines}
-use Rattle.jx_report.specs.Words.{line}
+use Rattle.jx_words.specs.Words.{line}
 use Rattle.jx_report.proofs.reply.rows_reply.Goals as goal
 
 pub returns-in-Ok : goal.returns-in-Ok

@@ -1,8 +1,8 @@
 use Rattle.std.proofs.Common.{◌≡◌, ◌+◌, ◌++◌, arith, drop, get_or, rules, sym}
 use Rattle.std.proofs.lemmas.Option.{get_or_from_slice_get}
-use Rattle.jx_report.specs.Ends.{AppendsBeginning}
+use Rattle.jx_ends.specs.Ends.{AppendsBeginning}
 use Rattle.jx_report.specs.Elements.{judged_line, judged_lines}
-use Rattle.jx_report.proofs.PutSteps.{one_line_more, fails_between_lines, after_lines}
+use Rattle.jx_words.proofs.PutSteps.{one_line_more, fails_between_lines, after_lines}
 use Rattle.jx_report.proofs.ElementSteps.{elements_step, elements_done}
 use Rattle.jx_report.proofs.writing.write_elements.Goals as goal
 

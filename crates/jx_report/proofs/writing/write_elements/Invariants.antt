@@ -2,7 +2,7 @@
 use Rattle.std.proofs.Common.{◌≡◌, ◌≤◌, ◌++◌, false, drop}
 use Rattle.std.specs.Prelude.{vec_capacity}
 use Rattle.jx_report.specs.Elements.{judged_lines}
-use Rattle.jx_report.proofs.PutSteps.{IsPutUpTo}
+use Rattle.jx_words.proofs.PutSteps.{IsPutUpTo}
 use Rattle.jx_report.proofs.writing.write_elements.Given as goal
 
 abbrev pub invariant-loop-number : goal.invariant-loop-number

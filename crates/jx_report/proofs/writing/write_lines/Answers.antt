@@ -2,10 +2,10 @@ use Rattle.std.proofs.Common.{◌≡◌, ℕ, List, ◌++◌, ◌∙◌, ap, app
 use Rattle.std.specs.Prelude.{OnErr, codes}
 use Rattle.jx_index.specs.declared.row.Row.{Row}
 use Rattle.jx_report.specs.declared.reply.Reply.{Reply}
-use Rattle.jx_report.specs.Ends.{AppendsBeginning}
+use Rattle.jx_ends.specs.Ends.{AppendsBeginning}
 use Rattle.jx_report.specs.inside.Replies.{reply_output}
 use Rattle.jx_report.specs.RowWords.{row_lines}
-use Rattle.jx_report.specs.Words.{line}
+use Rattle.jx_words.specs.Words.{line}
 use Rattle.jx_report.proofs.writing.write_lines.Goals as goal
 
 pub returns-in-Rows-clause-err : goal.returns-in-Rows-clause-err

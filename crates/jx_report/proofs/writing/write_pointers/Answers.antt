@@ -1,11 +1,11 @@
 use Rattle.std.proofs.Common.{◌≡◌, ◌+◌, ◌++◌, arith, drop, get_or, rules, sym}
 use Rattle.std.proofs.lemmas.Option.{get_or_from_slice_get}
-use Rattle.jx_report.specs.Ends.{AppendsBeginning}
-use Rattle.jx_report.specs.Pointers.{answer_words}
-use Rattle.jx_report.specs.inside.Replies.{pointer_lines}
-use Rattle.jx_report.specs.Words.{line}
-use Rattle.jx_report.proofs.PutSteps.{one_line_more, fails_between_lines, after_lines}
-use Rattle.jx_report.proofs.LineSteps.{pointers_step, pointers_done}
+use Rattle.jx_ends.specs.Ends.{AppendsBeginning}
+use Rattle.jx_words.specs.Pointers.{answer_words}
+use Rattle.jx_words.specs.inside.Lines.{pointer_lines}
+use Rattle.jx_words.specs.Words.{line}
+use Rattle.jx_words.proofs.PutSteps.{one_line_more, fails_between_lines, after_lines}
+use Rattle.jx_words.proofs.LineSteps.{pointers_step, pointers_done}
 use Rattle.jx_report.proofs.writing.write_pointers.Goals as goal
 
 pub returns-in_err-make_room-clause-err : goal.returns-in_err-make_room-clause-err

@@ -1,8 +1,8 @@
 -- The lines so far are put, and those of the rest are to come.
 use Rattle.std.proofs.Common.{◌≡◌, ◌≤◌, ◌++◌, false, drop}
 use Rattle.std.specs.Prelude.{vec_capacity}
-use Rattle.jx_report.specs.inside.Replies.{pointer_lines}
-use Rattle.jx_report.proofs.PutSteps.{IsPutUpTo}
+use Rattle.jx_words.specs.inside.Lines.{pointer_lines}
+use Rattle.jx_words.proofs.PutSteps.{IsPutUpTo}
 use Rattle.jx_report.proofs.writing.write_pointers.Given as goal
 
 abbrev pub invariant-loop-number : goal.invariant-loop-number

@@ -1,8 +1,8 @@
 use Rattle.std.proofs.Common.{◌≡◌, ◌+◌, ◌++◌, arith, drop, get_or, rules}
-use Rattle.jx_report.specs.Ends.{AppendsBeginning}
+use Rattle.jx_ends.specs.Ends.{AppendsBeginning}
 use Rattle.jx_report.specs.RowWords.{row_lines, row_words}
-use Rattle.jx_report.specs.Words.{line}
-use Rattle.jx_report.proofs.PutSteps.{one_line_more, fails_between_lines, after_lines}
+use Rattle.jx_words.specs.Words.{line}
+use Rattle.jx_words.proofs.PutSteps.{one_line_more, fails_between_lines, after_lines}
 use Rattle.jx_report.proofs.RowSteps.{rows_step, rows_done}
 use Rattle.jx_report.proofs.writing.write_rows.Goals as goal
 

@@ -4,40 +4,40 @@ use Rattle.std.proofs.lemmas.Result.{err_from_is_err_and}
 use Rattle.std.specs.Io.KnownBytes.{Appends}
 use Rattle.jx_run.specs.declared.texts.verdict.Refusal.{Refusal}
 use Rattle.jx_run.specs.declared.texts.verdict.Verdict.TheVariants.{Refused}
-use Rattle.jx_saved.specs.declared.index.Index.{Index}
-use Rattle.jx_saved.specs.Spelling.{spelt_index}
-use Rattle.jx_report.specs.declared.exit.Exit.TheVariants.{Good}
-use Rattle.jx_report.specs.declared.report_fault.ReportFault.TheVariants as fault
-use Rattle.jx_saved_report.specs.inside.Saving.{Comes}
+use Rattle.jx_saved_names.specs.declared.saved_text.SavedText.{SavedText}
+use Rattle.jx_saved_names.specs.Spelling.{spelt_saved}
+use Rattle.jx_ends.specs.declared.exit.Exit.TheVariants.{Good}
+use Rattle.jx_ends.specs.declared.report_fault.ReportFault.TheVariants as fault
+use Rattle.jx_saved_report.specs.inside.Saving.{ComesToSaved}
 use Rattle.jx_saved_report.proofs.Batches.{appends_none, gives_index, same_fault}
 use Rattle.jx_saved_report.proofs.reporting.report_index.Goals as goal
 
-pub returns-in_err-write_index-in-Ok-clause-beginning :
-    goal.returns-in_err-write_index-in-Ok-clause-beginning
-returns-in_err-write_index-in-Ok-clause-beginning g c = λ is.
-    let p = err_from_is_err_and c.from_residual-in_err-write_index-in-Ok.result c.from_residual-in_err-write_index-in-Ok.ensures.1 in
+pub returns-in_err-write_saved-in-Ok-clause-beginning :
+    goal.returns-in_err-write_saved-in-Ok-clause-beginning
+returns-in_err-write_saved-in-Ok-clause-beginning g c = λ is.
+    let p = err_from_is_err_and c.from_residual-in_err-write_saved-in-Ok.result c.from_residual-in_err-write_saved-in-Ok.ensures.1 in
     let read = c.in_ok-read.ensures.ok in
     record {
       text = read.text;
-      output = spelt_index c.in-Ok.index;
+      output = spelt_saved c.in-Ok.saved;
       tells = [];
       exit = Good;
       read = read.read;
-      answer = gives_index c.args.settings.now c.args.chunk read.text c.in-Ok.index (subst (λ (r : Result Index Refusal). Comes c.args.settings.now c.args.chunk read.text r) c.in-Ok.is read.comes);
-      wrote = c.write_index.ensures.beginning
-          (same_fault c.write_index.result c.from_residual-in_err-write_index-in-Ok.result c.in_err-write_index-in-Ok.field-0.0 p.0 fault.Write c.in_err-write_index-in-Ok.was p.1 p.2 is);
+      answer = gives_index c.args.has_names c.args.settings.now c.args.chunk read.text c.in-Ok.saved (subst (λ (r : Result SavedText Refusal). ComesToSaved c.args.has_names c.args.settings.now c.args.chunk read.text r) c.in-Ok.is read.comes);
+      wrote = c.write_saved.ensures.beginning
+          (same_fault c.write_saved.result c.from_residual-in_err-write_saved-in-Ok.result c.in_err-write_saved-in-Ok.field-0.0 p.0 fault.Write c.in_err-write_saved-in-Ok.was p.1 p.2 is);
     }
 
-pub returns-in_ok-write_index-in-Ok-clause-ok : goal.returns-in_ok-write_index-in-Ok-clause-ok
-returns-in_ok-write_index-in-Ok-clause-ok g c =
+pub returns-in_ok-write_saved-in-Ok-clause-ok : goal.returns-in_ok-write_saved-in-Ok-clause-ok
+returns-in_ok-write_saved-in-Ok-clause-ok g c =
     let read = c.in_ok-read.ensures.ok in
     record {
       text = read.text;
-      output = spelt_index c.in-Ok.index;
+      output = spelt_saved c.in-Ok.saved;
       tells = [];
       read = read.read;
-      answer = gives_index c.args.settings.now c.args.chunk read.text c.in-Ok.index (subst (λ (r : Result Index Refusal). Comes c.args.settings.now c.args.chunk read.text r) c.in-Ok.is read.comes);
-      wrote = c.in_ok-write_index-in-Ok.ensures.ok;
+      answer = gives_index c.args.has_names c.args.settings.now c.args.chunk read.text c.in-Ok.saved (subst (λ (r : Result SavedText Refusal). ComesToSaved c.args.has_names c.args.settings.now c.args.chunk read.text r) c.in-Ok.is read.comes);
+      wrote = c.in_ok-write_saved-in-Ok.ensures.ok;
       says = λ lost. appends_none (g.E.Sink.contents c.args.errors.now);
     }
 
@@ -51,7 +51,7 @@ returns-in_ok-told-in-Err-clause-ok g c =
       read = read.read;
       answer = record {
         verdict = Refused c.in-Err.refusal;
-        is_verdict = subst (λ (r : Result Index Refusal). Comes c.args.settings.now c.args.chunk read.text r) c.in-Err.is read.comes;
+        is_verdict = subst (λ (r : Result SavedText Refusal). ComesToSaved c.args.has_names c.args.settings.now c.args.chunk read.text r) c.in-Err.is read.comes;
         gives = record { written = refl; told = c.in_ok-told-in-Err.ensures; ends = refl };
       };
       wrote = appends_none (g.W.Sink.contents c.args.writer.now);

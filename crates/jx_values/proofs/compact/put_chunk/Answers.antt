@@ -1,6 +1,6 @@
 use Rattle.std.proofs.Common.{List, ℕ}
 use Rattle.jx_compact.specs.Compact.{compact_from}
-use Rattle.jx_report.proofs.PutSteps.{put_more}
+use Rattle.jx_words.proofs.PutSteps.{put_more}
 use Rattle.jx_values.proofs.compact.put_chunk.Goals as goal
 
 pub returns-clause-ok : goal.returns-clause-ok

@@ -2,7 +2,7 @@ use Rattle.std.proofs.Common.{◌≡◌, ℕ, ◌+◌, ◌≤◌, List, ◌++◌
 use Rattle.std.specs.Prelude.{slice_range}
 use Rattle.jx_compact.specs.declared.place.Place.{Place}
 use Rattle.jx_compact.specs.Compact.{compact, compact_from, place_behind}
-use Rattle.jx_report.specs.Ends.{AppendsBeginning}
+use Rattle.jx_ends.specs.Ends.{AppendsBeginning}
 use Rattle.jx_values.proofs.Chunks.{next_chunk}
 use Rattle.jx_values.proofs.Lines.{fails, one_more}
 use Rattle.jx_values.proofs.compact.put_compact.Goals as goal

@@ -2,7 +2,7 @@
 use Rattle.std.proofs.Common.{◌≡◌, ◌≤◌, ◌++◌, ◌-◌, false, drop, length}
 use Rattle.std.specs.Prelude.{vec_capacity}
 use Rattle.jx_compact.specs.Compact.{compact, compact_from}
-use Rattle.jx_report.proofs.PutSteps.{IsPutUpTo}
+use Rattle.jx_words.proofs.PutSteps.{IsPutUpTo}
 use Rattle.jx_values.proofs.compact.put_compact.Given as goal
 
 abbrev pub invariant-loop-start : goal.invariant-loop-start

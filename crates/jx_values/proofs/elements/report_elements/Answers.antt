@@ -2,7 +2,7 @@ use Rattle.std.proofs.Common.{◌∙◌, [], ap, subst, sym}
 use Rattle.std.proofs.lemmas.Result.{err_from_is_err_and}
 use Rattle.std.specs.Io.KnownBytes.{Appends}
 use Rattle.jx_run.specs.declared.texts.settings.Settings.{Settings}
-use Rattle.jx_report.specs.declared.report_fault.ReportFault.TheVariants as fault
+use Rattle.jx_ends.specs.declared.report_fault.ReportFault.TheVariants as fault
 use Rattle.jx_values.specs.Elements.{WroteDue, WroteInPart, WroteLines}
 use Rattle.jx_values.specs.Values.{exit_by}
 use Rattle.jx_values.specs.inside.Sought.{HasSought, any_names}

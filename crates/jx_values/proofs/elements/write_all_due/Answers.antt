@@ -1,6 +1,6 @@
 use Rattle.std.proofs.Common.{◌≡◌, ◌∙◌, rules, subst, sym}
 use Rattle.std.proofs.lemmas.Result.{err_from_is_err_and}
-use Rattle.jx_report.specs.declared.report_fault.ReportFault.TheVariants as fault
+use Rattle.jx_ends.specs.declared.report_fault.ReportFault.TheVariants as fault
 use Rattle.jx_values.specs.Elements.{WroteLines}
 use Rattle.jx_values.specs.inside.ElementSteps.{IsWritten}
 use Rattle.jx_values.proofs.ElementWrites.{due_at_fault, fault_is, goes_on, lines_at_end, lines_at_fault, part_at_fault, same_fault}

@@ -2,7 +2,7 @@ use Rattle.std.proofs.Common.{◌≡◌, ℕ, List, ◌++◌, arith, rules}
 use Rattle.std.specs.Prelude.{Option}
 use Rattle.std.specs.Char.{encode_utf8}
 use Rattle.std.specs.Char.Utf16.{utf16_chars}
-use Rattle.jx_report.specs.Ends.{AppendsBeginning}
+use Rattle.jx_ends.specs.Ends.{AppendsBeginning}
 use Rattle.jx_string.specs.CharactersLeft.{characters_left}
 use Rattle.jx_string.specs.Texts.{string_units}
 use Rattle.jx_values.specs.inside.Characters.{spelt_characters}

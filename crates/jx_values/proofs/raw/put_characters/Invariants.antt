@@ -2,7 +2,7 @@
 use Rattle.std.proofs.Common.{◌≡◌, ◌≤◌, ◌++◌, false, length}
 use Rattle.std.specs.Prelude.{vec_capacity}
 use Rattle.std.specs.Char.Utf16.{utf16_chars}
-use Rattle.jx_report.proofs.PutSteps.{IsPutUpTo}
+use Rattle.jx_words.proofs.PutSteps.{IsPutUpTo}
 use Rattle.jx_string.specs.CharactersLeft.{characters_left}
 use Rattle.jx_string.specs.Texts.{string_units}
 use Rattle.jx_values.specs.inside.Characters.{spelt_characters}

@@ -4,9 +4,9 @@ use Rattle.std.specs.declared.alloc.Global.{Global}
 use Rattle.std.proofs.lemmas.List.{length-map}
 use Rattle.std.proofs.lemmas.Slice.Zip.{AllZip-long}
 use Rattle.jx_run.specs.declared.texts.verdict.Refusal.{Refusal}
-use Rattle.jx_report.specs.declared.pointer_answer.PointerAnswer.{PointerAnswer}
-use Rattle.jx_report.specs.Pointers.{IsAnswerTo}
-use Rattle.jx_report.specs.Answers.{AreAnswersBy}
+use Rattle.jx_words.specs.declared.pointer_answer.PointerAnswer.{PointerAnswer}
+use Rattle.jx_words.specs.Pointers.{IsAnswerTo}
+use Rattle.jx_words.specs.Answers.{AreAnswersBy}
 use Rattle.jx_values.proofs.reply.reply_on.Goals as goal
 
 pub told_of_answers-requires : goal.told_of_answers-requires

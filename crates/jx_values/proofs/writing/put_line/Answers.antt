@@ -1,8 +1,8 @@
 use Rattle.std.proofs.Common.{ℕ, List, [], ◌∷◌, ◌++◌, append_assoc, rules, subst}
 use Rattle.std.specs.Prelude.{unwrap_or}
 use Rattle.std.proofs.lemmas.Result.{on_err_weaker, on_ok_weaker}
-use Rattle.jx_report.specs.Ends.{AppendsBeginning}
-use Rattle.jx_report.proofs.PutSteps.{beginning_of_more}
+use Rattle.jx_ends.specs.Ends.{AppendsBeginning}
+use Rattle.jx_words.proofs.PutSteps.{beginning_of_more}
 use Rattle.jx_values.specs.Values.{written}
 use Rattle.jx_values.proofs.Lines.{put_both, put_both_in_part}
 use Rattle.jx_values.proofs.writing.put_line.Goals as goal

@@ -1,8 +1,8 @@
 use Rattle.std.proofs.Common.{◌≡◌, ℕ, ◌+◌, List, ◌++◌, drop, get_or, rules, sym}
 use Rattle.std.specs.Prelude.{flat_map}
 use Rattle.std.proofs.lemmas.Option.{get_or_from_slice_get}
-use Rattle.jx_report.specs.Ends.{AppendsBeginning}
-use Rattle.jx_report.proofs.PutSteps.{after_lines}
+use Rattle.jx_ends.specs.Ends.{AppendsBeginning}
+use Rattle.jx_words.proofs.PutSteps.{after_lines}
 use Rattle.jx_values.specs.Values.{value_line}
 use Rattle.jx_values.proofs.Lines.{fails, next_line, no_line, one_more}
 use Rattle.jx_values.proofs.writing.put_values.Goals as goal

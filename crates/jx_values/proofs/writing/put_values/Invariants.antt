@@ -1,7 +1,7 @@
 -- The lines so far are put, and those of the rest are to come.
 use Rattle.std.proofs.Common.{◌≡◌, ◌≤◌, ◌++◌, false, drop}
 use Rattle.std.specs.Prelude.{flat_map, vec_capacity}
-use Rattle.jx_report.proofs.PutSteps.{IsPutUpTo}
+use Rattle.jx_words.proofs.PutSteps.{IsPutUpTo}
 use Rattle.jx_values.specs.Values.{value_line}
 use Rattle.jx_values.proofs.writing.put_values.Given as goal
 

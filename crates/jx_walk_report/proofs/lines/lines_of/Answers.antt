@@ -1,10 +1,10 @@
 use Rattle.std.proofs.Common.{◌≡◌, get_or, sym}
 use Rattle.std.proofs.lemmas.Option.{get_or_from_slice_get}
-use Rattle.jx_walk_report.proofs.LineSteps.{exit_step, lines_step, no_exit, no_lines}
+use Rattle.jx_walk_report.proofs.LineSteps.{lines_step, no_lines}
 use Rattle.jx_walk_report.proofs.lines.lines_of.Goals as goal
 
 pub lines-init : goal.lines-init
-lines-init c = record { bytes = no_lines c.new-bytes.result.items c.new-bytes.ensures.items; exit = no_exit }
+lines-init c = no_lines c.new-bytes.result.items c.new-bytes.ensures.items
 
 pub lines-preserved : goal.lines-preserved
 lines-preserved c =
@@ -12,7 +12,4 @@ lines-preserved c =
     let answers = c.args.answers.now in
     let answer = c.answer_at-answer.result in
     let is : answer ≡ get_or answers i answer = sym (get_or_from_slice_get answers i answer answer c.answer_at-answer.ensures) in
-    record {
-      bytes = lines_step i answers answer answer c.lines-test.true is c.lines.bytes.items c.add_answer.new.lines.items c.lines.invariant.bytes c.in_ok-add_answer.ensures;
-      exit = exit_step i answers answer answer c.lines-test.true is c.lines.exit c.exit_after-exit.result c.lines.invariant.exit c.exit_after-exit.ensures;
-    }
+    lines_step i answers answer answer c.lines-test.true is c.lines.bytes.items c.add_answer.new.lines.items c.lines.invariant c.in_ok-add_answer.ensures

@@ -2,8 +2,8 @@ use Rattle.std.specs.Prelude.{Result, Ok, Err}
 use Rattle.std.proofs.Common.{◌≡◌, ℕ, List, [], sym, ap, subst, ◌∙◌}
 use Rattle.std.proofs.lemmas.Result.{err_from_is_err_and}
 use Rattle.std.specs.Io.KnownBytes.{Appends}
-use Rattle.jx_report.specs.Ends.{AppendsBeginning}
-use Rattle.jx_report.specs.declared.exit.Exit.TheVariants.{Good}
+use Rattle.jx_ends.specs.Ends.{AppendsBeginning}
+use Rattle.jx_ends.specs.declared.exit.Exit.TheVariants.{Good}
 use Rattle.jx_split.specs.declared.part.ContainerPart.{ContainerPart}
 use Rattle.jx_walk_report.specs.declared.look_fault.LookFault.TheVariants as fault
 use Rattle.jx_walk_report.specs.Parts.{part_lines, told_words}
@@ -18,7 +18,7 @@ returns-in_err-parts-clause-fault g c =
     let content = g.F.ReadAt.content c.args.file.now in
     let p = err_from_is_err_and c.from_residual-in_err-parts.result c.from_residual-in_err-parts.ensures.1 in
     handed (FailsFor saved content) c.from_residual-in_err-parts.result c.in_err-parts.field-0.0 p.0 p.1 p.2
-    (fails saved content c.in_ok-index.index c.in_err-parts.field-0.0 c.in_ok-index.ensures.reads c.in_err-parts.ensures.fault c.in_err-parts.ensures.changed)
+    (fails saved content c.in_ok-read.read c.in_err-parts.field-0.0 c.in_ok-read.ensures.reads c.in_err-parts.ensures.fault c.in_err-parts.ensures.changed)
 
 pub returns-in_err-write_lines-in-Ok-clause-beginning : goal.returns-in_err-write_lines-in-Ok-clause-beginning
 returns-in_err-write_lines-in-Ok-clause-beginning g c = λ is.
@@ -31,7 +31,7 @@ returns-in_err-write_lines-in-Ok-clause-beginning g c = λ is.
       output = part_lines parts.items;
       tells = [];
       exit = Good;
-      are_parts = are_parts c.args.parts c.args.pointer.now saved content c.in_ok-index.index c.in_ok-parts.field-0 (Ok parts) c.in_ok-index.ensures.reads c.in_ok-parts.ensures.split c.in-Ok.is;
+      are_parts = are_parts c.args.parts c.args.pointer.now saved content c.in_ok-read.read c.in_ok-parts.field-0 (Ok parts) c.in_ok-read.ensures.reads c.in_ok-parts.ensures.split c.in-Ok.is;
       wrote = subst (λ (l : List ℕ). AppendsBeginning (g.W.Sink.contents c.args.writer.now) (g.W.Sink.contents c.write_lines.new.writer) l) all
           (c.write_lines.ensures.beginning
           (same_fault c.write_lines.result c.from_residual-in_err-write_lines-in-Ok.result c.in_err-write_lines-in-Ok.field-0.0 p.0 fault.Write c.in_err-write_lines-in-Ok.was p.1 p.2 is));
@@ -46,7 +46,7 @@ returns-in-Ok-clause-ok g c =
     record {
       output = part_lines parts.items;
       tells = [];
-      are_parts = are_parts c.args.parts c.args.pointer.now saved content c.in_ok-index.index c.in_ok-parts.field-0 (Ok parts) c.in_ok-index.ensures.reads c.in_ok-parts.ensures.split c.in-Ok.is;
+      are_parts = are_parts c.args.parts c.args.pointer.now saved content c.in_ok-read.read c.in_ok-parts.field-0 (Ok parts) c.in_ok-read.ensures.reads c.in_ok-parts.ensures.split c.in-Ok.is;
       wrote = subst (λ (l : List ℕ). Appends (g.W.Sink.contents c.args.writer.now) (g.W.Sink.contents c.write_lines.new.writer) l) all c.in_ok-write_lines-in-Ok.ensures.ok;
       says = λ lost. appends_none (g.E.Sink.contents c.args.errors.now);
     }
@@ -60,7 +60,7 @@ returns-clause-ok g c =
     record {
       output = [];
       tells = told_words answer;
-      are_parts = are_parts c.args.parts c.args.pointer.now saved content c.in_ok-index.index c.in_ok-parts.field-0 (Err answer) c.in_ok-index.ensures.reads c.in_ok-parts.ensures.split c.in-Err.is;
+      are_parts = are_parts c.args.parts c.args.pointer.now saved content c.in_ok-read.read c.in_ok-parts.field-0 (Err answer) c.in_ok-read.ensures.reads c.in_ok-parts.ensures.split c.in-Err.is;
       wrote = appends_none (g.W.Sink.contents c.args.writer.now);
       says = λ lost. subst (λ (l : List ℕ). Appends (g.E.Sink.contents c.args.errors.now) (g.E.Sink.contents c.tell.new.errors) l) all (c.tell.ensures lost);
     }

@@ -2,9 +2,9 @@ use Rattle.std.specs.Prelude.{Result, map, string_bytes}
 use Rattle.std.proofs.Common.{◌≡◌, ℕ, List, sym, ap, subst, ◌∙◌}
 use Rattle.std.proofs.lemmas.Result.{err_from_is_err_and}
 use Rattle.std.specs.Io.KnownBytes.{Appends}
-use Rattle.jx_report.specs.Ends.{AppendsBeginning}
-use Rattle.jx_report.specs.declared.exit.Exit.TheVariants.{Good}
-use Rattle.jx_report.specs.inside.Replies.{exit_past_lines, pointer_lines}
+use Rattle.jx_ends.specs.Ends.{AppendsBeginning}
+use Rattle.jx_ends.specs.declared.exit.Exit.TheVariants.{Good}
+use Rattle.jx_words.specs.inside.Lines.{exit_past_lines, pointer_lines}
 use Rattle.jx_walk_report.specs.declared.look_fault.LookFault.TheVariants as fault
 use Rattle.jx_walk_report.proofs.Reports.{places, same_fault}
 use Rattle.jx_walk_report.proofs.reporting.report_places.Goals as goal

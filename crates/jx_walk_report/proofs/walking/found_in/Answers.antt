@@ -16,7 +16,7 @@ chunks-init g c = record {
   unfailed = c.requires.unfailed;
   kept = refl;
   index = c.in_ok-walk.ensures.index;
-  come = λ settings chunk text all is_index is tells. c.in_ok-walk.ensures.come settings chunk text is_index;
+  come = λ settings chunk text all is_kept is tells. c.in_ok-walk.ensures.come settings chunk text is_kept;
 }
 
 pub chunks-preserved : goal.chunks-preserved
@@ -30,27 +30,27 @@ chunks-preserved g c =
       unfailed = search rules;
       kept = search rules;
       index = search rules;
-      come = λ settings chunk text all is_index is tells.
-          let here : IsIndexOf settings chunk text index = subst (λ (i : Index). IsIndexOf settings chunk text i) (sym c.chunks.invariant.index) is_index in
+      come = λ settings chunk text all is_kept is tells.
+          let here : IsIndexOf settings chunk text index = subst (λ (i : Index). IsIndexOf settings chunk text i) (sym c.chunks.invariant.index) is_kept.index in
           let given : c.deref.result.now ≡ slice_range all s.start s.end =
           given_is known (g.F.ReadAt.content c.chunks.file) all s index.size c.read_part.new.buffer.items c.deref.result.now is sized c.chunks.invariant.kept c.in-Some.ensures.some c.in-Some.ensures.within
           read.there read.within read.all c.deref.ensures.value in
-          (rw c.in_default-2.is at c.in_ok-fault.ensures.come) settings chunk text c.args.pointers.items (c.chunks.invariant.come settings chunk text all is_index is tells)
+          (rw c.in_default-2.is at c.in_ok-fault.ensures.come) settings chunk text c.args.pointers.items (c.chunks.invariant.come settings chunk text all is_kept is tells)
           (all_told index c.chunks.walk.at s settings chunk text all c.deref.result.now c.in-Some.ensures.needed here (known_size known all index.size is sized) given tells);
     }
 
 pub returns-in-Err-clause-changed : goal.returns-in-Err-clause-changed
-returns-in-Err-clause-changed g c = λ settings chunk text all is_index is tells.
+returns-in-Err-clause-changed g c = λ settings chunk text all is_kept is tells.
     let known = g.F.ReadAt.content c.args.file.now in
     let s : Span = c.in-Some.span in
     let index : Index = c.chunks.walk.index.now in
     let sized : HasSize known index.size = subst (λ (i : Index). HasSize known i.size) (sym c.chunks.invariant.index) c.requires.size in
     let read = c.in_ok-read_part.ensures in
-    let here : IsIndexOf settings chunk text index = subst (λ (i : Index). IsIndexOf settings chunk text i) (sym c.chunks.invariant.index) is_index in
+    let here : IsIndexOf settings chunk text index = subst (λ (i : Index). IsIndexOf settings chunk text i) (sym c.chunks.invariant.index) is_kept.index in
     let given : c.deref.result.now ≡ slice_range all s.start s.end =
     given_is known (g.F.ReadAt.content c.chunks.file) all s index.size c.read_part.new.buffer.items c.deref.result.now is sized c.chunks.invariant.kept c.in-Some.ensures.some c.in-Some.ensures.within
     read.there read.within read.all c.deref.ensures.value in
-    let come : HasCome settings chunk text c.args.pointers.items c.chunks.walk = c.chunks.invariant.come settings chunk text all is_index is tells in
+    let come : HasCome settings chunk text c.args.pointers.items c.chunks.walk = c.chunks.invariant.come settings chunk text all is_kept is tells in
     let told : (x : Span) → needed c.chunks.walk ≡ Some x → IsToldApart text x c.deref.result.now =
     all_told index c.chunks.walk.at s settings chunk text all c.deref.result.now c.in-Some.ensures.needed here (known_size known all index.size is sized) given tells in
     changes c.in-Err.fault c.walk_fault.result (needed c.chunks.walk) s text all c.deref.result.now c.walk_fault.ensures c.in-Some.ensures.needed given
@@ -58,10 +58,10 @@ returns-in-Err-clause-changed g c = λ settings chunk text all is_index is tells
     (λ e. let h = (rw c.in-Err.is at c.in_ok-fault.ensures.damaged) e in h.1 settings chunk text c.args.pointers.items come told)
 
 pub returns-in-Ok-clause-found : goal.returns-in-Ok-clause-found
-returns-in-Ok-clause-found g c = λ settings chunk text all is_index is tells.
-    (rw c.in-Ok.is at c.in_ok-found.ensures.found) settings chunk text c.args.pointers.items (c.chunks.invariant.come settings chunk text all is_index is tells)
+returns-in-Ok-clause-found g c = λ settings chunk text all is_kept is tells.
+    (rw c.in-Ok.is at c.in_ok-found.ensures.found) settings chunk text c.args.pointers.items (c.chunks.invariant.come settings chunk text all is_kept is tells)
 
 pub returns-clause-changed : goal.returns-clause-changed
-returns-clause-changed g c = λ settings chunk text all is_index is tells.
+returns-clause-changed g c = λ settings chunk text all is_kept is tells.
     no_change c.in-Err-2.fault c.walk_fault-in-Err-2.result text all
-    ((rw c.in-Err-2.is at c.in_ok-found.ensures.damaged) settings chunk text c.args.pointers.items (c.chunks.invariant.come settings chunk text all is_index is tells))
+    ((rw c.in-Err-2.is at c.in_ok-found.ensures.damaged) settings chunk text c.args.pointers.items (c.chunks.invariant.come settings chunk text all is_kept is tells))

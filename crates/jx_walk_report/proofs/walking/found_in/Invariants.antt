@@ -2,17 +2,16 @@
 use Rattle.std.specs.Prelude.{Some}
 use Rattle.std.proofs.Common.{◌≡◌, ℕ, List, false}
 use Rattle.jx_run.specs.declared.texts.settings.Settings.{Settings}
-use Rattle.jx_saved.specs.Index.{IsIndexOf}
 use Rattle.jx_walk.specs.Walk.{HasCome, left}
-use Rattle.jx_walk_report.specs.Saved.{TellsApart}
+use Rattle.jx_walk_report.specs.Saved.{IsKeptOf, TellsApart}
 use Rattle.jx_walk_report.proofs.walking.found_in.Given as goal
 
 abbrev pub invariant-chunks : goal.invariant-chunks
 invariant-chunks g l = record {
   unfailed : g.F.ReadAt.has_failed l.file ≡ false;
   kept : g.F.ReadAt.content l.file ≡ g.F.ReadAt.content l.initial.file;
-  index : l.walk.index.now ≡ l.index;
-  come : (settings : Settings) (chunk : ℕ) (text all : List ℕ) → IsIndexOf settings chunk text l.index → g.F.ReadAt.content l.initial.file ≡ Some all → TellsApart chunk text all
+  index : l.walk.index.now ≡ l.saved.index;
+  come : (settings : Settings) (chunk : ℕ) (text all : List ℕ) → IsKeptOf settings chunk text l.saved → g.F.ReadAt.content l.initial.file ≡ Some all → TellsApart chunk text all
       → HasCome settings chunk text l.fn.pointers.items l.walk;
 }
 

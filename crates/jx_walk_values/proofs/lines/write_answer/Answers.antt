@@ -1,7 +1,7 @@
 use Rattle.std.proofs.Common.{◌≡◌, ℕ, List, length, subst, sym, ap, ◌∙◌, arith}
 use Rattle.std.proofs.lemmas.Result.{on_ok_weaker}
 use Rattle.jx_summary.specs.declared.span.Span.{Span}
-use Rattle.jx_report.specs.declared.pointer_answer.PointerAnswer.{PointerAnswer}
+use Rattle.jx_words.specs.declared.pointer_answer.PointerAnswer.{PointerAnswer}
 use Rattle.jx_values.specs.Values.{told_line, value_line}
 use Rattle.jx_walk_values.specs.inside.Alone.{span_of}
 use Rattle.jx_walk_values.specs.inside.Texts.{AreBytesIn, OfEachText}

@@ -2,7 +2,7 @@ use Rattle.std.specs.Prelude.{◌≢◌, Option, map, string_bytes}
 use Rattle.std.proofs.Common.{◌≡◌, ℕ, List, subst, sym, ap, ◌∙◌, ◌⊎◌, inl, inr}
 use Rattle.std.specs.Io.KnownBytes.{Appends}
 use Rattle.std.proofs.lemmas.Result.{err_from_is_err_and}
-use Rattle.jx_report.specs.declared.pointer_answer.PointerAnswer.{PointerAnswer}
+use Rattle.jx_words.specs.declared.pointer_answer.PointerAnswer.{PointerAnswer}
 use Rattle.jx_values.specs.Values.{exit_by}
 use Rattle.jx_walk_report.specs.declared.look_fault.LookFault.TheVariants as fault
 use Rattle.jx_walk_report.specs.Looked.{AreAnswersBySaved}

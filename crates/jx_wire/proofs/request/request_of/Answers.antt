@@ -1,4 +1,4 @@
-use Rattle.std.proofs.Common.{◌≡◌, ℕ, List, Option, Result, Err, IfErr, sym, ap, subst, Vec}
+use Rattle.std.proofs.Common.{◌≡◌, ℕ, List, Option, Err, IfErr, sym, ap, subst, Vec}
 use Rattle.std.specs.Prelude.{IfSome}
 use Rattle.std.specs.Global.{Global}
 use Rattle.std.proofs.lemmas.Result.{IfOk-at_ok, err_from_is_err_and}
@@ -32,16 +32,19 @@ returns-in-Err-Wrong-clause-why c =
       none = λ asked h. c.in-Err-Wrong.ensures.wrong (ap Err c.in-Err-Wrong.field-0-is) tree is asked (subst (λ (l : List ℕ). CallsFor (value_at body tree) l id asked) (sym c.deref.ensures.value) h);
     })
 
--- the fault of the call that reads the id is handed on as it is
+-- where the id is refused the whole is refused for the same fault: what reads the id tells why, and its fault is handed on as it is
 pub returns-in_err-id-clause-why : goal.returns-in_err-id-clause-why
 returns-in_err-id-clause-why c =
-    let body : List ℕ = c.in-Ok.message in
-    let same : body ≡ c.args.body.now = IfOk-at_ok (λ m. m ≡ c.args.body.now) c.in-Ok.is c.in_ok-message.ensures.same in
+    let body : List ℕ = c.args.body.now in
+    let same : c.in-Ok.message ≡ body = IfOk-at_ok (λ message. message ≡ body) c.in-Ok.is c.in_ok-message.ensures.same in
     let handed = err_from_is_err_and c.from_residual-in_err-id.result c.from_residual-in_err-id.ensures.1 in
+    let refused : List ℕ → RequestFault → Type 0 = λ bytes fault. Says bytes (λ tree. IsRefusedFor tree fault) in
     let fault : RequestFault = c.in_err-id.field-0.0 in
-    let why : Says c.args.body.now (λ at. IsRefusedFor at fault) = subst (λ (l : List ℕ). Says l (λ at. IsRefusedFor at fault)) same c.in_err-id.ensures.why in
-    let told : Says c.args.body.now (λ at. IsRefusedFor at handed.0) = subst (λ (it : RequestFault). Says c.args.body.now (λ at. IsRefusedFor at it)) (sym handed.2) why in
-    subst (λ (answer : Result Request RequestFault). IfErr answer (λ it. Says c.args.body.now (λ at. IsRefusedFor at it))) (sym handed.1) told
+    let why : refused body fault = subst (λ (bytes : List ℕ). refused bytes fault) same c.in_err-id.ensures.why in
+    let given = handed.1 in
+    let alike = handed.2 in
+    let told : refused body handed.0 = subst (refused body) (sym alike) why in
+    subst (λ answer. IfErr answer (refused body)) (sym given) told
 
 pub returns-in_default-clause-why : goal.returns-in_default-clause-why
 returns-in_default-clause-why c =

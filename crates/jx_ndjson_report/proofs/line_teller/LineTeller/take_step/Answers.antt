@@ -1,30 +1,27 @@
-use Rattle.std.proofs.Common.{ℕ, List, ◌++◌, ◌∷◌, [], take, refl, sym, subst}
-use Rattle.std.specs.Prelude.{Option}
-use Rattle.jx_ndjson.specs.declared.judged_line.JudgedLine.{JudgedLine}
-use Rattle.jx_ndjson.specs.Reading.{HasTold, LineReaderValue, listed}
-use Rattle.jx_ndjson_report.specs.declared.task.LinesTask.{LinesTask}
-use Rattle.jx_ndjson_report.specs.inside.LineTeller.{HasTaken, LineTellerValue}
-use Rattle.jx_ndjson_report.proofs.Takes.{takes_line, takes_none}
+use Rattle.std.proofs.Common.{◌≡◌, ℕ, List, ◌-◌, ◌≤◌, ◌++◌, length, take, subst, arith}
+use Rattle.std.specs.Prelude.{slice_range}
+use Rattle.std.proofs.lemmas.List.Edits.{length-between}
+use Rattle.jx_ndjson.proofs.Tallies.{goes_some}
+use Rattle.jx_ndjson_report.specs.inside.LineTeller.{HasTaken}
+use Rattle.jx_ndjson_report.proofs.Takes.{one_step}
 use Rattle.jx_ndjson_report.proofs.line_teller.LineTeller.take_step.Goals as goal
 
-pub returns-in-None-clause-taken : goal.returns-in-None-clause-taken
-returns-in-None-clause-taken c = λ bytes given h.
-    let i = c.self.inside in
-    let task : LinesTask = c.args.task.now in
-    let more : List ℕ = take c.in_ok-step.step.taken c.args.slice.now in
-    let r : LineTellerValue = record { lines = i.lines; good = i.good; bad = i.bad; ready = i.ready.items } in
-    takes_none task bytes more given r _ (subst (λ (v : LineTellerValue). HasTaken task bytes given v) (sym c.self.view_is) h) refl refl refl
-    (λ settings input told o. subst (λ (l : Option JudgedLine). HasTold settings (input ++ more) (told ++ listed l) c.feed.new.self) c.in-None.is (c.in_ok-step.ensures.told settings input told o))
+pub returns-clause-some : goal.returns-clause-some
+returns-clause-some c = λ some.
+    let slice : List ℕ = c.args.slice.now in
+    let n : ℕ = c.in_ok-passed.passed in
+    let within : n ≤ length slice = c.in_ok-passed.ensures.within in
+    let long : length (slice_range slice n (length slice)) ≡ length slice - n = length-between slice n (length slice) (omega arith) in
+    goes_some n c.in_ok-taken.taken (length slice) (λ left. c.in_ok-taken.ensures.some (omega (arith, long, left))) some
 
-pub returns-in_ok-tell-in-Some-clause-taken : goal.returns-in_ok-tell-in-Some-clause-taken
-returns-in_ok-tell-in-Some-clause-taken c = λ bytes given h.
-    let i = c.self.inside in
-    let task : LinesTask = c.args.task.now in
-    let more : List ℕ = take c.in_ok-step.step.taken c.args.slice.now in
-    let j : JudgedLine = c.in-Some.judged in
-    let r : LineTellerValue = record { lines = i.lines; good = i.good; bad = i.bad; ready = i.ready.items } in
-    takes_line task bytes more given j r c.tell.new.self (subst (λ (v : LineTellerValue). HasTaken task bytes given v) (sym c.self.view_is) h)
-    c.in_ok-tell-in-Some.ensures.good c.in_ok-tell-in-Some.ensures.bad c.in_ok-tell-in-Some.ensures.ready
-    (λ settings input told o.
-    subst (λ (v : LineReaderValue). HasTold settings (input ++ more) (told ++ j ∷ []) v) (sym c.in_ok-tell-in-Some.ensures.lines)
-    (subst (λ (l : Option JudgedLine). HasTold settings (input ++ more) (told ++ listed l) c.feed.new.self) c.in-Some.is (c.in_ok-step.ensures.told settings input told o)))
+pub returns-clause-taken : goal.returns-clause-taken
+returns-clause-taken c = λ bytes given h.
+    let slice : List ℕ = c.args.slice.now in
+    let n : ℕ = c.in_ok-passed.passed in
+    let m : ℕ = c.in_ok-taken.taken in
+    let within : n ≤ length slice = c.in_ok-passed.ensures.within in
+    let long : length (slice_range slice n (length slice)) ≡ length slice - n = length-between slice n (length slice) (omega arith) in
+    let step = c.in_ok-taken.ensures.within in
+    let low : m ≤ length slice - n = omega (arith, long, step) in
+    subst (λ (xs : List ℕ). HasTaken c.args.task.now xs given c.take_line.new.self) (one_step bytes slice n m within low)
+    (c.in_ok-taken.ensures.taken (bytes ++ take n slice) given (c.in_ok-passed.ensures.taken bytes given h))

@@ -4,10 +4,12 @@ use Rattle.jx_task.specs.declared.task.Task.{Task}
 use Rattle.jx_report.specs.Elements.{judged_lines, exit_past_judged}
 use Rattle.jx_report.specs.Output.{Output}
 use Rattle.jx_report.specs.Reports.{greatest_length}
-use Rattle.jx_report.specs.declared.exit.Exit.TheVariants.{Good}
+use Rattle.jx_ends.specs.declared.exit.Exit.TheVariants.{Good}
 use Rattle.jx_report.specs.inside.Batches.{IsReadingOf}
-use Rattle.jx_report.specs.inside.Replies.{reply_exit, reply_output, verdict_exit, verdict_line}
-use Rattle.jx_report.proofs.Answers.{judged_output, says_verdict}
+use Rattle.jx_words.specs.inside.Lines.{verdict_exit, verdict_line}
+use Rattle.jx_report.specs.inside.Replies.{reply_exit, reply_output}
+use Rattle.jx_words.proofs.Verdicts.{says_verdict}
+use Rattle.jx_report.proofs.Answers.{judged_output}
 use Rattle.jx_report.proofs.reading.Reading.into_reply.Goals as goal
 
 pub returns-then-is_err-clause-pieces : goal.returns-then-is_err-clause-pieces

@@ -1,23 +1,10 @@
-use Rattle.std.proofs.Common.{◌≡◌, ap, map, ◌∙◌}
-use Rattle.jx_index.specs.declared.trie.Edge.{Edge}
-use Rattle.jx_index.specs.inside.Trie.{edge_units}
-use Rattle.jx_name_tables.specs.Hash.{name_hash}
-use Rattle.jx_walk.proofs.Wants.{have_numbers}
+use Rattle.std.proofs.Common.{◌∙◌}
+use Rattle.std.proofs.lemmas.Result.{IfOk-weaker}
 use Rattle.jx_walk.proofs.walk.Walk.with_names.Goals as goal
 
+pub returns-clause-index : goal.returns-clause-index
+returns-clause-index c = IfOk-weaker c.by_names.result _ _ (λ walk same. same ∙ c.in_ok-walk.ensures.index) c.by_names.ensures.index
+
 pub returns-clause-come : goal.returns-clause-come
-returns-clause-come c = λ settings chunk text h tables.
-    let w = c.in_ok-walk.walk in
-    let come = c.in_ok-walk.ensures.come settings chunk text h in
-    let numbers = c.in_ok-numbers.numbers.items in
-    let are : numbers ≡ map (λ (e : Edge). name_hash (edge_units e)) w.edges.items = c.in_ok-numbers.ensures ∙ ap (map (λ (e : Edge). name_hash (edge_units e))) c.deref.ensures.value in
-    record {
-      known = come.known;
-      pointers_are = come.pointers_are;
-      trie = come.trie;
-      ways = come.ways;
-      names = record { tables = tables; numbers = have_numbers w.edges.items numbers are };
-      kept = come.kept;
-      kept_is = come.kept_is;
-      held = come.held;
-    }
+returns-clause-come c =
+    IfOk-weaker c.by_names.result _ _ (λ walk on settings chunk text h tables. on settings chunk text c.args.pointers.items (c.in_ok-walk.ensures.come settings chunk text h) tables) c.by_names.ensures.come

@@ -1,0 +1,82 @@
+-- What the calls that make a saved index tell.
+use Rattle.std.specs.Prelude.{◌≡◌, ℕ, List, [], ◌++◌, length, Bool, true, false, Option, None, Some, Vec}
+use Rattle.std.specs.declared.alloc.Global.{Global}
+use Rattle.jx_run.specs.declared.texts.settings.Settings.{Settings}
+use Rattle.jx_run.specs.declared.texts.verdict.Verdict.{Verdict}
+use Rattle.jx_run.specs.declared.texts.verdict.Verdict.TheVariants.{Accepted, Refused}
+use Rattle.jx_run.specs.Settings.{JudgedBy}
+use Rattle.jx_saved.specs.Index.{IsIndexOf}
+use Rattle.jx_saved.specs.Indexer.{HasFed}
+use Rattle.jx_name_tables.specs.declared.tables.NameTables.{NameTables}
+use Rattle.jx_saved_names.specs.declared.names_maker.NamesMaker.{NamesMaker}
+use Rattle.jx_saved_names.specs.declared.saved_text.SavedText.{SavedText}
+use Rattle.jx_saved_names.specs.Fed as tables
+use Rattle.jx_saved_names.specs.Spelling.{spelt_saved}
+use Rattle.jx_c.specs.Verdict.{shown}
+use Rattle.jx_c.specs.declared.fed_text.FedText.{FedText}
+use Rattle.jx_c.specs.declared.saver.Saver.{Saver}
+use Rattle.jx_c.specs.declared.saver.Saver.TheVariants.{Reading, Saved}
+use Rattle.jx_c.specs.declared.verdict.JxVerdict.{JxVerdict}
+
+-- a maker of tables was fed these bytes, where there has to be one
+abbrev pub AreFed : Bool → Settings → ℕ → List ℕ → Option NamesMaker → Type 0
+AreFed true settings chunk bytes (Some maker) = tables.HasFed settings chunk bytes maker
+AreFed true settings chunk bytes None = ⊥
+AreFed false settings chunk bytes (Some maker) = ⊥
+AreFed false settings chunk bytes None = Unit {0}
+
+-- by settings and for chunks of this size, it was fed these bytes since it was made, with tables of names or without
+pub record IsFedText (has_names : Bool) (settings : Settings) (chunk : ℕ) (bytes : List ℕ) (fed : FedText) : Type 0 where
+  pub index : HasFed settings chunk bytes fed.index
+  pub names : AreFed has_names settings chunk bytes fed.names
+
+-- the same, and the text has not ended
+abbrev pub HasRead : Bool → Settings → ℕ → List ℕ → Saver → Type 0
+HasRead has_names settings chunk bytes (Reading fed) = IsFedText has_names settings chunk bytes fed
+HasRead has_names settings chunk bytes (Saved index) = ⊥
+
+-- a text of which no byte was fed
+abbrev pub IsBegun : Bool → Settings → ℕ → Option Saver → Type 0
+IsBegun has_names settings chunk held = (s : Saver) × (held ≡ Some s) × HasRead has_names settings chunk [] s
+
+-- whatever it was fed, now it was fed these bytes behind it
+abbrev pub IsFed : Saver → List ℕ → Option Saver → Type 0
+IsFed old bytes held = (s : Saver) × (held ≡ Some s)
+    × ((has_names : Bool) (settings : Settings) (chunk : ℕ) (text : List ℕ) → HasRead has_names settings chunk text old → HasRead has_names settings chunk (text ++ bytes) s)
+
+-- tables of the names of a text, where these are asked for, and else none
+abbrev pub HasNames : Bool → Settings → ℕ → List ℕ → Option NameTables → Type 0
+HasNames true settings chunk text (Some names) = tables.HasTables settings chunk text names
+HasNames true settings chunk text None = ⊥
+HasNames false settings chunk text (Some names) = ⊥
+HasNames false settings chunk text None = Unit {0}
+
+-- the text's index, and its tables
+pub record IsSavedOf (has_names : Bool) (settings : Settings) (chunk : ℕ) (text : List ℕ) (saved : SavedText) : Type 0 where
+  pub index : IsIndexOf settings chunk text saved.index
+  pub names : HasNames has_names settings chunk text saved.names
+
+-- these are the bytes of the text's index, and of the tables behind it
+abbrev pub AreBytesOf : Bool → Settings → ℕ → List ℕ → List ℕ → Type 0
+AreBytesOf has_names settings chunk text bytes = (saved : SavedText) × IsSavedOf has_names settings chunk text saved × (bytes ≡ spelt_saved saved)
+
+-- the text has ended
+abbrev pub HasEnded : Saver → Type 0
+HasEnded (Reading fed) = ⊥
+HasEnded (Saved index) = Unit {0}
+
+-- with this verdict it ends the text, whatever that is: the bytes of its index are there where it is accepted
+abbrev pub IsEndedBy : Saver → Saver → Verdict → Type 0
+IsEndedBy old new Accepted = (index : Vec ℕ Global) × (new ≡ Saved index)
+    × ((has_names : Bool) (settings : Settings) (chunk : ℕ) (text : List ℕ) → HasRead has_names settings chunk text old → JudgedBy settings 0 text Accepted × AreBytesOf has_names settings chunk text index.items)
+IsEndedBy old new (Refused refusal) = (has_names : Bool) (settings : Settings) (chunk : ℕ) (text : List ℕ) → HasRead has_names settings chunk text old → JudgedBy settings 0 text (Refused refusal)
+
+-- by the verdict: the bytes of the text's index wait, or none do
+abbrev pub IsKept : Bool → Settings → ℕ → List ℕ → ℕ → Option Saver → Verdict → Type 0
+IsKept has_names settings chunk text size held Accepted = (index : Vec ℕ Global) × (held ≡ Some (Saved index)) × AreBytesOf has_names settings chunk text index.items × (size ≡ length index.items)
+IsKept has_names settings chunk text size held (Refused refusal) = (held ≡ None) × (size ≡ 0)
+
+-- the verdict on all bytes that it was fed, whatever names their objects have, and by it what waits
+abbrev pub IsEndOf : Saver → ℕ → JxVerdict → Option Saver → Type 0
+IsEndOf s size told held = (has_names : Bool) (settings : Settings) (chunk : ℕ) (text : List ℕ) → HasRead has_names settings chunk text s
+    → (verdict : Verdict) × JudgedBy settings 0 text verdict × (told ≡ shown verdict) × IsKept has_names settings chunk text size held verdict

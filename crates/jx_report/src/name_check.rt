@@ -1,0 +1,55 @@
+// The names of a text that is read batch by batch.
+ghost use Rattle.std.specs.Prelude.{◌++◌, ℕ, List, [], OnOk, IfOk};
+ghost use Rattle.jx_run.specs.declared.texts.settings.Settings.{Settings};
+ghost use Rattle.jx_report.specs.inside.PointerReads.{AreCompared, IsRefusalByNames};
+
+use jx_names::NamesReader;
+use jx_run::{NameRule, Refusal, Settings, Verdict};
+use std::alloc::{AllocError, Global};
+
+/// What the rule on names asks of a text that is read from its start: nothing, or that names are compared.
+#[derive(Drop)]
+pub(crate) enum NameCheck {
+    Any,
+    Unique(NamesReader),
+}
+
+impl NameCheck {
+    /// Before the first byte.
+    pub fn new(alloc: Global, settings: &Settings) -> NameCheck
+        ensures { AreCompared settings.now [] result }
+    {
+        match settings.names {
+            NameRule::Any => NameCheck::Any,
+            NameRule::Unique => NameCheck::Unique(NamesReader::new(alloc, settings)),
+        }
+    }
+
+    /// Reads a batch behind what was read. Memory is refused too where the last byte has no offset.
+    pub fn read(&mut self, batch: &[u8]) -> Result<(), AllocError>
+        ensures reads { OnOk result ((settings : Settings) (text : List ℕ) → AreCompared settings text self.old → AreCompared settings (text ++ batch.now) self.new) }
+    {
+        match self {
+            NameCheck::Any => Ok(()),
+            NameCheck::Unique(reader) => {
+                if batch.len() > usize::MAX - reader.end() {
+                    return Err(AllocError);
+                }
+                reader.feed(batch)
+            }
+        }
+    }
+
+    /// Why the bytes that were read are refused, where names have to be unique and they are.
+    pub fn into_refusal(self) -> Result<Option<Refusal>, AllocError>
+        ensures { IfOk result (λ refusal. (settings : Settings) (text : List ℕ) → AreCompared settings text self → IsRefusalByNames settings text refusal) }
+    {
+        match self {
+            NameCheck::Any => Ok(None),
+            NameCheck::Unique(reader) => match reader.verdict()? {
+                Verdict::Accepted => Ok(None),
+                Verdict::Refused(refusal) => Ok(Some(refusal)),
+            },
+        }
+    }
+}

@@ -1,0 +1,6 @@
+pub mod Feeding
+pub mod Filling
+pub mod Gathering
+pub mod Heads
+pub mod Reading
+pub mod Tellings

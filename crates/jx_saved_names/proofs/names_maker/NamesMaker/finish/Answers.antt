@@ -1,0 +1,13 @@
+use Rattle.std.proofs.Common.{◌≡◌, List, ℕ, Some, subst, sym, ◌∙◌}
+use Rattle.jx_saved_names.specs.declared.chunks.NamedChunks.{NamedChunks}
+use Rattle.jx_saved_names.specs.inside.Chunks.{AreHeld}
+use Rattle.jx_saved_names.proofs.names_maker.NamesMaker.finish.Goals as goal
+
+pub returns-clause-tables : goal.returns-clause-tables
+returns-clause-tables c = λ settings chunk bytes h accepted.
+    let held = c.in-Some.held in
+    let part = c.deref.result.now in
+    let same : h.kept ≡ held = let e : Some h.kept ≡ Some held = sym h.kept_is ∙ c.in-Some.is in cc in
+    let was : AreHeld settings chunk bytes held part =
+    subst (λ (k : NamedChunks). AreHeld settings chunk bytes k part) same (subst (λ (xs : List ℕ). AreHeld settings chunk bytes h.kept xs) (sym c.deref.ensures.value) h.held) in
+    c.in_ok-tables.ensures settings chunk bytes (c.in_ok-all.ensures settings chunk bytes was) accepted

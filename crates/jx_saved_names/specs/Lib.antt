@@ -1,0 +1,4 @@
+pub mod Fed
+pub mod inside
+pub mod Saved
+pub mod Spelling

@@ -1,0 +1,174 @@
+// The names of chunks in blocks of 64, as chunk after chunk is read.
+ghost use Rattle.std.specs.Prelude.{◌≡◌, ◌%◌, ◌++◌, ◌∷◌, [], ℕ, List, length, map, IfOk, OnOk, suc, true, false};
+ghost use Rattle.std.specs.List.Sorted.{IsPermutation};
+ghost use Rattle.jx_name_tables.specs.Hash.{name_hash};
+ghost use Rattle.jx_name_tables.specs.Tables.{key_of, AreRising};
+ghost use Rattle.jx_saved_names.specs.inside.Blocks.{AreBlocksOf, AreBlockTables};
+
+use jx_name_tables::{NameTable, NameTables};
+use std::alloc::{AllocError, Global};
+
+/// How many chunks a block has.
+pub(crate) const BLOCK: usize = 64;
+
+/// The names of a block that has fewer chunks, or is the last.
+#[derive(Drop)]
+pub struct OpenBlock {
+    /// The keys of its names, in the order in which they stand.
+    pub keys: Vec<u32>,
+    /// Whether they were too many, and none is kept.
+    pub is_full: bool,
+}
+
+/// Tables of blocks that have all their chunks, and the names of the block that has not.
+#[derive(Drop)]
+pub struct Blocks {
+    pub tables: Vec<NameTable>,
+    pub open: OpenBlock,
+    /// How many chunks were read.
+    pub chunks: usize,
+}
+
+/// Whether the last of so many chunks is the last one of a block.
+fn ends_block(chunks: usize) -> bool
+    ensures whole { result ≡ true → chunks % 64 ≡ 0 }
+    ensures part { result ≡ false → chunks % 64 ≡ 0 → ⊥ }
+{
+    chunks % BLOCK == 0
+}
+
+/// The key of a name with a number, in a chunk. It is refused, as for want of memory, where it is too large to be held.
+fn key_of(number: u32, chunk: usize) -> Result<u32, AllocError>
+    ensures { IfOk result (λ key. key ≡ key_of number chunk) }
+{
+    let Some(times) = number.checked_mul(64) else {
+        return Err(AllocError);
+    };
+    let Some(key) = times.checked_add((chunk % BLOCK) as u32) else {
+        return Err(AllocError);
+    };
+    Ok(key)
+}
+
+/// Puts the keys of names with these numbers behind others.
+fn add_keys(keys: &mut Vec<u32>, numbers: &[u32], chunk: usize) -> Result<(), AllocError>
+    ensures { OnOk result (keys.new.items ≡ keys.old.items ++ map (λ number. key_of number chunk) numbers.now) }
+{
+    for number in numbers {
+        keys.push(key_of(*number, chunk)?)?;
+    }
+    Ok(())
+}
+
+impl OpenBlock {
+    /// A block of no name.
+    fn new(alloc: Global) -> OpenBlock
+        ensures { result.keys.items ≡ [] }
+    {
+        OpenBlock {
+            keys: Vec::new(alloc),
+            is_full: false,
+        }
+    }
+
+    /// The block with the names of one chunk more. More names than `most` are too many.
+    fn add(self, numbers: &[u32], chunk: usize, most: usize) -> Result<OpenBlock, AllocError>
+        ensures { IfOk result (λ next. next.is_full ≡ false
+            → (self.is_full ≡ false) × (next.keys.items ≡ self.keys.items ++ map (λ number. key_of number chunk) numbers.now)) }
+    {
+        let OpenBlock { mut keys, is_full } = self;
+        if is_full {
+            return Ok(OpenBlock { keys, is_full });
+        }
+        add_keys(&mut keys, numbers, chunk)?;
+        if keys.len() > most {
+            keys.clear();
+            return Ok(OpenBlock {
+                keys,
+                is_full: true,
+            });
+        }
+        Ok(OpenBlock {
+            keys,
+            is_full: false,
+        })
+    }
+
+    /// The table of its names, if all are kept.
+    fn into_table(self) -> NameTable
+        ensures kept { result.is_kept ≡ true → self.is_full ≡ false }
+        ensures rising { AreRising result.keys.items }
+        ensures same { IsPermutation self.keys.items result.keys.items }
+    {
+        let OpenBlock { mut keys, is_full } = self;
+        keys.sort_unstable();
+        NameTable {
+            is_kept: !is_full,
+            keys,
+        }
+    }
+}
+
+impl Blocks {
+    /// No chunk was read.
+    pub(crate) fn new(alloc: Global) -> Blocks
+        ensures { AreBlocksOf [] result }
+    {
+        Blocks {
+            tables: Vec::new(alloc),
+            open: OpenBlock::new(alloc),
+            chunks: 0,
+        }
+    }
+
+    /// The same with one chunk more, whose names have these numbers. Of a block with more names than `most` none is kept.
+    pub(crate) fn add(
+        self,
+        alloc: Global,
+        numbers: &[u32],
+        most: usize,
+    ) -> Result<Blocks, AllocError>
+        ensures chunks { IfOk result (λ next. next.chunks ≡ suc self.chunks) }
+        ensures are { IfOk result (λ next. (names : List (List (List ℕ))) (own : List (List ℕ)) → AreBlocksOf names self → numbers.now ≡ map name_hash own
+            → AreBlocksOf (names ++ own ∷ []) next) }
+    {
+        let Blocks {
+            mut tables,
+            open,
+            chunks,
+        } = self;
+        let Some(next) = chunks.checked_add(1) else {
+            return Err(AllocError);
+        };
+        let open = open.add(numbers, chunks, most)?;
+        if ends_block(next) {
+            tables.push(open.into_table())?;
+            return Ok(Blocks {
+                tables,
+                open: OpenBlock::new(alloc),
+                chunks: next,
+            });
+        }
+        Ok(Blocks {
+            tables,
+            open,
+            chunks: next,
+        })
+    }
+
+    /// The tables of all blocks, the last one of what is left.
+    pub(crate) fn into_tables(self) -> Result<NameTables, AllocError>
+        ensures { IfOk result (λ tables. (names : List (List (List ℕ))) → AreBlocksOf names self → AreBlockTables names tables) }
+    {
+        let Blocks {
+            mut tables,
+            open,
+            chunks,
+        } = self;
+        if ends_block(chunks) {
+            return Ok(NameTables { tables });
+        }
+        tables.push(open.into_table())?;
+        Ok(NameTables { tables })
+    }
+}

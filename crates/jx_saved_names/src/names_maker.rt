@@ -1,0 +1,184 @@
+// The tables of the names of a text that is fed by slices.
+ghost use Rattle.std.specs.Prelude.{◌≡◌, ◌<◌, ◌≤◌, ◌++◌, [], ℕ, List, length, take, IfOk, IsErr, OnOk, OnErr};
+ghost use Rattle.jx_run.specs.Settings.{JudgedBy};
+ghost use Rattle.jx_run.specs.declared.texts.settings.Settings.{Settings};
+ghost use Rattle.jx_run.specs.declared.texts.verdict.Verdict.TheVariants.{Accepted};
+ghost use Rattle.jx_name_tables.specs.Tables.{AreTablesOf};
+ghost use Rattle.jx_saved_names.specs.Fed.{HasFed, HasTables, IsLost};
+ghost use Rattle.jx_saved_names.specs.inside.Chunks.{AreAll, AreHeld};
+
+use crate::chunks::NamedChunks;
+use jx_name_tables::NameTables;
+use jx_run::{Settings, reader_is_grammar, verdict_by_settings_is_one};
+use jx_saved::ChunkSize;
+use std::alloc::{AllocError, Global};
+
+/// The tables of the names of a JSON text (RFC 8259) that is fed by slices of any length. It keeps the tables of the blocks that
+/// were read and the names of one, and of the text less than one chunk and the bytes of a name that has begun and not ended.
+#[derive(Drop)]
+pub struct NamesMaker {
+    alloc: Global,
+    chunk: ChunkSize,
+    /// None where memory was refused.
+    held: Option<NamedChunks>,
+    /// What stands behind the whole chunks.
+    part: Vec<u8>,
+}
+
+/// Bytes of a slice that were read, and how many they are.
+#[derive(Drop)]
+struct BegunChunk {
+    held: NamedChunks,
+    len: usize,
+}
+
+/// How many names a block may have for each byte of a chunk.
+const SHARE: usize = 4;
+
+/// How many names a block may have of which any are kept.
+fn most_names(size: usize) -> usize {
+    size.saturating_mul(SHARE)
+}
+
+/// Adds to a part of a chunk bytes of a slice, until it is a whole chunk. Gives how many it took.
+fn fill(part: &mut Vec<u8>, slice: &[u8], size: usize) -> Result<usize, AllocError>
+    ensures within { IfOk result (λ n. n ≤ length slice.now) }
+    ensures filled { IfOk result (λ n. part.new.items ≡ part.old.items ++ take n slice.now) }
+    ensures fits { OnOk result (length part.old.items < size → length part.new.items ≤ size) }
+    ensures all { IfOk result (λ n. length part.new.items < size → n ≡ length slice.now) }
+{
+    let room = size.saturating_sub(part.len());
+    let len = if slice.len() < room {
+        slice.len()
+    } else {
+        room
+    };
+    part.extend_from_slice(&slice[0..len])?;
+    Ok(len)
+}
+
+/// Reads the part of a chunk that is held, with the bytes of a slice that make it whole. Where it is none, or is not made
+/// whole, no chunk is read.
+fn begin(
+    alloc: Global,
+    held: NamedChunks,
+    part: &mut Vec<u8>,
+    slice: &[u8],
+    size: usize,
+) -> Result<BegunChunk, AllocError>
+    requires some { 0 < size }
+    ensures within { IfOk result (λ begun. begun.len ≤ length slice.now) }
+    ensures all { IfOk result (λ begun. 0 < length part.new.items → begun.len ≡ length slice.now) }
+    ensures held { IfOk result (λ begun. (settings : Settings) (bytes : List ℕ) → AreHeld settings size bytes held part.old.items
+        → AreHeld settings size (bytes ++ take begun.len slice.now) begun.held part.new.items) }
+{
+    if part.is_empty() {
+        return Ok(BegunChunk { held, len: 0 });
+    }
+    let len = fill(part, slice, size)?;
+    if part.len() < size {
+        return Ok(BegunChunk { held, len });
+    }
+    let held = held.add(alloc, part, most_names(size))?;
+    part.clear();
+    Ok(BegunChunk { held, len })
+}
+
+/// Reads a slice behind all bytes that were fed.
+fn feed_held(
+    alloc: Global,
+    held: NamedChunks,
+    part: &mut Vec<u8>,
+    slice: &[u8],
+    size: usize,
+) -> Result<NamedChunks, AllocError>
+    requires some { 0 < size }
+    ensures { IfOk result (λ next. (settings : Settings) (bytes : List ℕ) → AreHeld settings size bytes held part.old.items
+        → AreHeld settings size (bytes ++ slice.now) next part.new.items) }
+{
+    let begun = begin(alloc, held, part, slice, size)?;
+    let rest = &slice[begun.len..slice.len()];
+    let added = begun.held.add_all(alloc, rest, size, most_names(size))?;
+    part.extend_from_slice(&rest[added.len..rest.len()])?;
+    Ok(added.held)
+}
+
+/// Reads the last chunk, where the part that is held has a byte.
+fn all_of(
+    alloc: Global,
+    held: NamedChunks,
+    part: &[u8],
+    most: usize,
+) -> Result<NamedChunks, AllocError>
+    ensures { IfOk result (λ all. (settings : Settings) (size : ℕ) (bytes : List ℕ) → AreHeld settings size bytes held part.now → AreAll settings size bytes all) }
+{
+    if part.is_empty() {
+        return Ok(held);
+    }
+    let all = held.add(alloc, part, most)?;
+    Ok(all)
+}
+
+/// The tables of all chunks.
+fn tables_of(held: NamedChunks) -> Result<NameTables, AllocError>
+    ensures { IfOk result (λ tables. (settings : Settings) (size : ℕ) (bytes : List ℕ) → AreAll settings size bytes held → JudgedBy settings 0 bytes Accepted
+        → HasTables settings size bytes tables) }
+{
+    reader_is_grammar();
+    verdict_by_settings_is_one();
+    let tables = held.blocks.into_tables()?;
+    Ok(tables)
+}
+
+impl NamesMaker {
+    /// A maker that was fed no byte, for chunks of this size. The settings may ignore a byte order mark in front of the text
+    /// (section 8.1); their names are of no account. Nothing is allocated.
+    pub fn new(alloc: Global, settings: &Settings, chunk: ChunkSize) -> NamesMaker
+        ensures fed { HasFed settings.now chunk [] result }
+    {
+        // Shows the proof that a chunk has a byte.
+        let _ = chunk.bytes();
+        NamesMaker {
+            alloc,
+            chunk,
+            held: Some(NamedChunks::new(alloc, settings)),
+            part: Vec::new(alloc),
+        }
+    }
+
+    /// Reads the slice behind all bytes that it was fed. Behind a fault no byte is looked at. Only want of memory is refused,
+    /// and more than 2 ^ 64 - 1 bytes; from then on every slice is.
+    pub fn feed(&mut self, slice: &[u8]) -> Result<(), AllocError>
+        ensures fed { OnOk result ((settings : Settings) (chunk : ℕ) (bytes : List ℕ) → HasFed settings chunk bytes self.old → HasFed settings chunk (bytes ++ slice.now) self.new) }
+        ensures err { OnErr result (IsLost self.new) }
+        ensures lost { IsLost self.old → IsErr result }
+    {
+        let Some(held) = self.held.take() else {
+            return Err(AllocError);
+        };
+        let next = feed_held(self.alloc, held, &mut self.part, slice, self.chunk.bytes())?;
+        self.held = Some(next);
+        Ok(())
+    }
+
+    /// The tables of the names of the text that it was fed, one for each block of 64 chunks. Of bytes that are no text they are of
+    /// no account. A block with more names than four times the bytes of a chunk keeps none. `Err` where memory is or was refused.
+    pub fn finish(self) -> Result<NameTables, AllocError>
+        ensures tables { IfOk result (λ tables. (settings : Settings) (chunk : ℕ) (bytes : List ℕ) → HasFed settings chunk bytes self → JudgedBy settings 0 bytes Accepted
+            → HasTables settings chunk bytes tables) }
+        ensures lost { IsLost self → IsErr result }
+    {
+        let NamesMaker {
+            alloc,
+            chunk,
+            held,
+            part,
+        } = self;
+        let Some(held) = held else {
+            return Err(AllocError);
+        };
+        let all = all_of(alloc, held, &part, most_names(chunk.bytes()))?;
+        let tables = tables_of(all)?;
+        Ok(tables)
+    }
+}

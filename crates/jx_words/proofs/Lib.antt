@@ -1,0 +1,5 @@
+pub mod LineSteps
+pub mod PointerSteps
+pub mod PointersFound
+pub mod PutSteps
+pub mod Verdicts

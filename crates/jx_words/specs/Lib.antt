@@ -1,0 +1,5 @@
+pub mod Answers
+pub mod Pointers
+pub mod Verdicts
+pub mod Words
+pub mod inside
