@@ -66,10 +66,11 @@ the_first_use_tells_how_far_it_is() {
     same 'the first use: standard output is the program'\''s' 'ran check x' "$(cat out)"
     has 'the first use: it says at once that it builds' 'jx: proves and builds the program for the first time here' "$(head -1 err)"
     for crate in low left right; do
-        same "the first use: a line for $crate" 1 "$(grep -c "^jx: proved $crate in [0-9]* s$" err)"
+        same "the first use: a line for $crate" 1 "$(grep -cE "^jx: proved $crate in [0-9]+ s, from [0-9]+ s on(, behind low)?$" err)"
     done
     same 'the first use: a line for jx' 1 "$(grep -c '^jx: proved and built jx in [0-9]* s$' err)"
-    same 'the first use: no other line' 5 "$(wc -l <err)"
+    same 'the first use: the crates that waited for one another' 1 "$(grep -cE '^jx: the longest chain: low [0-9]+ s, (left|right) [0-9]+ s, jx [0-9]+ s$' err)"
+    same 'the first use: no other line' 6 "$(wc -l <err)"
 }
 
 the_first_use_proves_what_the_program_stands_on() {

@@ -6,7 +6,7 @@
 . "$(dirname "$0")/lib.sh"
 
 # The loops of one worker: over whole tokens, over blocks where tokens stand close, and over characters beyond ASCII.
-loops='jx_reduce::whole_tokens::rounds jx_reduce::blocks::blocks jx_lex::scanner::ahead::Ahead::after'
+loops='jx_reduce::stack::whole_tokens::rounds jx_reduce::stack::blocks::blocks jx_lex::scanner::ahead::Ahead::after'
 
 # The loop over single tokens: one for each kind of reading.
 scans='jx_lex::scanner::scan::<.*>'

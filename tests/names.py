@@ -23,7 +23,6 @@ SHARED = {
     "Form": ("jx_explain jx_values", "how a verdict is told; how a value is written"),
     "Held": ("jx_book jx_serve", "a run with the text that it is of; a document that a client has open"),
     "Mark": ("jx_lex jx_serve", "the mark of a token; what an editor underlines"),
-    "OpenFault": ("jx_edit jx_files", "why a document is not made; why an input is not opened"),
     "Place": ("jx_compact jx_sentence jx_wire", "outside of strings or in one; a line and a column; a position as a client sends it"),
     "Request": ("jx_command jx_wire", "what words ask for; what a client asks for"),
     "Step": ("jx_lex jx_ndjson", "what reading one byte does; what a reader of lines did with a slice"),

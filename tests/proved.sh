@@ -44,7 +44,7 @@ what_is_wrong_is_told() {
     wrong headings crates/jx_edit/README.md 's/^## What no clause says$/## What is proved/' 'jx_edit/README.md has the headings'
     wrong headings crates/jx_edit/README.md 's/, `memchr`, `thiserror`\.$/, `thiserror`./' 'jx_edit/README.md stands on'
     wrong headings crates/jx_edit/README.md 's/^- .*/&\n\n\n/' ' lines'
-    wrong names crates/jx_edit/src/lib.rt '$a pub use open_fault::Another;' 'jx_edit/README.md does not name Another'
+    wrong names crates/jx_edit/src/lib.rt '$a pub use document_fault::Another;' 'jx_edit/README.md does not name Another'
     wrong names crates/jx_edit/README.md 's/`Document::copy`, `Document::chunks`/`Document::copy`, `Document::pieces`/' \
         'jx_edit/README.md names Document::pieces, which is not there'
     wrong names crates/jx_edit/README.md 's/`Stand`: where/`Stance`: where/' 'jx_edit/README.md names Stance, which is not there'

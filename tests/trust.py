@@ -57,7 +57,7 @@ COMMANDS = {
     ),
     "Several files": ({"jx_files/src/reports": ["report_on_each"]}, without("Index At Seq")),
     "`part`, `join`, `whole`": ({"jx_parts/src/reporting": ["report_part", "report_joined", "report_whole"]}, without("Index At Seq")),
-    "`jx_check` in C": ({"jx_c/src/check": ["jx_check_non_null"]}, without("Index At Seq")),
+    "`jx_check` in C": ({"jx_c/src/texts/check": ["jx_check_non_null"]}, without("Index At Seq")),
     "Documents": ({"jx_edit/src/document": None}, without("Index At Seq")),
     "The language server": ({"jx_lsp/src/serve": ["serve"]}, without("Index At Seq")),
 }

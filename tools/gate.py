@@ -28,7 +28,7 @@ STEP = re.compile(r"^rt: ((\w+)(: its tests)? (proved|NOT PROVED|is kept\b.*|ran
 # `rt ci` counts a wrong body that it cannot read as no failure: it says nothing of a contract.
 BAD_EDIT = "BAD EDIT"
 # A line that tells a failure, and how many lines from it on tell what was wanted and what came.
-FAILURE = re.compile(r": FAILED\b|^(must-fail|rt): .*\b(NOT TRIED|NOT REFUSED|NOT PROVED|FAILED)\b")
+FAILURE = re.compile(r": (FAILED|BAD EDIT)\b|^(must-fail|rt): .*\b(NOT TRIED|NOT REFUSED|NOT PROVED|FAILED)\b")
 LINES_OF_A_FAILURE = 12
 # A line that belongs to no failure before it.
 OTHER = re.compile(r"^(rt: |gate: |== |\S+\.sh: \d+ passed)")
@@ -110,7 +110,7 @@ class Gate:
             self.note(last)
             if STEP.match(last):
                 self.say(last.removeprefix("rt: "))
-        self.count(last, started.wait(), bad)
+        self.count(name, last, started.wait(), bad)
         self.elapsed.append((name, time.monotonic() - began))
         self.say("ended: %s, in %s" % (name, clock(time.monotonic() - began)))
 
@@ -129,13 +129,16 @@ class Gate:
         for lines in self.failures:
             print("\nfailed:", *lines, sep="\n")
 
-    def count(self, last, status, bad):
+    def count(self, name, last, status, bad):
         """A part that fails and counts no failure counts as one."""
         found = COUNTS.search(last)
         passed, failed = (int(found[1]), int(found[2])) if found else (0, 1)
         failed += bad
+        if status and not failed:
+            failed = 1
+            self.failures.append(["%s: FAILED: it ended with status %d and counted no failure" % (name, status), *self.before])
         self.passed += passed
-        self.failed += failed if failed or not status else 1
+        self.failed += failed
 
     def tables(self, by_crate):
         spent = resource.getrusage(resource.RUSAGE_CHILDREN)

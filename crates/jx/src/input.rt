@@ -6,7 +6,7 @@ use crate::output::Writer;
 use crate::progress::{Watch, watch_of};
 use jx_command::{Input, ShowProgress, input_of};
 use jx_ends::{End, ReportFault};
-use jx_files::{FileFault, OpenFault, Opener, Reason, tell};
+use jx_files::{FileFault, Opener, Reason, tell};
 use std::alloc::AllocError;
 use std::fs::File;
 use std::io;
@@ -55,19 +55,19 @@ impl<'r> Read for Opened<'r> {
 pub type Reader<'r> = End<Opened<'r>>;
 
 /// Why a file did not open.
-fn unopened_by(error: &io::Error) -> OpenFault {
+fn unopened_by(error: &io::Error) -> FileFault {
     match error.kind() {
-        io::ErrorKind::OutOfMemory => OpenFault::Memory,
-        _ => OpenFault::Closed(Reason::of(error)),
+        io::ErrorKind::OutOfMemory => FileFault::Memory,
+        _ => FileFault::Open(Reason::of(error)),
     }
 }
 
 /// Opens a file. A folder opens too, and is told by what the system says of it.
-pub fn file_of(rt: &HostRuntime, path: &str) -> Result<File, OpenFault> {
+pub fn file_of(rt: &HostRuntime, path: &str) -> Result<File, FileFault> {
     match File::open(rt, path) {
         Err(error) => Err(unopened_by(&error)),
         Ok(file) => match file.metadata() {
-            Ok(found) if found.is_dir() => Err(OpenFault::Folder),
+            Ok(found) if found.is_dir() => Err(FileFault::Folder),
             _ => Ok(file),
         },
     }
@@ -88,7 +88,7 @@ fn reader_of<'r>(
     rt: &'r HostRuntime,
     input: Input<'_>,
     progress: ShowProgress,
-) -> Result<Reader<'r>, OpenFault>
+) -> Result<Reader<'r>, FileFault>
     ensures { IfOk result (λ reader. reader.failed ≡ false) }
 {
     let origin = match input {
@@ -134,8 +134,8 @@ pub fn open_watched<'r>(
 {
     match reader_of(rt, input, progress) {
         Ok(reader) => Ok(reader),
-        Err(OpenFault::Memory) => Err(Fault::Memory(AllocError)),
-        Err(fault) => Err(told_of(rt, input, FileFault::of_opening(fault))),
+        Err(FileFault::Memory) => Err(Fault::Memory(AllocError)),
+        Err(fault) => Err(told_of(rt, input, fault)),
     }
 }
 
@@ -172,7 +172,7 @@ impl<'a> Opener<Reader<'a>> for Desk<'a> {
 
     ghost why = { λ _ reader. reader.inner.why };
 
-    fn open(&self, word: &str) -> Result<Reader<'a>, OpenFault> {
+    fn open(&self, word: &str) -> Result<Reader<'a>, FileFault> {
         reader_of(self.rt, input_of(word), self.progress)
     }
 

@@ -4,7 +4,7 @@ ghost use Rattle.std.specs.Prelude.{◌≡◌, ⊤, false, IfOk};
 use crate::fault::Fault;
 use crate::input::{file_of, told_of};
 use jx_command::Input;
-use jx_files::{FileFault, OpenFault, Reason};
+use jx_files::{FileFault, Reason};
 use jx_walk_report::ReadAt;
 use std::alloc::AllocError;
 use std::fs::File;
@@ -38,8 +38,8 @@ impl TextFile {
                     failed: false,
                 })
             }
-            Err(OpenFault::Memory) => Err(Fault::Memory(AllocError)),
-            Err(fault) => Err(told_of(rt, Input::File(path), FileFault::of_opening(fault))),
+            Err(FileFault::Memory) => Err(Fault::Memory(AllocError)),
+            Err(fault) => Err(told_of(rt, Input::File(path), fault)),
         }
     }
 }

@@ -4,7 +4,8 @@ ghost use Rattle.jx_run.specs.Started.{IsStarted};
 ghost use Rattle.jx_run.specs.Tree.{span};
 
 use jx_index::Indexed;
-use jx_lex::{ChunkMap, Depth, LexState, step};
+use jx_lex::{Depth, LexState, step};
+use jx_maps::ChunkMap;
 use jx_reduce::{KnownStack, Reducer};
 use jx_run::{OutcomeRun, Started, Summary, TextRun, Verdict};
 use std::alloc::{AllocError, Global};

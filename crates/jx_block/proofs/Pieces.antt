@@ -9,7 +9,7 @@ use Rattle.jx_lex.specs.Lex.{Track, LexExit, lex, with_mark, with_end, on_next}
 use Rattle.jx_lex.specs.Lex as reading
 use Rattle.jx_lex.specs.Moves.{move}
 use Rattle.jx_lex.proofs.Keeping.{lex-then}
-use Rattle.jx_lex.proofs.Reading.{one-is}
+use Rattle.jx_lex.proofs.OneByte.{one-is}
 use Rattle.jx_lex.proofs.Slices.{slice-none, slice-more, slice-length, slice-split}
 use Rattle.jx_block.specs.Listed.{is_set, marks_of, places}
 use Rattle.jx_block.proofs.Listing.{mark_at, marks_of-append, marks_of-one, places-add, places-one}

@@ -15,7 +15,7 @@ use Rattle.jx_lex.specs.Moves.{move}
 use Rattle.jx_lex.specs.Uneventful.{is_blank}
 use Rattle.jx_lex.specs.Whole.{PassesNumber, PassesLiteral, MayEnd}
 use Rattle.jx_lex.proofs.Keeping.{lex-then}
-use Rattle.jx_lex.proofs.Reading.{one-is}
+use Rattle.jx_lex.proofs.OneByte.{one-is}
 use Rattle.jx_lex.proofs.Slices.{slice-first, slice-none, slice-length}
 use Rattle.jx_block.specs.inside.Planes.{is_structural, is_stop}
 use Rattle.jx_block.specs.inside.Whole.{IsScalar}

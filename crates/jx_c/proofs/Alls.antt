@@ -16,8 +16,8 @@ use Rattle.jx_index.specs.declared.finder.Found.{Found}
 use Rattle.jx_index.specs.Found.{IsFoundBy}
 use Rattle.jx_c.specs.Indexes.{AreAnswersOf, AreFound, IsReadFor}
 use Rattle.jx_c.specs.LookUps.{AreFoundBy, IsAnswerOf, IsPointerOf, IsSpelt}
-use Rattle.jx_c.specs.declared.all.JxPointer.{JxPointer}
-use Rattle.jx_c.specs.declared.look_up.JxAnswer.{JxAnswer}
+use Rattle.jx_c.specs.declared.texts.all.JxPointer.{JxPointer}
+use Rattle.jx_c.specs.declared.texts.look_up.JxAnswer.{JxAnswer}
 
 abbrev pub ReadOf : Type 0
 ReadOf = Result (Vec (Result Found FindFault) Global) Refusal

@@ -31,10 +31,14 @@ word p = vstruct (vcons (ptr_val p) vnil)
 told : {us ps : List Val} {p q : Ptr} → us ≡ vstruct (of_list (ps ++ [])) ∷ [] → ps ≡ ptr_val p ∷ [] → p ≡ q → us ≡ word q ∷ []
 told whole pointer e = whole ∙ (λ i. vstruct (of_list ((pointer ∙ ap (λ (r : Ptr). ptr_val r ∷ []) e) i ++ [])) ∷ [])
 
--- the handle by its name, of a value of this type
-module _ (name : Sym) (R : RattleType) where
+pub pointed : (p : Ptr) → Good (layout RawPtr) (ptr_val p)
+pointed (block_ptr b o) = (tt, tt)
+pointed null_ptr = (tt, record { fits = lit< tt })
+
+-- a struct of one pointer, by its name and the types that it is of; behind the pointer a value of this type
+module _ (name : Sym) (types : List RattleType) (R : RattleType) where
   abbrev pub shape : Shape
-  shape = record { name = name; args = []; types = []; fields = RawPtr ∷ [] }
+  shape = record { name = name; args = []; types = types; fields = RawPtr ∷ [] }
 
   pub typed : (p : Ptr) → Good (layout (Struct shape)) (word p)
   typed (block_ptr b o) = (tt, (tt, tt))
@@ -55,6 +59,10 @@ module _ (name : Sym) (R : RattleType) where
     by_pointer t p None none one = feq_l t (λ e. none e refl)
     by_pointer t p (Some x) none one = use1 𝓛 (given (Testable p) (‵ (box_owns (ghosts.dealloc_token heap) R p x))) (tested 𝓛 p x) $ learn t (λ may.
         in_a_block t p (λ q. box_owns (ghosts.dealloc_token heap) R q x) (fst∗ 𝓤 (never 𝓤) (sem 𝓛 (ghosts.dealloc_token heap (bare (lone R.mir)) null_ptr))) (λ b o e. one b o x e refl (subst Testable e may)))
+
+    -- the pointer, and what it leads to
+    pub opened : K → (p : Ptr) (h : Option R.Denot) (us : List Val) → (us ≡ word p ∷ [] → Seq K 𝓛 (‵ (held_at R p h) ∷ Γ) G) → Seq K 𝓛 (‵ (own p h us) ∷ Γ) G
+    opened t p h us k = fsplit t $ fpick t (λ vss. fsplit t $ feq_l t (λ whole. fsplit t $ feq_l t (λ pointer. drop t $ k (told whole pointer refl))))
 
     -- by what it holds: the pointer is null, or leads to the value's block
     pub taken_apart : K → (p : Ptr) (h : Option R.Denot) (us : List Val) → (us ≡ word null_ptr ∷ [] → h ≡ None → Seq K 𝓛 Γ G)

@@ -15,8 +15,8 @@ use Rattle.jx_run.specs.declared.texts.settings.Settings.{Settings}
 use Rattle.jx_run.specs.declared.texts.verdict.Verdict.TheVariants.{Accepted}
 use Rattle.jx_run.specs.Settings.{IsDocumentBy}
 use Rattle.jx_c.specs.LookUps.{IsFoundIn, IsLed, IsLookUp, IsSpelt}
-use Rattle.jx_c.specs.declared.look_up.LookUp.{LookUp}
-use Rattle.jx_c.specs.declared.look_up.LookUp.TheVariants.{Found, Lost, BadPointer, NotUtf8, NoText}
+use Rattle.jx_c.specs.declared.texts.look_up.LookUp.{LookUp}
+use Rattle.jx_c.specs.declared.texts.look_up.LookUp.TheVariants.{Found, Lost, BadPointer, NotUtf8, NoText}
 
 -- in the tree of a text that is accepted by settings no name is refused
 pub none_refused : ((settings : Settings) (at : ℕ) (bytes : List ℕ) (x y : Tree) → IsDocumentBy settings at bytes x → IsDocumentBy settings at bytes y → x ≡ y)

@@ -8,13 +8,13 @@ use Rattle.jx_reduce.specs.KnownStack.{Known, start, HasRead}
 use Rattle.jx_reduce.specs.Read.{went, too_deep, changed, read, step}
 use Rattle.jx_reduce.specs.Table.{added}
 use Rattle.jx_reduce.specs.Whole.{whole_of}
-use Rattle.jx_reduce.specs.declared.expect.Expect.{Expect}
-use Rattle.jx_reduce.specs.declared.expect.Expect.TheVariants.{Value, ArrayFirst, ObjectFirst, Name, Colon, After}
-use Rattle.jx_reduce.specs.declared.holder.Holder.{Holder}
-use Rattle.jx_reduce.specs.declared.whole.Whole.TheVariants.{Went}
+use Rattle.jx_reduce.specs.declared.table.expect.Expect.{Expect}
+use Rattle.jx_reduce.specs.declared.table.expect.Expect.TheVariants.{Value, ArrayFirst, ObjectFirst, Name, Colon, After}
+use Rattle.jx_reduce.specs.declared.table.holder.Holder.{Holder}
+use Rattle.jx_reduce.specs.declared.table.whole.Whole.TheVariants.{Went}
 use Rattle.jx_c.specs.Stack.{code_of, stage_in, reading_at}
-use Rattle.jx_c.specs.declared.stack.Stage.{Stage}
-use Rattle.jx_c.specs.declared.stack.Stage.TheVariants.{Going}
+use Rattle.jx_c.specs.declared.streams.stack.Stage.{Stage}
+use Rattle.jx_c.specs.declared.streams.stack.Stage.TheVariants.{Going}
 
 pub stage-code : (e : Expect) → stage_in (code_of e) ≡ Going e
 stage-code Value = refl

@@ -12,9 +12,9 @@ use Rattle.jx_split.specs.declared.split.PausedSplit.{PausedSplit}
 use Rattle.jx_split.specs.Paused as split
 use Rattle.jx_walk.specs.declared.walk.PausedWalk.{PausedWalk}
 use Rattle.jx_c.specs.LookUps.{AreFoundBy}
-use Rattle.jx_c.specs.Opened.{HasSplit, HasSought, HasWalked, IsLedOn, IsSeeking, IsTold, any_names}
-use Rattle.jx_c.specs.declared.all.JxPointer.{JxPointer}
-use Rattle.jx_c.specs.declared.opened.IndexWork.TheVariants.{Seeking, Splitting}
+use Rattle.jx_c.specs.Opened.{HasWalked, IsLedOn, IsTold, any_names}
+use Rattle.jx_c.specs.declared.texts.all.JxPointer.{JxPointer}
+use Rattle.jx_c.specs.declared.saving.opened.IndexWork.TheVariants.{Seeking, Splitting}
 use Rattle.jx_c.proofs.AnyNames.{each_found}
 
 -- a walk that led on

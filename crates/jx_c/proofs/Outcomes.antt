@@ -13,7 +13,7 @@ use Rattle.jx_index.specs.Leads.{led, led_from}
 use Rattle.jx_index.specs.Pointers.{parted, tokens}
 use Rattle.jx_each.specs.Due.{is_container}
 use Rattle.jx_c.specs.Values.{LeadsTo, outcome_of_found, outcome_of_root}
-use Rattle.jx_c.specs.declared.stream.JxOutcome.{JxOutcome}
+use Rattle.jx_c.specs.declared.streams.stream.JxOutcome.{JxOutcome}
 
 -- of a pointer that was looked up alone
 pub found_first : (settings : Settings) (text pointer : List ℕ) (items : List (Result Found FindFault)) (one : Result Found FindFault) (n : ℕ) (told : JxOutcome) → AreFoundIn settings text (pointer ∷ []) items

@@ -5,8 +5,8 @@ use Rattle.jx_run.specs.declared.readers.progress.Progress.{Progress}
 use Rattle.jx_run.specs.declared.texts.settings.Settings.{Settings}
 use Rattle.jx_c.specs.Reader.{HasRead, progress_in}
 use Rattle.jx_c.specs.Stack.{known_of}
-use Rattle.jx_c.specs.declared.reader.JxReader.{JxReader}
-use Rattle.jx_c.specs.declared.stack.JxStack.{JxStack}
+use Rattle.jx_c.specs.declared.streams.reader.JxReader.{JxReader}
+use Rattle.jx_c.specs.declared.streams.stack.JxStack.{JxStack}
 
 -- a reader of which the number of bytes, how far it is and its stack are known
 pub has_read : (settings : Settings) (fed : List ℕ) (r : JxReader) (p : Progress) (k : JxStack) → r.started ≡ 0x6A78_7265_6164_6572 → r.count ≡ length fed → progress_in r ≡ p → r.stack ≡ k

@@ -22,7 +22,7 @@ use Rattle.core.proofs.cell.Inside.{Good}
 use Rattle.core.specs.declared.alloc.Allocator.{Ghosts}
 use Rattle.std_alloc.proofs.ResultValues.{and_tt}
 use Rattle.std_alloc.specs.Box.Ownership.{box_owns}
-use Rattle.jx_c.specs.contracts.unboxed.Unboxed as unboxed
+use Rattle.jx_c.specs.contracts.shapes.unboxed.Unboxed as unboxed
 
 -- at this place of this block, with this handle
 abbrev pub word : ℕ → ℕ → Val → Val

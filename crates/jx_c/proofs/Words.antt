@@ -7,8 +7,8 @@ use Rattle.std.proofs.lemmas.Nat.{mod-mul-add}
 use Rattle.std.proofs.lemmas.List.{reverse-append, length-append, length-reverse, length-take, take_more_set, take_more, take-set}
 use Rattle.jx_reduce.specs.Read.{top, without_top}
 use Rattle.jx_reduce.specs.Bits.{holder_of, in_word, in_words}
-use Rattle.jx_reduce.specs.declared.holder.Holder.{Holder}
-use Rattle.jx_reduce.specs.declared.holder.Holder.TheVariants.{Object}
+use Rattle.jx_reduce.specs.declared.table.holder.Holder.{Holder}
+use Rattle.jx_reduce.specs.declared.table.holder.Holder.TheVariants.{Object}
 use Rattle.jx_c.specs.Containers.{holders}
 
 -- ---- how many there are

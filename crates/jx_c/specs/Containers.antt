@@ -1,7 +1,7 @@
 -- Open containers in full words and the bits that fill none yet.
 use Rattle.std.specs.Prelude.{ℕ, ◌/◌, ◌%◌, List, ◌++◌, reverse, take}
 use Rattle.jx_reduce.specs.Bits.{in_word, in_words}
-use Rattle.jx_reduce.specs.declared.holder.Holder.{Holder}
+use Rattle.jx_reduce.specs.declared.table.holder.Holder.{Holder}
 
 -- so many containers, the innermost first
 abbrev pub holders : ℕ → ℕ → List ℕ → List Holder

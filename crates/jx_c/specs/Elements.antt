@@ -10,8 +10,8 @@ use Rattle.jx_index.specs.ByNames.{AreJudgedBy}
 use Rattle.jx_c.specs.Buffers.{IsFilled}
 use Rattle.jx_c.specs.Rows.{shown_span}
 use Rattle.jx_c.specs.Verdict.{shown}
-use Rattle.jx_c.specs.declared.elements.JxElement.{JxElement}
-use Rattle.jx_c.specs.declared.verdict.JxVerdict.{JxVerdict}
+use Rattle.jx_c.specs.declared.texts.elements.JxElement.{JxElement}
+use Rattle.jx_c.specs.declared.shapes.verdict.JxVerdict.{JxVerdict}
 
 -- as that on a text, with two kinds more
 abbrev pub shown_verdict : ElementVerdict → JxVerdict

@@ -16,11 +16,11 @@ use Rattle.jx_index.specs.declared.row.Row.{Row}
 use Rattle.jx_c.specs.LookUps.{IsAnswerOf, IsLookUp, IsSpelt}
 use Rattle.jx_c.specs.Rows.{shown_row}
 use Rattle.jx_c.specs.Verdict.{shown}
-use Rattle.jx_c.specs.declared.all.JxPointer.{JxPointer}
-use Rattle.jx_c.specs.declared.look_up.JxAnswer.{JxAnswer}
-use Rattle.jx_c.specs.declared.look_up.LookUp.{LookUp}
-use Rattle.jx_c.specs.declared.places.JxRow.{JxRow}
-use Rattle.jx_c.specs.declared.verdict.JxVerdict.{JxVerdict}
+use Rattle.jx_c.specs.declared.texts.all.JxPointer.{JxPointer}
+use Rattle.jx_c.specs.declared.texts.look_up.JxAnswer.{JxAnswer}
+use Rattle.jx_c.specs.declared.texts.look_up.LookUp.{LookUp}
+use Rattle.jx_c.specs.declared.shapes.places.JxRow.{JxRow}
+use Rattle.jx_c.specs.declared.shapes.verdict.JxVerdict.{JxVerdict}
 
 -- the text is accepted by settings, and this is its index
 abbrev pub IsIndexOf : Settings → List ℕ → IndexedValue → Type 0

@@ -11,9 +11,9 @@ use Rattle.jx_ndjson.specs.Tally.{HasTaken, IsTallied, TallyValue}
 use Rattle.jx_c.specs.Buffers.{IsFilled}
 use Rattle.jx_c.specs.Rows.{shown_span}
 use Rattle.jx_c.specs.Verdict.{shown}
-use Rattle.jx_c.specs.declared.lines.JxLine.{JxLine}
-use Rattle.jx_c.specs.declared.lines.JxLineCounts.{JxLineCounts}
-use Rattle.jx_c.specs.declared.verdict.JxVerdict.{JxVerdict}
+use Rattle.jx_c.specs.declared.streams.lines.JxLine.{JxLine}
+use Rattle.jx_c.specs.declared.streams.lines.JxLineCounts.{JxLineCounts}
+use Rattle.jx_c.specs.declared.shapes.verdict.JxVerdict.{JxVerdict}
 
 -- as that on a text, with two kinds more
 abbrev pub shown_line_verdict : LineVerdict → JxVerdict

@@ -21,9 +21,9 @@ use Rattle.jx_index.specs.PointerFaults.{IsFaultOf}
 use Rattle.jx_index.specs.Pointers.{IsPointer, tokens}
 use Rattle.jx_index.specs.Rows.{rows}
 use Rattle.jx_c.specs.Rows.{kind_in, shown_span}
-use Rattle.jx_c.specs.declared.look_up.JxAnswer.{JxAnswer}
-use Rattle.jx_c.specs.declared.look_up.LookUp.{LookUp}
-use Rattle.jx_c.specs.declared.look_up.LookUp.TheVariants.{Found, Lost, BadPointer, NotUtf8, NoText}
+use Rattle.jx_c.specs.declared.texts.look_up.JxAnswer.{JxAnswer}
+use Rattle.jx_c.specs.declared.texts.look_up.LookUp.{LookUp}
+use Rattle.jx_c.specs.declared.texts.look_up.LookUp.TheVariants.{Found, Lost, BadPointer, NotUtf8, NoText}
 
 -- the kind and span of the node to which the pointer's tokens lead in the tree
 pub record IsFoundIn (text : List ℕ) (tree : Tree) (pointer : List ℕ) (kind : Kind) (span : Span) : Type 0 where

@@ -22,21 +22,20 @@ use Rattle.jx_walk.specs.Paused as walk
 use Rattle.jx_walk.specs.Walk.{IsToldApart}
 use Rattle.jx_split.specs.declared.cutting.Aim.{Aim}
 use Rattle.jx_split.specs.declared.part.ContainerPart.{ContainerPart}
-use Rattle.jx_split.specs.declared.split.PausedSplit.{PausedSplit}
 use Rattle.jx_split.specs.Parts.{IsIn, parts_of}
 use Rattle.jx_split.specs.Paused as split
 use Rattle.jx_c.specs.Buffers.{IsFilled}
 use Rattle.jx_c.specs.Indexes.{AreAnswersOf}
 use Rattle.jx_c.specs.LookUps.{IsPointerOf}
 use Rattle.jx_c.specs.Rows.{shown_span}
-use Rattle.jx_c.specs.declared.all.JxPointer.{JxPointer}
-use Rattle.jx_c.specs.declared.look_up.JxAnswer.{JxAnswer}
-use Rattle.jx_c.specs.declared.opened.IndexWork.{IndexWork}
-use Rattle.jx_c.specs.declared.opened.IndexWork.TheVariants.{Nothing, Seeking, Splitting}
-use Rattle.jx_c.specs.declared.opened.JxPart.{JxPart}
-use Rattle.jx_c.specs.declared.opened.JxSavedText.{JxSavedText}
-use Rattle.jx_c.specs.declared.opened.OpenedIndex.{OpenedIndex}
-use Rattle.jx_c.specs.declared.places.JxSpan.{JxSpan}
+use Rattle.jx_c.specs.declared.texts.all.JxPointer.{JxPointer}
+use Rattle.jx_c.specs.declared.texts.look_up.JxAnswer.{JxAnswer}
+use Rattle.jx_c.specs.declared.saving.opened.IndexWork.{IndexWork}
+use Rattle.jx_c.specs.declared.saving.opened.IndexWork.TheVariants.{Nothing, Seeking, Splitting}
+use Rattle.jx_c.specs.declared.saving.opened.JxPart.{JxPart}
+use Rattle.jx_c.specs.declared.saving.opened.JxSavedText.{JxSavedText}
+use Rattle.jx_c.specs.declared.saving.opened.OpenedIndex.{OpenedIndex}
+use Rattle.jx_c.specs.declared.shapes.places.JxSpan.{JxSpan}
 
 -- ---- an index from its bytes
 

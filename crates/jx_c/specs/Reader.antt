@@ -8,7 +8,7 @@ use Rattle.jx_run.specs.declared.readers.progress.Progress.{Progress}
 use Rattle.jx_run.specs.declared.readers.progress.Progress.TheVariants.{Front, Going, Stopped, TooDeep, Failed}
 use Rattle.jx_run.specs.declared.texts.settings.Settings.{Settings}
 use Rattle.jx_c.specs.Stack.{known_of}
-use Rattle.jx_c.specs.declared.reader.JxReader.{JxReader}
+use Rattle.jx_c.specs.declared.streams.reader.JxReader.{JxReader}
 
 -- the lexical state of a number among all
 abbrev pub state_in : ℕ → LexState

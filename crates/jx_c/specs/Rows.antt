@@ -13,9 +13,9 @@ use Rattle.jx_index.specs.declared.row.Row.{Row}
 use Rattle.jx_index.specs.Rows.{rows}
 use Rattle.jx_c.specs.Buffers.{IsFilled}
 use Rattle.jx_c.specs.Verdict.{shown}
-use Rattle.jx_c.specs.declared.places.JxRow.{JxRow}
-use Rattle.jx_c.specs.declared.places.JxSpan.{JxSpan}
-use Rattle.jx_c.specs.declared.verdict.JxVerdict.{JxVerdict}
+use Rattle.jx_c.specs.declared.shapes.places.JxRow.{JxRow}
+use Rattle.jx_c.specs.declared.shapes.places.JxSpan.{JxSpan}
+use Rattle.jx_c.specs.declared.shapes.verdict.JxVerdict.{JxVerdict}
 
 abbrev pub kind_in : Kind → ℕ
 kind_in Object = 0

@@ -7,7 +7,7 @@ use Rattle.jx_portion.specs.declared.portion.Mismatch.TheVariants.{Depths, Froms
 use Rattle.jx_run.specs.Verdict.{Judged}
 use Rattle.jx_run.specs.declared.texts.verdict.Verdict.{Verdict}
 use Rattle.jx_c.specs.Verdict.{shown}
-use Rattle.jx_c.specs.declared.verdict.JxVerdict.{JxVerdict}
+use Rattle.jx_c.specs.declared.shapes.verdict.JxVerdict.{JxVerdict}
 
 -- where a part stands in the text, or that nobody told
 abbrev pub from_in : ℕ → Option ℕ

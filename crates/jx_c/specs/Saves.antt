@@ -1,5 +1,5 @@
 -- What the calls that make a saved index tell.
-use Rattle.std.specs.Prelude.{◌≡◌, ℕ, List, [], ◌++◌, length, Bool, true, false, Option, None, Some, Vec}
+use Rattle.std.specs.Prelude.{◌≡◌, ℕ, List, [], ◌++◌, length, Bool, Option, None, Some, Vec}
 use Rattle.std.specs.declared.alloc.Global.{Global}
 use Rattle.jx_run.specs.declared.texts.settings.Settings.{Settings}
 use Rattle.jx_run.specs.declared.texts.verdict.Verdict.{Verdict}
@@ -7,23 +7,14 @@ use Rattle.jx_run.specs.declared.texts.verdict.Verdict.TheVariants.{Accepted, Re
 use Rattle.jx_run.specs.Settings.{JudgedBy}
 use Rattle.jx_saved.specs.Index.{IsIndexOf}
 use Rattle.jx_saved.specs.Indexer.{HasFed}
-use Rattle.jx_name_tables.specs.declared.tables.NameTables.{NameTables}
-use Rattle.jx_saved_names.specs.declared.names_maker.NamesMaker.{NamesMaker}
 use Rattle.jx_saved_names.specs.declared.saved_text.SavedText.{SavedText}
-use Rattle.jx_saved_names.specs.Fed as tables
+use Rattle.jx_saved_names.specs.IfAsked.{AreFed, HasNames}
 use Rattle.jx_saved_names.specs.Spelling.{spelt_saved}
 use Rattle.jx_c.specs.Verdict.{shown}
-use Rattle.jx_c.specs.declared.fed_text.FedText.{FedText}
-use Rattle.jx_c.specs.declared.saver.Saver.{Saver}
-use Rattle.jx_c.specs.declared.saver.Saver.TheVariants.{Reading, Saved}
-use Rattle.jx_c.specs.declared.verdict.JxVerdict.{JxVerdict}
-
--- a maker of tables was fed these bytes, where there has to be one
-abbrev pub AreFed : Bool → Settings → ℕ → List ℕ → Option NamesMaker → Type 0
-AreFed true settings chunk bytes (Some maker) = tables.HasFed settings chunk bytes maker
-AreFed true settings chunk bytes None = ⊥
-AreFed false settings chunk bytes (Some maker) = ⊥
-AreFed false settings chunk bytes None = Unit {0}
+use Rattle.jx_c.specs.declared.saving.fed_text.FedText.{FedText}
+use Rattle.jx_c.specs.declared.saving.saver.Saver.{Saver}
+use Rattle.jx_c.specs.declared.saving.saver.Saver.TheVariants.{Reading, Saved}
+use Rattle.jx_c.specs.declared.shapes.verdict.JxVerdict.{JxVerdict}
 
 -- by settings and for chunks of this size, it was fed these bytes since it was made, with tables of names or without
 pub record IsFedText (has_names : Bool) (settings : Settings) (chunk : ℕ) (bytes : List ℕ) (fed : FedText) : Type 0 where
@@ -43,13 +34,6 @@ IsBegun has_names settings chunk held = (s : Saver) × (held ≡ Some s) × HasR
 abbrev pub IsFed : Saver → List ℕ → Option Saver → Type 0
 IsFed old bytes held = (s : Saver) × (held ≡ Some s)
     × ((has_names : Bool) (settings : Settings) (chunk : ℕ) (text : List ℕ) → HasRead has_names settings chunk text old → HasRead has_names settings chunk (text ++ bytes) s)
-
--- tables of the names of a text, where these are asked for, and else none
-abbrev pub HasNames : Bool → Settings → ℕ → List ℕ → Option NameTables → Type 0
-HasNames true settings chunk text (Some names) = tables.HasTables settings chunk text names
-HasNames true settings chunk text None = ⊥
-HasNames false settings chunk text (Some names) = ⊥
-HasNames false settings chunk text None = Unit {0}
 
 -- the text's index, and its tables
 pub record IsSavedOf (has_names : Bool) (settings : Settings) (chunk : ℕ) (text : List ℕ) (saved : SavedText) : Type 0 where

@@ -7,8 +7,8 @@ use Rattle.jx_find.specs.Finder.{HasFed}
 use Rattle.jx_find.specs.declared.finder.Finder.{Finder}
 use Rattle.jx_c.specs.Indexes.{AreAnswersOf}
 use Rattle.jx_c.specs.LookUps.{IsPointerOf}
-use Rattle.jx_c.specs.declared.all.JxPointer.{JxPointer}
-use Rattle.jx_c.specs.declared.look_up.JxAnswer.{JxAnswer}
+use Rattle.jx_c.specs.declared.texts.all.JxPointer.{JxPointer}
+use Rattle.jx_c.specs.declared.texts.look_up.JxAnswer.{JxAnswer}
 
 -- the pointers, and what they were met at in the bytes so far
 pub record SeekingValue : Type 0 where

@@ -5,7 +5,7 @@ use Rattle.jx_run.specs.declared.texts.settings.FrontMark.TheVariants.{Refused, 
 use Rattle.jx_run.specs.declared.texts.settings.NameRule.{NameRule}
 use Rattle.jx_run.specs.declared.texts.settings.NameRule.TheVariants.{Any, Unique}
 use Rattle.jx_run.specs.declared.texts.settings.Settings.{Settings}
-use Rattle.jx_c.specs.declared.settings.JxSettings.{JxSettings}
+use Rattle.jx_c.specs.declared.shapes.settings.JxSettings.{JxSettings}
 
 -- a byte order mark is ignored where the flags have 1
 abbrev pub mark_in : ℕ → FrontMark

@@ -2,13 +2,13 @@
 use Rattle.std.specs.Prelude.{ℕ, ◌==◌, List, if◌then◌else◌}
 use Rattle.jx_reduce.specs.KnownStack.{Known}
 use Rattle.jx_reduce.specs.Read.{Reading, went, stopped, too_deep}
-use Rattle.jx_reduce.specs.declared.expect.Expect.{Expect}
-use Rattle.jx_reduce.specs.declared.expect.Expect.TheVariants.{Value, ArrayFirst, ObjectFirst, Name, Colon, After}
-use Rattle.jx_reduce.specs.declared.holder.Holder.{Holder}
+use Rattle.jx_reduce.specs.declared.table.expect.Expect.{Expect}
+use Rattle.jx_reduce.specs.declared.table.expect.Expect.TheVariants.{Value, ArrayFirst, ObjectFirst, Name, Colon, After}
+use Rattle.jx_reduce.specs.declared.table.holder.Holder.{Holder}
 use Rattle.jx_c.specs.Containers.{holders}
-use Rattle.jx_c.specs.declared.stack.JxStack.{JxStack}
-use Rattle.jx_c.specs.declared.stack.Stage.{Stage}
-use Rattle.jx_c.specs.declared.stack.Stage.TheVariants.{Going, Stopped, TooDeep}
+use Rattle.jx_c.specs.declared.streams.stack.JxStack.{JxStack}
+use Rattle.jx_c.specs.declared.streams.stack.Stage.{Stage}
+use Rattle.jx_c.specs.declared.streams.stack.Stage.TheVariants.{Going, Stopped, TooDeep}
 
 abbrev pub code_of : Expect → ℕ
 code_of Value = 0

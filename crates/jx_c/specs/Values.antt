@@ -20,9 +20,9 @@ use Rattle.jx_each.specs.Due.{IsDue}
 use Rattle.jx_each.specs.Each.{EachValue, HasTaken}
 use Rattle.jx_c.specs.Compact.{IsPlaced}
 use Rattle.jx_c.specs.LookUps.{shown_look_up}
-use Rattle.jx_c.specs.declared.look_up.JxAnswer.{JxAnswer}
-use Rattle.jx_c.specs.declared.look_up.LookUp.TheVariants.{Lost, NoText}
-use Rattle.jx_c.specs.declared.stream.JxOutcome.{JxOutcome}
+use Rattle.jx_c.specs.declared.texts.look_up.JxAnswer.{JxAnswer}
+use Rattle.jx_c.specs.declared.texts.look_up.LookUp.TheVariants.{Lost, NoText}
+use Rattle.jx_c.specs.declared.streams.stream.JxOutcome.{JxOutcome}
 
 -- ---- what a stream was fed
 

@@ -5,7 +5,7 @@ use Rattle.jx_run.specs.declared.texts.verdict.Verdict.{Verdict}
 use Rattle.jx_run.specs.declared.texts.verdict.Verdict.TheVariants.{Accepted, Refused}
 use Rattle.jx_run.specs.declared.texts.verdict.Refusal.TheVariants.{Stopped, Truncated, TooDeep, RepeatedName}
 use Rattle.jx_index.specs.ByNames.{IsVerdictBy}
-use Rattle.jx_c.specs.declared.verdict.JxVerdict.{JxVerdict}
+use Rattle.jx_c.specs.declared.shapes.verdict.JxVerdict.{JxVerdict}
 
 abbrev pub shown : Verdict → JxVerdict
 shown Accepted = record { offset = 0; kind = 0 }

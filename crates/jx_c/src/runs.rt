@@ -4,10 +4,10 @@ ghost use Rattle.jx_portion.specs.Portion.{end_of, start_of, IsPortion, IsRecord
 ghost use Rattle.jx_portion.specs.Reading.{IsSealed};
 ghost use Rattle.jx_c.specs.Runs.{from_in, status_of, AreNeighbours, IsJoinStatus, IsTooLong, IsVerdictFrom, IsVerdictStatus, IsWritten};
 
-use crate::status::{
+use crate::shapes::status::{
     DEPTH_TOO_GREAT, NO_MEMORY, NO_ROOM, NOT_A_RUN, NOT_NEIGHBOURS, OK, OTHER_DEPTH, TOO_MANY_BYTES,
 };
-use crate::verdict::{JxVerdict, shown};
+use crate::shapes::verdict::{JxVerdict, shown};
 use jx_lex::Depth;
 use jx_portion::{DecodeFault, Mismatch, Portion, decode};
 use std::alloc::{AllocError, Global};

@@ -1,5 +1,6 @@
 // Lines of elements, made of a text that comes slice by slice.
 ghost use Rattle.std.specs.Prelude.{◌≡◌, ◌+◌, ◌<◌, ◌≤◌, ◌^◌, ◌++◌, ℕ, List, [], All, IfOk, IfSome, OnOk, OnErr, IsErr, length};
+ghost use Rattle.std.specs.Option.{option_map};
 ghost use Rattle.jx_run.specs.OutcomeRun.{IsOutcomeRun};
 ghost use Rattle.jx_run.specs.Reader.{IsInFront};
 ghost use Rattle.jx_run.specs.Settings.{IsDocumentBy, JudgedBy};
@@ -213,7 +214,9 @@ impl Each {
     }
 
     /// How far the container is found; none where memory was refused.
-    pub fn stage(&self) -> Option<Stage> {
+    pub fn stage(&self) -> Option<Stage>
+        ensures { result ≡ option_map (λ stand. stand.stage) self.now.stand }
+    {
         match self.stand {
             Some(stand) => Some(stand.stage),
             None => None,
@@ -239,6 +242,9 @@ impl Each {
         ensures reader { self.new.reader ≡ self.old.reader }
         ensures path { self.new.path ≡ self.old.path }
         ensures content { self.new.content ≡ self.old.content }
+        // What has failed stays failed.
+        ensures stand { self.new.stand ≡ self.old.stand }
+        ensures part { self.new.part ≡ self.old.part }
         ensures ready { self.new.ready ≡ [] }
         ensures taken { (pointer bytes given : List ℕ) → HasTaken pointer bytes given self.old → HasTaken pointer bytes (given ++ self.old.ready) self.new }
         ensures taken_by { (content : LineContent) (pointer bytes given : List ℕ) → HasTakenBy content pointer bytes given self.old → HasTakenBy content pointer bytes (given ++ self.old.ready) self.new }

@@ -37,7 +37,10 @@ impl Section {
         requires within { span.end ≤ length slice.now }
         requires height { first.height ≡ 1 }
         requires count { count_in first.stage ≡ 0 }
-        ensures { IfOk result (IsSection (aim_of target.now) slice.now) }
+        ensures made { IfOk result (IsSection (aim_of target.now) slice.now) }
+        ensures span { IfOk result (λ section. section.span ≡ span) }
+        ensures first { IfOk result (λ section. section.first ≡ first) }
+        ensures front { IfOk result (λ section. section.front.items ≡ front.now) }
     {
         let bytes = &slice[span.start..span.end];
         if bytes.len() == usize::MAX {

@@ -1,7 +1,8 @@
 -- What stands in front of a text, through edits.
-use Rattle.std.proofs.Common.{◌^◌, nat_lt, ◌≡◌, ℕ, suc, ◌+◌, ◌-◌, ◌≤◌, ◌<◌, List, [], ◌∷◌, ◌++◌, length, take, drop, Bool, true, false, cond, min, refl, sym, ap, subst, ◌∙◌, arith, append_assoc, append-nil, length-append}
+use Rattle.std.proofs.Common.{◌^◌, nat_lt, ◌≡◌, ℕ, suc, ◌+◌, ◌-◌, ◌≤◌, ◌<◌, List, [], ◌∷◌, ◌++◌, length, take, drop, Bool, true, false, cond, min, refl, sym, ap, subst, ◌∙◌, arith, inl, inr, append_assoc, append-nil, length-append}
 use Rattle.std.specs.Prelude.{◌==◌}
 use Rattle.std.specs.List.{slice_range}
+use Rattle.std.proofs.lemmas.Bool.{cases_lt}
 use Rattle.std.proofs.lemmas.Bool.Decides.{nat_tests}
 use Rattle.std.proofs.lemmas.List.{take_all, length-drop, length-take-le, take-append-drop, take-append-le, drop-append-le, drop_all}
 use Rattle.std.proofs.lemmas.List.Folds.{drop_split}
@@ -57,6 +58,39 @@ front_stays on_mark.Ignored (a ∷ b ∷ c ∷ u) more h =
     ap (λ (r : ℕ). by_three (a == 0xef) (b == 0xbb) (c == 0xbf) r (length (u ++ more))) (none_more (u ++ more) [])
     ∙ same_three (a == 0xef) (b == 0xbb) (c == 0xbf) (length (u ++ more)) (length u)
     ∙ ap (λ (r : ℕ). by_three (a == 0xef) (b == 0xbb) (c == 0xbf) r (length u)) (none_more [] u)
+
+-- of bytes between others, three tell it
+pub front_few : (m : FrontMark) (xs ys few zs bytes : List ℕ) (n : ℕ) → n ≡ min (length ys) 3 → few ≡ take n ys → bytes ≡ (xs ++ few) ++ zs → front_of m bytes ≡ front_of m ((xs ++ ys) ++ zs)
+front_few m xs ys few zs bytes n n_is few_is is = elim (cases_lt 3 (length ys)) [
+  | inl more ↦
+      let three : 3 ≤ length (xs ++ few) = omega (arith, length-append xs few, ap length few_is, length-take-le n ys (omega (arith, n_is)), n_is, more) in
+      let parts : xs ++ ys ≡ (xs ++ few) ++ drop n ys =
+      ap (λ (t : List ℕ). xs ++ t) (sym (take-append-drop n ys)) ∙ sym (append_assoc xs (take n ys) (drop n ys)) ∙ ap (λ (t : List ℕ). (xs ++ t) ++ drop n ys) (sym few_is) in
+      ap (front_of m) is
+      ∙ front_stays m (xs ++ few) zs three
+      ∙ sym (front_stays m (xs ++ few) (drop n ys ++ zs) three)
+      ∙ ap (front_of m) (sym (append_assoc (xs ++ few) (drop n ys) zs))
+      ∙ ap (λ (t : List ℕ). front_of m (t ++ zs)) (sym parts)
+  | inr short ↦ ap (front_of m) (is ∙ ap (λ (t : List ℕ). (xs ++ t) ++ zs) (few_is ∙ take_all n ys (omega (arith, n_is, short))))
+]
+
+-- without the first so many of lists
+drop_both : (xs ys : List ℕ) (n : ℕ) → drop n xs ++ drop (n - length xs) ys ≡ drop n (xs ++ ys)
+drop_both xs ys n = elim (cases_lt (length xs) n) [
+  | inl past ↦
+      let e : n ≡ length xs + (n - length xs) = omega (arith, past) in
+      ap (λ (t : List ℕ). t ++ drop (n - length xs) ys) (drop_all n xs (omega (arith, past)))
+      ∙ sym (ap (λ (i : ℕ). drop i (xs ++ ys)) e ∙ drop-append-add xs ys (n - length xs))
+  | inr within ↦ let none : n - length xs ≡ 0 = omega (arith, within) in ap (λ (i : ℕ). drop n xs ++ drop i ys) none ∙ sym (drop-append-le n xs ys within)
+]
+
+pub drop_three : (xs ys zs us vs ws : List ℕ) (n m k : ℕ) → us ≡ drop n xs → m ≡ n - length xs → vs ≡ drop m ys → k ≡ m - length ys → ws ≡ drop k zs
+    → (us ++ vs) ++ ws ≡ drop n ((xs ++ ys) ++ zs)
+drop_three xs ys zs us vs ws n m k a m_is b k_is c =
+    let first : us ++ vs ≡ drop n (xs ++ ys) =
+    ap (λ (t : List ℕ). t ++ vs) a ∙ ap (λ (t : List ℕ). drop n xs ++ t) (b ∙ ap (λ (i : ℕ). drop i ys) m_is) ∙ drop_both xs ys n in
+    let last : ws ≡ drop (n - length (xs ++ ys)) zs = c ∙ ap (λ (i : ℕ). drop i zs) (omega (arith, m_is, k_is, length-append xs ys)) in
+    ap (λ (t : List ℕ). t ++ ws) first ∙ ap (λ (t : List ℕ). drop n (xs ++ ys) ++ t) last ∙ drop_both (xs ++ ys) zs n
 
 taken_agree : (xs ms : List ℕ) → agreed xs ms ≡ length ms → take (length ms) xs ≡ ms
 taken_agree xs [] e = refl

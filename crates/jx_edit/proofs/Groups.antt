@@ -7,7 +7,7 @@ use Rattle.std.proofs.lemmas.List.Concat.{flat_map-append}
 use Rattle.std.proofs.Math.Seq.{take-add, take-append-add, drop-append-add}
 use Rattle.jx_edit.specs.inside.Chunks.{ChunkValue, bytes_of, text_of, loosened, replaced}
 use Rattle.jx_edit.specs.inside.Sums.{size_before, is_linked_at, AreLinkedFrom, IsSum, AreSums, AreSumsBut, IsBorder}
-use Rattle.jx_edit.specs.declared.sums.Sum.{Sum}
+use Rattle.jx_edit.specs.declared.chunking.sums.Sum.{Sum}
 use Rattle.jx_edit.proofs.Texts.{text_take, text_within}
 
 abbrev pub sum : ℕ → Bool → Sum
@@ -116,23 +116,7 @@ sums_loosened cs ss k g c x low high here e sums =
     sum_same cs (set cs k c) i (get_or ss i d) e (sums.each i d m)
     (λ t j a b. linked_set_other cs k j c (λ q. apart (omega (arith, a, b, q, low, high))) ∙ (sums.each i d m).linked t j a b))
 
--- all chunks of a group are linked
-abbrev pub all_linked : Sum → Sum
-all_linked s = sum s.bytes true
-
-pub sums_passed : (cs : List ChunkValue) (ss : List Sum) (g : ℕ) (x : Sum) → g < length ss → AreLinkedFrom cs 0 ((g + 1) * 64) → AreSums cs ss → AreSums cs (set ss g (all_linked (get_or ss g x)))
-sums_passed cs ss g x here on sums =
-    sums_set cs cs ss g (all_linked (get_or ss g x)) refl here sums
-    (record { bytes = (sums.each g x here).bytes; linked = λ t j low high. on j (omega arith) high })
-    (λ i d m apart. sums.each i d m)
-
 -- ---- sums that are made
-
--- before its first chunk
-pub sum_none : (cs : List ChunkValue) (g first : ℕ) → first ≡ min (g * 64) (length cs) → size_before cs first ≡ size_before cs (g * 64) + 0
-sum_none cs g first is =
-    let e : size_before cs first ≡ size_before cs (g * 64) = ap (size_before cs) is ∙ ap (λ (xs : List ChunkValue). length (text_of xs)) (take_min (g * 64) cs) in
-    omega (arith, e)
 
 -- behind its last one
 pub sum_all : (cs : List ChunkValue) (g place bytes : ℕ) (linked : Bool) → place ≡ min ((g + 1) * 64) (length cs) → size_before cs place ≡ size_before cs (g * 64) + bytes
@@ -155,37 +139,6 @@ both_of false b e = absurd (false≢true e)
 -- one chunk more, where all before it are linked and it is
 pub both_linked : (cs : List ChunkValue) (i k : ℕ) (a b : Bool) → (a ≡ true → AreLinkedFrom cs i k) → b ≡ is_linked_at cs k → (a && b) ≡ true → AreLinkedFrom cs i (k + 1)
 both_linked cs i k a b h is t = let both = both_of a b t in linked_more cs i k (h both.0) (sym is ∙ both.1)
-
--- one sum is made anew
-pub sums_more : (cs : List ChunkValue) (ss : List Sum) (g end : ℕ) (s : Sum) → g < length ss → IsSum cs g s → AreSumsBut g end cs ss → AreSumsBut (g + 1) end cs (set ss g s)
-sums_more cs ss g end s here is but =
-    let l : length (set ss g s) ≡ length ss = length-set ss g s in
-    record {
-      covers = omega (arith, but.covers, l);
-      before = λ i d k m. at i d (λ apart. but.before i d (omega (arith, k, l)) (omega (arith, apart, m)));
-      behind = λ i d k m. at i d (λ apart. but.behind i d (omega (arith, k, l)) m);
-    }
-  where
-    at : (i : ℕ) (d : Sum) → ((i ≡ g → ⊥) → IsSum cs i (get_or ss i d)) → IsSum cs i (get_or (set ss g s) i d)
-    at i d h = elim (cases_eq i g) [
-      | inl same ↦ subst (λ (n : ℕ). IsSum cs n (get_or (set ss g s) n d)) (sym same) (subst (IsSum cs g) (sym (get_or-set_same ss g s d here)) is)
-      | inr apart ↦ subst (IsSum cs i) (sym (get_or-set_other ss g i s d apart)) (h apart)
-    ]
-
--- all of them are
-pub sums_made : (cs : List ChunkValue) (ss : List Sum) (g end : ℕ) → end ≤ g → AreSumsBut g end cs ss → AreSums cs ss
-sums_made cs ss g end h but = record { covers = but.covers; each = at }
-  where
-    at : (i : ℕ) (d : Sum) → i < length ss → IsSum cs i (get_or ss i d)
-    at i d k = elim (cases_lt i g) [
-      | inl less ↦ but.before i d k less
-      | inr more ↦ but.behind i d k (omega (arith, more, h))
-    ]
-
--- none is known
-pub sums_unknown : (cs : List ChunkValue) (ss : List Sum) (count : ℕ) → length ss ≡ count → length cs < count * 64 → AreSumsBut 0 count cs ss
-sums_unknown cs ss count l h =
-    record { covers = omega (arith, l, h); before = λ i d k m. absurd (omega (arith, m)); behind = λ i d k m. absurd (omega (arith, k, l, m)) }
 
 -- ---- sums behind an edit
 
@@ -314,17 +267,6 @@ border_more cs ss g bytes d h sums long = omega (arith, (sums.each g d h).bytes,
 pub border_fits : (cs : List ChunkValue) (ss : List Sum) (g bytes : ℕ) (d : Sum) → g < length ss → AreSums cs ss → bytes ≡ size_before cs (g * 64)
     → bytes + (get_or ss g d).bytes ≤ length (text_of cs)
 border_fits cs ss g bytes d h sums long = omega (arith, border_more cs ss g bytes d h sums long, text_within cs ((g + 1) * 64))
-
-pub border_here : (cs : List ChunkValue) (at g before bytes : ℕ) → before ≡ min (g * 64) (length cs) → bytes ≡ size_before cs (g * 64) → (0 < g → bytes < at) → IsBorder cs at before bytes
-border_here cs at g before bytes is long tight =
-    let e : size_before cs before ≡ size_before cs (g * 64) = ap (size_before cs) is ∙ ap (λ (xs : List ChunkValue). length (text_of xs)) (take_min (g * 64) cs) in
-    record { within = omega (arith, is); long = omega (arith, e, long); tight = λ some. tight (omega (arith, some, is)) }
-
-pub border_end : (cs : List ChunkValue) (ss : List Sum) (at g bytes : ℕ) → length ss ≤ g → AreSums cs ss → bytes ≡ size_before cs (g * 64) → (0 < g → bytes < at) → IsBorder cs at (length cs) bytes
-border_end cs ss at g bytes h sums long tight =
-    let e : size_before cs (length cs) ≡ size_before cs (g * 64) =
-    ap (λ (xs : List ChunkValue). length (text_of xs)) (take_all (length cs) cs (omega arith) ∙ sym (take_all (g * 64) cs (omega (arith, sums.covers, h)))) in
-    record { within = omega arith; long = omega (arith, e, long); tight = λ some. tight (omega (arith, some, sums.covers, h)) }
 
 -- the place lies behind it
 pub border_low : (cs : List ChunkValue) (at far before bytes : ℕ) → at ≤ far + 1 → IsBorder cs at before bytes → bytes ≤ far

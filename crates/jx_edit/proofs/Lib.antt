@@ -2,7 +2,7 @@ pub mod Fronts
 pub mod Links
 pub mod Scans
 pub mod Parted
-pub mod Positions
+pub mod Counting
 pub mod Seeking
 pub mod Stood
 pub mod Groups

@@ -6,13 +6,13 @@ use Rattle.std.proofs.lemmas.List.{drop-drop, get_or_default, get_or-append_righ
 use borrow.Rule.Slice.PartMut.{put_mid}
 use Rattle.std.proofs.Math.ListN.{length-set}
 use Rattle.jx_run.proofs.RunJoin.{Within}
-use Rattle.jx_edit.specs.declared.led.Led.{Led as TheLed}
-use Rattle.jx_edit.specs.declared.led.Led.TheVariants as led
+use Rattle.jx_edit.specs.declared.reading.led.Led.{Led as TheLed}
+use Rattle.jx_edit.specs.declared.reading.led.Led.TheVariants as led
 use Rattle.jx_edit.specs.inside.Leads.{reading_in, IsLedWithin}
 use Rattle.jx_lex.specs.declared.alphabet.state.LexState.{LexState}
 use Rattle.jx_lex.specs.Lex.{lex}
-use Rattle.jx_reduce.specs.declared.expect.Expect.{Expect}
-use Rattle.jx_reduce.specs.declared.holder.Holder.{Holder}
+use Rattle.jx_reduce.specs.declared.table.expect.Expect.{Expect}
+use Rattle.jx_reduce.specs.declared.table.holder.Holder.{Holder}
 use Rattle.jx_run.specs.Reader as fed_by
 use Rattle.jx_run.specs.Reader.{is_fault}
 use Rattle.jx_run.specs.Laws.{verdict_of}
@@ -24,7 +24,7 @@ use Rattle.jx_run.proofs.ReaderSteps.{fed_went, fed_over, low}
 use Rattle.jx_edit.specs.inside.Chunks.{ChunkValue, bytes_of, text_of, open_ended, loosened, replaced, AreFresh, IsMade}
 use Rattle.jx_edit.specs.inside.Links.{bytes_at, place_behind, AreLinked, IsKept, IsLink, IsWalked}
 use Rattle.jx_edit.specs.inside.Sums.{AreLinkedFrom, AreSums}
-use Rattle.jx_edit.specs.declared.sums.Sum.{Sum}
+use Rattle.jx_edit.specs.declared.chunking.sums.Sum.{Sum}
 use Rattle.jx_edit.specs.inside.Places.{PlaceValue, came_to, origin, read_on}
 use Rattle.jx_edit.proofs.Groups.{kept_items, linked_here, linked_more, linked_past, linked_set, linked_set_behind}
 use Rattle.jx_edit.proofs.Texts.{length_more, length_same, made_length, more_within, text_parts, text_take, text_within}
@@ -387,10 +387,6 @@ walked_none limit start cs h = record { linked = h; on = λ i low high. absurd (
 
 pub kept_walked : (d len : ℕ) (cs ds : List ChunkValue) (ss ts : List Sum) → IsKept d len cs ss → AreLinked d origin ds → AreSums ds ts → map bytes_of ds ≡ map bytes_of cs → IsKept d len ds ts
 kept_walked d len cs ds ss ts h linked sums same = record { linked = linked; summed = sums; long = h.long ∙ ap length (sym (text_map ds cs same)); fits = h.fits }
-
-pub loosened_none : (cs : List ChunkValue) → length cs ≡ 0 → cs ≡ loosened cs
-loosened_none [] h = refl
-loosened_none (c ∷ cs) h = absurd (omega (arith, h))
 
 pub loosened_first : (cs : List ChunkValue) (x e : ChunkValue) → x ≡ get_or cs 0 x → e ≡ open_ended x → set cs 0 e ≡ loosened cs
 loosened_first [] x e is made = refl

@@ -1,13 +1,13 @@
 -- The chunks of parts, one behind another.
-use Rattle.std.proofs.Common.{◌≡◌, ℕ, ◌+◌, ◌-◌, ◌≤◌, List, ◌++◌, All, Option, Some, Ok, Result, length, take, sym, ap, subst, ◌∙◌, arith}
+use Rattle.std.proofs.Common.{◌≡◌, ℕ, ◌+◌, ◌-◌, ◌≤◌, List, ◌++◌, All, Option, Some, Ok, Result, take, sym, ap, subst, ◌∙◌, arith}
 use Rattle.std.specs.Option.{option_to_list}
 use Rattle.std.specs.Prelude.{IfOk, IfSome}
 use Rattle.std.specs.declared.alloc.AllocError.{AllocError}
 use Rattle.std.proofs.lemmas.List.Elements.{All-append, All-pop, All-same}
 use Rattle.std.specs.List.{slice_range}
 use Rattle.std.proofs.lemmas.List.Concat.{flat_map-append}
-use Rattle.std.proofs.Math.Seq.{take-add, take-length}
-use Rattle.jx_edit.specs.declared.making.MadePart.{MadePart}
+use Rattle.std.proofs.Math.Seq.{take-add}
+use Rattle.jx_edit.specs.declared.chunking.making.MadePart.{MadePart}
 use Rattle.jx_edit.specs.inside.Chunks.{ChunkValue, bytes_of, text_of, AreFresh, IsFresh}
 use Rattle.jx_edit.specs.inside.Parts.{IsMadePart}
 
@@ -20,9 +20,6 @@ take_to bytes i j h =
 pub text_joined : (cs ds es : List ChunkValue) (bytes : List ℕ) (i j : ℕ) → i ≤ j → es ≡ cs ++ ds → text_of cs ≡ take i bytes → text_of ds ≡ slice_range bytes i j → text_of es ≡ take j bytes
 text_joined cs ds es bytes i j h is e f =
     ap text_of is ∙ flat_map-append bytes_of cs ds ∙ ap (λ (t : List ℕ). t ++ text_of ds) e ∙ ap (λ (t : List ℕ). take i bytes ++ t) f ∙ sym (take_to bytes i j h)
-
-pub text_all : (cs ds es : List ChunkValue) (bytes : List ℕ) (i : ℕ) → i ≤ length bytes → es ≡ cs ++ ds → text_of cs ≡ take i bytes → text_of ds ≡ slice_range bytes i (length bytes) → text_of es ≡ bytes
-text_all cs ds es bytes i h is e f = text_joined cs ds es bytes i (length bytes) h is e f ∙ take-length bytes
 
 pub fresh_joined : (depth : ℕ) (cs ds es : List ChunkValue) → es ≡ cs ++ ds → AreFresh depth cs → AreFresh depth ds → AreFresh depth es
 fresh_joined depth cs ds es is h k = All-same (IsFresh depth) es (cs ++ ds) is (All-append (IsFresh depth) cs ds h k)

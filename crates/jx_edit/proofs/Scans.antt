@@ -8,12 +8,12 @@ use Rattle.jx_lex.specs.declared.alphabet.state.LexState.{LexState}
 use Rattle.jx_lex.specs.Lex as lexical
 use Rattle.jx_lex.specs.Lex.{lex}
 use Rattle.jx_lex.specs.Seen.{TokenLists, WantsNoMore}
-use Rattle.jx_lex.specs.View.{exit_of}
+use Rattle.jx_lex.specs.Exit.{exit_of}
 use Rattle.jx_reduce.specs.Read.{Reading, read as read_marks}
 use Rattle.jx_run.specs.Reading.{at_exit, read}
 use Rattle.jx_run.proofs.ReaderSteps.{slice_all}
 use Rattle.jx_run.proofs.RunJoin.{read-within}
-use Rattle.jx_edit.specs.declared.led.Led.{Led as TheLed}
+use Rattle.jx_edit.specs.declared.reading.led.Led.{Led as TheLed}
 use Rattle.jx_edit.specs.inside.Leads.{reading_in, IsLedWithin}
 use Rattle.jx_edit.specs.inside.Places.{PlaceValue, read_on}
 use Rattle.jx_edit.proofs.Links.{led_within}

@@ -3,12 +3,12 @@ use Rattle.std.proofs.Common.{◌≡◌, ℕ, ◌+◌, ◌*◌, ◌-◌, ◌^◌
 use Rattle.std.proofs.lemmas.Bool.Decides.{nat_tests}
 use Rattle.std.proofs.lemmas.List.{take_all, take-append-le, drop_all, at_drop_more, length-take}
 use Rattle.std.proofs.Math.Seq.{take-append-add}
-use Rattle.jx_edit.specs.declared.encoding.Encoding.{Encoding}
-use Rattle.jx_edit.specs.declared.position.Position.{Position}
+use Rattle.jx_edit.specs.declared.positions.encoding.Encoding.{Encoding}
+use Rattle.jx_edit.specs.declared.positions.position.Position.{Position}
 use Rattle.jx_edit.specs.Positions.{first, is_behind, position_behind, reach}
 use Rattle.jx_edit.specs.inside.Chunks.{ChunkValue, text_of}
 use Rattle.jx_edit.specs.inside.Moves.{joined}
-use Rattle.jx_edit.proofs.Positions.{behind_character, behind_joined, behind_line, behind_parts, reach_over, reach_within}
+use Rattle.jx_edit.proofs.Counting.{behind_character, behind_joined, behind_line, behind_parts, reach_over, reach_within}
 use Rattle.jx_edit.proofs.Texts.{length_more, more_within, take_at, text_around, text_more}
 
 -- the position behind bytes that stand behind others
@@ -139,18 +139,8 @@ sought_end e from to p cs k before h s =
 
 -- ---- behind a front
 
-pub front_within : (e : Encoding) (q p : Position) (front rest : List ℕ) (n : ℕ) → p ≡ position_behind e first front → is_behind p q ≡ true → n ≡ reach e first q front
-    → n ≡ reach e first q (front ++ rest)
-front_within e q p front rest n is past h = h ∙ sym (reach_within e first q front rest (ap (λ (r : Position). is_behind r q) (sym is) ∙ past))
-
 pub front_position : (e : Encoding) (r : Position) (front rest : List ℕ) (n : ℕ) → n ≤ length front → r ≡ position_behind e first (take n front) → r ≡ position_behind e first (take n (front ++ rest))
 front_position e r front rest n h is = is ∙ ap (position_behind e first) (sym (take-append-le n front rest h))
-
-pub front_over : (e : Encoding) (q p : Position) (front rest : List ℕ) (n : ℕ) → p ≡ position_behind e first front → is_behind p q ≡ false → n ≡ reach e p q rest
-    → length front + n ≡ reach e first q (front ++ rest)
-front_over e q p front rest n is not h =
-    sym (reach_over e first q front rest (ap (λ (r : Position). is_behind r q) (sym is) ∙ not) ∙ ap (λ (r : Position). length front + reach e r q rest) (sym is)
-    ∙ ap (λ (m : ℕ). length front + m) (sym h))
 
 pub over_position : (e : Encoding) (p r : Position) (front rest : List ℕ) (n : ℕ) → p ≡ position_behind e first front → r ≡ position_behind e p (take n rest)
     → r ≡ position_behind e first (take (length front + n) (front ++ rest))

@@ -2,7 +2,7 @@
 use Rattle.std.proofs.Common.{◌≡◌, ℕ, ◌+◌, ◌-◌, ◌^◌, ◌≤◌, ◌<◌, List, [], ◌∷◌, ◌++◌, length, map, take, drop, get_or, refl, sym, ap, subst, ◌∙◌, arith, inl, inr, suc, zero, add-one, append_assoc, append-nil, length-append, take-append-drop}
 use Rattle.std.specs.List.{concat, slice_range}
 use Rattle.std.proofs.lemmas.Bool.{cases_lt}
-use Rattle.std.proofs.lemmas.List.{take-append-le, drop-append-le, drop-drop, at_drop_more, take-take, length-take-le, length-drop, take_all}
+use Rattle.std.proofs.lemmas.List.{take-append-le, drop-append-le, drop-drop, take-take, length-take-le, length-drop, take_all}
 use Rattle.std.proofs.lemmas.List.Elements.{All-push, All-same}
 use Rattle.std.proofs.lemmas.List.Concat.{flat_map-append}
 use Rattle.std.proofs.lemmas.List.Folds.{drop_split}
@@ -79,20 +79,14 @@ back_at cs at before bytes here s =
       text = ap (drop at) (text_between cs before (before + here) (omega arith)) ∙ drop_at (text_of (take before cs)) mid (text_of (drop (before + here) cs)) at (at - bytes) e reach;
     }
 
--- one more chunk behind a place
-pub back_more : (cs : List ChunkValue) (at before : ℕ) (bytes : List ℕ) (c : ChunkValue) → before < length cs → c ≡ get_or cs before c → IsBack cs at before bytes
-    → IsBack cs at (before + 1) (bytes ++ c.bytes)
-back_more cs at before bytes c h is b =
-    let step : text_of (drop before cs) ≡ c.bytes ++ text_of (drop (before + 1) cs) =
-    at_drop_more text_of cs before c h ∙ ap (λ (x : ChunkValue). x.bytes ++ text_of (drop (before + 1) cs)) (sym is) in
-    record {
-      within = omega arith;
-      text = b.text ∙ ap (λ (t : List ℕ). bytes ++ t) step ∙ sym (append_assoc bytes c.bytes (text_of (drop (before + 1) cs)));
-    }
-
 regroup : (a f r b z : List ℕ) → (a ++ ((f ++ r) ++ b)) ++ z ≡ ((a ++ f) ++ r) ++ (b ++ z)
 regroup a f r b z =
     ap (λ (t : List ℕ). t ++ z) (sym (append_assoc a (f ++ r) b) ∙ ap (λ (t : List ℕ). t ++ b) (sym (append_assoc a f r))) ∙ append_assoc ((a ++ f) ++ r) b z
+
+-- the pieces of which an edit makes chunks
+pub together : (f b r q h n : List ℕ) → ((((f ++ b) ++ r) ++ q) ++ h) ++ n ≡ (f ++ ((b ++ r) ++ q)) ++ (h ++ n)
+together f b r q h n =
+    append_assoc (((f ++ b) ++ r) ++ q) h n ∙ ap (λ (t : List ℕ). t ++ (h ++ n)) (ap (λ (t : List ℕ). t ++ q) (append_assoc f b r) ∙ append_assoc f (b ++ r) q)
 
 pub text_loosened : (cs : List ChunkValue) → text_of (loosened cs) ≡ text_of cs
 text_loosened [] = refl
@@ -149,6 +143,12 @@ chunk_pushed depth cs ds c rest piece behind bytes is fresh same parts all e = (
   ap (λ (xs : List ChunkValue). text_of xs ++ behind) is ∙ text_push cs c rest piece behind bytes same parts e,
 )
 
+-- the same where the next one has begun
+pub chunk_filled : (depth : ℕ) (cs ds : List ChunkValue) (c : ChunkValue) (begun fits behind rest bytes : List ℕ) → ds ≡ cs ++ c ∷ [] → IsFresh depth c → c.bytes ≡ begun ++ fits
+    → rest ≡ fits ++ behind → AreFresh depth cs → text_of cs ++ (begun ++ rest) ≡ bytes → AreFresh depth ds × (text_of ds ++ behind ≡ bytes)
+chunk_filled depth cs ds c begun fits behind rest bytes is fresh same parts all e =
+    chunk_pushed depth cs ds c (begun ++ rest) (begun ++ fits) behind bytes is fresh same (ap (λ (t : List ℕ). begun ++ t) parts ∙ sym (append_assoc begun fits behind)) all e
+
 -- how long three texts are, one behind another
 pub length_three : (xs ys zs : List ℕ) → length ((xs ++ ys) ++ zs) ≡ length xs + length ys + length zs
 length_three xs ys zs = length-append (xs ++ ys) zs ∙ ap (λ (n : ℕ). n + length zs) (length-append xs ys)
@@ -201,13 +201,13 @@ pub seam_here : (cs : List ChunkValue) (at k bytes : ℕ) (c : ChunkValue) (xs :
     → bytes ≤ at → (0 < k → bytes < at) → at ≤ bytes + length xs → IsSeam cs at k bytes 1
 seam_here cs at k bytes c xs h is same long low tight high =
     let l : length xs ≡ length c.bytes = ap length same in
-    record { within = omega arith; long = long; behind = low; tight = tight; reach = omega (arith, slice_one cs k c h is, l) }
+    record { within = omega arith; long = long; behind = low; tight = tight; reach = omega (arith, slice_one cs k c h is, l); few = omega arith }
 
 pub seam_end : (cs : List ChunkValue) (at k bytes : ℕ) → length cs ≤ k → bytes ≡ length (text_of (take k cs)) → bytes ≤ at → (0 < k → bytes < at) → at ≤ length (text_of cs) → IsSeam cs at (length cs) bytes 0
 seam_end cs at k bytes h long low tight high =
     let e : length (text_of (take k cs)) ≡ length (text_of cs) = ap (λ (xs : List ChunkValue). length (text_of xs)) (take_all k cs h) in
     let f : length (text_of (take (length cs) cs)) ≡ length (text_of cs) = ap (λ (xs : List ChunkValue). length (text_of xs)) (take_all (length cs) cs (omega arith)) in
-    record { within = omega arith; long = omega (arith, e, f, long); behind = low; tight = λ some. tight (omega (arith, some, h)); reach = omega (arith, e, long, high) }
+    record { within = omega arith; long = omega (arith, e, f, long); behind = low; tight = λ some. tight (omega (arith, some, h)); reach = omega (arith, e, long, high); few = omega arith }
 
 -- in the chunks from a border on
 pub seam_behind : (cs rest : List ChunkValue) (at border size before bytes here : ℕ) → rest ≡ drop border cs → border ≤ length cs → size ≡ length (text_of (take border cs)) → (0 < border → size < at)
@@ -238,6 +238,7 @@ seam_behind cs rest at border size before bytes here is within long tight s =
         | inr none ↦ omega (arith, near (omega (arith, none)), tight (omega (arith, some, none)))
       ];
       reach = omega (arith, s.reach, mid, low);
+      few = s.few;
     }
 
 pub front_is : (cs : List ChunkValue) (at before bytes here : ℕ) (xs ys : List ℕ) → IsSeam cs at before bytes here → xs ≡ text_of (slice_range cs before (before + here))

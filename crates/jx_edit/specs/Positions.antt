@@ -1,8 +1,8 @@
 -- Positions in a text, as editors count them (Language Server Protocol 3.17, "Position" and "PositionEncodingKind").
 use Rattle.std.specs.Prelude.{ℕ, suc, ◌≡◌, ◌<◌, ◌≤◌, true, false, length, ◌+◌, ◌-◌, ◌==◌, List, [], ◌∷◌, Bool, fold, take, nat_le, nat_lt, slice_index, ◌&&◌, ◌||◌, if◌then◌else◌}
-use Rattle.jx_edit.specs.declared.encoding.Encoding.{Encoding}
-use Rattle.jx_edit.specs.declared.encoding.Encoding.TheVariants.{Utf8, Utf16}
-use Rattle.jx_edit.specs.declared.position.Position.{Position}
+use Rattle.jx_edit.specs.declared.positions.encoding.Encoding.{Encoding}
+use Rattle.jx_edit.specs.declared.positions.encoding.Encoding.TheVariants.{Utf8, Utf16}
+use Rattle.jx_edit.specs.declared.positions.position.Position.{Position}
 
 -- where a text begins
 abbrev pub first : Position

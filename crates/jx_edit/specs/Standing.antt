@@ -5,7 +5,7 @@ use Rattle.jx_run.specs.Front.{front_of}
 use Rattle.jx_run.specs.Reading.{read_text, went}
 use Rattle.jx_run.specs.declared.texts.settings.Front.TheVariants.{Skip}
 use Rattle.jx_run.specs.declared.texts.settings.Settings.{Settings}
-use Rattle.jx_edit.specs.declared.standing.Stand.{Stand}
+use Rattle.jx_edit.specs.declared.reading.standing.Stand.{Stand}
 
 -- the bytes behind what stands in front, up to an offset, were read without a fault, and the reading came to this
 pub record StandsBefore (settings : Settings) (bytes : List ℕ) (at : ℕ) (s : Stand) : Type 0 where

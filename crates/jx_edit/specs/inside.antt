@@ -1,4 +1,5 @@
 pub mod Chunks
+pub mod Fills
 pub mod Fronts
 pub mod Leads
 pub mod Links
@@ -6,4 +7,5 @@ pub mod Moves
 pub mod Parts
 pub mod Pieces
 pub mod Places
+pub mod Replacements
 pub mod Sums

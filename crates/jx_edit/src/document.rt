@@ -2,22 +2,21 @@
 ghost use Rattle.std.specs.Prelude.{◌≡◌, ◌≤◌, ◌<◌, ◌+◌, ◌-◌, ◌^◌, ◌↔◌, IsTrue, [], Err, IfErr, IfOk, IfSome, OnErr, OnOk, length, slice_index, slice_range, take};
 ghost use Rattle.std.specs.List.{concat};
 ghost use Rattle.jx_edit.specs.Document.{edited};
-ghost use Rattle.jx_edit.specs.declared.edit_fault.EditFault.TheVariants as edit;
-ghost use Rattle.jx_edit.specs.declared.open_fault.OpenFault.TheVariants as opening;
+ghost use Rattle.jx_edit.specs.declared.document_fault.DocumentFault.TheVariants.{Memory, OutOfBounds, UniqueNames};
 ghost use Rattle.jx_edit.specs.inside.Fronts.{skipped};
 ghost use Rattle.jx_edit.specs.Standing.{StandsBefore};
 ghost use Rattle.jx_edit.specs.Positions.{first, is_in_crlf, offset_at, position_at, reach};
 ghost use Rattle.jx_run.specs.declared.texts.settings.NameRule.TheVariants.{Any, Unique};
 ghost use Rattle.jx_run.specs.Settings.{JudgedBy, byte_order_mark};
 
-use crate::chunked::{Chunked, MOST};
-use crate::chunks::Chunks;
-use crate::edit_fault::EditFault;
-use crate::encoding::Encoding;
-use crate::open_fault::OpenFault;
-use crate::place::Place;
-use crate::position::{Position, Reached, behind, reach};
-use crate::standing::Stand;
+use crate::chunking::chunked::{Chunked, MOST};
+use crate::chunking::chunks::Chunks;
+use crate::chunking::replacement::Replacement;
+use crate::document_fault::DocumentFault;
+use crate::positions::encoding::Encoding;
+use crate::positions::position::{Position, Reached, behind, reach};
+use crate::reading::place::Place;
+use crate::reading::standing::Stand;
 use jx_run::{Front, NameRule, Settings, Verdict, front, fronts_decide_where_texts_begin};
 use std::alloc::{AllocError, Global};
 use std::marker::Model;
@@ -66,14 +65,14 @@ fn in_front(front: Front) -> &'static [u8]
 
 impl Document {
     /// A document of these bytes. Unique names are refused, as a document keeps no names.
-    pub fn of(alloc: Global, bytes: &[u8], settings: Settings) -> Result<Document, OpenFault>
+    pub fn of(alloc: Global, bytes: &[u8], settings: Settings) -> Result<Document, DocumentFault>
         ensures settings { IfOk result (λ d. d.settings ≡ settings) }
         ensures bytes { IfOk result (λ d. d.bytes ≡ bytes.now) }
-        ensures names { settings.names ≡ Unique → result ≡ Err opening.UniqueNames }
-        ensures any { settings.names ≡ Any → IfErr result (λ fault. fault ≡ opening.Memory) }
+        ensures names { settings.names ≡ Unique → result ≡ Err UniqueNames }
+        ensures any { settings.names ≡ Any → IfErr result (λ fault. fault ≡ Memory) }
     {
         if settings.names == NameRule::Unique {
-            return Err(OpenFault::UniqueNames);
+            return Err(DocumentFault::UniqueNames);
         }
         let front = front(bytes, settings.mark);
         let rest = Chunked::of(alloc, &bytes[skipped(front)..], settings.depth)?;
@@ -92,14 +91,14 @@ impl Document {
         bytes: &[u8],
         settings: Settings,
         workers: usize,
-    ) -> Result<Document, OpenFault>
+    ) -> Result<Document, DocumentFault>
         ensures settings { IfOk result (λ d. d.settings ≡ settings) }
         ensures bytes { IfOk result (λ d. d.bytes ≡ bytes.now) }
-        ensures names { settings.names ≡ Unique → result ≡ Err opening.UniqueNames }
-        ensures any { settings.names ≡ Any → IfErr result (λ fault. fault ≡ opening.Memory) }
+        ensures names { settings.names ≡ Unique → result ≡ Err UniqueNames }
+        ensures any { settings.names ≡ Any → IfErr result (λ fault. fault ≡ Memory) }
     {
         let NameRule::Any = settings.names else {
-            return Err(OpenFault::UniqueNames);
+            return Err(DocumentFault::UniqueNames);
         };
         let front = front(bytes, settings.mark);
         let rest = Chunked::of_by(rt, alloc, &bytes[skipped(front)..], settings.depth, workers)?;
@@ -258,59 +257,68 @@ impl Document {
     }
 
     /// Puts other bytes in the place of those from `start` up to `end`. Where that is refused nothing changes.
-    pub fn edit(&mut self, start: usize, end: usize, replacement: &[u8]) -> Result<(), EditFault>
+    pub fn edit(
+        &mut self,
+        start: usize,
+        end: usize,
+        replacement: &[u8],
+    ) -> Result<(), DocumentFault>
         ensures settings { self.new.settings ≡ self.old.settings }
         ensures ok { OnOk result (self.new.bytes ≡ edited start end replacement.now self.old.bytes) }
         ensures err { OnErr result (self.new ≡ self.old) }
-        ensures inside { start ≤ end → end ≤ length self.old.bytes → IfErr result (λ fault. fault ≡ edit.Memory) }
-        ensures outside { (start ≤ end → end ≤ length self.old.bytes → ⊥) → result ≡ Err edit.OutOfBounds }
+        ensures inside { start ≤ end → end ≤ length self.old.bytes → IfErr result (λ fault. fault ≡ Memory) }
+        ensures outside { (start ≤ end → end ≤ length self.old.bytes → ⊥) → result ≡ Err OutOfBounds }
     {
         if end < start || self.len() < end {
-            return Err(EditFault::OutOfBounds);
+            return Err(DocumentFault::OutOfBounds);
         }
         let kept = self.len() - (end - start);
         if MOST < kept.saturating_add(replacement.len()) {
-            return Err(EditFault::Memory);
+            return Err(DocumentFault::Memory);
         }
         if start < BYTE_ORDER_MARK.len() {
-            return self.edit_front(start, end, replacement);
+            self.edit_front(start, end, replacement)?;
+            return Ok(());
         }
         let skip = skipped(self.front);
-        self.rest.edit(start - skip, end - skip, replacement)?;
+        self.rest
+            .edit(start - skip, end - skip, Replacement::of(replacement))?;
         Ok(())
     }
 
     /// The same at a place so near to the start that what stands in front may change.
-    fn edit_front(&mut self, start: usize, end: usize, replacement: &[u8]) -> Result<(), EditFault>
+    fn edit_front(&mut self, start: usize, end: usize, replacement: &[u8]) -> Result<(), AllocError>
         requires order { start ≤ end }
         requires within { end ≤ length self.old.bytes }
         requires fits { (length self.old.bytes - (end - start)) + length replacement.now < 2 ^ 63 }
         ensures settings { self.new.settings ≡ self.old.settings }
         ensures ok { OnOk result (self.new.bytes ≡ edited start end replacement.now self.old.bytes) }
         ensures err { OnErr result (self.new ≡ self.old) }
-        ensures fault { IfErr result (λ fault. fault ≡ edit.Memory) }
     {
         // Behind three bytes nothing changes what stands in front.
         let far = end.saturating_add(3).min(self.len());
-        let mut bytes = self.bytes_between(0, start)?;
-        bytes.extend_from_slice(replacement)?;
+        let before = self.bytes_between(0, start)?;
         let behind = self.bytes_between(end, far)?;
-        bytes.extend_from_slice(&behind)?;
-        let front = front(&bytes, self.settings.mark);
+        let put = Replacement {
+            before: &before,
+            bytes: replacement,
+            behind: &behind,
+        };
+        let front = put.front(self.rest.allocator(), self.settings.mark)?;
         let skip = skipped(self.front);
-        self.rest.edit(0, far - skip, &bytes[skipped(front)..])?;
+        self.rest.edit(0, far - skip, put.without(skipped(front)))?;
         self.front = front;
         Ok(())
     }
 
     /// A copy of the bytes from `start` up to `end`.
-    pub fn copy(&self, start: usize, end: usize) -> Result<Vec<u8>, EditFault>
+    pub fn copy(&self, start: usize, end: usize) -> Result<Vec<u8>, DocumentFault>
         ensures ok { IfOk result (λ bytes. bytes.items ≡ slice_range self.now.bytes start end) }
-        ensures inside { start ≤ end → end ≤ length self.now.bytes → IfErr result (λ fault. fault ≡ edit.Memory) }
-        ensures outside { (start ≤ end → end ≤ length self.now.bytes → ⊥) → result ≡ Err edit.OutOfBounds }
+        ensures inside { start ≤ end → end ≤ length self.now.bytes → IfErr result (λ fault. fault ≡ Memory) }
+        ensures outside { (start ≤ end → end ≤ length self.now.bytes → ⊥) → result ≡ Err OutOfBounds }
     {
         if end < start || self.len() < end {
-            return Err(EditFault::OutOfBounds);
+            return Err(DocumentFault::OutOfBounds);
         }
         Ok(self.bytes_between(start, end)?)
     }

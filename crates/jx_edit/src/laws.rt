@@ -1,8 +1,8 @@
 // The laws of positions, for every list of bytes, on a function that does nothing.
 
 ghost use Rattle.std.specs.Prelude.{◌≡◌, ◌≤◌, ◌<◌, ℕ, List, length, slice_index};
-ghost use Rattle.jx_edit.specs.declared.encoding.Encoding.{Encoding};
-ghost use Rattle.jx_edit.specs.declared.position.Position.{Position};
+ghost use Rattle.jx_edit.specs.declared.positions.encoding.Encoding.{Encoding};
+ghost use Rattle.jx_edit.specs.declared.positions.position.Position.{Position};
 ghost use Rattle.jx_edit.specs.Positions.{first, offset_at, position_at, reach, units, IsLast};
 
 /// The position of an offset leads back to it where the byte there adds units: where a character begins, and at each byte

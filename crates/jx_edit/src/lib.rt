@@ -1,31 +1,17 @@
 //! A text that is edited, and its verdict after each edit.
 #![tactic(auto)]
 
-mod chunk;
-mod chunked;
-mod chunks;
+mod chunking;
 mod document;
-mod edit_fault;
-mod encoding;
+mod document_fault;
 mod laws;
-mod led;
-mod making;
-mod nesting;
-mod open_fault;
-mod patch;
-mod place;
-mod position;
-mod seam;
-mod seek;
-mod standing;
-mod sums;
-mod walk;
+mod positions;
+mod reading;
 
-pub use chunks::Chunks;
+pub use chunking::chunks::Chunks;
 pub use document::Document;
-pub use edit_fault::EditFault;
-pub use encoding::Encoding;
+pub use document_fault::DocumentFault;
 pub use laws::positions_lead_back;
-pub use open_fault::OpenFault;
-pub use position::Position;
-pub use standing::Stand;
+pub use positions::encoding::Encoding;
+pub use positions::position::Position;
+pub use reading::standing::Stand;

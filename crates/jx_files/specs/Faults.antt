@@ -2,8 +2,6 @@
 use Rattle.std.specs.Prelude.{ℕ, List, [], ◌∷◌, ◌++◌, ◌==◌, codes, if◌then◌else◌}
 use Rattle.jx_files.specs.declared.file_fault.FileFault.{FileFault}
 use Rattle.jx_files.specs.declared.file_fault.FileFault.TheVariants.{Folder, Open, Read, Memory, Pieces, Misplaced}
-use Rattle.jx_files.specs.declared.file_fault.OpenFault.{OpenFault}
-use Rattle.jx_files.specs.declared.file_fault.OpenFault.TheVariants as opening
 use Rattle.jx_files.specs.declared.reason.Reason.{Reason}
 use Rattle.jx_files.specs.declared.reason.Reason.TheVariants as reason
 use Rattle.jx_files.specs.Naming.{shown}
@@ -21,12 +19,6 @@ reason_in (row ∷ rows) number = if number == row.0 then row.1 else reason_in r
 
 abbrev pub reason_at : ℕ → Reason
 reason_at number = reason_in reasons number
-
--- what the fault of an opening comes to
-abbrev pub unopened : OpenFault → FileFault
-unopened opening.Folder = Folder
-unopened (opening.Closed why) = Open why
-unopened opening.Memory = Memory
 
 abbrev pub fault_head : FileFault → List ℕ
 fault_head Folder = codes "is a directory"

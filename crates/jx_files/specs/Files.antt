@@ -9,11 +9,10 @@ use Rattle.jx_words.specs.Verdicts.{shown_output}
 use Rattle.jx_report.specs.Reports.{HasTooManyPieces, greatest_length}
 use Rattle.jx_files.specs.declared.file_fault.FileFault.{FileFault}
 use Rattle.jx_files.specs.declared.file_fault.FileFault.TheVariants.{Read, Memory, Pieces}
-use Rattle.jx_files.specs.declared.file_fault.OpenFault.{OpenFault}
 use Rattle.jx_files.specs.declared.reason.Reason.{Reason}
 use Rattle.jx_files.specs.declared.status.Status.{Status}
 use Rattle.jx_files.specs.declared.status.Status.TheVariants.{Good, Fault}
-use Rattle.jx_files.specs.Faults.{fault_line, unopened}
+use Rattle.jx_files.specs.Faults.{fault_line}
 use Rattle.jx_files.specs.Naming.{named, shown}
 use Rattle.jx_files.specs.Status.{greatest, status_of}
 
@@ -25,7 +24,7 @@ part word output = named (shown word ++ codes ": ") output
 pub record Ways : Type 1 where
   pub Input : Type 0
   -- what the opening of a word may come to
-  pub opens : List ℕ → Result Input OpenFault → Type 0
+  pub opens : List ℕ → Result Input FileFault → Type 0
   -- why the last read of an input failed
   pub why : Input → Reason
   -- the bytes that an input has left
@@ -33,12 +32,12 @@ pub record Ways : Type 1 where
   -- a read of it has failed
   pub has_failed : Input → Bool
 
-abbrev pub ways_of : {Input : Type 0} → (List ℕ → Result Input OpenFault → Type 0) → (Input → Reason) → (Input → Option (List ℕ)) → (Input → Bool) → Ways
+abbrev pub ways_of : {Input : Type 0} → (List ℕ → Result Input FileFault → Type 0) → (Input → Reason) → (Input → Option (List ℕ)) → (Input → Bool) → Ways
 ways_of {Input} opens why remaining has_failed = record { Input = Input; opens = opens; why = why; remaining = remaining; has_failed = has_failed }
 
 -- why there is no answer for a word. Want of memory is told of none that names nothing to be read
 pub data IsFaultAt (ways : Ways) (command : Command) (word : List ℕ) : FileFault → Type 0 where
-  not_opened : (fault : OpenFault) → ways.opens word (Err fault) → IsFaultAt ways command word (unopened fault)
+  not_opened : (fault : FileFault) → ways.opens word (Err fault) → IsFaultAt ways command word fault
   not_read : (input left : ways.Input) → ways.opens word (Ok input) → ways.has_failed left ≡ true → IsFaultAt ways command word (Read (ways.why left))
   too_long : (input left : ways.Input) → ways.opens word (Ok input) → HasTooManyPieces command (ways.remaining input) (ways.remaining left) → IsFaultAt ways command word Pieces
   no_memory : (input : ways.Input) → ways.opens word (Ok input) → IsFaultAt ways command word Memory

@@ -1,25 +1,14 @@
 ghost use Rattle.std.specs.Prelude.{◌≡◌};
-ghost use Rattle.jx_files.specs.Faults.{fault_head, fault_reason, fault_tail, unopened};
+ghost use Rattle.jx_files.specs.Faults.{fault_head, fault_reason, fault_tail};
 
 use crate::reason::Reason;
-
-/// Why what a word names is not to be had.
-#[derive(Clone, Copy, Debug, PartialEq, Eq)]
-pub enum OpenFault {
-    /// It is a folder.
-    Folder,
-    /// The system does not open it.
-    Closed(Reason),
-    /// A growth of memory was refused.
-    Memory,
-}
 
 /// Why there is no answer for what a word names.
 #[derive(Clone, Copy, Debug, PartialEq, Eq)]
 pub enum FileFault {
     /// It is a folder.
     Folder,
-    /// It did not open.
+    /// The system does not open it.
     Open(Reason),
     /// A read of it failed.
     Read(Reason),
@@ -32,17 +21,6 @@ pub enum FileFault {
 }
 
 impl FileFault {
-    /// What the fault of an opening comes to.
-    pub fn of_opening(fault: OpenFault) -> FileFault
-        ensures { result ≡ unopened fault }
-    {
-        match fault {
-            OpenFault::Folder => FileFault::Folder,
-            OpenFault::Closed(reason) => FileFault::Open(reason),
-            OpenFault::Memory => FileFault::Memory,
-        }
-    }
-
     /// What is told first.
     pub(crate) fn head(self) -> &'static str
         ensures { result.now ≡ fault_head self }

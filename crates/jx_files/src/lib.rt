@@ -10,7 +10,7 @@ mod showing;
 mod status;
 mod telling;
 
-pub use file_fault::{FileFault, OpenFault};
+pub use file_fault::FileFault;
 pub use naming::named_lines;
 pub use opener::Opener;
 pub use reason::Reason;

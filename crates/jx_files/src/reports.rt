@@ -46,7 +46,7 @@ fn answer_on<R: Threads + Wait + Sync, S: Source + Send + Drop, O: Opener<S>, G:
 {
     let mut input = match opener.open(word) {
         Ok(input) => input,
-        Err(fault) => return Err(FileFault::of_opening(fault)),
+        Err(fault) => return Err(fault),
     };
     let mut lines = End::new(Vec::new(alloc));
     match report(rt, alloc, &mut input, &mut lines, command, gate) {

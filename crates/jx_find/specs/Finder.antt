@@ -1,5 +1,5 @@
 -- Which bytes a finder was fed.
-use Rattle.std.specs.Prelude.{◌≡◌, ℕ, ◌+◌, List, All, None, Some, false}
+use Rattle.std.specs.Prelude.{◌≡◌, ℕ, ◌+◌, List, All, Option, None, Some, false}
 use Rattle.jx_run.specs.declared.texts.settings.NameRule.TheVariants.{Any}
 use Rattle.jx_run.specs.declared.texts.settings.Settings.{Settings}
 use Rattle.jx_run.specs.Reader.{HasRead, is_fault}
@@ -26,6 +26,10 @@ pub record HasFed (settings : Settings) (pointers : List (List ℕ)) (bytes : Li
 -- the offset just past the last byte that it was fed
 abbrev pub end_of : Finder → ℕ
 end_of f = f.reader.start + f.reader.count
+
+-- what it holds of them, if it holds anything
+abbrev pub held_by : Finder → Option Sought
+held_by f = f.held
 
 -- memory was refused, and every slice will be
 abbrev pub IsLost : Finder → Type 0

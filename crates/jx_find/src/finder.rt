@@ -1,5 +1,5 @@
 // The look-up of several pointers (RFC 6901, section 4) in a text that is fed slice by slice.
-ghost use Rattle.std.specs.Prelude.{◌≡◌, ◌+◌, ◌<◌, ◌^◌, ◌++◌, [], ℕ, List, Some, false, length, IfOk, IfErr, IsErr, OnOk, OnErr};
+ghost use Rattle.std.specs.Prelude.{◌≡◌, ◌+◌, ◌<◌, ◌^◌, ◌++◌, [], ℕ, List, Some, false, length, IfNone, IfSome, IfOk, IfErr, IsErr, OnOk, OnErr};
 ghost use Rattle.jx_lex.specs.declared.alphabet.mark.Mark.{Mark};
 ghost use Rattle.jx_run.specs.declared.texts.settings.NameRule.TheVariants.{Any};
 ghost use Rattle.jx_run.specs.declared.texts.settings.Settings.{Settings};
@@ -8,7 +8,7 @@ ghost use Rattle.jx_run.specs.Reader.{HasRead, HasFailed, Outcome, is_fault};
 ghost use Rattle.jx_run.specs.Telling.{moved_ends, moved_marks, track_of};
 ghost use Rattle.jx_index.specs.ByNames.{IsVerdictBy};
 ghost use Rattle.jx_index.specs.Found.{AreFoundIn};
-ghost use Rattle.jx_find.specs.Finder.{HasFed, IsLost, end_of};
+ghost use Rattle.jx_find.specs.Finder.{HasFed, IsLost, end_of, held_by};
 ghost use Rattle.jx_find.specs.Held.{IsHeld};
 
 use crate::held::Sought;
@@ -100,7 +100,10 @@ impl<'p> Finder<'p> {
 
     /// What it holds of the bytes that it was fed; none where memory was refused. So who keeps bytes of the text can tell which
     /// of them the value of a pointer may have.
-    pub fn sought(&self) -> Option<&Sought> {
+    pub fn sought(&self) -> Option<&Sought>
+        ensures none { IfNone result (IsLost self.now) }
+        ensures value { IfSome result (λ sought. held_by self.now ≡ Some sought.now) }
+    {
         match &self.held {
             Some(held) => Some(held),
             None => None,
@@ -133,6 +136,7 @@ impl<'p> Finder<'p> {
             → IsVerdictBy settings bytes (Refused refusal))) }
         ensures found { IfOk result (λ read. IfOk read (λ found. (settings : Settings) (pointers : List (List ℕ)) (bytes : List ℕ) → HasFed settings pointers bytes self.entry
             → AreFoundIn settings bytes pointers found.items)) }
+        ensures lost { IsLost self.entry → IsErr result }
     {
         names_are_refused_by_rows();
         reader_is_grammar();

@@ -1,15 +1,13 @@
 -- Names that are told by their bytes, and what was met when all tokens of a text had been told.
-use Rattle.std.proofs.Common.{◌≡◌, ℕ, zero, suc, ◌-◌, ◌≤◌, List, [], ◌∷◌, length, drop, map, refl, sym, ap, subst, ◌∙◌, arith, Bool, true, false, Option, None, Some}
-use Rattle.std.specs.Prelude.{◌==◌, ◌↔◌, All, Result, is_some, slice_range}
+use Rattle.std.proofs.Common.{◌≡◌, ℕ, zero, suc, ◌-◌, ◌≤◌, List, length, drop, map, refl, sym, ap, subst, ◌∙◌, arith, Bool, true, false, Option, None, Some}
+use Rattle.std.specs.Prelude.{◌==◌, ◌↔◌, All, Result, slice_range}
 use Rattle.std.specs.List.{AllZip}
 use Rattle.std.proofs.lemmas.Bool.Decides.{nat_tests}
 use Rattle.std.proofs.lemmas.List.{length-drop, take_all}
-use Rattle.jx_lex.specs.declared.alphabet.mark.Mark.{Mark}
 use Rattle.jx_lex.specs.declared.alphabet.mark.MarkKind.{MarkKind}
 use Rattle.jx_lex.specs.declared.alphabet.mark.MarkKind.TheVariants as mark
 use Rattle.jx_lex.specs.declared.alphabet.state.LexState.TheVariants as state
 use Rattle.jx_lex.specs.Lex.{lex, Track}
-use Rattle.jx_summary.specs.declared.span.Span.{Span}
 use Rattle.jx_run.specs.declared.texts.settings.Front.TheVariants.{Skip}
 use Rattle.jx_run.specs.declared.texts.settings.Settings.{Settings}
 use Rattle.jx_run.specs.declared.texts.verdict.Verdict.{Verdict}
@@ -21,7 +19,6 @@ use Rattle.jx_run.specs.Text.{IsText}
 use Rattle.jx_run.specs.Tree.{span}
 use Rattle.jx_run.specs.Verdict.{Judged}
 use Rattle.jx_index.specs.declared.find_fault.FindFault.{FindFault}
-use Rattle.jx_index.specs.declared.finder.Cursor.{Cursor}
 use Rattle.jx_index.specs.declared.finder.Found.{Found}
 use Rattle.jx_index.specs.declared.finder.Met.{Met}
 use Rattle.jx_index.specs.declared.trie.Edge.{Edge}
@@ -33,7 +30,7 @@ use Rattle.jx_index.specs.Settled.{IsIndexBy, IsIndexFrom, rest_from}
 use Rattle.jx_index.specs.Units.{between_marks, chars_units, units_at}
 use Rattle.jx_index.specs.inside.Finding.{Finding, met_at, naming, nothing_met}
 use Rattle.jx_index.specs.inside.Seeking.{HaveMet, IsReadOf}
-use Rattle.jx_index.specs.inside.Trie.{HasWay, IsTrie, child_at, is_name_next, member_at, seek_all, sought, sought_in, among, string_among}
+use Rattle.jx_index.specs.inside.Trie.{HasWay, IsTrie, child_at, is_name_next, member_at, seek_all, sought, sought_in, string_among}
 use Rattle.jx_index.proofs.FindEach.{each_found}
 use Rattle.jx_index.proofs.FoundFronts.{each_behind}
 use Rattle.jx_index.proofs.Showing.{shows_all, shows_nothing}

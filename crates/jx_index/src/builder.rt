@@ -5,7 +5,8 @@ ghost use Rattle.jx_index.specs.inside.Low.{AllLow};
 
 use crate::in_order::{Marking, take_all};
 use crate::row::{NodeId, Row};
-use jx_lex::{Ends, Kind, Mark, MarkKind, Marks, Span};
+use jx_lex::{Kind, Mark, MarkKind, Span};
+use jx_maps::{Ends, Marks};
 use std::alloc::{AllocError, Global};
 
 /// The rows of a text, and for each the number of the row behind all that stands in it.

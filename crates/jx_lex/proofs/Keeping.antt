@@ -15,7 +15,7 @@ use Rattle.jx_lex.specs.declared.alphabet.mark.MarkKind.TheVariants.{Colon, Comm
 use Rattle.jx_lex.specs.declared.alphabet.state.TokenEnd.TheVariants.{Before}
 use Rattle.jx_lex.specs.TwoPieces.{joined, right_of}
 use Rattle.jx_lex.proofs.LexJoin.{lex-append}
-use Rattle.jx_lex.proofs.Reading.{one-is}
+use Rattle.jx_lex.proofs.OneByte.{one-is}
 use Rattle.jx_lex.proofs.Running.{lex-leads}
 use Rattle.jx_lex.proofs.Slices.{slice-none, slice-more, slice-first, slice-length, slice-split}
 

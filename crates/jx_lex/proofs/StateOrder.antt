@@ -1,9 +1,11 @@
 -- Each lexical state stands in its place among all of them.
-use Rattle.std.proofs.Common.{◌≡◌, ◌<◌, Some, refl, arith}
-use Rattle.std.specs.Prelude.{slice_get}
+use Rattle.std.proofs.Common.{◌≡◌, ℕ, ◌<◌, true, get_or, Some, refl, sym, ap, ◌∙◌, arith}
+use Rattle.std.specs.Prelude.{slice_get, ◌==◌}
+use Rattle.std.proofs.lemmas.Option.{get_or_from_slice_get}
 use Rattle.jx_lex.specs.declared.alphabet.state.LexState.{LexState}
 use Rattle.jx_lex.specs.declared.alphabet.state.LexState.TheVariants as state
 use Rattle.jx_lex.specs.Ordinal.{all_states, ordinal}
+use Rattle.jx_lex.proofs.ClassTable.{all_below, all_below-at}
 
 pub ordinal-low : (s : LexState) → ordinal s < 32
 ordinal-low state.Gap = omega arith
@@ -72,3 +74,15 @@ state-at state.Fals = refl
 state-at state.N = refl
 state-at state.Nu = refl
 state-at state.Nul = refl
+
+pub state-read : (s : LexState) → get_or all_states (ordinal s) state.Gap ≡ s
+state-read s = get_or_from_slice_get all_states (ordinal s) s state.Gap (state-at s)
+
+pub same_ordinal : (s t : LexState) → ordinal s ≡ ordinal t → s ≡ t
+same_ordinal s t e = sym (state-read s) ∙ ap (λ n. get_or all_states n state.Gap) e ∙ state-read t
+
+ordinals-right : all_below 32 (λ i. ordinal (get_or all_states i state.Gap) == i) ≡ true
+ordinals-right = refl
+
+pub ordinal-at : (i : ℕ) → i < 32 → ordinal (get_or all_states i state.Gap) ≡ i
+ordinal-at i low = let e = all_below-at (λ i. ordinal (get_or all_states i state.Gap) == i) 32 ordinals-right i low in grind (arith, e)

@@ -1,8 +1,3 @@
 -- What the contracts of this crate's own functions cite, and no public one.
 pub mod Bits
-pub mod Bundle
 pub mod Cells
-pub mod Closed
-pub mod Passing
-pub mod Pruned
-pub mod Step

@@ -6,7 +6,7 @@ ghost use Rattle.jx_lex.specs.inside.Cells.{step_of};
 ghost use Rattle.jx_lex.specs.Lex.{lex, with_mark, with_end};
 ghost use Rattle.jx_lex.specs.Moves.{move};
 ghost use Rattle.jx_lex.specs.Seen.{EndsAtComma, Grows, SeesTrack, WantsNoMore, GoesTo};
-ghost use Rattle.jx_lex.specs.View.{exit_of};
+ghost use Rattle.jx_lex.specs.Exit.{exit_of};
 
 pub(crate) mod ahead;
 pub(crate) mod byte_sets;

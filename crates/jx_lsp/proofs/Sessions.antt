@@ -1,5 +1,5 @@
 -- Parts of a stream, one behind another.
-use Rattle.std.proofs.Common.{◌≡◌, ◌≢◌, ℕ, ◌≤◌, List, [], ◌∷◌, ◌++◌, take, drop, length, append_assoc, append-nil, refl, sym, ap, ◌∙◌, subst, inl, inr, Result, Ok, Err, OnOk}
+use Rattle.std.proofs.Common.{◌≡◌, ◌≢◌, ℕ, List, [], ◌∷◌, ◌++◌, take, drop, append_assoc, append-nil, refl, sym, ap, ◌∙◌, subst, inl, inr, Result, Ok, Err, OnOk}
 use Rattle.std.specs.Prelude.{Option, None, Some, is_some, Bool, false, true}
 use Rattle.std.specs.Io.KnownBytes.{Appends, Consumes, IsAtEnd, Keeps}
 use Rattle.std.proofs.KnownBytes.{Appends-kept, Appends-nil, Appends-trans, Consumes-nil, Consumes-trans}
@@ -20,7 +20,7 @@ use Rattle.jx_serve.specs.declared.reply.Reply.TheVariants.{Nothing, Refused}
 use Rattle.jx_serve.specs.declared.server.Phase.{Phase}
 use Rattle.jx_serve.specs.declared.server.Phase.TheVariants as phase
 use Rattle.jx_lsp.specs.declared.serve.Ended.{Ended}
-use Rattle.jx_lsp.specs.declared.serve.Ended.TheVariants.{Clean, Early}
+use Rattle.jx_lsp.specs.declared.serve.Ended.TheVariants.{Early}
 use Rattle.jx_lsp.specs.Session.{none_told, one_more, one_told, silent, untold, closing, ended_at, has_left, AreTold, HasStopped, IsServed, Serves, Talks, Writes}
 use Rattle.jx_lsp.specs.inside.Parts.{end_of, Ends, Goes, IsGoing, SoFar}
 

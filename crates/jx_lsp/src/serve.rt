@@ -28,8 +28,8 @@ fn tell<W: Write>(alloc: Global, writer: &mut W, reply: &Reply) -> io::Result<()
     if matches!(reply, Reply::Nothing) {
         return Ok(());
     }
-    let Ok(message) = message_of(alloc, reply) else {
-        return Err(io::Error::from(io::ErrorKind::OutOfMemory));
+    let Some(message) = message_of(alloc, reply)? else {
+        return Err(io::Error::from(io::ErrorKind::InvalidData));
     };
     let frame = framed(alloc, &message)?;
     writer.write_all(&frame)?;

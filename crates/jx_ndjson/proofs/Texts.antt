@@ -13,7 +13,7 @@ use Rattle.jx_lex.specs.Lex.{Track, lex}
 use Rattle.jx_lex.specs.Lex as lexical
 use Rattle.jx_lex.specs.Seen.{SeesTrack}
 use Rattle.jx_lex.specs.Uneventful.{is_blank}
-use Rattle.jx_lex.specs.View.{exit_of}
+use Rattle.jx_lex.specs.Exit.{exit_of}
 use Rattle.jx_reduce.specs.KnownStack.{Known, HasRead, start}
 use Rattle.jx_reduce.specs.Read.{Reading, read as read_marks}
 use Rattle.jx_reduce.specs.Whole.{whole_of}

@@ -3,7 +3,7 @@ ghost use Rattle.std.specs.Prelude.{◌≡◌, ◌<◌, ◌≤◌, List, [], IfO
 ghost use Rattle.jx_lex.specs.declared.alphabet.state.LexState.TheVariants.{Gap};
 ghost use Rattle.jx_lex.specs.Lex.{lex};
 ghost use Rattle.jx_lex.specs.Seen.{SeesTrack};
-ghost use Rattle.jx_lex.specs.View.{exit_of};
+ghost use Rattle.jx_lex.specs.Exit.{exit_of};
 ghost use Rattle.jx_run.specs.Kept.{HasSeen};
 ghost use Rattle.jx_ndjson.specs.declared.judged_line.JudgedLine.{JudgedLine};
 ghost use Rattle.jx_ndjson.specs.WholeLines.{AreWhole};

@@ -8,8 +8,8 @@ use Rattle.sha2.proofs.Facts256.{length-sha256}
 use Rattle.jx_lex.specs.declared.alphabet.lex_exit.LexExit.{LexExit}
 use Rattle.jx_lex.specs.declared.alphabet.lex_exit.LexExit.TheVariants.{State, Fault}
 use Rattle.jx_lex.specs.Ordinal.{ordinal}
-use Rattle.jx_reduce.specs.declared.level.Level.{Level}
-use Rattle.jx_reduce.specs.declared.ended_level.EndedLevel.{EndedLevel}
+use Rattle.jx_reduce.specs.declared.forms.level.Level.{Level}
+use Rattle.jx_reduce.specs.declared.forms.ended_level.EndedLevel.{EndedLevel}
 use Rattle.jx_reduce.specs.Sound.{end_of, IsSound, IsTailOf}
 use Rattle.jx_run.specs.declared.runs.transition.Transition.{Transition}
 use Rattle.jx_portion.specs.Fields.{FormFields, RestFields, RunFields, StructureFields}

@@ -7,11 +7,11 @@ use Rattle.std.proofs.lemmas.List.Elements.{recursion_from_All}
 use Rattle.jx_reduce.specs.Parts.{borrowed_head, borrowed_structure, borrowed_tail, string_head, structure_of_parts}
 use Rattle.jx_reduce.specs.Sound.{IsSound}
 use Rattle.jx_reduce.specs.Structure.{StructureValue}
-use Rattle.jx_reduce.specs.declared.holder.Holder.{Holder}
-use Rattle.jx_reduce.specs.declared.parts.RestParts.{RestParts}
-use Rattle.jx_reduce.specs.declared.parts.RestRef.{RestRef}
-use Rattle.jx_reduce.specs.declared.parts.StructureParts.{StructureParts}
-use Rattle.jx_reduce.specs.declared.parts.StructureRef.{StructureRef}
+use Rattle.jx_reduce.specs.declared.table.holder.Holder.{Holder}
+use Rattle.jx_reduce.specs.declared.forms.parts.RestParts.{RestParts}
+use Rattle.jx_reduce.specs.declared.forms.parts.RestRef.{RestRef}
+use Rattle.jx_reduce.specs.declared.forms.parts.StructureParts.{StructureParts}
+use Rattle.jx_reduce.specs.declared.forms.parts.StructureRef.{StructureRef}
 use Rattle.jx_run.specs.OutcomeRun.{OutcomeRunValue, run_of_parts, IsFormWithin, IsOutcomeRun, IsWellFormed}
 use Rattle.jx_portion.specs.Fields.{RunFields, StructureFields, behind_fields, behind_seen, run_fields, structure_fields, structure_seen}
 use Rattle.jx_portion.specs.Portion.{PortionValue, portion_in, structure_in, IsAnswer, IsMemory, IsPortion, IsRecord, IsRun, IsSpelt, OnlyParts}

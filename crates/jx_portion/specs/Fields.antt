@@ -1,16 +1,16 @@
 -- What a record says of a run, without where it lies in memory.
 use Rattle.std.specs.Prelude.{ℕ, List, map, Option, Some, None}
 use Rattle.jx_lex.specs.declared.alphabet.mark.Mark.{Mark}
-use Rattle.jx_reduce.specs.declared.holder.Holder.{Holder}
-use Rattle.jx_reduce.specs.declared.level.Level.{Level}
-use Rattle.jx_reduce.specs.declared.ended_level.EndedLevel.{EndedLevel}
-use Rattle.jx_reduce.specs.declared.entry.Entry.{Entry}
-use Rattle.jx_reduce.specs.declared.parts.FormParts.{FormParts}
-use Rattle.jx_reduce.specs.declared.form_ref.FormRef.{FormRef}
-use Rattle.jx_reduce.specs.declared.parts.RestParts.{RestParts}
-use Rattle.jx_reduce.specs.declared.parts.RestRef.{RestRef}
-use Rattle.jx_reduce.specs.declared.parts.StructureParts.{StructureParts}
-use Rattle.jx_reduce.specs.declared.parts.StructureRef.{StructureRef}
+use Rattle.jx_reduce.specs.declared.table.holder.Holder.{Holder}
+use Rattle.jx_reduce.specs.declared.forms.level.Level.{Level}
+use Rattle.jx_reduce.specs.declared.forms.ended_level.EndedLevel.{EndedLevel}
+use Rattle.jx_reduce.specs.declared.forms.entry.Entry.{Entry}
+use Rattle.jx_reduce.specs.declared.forms.parts.FormParts.{FormParts}
+use Rattle.jx_reduce.specs.declared.forms.form_ref.FormRef.{FormRef}
+use Rattle.jx_reduce.specs.declared.forms.parts.RestParts.{RestParts}
+use Rattle.jx_reduce.specs.declared.forms.parts.RestRef.{RestRef}
+use Rattle.jx_reduce.specs.declared.forms.parts.StructureParts.{StructureParts}
+use Rattle.jx_reduce.specs.declared.forms.parts.StructureRef.{StructureRef}
 use Rattle.jx_run.specs.declared.runs.transition.Transition.{Transition}
 use Rattle.jx_portion.specs.declared.record.RunParts.{RunParts}
 

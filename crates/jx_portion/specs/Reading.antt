@@ -7,8 +7,8 @@ use Rattle.jx_portion.specs.declared.fault.Field.{Field}
 use Rattle.jx_portion.specs.declared.fault.Field.TheVariants as field
 use Rattle.jx_portion.specs.declared.fault.RunFault.{RunFault}
 use Rattle.jx_portion.specs.declared.fault.RunFault.TheVariants.{CutShort, Damaged, Malformed, NotARun, OtherVersion}
-use Rattle.jx_reduce.specs.declared.ended_level.EndedLevel.{EndedLevel}
-use Rattle.jx_reduce.specs.declared.entry.Entry.{Entry}
+use Rattle.jx_reduce.specs.declared.forms.ended_level.EndedLevel.{EndedLevel}
+use Rattle.jx_reduce.specs.declared.forms.entry.Entry.{Entry}
 use Rattle.jx_run.specs.declared.runs.transition.Transition.{Transition}
 use Rattle.jx_portion.specs.Choices.{entries, flags, holders, kinds}
 use Rattle.sha2.specs.Sha256.{sha256}
@@ -21,8 +21,8 @@ use Rattle.jx_lex.specs.declared.alphabet.lex_exit.LexExit.TheVariants as exits
 use Rattle.jx_lex.specs.declared.alphabet.state.LexState.{LexState}
 use Rattle.jx_lex.specs.declared.alphabet.mark.Mark.{Mark}
 use Rattle.jx_lex.specs.declared.alphabet.mark.MarkKind.{MarkKind}
-use Rattle.jx_reduce.specs.declared.holder.Holder.{Holder}
-use Rattle.jx_reduce.specs.declared.level.Level.{Level}
+use Rattle.jx_reduce.specs.declared.table.holder.Holder.{Holder}
+use Rattle.jx_reduce.specs.declared.forms.level.Level.{Level}
 
 infixl 10 ◌>>=◌
 abbrev pub ◌>>=◌ : {A B : Type 0} → Result A RunFault → (A → Result B RunFault) → Result B RunFault

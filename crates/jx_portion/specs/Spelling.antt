@@ -7,12 +7,12 @@ use Rattle.jx_lex.specs.Ordinal.{ordinal}
 use Rattle.jx_lex.specs.declared.alphabet.lex_exit.LexExit.{LexExit}
 use Rattle.jx_lex.specs.declared.alphabet.lex_exit.LexExit.TheVariants.{State, Fault}
 use Rattle.jx_lex.specs.declared.alphabet.mark.Mark.{Mark}
-use Rattle.jx_reduce.specs.declared.level.Level.{Level}
-use Rattle.jx_reduce.specs.declared.ended_level.EndedLevel.{EndedLevel}
-use Rattle.jx_reduce.specs.declared.entry.Entry.{Entry}
+use Rattle.jx_reduce.specs.declared.forms.level.Level.{Level}
+use Rattle.jx_reduce.specs.declared.forms.ended_level.EndedLevel.{EndedLevel}
+use Rattle.jx_reduce.specs.declared.forms.entry.Entry.{Entry}
 use Rattle.jx_run.specs.declared.runs.transition.Transition.{Transition}
 use Rattle.jx_portion.specs.Fields.{FormFields, RestFields, StructureFields, RunFields}
-use Rattle.jx_reduce.specs.declared.holder.Holder.{Holder}
+use Rattle.jx_reduce.specs.declared.table.holder.Holder.{Holder}
 use Rattle.jx_portion.specs.Choices.{holder_number, kind_number}
 use Rattle.jx_reduce.specs.Entries.{place}
 

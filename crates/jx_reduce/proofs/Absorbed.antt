@@ -6,9 +6,9 @@ use Rattle.jx_reduce.specs.Read.{top, without_top}
 use Rattle.jx_reduce.specs.Form.{Form, Plain, beyond, fault_of, end_fault_of, unless, along, within, at_end, plain}
 use Rattle.jx_reduce.specs.Join.{closed, filled_end, no_faults, Tail, halted, stop_or, with_tail, with_level, finished, passes, absorbed}
 use Rattle.jx_reduce.proofs.Along.{along-append, along_same, unless_first, unless_filled, fault_of-merged, fault_of-filled, end_fault_of-closed, fault_of-no_faults, past}
-use Rattle.jx_reduce.specs.declared.holder.Holder.{Holder}
-use Rattle.jx_reduce.specs.declared.holder.Holder.TheVariants.{Array, Object, Bottom}
-use Rattle.jx_reduce.specs.declared.ended_level.EndedLevel.{EndedLevel}
+use Rattle.jx_reduce.specs.declared.table.holder.Holder.{Holder}
+use Rattle.jx_reduce.specs.declared.table.holder.Holder.TheVariants.{Array, Object, Bottom}
+use Rattle.jx_reduce.specs.declared.forms.ended_level.EndedLevel.{EndedLevel}
 
 -- a fault of an open container is one of every holder of the last level
 plain-stop_or : (f : Option ℕ) (r k : Form) (s : List Holder) (c : List Holder → Plain)

@@ -9,9 +9,9 @@ use Rattle.jx_reduce.proofs.Along.{along_same}
 use Rattle.jx_reduce.proofs.Joined.{faulted_same}
 use Rattle.jx_reduce.proofs.Reached.{slice_get_none}
 use Rattle.jx_reduce.specs.Read.{top, without_top}
-use Rattle.jx_reduce.specs.declared.holder.Holder.{Holder}
-use Rattle.jx_reduce.specs.declared.holder.Holder.TheVariants.{Array}
-use Rattle.jx_reduce.specs.declared.ended_level.EndedLevel.{EndedLevel}
+use Rattle.jx_reduce.specs.declared.table.holder.Holder.{Holder}
+use Rattle.jx_reduce.specs.declared.table.holder.Holder.TheVariants.{Array}
+use Rattle.jx_reduce.specs.declared.forms.ended_level.EndedLevel.{EndedLevel}
 
 one_less : (hs : List Holder) (n : ℕ) → n ≤ length hs → without_top (reverse (take n hs)) ≡ reverse (take (n - 1) hs)
 one_less hs zero h = refl

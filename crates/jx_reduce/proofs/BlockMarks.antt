@@ -24,10 +24,10 @@ use Rattle.jx_block.proofs.Words.{and_true}
 use Rattle.jx_reduce.specs.Read.{went, top, changed, read}
 use Rattle.jx_reduce.specs.Table.{next_of, change_of, Change, same, added, removed, where_value}
 use Rattle.jx_reduce.specs.inside.Blocks.{expect_at, container, LeadsBy, Turns, Steps, along, array_opens, array_closes, object_opens, object_closes, Walks}
-use Rattle.jx_reduce.specs.declared.expect.Expect.{Expect}
-use Rattle.jx_reduce.specs.declared.expect.Expect.TheVariants.{ArrayFirst, ObjectFirst, After}
-use Rattle.jx_reduce.specs.declared.holder.Holder.{Holder}
-use Rattle.jx_reduce.specs.declared.holder.Holder.TheVariants.{Array, Object}
+use Rattle.jx_reduce.specs.declared.table.expect.Expect.{Expect}
+use Rattle.jx_reduce.specs.declared.table.expect.Expect.TheVariants.{ArrayFirst, ObjectFirst, After}
+use Rattle.jx_reduce.specs.declared.table.holder.Holder.{Holder}
+use Rattle.jx_reduce.specs.declared.table.holder.Holder.TheVariants.{Array, Object}
 use Rattle.jx_reduce.proofs.Passed.{moves, within_depth}
 use Rattle.jx_reduce.proofs.Readings.{read-append}
 

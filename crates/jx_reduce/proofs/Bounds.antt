@@ -10,11 +10,11 @@ use Rattle.jx_reduce.specs.Fits.{Fits}
 use Rattle.jx_reduce.specs.Offsets.{FaultsIn, EndIn, EachIn, OffsetsIn}
 use Rattle.jx_reduce.proofs.Along.{fault_of-merged, fault_of-filled, end_fault_of-closed}
 use Rattle.jx_reduce.proofs.Joined.{counted, few-absorbed, heights-absorbed, base_of, uncut, AreApart, high, halts_all}
-use Rattle.jx_reduce.specs.declared.holder.Holder.{Holder}
-use Rattle.jx_reduce.specs.declared.holder.Holder.TheVariants.{Array, Object, Bottom}
-use Rattle.jx_reduce.specs.declared.entry.Entry.{Entry}
-use Rattle.jx_reduce.specs.declared.level.Level.{Level}
-use Rattle.jx_reduce.specs.declared.ended_level.EndedLevel.{EndedLevel}
+use Rattle.jx_reduce.specs.declared.table.holder.Holder.{Holder}
+use Rattle.jx_reduce.specs.declared.table.holder.Holder.TheVariants.{Array, Object, Bottom}
+use Rattle.jx_reduce.specs.declared.forms.entry.Entry.{Entry}
+use Rattle.jx_reduce.specs.declared.forms.level.Level.{Level}
+use Rattle.jx_reduce.specs.declared.forms.ended_level.EndedLevel.{EndedLevel}
 
 neither : (x y : Bool) → (x || y) ≡ false → x ≡ false
 neither true y e = cc

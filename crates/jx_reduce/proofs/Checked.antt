@@ -5,10 +5,10 @@ use Rattle.std.specs.List.{list_all}
 use Rattle.jx_reduce.specs.Form.{Form, level_of}
 use Rattle.jx_reduce.specs.Offsets.{EachIn, EndIn, FaultsIn, OffsetsIn}
 use Rattle.jx_reduce.specs.inside.Checked.{is_end_in, is_fault_in, is_form_in, is_in, is_level_in, IsIn}
-use Rattle.jx_reduce.specs.declared.checks.Bound.{Bound}
-use Rattle.jx_reduce.specs.declared.ended_level.EndedLevel.{EndedLevel}
-use Rattle.jx_reduce.specs.declared.holder.Holder.TheVariants.{Array, Object, Bottom}
-use Rattle.jx_reduce.specs.declared.level.Level.{Level}
+use Rattle.jx_reduce.specs.declared.forms.checks.Bound.{Bound}
+use Rattle.jx_reduce.specs.declared.forms.ended_level.EndedLevel.{EndedLevel}
+use Rattle.jx_reduce.specs.declared.table.holder.Holder.TheVariants.{Array, Object, Bottom}
+use Rattle.jx_reduce.specs.declared.forms.level.Level.{Level}
 
 both : (x y : Bool) → (x && y) ≡ true → (x ≡ true) × (y ≡ true)
 both true y e = (refl, e)

@@ -4,7 +4,7 @@ use Rattle.jx_reduce.specs.Form.{Form}
 use Rattle.jx_reduce.specs.Join.{all_faulted, over, cut_short, joined}
 use Rattle.jx_reduce.specs.Marks.{of_mark, of_nothing, pushed, pushed_from, of_marks}
 use Rattle.jx_reduce.specs.inside.Quiet.{GoesOn}
-use Rattle.jx_reduce.specs.declared.entry.Entry.{Entry}
+use Rattle.jx_reduce.specs.declared.forms.entry.Entry.{Entry}
 use Rattle.jx_lex.specs.declared.alphabet.mark.Mark.{Mark}
 use Rattle.jx_reduce.proofs.Joined.{uncut}
 

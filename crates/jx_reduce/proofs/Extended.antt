@@ -6,8 +6,8 @@ use Rattle.jx_reduce.specs.Reduced.{form_in}
 use Rattle.jx_reduce.specs.Reductions.{Forms, IsSound, IsBefore, IsJoin}
 use Rattle.jx_reduce.specs.inside.Follow.{followed}
 use Rattle.jx_reduce.specs.inside.View.{forms_of, AreOfDepth}
-use Rattle.jx_reduce.specs.declared.reduced.Reduced.{Reduced}
-use Rattle.jx_reduce.specs.declared.reductions.Reductions.TheInside.{Inside}
+use Rattle.jx_reduce.specs.declared.reducing.reduced.Reduced.{Reduced}
+use Rattle.jx_reduce.specs.declared.reducing.reductions.Reductions.TheInside.{Inside}
 use Rattle.jx_reduce.proofs.Places.{count_of, each_changed}
 use Rattle.jx_reduce.proofs.Sound.{Follows, is_join}
 

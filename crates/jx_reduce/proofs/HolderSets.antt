@@ -6,11 +6,11 @@ use Rattle.jx_reduce.specs.Form.{fault_of}
 use Rattle.jx_reduce.specs.Marks.{fault_unless, fault_at}
 use Rattle.jx_reduce.specs.inside.Quiet.{set_of, bit_of, is_fault, fault_bits, unfaulted}
 use Rattle.jx_reduce.specs.Table.{next_of}
-use Rattle.jx_reduce.specs.declared.holder.Holder.{Holder}
-use Rattle.jx_reduce.specs.declared.holder.Holder.TheVariants.{Array, Object, Bottom}
-use Rattle.jx_reduce.specs.declared.entry.Entry.{Entry}
-use Rattle.jx_reduce.specs.declared.expect.Expect.{Expect}
-use Rattle.jx_reduce.specs.declared.level.Level.{Level}
+use Rattle.jx_reduce.specs.declared.table.holder.Holder.{Holder}
+use Rattle.jx_reduce.specs.declared.table.holder.Holder.TheVariants.{Array, Object, Bottom}
+use Rattle.jx_reduce.specs.declared.forms.entry.Entry.{Entry}
+use Rattle.jx_reduce.specs.declared.table.expect.Expect.{Expect}
+use Rattle.jx_reduce.specs.declared.forms.level.Level.{Level}
 use Rattle.jx_lex.specs.declared.alphabet.mark.Mark.{Mark}
 
 lone_array : (b c y z : Bool) → bit_and (set_of true b c) (set_of true y z) ≡ 0 → ⊥

@@ -9,12 +9,12 @@ use Rattle.jx_reduce.specs.Join.{closed, filled_end, Tail, tail_of, halted, stop
 use Rattle.jx_reduce.proofs.Along.{along_same}
 use Rattle.jx_reduce.proofs.Absorbed.{plain-absorbed, room_below}
 use Rattle.jx_reduce.proofs.Reached.{Reached, halts, reaches, reached, slice_get-take, slice_get-append_some, slice_get-append_none, slice_get-drop, slice_get_none}
-use Rattle.jx_reduce.specs.declared.holder.Holder.{Holder}
-use Rattle.jx_reduce.specs.declared.holder.Holder.TheVariants.{Array, Object, Bottom}
-use Rattle.jx_reduce.specs.declared.level.Level.{Level}
-use Rattle.jx_reduce.specs.declared.entry.Entry.{Entry}
-use Rattle.jx_reduce.specs.declared.expect.Expect.{Expect}
-use Rattle.jx_reduce.specs.declared.ended_level.EndedLevel.{EndedLevel}
+use Rattle.jx_reduce.specs.declared.table.holder.Holder.{Holder}
+use Rattle.jx_reduce.specs.declared.table.holder.Holder.TheVariants.{Array, Object, Bottom}
+use Rattle.jx_reduce.specs.declared.forms.level.Level.{Level}
+use Rattle.jx_reduce.specs.declared.forms.entry.Entry.{Entry}
+use Rattle.jx_reduce.specs.declared.table.expect.Expect.{Expect}
+use Rattle.jx_reduce.specs.declared.forms.ended_level.EndedLevel.{EndedLevel}
 
 -- how many containers are open after an absorption, above the levels that ended
 abbrev pub Counted : ℕ → ℕ → Form → Type 0

@@ -5,8 +5,8 @@ use Rattle.std.proofs.Math.Numerals.{add-one, sub-one}
 use Rattle.std.proofs.lemmas.List.{reverse-append, length-append, length-reverse}
 use Rattle.jx_reduce.specs.Read.{top, without_top}
 use Rattle.jx_reduce.specs.Bits.{holder_of, in_word, in_words}
-use Rattle.jx_reduce.specs.declared.holder.Holder.{Holder}
-use Rattle.jx_reduce.specs.declared.holder.Holder.TheVariants.{Object}
+use Rattle.jx_reduce.specs.declared.table.holder.Holder.{Holder}
+use Rattle.jx_reduce.specs.declared.table.holder.Holder.TheVariants.{Object}
 
 pub holder_of-object : (n : ℕ) → (n ≡ 0 → ⊥) → holder_of n ≡ Object
 holder_of-object zero h = absurd (h refl)

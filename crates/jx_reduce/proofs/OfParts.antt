@@ -8,7 +8,7 @@ use Rattle.jx_reduce.specs.Parts.{string_head}
 use Rattle.jx_reduce.specs.Sound.{IsSound}
 use Rattle.jx_reduce.specs.Structure.{StructureValue}
 use Rattle.jx_reduce.specs.inside.Checked.{IsIn}
-use Rattle.jx_reduce.specs.declared.checks.Bound.TheVariants.{Above, Below}
+use Rattle.jx_reduce.specs.declared.forms.checks.Bound.TheVariants.{Above, Below}
 use Rattle.jx_reduce.proofs.Readings.{OffsetsIn_more}
 use Rattle.jx_lex.specs.declared.alphabet.mark.Mark.{Mark}
 

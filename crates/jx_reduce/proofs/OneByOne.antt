@@ -11,11 +11,11 @@ use Rattle.jx_reduce.specs.Structure.{StructureValue, answer, AreIn, SpansIn}
 use Rattle.jx_reduce.specs.inside.Quiet.{AreLimits, GoesOn, IsPassed}
 use Rattle.jx_reduce.specs.inside.Reducers.{IsReady}
 use Rattle.jx_reduce.specs.inside.Structures.{of_making, string_head, end_of, IsSound, MayFollow}
-use Rattle.jx_reduce.specs.declared.expect.Expect.{Expect}
-use Rattle.jx_reduce.specs.declared.holder.Holder.{Holder}
-use Rattle.jx_reduce.specs.declared.levels.Levels.{Levels}
-use Rattle.jx_reduce.specs.declared.quiet.Limits.{Limits}
-use Rattle.jx_reduce.specs.declared.structure.Making.{Making}
+use Rattle.jx_reduce.specs.declared.table.expect.Expect.{Expect}
+use Rattle.jx_reduce.specs.declared.table.holder.Holder.{Holder}
+use Rattle.jx_reduce.specs.declared.forms.levels.Levels.{Levels}
+use Rattle.jx_reduce.specs.declared.forms.quiet.Limits.{Limits}
+use Rattle.jx_reduce.specs.declared.forms.structure.Making.{Making}
 use Rattle.jx_reduce.proofs.Cuts.{RisingFrom-less, rising-split}
 use Rattle.jx_reduce.proofs.Exits.{GoesOn-of_marks}
 use Rattle.jx_reduce.proofs.Readings.{Fits-pushed, none_of, of_marks_over, read-append}

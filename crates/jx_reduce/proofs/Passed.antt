@@ -13,10 +13,10 @@ use Rattle.jx_lex.proofs.Whole.{passes-none, passes-comma, passes-colon, passes-
 use Rattle.jx_reduce.specs.Table.{next_of, change_of, Change, same, added, removed, where_value, where_string}
 use Rattle.jx_reduce.specs.Read.{Reading, went, stopped, too_deep, top, without_top, changed, moved, step, read}
 use Rattle.jx_reduce.specs.inside.Passed.{Leaves, comma, array_end, object_end, Reads, TakesValue}
-use Rattle.jx_reduce.specs.declared.holder.Holder.{Holder}
-use Rattle.jx_reduce.specs.declared.holder.Holder.TheVariants.{Array, Object}
-use Rattle.jx_reduce.specs.declared.expect.Expect.{Expect}
-use Rattle.jx_reduce.specs.declared.expect.Expect.TheVariants.{Value, ArrayFirst, ObjectFirst, Colon, After}
+use Rattle.jx_reduce.specs.declared.table.holder.Holder.{Holder}
+use Rattle.jx_reduce.specs.declared.table.holder.Holder.TheVariants.{Array, Object}
+use Rattle.jx_reduce.specs.declared.table.expect.Expect.{Expect}
+use Rattle.jx_reduce.specs.declared.table.expect.Expect.TheVariants.{Value, ArrayFirst, ObjectFirst, Colon, After}
 use Rattle.jx_reduce.proofs.Readings.{read-append}
 
 -- ---- stretches

@@ -9,9 +9,9 @@ use Rattle.jx_reduce.specs.Reductions.{Forms, form_at}
 use Rattle.jx_reduce.specs.Entries.{place}
 use Rattle.jx_reduce.specs.inside.View.{nth, in_order}
 use Rattle.jx_reduce.specs.Marks.{of_nothing}
-use Rattle.jx_reduce.specs.declared.entry.Entry.{Entry}
-use Rattle.jx_reduce.specs.declared.entry.Entry.TheVariants.{ValueOrName, AfterOrColon, Value as AnyValue, ArrayFirst as AnyArrayFirst, ObjectFirst as AnyObjectFirst, Name as AnyName, Colon as AnyColon, After as AnyAfter}
-use Rattle.jx_reduce.specs.declared.reduced.Reduced.{Reduced}
+use Rattle.jx_reduce.specs.declared.forms.entry.Entry.{Entry}
+use Rattle.jx_reduce.specs.declared.forms.entry.Entry.TheVariants.{ValueOrName, AfterOrColon, Value as AnyValue, ArrayFirst as AnyArrayFirst, ObjectFirst as AnyObjectFirst, Name as AnyName, Colon as AnyColon, After as AnyAfter}
+use Rattle.jx_reduce.specs.declared.reducing.reduced.Reduced.{Reduced}
 
 pub in_place : (d : ℕ) (fs : List Form) (x : Entry) → form_at (in_order d fs) x ≡ nth fs (place x)
 in_place d fs AnyValue = refl

@@ -13,11 +13,11 @@ use Rattle.jx_reduce.specs.Levels.{with_opens}
 use Rattle.jx_reduce.specs.Marks.{faults_at, end_at, of_change, pushed, of_marks}
 use Rattle.jx_reduce.specs.inside.Quiet.{bit_of, fault_bits, unfaulted, standing, AreLimits, GoesOn, IsAt, IsPassed}
 use Rattle.jx_reduce.specs.Table.{change_of, same, added, removed}
-use Rattle.jx_reduce.specs.declared.holder.Holder.{Holder}
-use Rattle.jx_reduce.specs.declared.holder.Holder.TheVariants.{Array, Object, Bottom}
-use Rattle.jx_reduce.specs.declared.entry.Entry.{Entry}
-use Rattle.jx_reduce.specs.declared.level.Level.{Level}
-use Rattle.jx_reduce.specs.declared.quiet.Limits.{Limits}
+use Rattle.jx_reduce.specs.declared.table.holder.Holder.{Holder}
+use Rattle.jx_reduce.specs.declared.table.holder.Holder.TheVariants.{Array, Object, Bottom}
+use Rattle.jx_reduce.specs.declared.forms.entry.Entry.{Entry}
+use Rattle.jx_reduce.specs.declared.forms.level.Level.{Level}
+use Rattle.jx_reduce.specs.declared.forms.quiet.Limits.{Limits}
 use Rattle.jx_lex.specs.declared.alphabet.mark.Mark.{Mark}
 use Rattle.jx_lex.specs.declared.alphabet.mark.MarkKind.{MarkKind}
 use Rattle.jx_lex.specs.declared.alphabet.mark.MarkKind.TheVariants.{OpenArray, CloseArray, OpenObject, CloseObject, Comma, String, Number, True, False, Null, Colon}

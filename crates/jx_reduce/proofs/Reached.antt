@@ -3,8 +3,8 @@ use Rattle.std.proofs.Common.{◌≡◌, ℕ, zero, suc, ◌+◌, ◌-◌, ◌<�
 use Rattle.std.specs.Prelude.{slice_get}
 use Rattle.jx_reduce.specs.Read.{top}
 use Rattle.jx_reduce.specs.Form.{Form, Plain, halt, fault_of, end_fault_of, unless, along, within, leading}
-use Rattle.jx_reduce.specs.declared.holder.Holder.{Holder}
-use Rattle.jx_reduce.specs.declared.ended_level.EndedLevel.{EndedLevel}
+use Rattle.jx_reduce.specs.declared.table.holder.Holder.{Holder}
+use Rattle.jx_reduce.specs.declared.forms.ended_level.EndedLevel.{EndedLevel}
 
 pub data Led : List EndedLevel → List Holder → Type 0 where
   stops : {xs : List EndedLevel} {s : List Holder} → (p : ℕ) → ((k : List Holder → Plain) → along xs s k ≡ halt p) → Led xs s

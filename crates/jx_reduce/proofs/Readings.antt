@@ -17,10 +17,10 @@ use Rattle.jx_reduce.proofs.Joined.{acts-joined, acts_over, then_by-halt}
 use Rattle.jx_reduce.proofs.OneMark.{acts-of_mark}
 use Rattle.jx_reduce.proofs.Along.{fault_of-no_faults}
 use Rattle.jx_reduce.proofs.Bounds.{Fits-joined, OffsetsIn-joined, apart, none_in}
-use Rattle.jx_reduce.specs.declared.holder.Holder.{Holder}
-use Rattle.jx_reduce.specs.declared.holder.Holder.TheVariants.{Array, Object, Bottom}
-use Rattle.jx_reduce.specs.declared.expect.Expect.{Expect}
-use Rattle.jx_reduce.specs.declared.entry.Entry.{Entry}
+use Rattle.jx_reduce.specs.declared.table.holder.Holder.{Holder}
+use Rattle.jx_reduce.specs.declared.table.holder.Holder.TheVariants.{Array, Object, Bottom}
+use Rattle.jx_reduce.specs.declared.table.expect.Expect.{Expect}
+use Rattle.jx_reduce.specs.declared.forms.entry.Entry.{Entry}
 use Rattle.jx_lex.specs.declared.alphabet.mark.Mark.{Mark}
 
 -- what follows a form is asked only at its exit, over at most d containers

@@ -5,8 +5,8 @@ use Rattle.jx_reduce.specs.Table.{next_of, change_of, Change, same, added, remov
 use Rattle.jx_reduce.specs.Read.{Reading, went, stopped, too_deep, top, without_top, moved, then_by, step, read}
 use Rattle.jx_reduce.specs.Reductions.{Forms, answer, IsJoin, IsOf}
 use Rattle.jx_reduce.proofs.Readings.{read-append, read_then}
-use Rattle.jx_reduce.specs.declared.holder.Holder.{Holder}
-use Rattle.jx_reduce.specs.declared.expect.Expect.{Expect}
+use Rattle.jx_reduce.specs.declared.table.holder.Holder.{Holder}
+use Rattle.jx_reduce.specs.declared.table.expect.Expect.{Expect}
 use Rattle.jx_lex.specs.declared.alphabet.mark.Mark.{Mark}
 
 -- at most d containers are open

@@ -12,12 +12,12 @@ use Rattle.jx_reduce.specs.Read.{stopped, too_deep, top, without_top}
 use Rattle.jx_reduce.specs.Reductions.{Forms, form_at, entry_of, answer, IsSound, SpansIn}
 use Rattle.jx_reduce.specs.Shift.{shifted}
 use Rattle.jx_reduce.specs.inside.Shifted.{shifted_offset, shifted_fault, shifted_level, shifted_end, shifted_form}
-use Rattle.jx_reduce.specs.declared.ended_level.EndedLevel.{EndedLevel}
-use Rattle.jx_reduce.specs.declared.entry.Entry.{Entry}
-use Rattle.jx_reduce.specs.declared.expect.Expect.{Expect}
-use Rattle.jx_reduce.specs.declared.holder.Holder.{Holder}
-use Rattle.jx_reduce.specs.declared.holder.Holder.TheVariants.{Array, Object, Bottom}
-use Rattle.jx_reduce.specs.declared.level.Level.{Level}
+use Rattle.jx_reduce.specs.declared.forms.ended_level.EndedLevel.{EndedLevel}
+use Rattle.jx_reduce.specs.declared.forms.entry.Entry.{Entry}
+use Rattle.jx_reduce.specs.declared.table.expect.Expect.{Expect}
+use Rattle.jx_reduce.specs.declared.table.holder.Holder.{Holder}
+use Rattle.jx_reduce.specs.declared.table.holder.Holder.TheVariants.{Array, Object, Bottom}
+use Rattle.jx_reduce.specs.declared.forms.level.Level.{Level}
 use Rattle.jx_reduce.proofs.Reached.{Reached, halts, reaches, reached, slice_get_none}
 use Rattle.jx_reduce.proofs.Acting.{not_all}
 

@@ -11,11 +11,11 @@ use Rattle.jx_reduce.specs.inside.Follow.{followed_by, followed}
 use Rattle.jx_reduce.proofs.Joined.{acts-joined, acts_over}
 use Rattle.jx_reduce.proofs.Bounds.{Fits-joined, OffsetsIn-joined, apart}
 use Rattle.jx_reduce.proofs.Readings.{then_by_same, acts-of_marks, acts-of_nothing, Fits-of_marks, Fits-of_nothing, OffsetsIn-of_nothing}
-use Rattle.jx_reduce.specs.declared.holder.Holder.{Holder}
+use Rattle.jx_reduce.specs.declared.table.holder.Holder.{Holder}
 use Rattle.jx_lex.specs.declared.alphabet.mark.Mark.{Mark}
-use Rattle.jx_reduce.specs.declared.expect.Expect.{Expect}
-use Rattle.jx_reduce.specs.declared.expect.Expect.TheVariants.{Value, ArrayFirst, ObjectFirst, Name, Colon, After}
-use Rattle.jx_reduce.specs.declared.entry.Entry.{Entry}
+use Rattle.jx_reduce.specs.declared.table.expect.Expect.{Expect}
+use Rattle.jx_reduce.specs.declared.table.expect.Expect.TheVariants.{Value, ArrayFirst, ObjectFirst, Name, Colon, After}
+use Rattle.jx_reduce.specs.declared.forms.entry.Entry.{Entry}
 
 acts_by : (l : Form) (r : Forms) (mid : ℕ) (s : List Holder) (x : Option Entry) → l.exit ≡ x → Fits r.depth l → IsSound r
     → OffsetsIn (λ p. p < mid) l → ((x : Entry) → OffsetsIn (λ p. mid ≤ p) (form_at r x)) → length s ≤ r.depth

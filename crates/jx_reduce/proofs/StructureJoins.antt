@@ -4,8 +4,8 @@ use Rattle.jx_reduce.specs.Marks.{of_nothing}
 use Rattle.jx_reduce.specs.Read.{went, then_by, read}
 use Rattle.jx_reduce.specs.Structure.{StructureValue, answer, AreIn, IsBefore, IsJoin, IsOf}
 use Rattle.jx_reduce.specs.inside.Structures.{rest_head, string_at, string_head, AreBehind, AreTwo, IsSound, IsWhole, KnowsDepth}
-use Rattle.jx_reduce.specs.declared.entry.Entry.TheVariants.{After as AnyAfter}
-use Rattle.jx_reduce.specs.declared.structure.Rest.{Rest}
+use Rattle.jx_reduce.specs.declared.forms.entry.Entry.TheVariants.{After as AnyAfter}
+use Rattle.jx_reduce.specs.declared.forms.structure.Rest.{Rest}
 use Rattle.jx_lex.specs.declared.alphabet.mark.Mark.{Mark}
 use Rattle.jx_reduce.proofs.Readings.{read-append, read_then}
 use Rattle.jx_reduce.proofs.Runs.{read_within, then_by_within}

@@ -11,12 +11,12 @@ use Rattle.jx_reduce.specs.Reductions.{entry_of}
 use Rattle.jx_reduce.specs.Structure.{StructureValue, behind, answer, IsOf, TailIn, AreIn}
 use Rattle.jx_reduce.specs.Table.{next_of, change_of, Change, same, added, removed}
 use Rattle.jx_reduce.specs.inside.Structures.{string_at, string_head, rest_head, rest_tail, end_of, IsBegun, BeginsWithNoString, IsSound, KnowsDepth, MayFollow}
-use Rattle.jx_reduce.specs.declared.entry.Entry.{Entry}
-use Rattle.jx_reduce.specs.declared.entry.Entry.TheVariants.{Value as AnyValue}
-use Rattle.jx_reduce.specs.declared.expect.Expect.{Expect}
-use Rattle.jx_reduce.specs.declared.expect.Expect.TheVariants as expect
-use Rattle.jx_reduce.specs.declared.holder.Holder.{Holder}
-use Rattle.jx_reduce.specs.declared.structure.Rest.{Rest}
+use Rattle.jx_reduce.specs.declared.forms.entry.Entry.{Entry}
+use Rattle.jx_reduce.specs.declared.forms.entry.Entry.TheVariants.{Value as AnyValue}
+use Rattle.jx_reduce.specs.declared.table.expect.Expect.{Expect}
+use Rattle.jx_reduce.specs.declared.table.expect.Expect.TheVariants as expect
+use Rattle.jx_reduce.specs.declared.table.holder.Holder.{Holder}
+use Rattle.jx_reduce.specs.declared.forms.structure.Rest.{Rest}
 use Rattle.jx_lex.specs.declared.alphabet.mark.Mark.{Mark}
 use Rattle.jx_lex.specs.declared.alphabet.mark.MarkKind.{MarkKind}
 use Rattle.jx_lex.specs.declared.alphabet.mark.MarkKind.TheVariants.{OpenArray, CloseArray, OpenObject, CloseObject, Comma, String, Number, True, False, Null, Colon}

@@ -11,9 +11,9 @@ use Rattle.jx_reduce.specs.Table.{next_of, change_of, Change, same, added, remov
 use Rattle.jx_reduce.specs.inside.Quiet.{GoesOn}
 use Rattle.jx_reduce.specs.inside.Shifted.{shifted_fault, shifted_offset, shifted_form}
 use Rattle.jx_reduce.specs.inside.Structures.{rest_head, rest_tail, string_head, end_of, moved_mark, moved_tail, IsTailOf, IsSound}
-use Rattle.jx_reduce.specs.declared.expect.Expect.{Expect}
-use Rattle.jx_reduce.specs.declared.holder.Holder.{Holder}
-use Rattle.jx_reduce.specs.declared.structure.Rest.{Rest}
+use Rattle.jx_reduce.specs.declared.table.expect.Expect.{Expect}
+use Rattle.jx_reduce.specs.declared.table.holder.Holder.{Holder}
+use Rattle.jx_reduce.specs.declared.forms.structure.Rest.{Rest}
 use Rattle.jx_lex.specs.declared.alphabet.mark.Mark.{Mark}
 use Rattle.jx_reduce.proofs.Cuts.{RisingFrom-less}
 use Rattle.jx_reduce.proofs.Readings.{each_more, OffsetsIn_more}

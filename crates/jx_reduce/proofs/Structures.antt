@@ -11,10 +11,10 @@ use Rattle.jx_reduce.specs.Read.{Reading, went, stopped, too_deep, top, then_by,
 use Rattle.jx_reduce.specs.Structure.{StructureValue, behind, answer, IsJoin, TailIn, AreIn, IsBefore, IsSmall, IsTailOfSize, SpansIn}
 use Rattle.jx_reduce.specs.inside.Quiet.{GoesOn}
 use Rattle.jx_reduce.specs.inside.Structures.{string_at, end_of, IsTail, IsTailOf, IsSound, tail_behind, then_tail, followed_by}
-use Rattle.jx_reduce.specs.declared.entry.Entry.{Entry}
-use Rattle.jx_reduce.specs.declared.expect.Expect.{Expect}
-use Rattle.jx_reduce.specs.declared.expect.Expect.TheVariants as expect
-use Rattle.jx_reduce.specs.declared.holder.Holder.{Holder}
+use Rattle.jx_reduce.specs.declared.forms.entry.Entry.{Entry}
+use Rattle.jx_reduce.specs.declared.table.expect.Expect.{Expect}
+use Rattle.jx_reduce.specs.declared.table.expect.Expect.TheVariants as expect
+use Rattle.jx_reduce.specs.declared.table.holder.Holder.{Holder}
 use Rattle.jx_lex.specs.declared.alphabet.mark.Mark.{Mark}
 use Rattle.jx_reduce.proofs.Bounds.{EachIn-append, Fits-joined, OffsetsIn-joined, apart}
 use Rattle.jx_reduce.proofs.Exits.{GoesOn-joined, GoesOn-of_marks, GoesOn-of_nothing}

@@ -2,7 +2,7 @@
 use Rattle.std.specs.Prelude.{◌≡◌, ℕ, ◌+◌, ◌<◌, ◌≤◌, None, Some, length, false}
 use Rattle.jx_reduce.specs.Form.{Form, levels_of}
 use Rattle.jx_reduce.specs.Join.{all_faulted}
-use Rattle.jx_reduce.specs.declared.entry.Entry.{Entry}
+use Rattle.jx_reduce.specs.declared.forms.entry.Entry.{Entry}
 
 -- how many there are: at most d + 1 levels, the last one among them, d open containers and d + 1 heights
 pub record IsOfSize (d : ℕ) (r : Form) : Type 0 where

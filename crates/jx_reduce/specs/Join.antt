@@ -1,10 +1,10 @@
 -- How reduced forms are put together.
 use Rattle.std.specs.Prelude.{ℕ, ◌+◌, ◌-◌, List, [], ◌∷◌, ◌++◌, Option, Some, None, length, take, drop, nat_lt, if◌then◌else◌, unwrap_or, is_some, Bool, not, ◌&&◌, ◌||◌}
 use Rattle.jx_reduce.specs.Form.{Form, fault_of, end_fault_of}
-use Rattle.jx_reduce.specs.declared.holder.Holder.{Holder}
-use Rattle.jx_reduce.specs.declared.entry.Entry.{Entry}
-use Rattle.jx_reduce.specs.declared.level.Level.{Level}
-use Rattle.jx_reduce.specs.declared.ended_level.EndedLevel.{EndedLevel}
+use Rattle.jx_reduce.specs.declared.table.holder.Holder.{Holder}
+use Rattle.jx_reduce.specs.declared.forms.entry.Entry.{Entry}
+use Rattle.jx_reduce.specs.declared.forms.level.Level.{Level}
+use Rattle.jx_reduce.specs.declared.forms.ended_level.EndedLevel.{EndedLevel}
 
 abbrev pub first_of : Option ℕ → Option ℕ → Option ℕ
 first_of None b = b

@@ -1,7 +1,7 @@
 -- What a known stack shows: the depth, and the plain reading of the marks that it was given.
 use Rattle.std.specs.Prelude.{◌≡◌, ℕ, ◌≤◌, List, [], length, take}
 use Rattle.jx_reduce.specs.Read.{Reading, went, stopped, too_deep, read}
-use Rattle.jx_reduce.specs.declared.expect.Expect.TheVariants.{Value}
+use Rattle.jx_reduce.specs.declared.table.expect.Expect.TheVariants.{Value}
 use Rattle.jx_lex.specs.declared.alphabet.mark.Mark.{Mark}
 
 pub record Known : Type 0 where

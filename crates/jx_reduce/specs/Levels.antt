@@ -3,10 +3,10 @@ use Rattle.std.specs.Prelude.{ℕ, List, [], ◌∷◌, Option, Some, None, reve
 use Rattle.std.specs.Prelude.{◌≡◌, ◌≤◌, ◌+◌, length, vec_len, vec_capacity}
 use Rattle.jx_reduce.specs.Form.{Form}
 use Rattle.jx_reduce.specs.Join.{cut, absorbed, tail_of, base_at}
-use Rattle.jx_reduce.specs.declared.entry.Entry.{Entry}
-use Rattle.jx_reduce.specs.declared.holder.Holder.{Holder}
-use Rattle.jx_reduce.specs.declared.levels.Levels.{Levels}
-use Rattle.jx_reduce.specs.declared.form_ref.FormRef.{FormRef}
+use Rattle.jx_reduce.specs.declared.forms.entry.Entry.{Entry}
+use Rattle.jx_reduce.specs.declared.table.holder.Holder.{Holder}
+use Rattle.jx_reduce.specs.declared.forms.levels.Levels.{Levels}
+use Rattle.jx_reduce.specs.declared.forms.form_ref.FormRef.{FormRef}
 
 abbrev pub form_of : Levels → Form
 form_of v = record { ended = v.ended.items; last = v.last; opens = reverse v.opens.items; exit = v.exit; heights = v.heights.items }

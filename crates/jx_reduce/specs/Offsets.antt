@@ -1,9 +1,9 @@
 -- Where the offsets lie that a reduced form keeps.
 use Rattle.std.specs.Prelude.{◌≡◌, ℕ, ◌+◌, ◌≤◌, List, [], ◌∷◌, Some}
 use Rattle.jx_reduce.specs.Form.{Form, fault_of, end_fault_of}
-use Rattle.jx_reduce.specs.declared.holder.Holder.{Holder}
-use Rattle.jx_reduce.specs.declared.level.Level.{Level}
-use Rattle.jx_reduce.specs.declared.ended_level.EndedLevel.{EndedLevel}
+use Rattle.jx_reduce.specs.declared.table.holder.Holder.{Holder}
+use Rattle.jx_reduce.specs.declared.forms.level.Level.{Level}
+use Rattle.jx_reduce.specs.declared.forms.ended_level.EndedLevel.{EndedLevel}
 use Rattle.jx_lex.specs.declared.alphabet.mark.Mark.{Mark}
 
 abbrev pub FaultsIn : (ℕ → Type 0) → Level → Type 0

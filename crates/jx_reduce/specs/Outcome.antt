@@ -1,8 +1,8 @@
 -- The answer that the program gives for a reading.
 use Rattle.std.specs.Prelude.{reverse}
 use Rattle.jx_reduce.specs.Read.{Reading, went, stopped, too_deep}
-use Rattle.jx_reduce.specs.declared.outcome.Outcome.{Outcome}
-use Rattle.jx_reduce.specs.declared.outcome.Outcome.TheVariants.{Went, Stopped, TooDeep}
+use Rattle.jx_reduce.specs.declared.table.outcome.Outcome.{Outcome}
+use Rattle.jx_reduce.specs.declared.table.outcome.Outcome.TheVariants.{Went, Stopped, TooDeep}
 
 abbrev pub reading_of : Outcome → Reading
 reading_of (Went e hs) = went e (reverse hs.items)

@@ -3,11 +3,11 @@ use Rattle.std.specs.Prelude.{ℕ, List, [], ◌∷◌, ◌++◌, Option, None, 
 use Rattle.jx_reduce.specs.Form.{Form}
 use Rattle.jx_reduce.specs.Levels.{borrowed_form}
 use Rattle.jx_reduce.specs.Structure.{StructureValue}
-use Rattle.jx_reduce.specs.declared.parts.FormParts.{FormParts}
-use Rattle.jx_reduce.specs.declared.parts.RestParts.{RestParts}
-use Rattle.jx_reduce.specs.declared.parts.RestRef.{RestRef}
-use Rattle.jx_reduce.specs.declared.parts.StructureParts.{StructureParts}
-use Rattle.jx_reduce.specs.declared.parts.StructureRef.{StructureRef}
+use Rattle.jx_reduce.specs.declared.forms.parts.FormParts.{FormParts}
+use Rattle.jx_reduce.specs.declared.forms.parts.RestParts.{RestParts}
+use Rattle.jx_reduce.specs.declared.forms.parts.RestRef.{RestRef}
+use Rattle.jx_reduce.specs.declared.forms.parts.StructureParts.{StructureParts}
+use Rattle.jx_reduce.specs.declared.forms.parts.StructureRef.{StructureRef}
 use Rattle.jx_lex.specs.declared.alphabet.mark.Mark.{Mark}
 use Rattle.jx_lex.specs.declared.alphabet.mark.MarkKind.TheVariants.{String}
 

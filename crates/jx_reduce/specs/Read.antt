@@ -1,9 +1,9 @@
 -- The plain reading of marks, which knows all open containers.
 use Rattle.std.specs.Prelude.{ℕ, List, [], ◌∷◌, Option, Some, None, fold, length, nat_lt, if◌then◌else◌}
 use Rattle.jx_reduce.specs.Table.{next_of, change_of, Change, same, added, removed}
-use Rattle.jx_reduce.specs.declared.holder.Holder.{Holder}
-use Rattle.jx_reduce.specs.declared.holder.Holder.TheVariants.{Bottom}
-use Rattle.jx_reduce.specs.declared.expect.Expect.{Expect}
+use Rattle.jx_reduce.specs.declared.table.holder.Holder.{Holder}
+use Rattle.jx_reduce.specs.declared.table.holder.Holder.TheVariants.{Bottom}
+use Rattle.jx_reduce.specs.declared.table.expect.Expect.{Expect}
 use Rattle.jx_lex.specs.declared.alphabet.mark.Mark.{Mark}
 
 -- what a reading comes to; open containers stand innermost first

@@ -3,8 +3,8 @@ use Rattle.std.specs.Prelude.{ℕ, List}
 use Rattle.jx_reduce.specs.Read.{Reading}
 use Rattle.jx_reduce.specs.Form.{Form, acts}
 use Rattle.jx_reduce.specs.Levels.{form_of}
-use Rattle.jx_reduce.specs.declared.holder.Holder.{Holder}
-use Rattle.jx_reduce.specs.declared.reduced.Reduced.{Reduced}
+use Rattle.jx_reduce.specs.declared.table.holder.Holder.{Holder}
+use Rattle.jx_reduce.specs.declared.reducing.reduced.Reduced.{Reduced}
 
 abbrev pub depth_of : Reduced → ℕ
 depth_of r = r.depth

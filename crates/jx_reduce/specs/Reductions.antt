@@ -5,12 +5,12 @@ use Rattle.jx_reduce.specs.Read.{Reading, top, then_by, read, went}
 use Rattle.jx_reduce.specs.Form.{Form, acts}
 use Rattle.jx_reduce.specs.Fits.{Fits}
 use Rattle.jx_reduce.specs.Offsets.{OffsetsIn}
-use Rattle.jx_reduce.specs.declared.holder.Holder.{Holder}
+use Rattle.jx_reduce.specs.declared.table.holder.Holder.{Holder}
 use Rattle.jx_lex.specs.declared.alphabet.mark.Mark.{Mark}
-use Rattle.jx_reduce.specs.declared.expect.Expect.{Expect}
-use Rattle.jx_reduce.specs.declared.expect.Expect.TheVariants.{Value, ArrayFirst, ObjectFirst, Name, Colon, After}
-use Rattle.jx_reduce.specs.declared.entry.Entry.{Entry}
-use Rattle.jx_reduce.specs.declared.entry.Entry.TheVariants.{ValueOrName, AfterOrColon, Value as AnyValue, ArrayFirst as AnyArrayFirst, ObjectFirst as AnyObjectFirst, Name as AnyName, Colon as AnyColon, After as AnyAfter}
+use Rattle.jx_reduce.specs.declared.table.expect.Expect.{Expect}
+use Rattle.jx_reduce.specs.declared.table.expect.Expect.TheVariants.{Value, ArrayFirst, ObjectFirst, Name, Colon, After}
+use Rattle.jx_reduce.specs.declared.forms.entry.Entry.{Entry}
+use Rattle.jx_reduce.specs.declared.forms.entry.Entry.TheVariants.{ValueOrName, AfterOrColon, Value as AnyValue, ArrayFirst as AnyArrayFirst, ObjectFirst as AnyObjectFirst, Name as AnyName, Colon as AnyColon, After as AnyAfter}
 
 pub record Forms : Type 0 where
   pub depth : ℕ

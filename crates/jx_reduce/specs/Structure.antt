@@ -4,8 +4,8 @@ use Rattle.jx_reduce.specs.Fits.{IsOfSize}
 use Rattle.jx_reduce.specs.Form.{Form, acts}
 use Rattle.jx_reduce.specs.Offsets.{EachIn, OffsetsIn}
 use Rattle.jx_reduce.specs.Read.{Reading, went, then_by, read}
-use Rattle.jx_reduce.specs.declared.holder.Holder.{Holder}
-use Rattle.jx_reduce.specs.declared.expect.Expect.{Expect}
+use Rattle.jx_reduce.specs.declared.table.holder.Holder.{Holder}
+use Rattle.jx_reduce.specs.declared.table.expect.Expect.{Expect}
 use Rattle.jx_lex.specs.declared.alphabet.mark.Mark.{Mark}
 
 -- the first marks, and the form of those behind them, where there is one

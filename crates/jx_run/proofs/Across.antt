@@ -3,7 +3,7 @@ use Rattle.std.proofs.Common.{◌≡◌, ℕ, ◌+◌, List, ◌++◌, length, r
 use Rattle.jx_lex.specs.declared.alphabet.state.LexState.{LexState}
 use Rattle.jx_lex.specs.declared.alphabet.state.LexState.TheVariants as state
 use Rattle.jx_lex.specs.Lex.{lex, LexExit, Track}
-use Rattle.jx_lex.specs.Map.{track}
+use Rattle.jx_maps.specs.Map.{track}
 use Rattle.jx_lex.specs.TwoPieces.{joined, right_of}
 use Rattle.jx_run.specs.TextRun.{TextRunValue, IsTextRun}
 

@@ -9,8 +9,8 @@ use Rattle.jx_lex.specs.declared.alphabet.state.LexState.TheVariants as state
 use Rattle.jx_lex.specs.Lex as lexical
 use Rattle.jx_lex.specs.Lex.{lex}
 use Rattle.jx_lex.specs.Seen.{Seen, SeesTrack, WantsNoMore}
-use Rattle.jx_lex.specs.View.{exit_of}
-use Rattle.jx_reduce.specs.declared.whole.Whole.{Whole}
+use Rattle.jx_lex.specs.Exit.{exit_of}
+use Rattle.jx_reduce.specs.declared.table.whole.Whole.{Whole}
 use Rattle.jx_reduce.specs.KnownStack.{Known, IsFault, HasRead as StackHasRead, start as stack_start}
 use Rattle.jx_reduce.specs.Read.{Reading, step, read as read_marks}
 use Rattle.jx_reduce.specs.Whole.{whole_of}

@@ -10,8 +10,8 @@ use Rattle.jx_lex.specs.Moves.{move, as_gap}
 use Rattle.jx_lex.specs.Classes.{class_at}
 use Rattle.jx_lex.specs.TokenStates.{in_token}
 use Rattle.jx_lex.specs.TokenSteps.{TokenStep, goes_on as token_goes_on, ends, ended, fails, GapStep, a_blank, a_token, a_mark, no_step}
-use Rattle.jx_reduce.specs.declared.expect.Expect.{Expect}
-use Rattle.jx_reduce.specs.declared.holder.Holder.{Holder}
+use Rattle.jx_reduce.specs.declared.table.expect.Expect.{Expect}
+use Rattle.jx_reduce.specs.declared.table.holder.Holder.{Holder}
 use Rattle.jx_reduce.specs.Read.{top}
 use Rattle.jx_run.specs.inside.Turns.{Turn, wrong, on, enter, leave, turn}
 use Rattle.jx_run.specs.Reading.{TextReading, went, stopped, too_deep}

@@ -5,8 +5,8 @@ use Rattle.jx_lex.specs.declared.alphabet.mark.MarkKind.{MarkKind}
 use Rattle.jx_lex.specs.declared.alphabet.state.LexState.{LexState}
 use Rattle.jx_lex.specs.Moves.{move}
 use Rattle.jx_reduce.specs.Read.{top}
-use Rattle.jx_reduce.specs.declared.expect.Expect.{Expect}
-use Rattle.jx_reduce.specs.declared.holder.Holder.{Holder}
+use Rattle.jx_reduce.specs.declared.table.expect.Expect.{Expect}
+use Rattle.jx_reduce.specs.declared.table.holder.Holder.{Holder}
 use Rattle.jx_run.specs.Reading.{TextReading, went, stopped, too_deep, read}
 use Rattle.jx_run.specs.inside.Turns.{Turn, wrong, on, enter, leave, turn}
 use Rattle.jx_run.proofs.Fused.{after_turn, after_mark, in_next, run, read-run}

@@ -5,7 +5,7 @@ use Rattle.std.proofs.lemmas.Bool.Decides.{Decides-eqb, nat_tests, not_from_Deci
 use Rattle.std.proofs.lemmas.List.{length-append}
 use Rattle.jx_lex.specs.Classes.{class_at}
 use Rattle.jx_lex.specs.declared.alphabet.state.LexState.TheVariants as state
-use Rattle.jx_reduce.specs.declared.expect.Expect.TheVariants as expect
+use Rattle.jx_reduce.specs.declared.table.expect.Expect.TheVariants as expect
 use Rattle.jx_run.specs.declared.texts.settings.Front.{Front}
 use Rattle.jx_run.specs.declared.texts.settings.Front.TheVariants as seen
 use Rattle.jx_run.specs.declared.texts.settings.FrontMark.{FrontMark}

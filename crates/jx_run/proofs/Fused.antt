@@ -7,8 +7,8 @@ use Rattle.jx_lex.specs.declared.alphabet.state.Step.{Step}
 use Rattle.jx_lex.specs.declared.alphabet.mark.Mark.{Mark}
 use Rattle.jx_lex.specs.Moves.{move}
 use Rattle.jx_lex.specs.Lex.{lex, LexExit, with_mark, on_next}
-use Rattle.jx_reduce.specs.declared.expect.Expect.{Expect}
-use Rattle.jx_reduce.specs.declared.holder.Holder.{Holder}
+use Rattle.jx_reduce.specs.declared.table.expect.Expect.{Expect}
+use Rattle.jx_reduce.specs.declared.table.holder.Holder.{Holder}
 use Rattle.jx_reduce.specs.Table.{next_of, Change, same, added, removed, change_of}
 use Rattle.jx_reduce.specs.Read.{Reading, top, without_top, read as read_marks, step, moved}
 use Rattle.jx_run.specs.inside.Turns.{Turn, wrong, on, enter, leave, turn, turned}

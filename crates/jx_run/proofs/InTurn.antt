@@ -16,8 +16,8 @@ use Rattle.jx_lex.specs.Lex as lexical
 use Rattle.jx_lex.specs.Lex.{lex, LexExit, Track, after_step, on_next, with_end, with_mark}
 use Rattle.jx_lex.specs.Moves.{move}
 use Rattle.jx_lex.specs.TwoPieces.{joined, right_of}
-use Rattle.jx_reduce.specs.declared.expect.Expect.{Expect}
-use Rattle.jx_reduce.specs.declared.holder.Holder.{Holder}
+use Rattle.jx_reduce.specs.declared.table.expect.Expect.{Expect}
+use Rattle.jx_reduce.specs.declared.table.holder.Holder.{Holder}
 use Rattle.jx_reduce.specs.Read.{Reading}
 use Rattle.jx_run.specs.declared.texts.settings.Front.TheVariants as seen
 use Rattle.jx_run.specs.declared.texts.settings.FrontMark.{FrontMark}

@@ -1,7 +1,7 @@
 -- The laws of the reader, at the plain reading.
 use Rattle.std.proofs.Common.{◌≡◌, ℕ, suc, ◌+◌, max, List, [], ◌++◌, take, drop, refl, sym, subst, arith}
 use Rattle.jx_lex.specs.declared.alphabet.state.LexState.TheVariants as state
-use Rattle.jx_reduce.specs.declared.expect.Expect.TheVariants as expect
+use Rattle.jx_reduce.specs.declared.table.expect.Expect.TheVariants as expect
 use Rattle.jx_run.specs.Reading.{TextReading, went, stopped, too_deep, read_text}
 use Rattle.jx_run.specs.Tree.{Tree, span}
 use Rattle.jx_run.specs.Grammar.{Value, leaf, empty_array, array, empty_object, object}

@@ -4,7 +4,7 @@ use Rattle.std.proofs.Math.Nat.{add-suc}
 use Rattle.std.specs.List.{AllZip}
 use Rattle.jx_summary.specs.declared.span.Span.{Span}
 use Rattle.jx_lex.specs.declared.alphabet.state.LexState.TheVariants as state
-use Rattle.jx_reduce.specs.declared.expect.Expect.TheVariants as expect
+use Rattle.jx_reduce.specs.declared.table.expect.Expect.TheVariants as expect
 use Rattle.jx_run.specs.declared.sequences.element_verdict.ElementVerdict.{ElementVerdict}
 use Rattle.jx_run.specs.declared.sequences.element_verdict.ElementVerdict.TheVariants as element
 use Rattle.jx_run.specs.declared.sequences.element_verdict.JudgedElement.{JudgedElement}

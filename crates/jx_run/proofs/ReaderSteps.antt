@@ -16,12 +16,12 @@ use Rattle.jx_lex.specs.Lex as lexical
 use Rattle.jx_lex.specs.Lex.{lex}
 use Rattle.jx_lex.specs.Moves.{move}
 use Rattle.jx_lex.specs.Seen.{SeesTrack, WantsNoMore}
-use Rattle.jx_lex.specs.View.{exit_of}
-use Rattle.jx_reduce.specs.declared.expect.Expect.{Expect}
-use Rattle.jx_reduce.specs.declared.expect.Expect.TheVariants as expect
-use Rattle.jx_reduce.specs.declared.holder.Holder.{Holder}
-use Rattle.jx_reduce.specs.declared.whole.Whole.{Whole}
-use Rattle.jx_reduce.specs.declared.whole.Whole.TheVariants as whole
+use Rattle.jx_lex.specs.Exit.{exit_of}
+use Rattle.jx_reduce.specs.declared.table.expect.Expect.{Expect}
+use Rattle.jx_reduce.specs.declared.table.expect.Expect.TheVariants as expect
+use Rattle.jx_reduce.specs.declared.table.holder.Holder.{Holder}
+use Rattle.jx_reduce.specs.declared.table.whole.Whole.{Whole}
+use Rattle.jx_reduce.specs.declared.table.whole.Whole.TheVariants as whole
 use Rattle.jx_reduce.specs.KnownStack.{Known, IsFault, HasRead as StackHasRead, start as stack_start}
 use Rattle.jx_reduce.specs.Read.{Reading, top, read as read_marks, step as mark_step}
 use Rattle.jx_reduce.specs.Whole.{whole_of}

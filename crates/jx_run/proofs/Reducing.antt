@@ -6,22 +6,23 @@ use Rattle.std.proofs.lemmas.List.{get_or_append_left, get_or_default, get_or-se
 use Rattle.std.proofs.Math.Seq.{take-suc}
 use Rattle.std.proofs.lemmas.List.Concat.{flat_map-cons}
 use Rattle.jx_lex.specs.declared.alphabet.lex_exit.LexExit.{LexExit}
-use Rattle.jx_lex.specs.declared.map.link.Link.{Link}
-use Rattle.jx_lex.specs.declared.map.link.Link.TheVariants.{Ahead, State, Fault}
+use Rattle.jx_maps.specs.declared.link.Link.{Link}
+use Rattle.jx_maps.specs.declared.link.Link.TheVariants.{Ahead, State, Fault}
 use Rattle.std.proofs.lemmas.List.Elements.{All-append, All-cons, All-nil}
 use Rattle.jx_lex.specs.declared.alphabet.mark.Mark.{Mark}
 use Rattle.jx_lex.specs.declared.alphabet.mark.MarkKind.{MarkKind}
 use Rattle.jx_lex.specs.declared.alphabet.state.LexState.{LexState}
 use Rattle.std.proofs.lemmas.Option.{get_or_from_slice_get, slice_get_within, slice_get-get_or}
-use Rattle.jx_lex.specs.Follow.{SegmentValue}
+use Rattle.jx_maps.specs.Follow.{SegmentValue}
 use Rattle.jx_lex.specs.Lex.{lex, on_next, with_mark, Track}
-use Rattle.jx_lex.specs.Map.{Map, track}
-use Rattle.jx_lex.specs.Map
+use Rattle.jx_maps.specs.Map.{Map, track}
+use Rattle.jx_maps.specs.Map
 use Rattle.jx_lex.specs.Moves.{move}
 use Rattle.jx_lex.specs.Ordinal.{all_states, ordinal}
-use Rattle.jx_lex.specs.View.{exit_of, marks_at, ends_at, path_from}
-use Rattle.jx_reduce.specs.declared.expect.Expect.{Expect}
-use Rattle.jx_reduce.specs.declared.holder.Holder.{Holder}
+use Rattle.jx_lex.specs.Exit.{exit_of}
+use Rattle.jx_maps.specs.View.{marks_at, ends_at, path_from}
+use Rattle.jx_reduce.specs.declared.table.expect.Expect.{Expect}
+use Rattle.jx_reduce.specs.declared.table.holder.Holder.{Holder}
 use Rattle.jx_reduce.specs.Offsets.{EachIn, RisingFrom}
 use Rattle.jx_reduce.specs.Read.{read as read_marks, Reading}
 use Rattle.jx_reduce.specs.Structure.{StructureValue, IsBefore, IsOf, SpansIn, answer}

@@ -16,9 +16,9 @@ use Rattle.jx_lex.specs.Lex as lexical
 use Rattle.jx_lex.specs.Lex.{lex}
 use Rattle.jx_lex.specs.Ordinal.{all_states, ordinal}
 use Rattle.jx_lex.specs.Seen.{SeesTrack, WantsNoMore}
-use Rattle.jx_lex.specs.View.{exit_of}
-use Rattle.jx_reduce.specs.declared.expect.Expect.{Expect}
-use Rattle.jx_reduce.specs.declared.holder.Holder.{Holder}
+use Rattle.jx_lex.specs.Exit.{exit_of}
+use Rattle.jx_reduce.specs.declared.table.expect.Expect.{Expect}
+use Rattle.jx_reduce.specs.declared.table.holder.Holder.{Holder}
 use Rattle.jx_reduce.specs.KnownStack.{IsFault}
 use Rattle.jx_reduce.specs.Offsets.{EachIn, RisingFrom}
 use Rattle.jx_reduce.specs.Read.{Reading, step, read as read_marks}

@@ -13,9 +13,9 @@ use Rattle.jx_lex.specs.declared.alphabet.lex_exit.LexExit.TheVariants as exit
 use Rattle.jx_lex.specs.Lex.{LexExit}
 use Rattle.jx_lex.specs.Moves.{move}
 use Rattle.jx_lex.specs.Ordinal.{all_states, ordinal}
-use Rattle.jx_lex.specs.View.{exit_of}
-use Rattle.jx_reduce.specs.declared.expect.Expect.{Expect}
-use Rattle.jx_reduce.specs.declared.holder.Holder.{Holder}
+use Rattle.jx_lex.specs.Exit.{exit_of}
+use Rattle.jx_reduce.specs.declared.table.expect.Expect.{Expect}
+use Rattle.jx_reduce.specs.declared.table.holder.Holder.{Holder}
 use Rattle.jx_reduce.specs.Read.{Reading, top, then_by}
 use Rattle.jx_reduce.specs.Structure.{StructureValue, answer, IsJoin, SpansIn}
 use Rattle.jx_run.specs.declared.runs.joins.Pair.{Pair}

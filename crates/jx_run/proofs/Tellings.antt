@@ -11,8 +11,8 @@ use Rattle.jx_lex.specs.declared.alphabet.state.LexState.{LexState}
 use Rattle.jx_lex.specs.declared.alphabet.state.LexState.TheVariants as state
 use Rattle.jx_lex.specs.Lex.{lex, Track}
 use Rattle.jx_lex.specs.Seen.{Seen, Grows, WantsNoMore}
-use Rattle.jx_reduce.specs.declared.expect.Expect.{Expect}
-use Rattle.jx_reduce.specs.declared.holder.Holder.{Holder}
+use Rattle.jx_reduce.specs.declared.table.expect.Expect.{Expect}
+use Rattle.jx_reduce.specs.declared.table.holder.Holder.{Holder}
 use Rattle.jx_reduce.specs.KnownStack.{Known, IsFault, start}
 use Rattle.jx_reduce.specs.Read.{Reading, step, read as read_marks}
 use Rattle.jx_reduce.specs.Whole.{whole_of}

@@ -1,6 +1,6 @@
 -- A text run is a chunk map and the run of its outcomes.
 use Rattle.std.proofs.Common.{◌≡◌, ℕ, List, sym, subst}
-use Rattle.jx_lex.specs.Map
+use Rattle.jx_maps.specs.Map
 use Rattle.jx_run.specs.OutcomeRun.{OutcomeRunValue, IsOutcomeRun}
 use Rattle.jx_run.specs.TextRun.{TextRunValue, IsTextRun, outcomes_of}
 

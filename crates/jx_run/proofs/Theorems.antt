@@ -4,9 +4,9 @@ use Rattle.std.proofs.lemmas.List.{take-take, take-append-drop, take_all}
 use Rattle.jx_lex.specs.declared.alphabet.state.LexState.{LexState}
 use Rattle.jx_lex.specs.declared.alphabet.state.LexState.TheVariants as state
 use Rattle.jx_lex.specs.TokenStates.{IsFinal, final_gap, final_zero, final_int, final_frac, final_exp}
-use Rattle.jx_reduce.specs.declared.expect.Expect.{Expect}
-use Rattle.jx_reduce.specs.declared.expect.Expect.TheVariants as expect
-use Rattle.jx_reduce.specs.declared.holder.Holder.{Holder}
+use Rattle.jx_reduce.specs.declared.table.expect.Expect.{Expect}
+use Rattle.jx_reduce.specs.declared.table.expect.Expect.TheVariants as expect
+use Rattle.jx_reduce.specs.declared.table.holder.Holder.{Holder}
 use Rattle.jx_run.specs.declared.texts.verdict.Verdict.TheVariants as verdict
 use Rattle.jx_run.specs.declared.texts.verdict.Refusal.TheVariants as refusal
 use Rattle.jx_run.specs.Reading.{TextReading, went, stopped, too_deep, and_then, is_final}

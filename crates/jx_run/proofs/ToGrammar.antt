@@ -15,10 +15,10 @@ use Rattle.jx_lex.specs.Token.{IsBlank, IsToken}
 use Rattle.jx_lex.specs.TokenStates.{in_token, Spells, here, goes, shuts, IsFinal, final_gap, final_zero, final_int, final_frac, final_exp, mark_of}
 use Rattle.jx_lex.specs.TokenSteps as byte
 use Rattle.jx_lex.specs.TokenSteps.{IsScalar, TokenStep, IsStructural, GapStep}
-use Rattle.jx_reduce.specs.declared.expect.Expect.{Expect}
-use Rattle.jx_reduce.specs.declared.expect.Expect.TheVariants as expect
-use Rattle.jx_reduce.specs.declared.holder.Holder.{Holder}
-use Rattle.jx_reduce.specs.declared.holder.Holder.TheVariants as holder
+use Rattle.jx_reduce.specs.declared.table.expect.Expect.{Expect}
+use Rattle.jx_reduce.specs.declared.table.expect.Expect.TheVariants as expect
+use Rattle.jx_reduce.specs.declared.table.holder.Holder.{Holder}
+use Rattle.jx_reduce.specs.declared.table.holder.Holder.TheVariants as holder
 use Rattle.jx_reduce.specs.Read.{top}
 use Rattle.jx_run.specs.inside.Turns.{at_scalar, at_string, at_open_array, at_open_object, at_close_array, at_close_object, at_colon, at_comma}
 use Rattle.jx_run.specs.Reading.{TextReading, went}

@@ -8,7 +8,7 @@ use Rattle.jx_lex.specs.Ordinal.{ordinal}
 use Rattle.jx_reduce.specs.Structure.{StructureValue}
 use Rattle.jx_run.specs.declared.runs.transition.Transition.{Transition}
 use Rattle.jx_run.specs.OutcomeRun.{OutcomeRunValue, Entries, entries_at, entries_of, exit_at, exit_in, with_exit, AreUsed, IsWellFormed}
-use Rattle.jx_lex.specs.View.{exit_of}
+use Rattle.jx_lex.specs.Exit.{exit_of}
 use Rattle.jx_lex.proofs.StateOrder.{ordinal-low}
 
 pub one_of : {X : Type 0} (xs : List X) (n : ℕ) (x y : X) → slice_get xs n ≡ Some x → slice_get xs n ≡ Some y → x ≡ y

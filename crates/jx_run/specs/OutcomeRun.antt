@@ -5,9 +5,9 @@ use Rattle.jx_summary.specs.declared.span.Span.{Span}
 use Rattle.jx_lex.specs.declared.alphabet.lex_exit.LexExit.{LexExit}
 use Rattle.jx_lex.specs.Lex as lex
 use Rattle.jx_lex.specs.Ordinal.{ordinal}
-use Rattle.jx_lex.specs.View.{exit_of}
-use Rattle.jx_reduce.specs.declared.expect.Expect.{Expect}
-use Rattle.jx_reduce.specs.declared.holder.Holder.{Holder}
+use Rattle.jx_lex.specs.Exit.{exit_of}
+use Rattle.jx_reduce.specs.declared.table.expect.Expect.{Expect}
+use Rattle.jx_reduce.specs.declared.table.holder.Holder.{Holder}
 use Rattle.jx_reduce.specs.Structure.{StructureValue, answer, SpansIn}
 use Rattle.jx_run.specs.declared.runs.transition.Transition.{Transition}
 use Rattle.jx_run.specs.Reading.{TextReading, stopped, at_exit, and_then, read}

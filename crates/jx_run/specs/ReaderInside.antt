@@ -6,8 +6,8 @@ use Rattle.jx_lex.specs.declared.alphabet.mark.Mark.{Mark}
 use Rattle.jx_lex.specs.Lex as lexical
 use Rattle.jx_reduce.specs.KnownStack.{Known, IsFault, HasRead}
 use Rattle.jx_reduce.specs.Read.{Reading}
-use Rattle.jx_reduce.specs.declared.whole.Whole.{Whole}
-use Rattle.jx_reduce.specs.declared.whole.Whole.TheVariants as whole
+use Rattle.jx_reduce.specs.declared.table.whole.Whole.{Whole}
+use Rattle.jx_reduce.specs.declared.table.whole.Whole.TheVariants as whole
 use Rattle.jx_run.specs.declared.texts.settings.FrontMark.{FrontMark}
 use Rattle.jx_run.specs.declared.texts.settings.FrontMark.TheVariants.{Ignored}
 use Rattle.jx_run.specs.declared.texts.settings.Settings.{Settings}

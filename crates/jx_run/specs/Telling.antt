@@ -6,7 +6,7 @@ use Rattle.jx_lex.specs.Lex.{lex, LexExit, Track}
 use Rattle.jx_lex.specs.Seen.{Seen, Grows}
 use Rattle.jx_reduce.specs.KnownStack.{start, IsFault}
 use Rattle.jx_reduce.specs.Read.{Reading, read}
-use Rattle.jx_reduce.specs.declared.expect.Expect.TheVariants.{Value}
+use Rattle.jx_reduce.specs.declared.table.expect.Expect.TheVariants.{Value}
 use Rattle.jx_run.specs.declared.texts.settings.Front.TheVariants.{Skip}
 use Rattle.jx_run.specs.declared.texts.settings.FrontMark.{FrontMark}
 use Rattle.jx_run.specs.declared.texts.settings.FrontMark.TheVariants as on_mark

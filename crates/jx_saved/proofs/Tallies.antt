@@ -5,9 +5,9 @@ use Rattle.jx_lex.specs.declared.alphabet.mark.Mark.{Mark}
 use Rattle.jx_lex.specs.declared.alphabet.mark.MarkKind.TheVariants as kind
 use Rattle.jx_lex.specs.declared.alphabet.state.LexState.{LexState}
 use Rattle.jx_lex.specs.Seen.{WantsNoMore}
-use Rattle.jx_reduce.specs.declared.expect.Expect.{Expect}
-use Rattle.jx_reduce.specs.declared.whole.Whole.{Whole}
-use Rattle.jx_reduce.specs.declared.whole.Whole.TheVariants as whole
+use Rattle.jx_reduce.specs.declared.table.expect.Expect.{Expect}
+use Rattle.jx_reduce.specs.declared.table.whole.Whole.{Whole}
+use Rattle.jx_reduce.specs.declared.table.whole.Whole.TheVariants as whole
 use Rattle.jx_reduce.specs.KnownStack.{Known, IsFault}
 use Rattle.jx_reduce.specs.Read.{Reading, step, read as read_marks}
 use Rattle.jx_reduce.specs.Whole.{whole_of}

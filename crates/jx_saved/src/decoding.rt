@@ -4,7 +4,7 @@ ghost use Rattle.std.specs.Int.{w16, w64, from_le_bytes, to_le_bytes};
 ghost use Rattle.std.specs.List.{AllByRecursion, flat_map};
 ghost use Rattle.jx_lex.specs.declared.alphabet.state.LexState.{LexState};
 ghost use Rattle.jx_lex.specs.Ordinal.{ordinal};
-ghost use Rattle.jx_reduce.specs.declared.expect.Expect.{Expect};
+ghost use Rattle.jx_reduce.specs.declared.table.expect.Expect.{Expect};
 ghost use Rattle.jx_run.specs.declared.texts.settings.FrontMark.{FrontMark};
 ghost use Rattle.jx_run.specs.declared.texts.settings.NameRule.{NameRule};
 ghost use Rattle.jx_saved.specs.declared.entry.Entry.{Entry};

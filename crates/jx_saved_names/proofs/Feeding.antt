@@ -1,5 +1,5 @@
 -- Slices that are fed one behind another, and the tables in the end.
-use Rattle.std.proofs.Common.{◌≡◌, ℕ, zero, suc, ◌+◌, ◌-◌, ◌*◌, ◌<◌, ◌≤◌, List, [], ◌∷◌, ◌++◌, length, take, drop, refl, sym, ◌∙◌, ap, subst, append_assoc, append-nil, arith, Bool, true, false, Option, Some}
+use Rattle.std.proofs.Common.{◌≡◌, ℕ, suc, ◌+◌, ◌-◌, ◌*◌, ◌<◌, ◌≤◌, List, [], ◌∷◌, ◌++◌, length, take, drop, refl, sym, ◌∙◌, ap, subst, append_assoc, append-nil, arith, false, Some}
 use Rattle.std.specs.Prelude.{slice_range}
 use Rattle.std.proofs.lemmas.List.{length-append, length-drop, take-append-drop}
 use Rattle.std.proofs.Math.Nat.{suc-mul}
@@ -13,11 +13,10 @@ use Rattle.jx_run.proofs.Tellings.{rest_of}
 use Rattle.jx_saved.specs.Chunks.{IsCount}
 use Rattle.jx_saved.proofs.Feedings.{piece_long}
 use Rattle.jx_name_tables.specs.declared.tables.NameTables.{NameTables}
-use Rattle.jx_name_tables.specs.Tables.{AreTablesOf}
 use Rattle.jx_saved_names.specs.Fed.{HasTables}
 use Rattle.jx_saved_names.specs.declared.chunks.NamedChunks.{NamedChunks}
 use Rattle.jx_saved_names.specs.inside.Blocks.{AreBlocksOf, AreBlockTables}
-use Rattle.jx_saved_names.specs.inside.Chunks.{AreAll, AreHeld, AreRead, AreTold, AreWhole}
+use Rattle.jx_saved_names.specs.inside.Chunks.{AreAll, AreHeld, AreRead, AreWhole}
 use Rattle.jx_saved_names.proofs.Reading.{whole_more}
 
 no_list : {A : Type 0} (xs : List A) → length xs ≡ 0 → xs ≡ []

@@ -1,5 +1,5 @@
 -- The names of chunks that are read one behind another.
-use Rattle.std.proofs.Common.{◌≡◌, ℕ, zero, suc, ◌+◌, ◌-◌, ◌*◌, ◌≤◌, List, [], ◌∷◌, ◌++◌, length, take, drop, map, refl, sym, ◌∙◌, ap, subst, arith, Bool, true, false, Option, None, Some}
+use Rattle.std.proofs.Common.{◌≡◌, ℕ, suc, ◌+◌, ◌-◌, ◌*◌, ◌≤◌, List, [], ◌∷◌, ◌++◌, length, take, drop, map, sym, ◌∙◌, ap, subst, arith, false, Option, None, Some}
 use Rattle.std.proofs.lemmas.List.{drop-append-le, length-append, length-drop, take-append-le, take_all}
 use Rattle.std.proofs.lemmas.List.Sums.{fold-append}
 use Rattle.std.proofs.Math.Nat.{suc-mul}
@@ -17,10 +17,9 @@ use Rattle.jx_name_tables.specs.Named.{AreNamed, more, none, reading_before, tra
 use Rattle.jx_name_tables.specs.Names.{NamesOf}
 use Rattle.jx_saved_names.specs.declared.blocks.Blocks.{Blocks}
 use Rattle.jx_saved_names.specs.declared.chunks.NamedChunks.{NamedChunks}
-use Rattle.jx_saved_names.specs.declared.standing.Standing.{Standing}
 use Rattle.jx_saved_names.specs.declared.standing.ToldChunk.{ToldChunk}
 use Rattle.jx_saved_names.specs.inside.Blocks.{AreBlocksOf}
-use Rattle.jx_saved_names.specs.inside.Chunk.{HoldsName, IsTold, Start}
+use Rattle.jx_saved_names.specs.inside.Chunk.{IsTold, Start}
 use Rattle.jx_saved_names.specs.inside.Chunks.{AreRead, AreTold, AreWhole}
 
 -- whole parts stay

@@ -6,14 +6,16 @@ use Rattle.jx_name_tables.specs.declared.tables.NameTables.{NameTables}
 use Rattle.jx_name_tables.specs.Tables.{AreTablesOf}
 use Rattle.jx_saved_names.specs.declared.chunks.NamedChunks.{NamedChunks}
 use Rattle.jx_saved_names.specs.declared.names_maker.NamesMaker.{NamesMaker}
+use Rattle.jx_saved_names.specs.inside.Blocks.{FitBlocks}
 use Rattle.jx_saved_names.specs.inside.Chunks.{AreHeld}
 
--- by settings and for chunks of this size, it was fed these bytes since it was made
+-- by settings and for chunks of this size, it was fed these bytes since it was made; what is kept fits the bytes of tables
 pub record HasFed (settings : Settings) (chunk : ℕ) (bytes : List ℕ) (m : NamesMaker) : Type 0 where
   pub chunk_is : m.chunk ≡ chunk
   pub kept : NamedChunks
   pub kept_is : m.held ≡ Some kept
   pub held : AreHeld settings chunk bytes kept m.part.items
+  pub fits : FitBlocks kept.blocks
 
 -- the tables are those of the names of a text, one for each block of its chunks
 pub record HasTables (settings : Settings) (chunk : ℕ) (text : List ℕ) (tables : NameTables) : Type 0 where

@@ -1,4 +1,5 @@
 pub mod Fed
+pub mod IfAsked
 pub mod inside
 pub mod Saved
 pub mod Spelling

@@ -1,9 +1,11 @@
 // The names of chunks in blocks of 64, as chunk after chunk is read.
 ghost use Rattle.std.specs.Prelude.{◌≡◌, ◌%◌, ◌++◌, ◌∷◌, [], ℕ, List, length, map, IfOk, OnOk, suc, true, false};
+ghost use Rattle.std.specs.List.{AllByRecursion};
 ghost use Rattle.std.specs.List.Sorted.{IsPermutation};
 ghost use Rattle.jx_name_tables.specs.Hash.{name_hash};
 ghost use Rattle.jx_name_tables.specs.Tables.{key_of, AreRising};
-ghost use Rattle.jx_saved_names.specs.inside.Blocks.{AreBlocksOf, AreBlockTables};
+ghost use Rattle.jx_saved_names.specs.Saved.{FitsTable, IsWord};
+ghost use Rattle.jx_saved_names.specs.inside.Blocks.{AreBlocksOf, AreBlockTables, FitBlocks, FitsOpen, IsKeyCount};
 
 use jx_name_tables::{NameTable, NameTables};
 use std::alloc::{AllocError, Global};
@@ -39,7 +41,8 @@ fn ends_block(chunks: usize) -> bool
 
 /// The key of a name with a number, in a chunk. It is refused, as for want of memory, where it is too large to be held.
 fn key_of(number: u32, chunk: usize) -> Result<u32, AllocError>
-    ensures { IfOk result (λ key. key ≡ key_of number chunk) }
+    ensures value { IfOk result (λ key. key ≡ key_of number chunk) }
+    ensures word { IfOk result IsWord }
 {
     let Some(times) = number.checked_mul(64) else {
         return Err(AllocError);
@@ -52,7 +55,8 @@ fn key_of(number: u32, chunk: usize) -> Result<u32, AllocError>
 
 /// Puts the keys of names with these numbers behind others.
 fn add_keys(keys: &mut Vec<u32>, numbers: &[u32], chunk: usize) -> Result<(), AllocError>
-    ensures { OnOk result (keys.new.items ≡ keys.old.items ++ map (λ number. key_of number chunk) numbers.now) }
+    ensures keys { OnOk result (keys.new.items ≡ keys.old.items ++ map (λ number. key_of number chunk) numbers.now) }
+    ensures words { OnOk result (AllByRecursion IsWord keys.old.items → AllByRecursion IsWord keys.new.items) }
 {
     for number in numbers {
         keys.push(key_of(*number, chunk)?)?;
@@ -63,7 +67,8 @@ fn add_keys(keys: &mut Vec<u32>, numbers: &[u32], chunk: usize) -> Result<(), Al
 impl OpenBlock {
     /// A block of no name.
     fn new(alloc: Global) -> OpenBlock
-        ensures { result.keys.items ≡ [] }
+        ensures none { result.keys.items ≡ [] }
+        ensures fits { FitsOpen result }
     {
         OpenBlock {
             keys: Vec::new(alloc),
@@ -73,8 +78,9 @@ impl OpenBlock {
 
     /// The block with the names of one chunk more. More names than `most` are too many.
     fn add(self, numbers: &[u32], chunk: usize, most: usize) -> Result<OpenBlock, AllocError>
-        ensures { IfOk result (λ next. next.is_full ≡ false
+        ensures keys { IfOk result (λ next. next.is_full ≡ false
             → (self.is_full ≡ false) × (next.keys.items ≡ self.keys.items ++ map (λ number. key_of number chunk) numbers.now)) }
+        ensures fits { IfOk result (λ next. IsKeyCount most → FitsOpen self → FitsOpen next) }
     {
         let OpenBlock { mut keys, is_full } = self;
         if is_full {
@@ -99,6 +105,7 @@ impl OpenBlock {
         ensures kept { result.is_kept ≡ true → self.is_full ≡ false }
         ensures rising { AreRising result.keys.items }
         ensures same { IsPermutation self.keys.items result.keys.items }
+        ensures fits { FitsOpen self → FitsTable result }
     {
         let OpenBlock { mut keys, is_full } = self;
         keys.sort_unstable();
@@ -112,7 +119,8 @@ impl OpenBlock {
 impl Blocks {
     /// No chunk was read.
     pub(crate) fn new(alloc: Global) -> Blocks
-        ensures { AreBlocksOf [] result }
+        ensures are { AreBlocksOf [] result }
+        ensures fits { FitBlocks result }
     {
         Blocks {
             tables: Vec::new(alloc),
@@ -131,6 +139,7 @@ impl Blocks {
         ensures chunks { IfOk result (λ next. next.chunks ≡ suc self.chunks) }
         ensures are { IfOk result (λ next. (names : List (List (List ℕ))) (own : List (List ℕ)) → AreBlocksOf names self → numbers.now ≡ map name_hash own
             → AreBlocksOf (names ++ own ∷ []) next) }
+        ensures fits { IfOk result (λ next. IsKeyCount most → FitBlocks self → FitBlocks next) }
     {
         let Blocks {
             mut tables,
@@ -158,7 +167,8 @@ impl Blocks {
 
     /// The tables of all blocks, the last one of what is left.
     pub(crate) fn into_tables(self) -> Result<NameTables, AllocError>
-        ensures { IfOk result (λ tables. (names : List (List (List ℕ))) → AreBlocksOf names self → AreBlockTables names tables) }
+        ensures are { IfOk result (λ tables. (names : List (List (List ℕ))) → AreBlocksOf names self → AreBlockTables names tables) }
+        ensures fits { IfOk result (λ tables. FitBlocks self → AllByRecursion FitsTable tables.tables.items) }
     {
         let Blocks {
             mut tables,

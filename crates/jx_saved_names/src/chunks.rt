@@ -3,6 +3,7 @@ ghost use Rattle.std.specs.Prelude.{◌≡◌, ◌+◌, ◌-◌, ◌<◌, ◌≤
 ghost use Rattle.jx_run.specs.Reader.{HasRead, HasFailed, Outcome, is_fault};
 ghost use Rattle.jx_run.specs.Telling.{track_of};
 ghost use Rattle.jx_run.specs.declared.texts.settings.Settings.{Settings};
+ghost use Rattle.jx_saved_names.specs.inside.Blocks.{FitBlocks, IsKeyCount};
 ghost use Rattle.jx_saved_names.specs.inside.Chunk.{IsTold};
 ghost use Rattle.jx_saved_names.specs.inside.Chunks.{AreRead, AreWhole};
 
@@ -57,7 +58,8 @@ fn read_chunk<B: Before>(
 impl NamedChunks {
     /// Before the first chunk.
     pub(crate) fn new(alloc: Global, settings: &Settings) -> NamedChunks
-        ensures { (size : ℕ) → AreWhole settings.now size [] result }
+        ensures are { (size : ℕ) → AreWhole settings.now size [] result }
+        ensures fits { FitBlocks result.blocks }
     {
         slices_are_told_in_turn();
         NamedChunks {
@@ -81,6 +83,7 @@ impl NamedChunks {
         ensures count { IfOk result (λ next. next.blocks.chunks ≡ suc self.blocks.chunks) }
         ensures are { IfOk result (λ next. (settings : Settings) (size : ℕ) (bytes : List ℕ) → AreWhole settings size bytes self → length chunk.now ≤ size
             → AreRead settings size (bytes ++ chunk.now) next) }
+        ensures fits { IfOk result (λ next. IsKeyCount most → FitBlocks self.blocks → FitBlocks next.blocks) }
     {
         slices_are_told_in_turn();
         let NamedChunks {
@@ -113,6 +116,7 @@ impl NamedChunks {
         ensures rest { IfOk result (λ added. length bytes.now - added.len < size) }
         ensures whole { IfOk result (λ added. (settings : Settings) (before : List ℕ) → AreWhole settings size before self
             → AreWhole settings size (before ++ take added.len bytes.now) added.held) }
+        ensures fits { IfOk result (λ added. IsKeyCount most → FitBlocks self.blocks → FitBlocks added.held.blocks) }
     {
         let mut held = self;
         let mut at = 0;

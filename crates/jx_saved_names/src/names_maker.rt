@@ -1,10 +1,15 @@
 // The tables of the names of a text that is fed by slices.
 ghost use Rattle.std.specs.Prelude.{◌≡◌, ◌<◌, ◌≤◌, ◌++◌, [], ℕ, List, length, take, IfOk, IsErr, OnOk, OnErr};
+ghost use Rattle.std.specs.List.{AllByRecursion};
 ghost use Rattle.jx_run.specs.Settings.{JudgedBy};
 ghost use Rattle.jx_run.specs.declared.texts.settings.Settings.{Settings};
 ghost use Rattle.jx_run.specs.declared.texts.verdict.Verdict.TheVariants.{Accepted};
+ghost use Rattle.jx_saved.specs.declared.index.Index.{Index};
+ghost use Rattle.jx_saved.specs.Index.{IsIndexOf};
 ghost use Rattle.jx_name_tables.specs.Tables.{AreTablesOf};
 ghost use Rattle.jx_saved_names.specs.Fed.{HasFed, HasTables, IsLost};
+ghost use Rattle.jx_saved_names.specs.Saved.{FitsTable, HasItsTables};
+ghost use Rattle.jx_saved_names.specs.inside.Blocks.{FitBlocks, IsKeyCount};
 ghost use Rattle.jx_saved_names.specs.inside.Chunks.{AreAll, AreHeld};
 
 use crate::chunks::NamedChunks;
@@ -36,7 +41,9 @@ struct BegunChunk {
 const SHARE: usize = 4;
 
 /// How many names a block may have of which any are kept.
-fn most_names(size: usize) -> usize {
+fn most_names(size: usize) -> usize
+    ensures few { size ≤ 1048576 → IsKeyCount result }
+{
     size.saturating_mul(SHARE)
 }
 
@@ -71,6 +78,7 @@ fn begin(
     ensures all { IfOk result (λ begun. 0 < length part.new.items → begun.len ≡ length slice.now) }
     ensures held { IfOk result (λ begun. (settings : Settings) (bytes : List ℕ) → AreHeld settings size bytes held part.old.items
         → AreHeld settings size (bytes ++ take begun.len slice.now) begun.held part.new.items) }
+    ensures fits { IfOk result (λ begun. size ≤ 1048576 → FitBlocks held.blocks → FitBlocks begun.held.blocks) }
 {
     if part.is_empty() {
         return Ok(BegunChunk { held, len: 0 });
@@ -93,8 +101,9 @@ fn feed_held(
     size: usize,
 ) -> Result<NamedChunks, AllocError>
     requires some { 0 < size }
-    ensures { IfOk result (λ next. (settings : Settings) (bytes : List ℕ) → AreHeld settings size bytes held part.old.items
+    ensures held { IfOk result (λ next. (settings : Settings) (bytes : List ℕ) → AreHeld settings size bytes held part.old.items
         → AreHeld settings size (bytes ++ slice.now) next part.new.items) }
+    ensures fits { IfOk result (λ next. size ≤ 1048576 → FitBlocks held.blocks → FitBlocks next.blocks) }
 {
     let begun = begin(alloc, held, part, slice, size)?;
     let rest = &slice[begun.len..slice.len()];
@@ -110,7 +119,8 @@ fn all_of(
     part: &[u8],
     most: usize,
 ) -> Result<NamedChunks, AllocError>
-    ensures { IfOk result (λ all. (settings : Settings) (size : ℕ) (bytes : List ℕ) → AreHeld settings size bytes held part.now → AreAll settings size bytes all) }
+    ensures all { IfOk result (λ all. (settings : Settings) (size : ℕ) (bytes : List ℕ) → AreHeld settings size bytes held part.now → AreAll settings size bytes all) }
+    ensures fits { IfOk result (λ all. IsKeyCount most → FitBlocks held.blocks → FitBlocks all.blocks) }
 {
     if part.is_empty() {
         return Ok(held);
@@ -121,8 +131,9 @@ fn all_of(
 
 /// The tables of all chunks.
 fn tables_of(held: NamedChunks) -> Result<NameTables, AllocError>
-    ensures { IfOk result (λ tables. (settings : Settings) (size : ℕ) (bytes : List ℕ) → AreAll settings size bytes held → JudgedBy settings 0 bytes Accepted
+    ensures tables { IfOk result (λ tables. (settings : Settings) (size : ℕ) (bytes : List ℕ) → AreAll settings size bytes held → JudgedBy settings 0 bytes Accepted
         → HasTables settings size bytes tables) }
+    ensures fits { IfOk result (λ tables. FitBlocks held.blocks → AllByRecursion FitsTable tables.tables.items) }
 {
     reader_is_grammar();
     verdict_by_settings_is_one();
@@ -166,6 +177,9 @@ impl NamesMaker {
     pub fn finish(self) -> Result<NameTables, AllocError>
         ensures tables { IfOk result (λ tables. (settings : Settings) (chunk : ℕ) (bytes : List ℕ) → HasFed settings chunk bytes self → JudgedBy settings 0 bytes Accepted
             → HasTables settings chunk bytes tables) }
+        // Beside an index of the text they are saved so that all of them is read back.
+        ensures savable { IfOk result (λ tables. (settings : Settings) (chunk : ℕ) (bytes : List ℕ) (index : Index) → HasFed settings chunk bytes self → IsIndexOf settings chunk bytes index
+            → HasItsTables index tables) }
         ensures lost { IsLost self → IsErr result }
     {
         let NamesMaker {

@@ -39,7 +39,7 @@ pub gives_index : (has_names : Bool) (settings : Settings) (chunk : ℕ) (text :
 gives_index has_names settings chunk text saved comes = record {
   verdict = Accepted;
   is_verdict = comes.accepted;
-  gives = record { saved = saved; is_index = comes.index; names = comes.names; written = refl; told = refl; ends = refl };
+  gives = record { saved = saved; is_index = comes.index; names = comes.names; savable = comes.savable; written = refl; told = refl; ends = refl };
 }
 
 -- ---- faults

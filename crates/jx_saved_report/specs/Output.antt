@@ -1,31 +1,25 @@
 -- What is written and told of an input whose index is saved.
-use Rattle.std.specs.Prelude.{◌≡◌, ℕ, List, [], ◌++◌, Bool, true, false, Option, None, Some, codes}
+use Rattle.std.specs.Prelude.{◌≡◌, ℕ, List, [], ◌++◌, Bool, codes}
 use Rattle.jx_run.specs.declared.texts.settings.Settings.{Settings}
 use Rattle.jx_run.specs.declared.texts.verdict.Refusal.{Refusal}
 use Rattle.jx_run.specs.declared.texts.verdict.Verdict.{Verdict}
 use Rattle.jx_run.specs.declared.texts.verdict.Verdict.TheVariants.{Accepted, Refused}
 use Rattle.jx_index.specs.ByNames.{IsVerdictBy}
-use Rattle.jx_name_tables.specs.declared.tables.NameTables.{NameTables}
 use Rattle.jx_saved.specs.Index.{IsIndexOf}
 use Rattle.jx_saved_names.specs.declared.saved_text.SavedText.{SavedText}
-use Rattle.jx_saved_names.specs.Fed.{HasTables}
+use Rattle.jx_saved_names.specs.IfAsked.{HasNames}
+use Rattle.jx_saved_names.specs.Saved.{HasTablesToo}
 use Rattle.jx_saved_names.specs.Spelling.{spelt_saved}
 use Rattle.jx_ends.specs.declared.exit.Exit.{Exit}
 use Rattle.jx_ends.specs.declared.exit.Exit.TheVariants.{Good, Bad}
 use Rattle.jx_words.specs.Words.{line, refusal_words}
 
--- tables of the names of a text, where these are asked for, and else none
-abbrev pub HasNames : Bool → Settings → ℕ → List ℕ → Option NameTables → Type 0
-HasNames true settings chunk text (Some tables) = HasTables settings chunk text tables
-HasNames true settings chunk text None = ⊥
-HasNames false settings chunk text (Some tables) = ⊥
-HasNames false settings chunk text None = Unit {0}
-
--- for a text: the bytes of its index are written, and these tables behind it, and nothing is told
+-- for a text: the bytes of its index are written, and behind it these tables, which fit their bytes, and nothing is told
 pub record GivesIndex (has_names : Bool) (settings : Settings) (chunk : ℕ) (text output tells : List ℕ) (exit : Exit) : Type 0 where
   pub saved : SavedText
   pub is_index : IsIndexOf settings chunk text saved.index
   pub names : HasNames has_names settings chunk text saved.names
+  pub savable : HasTablesToo saved.index saved.names
   pub written : output ≡ spelt_saved saved
   pub told : tells ≡ []
   pub ends : exit ≡ Good

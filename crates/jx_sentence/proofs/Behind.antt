@@ -12,10 +12,10 @@ use Rattle.jx_lex.specs.declared.alphabet.mark.Mark.{Mark}
 use Rattle.jx_lex.specs.declared.alphabet.mark.MarkKind.TheVariants.{Colon}
 use Rattle.jx_reduce.specs.KnownStack.{Known, HasRead, IsFault, start}
 use Rattle.jx_reduce.specs.Read.{Reading, read as read_marks, step as mark_step, top}
-use Rattle.jx_reduce.specs.declared.expect.Expect.{Expect}
-use Rattle.jx_reduce.specs.declared.expect.Expect.TheVariants as expect
-use Rattle.jx_reduce.specs.declared.holder.Holder.{Holder}
-use Rattle.jx_reduce.specs.declared.holder.Holder.TheVariants.{Bottom}
+use Rattle.jx_reduce.specs.declared.table.expect.Expect.{Expect}
+use Rattle.jx_reduce.specs.declared.table.expect.Expect.TheVariants as expect
+use Rattle.jx_reduce.specs.declared.table.holder.Holder.{Holder}
+use Rattle.jx_reduce.specs.declared.table.holder.Holder.TheVariants.{Bottom}
 use Rattle.jx_run.specs.Kept.{HasSeen}
 use Rattle.jx_run.specs.Reading.{TextReading, at_exit, read, read_text}
 use Rattle.jx_run.proofs.ReaderSteps.{seen_done}

@@ -10,8 +10,8 @@ use Rattle.jx_lex.specs.declared.alphabet.state.LexState.{LexState}
 use Rattle.jx_lex.specs.declared.alphabet.state.TokenEnd.{TokenEnd}
 use Rattle.jx_reduce.specs.Read.{Reading, read as read_marks, top, moved, changed}
 use Rattle.jx_reduce.specs.Table.{next_of, change_of, Change, same, added, removed}
-use Rattle.jx_reduce.specs.declared.expect.Expect.{Expect}
-use Rattle.jx_reduce.specs.declared.holder.Holder.{Holder}
+use Rattle.jx_reduce.specs.declared.table.expect.Expect.{Expect}
+use Rattle.jx_reduce.specs.declared.table.holder.Holder.{Holder}
 use Rattle.jx_run.specs.Laws.{BeginsAtSomeDepth, FaultsAt, FaultsTooDeep, IsFaultAt, IsNoFault, IsTooDeep, MeetsNoFault}
 use Rattle.jx_run.specs.Reading.{TextReading, went, stopped, too_deep, at_exit, read, read_text}
 use Rattle.jx_run.specs.ReaderInside.{shifted}

@@ -6,10 +6,10 @@ use Rattle.jx_lex.specs.declared.alphabet.class.Class.{Class}
 use Rattle.jx_lex.specs.declared.alphabet.class.Class.TheVariants as class
 use Rattle.jx_lex.specs.declared.alphabet.state.LexState.{LexState}
 use Rattle.jx_lex.specs.declared.alphabet.state.LexState.TheVariants as state
-use Rattle.jx_reduce.specs.declared.expect.Expect.{Expect}
-use Rattle.jx_reduce.specs.declared.expect.Expect.TheVariants as expect
-use Rattle.jx_reduce.specs.declared.holder.Holder.{Holder}
-use Rattle.jx_reduce.specs.declared.holder.Holder.TheVariants as holder
+use Rattle.jx_reduce.specs.declared.table.expect.Expect.{Expect}
+use Rattle.jx_reduce.specs.declared.table.expect.Expect.TheVariants as expect
+use Rattle.jx_reduce.specs.declared.table.holder.Holder.{Holder}
+use Rattle.jx_reduce.specs.declared.table.holder.Holder.TheVariants as holder
 use Rattle.jx_sentence.specs.Choices.{allowed, are_named, choices}
 
 -- in this state, before bytes of this class

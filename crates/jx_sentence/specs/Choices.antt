@@ -9,10 +9,10 @@ use Rattle.jx_lex.specs.declared.alphabet.state.LexState.{LexState}
 use Rattle.jx_lex.specs.declared.alphabet.state.LexState.TheVariants as state
 use Rattle.jx_lex.specs.declared.alphabet.state.Step.{Step}
 use Rattle.jx_reduce.specs.Table.{next_of}
-use Rattle.jx_reduce.specs.declared.expect.Expect.{Expect}
-use Rattle.jx_reduce.specs.declared.expect.Expect.TheVariants as expect
-use Rattle.jx_reduce.specs.declared.holder.Holder.{Holder}
-use Rattle.jx_reduce.specs.declared.holder.Holder.TheVariants as holder
+use Rattle.jx_reduce.specs.declared.table.expect.Expect.{Expect}
+use Rattle.jx_reduce.specs.declared.table.expect.Expect.TheVariants as expect
+use Rattle.jx_reduce.specs.declared.table.holder.Holder.{Holder}
+use Rattle.jx_reduce.specs.declared.table.holder.Holder.TheVariants as holder
 use Rattle.jx_sentence.specs.declared.choice.Choice.{Choice}
 use Rattle.jx_sentence.specs.declared.choice.Choice.TheVariants.{Blank, Value, Name, Colon, Comma, ArrayEnd, ObjectEnd, Digit, Point, Exponent, Sign, Character, Escape, HexDigit, Tail, Tail80To8F, Tail80To9F, Tail90ToBF, TailA0ToBF, A, E, L, R, S, U}
 use Rattle.jx_sentence.specs.declared.choice.Choices.{Choices}

@@ -3,7 +3,7 @@ use Rattle.std.proofs.Common.{◌≡◌, ℕ, Bool, List, true, false, inl, inr,
 use Rattle.std.specs.Prelude.{◌⊎◌, Option, None, Some, Result, Ok, IfSome, Vec, slice_get}
 use Rattle.std.specs.Global.{Global}
 use Rattle.jx_edit.specs.Positions.{offset_at}
-use Rattle.jx_edit.specs.declared.encoding.Encoding.{Encoding}
+use Rattle.jx_edit.specs.declared.positions.encoding.Encoding.{Encoding}
 use Rattle.jx_index.specs.Indexed.{IndexedValue}
 use Rattle.jx_index.specs.Leads.{leads}
 use Rattle.jx_index.specs.Pointers.{tokens}

@@ -2,8 +2,8 @@
 use Rattle.std.specs.Prelude.{ℕ, nat_le, if◌then◌else◌, List, Bool, true, false}
 use Rattle.jx_edit.specs.Document.{edited}
 use Rattle.jx_edit.specs.Positions.{offset_at}
-use Rattle.jx_edit.specs.declared.encoding.Encoding.{Encoding}
-use Rattle.jx_edit.specs.declared.position.Position.{Position}
+use Rattle.jx_edit.specs.declared.positions.encoding.Encoding.{Encoding}
+use Rattle.jx_edit.specs.declared.positions.position.Position.{Position}
 use Rattle.jx_run.specs.declared.texts.settings.Settings.{Settings}
 use Rattle.jx_wire.specs.declared.call.Change.{Change}
 use Rattle.jx_wire.specs.declared.call.Change.TheVariants.{Whole, Range, Unknown}

@@ -2,8 +2,8 @@
 use Rattle.std.specs.Prelude.{◌≡◌, ◌≤◌, ◌<◌, ◌+◌, ◌-◌, ℕ, List}
 use Rattle.std.specs.List.{AllZip}
 use Rattle.jx_edit.specs.Positions.{position_at}
-use Rattle.jx_edit.specs.declared.encoding.Encoding.{Encoding}
-use Rattle.jx_edit.specs.declared.position.Position.{Position}
+use Rattle.jx_edit.specs.declared.positions.encoding.Encoding.{Encoding}
+use Rattle.jx_edit.specs.declared.positions.position.Position.{Position}
 use Rattle.jx_ndjson.specs.Answers.{AreAnswers}
 use Rattle.jx_ndjson.specs.Tally.{bad_of}
 use Rattle.jx_ndjson.specs.declared.judged_line.JudgedLine.{JudgedLine}

@@ -1,7 +1,7 @@
 -- How a verdict is shown.
 use Rattle.std.specs.Prelude.{◌≡◌, ◌≤◌, ◌<◌, ◌+◌, ◌-◌, ℕ, List, Option, None, Some, length}
 use Rattle.jx_edit.specs.Positions.{position_at}
-use Rattle.jx_edit.specs.declared.encoding.Encoding.{Encoding}
+use Rattle.jx_edit.specs.declared.positions.encoding.Encoding.{Encoding}
 use Rattle.jx_run.specs.declared.texts.verdict.Refusal.{Refusal}
 use Rattle.jx_run.specs.declared.texts.verdict.Refusal.TheVariants.{Stopped, Truncated, TooDeep, RepeatedName}
 use Rattle.jx_run.specs.declared.texts.verdict.Verdict.{Verdict}

@@ -4,7 +4,7 @@ use Rattle.std.specs.Global.{Global}
 use Rattle.std.specs.List.{flat_map, AllZip}
 use Rattle.jx_complete.specs.Completed.{IsCompleted, IsCutInMark}
 use Rattle.jx_edit.specs.Positions.{offset_at, position_at}
-use Rattle.jx_edit.specs.declared.encoding.Encoding.{Encoding}
+use Rattle.jx_edit.specs.declared.positions.encoding.Encoding.{Encoding}
 use Rattle.jx_index.specs.Rows.{rows}
 use Rattle.jx_index.specs.declared.row.Row.{Row}
 use Rattle.jx_run.specs.Settings.{IsDocumentBy}

@@ -2,7 +2,7 @@
 use Rattle.std.specs.Prelude.{◌≡◌, ◌⊎◌, ℕ, List, Bool, Option, None, Some, false, true, fold, map, position, slice_get, slice_set, MatchOption, Vec}
 use Rattle.std.specs.Global.{Global}
 use Rattle.std.specs.Str.{bytes_eq}
-use Rattle.jx_edit.specs.declared.encoding.Encoding.{Encoding}
+use Rattle.jx_edit.specs.declared.positions.encoding.Encoding.{Encoding}
 use Rattle.jx_edit.specs.Positions.{offset_at}
 use Rattle.jx_index.specs.ByNames.{IsVerdictBy}
 use Rattle.jx_run.specs.declared.texts.settings.Settings.{Settings}

@@ -2,8 +2,8 @@
 -- Synchronization").
 use Rattle.std.specs.Prelude.{◌≡◌, ◌⊎◌, ℕ, ◌+◌, List, [], ◌∷◌, ◌++◌, Bool, true, false, Option, None, Some, IfSome, MatchOption, Vec, drop, is_none, nat_le, take, if◌then◌else◌}
 use Rattle.std.specs.Global.{Global}
-use Rattle.jx_edit.specs.declared.encoding.Encoding.{Encoding}
-use Rattle.jx_edit.specs.declared.encoding.Encoding.TheVariants.{Utf8, Utf16}
+use Rattle.jx_edit.specs.declared.positions.encoding.Encoding.{Encoding}
+use Rattle.jx_edit.specs.declared.positions.encoding.Encoding.TheVariants.{Utf8, Utf16}
 use Rattle.jx_index.specs.ByNames.{IsVerdictBy}
 use Rattle.jx_run.specs.declared.texts.settings.FrontMark.TheVariants as mark
 use Rattle.jx_run.specs.declared.texts.settings.NameRule.TheVariants as names

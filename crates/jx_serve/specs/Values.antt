@@ -2,7 +2,7 @@
 use Rattle.std.specs.Prelude.{◌≡◌, ℕ, ◌<◌, ◌≤◌, ◌&&◌, min, nat_le, nat_lt, List, Bool, true, false, Option, None, Some, Ok, IfSome, map, position, slice_get, take}
 use Rattle.jx_complete.specs.Completed.{IsCompleted, IsCutInMark}
 use Rattle.jx_edit.specs.Positions.{position_at}
-use Rattle.jx_edit.specs.declared.encoding.Encoding.{Encoding}
+use Rattle.jx_edit.specs.declared.positions.encoding.Encoding.{Encoding}
 use Rattle.jx_index.specs.ByNames.{IsVerdictBy}
 use Rattle.jx_index.specs.Leads.{leads}
 use Rattle.jx_index.specs.Pointers.{tokens}

@@ -3,7 +3,7 @@
 use Rattle.std.specs.Prelude.{◌≡◌, ℕ, List, [], ◌∷◌, ◌++◌, Bool, false, true, Option, None, Some, Vec, codes, decimal}
 use Rattle.std.specs.Global.{Global}
 use Rattle.std.specs.List.{concat, flat_map}
-use Rattle.jx_edit.specs.declared.position.Position.{Position}
+use Rattle.jx_edit.specs.declared.positions.position.Position.{Position}
 use Rattle.jx_ndjson.specs.declared.judged_line.LineVerdict.{LineVerdict}
 use Rattle.jx_ndjson.specs.declared.judged_line.LineVerdict.TheVariants as on_line
 use Rattle.jx_run.specs.declared.texts.verdict.Refusal.{Refusal}

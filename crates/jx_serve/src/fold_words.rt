@@ -1,6 +1,6 @@
 // Lines of a document that can be folded, in messages.
 use crate::symbols::{Outline, Symbol};
-use crate::value_words::add_all;
+use crate::value_words::{add_all, begin_list};
 use jx_lex::Kind;
 use std::alloc::{AllocError, Global};
 
@@ -50,10 +50,7 @@ pub(crate) fn add_folded(
     id: &[u8],
     outline: &Outline,
 ) -> Result<(), AllocError> {
-    add_all(
-        out,
-        &[b"{\"jsonrpc\":\"2.0\",\"id\":", id, b",\"result\":["],
-    )?;
+    begin_list(out, id)?;
     let mut told = None;
     for symbol in outline.symbols.iter() {
         let Some((first, last)) = lines_of(symbol) else {

@@ -1,6 +1,6 @@
 // A document that a client has open.
 ghost use Rattle.std.specs.Prelude.{◌≡◌, ◌≤◌, ◌<◌, length, not, false, true, None, IfOk, IfSome, OnErr, OnOk, fold, is_some};
-ghost use Rattle.jx_edit.specs.declared.encoding.Encoding.{Encoding};
+ghost use Rattle.jx_edit.specs.declared.positions.encoding.Encoding.{Encoding};
 ghost use Rattle.jx_index.specs.ByNames.{IsVerdictBy};
 ghost use Rattle.jx_serve.specs.Changes.{changed, held, lose, position, replaced};
 ghost use Rattle.jx_serve.specs.LineMarks.{AreLineMarks};
@@ -18,7 +18,7 @@ use crate::selections::{Selection, selections_of};
 use crate::symbols::{Outline, symbols_of};
 use crate::under_cursor::value_at;
 use jx_complete::{Completed, complete};
-use jx_edit::{Document, EditFault, Encoding, Position};
+use jx_edit::{Document, DocumentFault, Encoding, Position};
 use jx_index::{names_are_refused_by_rows, read_rows, verdict_with_unique_names};
 use jx_run::{NameRule, NoPause, Settings, Verdict};
 use jx_wire::{Change, Place};
@@ -156,13 +156,13 @@ impl Held {
     {
         match self.document.edit(start, end, text) {
             Ok(()) => Ok(()),
-            Err(EditFault::OutOfBounds) => {
-                self.lost = true;
-                Ok(())
-            }
-            Err(EditFault::Memory) => {
+            Err(DocumentFault::Memory) => {
                 self.lost = true;
                 Err(AllocError)
+            }
+            Err(DocumentFault::OutOfBounds | DocumentFault::UniqueNames) => {
+                self.lost = true;
+                Ok(())
             }
         }
     }

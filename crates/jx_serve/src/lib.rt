@@ -27,7 +27,7 @@ pub use hover::Hover;
 pub use line_mark::LineMark;
 pub use mark::{Mark, mark_of};
 pub use reply::{Code, Reply, Trouble};
-pub use reply_words::{ReplyFault, message_of};
+pub use reply_words::message_of;
 pub use selections::{Extent, Selection};
 pub use server::{Phase, Server};
 pub use sorted_out::{answer_to, broken_stream};

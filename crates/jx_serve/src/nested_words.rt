@@ -1,6 +1,6 @@
 // Values of a document in each other, in messages.
 use crate::symbols::{Outline, Symbol};
-use crate::value_words::{add_all, add_ends, add_name, add_range, symbol_kind};
+use crate::value_words::{add_ends, add_named, add_range, begin_list};
 use std::alloc::{AllocError, Global};
 
 /// How many values are shown in each other at most. A message has two containers for each.
@@ -38,11 +38,7 @@ fn begin_symbol(
         Some(byte) if *byte == b'}' => out.extend_from_slice(b",")?,
         _ => {}
     }
-    out.extend_from_slice(b"{\"name\":")?;
-    add_name(alloc, out, text, &symbol.row)?;
-    out.extend_from_slice(b",\"kind\":")?;
-    out.extend_from_slice(symbol_kind(symbol.row.kind))?;
-    out.extend_from_slice(b",")?;
+    add_named(alloc, out, text, &symbol.row)?;
     add_range(alloc, out, symbol.start, symbol.end)?;
     out.extend_from_slice(b",\"selectionRange\":")?;
     add_ends(alloc, out, symbol.start, symbol.end)?;
@@ -56,10 +52,7 @@ pub(crate) fn add_nested(
     id: &[u8],
     outline: &Outline,
 ) -> Result<(), AllocError> {
-    add_all(
-        out,
-        &[b"{\"jsonrpc\":\"2.0\",\"id\":", id, b",\"result\":["],
-    )?;
+    begin_list(out, id)?;
     let mut open = Vec::new(alloc);
     for (number, symbol) in outline.symbols.iter().enumerate() {
         let Some(count) = around(&open, symbol) else {

@@ -1,5 +1,5 @@
 // Replies as messages.
-ghost use Rattle.std.specs.Prelude.{◌≡◌, ◌++◌, [], IfOk, OnOk, string_bytes};
+ghost use Rattle.std.specs.Prelude.{◌≡◌, ◌++◌, [], IfOk, IfSome, OnOk, string_bytes};
 ghost use Rattle.jx_index.specs.ByNames.{IsVerdictBy};
 ghost use Rattle.jx_run.specs.declared.texts.verdict.Verdict.TheVariants.{Accepted};
 ghost use Rattle.jx_serve.specs.Messages.{message_settings};
@@ -17,24 +17,6 @@ use jx_index::verdict_with_unique_names;
 use jx_lex::Depth;
 use jx_run::{FrontMark, NameRule, NoPause, Refusal, Settings, Verdict};
 use std::alloc::{AllocError, Global};
-use thiserror::Error;
-
-/// Why a reply was not told.
-#[derive(Clone, Copy, Debug, Error, PartialEq, Eq)]
-pub enum ReplyFault {
-    /// What would be written is no JSON text. It is not written.
-    #[error("a reply is no JSON text")]
-    NoText,
-    /// A growth of memory was refused.
-    #[error("out of memory")]
-    Memory,
-}
-
-impl From<AllocError> for ReplyFault {
-    fn from(_: AllocError) -> ReplyFault {
-        ReplyFault::Memory
-    }
-}
 
 /// The version of the program.
 pub const VERSION: &str = "0.3.0";
@@ -323,16 +305,16 @@ fn verdict_on(alloc: Global, text: &[u8]) -> Result<Verdict, AllocError>
     verdict_with_unique_names(alloc, text, &message_settings(), &mut NoPause)
 }
 
-/// The message that tells a reply: a JSON text (RFC 8259) that repeats no name. It is read before it is handed out, and what is no
-/// such text is not.
-pub fn message_of(alloc: Global, reply: &Reply) -> Result<Vec<u8>, ReplyFault>
-    ensures text { IfOk result (λ message. IsVerdictBy message_settings message.items Accepted) }
-    ensures spelt { IfOk result (λ message. IsMessageOf reply.now message.items) }
+/// The message that tells a reply: a JSON text (RFC 8259) that repeats no name. It is read before it is handed out; none where it is
+/// no such text. `Err` where memory is refused.
+pub fn message_of(alloc: Global, reply: &Reply) -> Result<Option<Vec<u8>>, AllocError>
+    ensures text { IfOk result (λ told. IfSome told (λ message. IsVerdictBy message_settings message.items Accepted)) }
+    ensures spelt { IfOk result (λ told. IfSome told (λ message. IsMessageOf reply.now message.items)) }
 {
     let mut message = Vec::new(alloc);
     add_reply(alloc, &mut message, reply)?;
     match verdict_on(alloc, &message)? {
-        Verdict::Accepted => Ok(message),
-        Verdict::Refused(_) => Err(ReplyFault::NoText),
+        Verdict::Accepted => Ok(Some(message)),
+        Verdict::Refused(_) => Ok(None),
     }
 }

@@ -1,6 +1,6 @@
 // What stands around places of a document, in messages.
 use crate::selections::{Extent, Selection};
-use crate::value_words::{add_all, add_range};
+use crate::value_words::{add_range, begin_list};
 use jx_edit::Position;
 use std::alloc::{AllocError, Global};
 
@@ -62,10 +62,7 @@ pub(crate) fn add_selected(
     id: &[u8],
     selections: &[Selection],
 ) -> Result<(), AllocError> {
-    add_all(
-        out,
-        &[b"{\"jsonrpc\":\"2.0\",\"id\":", id, b",\"result\":["],
-    )?;
+    begin_list(out, id)?;
     for (number, selection) in selections.iter().enumerate() {
         if 0 < number {
             out.extend_from_slice(b",")?;

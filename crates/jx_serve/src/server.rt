@@ -1,6 +1,6 @@
 ghost use Rattle.std.specs.Prelude.{◌≡◌, ◌<◌, ◌++◌, ◌∷◌, [], ℕ, Option, Some, None, IfSome, OnOk, OnErr, Vec, false, length, map, slice_get};
 ghost use Rattle.std.specs.Global.{Global};
-ghost use Rattle.jx_edit.specs.declared.encoding.Encoding.{Encoding};
+ghost use Rattle.jx_edit.specs.declared.positions.encoding.Encoding.{Encoding};
 ghost use Rattle.jx_index.specs.ByNames.{IsVerdictBy};
 ghost use Rattle.jx_serve.specs.Served.{all_lost, AreMade, AreAround, AreAroundIn, AreFolds, AreFoldsIn, AreMadeAt, AreSymbols, HasVersion, IsHover, IsHoverIn, IsOutlineIn, lost_open, number_named, IsAnswer, IsQuiet, OpenValue, TellsOf, TellsVerdict};
 ghost use Rattle.jx_serve.specs.Steps.{sent, settings_asked, start, with_documents, without, AnswersIn, AnswersNew, FollowsIn, IsChanged, IsClosed, IsOpened, IsToldOf, Leaves, Steps};

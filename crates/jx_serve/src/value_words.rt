@@ -127,7 +127,7 @@ pub(crate) fn add_hovered(
 }
 
 /// The number of a kind (Language Server Protocol 3.17, "SymbolKind").
-pub(crate) fn symbol_kind(kind: Kind) -> &'static [u8] {
+fn symbol_kind(kind: Kind) -> &'static [u8] {
     match kind {
         Kind::String => b"15",
         Kind::Number => b"16",
@@ -139,12 +139,7 @@ pub(crate) fn symbol_kind(kind: Kind) -> &'static [u8] {
 }
 
 /// Adds the name of a value as a string: that of a member as the text spells it, or the place in an array.
-pub(crate) fn add_name(
-    alloc: Global,
-    out: &mut Vec<u8>,
-    text: &[u8],
-    row: &Row,
-) -> Result<(), AllocError> {
+fn add_name(alloc: Global, out: &mut Vec<u8>, text: &[u8], row: &Row) -> Result<(), AllocError> {
     if let Some(span) = row.name {
         return match text.get(span.start..span.end).unwrap_or(&[]) {
             // Editors refuse an empty name.
@@ -160,6 +155,18 @@ pub(crate) fn add_name(
     out.extend_from_slice(place.as_bytes())
 }
 
+/// Begins a symbol: the name of a value and its kind, and the comma behind them.
+pub(crate) fn add_named(
+    alloc: Global,
+    out: &mut Vec<u8>,
+    text: &[u8],
+    row: &Row,
+) -> Result<(), AllocError> {
+    out.extend_from_slice(b"{\"name\":")?;
+    add_name(alloc, out, text, row)?;
+    add_all(out, &[b",\"kind\":", symbol_kind(row.kind), b","])
+}
+
 /// Adds a value as a `SymbolInformation`.
 fn add_symbol(
     alloc: Global,
@@ -168,15 +175,18 @@ fn add_symbol(
     text: &[u8],
     symbol: &Symbol,
 ) -> Result<(), AllocError> {
-    out.extend_from_slice(b"{\"name\":")?;
-    add_name(alloc, out, text, &symbol.row)?;
-    out.extend_from_slice(b",\"kind\":")?;
-    out.extend_from_slice(symbol_kind(symbol.row.kind))?;
-    out.extend_from_slice(b",\"location\":{\"uri\":")?;
-    out.extend_from_slice(uri)?;
-    out.extend_from_slice(b",")?;
+    add_named(alloc, out, text, &symbol.row)?;
+    add_all(out, &[b"\"location\":{\"uri\":", uri, b","])?;
     add_range(alloc, out, symbol.start, symbol.end)?;
     out.extend_from_slice(b"}}")
+}
+
+/// Begins the answer to a request that is a list.
+pub(crate) fn begin_list(out: &mut Vec<u8>, id: &[u8]) -> Result<(), AllocError> {
+    add_all(
+        out,
+        &[b"{\"jsonrpc\":\"2.0\",\"id\":", id, b",\"result\":["],
+    )
 }
 
 /// Adds the answer that lists values.
@@ -187,10 +197,7 @@ pub(crate) fn add_outlined(
     uri: &[u8],
     outline: &Outline,
 ) -> Result<(), AllocError> {
-    add_all(
-        out,
-        &[b"{\"jsonrpc\":\"2.0\",\"id\":", id, b",\"result\":["],
-    )?;
+    begin_list(out, id)?;
     for (number, symbol) in outline.symbols.iter().enumerate() {
         if 0 < number {
             out.extend_from_slice(b",")?;

@@ -1,5 +1,5 @@
 -- How far the parts of a container in a text were found, by the index of the text.
-use Rattle.std.specs.Prelude.{◌≡◌, ◌==◌, ℕ, ◌-◌, ◌*◌, List, take, Option, None, Some, Bool, false, if◌then◌else◌}
+use Rattle.std.specs.Prelude.{◌≡◌, ◌==◌, ℕ, ◌-◌, ◌*◌, List, take, Option, None, Some, Bool, false, true, if◌then◌else◌}
 use Rattle.jx_summary.specs.declared.span.Span.{Span}
 use Rattle.jx_run.specs.declared.texts.settings.Settings.{Settings}
 use Rattle.jx_run.specs.Telling.{tokens_by}
@@ -33,6 +33,10 @@ needed s = if is_going s.held then chunk_at s.index.now s.at else None
 -- how many bytes of the text stand from there on
 abbrev pub left : Split → ℕ
 left s = s.index.now.size - s.at * s.index.now.chunk
+
+-- the closing bracket was not seen, and it may still go on
+abbrev pub IsUnclosed : Split → Type 0
+IsUnclosed s = is_going s.held ≡ true
 
 -- memory was refused, or the index was found to be of no text, and no bytes will be taken
 abbrev pub IsLost : Split → Type 0

@@ -1,15 +1,16 @@
 // The parts of a container in a text of which an index is saved.
-ghost use Rattle.std.specs.Prelude.{◌≡◌, ◌≢◌, ◌≤◌, ◌<◌, None, Some, ℕ, List, slice_range, IfOk, IfErr, IfSome, IsErr, OnErr};
+ghost use Rattle.std.specs.Prelude.{◌≡◌, ◌≢◌, ◌≤◌, ◌<◌, ◌/◌, None, Some, Ok, Err, ℕ, List, slice_range, IfOk, IfErr, IfSome, IsErr, OnErr};
 ghost use Rattle.jx_summary.specs.declared.span.Span.{Span};
 ghost use Rattle.jx_run.specs.declared.texts.settings.Settings.{Settings};
 ghost use Rattle.jx_run.specs.Laws.{span_of};
 ghost use Rattle.jx_run.specs.Tree.{Tree};
 ghost use Rattle.jx_saved.specs.Index.{IsIndexOf};
 ghost use Rattle.jx_walk.specs.declared.walk.WalkFault.TheVariants.{Changed, Damaged};
+ghost use Rattle.jx_walk.specs.Chunks.{chunk_at};
 ghost use Rattle.jx_walk.specs.Walk.{IsToldApart};
 ghost use Rattle.jx_split.specs.Parts.{IsIn, parts_of};
 ghost use Rattle.jx_split.specs.Paused.{HasPaused, needed_by, paused_of};
-ghost use Rattle.jx_split.specs.Split.{HasCome, IsLost, is_going, left, needed};
+ghost use Rattle.jx_split.specs.Split.{HasCome, IsLost, IsUnclosed, is_going, left, needed};
 
 use crate::cutting::{Aim, Parting};
 use crate::part::ContainerPart;
@@ -62,6 +63,8 @@ impl<'a> Split<'a> {
         ensures index { result.index.now ≡ index.now }
         ensures aim { result.aim ≡ aim }
         ensures come { (settings : Settings) (chunk : ℕ) (text : List ℕ) → IsIndexOf settings chunk text index.now → HasCome settings chunk text result }
+        // Whatever the index, the first chunk that is needed is the one in which the container begins.
+        ensures first { needed result ≡ chunk_at index.now (aim.whole.start / index.now.chunk) }
     {
         reader_is_grammar();
         verdict_by_settings_is_one();
@@ -133,6 +136,9 @@ impl<'a> Split<'a> {
             → IsIn settings text container → span_of container ≡ self.entry.aim.whole → parts.items ≡ parts_of self.entry.aim.parts text container)) }
         ensures damaged { IfOk result (λ told. IfErr told (λ fault. (settings : Settings) (chunk : ℕ) (text : List ℕ) (container : Tree) → HasCome settings chunk text self.entry
             → IsIn settings text container → span_of container ≡ self.entry.aim.whole → ⊥)) }
+        // Damage is told just where the closing bracket was not seen.
+        ensures unclosed { IsUnclosed self.entry → result ≡ Ok (Err Damaged) }
+        ensures only { IfOk result (λ told. IfErr told (λ _. IsUnclosed self.entry)) }
         ensures lost { IsLost self.entry → IsErr result }
     {
         accepted_texts_stand_behind_fronts();

@@ -7,9 +7,9 @@ use Rattle.std.proofs.lemmas.List.Sums.{fold-append}
 use Rattle.jx_lex.specs.declared.alphabet.mark.Mark.{Mark}
 use Rattle.jx_lex.specs.declared.alphabet.mark.MarkKind.{MarkKind}
 use Rattle.jx_lex.specs.TokenStates.{in_token}
-use Rattle.jx_reduce.specs.declared.expect.Expect.{Expect}
-use Rattle.jx_reduce.specs.declared.expect.Expect.TheVariants.{Value, ArrayFirst, ObjectFirst, Name, Colon, After}
-use Rattle.jx_reduce.specs.declared.holder.Holder.{Holder}
+use Rattle.jx_reduce.specs.declared.table.expect.Expect.{Expect}
+use Rattle.jx_reduce.specs.declared.table.expect.Expect.TheVariants.{Value, ArrayFirst, ObjectFirst, Name, Colon, After}
+use Rattle.jx_reduce.specs.declared.table.holder.Holder.{Holder}
 use Rattle.jx_reduce.specs.Read.{Reading, read, step}
 use Rattle.jx_run.specs.declared.texts.settings.FrontMark.{FrontMark}
 use Rattle.jx_run.specs.declared.texts.settings.Settings.{Settings}

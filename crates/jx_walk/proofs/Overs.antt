@@ -12,9 +12,9 @@ use Rattle.jx_lex.specs.Lex.{lex, Track}
 use Rattle.jx_lex.specs.TokenStates.{in_token}
 use Rattle.jx_summary.specs.declared.span.Span.{Span}
 use Rattle.jx_run.specs.Tree.{span}
-use Rattle.jx_reduce.specs.declared.expect.Expect.{Expect}
-use Rattle.jx_reduce.specs.declared.expect.Expect.TheVariants.{Value, After}
-use Rattle.jx_reduce.specs.declared.holder.Holder.{Holder}
+use Rattle.jx_reduce.specs.declared.table.expect.Expect.{Expect}
+use Rattle.jx_reduce.specs.declared.table.expect.Expect.TheVariants.{Value, After}
+use Rattle.jx_reduce.specs.declared.table.holder.Holder.{Holder}
 use Rattle.jx_reduce.specs.Read.{went, read}
 use Rattle.jx_index.specs.declared.finder.Cursor.{Cursor}
 use Rattle.jx_index.specs.declared.finder.State.{State}

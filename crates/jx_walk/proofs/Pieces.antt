@@ -3,7 +3,7 @@ use Rattle.std.proofs.Common.{◌≡◌, ℕ, suc, ◌*◌, List, ◌++◌, leng
 use Rattle.std.specs.Prelude.{IfSome, slice_get}
 use Rattle.jx_lex.specs.declared.alphabet.state.LexState.{LexState}
 use Rattle.jx_lex.specs.Lex.{lex, LexExit}
-use Rattle.jx_reduce.specs.declared.expect.Expect.{Expect}
+use Rattle.jx_reduce.specs.declared.table.expect.Expect.{Expect}
 use Rattle.jx_reduce.specs.Read.{Reading, read}
 use Rattle.jx_summary.specs.declared.span.Span.{Span}
 use Rattle.jx_run.specs.declared.texts.settings.FrontMark.{FrontMark}

@@ -1,7 +1,7 @@
 -- What a seeker holds of the open containers, beside all of them.
 use Rattle.std.specs.Prelude.{◌≡◌, ℕ, suc, List, [], ◌∷◌, Bool, true, false}
-use Rattle.jx_reduce.specs.declared.holder.Holder.{Holder}
-use Rattle.jx_reduce.specs.declared.holder.Holder.TheVariants.{Array, Object}
+use Rattle.jx_reduce.specs.declared.table.holder.Holder.{Holder}
+use Rattle.jx_reduce.specs.declared.table.holder.Holder.TheVariants.{Array, Object}
 use Rattle.jx_index.specs.declared.finder.Cursor.{Cursor}
 
 abbrev pub holder_of : Bool → Holder

@@ -1,5 +1,5 @@
 -- What a walk through the chunks of a text needs, and what it was given.
-use Rattle.std.specs.Prelude.{◌≡◌, ℕ, ◌-◌, ◌*◌, All, List, slice_range, Option, None, Some}
+use Rattle.std.specs.Prelude.{◌≡◌, ℕ, ◌+◌, ◌-◌, ◌*◌, All, List, length, slice_range, Option, None, Some}
 use Rattle.jx_summary.specs.declared.span.Span.{Span}
 use Rattle.jx_run.specs.declared.texts.settings.Settings.{Settings}
 use Rattle.jx_index.specs.inside.Trie.{HasWay, IsTrie}
@@ -46,6 +46,15 @@ pub record HasCome (settings : Settings) (chunk : ℕ) (text : List ℕ) (pointe
   pub kept : Sought
   pub kept_is : w.held ≡ Some kept
   pub held : IsHeldAt settings chunk text w.edges.items w.at kept
+
+-- what it holds of the bytes before what it needs, if it holds anything
+abbrev pub held_by : Walk → Option Sought
+held_by w = w.held
+
+-- how many containers stand open by what is held: those on the way of a pointer, and those that are skipped
+abbrev pub open_in : Option Sought → ℕ
+open_in None = 0
+open_in (Some h) = length h.state.opened.items + h.state.skipped
 
 -- memory was refused, or the index was found to be of no text, and no bytes will be taken
 abbrev pub IsLost : Walk → Type 0

@@ -1,6 +1,6 @@
 // What is held behind a chunk that need not be read.
 ghost use Rattle.std.specs.Prelude.{◌≡◌, ◌<◌, ◌≤◌, None, reverse, is_some, true, false, IfSome};
-ghost use Rattle.jx_reduce.specs.declared.expect.Expect.TheVariants.{After};
+ghost use Rattle.jx_reduce.specs.declared.table.expect.Expect.TheVariants.{After};
 ghost use Rattle.jx_lex.specs.declared.alphabet.mark.MarkKind.{MarkKind};
 ghost use Rattle.jx_lex.specs.TokenStates.{in_token};
 ghost use Rattle.jx_index.specs.inside.Found.{finding};

@@ -1,5 +1,5 @@
 // The look-up of several pointers (RFC 6901, section 4) in a text of which an index is saved.
-ghost use Rattle.std.specs.Prelude.{◌≡◌, ◌≢◌, ◌≤◌, ◌<◌, None, Some, ℕ, List, false, length, slice_range, IfOk, IfErr, IfSome, IsErr, OnErr};
+ghost use Rattle.std.specs.Prelude.{◌≡◌, ◌≢◌, ◌≤◌, ◌<◌, None, Some, Err, ℕ, List, false, true, slice_range, IfOk, IfErr, IfSome, IsErr, OnErr};
 ghost use Rattle.jx_summary.specs.declared.span.Span.{Span};
 ghost use Rattle.jx_run.specs.declared.texts.settings.Settings.{Settings};
 ghost use Rattle.jx_index.specs.Found.{AreFoundIn};
@@ -7,7 +7,7 @@ ghost use Rattle.jx_saved.specs.Index.{IsIndexOf};
 ghost use Rattle.jx_name_tables.specs.Tables.{AreTablesOf};
 ghost use Rattle.jx_walk.specs.declared.walk.WalkFault.TheVariants.{Changed, Damaged};
 ghost use Rattle.jx_walk.specs.Paused.{HasPaused, needed_by, paused_of};
-ghost use Rattle.jx_walk.specs.Walk.{HasCome, IsLost, IsToldApart, left, needed};
+ghost use Rattle.jx_walk.specs.Walk.{HasCome, IsLost, IsToldApart, held_by, left, needed, open_in};
 
 use crate::chunks::{chunk_at, is_kept};
 use crate::laws::parts_are_passed;
@@ -63,7 +63,8 @@ pub struct PausedWalk<'p> {
 
 /// Whether no container stands open.
 fn is_whole(held: &Sought) -> bool
-    ensures { result ≡ false → held.now.state.skipped ≡ 0 → length held.now.state.opened.items ≡ 0 → ⊥ }
+    ensures whole { result ≡ true → open_in (Some held.now) ≡ 0 }
+    ensures other { result ≡ false → 0 < open_in (Some held.now) }
 {
     held.state.skipped == 0 && held.state.opened.is_empty()
 }
@@ -193,6 +194,9 @@ impl<'a, 'p> Walk<'a, 'p> {
         ensures found { IfOk result (λ told. IfOk told (λ found. (settings : Settings) (chunk : ℕ) (text : List ℕ) (pointers : List (List ℕ)) → HasCome settings chunk text pointers self.entry
             → AreFoundIn settings text pointers found.items)) }
         ensures damaged { IfOk result (λ told. IfErr told (λ fault. (settings : Settings) (chunk : ℕ) (text : List ℕ) (pointers : List (List ℕ)) → HasCome settings chunk text pointers self.entry → ⊥)) }
+        // Damage is told just where containers stand open.
+        ensures unclosed { IfOk result (λ told. 0 < open_in (held_by self.entry) → told ≡ Err Damaged) }
+        ensures only { IfOk result (λ told. IfErr told (λ _. 0 < open_in (held_by self.entry))) }
         ensures lost { IsLost self.entry → IsErr result }
     {
         reader_is_grammar();

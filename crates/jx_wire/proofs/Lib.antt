@@ -7,3 +7,4 @@ pub mod PlainPointers
 pub mod Strings
 pub mod Requests
 pub mod Messages
+pub mod Nodes

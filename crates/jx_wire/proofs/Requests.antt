@@ -1,20 +1,15 @@
 -- What look-ups say of a request.
-use Rattle.std.proofs.Common.{◌≡◌, ◌≢◌, ℕ, ◌+◌, ◌<◌, List, [], ◌∷◌, ◌++◌, true, false, Option, None, Some, Result, Err, refl, sym, ap, ◌∙◌, arith, codes}
-use Rattle.std.specs.Prelude.{is_some}
+use Rattle.std.proofs.Common.{◌≡◌, ◌≢◌, ℕ, ◌+◌, ◌<◌, List, [], ◌∷◌, ◌++◌, Option, None, Some, Result, Err, refl, sym, ◌∙◌, arith, codes}
 use Rattle.std.specs.Result.{IsErrAnd}
 use Rattle.std.proofs.lemmas.Result.{err_from_is_err_and}
 use Rattle.jx_lex.specs.declared.kind.Kind.{Kind}
 use Rattle.jx_lex.specs.declared.kind.Kind.TheVariants as kind
-use Rattle.jx_run.specs.Tree.{Tree}
 use Rattle.jx_wire.specs.Requests.{change_pointer, position_pointer, AreFrom, ArePlacesFrom, IsDepth, IsBetween, IsChange, IsPlace, of_all, of_range, IsRange, IsWhole}
-use Rattle.jx_wire.specs.Values.{number_by, number_spelt_by, text_by, seen, value_at, ValueIn, Values}
+use Rattle.jx_wire.specs.Values.{number_by, number_spelt_by, text_by, Values}
 use Rattle.jx_wire.specs.declared.call.Change.{Change}
 use Rattle.jx_wire.specs.declared.call.Change.TheVariants.{Whole, Range, Unknown}
 use Rattle.jx_wire.specs.declared.call.Place.{Place}
-use Rattle.jx_wire.specs.declared.message.Value.{Value}
 use Rattle.jx_wire.specs.inside.Changes.{ranged}
-use Rattle.jx_wire.specs.inside.Spelt.{has_no_tilde, is_plain}
-use Rattle.jx_wire.proofs.PlainPointers.{longer}
 
 -- ---- faults and options
 
@@ -28,22 +23,6 @@ wrong_was r x w told e =
 
 pub none_is_no : {A : Type 0} (o : Option A) (x : A) → o ≡ None → o ≡ Some x → ⊥
 none_is_no o x e f = absurd cc
-
-pub none_is : {A : Type 0} (o : Option A) → is_some o ≡ false → o ≡ None
-none_is None e = refl
-none_is (Some x) e = absurd cc
-
-pub seen_some : (o : Option Value) → is_some o ≡ true → seen o ≢ None
-seen_some None e f = absurd cc
-seen_some (Some x) e f = absurd cc
-
--- ---- pointers
-
--- what a pointer leads to that is spelt as another with more behind it
-pub told_at : {A : Type 0} (f : Option ValueIn → A) (body : List ℕ) (tree : Tree) (q p more : List ℕ) (r : A) → q ≡ p ++ more → (is_plain q ≡ true → f (value_at body tree q) ≡ r)
-    → is_plain p ≡ true → p ≢ [] → has_no_tilde more ≡ true → f (value_at body tree (p ++ more)) ≡ r
-told_at f body tree q p more r same told plain some rest =
-    sym (ap (λ (l : List ℕ). f (value_at body tree l)) same) ∙ told (ap is_plain same ∙ longer p more plain some rest)
 
 -- ---- values
 

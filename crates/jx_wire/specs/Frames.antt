@@ -1,6 +1,6 @@
 -- Frames: a header, and a body of as many bytes as the header says. A header is a list of fields, each ended by CR LF, and an
 -- empty line. The field that gives the length of the body is named Content-Length, in capital letters or not.
-use Rattle.std.specs.Prelude.{ℕ, ◌-◌, ◌==◌, ◌&&◌, ◌||◌, nat_lt, not, if◌then◌else◌, List, [], ◌∷◌, ◌++◌, length, map, take, drop, slice_index, codes, decimal, Option, Some, None, Result, Ok, Err, Bool, position, unwrap_or, Vec}
+use Rattle.std.specs.Prelude.{ℕ, ◌-◌, ◌==◌, ◌||◌, nat_lt, not, if◌then◌else◌, List, [], ◌∷◌, ◌++◌, length, map, take, drop, slice_index, codes, decimal, Option, Some, None, Result, Ok, Err, Bool, position, unwrap_or, Vec}
 use Rattle.std.specs.Char.{to_ascii_lowercase}
 use Rattle.std.specs.List.{list_all, list_any, flat_map}
 use Rattle.std.specs.Str.{bytes_eq}

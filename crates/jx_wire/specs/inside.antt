@@ -1,5 +1,5 @@
 pub mod Changes
 pub mod Escapes
+pub mod Nodes
 pub mod Parts
-pub mod Positions
 pub mod Spelt

@@ -2,10 +2,12 @@
 ghost use Rattle.std.specs.Prelude.{◌≡◌, IfOk, codes};
 ghost use Rattle.jx_wire.specs.Requests.{content_by, ends_in, has_lines, is_of_lines, items_in, text_in, HasContent};
 ghost use Rattle.jx_wire.specs.Values.{text_by, Says};
+ghost use Rattle.jx_wire.specs.inside.Nodes.{IsAt};
 ghost use Rattle.jx_wire.specs.inside.Spelt.{IsSpelt};
 
 use crate::call::{Content, Uri};
 use crate::message::{Message, Value};
+use jx_index::NodeId;
 use jx_string::StringFault;
 use std::alloc::{AllocError, Global};
 
@@ -30,10 +32,15 @@ fn text_of(alloc: Global, value: &Value) -> Result<Option<Vec<u8>>, AllocError>
 }
 
 /// The language of the document that a message opens. One that is missing, or no string, is as none.
-fn language_in(alloc: Global, message: &Message) -> Result<Option<Vec<u8>>, AllocError>
+fn language_in(
+    alloc: Global,
+    message: &Message,
+    document: &Option<NodeId>,
+) -> Result<Option<Vec<u8>>, AllocError>
+    requires { IsAt message.now (codes "/params/textDocument") document.now }
     ensures { IfOk result (λ language. Says message.now (λ at. text_in (at (codes "/params/textDocument/languageId")) ≡ items_in language)) }
 {
-    match message.plain_at("/params/textDocument/languageId") {
+    match message.value_in(document, "languageId") {
         None => Ok(None),
         Some(value) => {
             let language = text_of(alloc, &value)?;
@@ -73,9 +80,15 @@ fn content_by(language: &Option<Vec<u8>>, name: &[u8]) -> Content
 }
 
 /// What the document that a message opens is to be.
-pub(crate) fn content_of(alloc: Global, message: &Message, uri: &Uri) -> Result<Content, AllocError>
+pub(crate) fn content_of(
+    alloc: Global,
+    message: &Message,
+    document: &Option<NodeId>,
+    uri: &Uri,
+) -> Result<Content, AllocError>
+    requires { IsAt message.now (codes "/params/textDocument") document.now }
     ensures { IfOk result (λ content. Says message.now (λ at. HasContent at uri.now content)) }
 {
-    let language = language_in(alloc, message)?;
+    let language = language_in(alloc, message, document)?;
     Ok(content_by(&language, &uri.name))
 }

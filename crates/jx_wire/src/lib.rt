@@ -7,6 +7,7 @@ mod field;
 mod frame_fault;
 mod frame_reader;
 mod laws;
+mod members;
 mod message;
 mod method;
 mod number;

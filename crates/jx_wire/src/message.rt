@@ -1,18 +1,22 @@
-ghost use Rattle.std.specs.Prelude.{◌≡◌, ◌≢◌, ◌≤◌, ◌<◌, [], ℕ, Option, None, Some, IfOk, IfErr, IfSome, IsErrOf, length, slice_get, slice_range, true, false};
+ghost use Rattle.std.specs.Prelude.{◌≡◌, ◌≢◌, ◌<◌, ◌∷◌, ◌++◌, ◌^◌, [], ℕ, List, None, Some, IfOk, IfErr, IfSome, IsErrOf, decimal, is_some, length, slice_get, true, false};
 ghost use Rattle.jx_index.specs.ByNames.{IsVerdictBy};
 ghost use Rattle.jx_index.specs.Pointers.{IsPointer};
-ghost use Rattle.jx_index.specs.Rows.{rows};
+ghost use Rattle.jx_lex.specs.declared.kind.Kind.TheVariants as kinds;
 ghost use Rattle.jx_lex.specs.declared.kind.Kind.TheVariants.{String};
-ghost use Rattle.jx_run.specs.Text.{IsText};
-ghost use Rattle.jx_run.specs.Tree.{Tree};
 ghost use Rattle.jx_run.specs.declared.texts.verdict.Verdict.TheVariants.{Accepted, Refused};
 ghost use Rattle.jx_string.specs.declared.string_fault.StringFault.TheVariants.{LoneSurrogate, NoString};
 ghost use Rattle.jx_wire.specs.Messages.{wire_settings};
 ghost use Rattle.jx_wire.specs.Values.{number_by, seen, text_by, Says};
-ghost use Rattle.jx_wire.specs.inside.Spelt.{is_plain, IsSpelt};
+ghost use Rattle.jx_wire.specs.Requests.{IsOfKind};
+ghost use Rattle.jx_wire.specs.inside.Nodes.{is_word, IsAt};
+ghost use Rattle.jx_wire.specs.inside.Spelt.{IsSpelt};
 
+use crate::members::{bytes_at, kind_of, member_of, row_of};
 use crate::number::number_of;
-use jx_index::{Indexed, NodeId, Pointer, TextAnswer, look_ups_end_at_rows, readings_are_forms};
+use jx_index::{
+    Children, Indexed, NodeId, Pointer, TextAnswer, look_ups_end_at_rows, readings_are_forms,
+    unique_names_are_met_once,
+};
 use jx_lex::{Depth, Kind};
 use jx_run::{FrontMark, NameRule, Refusal, Settings};
 use jx_string::{StringFault, unescaped};
@@ -53,24 +57,6 @@ fn wire_settings() -> Settings
     }
 }
 
-/// The value at a node.
-fn value_of<'a>(index: &Indexed<'a>, node: NodeId) -> Value<'a>
-    requires { node < length index.now.rows }
-    ensures kind { IfSome (slice_get index.now.rows node) (λ row. result.kind ≡ row.kind) }
-    ensures bytes { IfSome (slice_get index.now.rows node) (λ row. row.span.start ≤ row.span.end → row.span.end ≤ length index.now.text
-        → result.bytes.now ≡ slice_range index.now.text row.span.start row.span.end) }
-    ensures past { IfSome (slice_get index.now.rows node) (λ row. length index.now.text < row.span.end → result.bytes.now ≡ []) }
-    ensures tree { (limit : ℕ) (tree : Tree) → IsText index.now.text index.now.span.start index.now.span.end limit tree
-        → slice_get (rows tree) node ≡ slice_get index.now.rows node }
-{
-    let row = index.row(node);
-    let text = index.text();
-    Value {
-        kind: row.kind,
-        bytes: text.get(row.span.start..row.span.end).unwrap_or(&[]),
-    }
-}
-
 impl<'a> Message<'a> {
     /// Reads the body of a frame as a JSON text (RFC 8259) within a depth of 64, whose objects repeat no name. `Err` where
     /// memory is refused.
@@ -90,22 +76,74 @@ impl<'a> Message<'a> {
         ensures at { IsPointer pointer.now → Says self.now (λ at. at pointer.now ≡ seen result) }
         ensures spelt { IfSome result IsSpelt }
     {
-        look_ups_end_at_rows();
         let Ok(pointer) = Pointer::read(pointer) else {
             return None;
         };
-        match self.index.find(&pointer) {
-            Ok(node) => Some(value_of(&self.index, node)),
-            Err(_) => None,
-        }
+        let node = self.index.find(&pointer).ok();
+        self.value(&node)
     }
 
-    /// The same by a pointer that has no escape.
-    pub(crate) fn plain_at(&self, pointer: &str) -> Option<Value<'a>>
-        ensures at { is_plain pointer.now ≡ true → Says self.now (λ at. at pointer.now ≡ seen result) }
+    /// Where the value of the whole message stands.
+    pub(crate) fn root(&self) -> Option<NodeId>
+        ensures { IsAt self.now [] result }
+    {
+        Some(self.index.root())
+    }
+
+    /// The value at a node, if there is one.
+    pub(crate) fn value(&self, node: &Option<NodeId>) -> Option<Value<'a>>
+        ensures at { (pointer : List ℕ) → IsAt self.now pointer node.now → Says self.now (λ at. at pointer ≡ seen result) }
         ensures spelt { IfSome result IsSpelt }
     {
-        self.at(pointer)
+        look_ups_end_at_rows();
+        let row = row_of(self.index.rows(), node)?;
+        Some(Value {
+            kind: row.kind,
+            bytes: bytes_at(self.index.text(), row.span),
+        })
+    }
+
+    /// The member of an object with a name; none where there is no object, or none of its members has it.
+    pub(crate) fn member(&self, node: &Option<NodeId>, name: &str) -> Option<NodeId>
+        ensures { is_word name.now ≡ true → (pointer : List ℕ) → IsAt self.now pointer node.now → IsAt self.now (pointer ++ 0x2f ∷ name.now) result }
+    {
+        unique_names_are_met_once();
+        let _rows = self.index.rows();
+        let node = (*node)?;
+        member_of(&self.index, node, name)
+    }
+
+    /// The value of such a member.
+    pub(crate) fn value_in(&self, node: &Option<NodeId>, name: &str) -> Option<Value<'a>>
+        ensures at { is_word name.now ≡ true → (pointer : List ℕ) → IsAt self.now pointer node.now → Says self.now (λ at. at (pointer ++ 0x2f ∷ name.now) ≡ seen result) }
+        ensures spelt { IfSome result IsSpelt }
+    {
+        let member = self.member(node, name);
+        self.value(&member)
+    }
+
+    /// The value of a member of the outermost object.
+    pub(crate) fn top_value(&self, name: &str) -> Option<Value<'a>>
+        ensures at { is_word name.now ≡ true → Says self.now (λ at. at (0x2f ∷ name.now) ≡ seen result) }
+        ensures spelt { IfSome result IsSpelt }
+    {
+        self.value_in(&self.root(), name)
+    }
+
+    /// The elements of an array, in order; none where there is no array.
+    pub(crate) fn elements(&self, node: &Option<NodeId>) -> Option<Children<'_>>
+        ensures list { (pointer : List ℕ) → IsAt self.now pointer node.now → is_some result ≡ true → Says self.now (λ at. IsOfKind kinds.Array (at pointer)) }
+        ensures no_list { (pointer : List ℕ) → IsAt self.now pointer node.now → is_some result ≡ false → Says self.now (λ at. IsOfKind kinds.Array (at pointer) → ⊥) }
+        ensures each { IfSome result (λ elements. (pointer : List ℕ) → IsAt self.now pointer node.now → (number : ℕ) → number < 2 ^ 64
+            → IsAt self.now (pointer ++ 0x2f ∷ decimal number) (slice_get elements number)) }
+        ensures few { IfSome result (λ elements. length elements < 2 ^ 64) }
+    {
+        look_ups_end_at_rows();
+        let node = (*node)?;
+        match kind_of(self.index.rows(), node) {
+            Kind::Array => Some(self.index.children(node)),
+            _ => None,
+        }
     }
 }
 

@@ -1,18 +1,19 @@
 // The parameters of the calls that the server knows.
-ghost use Rattle.std.specs.Prelude.{◌≡◌, ◌≢◌, ◌++◌, ◌∷◌, ℕ, Option, Some, None, IfOk, IfErr, IfSome, IsErrOf, OnOk, List, [], codes, true, false};
-ghost use Rattle.jx_lex.specs.declared.kind.Kind.TheVariants as kinds;
+ghost use Rattle.std.specs.Prelude.{◌≡◌, ◌++◌, ◌∷◌, ℕ, Option, Some, None, IfOk, IfErr, IfSome, IsErrOf, OnOk, List, [], codes, true};
 ghost use Rattle.jx_wire.specs.declared.call.Change.{Change};
 ghost use Rattle.jx_wire.specs.declared.call.Offer.{Offer};
 ghost use Rattle.jx_wire.specs.declared.call.Place.{Place};
 ghost use Rattle.jx_wire.specs.declared.call.Uri.{Uri};
 ghost use Rattle.jx_wire.specs.declared.call.Versioned.{Versioned};
-ghost use Rattle.jx_wire.specs.Requests.{flag_in, is_true_in, items_in, number_in, number_spelt, change_pointer, AreChanges, AreFrom, IsBetween, IsChange, IsDepth, IsOffer, IsOfKind, IsPlace, IsUri, IsVersioned, IsWhole, Offers};
+ghost use Rattle.jx_wire.specs.Requests.{flag_in, is_true_in, items_in, number_in, number_spelt, AreChanges, IsBetween, IsChange, IsDepth, IsOffer, IsPlace, IsUri, IsVersioned, IsWhole, Offers};
 ghost use Rattle.jx_wire.specs.Values.{seen, text_by, Says};
-ghost use Rattle.jx_wire.specs.inside.Changes.{ranged, IsNext, IsNoNext};
-ghost use Rattle.jx_wire.specs.inside.Spelt.{is_plain, IsSpelt};
+ghost use Rattle.jx_wire.specs.inside.Changes.{ranged};
+ghost use Rattle.jx_wire.specs.inside.Nodes.{is_word, IsAt};
+ghost use Rattle.jx_wire.specs.inside.Spelt.{IsSpelt};
 
 use crate::call::{Change, Offer, Place, Uri, Versioned};
 use crate::message::{Message, Value};
+use jx_index::NodeId;
 use jx_lex::Kind;
 use jx_string::StringFault;
 use std::alloc::{AllocError, Global};
@@ -50,11 +51,16 @@ fn text_of(alloc: Global, value: &Value) -> Result<Vec<u8>, ParameterFault>
 }
 
 /// The name of the document that a message is about.
-pub(crate) fn uri_of(alloc: Global, message: &Message) -> Result<Uri, ParameterFault>
+pub(crate) fn uri_of(
+    alloc: Global,
+    message: &Message,
+    document: &Option<NodeId>,
+) -> Result<Uri, ParameterFault>
+    requires { IsAt message.now (codes "/params/textDocument") document.now }
     ensures ok { IfOk result (λ uri. Says message.now (λ at. IsUri at uri)) }
     ensures wrong { IsErrOf result ParameterFault.Wrong → Says message.now (λ at. (uri : Uri) → IsUri at uri → ⊥) }
 {
-    let Some(value) = message.plain_at("/params/textDocument/uri") else {
+    let Some(value) = message.value_in(document, "uri") else {
         return Err(ParameterFault::Wrong);
     };
     let name = text_of(alloc, &value)?;
@@ -63,10 +69,15 @@ pub(crate) fn uri_of(alloc: Global, message: &Message) -> Result<Uri, ParameterF
 }
 
 /// The version of the document that a message is about. One that is no number is as none.
-fn version_of(alloc: Global, message: &Message) -> Result<Option<Vec<u8>>, AllocError>
+fn version_of(
+    alloc: Global,
+    message: &Message,
+    document: &Option<NodeId>,
+) -> Result<Option<Vec<u8>>, AllocError>
+    requires { IsAt message.now (codes "/params/textDocument") document.now }
     ensures { IfOk result (λ version. Says message.now (λ at. number_spelt (at (codes "/params/textDocument/version")) ≡ items_in version)) }
 {
-    match message.plain_at("/params/textDocument/version") {
+    match message.value_in(document, "version") {
         None => Ok(None),
         Some(value) => match value.kind {
             Kind::Number => {
@@ -79,12 +90,17 @@ fn version_of(alloc: Global, message: &Message) -> Result<Option<Vec<u8>>, Alloc
 }
 
 /// The document that a message is about, with its version.
-pub(crate) fn versioned_of(alloc: Global, message: &Message) -> Result<Versioned, ParameterFault>
+pub(crate) fn versioned_of(
+    alloc: Global,
+    message: &Message,
+    document: &Option<NodeId>,
+) -> Result<Versioned, ParameterFault>
+    requires { IsAt message.now (codes "/params/textDocument") document.now }
     ensures ok { IfOk result (λ document. Says message.now (λ at. IsVersioned at document)) }
     ensures wrong { IsErrOf result ParameterFault.Wrong → Says message.now (λ at. (document : Versioned) → IsVersioned at document → ⊥) }
 {
-    let uri = uri_of(alloc, message)?;
-    let version = version_of(alloc, message)?;
+    let uri = uri_of(alloc, message, document)?;
+    let version = version_of(alloc, message, document)?;
     Ok(Versioned { uri, version })
 }
 
@@ -104,52 +120,34 @@ pub(crate) fn whole_of(alloc: Global, value: Option<Value>) -> Result<Change, Pa
     }
 }
 
-/// The number that a pointer leads to.
-fn number_at(message: &Message, pointer: &str) -> Option<usize>
-    ensures { is_plain pointer.now ≡ true → Says message.now (λ at. number_in (at pointer.now) ≡ result) }
+/// The number that a member is.
+fn number_in(message: &Message, node: &Option<NodeId>, name: &str) -> Option<usize>
+    ensures { is_word name.now ≡ true → (pointer : List ℕ) → IsAt message.now pointer node.now
+        → Says message.now (λ at. number_in (at (pointer ++ 0x2f ∷ name.now)) ≡ result) }
 {
-    match message.plain_at(pointer) {
-        Some(value) => value.number(),
-        None => None,
-    }
+    message.value_in(node, name)?.number()
 }
 
-/// The place that a pointer leads to.
-pub(crate) fn place_at(
-    alloc: Global,
-    message: &Message,
-    pointer: &str,
-) -> Result<Place, ParameterFault>
-    ensures ok { is_plain pointer.now ≡ true → pointer.now ≢ [] → IfOk result (λ place. Says message.now (λ at. IsPlace at pointer.now place)) }
-    ensures wrong { is_plain pointer.now ≡ true → pointer.now ≢ [] → IsErrOf result ParameterFault.Wrong
-        → Says message.now (λ at. (place : Place) → IsPlace at pointer.now place → ⊥) }
+/// The place that a node tells.
+pub(crate) fn place_at(message: &Message, node: &Option<NodeId>) -> Option<Place>
+    ensures some { (pointer : List ℕ) → IsAt message.now pointer node.now → IfSome result (λ place. Says message.now (λ at. IsPlace at pointer place)) }
+    ensures none { (pointer : List ℕ) → IsAt message.now pointer node.now → result ≡ None → Says message.now (λ at. (place : Place) → IsPlace at pointer place → ⊥) }
 {
-    let line = format!(in alloc; "{pointer}/line")?;
-    let character = format!(in alloc; "{pointer}/character")?;
-    let Some(line) = number_at(message, line.as_str()) else {
-        return Err(ParameterFault::Wrong);
-    };
-    let Some(character) = number_at(message, character.as_str()) else {
-        return Err(ParameterFault::Wrong);
-    };
-    Ok(Place { line, character })
+    let line = number_in(message, node, "line")?;
+    let character = number_in(message, node, "character")?;
+    Some(Place { line, character })
 }
 
-/// The start and the end of the range of a change.
-fn places_of(
-    alloc: Global,
-    message: &Message,
-    pointer: &str,
-) -> Result<(Place, Place), ParameterFault>
-    ensures ok { is_plain pointer.now ≡ true → pointer.now ≢ [] → IfOk result (λ places. Says message.now (λ at. IsBetween at pointer.now places.0 places.1)) }
-    ensures wrong { is_plain pointer.now ≡ true → pointer.now ≢ [] → IsErrOf result ParameterFault.Wrong
-        → Says message.now (λ at. (start end : Place) → IsBetween at pointer.now start end → ⊥) }
+/// The start and the end of a range.
+fn places_of(message: &Message, range: &Option<NodeId>) -> Option<(Place, Place)>
+    ensures some { (pointer : List ℕ) → IsAt message.now (pointer ++ codes "/range") range.now
+        → IfSome result (λ places. Says message.now (λ at. IsBetween at pointer places.0 places.1)) }
+    ensures none { (pointer : List ℕ) → IsAt message.now (pointer ++ codes "/range") range.now → result ≡ None
+        → Says message.now (λ at. (start end : Place) → IsBetween at pointer start end → ⊥) }
 {
-    let start = format!(in alloc; "{pointer}/range/start")?;
-    let end = format!(in alloc; "{pointer}/range/end")?;
-    let start = place_at(alloc, message, start.as_str())?;
-    let end = place_at(alloc, message, end.as_str())?;
-    Ok((start, end))
+    let start = place_at(message, &message.member(range, "start"))?;
+    let end = place_at(message, &message.member(range, "end"))?;
+    Some((start, end))
 }
 
 /// A text in the place of a range.
@@ -162,38 +160,25 @@ fn ranged(whole: Change, start: Place, end: Place) -> Change
     }
 }
 
-/// The change that a pointer leads to.
-fn change_at(alloc: Global, message: &Message, pointer: &str) -> Result<Change, ParameterFault>
-    ensures ok { is_plain pointer.now ≡ true → pointer.now ≢ [] → IfOk result (λ change. Says message.now (λ at. IsChange at pointer.now change)) }
-    ensures wrong { is_plain pointer.now ≡ true → pointer.now ≢ [] → IsErrOf result ParameterFault.Wrong
-        → Says message.now (λ at. (change : Change) → IsChange at pointer.now change → ⊥) }
-{
-    let text = format!(in alloc; "{pointer}/text")?;
-    let range = format!(in alloc; "{pointer}/range")?;
-    let whole = whole_of(alloc, message.plain_at(text.as_str()))?;
-    if message.plain_at(range.as_str()).is_none() {
-        return Ok(whole);
-    }
-    let (start, end) = places_of(alloc, message, pointer)?;
-    Ok(ranged(whole, start, end))
-}
-
-/// A change of a message, by its number; none behind the last.
-pub(crate) fn change_of(
+/// The change that a node tells.
+fn change_at(
     alloc: Global,
     message: &Message,
-    number: u64,
-) -> Result<Option<Change>, ParameterFault>
-    ensures none { IfOk result (λ change. change ≡ None → Says message.now (λ at. at (change_pointer number) ≡ None)) }
-    ensures some { IfOk result (λ change. IfSome change (λ change. Says message.now (λ at. IsNext at number change))) }
-    ensures wrong { IsErrOf result ParameterFault.Wrong → Says message.now (λ at. IsNoNext at number) }
+    node: &Option<NodeId>,
+) -> Result<Change, ParameterFault>
+    ensures ok { (pointer : List ℕ) → IsAt message.now pointer node.now → IfOk result (λ change. Says message.now (λ at. IsChange at pointer change)) }
+    ensures wrong { (pointer : List ℕ) → IsAt message.now pointer node.now → IsErrOf result ParameterFault.Wrong
+        → Says message.now (λ at. (change : Change) → IsChange at pointer change → ⊥) }
 {
-    let pointer = format!(in alloc; "/params/contentChanges/{number}")?;
-    if message.plain_at(pointer.as_str()).is_none() {
-        return Ok(None);
+    let whole = whole_of(alloc, message.value_in(node, "text"))?;
+    let range = message.member(node, "range");
+    if range.is_none() {
+        return Ok(whole);
     }
-    let change = change_at(alloc, message, pointer.as_str())?;
-    Ok(Some(change))
+    let Some((start, end)) = places_of(message, &range) else {
+        return Err(ParameterFault::Wrong);
+    };
+    Ok(ranged(whole, start, end))
 }
 
 fn add_change(changes: &mut Vec<Change>, change: Change) -> Result<(), AllocError>
@@ -203,49 +188,33 @@ fn add_change(changes: &mut Vec<Change>, change: Change) -> Result<(), AllocErro
     Ok(())
 }
 
-/// The changes of a message, in order.
-fn each_of(alloc: Global, message: &Message) -> Result<Vec<Change>, ParameterFault>
-    ensures ok { IfOk result (λ changes. Says message.now (λ at. AreFrom at 0 changes.items)) }
-    ensures wrong { IsErrOf result ParameterFault.Wrong → Says message.now (λ at. (changes : List Change) → AreFrom at 0 changes → ⊥) }
-{
-    let mut changes = Vec::new(alloc);
-    for number in 0..u64::MAX {
-        let Some(change) = change_of(alloc, message, number)? else {
-            return Ok(changes);
-        };
-        add_change(&mut changes, change)?;
-    }
-    // There are more changes than a word counts.
-    Err(ParameterFault::Memory)
-}
-
-/// Whether the changes of a message are a list.
-fn has_list(message: &Message) -> bool
-    ensures yes { result ≡ true → Says message.now (λ at. IsOfKind kinds.Array (at (codes "/params/contentChanges"))) }
-    ensures no { result ≡ false → Says message.now (λ at. IsOfKind kinds.Array (at (codes "/params/contentChanges")) → ⊥) }
-{
-    match message.plain_at("/params/contentChanges") {
-        Some(value) => value.kind == Kind::Array,
-        None => false,
-    }
-}
-
 /// The changes of a message, which are a list.
-pub(crate) fn changes_of(alloc: Global, message: &Message) -> Result<Vec<Change>, ParameterFault>
+pub(crate) fn changes_of(
+    alloc: Global,
+    message: &Message,
+    list: &Option<NodeId>,
+) -> Result<Vec<Change>, ParameterFault>
+    requires { IsAt message.now (codes "/params/contentChanges") list.now }
     ensures ok { IfOk result (λ changes. Says message.now (λ at. AreChanges at changes.items)) }
     ensures wrong { IsErrOf result ParameterFault.Wrong → Says message.now (λ at. (changes : List Change) → AreChanges at changes → ⊥) }
 {
-    if !has_list(message) {
+    let Some(elements) = message.elements(list) else {
         return Err(ParameterFault::Wrong);
+    };
+    let mut changes = Vec::new(alloc);
+    for element in elements {
+        let change = change_at(alloc, message, &Some(element))?;
+        add_change(&mut changes, change)?;
     }
-    each_of(alloc, message)
+    Ok(changes)
 }
 
 /// Whether a setting is on. One that is missing is off.
-fn is_on(message: &Message, pointer: &str) -> Option<bool>
-    ensures { is_plain pointer.now ≡ true → Says message.now (λ at. flag_in (at pointer.now) ≡ result) }
+fn is_on(message: &Message, node: &Option<NodeId>, name: &str) -> Option<bool>
+    ensures { is_word name.now ≡ true → (pointer : List ℕ) → IsAt message.now pointer node.now
+        → Says message.now (λ at. flag_in (at (pointer ++ 0x2f ∷ name.now)) ≡ result) }
 {
-    match message.plain_at(pointer) {
+    match message.value_in(node, name) {
         None => Some(false),
         Some(value) => match value.kind {
             Kind::True => Some(true),
@@ -255,25 +224,13 @@ fn is_on(message: &Message, pointer: &str) -> Option<bool>
     }
 }
 
-/// Whether a capability is told: it is `true`.
-fn is_true(message: &Message, pointer: &str) -> bool
-    ensures { is_plain pointer.now ≡ true → Says message.now (λ at. is_true_in (at pointer.now) ≡ result) }
-{
-    match message.plain_at(pointer) {
-        None => false,
-        Some(value) => match value.kind {
-            Kind::True => true,
-            _ => false,
-        },
-    }
-}
-
 /// The depth that is asked for. It is at most 65,535.
-fn depth_of(message: &Message) -> Result<Option<usize>, ParameterFault>
+fn depth_of(message: &Message, options: &Option<NodeId>) -> Result<Option<usize>, ParameterFault>
+    requires { IsAt message.now (codes "/params/initializationOptions") options.now }
     ensures ok { IfOk result (λ depth. Says message.now (λ at. IsDepth (at (codes "/params/initializationOptions/depth")) depth)) }
     ensures wrong { IfErr result (λ _. Says message.now (λ at. (depth : Option ℕ) → IsDepth (at (codes "/params/initializationOptions/depth")) depth → ⊥)) }
 {
-    match message.plain_at("/params/initializationOptions/depth") {
+    match message.value_in(options, "depth") {
         None => Ok(None),
         Some(value) => match value.number() {
             Some(depth) if depth <= 65535 => Ok(Some(depth)),
@@ -282,13 +239,14 @@ fn depth_of(message: &Message) -> Result<Option<usize>, ParameterFault>
     }
 }
 
-/// Whether the client can count columns in bytes.
+/// Whether the client can count columns in bytes. An object may tell its encodings by the names of their numbers, so that they are
+/// asked for by pointers.
 fn counts_bytes(alloc: Global, message: &Message) -> Result<bool, AllocError>
     ensures { IfOk result (λ utf8. Says message.now (λ at. Offers at 0 utf8)) }
 {
     for number in 0..u64::MAX {
         let pointer = format!(in alloc; "/params/capabilities/general/positionEncodings/{number}")?;
-        let Some(value) = message.plain_at(pointer.as_str()) else {
+        let Some(value) = message.at(pointer.as_str()) else {
             return Ok(false);
         };
         if value.stands_for(alloc, b"utf-8")? {
@@ -299,24 +257,51 @@ fn counts_bytes(alloc: Global, message: &Message) -> Result<bool, AllocError>
     Err(AllocError)
 }
 
-/// Where a client tells that it can show symbols in symbols.
-const NESTED: &str =
-    "/params/capabilities/textDocument/documentSymbol/hierarchicalDocumentSymbolSupport";
+/// Whether a capability is told: it is `true`.
+fn is_true(message: &Message, node: &Option<NodeId>, name: &str) -> bool
+    ensures { is_word name.now ≡ true → (pointer : List ℕ) → IsAt message.now pointer node.now
+        → Says message.now (λ at. is_true_in (at (pointer ++ 0x2f ∷ name.now)) ≡ result) }
+{
+    match message.value_in(node, name) {
+        None => false,
+        Some(value) => match value.kind {
+            Kind::True => true,
+            _ => false,
+        },
+    }
+}
+
+/// Whether a client tells that it can show symbols in symbols.
+fn shows_nested(message: &Message, params: &Option<NodeId>) -> bool
+    requires { IsAt message.now (codes "/params") params.now }
+    ensures { Says message.now (λ at. is_true_in (at (codes "/params/capabilities/textDocument/documentSymbol/hierarchicalDocumentSymbolSupport")) ≡ result) }
+{
+    let capabilities = message.member(params, "capabilities");
+    let document = message.member(&capabilities, "textDocument");
+    let symbols = message.member(&document, "documentSymbol");
+    is_true(message, &symbols, "hierarchicalDocumentSymbolSupport")
+}
 
 /// What a client asks for with `initialize`.
-pub(crate) fn offer_of(alloc: Global, message: &Message) -> Result<Offer, ParameterFault>
+pub(crate) fn offer_of(
+    alloc: Global,
+    message: &Message,
+    params: &Option<NodeId>,
+) -> Result<Offer, ParameterFault>
+    requires { IsAt message.now (codes "/params") params.now }
     ensures ok { IfOk result (λ offer. Says message.now (λ at. IsOffer at offer)) }
     ensures wrong { IsErrOf result ParameterFault.Wrong → Says message.now (λ at. (offer : Offer) → IsOffer at offer → ⊥) }
 {
+    let options = message.member(params, "initializationOptions");
     let utf8 = counts_bytes(alloc, message)?;
-    let depth = depth_of(message)?;
-    let Some(ignore_bom) = is_on(message, "/params/initializationOptions/ignoreBom") else {
+    let depth = depth_of(message, &options)?;
+    let Some(ignore_bom) = is_on(message, &options, "ignoreBom") else {
         return Err(ParameterFault::Wrong);
     };
-    let Some(unique_names) = is_on(message, "/params/initializationOptions/uniqueNames") else {
+    let Some(unique_names) = is_on(message, &options, "uniqueNames") else {
         return Err(ParameterFault::Wrong);
     };
-    let nested = is_true(message, NESTED);
+    let nested = shows_nested(message, params);
     Ok(Offer {
         utf8,
         depth,

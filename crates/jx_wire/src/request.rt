@@ -4,6 +4,7 @@ ghost use Rattle.jx_run.specs.declared.texts.verdict.Verdict.TheVariants.{Accept
 ghost use Rattle.jx_wire.specs.Messages.{wire_settings, IsFaultOf};
 ghost use Rattle.jx_wire.specs.Requests.{text_in, AsksFor, AsksForHover, AsksForFolds, AsksForSelection, AsksForSymbols, CallsFor, IsHover, IsId, IsNamed, IsRefusedFor, IsRequest, IsSelection, TellsChange, TellsOf, TellsOpen};
 ghost use Rattle.jx_wire.specs.Values.{Says};
+ghost use Rattle.jx_wire.specs.inside.Nodes.{IsAt};
 ghost use Rattle.jx_wire.specs.declared.call.Call.{Call};
 ghost use Rattle.jx_wire.specs.declared.call.Place.{Place};
 ghost use Rattle.jx_wire.specs.declared.call.Uri.{Uri};
@@ -17,6 +18,7 @@ use crate::parameters::{
 };
 use crate::positions::positions_of;
 use crate::request_fault::RequestFault;
+use jx_index::NodeId;
 use jx_lex::Kind;
 use jx_string::StringFault;
 use std::alloc::{AllocError, Global};
@@ -27,7 +29,7 @@ fn id_of(alloc: Global, message: &Message) -> Result<Option<Vec<u8>>, RequestFau
     ensures why { IfErr result (λ fault. Says message.now (λ at. IsRefusedFor at fault)) }
     ensures refused { IfErr result (λ fault. (body : List ℕ) → IsVerdictBy wire_settings body Accepted → IsFaultOf body fault) }
 {
-    match message.plain_at("/id") {
+    match message.top_value("id") {
         None => Ok(None),
         Some(value) => match value.kind {
             Kind::String | Kind::Number => {
@@ -44,7 +46,7 @@ fn is_of_protocol(alloc: Global, message: &Message) -> Result<bool, AllocError>
     ensures yes { IfOk result (λ is. is ≡ true → Says message.now (λ at. text_in (at (codes "/jsonrpc")) ≡ Some (codes "2.0"))) }
     ensures no { IfOk result (λ is. is ≡ false → Says message.now (λ at. text_in (at (codes "/jsonrpc")) ≢ Some (codes "2.0"))) }
 {
-    match message.plain_at("/jsonrpc") {
+    match message.top_value("jsonrpc") {
         Some(value) => value.stands_for(alloc, b"2.0"),
         None => Ok(false),
     }
@@ -55,7 +57,7 @@ fn method_in(alloc: Global, message: &Message) -> Result<Option<Vec<u8>>, AllocE
     ensures some { IfOk result (λ name. IfSome name (λ name. Says message.now (λ at. text_in (at (codes "/method")) ≡ Some name.items))) }
     ensures none { IfOk result (λ name. name ≡ None → Says message.now (λ at. text_in (at (codes "/method")) ≡ None)) }
 {
-    let Some(value) = message.plain_at("/method") else {
+    let Some(value) = message.top_value("method") else {
         return Ok(None);
     };
     match value.text(alloc) {
@@ -77,17 +79,23 @@ fn name_of(alloc: Global, message: &Message) -> Result<Option<Vec<u8>>, AllocErr
 }
 
 /// What a request calls for.
-fn request_call(alloc: Global, message: &Message, method: Method) -> Result<Call, ParameterFault>
+fn request_call(
+    alloc: Global,
+    message: &Message,
+    params: &Option<NodeId>,
+    method: Method,
+) -> Result<Call, ParameterFault>
+    requires { IsAt message.now (codes "/params") params.now }
     ensures ok { IfOk result (λ call. Says message.now (λ at. AsksFor at method call)) }
     ensures wrong { IsErrOf result ParameterFault.Wrong → Says message.now (λ at. (call : Call) → AsksFor at method call → ⊥) }
 {
     match method {
-        Method::Initialize => Ok(Call::Initialize(offer_of(alloc, message)?)),
+        Method::Initialize => Ok(Call::Initialize(offer_of(alloc, message, params)?)),
         Method::Shutdown => Ok(Call::Shutdown),
-        Method::Hover => hover_call(alloc, message),
-        Method::Symbols => symbols_call(alloc, message),
-        Method::Folds => folds_call(alloc, message),
-        Method::Selection => selection_call(alloc, message),
+        Method::Hover => hover_call(alloc, message, params),
+        Method::Symbols => symbols_call(alloc, message, params),
+        Method::Folds => folds_call(alloc, message, params),
+        Method::Selection => selection_call(alloc, message, params),
         Method::Exit | Method::Open | Method::Change | Method::Close | Method::Other => {
             Ok(Call::Other)
         }
@@ -95,21 +103,33 @@ fn request_call(alloc: Global, message: &Message, method: Method) -> Result<Call
 }
 
 /// The document and the place that a request asks about.
-fn hover_of(alloc: Global, message: &Message) -> Result<(Uri, Place), ParameterFault>
+fn hover_of(
+    alloc: Global,
+    message: &Message,
+    params: &Option<NodeId>,
+) -> Result<(Uri, Place), ParameterFault>
+    requires { IsAt message.now (codes "/params") params.now }
     ensures ok { IfOk result (λ asked. Says message.now (λ at. IsHover at asked.0 asked.1)) }
     ensures wrong { IsErrOf result ParameterFault.Wrong → Says message.now (λ at. (uri : Uri) (place : Place) → IsHover at uri place → ⊥) }
 {
-    let uri = uri_of(alloc, message)?;
-    let place = place_at(alloc, message, "/params/position")?;
+    let uri = uri_of(alloc, message, &message.member(params, "textDocument"))?;
+    let Some(place) = place_at(message, &message.member(params, "position")) else {
+        return Err(ParameterFault::Wrong);
+    };
     Ok((uri, place))
 }
 
 /// A request about a place of a document. It is answered by how far the client has come, whatever its parameters are.
-fn hover_call(alloc: Global, message: &Message) -> Result<Call, ParameterFault>
+fn hover_call(
+    alloc: Global,
+    message: &Message,
+    params: &Option<NodeId>,
+) -> Result<Call, ParameterFault>
+    requires { IsAt message.now (codes "/params") params.now }
     ensures ok { IfOk result (λ call. Says message.now (λ at. AsksForHover at call)) }
     ensures memory { IfErr result (λ fault. fault ≡ ParameterFault.Memory) }
 {
-    match hover_of(alloc, message) {
+    match hover_of(alloc, message, params) {
         Ok((uri, place)) => Ok(Call::Hover { uri, place }),
         Err(ParameterFault::Wrong) => Ok(Call::WrongParameters),
         Err(ParameterFault::Memory) => Err(ParameterFault::Memory),
@@ -117,11 +137,16 @@ fn hover_call(alloc: Global, message: &Message) -> Result<Call, ParameterFault>
 }
 
 /// A request about a document, of which the same holds.
-fn symbols_call(alloc: Global, message: &Message) -> Result<Call, ParameterFault>
+fn symbols_call(
+    alloc: Global,
+    message: &Message,
+    params: &Option<NodeId>,
+) -> Result<Call, ParameterFault>
+    requires { IsAt message.now (codes "/params") params.now }
     ensures ok { IfOk result (λ call. Says message.now (λ at. AsksForSymbols at call)) }
     ensures memory { IfErr result (λ fault. fault ≡ ParameterFault.Memory) }
 {
-    match uri_of(alloc, message) {
+    match uri_of(alloc, message, &message.member(params, "textDocument")) {
         Ok(uri) => Ok(Call::Symbols(uri)),
         Err(ParameterFault::Wrong) => Ok(Call::WrongParameters),
         Err(ParameterFault::Memory) => Err(ParameterFault::Memory),
@@ -129,11 +154,16 @@ fn symbols_call(alloc: Global, message: &Message) -> Result<Call, ParameterFault
 }
 
 /// Another request about a document.
-fn folds_call(alloc: Global, message: &Message) -> Result<Call, ParameterFault>
+fn folds_call(
+    alloc: Global,
+    message: &Message,
+    params: &Option<NodeId>,
+) -> Result<Call, ParameterFault>
+    requires { IsAt message.now (codes "/params") params.now }
     ensures ok { IfOk result (λ call. Says message.now (λ at. AsksForFolds at call)) }
     ensures memory { IfErr result (λ fault. fault ≡ ParameterFault.Memory) }
 {
-    match uri_of(alloc, message) {
+    match uri_of(alloc, message, &message.member(params, "textDocument")) {
         Ok(uri) => Ok(Call::Folds(uri)),
         Err(ParameterFault::Wrong) => Ok(Call::WrongParameters),
         Err(ParameterFault::Memory) => Err(ParameterFault::Memory),
@@ -141,21 +171,31 @@ fn folds_call(alloc: Global, message: &Message) -> Result<Call, ParameterFault>
 }
 
 /// The document and the places that a request asks about.
-fn selection_of(alloc: Global, message: &Message) -> Result<(Uri, Vec<Place>), ParameterFault>
+fn selection_of(
+    alloc: Global,
+    message: &Message,
+    params: &Option<NodeId>,
+) -> Result<(Uri, Vec<Place>), ParameterFault>
+    requires { IsAt message.now (codes "/params") params.now }
     ensures ok { IfOk result (λ asked. Says message.now (λ at. IsSelection at asked.0 asked.1.items)) }
     ensures wrong { IsErrOf result ParameterFault.Wrong → Says message.now (λ at. (uri : Uri) (places : List Place) → IsSelection at uri places → ⊥) }
 {
-    let uri = uri_of(alloc, message)?;
-    let places = positions_of(alloc, message)?;
+    let uri = uri_of(alloc, message, &message.member(params, "textDocument"))?;
+    let places = positions_of(alloc, message, &message.member(params, "positions"))?;
     Ok((uri, places))
 }
 
 /// A request about places of a document.
-fn selection_call(alloc: Global, message: &Message) -> Result<Call, ParameterFault>
+fn selection_call(
+    alloc: Global,
+    message: &Message,
+    params: &Option<NodeId>,
+) -> Result<Call, ParameterFault>
+    requires { IsAt message.now (codes "/params") params.now }
     ensures ok { IfOk result (λ call. Says message.now (λ at. AsksForSelection at call)) }
     ensures memory { IfErr result (λ fault. fault ≡ ParameterFault.Memory) }
 {
-    match selection_of(alloc, message) {
+    match selection_of(alloc, message, params) {
         Ok((uri, places)) => Ok(Call::Selection { uri, places }),
         Err(ParameterFault::Wrong) => Ok(Call::WrongParameters),
         Err(ParameterFault::Memory) => Err(ParameterFault::Memory),
@@ -163,13 +203,19 @@ fn selection_call(alloc: Global, message: &Message) -> Result<Call, ParameterFau
 }
 
 /// A document is opened.
-fn open_call(alloc: Global, message: &Message) -> Result<Call, ParameterFault>
+fn open_call(
+    alloc: Global,
+    message: &Message,
+    params: &Option<NodeId>,
+) -> Result<Call, ParameterFault>
+    requires { IsAt message.now (codes "/params") params.now }
     ensures ok { IfOk result (λ call. Says message.now (λ at. TellsOpen at call)) }
     ensures wrong { IsErrOf result ParameterFault.Wrong → Says message.now (λ at. (call : Call) → TellsOpen at call → ⊥) }
 {
-    let document = versioned_of(alloc, message)?;
-    let content = content_of(alloc, message, &document.uri)?;
-    let text = whole_of(alloc, message.plain_at("/params/textDocument/text"))?;
+    let node = message.member(params, "textDocument");
+    let document = versioned_of(alloc, message, &node)?;
+    let content = content_of(alloc, message, &node, &document.uri)?;
+    let text = whole_of(alloc, message.value_in(&node, "text"))?;
     Ok(Call::Open {
         document,
         content,
@@ -178,12 +224,17 @@ fn open_call(alloc: Global, message: &Message) -> Result<Call, ParameterFault>
 }
 
 /// A document is changed.
-fn change_call(alloc: Global, message: &Message) -> Result<Call, ParameterFault>
+fn change_call(
+    alloc: Global,
+    message: &Message,
+    params: &Option<NodeId>,
+) -> Result<Call, ParameterFault>
+    requires { IsAt message.now (codes "/params") params.now }
     ensures ok { IfOk result (λ call. Says message.now (λ at. TellsChange at call)) }
     ensures wrong { IsErrOf result ParameterFault.Wrong → Says message.now (λ at. (call : Call) → TellsChange at call → ⊥) }
 {
-    let document = versioned_of(alloc, message)?;
-    let changes = changes_of(alloc, message)?;
+    let document = versioned_of(alloc, message, &message.member(params, "textDocument"))?;
+    let changes = changes_of(alloc, message, &message.member(params, "contentChanges"))?;
     Ok(Call::Change { document, changes })
 }
 
@@ -191,16 +242,21 @@ fn change_call(alloc: Global, message: &Message) -> Result<Call, ParameterFault>
 fn notification_call(
     alloc: Global,
     message: &Message,
+    params: &Option<NodeId>,
     method: Method,
 ) -> Result<Call, ParameterFault>
+    requires { IsAt message.now (codes "/params") params.now }
     ensures ok { IfOk result (λ call. Says message.now (λ at. TellsOf at method call)) }
     ensures wrong { IsErrOf result ParameterFault.Wrong → Says message.now (λ at. (call : Call) → TellsOf at method call → ⊥) }
 {
     match method {
         Method::Exit => Ok(Call::Exit),
-        Method::Open => open_call(alloc, message),
-        Method::Change => change_call(alloc, message),
-        Method::Close => Ok(Call::Close(uri_of(alloc, message)?)),
+        Method::Open => open_call(alloc, message, params),
+        Method::Change => change_call(alloc, message, params),
+        Method::Close => {
+            let uri = uri_of(alloc, message, &message.member(params, "textDocument"))?;
+            Ok(Call::Close(uri))
+        }
         Method::Initialize
         | Method::Shutdown
         | Method::Hover
@@ -222,9 +278,10 @@ fn call_of(
     ensures wrong { IsErrOf result ParameterFault.Wrong → Says message.now (λ at. (call : Call) → CallsFor at name.now id.now call → ⊥) }
 {
     let method = method_of(name);
+    let params = message.member(&message.root(), "params");
     match id {
-        Some(_) => request_call(alloc, message, method),
-        None => notification_call(alloc, message, method),
+        Some(_) => request_call(alloc, message, &params, method),
+        None => notification_call(alloc, message, &params, method),
     }
 }
 

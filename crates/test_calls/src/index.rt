@@ -6,3 +6,21 @@ pub(crate) mod pauses;
 pub(crate) mod pointers;
 pub(crate) mod readings;
 pub(crate) mod unique;
+
+use test_words::Line;
+
+/// Makes the call of this name, if it is one of these.
+pub(crate) fn make(name: &str, line: &mut Line<'_>) -> bool {
+    match name {
+        "rows" => readings::rows(line),
+        "text" => answers::text(line),
+        "judged" => answers::judged(line),
+        "find" => pointers::find(line),
+        "children" => nodes::children(line),
+        "names" => nodes::names(line),
+        "repeated" => nodes::repeated(line),
+        "unique" => unique::unique(line),
+        _ => return false,
+    }
+    true
+}

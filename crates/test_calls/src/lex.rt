@@ -5,3 +5,26 @@ pub(crate) mod scans;
 pub(crate) mod steps;
 pub(crate) mod track;
 pub(crate) mod views;
+
+use test_words::Line;
+
+/// Makes the call of this name, if it is one of these.
+pub(crate) fn make(name: &str, line: &mut Line<'_>) -> bool {
+    match name {
+        "class" => steps::class(line),
+        "step" => steps::step(line),
+        "steps" => steps::steps(line),
+        "map" => maps::map(line),
+        "shown" => maps::shown(line),
+        "kept" => joins::kept(line),
+        "cut" => maps::cut(line),
+        "maps" => views::maps(line),
+        "views" => views::views(line),
+        "grown" => views::grown(line),
+        "upto" => views::upto(line),
+        "beginning" => views::beginning(line),
+        "scan" => scans::scan(line),
+        _ => return false,
+    }
+    true
+}

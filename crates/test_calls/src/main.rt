@@ -2,7 +2,6 @@
 // same number. An empty line and one that begins with `#` are printed as they stand.
 #![tactic(auto)]
 
-mod call;
 mod claim;
 mod index;
 mod lex;
@@ -10,19 +9,35 @@ mod reduce;
 mod run;
 mod words;
 
-use anyhow::Result;
-use call::answer_to;
-use test_words::is_call;
+use std::io;
+use std::sync::Wait;
+use std::thread::Threads;
+use test_words::{Calls, Line, answer_lines};
 
-fn main(rt: HostRuntime) -> Result<()> {
-    for line in rt.lines(rt.alloc()) {
-        let line = line?;
-        if is_call(line.as_str()) {
-            let answer = answer_to(rt.alloc(), line.as_str())?;
-            println!(rt; "{answer}")?;
-        } else {
-            println!(rt; "{line}")?;
+/// Makes a call of runs, of indexes or of cuttings, if it is one.
+fn make_of_runs(name: &str, line: &mut Line<'_>) -> bool {
+    run::make(name, line) || index::make(name, line) || claim::make(name, line)
+}
+
+/// The calls of all crates that this one stands on.
+struct All;
+
+impl Calls for All {
+    fn make<R: Threads + Wait + Sync>(_rt: &R, name: &str, line: &mut Line<'_>) {
+        match name {
+            "words" => words::words(line),
+            _ => {
+                if !(lex::make(name, line)
+                    || reduce::make(name, line)
+                    || make_of_runs(name, line))
+                {
+                    line.refuse();
+                }
+            }
         }
     }
-    Ok(())
+}
+
+fn main(rt: HostRuntime) -> io::Result<()> {
+    answer_lines::<All, HostRuntime>(&rt, rt.alloc())
 }

@@ -4,5 +4,18 @@ pub(crate) mod joins;
 pub(crate) mod marks;
 pub(crate) mod outcomes;
 pub(crate) mod stacks;
-pub(crate) mod structures;
-pub(crate) mod table;
+
+use test_words::Line;
+
+/// Makes the call of this name, if it is one of these.
+pub(crate) fn make(name: &str, line: &mut Line<'_>) -> bool {
+    match name {
+        "reduce" => entries::reduce(line),
+        "act" => entries::act(line),
+        "further" => entries::further(line),
+        "joins" => joins::joins(line),
+        "stack" => stacks::stack(line),
+        _ => return false,
+    }
+    true
+}

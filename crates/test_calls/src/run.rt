@@ -6,3 +6,25 @@ pub(crate) mod joins;
 pub(crate) mod parts;
 pub(crate) mod readers;
 pub(crate) mod verdicts;
+
+use test_words::Line;
+
+/// Makes the call of this name, if it is one of these.
+pub(crate) fn make(name: &str, line: &mut Line<'_>) -> bool {
+    match name {
+        "verdict" => verdicts::verdict(line),
+        "cuts" => verdicts::cuts(line),
+        "reader" => readers::reader(line),
+        "slices" => readers::slices(line),
+        "follows" => readers::follows(line),
+        "run" => entries::run(line),
+        "started" => entries::started(line),
+        "moved" => entries::moved(line),
+        "parts" => parts::parts(line),
+        "elements" => elements::elements(line),
+        "behind" => elements::behind(line),
+        "front" => fronts::fronted(line),
+        _ => return false,
+    }
+    true
+}

@@ -1,7 +1,8 @@
 // What faults say of themselves.
 use jx_claim::CutFault;
 use jx_index::{FindFault, PointerFault};
-use jx_lex::{ChunkMap, JoinFault};
+use jx_lex::JoinFault;
+use jx_maps::ChunkMap;
 use std::alloc::{AllocError, Global};
 use std::fmt::Display;
 use test_words::{Line, Out};

@@ -1,5 +1,5 @@
 // What is told of a document behind each of its edits.
-use jx_edit::{Document, OpenFault};
+use jx_edit::{Document, DocumentFault};
 use std::alloc::{AllocError, Global};
 use std::thread::Threads;
 use test_words::{Line, LineFault, Out, bytes_of, number_of, push_text, push_verdict};
@@ -67,7 +67,7 @@ fn push_state(out: &mut Out, alloc: Global, document: &mut Document) -> Result<(
 }
 
 /// The document of a text, or the fault in words.
-fn made_or_told(out: &mut Out, made: Result<Document, OpenFault>) -> Option<Document> {
+fn made_or_told(out: &mut Out, made: Result<Document, DocumentFault>) -> Option<Document> {
     match made {
         Ok(document) => Some(document),
         Err(fault) => {

@@ -1,26 +1,22 @@
-// Which call a line names.
+// The calls of `jx_saved`.
 use crate::answers::{push_loaded, told_by};
 use jx_run::Settings;
 use jx_saved::{ChunkSize, Index, SavedFault, digest_of};
 use std::alloc::{AllocError, Global};
-use test_words::{Line, Ways, words_of};
+use std::sync::Wait;
+use std::thread::Threads;
+use test_words::{Calls, Line, Out, Ways};
 
-/// Adds the answer on a text that is fed by slices of so many bytes.
-fn add_by_size(
-    ways: &mut Ways,
+/// The answer on a text that is fed by slices of so many bytes.
+fn told_by_size(
     alloc: Global,
     settings: &Settings,
     chunk: ChunkSize,
     text: &[u8],
     size: usize,
-) {
-    match text.chunks(size.max(1)).collect::<Vec<&[u8]>>(alloc) {
-        Ok(slices) => {
-            let told = told_by(alloc, settings, chunk, &slices);
-            ways.add_made(format_args!("by slices of {size}"), told);
-        }
-        Err(_) => ways.add_made("slices", Err(AllocError)),
-    }
+) -> Result<Out, AllocError> {
+    let slices: Vec<&[u8]> = text.chunks(size.max(1)).collect(alloc)?;
+    told_by(alloc, settings, chunk, &slices)
 }
 
 /// `save DEPTH SETTINGS CHUNK TEXT`: the bytes of a text's index, for chunks of so many bytes, or why it has none; whole, and by slices of
@@ -36,7 +32,8 @@ fn save(line: &mut Line<'_>) {
     };
     let mut ways = Ways::new(line.alloc);
     for size in [1 << 20, 1, 2, 63, 64, 65, 200] {
-        add_by_size(&mut ways, line.alloc, &settings, chunk, &text, size);
+        let told = told_by_size(line.alloc, &settings, chunk, &text, size);
+        ways.add_made(format_args!("by slices of {size}"), told);
     }
     ways.push_to(&mut line.out);
 }
@@ -59,15 +56,16 @@ fn load(line: &mut Line<'_>) {
     }
 }
 
-/// What a line's call answers, or that there is no such call.
-pub(crate) fn answer_to(alloc: Global, line: &str) -> Result<String, AllocError> {
-    let words = words_of(alloc, line)?;
-    let mut line = Line::new(alloc, &words);
-    match line.word() {
-        "digest" => digest(&mut line),
-        "load" => load(&mut line),
-        "save" => save(&mut line),
-        _ => line.refuse(),
+/// The calls of `jx_saved`.
+pub(crate) struct OfIndexes;
+
+impl Calls for OfIndexes {
+    fn make<R: Threads + Wait + Sync>(_rt: &R, name: &str, line: &mut Line<'_>) {
+        match name {
+            "digest" => digest(line),
+            "load" => load(line),
+            "save" => save(line),
+            _ => line.refuse(),
+        }
     }
-    line.answer()
 }

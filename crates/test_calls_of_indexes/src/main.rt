@@ -5,19 +5,10 @@
 mod answers;
 mod call;
 
-use anyhow::Result;
-use call::answer_to;
-use test_words::is_call;
+use call::OfIndexes;
+use std::io;
+use test_words::answer_lines;
 
-fn main(rt: HostRuntime) -> Result<()> {
-    for line in rt.lines(rt.alloc()) {
-        let line = line?;
-        if is_call(line.as_str()) {
-            let answer = answer_to(rt.alloc(), line.as_str())?;
-            println!(rt; "{answer}")?;
-        } else {
-            println!(rt; "{line}")?;
-        }
-    }
-    Ok(())
+fn main(rt: HostRuntime) -> io::Result<()> {
+    answer_lines::<OfIndexes, HostRuntime>(&rt, rt.alloc())
 }

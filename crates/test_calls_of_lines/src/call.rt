@@ -1,8 +1,10 @@
-// Which call a line names.
+// The calls of `jx_ndjson`.
 use crate::answers::{texts_of, told_by};
 use jx_run::Settings;
 use std::alloc::{AllocError, Global};
-use test_words::{Line, Ways, words_of};
+use std::sync::Wait;
+use std::thread::Threads;
+use test_words::{Calls, Line, Out, Ways};
 
 /// Adds the answers on a text that is cut in two at each place.
 fn add_cut_in_two(ways: &mut Ways, alloc: Global, settings: &Settings, text: &[u8]) {
@@ -12,15 +14,15 @@ fn add_cut_in_two(ways: &mut Ways, alloc: Global, settings: &Settings, text: &[u
     }
 }
 
-/// Adds the answers on a text that is fed by slices of so many bytes.
-fn add_by_size(ways: &mut Ways, alloc: Global, settings: &Settings, text: &[u8], size: usize) {
-    match text.chunks(size.max(1)).collect::<Vec<&[u8]>>(alloc) {
-        Ok(slices) => {
-            let told = told_by(alloc, settings, &slices);
-            ways.add_made(format_args!("by slices of {size}"), told);
-        }
-        Err(_) => ways.add_made("slices", Err(AllocError)),
-    }
+/// The answers on a text that is fed by slices of so many bytes.
+fn told_by_size(
+    alloc: Global,
+    settings: &Settings,
+    text: &[u8],
+    size: usize,
+) -> Result<Out, AllocError> {
+    let slices: Vec<&[u8]> = text.chunks(size.max(1)).collect(alloc)?;
+    told_by(alloc, settings, &slices)
 }
 
 /// `lines DEPTH SETTINGS TEXT`: the answers on the lines of a text, whole, cut in two at each place, and by slices of 1, 2, 3 and 7
@@ -32,7 +34,8 @@ fn lines(line: &mut Line<'_>) {
     let mut ways = Ways::new(line.alloc);
     add_cut_in_two(&mut ways, line.alloc, &settings, &text);
     for size in [1, 2, 3, 7] {
-        add_by_size(&mut ways, line.alloc, &settings, &text, size);
+        let told = told_by_size(line.alloc, &settings, &text, size);
+        ways.add_made(format_args!("by slices of {size}"), told);
     }
     ways.push_to(&mut line.out);
 }
@@ -46,14 +49,15 @@ fn texts(line: &mut Line<'_>) {
     ways.push_to(&mut line.out);
 }
 
-/// What a line's call answers, or that there is no such call.
-pub(crate) fn answer_to(alloc: Global, line: &str) -> Result<String, AllocError> {
-    let words = words_of(alloc, line)?;
-    let mut line = Line::new(alloc, &words);
-    match line.word() {
-        "lines" => lines(&mut line),
-        "texts" => texts(&mut line),
-        _ => line.refuse(),
+/// The calls of `jx_ndjson`.
+pub(crate) struct OfLines;
+
+impl Calls for OfLines {
+    fn make<R: Threads + Wait + Sync>(_rt: &R, name: &str, line: &mut Line<'_>) {
+        match name {
+            "lines" => lines(line),
+            "texts" => texts(line),
+            _ => line.refuse(),
+        }
     }
-    line.answer()
 }

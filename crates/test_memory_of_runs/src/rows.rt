@@ -17,7 +17,8 @@ fn is_name(name: Option<Span>, want: Option<(usize, usize)>, by: usize) -> bool 
     }
 }
 
-fn parent_of(row: &Row) -> Option<usize> {
+/// The number of the row's parent, if it has one.
+pub fn parent_of(row: &Row) -> Option<usize> {
     match row.parent {
         Some(node) => Some(node.number()),
         None => None,

@@ -1,5 +1,6 @@
 //! Tests that are data: a line is a call with its words, and another line its answer. Here are the words that programs of
-//! such calls have in common: how a line spells what a call takes, and how it tells what a call answers.
+//! such calls have in common: how a line spells what a call takes, how it tells what a call answers, and how a program goes
+//! through its lines. Here is too what tests of marks look at beside the calls: the table of moves, read one mark at a time.
 //!
 //! A line has a call's name and its words, parted by one blank. An empty line and a line that begins with `#` are no call.
 //!
@@ -23,19 +24,25 @@
 mod answers;
 mod cuts;
 mod line;
+mod moves;
 mod names;
 mod numbers;
 mod out;
+mod program;
 mod spelt;
+mod structures;
 mod texts;
 mod ways;
 
 pub use answers::{push_elements, push_found, push_numbers, push_rows, push_span, push_verdict};
 pub use cuts::cuts_of;
-pub use line::{Line, LineFault, is_call, words_of};
+pub use line::{Line, LineFault};
+pub use moves::{EXPECTS, HOLDER_LISTS, all_by_table, comes_to, follow, kind_of};
 pub use names::settings_of;
 pub use numbers::{Meeting, depth_of, meeting_within, number_of, span_within};
 pub use out::Out;
+pub use program::{Calls, answer_lines, is_call, words_of};
 pub use spelt::push_text;
+pub use structures::{Maker, parts_of, structure_of};
 pub use texts::{bytes_of, text_of, texts_of};
 pub use ways::Ways;

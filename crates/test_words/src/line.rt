@@ -39,16 +39,6 @@ impl<T: Drop> From<AllocFailed<T>> for LineFault {
     }
 }
 
-/// Whether the line is a call; an empty line and one that begins with `#` are none.
-pub fn is_call(line: &str) -> bool {
-    !line.is_empty() && !line.starts_with('#')
-}
-
-/// The words of a line, the name of its call first. It fails only for want of memory.
-pub fn words_of(alloc: Global, line: &str) -> Result<Vec<&str>, AllocError> {
-    line.split(' ').collect(alloc)
-}
-
 /// A line's words, which are taken one by one, and what its call answers.
 ///
 /// The first fault is kept, and a call goes on with some value of the type that it asks for; what it answers is dropped in the end.

@@ -1,20 +1,11 @@
 // What words name: settings, states, expectations and open containers.
 use crate::line::LineFault;
+use crate::moves::EXPECTS;
 use jx_lex::{Depth, LexState};
 use jx_reduce::{Expect, Holder};
 use jx_run::{FrontMark, NameRule, Settings};
 use std::alloc::Global;
 use std::fmt::Debug;
-
-/// All expectations in order.
-const EXPECTS: [Expect; 6] = [
-    Expect::Value,
-    Expect::ArrayFirst,
-    Expect::ObjectFirst,
-    Expect::Name,
-    Expect::Colon,
-    Expect::After,
-];
 
 /// The one of these that shows as this word.
 fn named<T: Debug + Copy>(alloc: Global, all: &[T], word: &str) -> Result<T, LineFault> {

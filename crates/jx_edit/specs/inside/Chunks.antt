@@ -43,6 +43,7 @@ pub record IsSeam (chunks : List ChunkValue) (at before bytes here : ℕ) : Type
   pub behind : bytes ≤ at
   pub tight : 0 < before → bytes < at
   pub reach : at ≤ bytes + length (text_of (slice_range chunks before (before + here)))
+  pub few : here ≤ 1
 
 -- the bytes up to a place, behind so many chunks, which have so many bytes
 pub record IsFront (chunks : List ChunkValue) (at before offset : ℕ) (bytes : List ℕ) : Type 0 where

@@ -1,8 +1,8 @@
 -- Where bytes lead from a place.
 use Rattle.std.specs.Prelude.{ℕ, ◌≤◌, length}
 use Rattle.jx_run.specs.Reading.{TextReading, stopped, too_deep}
-use Rattle.jx_edit.specs.declared.led.Led.{Led as TheLed}
-use Rattle.jx_edit.specs.declared.led.Led.TheVariants as led
+use Rattle.jx_edit.specs.declared.reading.led.Led.{Led as TheLed}
+use Rattle.jx_edit.specs.declared.reading.led.Led.TheVariants as led
 use Rattle.jx_edit.specs.inside.Places.{came_to}
 
 abbrev pub reading_in : TheLed → TextReading

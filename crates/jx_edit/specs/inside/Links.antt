@@ -4,9 +4,9 @@ use Rattle.jx_run.specs.Reading.{stopped, too_deep, read_text}
 use Rattle.jx_edit.specs.inside.Chunks.{ChunkValue, text_of}
 use Rattle.jx_edit.specs.inside.Places.{PlaceValue, came_to, origin, read_on}
 use Rattle.jx_edit.specs.inside.Sums.{AreLinkedFrom, AreSums}
-use Rattle.jx_edit.specs.declared.sums.Sum.{Sum}
-use Rattle.jx_edit.specs.declared.walk.Step.{Step as TheStep}
-use Rattle.jx_edit.specs.declared.walk.Step.TheVariants as step
+use Rattle.jx_edit.specs.declared.chunking.sums.Sum.{Sum}
+use Rattle.jx_edit.specs.declared.reading.walk.Step.{Step as TheStep}
+use Rattle.jx_edit.specs.declared.reading.walk.Step.TheVariants as step
 
 -- a chunk behind a place: where it is linked, it leads from there to the place that it keeps
 pub record IsLink (limit : ℕ) (p : PlaceValue) (c : ChunkValue) : Type 0 where

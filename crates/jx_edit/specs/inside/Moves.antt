@@ -1,6 +1,6 @@
 -- How far bytes move a position.
 use Rattle.std.specs.Prelude.{ℕ, Bool, ◌+◌, ◌==◌, if◌then◌else◌}
-use Rattle.jx_edit.specs.declared.position.Position.{Position}
+use Rattle.jx_edit.specs.declared.positions.position.Position.{Position}
 
 -- the position behind bytes that stand at the first one, and that would come to the second from the start of a text
 abbrev pub joined : Position → Position → Position

@@ -2,7 +2,7 @@
 use Rattle.std.specs.Prelude.{◌≡◌, ◌≤◌, ℕ, List, length}
 use Rattle.std.specs.List.{slice_range}
 use Rattle.jx_summary.specs.declared.span.Span.{Span}
-use Rattle.jx_edit.specs.declared.making.MadePart.{MadePart}
+use Rattle.jx_edit.specs.declared.chunking.making.MadePart.{MadePart}
 use Rattle.jx_edit.specs.inside.Chunks.{text_of, AreFresh}
 
 -- a part of so many bytes

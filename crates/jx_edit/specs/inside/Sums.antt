@@ -1,7 +1,7 @@
 -- What is kept of chunks that stand together, 64 in a group.
 use Rattle.std.specs.Prelude.{◌≡◌, ◌≤◌, ◌<◌, ◌+◌, ◌*◌, ℕ, zero, suc, Bool, true, List, [], ◌∷◌, length, get_or, take}
 use Rattle.jx_edit.specs.inside.Chunks.{ChunkValue, text_of}
-use Rattle.jx_edit.specs.declared.sums.Sum.{Sum}
+use Rattle.jx_edit.specs.declared.chunking.sums.Sum.{Sum}
 
 -- how many bytes so many chunks have
 abbrev pub size_before : List ChunkValue → ℕ → ℕ

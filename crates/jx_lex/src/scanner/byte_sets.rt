@@ -229,7 +229,7 @@ fn members_end_by_one<R: ByteSet>(text: &[u8], from: usize, seen: usize, to: usi
 /// The first offset from `from` on whose byte is no ordinary ASCII of a string, or `to`: a quotation mark, a backslash, a
 /// byte below 20 or above 7F.
 #[inline(always)]
-pub(crate) fn plain_end(text: &[u8], from: usize, to: usize) -> usize
+pub fn plain_end(text: &[u8], from: usize, to: usize) -> usize
     requires { (from ≤ to) × (to ≤ length text.now) }
     ensures bounds { (from ≤ result) × (result ≤ to) }
     ensures kept { AllKeep state.Str (slice_range text.now from result) }
@@ -250,7 +250,7 @@ pub(crate) fn unescaped_end(text: &[u8], from: usize, to: usize) -> usize
 
 /// The first offset from `from` on whose byte is no digit, or `to`.
 #[inline(always)]
-pub(crate) fn digit_end(text: &[u8], from: usize, to: usize) -> usize
+pub fn digit_end(text: &[u8], from: usize, to: usize) -> usize
     requires { (from ≤ to) × (to ≤ length text.now) }
     ensures bounds { (from ≤ result) × (result ≤ to) }
     ensures int { AllKeep state.Int (slice_range text.now from result) }

@@ -3,11 +3,11 @@ ghost use Rattle.std.specs.Prelude.{◌≡◌, ◌≤◌, ◌++◌, ◌∷◌, [
 ghost use Rattle.jx_lex.specs.declared.alphabet.mark.Mark.{Mark};
 ghost use Rattle.jx_lex.specs.Lex.{lex};
 ghost use Rattle.jx_lex.specs.Seen.{with_tokens};
-ghost use Rattle.jx_lex.specs.inside.Step.{link_at};
+ghost use Rattle.jx_lex.specs.Exit.{exit_of};
 
+use crate::alphabet::lex_exit::LexExit;
 use crate::alphabet::mark::Mark;
 use crate::alphabet::state::LexState;
-use crate::map::link::Link;
 use crate::scanner::scan;
 use crate::scanner::sink::TokenSink;
 use std::alloc::{AllocError, Global};
@@ -44,7 +44,7 @@ impl Tokens {
     }
 
     /// These marks and ends.
-    pub(crate) fn of(marks: Vec<Mark>, ends: Vec<usize>) -> Tokens
+    pub fn of(marks: Vec<Mark>, ends: Vec<usize>) -> Tokens
         ensures { result ≡ record { marks = marks.items; ends = ends.items } }
     {
         Tokens { marks, ends }
@@ -66,28 +66,28 @@ impl Tokens {
         &self.ends
     }
 
-    /// Reads a stretch of text from this state, and gives where the reading ends.
-    pub(crate) fn read(
+    /// Reads a stretch of text from this state: adds its marks and ends to those that it has, and gives the exit.
+    pub fn read(
         &mut self,
         state: LexState,
         text: &[u8],
         from: usize,
         to: usize,
-    ) -> Result<Link, AllocError>
+    ) -> Result<LexExit, AllocError>
         requires { (from ≤ to) × (to ≤ length text.now) }
         ensures tokens { OnOk result (self.new ≡ with_tokens self.old (lex state from (slice_range text.now from to))) }
-        ensures next { IfOk result (λ next. next ≡ link_at ((lex state from (slice_range text.now from to)).exit)) }
+        ensures exit { IfOk result (λ exit. exit_of exit ≡ (lex state from (slice_range text.now from to)).exit) }
     {
         let blocks = (to - from) / BLOCK;
         self.reserve(blocks * BLOCK / 4, blocks * BLOCK / 8)?;
         match scan(self, state, text, from, to)? {
-            Some(exit) => Ok(Link::of(exit)),
+            Some(exit) => Ok(exit),
             None => unreachable!(),
         }
     }
 
     /// Makes room for so many more, so that they can be kept without a move.
-    pub(crate) fn reserve(&mut self, marks: usize, ends: usize) -> Result<(), AllocError>
+    fn reserve(&mut self, marks: usize, ends: usize) -> Result<(), AllocError>
         ensures { OnOk result (self.new ≡ self.old) }
     {
         // What stands behind the room that is asked for last is mostly free: of a long stretch that is read at once, marks
@@ -103,7 +103,7 @@ impl Tokens {
     }
 
     /// Keeps only so many of the first marks and ends.
-    pub(crate) fn cut_back(&mut self, marks: usize, ends: usize)
+    pub fn cut_back(&mut self, marks: usize, ends: usize)
         ensures { self.new ≡ record { marks = take marks self.old.marks; ends = take ends self.old.ends } }
     {
         self.marks.truncate(marks);
@@ -111,7 +111,7 @@ impl Tokens {
     }
 
     /// The marks and the ends.
-    pub(crate) fn into_lists(self) -> (Vec<Mark>, Vec<usize>)
+    pub fn into_lists(self) -> (Vec<Mark>, Vec<usize>)
         ensures { (result.0.items ≡ self.marks) × (result.1.items ≡ self.ends) }
     {
         (self.marks, self.ends)

@@ -1,7 +1,7 @@
 -- Whole lines that are texts.
 use Rattle.std.specs.Prelude.{◌≡◌, ℕ, false, List, [], length, Option, Some, None}
 use Rattle.jx_lex.specs.declared.alphabet.lex_exit.LexExit.{LexExit}
-use Rattle.jx_reduce.specs.declared.whole.Whole.{Whole}
+use Rattle.jx_reduce.specs.declared.table.whole.Whole.{Whole}
 use Rattle.jx_run.specs.declared.texts.verdict.Verdict.TheVariants.{Accepted}
 use Rattle.jx_run.specs.Verdict.{Judged}
 use Rattle.jx_run.specs.Whole.{verdict_from}

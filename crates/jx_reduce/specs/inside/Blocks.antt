@@ -3,11 +3,11 @@ use Rattle.std.specs.Prelude.{◌≡◌, ◌<◌, ◌≤◌, ◌^◌, ℕ, zero,
 use Rattle.jx_block.specs.Listed.{is_set}
 use Rattle.jx_block.specs.declared.kinds.TokenKinds.{TokenKinds}
 use Rattle.jx_reduce.specs.Read.{top, without_top}
-use Rattle.jx_reduce.specs.declared.expect.Expect.{Expect}
-use Rattle.jx_reduce.specs.declared.expect.Expect.TheVariants.{Value, ArrayFirst, ObjectFirst, Name, Colon, After}
-use Rattle.jx_reduce.specs.declared.bracket_walk.Innermost.{Innermost}
-use Rattle.jx_reduce.specs.declared.holder.Holder.{Holder}
-use Rattle.jx_reduce.specs.declared.holder.Holder.TheVariants.{Array, Object}
+use Rattle.jx_reduce.specs.declared.table.expect.Expect.{Expect}
+use Rattle.jx_reduce.specs.declared.table.expect.Expect.TheVariants.{Value, ArrayFirst, ObjectFirst, Name, Colon, After}
+use Rattle.jx_reduce.specs.declared.stack.bracket_walk.Innermost.{Innermost}
+use Rattle.jx_reduce.specs.declared.table.holder.Holder.{Holder}
+use Rattle.jx_reduce.specs.declared.table.holder.Holder.TheVariants.{Array, Object}
 
 -- what may stand next, by three bits: a value, a name, and whether it is the first of its container; neither of both and the third: a colon
 abbrev pub expect_at : Bool → Bool → Bool → Expect

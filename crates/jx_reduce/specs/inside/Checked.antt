@@ -3,10 +3,10 @@ use Rattle.std.specs.Prelude.{◌≡◌, ℕ, ◌+◌, Bool, true, not, ◌&&◌
 use Rattle.std.specs.List.{list_all}
 use Rattle.jx_reduce.specs.Form.{Form, level_of}
 use Rattle.jx_reduce.specs.Join.{all_faulted}
-use Rattle.jx_reduce.specs.declared.ended_level.EndedLevel.{EndedLevel}
-use Rattle.jx_reduce.specs.declared.level.Level.{Level}
-use Rattle.jx_reduce.specs.declared.checks.Bound.{Bound}
-use Rattle.jx_reduce.specs.declared.checks.Bound.TheVariants.{Above, Below}
+use Rattle.jx_reduce.specs.declared.forms.ended_level.EndedLevel.{EndedLevel}
+use Rattle.jx_reduce.specs.declared.forms.level.Level.{Level}
+use Rattle.jx_reduce.specs.declared.forms.checks.Bound.{Bound}
+use Rattle.jx_reduce.specs.declared.forms.checks.Bound.TheVariants.{Above, Below}
 
 abbrev pub is_in : Bound → ℕ → Bool
 is_in (Above low) p = nat_lt low p

@@ -4,8 +4,8 @@ use Rattle.jx_reduce.specs.Form.{Form}
 use Rattle.jx_reduce.specs.Join.{joined}
 use Rattle.jx_reduce.specs.Levels.{HasRoomOf}
 use Rattle.jx_reduce.specs.Reductions.{Forms, form_at}
-use Rattle.jx_reduce.specs.declared.reduced.Reduced.{Reduced}
-use Rattle.jx_reduce.specs.declared.entry.Entry.{Entry}
+use Rattle.jx_reduce.specs.declared.reducing.reduced.Reduced.{Reduced}
+use Rattle.jx_reduce.specs.declared.forms.entry.Entry.{Entry}
 
 abbrev pub followed_by : ℕ → Form → Forms → Option Entry → Form
 followed_by d l r None = l

@@ -2,12 +2,12 @@
 use Rattle.std.specs.Prelude.{◌≡◌, ◌≤◌, List, [], Option, Some, None, length}
 use Rattle.jx_reduce.specs.Read.{Reading, went, stopped, too_deep}
 use Rattle.jx_reduce.specs.KnownStack.{Known}
-use Rattle.jx_reduce.specs.declared.holder.Holder.{Holder}
-use Rattle.jx_reduce.specs.declared.expect.Expect.{Expect}
-use Rattle.jx_reduce.specs.declared.expect.Expect.TheVariants.{After}
-use Rattle.jx_reduce.specs.declared.known_stack.Fault.{Fault}
-use Rattle.jx_reduce.specs.declared.known_stack.Fault.TheVariants.{Stopped, TooDeep}
-use Rattle.jx_reduce.specs.declared.known_stack.KnownStack.TheInside.{Inside}
+use Rattle.jx_reduce.specs.declared.table.holder.Holder.{Holder}
+use Rattle.jx_reduce.specs.declared.table.expect.Expect.{Expect}
+use Rattle.jx_reduce.specs.declared.table.expect.Expect.TheVariants.{After}
+use Rattle.jx_reduce.specs.declared.stack.known_stack.Fault.{Fault}
+use Rattle.jx_reduce.specs.declared.stack.known_stack.Fault.TheVariants.{Stopped, TooDeep}
+use Rattle.jx_reduce.specs.declared.stack.known_stack.KnownStack.TheInside.{Inside}
 
 abbrev pub fault_reading : Fault → Reading
 fault_reading (Stopped at) = stopped at

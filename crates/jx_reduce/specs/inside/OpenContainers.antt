@@ -1,8 +1,8 @@
 -- Open containers in a word and in full words around it.
 use Rattle.std.specs.Prelude.{◌≡◌, ◌^◌, ◌<◌, ◌≤◌, List, [], ◌++◌, reverse}
 use Rattle.jx_reduce.specs.Bits.{in_word, in_words}
-use Rattle.jx_reduce.specs.declared.holder.Holder.{Holder}
-use Rattle.jx_reduce.specs.declared.open_containers.OpenContainers.TheInside.{Inside}
+use Rattle.jx_reduce.specs.declared.table.holder.Holder.{Holder}
+use Rattle.jx_reduce.specs.declared.stack.open_containers.OpenContainers.TheInside.{Inside}
 
 abbrev pub holders_in : Inside → List Holder
 holders_in a = in_word a.count a.bits ++ in_words (reverse a.words.items)

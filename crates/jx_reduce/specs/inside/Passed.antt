@@ -6,11 +6,11 @@ use Rattle.jx_lex.specs.Lex.{lex}
 use Rattle.jx_lex.specs.declared.alphabet.mark.MarkKind.TheVariants.{Comma, CloseArray, CloseObject}
 use Rattle.jx_reduce.specs.Read.{Reading, read, top, without_top}
 use Rattle.jx_reduce.specs.Table.{next_of}
-use Rattle.jx_reduce.specs.declared.holder.Holder.{Holder}
-use Rattle.jx_reduce.specs.declared.expect.Expect.{Expect}
-use Rattle.jx_reduce.specs.declared.expect.Expect.TheVariants.{Value, ArrayFirst, After}
-use Rattle.jx_reduce.specs.declared.whole_tokens.Turn.{Turn}
-use Rattle.jx_reduce.specs.declared.whole_tokens.Turn.TheVariants.{On, Stop}
+use Rattle.jx_reduce.specs.declared.table.holder.Holder.{Holder}
+use Rattle.jx_reduce.specs.declared.table.expect.Expect.{Expect}
+use Rattle.jx_reduce.specs.declared.table.expect.Expect.TheVariants.{Value, ArrayFirst, After}
+use Rattle.jx_reduce.specs.declared.stack.whole_tokens.Turn.{Turn}
+use Rattle.jx_reduce.specs.declared.stack.whole_tokens.Turn.TheVariants.{On, Stop}
 
 -- the bytes are read from between tokens to between tokens, and their marks lead from one reading to the other
 pub record Reads (depth : ℕ) (text : List ℕ) (from to : ℕ) (old new : Reading) : Type 0 where

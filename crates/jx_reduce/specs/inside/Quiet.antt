@@ -7,11 +7,11 @@ use Rattle.jx_reduce.specs.Form.{Form}
 use Rattle.jx_reduce.specs.Join.{all_faulted}
 use Rattle.jx_reduce.specs.Marks.{pushed}
 use Rattle.jx_reduce.specs.Table.{next_of}
-use Rattle.jx_reduce.specs.declared.entry.Entry.{Entry}
-use Rattle.jx_reduce.specs.declared.holder.Holder.{Holder}
-use Rattle.jx_reduce.specs.declared.holder.Holder.TheVariants.{Array, Object, Bottom}
-use Rattle.jx_reduce.specs.declared.level.Level.{Level}
-use Rattle.jx_reduce.specs.declared.quiet.Limits.{Limits}
+use Rattle.jx_reduce.specs.declared.forms.entry.Entry.{Entry}
+use Rattle.jx_reduce.specs.declared.table.holder.Holder.{Holder}
+use Rattle.jx_reduce.specs.declared.table.holder.Holder.TheVariants.{Array, Object, Bottom}
+use Rattle.jx_reduce.specs.declared.forms.level.Level.{Level}
+use Rattle.jx_reduce.specs.declared.forms.quiet.Limits.{Limits}
 use Rattle.jx_lex.specs.declared.alphabet.mark.Mark.{Mark}
 use Rattle.jx_lex.specs.declared.alphabet.mark.MarkKind.{MarkKind}
 

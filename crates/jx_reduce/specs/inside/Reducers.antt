@@ -5,9 +5,9 @@ use Rattle.jx_reduce.specs.Reducer.{ReducerValue, past}
 use Rattle.jx_reduce.specs.Structure.{AreIn}
 use Rattle.jx_reduce.specs.inside.Quiet.{AreLimits}
 use Rattle.jx_reduce.specs.inside.Structures.{of_making, IsSound, Waits}
-use Rattle.jx_reduce.specs.declared.quiet.Limits.{Limits}
-use Rattle.jx_reduce.specs.declared.reducer.Reducer.TheInside.{Inside}
-use Rattle.jx_reduce.specs.declared.structure.Making.{Making}
+use Rattle.jx_reduce.specs.declared.forms.quiet.Limits.{Limits}
+use Rattle.jx_reduce.specs.declared.reducing.reducer.Reducer.TheInside.{Inside}
+use Rattle.jx_reduce.specs.declared.forms.structure.Making.{Making}
 
 abbrev pub reducer_of : Inside → ReducerValue
 reducer_of a = record { depth = a.depth; structure = of_making a.depth a.making; last = a.last; rising = a.rising }

@@ -1,8 +1,8 @@
 -- A reduced form whose offsets grow by so many bytes, where they fit a word.
 use Rattle.std.specs.Prelude.{ℕ, ◌+◌, ◌-◌, ◌^◌, min, Option, Some, None, map}
 use Rattle.jx_reduce.specs.Form.{Form}
-use Rattle.jx_reduce.specs.declared.level.Level.{Level}
-use Rattle.jx_reduce.specs.declared.ended_level.EndedLevel.{EndedLevel}
+use Rattle.jx_reduce.specs.declared.forms.level.Level.{Level}
+use Rattle.jx_reduce.specs.declared.forms.ended_level.EndedLevel.{EndedLevel}
 
 abbrev pub shifted_offset : ℕ → ℕ → ℕ
 shifted_offset by at = min (by + at) (2 ^ 64 - 1)

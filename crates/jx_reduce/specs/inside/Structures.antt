@@ -10,13 +10,13 @@ use Rattle.jx_reduce.specs.Offsets.{RisingFrom}
 use Rattle.jx_reduce.specs.Reduced.{depth_of, form_in}
 use Rattle.jx_reduce.specs.Structure.{StructureValue, AreIn}
 use Rattle.jx_reduce.specs.inside.Shifted.{shifted_form, shifted_offset}
-use Rattle.jx_reduce.specs.declared.entry.Entry.{Entry}
-use Rattle.jx_reduce.specs.declared.entry.Entry.TheVariants.{Value as AnyValue, After as AnyAfter}
+use Rattle.jx_reduce.specs.declared.forms.entry.Entry.{Entry}
+use Rattle.jx_reduce.specs.declared.forms.entry.Entry.TheVariants.{Value as AnyValue, After as AnyAfter}
 use Rattle.jx_reduce.specs.Levels.{form_of}
-use Rattle.jx_reduce.specs.declared.levels.Levels.{Levels}
-use Rattle.jx_reduce.specs.declared.structure.Making.{Making}
-use Rattle.jx_reduce.specs.declared.structure.Rest.{Rest}
-use Rattle.jx_reduce.specs.declared.structure.Structure.TheInside.{Inside}
+use Rattle.jx_reduce.specs.declared.forms.levels.Levels.{Levels}
+use Rattle.jx_reduce.specs.declared.forms.structure.Making.{Making}
+use Rattle.jx_reduce.specs.declared.forms.structure.Rest.{Rest}
+use Rattle.jx_reduce.specs.declared.forms.structure.Structure.TheInside.{Inside}
 use Rattle.jx_lex.specs.declared.alphabet.mark.Mark.{Mark}
 use Rattle.jx_lex.specs.declared.alphabet.mark.MarkKind.TheVariants.{String}
 

@@ -4,8 +4,8 @@ use Rattle.jx_reduce.specs.Form.{Form}
 use Rattle.jx_reduce.specs.Marks.{of_nothing}
 use Rattle.jx_reduce.specs.Reduced.{depth_of, form_in}
 use Rattle.jx_reduce.specs.Reductions.{Forms}
-use Rattle.jx_reduce.specs.declared.entry.Entry.TheVariants.{Value as AnyValue}
-use Rattle.jx_reduce.specs.declared.reductions.Reductions.TheInside.{Inside}
+use Rattle.jx_reduce.specs.declared.forms.entry.Entry.TheVariants.{Value as AnyValue}
+use Rattle.jx_reduce.specs.declared.reducing.reductions.Reductions.TheInside.{Inside}
 
 -- the form in this place
 abbrev pub nth : List Form → ℕ → Form

@@ -1,12 +1,13 @@
 -- Structures of the marks of tracks.
 use Rattle.std.specs.Prelude.{◌≡◌, ℕ, ◌≤◌, ◌<◌, ◌+◌, List, [], ◌∷◌, All, Option, Some, length, flat_map, slice_get}
-use Rattle.jx_lex.specs.declared.map.link.Link.TheVariants.{Ahead}
+use Rattle.jx_maps.specs.declared.link.Link.TheVariants.{Ahead}
 use Rattle.jx_lex.specs.declared.alphabet.mark.Mark.{Mark}
 use Rattle.jx_lex.specs.declared.alphabet.state.LexState.{LexState}
-use Rattle.jx_lex.specs.Follow.{SegmentValue}
+use Rattle.jx_maps.specs.Follow.{SegmentValue}
 use Rattle.jx_lex.specs.Lex.{Track}
-use Rattle.jx_lex.specs.Map.{Map, track}
-use Rattle.jx_lex.specs.View.{exit_of, marks_at, path_from}
+use Rattle.jx_maps.specs.Map.{Map, track}
+use Rattle.jx_lex.specs.Exit.{exit_of}
+use Rattle.jx_maps.specs.View.{marks_at, path_from}
 use Rattle.jx_reduce.specs.Offsets.{EachIn, RisingFrom}
 use Rattle.jx_reduce.specs.Structure.{StructureValue, IsOf, SpansIn}
 use Rattle.jx_run.specs.declared.runs.reduce.Lone.{Lone}

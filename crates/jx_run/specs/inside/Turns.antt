@@ -1,10 +1,10 @@
 -- What a mark does, read off the table of moves in one word.
 use Rattle.std.specs.Prelude.{Option, Some, None}
 use Rattle.jx_lex.specs.declared.alphabet.mark.MarkKind.{MarkKind}
-use Rattle.jx_reduce.specs.declared.expect.Expect.{Expect}
-use Rattle.jx_reduce.specs.declared.expect.Expect.TheVariants.{After, ArrayFirst, ObjectFirst}
-use Rattle.jx_reduce.specs.declared.holder.Holder.{Holder}
-use Rattle.jx_reduce.specs.declared.holder.Holder.TheVariants.{Array, Object}
+use Rattle.jx_reduce.specs.declared.table.expect.Expect.{Expect}
+use Rattle.jx_reduce.specs.declared.table.expect.Expect.TheVariants.{After, ArrayFirst, ObjectFirst}
+use Rattle.jx_reduce.specs.declared.table.holder.Holder.{Holder}
+use Rattle.jx_reduce.specs.declared.table.holder.Holder.TheVariants.{Array, Object}
 use Rattle.jx_reduce.specs.Table.{next_of, Change, same, added, removed, change_of, where_value, where_string, where_close_array, where_close_object, where_colon, where_comma}
 
 pub data Turn : Type 0 where

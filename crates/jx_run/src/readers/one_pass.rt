@@ -3,7 +3,7 @@ ghost use Rattle.std.specs.Prelude.{◌≡◌, ◌≤◌, ◌<◌, ℕ, List, []
 ghost use Rattle.jx_lex.specs.declared.alphabet.state.LexState.TheVariants.{Gap};
 ghost use Rattle.jx_lex.specs.Lex.{lex};
 ghost use Rattle.jx_lex.specs.Seen.{SeesTrack, WantsNoMore};
-ghost use Rattle.jx_lex.specs.View.{exit_of};
+ghost use Rattle.jx_lex.specs.Exit.{exit_of};
 ghost use Rattle.jx_run.specs.Verdict.{Judged};
 ghost use Rattle.jx_run.specs.declared.texts.verdict.Verdict.TheVariants.{Accepted};
 

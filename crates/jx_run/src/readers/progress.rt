@@ -4,7 +4,7 @@ ghost use Rattle.jx_lex.specs.declared.alphabet.mark.Mark.{Mark};
 ghost use Rattle.jx_lex.specs.declared.alphabet.state.LexState.TheVariants.{Gap};
 ghost use Rattle.jx_lex.specs.Lex.{lex};
 ghost use Rattle.jx_lex.specs.Seen.{GoesTo, SeesTrack, WantsNoMore};
-ghost use Rattle.jx_lex.specs.View.{exit_of};
+ghost use Rattle.jx_lex.specs.Exit.{exit_of};
 ghost use Rattle.jx_reduce.specs.KnownStack.{Known, HasRead as StackHasRead};
 ghost use Rattle.jx_reduce.specs.Read.{Reading, read as read_marks};
 ghost use Rattle.jx_reduce.specs.Whole.{whole_of};

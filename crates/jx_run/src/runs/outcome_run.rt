@@ -1,13 +1,13 @@
 // Runs over parts of a JSON text that keep no marks.
 ghost use Rattle.std.specs.Prelude.{◌≡◌, ◌<◌, ◌≤◌, ◌+◌, ◌-◌, ◌^◌, ◌↔◌, ℕ, All, List, [], ◌++◌, length, Some, slice_get, slice_range, IsTrue, IfOk, IfErr, OnOk, OnErr};
 ghost use Rattle.std.specs.Option.{SomeIff};
-ghost use Rattle.jx_lex.specs.Map.{IsOf};
+ghost use Rattle.jx_maps.specs.Map.{IsOf};
 ghost use Rattle.jx_lex.specs.Ordinal.{all_states, ordinal};
-ghost use Rattle.jx_lex.specs.View.{exit_of};
+ghost use Rattle.jx_lex.specs.Exit.{exit_of};
 ghost use Rattle.jx_reduce.specs.Structure.{answer, answer_from, IsSmall, SpansIn};
 ghost use Rattle.jx_reduce.specs.Whole.{whole_of};
-ghost use Rattle.jx_reduce.specs.declared.expect.Expect.TheVariants.{Value};
-ghost use Rattle.jx_reduce.specs.declared.holder.Holder.{Holder};
+ghost use Rattle.jx_reduce.specs.declared.table.expect.Expect.TheVariants.{Value};
+ghost use Rattle.jx_reduce.specs.declared.table.holder.Holder.{Holder};
 ghost use Rattle.jx_run.specs.inside.Joins.{AreJoined, AreJoinedTransitions, AreMade, GoesThrough, IsAbove, IsMade, IsMadeAt, IsThere};
 ghost use Rattle.jx_run.specs.inside.Moved.{AreMoved};
 ghost use Rattle.jx_run.specs.OutcomeRun.{entries_at, exit_at, outcome_span, run_of_parts, AreUsed, Entries, IsOutcomeRun, IsFormWithin, IsWellFormed};
@@ -22,7 +22,8 @@ use crate::runs::reduce::all_transitions;
 use crate::runs::rest::rest_transitions;
 use crate::runs::transition::{Transition, transitions_shifted};
 use crate::texts::verdict::{Refusal, Verdict};
-use jx_lex::{ChunkMap, Depth, JoinFault, LexExit, LexState, Span};
+use jx_lex::{Depth, JoinFault, LexExit, LexState, Span};
+use jx_maps::ChunkMap;
 use jx_reduce::{EntryView, Expect, Structure, Whole, structures_lie_in_spans};
 use jx_summary::Summary;
 use std::alloc::{AllocError, Global};

@@ -1,8 +1,8 @@
 // The transitions of a chunk map and their structures. The marks of each segment are reduced once, and those of each path.
 ghost use Rattle.std.specs.Prelude.{◌≡◌, ◌<◌, ◌≤◌, ◌+◌, ◌++◌, [], ◌∷◌, List, All, None, Some, length, flat_map, IfOk, IfSome, IsSomeAnd, IsTrue, OnOk};
-ghost use Rattle.jx_lex.specs.Map.{track};
+ghost use Rattle.jx_maps.specs.Map.{track};
 ghost use Rattle.jx_lex.specs.Ordinal.{all_states};
-ghost use Rattle.jx_lex.specs.View.{marks_at, view_track};
+ghost use Rattle.jx_maps.specs.View.{marks_at, view_track};
 ghost use Rattle.jx_lex.specs.declared.alphabet.mark.Mark.{Mark};
 ghost use Rattle.jx_reduce.specs.Offsets.{EachIn, RisingFrom};
 ghost use Rattle.jx_run.specs.inside.Joins.{IsAbove};
@@ -10,7 +10,8 @@ ghost use Rattle.jx_run.specs.OutcomeRun.{IsFormWithin};
 ghost use Rattle.jx_run.specs.inside.Reduced.{path_at, AreInside, ArePaths, AreReduced, AreRising, AreTransitionsOf, IsAt, IsLoneIn, IsReduced};
 
 use crate::runs::transition::Transition;
-use jx_lex::{ChunkMap, Depth, LexState, Mark, Path, Segment, TrackView};
+use jx_lex::{Depth, LexState, Mark};
+use jx_maps::{ChunkMap, Path, Segment, TrackView};
 use jx_reduce::{Structure, structures_lie_in_spans};
 use std::alloc::{AllocError, Global};
 

@@ -1,10 +1,10 @@
 // Runs over parts of a JSON text.
 ghost use Rattle.std.specs.Prelude.{◌≡◌, ◌≤◌, ℕ, List, length, Some, IfOk};
 ghost use Rattle.jx_lex.specs.declared.alphabet.state.LexState.TheVariants.{Gap};
-ghost use Rattle.jx_lex.specs.Map.{track};
-ghost use Rattle.jx_lex.specs.View.{exit_of};
+ghost use Rattle.jx_maps.specs.Map.{track};
+ghost use Rattle.jx_lex.specs.Exit.{exit_of};
 ghost use Rattle.jx_reduce.specs.Structure.{answer_from, IsSmall};
-ghost use Rattle.jx_reduce.specs.declared.holder.Holder.{Holder};
+ghost use Rattle.jx_reduce.specs.declared.table.holder.Holder.{Holder};
 ghost use Rattle.jx_run.specs.OutcomeRun.{entries_at, exit_at, Entries};
 ghost use Rattle.jx_run.specs.Reading.{at_exit, read};
 ghost use Rattle.jx_run.specs.Started.{IsStarted};
@@ -14,7 +14,8 @@ ghost use Rattle.jx_run.specs.Verdict.{Judged};
 use crate::readers::started::Started;
 use crate::runs::outcome_run::OutcomeRun;
 use crate::texts::verdict::Verdict;
-use jx_lex::{ChunkMap, Depth, Ends, JoinFault, LexExit, LexState, Mark, Marks, Span};
+use jx_lex::{Depth, JoinFault, LexExit, LexState, Mark, Span};
+use jx_maps::{ChunkMap, Ends, Marks};
 use jx_reduce::{EntryView, Expect};
 use jx_summary::Summary;
 use std::alloc::{AllocError, Global};

@@ -1,5 +1,6 @@
 -- What is kept of the names of chunks, in blocks of 64.
-use Rattle.std.specs.Prelude.{◌≡◌, ℕ, ◌/◌, List, length, slice_get, All, Contains, Some, true, false}
+use Rattle.std.specs.Prelude.{◌≡◌, ℕ, ◌-◌, ◌/◌, ◌<◌, ◌^◌, List, length, not, slice_get, All, Contains, Some, true, false}
+use Rattle.std.specs.List.{AllByRecursion}
 use Rattle.jx_saved.specs.Chunks.{IsCount}
 use Rattle.jx_name_tables.specs.declared.tables.NameTable.{NameTable}
 use Rattle.jx_name_tables.specs.declared.tables.NameTables.{NameTables}
@@ -7,6 +8,7 @@ use Rattle.jx_name_tables.specs.Hash.{name_hash}
 use Rattle.jx_name_tables.specs.Tables.{key_of, IsTableOf}
 use Rattle.jx_saved_names.specs.declared.blocks.Blocks.{Blocks}
 use Rattle.jx_saved_names.specs.declared.blocks.OpenBlock.{OpenBlock}
+use Rattle.jx_saved_names.specs.Saved.{FitsKeys, FitsTable}
 
 -- of the names of all chunks, these keys have those of a block's own
 abbrev pub HasBlock : List (List (List ℕ)) → ℕ → List ℕ → Type 0
@@ -26,3 +28,17 @@ AreBlocksOf names b = AreFilled names b.tables.items b.open b.chunks
 pub record AreBlockTables (names : List (List (List ℕ))) (t : NameTables) : Type 0 where
   pub counted : IsCount 64 (length names) (length t.tables.items)
   pub each : (block : ℕ) (table : NameTable) → slice_get t.tables.items block ≡ Some table → table.is_kept ≡ true → IsTableOf names block table.keys.items
+
+-- ---- what is kept fits the bytes of tables
+
+-- so many keys are counted in four bytes, of which not all bits are set
+abbrev pub IsKeyCount : ℕ → Type 0
+IsKeyCount n = n < 2 ^ 32 - 1
+
+-- the block will have a table that fits: where its names were too many, it has no key
+abbrev pub FitsOpen : OpenBlock → Type 0
+FitsOpen b = FitsKeys (not b.is_full) b.keys.items
+
+pub record FitBlocks (b : Blocks) : Type 0 where
+  pub tables : AllByRecursion FitsTable b.tables.items
+  pub last : FitsOpen b.open

@@ -1,5 +1,5 @@
 -- What was read of an input whose index is saved.
-use Rattle.std.specs.Prelude.{◌≡◌, ℕ, List, Bool, true, false, Option, None, Some, Result, Ok, Err}
+use Rattle.std.specs.Prelude.{◌≡◌, ℕ, List, Bool, Option, Result, Ok, Err}
 use Rattle.std.specs.Io.KnownBytes.{Consumes}
 use Rattle.jx_run.specs.declared.texts.settings.NameRule.TheVariants.{Any, Unique}
 use Rattle.jx_run.specs.declared.texts.settings.Settings.{Settings}
@@ -12,14 +12,13 @@ use Rattle.jx_saved.specs.declared.index.Index.{Index}
 use Rattle.jx_saved.specs.declared.indexer.Indexer.{Indexer}
 use Rattle.jx_saved.specs.Index.{IsIndexOf}
 use Rattle.jx_saved.specs.Indexer.{HasFed}
-use Rattle.jx_saved_names.specs.declared.names_maker.NamesMaker.{NamesMaker}
 use Rattle.jx_saved_names.specs.declared.saved_text.SavedText.{SavedText}
-use Rattle.jx_saved_names.specs.Fed as tables
+use Rattle.jx_saved_names.specs.IfAsked.{AreFed, HasNames}
+use Rattle.jx_saved_names.specs.Saved.{HasTablesToo}
 use Rattle.jx_ends.specs.Ends.{ReadsToEnd}
 use Rattle.jx_saved_report.specs.declared.naming.TextSaving.{TextSaving}
 use Rattle.jx_saved_report.specs.declared.saving.Saving.{Saving}
 use Rattle.jx_saved_report.specs.declared.saving.Saving.TheVariants as saving
-use Rattle.jx_saved_report.specs.Output.{HasNames}
 
 -- the same settings, but for the names, which may be any
 abbrev pub any_names : Settings → Settings
@@ -43,13 +42,6 @@ Comes settings chunk text (Err refusal) = IsVerdictBy settings text (Refused ref
 
 -- ---- with tables of names, where these are asked for
 
--- a maker of tables was fed these bytes, where there has to be one
-abbrev pub AreFed : Bool → Settings → ℕ → List ℕ → Option NamesMaker → Type 0
-AreFed true settings chunk bytes (Some maker) = tables.HasFed settings chunk bytes maker
-AreFed true settings chunk bytes None = ⊥
-AreFed false settings chunk bytes (Some maker) = ⊥
-AreFed false settings chunk bytes None = Unit {0}
-
 -- these bytes were read from the start of an input
 pub record IsTextSavingOf (has_names : Bool) (settings : Settings) (chunk : ℕ) (bytes : List ℕ) (saving : TextSaving) : Type 0 where
   pub index : IsSavingOf settings chunk bytes saving.index
@@ -66,6 +58,7 @@ pub record IsSaved (has_names : Bool) (settings : Settings) (chunk : ℕ) (text 
   pub accepted : IsVerdictBy settings text Accepted
   pub index : IsIndexOf settings chunk text saved.index
   pub names : HasNames has_names settings chunk text saved.names
+  pub savable : HasTablesToo saved.index saved.names
 
 -- what a text comes to: what is saved of it, or why it is none
 abbrev pub ComesToSaved : Bool → Settings → ℕ → List ℕ → Result SavedText Refusal → Type 0

@@ -1,7 +1,7 @@
 // Maps of neighbours, joined.
 ghost use Rattle.std.specs.Prelude.{◌≡◌, ◌≤◌, length, IfOk};
 
-use jx_lex::ChunkMap;
+use jx_maps::ChunkMap;
 use std::alloc::{AllocError, Global};
 use test_words::{Line, Out};
 

@@ -3,7 +3,8 @@ ghost use Rattle.std.specs.Prelude.{◌≤◌, length};
 
 use crate::lex::joins::{Joined, joined_at};
 use crate::lex::track::Track;
-use jx_lex::{ChunkMap, LexState, Span};
+use jx_lex::{LexState, Span};
+use jx_maps::ChunkMap;
 use std::alloc::{AllocError, Global};
 use test_words::{Line, LineFault, Meeting, Out, Ways, meeting_within, span_within};
 

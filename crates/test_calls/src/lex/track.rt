@@ -1,5 +1,6 @@
 // What reading from one state gives: marks, ends and an exit.
-use jx_lex::{LexExit, LexState, Mark, TokenEnd, TrackView, step};
+use jx_lex::{LexExit, LexState, Mark, TokenEnd, step};
+use jx_maps::TrackView;
 use std::alloc::{AllocError, Global};
 use test_words::{Out, push_numbers};
 

@@ -3,7 +3,8 @@ ghost use Rattle.std.specs.Prelude.{◌≡◌, ◌≤◌, length};
 
 use crate::lex::joins::joined_at;
 use crate::lex::track::Track;
-use jx_lex::{ChunkMap, LexState, Mark, Span};
+use jx_lex::{LexState, Mark, Span};
+use jx_maps::ChunkMap;
 use std::alloc::{AllocError, Global};
 use test_words::{Line, LineFault, push_span};
 

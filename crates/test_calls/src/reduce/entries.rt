@@ -2,13 +2,13 @@
 ghost use Rattle.std.specs.Prelude.{◌≡◌, ◌≤◌, ◌<◌, ◌^◌, IfSome, length};
 ghost use Rattle.jx_reduce.specs.Offsets.{EachIn, RisingFrom};
 
+use crate::reduce::joins::joined_at;
 use crate::reduce::marks::marks;
 use crate::reduce::outcomes::{push_expect, push_holders, push_offset, push_outcome, push_whole};
-use crate::reduce::structures::{Maker, joined_at, structure_of};
 use jx_lex::{Depth, Mark};
 use jx_reduce::{Holder, Level, Reduced, Reductions};
 use std::alloc::{AllocError, Global};
-use test_words::{Line, Out, push_numbers};
+use test_words::{Line, Maker, Out, push_numbers, structure_of};
 
 /// Where a list of so many marks is cut, if there is a word more.
 fn cut(line: &mut Line<'_>, count: usize) -> Option<usize>

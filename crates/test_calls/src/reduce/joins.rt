@@ -1,57 +1,34 @@
-// Structures of whole lists and of joined parts, beside the table of moves.
-ghost use Rattle.std.specs.Prelude.{◌≡◌, ◌≤◌, length};
+// Structures of both parts of lists of marks, joined.
+ghost use Rattle.std.specs.Prelude.{◌≡◌, ◌≤◌, IfOk, length};
 ghost use Rattle.jx_reduce.specs.Offsets.{RisingFrom};
 
 use crate::reduce::marks::marks;
-use crate::reduce::structures::{Maker, joined_at};
-use crate::reduce::table::{EXPECTS, HOLDER_LISTS, read_by_table};
 use jx_lex::{Depth, Mark};
-use jx_reduce::{Expect, Holder, Reduced, Reductions};
+use jx_reduce::Reductions;
 use std::alloc::{AllocError, Global};
-use test_words::{Line, Out};
+use test_words::{HOLDER_LISTS, Line, Maker, Out, all_by_table, comes_to, parts_of};
 
-/// Whether the entry answers as the table does, over each list of at most three containers.
-fn is_entry_as_table(
+/// The structures of both parts of a list, joined.
+pub(crate) fn joined_at(
     alloc: Global,
-    entry: &Reduced,
     marks: &[Mark],
-    expect: Expect,
-) -> Result<bool, AllocError> {
-    for holders in &HOLDER_LISTS {
-        if !is_over_as_table(alloc, entry, marks, expect, holders)? {
-            return Ok(false);
-        }
+    cut: usize,
+    depth: Depth,
+    maker: Maker,
+) -> Result<Reductions, AllocError>
+    requires rising { RisingFrom 0 marks.now }
+    requires cut { cut ≤ length marks.now }
+    ensures { IfOk result (λ r. r.depth ≡ depth) }
+{
+    let (left, right) = parts_of(alloc, marks, cut, depth, maker)?;
+    match left.join(right) {
+        Ok(both) => Ok(both),
+        Err(_) => Err(AllocError),
     }
-    Ok(true)
 }
 
-/// Whether the entry answers as the table does over these open containers, where there are no more than its depth.
-fn is_over_as_table(
-    alloc: Global,
-    entry: &Reduced,
-    marks: &[Mark],
-    expect: Expect,
-    holders: &[Holder],
-) -> Result<bool, AllocError> {
-    let depth = entry.depth().containers() as usize;
-    if holders.len() > depth {
-        return Ok(true);
-    }
-    let wanted = read_by_table(alloc, marks, depth, expect, holders)?;
-    Ok(entry.act(holders)? == wanted)
-}
-
-/// Whether the structure answers as the table does, from each expectation.
-fn is_as_table(alloc: Global, all: &Reductions, marks: &[Mark]) -> Result<bool, AllocError> {
-    for expect in &EXPECTS {
-        if !is_entry_as_table(alloc, all.entry(*expect), marks, *expect)? {
-            return Ok(false);
-        }
-    }
-    Ok(true)
-}
-
-/// Tells where joins of structures that are made so answer otherwise than the table.
+/// Tells where joins of structures that are made so answer otherwise than the table, from each expectation and over each list of at
+/// most three containers.
 fn push_odd_cuts(
     out: &mut Out,
     alloc: Global,
@@ -61,9 +38,10 @@ fn push_odd_cuts(
 ) -> Result<(), AllocError>
     requires rising { RisingFrom 0 marks.now }
 {
+    let wanted = all_by_table(alloc, marks, depth, &HOLDER_LISTS)?;
     for cut in 0..=marks.len() {
         let both = joined_at(alloc, marks, cut, depth, maker)?;
-        if !is_as_table(alloc, &both, marks)? {
+        if !comes_to(&both, &HOLDER_LISTS, &wanted)? {
             out.put(format_args!("; otherwise cut at {cut}"));
         }
     }

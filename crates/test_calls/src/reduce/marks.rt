@@ -2,27 +2,9 @@
 ghost use Rattle.std.specs.Prelude.{◌≡◌, ◌≤◌, ◌<◌, ◌^◌, ℕ, IfOk, IfSome};
 ghost use Rattle.jx_reduce.specs.Offsets.{EachIn, RisingFrom};
 
-use jx_lex::{Mark, MarkKind};
+use jx_lex::Mark;
 use std::alloc::Global;
-use test_words::{Line, LineFault};
-
-/// The kind of mark that this letter stands for.
-fn kind_of(letter: u8) -> Option<MarkKind> {
-    match letter {
-        b'[' => Some(MarkKind::OpenArray),
-        b']' => Some(MarkKind::CloseArray),
-        b'{' => Some(MarkKind::OpenObject),
-        b'}' => Some(MarkKind::CloseObject),
-        b':' => Some(MarkKind::Colon),
-        b',' => Some(MarkKind::Comma),
-        b's' => Some(MarkKind::String),
-        b'n' => Some(MarkKind::Number),
-        b't' => Some(MarkKind::True),
-        b'f' => Some(MarkKind::False),
-        b'z' => Some(MarkKind::Null),
-        _ => None,
-    }
-}
+use test_words::{Line, LineFault, kind_of};
 
 /// The offset that these digits spell, below 2^32.
 fn offset_of(digits: &[u8]) -> Option<usize>

@@ -3,6 +3,7 @@ use jx_lex::{LexExit, LexState};
 use jx_reduce::{Expect, Whole};
 use jx_run::{OutcomeRun, SeqRun, Shape, Started, Summary, TextRun};
 use std::alloc::{AllocError, Global};
+use test_words::EXPECTS;
 
 /// A run that can be compared with another.
 pub trait Likeness: Summary {
@@ -11,15 +12,6 @@ pub trait Likeness: Summary {
     /// same readings from the start.
     fn is_like(&self, other: &Self) -> bool;
 }
-
-const EXPECTS: [Expect; 6] = [
-    Expect::Value,
-    Expect::ArrayFirst,
-    Expect::ObjectFirst,
-    Expect::Name,
-    Expect::Colon,
-    Expect::After,
-];
 
 // A run as it is read from each state and expectation.
 trait Readings: Summary {

@@ -1,12 +1,11 @@
 // Lists of marks, made at once, joined at each place and read one by one, beside the table of moves.
 mod by_chance;
+mod chance;
 mod drawn;
 mod extends;
 mod known_stacks;
 mod lists;
 mod readings;
 mod reducers;
-mod table;
 
 pub(crate) use lists::{is_same, joined_at, mark};
-pub(crate) use table::{all_by_table, answers};

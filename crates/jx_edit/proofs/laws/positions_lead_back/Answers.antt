@@ -1,4 +1,4 @@
-use Rattle.jx_edit.proofs.Positions.{last_is, leads_back}
+use Rattle.jx_edit.proofs.Counting.{last_is, leads_back}
 use Rattle.jx_edit.proofs.laws.positions_lead_back.Goals as goal
 
 pub returns-clause-back : goal.returns-clause-back

@@ -1,16 +1,12 @@
 use Rattle.std.proofs.Common.{ap, subst, sym}
 use Rattle.std.specs.Prelude.{Err}
-use Rattle.jx_files.specs.declared.file_fault.FileFault.{FileFault}
 use Rattle.jx_files.specs.declared.file_fault.FileFault.TheVariants.{Read}
 use Rattle.jx_files.specs.declared.reason.Reason.{Reason}
 use Rattle.jx_files.specs.Files.{ways_of, not_opened, not_read, too_long, no_memory, IsFaultAt}
 use Rattle.jx_files.proofs.reports.answer_on.Goals as goal
 
 pub returns-in-Err-clause-err : goal.returns-in-Err-clause-err
-returns-in-Err-clause-err g c =
-    let ways = ways_of (g.O.Opener.opens c.args.opener.now) (g.O.Opener.why c.args.opener.now) g.S.Source.remaining g.S.Source.has_failed in
-    subst (λ (f : FileFault). IsFaultAt ways c.args.command.now c.args.word.now f) (sym c.of_opening.ensures)
-    (not_opened c.in-Err.fault c.in-Err.ensures.gives)
+returns-in-Err-clause-err g c = not_opened c.in-Err.fault c.in-Err.ensures.gives
 
 pub returns-in-Err-Read-clause-err : goal.returns-in-Err-Read-clause-err
 returns-in-Err-Read-clause-err g c =

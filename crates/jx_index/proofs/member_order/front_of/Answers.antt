@@ -1,4 +1,4 @@
-use Rattle.std.proofs.Common.{◌≡◌, ◌+◌, ◌*◌, ◌-◌, ◌<◌, ◌≤◌, ◌^◌, List, ℕ, sym, ap, subst, ◌∙◌, arith}
+use Rattle.std.proofs.Common.{◌+◌, ◌*◌, ◌-◌, ◌<◌, ◌≤◌, ◌^◌, List, ℕ, sym, ap, ◌∙◌, arith}
 use Rattle.jx_index.specs.inside.NameFronts.{behind_digit, front_from}
 use Rattle.jx_index.specs.inside.UnitsLeft.{units_left}
 use Rattle.jx_index.proofs.NameFronts.{digit_low, digit_more, digits_done, has_room, low_more}

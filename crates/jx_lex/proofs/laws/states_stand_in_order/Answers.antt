@@ -2,9 +2,7 @@ use Rattle.std.proofs.Common.{◌∙◌, ap, Some}
 use Rattle.std.proofs.lemmas.Option.{slice_get-get_or}
 use Rattle.jx_lex.specs.declared.alphabet.state.LexState.TheVariants as state
 use Rattle.jx_lex.specs.Ordinal.{all_states, ordinal}
-use Rattle.jx_lex.proofs.Building.{ordinal-at}
-use Rattle.jx_lex.proofs.StateOrder.{ordinal-low}
-use Rattle.jx_lex.proofs.Meeting.{state-read}
+use Rattle.jx_lex.proofs.StateOrder.{ordinal-at, ordinal-low, state-read}
 use Rattle.jx_lex.proofs.laws.states_stand_in_order.Goals as goal
 
 pub returns : goal.returns

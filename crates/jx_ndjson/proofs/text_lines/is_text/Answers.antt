@@ -2,7 +2,7 @@ use Rattle.std.proofs.Common.{ℕ, List, subst, ◌∙◌}
 use Rattle.std.specs.Prelude.{slice_range}
 use Rattle.jx_lex.specs.declared.alphabet.state.LexState.TheVariants.{Gap}
 use Rattle.jx_lex.specs.Lex.{lex}
-use Rattle.jx_reduce.specs.declared.whole.Whole.{Whole}
+use Rattle.jx_reduce.specs.declared.table.whole.Whole.{Whole}
 use Rattle.jx_run.proofs.ReaderSteps.{slice_first}
 use Rattle.jx_ndjson.specs.inside.Texts.{IsEnd, IsTextWithin}
 use Rattle.jx_ndjson.proofs.Texts.{scanned, text_within}

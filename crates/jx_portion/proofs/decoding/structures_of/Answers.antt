@@ -1,6 +1,6 @@
 use Rattle.std.proofs.Common.{◌≡◌, ◌∷◌, ◌++◌, List, refl, sym, ap, ◌∙◌}
 use Rattle.std.specs.Vec.Iter.{into_iter_items}
-use Rattle.jx_reduce.specs.declared.parts.StructureParts.{StructureParts}
+use Rattle.jx_reduce.specs.declared.forms.parts.StructureParts.{StructureParts}
 use Rattle.jx_portion.proofs.Said.{not_all}
 use Rattle.jx_portion.proofs.decoding.structures_of.Goals as goal
 

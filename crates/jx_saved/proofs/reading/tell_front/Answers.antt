@@ -3,7 +3,7 @@ use Rattle.std.specs.Prelude.{slice_range}
 use Rattle.std.proofs.lemmas.Result.{IfOk-weaker}
 use Rattle.jx_lex.specs.Lex.{Track}
 use Rattle.jx_lex.specs.declared.alphabet.state.LexState.TheVariants as state
-use Rattle.jx_reduce.specs.declared.expect.Expect.TheVariants as expect
+use Rattle.jx_reduce.specs.declared.table.expect.Expect.TheVariants as expect
 use Rattle.jx_run.specs.ReaderInside.{IsOfUse}
 use Rattle.jx_run.proofs.ReaderFeeds.{begun_bare, begun_behind}
 use Rattle.jx_run.proofs.Tellings.{bare_is, from_offset, whole_goes}

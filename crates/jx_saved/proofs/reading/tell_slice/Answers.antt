@@ -4,7 +4,7 @@ use Rattle.jx_lex.specs.Lex.{lex}
 use Rattle.jx_reduce.specs.KnownStack.{Known}
 use Rattle.jx_reduce.specs.Read.{read as read_marks}
 use Rattle.jx_reduce.specs.Whole.{whole_of}
-use Rattle.jx_reduce.specs.declared.whole.Whole.{Whole}
+use Rattle.jx_reduce.specs.declared.table.whole.Whole.{Whole}
 use Rattle.jx_run.specs.Reader.{is_fault}
 use Rattle.jx_run.specs.ReaderInside.{GoesOn, outcome_at, settled}
 use Rattle.jx_run.specs.declared.readers.progress.Progress.{Progress}

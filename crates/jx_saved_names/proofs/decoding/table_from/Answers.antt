@@ -1,4 +1,4 @@
-use Rattle.std.proofs.Common.{◌≡◌, ◌*◌, ◌≤◌, List, ℕ, arith, false, true, length, refl, sym, ◌∙◌}
+use Rattle.std.proofs.Common.{◌≡◌, ◌*◌, ◌≤◌, arith, false, true, length, refl, sym, ◌∙◌}
 use Rattle.std.specs.Prelude.{slice_range}
 use Rattle.jx_run.proofs.Tellings.{rest_of}
 use Rattle.jx_saved_names.proofs.Tellings.{are_words, count_of, keys_front, long_enough, read_none, read_some, rest_behind}

@@ -1,6 +1,5 @@
-use Rattle.std.proofs.Common.{◌≡◌, ◌+◌, ◌*◌, ◌≤◌, ℕ, arith, length, sym, ◌∙◌}
+use Rattle.std.proofs.Common.{◌≡◌, ◌+◌, ◌*◌, arith, length, sym, ◌∙◌}
 use Rattle.std.specs.Prelude.{None, Some}
-use Rattle.jx_saved.specs.declared.index.Index.{Index}
 use Rattle.jx_saved_names.proofs.Heads.{front_of, front_split, no_longer, spelt_long}
 use Rattle.jx_saved_names.proofs.lengths.index_length.Goals as goal
 

@@ -1,4 +1,4 @@
-use Rattle.std.proofs.Common.{◌≡◌, ◌+◌, ◌*◌, ℕ, ap, arith, length}
+use Rattle.std.proofs.Common.{◌+◌, ◌*◌, ℕ, ap, arith}
 use Rattle.std.specs.Prelude.{Some}
 use Rattle.jx_saved.proofs.Counts.{entries_had}
 use Rattle.jx_saved.proofs.Decodings.{as_many}

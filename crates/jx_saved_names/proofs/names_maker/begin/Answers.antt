@@ -22,3 +22,6 @@ returns-clause-held c = λ settings bytes h.
     subst (λ (xs : List ℕ). AreHeld settings size (bytes ++ take c.in_ok-len.len c.args.slice.now) next xs) (sym c.clear.ensures.items)
     (part_read settings size bytes (take c.in_ok-len.len c.args.slice.now) c.args.held c.args.part.now.items h full next c.in_ok-len.ensures.filled (omega (arith, fits, low, l)) c.in_ok-held.ensures.count
     (λ before whole. subst (λ (xs : List ℕ). length xs ≤ size → AreRead settings size (before ++ xs) next) c.deref.ensures.value (c.in_ok-held.ensures.are settings size before whole)))
+
+pub returns-clause-fits : goal.returns-clause-fits
+returns-clause-fits c = λ small was. c.in_ok-held.ensures.fits (c.most_names.ensures.few small) was

@@ -5,8 +5,8 @@ use Rattle.jx_run.specs.declared.texts.verdict.Verdict.TheVariants.{Accepted}
 use Rattle.jx_saved_names.proofs.Feeding.{tables_made}
 use Rattle.jx_saved_names.proofs.names_maker.tables_of.Goals as goal
 
-pub returns : goal.returns
-returns c = λ settings size bytes all accepted.
+pub returns-clause-tables : goal.returns-clause-tables
+returns-clause-tables c = λ settings size bytes all accepted.
     let came : verdict_on (read_by settings.mark settings.depth 0 bytes) ≡ Accepted =
     c.verdict_by_settings_is_one.ensures.one_verdict settings 0 bytes (verdict_on (read_by settings.mark settings.depth 0 bytes)) Accepted (c.reader_is_grammar.ensures.by_settings settings 0 bytes) accepted in
-    tables_made settings size bytes c.args.held c.in_ok-tables.tables came all c.in_ok-tables.ensures
+    tables_made settings size bytes c.args.held c.in_ok-tables.tables came all c.in_ok-tables.ensures.are

@@ -2,7 +2,7 @@ use Rattle.std.proofs.Common.{◌≡◌, List, sym, ◌∙◌, ap}
 use Rattle.jx_lex.specs.Classes.{class_at}
 use Rattle.jx_lex.specs.Moves.{move}
 use Rattle.jx_reduce.specs.Read.{top}
-use Rattle.jx_reduce.specs.declared.holder.Holder.{Holder}
+use Rattle.jx_reduce.specs.declared.table.holder.Holder.{Holder}
 use Rattle.jx_sentence.specs.Choices.{are_named, choices_of, step_allowed}
 use Rattle.jx_sentence.specs.declared.choice.Choice.{Choice}
 use Rattle.jx_sentence.proofs.Exact.{exact}

@@ -4,7 +4,7 @@ use Rattle.jx_lex.specs.declared.alphabet.lex_exit.LexExit.{LexExit}
 use Rattle.jx_lex.specs.declared.alphabet.state.LexState.TheVariants.{Gap}
 use Rattle.jx_lex.specs.Lex as lexical
 use Rattle.jx_lex.specs.Lex.{lex, Track}
-use Rattle.jx_lex.specs.View.{exit_of}
+use Rattle.jx_lex.specs.Exit.{exit_of}
 use Rattle.jx_reduce.specs.KnownStack.{IsFault}
 use Rattle.jx_sentence.proofs.Behind.{behind, cut_behind, fault_behind, stopped_behind, token_behind}
 use Rattle.jx_sentence.proofs.standing.standing_behind.Goals as goal

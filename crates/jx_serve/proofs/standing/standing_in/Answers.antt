@@ -1,7 +1,7 @@
 use Rattle.std.proofs.Common.{Option, subst}
 use Rattle.std.specs.Prelude.{IfSome, reverse}
 use Rattle.jx_edit.specs.Standing.{StandsBefore}
-use Rattle.jx_edit.specs.declared.standing.Stand.{Stand}
+use Rattle.jx_edit.specs.declared.reading.standing.Stand.{Stand}
 use Rattle.jx_serve.proofs.standing.standing_in.Goals as goal
 
 pub returns : goal.returns

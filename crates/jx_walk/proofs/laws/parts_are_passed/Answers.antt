@@ -2,7 +2,7 @@ use Rattle.std.proofs.Common.{◌≡◌, ℕ, zero, suc, ◌<◌, List, ◌∷�
 use Rattle.std.specs.Prelude.{is_some}
 use Rattle.jx_lex.specs.Lex.{lex}
 use Rattle.jx_lex.specs.TokenStates.{in_token}
-use Rattle.jx_reduce.specs.declared.expect.Expect.{Expect}
+use Rattle.jx_reduce.specs.declared.table.expect.Expect.{Expect}
 use Rattle.jx_index.specs.declared.finder.Cursor.{Cursor}
 use Rattle.jx_index.specs.inside.Finding.{Finding}
 use Rattle.jx_index.specs.inside.Trie.{seek_all}

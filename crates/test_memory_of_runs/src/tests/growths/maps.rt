@@ -4,9 +4,8 @@ ghost use Rattle.std.specs.Prelude.{◌≡◌, ◌≤◌, length};
 use crate::inputs::{FIVE_ROWS, NESTED, REPEATED, SEQUENCE, UNSORTED, WIDE};
 use crate::lines::Lines;
 use crate::tests::growths::cuts::{Joined, check_cuts};
-use jx_lex::{
-    ChunkMap, Ends, JoinFault, LexExit, LexState, MarkKind, Marks, TokenEnd, TrackView, step,
-};
+use jx_lex::{JoinFault, LexExit, LexState, MarkKind, TokenEnd, step};
+use jx_maps::{ChunkMap, Ends, Marks, TrackView};
 use std::alloc::{AllocError, Global};
 
 const INPUTS: [&[u8]; 6] = [NESTED, FIVE_ROWS, REPEATED, UNSORTED, WIDE, SEQUENCE];

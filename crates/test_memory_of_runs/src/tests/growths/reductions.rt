@@ -6,10 +6,11 @@ use crate::inputs::{FIVE_ROWS, NESTED, REPEATED, SEQUENCE, UNSORTED, WIDE};
 use crate::lines::Lines;
 use crate::tests::checks::assert_right;
 use crate::tests::growths::cuts::{Joined, check_cuts};
-use crate::tests::marks::{all_by_table, answers, is_same, joined_at, mark};
+use crate::tests::marks::{is_same, joined_at, mark};
 use jx_lex::{Depth, LexState, Mark, MarkKind, step};
 use jx_reduce::{Expect, Holder, KnownStack, Reductions, Whole};
 use std::alloc::{AllocError, Global};
+use test_words::{Maker, all_by_table, comes_to};
 
 const ENDED: Whole = Whole::Went {
     expect: Expect::After,
@@ -103,7 +104,7 @@ fn is_joined_so(
     requires rising { RisingFrom 0 marks.now }
     requires cut { cut ≤ length marks.now }
 {
-    match joined_at(alloc, marks, cut, depth)? {
+    match joined_at(alloc, marks, cut, depth, Maker::AtOnce)? {
         Some(both) => is_right(alloc, &both, marks, whole),
         None => Ok(false),
     }
@@ -130,7 +131,7 @@ const HOLDER_LISTS: [&[Holder]; 2] = [&[], &[Holder::Object, Holder::Array]];
 // Whether a structure answers as the table does, from each expectation over no open container and over two.
 fn acts_by_the_table(alloc: Global, all: &Reductions, marks: &[Mark]) -> Result<bool, AllocError> {
     let wanted = all_by_table(alloc, marks, all.depth(), &HOLDER_LISTS)?;
-    answers(all, &HOLDER_LISTS, &wanted)
+    comes_to(all, &HOLDER_LISTS, &wanted)
 }
 
 /// The marks of a text. A byte that can't go on, as a separator, begins anew.

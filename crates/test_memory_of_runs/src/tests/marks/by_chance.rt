@@ -1,13 +1,14 @@
 // Lists of marks, given and drawn, are read as by the table, made at once and joined at each place.
 use crate::tests::checks::assert_right;
+use crate::tests::marks::chance::{BYTES, Chance};
 use crate::tests::marks::drawn::Drawn;
 use crate::tests::marks::lists::kind_of;
-use crate::tests::marks::readings::{Maker, is_as_read_at_each_cut};
-use crate::tests::marks::table::{BYTES, Chance, EXPECTS};
+use crate::tests::marks::readings::is_as_read_at_each_cut;
 use jx_reduce::{Expect, Holder, next};
 use std::alloc::{AllocError, Global};
 use std::process::Abort;
 use std::test::Fail;
+use test_words::{EXPECTS, Maker};
 
 const GIVEN: [&str; 13] = [
     "",

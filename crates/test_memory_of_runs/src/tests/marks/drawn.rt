@@ -1,8 +1,8 @@
 // A list of marks while it is drawn, one mark at a time.
 use crate::tests::marks::lists::kind_of;
-use crate::tests::marks::table::follow;
 use jx_reduce::{Expect, Holder, next};
 use std::alloc::{AllocError, Global};
+use test_words::follow;
 
 /// The bytes of the marks, what may stand behind them, and the containers that they leave open.
 #[derive(Drop)]

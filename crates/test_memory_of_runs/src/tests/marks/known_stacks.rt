@@ -3,9 +3,9 @@ ghost use Rattle.std.specs.Prelude.{◌<◌};
 ghost use Rattle.jx_reduce.specs.Offsets.{RisingFrom};
 
 use crate::tests::checks::assert_right;
+use crate::tests::marks::chance::{BYTES, Chance};
 use crate::tests::marks::drawn::Drawn;
 use crate::tests::marks::lists::{depth_of, marks_of};
-use crate::tests::marks::table::{BYTES, Chance};
 use jx_lex::{Depth, Mark};
 use jx_reduce::{Expect, Holder, KnownStack, Reductions, Whole};
 use std::alloc::{AllocError, Global};

@@ -2,10 +2,10 @@
 ghost use Rattle.std.specs.Prelude.{◌≡◌, ◌≤◌, IfOk, length};
 ghost use Rattle.jx_reduce.specs.Offsets.{RisingFrom};
 
-use crate::tests::marks::table::{EXPECTS, HOLDERS};
 use jx_lex::{Depth, JoinFault, Mark, MarkKind};
-use jx_reduce::{Reduced, Reductions};
+use jx_reduce::{Holder, Reduced, Reductions};
 use std::alloc::{AllocError, Global};
+use test_words::{EXPECTS, Maker, parts_of};
 
 /// The mark of this kind at an offset.
 pub(crate) fn mark(kind: MarkKind, at: usize) -> Mark
@@ -23,16 +23,7 @@ pub(crate) fn depth_of(containers: u32) -> Depth
 
 /// The kind of mark that this byte stands for.
 pub(crate) fn kind_of(byte: u8) -> MarkKind {
-    match byte {
-        b'[' => MarkKind::OpenArray,
-        b']' => MarkKind::CloseArray,
-        b'{' => MarkKind::OpenObject,
-        b'}' => MarkKind::CloseObject,
-        b':' => MarkKind::Colon,
-        b',' => MarkKind::Comma,
-        b's' => MarkKind::String,
-        _ => MarkKind::Number,
-    }
+    test_words::kind_of(byte).unwrap_or(MarkKind::Number)
 }
 
 /// The marks that these bytes stand for, each at the place of its byte.
@@ -46,6 +37,8 @@ pub(crate) fn marks_of(alloc: Global, text: &[u8]) -> Result<Vec<Mark>, AllocErr
     }
     Ok(marks)
 }
+
+const HOLDERS: [Holder; 3] = [Holder::Bottom, Holder::Array, Holder::Object];
 
 /// Whether both show the same levels, containers, exits and heights, from each expectation. It takes no memory.
 fn shows_the_same(one: &Reduced, other: &Reduced) -> bool {
@@ -75,8 +68,7 @@ fn are_both_parts(
     requires rising { RisingFrom 0 marks.now }
     requires cut { cut ≤ length marks.now }
 {
-    let first = Reductions::of(alloc, &marks[..cut], left.depth())?;
-    let second = Reductions::of(alloc, &marks[cut..], left.depth())?;
+    let (first, second) = parts_of(alloc, marks, cut, left.depth(), Maker::AtOnce)?;
     Ok(is_same(left, &first) && is_same(right, &second))
 }
 
@@ -87,12 +79,12 @@ pub(crate) fn joined_at(
     marks: &[Mark],
     cut: usize,
     depth: Depth,
+    maker: Maker,
 ) -> Result<Option<Reductions>, AllocError>
     requires rising { RisingFrom 0 marks.now }
     requires cut { cut ≤ length marks.now }
 {
-    let left = Reductions::of(alloc, &marks[..cut], depth)?;
-    let right = Reductions::of(alloc, &marks[cut..], depth)?;
+    let (left, right) = parts_of(alloc, marks, cut, depth, maker)?;
     match left.join(right) {
         Ok(both) => Ok(Some(both)),
         Err(JoinFault { left, right }) => {

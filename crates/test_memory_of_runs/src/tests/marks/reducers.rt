@@ -2,14 +2,15 @@
 ghost use Rattle.std.specs.Prelude.{◌<◌};
 
 use crate::tests::checks::assert_right;
+use crate::tests::marks::chance::{BYTES, Chance};
 use crate::tests::marks::drawn::Drawn;
 use crate::tests::marks::lists::kind_of;
-use crate::tests::marks::readings::{Maker, is_as_read_at_each_cut};
-use crate::tests::marks::table::{BYTES, Chance, EXPECTS};
+use crate::tests::marks::readings::is_as_read_at_each_cut;
 use jx_reduce::{Expect, Holder, next};
 use std::alloc::{AllocError, Global};
 use std::process::Abort;
 use std::test::Fail;
+use test_words::{EXPECTS, Maker};
 
 // So long that most marks are quiet.
 const LONG: usize = 1100;
@@ -40,7 +41,7 @@ fn long_lists_of_strings_are_reduced_as_by_the_table(rt: HostRuntime) -> Result<
 
 // A list within a depth.
 fn check<R: Abort>(rt: &R, alloc: Global, text: &[u8], containers: u32) {
-    let answer = is_as_read_at_each_cut(alloc, text, containers, Maker::ByReducers);
+    let answer = is_as_read_at_each_cut(alloc, text, containers, Maker::OneByOne);
     assert_right(rt, answer, text, containers as usize);
 }
 

@@ -3,7 +3,7 @@ use Rattle.std.specs.Prelude.{IfSome, reverse}
 use Rattle.jx_run.specs.Reading.{read_text}
 use Rattle.jx_edit.specs.Document.{DocumentValue}
 use Rattle.jx_edit.specs.Standing.{StandsBefore}
-use Rattle.jx_edit.specs.declared.standing.Stand.{Stand}
+use Rattle.jx_edit.specs.declared.reading.standing.Stand.{Stand}
 use Rattle.jx_edit.specs.inside.Chunks.{ChunkedValue}
 use Rattle.jx_edit.specs.inside.Fronts.{with_front}
 use Rattle.jx_edit.specs.inside.Places.{PlaceValue, came_to}

@@ -5,7 +5,7 @@ use Rattle.jx_lex.specs.declared.alphabet.state.LexState.TheVariants.{Gap}
 use Rattle.jx_lex.specs.Lex as reading
 use Rattle.jx_lex.specs.Lex.{lex, Track}
 use Rattle.jx_lex.specs.Seen.{GoesTo, SeesTrack}
-use Rattle.jx_lex.specs.View.{exit_of}
+use Rattle.jx_lex.specs.Exit.{exit_of}
 use Rattle.jx_run.proofs.Paces.{goes_none, fault_ends, done_sees, exit_then, sees_then}
 use Rattle.jx_run.proofs.readers.one_pass.scan_by.Goals as goal
 

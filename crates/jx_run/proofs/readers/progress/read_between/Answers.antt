@@ -5,7 +5,7 @@ use Rattle.jx_lex.specs.declared.alphabet.state.LexState.TheVariants.{Gap}
 use Rattle.jx_lex.specs.Lex.{lex}
 use Rattle.jx_lex.specs.Lex as lexical
 use Rattle.jx_lex.specs.Seen.{Seen, SeesTrack}
-use Rattle.jx_lex.specs.View.{exit_of}
+use Rattle.jx_lex.specs.Exit.{exit_of}
 use Rattle.jx_lex.proofs.Keeping.{exit-then, sees-then}
 use Rattle.jx_run.proofs.readers.progress.read_between.Goals as goal
 

@@ -1,5 +1,5 @@
 use Rattle.std.proofs.Common.{flat_map, ap, sym, ◌∙◌}
-use Rattle.jx_lex.specs.View.{marks_at, view_track}
+use Rattle.jx_maps.specs.View.{marks_at, view_track}
 use Rattle.jx_run.specs.inside.Reduced.{path_at}
 use Rattle.jx_run.proofs.Reducing.{path-bare, path-first, path-none}
 use Rattle.jx_run.proofs.runs.reduce.first_of.Goals as goal

@@ -1,6 +1,6 @@
 use Rattle.std.proofs.Common.{◌++◌, length, flat_map, sym, subst, refl, [], arith}
 use Rattle.std.specs.Prelude.{IsSomeAnd}
-use Rattle.jx_lex.specs.View.{marks_at}
+use Rattle.jx_maps.specs.View.{marks_at}
 use Rattle.jx_reduce.specs.Offsets.{RisingFrom}
 use Rattle.jx_run.specs.inside.Reduced.{IsReduced}
 use Rattle.jx_run.proofs.Reducing.{first_within, rest_within, front_rises, marks_same, next_flat, slot_if, set_reduced}

@@ -1,6 +1,6 @@
 use Rattle.std.proofs.Common.{◌≡◌, ◌<◌, ◌++◌, List, All, length, flat_map}
 use Rattle.jx_lex.specs.declared.alphabet.mark.Mark.{Mark}
-use Rattle.jx_lex.specs.View.{marks_at}
+use Rattle.jx_maps.specs.View.{marks_at}
 use Rattle.jx_run.specs.inside.Reduced.{AreReduced, IsReduced}
 use Rattle.jx_run.proofs.runs.reduce.reduce_path.Given as goal
 

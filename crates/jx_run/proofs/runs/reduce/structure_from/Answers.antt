@@ -1,7 +1,7 @@
 use Rattle.std.proofs.Common.{◌≡◌, [], ◌∷◌, ap, sym, subst, ◌∙◌}
 use Rattle.std.specs.Prelude.{IfOk, OnOk}
 use Rattle.jx_lex.specs.Lex.{Track}
-use Rattle.jx_lex.specs.Map.{track}
+use Rattle.jx_maps.specs.Map.{track}
 use Rattle.jx_reduce.specs.Structure.{IsOf}
 use Rattle.jx_run.specs.inside.Reduced.{AreReduced, IsReduced}
 use Rattle.jx_run.proofs.Reducing.{reduced_ok}

@@ -1,4 +1,4 @@
-use Rattle.std.proofs.Common.{sym, ◌∙◌}
+use Rattle.std.proofs.Common.{◌∙◌}
 use Rattle.jx_saved_names.proofs.Reading.{one_read}
 use Rattle.jx_saved_names.proofs.chunks.NamedChunks.add.Goals as goal
 

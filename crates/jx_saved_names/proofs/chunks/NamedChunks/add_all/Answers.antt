@@ -15,4 +15,5 @@ chunks-preserved c =
       whole = λ settings before h.
           chunk_added settings size before bytes at c.chunks.held c.in_ok-held.held (omega (arith, low, test, some)) (c.chunks.invariant.whole settings before h) c.in_ok-held.ensures.count
           (λ xs whole le. c.in_ok-held.ensures.are settings size xs whole le);
+      fits = λ few was. c.in_ok-held.ensures.fits few (c.chunks.invariant.fits few was);
     }

@@ -1,5 +1,6 @@
 use Rattle.std.proofs.Common.{◌-◌, ◌≤◌, ◌++◌, ℕ, List, length, take}
 use Rattle.jx_run.specs.declared.texts.settings.Settings.{Settings}
+use Rattle.jx_saved_names.specs.inside.Blocks.{FitBlocks, IsKeyCount}
 use Rattle.jx_saved_names.specs.inside.Chunks.{AreWhole}
 use Rattle.jx_saved_names.proofs.chunks.NamedChunks.add_all.Given as goal
 
@@ -7,6 +8,7 @@ abbrev pub invariant-chunks : goal.invariant-chunks
 invariant-chunks l = record {
   within : l.at ≤ length l.bytes;
   whole : (settings : Settings) (before : List ℕ) → AreWhole settings l.size before l.fn.self → AreWhole settings l.size (before ++ take l.at l.bytes) l.held;
+  fits : IsKeyCount l.most → FitBlocks l.fn.self.blocks → FitBlocks l.held.blocks;
 }
 
 abbrev pub decreases-chunks : goal.decreases-chunks

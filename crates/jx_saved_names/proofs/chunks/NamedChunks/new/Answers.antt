@@ -2,8 +2,8 @@ use Rattle.jx_saved_names.proofs.Reading.{none_read}
 use Rattle.std.proofs.Common.{refl}
 use Rattle.jx_saved_names.proofs.chunks.NamedChunks.new.Goals as goal
 
-pub returns : goal.returns
-returns c = λ size.
+pub returns-clause-are : goal.returns-clause-are
+returns-clause-are c = λ size.
     let settings = c.args.settings.now in
-    none_read settings size _ c.new.ensures.settings c.new.ensures.start c.new.ensures.reads c.new-2.ensures.depth c.new-2.ensures.reads refl c.new-4.ensures
+    none_read settings size _ c.new.ensures.settings c.new.ensures.start c.new.ensures.reads c.new-2.ensures.depth c.new-2.ensures.reads refl c.new-4.ensures.are
     (c.slices_are_told_in_turn.ensures.none settings.mark)

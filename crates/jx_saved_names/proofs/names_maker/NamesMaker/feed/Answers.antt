@@ -1,6 +1,7 @@
 use Rattle.std.proofs.Common.{◌≡◌, ◌++◌, Some, ℕ, refl, subst, sym, ◌∙◌}
 use Rattle.jx_saved_names.specs.declared.chunks.NamedChunks.{NamedChunks}
 use Rattle.jx_saved_names.specs.inside.Chunks.{AreHeld}
+use Rattle.jx_saved_names.proofs.Fitting.{kept_fit}
 use Rattle.jx_saved_names.proofs.names_maker.NamesMaker.feed.Goals as goal
 
 pub returns-clause-fed : goal.returns-clause-fed
@@ -13,10 +14,11 @@ returns-clause-fed c = λ settings chunk bytes h.
     let size : c.bytes.result ≡ chunk = c.bytes.ensures.value ∙ h.chunk_is in
     let was : AreHeld settings c.bytes.result bytes old i.part.items =
     subst (λ (n : ℕ). AreHeld settings n bytes old i.part.items) (sym size) (subst (λ (k : NamedChunks). AreHeld settings chunk bytes k i.part.items) same h.held) in
-    let now : AreHeld settings c.bytes.result all next c.feed_held.new.part.items = c.in_ok-next.ensures settings bytes was in
+    let now : AreHeld settings c.bytes.result all next c.feed_held.new.part.items = c.in_ok-next.ensures.held settings bytes was in
     record {
       chunk_is = h.chunk_is;
       kept = next;
       kept_is = refl;
       held = subst (λ (n : ℕ). AreHeld settings n all next c.feed_held.new.part.items) size now;
+      fits = c.in_ok-next.ensures.fits c.bytes.ensures.within.1 (kept_fit h.kept old same h.fits);
     }

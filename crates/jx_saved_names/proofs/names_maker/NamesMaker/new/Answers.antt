@@ -14,6 +14,7 @@ returns c =
         kept_is = refl;
         held =
             subst (λ (xs : List ℕ). AreHeld settings chunk [] c.new.result xs) (sym c.new-2.ensures.items)
-            (part_none settings chunk c.new.result (c.new.ensures chunk) (let low = c.bytes.ensures.within.0 in let is = c.bytes.ensures.value in omega (arith, low, is)));
+            (part_none settings chunk c.new.result (c.new.ensures.are chunk) (let low = c.bytes.ensures.within.0 in let is = c.bytes.ensures.value in omega (arith, low, is)));
+        fits = c.new.ensures.fits;
       };
     }

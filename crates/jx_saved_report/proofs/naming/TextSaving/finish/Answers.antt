@@ -8,7 +8,12 @@ use Rattle.jx_saved_report.proofs.naming.TextSaving.finish.Goals as goal
 pub returns-in_ok-names-in-Ok : goal.returns-in_ok-names-in-Ok
 returns-in_ok-names-in-Ok c = λ has_names settings chunk bytes h.
     let comes = subst (λ (r : Result Index Refusal). Comes settings chunk bytes r) c.in-Ok.is (c.in_ok-read.ensures settings chunk bytes h.index) in
-    record { accepted = comes.0; index = comes.1; names = c.in_ok-names-in-Ok.ensures has_names settings chunk bytes h.names comes.1.accepted }
+    record {
+      accepted = comes.0;
+      index = comes.1;
+      names = c.in_ok-names-in-Ok.ensures.tables has_names settings chunk bytes h.names comes.1.accepted;
+      savable = c.in_ok-names-in-Ok.ensures.savable has_names settings chunk bytes c.in-Ok.index h.names comes.1;
+    }
 
 pub returns-in-Err : goal.returns-in-Err
 returns-in-Err c = λ has_names settings chunk bytes h. subst (λ (r : Result Index Refusal). Comes settings chunk bytes r) c.in-Err.is (c.in_ok-read.ensures settings chunk bytes h.index)

@@ -1,7 +1,9 @@
-use Rattle.std.proofs.Common.{◌≡◌, ◌*◌, ◌/◌, ◌≤◌, ℕ, arith, refl, subst, sym}
+use Rattle.std.proofs.Common.{◌≡◌, ◌*◌, ◌/◌, ◌≤◌, ℕ, Bool, true, None, Some, ap, arith, refl, subst, sym, ◌∙◌}
+use Rattle.std.specs.Prelude.{◌==◌, if◌then◌else◌}
+use Rattle.jx_walk.specs.Chunks.{chunk_at}
 use Rattle.jx_walk.proofs.Walks.{known_of}
 use Rattle.jx_split.specs.Cuts.{Cuts}
-use Rattle.jx_split.specs.Split.{IsCutAt}
+use Rattle.jx_split.specs.Split.{IsCutAt, is_going}
 use Rattle.jx_split.proofs.Comings.{come_first, quotient_low}
 use Rattle.jx_split.proofs.split.Split.new.Goals as goal
 
@@ -20,3 +22,11 @@ returns-clause-come c = λ settings chunk text h.
           subst (λ (x : Cuts). IsCutAt settings chunk text aim (aim.whole.start / c.bytes.result) x) (sym c.new.ensures)
           (come_first settings chunk text aim (aim.whole.start / c.bytes.result) (quotient_low aim.whole.start c.bytes.result chunk (let e = h.chunk_is in let n : chunk ≡ c.bytes.result = omega (arith, value, e) in n)));
     }
+
+pub returns-clause-first : goal.returns-clause-first
+returns-clause-first c =
+    let index = c.args.index.now in
+    let start = c.args.aim.whole.start in
+    let long : c.bytes.result ≡ index.chunk = c.bytes.ensures.value in
+    let going : is_going (Some c.new.result) ≡ true = ap (λ (x : Cuts). x.sum.closed == 0) c.new.ensures in
+    ap (λ (b : Bool). if b then chunk_at index (start / c.bytes.result) else None) going ∙ ap (λ (n : ℕ). chunk_at index (start / n)) long

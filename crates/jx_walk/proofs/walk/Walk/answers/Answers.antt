@@ -1,4 +1,4 @@
-use Rattle.std.proofs.Common.{◌≡◌, ℕ, List, Some, ap, length, refl, subst, sym, ◌∙◌}
+use Rattle.std.proofs.Common.{◌≡◌, ◌+◌, ◌<◌, ℕ, List, Some, ap, arith, length, refl, subst, sym, ◌∙◌}
 use Rattle.std.specs.Prelude.{All}
 use Rattle.jx_run.specs.Telling.{tokens_by}
 use Rattle.jx_index.specs.declared.trie.Edge.{Edge}
@@ -20,7 +20,10 @@ returns-then-not-is_whole-clause-damaged c = λ settings chunk text pointers com
     let same : come.kept ≡ held = cc in
     let at_last = held_last settings chunk text w.index.now w.edges.items w.at held come.known c.requires.all (subst (λ (h : Sought). IsHeldAt settings chunk text w.edges.items w.at h) same come.held) in
     let none = none_held c.reader_is_grammar.ensures.by_settings c.verdict_by_settings_is_one.ensures.one_verdict c.parts_are_passed.ensures.held settings chunk text w.index.now w.edges.items held come.known at_last in
-    c.is_whole.ensures c.if-not-is_whole.true none.0 none.1
+    let skipped = none.0 in
+    let opened = none.1 in
+    let some : 0 < length held.state.opened.items + held.state.skipped = c.is_whole.ensures.other c.if-not-is_whole.true in
+    omega (arith, skipped, opened, some)
 
 pub returns-clause-found : goal.returns-clause-found
 returns-clause-found c = λ settings chunk text pointers come.

@@ -5,9 +5,9 @@ use Rattle.jx_lex.specs.declared.alphabet.lex_exit.LexExit.{LexExit}
 use Rattle.jx_lex.specs.declared.alphabet.lex_exit.LexExit.TheVariants as exit
 use Rattle.jx_lex.specs.Lex as lexical
 use Rattle.jx_lex.specs.Lex.{lex}
-use Rattle.jx_lex.specs.View.{exit_of}
-use Rattle.jx_reduce.specs.declared.holder.Holder.{Holder}
-use Rattle.jx_reduce.specs.declared.outcome.Outcome.{Outcome}
+use Rattle.jx_lex.specs.Exit.{exit_of}
+use Rattle.jx_reduce.specs.declared.table.holder.Holder.{Holder}
+use Rattle.jx_reduce.specs.declared.table.outcome.Outcome.{Outcome}
 use Rattle.jx_reduce.specs.Outcome.{reading_of}
 use Rattle.jx_reduce.specs.Read.{went, read as read_marks}
 use Rattle.jx_run.specs.OutcomeRun.{exit_at}

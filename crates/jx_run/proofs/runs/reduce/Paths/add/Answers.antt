@@ -1,6 +1,6 @@
 use Rattle.std.proofs.Common.{◌≡◌, ◌-◌, ◌<◌, [], ◌∷◌, length, All, Some, ap, sym, subst, ◌∙◌, arith}
 use Rattle.std.proofs.lemmas.List.{length-append, length-set, with_items_is}
-use Rattle.jx_lex.specs.Map.{track}
+use Rattle.jx_maps.specs.Map.{track}
 use Rattle.jx_run.specs.inside.Joins.{IsAbove}
 use Rattle.jx_run.specs.OutcomeRun.{IsFormWithin}
 use Rattle.jx_run.specs.inside.Reduced.{AreReduced, IsAt}

@@ -1,6 +1,6 @@
 use Rattle.std.proofs.Common.{◌≡◌, flat_map, ap, subst, ◌∙◌}
 use Rattle.jx_lex.specs.Lex.{Track}
-use Rattle.jx_lex.specs.View.{marks_at, view_track}
+use Rattle.jx_maps.specs.View.{marks_at, view_track}
 use Rattle.jx_run.specs.inside.Reduced.{path_at}
 use Rattle.jx_run.proofs.runs.reduce.Paths.number_of.Goals as goal
 

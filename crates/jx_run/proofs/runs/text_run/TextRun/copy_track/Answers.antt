@@ -1,5 +1,5 @@
 use Rattle.std.proofs.Common.{◌++◌, length, flat_map, ap, ◌∙◌}
-use Rattle.jx_lex.specs.View.{marks_at, ends_at}
+use Rattle.jx_maps.specs.View.{marks_at, ends_at}
 use Rattle.jx_run.proofs.Reducing.{first_within, rest_within, marks_same, ends_same, next_flat}
 use Rattle.jx_run.proofs.runs.text_run.TextRun.copy_track.Goals as goal
 

@@ -1,6 +1,6 @@
 use Rattle.std.proofs.Common.{◌≡◌, ◌<◌, ◌++◌, All, length, flat_map}
-use Rattle.jx_lex.specs.Map.{track}
-use Rattle.jx_lex.specs.View.{marks_at, ends_at}
+use Rattle.jx_maps.specs.Map.{track}
+use Rattle.jx_maps.specs.View.{marks_at, ends_at}
 use Rattle.jx_run.proofs.runs.text_run.TextRun.copy_track.Given as goal
 
 -- what is copied, and what stands in the segments that are left

@@ -3,7 +3,7 @@ use Rattle.std.proofs.lemmas.List.{append-nil}
 use Rattle.jx_lex.specs.declared.alphabet.mark.Mark.{Mark}
 use Rattle.jx_lex.specs.declared.alphabet.state.LexState.TheVariants.{Gap}
 use Rattle.jx_lex.specs.Lex.{LexExit, Track}
-use Rattle.jx_lex.specs.Map.{track}
+use Rattle.jx_maps.specs.Map.{track}
 use Rattle.jx_run.specs.TextRun.{TextRunValue}
 use Rattle.jx_run.proofs.Across.{marks_through, ends_through}
 use Rattle.jx_run.proofs.runs.text_run.TextRun.copy_track_with.Goals as goal

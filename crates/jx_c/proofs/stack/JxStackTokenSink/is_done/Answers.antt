@@ -1,5 +1,0 @@
-use Rattle.jx_c.specs.Stack.{known_of}
-use Rattle.jx_c.proofs.stack.JxStackTokenSink.is_done.Goals as goal
-
-pub returns : goal.returns
-returns c = λ done. c.readings_go_on.ensures.done (known_of c.args.self.now) (c.is_faulty.ensures.0 done)

@@ -1,0 +1,3 @@
+// Texts that are edited.
+pub(crate) mod document;
+pub(crate) mod held;

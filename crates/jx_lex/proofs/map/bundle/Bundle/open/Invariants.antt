@@ -1,6 +1,0 @@
-use Rattle.jx_lex.proofs.Building.{Opened}
-use Rattle.jx_lex.proofs.map.bundle.Bundle.open.Given as goal
-
--- the first live states have their segments
-abbrev pub invariant-loop-state : goal.invariant-loop-state
-invariant-loop-state l = Opened l.live l.state-index l.bundle

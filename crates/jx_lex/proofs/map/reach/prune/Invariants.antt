@@ -1,5 +1,0 @@
-use Rattle.jx_lex.proofs.Pruning.{Pruning}
-use Rattle.jx_lex.proofs.map.reach.prune.Given as goal
-
-abbrev pub invariant-loop-i : goal.invariant-loop-i
-invariant-loop-i l = Pruning l.initial.reached l.reached l.initial.segments l.segments l.i

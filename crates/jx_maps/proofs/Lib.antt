@@ -1,0 +1,15 @@
+pub mod Building
+pub mod Bundles
+pub mod Closing
+pub mod Counting
+pub mod Fewness
+pub mod Joined
+pub mod Meeting
+pub mod Passing
+pub mod Placing
+pub mod Pruning
+pub mod Reading
+pub mod ReadingOn
+pub mod SideBySide
+pub mod Spans
+pub mod Walking

@@ -1,0 +1,5 @@
+pub mod Follow
+pub mod Map
+pub mod Shared
+pub mod View
+pub mod inside

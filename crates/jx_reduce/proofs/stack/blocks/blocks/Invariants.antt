@@ -1,0 +1,12 @@
+use Rattle.std.proofs.Common.{◌≤◌}
+use Rattle.jx_reduce.specs.Read.{went}
+use Rattle.jx_reduce.specs.inside.Passed.{Reads}
+use Rattle.jx_reduce.proofs.stack.blocks.blocks.Given as goal
+
+-- the blocks up to here were read
+abbrev pub invariant-loop : goal.invariant-loop
+invariant-loop l = record {
+  low : l.from ≤ l.at;
+  high : l.at ≤ l.to;
+  reads : Reads l.most l.text l.from l.at (went l.initial.expect l.initial.holders) (went l.expect l.holders);
+}

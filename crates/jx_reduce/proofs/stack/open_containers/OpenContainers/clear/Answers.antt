@@ -1,0 +1,6 @@
+use Rattle.jx_reduce.proofs.KnownWords.{nothing}
+use Rattle.std.proofs.Common.{refl}
+use Rattle.jx_reduce.proofs.stack.open_containers.OpenContainers.clear.Goals as goal
+
+pub returns : goal.returns
+returns c = nothing 0 0 _ refl c.clear.ensures.items

@@ -1,0 +1,16 @@
+use Rattle.std.proofs.Common.{◌≤◌}
+use Rattle.jx_lex.specs.Ahead.{IsSound}
+use Rattle.jx_reduce.specs.Read.{went}
+use Rattle.jx_reduce.specs.inside.Passed.{Reads, TakesValue}
+use Rattle.jx_reduce.proofs.stack.whole_tokens.rounds.Given as goal
+
+-- the rounds up to here were read
+abbrev pub invariant-loop : goal.invariant-loop
+invariant-loop l =
+    record {
+      low : l.from ≤ l.at;
+      high : l.at ≤ l.to;
+      takes : TakesValue l.expect;
+      sound : IsSound l.text l.ahead;
+      reads : Reads l.most l.text l.from l.at (went l.initial.expect l.initial.holders) (went l.expect l.holders);
+    }

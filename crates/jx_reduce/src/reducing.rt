@@ -1,0 +1,4 @@
+// What marks come to from each entry.
+pub(crate) mod reduced;
+pub(crate) mod reducer;
+pub(crate) mod reductions;

@@ -1,0 +1,213 @@
+// Open containers, one bit each.
+
+ghost use Rattle.std.specs.Prelude.{◌≡◌, ◌+◌, ◌<◌, ◌≤◌, ◌^◌, ◌++◌, ℕ, List, [], ◌∷◌, OnOk, OnErr, IfOk, IfSome, IsNone, length, reverse, slice_range};
+ghost use Rattle.jx_block.specs.Kinds.{AreKinds};
+ghost use Rattle.jx_block.specs.Listed.{marks_of};
+ghost use Rattle.jx_reduce.specs.Read.{read, top, went, without_top};
+ghost use Rattle.jx_reduce.specs.Bits.{holder_of};
+
+use crate::stack::bracket_walk::{Innermost, walk};
+use crate::stack::next_words::next_behind;
+use crate::table::expect::Expect;
+use crate::table::holder::Holder;
+use jx_block::TokenKinds;
+use std::alloc::{AllocError, Global};
+use std::marker::Model;
+
+/// How many containers one word holds.
+const WORD: usize = 64;
+
+/// The open containers, innermost first: an array is a bit 0, an object a bit 1. The first 64 take no memory.
+#[derive(Drop)]
+pub(crate) struct OpenContainers {
+    /// The innermost containers, the innermost lowest.
+    bits: u64,
+    /// How many containers `bits` holds.
+    count: usize,
+    /// The full words around it, the outermost first.
+    words: Vec<u64>,
+}
+
+impl Model for OpenContainers {
+    ghost use Rattle.std.specs.Prelude.{List};
+    ghost use Rattle.jx_reduce.specs.declared.table.holder.Holder.{Holder};
+
+    ghost Value = { List Holder };
+
+    ghost use Rattle.jx_reduce.specs.inside.OpenContainers.{holders_in, IsPacked};
+
+    ghost view = { holders_in };
+
+    ghost invariant = { IsPacked };
+}
+
+/// The bit of a container.
+#[inline(always)]
+fn bit_of(holder: Holder) -> u64
+    requires { holder ≡ Holder.Bottom → ⊥ }
+    ensures within { result < 2 }
+    ensures holder { holder_of result ≡ holder }
+{
+    match holder {
+        Holder::Array => 0,
+        Holder::Object => 1,
+        Holder::Bottom => unreachable!(),
+    }
+}
+
+/// Keeps one more full word.
+#[cold]
+fn push_word(words: &mut Vec<u64>, word: u64) -> Result<(), AllocError>
+    ensures ok { OnOk result (words.new.items ≡ words.old.items ++ word ∷ []) }
+    ensures err { OnErr result (words.new.items ≡ words.old.items) }
+{
+    words.push(word)?;
+    Ok(())
+}
+
+impl OpenContainers {
+    /// Nothing is open. It takes no memory.
+    pub fn new(alloc: Global) -> OpenContainers
+        ensures { result ≡ [] }
+    {
+        OpenContainers {
+            bits: 0,
+            count: 0,
+            words: Vec::new(alloc),
+        }
+    }
+
+    /// The innermost container.
+    #[inline(always)]
+    pub fn top(&self) -> Holder
+        ensures { result ≡ top self.now }
+    {
+        if self.count == 0 {
+            Holder::Bottom
+        } else if self.bits % 2 == 0 {
+            Holder::Array
+        } else {
+            Holder::Object
+        }
+    }
+
+    /// How many containers are open.
+    #[inline(always)]
+    pub fn len(&self) -> usize
+        requires { length self.now < 2 ^ 32 }
+        ensures { result ≡ length self.now }
+    {
+        self.words.len() * WORD + self.count
+    }
+
+    /// Opens one more container. Where memory is refused nothing changes.
+    #[inline(always)]
+    pub fn push(&mut self, holder: Holder) -> Result<(), AllocError>
+        requires { holder ≡ Holder.Bottom → ⊥ }
+        ensures ok { OnOk result (self.new ≡ holder ∷ self.old) }
+        ensures err { OnErr result (self.new ≡ self.old) }
+    {
+        let bit = bit_of(holder);
+        if self.count < WORD {
+            self.bits = self.bits * 2 + bit;
+            self.count += 1;
+            Ok(())
+        } else {
+            push_word(&mut self.words, self.bits)?;
+            self.bits = bit;
+            self.count = 1;
+            Ok(())
+        }
+    }
+
+    /// Closes the innermost container, if one is open.
+    #[inline(always)]
+    pub fn pop(&mut self)
+        ensures { self.new ≡ without_top self.old }
+    {
+        if self.count > 1 {
+            self.bits /= 2;
+            self.count -= 1;
+        } else {
+            match self.words.pop() {
+                Some(word) => {
+                    self.bits = word;
+                    self.count = WORD;
+                }
+                None => {
+                    self.bits = 0;
+                    self.count = 0;
+                }
+            }
+        }
+    }
+
+    /// Reads the tokens that begin in the first bytes of a block, from what may stand next before them, and gives what may stand
+    /// next behind them. It gives nothing, and changes nothing, where one of them may not stand where it does, and where no
+    /// container is open, or the innermost word of them would run full or empty.
+    #[inline(always)]
+    pub fn follow(
+        &mut self,
+        kinds: &TokenKinds,
+        starts: u64,
+        len: usize,
+        expect: Expect,
+        most: usize,
+    ) -> Option<Expect>
+        requires within { (length self.old ≤ most) × (most < 2 ^ 32) }
+        requires few { (len < 64) × (starts < 2 ^ len) }
+        ensures reads { IfSome result (λ then. (text : List ℕ) (at : ℕ) → at + 64 ≤ length text → AreKinds text at starts kinds.now → read most (marks_of starts 0 at (slice_range text at (at + len))) (went expect self.old) ≡ went then self.new) }
+        ensures none { IsNone result → self.new ≡ self.old }
+    {
+        if self.count == 0 {
+            return None;
+        }
+        let inner = Innermost {
+            bits: self.bits,
+            count: self.count,
+        };
+        let walked = walk(kinds, inner, most - self.words.len() * WORD)?;
+        let then = next_behind(kinds, starts, walked.objects, len, expect)?;
+        self.bits = walked.inner.bits;
+        self.count = walked.inner.count;
+        Some(then)
+    }
+
+    /// Closes all containers, and lists them outermost first.
+    pub fn take_all(&mut self) -> Result<Vec<Holder>, AllocError>
+        requires few { length self.old < 2 ^ 32 }
+        ensures all { IfOk result (λ holders. self.old ≡ reverse holders.items) }
+        ensures fewer { length self.new ≤ length self.old }
+    {
+        let mut holders = Vec::new(*self.words.allocator());
+        while self.len() > 0 {
+            holders.push(self.top())?;
+            self.pop();
+        }
+        holders.reverse();
+        Ok(holders)
+    }
+
+    /// Opens these containers, the outermost first. They are refused, as for want of memory, where one of them is `Bottom`.
+    pub fn push_all(&mut self, holders: &[Holder]) -> Result<(), AllocError>
+        ensures ok { OnOk result (self.new ≡ reverse holders.now ++ self.old) }
+        ensures more { length self.new ≤ length holders.now + length self.old }
+    {
+        for holder in holders {
+            if matches!(holder, Holder::Bottom) {
+                return Err(AllocError);
+            }
+            self.push(*holder)?;
+        }
+        Ok(())
+    }
+
+    /// Closes all containers. The memory stays.
+    pub fn clear(&mut self)
+        ensures { self.new ≡ [] }
+    {
+        self.bits = 0;
+        self.count = 0;
+        self.words.clear();
+    }
+}

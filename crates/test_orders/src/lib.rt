@@ -1,0 +1,6 @@
+//! What words of the command line ask for, in words.
+#![tactic(auto)]
+
+mod orders;
+
+pub use orders::{push_order, push_pointers, push_task};
