@@ -1,17 +1,23 @@
 -- What is kept of groups of chunks, through edits and walks.
-use Rattle.std.proofs.Common.{◌≡◌, ℕ, zero, suc, ◌+◌, ◌-◌, ◌*◌, ◌<◌, ◌≤◌, Bool, true, false, List, [], ◌∷◌, ◌++◌, length, map, take, drop, get_or, set, min, refl, sym, ap, subst, ◌∙◌, arith, inl, inr, length-append, append_assoc, append-nil}
-use Rattle.std.specs.Prelude.{◌&&◌, replicate}
+use Rattle.std.proofs.Common.{◌≡◌, ℕ, zero, suc, ◌+◌, ◌-◌, ◌*◌, ◌<◌, ◌≤◌, Option, None, Bool, true, false, List, [], ◌∷◌, ◌++◌, length, map, take, drop, get_or, set, min, refl, sym, ap, subst, ◌∙◌, arith, inl, inr, length-append, append_assoc, append-nil}
+use Rattle.std.specs.Prelude.{◌&&◌, IfSome, replicate}
 use Rattle.std.proofs.lemmas.Bool.{cases_eq, cases_lt, false≢true}
-use Rattle.std.proofs.lemmas.List.{drop_all, take_all, take_min, take-take, drop-drop, length-set, length-take-le, get_or-set_same, get_or-set_other, get_or_append_left, get_or-take, length-drop, length-replicate, length-take}
+use Rattle.std.proofs.lemmas.List.{drop_all, drop_min, drop-map, drop-take, take_all, take_min, take-take, drop-drop, length-set, length-take-le, get_or-set_same, get_or-set_other, get_or_append_left, get_or-take, length-drop, length-replicate, length-take}
 use Rattle.std.proofs.lemmas.List.Concat.{flat_map-append}
 use Rattle.std.proofs.Math.Seq.{take-add, take-append-add, drop-append-add}
 use Rattle.jx_edit.specs.inside.Chunks.{ChunkValue, bytes_of, text_of, loosened, replaced}
-use Rattle.jx_edit.specs.inside.Sums.{size_before, is_linked_at, AreLinkedFrom, IsSum, AreSums, AreSumsBut, IsBorder}
+use Rattle.jx_edit.specs.inside.Moves.{AreMoves}
+use Rattle.jx_edit.specs.inside.Sums.{size_before, text_at, is_linked_at, AreLinkedFrom, IsSum, AreSums, AreSumsBut, IsBorder}
 use Rattle.jx_edit.specs.declared.chunking.sums.Sum.{Sum}
+use Rattle.jx_edit.specs.declared.positions.moves.Moves.{Moves}
 use Rattle.jx_edit.proofs.Texts.{text_take, text_within}
 
-abbrev pub sum : ℕ → Bool → Sum
-sum bytes linked = record { bytes = bytes; linked = linked }
+abbrev pub sum : ℕ → Bool → Option Moves → Sum
+sum bytes linked moves = record { bytes = bytes; linked = linked; moves = moves }
+
+-- one of which nothing is known
+abbrev pub no_sum : Sum
+no_sum = sum 0 false None
 
 -- ---- whether the chunk at a place is linked
 
@@ -71,10 +77,14 @@ linked_set_behind cs k n c h all j low high = linked_set_other cs n j c (λ e. o
 pub size_same : (cs ds : List ChunkValue) (k : ℕ) → map bytes_of cs ≡ map bytes_of ds → size_before cs k ≡ size_before ds k
 size_same cs ds k e = ap length (text_take cs ds k e)
 
+-- of a group that has the same bytes
+sum_kept : (cs ds : List ChunkValue) (g : ℕ) (s : Sum) → text_at ds g ≡ text_at cs g → IsSum cs g s → (s.linked ≡ true → AreLinkedFrom ds (g * 64) ((g + 1) * 64)) → IsSum ds g s
+sum_kept cs ds g s e is on =
+    record { bytes = is.bytes ∙ sym (ap length e); linked = on; moves = subst (λ (t : List ℕ). IfSome s.moves (AreMoves t)) (sym e) is.moves }
+
 sum_same : (cs ds : List ChunkValue) (g : ℕ) (s : Sum) → map bytes_of ds ≡ map bytes_of cs → IsSum cs g s
     → (s.linked ≡ true → AreLinkedFrom ds (g * 64) ((g + 1) * 64)) → IsSum ds g s
-sum_same cs ds g s e h on =
-    record { bytes = omega (arith, h.bytes, size_same ds cs ((g + 1) * 64) e, size_same ds cs (g * 64) e); linked = on }
+sum_same cs ds g s e = sum_kept cs ds g s (text_take (drop (g * 64) ds) (drop (g * 64) cs) 64 (sym (drop-map bytes_of (g * 64) ds) ∙ ap (drop (g * 64)) e ∙ drop-map bytes_of (g * 64) cs))
 
 -- one chunk is linked
 pub sums_linked : (cs : List ChunkValue) (ss : List Sum) (k : ℕ) (c : ChunkValue) → k < length cs → map bytes_of (set cs k c) ≡ map bytes_of cs → c.linked ≡ true → AreSums cs ss → AreSums (set cs k c) ss
@@ -105,25 +115,42 @@ sums_set cs ds ss g s l here sums is others =
 
 -- the sum of a group in which a link is given up
 abbrev pub not_linked : Sum → Sum
-not_linked s = sum s.bytes false
+not_linked s = sum s.bytes false s.moves
 
 pub sums_loosened : (cs : List ChunkValue) (ss : List Sum) (k g : ℕ) (c : ChunkValue) (x : Sum) → g * 64 ≤ k → k < (g + 1) * 64 → g < length ss → map bytes_of (set cs k c) ≡ map bytes_of cs
     → AreSums cs ss → AreSums (set cs k c) (set ss g (not_linked (get_or ss g x)))
 sums_loosened cs ss k g c x low high here e sums =
     sums_set cs (set cs k c) ss g (not_linked (get_or ss g x)) (sym (length-set cs k c)) here sums
-    (sum_same cs (set cs k c) g (not_linked (get_or ss g x)) e (record { bytes = (sums.each g x here).bytes; linked = λ t. absurd (false≢true t) }) (λ t. absurd (false≢true t)))
+    (sum_same cs (set cs k c) g (not_linked (get_or ss g x)) e (record { bytes = (sums.each g x here).bytes; linked = λ t. absurd (false≢true t); moves = (sums.each g x here).moves })
+    (λ t. absurd (false≢true t)))
     (λ i d m apart.
     sum_same cs (set cs k c) i (get_or ss i d) e (sums.each i d m)
     (λ t j a b. linked_set_other cs k j c (λ q. apart (omega (arith, a, b, q, low, high))) ∙ (sums.each i d m).linked t j a b))
 
 -- ---- sums that are made
 
+-- the bytes before the next group
+pub text_group : (cs : List ChunkValue) (g : ℕ) → text_of (take ((g + 1) * 64) cs) ≡ text_of (take (g * 64) cs) ++ text_at cs g
+text_group cs g =
+    let n : (g + 1) * 64 ≡ g * 64 + 64 = omega arith in
+    ap (λ (k : ℕ). text_of (take k cs)) n ∙ ap text_of (take-add (g * 64) 64 cs) ∙ flat_map-append bytes_of (take (g * 64) cs) (take 64 (drop (g * 64) cs))
+
+pub size_group : (cs : List ChunkValue) (g : ℕ) → size_before cs ((g + 1) * 64) ≡ size_before cs (g * 64) + length (text_at cs g)
+size_group cs g = ap length (text_group cs g) ∙ length-append (text_of (take (g * 64) cs)) (text_at cs g)
+
+-- the chunks of a group
+pub group_is : (cs : List ChunkValue) (g first end : ℕ) → first ≡ min (g * 64) (length cs) → end ≡ min (first + 64) (length cs) → text_of (take (end - first) (drop first cs)) ≡ text_at cs g
+group_is cs g first end low high =
+    let rest : drop first cs ≡ drop (g * 64) cs = ap (λ (n : ℕ). drop n cs) low ∙ drop_min (g * 64) cs in
+    let few : end - first ≡ min 64 (length (drop first cs)) = omega (arith, low, high, length-drop first cs) in
+    ap (λ (n : ℕ). text_of (take n (drop first cs))) few ∙ ap text_of (take_min 64 (drop first cs)) ∙ ap (λ (xs : List ChunkValue). text_of (take 64 xs)) rest
+
 -- behind its last one
-pub sum_all : (cs : List ChunkValue) (g place bytes : ℕ) (linked : Bool) → place ≡ min ((g + 1) * 64) (length cs) → size_before cs place ≡ size_before cs (g * 64) + bytes
-    → (linked ≡ true → AreLinkedFrom cs (g * 64) place) → IsSum cs g (sum bytes linked)
-sum_all cs g place bytes linked is long on =
+pub sum_all : (cs : List ChunkValue) (g place bytes : ℕ) (linked : Bool) (moves : Option Moves) → place ≡ min ((g + 1) * 64) (length cs) → size_before cs place ≡ size_before cs (g * 64) + bytes
+    → (linked ≡ true → AreLinkedFrom cs (g * 64) place) → IfSome moves (AreMoves (text_at cs g)) → IsSum cs g (sum bytes linked moves)
+sum_all cs g place bytes linked moves is long on moved =
     let e : size_before cs place ≡ size_before cs ((g + 1) * 64) = ap (size_before cs) is ∙ ap (λ (xs : List ChunkValue). length (text_of xs)) (take_min ((g + 1) * 64) cs) in
-    record { bytes = omega (arith, e, long); linked = λ t j low high. there t j low high }
+    record { bytes = omega (arith, e, long, size_group cs g); linked = λ t j low high. there t j low high; moves = moved }
   where
     there : linked ≡ true → (j : ℕ) → g * 64 ≤ j → j < (g + 1) * 64 → is_linked_at cs j ≡ true
     there t j low high = elim (cases_lt j place) [
@@ -144,45 +171,24 @@ both_linked cs i k a b h is t = let both = both_of a b t in linked_more cs i k (
 
 sum_front : (cs ds : List ChunkValue) (n g : ℕ) (s : Sum) → take n ds ≡ take n cs → (g + 1) * 64 ≤ n → IsSum cs g s → IsSum ds g s
 sum_front cs ds n g s e h is =
-    record {
-      bytes = omega (arith, is.bytes, same ((g + 1) * 64) h, same (g * 64) (omega (arith, h)));
-      linked = λ t j low high.
-          sym (linked_take ds n j (omega (arith, h, high))) ∙ ap (λ (xs : List ChunkValue). is_linked_at xs j) e ∙ linked_take cs n j (omega (arith, h, high)) ∙ is.linked t j low high;
-    }
+    sum_kept cs ds g s (ap text_of (sym (drop-take (g * 64) 64 ds) ∙ ap (drop (g * 64)) same ∙ drop-take (g * 64) 64 cs)) is
+    (λ t j low high.
+    sym (linked_take ds n j (omega (arith, h, high))) ∙ ap (λ (xs : List ChunkValue). is_linked_at xs j) e ∙ linked_take cs n j (omega (arith, h, high)) ∙ is.linked t j low high)
   where
-    same : (k : ℕ) → k ≤ n → size_before ds k ≡ size_before cs k
-    same k l = ap (λ (xs : List ChunkValue). length (text_of xs)) (sym (take-take k n ds l) ∙ ap (take k) e ∙ take-take k n cs l)
-
--- so many chunks, and some more
-size_add : (cs : List ChunkValue) (m n : ℕ) → m ≤ n → size_before cs n ≡ size_before cs m + length (text_of (take (n - m) (drop m cs)))
-size_add cs m n h =
-    let e : n ≡ m + (n - m) = omega (arith, h) in
-    ap (size_before cs) e
-    ∙ ap (λ (xs : List ChunkValue). length (text_of xs)) (take-add m (n - m) cs)
-    ∙ ap length (flat_map-append bytes_of (take m cs) (take (n - m) (drop m cs)))
-    ∙ length-append (text_of (take m cs)) (text_of (take (n - m) (drop m cs)))
+    same : take (g * 64 + 64) ds ≡ take (g * 64 + 64) cs
+    same =
+        let l : g * 64 + 64 ≤ n = omega (arith, h) in
+        sym (take-take (g * 64 + 64) n ds l) ∙ ap (take (g * 64 + 64)) e ∙ take-take (g * 64 + 64) n cs l
 
 sum_back : (cs ds : List ChunkValue) (m g : ℕ) (s : Sum) → drop m ds ≡ drop m cs → m ≤ g * 64 → IsSum cs g s → IsSum ds g s
 sum_back cs ds m g s e h is =
-    record {
-      bytes =
-          omega (
-            arith,
-            is.bytes,
-            size_add cs m ((g + 1) * 64) (omega (arith, h)),
-            size_add cs m (g * 64) h,
-            size_add ds m ((g + 1) * 64) (omega (arith, h)),
-            size_add ds m (g * 64) h,
-            same ((g + 1) * 64 - m),
-            same (g * 64 - m),
-          );
-      linked = λ t j low high.
-          let n : j ≡ m + (j - m) = omega (arith, h, low) in
-          ap (is_linked_at ds) n ∙ sym (linked_drop ds m (j - m)) ∙ ap (λ (xs : List ChunkValue). is_linked_at xs (j - m)) e ∙ linked_drop cs m (j - m) ∙ sym (ap (is_linked_at cs) n) ∙ is.linked t j low high;
-    }
+    sum_kept cs ds g s (ap (λ (xs : List ChunkValue). text_of (take 64 xs)) (same ds ∙ ap (drop (g * 64 - m)) e ∙ sym (same cs))) is
+    (λ t j low high.
+    let n : j ≡ m + (j - m) = omega (arith, h, low) in
+    ap (is_linked_at ds) n ∙ sym (linked_drop ds m (j - m)) ∙ ap (λ (xs : List ChunkValue). is_linked_at xs (j - m)) e ∙ linked_drop cs m (j - m) ∙ sym (ap (is_linked_at cs) n) ∙ is.linked t j low high)
   where
-    same : (k : ℕ) → length (text_of (take k (drop m ds))) ≡ length (text_of (take k (drop m cs)))
-    same k = ap (λ (xs : List ChunkValue). length (text_of (take k xs))) e
+    same : (xs : List ChunkValue) → drop (g * 64) xs ≡ drop (g * 64 - m) (drop m xs)
+    same xs = let n : g * 64 ≡ m + (g * 64 - m) = omega (arith, h) in ap (λ (k : ℕ). drop k xs) n ∙ sym (drop-drop (g * 64 - m) m xs)
 
 -- the chunks before an edit
 replaced_front : (cs made : List ChunkValue) (first last : ℕ) → first ≤ length cs → take first (replaced first last made cs) ≡ take first cs
@@ -262,7 +268,7 @@ sums_moved cs ds made ss ts first last g end n x h k is low enough had kept sums
 -- the next group begins
 pub border_more : (cs : List ChunkValue) (ss : List Sum) (g bytes : ℕ) (d : Sum) → g < length ss → AreSums cs ss → bytes ≡ size_before cs (g * 64)
     → bytes + (get_or ss g d).bytes ≡ size_before cs ((g + 1) * 64)
-border_more cs ss g bytes d h sums long = omega (arith, (sums.each g d h).bytes, long)
+border_more cs ss g bytes d h sums long = omega (arith, (sums.each g d h).bytes, long, size_group cs g)
 
 pub border_fits : (cs : List ChunkValue) (ss : List Sum) (g bytes : ℕ) (d : Sum) → g < length ss → AreSums cs ss → bytes ≡ size_before cs (g * 64)
     → bytes + (get_or ss g d).bytes ≤ length (text_of cs)
@@ -283,3 +289,7 @@ pub kept_items : {X : Type 0} (n : ℕ) (items old new : List X) → old ≡ ite
 kept_items n items old new is all same =
     let m : length old ≡ length items = ap length is in
     ap (λ (xs : List _). take n (new ++ xs)) (drop_all (length new) items (omega (arith, same, m))) ∙ ap (take n) (append-nil new) ∙ take_all n new (omega (arith, same, all))
+
+-- where they are the same
+pub kept_same : {X : Type 0} (n : ℕ) (items old new : List X) → old ≡ items → n ≡ length old → new ≡ old → take n (new ++ drop (length new) items) ≡ items
+kept_same n items old new is all same = kept_items n items old new is all (ap length same) ∙ same ∙ is

@@ -4,6 +4,7 @@ pub mod Scans
 pub mod Parted
 pub mod Counting
 pub mod Seeking
+pub mod Passing
 pub mod Stood
 pub mod Groups
 pub mod Texts

@@ -142,12 +142,12 @@ sought_end e from to p cs k before h s =
 pub front_position : (e : Encoding) (r : Position) (front rest : List ℕ) (n : ℕ) → n ≤ length front → r ≡ position_behind e first (take n front) → r ≡ position_behind e first (take n (front ++ rest))
 front_position e r front rest n h is = is ∙ ap (position_behind e first) (sym (take-append-le n front rest h))
 
-pub over_position : (e : Encoding) (p r : Position) (front rest : List ℕ) (n : ℕ) → p ≡ position_behind e first front → r ≡ position_behind e p (take n rest)
-    → r ≡ position_behind e first (take (length front + n) (front ++ rest))
-over_position e p r front rest n is there =
+pub over_position : (e : Encoding) (from p r : Position) (front rest : List ℕ) (n : ℕ) → p ≡ position_behind e from front → r ≡ position_behind e p (take n rest)
+    → r ≡ position_behind e from (take (length front + n) (front ++ rest))
+over_position e from p r front rest n is there =
     there ∙ ap (λ (s : Position). position_behind e s (take n rest)) is
-    ∙ sym (behind_parts e first front (take n rest))
-    ∙ ap (position_behind e first) (sym (take-append-add front rest n))
+    ∙ sym (behind_parts e from front (take n rest))
+    ∙ ap (position_behind e from) (sym (take-append-add front rest n))
 
 pub position_over : (e : Encoding) (p r : Position) (front rest : List ℕ) (offset near far : ℕ) → near ≡ min offset (length front) → far ≡ offset - length front
     → p ≡ position_behind e first (take near front) → r ≡ position_behind e p (take far rest) → r ≡ position_behind e first (take offset (front ++ rest))
@@ -159,7 +159,7 @@ position_over e p r front rest offset near far near_is far_is is there = pick (n
         let all : near ≡ length front = omega (arith, near_is, past) in
         let whole : p ≡ position_behind e first front = is ∙ ap (λ (n : ℕ). position_behind e first (take n front)) all ∙ ap (position_behind e first) (take_all (length front) front (omega arith)) in
         let sum : length front + far ≡ offset = omega (arith, far_is, past) in
-        over_position e p r front rest far whole there ∙ ap (λ (n : ℕ). position_behind e first (take n (front ++ rest))) sum
+        over_position e first p r front rest far whole there ∙ ap (λ (n : ℕ). position_behind e first (take n (front ++ rest))) sum
     pick false h =
         let within : offset ≤ length front = grind (arith, nat_tests) in
         let here : near ≡ offset = omega (arith, near_is, within) in

@@ -5,6 +5,7 @@ pub mod Leads
 pub mod Links
 pub mod Moves
 pub mod Parts
+pub mod Passing
 pub mod Pieces
 pub mod Places
 pub mod Replacements

@@ -71,11 +71,41 @@ impl Document {
         ensures names { settings.names ≡ Unique → result ≡ Err UniqueNames }
         ensures any { settings.names ≡ Any → IfErr result (λ fault. fault ≡ Memory) }
     {
+        Document::made(alloc, bytes, settings, None)
+    }
+
+    /// The same, and keeps what finds positions by this encoding fast. By another one they are found too.
+    pub fn counted(
+        alloc: Global,
+        bytes: &[u8],
+        settings: Settings,
+        encoding: Encoding,
+    ) -> Result<Document, DocumentFault>
+        ensures settings { IfOk result (λ d. d.settings ≡ settings) }
+        ensures bytes { IfOk result (λ d. d.bytes ≡ bytes.now) }
+        ensures names { settings.names ≡ Unique → result ≡ Err UniqueNames }
+        ensures any { settings.names ≡ Any → IfErr result (λ fault. fault ≡ Memory) }
+    {
+        Document::made(alloc, bytes, settings, Some(encoding))
+    }
+
+    /// What both make: a document that keeps counts by one encoding, if any.
+    fn made(
+        alloc: Global,
+        bytes: &[u8],
+        settings: Settings,
+        counted: Option<Encoding>,
+    ) -> Result<Document, DocumentFault>
+        ensures settings { IfOk result (λ d. d.settings ≡ settings) }
+        ensures bytes { IfOk result (λ d. d.bytes ≡ bytes.now) }
+        ensures names { settings.names ≡ Unique → result ≡ Err UniqueNames }
+        ensures any { settings.names ≡ Any → IfErr result (λ fault. fault ≡ Memory) }
+    {
         if settings.names == NameRule::Unique {
             return Err(DocumentFault::UniqueNames);
         }
         let front = front(bytes, settings.mark);
-        let rest = Chunked::of(alloc, &bytes[skipped(front)..], settings.depth)?;
+        let rest = Chunked::of(alloc, &bytes[skipped(front)..], settings.depth, counted)?;
         Ok(Document {
             settings,
             front,
@@ -83,8 +113,8 @@ impl Document {
         })
     }
 
-    /// The same, where so many workers each make a part of it, in a thread of its own where one can be made. It has the same
-    /// bytes for every number of workers.
+    /// What `of` makes, where so many workers each make a part of it, in a thread of its own where one can be made. It has the
+    /// same bytes for every number of workers.
     pub fn of_by<R: Threads + Sync>(
         rt: &R,
         alloc: Global,

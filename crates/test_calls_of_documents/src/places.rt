@@ -33,11 +33,15 @@ fn next_position(line: &mut Line<'_>) -> Position {
     line.read_or(read, start)
 }
 
-/// The document of settings and a text.
-fn next_document(line: &mut Line<'_>) -> Option<Document> {
+/// The document of settings and a text, with counts by an encoding, if any.
+fn next_document(line: &mut Line<'_>, counted: Option<Encoding>) -> Option<Document> {
     let settings = line.settings(Depth::default());
     let text = line.text();
-    match Document::of(line.alloc, &text, settings) {
+    let made = match counted {
+        None => Document::of(line.alloc, &text, settings),
+        Some(encoding) => Document::counted(line.alloc, &text, settings, encoding),
+    };
+    match made {
         Ok(document) => Some(document),
         Err(_) => {
             line.refuse();
@@ -46,10 +50,10 @@ fn next_document(line: &mut Line<'_>) -> Option<Document> {
     }
 }
 
-/// `positions ENCODING SETTINGS TEXT`: the position of each offset up to the end.
+/// `positions ENCODING SETTINGS TEXT`: the position of each offset up to the end, by no counts.
 pub(crate) fn positions(line: &mut Line<'_>) {
     let encoding = next_encoding(line);
-    if let Some(document) = next_document(line) {
+    if let Some(document) = next_document(line, None) {
         push_positions(line, &document, encoding);
     }
 }
@@ -67,10 +71,10 @@ fn push_positions(line: &mut Line<'_>, document: &Document, encoding: Encoding) 
     }
 }
 
-/// `offsets ENCODING SETTINGS TEXT POSITION..`: the offset of each position.
+/// `offsets ENCODING SETTINGS TEXT POSITION..`: the offset of each position, by counts.
 pub(crate) fn offsets(line: &mut Line<'_>) {
     let encoding = next_encoding(line);
-    if let Some(document) = next_document(line) {
+    if let Some(document) = next_document(line, Some(encoding)) {
         push_offsets(line, &document, encoding);
     }
 }

@@ -1,5 +1,7 @@
 -- How far bytes move a position.
-use Rattle.std.specs.Prelude.{ℕ, Bool, ◌+◌, ◌==◌, if◌then◌else◌}
+use Rattle.std.specs.Prelude.{ℕ, Bool, List, ◌≡◌, ◌+◌, ◌==◌, if◌then◌else◌}
+use Rattle.jx_edit.specs.Positions.{first, position_behind}
+use Rattle.jx_edit.specs.declared.positions.moves.Moves.{Moves}
 use Rattle.jx_edit.specs.declared.positions.position.Position.{Position}
 
 -- the position behind bytes that stand at the first one, and that would come to the second from the start of a text
@@ -8,3 +10,7 @@ joined p q = if q.line == 0 then record { line = p.line; character = p.character
 
 abbrev pub is_feed : ℕ → Bool
 is_feed byte = byte == 10
+
+-- they are those of these bytes
+abbrev pub AreMoves : List ℕ → Moves → Type 0
+AreMoves bytes m = m.position ≡ position_behind m.encoding first bytes

@@ -1,6 +1,7 @@
 -- What is kept of chunks that stand together, 64 in a group.
-use Rattle.std.specs.Prelude.{◌≡◌, ◌≤◌, ◌<◌, ◌+◌, ◌*◌, ℕ, zero, suc, Bool, true, List, [], ◌∷◌, length, get_or, take}
+use Rattle.std.specs.Prelude.{◌≡◌, ◌≤◌, ◌<◌, ◌+◌, ◌*◌, ℕ, zero, suc, Bool, true, List, [], ◌∷◌, IfSome, length, get_or, take, drop}
 use Rattle.jx_edit.specs.inside.Chunks.{ChunkValue, text_of}
+use Rattle.jx_edit.specs.inside.Moves.{AreMoves}
 use Rattle.jx_edit.specs.declared.chunking.sums.Sum.{Sum}
 
 -- how many bytes so many chunks have
@@ -21,10 +22,15 @@ AreLinkedFrom cs i j = (k : ℕ) → i ≤ k → k < j → is_linked_at cs k ≡
 abbrev pub AreLinkedBelow : List ChunkValue → ℕ → ℕ → ℕ → Type 0
 AreLinkedBelow cs count i j = (k : ℕ) → i ≤ k → k < j → k < count → is_linked_at cs k ≡ true
 
--- of the chunks of the group behind so many groups
+-- the bytes of the chunks of the group behind so many groups
+abbrev pub text_at : List ChunkValue → ℕ → List ℕ
+text_at cs g = text_of (take 64 (drop (g * 64) cs))
+
+-- of these chunks
 pub record IsSum (cs : List ChunkValue) (g : ℕ) (s : Sum) : Type 0 where
-  pub bytes : size_before cs ((g + 1) * 64) ≡ size_before cs (g * 64) + s.bytes
+  pub bytes : s.bytes ≡ length (text_at cs g)
   pub linked : s.linked ≡ true → AreLinkedFrom cs (g * 64) ((g + 1) * 64)
+  pub moves : IfSome s.moves (AreMoves (text_at cs g))
 
 -- one for each group, of which those from `first` up to `end` may be wrong
 pub record AreSumsBut (first end : ℕ) (cs : List ChunkValue) (ss : List Sum) : Type 0 where

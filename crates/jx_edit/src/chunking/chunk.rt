@@ -8,6 +8,7 @@ ghost use Rattle.jx_run.specs.OutcomeRun.{IsOutcomeRun};
 
 use crate::chunking::filled::Filled;
 use crate::positions::encoding::Encoding;
+use crate::positions::moves::{Moves, kept_by};
 use crate::positions::position::{Position, behind};
 use crate::reading::led::{Led, follow_bytes, follow_run};
 use crate::reading::nesting::nest_deeply;
@@ -28,22 +29,20 @@ pub(crate) struct Chunk {
     to: Place,
     // whether it leads there from where the chunk before it leads
     linked: bool,
-    // the position behind its bytes where a text begins with them, by each encoding
-    utf8: Position,
-    utf16: Position,
+    // how far its bytes move a position on, where that was counted
+    moves: Option<Moves>,
 }
 
 impl Model for Chunk {
-    ghost use Rattle.std.specs.Prelude.{◌≡◌, ◌≤◌, IfSome, length};
+    ghost use Rattle.std.specs.Prelude.{◌≤◌, IfSome, length};
     ghost use Rattle.jx_edit.specs.inside.Chunks.{ChunkValue, IsRunOver};
-    ghost use Rattle.jx_edit.specs.declared.positions.encoding.Encoding.TheVariants.{Utf8, Utf16};
-    ghost use Rattle.jx_edit.specs.Positions.{first, position_behind};
+    ghost use Rattle.jx_edit.specs.inside.Moves.{AreMoves};
 
     ghost Value = { ChunkValue };
 
     ghost view = { λ c. record { depth = c.depth; bytes = c.bytes.items; to = c.to; linked = c.linked } };
 
-    ghost invariant = { λ c. IfSome c.run (IsRunOver c.depth c.bytes.items) × (length c.to.holders ≤ c.depth) × (c.utf8 ≡ position_behind Utf8 first c.bytes.items) × (c.utf16 ≡ position_behind Utf16 first c.bytes.items) };
+    ghost invariant = { λ c. IfSome c.run (IsRunOver c.depth c.bytes.items) × (length c.to.holders ≤ c.depth) × IfSome c.moves (AreMoves c.bytes.items) };
 }
 
 /// The run over bytes, with no spare room.
@@ -79,16 +78,13 @@ impl Chunk {
         ensures bytes { IfOk result (λ c. c.bytes ≡ bytes.items) }
     {
         let run = small_run_over(alloc, &bytes, depth)?;
-        let utf8 = behind(&bytes, Encoding::Utf8);
-        let utf16 = behind(&bytes, Encoding::Utf16);
         Ok(Chunk {
             depth,
             bytes,
             run,
             to: Place::origin(alloc),
             linked: false,
-            utf8,
-            utf16,
+            moves: None,
         })
     }
 
@@ -103,10 +99,18 @@ impl Chunk {
     pub(crate) fn moves(&self, encoding: Encoding) -> Position
         ensures { result ≡ position_behind encoding first self.now.bytes }
     {
-        match encoding {
-            Encoding::Utf8 => self.utf8,
-            Encoding::Utf16 => self.utf16,
+        match kept_by(self.moves, encoding) {
+            Some(position) => position,
+            None => behind(&self.bytes, encoding),
         }
+    }
+
+    /// Counts that position by one encoding, and keeps it.
+    pub(crate) fn count(&mut self, encoding: Encoding)
+        ensures { self.new ≡ self.old }
+    {
+        let position = behind(&self.bytes, encoding);
+        self.moves = Some(Moves { encoding, position });
     }
 
     /// The place that it keeps.
@@ -173,6 +177,18 @@ pub(crate) fn text_of(alloc: Global, chunks: &[Chunk]) -> Result<Vec<u8>, AllocE
         bytes.extend_from_slice(chunk.bytes())?;
     }
     Ok(bytes)
+}
+
+/// Counts each of the chunks by one encoding, if any.
+pub(crate) fn count_all(chunks: &mut [Chunk], counted: Option<Encoding>)
+    ensures { chunks.new ≡ chunks.old }
+{
+    let Some(encoding) = counted else {
+        return;
+    };
+    for chunk in chunks.iter_mut() {
+        chunk.count(encoding);
+    }
 }
 
 /// The chunks of these bytes, none of them longer than `size`.

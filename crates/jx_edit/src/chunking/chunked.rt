@@ -8,7 +8,7 @@ ghost use Rattle.jx_edit.specs.inside.Replacements.{all_of};
 ghost use Rattle.jx_run.specs.Reading.{read_text};
 ghost use Rattle.jx_run.specs.Verdict.{Judged};
 
-use crate::chunking::chunk::{Chunk, chunks_of};
+use crate::chunking::chunk::{Chunk, chunks_of, count_all};
 use crate::chunking::chunks::Chunks;
 use crate::chunking::making::chunks_by;
 use crate::chunking::patch::{patch_of, piece_for, put};
@@ -16,8 +16,8 @@ use crate::chunking::replacement::Replacement;
 use crate::chunking::seam::{between, rest_at};
 use crate::chunking::sums::{Sum, sums_of};
 use crate::positions::encoding::Encoding;
+use crate::positions::passing::{position_at, reach_at};
 use crate::positions::position::{Position, Reached};
-use crate::positions::seek::{position_in, reach_in};
 use crate::reading::place::Place;
 use crate::reading::standing::stand_behind;
 use crate::reading::walk::walk;
@@ -36,6 +36,8 @@ pub(crate) struct Chunked {
     chunks: Vec<Chunk>,
     // what is kept of each group of chunks
     sums: Vec<Sum>,
+    // by which encoding chunks and sums count
+    counted: Option<Encoding>,
 }
 
 impl Model for Chunked {
@@ -57,24 +59,31 @@ const SIZE: usize = 16384;
 pub(crate) const MOST: usize = usize::MAX / 2;
 
 impl Chunked {
-    /// The text of these bytes. Only want of memory is refused.
-    pub(crate) fn of(alloc: Global, bytes: &[u8], depth: Depth) -> Result<Chunked, AllocError>
+    /// The text of these bytes, with counts by one encoding, if any. Only want of memory is refused.
+    pub(crate) fn of(
+        alloc: Global,
+        bytes: &[u8],
+        depth: Depth,
+        counted: Option<Encoding>,
+    ) -> Result<Chunked, AllocError>
         ensures depth { IfOk result (λ t. t.depth ≡ depth) }
         ensures bytes { IfOk result (λ t. t.bytes ≡ bytes.now) }
     {
         let piece = piece_for(bytes.len(), SIZE);
-        let chunks = chunks_of(alloc, bytes, piece, depth)?;
-        let sums = sums_of(alloc, &chunks)?;
+        let mut chunks = chunks_of(alloc, bytes, piece, depth)?;
+        count_all(&mut chunks, counted);
+        let sums = sums_of(alloc, &chunks, counted)?;
         Ok(Chunked {
             alloc,
             depth,
             len: bytes.len(),
             chunks,
             sums,
+            counted,
         })
     }
 
-    /// The same, where so many workers each make a part of it.
+    /// The same with no counts, where so many workers each make a part of it.
     pub(crate) fn of_by<R: Threads + Sync>(
         rt: &R,
         alloc: Global,
@@ -87,13 +96,14 @@ impl Chunked {
     {
         let piece = piece_for(bytes.len(), SIZE);
         let chunks = chunks_by(rt, alloc, bytes, piece, depth, workers)?;
-        let sums = sums_of(alloc, &chunks)?;
+        let sums = sums_of(alloc, &chunks, None)?;
         Ok(Chunked {
             alloc,
             depth,
             len: bytes.len(),
             chunks,
             sums,
+            counted: None,
         })
     }
 
@@ -130,7 +140,7 @@ impl Chunked {
         requires characters { from.character + 2 * length self.now.bytes < 2 ^ 64 }
         ensures { result ≡ position_behind encoding from (take at self.now.bytes) }
     {
-        position_in(&self.chunks, from, at, encoding)
+        position_at(&self.chunks, &self.sums, from, at, encoding)
     }
 
     /// How many of its bytes, of which the first stands at one position, come before the next position is behind another.
@@ -141,7 +151,7 @@ impl Chunked {
         ensures within { result.count ≤ length self.now.bytes }
         ensures position { result.position ≡ position_behind encoding from (take result.count self.now.bytes) }
     {
-        reach_in(&self.chunks, from, to, encoding)
+        reach_at(&self.chunks, &self.sums, from, to, encoding)
     }
 
     /// The verdict on its bytes as a whole text (RFC 8259, section 2) whose first byte has this offset. Only chunks that
@@ -187,24 +197,24 @@ impl Chunked {
             return Err(AllocError);
         }
         let len = kept + replacement.len();
-        let chunks = self.chunks.as_slice();
-        let sums = self.sums.as_slice();
-        let patch = patch_of(
+        let mut patch = patch_of(
             self.alloc,
-            chunks,
-            sums,
+            &self.chunks,
+            &self.sums,
             start,
             end,
             replacement,
             SIZE,
             self.depth,
         )?;
+        count_all(&mut patch.chunks, self.counted);
         put(
             &mut self.chunks,
             &mut self.sums,
             patch.first,
             patch.last,
             patch.chunks,
+            self.counted,
         )?;
         self.len = len;
         Ok(())

@@ -9,6 +9,7 @@ use crate::chunking::filled::Filled;
 use crate::chunking::replacement::Replacement;
 use crate::chunking::seam::{Back, back_of, front_of};
 use crate::chunking::sums::{GROUP, Sum, groups_for, renew};
+use crate::positions::encoding::Encoding;
 use jx_lex::Depth;
 use std::alloc::{AllocError, Global};
 
@@ -155,11 +156,12 @@ pub(crate) fn put(
     first: usize,
     last: usize,
     made: Vec<Chunk>,
+    counted: Option<Encoding>,
 ) -> Result<(), AllocError>
     requires order { first ≤ last }
     requires within { last ≤ length chunks.old.items }
     requires sums { AreSums chunks.old.items sums.old.items }
-    requires fits { length (text_of (replaced first last made.items chunks.old.items)) < 2 ^ 64 }
+    requires fits { length (text_of (replaced first last made.items chunks.old.items)) < 2 ^ 63 }
     ensures ok { OnOk result (chunks.new.items ≡ replaced first last made.items chunks.old.items) }
     ensures err { OnErr result (chunks.new.items ≡ chunks.old.items) }
     ensures sums { AreSums chunks.new.items sums.new.items }
@@ -167,7 +169,7 @@ pub(crate) fn put(
     if made.len() == last - first {
         exchange(chunks, first, last, made);
         let end = (last / GROUP + 1).min(sums.len());
-        renew(chunks, sums, first / GROUP, end);
+        renew(chunks, sums, first / GROUP, end, counted);
         return Ok(());
     }
     // All that can fail comes first.
@@ -178,6 +180,6 @@ pub(crate) fn put(
         Ok(()) => {}
         Err(AllocError) => unreachable!(),
     }
-    renew(chunks, sums, first / GROUP, end);
+    renew(chunks, sums, first / GROUP, end, counted);
     Ok(())
 }

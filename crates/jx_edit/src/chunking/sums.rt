@@ -1,9 +1,14 @@
 // What is kept of chunks that stand together, so that they need not be looked at one by one.
-ghost use Rattle.std.specs.Prelude.{◌≡◌, ◌≤◌, ◌<◌, ◌+◌, ◌*◌, ◌^◌, IfOk, length, min};
+ghost use Rattle.std.specs.Prelude.{◌≡◌, ◌≤◌, ◌<◌, ◌+◌, ◌*◌, ◌^◌, IfOk, IfSome, length, min};
 ghost use Rattle.jx_edit.specs.inside.Chunks.{text_of};
+ghost use Rattle.jx_edit.specs.inside.Moves.{AreMoves};
 ghost use Rattle.jx_edit.specs.inside.Sums.{AreSums, AreSumsBut, IsBorder, IsSum};
 
 use crate::chunking::chunk::Chunk;
+use crate::positions::encoding::Encoding;
+use crate::positions::moves::Moves;
+use crate::positions::position::Position;
+use crate::positions::seek::position_in;
 use std::alloc::{AllocError, Global};
 
 /// How many chunks are in a group. The fewer there are, the fewer are looked at in one, and the more groups there are.
@@ -16,6 +21,8 @@ pub(crate) struct Sum {
     pub(crate) bytes: usize,
     /// Whether each of them is known to be linked.
     pub(crate) linked: bool,
+    /// How far they move a position on together, where that is counted.
+    pub(crate) moves: Option<Moves>,
 }
 
 impl Sum {
@@ -24,6 +31,7 @@ impl Sum {
         Sum {
             bytes: 0,
             linked: false,
+            moves: None,
         }
     }
 }
@@ -73,9 +81,23 @@ pub(crate) fn border_before(chunks: &[Chunk], sums: &[Sum], at: usize) -> Border
     }
 }
 
+/// How far chunks move a position on together, where that is counted.
+fn moves_of(chunks: &[Chunk], counted: Option<Encoding>) -> Option<Moves>
+    requires { length (text_of chunks.now) < 2 ^ 63 }
+    ensures { IfSome result (AreMoves (text_of chunks.now)) }
+{
+    match counted {
+        None => None,
+        Some(encoding) => {
+            let position = position_in(chunks, Position::first(), usize::MAX, encoding);
+            Some(Moves { encoding, position })
+        }
+    }
+}
+
 /// The sum of a group.
-fn sum_of(chunks: &[Chunk], group: usize) -> Sum
-    requires { length (text_of chunks.now) < 2 ^ 64 }
+fn sum_of(chunks: &[Chunk], group: usize, counted: Option<Encoding>) -> Sum
+    requires { length (text_of chunks.now) < 2 ^ 63 }
     ensures { IsSum chunks.now group result }
 {
     let first = chunks_before(group, chunks.len());
@@ -87,30 +109,45 @@ fn sum_of(chunks: &[Chunk], group: usize) -> Sum
         bytes += chunk.bytes().len();
         linked &= chunk.is_linked();
     }
-    Sum { bytes, linked }
+    let moves = moves_of(&chunks[first..end], counted);
+    Sum {
+        bytes,
+        linked,
+        moves,
+    }
 }
 
 /// Makes the sums of the groups from `first` up to `end` anew.
-pub(crate) fn renew(chunks: &[Chunk], sums: &mut [Sum], first: usize, end: usize)
-    requires fits { length (text_of chunks.now) < 2 ^ 64 }
+pub(crate) fn renew(
+    chunks: &[Chunk],
+    sums: &mut [Sum],
+    first: usize,
+    end: usize,
+    counted: Option<Encoding>,
+)
+    requires fits { length (text_of chunks.now) < 2 ^ 63 }
     requires within { end ≤ length sums.old }
     requires others { AreSumsBut first end chunks.now sums.old }
     ensures sums { AreSums chunks.now sums.new }
     ensures count { length sums.new ≡ length sums.old }
 {
     for group in first..end {
-        sums[group] = sum_of(chunks, group);
+        sums[group] = sum_of(chunks, group, counted);
     }
 }
 
 /// The sums of all groups.
-pub(crate) fn sums_of(alloc: Global, chunks: &[Chunk]) -> Result<Vec<Sum>, AllocError>
-    requires { length (text_of chunks.now) < 2 ^ 64 }
+pub(crate) fn sums_of(
+    alloc: Global,
+    chunks: &[Chunk],
+    counted: Option<Encoding>,
+) -> Result<Vec<Sum>, AllocError>
+    requires { length (text_of chunks.now) < 2 ^ 63 }
     ensures { IfOk result (λ sums. AreSums chunks.now sums.items) }
 {
     let mut sums = Vec::new(alloc);
     let count = groups_for(chunks.len());
     sums.resize(count, Sum::unknown())?;
-    renew(chunks, &mut sums, 0, count);
+    renew(chunks, &mut sums, 0, count, counted);
     Ok(sums)
 }

@@ -1,4 +1,4 @@
-// Positions among chunks: those before the one that is looked for are passed by what they keep.
+// Positions among a few chunks: those before the one that is looked for are passed by what they count.
 ghost use Rattle.std.specs.Prelude.{◌≡◌, ◌≤◌, ◌<◌, ◌+◌, ◌*◌, ◌^◌, length, take};
 ghost use Rattle.jx_edit.specs.inside.Chunks.{text_of};
 ghost use Rattle.jx_edit.specs.Positions.{position_behind, reach};

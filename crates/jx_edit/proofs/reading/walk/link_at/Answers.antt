@@ -1,8 +1,8 @@
-use Rattle.std.proofs.Common.{arith, ap, sym, set, false, ◌≡◌, ◌∙◌, ◌+◌, ◌/◌, refl}
+use Rattle.std.proofs.Common.{arith, ap, sym, set, ◌≡◌, ◌∙◌, ◌+◌, ◌/◌, refl}
 use Rattle.std.proofs.Math.ListN.{length-set}
 use Rattle.jx_edit.specs.inside.Chunks.{open_ended, ChunkValue}
 use Rattle.jx_edit.specs.inside.Places.{origin}
-use Rattle.jx_edit.proofs.Groups.{sum, sums_linked, sums_loosened}
+use Rattle.jx_edit.proofs.Groups.{no_sum, sums_linked, sums_loosened}
 use Rattle.jx_edit.proofs.Links.{bytes_linked, bytes_loosened, link_of, linked_to, relinked_same, relinked_last, relinked_next}
 use Rattle.jx_edit.proofs.reading.walk.link_at.Goals as goal
 
@@ -98,7 +98,7 @@ returns-then-next-chunks-clause-sums c =
     let next = c.args.number + 1 in
     let group = next / 64 in
     let linked : c.link.new.self ≡ linked_to c.index-chunks-number.result c.args.to = c.link.ensures.linked ∙ ap (λ (y : ChunkValue). linked_to y c.args.to) (sym c.index-chunks-number.is) in
-    sums_loosened cs c.args.sums.now next group c.unlink.new.self (sum 0 false) (omega arith) (omega arith)
+    sums_loosened cs c.args.sums.now next group c.unlink.new.self no_sum (omega arith) (omega arith)
     (omega (arith, c.if-next-chunks.true, length-set c.args.chunks.now c.args.number c.link.new.self, c.requires.sums.covers))
     (bytes_loosened cs next c.index-chunks-next.result c.unlink.new.self c.if-next-chunks.true c.index-chunks-next.is (c.unlink.ensures ∙ ap open_ended (sym c.index-chunks-next.is)))
     (sums_linked c.args.chunks.now c.args.sums.now c.args.number c.link.new.self c.requires.number

@@ -1,4 +1,4 @@
-use Rattle.std.proofs.Common.{arith, false, ◌∙◌, ◌+◌, ◌*◌, ap, sym, subst, refl, List, ℕ}
+use Rattle.std.proofs.Common.{arith, ◌∙◌, ◌+◌, ◌*◌, ap, sym, subst, refl, List, ℕ}
 use Rattle.std.specs.Prelude.{IfSome, IsNone, Option}
 use Rattle.std.proofs.lemmas.List.{take_all}
 use Rattle.jx_run.specs.declared.texts.verdict.Refusal.{Refusal}
@@ -8,7 +8,7 @@ use Rattle.jx_edit.specs.inside.Chunks.{text_of}
 use Rattle.jx_edit.specs.inside.Links.{place_behind}
 use Rattle.jx_edit.specs.inside.Places.{origin}
 use Rattle.jx_edit.specs.inside.Sums.{size_before}
-use Rattle.jx_edit.proofs.Groups.{border_fits, border_more, size_same, sum}
+use Rattle.jx_edit.proofs.Groups.{border_fits, border_more, no_sum, size_same}
 use Rattle.jx_edit.proofs.Links.{walked_none, offset_none, still_fits, judged_end, text_map}
 use Rattle.jx_edit.proofs.reading.walk.walk.Goals as goal
 
@@ -27,7 +27,7 @@ overflow_add-next c =
     let i = c.loop-group.invariant in
     omega (
       arith,
-      border_fits cs c.loop-group.sums c.loop-group.group (size_before cs (c.loop-group.group * 64)) (sum 0 false) (omega (arith, c.loop-group-test.true, i.count)) i.sums_are refl,
+      border_fits cs c.loop-group.sums c.loop-group.group (size_before cs (c.loop-group.group * 64)) no_sum (omega (arith, c.loop-group-test.true, i.count)) i.sums_are refl,
       i.offset_is,
       still_fits c.args.start cs c.args.chunks.now i.same c.requires.fits,
     )
@@ -46,7 +46,7 @@ loop-group-preserved c =
       offset_is =
           omega (
             arith,
-            border_more cs c.loop-group.sums c.loop-group.group (size_before cs (c.loop-group.group * 64)) (sum 0 false) (omega (arith, c.loop-group-test.true, i.count)) i.sums_are refl,
+            border_more cs c.loop-group.sums c.loop-group.group (size_before cs (c.loop-group.group * 64)) no_sum (omega (arith, c.loop-group-test.true, i.count)) i.sums_are refl,
             i.offset_is,
             size_same c.pass_group.new.chunks cs next c.in_ok-refused.ensures.bytes,
           );
