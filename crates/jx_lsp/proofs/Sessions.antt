@@ -133,10 +133,8 @@ served_to u v w a b c from to first last bytes end ended so_far consumed ends is
     }
 
 stays_early : (p : Phase) → has_left p ≡ false → Early ≡ ended_at p
-stays_early phase.New e = refl
-stays_early phase.Ready e = refl
-stays_early phase.Down e = refl
 stays_early (phase.Ended clean) e = absurd cc
+stays_early _ e = refl
 
 -- while it goes on nothing more is told
 idle : (reading : Reading) (server : ServerValue) (a : Option (List ℕ)) → IsGoing reading server → Writes (closing (has_left server.phase) (fault_of reading)) a a
@@ -178,18 +176,14 @@ no_fault None e = refl
 no_fault (Some f) e = absurd cc
 
 pub not_left : (p : Phase) (end : Option Ended) → end ≡ end_of p → is_some end ≡ false → has_left p ≡ false
-not_left phase.New end e none = refl
-not_left phase.Ready end e none = refl
-not_left phase.Down end e none = refl
 not_left (phase.Ended true) end e none = absurd cc
 not_left (phase.Ended false) end e none = absurd cc
+not_left _ end e none = refl
 
 left_so : (p : Phase) (end : Option Ended) (ended : Ended) → end ≡ end_of p → end ≡ Some ended → (ended ≡ ended_at p) × (has_left p ≡ true)
-left_so phase.New end ended e is = absurd cc
-left_so phase.Ready end ended e is = absurd cc
-left_so phase.Down end ended e is = absurd cc
 left_so (phase.Ended true) end ended e is = (cc, refl)
 left_so (phase.Ended false) end ended e is = (cc, refl)
+left_so _ end ended e is = absurd cc
 
 broken : (left : Bool) (fault : Option FrameFault) (a b : Option (List ℕ)) → left ≡ false → is_some fault ≡ true → Writes (Refused None ParseError None ∷ []) a b → Writes (closing left fault) a b
 broken true fault a b s e w = absurd cc

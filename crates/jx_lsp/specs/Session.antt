@@ -21,18 +21,13 @@ use Rattle.jx_lsp.specs.declared.serve.Ended.TheVariants.{Clean, Early}
 
 -- by `exit`
 abbrev pub has_left : Phase → Bool
-has_left phase.New = false
-has_left phase.Ready = false
-has_left phase.Down = false
 has_left (phase.Ended clean) = true
+has_left _ = false
 
 -- as it should only by `exit` behind `shutdown`
 abbrev pub ended_at : Phase → Ended
-ended_at phase.New = Early
-ended_at phase.Ready = Early
-ended_at phase.Down = Early
-ended_at (phase.Ended false) = Early
 ended_at (phase.Ended true) = Clean
+ended_at _ = Early
 
 -- ---- what is replied
 

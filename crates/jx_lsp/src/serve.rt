@@ -60,7 +60,7 @@ fn answer<W: Write>(
     match body {
         None => Ok(()),
         Some(body) => {
-            let reply = answer_to(alloc, server, &body);
+            let reply = answer_to(alloc, server, body);
             tell(alloc, writer, &reply)
         }
     }

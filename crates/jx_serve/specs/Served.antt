@@ -90,18 +90,9 @@ pub record AreLinesOn (e : Encoding) (document : OpenValue) (uri : List ℕ) (ma
 
 -- what is published is the verdict on this document, or on its lines
 abbrev pub TellsOf : Encoding → OpenValue → Reply → Type 0
-TellsOf e document Nothing = Unit {0}
-TellsOf e document (Initialized id utf8) = Unit {0}
-TellsOf e document (Null id) = Unit {0}
-TellsOf e document (Hovered id hover) = Unit {0}
-TellsOf e document (Outlined id uri nested outline) = Unit {0}
-TellsOf e document (Folded id outline) = Unit {0}
-TellsOf e document (Selected id selections) = Unit {0}
-TellsOf e document (Refused id code refusal) = Unit {0}
 TellsOf e document (Published uri version mark) = IsVerdictOn document uri.items (told mark)
 TellsOf e document (PublishedLines uri version marks) = AreLinesOn e document uri.items marks.items
-TellsOf e document (Closed uri) = Unit {0}
-TellsOf e document (Logged trouble) = Unit {0}
+TellsOf e document _ = Unit {0}
 
 -- what is published is the verdict on a document that is open, or on its lines
 pub record Tells (server : ServerValue) (reply : Reply) : Type 0 where
@@ -112,42 +103,23 @@ pub record Tells (server : ServerValue) (reply : Reply) : Type 0 where
 
 -- it publishes nothing
 abbrev pub IsQuiet : Reply → Type 0
-IsQuiet Nothing = Unit {0}
-IsQuiet (Initialized id utf8) = Unit {0}
-IsQuiet (Null id) = Unit {0}
-IsQuiet (Hovered id hover) = Unit {0}
-IsQuiet (Outlined id uri nested outline) = Unit {0}
-IsQuiet (Folded id outline) = Unit {0}
-IsQuiet (Selected id selections) = Unit {0}
-IsQuiet (Refused id code refusal) = Unit {0}
 IsQuiet (Published uri version mark) = ⊥
 IsQuiet (PublishedLines uri version marks) = ⊥
-IsQuiet (Closed uri) = Unit {0}
-IsQuiet (Logged trouble) = Unit {0}
+IsQuiet _ = Unit {0}
 
 abbrev pub TellsVerdict : ServerValue → Reply → Type 0
 TellsVerdict server reply = IsQuiet reply ⊎ Tells server reply
 
 -- what is published has this version
 abbrev pub HasVersion : Option (Vec ℕ Global) → Reply → Type 0
-HasVersion version Nothing = Unit {0}
-HasVersion version (Initialized id utf8) = Unit {0}
-HasVersion version (Null id) = Unit {0}
-HasVersion version (Hovered id hover) = Unit {0}
-HasVersion version (Outlined id uri nested outline) = Unit {0}
-HasVersion version (Folded id outline) = Unit {0}
-HasVersion version (Selected id selections) = Unit {0}
-HasVersion version (Refused id code refusal) = Unit {0}
 HasVersion version (Published uri told mark) = told ≡ version
 HasVersion version (PublishedLines uri told marks) = told ≡ version
-HasVersion version (Closed uri) = Unit {0}
-HasVersion version (Logged trouble) = Unit {0}
+HasVersion version _ = Unit {0}
 
 -- ---- what is answered
 
 -- a request is answered once, with its id, and a notification never
 abbrev pub IsAnswer : Option (Vec ℕ Global) → Reply → Type 0
-IsAnswer (Some id) Nothing = ⊥
 IsAnswer (Some id) (Initialized other utf8) = other ≡ id
 IsAnswer (Some id) (Null other) = other ≡ id
 IsAnswer (Some id) (Hovered other hover) = other ≡ id
@@ -155,22 +127,13 @@ IsAnswer (Some id) (Outlined other uri nested outline) = other ≡ id
 IsAnswer (Some id) (Folded other outline) = other ≡ id
 IsAnswer (Some id) (Selected other selections) = other ≡ id
 IsAnswer (Some id) (Refused other code refusal) = other ≡ Some id
-IsAnswer (Some id) (Published uri version mark) = ⊥
-IsAnswer (Some id) (PublishedLines uri version marks) = ⊥
-IsAnswer (Some id) (Closed uri) = ⊥
-IsAnswer (Some id) (Logged trouble) = ⊥
+IsAnswer (Some id) _ = ⊥
 IsAnswer None Nothing = Unit {0}
-IsAnswer None (Initialized other utf8) = ⊥
-IsAnswer None (Null other) = ⊥
-IsAnswer None (Hovered other hover) = ⊥
-IsAnswer None (Outlined other uri nested outline) = ⊥
-IsAnswer None (Folded other outline) = ⊥
-IsAnswer None (Selected other selections) = ⊥
-IsAnswer None (Refused other code refusal) = ⊥
 IsAnswer None (Published uri version mark) = Unit {0}
 IsAnswer None (PublishedLines uri version marks) = Unit {0}
 IsAnswer None (Closed uri) = Unit {0}
 IsAnswer None (Logged trouble) = Unit {0}
+IsAnswer None _ = ⊥
 
 -- ---- what is shown
 
@@ -182,17 +145,7 @@ pub record IsOf (documents : List OpenValue) (number : ℕ) (P : OpenValue → T
 
 abbrev pub IsNull : Reply → Type 0
 IsNull (Null id) = Unit {0}
-IsNull Nothing = ⊥
-IsNull (Initialized id utf8) = ⊥
-IsNull (Hovered id hover) = ⊥
-IsNull (Outlined id uri nested outline) = ⊥
-IsNull (Folded id outline) = ⊥
-IsNull (Selected id selections) = ⊥
-IsNull (Refused id code refusal) = ⊥
-IsNull (Published uri version mark) = ⊥
-IsNull (PublishedLines uri version marks) = ⊥
-IsNull (Closed uri) = ⊥
-IsNull (Logged trouble) = ⊥
+IsNull _ = ⊥
 
 -- the value at a place of a document, or null where it is JSON Lines, its bytes are lost, or no value is there before the fault, or that
 -- memory was refused
@@ -202,15 +155,7 @@ IsHoverIn e place (Hovered id hover) document =
 IsHoverIn e place (Null id) document =
     (document.content ≡ Lines) ⊎ ((document.held.lost ≡ true) ⊎ HasNoHover document.held.settings document.held.bytes (offset_at e document.held.bytes (place_of place)))
 IsHoverIn e place (Refused id code refusal) document = code ≡ RequestFailed
-IsHoverIn e place Nothing document = ⊥
-IsHoverIn e place (Initialized id utf8) document = ⊥
-IsHoverIn e place (Outlined id uri nested outline) document = ⊥
-IsHoverIn e place (Folded id outline) document = ⊥
-IsHoverIn e place (Selected id selections) document = ⊥
-IsHoverIn e place (Published uri version mark) document = ⊥
-IsHoverIn e place (PublishedLines uri version marks) document = ⊥
-IsHoverIn e place (Closed uri) document = ⊥
-IsHoverIn e place (Logged trouble) document = ⊥
+IsHoverIn e place _ document = ⊥
 
 -- the first values of a document, or null where it is JSON Lines, or its bytes are lost or have no value before the fault, or that memory
 -- was refused
@@ -219,30 +164,14 @@ IsOutlineIn e inside (Outlined id uri nested outline) document =
     (uri.items ≡ document.spelt) × (nested ≡ inside) × (document.content ≡ Text) × (document.held.lost ≡ false) × IsOutline e document.held.settings document.held.bytes outline
 IsOutlineIn e inside (Null id) document = (document.content ≡ Lines) ⊎ ((document.held.lost ≡ true) ⊎ IsCutInMark (any_names document.held.settings) document.held.bytes)
 IsOutlineIn e inside (Refused id code refusal) document = code ≡ RequestFailed
-IsOutlineIn e inside Nothing document = ⊥
-IsOutlineIn e inside (Initialized id utf8) document = ⊥
-IsOutlineIn e inside (Hovered id hover) document = ⊥
-IsOutlineIn e inside (Folded id outline) document = ⊥
-IsOutlineIn e inside (Selected id selections) document = ⊥
-IsOutlineIn e inside (Published uri version mark) document = ⊥
-IsOutlineIn e inside (PublishedLines uri version marks) document = ⊥
-IsOutlineIn e inside (Closed uri) document = ⊥
-IsOutlineIn e inside (Logged trouble) document = ⊥
+IsOutlineIn e inside _ document = ⊥
 
 -- the same to fold
 abbrev pub AreFoldsIn : Encoding → Reply → OpenValue → Type 0
 AreFoldsIn e (Folded id outline) document = (document.content ≡ Text) × (document.held.lost ≡ false) × IsOutline e document.held.settings document.held.bytes outline
 AreFoldsIn e (Null id) document = (document.content ≡ Lines) ⊎ ((document.held.lost ≡ true) ⊎ IsCutInMark (any_names document.held.settings) document.held.bytes)
 AreFoldsIn e (Refused id code refusal) document = code ≡ RequestFailed
-AreFoldsIn e Nothing document = ⊥
-AreFoldsIn e (Initialized id utf8) document = ⊥
-AreFoldsIn e (Hovered id hover) document = ⊥
-AreFoldsIn e (Outlined id uri nested outline) document = ⊥
-AreFoldsIn e (Selected id selections) document = ⊥
-AreFoldsIn e (Published uri version mark) document = ⊥
-AreFoldsIn e (PublishedLines uri version marks) document = ⊥
-AreFoldsIn e (Closed uri) document = ⊥
-AreFoldsIn e (Logged trouble) document = ⊥
+AreFoldsIn e _ document = ⊥
 
 -- what stands around places of a document, or null where it is JSON Lines, or its bytes are lost or have no value before the fault, or that
 -- memory was refused
@@ -251,15 +180,7 @@ AreAroundIn e places (Selected id selections) document =
     (document.content ≡ Text) × (document.held.lost ≡ false) × AreSelections e document.held.settings document.held.bytes places selections.items
 AreAroundIn e places (Null id) document = (document.content ≡ Lines) ⊎ ((document.held.lost ≡ true) ⊎ IsCutInMark (any_names document.held.settings) document.held.bytes)
 AreAroundIn e places (Refused id code refusal) document = code ≡ RequestFailed
-AreAroundIn e places Nothing document = ⊥
-AreAroundIn e places (Initialized id utf8) document = ⊥
-AreAroundIn e places (Hovered id hover) document = ⊥
-AreAroundIn e places (Outlined id uri nested outline) document = ⊥
-AreAroundIn e places (Folded id outline) document = ⊥
-AreAroundIn e places (Published uri version mark) document = ⊥
-AreAroundIn e places (PublishedLines uri version marks) document = ⊥
-AreAroundIn e places (Closed uri) document = ⊥
-AreAroundIn e places (Logged trouble) document = ⊥
+AreAroundIn e places _ document = ⊥
 
 -- what is answered of the first document of a name; null where there is none
 abbrev pub IsHover : ServerValue → List ℕ → Place → Reply → Type 0

@@ -28,7 +28,7 @@ use Rattle.jx_serve.specs.Served.{all_lost, number_named, AreAround, AreFolds, A
 use Rattle.jx_serve.specs.declared.reply.Code.{Code}
 use Rattle.jx_serve.specs.declared.reply.Code.TheVariants.{ParseError, InvalidRequest, MethodNotFound, InvalidParams, NotInitialized}
 use Rattle.jx_serve.specs.declared.reply.Reply.{Reply}
-use Rattle.jx_serve.specs.declared.reply.Reply.TheVariants.{Nothing, Initialized, Null, Hovered, Outlined, Folded, Selected, Refused, Published, PublishedLines, Closed, Logged}
+use Rattle.jx_serve.specs.declared.reply.Reply.TheVariants.{Nothing, Initialized, Null, Refused, Published, PublishedLines, Closed, Logged}
 use Rattle.jx_serve.specs.declared.reply.Trouble.TheVariants.{WrongParameters, NotOpen, Lost, Memory}
 use Rattle.jx_serve.specs.declared.server.Phase.{Phase}
 use Rattle.jx_serve.specs.declared.server.Phase.TheVariants.{New, Ready, Down, Ended}
@@ -80,17 +80,7 @@ IsToldOf e version document (Published uri told_version shown) =
 IsToldOf e version document (PublishedLines uri told_version marks) = AreLinesOn e document uri.items marks.items × (told_version ≡ version)
 IsToldOf e version document (Logged Lost) = document.held.lost ≡ true
 IsToldOf e version document (Logged Memory) = Unit {0}
-IsToldOf e version document (Logged NotOpen) = ⊥
-IsToldOf e version document (Logged WrongParameters) = ⊥
-IsToldOf e version document Nothing = ⊥
-IsToldOf e version document (Initialized id utf8) = ⊥
-IsToldOf e version document (Null id) = ⊥
-IsToldOf e version document (Hovered id hover) = ⊥
-IsToldOf e version document (Outlined id uri nested outline) = ⊥
-IsToldOf e version document (Folded id outline) = ⊥
-IsToldOf e version document (Selected id selections) = ⊥
-IsToldOf e version document (Refused id code refusal) = ⊥
-IsToldOf e version document (Closed uri) = ⊥
+IsToldOf e version document _ = ⊥
 
 -- an open document of the same name goes, and the new one stands behind the others; where memory is refused, there is none
 abbrev pub IsOpened : Versioned → Content → Change → ServerValue → ServerValue → Reply → Type 0

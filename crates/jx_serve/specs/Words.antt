@@ -90,8 +90,11 @@ refused id code refusal = codes "{\"jsonrpc\":\"2.0\",\"id\":" ++ words_of_id id
 abbrev pub position : Position → List ℕ
 position p = codes "{\"line\":" ++ decimal p.line ++ codes ",\"character\":" ++ decimal p.character ++ codes "}"
 
+abbrev pub ends : Position → Position → List ℕ
+ends start end = codes "{\"start\":" ++ position start ++ codes ",\"end\":" ++ position end ++ codes "}"
+
 abbrev pub range : Position → Position → List ℕ
-range start end = codes "\"range\":{\"start\":" ++ position start ++ codes ",\"end\":" ++ position end ++ codes "}"
+range start end = codes "\"range\":" ++ ends start end
 
 -- behind the sentence of a mark
 abbrev pub words_of_place : Refusal → List ℕ

@@ -46,8 +46,13 @@ impl Model for Held {
     ghost invariant = { λ h. IsHeld h.settings h.document.settings };
 }
 
-/// A document of these bytes, whatever names its objects have.
-fn document_of(alloc: Global, text: &[u8], settings: &Settings) -> Result<Document, AllocError>
+/// A document of these bytes, whatever names its objects have, that finds positions by this encoding fast.
+fn document_of(
+    alloc: Global,
+    text: &[u8],
+    settings: &Settings,
+    encoding: Encoding,
+) -> Result<Document, AllocError>
     ensures bytes { IfOk result (λ d. d.bytes ≡ text.now) }
     ensures settings { IfOk result (λ d. IsHeld settings.now d.settings) }
 {
@@ -56,18 +61,23 @@ fn document_of(alloc: Global, text: &[u8], settings: &Settings) -> Result<Docume
         mark: settings.mark,
         names: NameRule::Any,
     };
-    match Document::of(alloc, text, any) {
+    match Document::counted(alloc, text, any, encoding) {
         Ok(document) => Ok(document),
         Err(_) => Err(AllocError),
     }
 }
 
 impl Held {
-    /// A document of these bytes.
-    pub fn of(alloc: Global, text: &[u8], settings: Settings) -> Result<Held, AllocError>
+    /// A document of these bytes, which finds positions by this encoding fast.
+    pub fn of(
+        alloc: Global,
+        text: &[u8],
+        settings: Settings,
+        encoding: Encoding,
+    ) -> Result<Held, AllocError>
         ensures { IfOk result (λ h. h ≡ held settings text.now) }
     {
-        let document = document_of(alloc, text, &settings)?;
+        let document = document_of(alloc, text, &settings, encoding)?;
         Ok(Held {
             alloc,
             settings,
@@ -110,7 +120,7 @@ impl Held {
         ensures err { OnErr result (self.new ≡ lose self.old) }
     {
         match change {
-            Change::Whole(text) => self.renew(text),
+            Change::Whole(text) => self.renew(text, encoding),
             Change::Unknown => {
                 self.lost = true;
                 Ok(())
@@ -131,11 +141,11 @@ impl Held {
     }
 
     /// Begins anew with other bytes.
-    fn renew(&mut self, text: &[u8]) -> Result<(), AllocError>
+    fn renew(&mut self, text: &[u8], encoding: Encoding) -> Result<(), AllocError>
         ensures ok { OnOk result (self.new ≡ held self.old.settings text.now) }
         ensures err { OnErr result (self.new ≡ lose self.old) }
     {
-        match document_of(self.alloc, text, &self.settings) {
+        match document_of(self.alloc, text, &self.settings, encoding) {
             Ok(document) => {
                 self.document = document;
                 self.lost = false;

@@ -50,13 +50,10 @@ fn with_last(
     ensures { IfOk result (λ bad. bad.items ≡ waiting.now ++ listed last) }
 {
     let mut bad = Vec::from_slice(alloc, waiting)?;
-    match last {
-        None => Ok(bad),
-        Some(last) => {
-            bad.push(last)?;
-            Ok(bad)
-        }
+    if let Some(last) = last {
+        bad.push(last)?;
     }
+    Ok(bad)
 }
 
 /// The lines of a document that are no texts, in order. All bytes are read.
@@ -96,7 +93,7 @@ fn span_around(document: &Document, span: Span, offset: usize) -> Span
     Span { start, end }
 }
 
-/// The positions of both ends of a line.
+/// The positions of both ends of a span.
 fn whole(document: &Document, encoding: Encoding, span: Span) -> Extent
     ensures { IsWhole encoding document.now.bytes span result.start result.end }
 {
@@ -110,11 +107,7 @@ fn whole(document: &Document, encoding: Encoding, span: Span) -> Extent
 fn around(document: &Document, encoding: Encoding, span: Span, offset: usize) -> Extent
     ensures { IsAround encoding document.now.bytes span offset result.start result.end }
 {
-    let Span { start, end } = span_around(document, span, offset);
-    Extent {
-        start: document.position_of(start, encoding),
-        end: document.position_of(end, encoding),
-    }
+    whole(document, encoding, span_around(document, span, offset))
 }
 
 /// Where a line is shown by what it comes to.

@@ -1,11 +1,11 @@
 // What is wrong with a line of a document, in a sentence.
-use crate::sentence::{bytes_between, inside_quotes};
+use crate::sentence::{bytes_between, inside_quotes, place_at};
 use jx_edit::{Document, Encoding};
 use jx_lex::Span;
 use jx_ndjson::{JudgedLine, LineVerdict};
 use jx_run::{FrontMark, NameRule, Refusal, Settings};
 use jx_sentence::{
-    Place, Standing, is_in_string, push_sentence, push_string_open, push_truncated, standing_before,
+    Standing, is_in_string, push_sentence, push_string_open, push_truncated, standing_before,
 };
 use std::alloc::{AllocError, Global};
 
@@ -25,15 +25,6 @@ fn in_line(start: usize, refusal: Refusal) -> Refusal {
     }
 }
 
-/// Where a string of a line begins, in the lines and columns of the client.
-fn string_place(document: &Document, encoding: Encoding, at: usize) -> Place {
-    let began = document.position_of(at, encoding);
-    Place {
-        line: began.line.saturating_add(1),
-        column: began.character.saturating_add(1),
-    }
-}
-
 /// Appends the sentence for a line that ends too early.
 fn push_end(
     out: &mut String,
@@ -45,7 +36,7 @@ fn push_end(
     match standing {
         Some(standing) if is_in_string(standing.state) => {
             let at = span.start.saturating_add(standing.token);
-            push_string_open(out, Some(string_place(document, encoding, at)))
+            push_string_open(out, Some(place_at(document, encoding, at)))
         }
         standing => push_truncated(out, standing.as_ref()),
     }

@@ -27,9 +27,9 @@ fn words_of_line_place(alloc: Global, verdict: LineVerdict) -> Result<String, Al
 {
     match verdict {
         LineVerdict::Refused(refusal) => words_of_place(alloc, refusal),
-        LineVerdict::Accepted => Ok(String::new(alloc)),
-        LineVerdict::MayBeCut => Ok(String::new(alloc)),
-        LineVerdict::Blank => Ok(String::new(alloc)),
+        LineVerdict::Accepted | LineVerdict::MayBeCut | LineVerdict::Blank => {
+            Ok(String::new(alloc))
+        }
     }
 }
 
@@ -45,33 +45,15 @@ fn add_line_mark(alloc: Global, out: &mut Vec<u8>, mark: &LineMark) -> Result<()
     add_told(alloc, out, extent, word, &mark.sentence, place.as_str())
 }
 
-/// Adds a diagnostic behind another one.
-fn add_next(alloc: Global, out: &mut Vec<u8>, mark: &LineMark) -> Result<(), AllocError>
-    ensures { OnOk result (out.new.items ≡ out.old.items ++ next_diagnostic mark.now) }
-{
-    out.extend_from_slice(b",")?;
-    add_line_mark(alloc, out, mark)
-}
-
+/// Adds diagnostics behind another one.
 fn add_others(alloc: Global, out: &mut Vec<u8>, marks: &[LineMark]) -> Result<(), AllocError>
     ensures { OnOk result (out.new.items ≡ out.old.items ++ flat_map next_diagnostic marks.now) }
 {
     for mark in marks {
-        add_next(alloc, out, mark)?;
+        out.extend_from_slice(b",")?;
+        add_line_mark(alloc, out, mark)?;
     }
     Ok(())
-}
-
-fn add_first(
-    alloc: Global,
-    out: &mut Vec<u8>,
-    first: &LineMark,
-    others: &[LineMark],
-) -> Result<(), AllocError>
-    ensures { OnOk result (out.new.items ≡ out.old.items ++ (line_diagnostic first.now ++ flat_map next_diagnostic others.now)) }
-{
-    add_line_mark(alloc, out, first)?;
-    add_others(alloc, out, others)
 }
 
 fn add_line_marks(alloc: Global, out: &mut Vec<u8>, marks: &[LineMark]) -> Result<(), AllocError>
@@ -79,7 +61,10 @@ fn add_line_marks(alloc: Global, out: &mut Vec<u8>, marks: &[LineMark]) -> Resul
 {
     match marks.split_first() {
         None => Ok(()),
-        Some((first, others)) => add_first(alloc, out, first, others),
+        Some((first, others)) => {
+            add_line_mark(alloc, out, first)?;
+            add_others(alloc, out, others)
+        }
     }
 }
 

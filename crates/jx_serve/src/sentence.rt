@@ -42,6 +42,15 @@ fn string_start(front: u8, bytes: &[u8]) -> Option<usize> {
     start
 }
 
+/// Where an offset stands, in the lines and columns of the client.
+pub(crate) fn place_at(document: &Document, encoding: Encoding, at: usize) -> Place {
+    let began = document.position_of(at, encoding);
+    Place {
+        line: began.line.saturating_add(1),
+        column: began.character.saturating_add(1),
+    }
+}
+
 /// Where the string begins in which a document ends, in the lines and columns of the client, if it begins near the end.
 fn string_place(document: &Document, encoding: Encoding) -> Result<Option<Place>, AllocError> {
     let near = document.len().saturating_sub(NEAR);
@@ -51,11 +60,8 @@ fn string_place(document: &Document, encoding: Encoding) -> Result<Option<Place>
     let Some(start) = string_start(front, &bytes) else {
         return Ok(None);
     };
-    let began = document.position_of(near.saturating_add(start), encoding);
-    Ok(Some(Place {
-        line: began.line.saturating_add(1),
-        column: began.character.saturating_add(1),
-    }))
+    let at = near.saturating_add(start);
+    Ok(Some(place_at(document, encoding, at)))
 }
 
 /// Appends the sentence for a document that ends too early.

@@ -479,7 +479,7 @@ impl Server {
         ensures err { OnErr result (self.new ≡ self.old) }
     {
         let encoding = self.encoding;
-        let mut held = Held::of(self.alloc, &[], self.settings)?;
+        let mut held = Held::of(self.alloc, &[], self.settings, encoding)?;
         held.change(text, encoding)?;
         self.documents.push(Open { uri, content, held })?;
         Ok(())

@@ -10,11 +10,14 @@ use std::alloc::Global;
 
 /// Follows the body of a frame, and tells what to answer. A message that cannot be read may have been a change: all documents are
 /// lost until their whole texts come.
-pub fn answer_to(alloc: Global, server: &mut Server, body: &[u8]) -> Reply
+pub fn answer_to(alloc: Global, server: &mut Server, body: Vec<u8>) -> Reply
     ensures tells { TellsVerdict server.new result }
-    ensures turns { Turns body.now server.old server.new result }
+    ensures turns { Turns body.items server.old server.new result }
 {
-    match request_of(alloc, body) {
+    let read = request_of(alloc, &body);
+    // A request has its own bytes: those of the message are given back before a document takes memory.
+    drop(body);
+    match read {
         Ok(request) => server.step(request),
         Err(fault) => {
             lose_by(server, &fault);

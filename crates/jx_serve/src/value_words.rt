@@ -1,7 +1,7 @@
 // Values of a document in messages.
 ghost use Rattle.std.specs.Prelude.{◌≡◌, ◌++◌, OnOk};
 ghost use Rattle.std.specs.List.{flat_map};
-ghost use Rattle.jx_serve.specs.Words.{position as position_words, range};
+ghost use Rattle.jx_serve.specs.Words.{ends, position as position_words, range};
 
 use crate::hover::Hover;
 use crate::symbols::{Outline, Symbol};
@@ -44,7 +44,9 @@ pub(crate) fn add_ends(
     out: &mut Vec<u8>,
     start: Position,
     end: Position,
-) -> Result<(), AllocError> {
+) -> Result<(), AllocError>
+    ensures { OnOk result (out.new.items ≡ out.old.items ++ ends start end) }
+{
     out.extend_from_slice(b"{\"start\":")?;
     add_position(alloc, out, start)?;
     out.extend_from_slice(b",\"end\":")?;
@@ -61,11 +63,8 @@ pub(crate) fn add_range(
 ) -> Result<(), AllocError>
     ensures { OnOk result (out.new.items ≡ out.old.items ++ range start end) }
 {
-    out.extend_from_slice(b"\"range\":{\"start\":")?;
-    add_position(alloc, out, start)?;
-    out.extend_from_slice(b",\"end\":")?;
-    add_position(alloc, out, end)?;
-    out.extend_from_slice(b"}")
+    out.extend_from_slice(b"\"range\":")?;
+    add_ends(alloc, out, start, end)
 }
 
 /// What `jx at` prints for a kind.

@@ -59,9 +59,6 @@ in_the_head given held = record { part = Head given; held = held }
 body_more : (missing : ℕ) (held : List ℕ) (b : ℕ) → 1 < missing → step (in_the_body missing held) b ≡ going (in_the_body (missing - 1) (held ++ (b ∷ [])))
 body_more missing held b h = rw (lt-ltb 1 missing h)
 
-body_last : (held : List ℕ) (b : ℕ) → step (in_the_body 1 held) b ≡ record { to = start; ended = (held ++ (b ∷ [])) ∷ [] }
-body_last held b = refl
-
 -- fewer bytes than are missing
 pub body_part : (missing : ℕ) (held bytes : List ℕ) → length bytes < missing → Leads (in_the_body missing held) bytes (in_the_body (missing - length bytes) (held ++ bytes)) []
 body_part missing held [] h =

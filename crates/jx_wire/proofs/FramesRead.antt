@@ -1,5 +1,5 @@
 -- What is written as frames is read as such.
-use Rattle.std.proofs.Common.{◌≡◌, ℕ, zero, suc, ◌+◌, ◌-◌, ◌<◌, ◌≤◌, min, true, false, cond, List, [], ◌∷◌, ◌++◌, length, take, append_assoc, refl, sym, ap, subst, ◌∙◌, arith, lt-ltb, le-ltb}
+use Rattle.std.proofs.Common.{◌≡◌, ℕ, zero, suc, ◌+◌, ◌-◌, ◌<◌, ◌≤◌, min, true, false, cond, not, List, [], ◌∷◌, ◌++◌, length, take, append_assoc, refl, sym, ap, subst, ◌∙◌, arith, lt-ltb, le-ltb}
 use Rattle.std.specs.Prelude.{nat_lt, ◌==◌, Some, None, Ok, codes, decimal, position, slice_index, unwrap_or}
 use Rattle.std.specs.Char.{is_ascii_digit}
 use Rattle.std.specs.List.{All, list_all, position_or_len}
@@ -13,6 +13,7 @@ use Rattle.jx_wire.specs.declared.frame_fault.FrameFault.TheVariants.{BareLineFe
 use Rattle.jx_wire.specs.declared.frame_reader.Part.TheVariants.{Head, Body, Broken}
 use Rattle.jx_wire.specs.Frames.{Step, start, going, entered, step, frame, frames, first_ink, ink_from, is_blank, without_blanks, word_end, length_by_word, length_from, length_in, if_given, field_of, behind_field, behind_line, part_behind}
 use Rattle.jx_wire.specs.Numbers.{number_of}
+use Rattle.jx_wire.proofs.Nodes.{both}
 use Rattle.jx_wire.proofs.FrameSteps.{Leads, nowhere, one_byte, and_then, and_others, body_whole, HasNoFeed, no_feed-append, head_part, in_the_body, in_the_head}
 
 -- ---- a number
@@ -107,32 +108,15 @@ line_is_short n h =
     let digits : length (decimal n) ≤ 20 = length-decimal-le 20 n (omega arith) (omega arith) (omega arith) in
     omega (arith, length_push (named (decimal n)) 0x0d)
 
+-- as a test tells
+no_feed_by : (bytes : List ℕ) → list_all (λ b. not (b == 0x0a)) bytes ≡ true → HasNoFeed bytes
+no_feed_by [] h = tt
+no_feed_by (b ∷ bytes) h =
+    let is = both (not (b == 0x0a)) (list_all (λ b. not (b == 0x0a)) bytes) h in
+    (λ e. let feed : not (b == 0x0a) ≡ false = ap (λ n. not (n == 0x0a)) e in absurd (cc (feed, is.0)), no_feed_by bytes is.1)
+
 no_feed_named : (ds : List ℕ) → HasNoFeed ds → HasNoFeed (named ds)
-no_feed_named ds h = (
-  (λ e. omega arith),
-  (
-    (λ e. omega arith),
-    (
-      (λ e. omega arith),
-      (
-        (λ e. omega arith),
-        (
-          (λ e. omega arith),
-          (
-            (λ e. omega arith),
-            (
-              (λ e. omega arith),
-              (
-                (λ e. omega arith),
-                ((λ e. omega arith), ((λ e. omega arith), ((λ e. omega arith), ((λ e. omega arith), ((λ e. omega arith), ((λ e. omega arith), ((λ e. omega arith), ((λ e. omega arith), h)))))))),
-              ),
-            ),
-          ),
-        ),
-      ),
-    ),
-  ),
-)
+no_feed_named ds h = no_feed-append (codes "Content-Length: ") ds (no_feed_by (codes "Content-Length: ") refl) h
 
 line_has_no_feed : (n : ℕ) → n ≤ 1073741824 → HasNoFeed (length_line n)
 line_has_no_feed n h =

@@ -8,3 +8,4 @@ pub mod Strings
 pub mod Requests
 pub mod Messages
 pub mod Nodes
+pub mod Listed

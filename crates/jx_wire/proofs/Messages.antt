@@ -10,45 +10,15 @@ use Rattle.jx_wire.specs.declared.call.Versioned.{Versioned}
 
 -- the document and the text of a message that opens one
 pub open_parts : (at : Values) (c : Call) → TellsOpen at c → (document : Versioned) × (text : Change) × IsVersioned at document × IsWhole (at (codes "/params/textDocument/text")) text
-open_parts at (call.Initialize offer) h = absurd h
-open_parts at call.Shutdown h = absurd h
-open_parts at call.Exit h = absurd h
 open_parts at (call.Open document what text) h = (document, text, h.0, h.2)
-open_parts at (call.Change document changes) h = absurd h
-open_parts at (call.Close uri) h = absurd h
-open_parts at (call.Hover uri place) h = absurd h
-open_parts at (call.Symbols uri) h = absurd h
-open_parts at (call.Folds uri) h = absurd h
-open_parts at (call.Selection uri places) h = absurd h
-open_parts at call.WrongParameters h = absurd h
-open_parts at call.Other h = absurd h
+open_parts at _ h = absurd h
 
 -- the document of a message that changes one
 pub changed_document : (at : Values) (c : Call) → TellsChange at c → (document : Versioned) × IsVersioned at document
-changed_document at (call.Initialize offer) h = absurd h
-changed_document at call.Shutdown h = absurd h
-changed_document at call.Exit h = absurd h
-changed_document at (call.Open document what text) h = absurd h
 changed_document at (call.Change document changes) h = (document, h.0)
-changed_document at (call.Close uri) h = absurd h
-changed_document at (call.Hover uri place) h = absurd h
-changed_document at (call.Symbols uri) h = absurd h
-changed_document at (call.Folds uri) h = absurd h
-changed_document at (call.Selection uri places) h = absurd h
-changed_document at call.WrongParameters h = absurd h
-changed_document at call.Other h = absurd h
+changed_document at _ h = absurd h
 
 -- the document of a message that closes one
 pub closed_document : (at : Values) (c : Call) → TellsClose at c → (uri : Uri) × IsUri at uri
-closed_document at (call.Initialize offer) h = absurd h
-closed_document at call.Shutdown h = absurd h
-closed_document at call.Exit h = absurd h
-closed_document at (call.Open document what text) h = absurd h
-closed_document at (call.Change document changes) h = absurd h
 closed_document at (call.Close uri) h = (uri, h)
-closed_document at (call.Hover uri place) h = absurd h
-closed_document at (call.Symbols uri) h = absurd h
-closed_document at (call.Folds uri) h = absurd h
-closed_document at (call.Selection uri places) h = absurd h
-closed_document at call.WrongParameters h = absurd h
-closed_document at call.Other h = absurd h
+closed_document at _ h = absurd h

@@ -1,10 +1,10 @@
 -- One token more of a pointer, over the rows of a body.
-use Rattle.std.proofs.Common.{◌≡◌, ◌≢◌, ℕ, zero, suc, ◌+◌, ◌-◌, ◌*◌, ◌/◌, ◌%◌, ◌^◌, ◌<◌, ◌≤◌, Bool, true, false, List, [], ◌∷◌, ◌++◌, length, map, drop, Option, None, Some, Result, Ok, Err, refl, sym, ap, subst, ◌∙◌, arith, decimal, append-nil}
+use Rattle.std.proofs.Common.{◌≡◌, ◌≢◌, ℕ, zero, suc, ◌+◌, ◌-◌, ◌*◌, ◌/◌, ◌%◌, ◌^◌, ◌<◌, ◌≤◌, Bool, true, false, List, [], ◌∷◌, ◌++◌, length, map, drop, Option, None, Some, Result, Ok, Err, refl, sym, ap, ◌∙◌, arith, decimal}
 use Rattle.std.specs.Prelude.{◌==◌, ◌&&◌, nat_lt, nat_le, if◌then◌else◌, cond, filter, slice_get, slice_range}
 use Rattle.std.specs.Result.{result_ok}
 use Rattle.std.proofs.lemmas.Bool.Decides.{nat_tests}
 use Rattle.std.proofs.lemmas.Fmt.{decimal_by_steps}
-use Rattle.std.proofs.lemmas.List.{length-append, map-append}
+use Rattle.std.proofs.lemmas.List.{map-append}
 use Rattle.std.proofs.lemmas.Option.{slice_get_past}
 use Rattle.jx_lex.specs.declared.kind.Kind.{Kind}
 use Rattle.jx_lex.specs.declared.kind.Kind.TheVariants as kind
@@ -291,11 +291,7 @@ member_is text table name node k k_is once =
 no_child : (p : ℕ → Bool) (name cs : List ℕ) (o : Kind) (k : ℕ) → is_word name ≡ true → o ≢ kind.Object → result_ok (one_token p name o cs k) ≡ None
 no_child p name cs kind.Object k word other = absurd (other refl)
 no_child p name cs kind.Array k word other = ap (λ (x : Place). result_ok (at_place x cs k)) (no_index name (length cs) word)
-no_child p name cs kind.String k word other = refl
-no_child p name cs kind.Number k word other = refl
-no_child p name cs kind.True k word other = refl
-no_child p name cs kind.False k word other = refl
-no_child p name cs kind.Null k word other = refl
+no_child p name cs _ k word other = refl
 
 pub no_member : (text : List ℕ) (table : List Row) (name : List ℕ) (node k : ℕ) → is_word name ≡ true → kind_at table node ≢ kind.Object → result_ok (row_token text table name node k) ≡ None
 no_member text table name node k word other = no_child (is_equal text table name) name (child_numbers table node) (kind_at table node) k word other
@@ -346,25 +342,3 @@ string_at text span = refl
 pub no_units : string_units [] ≡ []
 unfolding chars_units
 no_units = refl
-
--- ---- lists
-
--- the element at which a list is parted
-pub seam : (before behind : List ℕ) (x : ℕ) → slice_get (before ++ (x ∷ behind)) (length before) ≡ Some x
-seam [] behind x = refl
-seam (y ∷ before) behind x = seam before behind x
-
--- what holds of each element by its number holds of the next one
-pub next_element : (P : ℕ → Option ℕ → Type 0) (elements yielded behind : List ℕ) (element : ℕ) → ((n : ℕ) → n < 2 ^ 64 → P n (slice_get elements n)) → length elements < 2 ^ 64
-    → yielded ++ (element ∷ behind) ≡ elements → P (length yielded) (Some element)
-next_element P elements yielded behind element each few all =
-    let count : length elements ≡ length yielded + suc (length behind) = ap length (sym all) ∙ length-append yielded (element ∷ behind) in
-    subst (P (length yielded)) (ap (λ (l : List ℕ). slice_get l (length yielded)) (sym all) ∙ seam yielded behind element) (each (length yielded) (omega (arith, few, count)))
-
--- and of none behind the last
-pub last_element : (P : ℕ → Option ℕ → Type 0) (elements yielded behind : List ℕ) → ((n : ℕ) → n < 2 ^ 64 → P n (slice_get elements n)) → length elements < 2 ^ 64
-    → behind ≡ [] → yielded ++ behind ≡ elements → P (length yielded) None
-last_element P elements yielded behind each few none all =
-    let whole : yielded ≡ elements = sym (append-nil yielded) ∙ ap (λ (l : List ℕ). yielded ++ l) (sym none) ∙ all in
-    let count : length yielded ≡ length elements = ap length whole in
-    subst (P (length yielded)) (slice_get_past elements (length yielded) (omega (arith, count))) (each (length yielded) (omega (arith, few, count)))

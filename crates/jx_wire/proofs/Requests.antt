@@ -1,10 +1,10 @@
 -- What look-ups say of a request.
-use Rattle.std.proofs.Common.{◌≡◌, ◌≢◌, ℕ, ◌+◌, ◌<◌, List, [], ◌∷◌, ◌++◌, Option, None, Some, Result, Err, refl, sym, ◌∙◌, arith, codes}
+use Rattle.std.proofs.Common.{◌≡◌, ◌≢◌, ℕ, ◌<◌, List, ◌++◌, Option, None, Some, Result, Err, refl, sym, ◌∙◌, arith, codes}
 use Rattle.std.specs.Result.{IsErrAnd}
 use Rattle.std.proofs.lemmas.Result.{err_from_is_err_and}
 use Rattle.jx_lex.specs.declared.kind.Kind.{Kind}
 use Rattle.jx_lex.specs.declared.kind.Kind.TheVariants as kind
-use Rattle.jx_wire.specs.Requests.{change_pointer, position_pointer, AreFrom, ArePlacesFrom, IsDepth, IsBetween, IsChange, IsPlace, of_all, of_range, IsRange, IsWhole}
+use Rattle.jx_wire.specs.Requests.{IsDepth, IsBetween, IsChange, of_all, of_range, IsRange, IsWhole}
 use Rattle.jx_wire.specs.Values.{number_by, number_spelt_by, text_by, Values}
 use Rattle.jx_wire.specs.declared.call.Change.{Change}
 use Rattle.jx_wire.specs.declared.call.Change.TheVariants.{Whole, Range, Unknown}
@@ -27,22 +27,12 @@ none_is_no o x e f = absurd cc
 -- ---- values
 
 pub text_is_string : (k : Kind) (bytes text : List ℕ) → text_by k bytes ≡ Some text → k ≡ kind.String
-text_is_string kind.Object bytes text e = absurd cc
-text_is_string kind.Array bytes text e = absurd cc
 text_is_string kind.String bytes text e = refl
-text_is_string kind.Number bytes text e = absurd cc
-text_is_string kind.True bytes text e = absurd cc
-text_is_string kind.False bytes text e = absurd cc
-text_is_string kind.Null bytes text e = absurd cc
+text_is_string _ bytes text e = absurd cc
 
 pub no_number : (k : Kind) (bytes : List ℕ) → (k ≡ kind.Number → ⊥) → number_spelt_by k bytes ≡ None
-no_number kind.Object bytes other = refl
-no_number kind.Array bytes other = refl
-no_number kind.String bytes other = refl
 no_number kind.Number bytes other = absurd (other refl)
-no_number kind.True bytes other = refl
-no_number kind.False bytes other = refl
-no_number kind.Null bytes other = refl
+no_number _ bytes other = refl
 
 -- a depth that is too great is none that is asked for
 pub no_depth : (k : Kind) (bytes : List ℕ) (found : ℕ) (depth : Option ℕ) → number_by k bytes ≡ Some found → 65535 < found → IsDepth (Some (record { kind = k; bytes = bytes })) depth → ⊥
@@ -89,27 +79,3 @@ pub places_of : (at : Values) (pointer : List ℕ) (change : Change) → IsChang
     → (start : Place) × (end : Place) × IsBetween at pointer start end
 places_of at pointer change (of_all none h) some = absurd (some none)
 places_of at pointer change (of_range _ h) some = places_of_range at pointer change h
-
--- behind a change that is there come the others
-pub others : (at : Values) (number : ℕ) (all : List Change) → AreFrom at number all → at (change_pointer number) ≢ None → (rest : List Change) × AreFrom at (number + 1) rest
-others at number [] h some = absurd (some h)
-others at number (change ∷ changes) h some = (changes, h.2)
-
--- what is no change is none of them
-pub no_others : (at : Values) (number : ℕ) (all : List Change) → AreFrom at number all → at (change_pointer number) ≢ None
-    → ((change : Change) → IsChange at (change_pointer number) change → ⊥) → ⊥
-no_others at number [] h some none = some h
-no_others at number (change ∷ changes) h some none = none change h.1
-
--- ---- places
-
--- behind a place that is there come the others
-pub other_places : (at : Values) (number : ℕ) (all : List Place) → ArePlacesFrom at number all → at (position_pointer number) ≢ None → (rest : List Place) × ArePlacesFrom at (number + 1) rest
-other_places at number [] h some = absurd (some h)
-other_places at number (place ∷ places) h some = (places, h.2)
-
--- what is no place is none of them
-pub no_other_places : (at : Values) (number : ℕ) (all : List Place) → ArePlacesFrom at number all → at (position_pointer number) ≢ None
-    → ((place : Place) → IsPlace at (position_pointer number) place → ⊥) → ⊥
-no_other_places at number [] h some none = some h
-no_other_places at number (place ∷ places) h some none = none place h.1

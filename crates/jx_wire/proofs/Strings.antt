@@ -90,10 +90,7 @@ string_there : (text : List ℕ) {i j : ℕ} {t u : List ℕ} {tree : Tree} → 
 string_there text {i = i} {j = j} {u = u} at (leaf x) e =
     let token = subst (λ (k : Kind). IsToken k x.token) e x.is_token in
     (token.0, subst (λ (l : List ℕ). IsString l token.0) (sym (range_is text x.token u i j (at ∙ x.whole) x.end)) token.1)
-string_there text at (empty_array bs) e = absurd cc
-string_there text at (array xs) e = absurd cc
-string_there text at (empty_object bs) e = absurd cc
-string_there text at (object xs) e = absurd cc
+string_there text at _ e = absurd cc
 
 row_kind : (tree : Tree) (s : Standing) → (row_of tree s).kind ≡ kind_of tree
 row_kind (node kind span _) s = refl

@@ -66,6 +66,11 @@ abbrev pub items_in : Option (Vec ℕ Global) → Option (List ℕ)
 items_in None = None
 items_in (Some bytes) = Some bytes.items
 
+-- the elements of a list, each of which is told in its own way, from the one of a number on, in order
+abbrev pub AreListed : {T : Type 0} → (Values → List ℕ → T → Type 0) → Values → (ℕ → List ℕ) → ℕ → List T → Type 0
+AreListed Is at pointer number [] = at (pointer number) ≡ None
+AreListed Is at pointer number (one ∷ others) = (at (pointer number) ≢ None) × Is at (pointer number) one × AreListed Is at pointer (number + 1) others
+
 -- ---- documents and places
 
 pub record IsUri (at : Values) (uri : Uri) : Type 0 where
@@ -104,15 +109,10 @@ pub record IsPlace (at : Values) (pointer : List ℕ) (place : Place) : Type 0 w
 abbrev pub position_pointer : ℕ → List ℕ
 position_pointer number = codes "/params/positions/" ++ decimal number
 
--- the places from one of them on, in order
-abbrev pub ArePlacesFrom : Values → ℕ → List Place → Type 0
-ArePlacesFrom at number [] = at (position_pointer number) ≡ None
-ArePlacesFrom at number (place ∷ places) = (at (position_pointer number) ≢ None) × IsPlace at (position_pointer number) place × ArePlacesFrom at (number + 1) places
-
 -- the places of a message, each of them, in order
 pub record ArePlaces (at : Values) (places : List Place) : Type 0 where
   pub list : IsOfKind kind.Array (at (codes "/params/positions"))
-  pub each : ArePlacesFrom at 0 places
+  pub each : AreListed IsPlace at position_pointer 0 places
 
 -- ---- changes
 
@@ -141,15 +141,10 @@ pub data IsChange (at : Values) (pointer : List ℕ) (change : Change) : Type 0 
 abbrev pub change_pointer : ℕ → List ℕ
 change_pointer number = codes "/params/contentChanges/" ++ decimal number
 
--- the changes from one of them on, in order
-abbrev pub AreFrom : Values → ℕ → List Change → Type 0
-AreFrom at number [] = at (change_pointer number) ≡ None
-AreFrom at number (change ∷ changes) = (at (change_pointer number) ≢ None) × IsChange at (change_pointer number) change × AreFrom at (number + 1) changes
-
 -- the changes of a message, each of them, in order
 pub record AreChanges (at : Values) (changes : List Change) : Type 0 where
   pub list : IsOfKind kind.Array (at (codes "/params/contentChanges"))
-  pub each : AreFrom at 0 changes
+  pub each : AreListed IsChange at change_pointer 0 changes
 
 -- ---- what a client asks for
 
@@ -235,11 +230,7 @@ AsksFor at method.Hover asked = AsksForHover at asked
 AsksFor at method.Symbols asked = AsksForSymbols at asked
 AsksFor at method.Folds asked = AsksForFolds at asked
 AsksFor at method.Selection asked = AsksForSelection at asked
-AsksFor at method.Exit asked = asked ≡ call.Other
-AsksFor at method.Open asked = asked ≡ call.Other
-AsksFor at method.Change asked = asked ≡ call.Other
-AsksFor at method.Close asked = asked ≡ call.Other
-AsksFor at method.Other asked = asked ≡ call.Other
+AsksFor at _ asked = asked ≡ call.Other
 
 -- ---- notifications
 
@@ -262,13 +253,7 @@ TellsOf at method.Exit told = told ≡ call.Exit
 TellsOf at method.Open told = TellsOpen at told
 TellsOf at method.Change told = TellsChange at told
 TellsOf at method.Close told = TellsClose at told
-TellsOf at method.Initialize told = told ≡ call.Other
-TellsOf at method.Shutdown told = told ≡ call.Other
-TellsOf at method.Hover told = told ≡ call.Other
-TellsOf at method.Symbols told = told ≡ call.Other
-TellsOf at method.Folds told = told ≡ call.Other
-TellsOf at method.Selection told = told ≡ call.Other
-TellsOf at method.Other told = told ≡ call.Other
+TellsOf at _ told = told ≡ call.Other
 
 -- ---- messages
 

@@ -1,7 +1,7 @@
 // What a document that is opened is to be: one text, or JSON Lines.
-ghost use Rattle.std.specs.Prelude.{◌≡◌, IfOk, codes};
+ghost use Rattle.std.specs.Prelude.{◌≡◌, IfOk, IfSome, codes};
 ghost use Rattle.jx_wire.specs.Requests.{content_by, ends_in, has_lines, is_of_lines, items_in, text_in, HasContent};
-ghost use Rattle.jx_wire.specs.Values.{text_by, Says};
+ghost use Rattle.jx_wire.specs.Values.{seen, Says};
 ghost use Rattle.jx_wire.specs.inside.Nodes.{IsAt};
 ghost use Rattle.jx_wire.specs.inside.Spelt.{IsSpelt};
 
@@ -20,32 +20,17 @@ fn is_of_lines(language: &[u8]) -> bool
         || language == b"jsonlines".as_slice()
 }
 
-/// The text that a string stands for; none of another value, and of a string with half of a surrogate pair.
-fn text_of(alloc: Global, value: &Value) -> Result<Option<Vec<u8>>, AllocError>
-    ensures { IsSpelt value.now → IfOk result (λ text. text_by value.now.kind value.now.bytes.now ≡ items_in text) }
+/// The text that a string stands for; none where there is no value or another one, and of a string with half of a surrogate pair.
+fn text_of(alloc: Global, value: Option<Value>) -> Result<Option<Vec<u8>>, AllocError>
+    ensures { IfSome value.entry IsSpelt → IfOk result (λ text. text_in (seen value.entry) ≡ items_in text) }
 {
+    let Some(value) = value else {
+        return Ok(None);
+    };
     match value.text(alloc) {
         Ok(text) => Ok(Some(text)),
         Err(StringFault::NoString | StringFault::LoneSurrogate) => Ok(None),
         Err(StringFault::Memory) => Err(AllocError),
-    }
-}
-
-/// The language of the document that a message opens. One that is missing, or no string, is as none.
-fn language_in(
-    alloc: Global,
-    message: &Message,
-    document: &Option<NodeId>,
-) -> Result<Option<Vec<u8>>, AllocError>
-    requires { IsAt message.now (codes "/params/textDocument") document.now }
-    ensures { IfOk result (λ language. Says message.now (λ at. text_in (at (codes "/params/textDocument/languageId")) ≡ items_in language)) }
-{
-    match message.value_in(document, "languageId") {
-        None => Ok(None),
-        Some(value) => {
-            let language = text_of(alloc, &value)?;
-            Ok(language)
-        }
     }
 }
 
@@ -89,6 +74,6 @@ pub(crate) fn content_of(
     requires { IsAt message.now (codes "/params/textDocument") document.now }
     ensures { IfOk result (λ content. Says message.now (λ at. HasContent at uri.now content)) }
 {
-    let language = language_in(alloc, message, document)?;
+    let language = text_of(alloc, message.value_in(document, "languageId"))?;
     Ok(content_by(&language, &uri.name))
 }

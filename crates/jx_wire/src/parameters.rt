@@ -54,13 +54,14 @@ fn text_of(alloc: Global, value: &Value) -> Result<Vec<u8>, ParameterFault>
 pub(crate) fn uri_of(
     alloc: Global,
     message: &Message,
-    document: &Option<NodeId>,
+    params: &Option<NodeId>,
 ) -> Result<Uri, ParameterFault>
-    requires { IsAt message.now (codes "/params/textDocument") document.now }
+    requires { IsAt message.now (codes "/params") params.now }
     ensures ok { IfOk result (λ uri. Says message.now (λ at. IsUri at uri)) }
     ensures wrong { IsErrOf result ParameterFault.Wrong → Says message.now (λ at. (uri : Uri) → IsUri at uri → ⊥) }
 {
-    let Some(value) = message.value_in(document, "uri") else {
+    let document = message.member(params, "textDocument");
+    let Some(value) = message.value_in(&document, "uri") else {
         return Err(ParameterFault::Wrong);
     };
     let name = text_of(alloc, &value)?;
@@ -93,14 +94,14 @@ fn version_of(
 pub(crate) fn versioned_of(
     alloc: Global,
     message: &Message,
-    document: &Option<NodeId>,
+    params: &Option<NodeId>,
 ) -> Result<Versioned, ParameterFault>
-    requires { IsAt message.now (codes "/params/textDocument") document.now }
+    requires { IsAt message.now (codes "/params") params.now }
     ensures ok { IfOk result (λ document. Says message.now (λ at. IsVersioned at document)) }
     ensures wrong { IsErrOf result ParameterFault.Wrong → Says message.now (λ at. (document : Versioned) → IsVersioned at document → ⊥) }
 {
-    let uri = uri_of(alloc, message, document)?;
-    let version = version_of(alloc, message, document)?;
+    let uri = uri_of(alloc, message, params)?;
+    let version = version_of(alloc, message, &message.member(params, "textDocument"))?;
     Ok(Versioned { uri, version })
 }
 
@@ -181,10 +182,11 @@ fn change_at(
     Ok(ranged(whole, start, end))
 }
 
-fn add_change(changes: &mut Vec<Change>, change: Change) -> Result<(), AllocError>
-    ensures { OnOk result (changes.new.items ≡ changes.old.items ++ change ∷ []) }
+/// Adds an element behind others.
+pub(crate) fn add<T: Drop>(list: &mut Vec<T>, element: T) -> Result<(), AllocError>
+    ensures { OnOk result (list.new.items ≡ list.old.items ++ element ∷ []) }
 {
-    changes.push(change)?;
+    list.push(element)?;
     Ok(())
 }
 
@@ -204,7 +206,7 @@ pub(crate) fn changes_of(
     let mut changes = Vec::new(alloc);
     for element in elements {
         let change = change_at(alloc, message, &Some(element))?;
-        add_change(&mut changes, change)?;
+        add(&mut changes, change)?;
     }
     Ok(changes)
 }

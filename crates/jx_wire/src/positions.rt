@@ -1,5 +1,5 @@
 // The places that a request asks about.
-ghost use Rattle.std.specs.Prelude.{◌≡◌, ◌++◌, ◌∷◌, List, [], IfOk, IsErrOf, OnOk, codes};
+ghost use Rattle.std.specs.Prelude.{List, IfOk, IsErrOf, codes};
 ghost use Rattle.jx_wire.specs.declared.call.Place.{Place};
 ghost use Rattle.jx_wire.specs.Requests.{ArePlaces};
 ghost use Rattle.jx_wire.specs.Values.{Says};
@@ -7,16 +7,9 @@ ghost use Rattle.jx_wire.specs.inside.Nodes.{IsAt};
 
 use crate::call::Place;
 use crate::message::Message;
-use crate::parameters::{ParameterFault, place_at};
+use crate::parameters::{ParameterFault, add, place_at};
 use jx_index::NodeId;
-use std::alloc::{AllocError, Global};
-
-fn add_place(places: &mut Vec<Place>, place: Place) -> Result<(), AllocError>
-    ensures { OnOk result (places.new.items ≡ places.old.items ++ place ∷ []) }
-{
-    places.push(place)?;
-    Ok(())
-}
+use std::alloc::Global;
 
 /// The places of a message, which are a list, in order.
 pub(crate) fn positions_of(
@@ -36,7 +29,7 @@ pub(crate) fn positions_of(
         let Some(place) = place_at(message, &Some(element)) else {
             return Err(ParameterFault::Wrong);
         };
-        add_place(&mut places, place)?;
+        add(&mut places, place)?;
     }
     Ok(places)
 }

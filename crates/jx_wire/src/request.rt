@@ -2,7 +2,7 @@ ghost use Rattle.std.specs.Prelude.{◌≡◌, ◌≢◌, ℕ, List, Option, Som
 ghost use Rattle.jx_index.specs.ByNames.{IsVerdictBy};
 ghost use Rattle.jx_run.specs.declared.texts.verdict.Verdict.TheVariants.{Accepted};
 ghost use Rattle.jx_wire.specs.Messages.{wire_settings, IsFaultOf};
-ghost use Rattle.jx_wire.specs.Requests.{text_in, AsksFor, AsksForHover, AsksForFolds, AsksForSelection, AsksForSymbols, CallsFor, IsHover, IsId, IsNamed, IsRefusedFor, IsRequest, IsSelection, TellsChange, TellsOf, TellsOpen};
+ghost use Rattle.jx_wire.specs.Requests.{text_in, AsksFor, CallsFor, IsHover, IsId, IsNamed, IsRefusedFor, IsRequest, IsSelection, TellsChange, TellsOf, TellsOpen};
 ghost use Rattle.jx_wire.specs.Values.{Says};
 ghost use Rattle.jx_wire.specs.inside.Nodes.{IsAt};
 ghost use Rattle.jx_wire.specs.declared.call.Call.{Call};
@@ -78,7 +78,7 @@ fn name_of(alloc: Global, message: &Message) -> Result<Option<Vec<u8>>, AllocErr
     method_in(alloc, message)
 }
 
-/// What a request calls for.
+/// What a request calls for. One about a document is answered by how far the client has come, even where its parameters are wrong.
 fn request_call(
     alloc: Global,
     message: &Message,
@@ -92,10 +92,26 @@ fn request_call(
     match method {
         Method::Initialize => Ok(Call::Initialize(offer_of(alloc, message, params)?)),
         Method::Shutdown => Ok(Call::Shutdown),
-        Method::Hover => hover_call(alloc, message, params),
-        Method::Symbols => symbols_call(alloc, message, params),
-        Method::Folds => folds_call(alloc, message, params),
-        Method::Selection => selection_call(alloc, message, params),
+        Method::Hover => match hover_of(alloc, message, params) {
+            Ok((uri, place)) => Ok(Call::Hover { uri, place }),
+            Err(ParameterFault::Wrong) => Ok(Call::WrongParameters),
+            Err(ParameterFault::Memory) => Err(ParameterFault::Memory),
+        },
+        Method::Symbols => match uri_of(alloc, message, params) {
+            Ok(uri) => Ok(Call::Symbols(uri)),
+            Err(ParameterFault::Wrong) => Ok(Call::WrongParameters),
+            Err(ParameterFault::Memory) => Err(ParameterFault::Memory),
+        },
+        Method::Folds => match uri_of(alloc, message, params) {
+            Ok(uri) => Ok(Call::Folds(uri)),
+            Err(ParameterFault::Wrong) => Ok(Call::WrongParameters),
+            Err(ParameterFault::Memory) => Err(ParameterFault::Memory),
+        },
+        Method::Selection => match selection_of(alloc, message, params) {
+            Ok((uri, places)) => Ok(Call::Selection { uri, places }),
+            Err(ParameterFault::Wrong) => Ok(Call::WrongParameters),
+            Err(ParameterFault::Memory) => Err(ParameterFault::Memory),
+        },
         Method::Exit | Method::Open | Method::Change | Method::Close | Method::Other => {
             Ok(Call::Other)
         }
@@ -112,62 +128,11 @@ fn hover_of(
     ensures ok { IfOk result (λ asked. Says message.now (λ at. IsHover at asked.0 asked.1)) }
     ensures wrong { IsErrOf result ParameterFault.Wrong → Says message.now (λ at. (uri : Uri) (place : Place) → IsHover at uri place → ⊥) }
 {
-    let uri = uri_of(alloc, message, &message.member(params, "textDocument"))?;
+    let uri = uri_of(alloc, message, params)?;
     let Some(place) = place_at(message, &message.member(params, "position")) else {
         return Err(ParameterFault::Wrong);
     };
     Ok((uri, place))
-}
-
-/// A request about a place of a document. It is answered by how far the client has come, whatever its parameters are.
-fn hover_call(
-    alloc: Global,
-    message: &Message,
-    params: &Option<NodeId>,
-) -> Result<Call, ParameterFault>
-    requires { IsAt message.now (codes "/params") params.now }
-    ensures ok { IfOk result (λ call. Says message.now (λ at. AsksForHover at call)) }
-    ensures memory { IfErr result (λ fault. fault ≡ ParameterFault.Memory) }
-{
-    match hover_of(alloc, message, params) {
-        Ok((uri, place)) => Ok(Call::Hover { uri, place }),
-        Err(ParameterFault::Wrong) => Ok(Call::WrongParameters),
-        Err(ParameterFault::Memory) => Err(ParameterFault::Memory),
-    }
-}
-
-/// A request about a document, of which the same holds.
-fn symbols_call(
-    alloc: Global,
-    message: &Message,
-    params: &Option<NodeId>,
-) -> Result<Call, ParameterFault>
-    requires { IsAt message.now (codes "/params") params.now }
-    ensures ok { IfOk result (λ call. Says message.now (λ at. AsksForSymbols at call)) }
-    ensures memory { IfErr result (λ fault. fault ≡ ParameterFault.Memory) }
-{
-    match uri_of(alloc, message, &message.member(params, "textDocument")) {
-        Ok(uri) => Ok(Call::Symbols(uri)),
-        Err(ParameterFault::Wrong) => Ok(Call::WrongParameters),
-        Err(ParameterFault::Memory) => Err(ParameterFault::Memory),
-    }
-}
-
-/// Another request about a document.
-fn folds_call(
-    alloc: Global,
-    message: &Message,
-    params: &Option<NodeId>,
-) -> Result<Call, ParameterFault>
-    requires { IsAt message.now (codes "/params") params.now }
-    ensures ok { IfOk result (λ call. Says message.now (λ at. AsksForFolds at call)) }
-    ensures memory { IfErr result (λ fault. fault ≡ ParameterFault.Memory) }
-{
-    match uri_of(alloc, message, &message.member(params, "textDocument")) {
-        Ok(uri) => Ok(Call::Folds(uri)),
-        Err(ParameterFault::Wrong) => Ok(Call::WrongParameters),
-        Err(ParameterFault::Memory) => Err(ParameterFault::Memory),
-    }
 }
 
 /// The document and the places that a request asks about.
@@ -180,26 +145,9 @@ fn selection_of(
     ensures ok { IfOk result (λ asked. Says message.now (λ at. IsSelection at asked.0 asked.1.items)) }
     ensures wrong { IsErrOf result ParameterFault.Wrong → Says message.now (λ at. (uri : Uri) (places : List Place) → IsSelection at uri places → ⊥) }
 {
-    let uri = uri_of(alloc, message, &message.member(params, "textDocument"))?;
+    let uri = uri_of(alloc, message, params)?;
     let places = positions_of(alloc, message, &message.member(params, "positions"))?;
     Ok((uri, places))
-}
-
-/// A request about places of a document.
-fn selection_call(
-    alloc: Global,
-    message: &Message,
-    params: &Option<NodeId>,
-) -> Result<Call, ParameterFault>
-    requires { IsAt message.now (codes "/params") params.now }
-    ensures ok { IfOk result (λ call. Says message.now (λ at. AsksForSelection at call)) }
-    ensures memory { IfErr result (λ fault. fault ≡ ParameterFault.Memory) }
-{
-    match selection_of(alloc, message, params) {
-        Ok((uri, places)) => Ok(Call::Selection { uri, places }),
-        Err(ParameterFault::Wrong) => Ok(Call::WrongParameters),
-        Err(ParameterFault::Memory) => Err(ParameterFault::Memory),
-    }
 }
 
 /// A document is opened.
@@ -212,8 +160,10 @@ fn open_call(
     ensures ok { IfOk result (λ call. Says message.now (λ at. TellsOpen at call)) }
     ensures wrong { IsErrOf result ParameterFault.Wrong → Says message.now (λ at. (call : Call) → TellsOpen at call → ⊥) }
 {
+    let mut document = versioned_of(alloc, message, params)?;
+    // It is kept as long as the document is open.
+    document.uri.name.shrink_to_fit();
     let node = message.member(params, "textDocument");
-    let document = versioned_of(alloc, message, &node)?;
     let content = content_of(alloc, message, &node, &document.uri)?;
     let text = whole_of(alloc, message.value_in(&node, "text"))?;
     Ok(Call::Open {
@@ -233,7 +183,7 @@ fn change_call(
     ensures ok { IfOk result (λ call. Says message.now (λ at. TellsChange at call)) }
     ensures wrong { IsErrOf result ParameterFault.Wrong → Says message.now (λ at. (call : Call) → TellsChange at call → ⊥) }
 {
-    let document = versioned_of(alloc, message, &message.member(params, "textDocument"))?;
+    let document = versioned_of(alloc, message, params)?;
     let changes = changes_of(alloc, message, &message.member(params, "contentChanges"))?;
     Ok(Call::Change { document, changes })
 }
@@ -254,7 +204,7 @@ fn notification_call(
         Method::Open => open_call(alloc, message, params),
         Method::Change => change_call(alloc, message, params),
         Method::Close => {
-            let uri = uri_of(alloc, message, &message.member(params, "textDocument"))?;
+            let uri = uri_of(alloc, message, params)?;
             Ok(Call::Close(uri))
         }
         Method::Initialize

@@ -12,11 +12,9 @@ use Rattle.jx_lsp.specs.Session.{closing, ended_at, has_left, HasStopped, Serves
 
 -- how the client ended, if it has left
 abbrev pub end_of : Phase → Option Ended
-end_of phase.New = None
-end_of phase.Ready = None
-end_of phase.Down = None
-end_of (phase.Ended false) = Some Early
 end_of (phase.Ended true) = Some Clean
+end_of (phase.Ended false) = Some Early
+end_of _ = None
 
 -- neither has the client left, nor has the stream a fault
 pub record IsGoing (reading : Reading) (server : ServerValue) : Type 0 where

@@ -1,7 +1,6 @@
-use Rattle.std.proofs.Common.{List, ℕ, Option, Vec, sym, subst}
+use Rattle.std.proofs.Common.{ℕ, Option, Vec, sym, subst}
 use Rattle.std.specs.Global.{Global}
 use Rattle.jx_wire.specs.Frames.{ended_in}
-use Rattle.jx_serve.specs.Steps.{Turns}
 use Rattle.jx_lsp.specs.Session.{Serves}
 use Rattle.jx_lsp.proofs.Sessions.{carried, none_served, one_served}
 use Rattle.jx_lsp.proofs.serve.answer.Goals as goal
@@ -19,6 +18,5 @@ returns-in-Some g c =
     let reply = c.answer_to-reply.result in
     let a = g.W.Write.contents c.args.writer.now in
     let b = g.W.Write.contents c.tell.new.writer in
-    let turns = subst (λ (l : List ℕ). Turns l first last reply) c.deref.ensures.value c.answer_to-reply.ensures.turns in
     carried c.tell.result c.tell.ensures (λ w. subst (λ (o : Option (Vec ℕ Global)). Serves first (ended_in o) last a b) (sym c.in-Some.is)
-    (one_served c.in-Some.body.items first last reply a b c.requires turns w))
+    (one_served c.in-Some.body.items first last reply a b c.requires c.answer_to-reply.ensures.turns w))

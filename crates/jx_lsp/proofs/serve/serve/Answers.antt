@@ -1,4 +1,4 @@
-use Rattle.std.proofs.Common.{◌≡◌, ◌<◌, List, ◌++◌, ℕ, length, take, drop, ap, ◌∙◌, sym, subst, arith}
+use Rattle.std.proofs.Common.{◌≡◌, ◌<◌, List, ◌++◌, ℕ, Option, length, take, drop, ap, ◌∙◌, sym, subst, arith}
 use Rattle.std.proofs.lemmas.List.{take_at}
 use Rattle.std.specs.Io.KnownBytes.{Consumes}
 use Rattle.jx_lsp.proofs.Sessions.{served_so_far, served_to, so_far_more, so_far_none}
@@ -19,6 +19,11 @@ returns-then-count-eq0 g c =
     served_so_far (remaining c.args.reader.now) (remaining c.loop.reader) (remaining c.read.new.self) (contents c.args.writer.now) (contents c.loop.writer) c.loop.frames c.loop.server
     (take c.in_ok-count.count buffer) c.loop.invariant.1 c.in_ok-count.ensures.bytes.0 (ap (λ n. take n buffer) none) (c.in_ok-count.ensures.bytes.1 none some)
 
+-- what was read of a buffer, as it stands in the batch
+consumed_of : (v w : Option (List ℕ)) (buffer behind batch : List ℕ) (count len : ℕ) → length buffer ≡ len → batch ≡ take len (buffer ++ behind) → Consumes v w (take count buffer)
+    → Consumes v w (take count batch)
+consumed_of v w buffer behind batch count len long is consumed = subst (λ (l : List ℕ). Consumes v w (take count l)) (sym (is ∙ take_at buffer behind len long)) consumed
+
 pub returns-in-Some : goal.returns-in-Some
 returns-in-Some g c =
     let remaining = g.R.Read.remaining in
@@ -26,11 +31,8 @@ returns-in-Some g c =
     let v = remaining c.loop.reader in
     let w = remaining c.read.new.self in
     let bytes : List ℕ = take c.in_ok-count.count c.deref.result.now in
-    let buffer : List ℕ = c.read.new.buf in
-    let long : length buffer ≡ c.loop.batch.len = omega (arith, c.read.auto.buf, c.deref_mut.ensures.len) in
-    let back : take c.loop.batch.len (buffer ++ drop (length buffer) c.loop.batch.items) ≡ buffer = take_at buffer (drop (length buffer) c.loop.batch.items) c.loop.batch.len long in
-    let same : take c.in_ok-count.count buffer ≡ bytes = ap (take c.in_ok-count.count) (sym (c.deref.ensures.value ∙ back)) in
-    let consumed = subst (Consumes v w) same c.in_ok-count.ensures.bytes.0 in
+    let long : length c.read.new.buf ≡ c.loop.batch.len = omega (arith, c.read.auto.buf, c.deref_mut.ensures.len) in
+    let consumed = consumed_of v w c.read.new.buf (drop (length c.read.new.buf) c.loop.batch.items) c.deref.result.now c.in_ok-count.count c.loop.batch.len long c.deref.ensures.value c.in_ok-count.ensures.bytes.0 in
     served_to (remaining c.args.reader.now) v w (contents c.args.writer.now) (contents c.loop.writer) (contents c.answer_all.new.writer) c.loop.frames c.answer_all.new.frames c.loop.server
     c.answer_all.new.server bytes c.in_ok-end.end c.in-Some.end c.loop.invariant.1 consumed c.in_ok-end.ensures c.in-Some.is
 
@@ -41,11 +43,8 @@ loop-preserved g c =
     let v = remaining c.loop.reader in
     let w = remaining c.read.new.self in
     let bytes : List ℕ = take c.in_ok-count.count c.deref.result.now in
-    let buffer : List ℕ = c.read.new.buf in
-    let long : length buffer ≡ c.loop.batch.len = omega (arith, c.read.auto.buf, c.deref_mut.ensures.len) in
-    let back : take c.loop.batch.len (buffer ++ drop (length buffer) c.loop.batch.items) ≡ buffer = take_at buffer (drop (length buffer) c.loop.batch.items) c.loop.batch.len long in
-    let same : take c.in_ok-count.count buffer ≡ bytes = ap (take c.in_ok-count.count) (sym (c.deref.ensures.value ∙ back)) in
-    let consumed = subst (Consumes v w) same c.in_ok-count.ensures.bytes.0 in (
+    let long : length c.read.new.buf ≡ c.loop.batch.len = omega (arith, c.read.auto.buf, c.deref_mut.ensures.len) in
+    let consumed = consumed_of v w c.read.new.buf (drop (length c.read.new.buf) c.loop.batch.items) c.deref.result.now c.in_ok-count.count c.loop.batch.len long c.deref.ensures.value c.in_ok-count.ensures.bytes.0 in (
       c.loop.invariant.0,
       so_far_more (remaining c.args.reader.now) v w (contents c.args.writer.now) (contents c.loop.writer) (contents c.answer_all.new.writer) c.loop.frames c.answer_all.new.frames c.loop.server
           c.answer_all.new.server bytes c.in_ok-end.end c.loop.invariant.1 consumed c.in_ok-end.ensures c.in_default.is,

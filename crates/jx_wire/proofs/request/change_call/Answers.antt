@@ -4,11 +4,8 @@ use Rattle.jx_wire.proofs.Messages.{changed_document}
 use Rattle.jx_wire.proofs.Requests.{wrong_was}
 use Rattle.jx_wire.proofs.request.change_call.Goals as goal
 
-pub versioned_of-requires : goal.versioned_of-requires
-versioned_of-requires c = c.member.ensures refl (codes "/params") c.requires
-
 pub changes_of-requires : goal.changes_of-requires
-changes_of-requires c = c.member-2.ensures refl (codes "/params") c.requires
+changes_of-requires c = c.member.ensures refl (codes "/params") c.requires
 
 pub returns-in_err-document-clause-wrong : goal.returns-in_err-document-clause-wrong
 returns-in_err-document-clause-wrong c = λ e tree is told h.

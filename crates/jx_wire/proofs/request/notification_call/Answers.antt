@@ -1,13 +1,10 @@
-use Rattle.std.proofs.Common.{Err, ap, subst, codes, refl}
+use Rattle.std.proofs.Common.{Err, ap, subst}
 use Rattle.jx_wire.specs.Requests.{TellsOf}
 use Rattle.jx_wire.specs.Values.{value_at}
 use Rattle.jx_wire.specs.declared.method.Method.{Method}
 use Rattle.jx_wire.proofs.Messages.{closed_document}
 use Rattle.jx_wire.proofs.Requests.{wrong_was}
 use Rattle.jx_wire.proofs.request.notification_call.Goals as goal
-
-pub uri_of-requires : goal.uri_of-requires
-uri_of-requires c = c.member.ensures refl (codes "/params") c.requires
 
 pub returns-in_err-uri-in-Close-clause-wrong : goal.returns-in_err-uri-in-Close-clause-wrong
 returns-in_err-uri-in-Close-clause-wrong c = λ e tree is told h.

@@ -1,12 +1,9 @@
-use Rattle.std.proofs.Common.{Option, Err, refl, sym, ap, subst, codes}
+use Rattle.std.proofs.Common.{◌∙◌, Option, Some, Err, refl, sym, ap, subst, codes}
 use Rattle.jx_wire.specs.Requests.{IsWhole}
 use Rattle.jx_wire.specs.Values.{value_at, ValueIn}
 use Rattle.jx_wire.proofs.Messages.{open_parts}
 use Rattle.jx_wire.proofs.Requests.{wrong_was}
 use Rattle.jx_wire.proofs.request.open_call.Goals as goal
-
-pub versioned_of-requires : goal.versioned_of-requires
-versioned_of-requires c = c.member-node.ensures refl (codes "/params") c.requires
 
 pub content_of-requires : goal.content_of-requires
 content_of-requires c = c.member-node.ensures refl (codes "/params") c.requires
@@ -24,4 +21,8 @@ returns-in_err-text-clause-wrong c = λ e tree is told h.
 
 pub returns-clause-ok : goal.returns-clause-ok
 returns-clause-ok c = λ tree is.
-    (c.in_ok-document.ensures.ok tree is, c.in_ok-content.ensures tree is, subst (λ (o : Option ValueIn). IsWhole o c.in_ok-text.text) (sym (c.value_in.ensures.at refl (codes "/params/textDocument") (c.member-node.ensures refl (codes "/params") c.requires) tree is)) (c.in_ok-text.ensures.ok c.value_in.ensures.spelt))
+    let document = c.in_ok-document.ensures.ok tree is in (
+      record { uri = record { name = document.uri.name ∙ ap Some (sym c.shrink_to_fit.ensures.items); spelt = document.uri.spelt }; version = document.version },
+      c.in_ok-content.ensures tree is,
+      subst (λ (o : Option ValueIn). IsWhole o c.in_ok-text.text) (sym (c.value_in.ensures.at refl (codes "/params/textDocument") (c.member-node.ensures refl (codes "/params") c.requires) tree is)) (c.in_ok-text.ensures.ok c.value_in.ensures.spelt),
+    )

@@ -2,11 +2,8 @@ use Rattle.std.proofs.Common.{Err, ap, codes, refl}
 use Rattle.jx_wire.proofs.Requests.{wrong_was}
 use Rattle.jx_wire.proofs.request.selection_of.Goals as goal
 
-pub uri_of-requires : goal.uri_of-requires
-uri_of-requires c = c.member.ensures refl (codes "/params") c.requires
-
 pub positions_of-requires : goal.positions_of-requires
-positions_of-requires c = c.member-2.ensures refl (codes "/params") c.requires
+positions_of-requires c = c.member.ensures refl (codes "/params") c.requires
 
 pub returns-in_err-uri-clause-wrong : goal.returns-in_err-uri-clause-wrong
 returns-in_err-uri-clause-wrong c = λ e tree is uri places h.

@@ -1,5 +1,0 @@
-use Rattle.std.proofs.Common.{Err, ap}
-use Rattle.jx_wire.proofs.request.selection_call.Goals as goal
-
-pub returns-in-Err-Wrong-clause-ok : goal.returns-in-Err-Wrong-clause-ok
-returns-in-Err-Wrong-clause-ok c = λ tree is uri places h. c.in-Err-Wrong.ensures.wrong (ap Err c.in-Err-Wrong.field-0-is) tree is uri places h
