@@ -18,9 +18,7 @@ use Rattle.jx_index.specs.Found.{AreFoundIn, IsFoundBy, found_of}
 use Rattle.jx_index.specs.Leads.{led}
 use Rattle.jx_index.specs.Pointers.{tokens}
 use Rattle.jx_c.specs.LookUps.{AreFoundBy}
-
-abbrev pub any_names : Settings → Settings
-any_names settings = record { depth = settings.depth; mark = settings.mark; names = Any }
+use Rattle.jx_c.specs.Opened.{any_names}
 
 module _ (settings : Settings) (text : List ℕ) (known : (settings.names ≡ Any) ⊎ IsVerdictBy settings text verdict.Accepted) where
   with_names : (tree : Tree) → IsDocumentBy (any_names settings) 0 text tree → IsDocumentBy settings 0 text tree

@@ -10,5 +10,6 @@ pub mod Opening
 pub mod Outcomes
 pub mod ReaderSteps
 pub mod Records
+pub mod Renaming
 pub mod Unboxing
 pub mod Words

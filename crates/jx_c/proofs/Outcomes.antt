@@ -1,6 +1,7 @@
 -- What is told of the pointer to a container.
-use Rattle.std.specs.Prelude.{Some, None, Option, Result, slice_get}
+use Rattle.std.specs.Prelude.{Some, Result, slice_get}
 use Rattle.std.proofs.Common.{◌≡◌, ℕ, List, [], ◌∷◌, length, Bool, refl, sym, ap, ◌∙◌}
+use Rattle.std.proofs.lemmas.Option.{same_Some}
 use Rattle.jx_lex.specs.declared.kind.Kind.TheVariants as kind
 use Rattle.jx_run.specs.declared.texts.settings.Settings.{Settings}
 use Rattle.jx_run.specs.declared.texts.verdict.Verdict.TheVariants.{Accepted}
@@ -20,14 +21,7 @@ pub found_first : (settings : Settings) (text pointer : List ℕ) (items : List 
     → slice_get items 0 ≡ Some one → told ≡ outcome_of_found one n → LeadsTo settings pointer text n told
 found_first settings text pointer [] one n told h is e = absurd (h.found_are)
 found_first settings text pointer (first ∷ items) one n told h is e =
-    (h.tree, h.is_text, e ∙ ap (λ (r : Result Found FindFault). outcome_of_found r n) (sym (some_is first one is) ∙ h.found_are.0))
-  where
-    or_first : Option (Result Found FindFault) → Result Found FindFault → Result Found FindFault
-    or_first (Some x) d = x
-    or_first None d = d
-
-    some_is : (x y : Result Found FindFault) → Some x ≡ Some y → x ≡ y
-    some_is x y h = ap (λ (o : Option (Result Found FindFault)). or_first o x) h
+    (h.tree, h.is_text, e ∙ ap (λ (r : Result Found FindFault). outcome_of_found r n) (sym (same_Some first one is) ∙ h.found_are.0))
 
 -- of the root
 root_told : (text : List ℕ) (tree : Tree) → outcome_of_root (is_container tree) ≡ outcome_of_found (found_of (led text tree (tokens []))) (length (tokens []))

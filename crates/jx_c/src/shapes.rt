@@ -1,4 +1,5 @@
 // What several calls take and answer.
+pub(crate) mod buffers;
 pub(crate) mod handle;
 pub(crate) mod places;
 pub(crate) mod settings;

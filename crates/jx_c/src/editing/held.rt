@@ -29,9 +29,8 @@ impl JxDocument {
         ensures { result.held ≡ handle.held }
     {
         let Handle { at } = handle;
-        JxDocument {
-            inside: at as *mut u8,
-        }
+        let inside = at as *mut u8;
+        JxDocument { inside }
     }
 
     /// Gives the handle of what C held.
@@ -39,21 +38,16 @@ impl JxDocument {
         ensures { result.held ≡ self.held }
     {
         let JxDocument { inside } = self;
-        Handle {
-            at: inside as *mut Document,
-        }
+        let at = inside as *mut Document;
+        Handle { at }
     }
 
     /// Puts a document in, or none, and gives what was there.
-    pub fn replace(
-        &mut self,
-        alloc: Global,
-        document: Option<Box<Document>>,
-    ) -> Option<Box<Document>>
-        ensures put { MatchOption document (self.new.held ≡ None) (λ d. self.new.held ≡ Some d.value) }
+    pub fn replace(&mut self, alloc: Global, whole: Option<Box<Document>>) -> Option<Box<Document>>
+        ensures put { MatchOption whole (self.new.held ≡ None) (λ d. self.new.held ≡ Some d.value) }
         ensures taken { MatchOption result (self.old.held ≡ None) (λ d. self.old.held ≡ Some d.value) }
     {
-        let next = JxDocument::of(Handle::of(document));
+        let next = JxDocument::of(Handle::of(whole));
         replace(self, next).into_handle().into_box(alloc)
     }
 }

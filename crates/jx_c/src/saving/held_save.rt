@@ -29,9 +29,8 @@ impl JxSave {
         ensures { result.held ≡ handle.held }
     {
         let Handle { at } = handle;
-        JxSave {
-            inside: at as *mut u8,
-        }
+        let inside = at as *mut u8;
+        JxSave { inside }
     }
 
     /// Gives the handle of what C held.
@@ -39,9 +38,8 @@ impl JxSave {
         ensures { result.held ≡ self.held }
     {
         let JxSave { inside } = self;
-        Handle {
-            at: inside as *mut Saver,
-        }
+        let at = inside as *mut Saver;
+        Handle { at }
     }
 
     /// Puts a saver in, or none, and gives what was there.

@@ -29,9 +29,8 @@ impl JxSaved {
         ensures { result.held ≡ handle.held }
     {
         let Handle { at } = handle;
-        JxSaved {
-            inside: at as *mut u8,
-        }
+        let inside = at as *mut u8;
+        JxSaved { inside }
     }
 
     /// Gives the handle of what C held.
@@ -39,9 +38,8 @@ impl JxSaved {
         ensures { result.held ≡ self.held }
     {
         let JxSaved { inside } = self;
-        Handle {
-            at: inside as *mut OpenedIndex,
-        }
+        let at = inside as *mut OpenedIndex;
+        Handle { at }
     }
 
     /// Puts an index in, or none, and gives what was there.

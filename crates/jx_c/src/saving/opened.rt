@@ -1,5 +1,5 @@
 // A saved index that C opened, and what goes on by it: a look-up of pointers, or a split of a container.
-ghost use Rattle.std.specs.Prelude.{◌≡◌, ◌≢◌, ◌⊎◌, ◌<◌, ◌≤◌, ◌/◌, None, Some, ℕ, List, length, slice_get, IfErr, IfOk, IfSome, true, false};
+ghost use Rattle.std.specs.Prelude.{◌≡◌, ◌≢◌, ◌⊎◌, ◌<◌, ◌≤◌, ◌/◌, None, Some, ℕ, List, length, IfErr, IfOk, IfSome, true, false};
 ghost use Rattle.jx_run.specs.declared.texts.settings.Settings.{Settings};
 ghost use Rattle.jx_summary.specs.declared.span.Span.{Span};
 ghost use Rattle.jx_saved.specs.Spelling.{front_flags};
@@ -18,6 +18,7 @@ ghost use Rattle.jx_c.specs.Opened.{AreAnswersIn, AreOthers, ArePartsIn, HasNoSu
 ghost use Rattle.jx_c.specs.declared.texts.all.JxPointer.{JxPointer};
 ghost use Rattle.jx_c.specs.declared.saving.opened.IndexWork.TheVariants.{Nothing, Seeking, Splitting};
 
+use crate::shapes::buffers::{Seen, fill};
 use crate::shapes::places::{JxSpan, shown_span};
 use crate::shapes::status::{
     CHANGED, CUT_SHORT, DAMAGED, MALFORMED, MORE_BYTES, MORE_NEEDED, NO_MEMORY, NOT_BEGUN,
@@ -114,33 +115,18 @@ fn flags_of(settings: &Settings) -> u32
     }
 }
 
-/// The part as C sees it.
-fn shown_part(part: ContainerPart) -> JxPart
-    ensures { result ≡ shown_part part }
-{
-    JxPart {
-        span: shown_span(part.span),
-        number: part.number,
-        first: part.first,
-        end: part.end,
-    }
-}
+impl Seen for ContainerPart {
+    type Form = JxPart;
 
-/// The part with this number.
-fn part_at(parts: &[ContainerPart], number: usize) -> ContainerPart
-    requires { number < length parts.now }
-    ensures { slice_get parts.now number ≡ Some result }
-{
-    parts[number]
-}
+    ghost form = { shown_part };
 
-/// Puts the parts into the buffer, as many as it has room for.
-fn fill(parts: &mut [JxPart], from: &[ContainerPart])
-    ensures { IsFilled shown_part parts.old parts.new from.now }
-{
-    let count = parts.len().min(from.len());
-    for at in 0..count {
-        parts[at] = shown_part(part_at(from, at));
+    fn seen(self) -> JxPart {
+        JxPart {
+            span: shown_span(self.span),
+            number: self.number,
+            first: self.first,
+            end: self.end,
+        }
     }
 }
 

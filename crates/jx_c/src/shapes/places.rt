@@ -2,6 +2,7 @@
 ghost use Rattle.std.specs.Prelude.{◌≡◌};
 ghost use Rattle.jx_c.specs.Rows.{kind_in, name_in, parent_in, shown_row, shown_span};
 
+use crate::shapes::buffers::Seen;
 use jx_index::{NodeId, Row};
 use jx_lex::{Kind, Span};
 
@@ -73,15 +74,18 @@ fn parent_in(parent: Option<NodeId>) -> usize
     }
 }
 
-/// The row as C sees it.
-pub fn shown_row(row: Row) -> JxRow
-    ensures { result ≡ shown_row row }
-{
-    JxRow {
-        span: shown_span(row.span),
-        name: name_in(row.name),
-        parent: parent_in(row.parent),
-        place: row.place,
-        kind: kind_in(row.kind),
+impl Seen for Row {
+    type Form = JxRow;
+
+    ghost form = { shown_row };
+
+    fn seen(self) -> JxRow {
+        JxRow {
+            span: shown_span(self.span),
+            name: name_in(self.name),
+            parent: parent_in(self.parent),
+            place: self.place,
+            kind: kind_in(self.kind),
+        }
     }
 }

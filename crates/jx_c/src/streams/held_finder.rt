@@ -29,9 +29,8 @@ impl JxFinder {
         ensures { result.held ≡ handle.held }
     {
         let Handle { at } = handle;
-        JxFinder {
-            inside: at as *mut u8,
-        }
+        let inside = at as *mut u8;
+        JxFinder { inside }
     }
 
     /// Gives the handle of what C held.
@@ -39,9 +38,8 @@ impl JxFinder {
         ensures { result.held ≡ self.held }
     {
         let JxFinder { inside } = self;
-        Handle {
-            at: inside as *mut Seeking,
-        }
+        let at = inside as *mut Seeking;
+        Handle { at }
     }
 
     /// Puts a look-up in, or none, and gives what was there.

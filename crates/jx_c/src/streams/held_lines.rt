@@ -29,9 +29,8 @@ impl JxLines {
         ensures { result.held ≡ handle.held }
     {
         let Handle { at } = handle;
-        JxLines {
-            inside: at as *mut u8,
-        }
+        let inside = at as *mut u8;
+        JxLines { inside }
     }
 
     /// Gives the handle of what C held.
@@ -39,21 +38,16 @@ impl JxLines {
         ensures { result.held ≡ self.held }
     {
         let JxLines { inside } = self;
-        Handle {
-            at: inside as *mut LineTally,
-        }
+        let at = inside as *mut LineTally;
+        Handle { at }
     }
 
     /// Puts a reader in, or none, and gives what was there.
-    pub fn replace(
-        &mut self,
-        alloc: Global,
-        lines: Option<Box<LineTally>>,
-    ) -> Option<Box<LineTally>>
-        ensures put { MatchOption lines (self.new.held ≡ None) (λ d. self.new.held ≡ Some d.value) }
+    pub fn replace(&mut self, alloc: Global, kept: Option<Box<LineTally>>) -> Option<Box<LineTally>>
+        ensures put { MatchOption kept (self.new.held ≡ None) (λ d. self.new.held ≡ Some d.value) }
         ensures taken { MatchOption result (self.old.held ≡ None) (λ d. self.old.held ≡ Some d.value) }
     {
-        let next = JxLines::of(Handle::of(lines));
+        let next = JxLines::of(Handle::of(kept));
         replace(self, next).into_handle().into_box(alloc)
     }
 }

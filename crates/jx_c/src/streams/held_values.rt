@@ -29,9 +29,8 @@ impl JxValues {
         ensures { result.held ≡ handle.held }
     {
         let Handle { at } = handle;
-        JxValues {
-            inside: at as *mut u8,
-        }
+        let inside = at as *mut u8;
+        JxValues { inside }
     }
 
     /// Gives the handle of what C held.
@@ -39,9 +38,8 @@ impl JxValues {
         ensures { result.held ≡ self.held }
     {
         let JxValues { inside } = self;
-        Handle {
-            at: inside as *mut ValueStream,
-        }
+        let at = inside as *mut ValueStream;
+        Handle { at }
     }
 
     /// Puts a stream in, or none, and gives what was there.

@@ -8,6 +8,7 @@ ghost use Rattle.jx_c.specs.Buffers.{IsFilled};
 ghost use Rattle.jx_c.specs.Lines.{IsEndOf, IsFed, IsNew, IsTaken, end_of, shown_counts, shown_last, shown_line, shown_line_verdict};
 ghost use Rattle.jx_c.specs.Settings.{settings_in};
 
+use crate::shapes::buffers::{Seen, fill};
 use crate::shapes::places::{JxSpan, shown_span};
 use crate::shapes::settings::{JxSettings, settings_in};
 use crate::shapes::status::{
@@ -69,14 +70,17 @@ fn shown_line_verdict(verdict: LineVerdict) -> JxVerdict
     }
 }
 
-/// The line as C sees it.
-fn shown_line(line: JudgedLine) -> JxLine
-    ensures { result ≡ shown_line line }
-{
-    JxLine {
-        number: line.number,
-        span: shown_span(line.span),
-        verdict: shown_line_verdict(line.verdict),
+impl Seen for JudgedLine {
+    type Form = JxLine;
+
+    ghost form = { shown_line };
+
+    fn seen(self) -> JxLine {
+        JxLine {
+            number: self.number,
+            span: shown_span(self.span),
+            verdict: shown_line_verdict(self.verdict),
+        }
     }
 }
 
@@ -85,7 +89,7 @@ fn shown_last(line: Option<JudgedLine>) -> JxLine
     ensures { result ≡ shown_last line }
 {
     match line {
-        Some(line) => shown_line(line),
+        Some(line) => line.seen(),
         None => JxLine {
             number: 0,
             span: JxSpan { start: 0, end: 0 },
@@ -102,16 +106,6 @@ fn shown_counts(counts: LineCounts) -> JxLineCounts
         accepted: counts.accepted,
         refused: counts.refused,
         blank: counts.blank,
-    }
-}
-
-/// Puts the lines into the buffer, as many as it has room for.
-fn fill(lines: &mut [JxLine], from: &[JudgedLine])
-    ensures { IsFilled shown_line lines.old lines.new from.now }
-{
-    let count = lines.len().min(from.len());
-    for at in 0..count {
-        lines[at] = shown_line(from[at]);
     }
 }
 

@@ -1,9 +1,9 @@
 // The elements of a JSON text sequence.
 ghost use Rattle.std.specs.Prelude.{◌≡◌, ◌⊎◌, ◌<◌, ◌≤◌};
-ghost use Rattle.jx_c.specs.Buffers.{IsFilled};
 ghost use Rattle.jx_c.specs.Elements.{AreElementsOf, shown_element, shown_verdict};
 ghost use Rattle.jx_c.specs.Settings.{settings_in};
 
+use crate::shapes::buffers::{Seen, fill};
 use crate::shapes::places::{JxSpan, shown_span};
 use crate::shapes::settings::{JxSettings, settings_in};
 use crate::shapes::status::{DEPTH_TOO_GREAT, NO_MEMORY, OK, UNKNOWN_FLAG};
@@ -46,23 +46,16 @@ fn shown_verdict(verdict: ElementVerdict) -> JxVerdict
     }
 }
 
-/// The element as C sees it.
-fn shown_element(element: JudgedElement) -> JxElement
-    ensures { result ≡ shown_element element }
-{
-    JxElement {
-        span: shown_span(element.span),
-        verdict: shown_verdict(element.verdict),
-    }
-}
+impl Seen for JudgedElement {
+    type Form = JxElement;
 
-/// Puts the elements into the buffer, as many as it has room for.
-fn fill(elements: &mut [JxElement], from: &[JudgedElement])
-    ensures { IsFilled shown_element elements.old elements.new from.now }
-{
-    let count = elements.len().min(from.len());
-    for at in 0..count {
-        elements[at] = shown_element(from[at]);
+    ghost form = { shown_element };
+
+    fn seen(self) -> JxElement {
+        JxElement {
+            span: shown_span(self.span),
+            verdict: shown_verdict(self.verdict),
+        }
     }
 }
 

@@ -29,9 +29,8 @@ impl JxIndex {
         ensures { result.held ≡ handle.held }
     {
         let Handle { at } = handle;
-        JxIndex {
-            inside: at as *mut u8,
-        }
+        let inside = at as *mut u8;
+        JxIndex { inside }
     }
 
     /// Gives the handle of what C held.
@@ -39,9 +38,8 @@ impl JxIndex {
         ensures { result.held ≡ self.held }
     {
         let JxIndex { inside } = self;
-        Handle {
-            at: inside as *mut Catalog,
-        }
+        let at = inside as *mut Catalog;
+        Handle { at }
     }
 
     /// Puts an index in, or none, and gives what was there.

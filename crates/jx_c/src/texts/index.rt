@@ -12,7 +12,8 @@ ghost use Rattle.jx_c.specs.LookUps.{IsLed};
 ghost use Rattle.jx_c.specs.Settings.{settings_in};
 ghost use Rattle.jx_c.specs.declared.shapes.places.JxRow.{JxRow};
 
-use crate::shapes::places::{JxRow, shown_row};
+use crate::shapes::buffers::Seen;
+use crate::shapes::places::JxRow;
 use crate::shapes::settings::{JxSettings, settings_in};
 use crate::shapes::status::{
     DEPTH_TOO_GREAT, NO_INDEX, NO_MEMORY, OK, OUT_OF_BOUNDS, UNKNOWN_FLAG,
@@ -26,13 +27,6 @@ use jx_index::{Indexed, Pointer, TextAnswer, indexes_stand_behind_fronts, look_u
 use jx_run::{Refusal, Settings, Verdict, text_by_settings_has_one_tree};
 use std::alloc::{AllocError, Global};
 
-/// The index as the library keeps it for C.
-fn boxed(alloc: Global, index: Indexed<'static>) -> Result<Box<Catalog>, AllocError>
-    ensures { IfOk result (λ whole. whole.value ≡ index.entry) }
-{
-    Ok(Box::new(alloc, sent(Catalog::of(index)))?)
-}
-
 /// Reads a text by settings, and indexes it where it is accepted.
 fn read(
     alloc: Global,
@@ -45,7 +39,7 @@ fn read(
     match TextAnswer::read(alloc, text, settings)? {
         TextAnswer::Refused(refusal) => Ok(Err(refusal)),
         TextAnswer::Accepted(index) => {
-            let whole = boxed(alloc, index)?;
+            let whole = Box::new(alloc, sent(Catalog::of(index)))?;
             Ok(Ok(whole))
         }
     }
@@ -166,7 +160,7 @@ fn row_at(index: &Indexed, number: usize) -> Option<JxRow>
     ensures { result ≡ row_at index.now number }
 {
     match index.rows().get(number) {
-        Some(row) => Some(shown_row(*row)),
+        Some(row) => Some(row.seen()),
         None => None,
     }
 }

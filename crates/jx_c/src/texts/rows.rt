@@ -2,29 +2,19 @@
 ghost use Rattle.std.specs.Prelude.{◌≡◌, ◌⊎◌, ◌<◌, ◌≤◌, ℕ, List, IfOk, IfErr};
 ghost use Rattle.jx_run.specs.declared.texts.settings.Settings.{Settings};
 ghost use Rattle.jx_run.specs.declared.texts.verdict.Verdict.TheVariants.{Refused};
-ghost use Rattle.jx_c.specs.Buffers.{IsFilled};
-ghost use Rattle.jx_c.specs.Rows.{AreRowsOf, shown_row};
+ghost use Rattle.jx_c.specs.Rows.{AreRowsOf};
 ghost use Rattle.jx_c.specs.Settings.{settings_in};
 ghost use Rattle.jx_index.specs.ByNames.{IsVerdictBy};
 ghost use Rattle.jx_index.specs.RowsAlone.{AreRowsBy};
 
-use crate::shapes::places::{JxRow, shown_row};
+use crate::shapes::buffers::fill;
+use crate::shapes::places::JxRow;
 use crate::shapes::settings::{JxSettings, settings_in};
 use crate::shapes::status::{DEPTH_TOO_GREAT, NO_MEMORY, OK, UNKNOWN_FLAG};
 use crate::shapes::verdict::{JxVerdict, shown};
 use jx_index::{Row, read_rows};
 use jx_run::{Refusal, Verdict};
 use std::alloc::{AllocError, Global};
-
-/// Puts the rows into the buffer, as many as it has room for.
-fn fill(rows: &mut [JxRow], from: &[Row])
-    ensures { IsFilled shown_row rows.old rows.new from.now }
-{
-    let count = rows.len().min(from.len());
-    for at in 0..count {
-        rows[at] = shown_row(from[at]);
-    }
-}
 
 /// Tells what reading a text came to: the verdict, how many rows there are, and in the buffer the rows.
 fn tell(

@@ -15,7 +15,7 @@ returns-in-Ok-Ok-clause-parts c = λ ok settings chunk text container p inside w
     let found = IfOk-at_ok _ c.in-Ok-Ok.field-0-is c.in-Ok-Ok.ensures.found settings chunk text container come inside (whole ∙ sym (ap (λ (a : Aim). a.whole) aim)) in
     let items : c.in-Ok-Ok.all.items ≡ parts_of c.args.split.aim.parts text container = found ∙ ap (λ (a : Aim). parts_of a.parts text container) aim in
     let count : c.len.result ≡ length c.in-Ok-Ok.all.items = search rules in
-    (count ∙ ap length items, subst (λ (all : List ContainerPart). IsFilled shown_part c.args.parts.now c.fill.new.parts all) (c.deref.ensures.value ∙ items) c.fill.ensures)
+    (count ∙ ap length items, subst (λ (all : List ContainerPart). IsFilled shown_part c.args.parts.now c.fill.new.buffer all) (c.deref.ensures.value ∙ items) c.fill.ensures)
 
 pub returns-in-Ok-Err-clause-damaged : goal.returns-in-Ok-Err-clause-damaged
 returns-in-Ok-Err-clause-damaged c = λ is settings chunk text container p inside whole.

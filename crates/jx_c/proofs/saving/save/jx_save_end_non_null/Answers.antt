@@ -1,4 +1,5 @@
 use Rattle.std.proofs.Common.{rules, refl, ◌≡◌, Some, None, length, subst, sym, ap, ◌∙◌}
+use Rattle.std.proofs.lemmas.Option.{same_Some}
 use Rattle.jx_run.specs.declared.texts.verdict.Verdict.TheVariants as verdict
 use Rattle.jx_run.specs.declared.texts.verdict.Verdict.{Verdict}
 use Rattle.jx_c.specs.Saves.{HasRead, IsEndedBy}
@@ -8,9 +9,7 @@ use Rattle.jx_c.proofs.saving.save.jx_save_end_non_null.Goals as goal
 
 pub returns-in-Ok-Accepted-clause-told : goal.returns-in-Ok-Accepted-clause-told
 returns-in-Ok-Accepted-clause-told c = λ s held ok has_names settings chunk text h.
-    let both : Some s ≡ Some c.in-Some.whole.value = sym held ∙ c.in-Some.ensures.taken in
-    let same : s ≡ c.in-Some.whole.value = cc in
-    let here : s ≡ c.deref_mut.result.now = same ∙ sym c.deref_mut.ensures.value in
+    let here : s ≡ c.deref_mut.result.now = same_Some _ _ (sym held ∙ c.in-Some.ensures.taken) ∙ sym c.deref_mut.ensures.value in
     let put : c.replace-in-Ok-Accepted.new.self.held ≡ Some c.end.new.self = search rules in
     let ended = subst (λ (v : Verdict). IsEndedBy c.deref_mut.result.now c.end.new.self v) c.in-Ok-Accepted.field-0-is c.in-Ok-Accepted.ensures.ended in
     let told = ended.2 has_names settings chunk text (subst (λ (t : Saver). HasRead has_names settings chunk text t) here h) in
@@ -20,9 +19,7 @@ returns-in-Ok-Accepted-clause-told c = λ s held ok has_names settings chunk tex
 
 pub returns-in-Ok-Refused-clause-told : goal.returns-in-Ok-Refused-clause-told
 returns-in-Ok-Refused-clause-told c = λ s held ok has_names settings chunk text h.
-    let both : Some s ≡ Some c.in-Some.whole.value = sym held ∙ c.in-Some.ensures.taken in
-    let same : s ≡ c.in-Some.whole.value = cc in
-    let here : s ≡ c.deref_mut.result.now = same ∙ sym c.deref_mut.ensures.value in
+    let here : s ≡ c.deref_mut.result.now = same_Some _ _ (sym held ∙ c.in-Some.ensures.taken) ∙ sym c.deref_mut.ensures.value in
     let none : c.replace.new.self.held ≡ None = search rules in
     let ended = subst (λ (v : Verdict). IsEndedBy c.deref_mut.result.now c.end.new.self v) c.in-Ok-Refused.field-0-is c.in-Ok-Refused.ensures.ended in
     (verdict.Refused c.in-Ok-Refused.refusal, ended has_names settings chunk text (subst (λ (t : Saver). HasRead has_names settings chunk text t) here h), c.shown-in-Ok-Refused.ensures, (none, refl))

@@ -1,11 +1,10 @@
 use Rattle.std.proofs.Common.{rules, ◌≡◌, Some, subst, sym, ◌∙◌}
+use Rattle.std.proofs.lemmas.Option.{same_Some}
 use Rattle.jx_c.specs.Values.{HasStreamed, StreamValue}
 use Rattle.jx_c.proofs.streams.values.jx_values_feed_non_null.Goals as goal
 
 pub returns-in-Ok-clause-fed : goal.returns-in-Ok-clause-fed
 returns-in-Ok-clause-fed c = λ s held _.
-    let both : Some s ≡ Some c.in-Some.whole.value = sym held ∙ c.in-Some.ensures.taken in
-    let same : s ≡ c.in-Some.whole.value = cc in
-    let here : s ≡ c.deref_mut.result.now = same ∙ sym c.deref_mut.ensures.value in
+    let here : s ≡ c.deref_mut.result.now = same_Some _ _ (sym held ∙ c.in-Some.ensures.taken) ∙ sym c.deref_mut.ensures.value in
     let put : c.replace-in-Ok.new.self.held ≡ Some c.feed.new.self = search rules in
     (c.feed.new.self, put, λ settings pointer input given h. c.in-Ok.ensures.streamed settings pointer input given (subst (λ (t : StreamValue). HasStreamed settings pointer input given t) here h))

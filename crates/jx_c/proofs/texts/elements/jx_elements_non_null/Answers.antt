@@ -20,5 +20,5 @@ returns-in-Ok-judge_elements-clause-elements c = λ ok.
       count_is = long ∙ AllZip-long (IsJudgedBy settings sequence) (elements_by settings.mark sequence) all are;
       judged = all;
       are = are;
-      filled = subst (λ (js : List JudgedElement). IsFilled shown_element c.args.elements.now c.fill.new.elements js) c.deref.ensures.value c.fill.ensures;
+      filled = subst (λ (js : List JudgedElement). IsFilled shown_element c.args.elements.now c.fill.new.buffer js) c.deref.ensures.value c.fill.ensures;
     }

@@ -21,6 +21,6 @@ returns-in-Ok c = λ settings bytes told refused.
         x.tree,
         x.is_text,
         ap length all,
-        subst (λ (xs : List Row). IsFilled shown_row c.args.rows.now c.fill.new.rows xs) all c.fill.ensures,
+        subst (λ (xs : List Row). IsFilled shown_row c.args.rows.now c.fill.new.buffer xs) all c.fill.ensures,
       ),
     )
