@@ -4,15 +4,14 @@ pub(crate) mod draws;
 
 use test_words::Line;
 
-/// Makes the call of this name, if it is one of these.
-pub(crate) fn make(name: &str, line: &mut Line<'_>) -> bool {
+/// Makes the call of this name.
+pub(crate) fn make(name: &str, line: &mut Line<'_>) {
     match name {
         "every" => cuttings::every(line),
         "at" => cuttings::at(line),
         "workers" => cuttings::workers(line),
         "draws" => draws::draws(line),
         "seats" => draws::seats(line),
-        _ => return false,
+        _ => line.refuse(),
     }
-    true
 }

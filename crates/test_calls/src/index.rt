@@ -7,10 +7,11 @@ pub(crate) mod pointers;
 pub(crate) mod readings;
 pub(crate) mod unique;
 
+use crate::claim;
 use test_words::Line;
 
-/// Makes the call of this name, if it is one of these.
-pub(crate) fn make(name: &str, line: &mut Line<'_>) -> bool {
+/// Makes the call of this name, or one of jx_claim or of a crate above.
+pub(crate) fn make(name: &str, line: &mut Line<'_>) {
     match name {
         "rows" => readings::rows(line),
         "text" => answers::text(line),
@@ -20,7 +21,6 @@ pub(crate) fn make(name: &str, line: &mut Line<'_>) -> bool {
         "names" => nodes::names(line),
         "repeated" => nodes::repeated(line),
         "unique" => unique::unique(line),
-        _ => return false,
+        _ => claim::make(name, line),
     }
-    true
 }

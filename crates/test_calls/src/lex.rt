@@ -6,10 +6,11 @@ pub(crate) mod steps;
 pub(crate) mod track;
 pub(crate) mod views;
 
+use crate::reduce;
 use test_words::Line;
 
-/// Makes the call of this name, if it is one of these.
-pub(crate) fn make(name: &str, line: &mut Line<'_>) -> bool {
+/// Makes the call of this name, or one of jx_reduce or of a crate above.
+pub(crate) fn make(name: &str, line: &mut Line<'_>) {
     match name {
         "class" => steps::class(line),
         "step" => steps::step(line),
@@ -24,7 +25,6 @@ pub(crate) fn make(name: &str, line: &mut Line<'_>) -> bool {
         "upto" => views::upto(line),
         "beginning" => views::beginning(line),
         "scan" => scans::scan(line),
-        _ => return false,
+        _ => reduce::make(name, line),
     }
-    true
 }

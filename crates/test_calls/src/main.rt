@@ -10,34 +10,16 @@ mod run;
 mod words;
 
 use std::io;
-use std::sync::Wait;
-use std::thread::Threads;
-use test_words::{Calls, Line, answer_lines};
+use test_words::{Line, answer_lines};
 
-/// Makes a call of runs, of indexes or of cuttings, if it is one.
-fn make_of_runs(name: &str, line: &mut Line<'_>) -> bool {
-    run::make(name, line) || index::make(name, line) || claim::make(name, line)
-}
-
-/// The calls of all crates that this one stands on.
-struct All;
-
-impl Calls for All {
-    fn make<R: Threads + Wait + Sync>(_rt: &R, name: &str, line: &mut Line<'_>) {
-        match name {
-            "words" => words::words(line),
-            _ => {
-                if !(lex::make(name, line)
-                    || reduce::make(name, line)
-                    || make_of_runs(name, line))
-                {
-                    line.refuse();
-                }
-            }
-        }
+/// Makes the call that a line names.
+fn make(line: &mut Line<'_>) {
+    match line.word() {
+        "words" => words::words(line),
+        name => lex::make(name, line),
     }
 }
 
 fn main(rt: HostRuntime) -> io::Result<()> {
-    answer_lines::<All, HostRuntime>(&rt, rt.alloc())
+    answer_lines(&rt, make)
 }

@@ -7,10 +7,11 @@ pub(crate) mod parts;
 pub(crate) mod readers;
 pub(crate) mod verdicts;
 
+use crate::index;
 use test_words::Line;
 
-/// Makes the call of this name, if it is one of these.
-pub(crate) fn make(name: &str, line: &mut Line<'_>) -> bool {
+/// Makes the call of this name, or one of jx_index or of a crate above.
+pub(crate) fn make(name: &str, line: &mut Line<'_>) {
     match name {
         "verdict" => verdicts::verdict(line),
         "cuts" => verdicts::cuts(line),
@@ -24,7 +25,6 @@ pub(crate) fn make(name: &str, line: &mut Line<'_>) -> bool {
         "elements" => elements::elements(line),
         "behind" => elements::behind(line),
         "front" => fronts::fronted(line),
-        _ => return false,
+        _ => index::make(name, line),
     }
-    true
 }

@@ -2,24 +2,26 @@
 // answers, on the line of the same number. An empty line and one that begins with `#` are printed as they stand.
 #![tactic(auto)]
 
-mod call;
 mod edits;
 mod places;
 mod wear;
 
-use anyhow::Result;
-use call::answer_to;
-use test_words::is_call;
+use std::io;
+use std::thread::Threads;
+use test_words::{Line, answer_lines};
 
-fn main(rt: HostRuntime) -> Result<()> {
-    for line in rt.lines(rt.alloc()) {
-        let line = line?;
-        if is_call(line.as_str()) {
-            let answer = answer_to(&rt, rt.alloc(), line.as_str())?;
-            println!(rt; "{answer}")?;
-        } else {
-            println!(rt; "{line}")?;
-        }
+/// Makes the call that a line names.
+fn make<R: Threads + Sync>(line: &mut Line<'_>, rt: &R) {
+    match line.word() {
+        "document" => edits::document(line),
+        "workers" => edits::workers(line, rt),
+        "positions" => places::positions(line),
+        "offsets" => places::offsets(line),
+        "worn" => wear::worn(line),
+        _ => line.refuse(),
     }
-    Ok(())
+}
+
+fn main(rt: HostRuntime) -> io::Result<()> {
+    answer_lines(&rt, |line| make(line, &rt))
 }

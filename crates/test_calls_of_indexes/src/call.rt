@@ -1,23 +1,8 @@
 // The calls of `jx_saved`.
 use crate::answers::{push_loaded, told_by};
-use jx_run::Settings;
 use jx_saved::{ChunkSize, Index, SavedFault, digest_of};
-use std::alloc::{AllocError, Global};
-use std::sync::Wait;
-use std::thread::Threads;
-use test_words::{Calls, Line, Out, Ways};
-
-/// The answer on a text that is fed by slices of so many bytes.
-fn told_by_size(
-    alloc: Global,
-    settings: &Settings,
-    chunk: ChunkSize,
-    text: &[u8],
-    size: usize,
-) -> Result<Out, AllocError> {
-    let slices: Vec<&[u8]> = text.chunks(size.max(1)).collect(alloc)?;
-    told_by(alloc, settings, chunk, &slices)
-}
+use std::alloc::AllocError;
+use test_words::{Line, Ways};
 
 /// `save DEPTH SETTINGS CHUNK TEXT`: the bytes of a text's index, for chunks of so many bytes, or why it has none; whole, and by slices of
 /// several sizes. Names are of no account.
@@ -30,11 +15,14 @@ fn save(line: &mut Line<'_>) {
         line.out.push_str("no size of a chunk");
         return;
     };
-    let mut ways = Ways::new(line.alloc);
-    for size in [1 << 20, 1, 2, 63, 64, 65, 200] {
-        let told = told_by_size(line.alloc, &settings, chunk, &text, size);
-        ways.add_made(format_args!("by slices of {size}"), told);
-    }
+    let alloc = line.alloc;
+    let mut ways = Ways::new(alloc);
+    let sizes = [1 << 20, 1, 2, 63, 64, 65, 200];
+    ways.add_sliced(
+        &text,
+        &sizes,
+        |slices| told_by(alloc, &settings, chunk, slices),
+    );
     ways.push_to(&mut line.out);
 }
 
@@ -56,16 +44,12 @@ fn load(line: &mut Line<'_>) {
     }
 }
 
-/// The calls of `jx_saved`.
-pub(crate) struct OfIndexes;
-
-impl Calls for OfIndexes {
-    fn make<R: Threads + Wait + Sync>(_rt: &R, name: &str, line: &mut Line<'_>) {
-        match name {
-            "digest" => digest(line),
-            "load" => load(line),
-            "save" => save(line),
-            _ => line.refuse(),
-        }
+/// Makes the call that a line names.
+pub(crate) fn make(line: &mut Line<'_>) {
+    match line.word() {
+        "digest" => digest(line),
+        "load" => load(line),
+        "save" => save(line),
+        _ => line.refuse(),
     }
 }

@@ -5,10 +5,10 @@
 mod answers;
 mod call;
 
-use call::OfIndexes;
+use call::make;
 use std::io;
 use test_words::answer_lines;
 
 fn main(rt: HostRuntime) -> io::Result<()> {
-    answer_lines::<OfIndexes, HostRuntime>(&rt, rt.alloc())
+    answer_lines(&rt, make)
 }

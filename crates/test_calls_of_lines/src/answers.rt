@@ -1,6 +1,5 @@
 // Answers on the lines of a text that is fed by slices.
-use jx_lex::Depth;
-use jx_ndjson::{JudgedLine, LineReader, LineVerdict, texts_in_front};
+use jx_ndjson::{JudgedLine, LineReader, LineVerdict};
 use jx_run::{Settings, Verdict};
 use std::alloc::{AllocError, Global};
 use test_words::{Out, push_span, push_verdict};
@@ -52,13 +51,5 @@ pub(crate) fn told_by(
     }
     out.part("; ");
     out.put(format_args!("{} ended", reader.ended()));
-    Ok(out)
-}
-
-/// How many lines in front of a text are texts, and how many bytes they have.
-pub(crate) fn texts_of(alloc: Global, depth: Depth, text: &[u8]) -> Result<Out, AllocError> {
-    let texts = texts_in_front(alloc, text, depth)?;
-    let mut out = Out::new(alloc);
-    out.put(format_args!("{} lines, {} bytes", texts.count(), texts.len()));
     Ok(out)
 }

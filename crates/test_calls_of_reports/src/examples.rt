@@ -4,73 +4,59 @@ use jx_crew::Workers;
 use jx_index::Pointer;
 use jx_lex::Span;
 use jx_run::Verdict;
-use std::alloc::AllocError;
+use std::alloc::{AllocError, Global};
 use std::sync::Wait;
 use std::thread::Threads;
 use test_examples::{
     ExampleFault, LookUp, check, check_on_own_threads, lines_of_values, look_up, whole_elements,
 };
-use test_words::{Line, Out, push_span, push_verdict, text_of};
+use test_words::{Line, LineFault, Out, push_span, push_verdict};
 
 /// What an example gives, where memory is not refused.
 fn given<T: Drop>(answer: Result<T, ExampleFault>) -> Result<T, AllocError> {
-    match answer {
-        Ok(value) => Ok(value),
-        Err(_) => Err(AllocError),
-    }
+    answer.ok().ok_or(AllocError)
 }
 
 /// `example NAME TEXT [POINTER]`: what an example gives that two workers read.
 pub fn example<R: Threads + Wait + Sync>(line: &mut Line<'_>, rt: &R) {
     let name = line.word();
     let text = line.text();
-    let Some(workers) = Workers::new(2) else {
-        return line.refuse();
-    };
-    match name {
-        "check" => push_check(line, rt, &text, workers),
-        "check_on_own_threads" => push_check_on_own_threads(line, rt, &text),
-        "look_up" => push_look_up(line, rt, &text, workers),
-        "whole_elements" => push_elements(line, rt, &text, workers),
-        "lines_of_values" => push_lines(line, rt, &text, workers),
-        _ => line.refuse(),
-    }
+    let pointers = line.texts();
+    let told = push_example(&mut line.out, rt, line.alloc, name, &text, &pointers);
+    line.settle(told);
 }
 
-fn push_check<R: Threads + Wait + Sync>(
-    line: &mut Line<'_>,
+fn push_example<R: Threads + Wait + Sync>(
+    out: &mut Out,
     rt: &R,
+    alloc: Global,
+    name: &str,
     text: &[u8],
-    workers: Workers,
-) {
-    let verdict = given(check(rt, line.alloc, text, workers));
-    if let Some(verdict) = line.keep(verdict) {
-        push_verdict(&mut line.out, verdict);
+    pointers: &[String],
+) -> Result<(), LineFault> {
+    let workers = Workers::new(2).ok_or(LineFault::NoSuchCall)?;
+    match (name, pointers) {
+        ("check", []) => push_verdict(out, given(check(rt, alloc, text, workers))?),
+        ("check_on_own_threads", []) => {
+            push_verdict(out, given(check_on_own_threads(rt, alloc, text))?);
+        }
+        ("look_up", [spelt]) => {
+            let pointer = Pointer::read(spelt.as_str())
+                .ok()
+                .ok_or(LineFault::NoSuchCall)?;
+            push_led(out, given(look_up(rt, alloc, text, &pointer, workers))?);
+        }
+        ("whole_elements", []) => push_spans(
+            out,
+            &given(whole_elements(rt, alloc, text, workers))?,
+        ),
+        ("lines_of_values", []) => push_output(
+            out,
+            &given(lines_of_values(rt, alloc, text, workers))?,
+        ),
+        _ => return Err(LineFault::NoSuchCall),
     }
-}
-
-fn push_check_on_own_threads<R: Threads + Wait + Sync>(line: &mut Line<'_>, rt: &R, text: &[u8]) {
-    let verdict = given(check_on_own_threads(rt, line.alloc, text));
-    if let Some(verdict) = line.keep(verdict) {
-        push_verdict(&mut line.out, verdict);
-    }
-}
-
-fn push_look_up<R: Threads + Wait + Sync>(
-    line: &mut Line<'_>,
-    rt: &R,
-    text: &[u8],
-    workers: Workers,
-) {
-    let spelt = text_of(line.alloc, line.word());
-    let spelt = line.read_or(spelt, String::new(line.alloc));
-    let Ok(pointer) = Pointer::read(spelt.as_str()) else {
-        return line.refuse();
-    };
-    let led = given(look_up(rt, line.alloc, text, &pointer, workers));
-    if let Some(led) = line.keep(led) {
-        push_led(&mut line.out, led);
-    }
+    Ok(())
 }
 
 fn push_led(out: &mut Out, led: LookUp) {
@@ -81,35 +67,9 @@ fn push_led(out: &mut Out, led: LookUp) {
     }
 }
 
-fn push_elements<R: Threads + Wait + Sync>(
-    line: &mut Line<'_>,
-    rt: &R,
-    text: &[u8],
-    workers: Workers,
-) {
-    let spans = given(whole_elements(rt, line.alloc, text, workers));
-    if let Some(spans) = line.keep(spans) {
-        push_spans(&mut line.out, &spans);
-    }
-}
-
 fn push_spans(out: &mut Out, spans: &[Span]) {
     for span in spans {
-        if !out.is_empty() {
-            out.push_str(" ");
-        }
+        out.part(" ");
         push_span(out, *span);
-    }
-}
-
-fn push_lines<R: Threads + Wait + Sync>(
-    line: &mut Line<'_>,
-    rt: &R,
-    text: &[u8],
-    workers: Workers,
-) {
-    let lines = given(lines_of_values(rt, line.alloc, text, workers));
-    if let Some(lines) = line.keep(lines) {
-        push_output(&mut line.out, &lines);
     }
 }

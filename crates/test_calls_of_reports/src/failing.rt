@@ -1,7 +1,7 @@
 // What reports answer and write whose ends fail.
-use crate::outcome::{Outcome, outcome_of, push_outcome};
+use crate::outcome::{Outcome, push_outcome};
 use crate::reader::Giving;
-use crate::reports::{Asked, Way, next_asked, ways_of, workers_of};
+use crate::reports::{Asked, Way, next_asked, outcome_by, ways_of, workers_of};
 use crate::writer::{Refusal, Taking};
 use jx_ends::ReportFault;
 use std::alloc::Global;
@@ -47,9 +47,7 @@ pub fn ends<R: Threads + Wait + Sync>(line: &mut Line<'_>, rt: &R) {
         return;
     };
     let told = push_ends(&mut line.out, rt, line.alloc, &mut asked);
-    if let Err(fault) = told {
-        line.note(fault);
-    }
+    line.settle(told);
 }
 
 fn push_ends<R: Threads + Wait + Sync>(
@@ -76,19 +74,6 @@ fn push_ends<R: Threads + Wait + Sync>(
     }
     failures.push_to(out);
     Ok(())
-}
-
-/// What the report comes to between such ends.
-fn outcome_by<R: Threads + Wait + Sync>(
-    rt: &R,
-    alloc: Global,
-    asked: &Asked,
-    way: &Way,
-    giving: Giving,
-    taking: Taking,
-) -> Result<Outcome, LineFault> {
-    let (command, text) = (&asked.command, &asked.text);
-    outcome_of(rt, alloc, command, text, giving, taking, way.batch).ok_or(LineFault::NoSuchCall)
 }
 
 /// Reports whose reader fails: at each byte in turn, and where it would meet the end.

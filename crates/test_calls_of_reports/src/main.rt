@@ -3,8 +3,6 @@
 // that begins with `#` are printed as they stand.
 #![tactic(auto)]
 
-mod call;
-mod calls;
 mod commands;
 mod examples;
 mod failing;
@@ -15,28 +13,24 @@ mod reader;
 mod reports;
 mod writer;
 
-use calls::answer_to;
 use std::io;
-use std::process::ExitCode;
 use std::sync::Wait;
 use std::thread::Threads;
+use test_words::{Line, answer_lines};
 
-/// The status where there is no memory, or a stream fails.
-const FAULT: u8 = 2;
-
-/// Answers each line of the input.
-fn answer_all<R: Threads + Wait + Sync>(rt: &HostRuntime, threads: &R) -> io::Result<()> {
-    for line in rt.lines(rt.alloc()) {
-        let line = line?;
-        let answer = answer_to(threads, rt.alloc(), line.as_str())?;
-        println!(rt; "{answer}")?;
+/// Makes the call that a line names.
+fn make<R: Threads + Wait + Sync>(line: &mut Line<'_>, rt: &R) {
+    match line.word() {
+        "report" => reports::report(line, rt),
+        "ends" => failing::ends(line, rt),
+        "command" => commands::command(line),
+        "lines" => commands::lines(line),
+        "example" => examples::example(line, rt),
+        "words" => fault_words::words(line),
+        _ => line.refuse(),
     }
-    Ok(())
 }
 
-fn main(rt: HostRuntime) -> ExitCode {
-    match answer_all(&rt, &rt) {
-        Ok(()) => ExitCode::SUCCESS,
-        Err(_) => ExitCode::from(FAULT),
-    }
+fn main(rt: HostRuntime) -> io::Result<()> {
+    answer_lines(&rt, |line| make(line, &rt))
 }

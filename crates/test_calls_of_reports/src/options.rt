@@ -19,36 +19,6 @@ pub struct Options {
     pub taking: Taking,
 }
 
-#[derive(Clone, Copy)]
-enum Name {
-    Depth,
-    Set,
-    Workers,
-    Piece,
-    Batch,
-    Quiet,
-    Zeros,
-    Reader,
-    Writer,
-}
-
-impl Name {
-    fn named(word: &str) -> Option<Name> {
-        match word {
-            "depth" => Some(Name::Depth),
-            "set" => Some(Name::Set),
-            "workers" => Some(Name::Workers),
-            "piece" => Some(Name::Piece),
-            "batch" => Some(Name::Batch),
-            "quiet" => Some(Name::Quiet),
-            "zeros" => Some(Name::Zeros),
-            "reader" => Some(Name::Reader),
-            "writer" => Some(Name::Writer),
-            _ => None,
-        }
-    }
-}
-
 impl Options {
     /// The default depth, five workers who read a byte at a time, and ends that give and take all at once.
     fn new(alloc: Global) -> Result<Options, AllocError> {
@@ -66,16 +36,17 @@ impl Options {
     /// `NAME=VALUE`, or `quiet`.
     fn set(&mut self, alloc: Global, part: &str) -> Result<(), LineFault> {
         let (name, value) = part.split_once("=").unwrap_or((part, ""));
-        match Name::named(name).ok_or(LineFault::NoSuchCall)? {
-            Name::Depth => self.settings.depth = depth_of(value)?,
-            Name::Set => self.settings = settings_of(self.settings.depth, value)?,
-            Name::Workers => self.workers = list_of(alloc, value)?,
-            Name::Piece => self.pieces = list_of(alloc, value)?,
-            Name::Batch => self.batches = list_of(alloc, value)?,
-            Name::Quiet => self.quiet = true,
-            Name::Zeros => self.giving.zeros = number_of(value)?,
-            Name::Reader => self.giving = giving_of(value)?,
-            Name::Writer => self.taking = taking_of(value)?,
+        match name {
+            "depth" => self.settings.depth = depth_of(value)?,
+            "set" => self.settings = settings_of(self.settings.depth, value)?,
+            "workers" => self.workers = list_of(alloc, value)?,
+            "piece" => self.pieces = list_of(alloc, value)?,
+            "batch" => self.batches = list_of(alloc, value)?,
+            "quiet" => self.quiet = true,
+            "zeros" => self.giving.zeros = number_of(value)?,
+            "reader" => self.giving = giving_of(value)?,
+            "writer" => self.taking = taking_of(value)?,
+            _ => return Err(LineFault::NoSuchCall),
         }
         Ok(())
     }

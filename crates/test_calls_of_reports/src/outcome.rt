@@ -1,6 +1,4 @@
 // What a report comes to.
-ghost use Rattle.std.specs.Prelude.{◌≤◌, ◌<◌};
-
 use crate::reader::{Giver, Giving};
 use crate::writer::{Taker, Taking};
 use jx_crew::{Event, Gate, Go};
@@ -47,74 +45,26 @@ pub fn outcome_of<R: Threads + Wait + Sync>(
     if command.piece == 0 {
         return None;
     }
-    let Some(batch) = batch else {
-        return Some(reported(rt, alloc, command, text, giving, taking));
+    let mut reader = End::new(Giver::new(text, giving));
+    let mut writer = End::new(Taker::new(alloc, taking));
+    let (from, to) = (&mut reader, &mut writer);
+    let answer = match batch {
+        None => report(rt, alloc, from, to, command, &Passing),
+        Some(batch) if 1 <= batch && batch <= 4_294_967_295 => {
+            report_in_batches(rt, alloc, from, to, command, &Passing, batch)
+        }
+        Some(_) => return None,
     };
-    if batch == 0 || batch > 4_294_967_295 {
-        return None;
-    }
-    Some(reported_in_batches(rt, alloc, command, text, giving, taking, batch))
-}
-
-/// What an answer comes to with its ends.
-fn come_to(
-    answer: Result<Exit, ReportFault>,
-    reader: &End<Giver<'_>>,
-    writer: End<Taker>,
-) -> Outcome {
     let writer_failed = writer.failed();
     let End { inner, .. } = writer;
     let Taker { taken, .. } = inner;
-    Outcome {
+    Some(Outcome {
         answer,
         output: taken,
         is_read: reader.inner.is_at_end(),
         reader_failed: reader.failed(),
         writer_failed,
-    }
-}
-
-fn reported<R: Threads + Wait + Sync>(
-    rt: &R,
-    alloc: Global,
-    command: &Command,
-    text: &[u8],
-    giving: Giving,
-    taking: Taking,
-) -> Outcome
-    requires { 1 ≤ command.now.piece }
-{
-    let mut reader = End::new(Giver::new(text, giving));
-    let mut writer = End::new(Taker::new(alloc, taking));
-    let answer = report(rt, alloc, &mut reader, &mut writer, command, &Passing);
-    come_to(answer, &reader, writer)
-}
-
-fn reported_in_batches<R: Threads + Wait + Sync>(
-    rt: &R,
-    alloc: Global,
-    command: &Command,
-    text: &[u8],
-    giving: Giving,
-    taking: Taking,
-    batch: usize,
-) -> Outcome
-    requires piece { 1 ≤ command.now.piece }
-    requires some { 1 ≤ batch }
-    requires few { batch < 4294967296 }
-{
-    let mut reader = End::new(Giver::new(text, giving));
-    let mut writer = End::new(Taker::new(alloc, taking));
-    let answer = report_in_batches(
-        rt,
-        alloc,
-        &mut reader,
-        &mut writer,
-        command,
-        &Passing,
-        batch,
-    );
-    come_to(answer, &reader, writer)
+    })
 }
 
 /// An output that is longer is told by its length.

@@ -1,6 +1,8 @@
 // What reports answer and write.
 use crate::options::{Options, options_of};
-use crate::outcome::{outcome_of, push_outcome};
+use crate::outcome::{Outcome, outcome_of, push_outcome};
+use crate::reader::Giving;
+use crate::writer::Taking;
 use jx_crew::Workers;
 use jx_task::{Command, Task};
 use std::alloc::{AllocError, Global};
@@ -21,10 +23,8 @@ fn task_of(alloc: Global, word: &str, pointers: &[&str]) -> Result<Task, LineFau
 
 /// As many workers as that.
 pub fn workers_of(count: usize) -> Result<Workers, LineFault> {
-    match u8::try_from(count) {
-        Ok(count) => Workers::new(count).ok_or(LineFault::NoSuchCall),
-        Err(_) => Err(LineFault::NoSuchCall),
-    }
+    let count = u8::try_from(count).ok().ok_or(LineFault::NoSuchCall)?;
+    Workers::new(count).ok_or(LineFault::NoSuchCall)
 }
 
 /// A line's report: its command, how it is asked for, and the input.
@@ -37,13 +37,8 @@ pub struct Asked {
 
 /// `TASK OPTIONS TEXT [POINTER..]`
 pub fn next_asked(line: &mut Line<'_>) -> Option<Asked> {
-    match asked_by(line.alloc, line.rest()) {
-        Ok(asked) => Some(asked),
-        Err(fault) => {
-            line.note(fault);
-            None
-        }
-    }
+    let asked = asked_by(line.alloc, line.rest());
+    line.keep(asked)
 }
 
 fn asked_by(alloc: Global, words: &[&str]) -> Result<Asked, LineFault> {
@@ -110,9 +105,7 @@ pub fn report<R: Threads + Wait + Sync>(line: &mut Line<'_>, rt: &R) {
         return;
     };
     let mut told = Ways::new(line.alloc);
-    if let Err(fault) = add_ways(&mut told, rt, line.alloc, &mut asked) {
-        line.note(fault);
-    }
+    line.settle(add_ways(&mut told, rt, line.alloc, &mut asked));
     told.push_to(&mut line.out);
 }
 
@@ -123,10 +116,13 @@ fn add_ways<R: Threads + Wait + Sync>(
     asked: &mut Asked,
 ) -> Result<(), LineFault> {
     let ways = ways_of(alloc, &asked.options)?;
+    let (giving, taking) = (asked.options.giving, asked.options.taking);
     for way in &ways {
         asked.command.workers = workers_of(way.workers)?;
         asked.command.piece = way.piece;
-        let answer = told_of(rt, alloc, asked, way).ok_or(LineFault::NoSuchCall)?;
+        let outcome = outcome_by(rt, alloc, asked, way, giving, taking)?;
+        let mut answer = Out::new(alloc);
+        push_outcome(&mut answer, &outcome);
         let (count, piece, batch) = (way.workers, way.piece, way.batch.unwrap_or(0));
         let way = format_args!("{count} workers, pieces of {piece}, batches of {batch}");
         told.add(way, answer);
@@ -134,24 +130,15 @@ fn add_ways<R: Threads + Wait + Sync>(
     Ok(())
 }
 
-/// What a report answers and writes in one way.
-fn told_of<R: Threads + Wait + Sync>(
+/// What the report comes to between such ends.
+pub fn outcome_by<R: Threads + Wait + Sync>(
     rt: &R,
     alloc: Global,
     asked: &Asked,
     way: &Way,
-) -> Option<Out> {
-    let (giving, taking) = (asked.options.giving, asked.options.taking);
-    let outcome = outcome_of(
-        rt,
-        alloc,
-        &asked.command,
-        &asked.text,
-        giving,
-        taking,
-        way.batch,
-    )?;
-    let mut told = Out::new(alloc);
-    push_outcome(&mut told, &outcome);
-    Some(told)
+    giving: Giving,
+    taking: Taking,
+) -> Result<Outcome, LineFault> {
+    let (command, text) = (&asked.command, &asked.text);
+    outcome_of(rt, alloc, command, text, giving, taking, way.batch).ok_or(LineFault::NoSuchCall)
 }

@@ -3,23 +3,50 @@ ghost use Rattle.std.specs.Prelude.{◌≡◌, IfOk};
 
 use jx_claim::{CutFault, Cutting};
 use jx_crew::Workers;
-use std::alloc::{AllocError, Global};
+use std::alloc::Global;
 use test_words::{Line, LineFault, cuts_of};
 
-/// A cut behind each byte but the last of so many.
-fn behind_each_byte(alloc: Global, len: usize) -> Result<Vec<usize>, AllocError> {
-    let mut cuts = Vec::new(alloc);
-    for cut in 1..len {
-        cuts.push(cut)?;
-    }
-    Ok(cuts)
+/// How a text is read.
+#[derive(Drop)]
+pub struct Reading {
+    /// Where the text is cut.
+    pub cuts: Vec<usize>,
+    pub workers: Workers,
+    /// Both in words.
+    pub way: String,
 }
 
-/// Each list of cuts that a word asks for. Beyond the words that all programs know, `bytes` is a cut behind each byte. It is
-/// one of the ways too where there are several.
-pub fn cut_lists(line: &mut Line<'_>, word: &str, len: usize) -> Vec<Vec<usize>> {
-    let lists = lists_of(line.alloc, word, len);
-    line.read_or(lists, Vec::new(line.alloc))
+/// How a text of so many bytes is read. A word asks for lists of cuts: beyond the words that all programs know, `bytes` is a cut
+/// behind each byte. It is one of the lists too where there are several. If the count of workers is not told, one, two and five
+/// workers read where there is one list, and else two.
+pub fn readings(line: &mut Line<'_>, word: &str, len: usize, count: Option<usize>) -> Vec<Reading> {
+    let readings = readings_of(line.alloc, word, len, count);
+    line.read_or(readings, Vec::new(line.alloc))
+}
+
+fn readings_of(
+    alloc: Global,
+    word: &str,
+    len: usize,
+    count: Option<usize>,
+) -> Result<Vec<Reading>, LineFault> {
+    let lists = lists_of(alloc, word, len)?;
+    let counts = match count {
+        Some(count) => vec![in alloc; count]?,
+        None if lists.len() == 1 => vec![in alloc; 1, 2, 5]?,
+        None => vec![in alloc; 2]?,
+    };
+    let mut readings = Vec::new(alloc);
+    for cuts in &lists {
+        for count in &counts {
+            readings.push(Reading {
+                cuts: cuts.clone()?,
+                workers: workers_of(*count)?,
+                way: format!(in alloc; "cuts {cuts:?}, {count} workers")?,
+            })?;
+        }
+    }
+    Ok(readings)
 }
 
 fn lists_of(alloc: Global, word: &str, len: usize) -> Result<Vec<Vec<usize>>, LineFault> {
@@ -29,7 +56,7 @@ fn lists_of(alloc: Global, word: &str, len: usize) -> Result<Vec<Vec<usize>>, Li
         cuts_of(alloc, word, len)?
     };
     if all.len() != 1 {
-        all.push(behind_each_byte(alloc, len)?)?;
+        all.push((1..len).collect(alloc)?)?;
     }
     Ok(all)
 }
@@ -48,19 +75,6 @@ pub fn cutting_at(alloc: Global, len: usize, cuts: &[usize]) -> Result<Cutting, 
 
 /// As many workers as that.
 pub fn workers_of(count: usize) -> Result<Workers, LineFault> {
-    match u8::try_from(count) {
-        Ok(count) => Workers::new(count).ok_or(LineFault::NoSuchCall),
-        Err(_) => Err(LineFault::NoSuchCall),
-    }
-}
-
-/// How many workers read a text that is cut by one of so many lists: one, two and five where there is one list, and else two.
-pub fn worker_counts(lists: usize) -> &'static [usize] {
-    if lists == 1 { &[1, 2, 5] } else { &[2] }
-}
-
-/// How a text is read: where it is cut, and by how many workers.
-pub fn way_of(alloc: Global, cuts: &[usize], workers: Workers) -> Result<String, AllocError> {
-    let count = workers.count();
-    format!(in alloc; "cuts {cuts:?}, {count} workers")
+    let count = u8::try_from(count).ok().ok_or(LineFault::NoSuchCall)?;
+    Workers::new(count).ok_or(LineFault::NoSuchCall)
 }

@@ -44,14 +44,10 @@ fn push_answer(out: &mut Out, index: &Indexed, answer: &Answer) {
 /// The answers, or `-` where there is none.
 pub fn told_of(alloc: Global, index: &Indexed, answers: &[Answer]) -> Out {
     let mut told = Out::new(alloc);
-    if answers.is_empty() {
-        told.push_str("-");
-    }
-    for (number, answer) in answers.iter().enumerate() {
-        if number > 0 {
-            told.push_str("; ");
-        }
-        push_answer(&mut told, index, answer);
-    }
+    told.list(
+        "; ",
+        answers,
+        |told, answer| push_answer(told, index, answer),
+    );
     told
 }

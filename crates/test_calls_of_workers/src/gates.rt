@@ -36,20 +36,13 @@ pub fn next_gate(line: &mut Line<'_>) -> StopOn {
 }
 
 fn gate_of(word: &str) -> Result<StopOn, LineFault> {
-    match word.split_once(":") {
-        Some(("drew", number)) => Ok(StopOn::Drew(number_of(number)?)),
-        Some(("worker", number)) => Ok(StopOn::Worker(number_of(number)?)),
-        Some(_) => Err(LineFault::NoSuchCall),
-        None => plain_gate_of(word),
-    }
-}
-
-fn plain_gate_of(word: &str) -> Result<StopOn, LineFault> {
-    match word {
-        "open" => Ok(StopOn::Nothing),
-        "shut" => Ok(StopOn::Everything),
-        "stored" => Ok(StopOn::Stored),
-        "took" => Ok(StopOn::Took),
+    match (word, word.split_once(":")) {
+        ("open", _) => Ok(StopOn::Nothing),
+        ("shut", _) => Ok(StopOn::Everything),
+        ("stored", _) => Ok(StopOn::Stored),
+        ("took", _) => Ok(StopOn::Took),
+        (_, Some(("drew", number))) => Ok(StopOn::Drew(number_of(number)?)),
+        (_, Some(("worker", number))) => Ok(StopOn::Worker(number_of(number)?)),
         _ => Err(LineFault::NoSuchCall),
     }
 }

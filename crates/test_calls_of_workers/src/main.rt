@@ -1,14 +1,12 @@
-// The program `test_calls_of_workers`: makes the calls that its input lists, one a line, and prints what each answers, one a line.
-// The calls are those of cuttings, of books that workers fill, of the answers of workers and of the shelf.
+// The program `test_calls_of_workers`: makes the calls that the lines of its input name, and prints what each answers, on the line
+// of the same number. The calls are those of cuttings, of books that workers fill, of the answers of workers and of the shelf. An
+// empty line and one that begins with `#` are printed as they stand.
 #![tactic(auto)]
 
-mod call;
-mod calls;
 mod copied;
 mod cuttings;
 mod elements;
 mod fault_words;
-mod finishes;
 mod found;
 mod gates;
 mod holding;
@@ -23,28 +21,31 @@ mod sequences;
 mod stops;
 mod texts;
 
-use calls::answer_to;
+use copied::Copied;
+use scarce::Scarce;
 use std::io;
-use std::process::ExitCode;
 use std::sync::Wait;
 use std::thread::Threads;
+use test_words::{Line, answer_lines};
 
-/// The status where there is no memory, or a stream fails.
-const FAULT: u8 = 2;
-
-/// Answers each line of the input.
-fn answer_all<R: Threads + Wait + Sync>(rt: &HostRuntime, threads: &R) -> io::Result<()> {
-    for line in rt.lines(rt.alloc()) {
-        let line = line?;
-        let answer = answer_to(threads, rt.alloc(), line.as_str())?;
-        println!(rt; "{answer}")?;
+/// Makes the call that a line names.
+fn make<R: Threads + Wait + Sync>(line: &mut Line<'_>, rt: &R) {
+    match line.word() {
+        "text" => texts::text(line, rt),
+        "seq" => sequences::seq(line, rt),
+        "all" => pointers::all(line, rt),
+        "many" => many::many(line, rt),
+        "puts" => puts::puts(line, rt),
+        "join" => joins::join(line),
+        "finish" => puts::finish(line, rt),
+        "work" => stops::work::<Copied, R>(line, rt),
+        "scarce" => stops::work::<Scarce, R>(line, rt),
+        "read" => readings::read(line, rt),
+        "words" => fault_words::words(line),
+        _ => line.refuse(),
     }
-    Ok(())
 }
 
-fn main(rt: HostRuntime) -> ExitCode {
-    match answer_all(&rt, &rt) {
-        Ok(()) => ExitCode::SUCCESS,
-        Err(_) => ExitCode::from(FAULT),
-    }
+fn main(rt: HostRuntime) -> io::Result<()> {
+    answer_lines(&rt, |line| make(line, &rt))
 }

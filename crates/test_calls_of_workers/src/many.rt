@@ -15,9 +15,9 @@ pub fn many<R: Threads + Wait + Sync>(line: &mut Line<'_>, rt: &R) {
     let count = line.number();
     let text = line.text();
     let spelt = line.word();
-    match answered_alike(rt, line.alloc, count, &text, spelt) {
-        Ok(alike) => line.out.put(alike),
-        Err(fault) => line.note(fault),
+    let alike = answered_alike(rt, line.alloc, count, &text, spelt);
+    if let Some(alike) = line.keep(alike) {
+        line.out.put(alike);
     }
 }
 
@@ -29,16 +29,8 @@ fn answered_alike<R: Threads + Wait + Sync>(
     spelt: &str,
 ) -> Result<usize, LineFault> {
     let cutting = cutting_at(alloc, text.len(), &[])?;
-    let workers = workers_of(5)?;
-    match index_text(
-        rt,
-        alloc,
-        text,
-        &cutting,
-        workers,
-        Depth::default(),
-        &OpenGate,
-    ) {
+    let (workers, depth) = (workers_of(5)?, Depth::default());
+    match index_text(rt, alloc, text, &cutting, workers, depth, &OpenGate) {
         Ok(TextAnswer::Accepted(index)) => found_alike(rt, alloc, count, &index, spelt),
         Ok(TextAnswer::Refused(_)) => Err(LineFault::NoSuchCall),
         Err(_) => Err(LineFault::Memory),
@@ -53,15 +45,12 @@ fn found_alike<R: Threads + Wait + Sync>(
     index: &Indexed,
     spelt: &str,
 ) -> Result<usize, LineFault> {
-    let Ok(pointer) = Pointer::read(spelt) else {
-        return Err(LineFault::NoSuchCall);
-    };
+    let pointer = Pointer::read(spelt).ok().ok_or(LineFault::NoSuchCall)?;
     let alone = found_at(index, index.find(&pointer));
     let pointers = copies(alloc, count, spelt)?;
-    match find_all(rt, alloc, index, &pointers, workers_of(5)?, &OpenGate) {
-        Ok(answers) => Ok(answers.iter().filter(|answer| **answer == alone).count()),
-        Err(_) => Err(LineFault::Memory),
-    }
+    let answers = find_all(rt, alloc, index, &pointers, workers_of(5)?, &OpenGate);
+    let answers = answers.ok().ok_or(LineFault::Memory)?;
+    Ok(answers.iter().filter(|answer| **answer == alone).count())
 }
 
 /// So many pointers that are spelt alike.

@@ -1,5 +1,5 @@
 // What is answered to lists of pointers.
-use crate::cuttings::{cut_lists, cutting_at, way_of, workers_of};
+use crate::cuttings::{Reading, cutting_at, readings, workers_of};
 use crate::found::{found_at, told_of};
 use crate::gates::StopOn;
 use jx_answer::{TextAnswer, find_all, index_text_with};
@@ -22,12 +22,11 @@ pub fn all<R: Threads + Wait + Sync>(line: &mut Line<'_>, rt: &R) {
     let pointers = pointers_of(line.alloc, &spelt);
     let pointers = line.read_or(pointers, Vec::new(line.alloc));
     let mut ways = Ways::new(line.alloc);
-    let lists = cut_lists(line, cuts, text.len());
-    for cuts in &lists {
-        let done = add_cut(&mut ways, rt, line.alloc, &text, cuts, &settings, &pointers);
-        if let Err(fault) = done {
-            line.note(fault);
-        }
+    for reading in &readings(line, cuts, text.len(), Some(5)) {
+        let done = add_reading(
+            &mut ways, rt, line.alloc, &text, reading, &settings, &pointers,
+        );
+        line.settle(done);
     }
     ways.push_to(&mut line.out);
 }
@@ -43,41 +42,27 @@ fn pointers_of(alloc: Global, spelt: &[String]) -> Result<Vec<Pointer<'_>>, Line
     Ok(pointers)
 }
 
-/// The answers in the index of a text that is cut there.
-fn add_cut<R: Threads + Wait + Sync>(
+/// The answers in the index of a text that is read so.
+fn add_reading<R: Threads + Wait + Sync>(
     ways: &mut Ways,
     rt: &R,
     alloc: Global,
     text: &[u8],
-    cuts: &[usize],
+    reading: &Reading,
     settings: &Settings,
     pointers: &[Pointer],
 ) -> Result<(), LineFault> {
-    let cutting = cutting_at(alloc, text.len(), cuts)?;
-    let workers = workers_of(5)?;
-    let way = way_of(alloc, cuts, workers)?;
+    let cutting = cutting_at(alloc, text.len(), &reading.cuts)?;
+    let (way, workers) = (reading.way.as_str(), reading.workers);
     match index_text_with(rt, alloc, text, &cutting, workers, settings, &OpenGate) {
-        Ok(answer) => add_answer(ways, rt, alloc, &way, &answer, pointers),
-        Err(_) => Err(LineFault::Memory),
-    }
-}
-
-fn add_answer<R: Threads + Wait + Sync>(
-    ways: &mut Ways,
-    rt: &R,
-    alloc: Global,
-    way: &str,
-    answer: &TextAnswer<'_>,
-    pointers: &[Pointer],
-) -> Result<(), LineFault> {
-    match answer {
-        TextAnswer::Accepted(index) => add_index(ways, rt, alloc, way, index, pointers),
-        TextAnswer::Refused(refusal) => {
+        Ok(TextAnswer::Accepted(index)) => add_index(ways, rt, alloc, way, &index, pointers),
+        Ok(TextAnswer::Refused(refusal)) => {
             let mut told = Out::new(alloc);
-            push_verdict(&mut told, Verdict::Refused(*refusal));
+            push_verdict(&mut told, Verdict::Refused(refusal));
             ways.add(way, told);
             Ok(())
         }
+        Err(_) => Err(LineFault::Memory),
     }
 }
 
@@ -118,8 +103,6 @@ fn found_by<R: Threads + Wait + Sync>(
     count: usize,
     gate: StopOn,
 ) -> Result<Out, LineFault> {
-    match find_all(rt, alloc, index, pointers, workers_of(count)?, &gate) {
-        Ok(answers) => Ok(told_of(alloc, index, &answers)),
-        Err(_) => Err(LineFault::Memory),
-    }
+    let answers = find_all(rt, alloc, index, pointers, workers_of(count)?, &gate);
+    Ok(told_of(alloc, index, &answers.ok().ok_or(LineFault::Memory)?))
 }

@@ -3,7 +3,7 @@ ghost use Rattle.std.specs.Prelude.{◌≡◌, ◌<◌, IfOk};
 
 use crate::copied::Copied;
 use crate::runs::{filled, push_runs, read};
-use jx_book::{Book, BookState, Closed, Held, Put, Share};
+use jx_book::{Book, BookState, Closed, FinishFault, Held, Put, Share};
 use jx_crew::Workers;
 use jx_lex::{Depth, Span};
 use std::alloc::Global;
@@ -32,30 +32,50 @@ fn steps_of(alloc: Global, word: &str, len: usize) -> Result<Vec<Step>, LineFaul
     Ok(steps)
 }
 
+fn next_steps(line: &mut Line<'_>, len: usize) -> Vec<Step> {
+    let steps = steps_of(line.alloc, line.word(), len);
+    line.read_or(steps, Vec::new(line.alloc))
+}
+
+/// What is put into a book, and what is told of it then.
+#[derive(Clone, Copy)]
+struct Asked<'a> {
+    text: &'a [u8],
+    depth: Depth,
+    steps: &'a [Step],
+    /// What the book is finished with.
+    other: &'a [u8],
+    other_depth: Depth,
+    /// Whose gaps are told.
+    part: Span,
+}
+
 /// `puts TEXT SPANS S..E`: what puts are answered by the state of a book and by a book that threads share, how many bytes
 /// were put and taken out, which runs stand there then, and the gaps that these leave in a part, which may go on behind the text.
 pub fn puts<R: Wait>(line: &mut Line<'_>, rt: &R) {
     let text = line.text();
-    let steps = steps_of(line.alloc, line.word(), text.len());
-    let steps = line.read_or(steps, Vec::new(line.alloc));
-    let part = line.span(usize::MAX);
-    let told = push_puts(&mut line.out, rt, line.alloc, &text, &steps, part);
-    if let Err(fault) = told {
-        line.note(fault);
-    }
+    let steps = next_steps(line, text.len());
+    let asked = Asked {
+        text: &text,
+        depth: Depth::default(),
+        steps: &steps,
+        other: &text,
+        other_depth: Depth::default(),
+        part: line.span(usize::MAX),
+    };
+    let told = push_puts(&mut line.out, rt, line.alloc, &asked);
+    line.settle(told);
 }
 
 fn push_puts<R: Wait>(
     out: &mut Out,
     rt: &R,
     alloc: Global,
-    text: &[u8],
-    steps: &[Step],
-    part: Span,
+    asked: &Asked<'_>,
 ) -> Result<(), LineFault> {
     let mut ways = Ways::new(alloc);
-    ways.add("state", put_on_state(alloc, text, steps)?);
-    let PutOnBook { put, gaps } = put_on_book(rt, alloc, text, steps, part)?;
+    ways.add("state", put_on_state(alloc, asked)?);
+    let PutOnBook { put, gaps } = put_on_book(rt, alloc, asked)?;
     ways.add("book", put);
     ways.push_to(out);
     out.push_str("; ");
@@ -63,17 +83,38 @@ fn push_puts<R: Wait>(
     Ok(())
 }
 
+/// `finish TEXT DEPTH SPANS TEXT DEPTH S..E`: puts the runs of the spans in the one text, finishes the book with the other, and
+/// tells the gaps of a part, or that a run is of another text or depth.
+pub fn finish<R: Wait>(line: &mut Line<'_>, rt: &R) {
+    let text = line.text();
+    let depth = line.depth();
+    let steps = next_steps(line, text.len());
+    let other = line.text();
+    let asked = Asked {
+        text: &text,
+        depth,
+        steps: &steps,
+        other: &other,
+        other_depth: line.depth(),
+        part: line.span(usize::MAX),
+    };
+    let put = put_on_book(rt, line.alloc, &asked);
+    if let Some(put) = line.keep(put) {
+        line.out.push(&put.gaps);
+    }
+}
+
 /// The run that a step puts.
 fn next_run<'a>(
     alloc: Global,
-    text: &'a [u8],
+    asked: &Asked<'a>,
     step: Step,
     back: Option<Held<'a, Copied>>,
 ) -> Result<Held<'a, Copied>, LineFault>
     ensures { IfOk result (λ run. run.span.start < run.span.end) }
 {
     match (step, back) {
-        (Step::Read(span), _) => read(alloc, text, span, Depth::default()),
+        (Step::Read(span), _) => read(alloc, asked.text, span, asked.depth),
         (Step::Joined, Some(run)) => filled(run).ok_or(LineFault::NoSuchCall),
         (Step::Joined, None) => Err(LineFault::NoSuchCall),
     }
@@ -108,12 +149,12 @@ fn push_put(out: &mut Out, put: &Put<'_, Copied>) {
 }
 
 /// What the state of a book answers.
-fn put_on_state(alloc: Global, text: &[u8], steps: &[Step]) -> Result<Out, LineFault> {
+fn put_on_state(alloc: Global, asked: &Asked<'_>) -> Result<Out, LineFault> {
     let mut out = Out::new(alloc);
     let mut state = BookState::new(alloc);
     let mut back = None;
-    for step in steps {
-        let run = next_run(alloc, text, *step, back.take())?;
+    for step in asked.steps {
+        let run = next_run(alloc, asked, *step, back.take())?;
         let put = state.put(run);
         push_put(&mut out, &put);
         back = joined(put);
@@ -127,32 +168,24 @@ fn push_totals(out: &mut Out, put: u128, taken: u128) {
     out.put(format_args!("put {put}, taken {taken}; runs "));
 }
 
-/// What a book that threads share answers, and the gaps of a part then.
+/// What a book that threads share answers, and the gaps of a part then, or that a run is of another text or depth.
 #[derive(Drop)]
 struct PutOnBook {
     put: Out,
     gaps: Out,
 }
 
-fn put_on_book<R: Wait>(
-    rt: &R,
-    alloc: Global,
-    text: &[u8],
-    steps: &[Step],
-    part: Span,
-) -> Result<PutOnBook, LineFault> {
+fn put_on_book<R: Wait>(rt: &R, alloc: Global, asked: &Asked<'_>) -> Result<PutOnBook, LineFault> {
     let workers = Workers::new(1).ok_or(LineFault::NoSuchCall)?;
     let (put, taken) = (Blank::new(1), Blank::new(1));
-    shared::<Brand, Brand, R>(rt, alloc, text, steps, part, put, taken, workers)
+    shared::<Brand, Brand, R>(rt, alloc, asked, put, taken, workers)
 }
 
 /// The same, with blanks for the ledgers of a book.
 fn shared<P: Ledger, T: Ledger, R: Wait>(
     rt: &R,
     alloc: Global,
-    text: &[u8],
-    steps: &[Step],
-    part: Span,
+    asked: &Asked<'_>,
     put: Blank,
     taken: Blank,
     workers: Workers,
@@ -163,18 +196,18 @@ fn shared<P: Ledger, T: Ledger, R: Wait>(
 {
     let (book, mut shares) = Book::<Copied, P, T>::open(alloc, put, taken, workers)?;
     let mut share = shares.pop().ok_or(LineFault::Memory)?;
-    let mut put = Out::new(alloc);
-    put_all(&mut put, rt, alloc, &book, &mut share, text, steps)?;
+    let (mut put, mut gaps) = (Out::new(alloc), Out::new(alloc));
+    put_all(&mut put, rt, alloc, &book, &mut share, asked)?;
     push_totals(&mut put, share.total_put(), share.total_taken());
     shares.push(share)?;
-    match book.finish(text, Depth::default(), shares) {
+    match book.finish(asked.other, asked.other_depth, shares) {
         Ok(closed) => {
             push_runs(&mut put, closed.runs());
-            let gaps = gaps_of(alloc, &closed, part);
-            Ok(PutOnBook { put, gaps })
+            push_gaps(&mut gaps, &closed, asked.part);
         }
-        Err(_) => Err(LineFault::NoSuchCall),
+        Err(FinishFault::Other(_)) => gaps.push_str("other"),
     }
+    Ok(PutOnBook { put, gaps })
 }
 
 /// Puts a run for each step, and tells what was answered.
@@ -184,12 +217,11 @@ fn put_all<'a, P: Ledger, T: Ledger, R: Wait>(
     alloc: Global,
     book: &Book<'a, Copied, P, T>,
     share: &mut Share<P, T>,
-    text: &'a [u8],
-    steps: &[Step],
+    asked: &Asked<'a>,
 ) -> Result<(), LineFault> {
     let mut back = None;
-    for step in steps {
-        let run = next_run(alloc, text, *step, back.take())?;
+    for step in asked.steps {
+        let run = next_run(alloc, asked, *step, back.take())?;
         let put = book.put(rt, share, run);
         push_put(out, &put);
         back = joined(put);
@@ -198,19 +230,17 @@ fn put_all<'a, P: Ledger, T: Ledger, R: Wait>(
 }
 
 /// The parts of a span without a run, or `-` for none.
-pub fn gaps_of(alloc: Global, closed: &Closed<'_, Copied>, part: Span) -> Out {
-    let mut out = Out::new(alloc);
+fn push_gaps(out: &mut Out, closed: &Closed<'_, Copied>, part: Span) {
     out.push_str("gaps ");
     let mut count = 0usize;
     for gap in closed.gaps(part) {
         if count > 0 {
             out.push_str(",");
         }
-        push_span(&mut out, gap);
+        push_span(out, gap);
         count = count.saturating_add(1);
     }
     if count == 0 {
         out.push_str("-");
     }
-    out
 }

@@ -2,15 +2,15 @@
 ghost use Rattle.std.specs.Prelude.{◌≡◌, length, IfOk};
 
 use crate::copied::Copied;
-use crate::cuttings::{cut_lists, cutting_at, way_of, workers_of};
+use crate::cuttings::{Reading, cutting_at, readings};
 use crate::gates::{StopOn, next_gate};
 use crate::runs::push_run;
-use jx_book::{Held, read_whole};
+use jx_book::read_whole;
 use jx_claim::Cutting;
 use jx_crew::Crew;
 use jx_lex::Depth;
 use jx_run::{Front, FrontMark, front};
-use std::alloc::AllocError;
+use std::alloc::Global;
 use std::sync::Wait;
 use std::thread::Threads;
 use test_words::{Line, LineFault, Out, Ways};
@@ -19,41 +19,39 @@ use test_words::{Line, LineFault, Out, Ways};
 /// is left out.
 pub fn read<R: Threads + Wait + Sync>(line: &mut Line<'_>, rt: &R) {
     let cuts = line.word();
-    let workers = workers_of(line.number());
+    let count = line.number();
     let gate = next_gate(line);
-    let settings = line.settings(Depth::default());
+    let mark = line.settings(Depth::default()).mark;
     let text = line.text();
-    let Ok(workers) = workers else {
-        return line.refuse();
-    };
-    let crew = Crew {
-        rt,
-        alloc: line.alloc,
-        workers,
-        gate: &gate,
-    };
     let mut ways = Ways::new(line.alloc);
-    let lists = cut_lists(line, cuts, text.len());
-    for cuts in &lists {
-        if let Err(fault) = add_cut(&mut ways, &crew, &text, cuts, settings.mark) {
-            line.note(fault);
-        }
+    for reading in &readings(line, cuts, text.len(), Some(count)) {
+        let done = add_reading(&mut ways, rt, line.alloc, &text, reading, &gate, mark);
+        line.settle(done);
     }
     ways.push_to(&mut line.out);
 }
 
-fn add_cut<R: Threads + Wait + Sync>(
+fn add_reading<R: Threads + Wait + Sync>(
     ways: &mut Ways,
-    crew: &Crew<'_, R, StopOn>,
+    rt: &R,
+    alloc: Global,
     text: &[u8],
-    cuts: &[usize],
+    reading: &Reading,
+    gate: &StopOn,
     mark: FrontMark,
 ) -> Result<(), LineFault> {
-    let cutting = cutting_at(crew.alloc, text.len(), cuts)?;
+    let cutting = cutting_at(alloc, text.len(), &reading.cuts)?;
     let cutting = behind_front(cutting, text, mark)?;
-    let told = read_by(crew, text, &cutting)?;
-    let way = way_of(crew.alloc, cuts, crew.workers)?;
-    ways.add(way.as_str(), told);
+    let crew = Crew {
+        rt,
+        alloc,
+        workers: reading.workers,
+        gate,
+    };
+    let run = read_whole::<Copied, R, StopOn>(&crew, text, &cutting, Depth::default())?;
+    let mut told = Out::new(alloc);
+    push_run(&mut told, &run);
+    ways.add(reading.way.as_str(), told);
     Ok(())
 }
 
@@ -67,17 +65,4 @@ fn behind_front(cutting: Cutting, text: &[u8], mark: FrontMark) -> Result<Cuttin
         Front::Skip(count) => Ok(cutting.without_front(count)),
         Front::Refused(_) => Err(LineFault::NoSuchCall),
     }
-}
-
-fn read_by<R: Threads + Wait + Sync>(
-    crew: &Crew<'_, R, StopOn>,
-    text: &[u8],
-    cutting: &Cutting,
-) -> Result<Out, AllocError>
-    requires { cutting.now.len ≡ length text.now }
-{
-    let run: Held<'_, Copied> = read_whole(crew, text, cutting, Depth::default())?;
-    let mut told = Out::new(crew.alloc);
-    push_run(&mut told, &run);
-    Ok(told)
 }

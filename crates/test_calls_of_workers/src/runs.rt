@@ -43,13 +43,5 @@ pub fn push_run(out: &mut Out, run: &Held<'_, Copied>) {
 
 /// The spans of runs, or `-` for none.
 pub fn push_runs(out: &mut Out, runs: &[Held<'_, Copied>]) {
-    if runs.is_empty() {
-        out.push_str("-");
-    }
-    for (number, run) in runs.iter().enumerate() {
-        if number > 0 {
-            out.push_str(",");
-        }
-        push_run(out, run);
-    }
+    out.list(",", runs, push_run);
 }

@@ -46,9 +46,9 @@ pub fn work<S: Summary, R: Wait>(line: &mut Line<'_>, rt: &R) {
     let gate = next_gate(line);
     let text = line.text();
     let before = next_before(line);
-    match worked::<S, R>(rt, line.alloc, &text, size, &before, gate, seats) {
-        Ok(ended) => push_ended(&mut line.out, ended),
-        Err(fault) => line.note(fault),
+    let ended = worked::<S, R>(rt, line.alloc, &text, size, &before, gate, seats);
+    if let Some(ended) = line.keep(ended) {
+        push_ended(&mut line.out, ended);
     }
 }
 
@@ -64,7 +64,11 @@ fn worked<S: Summary, R: Wait>(
 ) -> Result<Ended, LineFault> {
     let workers = workers_of(seats)?;
     let cutting = pieces_of(text.len(), size)?;
-    let ended = ended_by::<S, R>(rt, alloc, text, &cutting, before, gate, workers)?;
+    let put = Blank::new(u64::from(workers.count()));
+    let taken = Blank::new(u64::from(workers.count()));
+    let ended = alone::<S, Brand, Brand, R>(
+        rt, alloc, text, &cutting, before, gate, put, taken, workers,
+    )?;
     Ok(ended)
 }
 
@@ -75,27 +79,7 @@ fn pieces_of(len: usize, size: usize) -> Result<Cutting, LineFault>
     if size == 0 {
         return Err(LineFault::NoSuchCall);
     }
-    match Cutting::every(len, size) {
-        Ok(cutting) => Ok(cutting),
-        Err(_) => Err(LineFault::NoSuchCall),
-    }
-}
-
-/// How the worker of the last seat ends.
-fn ended_by<S: Summary, R: Wait>(
-    rt: &R,
-    alloc: Global,
-    text: &[u8],
-    cutting: &Cutting,
-    before: &Before,
-    gate: StopOn,
-    workers: Workers,
-) -> Result<Ended, AllocError>
-    requires { cutting.now.len ≡ length text.now }
-{
-    let put = Blank::new(u64::from(workers.count()));
-    let taken = Blank::new(u64::from(workers.count()));
-    alone::<S, Brand, Brand, R>(rt, alloc, text, cutting, before, gate, put, taken, workers)
+    Cutting::every(len, size).ok().ok_or(LineFault::NoSuchCall)
 }
 
 /// The same, with blanks for the ledgers of a book.

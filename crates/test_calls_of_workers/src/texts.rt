@@ -1,13 +1,10 @@
 // What is answered on texts.
-ghost use Rattle.std.specs.Prelude.{◌≡◌, length};
-
-use crate::cuttings::{cut_lists, cutting_at, way_of, worker_counts, workers_of};
+use crate::cuttings::{Reading, cutting_at, readings};
 use jx_answer::{TextAnswer, index_text, index_text_with, verdict_of_text};
 use jx_book::read_whole;
-use jx_claim::Cutting;
 use jx_crew::{Crew, OpenGate};
 use jx_run::{FrontMark, NameRule, Settings, TextRun, Verdict};
-use std::alloc::{AllocError, Global};
+use std::alloc::Global;
 use std::sync::Wait;
 use std::thread::Threads;
 use test_words::{Line, LineFault, Out, Ways, push_rows, push_verdict};
@@ -51,102 +48,40 @@ pub fn text<R: Threads + Wait + Sync>(line: &mut Line<'_>, rt: &R) {
     let settings = line.settings(depth);
     let cuts = line.word();
     let text = line.text();
-    let lists = cut_lists(line, cuts, text.len());
     let mut ways = TextWays::new(line.alloc);
-    for cuts in &lists {
-        let counts = worker_counts(lists.len());
-        let done = add_cut(&mut ways, rt, line.alloc, &text, cuts, counts, &settings);
-        if let Err(fault) = done {
-            line.note(fault);
-        }
+    for reading in &readings(line, cuts, text.len(), None) {
+        let done = add_reading(&mut ways, rt, line.alloc, &text, reading, &settings);
+        line.settle(done);
     }
     ways.verdicts.push_to(&mut line.out);
     ways.rows.push_to(&mut line.out);
 }
 
-/// The answers on a text that is cut there.
-fn add_cut<R: Threads + Wait + Sync>(
+/// The answers on a text that is read so.
+fn add_reading<R: Threads + Wait + Sync>(
     ways: &mut TextWays,
     rt: &R,
     alloc: Global,
     text: &[u8],
-    cuts: &[usize],
-    counts: &[usize],
+    reading: &Reading,
     settings: &Settings,
 ) -> Result<(), LineFault> {
-    let cutting = cutting_at(alloc, text.len(), cuts)?;
-    for count in counts {
-        let crew = Crew {
-            rt,
-            alloc,
-            workers: workers_of(*count)?,
-            gate: &OpenGate,
-        };
-        let way = way_of(alloc, cuts, crew.workers)?;
-        add_crew(ways, &way, &crew, text, &cutting, settings)?;
-    }
-    Ok(())
-}
-
-/// The answers of a crew.
-fn add_crew<R: Threads + Wait + Sync>(
-    ways: &mut TextWays,
-    way: &str,
-    crew: &Crew<'_, R, OpenGate>,
-    text: &[u8],
-    cutting: &Cutting,
-    settings: &Settings,
-) -> Result<(), AllocError>
-    requires { (cutting.now.len ≡ length text.now) × (cutting.now.front ≡ 0) }
-{
-    ways.add_answer(way, indexed_with(crew, text, cutting, settings)?);
-    ways.add_verdict(way, verdict_of_text(crew, text, cutting, settings)?);
+    let cutting = cutting_at(alloc, text.len(), &reading.cuts)?;
+    let (way, workers, gate) = (reading.way.as_str(), reading.workers, &OpenGate);
+    let answer = index_text_with(rt, alloc, text, &cutting, workers, settings, gate);
+    ways.add_answer(way, answer.ok().ok_or(LineFault::Memory)?);
+    let crew = Crew {
+        rt,
+        alloc,
+        workers,
+        gate,
+    };
+    ways.add_verdict(way, verdict_of_text(&crew, text, &cutting, settings)?);
     if settings.mark == FrontMark::Refused && settings.names == NameRule::Any {
-        ways.add_answer(way, indexed(crew, text, cutting, settings)?);
-        ways.add_verdict(way, verdict_of_run(crew, text, cutting, settings)?);
+        let answer = index_text(rt, alloc, text, &cutting, workers, settings.depth, gate);
+        ways.add_answer(way, answer.ok().ok_or(LineFault::Memory)?);
+        let run = read_whole::<TextRun, R, OpenGate>(&crew, text, &cutting, settings.depth)?;
+        ways.add_verdict(way, run.run().verdict());
     }
     Ok(())
-}
-
-fn indexed_with<'a, R: Threads + Wait + Sync>(
-    crew: &Crew<'_, R, OpenGate>,
-    text: &'a [u8],
-    cutting: &Cutting,
-    settings: &Settings,
-) -> Result<TextAnswer<'a>, AllocError>
-    requires { (cutting.now.len ≡ length text.now) × (cutting.now.front ≡ 0) }
-{
-    let (rt, alloc, workers) = (crew.rt, crew.alloc, crew.workers);
-    match index_text_with(rt, alloc, text, cutting, workers, settings, &OpenGate) {
-        Ok(answer) => Ok(answer),
-        Err(_) => Err(AllocError),
-    }
-}
-
-fn indexed<'a, R: Threads + Wait + Sync>(
-    crew: &Crew<'_, R, OpenGate>,
-    text: &'a [u8],
-    cutting: &Cutting,
-    settings: &Settings,
-) -> Result<TextAnswer<'a>, AllocError>
-    requires { (cutting.now.len ≡ length text.now) × (cutting.now.front ≡ 0) }
-{
-    let (rt, alloc, workers) = (crew.rt, crew.alloc, crew.workers);
-    match index_text(rt, alloc, text, cutting, workers, settings.depth, &OpenGate) {
-        Ok(answer) => Ok(answer),
-        Err(_) => Err(AllocError),
-    }
-}
-
-/// The verdict of the run that the workers read.
-fn verdict_of_run<R: Threads + Wait + Sync>(
-    crew: &Crew<'_, R, OpenGate>,
-    text: &[u8],
-    cutting: &Cutting,
-    settings: &Settings,
-) -> Result<Verdict, AllocError>
-    requires { cutting.now.len ≡ length text.now }
-{
-    let run = read_whole::<TextRun, R, OpenGate>(crew, text, cutting, settings.depth)?;
-    Ok(run.run().verdict())
 }

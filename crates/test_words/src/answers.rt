@@ -6,15 +6,7 @@ use jx_run::{ElementVerdict, JudgedElement, Refusal, Verdict};
 
 /// `2,3`, or `-` for no numbers.
 pub fn push_numbers(out: &mut Out, numbers: &[usize]) {
-    if numbers.is_empty() {
-        out.push_str("-");
-    }
-    for (place, number) in numbers.iter().enumerate() {
-        if place > 0 {
-            out.push_str(",");
-        }
-        out.put(*number);
-    }
+    out.list(",", numbers, |out, number| out.put(*number));
 }
 
 /// `S..E`.
@@ -57,15 +49,7 @@ fn push_element(out: &mut Out, element: &JudgedElement) {
 
 /// All elements, one after another, or `-` for none.
 pub fn push_elements(out: &mut Out, elements: &[JudgedElement]) {
-    if elements.is_empty() {
-        out.push_str("-");
-    }
-    for (place, element) in elements.iter().enumerate() {
-        if place > 0 {
-            out.push_str("; ");
-        }
-        push_element(out, element);
-    }
+    out.list("; ", elements, push_element);
 }
 
 fn kind_word(kind: Kind) -> &'static str {

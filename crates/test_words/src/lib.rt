@@ -41,7 +41,7 @@ pub use moves::{EXPECTS, HOLDER_LISTS, all_by_table, comes_to, follow, kind_of};
 pub use names::settings_of;
 pub use numbers::{Meeting, depth_of, meeting_within, number_of, span_within};
 pub use out::Out;
-pub use program::{Calls, answer_lines, is_call, words_of};
+pub use program::answer_lines;
 pub use spelt::push_text;
 pub use structures::{Maker, parts_of, structure_of};
 pub use texts::{bytes_of, text_of, texts_of};

@@ -81,19 +81,19 @@ impl<'a> Line<'a> {
         self.note(LineFault::NoSuchCall);
     }
 
-    /// Keeps that memory was refused, where it was.
-    pub fn settle(&mut self, done: Result<(), AllocError>) {
-        if done.is_err() {
-            self.note(LineFault::Memory);
+    /// Keeps the fault of what failed.
+    pub fn settle<E: Into<LineFault>>(&mut self, done: Result<(), E>) {
+        if let Err(fault) = done {
+            self.note(fault.into());
         }
     }
 
-    /// What was made, or none where memory was refused, which is kept.
-    pub fn keep<T: Drop>(&mut self, made: Result<T, AllocError>) -> Option<T> {
+    /// What was made, or none where it failed, the fault of which is kept.
+    pub fn keep<T: Drop, E: Into<LineFault>>(&mut self, made: Result<T, E>) -> Option<T> {
         match made {
             Ok(made) => Some(made),
-            Err(_) => {
-                self.note(LineFault::Memory);
+            Err(fault) => {
+                self.note(fault.into());
                 None
             }
         }
@@ -101,13 +101,7 @@ impl<'a> Line<'a> {
 
     /// What was read, or this where nothing was, the fault of which is kept.
     pub fn read_or<T: Drop>(&mut self, read: Result<T, LineFault>, other: T) -> T {
-        match read {
-            Ok(read) => read,
-            Err(fault) => {
-                self.note(fault);
-                other
-            }
-        }
+        self.keep(read).unwrap_or(other)
     }
 
     /// The next word.

@@ -7,10 +7,7 @@ use std::alloc::Global;
 
 /// The number that a word spells.
 pub fn number_of(word: &str) -> Result<usize, LineFault> {
-    match word.parse::<usize>() {
-        Ok(number) => Ok(number),
-        Err(_) => Err(LineFault::NoSuchCall),
-    }
+    word.parse::<usize>().ok().ok_or(LineFault::NoSuchCall)
 }
 
 /// The numbers of a list.
@@ -27,9 +24,7 @@ pub fn numbers_of(alloc: Global, word: &str) -> Result<Vec<usize>, LineFault> {
 
 /// The depth of so many containers.
 pub fn depth_of(word: &str) -> Result<Depth, LineFault> {
-    let Ok(containers) = word.parse::<u32>() else {
-        return Err(LineFault::NoSuchCall);
-    };
+    let containers = word.parse::<u32>().ok().ok_or(LineFault::NoSuchCall)?;
     Depth::new(containers).ok_or(LineFault::NoSuchCall)
 }
 

@@ -43,6 +43,21 @@ impl Out {
         }
     }
 
+    /// Writes each of these with a mark between, or `-` for none.
+    pub fn list<T, F: Fn(&mut Out, &T)>(&mut self, mark: &str, items: &[T], push: F)
+        requires { F.IsAlwaysCallable push }
+    {
+        if items.is_empty() {
+            self.push_str("-");
+        }
+        for (place, item) in items.iter().enumerate() {
+            if place > 0 {
+                self.push_str(mark);
+            }
+            push(self, item);
+        }
+    }
+
     /// Keeps that memory was refused for a piece.
     pub fn refuse(&mut self) {
         self.is_refused = true;

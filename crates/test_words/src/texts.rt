@@ -161,10 +161,7 @@ pub fn bytes_of(alloc: Global, word: &str) -> Result<Vec<u8>, LineFault> {
 /// The text that a word spells, which has to be UTF-8.
 pub fn text_of(alloc: Global, word: &str) -> Result<String, LineFault> {
     let bytes = bytes_of(alloc, word)?;
-    match String::from_utf8(bytes) {
-        Ok(text) => Ok(text),
-        Err(_) => Err(LineFault::NoSuchCall),
-    }
+    String::from_utf8(bytes).ok().ok_or(LineFault::NoSuchCall)
 }
 
 /// The texts that words spell.

@@ -1,4 +1,6 @@
 // Answers that are asked for in several ways.
+ghost use Rattle.std.specs.Prelude.{◌≤◌};
+
 use crate::out::Out;
 use std::alloc::{AllocError, Global};
 use std::fmt::Display;
@@ -42,6 +44,45 @@ impl Ways {
                 if self.other.is_none() && *first != answer {
                     self.other = Some(differs(self.alloc, way, &answer));
                 }
+            }
+        }
+    }
+
+    /// The answers on a text that is fed by slices of each of these sizes.
+    pub fn add_sliced<F: Fn(&[&[u8]]) -> Result<Out, AllocError>>(
+        &mut self,
+        text: &[u8],
+        sizes: &[usize],
+        answer: F,
+    )
+        requires { F.IsAlwaysCallable answer }
+    {
+        for size in sizes {
+            let slices: Result<Vec<&[u8]>, AllocError> = text
+                .chunks((*size).max(1))
+                .collect(self.alloc);
+            let answer = match slices {
+                Ok(slices) => answer(&slices),
+                Err(AllocError) => Err(AllocError),
+            };
+            self.add_made(format_args!("by slices of {size}"), answer);
+        }
+    }
+
+    /// The answers on a text that is fed by two slices, which meet at each offset that is a multiple of this number.
+    pub fn add_halved<F: Fn(&[&[u8]]) -> Result<Out, AllocError>>(
+        &mut self,
+        text: &[u8],
+        apart: usize,
+        answer: F,
+    )
+        requires callable { F.IsAlwaysCallable answer }
+        requires apart { 1 ≤ apart }
+    {
+        for cut in 0..=text.len() {
+            if cut % apart == 0 {
+                let answer = answer(&[&text[..cut], &text[cut..]]);
+                self.add_made(format_args!("cut at {cut}"), answer);
             }
         }
     }

@@ -65,16 +65,6 @@ fn find_all_at_once(alloc: Global, text: &[u8], words: &[String]) -> Result<Vec<
     }
 }
 
-/// Whether a finder that is fed the text by slices, of whatever size, comes to the same.
-fn is_found_alike(
-    alloc: Global,
-    text: &[u8],
-    words: &[String],
-    found: &[Led],
-) -> Result<bool, AllocError> {
-    is_fed_alike(alloc, text, words, found)
-}
-
 /// The kind and the span of a row, if they are those that are wanted.
 fn push_row_as(out: &mut Out, row: &Row, wanted: &Led) {
     match wanted {
@@ -144,7 +134,7 @@ fn push_each(
     pointers: &[String],
 ) -> Result<(), AllocError> {
     let found = find_all_at_once(alloc, index.text(), pointers)?;
-    if !is_found_alike(alloc, index.text(), pointers, &found)? {
+    if !is_fed_alike(alloc, index.text(), pointers, &found)? {
         out.part("; ");
         out.push_str(FED_ELSEWHERE);
         return Ok(());

@@ -17,14 +17,6 @@ const SIZES: [usize; 4] = [1, 2, 3, 7];
 /// At so many places at most a text is cut once; one that is no longer is cut everywhere.
 const PLACES: usize = 200;
 
-/// Feeds a slice of a text that is not too long.
-fn feed(reader: &mut NamesReader, slice: &[u8]) -> Result<(), AllocError> {
-    if reader.end() < FAR && slice.len() < FAR {
-        reader.feed(slice)?;
-    }
-    Ok(())
-}
-
 /// A verdict in words.
 fn told(alloc: Global, verdict: Result<Verdict, AllocError>) -> Result<Out, AllocError> {
     let verdict = verdict?;
@@ -33,53 +25,17 @@ fn told(alloc: Global, verdict: Result<Verdict, AllocError>) -> Result<Out, Allo
     Ok(told)
 }
 
-/// The verdict on a text that is fed by slices of so many bytes.
-fn by_size(
-    alloc: Global,
-    settings: &Settings,
-    text: &[u8],
-    size: usize,
-) -> Result<Verdict, AllocError>
+/// The verdict on a text that is fed by these slices.
+fn told_by(alloc: Global, settings: &Settings, slices: &[&[u8]]) -> Result<Out, AllocError>
     requires { settings.now.names ≡ Unique }
 {
     let mut reader = NamesReader::new(alloc, settings);
-    for slice in text.chunks(size.max(1)) {
-        feed(&mut reader, slice)?;
-    }
-    reader.verdict()
-}
-
-/// The verdict on a text that is fed by two slices.
-fn by_halves(
-    alloc: Global,
-    settings: &Settings,
-    text: &[u8],
-    cut: usize,
-) -> Result<Verdict, AllocError>
-    requires { settings.now.names ≡ Unique }
-{
-    let mut reader = NamesReader::new(alloc, settings);
-    let (front, rest) = text.split_at(cut.min(text.len()));
-    feed(&mut reader, front)?;
-    feed(&mut reader, rest)?;
-    reader.verdict()
-}
-
-/// Adds the verdicts by slices of a few sizes, and by two slices for many cuts.
-fn add_fed(ways: &mut Ways, alloc: Global, settings: &Settings, text: &[u8])
-    requires { settings.now.names ≡ Unique }
-{
-    for size in &SIZES {
-        let verdict = by_size(alloc, settings, text, *size);
-        ways.add_made(format_args!("by slices of {size}"), told(alloc, verdict));
-    }
-    let apart = text.len() / PLACES + 1;
-    for cut in 0..=text.len() {
-        if cut % apart == 0 {
-            let verdict = by_halves(alloc, settings, text, cut);
-            ways.add_made(format_args!("cut at {cut}"), told(alloc, verdict));
+    for slice in slices {
+        if reader.end() < FAR && slice.len() < FAR {
+            reader.feed(*slice)?;
         }
     }
+    told(alloc, reader.verdict())
 }
 
 /// `unique DEPTH SETTINGS TEXT`: the verdict, where no object may repeat a name whatever the settings say of that, by one pass
@@ -97,6 +53,8 @@ pub(crate) fn unique(line: &mut Line<'_>) {
     let mut ways = Ways::new(alloc);
     let verdict = verdict_with_unique_names(alloc, &text, &settings, &mut NoPause);
     ways.add_made("by one pass", told(alloc, verdict));
-    add_fed(&mut ways, alloc, &settings, &text);
+    ways.add_sliced(&text, &SIZES, |slices| told_by(alloc, &settings, slices));
+    let apart = text.len() / PLACES + 1;
+    ways.add_halved(&text, apart, |slices| told_by(alloc, &settings, slices));
     ways.push_to(&mut line.out);
 }

@@ -28,14 +28,11 @@ pub(crate) fn joined_at(
     let left = ChunkMap::of(alloc, text, start, cut)?;
     let right = ChunkMap::of(alloc, text, cut, end)?;
     let (on_left, on_right) = (left.stored(), right.stored());
-    match left.join(right) {
-        Ok(map) => Ok(Joined {
-            map,
-            left: on_left,
-            right: on_right,
-        }),
-        Err(_) => Err(AllocError),
-    }
+    Ok(Joined {
+        map: left.join(right).ok().ok_or(AllocError)?,
+        left: on_left,
+        right: on_right,
+    })
 }
 
 /// `kept TEXT S..C..E LEAST`: how many marks the join keeps of the right, which has to hold at least so many.

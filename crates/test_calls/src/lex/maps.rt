@@ -14,10 +14,7 @@ pub(crate) fn map(line: &mut Line<'_>) {
     let word = line.word();
     let state = line.state();
     let told = push_map(&mut line.out, line.alloc, &text, word, state);
-    match told {
-        Ok(()) => (),
-        Err(fault) => line.note(fault),
-    }
+    line.settle(told);
 }
 
 fn push_map(

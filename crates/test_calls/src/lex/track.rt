@@ -90,16 +90,10 @@ fn ends_of(alloc: Global, view: &TrackView<'_>) -> Result<Vec<usize>, AllocError
 
 /// `Number@7 CloseArray@8`, or `-` for no marks.
 fn push_marks(out: &mut Out, marks: &[Mark]) {
-    if marks.is_empty() {
-        out.push_str("-");
-    }
-    for (place, mark) in marks.iter().enumerate() {
-        if place > 0 {
-            out.push_str(" ");
-        }
+    out.list(" ", marks, |out, mark| {
         let (kind, at) = (mark.kind, mark.at);
         out.put(format_args!("{kind:?}@{at}"));
-    }
+    });
 }
 
 /// `exit Gap` or `fault at 7`.

@@ -21,10 +21,7 @@ pub(crate) fn joined_at(
     ensures { IfOk result (λ r. r.depth ≡ depth) }
 {
     let (left, right) = parts_of(alloc, marks, cut, depth, maker)?;
-    match left.join(right) {
-        Ok(both) => Ok(both),
-        Err(_) => Err(AllocError),
-    }
+    left.join(right).ok().ok_or(AllocError)
 }
 
 /// Tells where joins of structures that are made so answer otherwise than the table, from each expectation and over each list of at

@@ -38,10 +38,8 @@ fn elements_of_both(
 {
     let front = ElementsRun::of(alloc, left, 0, left.len(), depth)?;
     let back = ElementsRun::of(alloc, right, 0, right.len(), depth)?;
-    match front.join(back.shifted(left.len())) {
-        Ok(both) => both.into_elements(),
-        Err(_) => Err(AllocError),
-    }
+    let both = front.join(back.shifted(left.len())).ok().ok_or(AllocError)?;
+    both.into_elements()
 }
 
 /// `elements DEPTH TEXT`: at each pair of cuts.

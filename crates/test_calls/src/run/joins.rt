@@ -17,10 +17,7 @@ pub(crate) fn cut_at<S: Summary>(
 {
     let left = S::of(alloc, text, 0, cut, depth)?;
     let right = S::of(alloc, text, cut, text.len(), depth)?;
-    match left.join(right) {
-        Ok(joined) => Ok(joined),
-        Err(_) => Err(AllocError),
-    }
+    left.join(right).ok().ok_or(AllocError)
 }
 
 /// Summaries of single bytes, joined from the left.
@@ -35,10 +32,7 @@ pub(crate) fn from_left<S: Summary>(
     let mut run = S::of(alloc, text, 0, 0, depth)?;
     for i in 0..text.len() {
         let right = S::of(alloc, text, i, i + 1, depth)?;
-        run = match run.join(right) {
-            Ok(joined) => joined,
-            Err(_) => return Err(AllocError),
-        };
+        run = run.join(right).ok().ok_or(AllocError)?;
     }
     Ok(run)
 }
@@ -56,10 +50,7 @@ pub(crate) fn from_right<S: Summary>(
     let mut run = S::of(alloc, text, len, len, depth)?;
     for i in (0..len).rev() {
         let left = S::of(alloc, text, i, i + 1, depth)?;
-        run = match left.join(run) {
-            Ok(joined) => joined,
-            Err(_) => return Err(AllocError),
-        };
+        run = left.join(run).ok().ok_or(AllocError)?;
     }
     Ok(run)
 }
@@ -83,10 +74,7 @@ pub(crate) fn by_halves<S: Summary>(
     let middle = start + (end - start) / 2;
     let left = by_halves::<S>(alloc, text, start, middle, depth)?;
     let right = by_halves::<S>(alloc, text, middle, end, depth)?;
-    match left.join(right) {
-        Ok(joined) => Ok(joined),
-        Err(_) => Err(AllocError),
-    }
+    left.join(right).ok().ok_or(AllocError)
 }
 
 /// The summaries of three parts that meet at two cuts, joined.
@@ -104,11 +92,6 @@ pub(crate) fn cut_twice<S: Summary>(
     let left = S::of(alloc, text, 0, first, depth)?;
     let middle = S::of(alloc, text, first, second, depth)?;
     let right = S::of(alloc, text, second, text.len(), depth)?;
-    let Ok(front) = left.join(middle) else {
-        return Err(AllocError);
-    };
-    match front.join(right) {
-        Ok(joined) => Ok(joined),
-        Err(_) => Err(AllocError),
-    }
+    let front = left.join(middle).ok().ok_or(AllocError)?;
+    front.join(right).ok().ok_or(AllocError)
 }

@@ -19,17 +19,12 @@ pub enum Told {
 pub type ToldElement = (usize, usize, Told);
 
 fn is_answer(answer: &ElementAnswer<'_>, told: Told) -> bool {
-    match told {
-        Told::Accepted(rows) => match answer {
-            ElementAnswer::Accepted(index) => are_rows(index.rows(), rows, 0),
-            _ => false,
-        },
-        Told::Refused(want) => match answer {
-            ElementAnswer::Refused(refusal) => *refusal == want,
-            _ => false,
-        },
-        Told::MayBeCut => matches!(answer, ElementAnswer::MayBeCut),
-        Told::Unmarked => matches!(answer, ElementAnswer::Unmarked),
+    match (answer, told) {
+        (ElementAnswer::Accepted(index), Told::Accepted(rows)) => are_rows(index.rows(), rows, 0),
+        (ElementAnswer::Refused(refusal), Told::Refused(want)) => *refusal == want,
+        (ElementAnswer::MayBeCut, Told::MayBeCut) => true,
+        (ElementAnswer::Unmarked, Told::Unmarked) => true,
+        _ => false,
     }
 }
 
@@ -40,12 +35,11 @@ fn is_told(element: &Element<'_>, want: &ToldElement) -> bool {
 
 /// Whether these are the elements, in order, with their rows.
 pub fn are_told(elements: &[Element<'_>], want: &[ToldElement]) -> bool {
-    for (element, want) in elements.iter().zip(want) {
-        if !is_told(element, want) {
-            return false;
-        }
-    }
     elements.len() == want.len()
+        && elements
+            .iter()
+            .zip(want)
+            .all(|(element, want)| is_told(element, want))
 }
 
 fn is_judged(element: &JudgedElement, want: &ToldElement) -> bool {
@@ -61,29 +55,19 @@ fn is_judged(element: &JudgedElement, want: &ToldElement) -> bool {
 
 /// Whether these are the elements, in order, without their rows.
 pub fn are_judged(elements: &[JudgedElement], want: &[ToldElement]) -> bool {
-    for (element, want) in elements.iter().zip(want) {
-        if !is_judged(element, want) {
-            return false;
-        }
-    }
     elements.len() == want.len()
+        && elements
+            .iter()
+            .zip(want)
+            .all(|(element, want)| is_judged(element, want))
 }
 
 /// Whether two answers are the same refusal, or have the same rows.
 pub fn are_equal(one: &TextAnswer<'_>, other: &TextAnswer<'_>) -> bool {
-    match one {
-        TextAnswer::Accepted(one) => match other {
-            TextAnswer::Accepted(other) => one.rows() == other.rows(),
-            TextAnswer::Refused(_) => false,
-        },
-        TextAnswer::Refused(refusal) => is_refused(other, *refusal),
-    }
-}
-
-fn is_refused(answer: &TextAnswer<'_>, want: Refusal) -> bool {
-    match answer {
-        TextAnswer::Accepted(_) => false,
-        TextAnswer::Refused(refusal) => *refusal == want,
+    match (one, other) {
+        (TextAnswer::Accepted(one), TextAnswer::Accepted(other)) => one.rows() == other.rows(),
+        (TextAnswer::Refused(one), TextAnswer::Refused(other)) => one == other,
+        _ => false,
     }
 }
 
@@ -95,24 +79,16 @@ pub fn verdict_in(answer: &TextAnswer<'_>) -> Verdict {
     }
 }
 
-// The refusal of a worked text for the first name that an object repeats, if one does.
-fn repeated_in(worked: &Worked) -> Option<Refusal> {
-    match worked.repeated {
-        Some(at) => Some(Refusal::RepeatedName {
-            at: at.saturating_add(worked.front),
-        }),
-        None => None,
-    }
-}
-
-// The refusal of a worked text by a rule for names, if it is refused.
+// The refusal of a worked text by a rule for names, if it is refused: where names have to be unique, also for the first one that an
+// object repeats.
 fn refusal_of(worked: &Worked, names: NameRule) -> Option<Refusal> {
-    match worked.answer {
-        Err(refusal) => Some(refusal),
-        Ok(_) => match names {
-            NameRule::Any => None,
-            NameRule::Unique => repeated_in(worked),
-        },
+    match (worked.answer, names, worked.repeated) {
+        (Err(refusal), _, _) => Some(refusal),
+        (Ok(_), NameRule::Unique, Some(at)) => {
+            let at = at.saturating_add(worked.front);
+            Some(Refusal::RepeatedName { at })
+        }
+        _ => None,
     }
 }
 
@@ -124,21 +100,14 @@ pub fn worked_verdict(worked: &Worked, names: NameRule) -> Verdict {
     }
 }
 
-fn has_rows(answer: &TextAnswer<'_>, worked: &Worked) -> bool {
-    match answer {
-        TextAnswer::Accepted(index) => match worked.answer {
-            Ok(rows) => are_rows(index.rows(), rows, worked.front),
-            Err(_) => false,
-        },
-        TextAnswer::Refused(_) => false,
-    }
-}
-
 /// Whether it is the answer on a worked text by a rule for names, with all its rows.
 pub fn is_worked(answer: &TextAnswer<'_>, worked: &Worked, names: NameRule) -> bool {
-    match refusal_of(worked, names) {
-        Some(refusal) => is_refused(answer, refusal),
-        None => has_rows(answer, worked),
+    match (answer, refusal_of(worked, names), worked.answer) {
+        (TextAnswer::Refused(refusal), Some(want), _) => *refusal == want,
+        (TextAnswer::Accepted(index), None, Ok(rows)) => {
+            are_rows(index.rows(), rows, worked.front)
+        }
+        _ => false,
     }
 }
 
@@ -146,29 +115,20 @@ pub fn is_worked(answer: &TextAnswer<'_>, worked: &Worked, names: NameRule) -> b
 pub type LookUp = Result<(usize, Kind, (usize, usize)), FindFault>;
 
 fn is_look_up(answer: &Answer, want: &LookUp) -> bool {
-    match answer {
-        Answer::Found { node, kind, span } => match want {
-            Ok((number, wanted, (start, end))) => {
-                node.number() == *number
-                    && kind == wanted
-                    && span.start == *start
-                    && span.end == *end
-            }
-            Err(_) => false,
-        },
-        Answer::Fault(fault) => match want {
-            Ok(_) => false,
-            Err(want) => fault == want,
-        },
+    match (answer, want) {
+        (Answer::Found { node, kind, span }, Ok((number, wanted, (start, end)))) => {
+            node.number() == *number && kind == wanted && span.start == *start && span.end == *end
+        }
+        (Answer::Fault(fault), Err(want)) => fault == want,
+        _ => false,
     }
 }
 
 /// Whether these are the answers on pointers, in order.
 pub fn are_found(found: &[Answer], want: &[LookUp]) -> bool {
-    for (answer, want) in found.iter().zip(want) {
-        if !is_look_up(answer, want) {
-            return false;
-        }
-    }
     found.len() == want.len()
+        && found
+            .iter()
+            .zip(want)
+            .all(|(answer, want)| is_look_up(answer, want))
 }

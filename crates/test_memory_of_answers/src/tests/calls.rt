@@ -137,11 +137,8 @@ pub fn pointer_of<'p, R: Abort>(rt: &R, spelt: &'p str) -> Pointer<'p> {
 }
 
 // The only fault is want of memory.
-fn or_memory<T>(answer: Result<T, Fault>) -> Result<T, AllocError> {
-    match answer {
-        Ok(answer) => Ok(answer),
-        Err(Fault::Memory) => Err(AllocError),
-    }
+fn or_memory<T: Drop>(answer: Result<T, Fault>) -> Result<T, AllocError> {
+    answer.ok().ok_or(AllocError)
 }
 
 /// Pieces of a byte.
@@ -149,10 +146,7 @@ fn bytes_of(text: &[u8]) -> Result<Cutting, AllocError>
     ensures len { IfOk result (λ cutting. cutting.len ≡ length text.now) }
     ensures front { IfOk result (λ cutting. cutting.front ≡ 0) }
 {
-    match Cutting::every(text.len(), 1) {
-        Ok(cutting) => Ok(cutting),
-        Err(_) => Err(AllocError),
-    }
+    Cutting::every(text.len(), 1).ok().ok_or(AllocError)
 }
 
 /// The answer that a run over a text gives, whatever names its objects have.
@@ -255,19 +249,6 @@ pub fn index_of<'a, R: Abort + Threads + Wait + Sync>(
     }
 }
 
-fn is_verdict_right<R: Threads + Wait + Sync, G: Gate + Sync>(
-    crew: &Crew<'_, R, G>,
-    worked: &Worked,
-    cutting: &Cutting,
-    settings: &Settings,
-) -> Result<bool, AllocError>
-    requires cutting { cutting.now.len ≡ length worked.now.text.now }
-    requires front { cutting.now.front ≡ 0 }
-{
-    let verdict = verdict_of_text(crew, worked.text, cutting, settings)?;
-    Ok(verdict == worked_verdict(worked, settings.names))
-}
-
 fn is_text_right<R: Threads + Wait + Sync, G: Gate + Sync>(
     crew: &Crew<'_, R, G>,
     call: TextCall,
@@ -277,30 +258,23 @@ fn is_text_right<R: Threads + Wait + Sync, G: Gate + Sync>(
     let cutting = bytes_of(worked.text)?;
     let (text, names) = (worked.text, settings.names);
     match call {
-        TextCall::Verdict => is_verdict_right(crew, worked, &cutting, settings),
+        TextCall::Verdict => {
+            let verdict = verdict_of_text(crew, text, &cutting, settings)?;
+            Ok(verdict == worked_verdict(worked, names))
+        }
         TextCall::Plain => {
-            let answer = indexed_within(crew, text, &cutting, settings.depth);
-            has_worked(answer, worked, NameRule::Any)
+            let answer = indexed_within(crew, text, &cutting, settings.depth)?;
+            Ok(is_worked(&answer, worked, NameRule::Any))
         }
         TextCall::Run => {
-            let answer = answer_by_run(crew, text, &cutting, settings);
-            has_worked(answer, worked, names)
+            let answer = answer_by_run(crew, text, &cutting, settings)?;
+            Ok(is_worked(&answer, worked, names))
         }
         TextCall::Index => {
-            let answer = indexed(crew, text, &cutting, settings);
-            has_worked(answer, worked, names)
+            let answer = indexed(crew, text, &cutting, settings)?;
+            Ok(is_worked(&answer, worked, names))
         }
     }
-}
-
-// Whether the answer, where there is one, is that on a worked text by a rule for names.
-fn has_worked(
-    answer: Result<TextAnswer<'_>, AllocError>,
-    worked: &Worked,
-    names: NameRule,
-) -> Result<bool, AllocError> {
-    let answer = answer?;
-    Ok(is_worked(&answer, worked, names))
 }
 
 // The elements of `index_sequence_with`, or of `index_sequence`, which takes no settings but the depth.
@@ -315,32 +289,11 @@ fn elements_by<'a, R: Threads + Wait + Sync, G: Gate + Sync>(
     requires front { cutting.now.front ≡ 0 }
 {
     let (rt, alloc, workers, gate) = (crew.rt, crew.alloc, crew.workers, crew.gate);
-    match call {
-        SequenceCall::Plain => or_memory(index_sequence(
-            rt,
-            alloc,
-            text,
-            cutting,
-            workers,
-            settings.depth,
-            gate,
-        )),
-        _ => or_memory(index_sequence_with(rt, alloc, text, cutting, workers, settings, gate)),
-    }
-}
-
-fn judges<R: Threads + Wait + Sync, G: Gate + Sync>(
-    crew: &Crew<'_, R, G>,
-    text: &[u8],
-    want: &[ToldElement],
-    cutting: &Cutting,
-    settings: &Settings,
-) -> Result<bool, AllocError>
-    requires cutting { cutting.now.len ≡ length text.now }
-    requires front { cutting.now.front ≡ 0 }
-{
-    let elements = judge_sequence(crew, text, cutting, settings)?;
-    Ok(are_judged(&elements, want))
+    let depth = settings.depth;
+    or_memory(match call {
+        SequenceCall::Plain => index_sequence(rt, alloc, text, cutting, workers, depth, gate),
+        _ => index_sequence_with(rt, alloc, text, cutting, workers, settings, gate),
+    })
 }
 
 /// Whether a call by these settings tells these elements, and if it has them, their rows.
@@ -356,7 +309,10 @@ pub fn tells<R: Threads + Wait + Sync, G: Gate + Sync>(
     requires front { cutting.now.front ≡ 0 }
 {
     match call {
-        SequenceCall::Judge => judges(crew, text, want, cutting, settings),
+        SequenceCall::Judge => {
+            let elements = judge_sequence(crew, text, cutting, settings)?;
+            Ok(are_judged(&elements, want))
+        }
         _ => {
             let elements = elements_by(crew, call, text, cutting, settings)?;
             Ok(are_told(&elements, want))

@@ -13,6 +13,7 @@ use std::process::Abort;
 use std::sync::Wait;
 use std::thread::Threads;
 use test_memory_of_runs::inputs::settings;
+use test_memory_of_runs::rows::parent_of;
 
 type Setting = (FrontMark, NameRule);
 
@@ -186,13 +187,6 @@ fn check_all<R: Abort + Threads + Wait + Sync>(
     }
 }
 
-fn parent_of(row: &Row) -> Option<usize> {
-    match row.parent {
-        Some(node) => Some(node.number()),
-        None => None,
-    }
-}
-
 // Whether it is the row of this number of so many arrays, each in the one before.
 fn is_nested(row: &Row, number: usize, count: usize) -> bool {
     row.kind == Kind::Array
@@ -201,16 +195,6 @@ fn is_nested(row: &Row, number: usize, count: usize) -> bool {
         && parent_of(row) == number.checked_sub(1)
         && row.place == 0
         && row.name.is_none()
-}
-
-// The first row, by its number, that is not one of so many arrays, each in the one before.
-fn other_row(rows: &[Row], count: usize) -> Option<usize> {
-    for (number, row) in rows.iter().enumerate() {
-        if !is_nested(row, number, count) {
-            return Some(number);
-        }
-    }
-    None
 }
 
 fn check_rows<R: Abort + Threads + Wait + Sync>(
@@ -224,9 +208,11 @@ fn check_rows<R: Abort + Threads + Wait + Sync>(
     let TextAnswer::Accepted(index) = answer else {
         panic!(crew.rt; "no text")
     };
-    let (rows, other) = (index.rows().len(), other_row(index.rows(), 600));
+    let mut rows = index.rows().iter().enumerate();
+    let other = rows.position(|(number, row)| !is_nested(row, number, 600));
+    let count = index.rows().len();
     assert!(crew.rt;
-        rows == 600 && other.is_none(),
-        "{rows} rows, and {other:?} another one, by {settings:?}"
+        count == 600 && other.is_none(),
+        "{count} rows, and {other:?} another one, by {settings:?}"
     );
 }

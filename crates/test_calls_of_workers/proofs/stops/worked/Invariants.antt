@@ -1,4 +1,4 @@
-use Rattle.test_calls_of_workers.proofs.stops.ended_by.Given as goal
+use Rattle.test_calls_of_workers.proofs.stops.worked.Given as goal
 
 abbrev pub ghosts-alone-P-Ledger : goal.ghosts-alone-P-Ledger
 ghosts-alone-P-Ledger g a = record { name = a.put.name; parts = a.put.parts }
