@@ -12,8 +12,8 @@ import sys
 import jx
 
 ROUNDS = int(os.environ.get("JX_ROUNDS", "10000"))
-# The bytes of a chunk, by docs/DOCUMENTS.md: some 16 KiB.
-CHUNK = 16384
+# The bytes of a chunk, by docs/DOCUMENTS.md: some 32 KiB.
+CHUNK = 32768
 PARTS = (b"", b"0", b"7", b"-", b".", b"e", b"[", b"]", b"{", b"}", b"[]", b'{"a":', b'"', b"\\", b"\\u00", b"\xc3", b"\xa9", b"\xed\xa0\x80",
          "é𝄞".encode(), b",", b":", b" ", b"\n", b"true", b"nul", b"\xef\xbb\xbf", b"\x00", b'"a":1,', b"1,")
 passed = failed = 0

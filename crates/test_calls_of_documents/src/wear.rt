@@ -6,7 +6,7 @@ use std::alloc::Global;
 use test_words::{Line, LineFault, Out};
 
 /// A piece has this many bytes where a document is made, and less than twice as many.
-const USUAL: usize = 16384;
+const USUAL: usize = 32768;
 
 /// The next number of a row that looks random (xorshift).
 fn next(seed: u64) -> u64 {

@@ -53,7 +53,7 @@ impl Model for Chunked {
 
 /// How long the chunks are that an edit makes, where there are so many bytes. Twice the size is read in less than twice the
 /// time, and leaves half as many chunks and sums.
-const SIZE: usize = 16384;
+const SIZE: usize = 32768;
 
 /// The most bytes that a text may have: no slice has more. So twice as many units can be counted.
 pub(crate) const MOST: usize = usize::MAX / 2;

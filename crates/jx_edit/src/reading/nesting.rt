@@ -2,7 +2,7 @@
 
 use std::simd::prelude::*;
 
-/// A run over bytes that open or close more containers than this one in another takes more memory than a quarter of 16 KiB.
+/// A run over bytes that open or close more containers than this one in another takes more memory than an eighth of 32 KiB.
 const DEEP: i64 = 64;
 
 /// How many containers more the bytes open than they close.
