@@ -1,5 +1,5 @@
 // A text that is read at offsets.
-ghost use Rattle.std.specs.Prelude.{◌≡◌, ⊤, false, IfOk};
+ghost use Rattle.std.specs.Prelude.{◌≡◌, false, IfOk};
 
 use crate::fault::Fault;
 use crate::input::{file_of, told_of};

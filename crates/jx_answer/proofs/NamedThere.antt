@@ -21,8 +21,10 @@ use Rattle.jx_run.specs.ReaderInside.{offset_at, shifted}
 use Rattle.jx_run.specs.Text.{IsDocument, IsText}
 use Rattle.jx_run.specs.Tree.{Tree}
 use Rattle.jx_run.specs.Verdict as by
-use Rattle.jx_run.specs.Verdict.{Judged, a_text, cut_short, IsNoText}
+use Rattle.jx_run.specs.Verdict.{Judged, cut_short, IsNoText}
 use Rattle.jx_run.proofs.ReaderSteps.{read-shift, slice_all}
+use Rattle.jx_run.proofs.Moves.{before-short}
+use Rattle.jx_run.proofs.VerdictLaws.{tree_in}
 use Rattle.jx_index.specs.ByNames.{IsRefusedName, RefusesName, judged_unless}
 use Rattle.jx_index.specs.Repeats.{IsLeast, IsRepeat}
 use Rattle.jx_index.specs.Rows.{rows}
@@ -55,9 +57,6 @@ no_text_of : {at limit : ℕ} {bytes : List ℕ} {r : Refusal} → Judged at byt
 no_text_of (cut_short n x) = n
 no_text_of (by.too_deep n x lt b) = n
 no_text_of (by.stopped n x lt b) = n
-
-tree_in : {at limit : ℕ} {bytes : List ℕ} → Judged at bytes limit Accepted → (tree : Tree) × IsDocument at bytes limit tree
-tree_in (a_text {tree = tree} d) = (tree, d)
 
 -- bytes that are refused from 0 on are no text from another offset on
 pub never_refused : Sound → Complete → (by limit : ℕ) (bytes : List ℕ) (r : Refusal) → Judged 0 (slice_range bytes 0 (length bytes)) limit (Refused r) → (tree : Tree)
@@ -122,20 +121,12 @@ abbrev AllIn : ℕ → ℕ → List Part → Type 0
 AllIn low high [] = Unit {0}
 AllIn low high (p ∷ ps) = (low ≤ p.at) × (p.at + length p.bytes ≤ high) × AllIn low high ps
 
-before_short : (xs : List ℕ) → length (before_separator xs) ≤ length xs
-before_short [] = omega arith
-before_short (b ∷ xs) = pick (is_separator b) (before_short xs)
-  where
-    pick : (m : Bool) → length (before_separator xs) ≤ length xs → length (cond m [] (b ∷ before_separator xs)) ≤ suc (length xs)
-    pick true h = omega arith
-    pick false h = omega (arith, h)
-
 after_in : (low high at : ℕ) (xs : List ℕ) → low ≤ at → at + length xs ≤ high → AllIn low high (after_separators at xs)
 after_in low high at [] h k = tt
 after_in low high at (b ∷ xs) h k = pick (is_separator b) (after_in low high (suc at) xs (omega (arith, h)) (omega (arith, k)))
   where
     pick : (m : Bool) → AllIn low high (after_separators (suc at) xs) → AllIn low high (cond m (part (suc at) (before_separator xs) ∷ after_separators (suc at) xs) (after_separators (suc at) xs))
-    pick true rest = (omega (arith, h), let short = before_short xs in omega (arith, short, k), rest)
+    pick true rest = (omega (arith, h), let short = before-short xs in omega (arith, short, k), rest)
     pick false rest = rest
 
 filled_in : (low high : ℕ) (ps : List Part) → AllIn low high ps → AllIn low high (filled ps)
@@ -170,7 +161,7 @@ all_next limit low high (p ∷ ps) (j ∷ js) h z =
 pub elements_next : (limit before : ℕ) (bytes : List ℕ) (js : List JudgedElement) → AllZip (IsJudgedElement limit) (elements before bytes) js
     → AllZip (IsNext before (before + length bytes)) js js
 elements_next limit before bytes js z =
-    let short = before_short bytes in
+    let short = before-short bytes in
     all_next limit before (before + length bytes) (elements before bytes) js
     (filled_in before (before + length bytes) (parts before bytes) (omega arith, omega (arith, short), after_in before (before + length bytes) before bytes (omega arith) (omega arith))) z
 

@@ -1,5 +1,5 @@
 -- A text is read piece by piece.
-use Rattle.std.proofs.Common.{◌≡◌, ℕ, ◌+◌, ◌-◌, ◌≤◌, List, ◌++◌, length, take, drop, refl, sym, ◌∙◌, ap, subst, arith, append_assoc, append-nil}
+use Rattle.std.proofs.Common.{◌≡◌, ℕ, ◌+◌, ◌-◌, ◌≤◌, List, ◌++◌, length, take, drop, sym, ◌∙◌, ap, subst, arith, append_assoc}
 use Rattle.std.specs.Prelude.{slice_range}
 use lib.Seq.{take-add}
 use Rattle.jx_run.specs.Reader.{ReaderValue, HasRead}
@@ -11,16 +11,6 @@ up_to bytes text done end h =
     let sum : done + (end - done) ≡ end = omega (arith, h) in
     append_assoc bytes (take done text) (take (end - done) (drop done text))
     ∙ ap (λ xs. bytes ++ xs) (sym (take-add done (end - done) text) ∙ ap (λ (n : ℕ). take n text) sum)
-
--- nothing was read yet
-pub begun : (text : List ℕ) (v : ReaderValue) → GoesOnTo text 0 v v
-begun text v = record {
-  within = omega arith;
-  settings = refl;
-  start = refl;
-  count = omega arith;
-  reads = λ bytes h. subst (λ (xs : List ℕ). HasRead xs v) (sym (append-nil bytes)) h;
-}
 
 -- the text was read on from where it is done up to another offset
 pub gone_on : (text : List ℕ) (done end : ℕ) (old mid new : ReaderValue) → GoesOnTo text done old mid → done ≤ end → end ≤ length text → new.settings ≡ mid.settings

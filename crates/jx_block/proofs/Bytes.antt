@@ -1,5 +1,5 @@
 -- What a byte of a set does between tokens and in a string.
-use Rattle.std.proofs.Common.{◌≡◌, ◌≢◌, ◌⊎◌, inl, inr, ℕ, ◌<◌, Bool, true, false, eqb, List, [], ◌∷◌, Some, None, refl, sym, ap, subst, arith}
+use Rattle.std.proofs.Common.{◌≡◌, ◌≢◌, ◌⊎◌, inl, inr, ℕ, ◌<◌, Bool, true, false, eqb, List, [], ◌∷◌, Some, refl, sym, ap, subst, arith}
 use Rattle.std.specs.Prelude.{◌||◌, not}
 use Rattle.std.proofs.lemmas.Bool.Decides.{nat_tests, eqb_tells}
 use Rattle.jx_lex.specs.declared.alphabet.class.Class.{Class}
@@ -7,7 +7,6 @@ use Rattle.jx_lex.specs.declared.alphabet.class.Class.TheVariants as class
 use Rattle.jx_lex.specs.declared.alphabet.mark.MarkKind.TheVariants.{String}
 use Rattle.jx_lex.specs.declared.alphabet.state.LexState.{LexState}
 use Rattle.jx_lex.specs.declared.alphabet.state.LexState.TheVariants as state
-use Rattle.jx_lex.specs.declared.alphabet.state.Step.{Step}
 use Rattle.jx_lex.specs.declared.alphabet.state.TokenEnd.TheVariants.{Before}
 use Rattle.jx_lex.specs.Classes.{class_at, all_classes, first_with}
 use Rattle.jx_lex.specs.Moves.{move, row, go, begin, close}
@@ -41,13 +40,9 @@ of_set p P ks all tested b lt h =
 
 -- ---- between tokens
 
--- the byte is read as between tokens, and no token goes on behind it
-pub record Alone (b : ℕ) : Type 0 where
-  pub no_end : (move state.Gap b).end ≡ None
-  pub next : (move state.Gap b).next ≡ Some state.Gap
-
-abbrev IsAlone : Class → Type 0
-IsAlone c = ((row state.Gap c).end ≡ None) × ((row state.Gap c).next ≡ Some state.Gap)
+-- the byte is read from between tokens to between tokens
+abbrev Stays : Class → Type 0
+Stays c = (row state.Gap c).next ≡ Some state.Gap
 
 abbrev structural_classes : List Class
 structural_classes = class.OpenArray ∷ class.CloseArray ∷ class.OpenObject ∷ class.CloseObject ∷ class.Colon ∷ class.Comma ∷ []
@@ -67,15 +62,11 @@ blank_small b h = grind (arith, nat_tests)
 escaped_small : (b : ℕ) → is_escaped b ≡ true → b < 256
 escaped_small b h = grind (arith, nat_tests)
 
-pub structural_alone : (b : ℕ) → is_structural b ≡ true → Alone b
-structural_alone b h =
-    let a = of_set is_structural IsAlone structural_classes ((refl, refl), ((refl, refl), ((refl, refl), ((refl, refl), ((refl, refl), ((refl, refl), tt)))))) refl b (structural_small b h) h in
-    record { no_end = a.0; next = a.1 }
+pub structural_stays : (b : ℕ) → is_structural b ≡ true → (move state.Gap b).next ≡ Some state.Gap
+structural_stays b h = of_set is_structural Stays structural_classes (refl, (refl, (refl, (refl, (refl, (refl, tt)))))) refl b (structural_small b h) h
 
-pub stop_alone : (b : ℕ) → is_stop b ≡ true → Alone b
-stop_alone b h =
-    let a = of_set is_stop IsAlone stop_classes ((refl, refl), ((refl, refl), ((refl, refl), ((refl, refl), ((refl, refl), tt))))) refl b (stop_small b h) h in
-    record { no_end = a.0; next = a.1 }
+pub stop_stays : (b : ℕ) → is_stop b ≡ true → (move state.Gap b).next ≡ Some state.Gap
+stop_stays b h = of_set is_stop Stays stop_classes (refl, (refl, (refl, (refl, (refl, tt))))) refl b (stop_small b h) h
 
 pub blank_goes : (b : ℕ) → is_blank b ≡ true → move state.Gap b ≡ go state.Gap
 blank_goes b h = of_set is_blank (λ c. row state.Gap c ≡ go state.Gap) (class.Space ∷ class.Blank ∷ []) (refl, (refl, tt)) refl b (blank_small b h) h
@@ -89,11 +80,6 @@ pub stop_ends : (s : LexState) → MayEnd s → (b : ℕ) → is_stop b ≡ true
 unfolding class_at
 stop_ends s ends b h =
     of_set is_stop (λ c. row s c ≡ record (row state.Gap c) { end = Some Before }) stop_classes (ends.0, (ends.1, (ends.2, (ends.3, (ends.4, tt))))) refl b (stop_small b h) h
-
--- a state in which a token may end before a comma is none between tokens
-pub never_gap : MayEnd state.Gap → ⊥
-unfolding class_at
-never_gap ends = let e = ap (λ (m : Step). m.end) ends.0 in absurd cc
 
 -- ---- in a string
 

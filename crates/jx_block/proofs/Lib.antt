@@ -2,9 +2,6 @@ pub mod Bytes
 pub mod Listing
 pub mod Pieces
 pub mod ScalarPieces
-pub mod NextBit
-pub mod OneBit
 pub mod Told
-pub mod TokenEnds
 pub mod Words
 pub mod WordsTell

@@ -1,11 +1,11 @@
--- What words list, one stretch behind another.
-use Rattle.std.proofs.Common.{◌≡◌, ℕ, zero, suc, ◌+◌, ◌<◌, Bool, true, false, List, [], ◌∷◌, ◌++◌, length, Option, Some, None, if◌then◌else◌, refl, ap, sym, ◌∙◌, arith}
+-- What a word lists, one stretch behind another.
+use Rattle.std.proofs.Common.{◌≡◌, ℕ, suc, ◌+◌, ◌<◌, Bool, false, List, [], ◌∷◌, ◌++◌, length, Option, Some, None, if◌then◌else◌, refl, ap, sym, ◌∙◌, arith}
 use Rattle.jx_lex.specs.declared.alphabet.mark.Mark.{Mark}
 use Rattle.jx_lex.specs.declared.alphabet.mark.MarkKind.{MarkKind}
 use Rattle.jx_lex.specs.declared.alphabet.state.LexState.TheVariants.{Gap}
 use Rattle.jx_lex.specs.Lex.{with_mark}
 use Rattle.jx_lex.specs.Moves.{move}
-use Rattle.jx_block.specs.Listed.{is_set, marks_of, places}
+use Rattle.jx_block.specs.Listed.{is_set, marks_of}
 
 pub with_mark-append : (m : Option MarkKind) (at : ℕ) (xs ys : List Mark) → with_mark m at (xs ++ ys) ≡ with_mark m at xs ++ ys
 with_mark-append None at xs ys = refl
@@ -47,38 +47,3 @@ marks_of-none word k at (b ∷ u) none =
     let f = λ (j : ℕ). let e : suc k + j ≡ k + suc j = omega arith in e in
     ap (λ (t : Bool). with_mark (if t then (move Gap b).begin else None) at (marks_of word (suc k) (suc at) u)) (ap (is_set word) (sym e) ∙ none 0 (omega arith))
     ∙ marks_of-none word (suc k) (suc at) u (λ j lt. ap (is_set word) (f j) ∙ none (suc j) (omega arith))
-
-append_at : (t : Bool) (a : ℕ) (l r : List ℕ) → (if t then a ∷ (l ++ r) else (l ++ r)) ≡ (if t then a ∷ l else l) ++ r
-append_at true a l r = refl
-append_at false a l r = refl
-
-pub places-add : (word k at m n : ℕ) → places word k at (m + n) ≡ places word k at m ++ places word (k + m) (at + m) n
-unfolding places
-places-add word k at zero n =
-    let e : k ≡ k + 0 = omega arith in
-    let f : at ≡ at + 0 = omega arith in
-    let g : 0 + n ≡ n = omega arith in
-    ap (places word k at) g ∙ ap (λ k. places word k at n) e ∙ ap (λ a. places word (k + 0) a n) f
-places-add word k at (suc m) n =
-    let e : suc k + m ≡ k + suc m = omega arith in
-    let f : suc at + m ≡ at + suc m = omega arith in
-    let g : suc m + n ≡ suc (m + n) = omega arith in
-    ap (places word k at) g
-    ∙ ap (λ (l : List ℕ). if is_set word k then at ∷ l else l)
-    (places-add word (suc k) (suc at) m n
-    ∙ ap (λ i. places word (suc k) (suc at) m ++ places word i (suc at + m) n) e
-    ∙ ap (λ a. places word (suc k) (suc at) m ++ places word (k + suc m) a n) f)
-    ∙ append_at (is_set word k) at (places word (suc k) (suc at) m) (places word (k + suc m) (at + suc m) n)
-
-pub places-one : (word k at : ℕ) → places word k at 1 ≡ (if is_set word k then at ∷ [] else [])
-unfolding places
-places-one word k at = refl
-
-pub places-none : (word k at n : ℕ) → ((j : ℕ) → j < n → is_set word (k + j) ≡ false) → places word k at n ≡ []
-unfolding places
-places-none word k at zero none = refl
-places-none word k at (suc n) none =
-    let e : k + 0 ≡ k = omega arith in
-    let f = λ (j : ℕ). let e : suc k + j ≡ k + suc j = omega arith in e in
-    ap (λ (t : Bool). if t then at ∷ places word (suc k) (suc at) n else places word (suc k) (suc at) n) (ap (is_set word) (sym e) ∙ none 0 (omega arith))
-    ∙ places-none word (suc k) (suc at) n (λ j lt. ap (is_set word) (f j) ∙ none (suc j) (omega arith))

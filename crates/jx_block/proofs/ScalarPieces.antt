@@ -1,111 +1,98 @@
--- A scalar, and the byte before which it ends, are read as the words list them.
-use Rattle.std.proofs.Common.{◌≡◌, inl, inr, ℕ, suc, ◌+◌, ◌-◌, ◌<◌, ◌≤◌, Bool, true, false, List, [], ◌∷◌, ◌++◌, length, get_or, drop, Option, Some, None, if◌then◌else◌, refl, ap, sym, subst, ◌∙◌, arith}
+-- A scalar, and the byte before which it ends, are read as the word lists them.
+use Rattle.std.proofs.Common.{◌≡◌, inl, inr, ℕ, suc, ◌+◌, ◌<◌, Bool, true, false, List, [], ◌∷◌, ◌++◌, length, get_or, Option, Some, None, if◌then◌else◌, refl, ap, sym, ◌∙◌, arith}
 use Rattle.std.specs.Prelude.{slice_range}
-use Rattle.std.proofs.lemmas.List.{get_or-drop, get_or-take}
 use Rattle.jx_lex.specs.declared.alphabet.mark.Mark.{Mark}
 use Rattle.jx_lex.specs.declared.alphabet.mark.MarkKind.{MarkKind}
 use Rattle.jx_lex.specs.declared.alphabet.state.LexState.{LexState}
 use Rattle.jx_lex.specs.declared.alphabet.state.LexState.TheVariants as state
 use Rattle.jx_lex.specs.declared.alphabet.state.Step.{Step}
-use Rattle.jx_lex.specs.declared.alphabet.state.TokenEnd.{TokenEnd}
 use Rattle.jx_lex.specs.declared.alphabet.state.TokenEnd.TheVariants.{Before}
-use Rattle.jx_lex.specs.Lex.{Track, lex, with_mark, with_end, on_next}
+use Rattle.jx_lex.specs.Lex.{Track, lex, with_mark, after_step, on_next}
 use Rattle.jx_lex.specs.Lex as reading
-use Rattle.jx_lex.specs.Moves.{move}
+use Rattle.jx_lex.specs.Moves.{move, begin, structural, fault}
+use Rattle.jx_lex.specs.Token.{IsBlank, space, tab, line_feed, carriage_return}
+use Rattle.jx_lex.specs.TokenStates.{mark_of}
+use Rattle.jx_lex.specs.TokenSteps.{GapStep, a_blank, a_token, a_mark, no_step}
 use Rattle.jx_lex.specs.Uneventful.{is_blank}
-use Rattle.jx_lex.specs.Whole.{PassesNumber, PassesLiteral, MayEnd}
 use Rattle.jx_lex.proofs.Keeping.{lex-then}
 use Rattle.jx_lex.proofs.OneByte.{one-is}
+use Rattle.jx_lex.proofs.Recognized.{gap_step}
 use Rattle.jx_lex.proofs.Slices.{slice-first, slice-none, slice-length}
-use Rattle.jx_block.specs.inside.Planes.{is_structural, is_stop}
+use Rattle.jx_block.specs.inside.Planes.{is_stop}
 use Rattle.jx_block.specs.inside.Whole.{IsScalar}
-use Rattle.jx_block.specs.Listed.{is_set, marks_of, places}
-use Rattle.jx_block.proofs.Bytes.{stop_alone, stop_ends, never_gap}
-use Rattle.jx_block.proofs.Listing.{mark_at, marks_of-one, marks_of-first, marks_of-none, places-add, places-one, places-none}
-use Rattle.jx_block.proofs.Pieces.{Piece, behind, track_of, slice-one, marks-join}
-use Rattle.jx_block.proofs.TokenEnds.{NoBlank, Ends, inside, just, scalar_is}
+use Rattle.jx_block.specs.Listed.{is_set, marks_of}
+use Rattle.jx_block.proofs.Bytes.{stop_stays, stop_ends}
+use Rattle.jx_block.proofs.Listing.{mark_at, marks_of-one, marks_of-first, marks_of-none}
+use Rattle.jx_block.proofs.Pieces.{Piece, slice-one, marks-join}
 
--- a byte of a slice
-pub slice-at : (xs : List ℕ) (a c j : ℕ) → j < c - a → get_or (slice_range xs a c) j 0 ≡ get_or xs (a + j) 0
-slice-at xs a c j lt = get_or-take (c - a) (drop a xs) j 0 lt ∙ get_or-drop a xs j 0
+blank-is : {b : ℕ} → IsBlank b → is_blank b ≡ true
+blank-is space = refl
+blank-is tab = refl
+blank-is line_feed = refl
+blank-is carriage_return = refl
 
--- what a scalar is read as, up to its end
-abbrev Read : (text : List ℕ) (from to : ℕ) → LexState → List ℕ → Type 0
-Read text from to last ends =
-    lex state.Gap from (slice_range text from to) ≡ record { marks = with_mark ((move state.Gap (get_or text from 0)).begin) from []; ends = ends; exit = reading.state last }
+-- what one byte gives, before what the others give
+step-is : (m : Step) (at b : ℕ) (w : List ℕ) → move state.Gap b ≡ m → (lex state.Gap at (b ∷ w)).marks ≡ (after_step m at (on_next m.next at (λ next. lex next (suc at) w))).marks
+unfolding lex
+step-is m at b w e = ap (λ (m : Step). (after_step m at (on_next m.next at (λ next. lex next (suc at) w))).marks) e
 
-module _ (text : List ℕ) (from to : ℕ) (low : from < to) (fits : to < length text) (solid : (j : ℕ) → from ≤ j → j < to → is_blank (get_or text j 0) ≡ false)
-    (other : is_structural (get_or text from 0) ≡ false) where
-  abbrev rest : List ℕ
-  rest = slice_range text (from + 1) to
+-- where bytes have one mark, and the first is no blank, it is the first one's
+first_mark : (at b : ℕ) (w : List ℕ) (m : Mark) → is_blank b ≡ false → (lex state.Gap at (b ∷ w)).marks ≡ m ∷ [] → (lex state.Gap at (b ∷ w)).marks ≡ with_mark ((move state.Gap b).begin) at []
+first_mark at b w m solid marks = by_step (gap_step b)
+  where
+    begun : (k : MarkKind) (rest : List Mark) → (lex state.Gap at (b ∷ w)).marks ≡ record { kind = k; at = at } ∷ rest → (move state.Gap b).begin ≡ Some k
+        → (lex state.Gap at (b ∷ w)).marks ≡ with_mark ((move state.Gap b).begin) at []
+    begun k rest same is =
+        let one : record { kind = k; at = at } ∷ rest ≡ m ∷ [] = sym same ∙ marks in
+        let none : rest ≡ [] = cc in
+        same ∙ ap (λ (ms : List Mark). record { kind = k; at = at } ∷ ms) none ∙ ap (λ (o : Option MarkKind). with_mark o at []) (sym is)
 
-  first : slice_range text from to ≡ get_or text from 0 ∷ rest
-  first = slice-first text from to 0 low (omega arith)
+    by_step : GapStep b → (lex state.Gap at (b ∷ w)).marks ≡ with_mark ((move state.Gap b).begin) at []
+    by_step (a_blank blank e) = let clash : true ≡ false = sym (blank-is blank) ∙ solid in cc
+    by_step (a_token k entry scalar entered e) = begun (mark_of k) (lex entry (suc at) w).marks (step-is (begin (mark_of k) entry) at b w e) (ap (λ (s : Step). s.begin) e)
+    by_step (a_mark {k = k} is e) = begun k (lex state.Gap (suc at) w).marks (step-is (structural k) at b w e) (ap (λ (s : Step). s.begin) e)
+    by_step (no_step e) = let clash = sym (step-is fault at b w e) ∙ marks in absurd cc
 
-  long : to ≡ from + length (get_or text from 0 ∷ rest)
-  long = slice-length text from to (omega arith) (omega arith) ∙ ap (λ l. from + length l) first
+module _ (text : List ℕ) (from to : ℕ) (low : from < to) (fits : to < length text) (solid : is_blank (get_or text from 0) ≡ false) where
+  -- the mark of the first byte
+  abbrev mark : List Mark
+  mark = with_mark ((move state.Gap (get_or text from 0)).begin) from []
 
-  none_blank : NoBlank (get_or text from 0 ∷ rest)
-  none_blank j lt =
-      ap is_blank (ap (λ l. get_or l j 0) (sym first) ∙ slice-at text from to j (let n = long in omega arith)) ∙ solid (from + j) (omega arith) (let n = long in omega arith)
+  -- the mark of a scalar
+  one_mark : (m : Mark) → (lex state.Gap from (slice_range text from to)).marks ≡ m ∷ [] → (lex state.Gap from (slice_range text from to)).marks ≡ mark
+  one_mark m marks =
+      let first = slice-first text from to 0 low (omega arith) in
+      ap (λ l. (lex state.Gap from l).marks) first
+      ∙ first_mark from (get_or text from 0) (slice_range text (from + 1) to) m solid (ap (λ l. (lex state.Gap from l).marks) (sym first) ∙ marks)
 
-  found : (m : Mark) (last : LexState) → (lex state.Gap from (slice_range text from to)).marks ≡ m ∷ [] → (lex state.Gap from (slice_range text from to)).exit ≡ reading.state last
-      → ((lex state.Gap from (get_or text from 0 ∷ rest)).marks ≡ with_mark ((move state.Gap (get_or text from 0)).begin) from []) × Ends from (get_or text from 0 ∷ rest) (lex state.Gap from (get_or text from 0 ∷ rest)) last
-  found m last marks exit =
-      scalar_is from (get_or text from 0) rest m last none_blank other
-      (ap (λ l. (lex state.Gap from l).marks) (sym first) ∙ marks) (ap (λ l. (lex state.Gap from l).exit) (sym first) ∙ exit)
+  -- with the byte behind it
+  abbrev With_behind : Type 0
+  With_behind =
+      ((lex state.Gap from (slice_range text from (to + 1))).marks ≡ mark ++ with_mark ((move state.Gap (get_or text to 0)).begin) to [])
+      × ((lex state.Gap from (slice_range text from (to + 1))).exit ≡ reading.state state.Gap)
 
-  -- a number goes on to its end
-  number_read : (n : PassesNumber text from to) → Read text from to n.last []
-  number_read n = by_end (found _ n.last n.marks_are n.exit).1
-    where
-      by_end : Ends from (get_or text from 0 ∷ rest) (lex state.Gap from (get_or text from 0 ∷ rest)) n.last → Read text from to n.last []
-      by_end (inside in_it none) =
-          track_of (ap (λ l. (lex state.Gap from l).marks) first ∙ (found _ n.last n.marks_are n.exit).0) (ap (λ l. (lex state.Gap from l).ends) first ∙ none) n.exit
-      by_end (just gap one) = absurd (never_gap (subst MayEnd gap n.may_end))
-
-  -- a literal ends with its last byte
-  literal_read : PassesLiteral text from to → Read text from to state.Gap (to ∷ [])
-  literal_read p = by_end (found _ state.Gap p.passes.marks_are p.passes.exit).1
-    where
-      by_end : Ends from (get_or text from 0 ∷ rest) (lex state.Gap from (get_or text from 0 ∷ rest)) state.Gap → Read text from to state.Gap (to ∷ [])
-      by_end (inside in_it none) = absurd cc
-      by_end (just gap one) =
-          track_of (ap (λ l. (lex state.Gap from l).marks) first ∙ (found _ state.Gap p.passes.marks_are p.passes.exit).0)
-          (ap (λ l. (lex state.Gap from l).ends) first ∙ one ∙ ap (λ n. n ∷ []) (sym long)) p.passes.exit
-
-  -- with the byte behind it, either has one end
-  abbrev both : Track
-  both = record {
-    marks = with_mark ((move state.Gap (get_or text from 0)).begin) from [] ++ with_mark ((move state.Gap (get_or text to 0)).begin) to [];
-    ends = to ∷ [];
-    exit = reading.state state.Gap;
-  }
-
-  with_behind : (last : LexState) (es : List ℕ) (m : Step) → Read text from to last es → move last (get_or text to 0) ≡ m → m.begin ≡ (move state.Gap (get_or text to 0)).begin → m.next ≡ Some state.Gap
-      → es ++ with_end m.end to [] ≡ to ∷ [] → lex state.Gap from (slice_range text from (to + 1)) ≡ both
+  with_behind : (last : LexState) (m : Step) (k : Mark) → (lex state.Gap from (slice_range text from to)).marks ≡ k ∷ [] → (lex state.Gap from (slice_range text from to)).exit ≡ reading.state last
+      → move last (get_or text to 0) ≡ m → m.begin ≡ (move state.Gap (get_or text to 0)).begin → m.next ≡ Some state.Gap → With_behind
   unfolding lex
-  with_behind last es m read is begun next ended =
+  with_behind last m k marks exit is begun next =
       let b = get_or text to 0 in
       let one : slice_range text to (to + 1) ≡ b ∷ [] = slice-first text to (to + 1) 0 (omega arith) (omega arith) ∙ ap (λ ys. b ∷ ys) (slice-none text (to + 1)) in
       let second = ap (lex last to) one ∙ one-is to b last in
-      lex-then text from to (to + 1) state.Gap last (omega arith) (omega arith) (omega arith) (ap (λ (x : Track). x.exit) read)
-      ∙ (λ i. behind (read i) (second i))
-      ∙ track_of
-      (ap (λ (o : Option MarkKind). with_mark ((move state.Gap (get_or text from 0)).begin) from [] ++ with_mark o to []) (ap (λ (m : Step). m.begin) is ∙ begun))
-      (ap (λ (m : Step). es ++ with_end m.end to []) is ∙ ended)
-      (ap (λ (m : Step). (on_next m.next to (λ n. lex n (suc to) [])).exit) is ∙ ap (λ (o : Option LexState). (on_next o to (λ n. lex n (suc to) [])).exit) next)
+      let whole = lex-then text from to (to + 1) state.Gap last (omega arith) (omega arith) (omega arith) exit in (
+        ap (λ (x : Track). x.marks) whole
+            ∙ (λ i. one_mark k marks i ++ (ap (λ (x : Track). x.marks) second ∙ ap (λ (m : Step). with_mark m.begin to []) is ∙ ap (λ (o : Option MarkKind). with_mark o to []) begun) i),
+        ap (λ (x : Track). x.exit) whole ∙ ap (λ (x : Track). x.exit) second
+            ∙ ap (λ (m : Step). (on_next m.next to (λ n. lex n (suc to) [])).exit) is ∙ ap (λ (o : Option LexState). (on_next o to (λ n. lex n (suc to) [])).exit) next,
+      )
 
-  pub scalar_read : is_stop (get_or text to 0) ≡ true → IsScalar text from to → lex state.Gap from (slice_range text from (to + 1)) ≡ both
+  pub scalar_read : is_stop (get_or text to 0) ≡ true → IsScalar text from to → With_behind
   scalar_read stop (inl n) =
       let b = get_or text to 0 in
-      with_behind n.last [] (record (move state.Gap b) { end = Some Before }) (number_read n) (stop_ends n.last n.may_end b stop) refl (stop_alone b stop).next refl
-  scalar_read stop (inr p) =
-      let b = get_or text to 0 in
-      with_behind state.Gap (to ∷ []) (move state.Gap b) (literal_read p) refl refl (stop_alone b stop).next (ap (λ (o : Option TokenEnd). to ∷ with_end o to []) (stop_alone b stop).no_end)
+      with_behind n.last (record (move state.Gap b) { end = Some Before }) _ n.marks_are n.exit (stop_ends n.last n.may_end b stop) refl (stop_stays b stop)
+  scalar_read stop (inr p) = with_behind state.Gap (move state.Gap (get_or text to 0)) _ p.passes.marks_are p.passes.exit refl refl (stop_stays (get_or text to 0) stop)
 
--- The same, as the words of a block list it.
-module _ (text : List ℕ) (at starts ends p e : ℕ) (low : p < e) (fits : at + e < length text) where
+-- The same, as the word of a block lists it.
+module _ (text : List ℕ) (at starts p e : ℕ) (low : p < e) (fits : at + e < length text) where
   abbrev byte : ℕ → ℕ
   byte j = get_or text (at + j) 0
 
@@ -116,39 +103,23 @@ module _ (text : List ℕ) (at starts ends p e : ℕ) (low : p < e) (fits : at +
       let w = slice_range text (at + p + 1) (at + e) in
       let long = slice-length text (at + p + 1) (at + e) (omega arith) (omega arith) in
       let f = λ (j : ℕ) (lt : j < length w). none (suc p + j) (omega arith) (omega (arith, long)) in
-      sym (marks-join text at starts ends p e (e + 1) (omega arith) (omega arith) (omega arith))
+      sym (marks-join text at starts p e (e + 1) (omega arith) (omega arith) (omega arith))
       ∙ (λ i.
       (ap (marks_of starts p (at + p)) (slice-first text (at + p) (at + e) 0 (omega arith) (omega arith))
       ∙ marks_of-first starts p (at + p) (byte p) w
       ∙ ap (with_mark (mark_at starts p (byte p)) (at + p)) (marks_of-none starts (suc p) (suc (at + p)) w f)
       ∙ ap (λ (t : Bool). with_mark (if t then (move state.Gap (byte p)).begin else None) (at + p) []) set) i
-      ++ (ap (marks_of starts e (at + e)) (slice-one text at starts ends e fits)
+      ++ (ap (marks_of starts e (at + e)) (slice-one text at starts e fits)
       ∙ marks_of-one starts e (at + e) (byte e)
       ∙ ap (λ (o : Option MarkKind). with_mark o (at + e) []) last) i)
 
-  ends_listed : ((j : ℕ) → p < j → j < e → is_set ends j ≡ false) → is_set ends e ≡ true → is_set ends (suc e) ≡ false
-      → places ends (suc p) (suc (at + p)) (e + 1 - p) ≡ (at + e) ∷ []
-  ends_listed none set past =
-      let n : e + 1 - p ≡ (e - suc p) + (1 + 1) = omega arith in
-      let k : suc p + (e - suc p) ≡ e = omega arith in
-      let a : suc (at + p) + (e - suc p) ≡ at + e = omega arith in
-      let q : e + 1 ≡ suc e = omega arith in
-      let f = λ (j : ℕ) (lt : j < e - suc p). none (suc p + j) (omega arith) (omega arith) in
-      ap (places ends (suc p) (suc (at + p))) n
-      ∙ places-add ends (suc p) (suc (at + p)) (e - suc p) (1 + 1)
-      ∙ (λ i. places-none ends (suc p) (suc (at + p)) (e - suc p) f i ++ places ends (k i) (a i) (1 + 1))
-      ∙ places-add ends e (at + e) 1 1
-      ∙ (λ i.
-      (places-one ends e (at + e) ∙ ap (λ (t : Bool). if t then (at + e) ∷ [] else []) set) i
-      ++ (places-one ends (e + 1) (at + e + 1) ∙ ap (λ (t : Bool). if t then (at + e + 1) ∷ [] else []) (ap (is_set ends) q ∙ past)) i)
-
-  pub piece-scalar : ((j : ℕ) → p ≤ j → j < e → is_blank (byte j) ≡ false) → is_structural (byte p) ≡ false → is_stop (byte e) ≡ true → IsScalar text (at + p) (at + e)
+  pub piece-scalar : is_blank (byte p) ≡ false → is_stop (byte e) ≡ true → IsScalar text (at + p) (at + e)
       → is_set starts p ≡ true → ((j : ℕ) → p < j → j < e → is_set starts j ≡ false) → mark_at starts e (byte e) ≡ (move state.Gap (byte e)).begin
-      → ((j : ℕ) → p < j → j < e → is_set ends j ≡ false) → is_set ends e ≡ true → is_set ends (suc e) ≡ false
-      → Piece text at starts ends p (e + 1) state.Gap state.Gap
-  piece-scalar solid other stop scalar set none last none_end end past =
+      → Piece text at starts p (e + 1) state.Gap state.Gap
+  piece-scalar solid stop scalar set none last =
       let n : at + (e + 1) ≡ at + e + 1 = omega arith in
-      let f = λ (j : ℕ) (from : at + p ≤ j) (to : j < at + e). let k : at + (j - at) ≡ j = omega arith in subst (λ j. is_blank (get_or text j 0) ≡ false) k (solid (j - at) (omega arith) (omega arith)) in
-      ap (λ c. lex state.Gap (at + p) (slice_range text (at + p) c)) n
-      ∙ scalar_read text (at + p) (at + e) (omega arith) fits f other stop scalar
-      ∙ track_of (sym (marks_listed set none last)) (sym (ends_listed none_end end past)) refl
+      let read = scalar_read text (at + p) (at + e) (omega arith) fits solid stop scalar in
+      record {
+        marks = ap (λ c. (lex state.Gap (at + p) (slice_range text (at + p) c)).marks) n ∙ read.0 ∙ sym (marks_listed set none last);
+        exit = ap (λ c. (lex state.Gap (at + p) (slice_range text (at + p) c)).exit) n ∙ read.1;
+      }

@@ -1,5 +1,5 @@
--- What the words of a block say, bit by bit, and that its reading is what they list.
-use Rattle.std.proofs.Common.{◌≡◌, ◌⊎◌, inl, inr, ℕ, zero, suc, ◌+◌, ◌-◌, ◌<◌, ◌≤◌, Bool, true, false, not, List, [], ◌∷◌, length, get_or, Option, Some, None, if◌then◌else◌, refl, ap, sym, subst, ◌∙◌, arith}
+-- What the words of a block say, bit by bit, and that its marks are what they list.
+use Rattle.std.proofs.Common.{◌≡◌, ◌⊎◌, inl, inr, ℕ, zero, suc, ◌+◌, ◌-◌, ◌<◌, ◌≤◌, Bool, true, false, not, List, length, get_or, Option, Some, None, if◌then◌else◌, refl, ap, sym, subst, ◌∙◌, arith}
 use Rattle.std.specs.Prelude.{◌==◌, ◌||◌, ◌&&◌}
 use Rattle.std.proofs.lemmas.Bool.{cases_Bool, cases_lt}
 use Rattle.std.proofs.lemmas.Bool.Decides.{nat_tests}
@@ -8,18 +8,16 @@ use Rattle.jx_lex.specs.declared.alphabet.mark.MarkKind.TheVariants.{String}
 use Rattle.jx_lex.specs.declared.alphabet.state.LexState.{LexState}
 use Rattle.jx_lex.specs.declared.alphabet.state.LexState.TheVariants as state
 use Rattle.jx_lex.specs.declared.alphabet.state.Step.{Step}
-use Rattle.jx_lex.specs.declared.alphabet.state.TokenEnd.{TokenEnd}
-use Rattle.jx_lex.specs.Lex.{with_end}
 use Rattle.jx_lex.specs.Moves.{move, go, begin, close}
 use Rattle.jx_lex.specs.Uneventful.{is_plain, is_blank, is_escaped}
+use Rattle.jx_lex.proofs.Bits.{differ}
 use Rattle.jx_block.specs.inside.Planes.{is_structural, is_stop}
 use Rattle.jx_block.specs.inside.Whole.{IsWhole}
 use Rattle.jx_block.specs.Listed.{is_set}
-use Rattle.jx_block.proofs.Bytes.{Alone, structural_alone, blank_goes, quote_begins, quote_closes, backslash_goes, plain_goes, escaped_goes}
+use Rattle.jx_block.proofs.Bytes.{structural_stays, blank_goes, quote_begins, quote_closes, backslash_goes, plain_goes, escaped_goes}
 use Rattle.jx_block.proofs.Listing.{mark_at}
 use Rattle.jx_block.proofs.Pieces.{Piece, piece-none, piece-then, piece-one}
 use Rattle.jx_block.proofs.ScalarPieces.{piece-scalar}
-use Rattle.jx_block.proofs.Words.{differ}
 
 -- the bit before
 abbrev pub behind : (ℕ → Bool) → ℕ → Bool
@@ -35,7 +33,7 @@ abbrev pub is_other : ℕ → Bool → Bool
 is_other byte before = not (((before || is_blank byte) || is_structural byte) || (byte == 0x22))
 
 -- The words of a block before its place n: a byte is escaped (e), it stands in a string (p), and so does what follows it (i); it is of a scalar (x).
-pub record Told (text : List ℕ) (at starts ends : ℕ) (e i p x stop : ℕ → Bool) (n : ℕ) : Type 0 where
+pub record Told (text : List ℕ) (at starts : ℕ) (e i p x stop : ℕ → Bool) (n : ℕ) : Type 0 where
   pub few : n < 64
   pub carried : (k : ℕ) → k < n → p (suc k) ≡ i k
   pub turned : (k : ℕ) → k < n → i k ≡ differ (p k) (is_real (get_or text (at + k) 0) (e k))
@@ -46,7 +44,6 @@ pub record Told (text : List ℕ) (at starts ends : ℕ) (e i p x stop : ℕ →
   pub stops : (k : ℕ) → k < 64 → stop k ≡ is_stop (get_or text (at + k) 0)
   pub whole : (k : ℕ) → k < n → x k ≡ true → behind x k ≡ false → IsWhole text at x stop k
   pub starts_are : (k : ℕ) → k < n → is_set starts k ≡ (((not (p k) && is_structural (get_or text (at + k) 0)) || (is_real (get_or text (at + k) 0) (e k) && i k)) || (x k && not (behind x k)))
-  pub ends_are : (k : ℕ) → k < n → is_set ends (suc k) ≡ ((is_real (get_or text (at + k) 0) (e k) && p k) || (x k && not (x (suc k))))
   pub boundary : behind x n ≡ false
 
 -- ---- tests
@@ -87,13 +84,7 @@ no_mark starts k b h = by_bit (is_set starts k) ∙ sym (ap (λ (m : Step). if i
     by_bit true = refl
     by_bit false = refl
 
-no_end : (ends k a : ℕ) → is_set ends k ≡ false → [] ≡ (if is_set ends k then a ∷ [] else [])
-no_end ends k a h = sym (ap (λ (t : Bool). if t then a ∷ [] else []) h)
-
-one_end : (ends k a : ℕ) → is_set ends k ≡ true → a ∷ [] ≡ (if is_set ends k then a ∷ [] else [])
-one_end ends k a h = sym (ap (λ (t : Bool). if t then a ∷ [] else []) h)
-
-module _ (text : List ℕ) (at starts ends : ℕ) (e i p x stop : ℕ → Bool) (n : ℕ) (fits : at + 64 ≤ length text) (told : Told text at starts ends e i p x stop n) where
+module _ (text : List ℕ) (at starts : ℕ) (e i p x stop : ℕ → Bool) (n : ℕ) (fits : at + 64 ≤ length text) (told : Told text at starts e i p x stop n) where
   abbrev byte : ℕ → ℕ
   byte k = get_or text (at + k) 0
 
@@ -112,20 +103,19 @@ module _ (text : List ℕ) (at starts ends : ℕ) (e i p x stop : ℕ → Bool) 
 
   -- one step: to a place behind which no scalar goes on
   abbrev Step_from : ℕ → Type 0
-  Step_from q = (r : ℕ) × (q < r) × (r ≤ n) × (behind x r ≡ false) × Piece text at starts ends q r (stands q) (stands r)
+  Step_from q = (r : ℕ) × (q < r) × (r ≤ n) × (behind x r ≡ false) × Piece text at starts q r (stands q) (stands r)
 
   -- a step of one byte
-  one : (q : ℕ) (s t : LexState) (m : Step) → q < n → x q ≡ false → stands q ≡ s → stands (suc q) ≡ t → move s (byte q) ≡ m → m.next ≡ Some t → m.begin ≡ mark_at starts q (byte q)
-      → with_end m.end (at + q) [] ≡ (if is_set ends (suc q) then suc (at + q) ∷ [] else []) → Step_from q
-  one q s t m lt solid from to is next begun ended =
+  one : (q : ℕ) (s t : LexState) (m : Step) → q < n → x q ≡ false → stands q ≡ s → stands (suc q) ≡ t → move s (byte q) ≡ m → m.next ≡ Some t → m.begin ≡ mark_at starts q (byte q) → Step_from q
+  one q s t m lt solid from to is next begun =
       let k : suc q ≡ q + 1 = omega arith in
       let few = told.few in (
         q + 1,
         omega arith,
         omega arith,
         ap (behind x) (sym k) ∙ solid,
-        subst (λ s. Piece text at starts ends q (q + 1) s (stands (q + 1))) (sym from)
-            (subst (λ t. Piece text at starts ends q (q + 1) s t) (sym to ∙ ap stands k) (piece-one text at starts ends q s t m (omega (arith, few)) is next begun ended)),
+        subst (λ s. Piece text at starts q (q + 1) s (stands (q + 1))) (sym from)
+            (subst (λ t. Piece text at starts q (q + 1) s t) (sym to ∙ ap stands k) (piece-one text at starts q s t m (omega (arith, few)) is next begun)),
       )
 
   -- ---- what is known behind a byte, where it is known of it whether it stands in a string (a), and whether it is a quotation mark that counts (r)
@@ -141,9 +131,6 @@ module _ (text : List ℕ) (at starts ends : ℕ) (e i p x stop : ℕ → Bool) 
       told.starts_are q lt
       ∙ (λ j. ((not (h j) && is_structural (byte q)) || (k j && (told.turned q lt ∙ (λ j. differ (h j) (k j))) j)) || (solid j && not (behind x q)))
 
-  ends_at : (q : ℕ) (a r : Bool) → q < n → p q ≡ a → is_real (byte q) (e q) ≡ r → x q ≡ false → is_set ends (suc q) ≡ ((r && a) || false)
-  ends_at q a r lt h k solid = told.ends_are q lt ∙ (λ j. (k j && h j) || (solid j && not (x (suc q))))
-
   below : (q : ℕ) → q < n → q < 64
   below q lt = let few = told.few in omega arith
 
@@ -156,7 +143,7 @@ module _ (text : List ℕ) (at starts ends : ℕ) (e i p x stop : ℕ → Bool) 
       let solid : x q ≡ false = told.other q (below q lt) ∙ ap (is_other b) h in
       one q state.Esc state.Str (go state.Str) lt solid (in_esc q h f)
       (in_str (suc q) (inside_next q true false lt h r) (told.escaped q lt ∙ ap (λ t. not t && (b == 0x5c)) f))
-      (escaped_goes b (told.letter q lt f).0) refl (clear_mark starts q b (starts_at q true false lt h r solid)) (no_end ends (suc q) (suc (at + q)) (ends_at q true false lt h r solid))
+      (escaped_goes b (told.letter q lt f).0) refl (clear_mark starts q b (starts_at q true false lt h r solid))
 
   string_step : (q : ℕ) → q < n → p q ≡ true → e q ≡ false → Step_from q
   string_step q lt h f = by_quote (cases_Bool (byte q == 0x22)) (cases_Bool (byte q == 0x5c))
@@ -171,17 +158,14 @@ module _ (text : List ℕ) (at starts ends : ℕ) (e i p x stop : ℕ → Bool) 
       by_quote (inl quote) o =
           one q state.Str state.Gap close lt solid (in_str q h f) (in_gap (suc q) (inside_next q true true lt h (real true quote)))
           (ap (move state.Str) (equal (byte q) 0x22 quote) ∙ quote_closes) refl (clear_mark starts q (byte q) (starts_at q true true lt h (real true quote) solid))
-          (one_end ends (suc q) (suc (at + q)) (ends_at q true true lt h (real true quote) solid))
       by_quote (inr none) (inl backslash) =
           one q state.Str state.Esc (go state.Esc) lt solid (in_str q h f)
           (in_esc (suc q) (inside_next q true false lt h (real false none)) (escaped_next q false true lt f backslash))
           (ap (move state.Str) (equal (byte q) 0x5c backslash) ∙ backslash_goes) refl (clear_mark starts q (byte q) (starts_at q true false lt h (real false none) solid))
-          (no_end ends (suc q) (suc (at + q)) (ends_at q true false lt h (real false none) solid))
       by_quote (inr none) (inr plain) =
           one q state.Str state.Str (go state.Str) lt solid (in_str q h f)
           (in_str (suc q) (inside_next q true false lt h (real false none)) (escaped_next q false false lt f plain))
           (plain_goes (byte q) (told.plain q lt h f none plain)) refl (clear_mark starts q (byte q) (starts_at q true false lt h (real false none) solid))
-          (no_end ends (suc q) (suc (at + q)) (ends_at q true false lt h (real false none) solid))
 
   -- ---- between tokens
 
@@ -193,12 +177,11 @@ module _ (text : List ℕ) (at starts ends : ℕ) (e i p x stop : ℕ → Bool) 
       by_bit (inl f) = let clash : true ≡ false = sym (told.letter q lt f).1 ∙ h in cc
 
   -- a byte that is no quotation mark, of no scalar, and has a step that keeps the machine between tokens
-  alone_step : (q : ℕ) → q < n → p q ≡ false → (byte q == 0x22) ≡ false → x q ≡ false → Alone (byte q) → (move state.Gap (byte q)).begin ≡ mark_at starts q (byte q) → Step_from q
-  alone_step q lt h none solid alone begun =
+  alone_step : (q : ℕ) → q < n → p q ≡ false → (byte q == 0x22) ≡ false → x q ≡ false → (move state.Gap (byte q)).next ≡ Some state.Gap → (move state.Gap (byte q)).begin ≡ mark_at starts q (byte q) → Step_from q
+  alone_step q lt h none solid stays begun =
       let f = never_escaped q lt h in
       let r : is_real (byte q) (e q) ≡ false = ap (is_real (byte q)) f ∙ none in
-      one q state.Gap state.Gap (move state.Gap (byte q)) lt solid (in_gap q h) (in_gap (suc q) (inside_next q false false lt h r)) refl alone.next begun
-      (ap (λ (o : Option TokenEnd). with_end o (at + q) []) alone.no_end ∙ no_end ends (suc q) (suc (at + q)) (ends_at q false false lt h r solid))
+      one q state.Gap state.Gap (move state.Gap (byte q)) lt solid (in_gap q h) (in_gap (suc q) (inside_next q false false lt h r)) refl stays begun
 
   quote_step : (q : ℕ) → q < n → p q ≡ false → (byte q == 0x22) ≡ true → Step_from q
   quote_step q lt h quote =
@@ -211,14 +194,13 @@ module _ (text : List ℕ) (at starts ends : ℕ) (e i p x stop : ℕ → Bool) 
       one q state.Gap state.Str (begin String state.Str) lt solid (in_gap q h)
       (in_str (suc q) (inside_next q false true lt h r) (escaped_next q false false lt f (ap (λ c. c == 0x5c) is)))
       (ap (move state.Gap) is ∙ quote_begins) refl (sym (ap (λ c. (move state.Gap c).begin) is ∙ ap (λ (m : Step). m.begin) quote_begins) ∙ set_mark starts q b set)
-      (no_end ends (suc q) (suc (at + q)) (ends_at q false true lt h r solid))
 
   blank_step : (q : ℕ) → q < n → p q ≡ false → is_blank (byte q) ≡ true → Step_from q
   blank_step q lt h blank =
       let goes = blank_goes (byte q) blank in
       alone_step q lt h (blank_no_quote (byte q) blank)
       (told.other q (below q lt) ∙ (λ j. not (((h j || blank j) || is_structural (byte q)) || (byte q == 0x22))))
-      (record { no_end = ap (λ (m : Step). m.end) goes; next = ap (λ (m : Step). m.next) goes })
+      (ap (λ (m : Step). m.next) goes)
       (ap (λ (m : Step). m.begin) goes ∙ no_mark starts q (byte q) goes)
 
   structural_step : (q : ℕ) → q < n → p q ≡ false → is_blank (byte q) ≡ false → is_structural (byte q) ≡ true → Step_from q
@@ -227,7 +209,7 @@ module _ (text : List ℕ) (at starts ends : ℕ) (e i p x stop : ℕ → Bool) 
       let f = never_escaped q lt h in
       let r : is_real (byte q) (e q) ≡ false = ap (is_real (byte q)) f ∙ none in
       let x_none : x q ≡ false = told.other q (below q lt) ∙ (λ j. not (((h j || solid j) || structural j) || (byte q == 0x22))) in
-      alone_step q lt h none x_none (structural_alone (byte q) structural)
+      alone_step q lt h none x_none (structural_stays (byte q) structural)
       (set_mark starts q (byte q) (starts_at q false false lt h r x_none ∙ ap (λ t. ((true && t) || false) || false) structural))
 
   -- a byte that is no quotation mark, outside of strings
@@ -293,18 +275,6 @@ module _ (text : List ℕ) (at starts ends : ℕ) (e i p x stop : ℕ → Bool) 
     starts_inside : (j : ℕ) → q < j → j < end → is_set starts j ≡ false
     starts_inside j from to = starts_in j (omega arith) to ∙ (λ t. w.run j (omega arith) to t && not (going j (j - 1) (omega arith) (omega arith) (omega arith) t))
 
-    ends_in : (j k : ℕ) → j ≡ suc k → q ≤ k → k < end → is_set ends j ≡ not (x j)
-    ends_in j k is from to =
-        let a = alike k from to in
-        let o = over in
-        ap (is_set ends) is ∙ told.ends_are k (omega arith) ∙ (λ t. (no_real k (omega arith) a.0 a.3 t && p k) || (w.run k from to t && not (x (sym is t))))
-
-    ends_inside : (j : ℕ) → q < j → j < end → is_set ends j ≡ false
-    ends_inside j from to = ends_in j (j - 1) (omega arith) (omega arith) (omega arith) ∙ ap not (w.run j (omega arith) to)
-
-    ends_there : is_set ends end ≡ true
-    ends_there = ends_in end final (sym end_is) final_from final_to ∙ ap not w.over
-
     mark_there : mark_at starts end (byte end) ≡ (move state.Gap (byte end)).begin
     mark_there = by_kind (cases_Bool (is_structural (byte end)))
       where
@@ -326,10 +296,9 @@ module _ (text : List ℕ) (at starts ends : ℕ) (e i p x stop : ℕ → Bool) 
           omega arith,
           omega arith,
           ap (behind x) (sym k) ∙ w.over,
-          subst (λ s. Piece text at starts ends q (end + 1) s (stands (end + 1))) (sym (in_gap q h))
-              (subst (λ t. Piece text at starts ends q (end + 1) state.Gap t) (sym (in_gap (suc end) (inside_next end false false o outside end_plain)) ∙ ap stands k)
-              (piece-scalar text at starts ends q end low (omega arith) (λ j from to. (alike j from to).1) first.2 stops_there w.is
-              (starts_in q (omega arith) low ∙ (λ t. begun t && not (fresh t))) starts_inside mark_there ends_inside ends_there (ends_at end false false o outside end_plain w.over))),
+          subst (λ s. Piece text at starts q (end + 1) s (stands (end + 1))) (sym (in_gap q h))
+              (subst (λ t. Piece text at starts q (end + 1) state.Gap t) (sym (in_gap (suc end) (inside_next end false false o outside end_plain)) ∙ ap stands k)
+              (piece-scalar text at starts q end low (omega arith) first.1 stops_there w.is (starts_in q (omega arith) low ∙ (λ t. begun t && not (fresh t))) starts_inside mark_there)),
         )
 
   -- ---- the walk
@@ -352,21 +321,21 @@ module _ (text : List ℕ) (at starts ends : ℕ) (e i p x stop : ℕ → Bool) 
       by_place (inl h) (inr f) = string_step q lt h f
       by_place (inr h) f = gap_step_from q lt h fresh
 
-  walk : (fuel q : ℕ) → n ≤ q + fuel → q ≤ n → behind x q ≡ false → Piece text at starts ends q n (stands q) (stands n)
+  walk : (fuel q : ℕ) → n ≤ q + fuel → q ≤ n → behind x q ≡ false → Piece text at starts q n (stands q) (stands n)
   walk zero q most le fresh =
       let same : q ≡ n = omega arith in
-      subst (λ r. Piece text at starts ends q r (stands q) (stands r)) same (piece-none text at starts ends q (stands q))
+      subst (λ r. Piece text at starts q r (stands q) (stands r)) same (piece-none text at starts q (stands q))
   walk (suc fuel) q most le fresh = by_order (cases_lt q n) (walk fuel)
     where
-      by_order : (q < n) ⊎ (n ≤ q) → ((r : ℕ) → n ≤ r + fuel → r ≤ n → behind x r ≡ false → Piece text at starts ends r n (stands r) (stands n)) → Piece text at starts ends q n (stands q) (stands n)
+      by_order : (q < n) ⊎ (n ≤ q) → ((r : ℕ) → n ≤ r + fuel → r ≤ n → behind x r ≡ false → Piece text at starts r n (stands r) (stands n)) → Piece text at starts q n (stands q) (stands n)
       by_order (inr ge) on =
           let same : q ≡ n = omega arith in
-          subst (λ r. Piece text at starts ends q r (stands q) (stands r)) same (piece-none text at starts ends q (stands q))
+          subst (λ r. Piece text at starts q r (stands q) (stands r)) same (piece-none text at starts q (stands q))
       by_order (inl lt) on =
           let s = step q lt fresh in
           let up = s.1 in
           let few = told.few in
-          piece-then text at starts ends q s.0 n (stands q) (stands s.0) (stands n) (omega (arith, up)) s.2 (omega arith) s.4 (on s.0 (omega (arith, up)) s.2 s.3)
+          piece-then text at starts q s.0 n (stands q) (stands s.0) (stands n) (omega (arith, up)) s.2 (omega arith) s.4 (on s.0 (omega (arith, up)) s.2 s.3)
 
-  pub told_read : Piece text at starts ends 0 n (stands 0) (stands n)
+  pub told_read : Piece text at starts 0 n (stands 0) (stands n)
   told_read = walk n 0 (omega arith) (omega arith) refl

@@ -1,34 +1,11 @@
 -- Bits of words.
-use Rattle.std.proofs.Common.{◌≡◌, ◌≢◌, ℕ, zero, suc, ◌+◌, ◌-◌, ◌*◌, ◌/◌, ◌%◌, ◌^◌, ◌<◌, ◌≤◌, Bool, true, false, not, refl, sym, ap, ◌∙◌, ◌⊎◌, inl, inr, arith, w64, bit_and, bit_xor}
+use Rattle.std.proofs.Common.{◌≡◌, ◌≢◌, ℕ, zero, suc, ◌+◌, ◌-◌, ◌*◌, ◌/◌, ◌%◌, ◌^◌, ◌<◌, ◌≤◌, Bool, true, false, not, refl, sym, ap, ◌∙◌, ◌⊎◌, inl, inr, arith, w64, bit_and}
 use Rattle.std.specs.Prelude.{◌==◌, ◌&&◌}
 use Rattle.std.specs.Int.{bit_at, trailing_zeros}
 use Rattle.std.proofs.lemmas.Bool.{cases_lt}
-use Rattle.std.proofs.lemmas.Nat.{shr-shr}
-use Rattle.std.proofs.lemmas.Nat.Bits.{bit_at-trailing_zeros, bit_at_xor, bit_at-lt, bit_at_lowest, bit_at-suc, bit_at-zero, ones_shr, bit_at_ones}
+use Rattle.std.proofs.lemmas.Nat.Bits.{bit_at-trailing_zeros, bit_at_lowest, bit_at-suc, bit_at-zero, ones_shr, bit_at_ones}
 use Rattle.jx_lex.specs.inside.Bits.{bit}
 use Rattle.jx_lex.proofs.Bits.{bit-and, bit-xor, bit-up, no_difference_above}
-
-abbrev pub differ : Bool → Bool → Bool
-differ true b = not b
-differ false b = b
-
--- a shift to the right
-pub bit-shr : (a k j : ℕ) → bit (a / 2 ^ k) j ≡ bit a (k + j)
-unfolding bit
-bit-shr a k j = ap (λ n. n % 2 == 1) (shr-shr a k j)
-
-odd_sum : (x y : ℕ) → x < 2 → y < 2 → ((x + y) % 2 == 1) ≡ differ (x == 1) (y == 1)
-odd_sum zero zero h k = refl
-odd_sum zero (suc zero) h k = refl
-odd_sum (suc zero) zero h k = refl
-odd_sum (suc zero) (suc zero) h k = refl
-odd_sum (suc (suc x)) y h k = absurd (omega arith)
-odd_sum zero (suc (suc y)) h k = absurd (omega arith)
-odd_sum (suc zero) (suc (suc y)) h k = absurd (omega arith)
-
-pub bit-differ : (a b k : ℕ) → bit (bit_xor a b) k ≡ differ (bit a k) (bit b k)
-unfolding bit
-bit-differ a b k = ap (λ n. n == 1) (bit_at_xor a b k) ∙ odd_sum (bit_at a k) (bit_at b k) (bit_at-lt a k) (bit_at-lt b k)
 
 -- the lowest n bits
 pub bit-low : (n k : ℕ) → n ≤ 64 → k < n → bit ((2 ^ 64 - 1) / 2 ^ (64 - n)) k ≡ true
@@ -125,16 +102,6 @@ cleared w some fits =
         let e : suc (w - 1) ≡ w = omega arith in
         and_same (bit w j) (bit (w - 1) j) (bit-xor w (w - 1) j (no_difference_above w (w - 1) (trailing_zeros w64 w) j e after (lowest_set w some fits).1))
     by_order j (inr past) (inr before) apart = absurd (apart (omega arith))
-
--- a bit that is not among all of them is not set
-pub in_neither : (w all k : ℕ) → k < 64 → all ≡ 2 ^ 64 - 1 → bit (bit_and w all) k ≡ false → bit w k ≡ false
-unfolding bit
-in_neither w all k lt is none = of_both (bit w k) (bit all k) (ap (λ a. bit_at a k == 1) is ∙ ap (λ n. n == 1) (bit_at_ones 64 k lt)) (sym (bit-and w all k) ∙ none)
-  where
-    of_both : (a b : Bool) → b ≡ true → (a && b) ≡ false → a ≡ false
-    of_both true true e h = h
-    of_both true false e h = absurd cc
-    of_both false b e h = refl
 
 -- where a bit is set and none is left, it is among the others
 pub left_none : (s a : Bool) → (s && not a) ≡ false → s ≡ true → a ≡ true

@@ -1,8 +1,8 @@
 -- The words of a block say, bit by bit, what its bytes are.
-use Rattle.std.proofs.Common.{◌≡◌, ◌⊎◌, inl, inr, ℕ, zero, suc, ◌+◌, ◌-◌, ◌*◌, ◌/◌, ◌%◌, ◌^◌, ◌<◌, ◌≤◌, Bool, true, false, not, List, ◌∷◌, length, get_or, map, drop, if◌then◌else◌, refl, ap, sym, ◌∙◌, arith, mod-lt, bit_and, bit_or, bit_xor}
+use Rattle.std.proofs.Common.{◌≡◌, ◌⊎◌, inl, inr, ℕ, zero, suc, ◌+◌, ◌-◌, ◌*◌, ◌/◌, ◌%◌, ◌^◌, ◌<◌, ◌≤◌, Bool, true, false, not, List, length, get_or, map, drop, if◌then◌else◌, refl, ap, sym, ◌∙◌, arith, mod-lt, bit_and, bit_or, bit_xor}
 use Rattle.std.specs.Prelude.{◌==◌, ◌||◌, ◌&&◌, slice_range}
 use Rattle.std.specs.Simd.Lanes.{mask_l, chunk}
-use Rattle.std.proofs.lemmas.Bool.{or_parts}
+use Rattle.std.proofs.lemmas.Bool.{or_parts, not-false}
 use Rattle.std.proofs.lemmas.List.{get_or-drop, get_or-take}
 use Rattle.std.proofs.lemmas.Nat.{or_lt, and_le_l, pow_pos}
 use Rattle.std.proofs.lemmas.Simd.{length-chunk}
@@ -12,13 +12,11 @@ use Rattle.jx_lex.specs.inside.Bits.{bit}
 use Rattle.jx_lex.specs.Lex.{lex}
 use Rattle.jx_lex.specs.Lex as reading
 use Rattle.jx_lex.specs.Uneventful.{is_plain, is_blank, is_escaped}
-use Rattle.jx_lex.proofs.Bits.{bit-and, bit-or, bit-not, bit-xor, bit-none, bit-down, bit-mask, bit-up, bit-up_first}
+use Rattle.jx_lex.proofs.Bits.{bit-and, bit-or, bit-not, bit-xor, bit-none, bit-down, bit-mask, bit-up, bit-up_first, differ, bit-differ}
 use Rattle.jx_block.specs.inside.Planes.{is_structural, is_stop}
 use Rattle.jx_block.specs.inside.Whole.{IsWhole}
-use Rattle.jx_block.specs.Listed.{is_set, marks_of, places}
-use Rattle.jx_block.proofs.Pieces.{track_of}
+use Rattle.jx_block.specs.Listed.{marks_of}
 use Rattle.jx_block.proofs.Told.{Told, behind, is_real, is_other, told_read, stands}
-use Rattle.jx_block.proofs.Words.{differ, bit-differ}
 
 abbrev pub flip : ℕ → ℕ
 flip w = 2 ^ 64 - 1 - w
@@ -69,22 +67,18 @@ plain_of true o true q b h i j k l = absurd cc
 plain_of true o false true b h i j k l = absurd cc
 plain_of true o false false true h i j k l = absurd cc
 
-not_false : (a : Bool) → not a ≡ false → a ≡ true
-not_false true h = refl
-not_false false h = sym h
-
--- The words of a block: c 1 inside a string and 0 between tokens; q quotation marks, b backslashes, l letters behind them, o no ordinary
--- ASCII, w blanks, s structural characters; e what is escaped, i what goes on inside a string; x scalars that are wrong.
-module _ (text : List ℕ) (at c q b l o w s e i x n fs fe : ℕ) (fits : at + 64 ≤ length text) (q_is : q ≡ mask_l (map (λ byte. byte == 0x22) (chunk at 64 text)))
+-- The words of a block: q quotation marks, b backslashes, l letters behind them, o no ordinary ASCII, w blanks, s structural characters;
+-- e what is escaped, i what goes on inside a string; x scalars that are wrong.
+module _ (text : List ℕ) (at q b l o w s e i x n fs : ℕ) (fits : at + 64 ≤ length text) (q_is : q ≡ mask_l (map (λ byte. byte == 0x22) (chunk at 64 text)))
     (b_is : b ≡ mask_l (map (λ byte. byte == 0x5c) (chunk at 64 text))) (l_is : (e ≡ 0) ⊎ (l ≡ mask_l (map is_escaped (chunk at 64 text))))
     (o_is : o ≡ mask_l (map (λ byte. not (is_plain byte)) (chunk at 64 text))) (w_is : w ≡ mask_l (map is_blank (chunk at 64 text)))
     (s_is : s ≡ mask_l (map is_structural (chunk at 64 text)))
-    (c_fits : c < 2) (q_fits : q < 2 ^ 64) (b_fits : b < 2 ^ 64) (w_fits : w < 2 ^ 64) (s_fits : s < 2 ^ 64) (l_fits : l < 2 ^ 64) (e_fits : e < 2 ^ 64) where
+    (q_fits : q < 2 ^ 64) (b_fits : b < 2 ^ 64) (w_fits : w < 2 ^ 64) (s_fits : s < 2 ^ 64) (l_fits : l < 2 ^ 64) (e_fits : e < 2 ^ 64) where
   abbrev pub real : ℕ
   real = bit_and (flip e) q
 
   abbrev pub before : ℕ
-  before = bit_or (i * 2 % 2 ^ 64) c
+  before = i * 2 % 2 ^ 64
 
   abbrev pub scalars : ℕ
   scalars = flip (bit_or (bit_or (bit_or before w) s) q)
@@ -98,9 +92,6 @@ module _ (text : List ℕ) (at c q b l o w s e i x n fs fe : ℕ) (fits : at + 6
   abbrev pub starts : ℕ
   starts = bit_or (bit_or (bit_and (flip before) s) (bit_and real i)) firsts
 
-  abbrev pub ends : ℕ
-  ends = bit_or (bit_and real before) (bit_and scalars (flip (scalars / 2))) * 2 % 2 ^ 64
-
   abbrev byte : ℕ → ℕ
   byte k = get_or text (at + k) 0
 
@@ -108,7 +99,7 @@ module _ (text : List ℕ) (at c q b l o w s e i x n fs fe : ℕ) (fits : at + 6
   stop k = is_stop (byte k)
 
   before_fits : before < 2 ^ 64
-  before_fits = or_lt 64 (i * 2 % 2 ^ 64) c (mod-lt (i * 2) (pow_pos 64)) (omega arith)
+  before_fits = mod-lt (i * 2) (pow_pos 64)
 
   taken_fits : bit_or (bit_or (bit_or before w) s) q < 2 ^ 64
   taken_fits = or_lt 64 (bit_or (bit_or before w) s) q (or_lt 64 (bit_or before w) s (or_lt 64 before w before_fits w_fits) s_fits) q_fits
@@ -119,18 +110,8 @@ module _ (text : List ℕ) (at c q b l o w s e i x n fs fe : ℕ) (fits : at + 6
   real_at : (k : ℕ) → k < 64 → bit real k ≡ is_real (byte k) (bit e k)
   real_at k lt = and_but q e k e_fits lt ∙ ap (λ t. not (bit e k) && t) (quote_at k lt)
 
-  carry_none : (k : ℕ) → bit c (suc k) ≡ false
-  carry_none k = let none : c / 2 ≡ 0 = omega arith in sym (bit-down c k) ∙ ap (λ c. bit c k) none ∙ bit-none k
-
-  or_false : (a : Bool) → (a || false) ≡ a
-  or_false true = refl
-  or_false false = refl
-
   before_next : (k : ℕ) → suc k < 64 → bit before (suc k) ≡ bit i k
-  before_next k lt = bit-or (i * 2 % 2 ^ 64) c (suc k) ∙ (λ j. shifted i (suc k) lt j || carry_none k j) ∙ or_false (bit i k)
-
-  pub before_first : bit before 0 ≡ bit c 0
-  before_first = bit-or (i * 2 % 2 ^ 64) c 0 ∙ ap (λ t. t || bit c 0) (bit-up_first i)
+  before_next k lt = shifted i (suc k) lt
 
   scalar_at : (k : ℕ) → k < 64 → bit scalars k ≡ is_other (byte k) (bit before k)
   scalar_at k lt =
@@ -154,18 +135,6 @@ module _ (text : List ℕ) (at c q b l o w s e i x n fs fe : ℕ) (fits : at + 6
       ∙ (λ j. (and_but s before k before_fits lt ∙ ap (λ t. not (bit before k) && t) (test_at is_structural text at s fits s_is k lt)) j || (bit-and real i k ∙ ap (λ t. t && bit i k) (real_at k lt)) j)) j
       || first_at k lt j)
 
-  half_fits : scalars / 2 < 2 ^ 64
-  half_fits = omega arith
-
-  ends_at : (k : ℕ) → suc k < 64 → bit ends (suc k) ≡ ((is_real (byte k) (bit e k) && bit before k) || (bit scalars k && not (bit scalars (suc k))))
-  ends_at k lt =
-      let low : k < 64 = omega arith in
-      shifted (bit_or (bit_and real before) (bit_and scalars (flip (scalars / 2)))) (suc k) lt
-      ∙ bit-or (bit_and real before) (bit_and scalars (flip (scalars / 2))) k
-      ∙ (λ j.
-      (bit-and real before k ∙ ap (λ t. t && bit before k) (real_at k low)) j
-      || (but scalars (scalars / 2) k half_fits low ∙ ap (λ t. bit scalars k && not t) (bit-down scalars k)) j)
-
   letter_at : (k : ℕ) → k < 64 → bit e k ≡ true → bit l k ≡ is_escaped (byte k)
   letter_at k lt set = by_word l_is
     where
@@ -179,9 +148,9 @@ module _ (text : List ℕ) (at c q b l o w s e i x n fs fe : ℕ) (fits : at + 6
   marked_fits : bit_or (bit_or e q) b < 2 ^ 64
   marked_fits = or_lt 64 (bit_or e q) b (or_lt 64 e q e_fits q_fits) b_fits
 
-  module _ (few : n < 64) (right : (k : ℕ) → k < n → bit wrong k ≡ false) (between : bit (bit_or e (scalars * 2 % 2 ^ 64)) n ≡ false)
+  module _ (few : n < 64) (right : (k : ℕ) → k < n → bit wrong k ≡ false) (between : bit (bit_or (bit_or e (scalars * 2 % 2 ^ 64)) before) n ≡ false)
       (whole : (k : ℕ) → k < 64 → bit firsts k ≡ true → ((j : ℕ) → j ≤ k → bit x j ≡ false) → IsWhole text at (bit scalars) stop k)
-      (fs_kept : (k : ℕ) → k < n → bit fs k ≡ bit starts k) (fe_kept : (k : ℕ) → k < n + 1 → bit fe k ≡ bit ends k) where
+      (fs_kept : (k : ℕ) → k < n → bit fs k ≡ bit starts k) where
     low : (k : ℕ) → k < n → k < 64
     low k lt = omega arith
 
@@ -195,7 +164,11 @@ module _ (text : List ℕ) (at c q b l o w s e i x n fs fe : ℕ) (fits : at + 6
         let g = neither (bit_xor i (bit_xor before real)) (bit_xor (e / 2) (bit_and (flip e) b)) k f.0 in
         (g.0, g.1, f.1, d.1, a.1)
 
-    told : Told text at fs fe (bit e) (bit i) (bit before) (bit scalars) stop n
+    -- the place n is in no scalar, and the byte before it no backslash
+    parted : (bit e n ≡ false) × (bit (scalars * 2 % 2 ^ 64) n ≡ false)
+    parted = neither e (scalars * 2 % 2 ^ 64) n (neither (bit_or e (scalars * 2 % 2 ^ 64)) before n between).0
+
+    told : Told text at fs (bit e) (bit i) (bit before) (bit scalars) stop n
     unfolding bit
     told = record {
       few = few;
@@ -211,7 +184,7 @@ module _ (text : List ℕ) (at c q b l o w s e i x n fs fe : ℕ) (fits : at + 6
           (sym (letter_at k (low k lt) set) ∙ both.0, both.1);
       plain = λ k lt inside free no_quote no_backslash.
           let at_o = test_at (λ byte. not (is_plain byte)) text at o fits o_is k (low k lt) in
-          not_false _ (sym at_o ∙ plain_of (bit before k) (bit o k) (bit e k) (bit q k) (bit b k)
+          not-false _ (sym at_o ∙ plain_of (bit before k) (bit o k) (bit e k) (bit q k) (bit b k)
           (sym (but (bit_and before o) (bit_or (bit_or e q) b) k marked_fits (low k lt)
           ∙ (λ j. bit-and before o k j && not ((bit-or (bit_or e q) b k ∙ ap (λ t. t || bit b k) (bit-or e q k)) j))) ∙ (parts k lt).3)
           inside free (quote_at k (low k lt) ∙ no_quote) (test_at (λ byte. byte == 0x5c) text at b fits b_is k (low k lt) ∙ no_backslash));
@@ -220,46 +193,22 @@ module _ (text : List ℕ) (at c q b l o w s e i x n fs fe : ℕ) (fits : at + 6
       whole = λ k lt set fresh.
           whole k (low k lt) (first_at k (low k lt) ∙ (λ j. set j && not (fresh j))) (λ j le. (parts j (omega arith)).4);
       starts_are = λ k lt. fs_kept k lt ∙ starts_at k (low k lt);
-      ends_are = λ k lt. fe_kept (suc k) (omega arith) ∙ ends_at k (omega arith);
-      boundary = sym (shifted scalars n few) ∙ (neither e (scalars * 2 % 2 ^ 64) n between).1;
+      boundary = sym (shifted scalars n few) ∙ parted.1;
     }
 
-    escape_none : bit e n ≡ false
-    escape_none = (neither e (scalars * 2 % 2 ^ 64) n between).0
+    abbrev stands_at : ℕ → LexState
+    stands_at = stands text at fs (bit e) (bit i) (bit before) (bit scalars) stop n fits told
 
-    carry_is : (c : ℕ) → c < 2 → bit c 0 ≡ (c == 1)
-    unfolding bit
-    carry_is zero lt = refl
-    carry_is (suc zero) lt = refl
-    carry_is (suc (suc c)) lt = absurd (omega arith)
+    in_gap : (k : ℕ) → bit before k ≡ false → stands_at k ≡ state.Gap
+    in_gap k h = ap (λ (t : Bool). if t then (if bit e k then state.Esc else state.Str) else state.Gap) h
 
-    none_first : is_set fe 0 ≡ false
-    unfolding bit
-    none_first = fe_kept 0 (omega arith) ∙ bit-up_first (bit_or (bit_and real before) (bit_and scalars (flip (scalars / 2))))
-
-    ends_from_0 : places fe 0 at (n + 1) ≡ places fe 1 (suc (at + 0)) (n - 0)
-    unfolding places
-    ends_from_0 =
-        let k : n + 1 ≡ suc n = omega arith in
-        let m : n ≡ n - 0 = omega arith in
-        let a : suc at ≡ suc (at + 0) = omega arith in
-        ap (places fe 0 at) k ∙ ap (λ (t : Bool). if t then at ∷ places fe 1 (suc at) n else places fe 1 (suc at) n) none_first ∙ (λ j. places fe 1 (a j) (m j))
-
-    abbrev first_state : LexState
-    first_state = stands text at fs fe (bit e) (bit i) (bit before) (bit scalars) stop n fits told 0
-
-    -- the bytes before n are read as the words list them
-    pub block_read : (from : LexState) → from ≡ (if c == 1 then state.Str else state.Gap) → bit e 0 ≡ false
-        → lex from at (slice_range text at (at + n)) ≡ record {
-          marks = marks_of fs 0 at (slice_range text at (at + n));
-          ends = places fe 0 at (n + 1);
-          exit = reading.state (if bit before n then state.Str else state.Gap);
-        }
-    block_read from is free =
-        let begun : from ≡ first_state = is ∙ sym (λ j. if (before_first ∙ carry_is c c_fits) j then (if free j then state.Esc else state.Str) else state.Gap) in
+    -- the bytes before n are read as the word lists them
+    pub block_read : ((lex state.Gap at (slice_range text at (at + n))).marks ≡ marks_of fs 0 at (slice_range text at (at + n))) × ((lex state.Gap at (slice_range text at (at + n))).exit ≡ reading.state state.Gap)
+    block_read =
+        let begun : stands_at 0 ≡ state.Gap = in_gap 0 (bit-up_first i) in
+        let ended : stands_at n ≡ state.Gap = in_gap n (neither (bit_or e (scalars * 2 % 2 ^ 64)) before n between).1 in
         let at_0 : at ≡ at + 0 = omega arith in
-        ap (λ f. lex f at (slice_range text at (at + n))) begun
-        ∙ ap (λ a. lex first_state a (slice_range text a (at + n))) at_0
-        ∙ told_read text at fs fe (bit e) (bit i) (bit before) (bit scalars) stop n fits told
-        ∙ track_of (ap (λ a. marks_of fs 0 a (slice_range text a (at + n))) (sym at_0)) (sym ends_from_0)
-        (ap (λ t. reading.state (if bit before n then (if t then state.Esc else state.Str) else state.Gap)) escape_none)
+        let read = told_read text at fs (bit e) (bit i) (bit before) (bit scalars) stop n fits told in (
+          (λ j. (lex (sym begun j) (at_0 j) (slice_range text (at_0 j) (at + n))).marks) ∙ read.marks ∙ ap (λ a. marks_of fs 0 a (slice_range text a (at + n))) (sym at_0),
+          (λ j. (lex (sym begun j) (at_0 j) (slice_range text (at_0 j) (at + n))).exit) ∙ read.exit ∙ ap reading.state ended,
+        )

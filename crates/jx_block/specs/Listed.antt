@@ -1,5 +1,5 @@
--- The marks and the ends of tokens that the bits of words list.
-use Rattle.std.specs.Prelude.{ℕ, zero, suc, Bool, ◌==◌, if◌then◌else◌, None, List, [], ◌∷◌}
+-- The marks that the bits of a word list.
+use Rattle.std.specs.Prelude.{ℕ, suc, Bool, ◌==◌, if◌then◌else◌, None, List, [], ◌∷◌}
 use Rattle.std.specs.Int.{bit_at}
 use Rattle.jx_lex.specs.declared.alphabet.mark.Mark.{Mark}
 use Rattle.jx_lex.specs.declared.alphabet.state.LexState.TheVariants.{Gap}
@@ -14,8 +14,3 @@ is_set word k = bit_at word k == 1
 unfoldable pub marks_of : ℕ → ℕ → ℕ → List ℕ → List Mark
 marks_of word k at [] = []
 marks_of word k at (byte ∷ bytes) = with_mark (if is_set word k then (move Gap byte).begin else None) at (marks_of word (suc k) (suc at) bytes)
-
--- the offsets whose bits are set: n bits from k on, the offsets from one on
-unfoldable pub places : ℕ → ℕ → ℕ → ℕ → List ℕ
-places word k at zero = []
-places word k at (suc n) = if is_set word k then at ∷ places word (suc k) (suc at) n else places word (suc k) (suc at) n

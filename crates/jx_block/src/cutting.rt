@@ -2,15 +2,6 @@
 ghost use Rattle.std.specs.Prelude.{◌≡◌, ◌≤◌, ◌<◌, ◌^◌, ℕ, false};
 ghost use Rattle.jx_lex.specs.inside.Bits.{bit};
 
-/// Whether a bit is set.
-#[inline(always)]
-pub(crate) fn is_bit(word: u64, k: usize) -> bool
-    requires { k < 64 }
-    ensures { result ≡ bit word k }
-{
-    (word >> k) & 1 == 1
-}
-
 /// The first n bits of a word.
 #[inline(always)]
 pub(crate) fn first_bits(word: u64, n: usize) -> u64

@@ -1,7 +1,7 @@
 -- In a text that is accepted by settings, what is found whatever names its objects have is what is found by settings.
-use Rattle.std.proofs.Common.{◌≡◌, List, ℕ, Vec, Global, [], ◌∷◌, Result, Ok, Err, ◌⊎◌, inl, inr, sym, subst}
+use Rattle.std.proofs.Common.{◌≡◌, ◌<◌, arith, length, List, ℕ, Vec, Global, [], ◌∷◌, Result, Ok, Err, ◌⊎◌, inl, inr, sym, subst}
 use Rattle.std.specs.List.{AllZip}
-use Rattle.std.specs.Prelude.{IfErr, IfOk, MatchResult}
+use Rattle.std.specs.Prelude.{IfErr, IfOk, MatchResult, Some, slice_get}
 use Rattle.std.specs.declared.alloc.AllocError.{AllocError}
 use Rattle.jx_run.specs.declared.texts.settings.NameRule.{NameRule}
 use Rattle.jx_run.specs.declared.texts.settings.NameRule.TheVariants.{Any}
@@ -53,10 +53,6 @@ module _ (settings : Settings) (text : List ℕ) (known : (settings.names ≡ An
       by (inl any) = same any verdict.Accepted h
       by (inr told) = told
 
-  pub found_by_any : (pointer : List ℕ) (read : Result (Result Found FindFault) Refusal) → IsFoundBy (any_names settings) text pointer read → IsFoundBy settings text pointer read
-  found_by_any pointer (Ok found) h = (accepted h.0, record { tree = h.1.tree; is_text = with_names h.1.tree h.1.is_text; found_is = h.1.found_is })
-  found_by_any pointer (Err refusal) h = refused refusal h
-
   pub each_found : (tree : Tree) → IsDocumentBy settings 0 text tree → IsVerdictBy settings text verdict.Accepted → (pointers : List (List ℕ)) (found : List (Result Found FindFault))
       → AllZip (λ (pointer : List ℕ) (one : Result Found FindFault). one ≡ found_of (led text tree (tokens pointer))) pointers found → AreFoundBy settings text pointers found
   each_found tree d a [] [] h = tt
@@ -75,3 +71,16 @@ module _ (settings : Settings) (text : List ℕ) (known : (settings.names ≡ An
   each_result pointers (Ok (Ok found)) a h r = all_by_any pointers found.items a h
   each_result pointers (Ok (Err refusal)) a h r = refused refusal r
   each_result pointers (Err fault) a h r = tt
+
+-- ---- one pointer
+
+pub some_found : (settings : Settings) (text pointer : List ℕ) (found : List (Result Found FindFault)) → AreFoundBy settings text (pointer ∷ []) found → 0 < length found
+some_found settings text pointer [] h = absurd h
+some_found settings text pointer (one ∷ found) h = omega arith
+
+pub first_found : (settings : Settings) (text pointer : List ℕ) (found : List (Result Found FindFault)) (one : Result Found FindFault) → AreFoundBy settings text (pointer ∷ []) found
+    → slice_get found 0 ≡ Some one → IsFoundBy settings text pointer (Ok one)
+first_found settings text pointer [] one h is = absurd h
+first_found settings text pointer (x ∷ found) one h is =
+    let same : x ≡ one = cc in
+    subst (λ (y : Result Found FindFault). IsFoundBy settings text pointer (Ok y)) same h.0

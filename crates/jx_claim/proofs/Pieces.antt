@@ -200,11 +200,6 @@ regular_of_size len size n some few = record {
 pub few_enough : (len size n : ℕ) → len ≤ n * size → n ≤ 4294967295 → len ≤ 4294967295 * size
 few_enough len size n enough low = omega (arith, mul-le-mul_right size low)
 
-pub too_many : (len size n : ℕ) → n * size < len + size → 4294967295 < n → 4294967295 * size < len
-too_many len size n few high =
-    let more : 4294967296 ≤ n = omega arith in
-    omega (arith, mul-le-mul_right size more)
-
 -- how many regular pieces end at an offset or before it
 pub regular_ended : (len size n offset q : ℕ) → 0 < size → len ≤ n * size → n * size < len + size → offset < len → q * size ≤ offset → offset < q * size + size
     → AreEnded offset q (regular len size n 0)

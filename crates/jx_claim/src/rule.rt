@@ -70,7 +70,7 @@ impl Split<View> for CutSeat {
 pub struct JoinSeats;
 
 impl Join<View> for JoinSeats {
-    ghost use Rattle.std.specs.Prelude.{◌+◌, ◌++◌, []};
+    ghost use Rattle.std.specs.Prelude.{[]};
     ghost use Rattle.jx_claim.specs.inside.Dealt.{view, both};
 
     ghost both = { both };

@@ -1,14 +1,13 @@
 -- What ends a text that was begun makes one of it.
-use Rattle.std.proofs.Common.{◌≡◌, ℕ, suc, cond, ◌+◌, ◌≤◌, ◌<◌, List, [], ◌∷◌, ◌++◌, length, take, drop, Bool, true, false, refl, sym, ap, subst, ◌∙◌, arith}
-use Rattle.std.specs.Prelude.{◌==◌, Some}
-use Rattle.std.proofs.lemmas.Bool.Decides.{nat_tests}
+use Rattle.std.proofs.Common.{◌≡◌, ℕ, ◌+◌, ◌≤◌, ◌<◌, List, [], ◌++◌, length, take, drop, refl, sym, ap, subst, ◌∙◌, arith}
+use Rattle.std.specs.Prelude.{Some}
 use Rattle.std.proofs.lemmas.List.{length-take-le, take_all, take-append-le, take-take}
+use Rattle.std.proofs.lemmas.Option.{same_Some}
 use Rattle.jx_lex.specs.declared.alphabet.state.LexState.{LexState}
 use Rattle.jx_lex.specs.declared.alphabet.state.LexState.TheVariants as state
 use Rattle.jx_reduce.specs.declared.table.expect.Expect.{Expect}
 use Rattle.jx_reduce.specs.declared.table.expect.Expect.TheVariants as expect
 use Rattle.jx_reduce.specs.declared.table.holder.Holder.{Holder}
-use Rattle.jx_reduce.specs.declared.table.holder.Holder.TheVariants as holder
 use Rattle.jx_reduce.specs.KnownStack.{Known}
 use Rattle.jx_reduce.specs.Read.{Reading}
 use Rattle.jx_run.specs.Front.{agreed}
@@ -27,70 +26,14 @@ use Rattle.jx_run.specs.declared.texts.settings.Settings.{Settings}
 use Rattle.jx_run.specs.declared.texts.verdict.Refusal.TheVariants as refusal
 use Rattle.jx_run.specs.declared.texts.verdict.Verdict.{Verdict}
 use Rattle.jx_run.specs.declared.texts.verdict.Verdict.TheVariants.{Accepted, Refused}
-use Rattle.jx_run.proofs.Completion as closed
 use Rattle.jx_run.proofs.Completion.{completes, run-proper, Proper, ProperOutcome}
-use Rattle.jx_run.proofs.Fronts.{agreed_short}
+use Rattle.jx_run.proofs.Fronts.{agreed_short, all_of}
 use Rattle.jx_run.proofs.Fused.{read-run}
 use Rattle.jx_run.proofs.ReaderFeeds.{Case, cases, by_cut, by_none, by_part, by_whole, goes_on_by}
 use Rattle.jx_run.proofs.ReaderFeeds as front
 use Rattle.jx_complete.specs.Completed.{before_fault, IsCompleted, IsCutInMark}
-use Rattle.jx_complete.specs.inside.Closing.{completion, fill, finish, shut}
+use Rattle.jx_run.specs.inside.Closing.{completion}
 use Rattle.jx_complete.specs.inside.Ended.{IsEnded, IsEndedMark}
-
--- ---- the same bytes as those of the reader's own law
-
-same_finish : (s : LexState) → finish s ≡ closed.finish s
-same_finish state.Gap = refl
-same_finish state.Str = refl
-same_finish state.Esc = refl
-same_finish state.Hex4 = refl
-same_finish state.Hex3 = refl
-same_finish state.Hex2 = refl
-same_finish state.Hex1 = refl
-same_finish state.Tail1 = refl
-same_finish state.Tail2 = refl
-same_finish state.Tail3 = refl
-same_finish state.AfterE0 = refl
-same_finish state.AfterEd = refl
-same_finish state.AfterF0 = refl
-same_finish state.AfterF4 = refl
-same_finish state.Minus = refl
-same_finish state.Zero = refl
-same_finish state.Int = refl
-same_finish state.Dot = refl
-same_finish state.Frac = refl
-same_finish state.E = refl
-same_finish state.ESign = refl
-same_finish state.Exp = refl
-same_finish state.T = refl
-same_finish state.Tr = refl
-same_finish state.Tru = refl
-same_finish state.F = refl
-same_finish state.Fa = refl
-same_finish state.Fal = refl
-same_finish state.Fals = refl
-same_finish state.N = refl
-same_finish state.Nu = refl
-same_finish state.Nul = refl
-
-same_fill : (e : Expect) → fill e ≡ closed.fill e
-same_fill expect.Value = refl
-same_fill expect.ArrayFirst = refl
-same_fill expect.ObjectFirst = refl
-same_fill expect.Name = refl
-same_fill expect.Colon = refl
-same_fill expect.After = refl
-
-same_shut : (o : List Holder) → shut o ≡ closed.shut o
-same_shut [] = refl
-same_shut (holder.Array ∷ o) = ap (λ (l : List ℕ). 0x5d ∷ l) (same_shut o)
-same_shut (holder.Object ∷ o) = ap (λ (l : List ℕ). 0x7d ∷ l) (same_shut o)
-same_shut (holder.Bottom ∷ o) = refl
-
-same_completion : (s : LexState) (e : Expect) (o : List Holder) → completion s e o ≡ closed.completion s e o
-same_completion s e o =
-    ap (λ (l : List ℕ). l ++ (fill e ++ shut o)) (same_finish s) ∙ ap (λ (l : List ℕ). closed.finish s ++ (l ++ shut o)) (same_fill e)
-    ∙ ap (λ (l : List ℕ). closed.finish s ++ (closed.fill e ++ l)) (same_shut o)
 
 -- ---- the open list holds containers alone
 
@@ -129,17 +72,12 @@ completed_text : Verdicts → (settings : Settings) (bytes : List ℕ) (s : LexS
     → (tree : Tree) × IsDocumentBy settings 0 (bytes ++ completion s e o) tree
 completed_text law settings bytes s e o is =
     let proper : Proper o = proper_by settings.mark settings.depth 0 bytes (went s e o) is in
-    let comes_to : read_by settings.mark settings.depth 0 (bytes ++ closed.completion s e o) ≡ reads (went state.Gap expect.After []) =
-    goes_on_by settings.mark settings.depth 0 bytes (closed.completion s e o) (went s e o) is
-    ∙ ap reads (read-run settings.depth s e o (0 + length bytes) (closed.completion s e o) ∙ completes settings.depth s e o (0 + length bytes) proper) in
     let there : read_by settings.mark settings.depth 0 (bytes ++ completion s e o) ≡ reads (went state.Gap expect.After []) =
-    ap (λ (l : List ℕ). read_by settings.mark settings.depth 0 (bytes ++ l)) (same_completion s e o) ∙ comes_to in
+    goes_on_by settings.mark settings.depth 0 bytes (completion s e o) (went s e o) is
+    ∙ ap reads (read-run settings.depth s e o (0 + length bytes) (completion s e o) ∙ completes settings.depth s e o (0 + length bytes) proper) in
     let judged : JudgedBy settings 0 (bytes ++ completion s e o) Accepted =
     subst (λ (z : Outcome). JudgedBy settings 0 (bytes ++ completion s e o) (verdict_on z)) there (law settings 0 (bytes ++ completion s e o)) in
     accepted_text settings (bytes ++ completion s e o) judged
-
-some_same : (x y : Outcome) → Some x ≡ Some y → x ≡ y
-some_same x y h = cc
 
 -- bytes behind which a reading stands are ended
 pub ended : Verdicts → (settings : Settings) (bytes out : List ℕ) (p : Progress) (s : LexState) (stack : Known) (e : Expect) (o : List Holder) → IsReadTo settings 0 bytes p stack → p ≡ Going s
@@ -147,25 +85,10 @@ pub ended : Verdicts → (settings : Settings) (bytes out : List ℕ) (p : Progr
 ended law settings bytes out p s stack e o h is reading new =
     let there : outcome_at (Going s) (Reading.went e o) ≡ Some (read_by settings.mark settings.depth 0 bytes) =
     sym (ap (λ (q : Progress). outcome_at q stack.reading) is ∙ ap (λ (r : Reading). outcome_at (Going s) r) reading) ∙ h.outcome in
-    let text = completed_text law settings bytes s e o (sym (some_same _ _ there)) in
+    let text = completed_text law settings bytes s e o (sym (same_Some _ _ there)) in
     record { more = completion s e o; whole = new; tree = text.0; is_text = subst (λ (l : List ℕ). IsDocumentBy settings 0 l text.0) (sym new) text.1 }
 
 -- ---- a byte order mark that is cut
-
-same_byte : (b o : ℕ) → (b == o) ≡ true → b ≡ o
-same_byte b o h = grind (arith, nat_tests)
-
-agreed_take : (bytes others : List ℕ) → agreed bytes others ≡ length bytes → bytes ≡ take (length bytes) others
-agreed_take [] others h = refl
-agreed_take (b ∷ bytes) [] h = absurd (omega (arith, h))
-agreed_take (b ∷ bytes) (o ∷ others) h = pick (b == o) refl (λ rest. agreed_take bytes others rest)
-  where
-    pick : (t : Bool) → (b == o) ≡ t → (agreed bytes others ≡ length bytes → bytes ≡ take (length bytes) others) → (b ∷ bytes) ≡ take (length (b ∷ bytes)) (o ∷ others)
-    pick true e more =
-        let same : b ≡ o = same_byte b o e in
-        let rest : agreed bytes others ≡ length bytes = let x : suc (agreed bytes others) ≡ suc (length bytes) = sym (ap (λ (t : Bool). cond t (suc (agreed bytes others)) 0) e) ∙ h in omega (arith, x) in
-        ap (λ (l : List ℕ). b ∷ l) (more rest) ∙ ap (λ (c : ℕ). c ∷ take (length bytes) others) same
-    pick false e more = let x : 0 ≡ suc (length bytes) = sym (ap (λ (t : Bool). cond t (suc (agreed bytes others)) 0) e) ∙ h in absurd (omega (arith, x))
 
 in_mark : (m : FrontMark) (limit start n : ℕ) (bytes : List ℕ) → read_by m limit start bytes ≡ in_front n → n < 3 → IsEndedMark bytes
 in_mark on_mark.Refused limit start n bytes is few = absurd cc
@@ -177,7 +100,7 @@ in_mark on_mark.Ignored limit start n bytes is few = go (cases (agreed bytes byt
     go (front.part other e) =
         let here : in_front (agreed bytes byte_order_mark) ≡ in_front n = sym (by_part (agreed bytes byte_order_mark) limit start bytes other e) ∙ is in
         let same : agreed bytes byte_order_mark ≡ n = cc in
-        record { few = omega (arith, e, same, few); begins = agreed_take bytes byte_order_mark e }
+        record { few = omega (arith, e, same, few); begins = all_of bytes byte_order_mark e }
     go (front.none e some) = let here : reads (read_text limit start bytes) ≡ in_front n = sym (by_none (agreed bytes byte_order_mark) limit start bytes e some) ∙ is in absurd cc
     go (front.cut other some less) =
         let here : reads (stopped (start + agreed bytes byte_order_mark)) ≡ in_front n = sym (by_cut (agreed bytes byte_order_mark) limit start bytes other some less) ∙ is in absurd cc
@@ -185,7 +108,7 @@ in_mark on_mark.Ignored limit start n bytes is few = go (cases (agreed bytes byt
 pub ended_mark : (settings : Settings) (bytes : List ℕ) (p : Progress) (n : ℕ) (stack : Known) → IsReadTo settings 0 bytes p stack → p ≡ Front n → n < 3 → IsEndedMark bytes
 ended_mark settings bytes p n stack h is few =
     let there : outcome_at (Front n) stack.reading ≡ Some (read_by settings.mark settings.depth 0 bytes) = sym (ap (λ (q : Progress). outcome_at q stack.reading) is) ∙ h.outcome in
-    in_mark settings.mark settings.depth 0 n bytes (sym (some_same _ _ there)) few
+    in_mark settings.mark settings.depth 0 n bytes (sym (same_Some _ _ there)) few
 
 -- ---- bytes that begin a text have no fault
 
@@ -204,12 +127,12 @@ judged_at law settings bytes z is = subst (λ (o : Outcome). JudgedBy settings 0
 pub never_stopped : Verdicts → (settings : Settings) (bytes : List ℕ) (p : Progress) (at : ℕ) (stack : Known) → BeginsBy settings bytes → IsReadTo settings 0 bytes p stack → p ≡ Stopped at → ⊥
 never_stopped law settings bytes p at stack b h is =
     let there : outcome_at (Stopped at) stack.reading ≡ Some (read_by settings.mark settings.depth 0 bytes) = sym (ap (λ (q : Progress). outcome_at q stack.reading) is) ∙ h.outcome in
-    no_stop settings bytes at b (judged_at law settings bytes (reads (stopped at)) (sym (some_same _ _ there)))
+    no_stop settings bytes at b (judged_at law settings bytes (reads (stopped at)) (sym (same_Some _ _ there)))
 
 pub never_deep : Verdicts → (settings : Settings) (bytes : List ℕ) (p : Progress) (at : ℕ) (stack : Known) → BeginsBy settings bytes → IsReadTo settings 0 bytes p stack → p ≡ TooDeep at → ⊥
 never_deep law settings bytes p at stack b h is =
     let there : outcome_at (TooDeep at) stack.reading ≡ Some (read_by settings.mark settings.depth 0 bytes) = sym (ap (λ (q : Progress). outcome_at q stack.reading) is) ∙ h.outcome in
-    no_depth settings bytes at b (judged_at law settings bytes (reads (too_deep at)) (sym (some_same _ _ there)))
+    no_depth settings bytes at b (judged_at law settings bytes (reads (too_deep at)) (sym (same_Some _ _ there)))
 
 pub never_failed : (settings : Settings) (bytes : List ℕ) (p : Progress) (stack : Known) → IsReadTo settings 0 bytes p stack → p ≡ Failed → ⊥
 never_failed settings bytes p stack h is =

@@ -1,6 +1,6 @@
 // Fixed bytes that end a text which was begun.
 ghost use Rattle.std.specs.Prelude.{◌≡◌, ◌++◌, OnOk, reverse};
-ghost use Rattle.jx_complete.specs.inside.Closing.{completion, fill, finish, shut};
+ghost use Rattle.jx_run.specs.inside.Closing.{completion, fill, finish, shut};
 
 use jx_lex::LexState;
 use jx_reduce::{Expect, Holder};

@@ -6,7 +6,6 @@ ghost use Rattle.jx_run.specs.ReaderInside.{IsCut, IsReadTo};
 ghost use Rattle.jx_run.specs.Settings.{BeginsBy};
 
 use crate::closing::end_text;
-use crate::kept::Kept;
 use jx_reduce::KnownStack;
 use jx_run::{
     Progress, Refusal, Settings, Verdict, progress_at_start, read_on, reader_is_grammar, verdict_at,
@@ -25,20 +24,18 @@ pub struct Completed {
 #[derive(Drop)]
 struct Reached {
     progress: Progress,
-    kept: Kept,
+    stack: KnownStack,
 }
 
 /// Reads all bytes.
 fn read_all(alloc: Global, bytes: &[u8], settings: &Settings) -> Result<Reached, AllocError>
-    ensures reads { IfOk result (λ r. IsReadTo settings.now 0 bytes.now r.progress r.kept.stack) }
+    ensures reads { IfOk result (λ r. IsReadTo settings.now 0 bytes.now r.progress r.stack) }
     ensures cut { IfOk result (λ r. IsCut r.progress) }
 {
-    let mut kept = Kept {
-        stack: KnownStack::new(alloc, settings.depth),
-    };
+    let mut stack = KnownStack::new(alloc, settings.depth);
     let progress = progress_at_start(settings.mark);
-    let progress = read_on(&mut kept, progress, bytes, 0)?;
-    Ok(Reached { progress, kept })
+    let progress = read_on(&mut stack, progress, bytes, 0)?;
+    Ok(Reached { progress, stack })
 }
 
 /// How many bytes stand before the fault that a verdict tells.
@@ -69,7 +66,7 @@ fn ended(
     match reached.progress {
         Progress::Front(_) => Ok(None),
         Progress::Going(state) => {
-            let (expect, holders) = reached.kept.stack.take_standing()?;
+            let (expect, holders) = reached.stack.take_standing()?;
             end_text(&mut bytes, state, expect, holders)?;
             Ok(Some(bytes))
         }
@@ -90,7 +87,7 @@ pub fn complete(
     ensures none { IfOk result (λ c. c ≡ None → IsCutInMark settings.now bytes.items) }
 {
     let reached = read_all(alloc, &bytes, settings)?;
-    let verdict = verdict_at(reached.progress, reached.kept.stack.whole());
+    let verdict = verdict_at(reached.progress, reached.stack.whole());
     let kept = before_fault(bytes.len(), verdict);
     if let Verdict::Accepted = verdict {
         return Ok(Some(Completed { text: bytes, kept }));

@@ -3,6 +3,5 @@
 
 mod closing;
 mod completed;
-mod kept;
 
 pub use completed::{Completed, complete};

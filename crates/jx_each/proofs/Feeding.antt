@@ -2,7 +2,7 @@
 use Rattle.std.specs.Prelude.{◌&&◌, if◌then◌else◌, slice_range}
 use Rattle.std.specs.Simd.Lanes.{chunk, mask_l, sel_l}
 use Rattle.std.proofs.Common.{◌≡◌, ℕ, zero, suc, ◌+◌, ◌-◌, ◌<◌, ◌≤◌, List, [], ◌∷◌, ◌++◌, length, take, get_or, map, replicate, append_assoc, Bool, true, false, not, bit_or, cond, inl, inr, refl, sym, ap, subst, ◌∙◌, arith}
-use Rattle.std.proofs.lemmas.Bool.{cases_lt, eqb-true}
+use Rattle.std.proofs.lemmas.Bool.{cases_lt, eqb-true, not-false}
 use Rattle.std.proofs.lemmas.List.{append-nil, get_or-map, length-append, length-map, length-take-le, take_all, take_more}
 use Rattle.std.proofs.lemmas.Simd.{get_or-chunk, length-chunk}
 use Rattle.jx_compact.specs.declared.place.Place.{Place}
@@ -32,10 +32,6 @@ both_not : (a b : Bool) → (a && b) ≡ false → a ≡ true → b ≡ false
 both_not true b h q = h
 both_not false b h q = let e : false ≡ true = q in absurd cc
 
-turned_round : (a : Bool) → not a ≡ false → a ≡ true
-turned_round true h = refl
-turned_round false h = let e : true ≡ false = h in absurd cc
-
 pub flat_is : (v : List ℕ) (inside : Bool) (w : Words) (begun : Bool) (commas end : ℕ) → length v ≡ 64 → commas ≡ mask_l (map is_comma v) → inside ≡ false → w.len ≡ 64 → w.borders ≡ commas
     → bit_or (bit_or (bit_or w.strings w.escapes) w.brackets) w.gaps ≡ 0 → ((k : ℕ) → k < 64 → (bit commas k && in_at (not begun) commas k) ≡ false) → end ≤ 64
     → ((k : ℕ) → end ≤ k → k < 64 → bit commas k ≡ false) → (0 < end → bit commas (end - 1) ≡ true) → IsFlat v inside w begun end
@@ -45,7 +41,7 @@ flat_is v inside w begun commas end long is out whole borders none apart within 
   brackets = λ k. (clear k).0.1;
   gaps = λ k. (clear k).0.0;
   borders = λ k lt. ap (λ (n : ℕ). bit n k) borders ∙ comma k lt;
-  first = λ c. turned_round begun (both_not (bit commas 0) (not begun) (apart 0 (omega arith)) (comma 0 (omega arith) ∙ c));
+  first = λ c. not-false begun (both_not (bit commas 0) (not begun) (apart 0 (omega arith)) (comma 0 (omega arith) ∙ c));
   apart = λ k lt c. sym (comma k (omega (arith, lt))) ∙ both_not (bit commas (suc k)) (bit commas k) (apart (suc k) lt) (comma (suc k) lt ∙ c);
   within = within;
   behind = λ k le lt. sym (comma k lt) ∙ behind k le lt;

@@ -7,9 +7,9 @@ use Rattle.jx_compact.specs.Compact.{compact, compact_from, is_no_blank, next}
 use Rattle.jx_lex.specs.declared.kind.Kind.TheVariants as kind
 use Rattle.jx_lex.specs.Token.{space, tab, line_feed, carriage_return}
 use Rattle.jx_summary.specs.declared.span.Span.{Span}
-use Rattle.jx_run.specs.Laws.{span_of}
 use Rattle.jx_run.specs.Tree.{Tree, Children, span}
-use Rattle.jx_run.specs.Grammar.{Blanks, no_blanks, blank, Scalar, Value, leaf, empty_array, array, empty_object, object, Items, last_item, item, Members, last_member, member}
+use Rattle.jx_run.specs.Grammar.{Blanks, no_blanks, blank, Scalar, Value, Items, last_item, item, Members, last_member, member}
+use Rattle.jx_run.proofs.LawProofs.{value_span}
 use Rattle.jx_each.specs.declared.content.LineContent.TheVariants.{Alone, Named}
 use Rattle.jx_each.specs.declared.stand.Stage.{Stage}
 use Rattle.jx_each.specs.declared.stand.Stage.TheVariants.{Array, Object, Name, Pair, Over}
@@ -34,15 +34,8 @@ left_piece text {i = i} {j = j} {u = u} h p = left text p.w u i j (h ∙ p.whole
 pub left_byte : (text : List ℕ) (b : ℕ) (t : List ℕ) (i : ℕ) → drop i text ≡ b ∷ t → drop (suc i) text ≡ t
 left_byte text b t i h = left text (b ∷ []) t i (suc i) h (omega arith)
 
-value_span : {i j : ℕ} {t u : List ℕ} {tree : Tree} → Value i t j u tree → span_of tree ≡ span i j
-value_span (leaf x) = refl
-value_span (empty_array bs) = refl
-value_span (array xs) = refl
-value_span (empty_object bs) = refl
-value_span (object xs) = refl
-
 -- blanks are skipped up to a byte that is none
-blanks_past : {i j b : ℕ} {t u : List ℕ} → is_no_blank b ≡ true → Blanks i t j (b ∷ u) → past_blanks i t ≡ j
+pub blanks_past : {i j b : ℕ} {t u : List ℕ} → is_no_blank b ≡ true → Blanks i t j (b ∷ u) → past_blanks i t ≡ j
 blanks_past {i = i} h no_blanks = rw h refl
 blanks_past h (blank space bs) = blanks_past h bs
 blanks_past h (blank tab bs) = blanks_past h bs

@@ -2,7 +2,7 @@
 use Rattle.std.specs.Prelude.{◌==◌, ◌||◌, slice_range}
 use Rattle.std.specs.Simd.Lanes.{chunk}
 use Rattle.std.proofs.Common.{◌≡◌, ◌⊎◌, inl, inr, ℕ, zero, suc, ◌+◌, ◌-◌, ◌/◌, ◌^◌, ◌<◌, ◌≤◌, List, length, get_or, Bool, true, false, bit_and, bit_or, refl, sym, ap, subst, ◌∙◌, arith}
-use Rattle.std.proofs.lemmas.Bool.{cases_lt}
+use Rattle.std.proofs.lemmas.Bool.{cases_lt, or_parts, or_cases}
 use Rattle.std.proofs.lemmas.Nat.Bits.{shr_and_one}
 use Rattle.std.proofs.lemmas.Simd.{get_or-chunk}
 use Rattle.jx_compact.specs.declared.place.Place.{Place}
@@ -24,21 +24,11 @@ bit_of s k = ap (λ (n : ℕ). n == 1) (shr_and_one s k)
 
 -- ---- two words at once
 
-none_of : (a b : Bool) → (a || b) ≡ false → (a ≡ false) × (b ≡ false)
-none_of false false h = (refl, refl)
-none_of true b h = let e : true ≡ false = h in absurd cc
-none_of false true h = let e : true ≡ false = h in absurd cc
-
-one_of : (a b : Bool) → (a || b) ≡ true → (a ≡ true) ⊎ (b ≡ true)
-one_of true b h = inl refl
-one_of false true h = inr refl
-one_of false false h = let e : false ≡ true = h in absurd cc
-
 pub neither : (a b k : ℕ) → bit (bit_or a b) k ≡ false → (bit a k ≡ false) × (bit b k ≡ false)
-neither a b k h = none_of (bit a k) (bit b k) (sym (bit-or a b k) ∙ h)
+neither a b k h = or_parts (bit a k) (bit b k) (sym (bit-or a b k) ∙ h)
 
 pub either : (a b k : ℕ) → bit (bit_or a b) k ≡ true → (bit a k ≡ true) ⊎ (bit b k ≡ true)
-either a b k h = one_of (bit a k) (bit b k) (sym (bit-or a b k) ∙ h)
+either a b k h = or_cases (bit a k) (bit b k) (sym (bit-or a b k) ∙ h)
 
 left_of : (a b : Bool) → (a || b) ≡ true → b ≡ false → a ≡ true
 left_of true b h e = refl

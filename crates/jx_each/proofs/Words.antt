@@ -5,34 +5,16 @@ use Rattle.std.specs.Simd.Lanes.{mask_l}
 use Rattle.std.proofs.Common.{◌≡◌, ℕ, zero, suc, ◌+◌, ◌-◌, ◌*◌, ◌/◌, ◌%◌, ◌^◌, ◌<◌, ◌≤◌, Bool, true, false, not, List, length, map, get_or, refl, sym, ap, ◌∙◌, arith, bit_and, bit_or, bit_xor, inl, inr, w64}
 use Rattle.std.specs.Int.Count.{count_trailing_zeros}
 use Rattle.std.proofs.Math.Nat.{div-le_self}
-use Rattle.std.proofs.lemmas.Bool.{cases_lt, eqb-true, not-false}
+use Rattle.std.proofs.lemmas.Bool.{cases_lt, eqb-true, not-false, and_parts}
 use Rattle.std.proofs.lemmas.Bool.Decides.{nat_tests}
-use Rattle.std.proofs.lemmas.Nat.{shr-shr}
-use Rattle.std.proofs.lemmas.Nat.Bits.{bit_at_above, bit_at_xor, bit_at-lt, bit_at-trailing_zeros}
+use Rattle.std.proofs.lemmas.Nat.Bits.{bit_at_above, bit_at-trailing_zeros}
 use Rattle.jx_compact.specs.declared.place.Place.TheVariants.{Between, Escaped, Inside}
 use Rattle.jx_compact.specs.Compact.{next}
 use Rattle.jx_lex.specs.inside.Bits.{bit}
-use Rattle.jx_lex.proofs.Bits.{bit-and, bit-down, bit-mask, bit-none, bit-not, bit-or, bit-up, bit-up_first, bit-xor}
+use Rattle.jx_lex.proofs.Bits.{bit-and, bit-down, bit-mask, bit-none, bit-not, bit-or, bit-up, bit-up_first, bit-xor, differ, bit-differ, bit-shr}
 use Rattle.jx_each.specs.declared.blocks.Words.{Words}
 use Rattle.jx_each.specs.inside.Blocks.{IsMarked, IsTold, in_at, place_by}
 use Rattle.jx_each.specs.inside.Runs.{is_blank, is_border, is_bracket, is_low}
-
-abbrev pub differ : Bool → Bool → Bool
-differ true b = not b
-differ false b = b
-
-odd : (x y : ℕ) → x < 2 → y < 2 → ((x + y) % 2 == 1) ≡ differ (x == 1) (y == 1)
-odd zero zero h k = refl
-odd zero (suc zero) h k = refl
-odd (suc zero) zero h k = refl
-odd (suc zero) (suc zero) h k = refl
-odd (suc (suc x)) y h k = absurd (omega arith)
-odd zero (suc (suc y)) h k = absurd (omega arith)
-odd (suc zero) (suc (suc y)) h k = absurd (omega arith)
-
-bit-differs : (a b k : ℕ) → bit (bit_xor a b) k ≡ differ (bit a k) (bit b k)
-unfolding bit
-bit-differs a b k = ap (λ n. n == 1) (bit_at_xor a b k) ∙ odd (bit_at a k) (bit_at b k) (bit_at-lt a k) (bit_at-lt b k)
 
 -- ---- a word with its lowest bit alone
 
@@ -44,10 +26,6 @@ pub one_others : (k : ℕ) → bit 1 (suc k) ≡ false
 one_others k = sym (bit-down 1 k) ∙ bit-none k
 
 -- ---- shifts
-
-pub shifted : (n i k : ℕ) → bit (n / 2 ^ i) k ≡ bit n (i + k)
-unfolding bit
-shifted n i k = ap (λ m. m % 2 == 1) (shr-shr n i k)
 
 -- ---- the words of a block
 
@@ -111,10 +89,6 @@ goes_by false true false x b h q up =
     let mark : (b == 0x22) ≡ true = sym (q ∙ and_all (b == 0x22)) in
     ap (λ (m : Bool). if m then Between else if b == 0x5c then Escaped else Inside) mark ∙ sym (ap (λ (m : Bool). place_by m false) none)
 
-is_one : (a b : Bool) → (a && b) ≡ true → (a ≡ true) × (b ≡ true)
-is_one true b h = (refl, h)
-is_one false b h = let x : false ≡ true = h in absurd cc
-
 module _ (set : ℕ → Bool) (no_mark : set 0x22 ≡ false) where
   mark_left : (b : ℕ) → (b == 0x22) ≡ true → set b ≡ false
   mark_left b q = ap set (eqb-true b 0x22 q) ∙ no_mark
@@ -135,13 +109,13 @@ module _ (set : ℕ → Bool) (no_mark : set 0x22 ≡ false) where
 
   outside_by : (e i s x : Bool) (b : ℕ) → x ≡ ((((b == 0x5c) && i) && s) && not e) → differ s i ≡ ((b == 0x22) && not e) → (e ≡ true → i ≡ true) → (set b && not s) ≡ true
       → (place_by e i ≡ Between) × (place_by x s ≡ Between) × (set b ≡ true)
-  outside_by e i true x b h q up is = let y : false ≡ true = (is_one (set b) false is).1 in absurd cc
+  outside_by e i true x b h q up is = let y : false ≡ true = (and_parts (set b) false is).1 in absurd cc
   outside_by e true false x b h q up is =
-      let mark : (b == 0x22) ≡ false = other_mark b (is_one (set b) true is).0 in
+      let mark : (b == 0x22) ≡ false = other_mark b (and_parts (set b) true is).0 in
       let y : true ≡ false = q ∙ ap (λ (m : Bool). m && not e) mark in absurd cc
   outside_by true false false x b h q up is = let y : false ≡ true = up refl in absurd cc
   outside_by false false false x b h q up is =
-      (refl, ap (λ (m : Bool). place_by m false) (h ∙ ap (λ (m : Bool). (m && false) && true) (and_none (b == 0x5c))), (is_one (set b) true is).0)
+      (refl, ap (λ (m : Bool). place_by m false) (h ∙ ap (λ (m : Bool). (m && false) && true) (and_none (b == 0x5c))), (and_parts (set b) true is).0)
 
 pub words_tell : (v : List ℕ) (inside : Bool) (words : Words) (c q w z t u : ℕ) → length v ≡ 64 → words.strings < 2 ^ 64 → z < 2 ^ 64 → bit c 0 ≡ inside → ((j : ℕ) → bit c (suc j) ≡ false)
     → q ≡ mask_l (map (λ byte. byte == 0x22) v) → w ≡ mask_l (map (λ byte. byte == 0x5c) v) → t ≡ mask_l (map is_bracket v) → u ≡ mask_l (map is_border v)
@@ -178,7 +152,7 @@ words_tell v inside words c q w z t u long fits small first others quotes slashe
     quote : (k : ℕ) → k < 64 → differ (bit s k) (in_at inside s k) ≡ ((get_or v k 0 == 0x22) && not (in_at false x k))
     quote k lt =
         ap (differ (bit s k)) (sym (before inside s c k lt first others))
-        ∙ sym (bit-differs s (bit_or (s * 2 % 2 ^ 64) c) k)
+        ∙ sym (bit-differ s (bit_or (s * 2 % 2 ^ 64) c) k)
         ∙ bit-xor (bit_xor s (bit_or (s * 2 % 2 ^ 64) c)) (bit_and q (2 ^ 64 - 1 - z)) k (ap (λ (n : ℕ). bit n k) right ∙ bit-none k)
         ∙ bit-and q (2 ^ 64 - 1 - z) k
         ∙ ap (λ (b : Bool). b && bit (2 ^ 64 - 1 - z) k) (ap (λ (n : ℕ). bit n k) quotes ∙ bit-mask (λ byte. byte == 0x22) v k (within k lt))
@@ -275,12 +249,12 @@ first_set n i fits some = record { low = omega arith; high = high; none = none; 
     lowest = bit_at-trailing_zeros w64 (n / 2 ^ i) (above_none (n / 2 ^ i) some) (omega (arith, small, fits))
 
     set : bit n (i + count_trailing_zeros 64 (n / 2 ^ i)) ≡ true
-    set = sym (shifted n i (count_trailing_zeros 64 (n / 2 ^ i))) ∙ as_bit (n / 2 ^ i) (count_trailing_zeros 64 (n / 2 ^ i)) lowest.1
+    set = sym (bit-shr n i (count_trailing_zeros 64 (n / 2 ^ i))) ∙ as_bit (n / 2 ^ i) (count_trailing_zeros 64 (n / 2 ^ i)) lowest.1
 
     none : (k : ℕ) → i ≤ k → k < i + count_trailing_zeros 64 (n / 2 ^ i) → bit n k ≡ false
     none k le lt =
         let e : i + (k - i) ≡ k = omega (arith, le) in
-        ap (bit n) (sym e) ∙ sym (shifted n i (k - i)) ∙ as_no_bit (n / 2 ^ i) (k - i) (lowest.2 (k - i) (omega (arith, le, lt)))
+        ap (bit n) (sym e) ∙ sym (bit-shr n i (k - i)) ∙ as_no_bit (n / 2 ^ i) (k - i) (lowest.2 (k - i) (omega (arith, le, lt)))
 
     high : i + count_trailing_zeros 64 (n / 2 ^ i) < 64
     high = elim (cases_lt (i + count_trailing_zeros 64 (n / 2 ^ i)) 64) [
@@ -291,7 +265,7 @@ first_set n i fits some = record { low = omega arith; high = high; none = none; 
 pub none_set : (n i k : ℕ) → n / 2 ^ i ≡ 0 → i ≤ k → bit n k ≡ false
 none_set n i k none le =
     let e : i + (k - i) ≡ k = omega (arith, le) in
-    ap (bit n) (sym e) ∙ sym (shifted n i (k - i)) ∙ ap (λ (m : ℕ). bit m (k - i)) none ∙ bit-none (k - i)
+    ap (bit n) (sym e) ∙ sym (bit-shr n i (k - i)) ∙ ap (λ (m : ℕ). bit m (k - i)) none ∙ bit-none (k - i)
 
 -- ---- bits that are not set
 

@@ -1,5 +1,5 @@
 // Lines of elements, made of a text that comes slice by slice.
-ghost use Rattle.std.specs.Prelude.{◌≡◌, ◌+◌, ◌<◌, ◌≤◌, ◌^◌, ◌++◌, ℕ, List, [], All, IfOk, IfSome, OnOk, OnErr, IsErr, length};
+ghost use Rattle.std.specs.Prelude.{◌≡◌, ◌+◌, ◌<◌, ◌^◌, ◌++◌, ℕ, List, [], All, IfOk, IfSome, OnOk, OnErr, IsErr, length};
 ghost use Rattle.std.specs.Option.{option_map};
 ghost use Rattle.jx_run.specs.OutcomeRun.{IsOutcomeRun};
 ghost use Rattle.jx_run.specs.Reader.{IsInFront};

@@ -1,5 +1,5 @@
 // Sections of a slice, which workers make side by side.
-ghost use Rattle.std.specs.Prelude.{◌≡◌, ◌-◌, ◌≤◌, All, IfOk, IfSome, length};
+ghost use Rattle.std.specs.Prelude.{◌-◌, ◌≤◌, All, IfOk, IfSome, length};
 ghost use Rattle.jx_each.specs.Sections.{IsSection};
 ghost use Rattle.jx_each.specs.inside.Paths.{aim_of};
 

@@ -4,6 +4,7 @@ use Rattle.std.specs.Prelude.{◌==◌, count_by, fold, nat_lt, sum_by, ◌&&◌
 use Rattle.std.proofs.lemmas.Bool.Decides.{nat_tests}
 use Rattle.std.proofs.lemmas.List.{get_or-drop, length-drop, take-append-drop}
 use Rattle.std.proofs.lemmas.List.Sums.{fold-append, fold_more}
+use Rattle.std.proofs.lemmas.Bool.{false_from_ne_true}
 use Rattle.jx_edit.specs.declared.positions.encoding.Encoding.{Encoding}
 use Rattle.jx_edit.specs.declared.positions.encoding.Encoding.TheVariants.{Utf8, Utf16}
 use Rattle.jx_edit.specs.declared.positions.position.Position.{Position}
@@ -54,12 +55,8 @@ units_along e l c (b ∷ bs) h =
     ap (λ (t : Bool). position_behind e (cond t (position (l + 1) 0) (position l (c + units e b))) bs) first_not
     ∙ units_along e l (c + units e b) bs (λ k m. h (suc k) (omega (arith, m)))
 
-not_true : (t : Bool) → (t ≡ true → ⊥) → t ≡ false
-not_true true h = absurd (h refl)
-not_true false h = refl
-
 pub behind_none : (e : Encoding) (bytes : List ℕ) → Nowhere (Passes (is_byte 10) bytes) 0 (length bytes) → position 0 (sum_by (units e) bytes) ≡ position_behind e first bytes
-behind_none e bytes h = sym (units_along e 0 0 bytes (λ k m. not_true (is_feed (get_or bytes k 0)) (h k (omega arith) m)))
+behind_none e bytes h = sym (units_along e 0 0 bytes (λ k m. false_from_ne_true (is_feed (get_or bytes k 0)) (h k (omega arith) m)))
 
 pub behind_last : (e : Encoding) (bytes : List ℕ) (last : ℕ) → NoneAfter (Passes (is_byte 10) bytes) 0 (length bytes) last → Passes (is_byte 10) bytes last
     → position (count_by is_feed bytes) (sum_by (units e) (drop (last + 1) bytes)) ≡ position_behind e first bytes
@@ -70,7 +67,7 @@ behind_last e bytes last h is =
     fold_more (past e) first bytes last 0 h.high ∙ ap (λ (t : Bool). cond t (position (before.line + 1) 0) (position before.line (before.character + units e (get_or bytes last 0)))) is in
     let none : (k : ℕ) → k < length more → is_feed (get_or more k 0) ≡ false = λ (k : ℕ) m.
     let past_it : is_feed (get_or bytes ((last + 1) + k) 0) ≡ false =
-    not_true (is_feed (get_or bytes ((last + 1) + k) 0)) (h.after ((last + 1) + k) (omega arith) (omega (arith, m, length-drop (last + 1) bytes))) in
+    false_from_ne_true (is_feed (get_or bytes ((last + 1) + k) 0)) (h.after ((last + 1) + k) (omega arith) (omega (arith, m, length-drop (last + 1) bytes))) in
     ap is_feed (get_or-drop (last + 1) bytes k 0) ∙ past_it in
     let whole : position_behind e first bytes ≡ position (before.line + 1) (sum_by (units e) more) =
     ap (position_behind e first) (sym (take-append-drop (last + 1) bytes))

@@ -13,51 +13,13 @@ use Rattle.jx_run.specs.declared.texts.settings.FrontMark.{FrontMark}
 use Rattle.jx_run.specs.declared.texts.settings.Settings.{Settings}
 use Rattle.jx_run.specs.declared.texts.settings.FrontMark.TheVariants as on_mark
 use Rattle.jx_run.specs.declared.texts.verdict.Refusal.TheVariants as refusal
-use Rattle.jx_run.specs.Front.{agreed, front_by, front_of}
+use Rattle.jx_run.specs.Front.{agreed, front_of}
 use Rattle.jx_run.specs.Settings.{byte_order_mark}
+use Rattle.jx_run.proofs.Fronts.{front_stays}
 use Rattle.jx_edit.specs.Document.{edited}
 use Rattle.jx_edit.specs.inside.Chunks.{ChunkedValue}
 use Rattle.jx_edit.specs.inside.Fronts.{skipped, with_front, IsFronted}
 use Rattle.jx_edit.proofs.Texts.{length_edited}
-
-none_more : (xs ys : List ℕ) → agreed xs [] ≡ agreed ys []
-none_more [] [] = refl
-none_more [] (y ∷ ys) = refl
-none_more (x ∷ xs) [] = refl
-none_more (x ∷ xs) (y ∷ ys) = refl
-
--- by whether each of three bytes is that of the mark
-abbrev by_three : Bool → Bool → Bool → ℕ → ℕ → Front
-by_three x y z r more = front_by (cond x (suc (cond y (suc (cond z (suc r) 0)) 0)) 0) (suc (suc (suc more)))
-
-two_of : (p q : ℕ) → by_three true true false 0 p ≡ by_three true true false 0 q
-two_of p q =
-    let f : (2 == suc (suc (suc p))) ≡ false = grind (arith, nat_tests) in
-    let g : (2 == suc (suc (suc q))) ≡ false = grind (arith, nat_tests) in
-    ap (λ (b : Bool). cond b (seen.Refused refusal.Truncated) (seen.Refused (refusal.Stopped 2))) (f ∙ sym g)
-
-one_of : (z : Bool) (r p q : ℕ) → by_three true false z r p ≡ by_three true false z r q
-one_of z r p q =
-    let f : (1 == suc (suc (suc p))) ≡ false = grind (arith, nat_tests) in
-    let g : (1 == suc (suc (suc q))) ≡ false = grind (arith, nat_tests) in
-    ap (λ (b : Bool). cond b (seen.Refused refusal.Truncated) (seen.Refused (refusal.Stopped 1))) (f ∙ sym g)
-
-same_three : (x y z : Bool) (p q : ℕ) → by_three x y z 0 p ≡ by_three x y z 0 q
-same_three true true true p q = refl
-same_three true true false p q = two_of p q
-same_three true false z p q = one_of z 0 p q
-same_three false y z p q = refl
-
--- bytes behind the third change nothing
-pub front_stays : (m : FrontMark) (text more : List ℕ) → 3 ≤ length text → front_of m (text ++ more) ≡ front_of m text
-front_stays on_mark.Refused text more h = refl
-front_stays on_mark.Ignored [] more h = absurd (omega (arith, h))
-front_stays on_mark.Ignored (a ∷ []) more h = absurd (omega (arith, h))
-front_stays on_mark.Ignored (a ∷ b ∷ []) more h = absurd (omega (arith, h))
-front_stays on_mark.Ignored (a ∷ b ∷ c ∷ u) more h =
-    ap (λ (r : ℕ). by_three (a == 0xef) (b == 0xbb) (c == 0xbf) r (length (u ++ more))) (none_more (u ++ more) [])
-    ∙ same_three (a == 0xef) (b == 0xbb) (c == 0xbf) (length (u ++ more)) (length u)
-    ∙ ap (λ (r : ℕ). by_three (a == 0xef) (b == 0xbb) (c == 0xbf) r (length u)) (none_more [] u)
 
 -- of bytes between others, three tell it
 pub front_few : (m : FrontMark) (xs ys few zs bytes : List ℕ) (n : ℕ) → n ≡ min (length ys) 3 → few ≡ take n ys → bytes ≡ (xs ++ few) ++ zs → front_of m bytes ≡ front_of m ((xs ++ ys) ++ zs)

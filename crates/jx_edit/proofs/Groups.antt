@@ -1,7 +1,7 @@
 -- What is kept of groups of chunks, through edits and walks.
 use Rattle.std.proofs.Common.{◌≡◌, ℕ, zero, suc, ◌+◌, ◌-◌, ◌*◌, ◌<◌, ◌≤◌, Option, None, Bool, true, false, List, [], ◌∷◌, ◌++◌, length, map, take, drop, get_or, set, min, refl, sym, ap, subst, ◌∙◌, arith, inl, inr, length-append, append_assoc, append-nil}
 use Rattle.std.specs.Prelude.{◌&&◌, IfSome, replicate}
-use Rattle.std.proofs.lemmas.Bool.{cases_eq, cases_lt, false≢true}
+use Rattle.std.proofs.lemmas.Bool.{cases_eq, cases_lt, false≢true, and_parts}
 use Rattle.std.proofs.lemmas.List.{drop_all, drop_min, drop-map, drop-take, take_all, take_min, take-take, drop-drop, length-set, length-take-le, get_or-set_same, get_or-set_other, get_or_append_left, get_or-take, length-drop, length-replicate, length-take}
 use Rattle.std.proofs.lemmas.List.Concat.{flat_map-append}
 use Rattle.std.proofs.Math.Seq.{take-add, take-append-add, drop-append-add}
@@ -158,14 +158,9 @@ sum_all cs g place bytes linked moves is long on moved =
       | inr past ↦ linked_past cs j (omega (arith, past, high, is))
     ]
 
-both_of : (a b : Bool) → (a && b) ≡ true → (a ≡ true) × (b ≡ true)
-both_of true true e = (refl, refl)
-both_of true false e = absurd (false≢true e)
-both_of false b e = absurd (false≢true e)
-
 -- one chunk more, where all before it are linked and it is
 pub both_linked : (cs : List ChunkValue) (i k : ℕ) (a b : Bool) → (a ≡ true → AreLinkedFrom cs i k) → b ≡ is_linked_at cs k → (a && b) ≡ true → AreLinkedFrom cs i (k + 1)
-both_linked cs i k a b h is t = let both = both_of a b t in linked_more cs i k (h both.0) (sym is ∙ both.1)
+both_linked cs i k a b h is t = let both = and_parts a b t in linked_more cs i k (h both.0) (sym is ∙ both.1)
 
 -- ---- sums behind an edit
 

@@ -56,6 +56,8 @@ impl TokenSink for Trail {
     // The way is told to people, and no contract speaks of it.
     ghost has_seen = { λ _ _ _. ⊤ };
 
+    ghost awaits = { λ _ _. Unit {0} };
+
     fn begin(&mut self, mark: Mark) -> Result<(), AllocError> {
         match mark.kind {
             MarkKind::OpenArray => self.steps.push(Step::Element(0))?,

@@ -1,8 +1,8 @@
 -- What is written so far, piece by piece.
-use Rattle.std.proofs.Common.{◌≡◌, ℕ, ◌+◌, ◌<◌, List, [], ◌∷◌, ◌++◌, Bool, Option, length, get_or, drop, refl, sym, subst, ap, ◌∙◌, add-one, append_assoc, append-nil}
+use Rattle.std.proofs.Common.{◌≡◌, ℕ, ◌+◌, ◌<◌, List, [], ◌∷◌, ◌++◌, Bool, Option, length, get_or, drop, sym, subst, ap, ◌∙◌, add-one, append_assoc, append-nil}
 use Rattle.std.specs.Prelude.{◌==◌}
 use Rattle.std.specs.Io.KnownBytes.{Appends}
-use Rattle.std.proofs.KnownBytes.{Appends-nil, Appends-trans}
+use Rattle.std.proofs.KnownBytes.{Appends-trans}
 use Rattle.std.proofs.Math.Seq.{drop-cons}
 use Rattle.jx_files.specs.Naming.{escaped, shown_byte, shown_character, shown_from}
 
@@ -11,9 +11,6 @@ pub record IsWrittenUpTo (old new : Option (List ℕ)) (left all : List ℕ) : T
   pub done : List ℕ
   pub wrote : Appends old new done
   pub whole : done ++ left ≡ all
-
-pub nothing_written : (old : Option (List ℕ)) (all : List ℕ) → IsWrittenUpTo old old all all
-nothing_written old all = record { done = []; wrote = Appends-nil old; whole = refl }
 
 pub written_more : (old new newer : Option (List ℕ)) (left more rest all : List ℕ) → IsWrittenUpTo old new left all → left ≡ more ++ rest → Appends new newer more
     → IsWrittenUpTo old newer rest all

@@ -1,6 +1,4 @@
-ghost use Rattle.std.specs.Prelude.{◌≡◌, ◌<◌, ◌≤◌, true, false, length, map, slice_get, is_err, IfOk, IfErr, OnOk, OnErr};
-ghost use Rattle.std.specs.Io.KnownBytes.{Appends};
-ghost use Rattle.jx_files.specs.Faults.{fault_line};
+ghost use Rattle.std.specs.Prelude.{◌≡◌, ◌<◌, ◌≤◌, true, false, length, map, slice_get, is_err, IfOk, IfErr, OnErr};
 ghost use Rattle.jx_files.specs.Files.{ways_of, IsFaultAt, ReportsEach, ReportsFirst};
 ghost use Rattle.jx_files.specs.inside.Parts.{IsAnsweredBy, IsPartOf, ReportsOne, ReportsPart};
 

@@ -1,5 +1,5 @@
 // Names of files as they are told: each is a word of one line, and can be read back.
-ghost use Rattle.std.specs.Prelude.{◌≡◌, ◌&&◌, ◌∷◌, ◌<◌, [], ◌==◌, false, true, is_err, IfErr, IfOk, OnOk};
+ghost use Rattle.std.specs.Prelude.{◌≡◌, ◌&&◌, ◌<◌, ◌==◌, false, is_err, IfErr, IfOk, OnOk};
 ghost use Rattle.std.specs.Char.{encode_utf8};
 ghost use Rattle.std.specs.Io.KnownBytes.{Appends};
 ghost use Rattle.jx_files.specs.Naming.{escaped, hex_digit, is_hidden, shown, shown_byte, shown_character};

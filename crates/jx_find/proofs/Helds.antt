@@ -1,35 +1,22 @@
 -- What is held before the first byte, and what it comes to behind the last one.
-use Rattle.std.proofs.Common.{◌≡◌, ℕ, ◌-◌, List, [], length, drop, reverse, refl, sym, ap, subst, ◌∙◌, append-nil, arith, true, Option, None, Some}
+use Rattle.std.proofs.Common.{◌≡◌, ℕ, List, [], length, reverse, refl, sym, ap, subst, ◌∙◌, append-nil, true, Option, None, Some}
 use Rattle.std.specs.Prelude.{slice_range}
-use Rattle.std.proofs.lemmas.List.{length-drop, take_all}
 use Rattle.jx_lex.specs.declared.alphabet.mark.Mark.{Mark}
-use Rattle.jx_index.specs.declared.finder.Cursor.{Cursor}
 use Rattle.jx_index.specs.declared.finder.State.{State}
 use Rattle.jx_index.specs.declared.seeker.Seeker.{Seeker}
 use Rattle.jx_index.specs.declared.trie.Edge.{Edge}
 use Rattle.jx_index.specs.inside.Finding.{Finding, nothing_met}
 use Rattle.jx_index.specs.inside.Found.{finding}
-use Rattle.jx_index.specs.inside.Trie.{IsNextIn, IsTrie, is_name_next, seek_all, sought}
+use Rattle.jx_index.specs.inside.Trie.{IsNextIn, is_name_next, seek_all, sought}
+use Rattle.jx_index.proofs.CutNames.{rest}
 use Rattle.jx_find.specs.Held.{Comes, IsHeld}
 use Rattle.jx_find.proofs.Soughts.{Tells, comes_all, comes_last}
-
-pub held_first : (edges : List Edge) (s : State) (next : ℕ) (name : List ℕ) → IsTrie edges → finding s ≡ nothing_met (length edges) → IsHeld [] edges [] [] s next None name
-held_first edges s next name trie nothing = record {
-  trie = trie;
-  ready = subst (λ (xs : List Cursor). IsNextIn edges xs next) (sym (ap (λ (f : Finding). f.opened) nothing)) tt;
-  comes = λ future last more others. ap (seek_all future edges last more others) (sym nothing);
-  token = λ m e. absurd cc;
-  name_is = λ m e q. absurd cc;
-}
 
 module _ (bytes : List ℕ) (edges : List Edge) (marks : List Mark) (ends : List ℕ) (s : State) (next : ℕ) (name : List ℕ) where
   pub met_all : IsHeld bytes edges marks ends s next None name → s.met.items ≡ (seek_all bytes edges (length bytes) marks ends (nothing_met (length edges))).met
   met_all h =
       let c = subst (λ (t : List ℕ). Comes t edges marks ends (finding s) None) (append-nil bytes) (h.comes []) in
       ap (λ (f : Finding). f.met) (sym (comes_all bytes edges marks ends (finding s) (length bytes) c))
-
-  rest : (at : ℕ) → slice_range bytes at (length bytes) ≡ drop at bytes
-  rest at = take_all (length bytes - at) (drop at bytes) (let e : length (drop at bytes) ≡ length bytes - at = length-drop at bytes in omega (arith, e))
 
   pub met_last : (m : Mark) (begun : Option Mark) (k after : Seeker) (last : ℕ) → begun ≡ Some m → last ≡ length bytes → k.state ≡ s → k.next ≡ next → Tells edges m.kind m.at last name k after
       → IsHeld bytes edges marks ends s next begun name → after.state.met.items ≡ (seek_all bytes edges (length bytes) marks ends (nothing_met (length edges))).met
@@ -39,7 +26,7 @@ module _ (bytes : List ℕ) (edges : List Edge) (marks : List Mark) (ends : List
       let ready : IsNextIn edges (reverse k.state.opened.items) k.next =
       subst (λ (x : State). IsNextIn edges (reverse x.opened.items) k.next) (sym same_state) (subst (λ (n : ℕ). IsNextIn edges (reverse s.opened.items) n) (sym same_next) h.ready) in
       let named : is_name_next m.kind (finding k.state) ≡ true → slice_range bytes m.at last ≡ name =
-      λ e. ap (slice_range bytes m.at) end ∙ rest m.at ∙ sym (h.name_is m refl (subst (λ (x : State). is_name_next m.kind (finding x) ≡ true) same_state e)) in
+      λ e. ap (slice_range bytes m.at) end ∙ rest bytes m.at ∙ sym (h.name_is m refl (subst (λ (x : State). is_name_next m.kind (finding x) ≡ true) same_state e)) in
       ap (λ (f : Finding). f.met)
       (tells.noted h.trie ready bytes named
       ∙ ap (λ (x : State). sought bytes edges m.kind m.at last (finding x)) same_state

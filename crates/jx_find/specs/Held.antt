@@ -1,17 +1,12 @@
 -- What is held of the bytes of a text that were fed.
-use Rattle.std.specs.Prelude.{◌≡◌, ℕ, List, ◌∷◌, ◌++◌, Option, None, Some, drop, length, reverse, true}
+use Rattle.std.specs.Prelude.{◌≡◌, ℕ, List, ◌++◌, Option, Some, drop, length, reverse, true}
 use Rattle.jx_lex.specs.declared.alphabet.mark.Mark.{Mark}
 use Rattle.jx_index.specs.declared.finder.State.{State}
 use Rattle.jx_index.specs.declared.trie.Edge.{Edge}
-use Rattle.jx_index.specs.inside.Building.{is_token}
 use Rattle.jx_index.specs.inside.Finding.{Finding, nothing_met}
 use Rattle.jx_index.specs.inside.Found.{finding}
+use Rattle.jx_index.specs.inside.InOrder.{IsToken, behind}
 use Rattle.jx_index.specs.inside.Trie.{IsNextIn, IsTrie, is_name_next, seek_all}
-
--- a token that has begun stands in front of what follows
-abbrev pub behind : Option Mark → List Mark → List Mark
-behind None more = more
-behind (Some m) more = m ∷ more
 
 -- to seek by these marks and ends, and whatever follows, comes to this finding, and to seek by what follows from there on
 abbrev pub Comes : List ℕ → List Edge → List Mark → List ℕ → Finding → Option Mark → Type 0
@@ -23,5 +18,5 @@ pub record IsHeld (bytes : List ℕ) (edges : List Edge) (marks : List Mark) (en
   pub trie : IsTrie edges
   pub ready : IsNextIn edges (reverse state.opened.items) next
   pub comes : (future : List ℕ) → Comes (bytes ++ future) edges marks ends (finding state) begun
-  pub token : (m : Mark) → begun ≡ Some m → is_token m.kind ≡ true
+  pub token : IsToken begun
   pub name_is : (m : Mark) → begun ≡ Some m → is_name_next m.kind (finding state) ≡ true → name ≡ drop m.at bytes

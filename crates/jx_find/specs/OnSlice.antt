@@ -4,8 +4,8 @@ use Rattle.jx_lex.specs.declared.alphabet.mark.Mark.{Mark}
 use Rattle.jx_run.specs.Telling.{moved_ends, moved_marks}
 use Rattle.jx_index.specs.declared.seeker.Seeker.{Seeker}
 use Rattle.jx_index.specs.declared.trie.Edge.{Edge}
-use Rattle.jx_index.specs.inside.Building.{is_token}
 use Rattle.jx_index.specs.inside.Found.{finding}
+use Rattle.jx_index.specs.inside.InOrder.{IsToken}
 use Rattle.jx_index.specs.inside.Seeking.{IsReady}
 use Rattle.jx_index.specs.inside.Trie.{IsTrie, is_name_next}
 use Rattle.jx_find.specs.Held.{Comes}
@@ -19,7 +19,7 @@ pub record IsSought (before slice : List ℕ) (edges : List Edge) (marks : List 
   pub trie : IsTrie edges
   pub ready : IsReady edges k
   pub comes : (future : List ℕ) → Comes ((before ++ slice) ++ future) edges marks ends (finding k.state) begun
-  pub token : (m : Mark) → begun ≡ Some m → is_token m.kind ≡ true
+  pub token : IsToken begun
   pub name_is : (m : Mark) → begun ≡ Some m → is_name_next m.kind (finding k.state) ≡ true → m.at < length before → name ≡ drop m.at before
 
 -- whatever was held at the slice's start, these marks and ends of the slice were sought behind it

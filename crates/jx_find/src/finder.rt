@@ -1,27 +1,18 @@
 // The look-up of several pointers (RFC 6901, section 4) in a text that is fed slice by slice.
-ghost use Rattle.std.specs.Prelude.{◌≡◌, ◌+◌, ◌<◌, ◌^◌, ◌++◌, [], ℕ, List, Some, false, length, IfNone, IfSome, IfOk, IfErr, IsErr, OnOk, OnErr};
-ghost use Rattle.jx_lex.specs.declared.alphabet.mark.Mark.{Mark};
+ghost use Rattle.std.specs.Prelude.{◌≡◌, ◌+◌, ◌<◌, ◌^◌, ◌++◌, [], ℕ, List, Some, length, IfNone, IfSome, IfOk, IfErr, IsErr, OnOk, OnErr};
 ghost use Rattle.jx_run.specs.declared.texts.settings.NameRule.TheVariants.{Any};
 ghost use Rattle.jx_run.specs.declared.texts.settings.Settings.{Settings};
 ghost use Rattle.jx_run.specs.declared.texts.verdict.Verdict.TheVariants.{Accepted, Refused};
-ghost use Rattle.jx_run.specs.Reader.{HasRead, HasFailed, Outcome, is_fault};
-ghost use Rattle.jx_run.specs.Telling.{moved_ends, moved_marks, track_of};
 ghost use Rattle.jx_index.specs.ByNames.{IsVerdictBy};
 ghost use Rattle.jx_index.specs.Found.{AreFoundIn};
-ghost use Rattle.jx_find.specs.Finder.{HasFed, IsLost, end_of, held_by};
-ghost use Rattle.jx_find.specs.Held.{IsHeld};
+ghost use Rattle.jx_index.specs.inside.InTurn.{AreInTurn, AreInTurn-prop};
+ghost use Rattle.jx_find.specs.declared.held.Sought.{Sought as SoughtOf};
 
 use crate::held::Sought;
-use crate::on_slice::{Before, OnSlice};
-use jx_index::{
-    Edge, FindFault, Found, Pointer, answers_of, names_are_refused_by_rows, starts_of, trie_of,
-};
-use jx_run::{
-    Reader, Refusal, Settings, Verdict, reader_is_grammar, slices_are_told_in_turn,
-    verdict_by_settings_is_one,
-};
+use crate::reading::{answers_behind, read_slice};
+use jx_index::{Edge, FindFault, Found, Pointer, starts_of, trie_of};
+use jx_run::{Reader, Refusal, Settings, slices_are_told_in_turn};
 use std::alloc::{AllocError, Global};
-use std::marker::Brand;
 
 /// A look-up of several pointers in a JSON text (RFC 8259) that is fed by slices of any length. It keeps the pointers and their
 /// tokens, what they were met at and the open containers on their way, and of the text only the bytes of a name that has
@@ -35,38 +26,13 @@ pub struct Finder<'p> {
     starts: Vec<usize>,
     /// None where memory was refused.
     held: Option<Sought>,
-}
-
-/// Reads a slice behind all bytes that were read, and seeks by its tokens.
-fn feed_held<B: Before>(
-    reader: &mut Reader,
-    edges: &[Edge],
-    starts: &[usize],
-    held: Sought,
-    slice: &[u8],
-) -> Result<Sought, AllocError>
-    requires fits { reader.old.start + reader.old.count + length slice.now < 2 ^ 64 }
-    requires slice { slice.now ≡ B.slice }
-    requires edges { edges.now ≡ B.edges }
-    requires base { (bytes : List ℕ) (marks : List Mark) (ends : List ℕ) → B.held bytes marks ends → reader.old.start + reader.old.count ≡ length bytes }
-    requires held { (bytes : List ℕ) (marks : List Mark) (ends : List ℕ) → B.held bytes marks ends
-        → IsHeld bytes B.edges marks ends held.state held.next held.begun held.name.items }
-    ensures settings { reader.new.settings ≡ reader.old.settings }
-    ensures start { reader.new.start ≡ reader.old.start }
-    ensures reads { OnOk result ((bytes : List ℕ) → HasRead bytes reader.old → HasRead (bytes ++ slice.now) reader.new) }
-    ensures failed { HasFailed reader.old → IsErr result }
-    ensures held { IfOk result (λ next. is_fault reader.new.outcome ≡ false → (before : Outcome) → reader.old.outcome ≡ Some before
-        → (bytes : List ℕ) (marks : List Mark) (ends : List ℕ) → B.held bytes marks ends
-        → IsHeld (bytes ++ B.slice) B.edges (marks ++ moved_marks (length bytes) (track_of before slice.now).marks) (ends ++ moved_ends (length bytes) (track_of before slice.now).ends)
-        next.state next.next next.begun next.name.items) }
-{
-    let base = reader.end();
-    let sink: OnSlice<'_, '_, B> = OnSlice::new(slice, base, edges, starts, held);
-    let told = reader.feed_into(sink, slice)?;
-    told.into_held()
+    // A token has begun just where the reader stands inside one.
+    ghost turn: { AreInTurn (λ (h : SoughtOf). h.begun) reader.outcome held } by { AreInTurn-prop (λ (h : SoughtOf). h.begun) reader.outcome held },
 }
 
 impl<'p> Finder<'p> {
+    ghost use Rattle.jx_find.specs.Finder.{HasFed, IsLost, end_of, held_by};
+
     /// A finder for pointers that was fed no byte. The settings may ignore a byte order mark in front of the text (section
     /// 8.1); objects may have any names. `Err` where memory is refused.
     pub fn new(
@@ -118,11 +84,10 @@ impl<'p> Finder<'p> {
         ensures err { OnErr result (IsLost self.new) }
         ensures lost { IsLost self.old → IsErr result }
     {
-        slices_are_told_in_turn();
         let Some(held) = self.held.take() else {
             return Err(AllocError);
         };
-        let next = feed_held::<Brand>(&mut self.reader, &self.edges, &self.starts, held, slice)?;
+        let next = read_slice(&mut self.reader, &self.edges, &self.starts, held, slice)?;
         self.held = Some(next);
         Ok(())
     }
@@ -138,9 +103,6 @@ impl<'p> Finder<'p> {
             → AreFoundIn settings bytes pointers found.items)) }
         ensures lost { IsLost self.entry → IsErr result }
     {
-        names_are_refused_by_rows();
-        reader_is_grammar();
-        verdict_by_settings_is_one();
         let Finder {
             alloc,
             reader,
@@ -152,14 +114,6 @@ impl<'p> Finder<'p> {
         let Some(held) = held else {
             return Err(AllocError);
         };
-        match reader.verdict() {
-            Verdict::Refused(refusal) => Ok(Err(refusal)),
-            Verdict::Accepted => {
-                let last = reader.end();
-                let met = held.into_met(&edges, &starts, last)?;
-                let found = answers_of(alloc, &edges, &starts, &met, &pointers)?;
-                Ok(Ok(found))
-            }
-        }
+        answers_behind(alloc, &reader, &edges, &starts, held, &pointers)
     }
 }

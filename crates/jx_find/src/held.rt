@@ -1,5 +1,5 @@
 // What is held of a text between two slices.
-ghost use Rattle.std.specs.Prelude.{◌≡◌, [], ℕ, List, All, length, IfOk};
+ghost use Rattle.std.specs.Prelude.{◌≡◌, [], ℕ, List, All, None, length, IfOk};
 ghost use Rattle.jx_lex.specs.declared.alphabet.mark.Mark.{Mark};
 ghost use Rattle.jx_index.specs.inside.Finding.{nothing_met};
 ghost use Rattle.jx_index.specs.inside.Trie.{IsTrie, seek_all};
@@ -26,7 +26,8 @@ pub struct Sought {
 impl Sought {
     /// What is held before the first byte, of a trie with so many edges. Only want of memory is refused.
     pub fn new(alloc: Global, edges: &[Edge]) -> Result<Sought, AllocError>
-        ensures { IfOk result (λ held. IsTrie edges.now → IsHeld [] edges.now [] [] held.state held.next held.begun held.name.items) }
+        ensures held { IfOk result (λ held. IsTrie edges.now → IsHeld [] edges.now [] [] held.state held.next held.begun held.name.items) }
+        ensures begun { IfOk result (λ held. held.begun ≡ None) }
     {
         let seeker = Seeker::new(alloc, edges.len(), &[])?;
         Ok(Sought {

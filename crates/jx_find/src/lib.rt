@@ -1,10 +1,13 @@
-//! The look-up of JSON Pointers (RFC 6901) in a text that is fed slice by slice, without the text.
+//! The look-up of JSON Pointers (RFC 6901) in one pass over a text, which may be fed slice by slice and need not be kept.
 #![tactic(auto)]
 
 mod finder;
+mod found_each;
 mod held;
 mod on_slice;
+mod reading;
 
 pub use finder::Finder;
+pub use found_each::{find_each_by, find_each_through};
 pub use held::Sought;
 pub use on_slice::{Before, OnSlice};

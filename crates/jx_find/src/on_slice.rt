@@ -1,14 +1,15 @@
 // What pointers lead to, sought as a reader tells the tokens of a slice.
-ghost use Rattle.std.specs.Prelude.{◌≡◌, ◌+◌, ◌++◌, ◌∷◌, ◌<◌, ◌≤◌, [], ℕ, List, Some, None, drop, length, slice_range, true, IfOk};
+ghost use Rattle.std.specs.Prelude.{◌≡◌, ◌++◌, [], ℕ, List, Some, length, IfOk};
 ghost use Rattle.jx_lex.specs.declared.alphabet.mark.Mark.{Mark};
 ghost use Rattle.jx_run.specs.Telling.{moved_ends, moved_marks};
-ghost use Rattle.jx_index.specs.inside.Building.{is_token};
+ghost use Rattle.jx_index.specs.inside.Found.{finding};
+ghost use Rattle.jx_index.specs.inside.Trie.{is_name_next};
 ghost use Rattle.jx_find.specs.Held.{IsHeld};
 ghost use Rattle.jx_find.specs.OnSlice.{HasSought};
 
 use crate::held::Sought;
-use jx_index::{Edge, Seeker};
-use jx_lex::{Mark, MarkKind, TokenSink};
+use jx_index::{Edge, Seeker, has_end, held_name, moved, token_bytes};
+use jx_lex::{Mark, TokenSink};
 use std::alloc::AllocError;
 use std::marker::{Brand, PhantomData};
 
@@ -36,8 +37,7 @@ impl Before for Brand {
     ghost edges = { [] };
 }
 
-/// A seeker that is told the tokens of a slice which stands from `base` on. A scan tells the end of a token before the next
-/// mark. What is told in another order is refused, as for want of memory.
+/// A seeker that is told the tokens of a slice which stands from `base` on.
 #[derive(Drop)]
 pub struct OnSlice<'a, 'p, B> {
     /// The bytes of the slice.
@@ -55,63 +55,6 @@ pub struct OnSlice<'a, 'p, B> {
     before: PhantomData<B>,
 }
 
-/// Whether a mark of this kind begins a token, to which an end belongs.
-fn has_end(kind: MarkKind) -> bool
-    ensures { result ≡ is_token kind }
-{
-    matches!(
-        kind,
-        MarkKind::String | MarkKind::Number | MarkKind::True | MarkKind::False | MarkKind::Null
-    )
-}
-
-/// An offset of a slice, in the whole text.
-fn moved(base: usize, at: usize) -> Result<usize, AllocError>
-    ensures { IfOk result (λ offset. offset ≡ base + at) }
-{
-    base.checked_add(at).ok_or(AllocError)
-}
-
-/// The bytes from one offset to another.
-fn part(bytes: &[u8], from: usize, to: usize) -> Result<&[u8], AllocError>
-    ensures part { IfOk result (λ part. part.now ≡ slice_range bytes.now from to) }
-    ensures order { IfOk result (λ _. from ≤ to) }
-    ensures within { IfOk result (λ _. to ≤ length bytes.now) }
-{
-    if from <= to && to <= bytes.len() {
-        Ok(&bytes[from..to])
-    } else {
-        Err(AllocError)
-    }
-}
-
-/// Adds the first bytes of a slice to those of a name, if they are wanted.
-fn add_front(name: &mut Vec<u8>, slice: &[u8], to: usize, wanted: bool) -> Result<(), AllocError>
-    ensures within { IfOk result (λ _. wanted ≡ true → to ≤ length slice.now) }
-    ensures name { IfOk result (λ _. wanted ≡ true → name.new.items ≡ name.old.items ++ slice_range slice.now 0 to) }
-{
-    if wanted {
-        let more = part(slice, 0, to)?;
-        name.extend_from_slice(more)?;
-    }
-    Ok(())
-}
-
-/// The bytes of a name that begins at `at`, up to the end of a slice that stands from `base` on.
-fn held_name(name: Vec<u8>, slice: &[u8], base: usize, at: usize) -> Result<Vec<u8>, AllocError>
-    ensures { IfOk result (λ held. (before : List ℕ) → base ≡ length before → (at < base → name.items ≡ drop at before) → held.items ≡ drop at (before ++ slice.now)) }
-{
-    let mut held = name;
-    if at < base {
-        held.extend_from_slice(slice)?;
-        return Ok(held);
-    }
-    let more = part(slice, at - base, slice.len())?;
-    held.clear();
-    held.extend_from_slice(more)?;
-    Ok(held)
-}
-
 impl<'a, 'p, B: Before> OnSlice<'a, 'p, B> {
     /// What was held is told no token of the slice yet.
     pub fn new(
@@ -126,7 +69,8 @@ impl<'a, 'p, B: Before> OnSlice<'a, 'p, B> {
         requires base { (bytes : List ℕ) (marks : List Mark) (ends : List ℕ) → B.held bytes marks ends → base ≡ length bytes }
         requires held { (bytes : List ℕ) (marks : List Mark) (ends : List ℕ) → B.held bytes marks ends
             → IsHeld bytes B.edges marks ends held.state held.next held.begun held.name.items }
-        ensures { HasSought B.held B.slice B.edges [] [] result.slice.now result.base result.edges.now result.seeker result.begun result.name.items }
+        ensures seen { HasSought B.held B.slice B.edges [] [] result.slice.now result.base result.edges.now result.seeker result.begun result.name.items }
+        ensures begun { result.begun ≡ held.begun }
     {
         OnSlice {
             slice,
@@ -143,72 +87,45 @@ impl<'a, 'p, B: Before> OnSlice<'a, 'p, B> {
         }
     }
 
-    /// The end of a token that has begun.
-    #[inline(always)]
-    fn end_token(&mut self, mark: Mark, at: usize) -> Result<(), AllocError>
-        requires begun { self.old.begun ≡ Some mark }
-        ensures { IfOk result (λ _. (marks : List Mark) (ends : List ℕ)
-            → HasSought B.held B.slice B.edges marks ends self.old.slice.now self.old.base self.old.edges.now self.old.seeker self.old.begun self.old.name.items
-            → HasSought B.held B.slice B.edges marks (ends ++ at ∷ []) self.new.slice.now self.new.base self.new.edges.now self.new.seeker self.new.begun self.new.name.items) }
+    /// Whether the token that has begun is a name.
+    fn is_name_begun(&self) -> bool
+        ensures { (m : Mark) → self.now.begun ≡ Some m → result ≡ is_name_next m.kind (finding self.now.seeker.state) }
     {
-        let end = moved(self.base, at)?;
-        if mark.at < self.base {
-            let wanted = self.seeker.is_name_next(mark.kind);
-            add_front(&mut self.name, self.slice, at, wanted)?;
-            self.seeker
-                .tell(self.edges, mark.kind, mark.at, end, &self.name)?;
-            self.begun = None;
-            return Ok(());
+        match self.begun {
+            Some(mark) => self.seeker.is_name_next(mark.kind),
+            None => false,
         }
-        let name = part(self.slice, mark.at - self.base, at)?;
-        self.seeker.tell(self.edges, mark.kind, mark.at, end, name)?;
-        self.begun = None;
-        Ok(())
     }
 
     /// What is held behind the slice. Only want of memory is refused.
     pub fn into_held(self) -> Result<Sought, AllocError>
-        ensures { IfOk result (λ held. (marks : List Mark) (ends : List ℕ)
+        ensures held { IfOk result (λ held. (marks : List Mark) (ends : List ℕ)
             → HasSought B.held B.slice B.edges marks ends self.entry.slice.now self.entry.base self.entry.edges.now self.entry.seeker self.entry.begun self.entry.name.items
             → (bytes : List ℕ) (ms : List Mark) (es : List ℕ) → B.held bytes ms es
             → IsHeld (bytes ++ B.slice) B.edges (ms ++ moved_marks (length bytes) marks) (es ++ moved_ends (length bytes) ends) held.state held.next held.begun held.name.items) }
+        ensures begun { IfOk result (λ held. held.begun ≡ self.entry.begun) }
     {
-        let Some(mark) = self.begun else {
-            return Ok(Sought {
-                state: self.seeker.state,
-                next: self.seeker.next,
-                begun: None,
-                name: self.name,
-            });
-        };
-        if !self.seeker.is_name_next(mark.kind) {
-            return Ok(Sought {
-                state: self.seeker.state,
-                next: self.seeker.next,
-                begun: Some(mark),
-                name: self.name,
-            });
-        }
-        let name = held_name(self.name, self.slice, self.base, mark.at)?;
+        let wanted = self.is_name_begun();
+        let name = held_name(self.name, self.slice, self.base, self.begun, wanted)?;
         Ok(Sought {
             state: self.seeker.state,
             next: self.seeker.next,
-            begun: Some(mark),
+            begun: self.begun,
             name,
         })
     }
 }
 
 impl<'a, 'p, B: Before> TokenSink for OnSlice<'a, 'p, B> {
+    ghost use Rattle.std.specs.Prelude.{◌≡◌, is_some};
     ghost use Rattle.jx_find.specs.OnSlice.{HasSought};
 
     ghost has_seen = { λ k marks ends. HasSought B.held B.slice B.edges marks ends k.slice.now k.base k.edges.now k.seeker k.begun k.name.items };
 
+    ghost awaits = { λ k inside. is_some k.begun ≡ inside };
+
     #[inline(always)]
     fn begin(&mut self, mark: Mark) -> Result<(), AllocError> {
-        if self.begun.is_some() {
-            return Err(AllocError);
-        }
         let at = moved(self.base, mark.at)?;
         if has_end(mark.kind) {
             self.begun = Some(Mark {
@@ -223,10 +140,15 @@ impl<'a, 'p, B: Before> TokenSink for OnSlice<'a, 'p, B> {
 
     #[inline(always)]
     fn end(&mut self, at: usize) -> Result<(), AllocError> {
-        match self.begun {
-            Some(mark) => self.end_token(mark, at),
-            None => Err(AllocError),
-        }
+        let Some(mark) = self.begun else {
+            unreachable!()
+        };
+        let end = moved(self.base, at)?;
+        let wanted = self.seeker.is_name_next(mark.kind);
+        let name = token_bytes(&mut self.name, self.slice, self.base, mark.at, at, wanted)?;
+        self.seeker.tell(self.edges, mark.kind, mark.at, end, name)?;
+        self.begun = None;
+        Ok(())
     }
 
     fn is_done(&self) -> bool {

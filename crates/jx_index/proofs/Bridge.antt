@@ -1,7 +1,6 @@
 -- The look-up over a tree's rows is that over the tree.
-use Rattle.std.proofs.Common.{◌≡◌, ℕ, zero, suc, ◌+◌, ◌<◌, List, [], ◌∷◌, ◌++◌, length, Option, None, Some, Bool, true, false, cond, refl, sym, ap, ◌∙◌, arith, Result, Ok, Err, get_or, subst}
+use Rattle.std.proofs.Common.{◌≡◌, ℕ, zero, suc, ◌+◌, ◌<◌, List, [], ◌∷◌, ◌++◌, length, Option, None, Some, Bool, true, false, cond, refl, sym, ap, ◌∙◌, arith, Result, Ok, Err, subst}
 use Rattle.std.specs.Prelude.{slice_get}
-use Rattle.std.proofs.lemmas.Option.{slice_get-get_or}
 use Rattle.std.specs.Ordering.{nat_cmp, is_eq}
 use Rattle.std.specs.Cmp.Lexicographic.{slice_cmp}
 use Rattle.jx_lex.specs.declared.kind.Kind.{Kind}
@@ -180,6 +179,3 @@ pub object_row : (table : List Row) (n : ℕ) → kind_at table n ≡ kind.Objec
 object_row [] n h = absurd (cc)
 object_row (row ∷ table) zero h = omega arith
 object_row (row ∷ table) (suc n) h = omega (arith, object_row table n h)
-
-pub kind_is : (table : List Row) (n : ℕ) (row : Row) → n < length table → row ≡ get_or table n row → row.kind ≡ kind_at table n
-kind_is table n row h e = ap (λ (r : Row). r.kind) e ∙ ap kind_in (sym (slice_get-get_or table n row h))

@@ -5,6 +5,7 @@ use Rattle.std.specs.Ordering.{nat_cmp, is_eq}
 use Rattle.std.specs.Cmp.Lexicographic.{slice_cmp, nat_list_cmp_total}
 use Rattle.std.proofs.lemmas.Bool.Decides.{nat_tests}
 use Rattle.std.proofs.lemmas.Cmp.{tied_itself}
+use Rattle.std.proofs.lemmas.Bool.{false_from_ne_true}
 use Rattle.jx_index.specs.declared.finder.Met.{Met}
 use Rattle.jx_index.specs.declared.trie.Edge.{Edge}
 use Rattle.jx_index.specs.declared.units.Spelling.TheVariants.{InToken}
@@ -13,7 +14,7 @@ use Rattle.jx_index.specs.Units.{chars_units}
 use Rattle.jx_index.specs.inside.Finding.{met_at}
 use Rattle.jx_index.specs.inside.Trie.{child_at, edge_units, leads_to_units, IsTrie, IsWay, stops, goes}
 use Rattle.jx_index.proofs.NameKeys.{same_units}
-use Rattle.jx_index.proofs.Tests.{first_true, is_false, same, second_true}
+use Rattle.jx_index.proofs.Tests.{first_true, same, second_true}
 use Rattle.jx_index.proofs.TokenSteps.{tokens_next}
 use Rattle.jx_index.proofs.Ways.{apart, first_hit}
 
@@ -25,7 +26,7 @@ module _ (edges : List Edge) (trie : IsTrie edges) where
       let equal : is_eq (slice_cmp nat_cmp units (edge_units e)) ≡ true = ap (λ (v : List ℕ). is_eq (slice_cmp nat_cmp units v)) u ∙ ap is_eq (tied_itself nat_list_cmp_total units) in
       let hit : leads_to_units node units e ≡ true = ap (λ (b : Bool). b && is_eq (slice_cmp nat_cmp units (edge_units e))) parent ∙ equal in
       first_hit (leads_to_units node units) edges 1 c e is hit
-      (λ j a l a_is. is_false (leads_to_units node units a) (λ t.
+      (λ j a l a_is. false_from_ne_true (leads_to_units node units a) (λ t.
       apart edges trie j c a e l a_is is (same a.parent node (first_true (a.parent == node) (is_eq (slice_cmp nat_cmp units (edge_units a))) t) ∙ sym p)
       (sym (same_units units (edge_units a) (second_true (a.parent == node) (is_eq (slice_cmp nat_cmp units (edge_units a))) t)) ∙ sym u)))
       ∙ ap (λ (n : ℕ). Some n) (let z : 1 + c ≡ suc c = omega arith in z)

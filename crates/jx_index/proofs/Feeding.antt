@@ -1,6 +1,6 @@
 -- Names that are told by their bytes, and what was met when all tokens of a text had been told.
 use Rattle.std.proofs.Common.{◌≡◌, ℕ, zero, suc, ◌-◌, ◌≤◌, List, length, drop, map, refl, sym, ap, subst, ◌∙◌, arith, Bool, true, false, Option, None, Some}
-use Rattle.std.specs.Prelude.{◌==◌, ◌↔◌, All, Result, slice_range}
+use Rattle.std.specs.Prelude.{◌==◌, All, Result, slice_range}
 use Rattle.std.specs.List.{AllZip}
 use Rattle.std.proofs.lemmas.Bool.Decides.{nat_tests}
 use Rattle.std.proofs.lemmas.List.{length-drop, take_all}
@@ -10,10 +10,8 @@ use Rattle.jx_lex.specs.declared.alphabet.state.LexState.TheVariants as state
 use Rattle.jx_lex.specs.Lex.{lex, Track}
 use Rattle.jx_run.specs.declared.texts.settings.Front.TheVariants.{Skip}
 use Rattle.jx_run.specs.declared.texts.settings.Settings.{Settings}
-use Rattle.jx_run.specs.declared.texts.verdict.Verdict.{Verdict}
 use Rattle.jx_run.specs.declared.texts.verdict.Verdict.TheVariants.{Accepted}
 use Rattle.jx_run.specs.Front.{front_of}
-use Rattle.jx_run.specs.Settings.{JudgedBy}
 use Rattle.jx_run.specs.Telling.{IsAcceptedFrom, tokens_by}
 use Rattle.jx_run.specs.Text.{IsText}
 use Rattle.jx_run.specs.Tree.{span}
@@ -23,16 +21,16 @@ use Rattle.jx_index.specs.declared.finder.Found.{Found}
 use Rattle.jx_index.specs.declared.finder.Met.{Met}
 use Rattle.jx_index.specs.declared.trie.Edge.{Edge}
 use Rattle.jx_index.specs.declared.units.Spelling.TheVariants.{InText}
-use Rattle.jx_index.specs.ByNames.{IsVerdictBy}
 use Rattle.jx_index.specs.Found.{AreFoundIn}
 use Rattle.jx_index.specs.Indexed.{IndexedValue}
+use Rattle.jx_index.specs.Rows.{rows}
 use Rattle.jx_index.specs.Settled.{IsIndexBy, IsIndexFrom, rest_from}
 use Rattle.jx_index.specs.Units.{between_marks, chars_units, units_at}
 use Rattle.jx_index.specs.inside.Finding.{Finding, met_at, naming, nothing_met}
-use Rattle.jx_index.specs.inside.Seeking.{HaveMet, IsReadOf}
+use Rattle.jx_index.specs.inside.Seeking.{IsReadOf}
 use Rattle.jx_index.specs.inside.Trie.{HasWay, IsTrie, child_at, is_name_next, member_at, seek_all, sought, sought_in, string_among}
-use Rattle.jx_index.proofs.FindEach.{each_found}
-use Rattle.jx_index.proofs.FoundFronts.{each_behind}
+use Rattle.jx_index.proofs.ReadMet.{HaveMetAll, each_found}
+use Rattle.jx_index.proofs.Readings.{tree_of}
 use Rattle.jx_index.proofs.Showing.{shows_all, shows_nothing}
 use Rattle.jx_index.proofs.Tokens.{TokensAreRead}
 
@@ -63,13 +61,6 @@ none_skipped f h = pick (f.skipped == 0) refl h
     pick : (x : Bool) → (f.skipped == 0) ≡ x → is_name_next mark.String f ≡ true → f.skipped ≡ 0
     pick true e g = grind (arith, nat_tests)
     pick false e g = absurd cc
-
-pub is_naming : (f : Finding) → is_name_next mark.String f ≡ true → naming f.opened f.name ≡ None → ⊥
-is_naming f h e = pick (f.skipped == 0) refl h
-  where
-    pick : (x : Bool) → (f.skipped == 0) ≡ x → is_name_next mark.String f ≡ true → ⊥
-    pick true q g = cc
-    pick false q g = cc
 
 -- where no name comes next, no text matters
 no_name : (one other : List ℕ) (edges : List Edge) (at end : ℕ) (f : Finding) (n : ℕ) (o : Option ℕ) → f.skipped ≡ n → naming f.opened f.name ≡ o → is_name_next mark.String f ≡ false
@@ -115,7 +106,7 @@ module _ (settings : Settings) (bytes : List ℕ) (edges : List Edge) (trie : Is
   tokens_are : tokens_by settings.mark bytes ≡ track
   tokens_are = a.tokens ∙ ap (lex state.Gap a.count) (rest_is bytes a.count a.within)
 
-  have_met : HaveMet bytes edges (length bytes) track.marks track.ends met
+  have_met : HaveMetAll bytes edges (length bytes) track.marks track.ends met
   have_met = λ ts path way.
       let s = shows_all bytes edges trie ts path way (length bytes) track.marks track.ends 0 (nothing_met (length edges)) (nothing_met (length ts)) (shows_nothing bytes edges trie ts path way) in
       ap (λ (ms : List Met). map (met_at ms) path)
@@ -124,10 +115,13 @@ module _ (settings : Settings) (bytes : List ℕ) (edges : List Edge) (trie : Is
 
   pub are_found : TokensAreRead → (pointers : List (List ℕ)) (found : List (Result Found FindFault)) → All (HasWay edges) pointers → AllZip (IsReadOf edges met) pointers found
       → ((i : IndexedValue) → front_of settings.mark bytes ≡ Skip a.count → IsIndexFrom a.count bytes settings.depth i → IsIndexBy settings bytes i)
-      → ((v : Verdict) → front_of settings.mark bytes ≡ Skip a.count → Judged a.count (rest_from a.count bytes) settings.depth v → JudgedBy settings 0 bytes v)
-      → ((i : IndexedValue) (x : IsIndexBy settings bytes i) → IsText i.text i.span.start i.span.end settings.depth x.tree)
-      → ((v : Verdict) → IsVerdictBy settings bytes v ↔ JudgedBy settings 0 bytes v) → AreFoundIn settings bytes pointers found
-  are_found law pointers found ways reads indexes verdicts texts any =
-      each_behind settings bytes a.count (λ i k. indexes i a.front k) (λ v k. verdicts v a.front k) texts any pointers found
-      (subst (λ (xs : List ℕ). Judged a.count xs settings.depth Accepted) (rest_is bytes a.count a.within) a.judged)
-      (each_found bytes (span a.count (length bytes)) a.within (omega arith) law edges trie met have_met pointers found ways reads)
+      → ((i : IndexedValue) (x : IsIndexBy settings bytes i) → IsText i.text i.span.start i.span.end settings.depth x.tree) → AreFoundIn settings bytes pointers found
+  are_found law pointers found ways reads indexes texts =
+      let t = tree_of Accepted (subst (λ (xs : List ℕ). Judged a.count xs settings.depth Accepted) (rest_is bytes a.count a.within) a.judged) refl in
+      let index : IndexedValue = record { text = bytes; span = span a.count (length bytes); rows = rows t.tree } in
+      let by : IsIndexBy settings bytes index = indexes index a.front (record { text = refl; span = refl; tree = t.tree; is_text = t.is; rows_are = refl }) in
+      record {
+        tree = by.tree;
+        is_text = by.is_text;
+        found_are = each_found bytes (span a.count (length bytes)) a.within (omega arith) law settings.depth by.tree (texts index by) edges trie met have_met pointers found ways reads;
+      }

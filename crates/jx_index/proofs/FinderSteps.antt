@@ -1,20 +1,14 @@
 -- One step of a finder.
-use Rattle.std.proofs.Common.{◌≡◌, ℕ, zero, suc, ◌<◌, ◌≤◌, List, [], ◌∷◌, length, Bool, true, false, ◌++◌, take, drop, append_assoc, append-nil, refl, sym, ap, ◌∙◌, arith, get_or, slice_set}
-use Rattle.std.proofs.lemmas.Bool.Decides.{nat_tests}
-use Rattle.std.specs.Prelude.{◌==◌, ◌&&◌, nat_lt, if◌then◌else◌}
-use Rattle.jx_index.specs.ArrayTokens.{is_dash, is_index, value_after, place_in}
-use Rattle.jx_index.specs.declared.array_token.Place.{Place}
-use Rattle.jx_index.specs.declared.array_token.Place.TheVariants as place
+use Rattle.std.proofs.Common.{◌≡◌, ℕ, zero, suc, ◌<◌, ◌≤◌, List, [], ◌∷◌, length, ◌++◌, take, drop, append_assoc, append-nil, refl, sym, ap, ◌∙◌, arith, get_or, slice_set}
+use Rattle.std.proofs.lemmas.List.{map-append}
 use Rattle.jx_index.specs.declared.finder.Met.{Met}
-use Rattle.jx_index.specs.declared.finder.Wanted.{Wanted}
-use Rattle.jx_index.specs.inside.Finding.{change, is_place}
-use Rattle.jx_index.specs.inside.Found.{is_noted, noted_of, tokens_of, units_of}
 use Rattle.jx_index.specs.declared.units.Spelling.TheVariants.{InToken}
+use Rattle.jx_index.specs.declared.wanted.Wanted.{Wanted}
+use Rattle.jx_index.specs.inside.Finding.{change}
+use Rattle.jx_index.specs.inside.Found.{tokens_of, units_of}
 use Rattle.jx_index.specs.Pointers.{HasSlash, HasNoSlash, tokens}
 use Rattle.jx_index.specs.Units.{chars_units}
-use Rattle.std.proofs.lemmas.List.{map-append}
 use Rattle.jx_index.proofs.TokenSteps.{tokens_next, tokens_end}
-use Rattle.jx_index.proofs.Reaches.{dash_no_index, place_of_dash, place_of_none, place_of_index}
 
 -- ---- what was met
 
@@ -27,32 +21,6 @@ pub change-past : (f : Met → Met) (all : List Met) (n : ℕ) → length all �
 change-past f [] n h = refl
 change-past f (x ∷ all) zero h = absurd (omega arith)
 change-past f (x ∷ all) (suc n) h = ap (λ (xs : List Met). x ∷ xs) (change-past f all n (omega arith))
-
--- ---- tokens
-
-noted_by : (units : List ℕ) (greatest : ℕ) (dash index : Bool) → is_dash units ≡ dash → is_index units ≡ index → (n : ℕ) → n < greatest
-    → is_noted (noted_of (place_in units greatest)) n ≡ is_place units n
-noted_by units greatest true index d i n h =
-    ap (λ (p : Place). is_noted (noted_of p) n) (place_of_dash units greatest d)
-    ∙ sym (ap (λ (b : Bool). b && (value_after 0 units == n)) (dash_no_index units d))
-noted_by units greatest false false d i n h =
-    ap (λ (p : Place). is_noted (noted_of p) n) (place_of_none units greatest d i)
-    ∙ sym (ap (λ (b : Bool). b && (value_after 0 units == n)) i)
-noted_by units greatest false true d i n h =
-    ap (λ (p : Place). is_noted (noted_of p) n) (place_of_index units greatest d i)
-    ∙ below (nat_lt (value_after 0 units) greatest) refl
-    ∙ sym (ap (λ (b : Bool). b && (value_after 0 units == n)) i)
-  where
-    below : (b : Bool) → nat_lt (value_after 0 units) greatest ≡ b
-        → is_noted (noted_of (if b then place.Element (value_after 0 units) else place.PastEnd)) n ≡ (value_after 0 units == n)
-    below true e = refl
-    below false e =
-        let past : greatest ≤ value_after 0 units = grind (arith, nat_tests) in
-        let off : (value_after 0 units == n) ≡ false = grind (arith, nat_tests) in
-        sym off
-
-pub place_noted : (units : List ℕ) (greatest : ℕ) (p : Place) → p ≡ place_in units greatest → (n : ℕ) → n < greatest → is_noted (noted_of p) n ≡ is_place units n
-place_noted units greatest p e n h = ap (λ (q : Place). is_noted (noted_of q) n) e ∙ noted_by units greatest (is_dash units) (is_index units) refl refl n h
 
 -- ---- one token of a pointer more
 

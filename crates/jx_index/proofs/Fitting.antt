@@ -9,7 +9,7 @@ use Rattle.jx_lex.specs.declared.alphabet.mark.MarkKind.TheVariants as mark
 use Rattle.jx_run.specs.Tree.{span}
 use Rattle.jx_index.specs.declared.row.Row.{Row}
 use Rattle.jx_index.specs.declared.builder.Opened.{Opened}
-use Rattle.jx_index.specs.inside.Building.{Building, child_place, counted, next_row, add_leaf, begin_container, with_end, set_end, end_container, is_name_next, on_mark}
+use Rattle.jx_index.specs.inside.Building.{Building, counted, next_row, add_leaf, begin_container, with_end, set_end, end_container, is_name_next, on_mark}
 use Rattle.jx_index.specs.inside.Built.{AllWithin, Fits}
 
 pub set_end-set : (rows : List Row) (n end : ℕ) (row : Row) → n < length rows → row ≡ get_or rows n row → slice_set rows n (with_end end row) ≡ set_end n end rows
@@ -66,8 +66,3 @@ mark_fits mark.Number at end b h = leaf_fits kind.Number (span at end) b h
 mark_fits mark.True at end b h = leaf_fits kind.True (span at end) b h
 mark_fits mark.False at end b h = leaf_fits kind.False (span at end) b h
 mark_fits mark.Null at end b h = leaf_fits kind.Null (span at end) b h
-
--- so no count is as great as the number of rows
-pub place_few : (n : ℕ) (opened : List Opened) → AllWithin n opened → child_place opened ≤ n
-place_few n [] h = omega arith
-place_few n (top ∷ outer) h = h.0

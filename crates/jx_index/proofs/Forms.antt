@@ -4,6 +4,7 @@ use Rattle.std.proofs.lemmas.Bool.{and_parts, cases_lt, cases_eq}
 use lib.Utf8.{scalar, scalars, encode, encodes, next, scalar_cases}
 use Rattle.std.proofs.lemmas.Bool.{lt-ltb, le-ltb}
 use Rattle.std.proofs.lemmas.List.{length-append}
+use Rattle.std.proofs.lemmas.Str.{encode_ascii}
 use Rattle.jx_lex.specs.Character.{IsTail, Utf8, one, two, three_e0, three_low, three_ed, three_high, four_f0, four_mid, four_f4, tail_bits, two_tails, three_tails}
 use Rattle.jx_index.specs.PointerForm.{IsTokenChar, plain, tilde, slash, IsToken, no_char, one_char, IsPointerOf, root, below}
 use Rattle.jx_index.specs.Pointers.{IsEscapeDigit, IsBadEscape, HasSlash, IsPointer}
@@ -92,11 +93,6 @@ encoded c s =
       ]
     ]
 
--- an ASCII character is its byte, and the first byte of any other is no ASCII byte
-encode_low : (c : ℕ) → c < 128 → encode c ≡ c ∷ []
-unfolding encode
-encode_low c h = rw (lt-ltb c 128 h)
-
 first_high : {w : List ℕ} {c : ℕ} → Utf8 w c → 128 ≤ c → (rest : List ℕ) → 128 ≤ get_or (w ++ rest) 0 0
 first_high (one h) k rest = absurd (omega arith)
 first_high (two h t) k rest = let x = h.from in omega arith
@@ -164,7 +160,7 @@ at_slash q =
 digit_next : (d : ℕ) (rest : List ℕ) → scalar d ≡ true → IsEscapeDigit (get_or (encode d ++ rest) 0 0) → IsEscapeDigit d
 digit_next d rest s h =
     elim (cases_lt d 128) [
-      | inl low ↦ subst IsEscapeDigit (ap (λ x. get_or (x ++ rest) 0 0) (encode_low d low)) h
+      | inl low ↦ subst IsEscapeDigit (ap (λ x. get_or (x ++ rest) 0 0) (encode_ascii d low)) h
       | inr past ↦ (let high = first_high (encoded d s) past rest in elim h [ inl e ↦ absurd (omega (arith, e)) | inr e ↦ absurd (omega (arith, e)) ])
     ]
 
@@ -183,15 +179,15 @@ is_digit_or b =
     ]
 
 escape_of : (d : ℕ) (bytes : List ℕ) → IsEscapeDigit d → Parsed bytes → Parsed (0x7e ∷ (encode d ++ bytes))
-escape_of d bytes (inl e) q = subst (λ x. Parsed (0x7e ∷ (x ++ bytes))) (sym (ap encode e ∙ encode_low 0x30 (omega arith))) (with_char tilde q)
-escape_of d bytes (inr e) q = subst (λ x. Parsed (0x7e ∷ (x ++ bytes))) (sym (ap encode e ∙ encode_low 0x31 (omega arith))) (with_char slash q)
+escape_of d bytes (inl e) q = subst (λ x. Parsed (0x7e ∷ (x ++ bytes))) (sym (ap encode e ∙ encode_ascii 0x30 (omega arith))) (with_char tilde q)
+escape_of d bytes (inr e) q = subst (λ x. Parsed (0x7e ∷ (x ++ bytes))) (sym (ap encode e ∙ encode_ascii 0x31 (omega arith))) (with_char slash q)
 
 choose : (c : ℕ) (cs : List ℕ) → ((c ≡ 0x2f) ⊎ (c ≢ 0x2f)) → ((c ≡ 0x7e) ⊎ (c ≢ 0x7e)) → scalar c ≡ true → NoBad (encode c ++ encodes cs)
     → (NoBad (encodes cs) → Parsed (encodes cs)) → (NoBad (0x7e ∷ encodes cs) → Parsed (0x7e ∷ encodes cs)) → Parsed (encode c ++ encodes cs)
 choose c cs (inl e) b s n rec til =
-    subst (λ x. Parsed (x ++ encodes cs)) (sym (ap encode e ∙ encode_low 0x2f (omega arith))) (at_slash (rec (later (encode c) (encodes cs) n)))
+    subst (λ x. Parsed (x ++ encodes cs)) (sym (ap encode e ∙ encode_ascii 0x2f (omega arith))) (at_slash (rec (later (encode c) (encodes cs) n)))
 choose c cs (inr a) (inl e) s n rec til =
-    let w : encode c ≡ 0x7e ∷ [] = ap encode e ∙ encode_low 0x7e (omega arith) in
+    let w : encode c ≡ 0x7e ∷ [] = ap encode e ∙ encode_ascii 0x7e (omega arith) in
     subst (λ x. Parsed (x ++ encodes cs)) (sym w) (til (subst (λ x. NoBad (x ++ encodes cs)) w n))
 choose c cs (inr a) (inr b) s n rec til = with_char (plain (encoded c s) b a) (rec (later (encode c) (encodes cs) n))
 
@@ -214,7 +210,7 @@ mutual
 slash_first : (c : ℕ) (rest : List ℕ) → scalar c ≡ true → get_or (encode c ++ rest) 0 0 ≡ 0x2f → c ≡ 0x2f
 slash_first c rest s h =
     elim (cases_lt c 128) [
-      | inl low ↦ sym (ap (λ x. get_or (x ++ rest) 0 0) (encode_low c low)) ∙ h
+      | inl low ↦ sym (ap (λ x. get_or (x ++ rest) 0 0) (encode_ascii c low)) ∙ h
       | inr past ↦ (let high = first_high (encoded c s) past rest in absurd (omega (arith, h)))
     ]
 
@@ -237,7 +233,7 @@ form_of (c ∷ cs) s h n =
     let q = parse cs p.1 (later (encode c) (encodes cs) n) in (
       q.units ∷ q.tokens,
       subst (λ x. IsPointerOf x (q.units ∷ q.tokens))
-          (sym (ap (λ x. x ++ encodes cs) (ap encode e ∙ encode_low 0x2f (omega arith)) ∙ ap (λ x. 0x2f ∷ x) q.whole))
+          (sym (ap (λ x. x ++ encodes cs) (ap encode e ∙ encode_ascii 0x2f (omega arith)) ∙ ap (λ x. 0x2f ∷ x) q.whole))
           (below q.is_token q.is_rest),
     )
 

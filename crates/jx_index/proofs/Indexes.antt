@@ -1,6 +1,5 @@
 -- What the fields of an index say of its rows.
-use Rattle.std.proofs.Common.{◌≡◌, ℕ, ◌+◌, ◌<◌, ◌≤◌, max, List, length, sym, ap, subst, ◌∙◌, arith, None}
-use Rattle.std.specs.Prelude.{slice_index}
+use Rattle.std.proofs.Common.{◌≡◌, ℕ, ◌<◌, max, List, length, sym, ap, subst, ◌∙◌, arith, None}
 use Rattle.jx_summary.specs.declared.span.Span.{Span}
 use Rattle.jx_run.specs.Text.{IsDocument, IsText}
 use Rattle.jx_run.specs.Tree.{Tree}
@@ -45,15 +44,6 @@ module _ (text : List ℕ) (span : Span) (table : List Row) (after starts childr
 
   pub walk_is : (node : ℕ) → walk_children after node ≡ child_numbers table node
   walk_is node = ap (λ a. walk_children a node) x.after_are ∙ walk_children_are x.tree node ∙ sym (ap (λ t. child_numbers t node) x.rows_are)
-
-  pub start_there : (node : ℕ) → node < length table → node + 1 < length starts
-  start_there node h = omega (arith, x.starts_are)
-
-  pub child_list_ordered : (node : ℕ) → node < length table → slice_index starts node ≤ slice_index starts (node + 1)
-  child_list_ordered node h = (x.lists node h).ordered
-
-  pub child_list_within : (node : ℕ) → node < length table → slice_index starts (node + 1) ≤ length children
-  child_list_within node h = (x.lists node h).within
 
   pub names_are : (node : ℕ) → IsObjectAt table node → IsInNameOrder text table (child_numbers table node) (child_list starts children node)
   names_are node h = subst (λ c. IsInNameOrder text table c (child_list starts children node)) (walk_is node) ((x.lists node (object_row table node h)).by_name h)

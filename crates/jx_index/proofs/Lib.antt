@@ -19,7 +19,9 @@ pub mod Walks
 pub mod TokenLaws
 pub mod TokenSteps
 pub mod Rising
+pub mod CutNames
 pub mod InOrders
+pub mod InTurns
 pub mod SameFront
 pub mod Forms
 pub mod FindSteps
@@ -42,9 +44,8 @@ pub mod Fronts
 pub mod RefusedNames
 pub mod Visits
 pub mod Reaches
-pub mod FinderKeeping
 pub mod FinderSteps
-pub mod FindIn
+pub mod ReadMet
 pub mod Tests
 pub mod Digits
 pub mod Ways
@@ -53,8 +54,5 @@ pub mod Climbs
 pub mod Nexts
 pub mod Levels
 pub mod Showing
-pub mod FindersKeeping
-pub mod FindEach
-pub mod FoundFronts
 pub mod Feeding
 pub mod WideObjects

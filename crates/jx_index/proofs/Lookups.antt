@@ -1,6 +1,6 @@
 -- Which edge of a trie a halving finds.
 use Rattle.std.proofs.Common.{◌≡◌, ℕ, zero, suc, ◌+◌, ◌-◌, ◌^◌, ◌<◌, ◌≤◌, List, [], ◌∷◌, length, Bool, true, false, cond, Option, None, Some, refl, sym, ap, subst, ◌∙◌, arith, get_or}
-use Rattle.std.specs.Prelude.{◌==◌, ◌&&◌, nat_lt, slice_get}
+use Rattle.std.specs.Prelude.{◌==◌, ◌&&◌, nat_lt, slice_get, if◌then◌else◌}
 use Rattle.std.specs.declared.cmp.Ordering.{Ordering}
 use Rattle.std.specs.declared.cmp.Ordering.TheVariants.{Less, Equal, Greater}
 use Rattle.std.specs.List.Sorted.{IsPartitionedBy, IsPartitionPoint}
@@ -8,16 +8,16 @@ use Rattle.std.specs.Ordering.{nat_cmp, is_lt, is_eq, is_gt, ordering_reverse, o
 use Rattle.std.specs.Cmp.Lexicographic.{slice_cmp, nat_list_cmp_total}
 use Rattle.std.proofs.lemmas.Bool.Decides.{nat_tests}
 use Rattle.std.proofs.lemmas.Cmp.{nat_cmp_total, ranked, tied_itself}
-use Rattle.jx_index.specs.ArrayTokens.{place_in}
+use Rattle.std.proofs.lemmas.Bool.{false_from_ne_true}
+use Rattle.jx_index.specs.ArrayTokens.{is_dash, is_index, value_after}
 use Rattle.jx_index.specs.declared.array_token.Place.{Place}
 use Rattle.jx_index.specs.declared.array_token.Place.TheVariants as place
 use Rattle.jx_index.specs.declared.trie.Edge.{Edge}
 use Rattle.jx_index.specs.inside.Finding.{is_place}
-use Rattle.jx_index.specs.inside.Found.{is_noted, noted_of}
 use Rattle.jx_index.specs.inside.Trie.{child_at, edge_key, edge_units, element_at, follows, leads_to_place, leads_to_units, place_at, place_from, place_number, place_of, stands_before, IsFirstFrom, IsNextFrom, IsTrie}
-use Rattle.jx_index.proofs.FinderSteps.{place_noted}
 use Rattle.jx_index.proofs.NameKeys.{same_units}
-use Rattle.jx_index.proofs.Tests.{first_true, is_false, less_of, same, second_true}
+use Rattle.jx_index.proofs.Reaches.{dash_no_index, place_of_dash, place_of_none, place_of_index}
+use Rattle.jx_index.proofs.Tests.{first_true, less_of, same, second_true}
 use Rattle.jx_index.proofs.Ways.{first_hit, first_none}
 
 -- ---- elements
@@ -116,17 +116,6 @@ before_parent x y n p us vs b e o = e ∙ pick (nat_cmp x n) (ranked x n (nat_cm
     pick Equal m = absurd (o m)
     pick Greater m = grind (arith, nat_tests)
 
-pub before_place : (x y n p : ℕ) (us vs : List ℕ) (b : Bool) → x ≡ n → b ≡ nat_lt y p → (y ≡ p → ⊥) → b ≡ is_lt (slice_cmp nat_cmp (x ∷ y ∷ us) (n ∷ p ∷ vs))
-before_place x y n p us vs b q e o =
-    e
-    ∙ pick (nat_cmp y p) (ranked y p (nat_cmp y p) refl)
-    ∙ sym (ap (λ (r : Ordering). is_lt (ordering_then r (ordering_then (nat_cmp y p) (slice_cmp nat_cmp us vs)))) (ap (λ (m : ℕ). nat_cmp m n) q ∙ tied_itself nat_cmp_total n))
-  where
-    pick : (r : Ordering) → MatchOrdering r (y < p) (y ≡ p) (p < y) → nat_lt y p ≡ is_lt (ordering_then r (slice_cmp nat_cmp us vs))
-    pick Less m = grind (arith, nat_tests)
-    pick Equal m = absurd (o m)
-    pick Greater m = grind (arith, nat_tests)
-
 pub before_units : (x y n p : ℕ) (us vs : List ℕ) → x ≡ n → y ≡ p → is_lt (slice_cmp nat_cmp (x ∷ y ∷ us) (n ∷ p ∷ vs)) ≡ is_lt (slice_cmp nat_cmp us vs)
 before_units x y n p us vs q e =
     ap (λ (r : Ordering). is_lt (ordering_then r (ordering_then (nat_cmp y p) (slice_cmp nat_cmp us vs)))) (ap (λ (m : ℕ). nat_cmp m n) q ∙ tied_itself nat_cmp_total n)
@@ -167,27 +156,31 @@ pub follows_at : (edges : List Edge) (at : ℕ) (key : List ℕ) → (at ≡ 0 �
 follows_at edges zero key h = absurd (h refl)
 follows_at edges (suc at) key h = ap (λ (n : ℕ). stands_before (slice_get edges n) key) (let e : suc at - 1 ≡ at = omega arith in e)
 
-pub follows_within : (edges : List Edge) (at : ℕ) (key : List ℕ) → follows edges at key ≡ true → at ≤ length edges
-follows_within edges zero key h = omega arith
-follows_within edges (suc at) key h = by (slice_get edges at) refl h
-  where
-    by : (o : Option Edge) → slice_get edges at ≡ o → stands_before o key ≡ true → suc at ≤ length edges
-    by None s t = absurd (cc)
-    by (Some x) s t = let l = there edges at x s in omega (arith, l)
-
 -- ---- by places
 
-number_noted : (p : Place) (n : ℕ) → n < 2 ^ 64 - 1 → is_noted (noted_of p) n ≡ (place_number p == n)
-number_noted (place.Element at) n h = refl
-number_noted place.PastEnd n h = grind (arith, nat_tests)
-number_noted place.AfterLast n h = grind (arith, nat_tests)
-number_noted place.NotAnIndex n h = grind (arith, nat_tests)
+number_of : (units : List ℕ) (dash index : Bool) → is_dash units ≡ dash → is_index units ≡ index → (n : ℕ) → n < 2 ^ 64 - 1 → is_place units n ≡ (place_of units == n)
+number_of units true index d i n h =
+    let past : ((2 ^ 64 - 1) == n) ≡ false = grind (arith, nat_tests) in
+    ap (λ (b : Bool). b && (value_after 0 units == n)) (dash_no_index units d) ∙ sym (ap (λ (p : Place). place_number p == n) (place_of_dash units (2 ^ 64 - 1) d) ∙ past)
+number_of units false false d i n h =
+    let past : ((2 ^ 64 - 1) == n) ≡ false = grind (arith, nat_tests) in
+    ap (λ (b : Bool). b && (value_after 0 units == n)) i ∙ sym (ap (λ (p : Place). place_number p == n) (place_of_none units (2 ^ 64 - 1) d i) ∙ past)
+number_of units false true d i n h =
+    ap (λ (b : Bool). b && (value_after 0 units == n)) i
+    ∙ sym (ap (λ (p : Place). place_number p == n) (place_of_index units (2 ^ 64 - 1) d i) ∙ below (nat_lt (value_after 0 units) (2 ^ 64 - 1)) refl)
+  where
+    below : (b : Bool) → nat_lt (value_after 0 units) (2 ^ 64 - 1) ≡ b
+        → (place_number (if b then place.Element (value_after 0 units) else place.PastEnd) == n) ≡ (value_after 0 units == n)
+    below true e = refl
+    below false e =
+        let far : 2 ^ 64 - 1 ≤ value_after 0 units = grind (arith, nat_tests) in
+        let off : (value_after 0 units == n) ≡ false = grind (arith, nat_tests) in
+        let past : ((2 ^ 64 - 1) == n) ≡ false = grind (arith, nat_tests) in
+        past ∙ sym off
 
 place_named : (e : Edge) (n : ℕ) → e.place ≡ place_of (edge_units e) → n < 2 ^ 64 - 1 → is_place (edge_units e) n ≡ (e.place == n)
 place_named e n h l =
-    sym (place_noted (edge_units e) (2 ^ 64 - 1) (place_in (edge_units e) (2 ^ 64 - 1)) refl n l)
-    ∙ number_noted (place_in (edge_units e) (2 ^ 64 - 1)) n l
-    ∙ ap (λ (m : ℕ). m == n) (sym h)
+    number_of (edge_units e) (is_dash (edge_units e)) (is_index (edge_units e)) refl refl n l ∙ ap (λ (m : ℕ). m == n) (sym h)
 
 module _ (edges : List Edge) (trie : IsTrie edges) where
   pub partitioned : (key : List ℕ) → IsPartitionedBy (λ e. is_lt (slice_cmp nat_cmp (edge_key e) key)) edges
@@ -240,7 +233,7 @@ module _ (edges : List Edge) (trie : IsTrie edges) where
               subst (λ (z : Edge). is_lt (slice_cmp nat_cmp (edge_key z) key) ≡ false) y t
           pick false q =
               let later : at < j = grind (arith, nat_tests) in
-              is_false (is_lt (slice_cmp nat_cmp (edge_key e) key)) (λ k.
+              false_from_ne_true (is_lt (slice_cmp nat_cmp (edge_key e) key)) (λ k.
               let clash : false ≡ true = sym t ∙ below_on (edge_key x) (edge_key e) key ((trie j).rises at x e later s is) k in
               absurd (cc))
 
@@ -263,11 +256,11 @@ module _ (edges : List Edge) (trie : IsTrie edges) where
 
     pub child_hit : (e : Edge) → slice_get edges at ≡ Some e → leads_to_units node units e ≡ true → child_at edges node units ≡ Some (at + 1)
     child_hit e is h =
-        first_hit (leads_to_units node units) edges 1 at e is h (λ j a l a_is. is_false (leads_to_units node units a) (λ t. early j a l a_is t))
+        first_hit (leads_to_units node units) edges 1 at e is h (λ j a l a_is. false_from_ne_true (leads_to_units node units a) (λ t. early j a l a_is t))
         ∙ ap (λ (n : ℕ). Some n) (let z : 1 + at ≡ at + 1 = omega arith in z)
 
     pub child_miss : ((e : Edge) → slice_get edges at ≡ Some e → leads_to_units node units e ≡ true → ⊥) → child_at edges node units ≡ None
-    child_miss never_so = first_none (leads_to_units node units) edges 1 (λ j a is. is_false (leads_to_units node units a) (λ t. by j a is t (nat_lt j at) refl (j == at) refl))
+    child_miss never_so = first_none (leads_to_units node units) edges 1 (λ j a is. false_from_ne_true (leads_to_units node units a) (λ t. by j a is t (nat_lt j at) refl (j == at) refl))
       where
         by : (j : ℕ) (a : Edge) → slice_get edges j ≡ Some a → leads_to_units node units a ≡ true → (b : Bool) → nat_lt j at ≡ b → (c : Bool) → (j == at) ≡ c → ⊥
         by j a is t true l c s = early j a (let x : j < at = grind (arith, nat_tests) in x) is t
@@ -296,7 +289,7 @@ module _ (edges : List Edge) (trie : IsTrie edges) where
     -- no edge from the node names it where none names a place from it on and below one that is greater
     pub element_later : (next : ℕ) → IsNextFrom edges node place next → place < next → None ≡ element_at edges node place
     element_later next none l =
-        sym (first_none (leads_to_place node place) edges 1 (λ j a is. is_false (leads_to_place node place a) (λ t.
+        sym (first_none (leads_to_place node place) edges 1 (λ j a is. false_from_ne_true (leads_to_place node place a) (λ t.
         let n = named j a is t in
         let p = n.place_is in
         let b = none j a is n.parent (omega (arith, p, l)) in
@@ -346,7 +339,7 @@ module _ (edges : List Edge) (trie : IsTrie edges) where
       element_hit h = by (slice_get edges at) refl
         where
           earlier : (j : ℕ) (a : Edge) → j < at → slice_get edges j ≡ Some a → leads_to_place node place a ≡ false
-          earlier j a l is = is_false (leads_to_place node place a) (λ t.
+          earlier j a l is = false_from_ne_true (leads_to_place node place a) (λ t.
               let n = named node place low j a is t in
               let g = (lower_parts a.parent a.place node place (edge_units a) (first.below j a l is)).place n.parent in
               let p = n.place_is in
@@ -365,7 +358,7 @@ module _ (edges : List Edge) (trie : IsTrie edges) where
 
       pub element_miss : (place_from edges at node ≡ place → ⊥) → None ≡ element_at edges node place
       element_miss never_so =
-          sym (first_none (leads_to_place node place) edges 1 (λ j a is. is_false (leads_to_place node place a) (λ t.
+          sym (first_none (leads_to_place node place) edges 1 (λ j a is. false_from_ne_true (leads_to_place node place a) (λ t.
           let n = named node place low j a is t in
           let p = n.place_is in
           by j a is n.parent p (nat_lt j at) refl)))

@@ -10,7 +10,7 @@ use Rattle.std.specs.Cmp.Lexicographic.{slice_cmp, nat_list_cmp_total}
 use Rattle.std.proofs.lemmas.Bool.Decides.{nat_tests}
 use Rattle.std.proofs.lemmas.Cmp.{ranked}
 use Rattle.std.proofs.lemmas.List.{get_or-map, length-map}
-use Rattle.std.proofs.lemmas.List.Elements.{All-map, All-tail}
+use Rattle.std.proofs.lemmas.List.Elements.{All-map, All-tail, filter_agree}
 use Rattle.std.proofs.lemmas.List.Sorted.{IsPermutation-map, All-permutation, IsNonDecreasingBy-from_all_adjacent}
 use Rattle.jx_index.specs.declared.member_order.Fronted.{Fronted}
 use Rattle.jx_index.specs.declared.row.Row.{Row}
@@ -170,10 +170,6 @@ has_room (suc (suc (suc (suc (suc (suc (suc (suc n)))))))) front digit h low l =
 
 -- ---- members in order
 
-filter_same : {A : Type 0} (p q : A → Bool) → ((x : A) → p x ≡ q x) → (xs : List A) → filter p xs ≡ filter q xs
-filter_same p q h [] = refl
-filter_same p q h (x ∷ xs) = ap (λ b. cond b (x ∷ filter p xs) (filter p xs)) (h x) ∙ ap (λ l. cond (q x) (x ∷ l) l) (filter_same p q h xs)
-
 filter_map : {A B : Type 0} (p : B → Bool) (f : A → B) (xs : List A) → filter p (map f xs) ≡ map f (filter (λ x. p (f x)) xs)
 filter_map p f [] = refl
 filter_map p f (x ∷ xs) = pick (p (f x)) (filter_map p f xs)
@@ -206,7 +202,7 @@ module _ (text : List ℕ) (rows : List Row) where
   kept y xs =
       ap (map node_of) (filter_map (ties (is_in_front text rows) (front y)) front xs)
       ∙ members_of (filter (λ x. ties (is_in_front text rows) (front y) (front x)) xs)
-      ∙ filter_same (λ x. ties (is_in_front text rows) (front y) (front x)) (ties (is_below text rows) y) (tied y) xs
+      ∙ filter_agree (λ x. ties (is_in_front text rows) (front y) (front x)) (ties (is_below text rows) y) (tied y) xs
 
   -- fronts of members by rising names rise
   pub fronts_rise : (names : List ℕ) → IsSortedBy (is_below text rows) names → IsNonDecreasing (map (front_at text rows) names)

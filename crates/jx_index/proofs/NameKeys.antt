@@ -19,13 +19,13 @@ module _ {A : Type 0} (spare : A) (p : A → Bool) where
     within : at < length xs
     passes : p (get_or xs at spare) ≡ true
 
-  record TwoPlaces (xs : List A) : Type 0 where
-    first : ℕ
-    second : ℕ
-    ordered : first < second
-    within : second < length xs
-    first_passes : p (get_or xs first spare) ≡ true
-    second_passes : p (get_or xs second spare) ≡ true
+  pub record TwoPlaces (xs : List A) : Type 0 where
+    pub first : ℕ
+    pub second : ℕ
+    pub ordered : first < second
+    pub within : second < length xs
+    pub first_passes : p (get_or xs first spare) ≡ true
+    pub second_passes : p (get_or xs second spare) ≡ true
 
   place_of : (x : A) (xs : List A) → IsAmong x (filter p xs) → Place xs
   place_of x [] h = absurd h
@@ -35,7 +35,7 @@ module _ {A : Type 0} (spare : A) (p : A → Bool) where
       pick true e h rec = record { at = 0; within = omega arith; passes = e }
       pick false e h rec = let r = rec h in let low = r.within in record { at = suc r.at; within = omega (arith, low); passes = r.passes }
 
-  two_places : (x : A) (xs : List A) → IsAmong x (drop 1 (filter p xs)) → TwoPlaces xs
+  pub two_places : (x : A) (xs : List A) → IsAmong x (drop 1 (filter p xs)) → TwoPlaces xs
   two_places x [] h = absurd h
   two_places x (y ∷ ys) h = pick (p y) refl h (λ k. two_places x ys k)
     where

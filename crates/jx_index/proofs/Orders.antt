@@ -1,5 +1,6 @@
 -- Members in the order of their names, and those of some units among them.
 use Rattle.std.proofs.Common.{◌≡◌, ℕ, List, [], ◌∷◌, Bool, true, false, cond, refl, sym, ap, ◌∙◌}
+use Rattle.std.proofs.lemmas.List.Elements.{filter_agree}
 use Rattle.std.specs.Prelude.{filter, not, ◌&&◌}
 use Rattle.std.specs.declared.cmp.Ordering.{Ordering}
 use Rattle.std.specs.declared.cmp.Ordering.TheVariants.{Less, Equal, Greater}
@@ -17,10 +18,6 @@ ties_of : (o : Ordering) → is_eq o ≡ (not (is_lt (ordering_reverse o)) && no
 ties_of Less = refl
 ties_of Equal = refl
 ties_of Greater = refl
-
-filter_same : {A : Type 0} (p q : A → Bool) → ((x : A) → p x ≡ q x) → (xs : List A) → filter p xs ≡ filter q xs
-filter_same p q h [] = refl
-filter_same p q h (x ∷ xs) = ap (λ b. cond b (x ∷ filter p xs) (filter p xs)) (h x) ∙ ap (λ l. cond (q x) (x ∷ l) l) (filter_same p q h xs)
 
 head_passes : {A : Type 0} (p : A → Bool) (xs ys : List A) (y : A) → filter p xs ≡ y ∷ ys → p y ≡ true
 head_passes p [] ys y h = absurd (cc)
@@ -56,9 +53,9 @@ module _ {A : Type 0} (units_of : A → List ℕ) (units : List ℕ) where
 
       from : (y : A) → p y ≡ true → filter p names ≡ filter p members
       from y h =
-          filter_same p (ties (falls units_of) y) (equal_ties y h) names
+          filter_agree p (ties (falls units_of) y) (equal_ties y h) names
           ∙ stable y
-          ∙ sym (filter_same p (ties (falls units_of) y) (equal_ties y h) members)
+          ∙ sym (filter_agree p (ties (falls units_of) y) (equal_ties y h) members)
 
       cases : (xs ys : List A) → filter p names ≡ xs → filter p members ≡ ys → filter p names ≡ filter p members
       cases [] [] e f = e ∙ sym f

@@ -1,5 +1,5 @@
 -- What the rule on names makes of judged elements.
-use Rattle.std.proofs.Common.{◌≡◌, ℕ, ◌≤◌, List, [], ◌∷◌, length, Option, None, refl, sym, subst, ◌∙◌, arith}
+use Rattle.std.proofs.Common.{◌≡◌, ℕ, ◌≤◌, List, [], ◌∷◌, length, Option, None, refl, sym, subst, arith}
 use Rattle.std.specs.Prelude.{All}
 use Rattle.std.specs.List.{AllZip}
 use Rattle.std.proofs.lemmas.List.Elements.{All-head, All-tail}
@@ -17,7 +17,7 @@ use Rattle.jx_run.specs.Text.{IsDocument, IsText}
 use Rattle.jx_run.specs.Tree.{Tree}
 use Rattle.jx_run.specs.MarkAlone.{elements_by}
 use Rattle.jx_run.proofs.ElementsLie.{LiesIn, lie_in}
-use Rattle.jx_index.specs.ByNames.{RefusesName, IsRefusedName, IsJudgedBy, AreJudgedBy, judged_unless}
+use Rattle.jx_index.specs.ByNames.{RefusesName, IsRefusedName, IsJudgedBy, judged_unless}
 use Rattle.jx_index.specs.Repeats.{IsLeast, IsRepeat}
 use Rattle.jx_index.specs.Rows.{rows}
 use Rattle.jx_index.specs.inside.JudgedIn.{IsJudgedIn}
@@ -56,18 +56,6 @@ module _ (settings : Settings) (input : List ℕ) (p : Part) (j : JudgedElement)
       pick : (rule : NameRule) → settings.names ≡ rule → j.verdict ≡ verdict.Accepted → (text : IsClosedText p settings.depth) × RefusesName settings.names input (rows text.tree) None
       pick Any is e = let t = accepted_text e in (t, subst (λ (rule : NameRule). RefusesName rule input (rows t.tree) None) (sym is) refl)
       pick Unique is e = absurd (other (is, e))
-
--- where any names are allowed, all verdicts stay
-by_any : (settings : Settings) (input : List ℕ) (ps : List Part) (js : List JudgedElement) → settings.names ≡ Any → AllZip (IsJudgedElement settings.depth) ps js
-    → AllZip (IsJudgedBy settings input) ps js
-by_any settings input [] [] e z = tt
-by_any settings input [] (j ∷ js) e z = absurd z
-by_any settings input (p ∷ ps) [] e z = absurd z
-by_any settings input (p ∷ ps) (j ∷ js) e z = (left_so settings input p j z.0 (λ both. let same : Any ≡ Unique = sym e ∙ both.0 in absurd (cc)), by_any settings input ps js e z.1)
-
-pub judged_by_any : (settings : Settings) (input : List ℕ) (js : List JudgedElement) → settings.names ≡ Any
-    → AllZip (IsJudgedElement settings.depth) (elements_by settings.mark input) js → AreJudgedBy settings input js
-judged_by_any settings input js e z = by_any settings input (elements_by settings.mark input) js e z
 
 -- ---- where names have to be unique
 

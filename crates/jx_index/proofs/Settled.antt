@@ -16,7 +16,8 @@ use Rattle.jx_run.specs.Front.{agreed, front_of, IsTold}
 use Rattle.jx_run.specs.Settings.{byte_order_mark, IsFront, JudgedBy}
 use Rattle.jx_run.specs.Text.{IsDocument, IsText}
 use Rattle.jx_run.specs.Tree.{Tree, span}
-use Rattle.jx_run.specs.Verdict.{Judged, a_text}
+use Rattle.jx_run.specs.Verdict.{Judged}
+use Rattle.jx_run.proofs.VerdictLaws.{tree_in}
 use Rattle.jx_index.specs.Indexed.{IndexedValue}
 use Rattle.jx_index.specs.Rows.{rows}
 use Rattle.jx_index.specs.Settled.{IsIndexBy, IsIndexFrom, rest_from}
@@ -24,15 +25,11 @@ use Rattle.jx_index.specs.Settled.{IsIndexBy, IsIndexFrom, rest_from}
 rest_is : (n : ℕ) (text : List ℕ) → rest_from n text ≡ drop n text
 rest_is n text = take_all (length text - n) (drop n text) (let e : length (drop n text) ≡ length text - n = length-drop n text in omega arith)
 
--- a text that is accepted has a tree
-tree_of : (start limit : ℕ) (bytes : List ℕ) → Judged start bytes limit Accepted → (tree : Tree) × IsDocument start bytes limit tree
-tree_of start limit bytes (a_text {tree = tree} document) = (tree, document)
-
 pub over_rest : (text : List ℕ) (start limit : ℕ) (index : IndexedValue) → Judged start (rest_from start text) limit Accepted → index.text ≡ text
     → index.span ≡ span start (length text) → ((d : ℕ) (tree : Tree) → IsText text start (length text) d tree → index.rows ≡ rows tree)
     → IsIndexFrom start text limit index
 over_rest text start limit index judged is_text is_span is_rows =
-    let t = tree_of start limit (rest_from start text) judged in
+    let t = tree_in judged in
     record { text = is_text; span = is_span; tree = t.0; is_text = t.1; rows_are = is_rows limit t.0 t.1 }
 
 -- ---- what stands in front

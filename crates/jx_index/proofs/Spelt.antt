@@ -4,16 +4,12 @@ use lib.Utf8.{encode, next}
 use Rattle.std.specs.Char.{IsScalar}
 use Rattle.std.proofs.lemmas.Bool.{lt-ltb, le-ltb}
 use Rattle.std.proofs.lemmas.Bool.Decides.{nat_tests}
-use Rattle.std.proofs.lemmas.Str.{IsUtf8-append, IsUtf8-encode, IsUtf8-nil}
+use Rattle.std.proofs.lemmas.Str.{IsUtf8-append, IsUtf8-encode, IsUtf8-nil, encode_ascii}
 use Rattle.jx_lex.specs.Character.{IsTail, Utf8, one, two, three_e0, three_low, three_ed, three_high, four_f0, four_mid, four_f4, tail_bits, two_tails, three_tails}
 use Rattle.jx_index.specs.PointerForm.{IsTokenChar, plain, tilde, slash, IsToken, no_char, one_char, IsPointerOf, root, below}
 use Rattle.jx_index.specs.Pointers.{IsEscapeDigit, IsBadEscape, HasSlash, IsPointer}
 
 -- ---- the bytes of a character are its encoding
-
-encode_one : (c : ℕ) → c < 128 → encode c ≡ c ∷ []
-unfolding encode
-encode_one c h = rw (lt-ltb c 128 h) refl
 
 encode_two : (c : ℕ) → 128 ≤ c → c < 2048 → encode c ≡ (192 + c / 64) ∷ next c ∷ []
 unfolding encode
@@ -78,7 +74,7 @@ high_scalar : (c : ℕ) → 57344 ≤ c → c < 1114112 → IsScalar c
 high_scalar c h k = grind (arith, nat_tests)
 
 encodes_char : {w : List ℕ} {c : ℕ} → Utf8 w c → Encodes w c
-encodes_char (one {a = a} h) = record { is_scalar = low_scalar a (omega arith); bytes = encode_one a (omega arith) }
+encodes_char (one {a = a} h) = record { is_scalar = low_scalar a (omega arith); bytes = encode_ascii a (omega arith) }
 encodes_char (two {a = a} {b = b} h t) = two_bytes a b h.from h.to t ((a - 0xc0) * 64 + tail_bits b) refl
 encodes_char (three_e0 {b = b} {c = d} h t) =
     let x = h.from in let y = h.to in let z = t.from in let w = t.to in
@@ -110,7 +106,7 @@ encodes_char (four_f4 {b = b} {c = d} {d = f} h t u) =
     four_bytes 0xf4 b d f (omega arith) (omega arith) (record { from = omega arith; to = omega arith }) t u c (omega arith) (omega arith) (omega arith)
 
 utf8_ascii : (c : ℕ) → c < 128 → IsUtf8 (c ∷ [])
-utf8_ascii c h = subst IsUtf8 (encode_one c h) (IsUtf8-encode c (low_scalar c (omega arith)))
+utf8_ascii c h = subst IsUtf8 (encode_ascii c h) (IsUtf8-encode c (low_scalar c (omega arith)))
 
 utf8_part : {w us : List ℕ} → IsTokenChar w us → IsUtf8 w
 utf8_part (plain u n m) = let e = encodes_char u in subst IsUtf8 e.bytes (IsUtf8-encode _ e.is_scalar)

@@ -41,10 +41,6 @@ both_equal x y u h k =
     ∙ nat_list_cmp_total.antisymm u y
     ∙ ap ordering_reverse (equal_of (slice_cmp nat_cmp y u) k))
 
-one_of_rank : (o : Bool) → (o ≡ true → ⊥) → o ≡ false
-one_of_rank true h = absurd (h refl)
-one_of_rank false h = refl
-
 -- ---- places
 
 -- what is found, with the least of what is left, is the least of all
@@ -236,9 +232,6 @@ module _ (text : List ℕ) (rows : List Row) where
   first_in_object node names r is stable h =
       least_same (IsRepeatIn text rows (child_numbers rows node)) (IsRepeatOf text rows node) (λ at x. (is, x)) (λ at x. x.1) r
       (first_in_place 0 (name_units text rows) (λ n. start_in (name_at rows n)) (child_numbers rows node) names r stable h)
-
-  pub first_in_other : (node : ℕ) → (IsObjectAt rows node → ⊥) → IsLeast (IsRepeatOf text rows node) None
-  first_in_other node other = λ n x. other x.0
 
   -- ---- object by object
 

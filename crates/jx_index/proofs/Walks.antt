@@ -3,7 +3,6 @@ use Rattle.std.proofs.Common.{◌≡◌, ℕ, suc, ◌+◌, List, [], ◌∷◌,
 use Rattle.std.proofs.Math.Seq.{get_or-append_seam}
 use Rattle.std.proofs.lemmas.List.{length-append}
 use Rattle.jx_run.specs.Tree.{Tree, node, Children}
-use Rattle.jx_index.specs.declared.row.Row.{Row}
 use Rattle.jx_index.specs.Rows.{size, rows_from, rows_below, rows}
 use Rattle.jx_index.specs.Standing.{Standing, row_of, Stands, itself, inside, StandsBelow, in_first, in_later, root_standing}
 use Rattle.jx_index.specs.Leads.{children_of}
@@ -74,10 +73,6 @@ has_get xs x number d h =
 -- behind a node stands what its number and its size say
 pub after_at : {tree inner : Tree} {t : Standing} → Stands tree root_standing inner t → get_or (afters tree) t.number 0 ≡ t.number + size inner
 after_at {tree = tree} {inner = inner} {t = t} w = has_get (afters tree) (t.number + size inner) t.number 0 (has_after w)
-
--- the row at a node's number is the node's
-pub row_at : {tree inner : Tree} {t : Standing} → Stands tree root_standing inner t → (d : Row) → get_or (rows tree) t.number d ≡ row_of inner t
-row_at {tree = tree} {inner = inner} {t = t} w d = has_get (rows tree) (row_of inner t) t.number d (has_row w)
 
 mutual
   -- from a node on to what stands below it

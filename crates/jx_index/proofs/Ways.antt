@@ -5,12 +5,13 @@ use Rattle.std.specs.Ordering.{nat_cmp, is_lt}
 use Rattle.std.specs.Cmp.Lexicographic.{slice_cmp, nat_list_cmp_total}
 use Rattle.std.proofs.lemmas.Bool.Decides.{nat_tests}
 use Rattle.std.proofs.lemmas.Cmp.{tied_itself}
+use Rattle.std.proofs.lemmas.Bool.{and_from, false_from_ne_true}
 use Rattle.jx_index.specs.declared.finder.Met.{Met}
 use Rattle.jx_index.specs.declared.finder.Met.TheVariants as met
 use Rattle.jx_index.specs.declared.trie.Edge.{Edge}
 use Rattle.jx_index.specs.inside.Finding.{change, met_at, one_deeper}
 use Rattle.jx_index.specs.inside.Trie.{after_one, edge_key, edge_units, first_of, is_before, level_of, level_on, place_of, IsTrie, IsWay, stops, goes}
-use Rattle.jx_index.proofs.Tests.{both_true, first_true, is_false, not_same, same, second_true}
+use Rattle.jx_index.proofs.Tests.{first_true, not_same, same, second_true}
 
 -- ---- levels
 
@@ -248,10 +249,10 @@ module _ (edges : List Edge) (trie : IsTrie edges) where
         hit : (token : List ℕ) → slice_get ts j ≡ Some token → q token ≡ true → level_of path (first_of (by_units q node) edges 1) ≡ Some (suc j)
         hit token g h =
             let d = down edges way node j token on_it g in
-            let passes : by_units q node d.edge ≡ true = both_true (d.edge.parent == node) (q (edge_units d.edge)) (let x : (d.edge.parent == node) ≡ true = grind (arith, nat_tests, d.parent) in x) (ap q d.token ∙ h) in
+            let passes : by_units q node d.edge ≡ true = and_from (d.edge.parent == node) (q (edge_units d.edge)) (let x : (d.edge.parent == node) ≡ true = grind (arith, nat_tests, d.parent) in x) (ap q d.token ∙ h) in
             ap (level_of path)
             (first_hit (by_units q node) edges 1 d.number d.edge d.is passes
-            (λ i a l a_is. is_false (by_units q node a)
+            (λ i a l a_is. false_from_ne_true (by_units q node a)
             (λ t. apart i d.number a d.edge l a_is d.is (same a.parent node (first_true (a.parent == node) (q (edge_units a)) t) ∙ sym d.parent)
             (one (edge_units a) (edge_units d.edge) (second_true (a.parent == node) (q (edge_units a)) t) (ap q d.token ∙ h)))))
             ∙ ap (level_on path) (let z : 1 + d.number ≡ suc d.number = omega arith in z)

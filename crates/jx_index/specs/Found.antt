@@ -1,20 +1,17 @@
 -- The value that a look-up gives.
-use Rattle.std.specs.Prelude.{◌≡◌, ℕ, List, length, Result, Ok, Err}
+use Rattle.std.specs.Prelude.{◌≡◌, ℕ, List, Result, Ok, Err}
 use Rattle.std.specs.List.{AllZip}
 use Rattle.jx_run.specs.declared.texts.settings.Settings.{Settings}
 use Rattle.jx_run.specs.declared.texts.verdict.Refusal.{Refusal}
 use Rattle.jx_run.specs.declared.texts.verdict.Verdict.TheVariants.{Accepted, Refused}
 use Rattle.jx_run.specs.Laws.{span_of}
 use Rattle.jx_run.specs.Settings.{IsDocumentBy}
-use Rattle.jx_run.specs.Text.{IsText}
 use Rattle.jx_run.specs.Tree.{Tree}
-use Rattle.jx_run.specs.Verdict.{Judged}
 use Rattle.jx_index.specs.ByNames.{IsVerdictBy}
 use Rattle.jx_index.specs.declared.find_fault.FindFault.{FindFault}
 use Rattle.jx_index.specs.declared.finder.Found.{Found}
 use Rattle.jx_index.specs.Leads.{Numbered, kind_of, led}
 use Rattle.jx_index.specs.Pointers.{tokens}
-use Rattle.jx_index.specs.Settled.{rest_from}
 
 -- the kind and the span of a tree's root
 abbrev pub value_of : Tree → Found
@@ -24,16 +21,7 @@ abbrev pub found_of : Result Numbered FindFault → Result Found FindFault
 found_of (Ok c) = Ok (value_of c.tree)
 found_of (Err fault) = Err fault
 
--- what a pointer leads to in the text between two offsets, by any tree that it has
-abbrev pub FindsIn : List ℕ → ℕ → ℕ → List ℕ → Result Found FindFault → Type 0
-FindsIn text start end pointer found = (limit : ℕ) (tree : Tree) → IsText text start end limit tree → found ≡ found_of (led text tree (tokens pointer))
-
 -- ---- by the verdict
-
--- what stands from an offset on is refused, or the pointer is answered in it
-abbrev pub IsFoundFrom : ℕ → List ℕ → ℕ → List ℕ → Result (Result Found FindFault) Refusal → Type 0
-IsFoundFrom start bytes limit pointer (Ok found) = Judged start (rest_from start bytes) limit Accepted × FindsIn bytes start (length bytes) pointer found
-IsFoundFrom start bytes limit pointer (Err refusal) = Judged start (rest_from start bytes) limit (Refused refusal)
 
 -- a text by settings, and what the pointer leads to in its tree
 pub record IsFoundIn (settings : Settings) (bytes pointer : List ℕ) (found : Result Found FindFault) : Type 0 where

@@ -2,8 +2,6 @@
 pub mod ArrayDigits
 pub mod Building
 pub mod Built
-pub mod FinderSeen
-pub mod FindersSeen
 pub mod Finding
 pub mod Found
 pub mod JudgedIn
@@ -15,6 +13,7 @@ pub mod NameLists
 pub mod OpenNames
 pub mod Growing
 pub mod InOrder
+pub mod InTurn
 pub mod Seeking
 pub mod Ties
 pub mod Trie

@@ -1,9 +1,9 @@
 ghost use Rattle.std.specs.Prelude.{◌≡◌, ◌<◌, ◌-◌, ◌^◌, reverse, slice_set, true, IfOk};
-ghost use Rattle.jx_index.specs.inside.Building.{child_place, parent_in, counted, set_end, nothing_built, make, add_leaf, begin_container, ended, is_name_next, on_mark, is_token, next_end, ends_after, built_of};
+ghost use Rattle.jx_index.specs.inside.Building.{child_place, parent_in, counted, set_end, nothing_built, add_leaf, begin_container, ended, is_name_next, on_mark, is_token, next_end, ends_after, built_of};
 ghost use Rattle.jx_index.specs.inside.Built.{built, Fits};
 ghost use Rattle.jx_index.specs.inside.Low.{AllLow};
 
-use crate::in_order::{Marking, take_all};
+use crate::in_order::Marking;
 use crate::row::{NodeId, Row};
 use jx_lex::{Kind, Mark, MarkKind, Span};
 use jx_maps::{Ends, Marks};
@@ -208,7 +208,8 @@ impl Marking for Builder {
 }
 
 /// Whether a mark of this kind begins a token, to which an end belongs.
-pub(crate) fn has_end(kind: MarkKind) -> bool
+#[inline(always)]
+pub fn has_end(kind: MarkKind) -> bool
     ensures { result ≡ is_token kind }
 {
     matches!(
@@ -218,7 +219,7 @@ pub(crate) fn has_end(kind: MarkKind) -> bool
 }
 
 /// The first of the ends, or `last` where none is left.
-pub(crate) fn first_end(ends: &[usize], last: usize) -> usize
+fn first_end(ends: &[usize], last: usize) -> usize
     ensures { result ≡ next_end last ends.now }
 {
     match ends.first() {
@@ -228,7 +229,7 @@ pub(crate) fn first_end(ends: &[usize], last: usize) -> usize
 }
 
 /// The ends that a mark of this kind leaves: all but the first where it begins a token, else all.
-pub(crate) fn later_ends<'a>(kind: MarkKind, ends: &'a [usize]) -> &'a [usize]
+fn later_ends<'a>(kind: MarkKind, ends: &'a [usize]) -> &'a [usize]
     ensures { result.now ≡ ends_after kind ends.now }
 {
     if has_end(kind) && !ends.is_empty() {
@@ -236,20 +237,6 @@ pub(crate) fn later_ends<'a>(kind: MarkKind, ends: &'a [usize]) -> &'a [usize]
     } else {
         ends
     }
-}
-
-/// The nodes of a text that ends at `last`, from what is built so far and the marks and the ends of tokens that are left.
-pub(crate) fn nodes_of(
-    builder: Builder,
-    marks: &[Mark],
-    ends: &[usize],
-    last: usize,
-) -> Result<Nodes, AllocError>
-    ensures rows { IfOk result (λ nodes. AllLow marks.now → Fits (built builder) → nodes.rows.items ≡ (make last marks.now ends.now (built builder)).rows) }
-    ensures after { IfOk result (λ nodes. AllLow marks.now → Fits (built builder) → nodes.after.items ≡ (make last marks.now ends.now (built builder)).after) }
-{
-    let built = take_all(builder, marks, ends, last)?;
-    Ok(built.into_nodes())
 }
 
 /// The end of a mark's token: the next of the ends, or `last` where none is left. A structural byte takes none.
@@ -296,6 +283,12 @@ pub fn nodes_from_marks(
     ensures rows { IfOk result (λ nodes. nodes.rows.items ≡ (built_of last marks.now ends.now).rows) }
     ensures after { IfOk result (λ nodes. nodes.after.items ≡ (built_of last marks.now ends.now).after) }
 {
-    let nodes = nodes_of(Builder::new(alloc), marks, ends, last)?;
-    Ok(nodes)
+    let mut builder = Builder::new(alloc);
+    let mut left = ends;
+    for mark in marks {
+        let end = first_end(left, last);
+        left = later_ends(mark.kind, left);
+        builder.mark(mark.kind, mark.at, end)?;
+    }
+    Ok(builder.into_nodes())
 }

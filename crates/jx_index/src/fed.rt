@@ -1,7 +1,6 @@
 // What the pointers of a trie lead to in a text that is fed: names are told by their bytes, and no text is at hand.
 ghost use Rattle.std.specs.Prelude.{◌≡◌, ℕ, All, List, length, slice_range, true, IfOk};
 ghost use Rattle.jx_lex.specs.declared.alphabet.mark.MarkKind.TheVariants.{String};
-ghost use Rattle.jx_run.specs.declared.texts.settings.NameRule.TheVariants.{Any};
 ghost use Rattle.jx_run.specs.declared.texts.settings.Settings.{Settings};
 ghost use Rattle.jx_run.specs.declared.texts.verdict.Verdict.TheVariants.{Accepted};
 ghost use Rattle.jx_run.specs.Settings.{JudgedBy};
@@ -14,9 +13,9 @@ ghost use Rattle.jx_index.specs.inside.Trie.{HasWay, IsTrie, is_name_next, seek_
 
 use crate::find_fault::FindFault;
 use crate::finder::{Found, Met};
-use crate::found_each::read_each;
-use crate::laws::{indexes_stand_behind_fronts, names_are_refused_by_rows};
+use crate::laws::indexes_stand_behind_fronts;
 use crate::pointer::Pointer;
+use crate::read_met::read_each;
 use crate::seeker::Seeker;
 use crate::trie::Edge;
 use crate::trie_nodes::member;
@@ -85,14 +84,13 @@ pub fn answers_of(
     pointers: &[Pointer],
 ) -> Result<Vec<Result<Found, FindFault>>, AllocError>
     ensures { IfOk result (λ found. (settings : Settings) (bytes : List ℕ) → IsTrie edges.now → All (λ (pointer : List ℕ). HasWay edges.now pointer) pointers.now
-        → settings.names ≡ Any → JudgedBy settings 0 bytes Accepted
+        → JudgedBy settings 0 bytes Accepted
         → met.now ≡ (seek_all bytes edges.now (length bytes) (tokens_by settings.mark bytes).marks (tokens_by settings.mark bytes).ends (nothing_met (length edges.now))).met
         → AreFoundIn settings bytes pointers.now found.items) }
 {
     tokens_are_read();
     accepted_texts_stand_behind_fronts();
     indexes_stand_behind_fronts();
-    names_are_refused_by_rows();
     let found = read_each(alloc, edges, starts, met, pointers)?;
     Ok(found)
 }

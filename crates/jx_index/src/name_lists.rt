@@ -1,9 +1,6 @@
 // Names as they stand in a text, in order, and those among them that are repeated.
-ghost use Rattle.std.specs.Prelude.{◌≡◌, ◌∷◌, [], drop, IfOk};
-ghost use Rattle.std.specs.Ordering.{nat_cmp};
-ghost use Rattle.std.specs.Cmp.Lexicographic.{slice_cmp};
+ghost use Rattle.std.specs.Prelude.{◌≡◌, [], drop, IfOk};
 ghost use Rattle.jx_index.specs.Repeats.{IsLeast};
-ghost use Rattle.jx_index.specs.Units.{units_at};
 ghost use Rattle.jx_index.specs.inside.NameLists.{name_tie, IsInUnitOrder, IsNameTie, IsRepeatedName};
 
 use crate::name_keys::keys_are_apart;

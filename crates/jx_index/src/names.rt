@@ -164,13 +164,6 @@ pub(crate) fn compare_to_token(text: &[u8], rows: &[Row], node: NodeId, token: &
     compare_spelt(name_bytes(text, rows, node), Spelling::InText, token)
 }
 
-/// Whether the name at a span of a text has the units that a token spells.
-pub(crate) fn is_spelt(text: &[u8], name: Span, token: &[u8]) -> bool
-    ensures { result ≡ is_name text.now (chars_units InToken 0 token.now) (Some name) }
-{
-    compare_spelt(string_bytes(text, name), Spelling::InText, token).is_eq()
-}
-
 /// Whether the row with this number is that of an object.
 pub(crate) fn is_object(rows: &[Row], node: usize) -> bool
     requires { node < length rows.now }

@@ -1,4 +1,4 @@
-ghost use Rattle.std.specs.Prelude.{◌≡◌, ◌<◌, ◌↔◌, IsTrue, length, IfOk, IfErr};
+ghost use Rattle.std.specs.Prelude.{◌≡◌, ◌<◌, ◌↔◌, [], IsTrue, length, IfOk, IfErr};
 ghost use Rattle.jx_index.specs.Pointers.{IsEscapeDigit, IsBadEscape, IsPointer};
 ghost use Rattle.jx_index.specs.PointerFaults.{IsFaultOf};
 
@@ -68,6 +68,13 @@ impl<'p> Pointer<'p> {
             }
         }
         Ok(Pointer { text })
+    }
+
+    /// The pointer without a token, which leads to the whole text (section 5).
+    pub fn root() -> Pointer<'p>
+        ensures { result ≡ [] }
+    {
+        Pointer { text: "" }
     }
 
     /// The bytes of the pointer as it is spelt.

@@ -38,7 +38,7 @@ pub(crate) fn read_nodes<P: Pace>(
 {
     tokens_are_read();
     let builder = Builder::new(alloc);
-    let sink = InOrder::new(alloc, builder);
+    let sink = InOrder::new(builder);
     let told = read_into(alloc, text, span.start, span.end, depth, sink, pace)?;
     match told.verdict {
         Verdict::Refused(refusal) => Ok(Err(refusal)),

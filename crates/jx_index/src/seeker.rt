@@ -4,7 +4,7 @@ ghost use Rattle.jx_index.specs.declared.trie.Edge.{Edge};
 ghost use Rattle.jx_index.specs.inside.Finding.{begin_at, end_in, leaf_at, naming, nothing_met};
 ghost use Rattle.jx_index.specs.inside.Seeking.{IsReady};
 ghost use Rattle.jx_index.specs.inside.Found.{finding, HasRoom};
-ghost use Rattle.jx_index.specs.inside.Trie.{among, element_at, first_open, place_from, sought, string_among, target_node, IsNextFrom, IsNextIn, IsTrie};
+ghost use Rattle.jx_index.specs.inside.Trie.{among, element_at, first_open, place_from, sought, string_among, target_node, IsNextFrom, IsTrie};
 
 use crate::finder::{Cursor, State, one_more};
 use crate::trie::Edge;

@@ -110,7 +110,7 @@ pub(crate) fn first_of_place(edges: &[Edge], starts: &[usize], node: usize, plac
 }
 
 /// What was met at a node.
-fn met_at(met: &[Met], node: usize) -> Met
+pub(crate) fn met_at(met: &[Met], node: usize) -> Met
     ensures { result ≡ met_at met.now node }
 {
     match met.get(node) {

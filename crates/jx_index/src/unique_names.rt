@@ -70,7 +70,7 @@ fn repeated_name_of<S: Source, P: Pace>(
         names: OpenNames::new(alloc, text),
         source: PhantomData,
     };
-    let sink = InOrder::new(alloc, names);
+    let sink = InOrder::new(names);
     let told = read_into(alloc, text, span.start, span.end, depth, sink, pace)?;
     match told.verdict {
         Verdict::Refused(refusal) => Ok(Err(refusal)),

@@ -64,6 +64,29 @@ pub bit-not : (a k : ℕ) → a < 2 ^ 64 → k < 64 → bit (2 ^ 64 - 1 - a) k �
 unfolding bit
 bit-not a k fits lt = ap (λ n. n == 1) (bit_at_not w64 a k fits lt) ∙ not_set (bit_at a k) (bit_at-lt a k)
 
+-- the difference of two bits
+abbrev pub differ : Bool → Bool → Bool
+differ true b = not b
+differ false b = b
+
+odd_sum : (x y : ℕ) → x < 2 → y < 2 → ((x + y) % 2 == 1) ≡ differ (x == 1) (y == 1)
+odd_sum zero zero h k = refl
+odd_sum zero (suc zero) h k = refl
+odd_sum (suc zero) zero h k = refl
+odd_sum (suc zero) (suc zero) h k = refl
+odd_sum (suc (suc x)) y h k = absurd (omega arith)
+odd_sum zero (suc (suc y)) h k = absurd (omega arith)
+odd_sum (suc zero) (suc (suc y)) h k = absurd (omega arith)
+
+pub bit-differ : (a b k : ℕ) → bit (bit_xor a b) k ≡ differ (bit a k) (bit b k)
+unfolding bit
+bit-differ a b k = ap (λ n. n == 1) (bit_at_xor a b k) ∙ odd_sum (bit_at a k) (bit_at b k) (bit_at-lt a k) (bit_at-lt b k)
+
+-- a shift to the right
+pub bit-shr : (a k j : ℕ) → bit (a / 2 ^ k) j ≡ bit a (k + j)
+unfolding bit
+bit-shr a k j = ap (λ n. n % 2 == 1) (shr-shr a k j)
+
 -- where the difference of two words has no bit, they agree
 pub bit-xor : (a b k : ℕ) → bit (bit_xor a b) k ≡ false → bit a k ≡ bit b k
 unfolding bit

@@ -2,7 +2,7 @@
 use Rattle.std.proofs.Common.{◌≡◌, ℕ, zero, suc, ◌+◌, ◌-◌, ◌/◌, ◌^◌, ◌<◌, ◌≤◌, Bool, true, false, not, List, [], ◌∷◌, length, take, drop, get_or, map, refl, ap, sym, subst, ◌∙◌, ◌⊎◌, inl, inr, arith, length-drop, bit_and, bit_or, bit_xor}
 use Rattle.std.specs.Prelude.{◌==◌, ◌||◌, ◌&&◌, slice_range}
 use Rattle.std.specs.Simd.Lanes.{mask_l}
-use Rattle.std.proofs.lemmas.Bool.{cases_Bool, cases_lt, and_right, or_parts}
+use Rattle.std.proofs.lemmas.Bool.{cases_Bool, cases_lt, and_right, or_parts, and_from, not-false}
 use Rattle.std.proofs.lemmas.Bool.Decides.{nat_tests}
 use Rattle.std.proofs.lemmas.List.{get_or-drop}
 use Rattle.std.proofs.lemmas.Nat.{or_lt, and_le_l}
@@ -32,9 +32,6 @@ hex_is_no_backslash b h = grind (arith, nat_tests)
 or_other : (a b : Bool) → (a || b) ≡ true → a ≡ false → b ≡ true
 or_other true b h none = cc
 or_other false b h none = h
-
-both_true : (a b : Bool) → a ≡ true → b ≡ true → (a && b) ≡ true
-both_true a b h k = ap (λ x. x && b) h ∙ k
 
 -- a place where this holds is none where it does not
 before : (p : ℕ → Bool) (k n : ℕ) → k ≤ n → p k ≡ true → p n ≡ false → k < n
@@ -111,7 +108,7 @@ module _ (v : List ℕ) (e d : ℕ → Bool) (n : ℕ) (long : length v ≡ 64) 
       few = tells.few
 
       escaped : e (p + 1) ≡ true
-      escaped = let is : p + 1 ≡ suc p = omega arith in ap e is ∙ tells.next p lt ∙ both_true _ _ backslash (ap not boundary)
+      escaped = let is : p + 1 ≡ suc p = omega arith in ap e is ∙ tells.next p lt ∙ and_from _ _ backslash (ap not boundary)
 
       within : p + 1 < n
       within = before e (p + 1) n (omega arith) escaped (tells.boundary (omega arith)).0
@@ -123,7 +120,7 @@ module _ (v : List ℕ) (e d : ℕ → Bool) (n : ℕ) (long : length v ≡ 64) 
         omega arith,
         omega (arith, within),
         after (p + 1) (p + 2) (omega arith) within (and_right _ _ (ap not escaped)),
-        two_led_at v p (p + 1) (p + 2) refl refl (omega (arith, within, few)) (both_true _ _ backslash short),
+        two_led_at v p (p + 1) (p + 2) refl refl (omega (arith, within, few)) (and_from _ _ backslash short),
       )
       by_letter (inr long_one) =
           let letter = or_other _ _ (tells.letter (p + 1) within escaped) long_one in
@@ -134,7 +131,7 @@ module _ (v : List ℕ) (e d : ℕ → Bool) (n : ℕ) (long : length v ≡ 64) 
             omega arith,
             inside,
             last,
-            six_led_at v p (omega (arith, inside, few)) (both_true _ _ (both_true _ _ (both_true _ _ (both_true _ _ (both_true _ _ backslash letter) u.1) u.2) u.3) u.4),
+            six_led_at v p (omega (arith, inside, few)) (and_from _ _ (and_from _ _ (and_from _ _ (and_from _ _ (and_from _ _ backslash letter) u.1) u.2) u.3) u.4),
           )
 
   step : (p : ℕ) → p < n → e p ≡ false → (r : ℕ) × (p < r) × (r ≤ n) × (e r ≡ false) × Leads state.Str (slice_range v p r) state.Str
@@ -176,10 +173,6 @@ or_none y z k h = or_parts _ _ (sym (bit-or y z k) ∙ h)
 
 without : (y z k : ℕ) → z < 2 ^ 64 → k < 64 → bit (bit_and y (2 ^ 64 - 1 - z)) k ≡ (bit y k && not (bit z k))
 without y z k fits lt = bit-and y _ k ∙ ap (λ a. bit y k && a) (bit-not z k fits lt)
-
-not_back : (a : Bool) → not a ≡ false → a ≡ true
-not_back true h = refl
-not_back false h = sym h
 
 -- what one has and the other lacks
 but_not : (a c : Bool) → (a && not c) ≡ false → c ≡ false → a ≡ false
@@ -226,14 +219,14 @@ module _ (v : List ℕ) (long : length v ≡ 64) (b u s o e d x n : ℕ) (b_is :
         let below : k < 64 = omega (arith, few) in
         let parts = or_none _ _ k (or_none _ _ k (or_none _ x k (right k lt)).0).0 in
         let none : bit (bit_or b e) k ≡ false = bit-or b e k ∙ ap (λ a. a || bit e k) (mask_at _ v b long b_is k below ∙ other) ∙ free in
-        not_back _ (sym (mask_at _ v o long o_is k below) ∙ but_not _ _ (sym (without o (bit_or b e) k be_fits below) ∙ parts.0) none);
+        not-false _ (sym (mask_at _ v o long o_is k below) ∙ but_not _ _ (sym (without o (bit_or b e) k be_fits below) ∙ parts.0) none);
     letter = λ k lt set.
         let below : k < 64 = omega (arith, few) in
         let parts = or_none _ _ k (or_none _ _ k (or_none _ x k (right k lt)).0).0 in
         let one : (bit s k || (bit e k && bit u k)) ≡ true = ap (λ a. bit s k || a) (sym (bit-and e u k)) ∙ sym (bit-or s (bit_and e u) k) ∙ so _ _ (sym (without e (bit_or s (bit_and e u)) k su_fits below) ∙ parts.1) set in
         sym (λ i. mask_at is_escaped v s long s_is k below i || (set i && mask_at (λ byte. byte == 0x75) v u long u_is k below i)) ∙ one;
     digits = λ k j low high within set letter.
-        four k j low high within (bit-and e u k ∙ both_true _ _ set (mask_at (λ byte. byte == 0x75) v u long u_is k (omega arith) ∙ letter));
+        four k j low high within (bit-and e u k ∙ and_from _ _ set (mask_at (λ byte. byte == 0x75) v u long u_is k (omega arith) ∙ letter));
     hex = λ k lt set. hexes k (omega (arith, few)) set (or_none _ x k (right k lt)).1;
     boundary = λ some. or_none e d n (stop some);
   }

@@ -20,5 +20,6 @@ pub mod Slices
 pub mod StateOrder
 pub mod Stays
 pub mod StringChars
+pub mod Turns
 pub mod Unescaped
 pub mod Whole

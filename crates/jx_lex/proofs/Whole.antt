@@ -9,13 +9,13 @@ use Rattle.jx_lex.specs.declared.alphabet.mark.Mark.{Mark}
 use Rattle.jx_lex.specs.declared.alphabet.mark.MarkKind.{MarkKind}
 use Rattle.jx_lex.specs.declared.alphabet.mark.MarkKind.TheVariants as mark
 use Rattle.jx_lex.specs.Classes.{class_at}
-use Rattle.jx_lex.specs.Lex.{Track, lex, with_mark, with_end}
+use Rattle.jx_lex.specs.Lex.{lex, with_mark, with_end}
 use Rattle.jx_lex.specs.Moves.{move, begin, structural, as_gap}
 use Rattle.jx_lex.specs.Seen.{Seen, Grows, GoesTo, Shuts}
 use Rattle.jx_lex.specs.Uneventful.{AllKeep, Leads}
 use Rattle.jx_lex.specs.Whole.{Passes, PassesNumber, EndsBefore, MayEnd}
 use Rattle.jx_lex.proofs.Forward.{move-range}
-use Rattle.jx_lex.proofs.Keeping.{exit-then, goes-byte, goes-closed, goes-led, goes-none, goes-shut, goes-then, lex-then}
+use Rattle.jx_lex.proofs.Keeping.{goes-byte, goes-closed, goes-led, goes-none, goes-shut, goes-then}
 use Rattle.jx_lex.proofs.Running.{AllKeep-leads}
 use Rattle.jx_lex.specs.declared.alphabet.class.Class.TheVariants as class
 
@@ -41,20 +41,6 @@ passes-none xs a fits = passes-of xs a a [] (omega arith) fits (goes-none xs a s
 
 pub passes-kept : (xs : List ℕ) (a b : ℕ) → a ≤ b → b ≤ length xs → AllKeep state.Gap (slice_range xs a b) → Passes xs a b []
 passes-kept xs a b low fits h = passes-of xs a b [] low fits (goes-led (has []) state.Gap state.Gap a (slice_range xs a b) (AllKeep-leads state.Gap (slice_range xs a b) h))
-
-pub passes-then : (xs : List ℕ) (a b c : ℕ) (ms ns : List Mark) → Passes xs a b ms → Passes xs b c ns → Passes xs a c (ms ++ ns)
-passes-then xs a b c ms ns f g =
-    let ab = f.low in
-    let bc = g.low in
-    record {
-      low = omega (arith, ab, bc);
-      fits = g.fits;
-      marks_are =
-          ap (λ (t : Track). t.marks) (lex-then xs a b c state.Gap state.Gap f.low g.low f.fits f.exit)
-          ∙ ap (λ (us : List Mark). us ++ (lex state.Gap b (slice_range xs b c)).marks) f.marks_are
-          ∙ ap (λ (us : List Mark). ms ++ us) g.marks_are;
-      exit = exit-then xs a b c state.Gap state.Gap f.low g.low f.fits f.exit ∙ g.exit;
-    }
 
 -- ---- one byte
 

@@ -1,13 +1,19 @@
 -- What a sink of tokens has seen, and how it grows.
-use Rattle.std.specs.Prelude.{◌≡◌, ℕ, ◌+◌, List, [], ◌∷◌, ◌++◌, length, Some}
+use Rattle.std.specs.Prelude.{◌≡◌, ℕ, ◌+◌, Bool, true, false, List, [], ◌∷◌, ◌++◌, length, Option, Some, None}
 use Rattle.jx_lex.specs.declared.alphabet.state.LexState.{LexState}
+use Rattle.jx_lex.specs.declared.alphabet.lex_exit.LexExit.{LexExit}
+use Rattle.jx_lex.specs.declared.alphabet.lex_exit.LexExit.TheVariants.{State, Fault}
 use Rattle.jx_lex.specs.declared.alphabet.mark.Mark.{Mark}
+use Rattle.jx_lex.specs.declared.alphabet.mark.MarkKind.{MarkKind}
+use Rattle.jx_lex.specs.declared.alphabet.mark.MarkKind.TheVariants as mark
 use Rattle.jx_lex.specs.declared.alphabet.mark.MarkKind.TheVariants.{Comma}
 use Rattle.jx_lex.specs.declared.alphabet.state.LexState.TheVariants as state
+use Rattle.jx_lex.specs.declared.alphabet.state.TokenEnd.{TokenEnd}
 use Rattle.jx_lex.specs.declared.alphabet.state.TokenEnd.TheVariants.{Before}
 use Rattle.jx_lex.specs.Lex as reading
 use Rattle.jx_lex.specs.Lex.{Track, lex}
 use Rattle.jx_lex.specs.Moves.{move}
+use Rattle.jx_lex.specs.TokenStates.{in_token}
 
 -- which marks and ends a sink may have seen
 abbrev pub Seen : Type 1
@@ -29,6 +35,36 @@ WantsNoMore seen = (marks more : List Mark) (ends others : List ℕ) → seen ma
 pub record GoesTo (old new : Seen) (track : Track) (to : LexState) : Type 0 where
   pub seen : SeesTrack old new track
   pub exit : track.exit ≡ reading.state to
+
+-- what a sink may be told of next: an end (true), or a mark
+abbrev pub Awaits : Type 1
+Awaits = Bool → Type 0
+
+-- a string, a number or a literal begins with such a mark, so an end comes behind it
+abbrev pub has_end : MarkKind → Bool
+has_end mark.String = true
+has_end mark.Number = true
+has_end mark.True = true
+has_end mark.False = true
+has_end mark.Null = true
+has_end _ = false
+
+-- what a sink has to await before a byte that ends a token or begins one
+abbrev pub Takes : Awaits → Option TokenEnd → Option MarkKind → Type 0
+Takes awaits (Some end) begin = awaits true
+Takes awaits None (Some kind) = awaits false
+Takes awaits None None = Unit {0}
+
+-- what it awaits behind that byte
+abbrev pub Leaves : Awaits → Awaits → Option MarkKind → Option TokenEnd → Type 0
+Leaves old new (Some kind) end = new (has_end kind)
+Leaves old new None (Some end) = new false
+Leaves old new None None = (inside : Bool) → old inside → new inside
+
+-- what it awaits where a reading ends
+abbrev pub AwaitsAt : Awaits → LexExit → Type 0
+AwaitsAt awaits (State s) = awaits (in_token s)
+AwaitsAt awaits (Fault at) = Unit {0}
 
 -- what a contract sees of the marks and ends of tokens
 pub record TokenLists : Type 0 where

@@ -1,11 +1,12 @@
 // Reading bytes from a known lexical state, whatever is kept of the tokens.
-ghost use Rattle.std.specs.Prelude.{◌≡◌, ◌≤◌, ◌<◌, ◌+◌, ◌∷◌, [], ◌^◌, ℕ, List, length, OnOk, IfOk, IfSome, IsNone, IsTrue, slice_range};
+ghost use Rattle.std.specs.Prelude.{◌≡◌, ◌≤◌, ◌<◌, ◌+◌, ◌∷◌, [], ◌^◌, ℕ, List, length, OnOk, IfOk, IfSome, IsNone, IsTrue, false, slice_range, true};
 ghost use Rattle.jx_lex.specs.declared.alphabet.state.LexState.TheVariants as state;
 ghost use Rattle.jx_lex.specs.Ahead.{IsSound};
 ghost use Rattle.jx_lex.specs.inside.Cells.{step_of};
 ghost use Rattle.jx_lex.specs.Lex.{lex, with_mark, with_end};
 ghost use Rattle.jx_lex.specs.Moves.{move};
-ghost use Rattle.jx_lex.specs.Seen.{EndsAtComma, Grows, SeesTrack, WantsNoMore, GoesTo};
+ghost use Rattle.jx_lex.specs.Seen.{AwaitsAt, EndsAtComma, GoesTo, Grows, Leaves, SeesTrack, Takes, WantsNoMore, has_end};
+ghost use Rattle.jx_lex.specs.TokenStates.{in_token};
 ghost use Rattle.jx_lex.specs.Exit.{exit_of};
 
 pub(crate) mod ahead;
@@ -36,9 +37,11 @@ fn take_in<K: TokenSink>(
     cell: Cell,
     at: usize,
 ) -> Result<Option<LexState>, AllocError>
-    requires { at + 1 < 2 ^ 64 }
+    requires fits { at + 1 < 2 ^ 64 }
+    requires turn { Takes (K.awaits sink.old) (step_of cell).end (step_of cell).begin }
     ensures seen { OnOk result (Grows (K.has_seen sink.old) (K.has_seen sink.new) (with_mark ((step_of cell).begin) at []) (with_end ((step_of cell).end) at [])) }
     ensures next { IfOk result (λ next. next ≡ (step_of cell).next) }
+    ensures turn { OnOk result (Leaves (K.awaits sink.old) (K.awaits sink.new) (step_of cell).begin (step_of cell).end) }
 {
     match cell {
         Cell::Go(next) => Ok(Some(next)),
@@ -75,8 +78,10 @@ fn begin<K: TokenSink>(
     next: LexState,
     at: usize,
 ) -> Result<LexState, AllocError>
+    requires { K.awaits sink.old false }
     ensures seen { OnOk result (Grows (K.has_seen sink.old) (K.has_seen sink.new) (record { kind = kind; at = at } ∷ []) []) }
     ensures next { IfOk result (λ n. n ≡ next) }
+    ensures turn { OnOk result (K.awaits sink.new (has_end kind)) }
 {
     sink.begin(Mark { kind, at })?;
     Ok(next)
@@ -91,9 +96,11 @@ fn take_byte<K: TokenSink>(
     byte: u8,
     at: usize,
 ) -> Result<Option<LexState>, AllocError>
-    requires { at + 1 < 2 ^ 64 }
+    requires fits { at + 1 < 2 ^ 64 }
+    requires turn { K.awaits sink.old (in_token state) }
     ensures seen { OnOk result (Grows (K.has_seen sink.old) (K.has_seen sink.new) (with_mark ((move state byte).begin) at []) (with_end ((move state byte).end) at [])) }
     ensures next { IfOk result (λ next. next ≡ (move state byte).next) }
+    ensures turn { IfOk result (λ next. IfSome next (λ s. K.awaits sink.new (in_token s))) }
 {
     let begun = match (state, class_of(byte)) {
         (LexState::Gap, Class::Quote) => begin(sink, MarkKind::String, LexState::Str, at)?,
@@ -115,7 +122,10 @@ fn take_byte<K: TokenSink>(
         }
         (LexState::Gap, Class::Colon) => begin(sink, MarkKind::Colon, LexState::Gap, at)?,
         (LexState::Gap, Class::Comma) => begin(sink, MarkKind::Comma, LexState::Gap, at)?,
-        _ => return take_in(sink, cell_at(state, byte), at),
+        _ => {
+            let next = take_in(sink, cell_at(state, byte), at)?;
+            return Ok(next);
+        }
     };
     Ok(Some(begun))
 }
@@ -128,9 +138,11 @@ fn colon<K: TokenSink>(
     from: usize,
     to: usize,
 ) -> Result<usize, AllocError>
-    requires { (from ≤ to) × (to ≤ length text.now) }
+    requires bounds { (from ≤ to) × (to ≤ length text.now) }
+    requires turn { K.awaits sink.old false }
     ensures bounds { IfOk result (λ end. (from ≤ end) × (end ≤ to)) }
     ensures read { IfOk result (λ end. GoesTo (K.has_seen sink.old) (K.has_seen sink.new) (lex state.Gap from (slice_range text.now from end)) state.Gap) }
+    ensures turn { OnOk result (K.awaits sink.new false) }
 {
     if from < to && text[from] == b':' {
         sink.begin(Mark {
@@ -156,9 +168,11 @@ fn string_rest<K: TokenSink>(
     requires bounds { (from ≤ to) × (to ≤ length text.now) }
     requires sound { IsSound text.now ahead.old }
     requires inside { last.old ≡ state.Str }
+    requires turn { K.awaits sink.old true }
     ensures bounds { IfOk result (λ end. (from ≤ end) × (end ≤ to)) }
     ensures read { IfOk result (λ end. GoesTo (K.has_seen sink.old) (K.has_seen sink.new) (lex state.Str from (slice_range text.now from end)) last.new) }
     ensures sound { OnOk result (IsSound text.now ahead.new) }
+    ensures turn { OnOk result (K.awaits sink.new (in_token last.new)) }
 {
     let end = string_end_ahead(text, from, to, ahead);
     if end < to && text[end] == b'"' {
@@ -173,7 +187,8 @@ fn string_rest<K: TokenSink>(
 /// Whether a number may end in this state.
 #[inline(always)]
 fn may_end(state: LexState) -> bool
-    ensures { IsTrue result → EndsAtComma state }
+    ensures comma { IsTrue result → EndsAtComma state }
+    ensures inside { IsTrue result → in_token state ≡ true }
 {
     match state {
         LexState::Zero => true,
@@ -193,9 +208,11 @@ fn comma<K: TokenSink>(
     from: usize,
     to: usize,
 ) -> Result<usize, AllocError>
-    requires { (from ≤ to) × (to ≤ length text.now) }
+    requires bounds { (from ≤ to) × (to ≤ length text.now) }
+    requires turn { K.awaits sink.old (in_token state.old) }
     ensures bounds { IfOk result (λ end. (from ≤ end) × (end ≤ to)) }
     ensures read { IfOk result (λ end. GoesTo (K.has_seen sink.old) (K.has_seen sink.new) (lex state.old from (slice_range text.now from end)) state.new) }
+    ensures turn { OnOk result (K.awaits sink.new (in_token state.new)) }
 {
     if from < to && text[from] == b',' && may_end(*state) {
         sink.end(from)?;
@@ -218,9 +235,11 @@ fn number<K: TokenSink>(
     from: usize,
     to: usize,
 ) -> Result<usize, AllocError>
-    requires { (from ≤ to) × (to ≤ length text.now) }
+    requires bounds { (from ≤ to) × (to ≤ length text.now) }
+    requires turn { K.awaits sink.old (in_token state.old) }
     ensures bounds { IfOk result (λ end. (from ≤ end) × (end ≤ to)) }
     ensures read { IfOk result (λ end. GoesTo (K.has_seen sink.old) (K.has_seen sink.new) (lex state.old from (slice_range text.now from end)) state.new) }
+    ensures turn { OnOk result (K.awaits sink.new (in_token state.new)) }
 {
     let end = number_rest(text, state, from, to);
     let behind = comma(sink, state, text, end, to)?;
@@ -236,9 +255,12 @@ fn literal<K: TokenSink>(
     from: usize,
     to: usize,
 ) -> Result<usize, AllocError>
-    requires { (from ≤ to) × (to ≤ length text.now) }
+    requires bounds { (from ≤ to) × (to ≤ length text.now) }
+    requires inside { in_token state.old ≡ true }
+    requires turn { K.awaits sink.old true }
     ensures bounds { IfOk result (λ end. (from ≤ end) × (end ≤ to)) }
     ensures read { IfOk result (λ end. GoesTo (K.has_seen sink.old) (K.has_seen sink.new) (lex state.old from (slice_range text.now from end)) state.new) }
+    ensures turn { OnOk result (K.awaits sink.new (in_token state.new)) }
 {
     let end = literal_end(text, *state, from, to);
     if end == from {
@@ -258,9 +280,11 @@ fn pass_on<K: TokenSink>(
     from: usize,
     to: usize,
 ) -> usize
-    requires { (from ≤ to) × (to ≤ length text.now) }
+    requires bounds { (from ≤ to) × (to ≤ length text.now) }
+    requires turn { K.awaits sink.old (in_token state) }
     ensures bounds { (from ≤ result) × (result ≤ to) }
     ensures read { GoesTo (K.has_seen sink.old) (K.has_seen sink.new) (lex state from (slice_range text.now from result)) state }
+    ensures turn { K.awaits sink.new (in_token state) }
 {
     match state {
         LexState::Gap => sink.pass(text, from, to),
@@ -282,9 +306,11 @@ fn read_rest<K: TokenSink>(
 ) -> Result<usize, AllocError>
     requires bounds { (from ≤ to) × (to ≤ length text.now) }
     requires sound { IsSound text.now ahead.old }
+    requires turn { K.awaits sink.old (in_token state.old) }
     ensures bounds { IfOk result (λ end. (from ≤ end) × (end ≤ to)) }
     ensures read { IfOk result (λ end. GoesTo (K.has_seen sink.old) (K.has_seen sink.new) (lex state.old from (slice_range text.now from end)) state.new) }
     ensures sound { OnOk result (IsSound text.now ahead.new) }
+    ensures turn { OnOk result (K.awaits sink.new (in_token state.new)) }
 {
     match *state {
         LexState::Str => {
@@ -336,10 +362,12 @@ pub fn scan<K: TokenSink>(
     from: usize,
     to: usize,
 ) -> Result<Option<LexExit>, AllocError>
-    requires { (from ≤ to) × (to ≤ length text.now) }
+    requires bounds { (from ≤ to) × (to ≤ length text.now) }
+    requires turn { K.awaits sink.old (in_token state) }
     ensures seen { OnOk result (SeesTrack (K.has_seen sink.old) (K.has_seen sink.new) (lex state from (slice_range text.now from to))) }
     ensures exit { IfOk result (λ exit. IfSome exit (λ e. exit_of e ≡ (lex state from (slice_range text.now from to)).exit)) }
     ensures done { IfOk result (λ exit. IsNone exit → WantsNoMore (K.has_seen sink.new)) }
+    ensures turn { IfOk result (λ exit. IfSome exit (AwaitsAt (K.awaits sink.new))) }
 {
     let mut state = state;
     let mut i = pass_on(sink, state, text, from, to);

@@ -1,8 +1,8 @@
 -- The values of one line, one by one, and what is told of its pointers.
-use Rattle.std.proofs.Common.{◌≡◌, ℕ, zero, suc, ◌+◌, ◌<◌, ◌≤◌, List, [], ◌∷◌, ◌++◌, length, map, take, drop, get_or, refl, sym, ap, ◌∙◌, append_assoc, append-nil, arith}
+use Rattle.std.proofs.Common.{◌≡◌, ℕ, zero, suc, ◌+◌, ◌<◌, List, [], ◌∷◌, ◌++◌, length, map, take, drop, get_or, refl, sym, ap, ◌∙◌, append_assoc, append-nil, arith}
 use Rattle.std.specs.Prelude.{Result, flat_map}
 use Rattle.std.proofs.lemmas.Grind.{flat_map-append}
-use Rattle.std.proofs.lemmas.List.{drop_all, drop_more, length-map, map_more}
+use Rattle.std.proofs.lemmas.List.{drop_more, length-map, map_more}
 use Rattle.jx_index.specs.declared.find_fault.FindFault.{FindFault}
 use Rattle.jx_index.specs.declared.finder.Found.{Found}
 use Rattle.jx_line_values.specs.LineValues.{tabbed, told_of_found}
@@ -54,6 +54,3 @@ module _ (number : ℕ) (pointers : List (List ℕ)) (found : List (Result Found
       ∙ ap (λ (a : Result Found FindFault). out ++ told_of_all number (get_or pointers i pointer ∷ drop (i + 1) pointers) (a ∷ drop (i + 1) found)) is_one
       ∙ ap (λ (ps : List (List ℕ)). out ++ told_of_all number ps (get_or found i one ∷ drop (i + 1) found)) (sym (drop_more pointers i pointer low))
       ∙ ap (λ (fs : List (Result Found FindFault)). out ++ told_of_all number (drop i pointers) fs) (sym (drop_more found i one short))
-
-  pub no_more_told : (out : List ℕ) → length pointers ≤ i → out ++ told_of_all number (drop i pointers) (drop i found) ≡ out
-  no_more_told out h = ap (λ (ps : List (List ℕ)). out ++ told_of_all number ps (drop i found)) (drop_all i pointers h) ∙ append-nil out

@@ -11,12 +11,14 @@ use Rattle.jx_run.specs.Front.{agreed}
 use Rattle.jx_run.specs.Settings.{byte_order_mark}
 use Rattle.jx_run.proofs.PartedJoins.{AllZip-append}
 use Rattle.jx_run.proofs.SeqReading.{has, has_not}
+use Rattle.jx_run.proofs.Fronts.{none_agreed}
 use Rattle.jx_ndjson.specs.Lines.{Line, line, ended_lines, is_line_feed, lines, lines_of, mark_length}
 use Rattle.jx_ndjson.specs.Parts.{before_first, behind_each, parts_by}
 use Rattle.jx_ndjson.specs.Reading.{ended_from}
 use Rattle.jx_ndjson.specs.inside.Steps.{HasNoLineFeed}
 use Rattle.jx_ndjson.proofs.Cuts.{longer, none-behind, parts-append, take-snoc}
-use Rattle.jx_ndjson.proofs.Steps.{lines-split}
+use Rattle.jx_ndjson.proofs.Steps.{lines-split, whole}
+use Rattle.jx_ndjson.proofs.Fronts.{whole_mark}
 use Rattle.jx_ends.specs.declared.exit.Exit.{Exit}
 use Rattle.jx_ends.specs.declared.exit.Exit.TheVariants.{Good}
 use Rattle.jx_line_values.specs.declared.task.LineValuesTask.{LineValuesTask}
@@ -25,10 +27,6 @@ use Rattle.jx_line_values.specs.inside.Adding.{IsAdded, exit_past}
 use Rattle.jx_line_values.specs.inside.Cutting.{CutterValue, HasTaken, bare, bare_bytes, bare_first, line_bytes}
 
 -- ---- a byte order mark in front
-
-agreed_none : (xs : List ℕ) → agreed xs [] ≡ 0
-agreed_none [] = refl
-agreed_none (x ∷ xs) = refl
 
 -- where all bytes of the mark agree, they stand in front
 all_agreed : (marks xs : List ℕ) → agreed xs marks ≡ length marks → xs ≡ marks ++ drop (length marks) xs
@@ -44,9 +42,6 @@ all_agreed (m ∷ marks) (x ∷ xs) h = pick (x == m) refl h (all_agreed marks x
         ap (λ (y : ℕ). y ∷ xs) same ∙ ap (λ (ys : List ℕ). m ∷ ys) (more rest)
     pick false e h more = absurd (cc)
 
-marked_length : (ys : List ℕ) → mark_length Ignored (byte_order_mark ++ ys) ≡ 3
-marked_length ys = ap (λ (n : ℕ). cond (suc (suc (suc n)) == 3) 3 0) (agreed_none ys)
-
 -- the line feed is no byte of the mark
 line_feed_differs : (b : ℕ) → is_line_feed b ≡ true → ((b == 0xef) ≡ false) × ((b == 0xbb) ≡ false) × ((b == 0xbf) ≡ false)
 line_feed_differs b h =
@@ -59,7 +54,7 @@ data HasNoFeeds : List ℕ → Type 0 where
   one_more : {m : ℕ} {marks : List ℕ} → ((b : ℕ) → is_line_feed b ≡ true → (b == m) ≡ false) → HasNoFeeds marks → HasNoFeeds (m ∷ marks)
 
 same_agreed : (marks xs : List ℕ) → HasNoFeeds marks → agreed (before_first is_line_feed xs) marks ≡ agreed xs marks
-same_agreed [] xs h = agreed_none (before_first is_line_feed xs) ∙ sym (agreed_none xs)
+same_agreed [] xs h = none_agreed (before_first is_line_feed xs) ∙ sym (none_agreed xs)
 same_agreed (m ∷ marks) [] h = refl
 same_agreed (m ∷ marks) (x ∷ xs) (one_more differs h) = pick (is_line_feed x) (differs x) (same_agreed marks xs h)
   where
@@ -85,8 +80,8 @@ behind_mark input = pick (agreed input byte_order_mark == 3) refl
     marked : (ys : List ℕ) → parts_by is_line_feed (mark_length Ignored (byte_order_mark ++ ys)) (drop (mark_length Ignored (byte_order_mark ++ ys)) (byte_order_mark ++ ys))
         ≡ bare_first Ignored (parts_by is_line_feed 0 (byte_order_mark ++ ys))
     marked ys =
-        ap (λ (n : ℕ). parts_by is_line_feed n (drop n (byte_order_mark ++ ys))) (marked_length ys)
-        ∙ ap (λ (n : ℕ). part n (drop n (byte_order_mark ++ before_first is_line_feed ys)) ∷ behind_each is_line_feed 3 ys) (sym (marked_length (before_first is_line_feed ys)))
+        ap (λ (n : ℕ). parts_by is_line_feed n (drop n (byte_order_mark ++ ys))) (whole_mark ys)
+        ∙ ap (λ (n : ℕ). part n (drop n (byte_order_mark ++ before_first is_line_feed ys)) ∷ behind_each is_line_feed 3 ys) (sym (whole_mark (before_first is_line_feed ys)))
 
     pick : (t : Bool) → (agreed input byte_order_mark == 3) ≡ t
         → parts_by is_line_feed (mark_length Ignored input) (drop (mark_length Ignored input) input) ≡ bare_first Ignored (parts_by is_line_feed 0 input)
@@ -188,9 +183,6 @@ given_anywhere task n m p bytes e g same is h =
 pub taken_none : (task : LineValuesTask) (t : CutterValue) → t.kept ≡ [] → t.ended ≡ 0 → t.ready ≡ [] → t.told ≡ [] → t.exit ≡ Good → HasTaken task [] [] [] t
 taken_none task t kept ended ready told exit =
     record { ended = []; last = part 0 []; parts = refl; kept = kept; count = ended; lines = []; are_given = tt; written = ready; told = told; exit = exit }
-
-whole : (p : Part) → longer p [] ≡ p
-whole p = ap (part p.at) (append-nil p.bytes)
 
 -- that end no line
 pub takes_more : (task : LineValuesTask) (bytes more given said : List ℕ) (old new : CutterValue) → HasTaken task bytes given said old → HasNoLineFeed more → new.kept ≡ old.kept ++ more

@@ -5,15 +5,7 @@ use Rattle.std.specs.Prelude.{All}
 use Rattle.std.proofs.lemmas.List.{take_all, take_more}
 use Rattle.std.proofs.lemmas.List.Elements.{All-push}
 use Rattle.std.proofs.lemmas.Option.{get_or_from_slice_get}
-use Rattle.jx_index.specs.declared.pointer.PointerFault.{PointerFault}
-use Rattle.jx_index.specs.declared.pointer.PointerFault.TheVariants.{NoSlash, BadEscape}
-use Rattle.jx_index.specs.PointerFaults.{IsFaultOf}
 use Rattle.jx_index.specs.Pointers.{IsPointer}
-
--- what is refused as a pointer is none
-pub no_pointer : (text : List ℕ) (fault : PointerFault) → IsFaultOf text fault → IsPointer text → ⊥
-no_pointer text NoSlash lost pointer = lost pointer.slash
-no_pointer text (BadEscape at) bad pointer = pointer.escapes at bad.here
 
 module _ (spelt : List (List ℕ)) (place : ℕ) (word : List ℕ) (low : place < length spelt) (there : slice_get spelt place ≡ Some word) where
   is_there : get_or spelt place word ≡ word
@@ -25,10 +17,6 @@ module _ (spelt : List (List ℕ)) (place : ℕ) (word : List ℕ) (low : place 
   -- one more is a pointer
   pub one_more : IsPointer word → All IsPointer (take place spelt) → All IsPointer (take (place + 1) spelt)
   one_more is before = subst (All IsPointer) (sym longer) (All-push IsPointer (take place spelt) word before is)
-
-  -- each is one
-  pub one_of : All IsPointer spelt → IsPointer word
-  one_of all = subst IsPointer is_there (all place word low)
 
   -- one more is read
   pub one_more_read : (out next : List (List ℕ)) (pointer : List ℕ) → out ≡ take place spelt → next ≡ out ++ pointer ∷ [] → pointer ≡ word → next ≡ take (place + 1) spelt

@@ -1,6 +1,6 @@
 -- What is added for a line, by the verdict on its bytes and by what was found.
 use Rattle.std.proofs.Common.{◌≡◌, ℕ, suc, List, [], ◌∷◌, ◌++◌, length, map, Bool, true, false, refl, sym, ap, subst, ◌∙◌}
-use Rattle.std.specs.Prelude.{◌&&◌, not, Ok, Err, OnOk, Result, if◌then◌else◌, is_ok, flat_map, slice_range}
+use Rattle.std.specs.Prelude.{◌&&◌, not, Ok, Err, OnOk, Result, if◌then◌else◌, is_ok, flat_map}
 use Rattle.std.specs.List.{AllZip}
 use Rattle.jx_run.specs.declared.texts.verdict.Refusal.{Refusal}
 use Rattle.jx_run.specs.declared.texts.verdict.Verdict.TheVariants as verdict
@@ -10,10 +10,9 @@ use Rattle.jx_run.specs.Tree.{Tree}
 use Rattle.jx_run.specs.Unclosed.{ends_open}
 use Rattle.jx_run.specs.Verdict.{Judged, a_text}
 use Rattle.jx_run.proofs.OpenEnds.{element_shows}
-use Rattle.jx_run.proofs.ReaderSteps.{slice_all}
 use Rattle.jx_index.specs.declared.find_fault.FindFault.{FindFault}
 use Rattle.jx_index.specs.declared.finder.Found.{Found}
-use Rattle.jx_index.specs.Found.{FindsIn, found_of}
+use Rattle.jx_index.specs.Found.{found_of}
 use Rattle.jx_index.specs.Leads.{led}
 use Rattle.jx_index.specs.Pointers.{tokens}
 use Rattle.jx_ndjson.specs.declared.judged_line.LineVerdict.{LineVerdict}
@@ -43,9 +42,6 @@ as_many R (x ∷ xs) [] h = absurd h
 as_many R (x ∷ xs) (y ∷ ys) h = ap suc (as_many R xs ys h.1)
 
 -- ---- the verdict
-
-tree_in : {at limit : ℕ} {bytes : List ℕ} → Judged at bytes limit verdict.Accepted → (tree : Tree) × IsDocument at bytes limit tree
-tree_in (a_text {tree = tree} d) = (tree, d)
 
 not_true : {A : Type 0} → false ≡ true → A
 not_true h = absurd (cc)
@@ -78,19 +74,21 @@ module _ (task : LineValuesTask) (number : ℕ) (bytes : List ℕ) (is_ended : B
   pub blank_added : are_blanks bytes ≡ true → longer ≡ ready ++ (none_by Blank).written → retold ≡ told ++ (none_by Blank).told → added
   blank_added blank w t = record { given = none_by Blank; is_given = record { verdict = Blank; is_verdict = blank; gives = refl }; written = w; telling = t }
 
-  pub refused_added : (refusal : Refusal) → are_blanks bytes ≡ false → Judged 0 (slice_range bytes 0 (length bytes)) limit (verdict.Refused refusal)
+  pub refused_added : (refusal : Refusal) → are_blanks bytes ≡ false → Judged 0 bytes limit (verdict.Refused refusal)
       → longer ≡ ready ++ (none_by (Refused refusal)).written → retold ≡ told ++ (none_by (Refused refusal)).told → added
-  refused_added refusal filled judged w t =
-      let j : Judged 0 bytes limit (verdict.Refused refusal) = subst (λ (xs : List ℕ). Judged 0 xs limit (verdict.Refused refusal)) (slice_all bytes) judged in
-      record { given = none_by (Refused refusal); is_given = record { verdict = Refused refusal; is_verdict = (filled, j); gives = refl }; written = w; telling = t }
+  refused_added refusal filled judged w t = record {
+    given = none_by (Refused refusal);
+    is_given = record { verdict = Refused refusal; is_verdict = (filled, judged); gives = refl };
+    written = w;
+    telling = t;
+  }
 
-  pub cut_added : are_blanks bytes ≡ false → Judged 0 bytes limit verdict.Accepted → (ends_open bytes && not is_ended) ≡ true → longer ≡ ready ++ (none_by MayBeCut).written
+  pub cut_added : are_blanks bytes ≡ false → (tree : Tree) → IsDocument 0 bytes limit tree → (ends_open bytes && not is_ended) ≡ true → longer ≡ ready ++ (none_by MayBeCut).written
       → retold ≡ told ++ (none_by MayBeCut).told → added
-  cut_added filled j may w t =
+  cut_added filled tree d may w t =
       let o = opens (ends_open bytes) is_ended may in
-      let tree = tree_in j in
       let cut : IsCut (line number here is_ended) limit =
-      (o.1, record { tree = tree.0; accepted = record { judged = j; is_text = tree.1 }; unclosed = (element_shows here limit tree.0 tree.1).1 o.0 }) in
+      (o.1, record { tree = tree; accepted = record { judged = a_text d; is_text = d }; unclosed = (element_shows here limit tree d).1 o.0 }) in
       record { given = none_by MayBeCut; is_given = record { verdict = MayBeCut; is_verdict = (filled, cut); gives = refl }; written = w; telling = t }
 
   -- ---- the values
@@ -98,14 +96,13 @@ module _ (task : LineValuesTask) (number : ℕ) (bytes : List ℕ) (is_ended : B
   abbrev found_for : Tree → List ℕ → Result Found FindFault
   found_for tree pointer = found_of (led bytes tree (tokens pointer))
 
-  found_are : (tree : Tree) → IsDocument 0 bytes limit tree → (pointers : List (List ℕ)) (found : List (Result Found FindFault)) → AllZip (FindsIn bytes 0 (length bytes)) pointers found
+  found_are : (tree : Tree) (pointers : List (List ℕ)) (found : List (Result Found FindFault)) → AllZip (λ (pointer : List ℕ) (one : Result Found FindFault). one ≡ found_for tree pointer) pointers found
       → found ≡ map (found_for tree) pointers
-  found_are tree d [] [] h = refl
-  found_are tree d [] (one ∷ found) h = absurd h
-  found_are tree d (pointer ∷ pointers) [] h = absurd h
-  found_are tree d (pointer ∷ pointers) (one ∷ found) h =
-      let e : one ≡ found_for tree pointer = h.0 limit tree (subst (λ (xs : List ℕ). IsDocument 0 xs limit tree) (sym (slice_all bytes)) d) in
-      ap (λ (x : Result Found FindFault). x ∷ found) e ∙ ap (λ (xs : List (Result Found FindFault)). found_for tree pointer ∷ xs) (found_are tree d pointers found h.1)
+  found_are tree [] [] h = refl
+  found_are tree [] (one ∷ found) h = absurd h
+  found_are tree (pointer ∷ pointers) [] h = absurd h
+  found_are tree (pointer ∷ pointers) (one ∷ found) h =
+      ap (λ (x : Result Found FindFault). x ∷ found) h.0 ∙ ap (λ (xs : List (Result Found FindFault)). found_for tree pointer ∷ xs) (found_are tree pointers found h.1)
 
   values_are : (tree : Tree) (pointers : List (List ℕ)) → map (value_bytes bytes) (map (found_for tree) pointers) ≡ map (λ (pointer : List ℕ). value_bytes bytes (found_for tree pointer)) pointers
   values_are tree [] = refl
@@ -115,19 +112,19 @@ module _ (task : LineValuesTask) (number : ℕ) (bytes : List ℕ) (is_ended : B
   told_are tree [] = refl
   told_are tree (pointer ∷ pointers) = ap (λ (xs : List ℕ). told_of_found number pointer (found_for tree pointer) ++ xs) (told_are tree pointers)
 
-  pub values_added : (found : List (Result Found FindFault)) → are_blanks bytes ≡ false → Judged 0 bytes limit verdict.Accepted → (ends_open bytes && not is_ended) ≡ false
-      → AllZip (FindsIn bytes 0 (length bytes)) (pointers_of task) found → longer ≡ ready ++ written_of bytes found → retold ≡ told ++ told_of_all number (pointers_of task) found → added
-  values_added found filled j shut finds w t =
-      let tree = tree_in j in
-      let are = found_are tree.0 tree.1 (pointers_of task) found finds in
+  pub values_added : (found : List (Result Found FindFault)) → are_blanks bytes ≡ false → (tree : Tree) → IsDocument 0 bytes limit tree → (ends_open bytes && not is_ended) ≡ false
+      → AllZip (λ (pointer : List ℕ) (one : Result Found FindFault). one ≡ found_for tree pointer) (pointers_of task) found → longer ≡ ready ++ written_of bytes found
+      → retold ≡ told ++ told_of_all number (pointers_of task) found → added
+  values_added found filled tree d shut finds w t =
+      let are = found_are tree (pointers_of task) found finds in
       let uncut : IsCut (line number here is_ended) limit → ⊥ =
       λ cut. not_true (sym (closed (ends_open bytes) is_ended shut cut.0) ∙ (element_shows here limit cut.1.tree cut.1.accepted.is_text).0 cut.1.unclosed) in
       record {
-        given = values_given (pointers_of task) number bytes tree.0;
-        is_given = record { verdict = Accepted; is_verdict = (filled, j, uncut); gives = (tree.0, tree.1, refl) };
+        given = values_given (pointers_of task) number bytes tree;
+        is_given = record { verdict = Accepted; is_verdict = (filled, a_text d, uncut); gives = (tree, d, refl) };
         written =
             w
             ∙ ap (λ (fs : List (Result Found FindFault)). ready ++ written_of bytes fs) are
-            ∙ ap (λ (vs : List (List ℕ)). ready ++ (tabbed vs ++ 10 ∷ [])) (values_are tree.0 (pointers_of task));
-        telling = t ∙ ap (λ (fs : List (Result Found FindFault)). told ++ told_of_all number (pointers_of task) fs) are ∙ ap (λ (xs : List ℕ). told ++ xs) (told_are tree.0 (pointers_of task));
+            ∙ ap (λ (vs : List (List ℕ)). ready ++ (tabbed vs ++ 10 ∷ [])) (values_are tree (pointers_of task));
+        telling = t ∙ ap (λ (fs : List (Result Found FindFault)). told ++ told_of_all number (pointers_of task) fs) are ∙ ap (λ (xs : List ℕ). told ++ xs) (told_are tree (pointers_of task));
       }

@@ -1,26 +1,23 @@
 // The values of one line that is held.
 ghost use Rattle.std.specs.Prelude.{◌≡◌, ◌++◌, ◌&&◌, false, length, not, OnOk};
-ghost use Rattle.std.specs.List.{AllZip};
-ghost use Rattle.jx_run.specs.declared.texts.verdict.Verdict.TheVariants.{Accepted};
 ghost use Rattle.jx_run.specs.Elements.{part};
 ghost use Rattle.jx_run.specs.Unclosed.{ends_open};
-ghost use Rattle.jx_run.specs.Verdict.{Judged};
 ghost use Rattle.jx_lex.specs.Uneventful.{is_blank};
-ghost use Rattle.jx_index.specs.Found.{FindsIn};
+ghost use Rattle.jx_index.specs.Found.{AreFoundIn};
 ghost use Rattle.jx_ndjson.specs.Answers.{are_blanks};
 ghost use Rattle.jx_ndjson.specs.Lines.{line};
 ghost use Rattle.jx_line_values.specs.LineValues.{none_given, pointers_of, told_of_verdict};
 ghost use Rattle.jx_line_values.specs.inside.Adding.{IsAdded, told_of_all, written_of};
-ghost use Rattle.jx_line_values.specs.inside.Looking.{IsReady};
+ghost use Rattle.jx_line_values.specs.inside.Looking.{IsReady, alone};
 
 use crate::adding::{add_no_values, add_values};
 use crate::looking::LookUp;
 use crate::task::LineValuesTask;
 use crate::telling::{add_all_found, add_verdict};
-use jx_index::{FindFault, Found, find_each_through};
-use jx_lex::Span;
+use jx_find::find_each_through;
+use jx_index::{FindFault, Found, names_are_refused_by_rows};
 use jx_ndjson::LineVerdict;
-use jx_run::{NoPause, ends_open_behind};
+use jx_run::{Settings, a_refused_mark_changes_nothing, ends_open_behind};
 use std::alloc::{AllocError, Global};
 
 /// A space, a tab, a line feed or a carriage return (RFC 8259, section 2).
@@ -92,10 +89,10 @@ fn add_accepted(
     found: &[Result<Found, FindFault>],
 ) -> Result<(), AllocError>
     requires filled { are_blanks bytes.now ≡ false }
-    requires accepted { Judged 0 bytes.now task.now.settings.depth Accepted }
-    requires found { AllZip (FindsIn bytes.now 0 (length bytes.now)) (pointers_of task.now) found.now }
+    requires found { AreFoundIn (alone task.now.settings.depth) bytes.now (pointers_of task.now) found.now }
     ensures { OnOk result (IsAdded task.now (line number (part 0 bytes.now) is_ended) ready.old.items ready.new.items told.old.items told.new.items) }
 {
+    a_refused_mark_changes_nothing();
     if may_go_on(bytes, is_ended) {
         return add_none(ready, told, task, number, LineVerdict::MayBeCut);
     }
@@ -116,22 +113,19 @@ pub(crate) fn add_line(
     requires { IsReady (pointers_of task.now) look_up }
     ensures { OnOk result (IsAdded task.now (line number (part 0 bytes.now) is_ended) ready.old.items ready.new.items told.old.items told.new.items) }
 {
+    names_are_refused_by_rows();
+    a_refused_mark_changes_nothing();
     if are_blanks(bytes) {
         return add_none(ready, told, task, number, LineVerdict::Blank);
     }
-    let span = Span {
-        start: 0,
-        end: bytes.len(),
-    };
+    let settings = Settings::from(task.settings.depth);
     match find_each_through(
         alloc,
         bytes,
-        span,
-        task.settings.depth,
+        &settings,
         look_up.edges,
         look_up.starts,
         look_up.pointers,
-        &mut NoPause,
     )? {
         Err(refusal) => add_none(ready, told, task, number, LineVerdict::Refused(refusal)),
         Ok(found) => add_accepted(ready, told, task, number, bytes, is_ended, &found),

@@ -481,7 +481,7 @@ IsOf-reads start end bytes b long r = record { long = long; tracks = λ s. r.tra
 pub IsWhole-reads : (start end : ℕ) (bytes : List ℕ) (live : List Bool) (b : Bundle) → IsBundleOf start bytes live b → IsLinked (record { start = start; end = end; heads = b.heads; segments = b.segments })
 IsWhole-reads start end bytes live b r = record { all = r.all; heads = r.heads; segments = r.segments }
 
-closed-link : (heads : List Link) (n : ℕ) (g : Link) → ((s : LexState) → IsClosed (head heads s)) → IsClosed (linked heads n g)
+pub closed-link : (heads : List Link) (n : ℕ) (g : Link) → ((s : LexState) → IsClosed (head heads s)) → IsClosed (linked heads n g)
 closed-link heads n (Ahead k) all = tt
 closed-link heads n (Fault at) all = tt
 closed-link heads n (State s) all = closed-shift n (head heads s) (all s)

@@ -1,5 +1,5 @@
 // What reading a span gives from each state.
-ghost use Rattle.std.specs.Prelude.{◌≡◌, ◌⊎◌, ◌≤◌, ◌<◌, ◌+◌, ◌++◌, length, IfOk, IfErr, map, slice_range, ℕ, List};
+ghost use Rattle.std.specs.Prelude.{◌≡◌, ◌⊎◌, ◌≤◌, ◌<◌, ◌+◌, ◌++◌, length, IfOk, IfErr, slice_range, ℕ, List};
 ghost use Rattle.jx_lex.specs.declared.alphabet.state.LexState.{LexState};
 ghost use Rattle.jx_maps.specs.View.{view_track};
 ghost use Rattle.jx_maps.specs.Shared.{shared_count};

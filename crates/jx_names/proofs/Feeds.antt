@@ -25,6 +25,7 @@ use Rattle.jx_index.specs.Repeats.{IsLeast, IsRepeat}
 use Rattle.jx_index.specs.Rows.{rows}
 use Rattle.jx_index.specs.Settled.{IsIndexBy, IsIndexFrom, rest_from}
 use Rattle.jx_index.specs.inside.Building.{Building, built_of}
+use Rattle.jx_index.specs.inside.InTurn.{AreInTurn}
 use Rattle.jx_index.specs.inside.NameLists.{accepted_unless}
 use Rattle.jx_index.proofs.NamesBelow.{first_of_all}
 use Rattle.jx_index.proofs.OnePass.{is_built}
@@ -62,7 +63,7 @@ held_on m limit bytes slice next marks ends held =
     (subst (λ (xs : List ℕ). IsHeld (bytes ++ slice) ((tokens_by m bytes).marks ++ moved_marks (length bytes) (track_of (read_by m limit 0 bytes) slice).marks) xs next.names next.begun next.name.items) (sym ends) held)
 
 -- a reader that is fed one slice more
-pub fed_more : (settings : Settings) (bytes slice : List ℕ) (f : NamesReader) (h : HasFed settings bytes f) (reader : ReaderValue) (old next : Held)
+pub fed_more : (settings : Settings) (bytes slice : List ℕ) (f : NamesReader) (h : HasFed settings bytes f) (reader : ReaderValue) (old next : Held) (turn : AreInTurn (λ (h : Held). h.begun) reader.outcome (Some next))
     → f.held ≡ Some old → reader.settings ≡ f.reader.settings → reader.start ≡ f.reader.start
     → ((xs : List ℕ) → HasRead xs f.reader → HasRead (xs ++ slice) reader)
     → (is_fault (Some (read_by settings.mark settings.depth 0 (bytes ++ slice))) ≡ false → is_fault (Some (read_by settings.mark settings.depth 0 bytes)) ≡ false)
@@ -73,8 +74,8 @@ pub fed_more : (settings : Settings) (bytes slice : List ℕ) (f : NamesReader) 
     → (is_fault reader.outcome ≡ false → (before : Outcome) → f.reader.outcome ≡ Some before → (marks : List Mark) (ends : List ℕ)
     → (f.reader.start + f.reader.count ≡ length bytes) × IsHeld bytes marks ends old.names old.begun old.name.items
     → IsHeld (bytes ++ slice) (marks ++ moved_marks (length bytes) (track_of before slice).marks) (ends ++ moved_ends (length bytes) (track_of before slice).ends) next.names next.begun next.name.items)
-    → HasFed settings (bytes ++ slice) (record f { reader = reader; held = Some next })
-fed_more settings bytes slice f h reader old next held_is same_settings same_start grows stays marks ends holds = record {
+    → HasFed settings (bytes ++ slice) (record f { reader = reader; held = Some next; turn = turn })
+fed_more settings bytes slice f h reader old next turn held_is same_settings same_start grows stays marks ends holds = record {
   names = h.names;
   settings_are = same_settings ∙ h.settings_are;
   start = same_start ∙ h.start;

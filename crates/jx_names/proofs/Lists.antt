@@ -1,53 +1,16 @@
 -- Names whose keys are apart are not repeated.
-use Rattle.std.proofs.Common.{◌≡◌, ℕ, zero, suc, ◌+◌, ◌-◌, ◌<◌, ◌⊎◌, List, [], ◌∷◌, length, map, get_or, drop, Bool, true, false, cond, take, None, Some, refl, sym, ap, subst, ◌∙◌, inl, inr, arith}
-use Rattle.std.specs.Prelude.{filter, slice_get}
+use Rattle.std.proofs.Common.{◌≡◌, ℕ, zero, suc, ◌+◌, ◌-◌, ◌<◌, ◌⊎◌, List, [], ◌∷◌, length, map, get_or, take, None, Some, refl, sym, ap, subst, ◌∙◌, inl, inr, arith}
+use Rattle.std.specs.Prelude.{slice_get}
 use Rattle.std.proofs.lemmas.List.{get_or-map, get_or-take, length-map, length-take-le}
 use Rattle.std.proofs.lemmas.Option.{slice_get_past}
-use Rattle.jx_index.specs.Repeats.{IsAmong, IsLeast, has_units}
+use Rattle.jx_index.specs.Repeats.{IsLeast, has_units}
 use Rattle.jx_index.specs.inside.NameKeys.{key_behind, AreApart}
-use Rattle.jx_index.proofs.NameKeys.{same_units}
+use Rattle.jx_index.proofs.NameKeys.{same_units, two_places}
 use Rattle.jx_names.specs.declared.name_units.Name.{Name}
 use Rattle.jx_names.specs.inside.KeptNames.{HaveKeys, IsRepeatedKept, end_from, key_of, units_in}
 
 abbrev pub no_name : Name
 no_name = record { at = 0; from = 0; to = 0; key = 0 }
-
-module _ (p : Name → Bool) where
-  record Place (xs : List Name) : Type 0 where
-    at : ℕ
-    within : at < length xs
-    passes : p (get_or xs at no_name) ≡ true
-
-  record TwoPlaces (xs : List Name) : Type 0 where
-    first : ℕ
-    second : ℕ
-    ordered : first < second
-    within : second < length xs
-    first_passes : p (get_or xs first no_name) ≡ true
-    second_passes : p (get_or xs second no_name) ≡ true
-
-  place_of : (x : Name) (xs : List Name) → IsAmong x (filter p xs) → Place xs
-  place_of x [] h = absurd h
-  place_of x (y ∷ ys) h = pick (p y) refl h (λ k. place_of x ys k)
-    where
-      pick : (c : Bool) → p y ≡ c → IsAmong x (cond c (y ∷ filter p ys) (filter p ys)) → (IsAmong x (filter p ys) → Place ys) → Place (y ∷ ys)
-      pick true e h rec = record { at = 0; within = omega arith; passes = e }
-      pick false e h rec = let r = rec h in let low = r.within in record { at = suc r.at; within = omega (arith, low); passes = r.passes }
-
-  two_places : (x : Name) (xs : List Name) → IsAmong x (drop 1 (filter p xs)) → TwoPlaces xs
-  two_places x [] h = absurd h
-  two_places x (y ∷ ys) h = pick (p y) refl h (λ k. two_places x ys k)
-    where
-      pick : (c : Bool) → p y ≡ c → IsAmong x (drop 1 (cond c (y ∷ filter p ys) (filter p ys))) → (IsAmong x (drop 1 (filter p ys)) → TwoPlaces ys) → TwoPlaces (y ∷ ys)
-      pick true e h rec =
-          let r = place_of x ys h in
-          let low = r.within in
-          record { first = 0; second = suc r.at; ordered = omega arith; within = omega (arith, low); first_passes = e; second_passes = r.passes }
-      pick false e h rec =
-          let r = rec h in
-          let low = r.within in
-          let up = r.ordered in
-          record { first = suc r.first; second = suc r.second; ordered = omega (arith, up); within = omega (arith, low); first_passes = r.first_passes; second_passes = r.second_passes }
 
 -- the key of the name at a place
 key_at : (units : List ℕ) (names : List Name) (i : ℕ) → HaveKeys units names → i < length names → get_or (map key_of names) i 0 ≡ key_behind 0 (units_in units (get_or names i no_name))
@@ -58,7 +21,7 @@ key_at units (n ∷ names) (suc i) h low = key_at units names i h.1 (omega (arit
 -- so no name is repeated
 pub none_repeated : (units : List ℕ) (names : List Name) → AreApart (map key_of names) → HaveKeys units names → IsLeast (IsRepeatedKept units names) None
 none_repeated units names apart keys = λ at x.
-    let t = two_places (has_units (units_in units) x.units) x.name names x.behind in
+    let t = two_places no_name (has_units (units_in units) x.units) x.name names x.behind in
     let low = t.ordered in
     let within = t.within in
     let first : t.first < length names = omega (arith, low, within) in

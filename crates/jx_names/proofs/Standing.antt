@@ -1,10 +1,9 @@
 -- What is kept by units follows what is built, mark by mark.
-use Rattle.std.proofs.Common.{◌≡◌, ℕ, suc, ◌+◌, ◌-◌, ◌≤◌, ◌⊎◌, List, [], ◌∷◌, ◌++◌, length, take, drop, map, Bool, true, false, Option, None, Some, refl, sym, ap, subst, ◌∙◌, arith}
+use Rattle.std.proofs.Common.{◌≡◌, ℕ, ◌+◌, ◌-◌, ◌⊎◌, List, [], ◌∷◌, ◌++◌, length, take, drop, map, Bool, true, false, Option, None, Some, refl, sym, ap, subst, ◌∙◌, arith}
 use Rattle.std.specs.Prelude.{option_to_list, slice_range}
 use Rattle.std.proofs.lemmas.List.{length-append, take_all}
 use Rattle.std.proofs.Math.Seq.{drop-append_seam}
 use Rattle.jx_lex.specs.declared.kind.Kind.{Kind}
-use Rattle.jx_lex.specs.declared.kind.Kind.TheVariants as kind
 use Rattle.jx_lex.specs.declared.alphabet.mark.MarkKind.{MarkKind}
 use Rattle.jx_lex.specs.declared.alphabet.mark.MarkKind.TheVariants as mark
 use Rattle.jx_summary.specs.declared.span.Span.{Span}
@@ -13,17 +12,17 @@ use Rattle.jx_index.specs.declared.open_names.Holder.{Holder}
 use Rattle.jx_index.specs.declared.units.Spelling.TheVariants.{InText}
 use Rattle.jx_index.specs.Repeats.{IsLeast}
 use Rattle.jx_index.specs.Units.{between_marks, chars_units, units_at}
-use Rattle.jx_index.specs.inside.Building.{Building, add_leaf, add_string, begin_container, ended, nothing_built, on_mark}
+use Rattle.jx_index.specs.inside.Building.{Building, add_string, begin_container, ended, nothing_built, on_mark}
 use Rattle.jx_index.specs.inside.NameKeys.{key_behind}
 use Rattle.jx_index.specs.inside.NameLists.{start_at, IsRepeatedName}
 use Rattle.jx_index.specs.inside.OpenNames as index
-use Rattle.jx_index.specs.inside.OpenNames.{Held, IsHeldOf, is_object}
+use Rattle.jx_index.specs.inside.OpenNames.{Held, is_object}
 use Rattle.jx_index.specs.inside.Ties.{earlier_of}
-use Rattle.jx_index.proofs.OpenNames.{container_held, end_held, leaf_held, named_held, none_held, scalar_held, string_held}
+use Rattle.jx_index.proofs.OpenNames.{container_held, end_held, named_held, none_held, scalar_held, string_held}
 use Rattle.jx_string.specs.Texts.{string_units}
 use Rattle.jx_names.specs.declared.name_units.Name.{Name}
 use Rattle.jx_names.specs.declared.open_names.Container.{Container}
-use Rattle.jx_names.specs.inside.KeptNames.{AreKept, Ends, EndsIn, IsKept, IsKeptName, IsKeptToo, IsRepeatedKept, Kept, Stands, cut_back, end_from, holder, names_next, start_of, units_in, with_container, with_name, with_value}
+use Rattle.jx_names.specs.inside.KeptNames.{AreKept, Ends, EndsIn, IsKept, IsKeptToo, Kept, Stands, cut_back, end_from, holder, names_next, start_of, units_in, with_container, with_name, with_value}
 use Rattle.jx_names.proofs.Alike.{alike_drop, least_alike}
 use Rattle.jx_names.proofs.Keeping.{all_stay, are_alike, cut_kept, cut_too, ends_within, first_kept, keys_behind, one_more, same_long}
 
@@ -131,9 +130,6 @@ stands_first text opened names units o n u =
     })))
 
 module _ (text : List ℕ) (b : Building) (k : Kept) (x : Stands text b k) where
-  value_leaf : (kd : Kind) (s : Span) → (kd ≡ kind.Object → ⊥) → Stands text (add_leaf kd s b) (with_value k)
-  value_leaf kd s other = record { held = index.with_value x.held; holds = leaf_held text b x.held x.holds kd s other; kept = value_kept text x.held k x.kept }
-
   pub stands_container : (kd : Kind) (o : Bool) (at : ℕ) → o ≡ is_object kd → Stands text (begin_container kd o at b) (with_container o k)
   stands_container kd o at is = record { held = index.with_container o x.held; holds = container_held text b x.held x.holds kd o at is; kept = container_kept text x.held k x.kept o }
 

@@ -1,5 +1,5 @@
 // What is held of a text between two slices.
-ghost use Rattle.std.specs.Prelude.{◌≡◌, [], ℕ, List, length, IfOk};
+ghost use Rattle.std.specs.Prelude.{◌≡◌, [], ℕ, List, None, length, IfOk};
 ghost use Rattle.jx_lex.specs.declared.alphabet.mark.Mark.{Mark};
 ghost use Rattle.jx_index.specs.inside.Building.{built_of};
 ghost use Rattle.jx_names.specs.inside.HeldNames.{IsHeld};
@@ -20,7 +20,8 @@ pub struct Held {
 impl Held {
     /// What is held before the first byte.
     pub(crate) fn new(alloc: Global) -> Held
-        ensures { IsHeld [] [] [] result.names result.begun result.name.items }
+        ensures held { IsHeld [] [] [] result.names result.begun result.name.items }
+        ensures begun { result.begun ≡ None }
     {
         Held {
             names: OpenNames::new(alloc),

@@ -6,8 +6,9 @@ ghost use Rattle.jx_run.specs.declared.texts.settings.Settings.{Settings};
 ghost use Rattle.jx_run.specs.Reader.{HasRead, HasFailed, Outcome, is_fault};
 ghost use Rattle.jx_run.specs.Telling.{moved_ends, moved_marks, track_of};
 ghost use Rattle.jx_index.specs.ByNames.{IsVerdictBy};
+ghost use Rattle.jx_index.specs.inside.InTurn.{AreInTurn, AreInTurn-prop, IsInTurn};
 ghost use Rattle.jx_index.specs.inside.NameLists.{accepted_unless};
-ghost use Rattle.jx_names.specs.Fed.{HasFed, IsLost, end_of};
+ghost use Rattle.jx_names.specs.declared.held.Held.{Held as HeldOf};
 ghost use Rattle.jx_names.specs.inside.HeldNames.{IsHeld};
 
 use crate::held::Held;
@@ -29,6 +30,8 @@ pub struct NamesReader {
     reader: Reader,
     /// None where memory was refused.
     held: Option<Held>,
+    // A token has begun just where the reader stands inside one.
+    ghost turn: { AreInTurn (λ (h : HeldOf). h.begun) reader.outcome held } by { AreInTurn-prop (λ (h : HeldOf). h.begun) reader.outcome held },
 }
 
 /// Reads a slice behind all bytes that were read, and keeps its names.
@@ -38,6 +41,7 @@ fn feed_held<B: Before>(reader: &mut Reader, held: Held, slice: &[u8]) -> Result
     requires base { (bytes : List ℕ) (marks : List Mark) (ends : List ℕ) → B.held bytes marks ends → reader.old.start + reader.old.count ≡ length bytes }
     requires held { (bytes : List ℕ) (marks : List Mark) (ends : List ℕ) → B.held bytes marks ends
         → IsHeld bytes marks ends held.names held.begun held.name.items }
+    requires turn { IsInTurn reader.old.outcome held.begun }
     ensures settings { reader.new.settings ≡ reader.old.settings }
     ensures start { reader.new.start ≡ reader.old.start }
     ensures reads { OnOk result ((bytes : List ℕ) → HasRead bytes reader.old → HasRead (bytes ++ slice.now) reader.new) }
@@ -46,6 +50,7 @@ fn feed_held<B: Before>(reader: &mut Reader, held: Held, slice: &[u8]) -> Result
         → (bytes : List ℕ) (marks : List Mark) (ends : List ℕ) → B.held bytes marks ends
         → IsHeld (bytes ++ B.slice) (marks ++ moved_marks (length bytes) (track_of before slice.now).marks) (ends ++ moved_ends (length bytes) (track_of before slice.now).ends)
         next.names next.begun next.name.items) }
+    ensures turn { IfOk result (λ next. IsInTurn reader.new.outcome next.begun) }
 {
     let base = reader.end();
     let sink: OnSlice<'_, B> = OnSlice::new(slice, base, held);
@@ -64,6 +69,8 @@ fn accepted_unless(name: Option<usize>) -> Verdict
 }
 
 impl NamesReader {
+    ghost use Rattle.jx_names.specs.Fed.{HasFed, IsLost, end_of};
+
     /// A reader that was fed no byte, by settings that let no object repeat a name. They may ignore a byte order mark in
     /// front of the text (section 8.1).
     pub fn new(alloc: Global, settings: &Settings) -> NamesReader

@@ -1,14 +1,15 @@
 // The names of open objects, as a reader tells the tokens of a slice.
-ghost use Rattle.std.specs.Prelude.{◌≡◌, ◌+◌, ◌++◌, ◌∷◌, ◌<◌, ◌≤◌, [], ℕ, List, Some, None, drop, length, slice_range, true, IfOk};
+ghost use Rattle.std.specs.Prelude.{◌≡◌, ◌++◌, [], ℕ, List, Some, length, IfOk};
 ghost use Rattle.jx_lex.specs.declared.alphabet.mark.Mark.{Mark};
 ghost use Rattle.jx_run.specs.Telling.{moved_ends, moved_marks};
-ghost use Rattle.jx_index.specs.inside.Building.{is_token};
 ghost use Rattle.jx_names.specs.inside.HeldNames.{IsHeld};
+ghost use Rattle.jx_names.specs.inside.KeptNames.{is_name_next, kept};
 ghost use Rattle.jx_names.specs.inside.SliceNames.{HasTold};
 
 use crate::held::Held;
 use crate::open_names::OpenNames;
-use jx_lex::{Mark, MarkKind, TokenSink};
+use jx_index::{has_end, held_name, moved, token_bytes};
+use jx_lex::{Mark, TokenSink};
 use std::alloc::AllocError;
 use std::marker::{Brand, PhantomData};
 
@@ -30,8 +31,7 @@ impl Before for Brand {
     ghost slice = { [] };
 }
 
-/// The names of open objects, told the tokens of a slice which stands from `base` on. A scan tells the end of a token before
-/// the next mark. What is told in another order is refused, as for want of memory.
+/// The names of open objects, told the tokens of a slice which stands from `base` on.
 #[derive(Drop)]
 pub struct OnSlice<'a, B> {
     slice: &'a [u8],
@@ -44,63 +44,6 @@ pub struct OnSlice<'a, B> {
     before: PhantomData<B>,
 }
 
-/// Whether a mark of this kind begins a token, to which an end belongs.
-fn has_end(kind: MarkKind) -> bool
-    ensures { result ≡ is_token kind }
-{
-    matches!(
-        kind,
-        MarkKind::String | MarkKind::Number | MarkKind::True | MarkKind::False | MarkKind::Null
-    )
-}
-
-/// An offset of a slice, in the whole text.
-fn moved(base: usize, at: usize) -> Result<usize, AllocError>
-    ensures { IfOk result (λ offset. offset ≡ base + at) }
-{
-    base.checked_add(at).ok_or(AllocError)
-}
-
-/// The bytes from one offset to another.
-fn part(bytes: &[u8], from: usize, to: usize) -> Result<&[u8], AllocError>
-    ensures part { IfOk result (λ part. part.now ≡ slice_range bytes.now from to) }
-    ensures order { IfOk result (λ _. from ≤ to) }
-    ensures within { IfOk result (λ _. to ≤ length bytes.now) }
-{
-    if from <= to && to <= bytes.len() {
-        Ok(&bytes[from..to])
-    } else {
-        Err(AllocError)
-    }
-}
-
-/// Adds the first bytes of a slice to those of a name, if they are wanted.
-fn add_front(name: &mut Vec<u8>, slice: &[u8], to: usize, wanted: bool) -> Result<(), AllocError>
-    ensures within { IfOk result (λ _. wanted ≡ true → to ≤ length slice.now) }
-    ensures name { IfOk result (λ _. wanted ≡ true → name.new.items ≡ name.old.items ++ slice_range slice.now 0 to) }
-{
-    if wanted {
-        let more = part(slice, 0, to)?;
-        name.extend_from_slice(more)?;
-    }
-    Ok(())
-}
-
-/// The bytes of a name that begins at `at`, up to the end of a slice that stands from `base` on.
-fn held_name(name: Vec<u8>, slice: &[u8], base: usize, at: usize) -> Result<Vec<u8>, AllocError>
-    ensures { IfOk result (λ held. (before : List ℕ) → base ≡ length before → (at < base → name.items ≡ drop at before) → held.items ≡ drop at (before ++ slice.now)) }
-{
-    let mut held = name;
-    if at < base {
-        held.extend_from_slice(slice)?;
-        return Ok(held);
-    }
-    let more = part(slice, at - base, slice.len())?;
-    held.clear();
-    held.extend_from_slice(more)?;
-    Ok(held)
-}
-
 impl<'a, B: Before> OnSlice<'a, B> {
     /// What was held is told no token of the slice yet.
     pub(crate) fn new(slice: &'a [u8], base: usize, held: Held) -> OnSlice<'a, B>
@@ -108,7 +51,8 @@ impl<'a, B: Before> OnSlice<'a, B> {
         requires base { (bytes : List ℕ) (marks : List Mark) (ends : List ℕ) → B.held bytes marks ends → base ≡ length bytes }
         requires held { (bytes : List ℕ) (marks : List Mark) (ends : List ℕ) → B.held bytes marks ends
             → IsHeld bytes marks ends held.names held.begun held.name.items }
-        ensures { HasTold B.held B.slice [] [] result.slice.now result.base result.names result.begun result.name.items }
+        ensures seen { HasTold B.held B.slice [] [] result.slice.now result.base result.names result.begun result.name.items }
+        ensures begun { result.begun ≡ held.begun }
     {
         OnSlice {
             slice,
@@ -120,67 +64,44 @@ impl<'a, B: Before> OnSlice<'a, B> {
         }
     }
 
-    /// The end of a token that has begun.
-    #[inline(always)]
-    fn end_token(&mut self, mark: Mark, at: usize) -> Result<(), AllocError>
-        requires begun { self.old.begun ≡ Some mark }
-        ensures { IfOk result (λ _. (marks : List Mark) (ends : List ℕ)
-            → HasTold B.held B.slice marks ends self.old.slice.now self.old.base self.old.names self.old.begun self.old.name.items
-            → HasTold B.held B.slice marks (ends ++ at ∷ []) self.new.slice.now self.new.base self.new.names self.new.begun self.new.name.items) }
+    /// Whether the token that has begun is a name.
+    fn is_name_begun(&self) -> bool
+        ensures { (m : Mark) → self.now.begun ≡ Some m → result ≡ is_name_next m.kind (kept self.now.names) }
     {
-        if mark.at < self.base {
-            let wanted = self.names.is_name_next(mark.kind);
-            add_front(&mut self.name, self.slice, at, wanted)?;
-            self.names.tell(mark.kind, mark.at, &self.name)?;
-            self.begun = None;
-            return Ok(());
+        match self.begun {
+            Some(mark) => self.names.is_name_next(mark.kind),
+            None => false,
         }
-        let name = part(self.slice, mark.at - self.base, at)?;
-        self.names.tell(mark.kind, mark.at, name)?;
-        self.begun = None;
-        Ok(())
     }
 
     /// What is held behind the slice.
     pub(crate) fn into_held(self) -> Result<Held, AllocError>
-        ensures { IfOk result (λ held. (marks : List Mark) (ends : List ℕ)
+        ensures held { IfOk result (λ held. (marks : List Mark) (ends : List ℕ)
             → HasTold B.held B.slice marks ends self.entry.slice.now self.entry.base self.entry.names self.entry.begun self.entry.name.items
             → (bytes : List ℕ) (ms : List Mark) (es : List ℕ) → B.held bytes ms es
             → IsHeld (bytes ++ B.slice) (ms ++ moved_marks (length bytes) marks) (es ++ moved_ends (length bytes) ends) held.names held.begun held.name.items) }
+        ensures begun { IfOk result (λ held. held.begun ≡ self.entry.begun) }
     {
-        let Some(mark) = self.begun else {
-            return Ok(Held {
-                names: self.names,
-                begun: None,
-                name: self.name,
-            });
-        };
-        if !self.names.is_name_next(mark.kind) {
-            return Ok(Held {
-                names: self.names,
-                begun: Some(mark),
-                name: self.name,
-            });
-        }
-        let name = held_name(self.name, self.slice, self.base, mark.at)?;
+        let wanted = self.is_name_begun();
+        let name = held_name(self.name, self.slice, self.base, self.begun, wanted)?;
         Ok(Held {
             names: self.names,
-            begun: Some(mark),
+            begun: self.begun,
             name,
         })
     }
 }
 
 impl<'a, B: Before> TokenSink for OnSlice<'a, B> {
+    ghost use Rattle.std.specs.Prelude.{◌≡◌, is_some};
     ghost use Rattle.jx_names.specs.inside.SliceNames.{HasTold};
 
     ghost has_seen = { λ k marks ends. HasTold B.held B.slice marks ends k.slice.now k.base k.names k.begun k.name.items };
 
+    ghost awaits = { λ k inside. is_some k.begun ≡ inside };
+
     #[inline(always)]
     fn begin(&mut self, mark: Mark) -> Result<(), AllocError> {
-        if self.begun.is_some() {
-            return Err(AllocError);
-        }
         let at = moved(self.base, mark.at)?;
         if has_end(mark.kind) {
             self.begun = Some(Mark {
@@ -195,10 +116,14 @@ impl<'a, B: Before> TokenSink for OnSlice<'a, B> {
 
     #[inline(always)]
     fn end(&mut self, at: usize) -> Result<(), AllocError> {
-        match self.begun {
-            Some(mark) => self.end_token(mark, at),
-            None => Err(AllocError),
-        }
+        let Some(mark) = self.begun else {
+            unreachable!()
+        };
+        let wanted = self.names.is_name_next(mark.kind);
+        let name = token_bytes(&mut self.name, self.slice, self.base, mark.at, at, wanted)?;
+        self.names.tell(mark.kind, mark.at, name)?;
+        self.begun = None;
+        Ok(())
     }
 
     fn is_done(&self) -> bool {

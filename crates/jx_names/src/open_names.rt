@@ -1,8 +1,7 @@
 // The names of the members of open objects, while a text is read.
-ghost use Rattle.std.specs.Prelude.{◌≡◌, ℕ, List, None, Some, ◌++◌, drop, length, reverse, slice_range, true, IfOk};
+ghost use Rattle.std.specs.Prelude.{◌≡◌, ℕ, List, None, Some, drop, reverse, slice_range, true, IfOk};
 ghost use Rattle.jx_index.specs.Repeats.{IsLeast};
 ghost use Rattle.jx_index.specs.inside.Building.{Building, nothing_built, on_mark};
-ghost use Rattle.jx_index.specs.inside.NameKeys.{key_behind};
 ghost use Rattle.jx_string.specs.Texts.{string_units};
 ghost use Rattle.jx_names.specs.inside.KeptNames.{cut_back, end_from, kept, is_name_next, names_next, with_container, with_name, with_value, Ends, HaveKeys, IsRepeatedKept, Stands};
 

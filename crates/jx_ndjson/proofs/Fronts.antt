@@ -1,5 +1,5 @@
 -- A byte order mark in front of lines.
-use Rattle.std.proofs.Common.{◌≡◌, ℕ, zero, suc, ◌+◌, ◌<◌, List, [], ◌∷◌, ◌++◌, length, take, drop, Bool, true, false, cond, refl, sym, ap, subst, ◌∙◌, append_assoc, append-nil, arith}
+use Rattle.std.proofs.Common.{◌≡◌, ℕ, suc, ◌+◌, ◌<◌, List, [], ◌∷◌, ◌++◌, length, take, drop, Bool, true, false, cond, refl, sym, ap, subst, ◌∙◌, append_assoc, append-nil, arith}
 use Rattle.std.specs.Prelude.{◌==◌}
 use Rattle.std.specs.List.{AllZip}
 use Rattle.std.proofs.lemmas.Bool.Decides.{nat_tests}
@@ -10,12 +10,13 @@ use Rattle.jx_run.specs.declared.texts.settings.Settings.{Settings}
 use Rattle.jx_run.specs.Elements.{Part, part}
 use Rattle.jx_run.specs.Front.{agreed}
 use Rattle.jx_run.specs.Settings.{byte_order_mark}
+use Rattle.jx_run.proofs.Fronts.{none_agreed}
 use Rattle.jx_ndjson.specs.declared.judged_line.JudgedLine.{JudgedLine}
 use Rattle.jx_ndjson.specs.Answers.{IsAnswer}
 use Rattle.jx_ndjson.specs.Lines.{is_line_feed, mark_length}
 use Rattle.jx_ndjson.specs.Parts.{parts_by}
 use Rattle.jx_ndjson.specs.Reading.{HasReadLines, HasTold, IsOpen, IsPlace, LineReaderValue, ended_from}
-use Rattle.jx_ndjson.specs.inside.Steps.{HasNoLineFeed, is_ignored, is_next_of_mark}
+use Rattle.jx_ndjson.specs.inside.Steps.{is_ignored, is_next_of_mark}
 use Rattle.jx_ndjson.proofs.Steps.{reached}
 
 -- ---- the first bytes of a mark
@@ -42,18 +43,14 @@ no_length Ignored _ none = refl
 no_length Ignored _ one = refl
 no_length Ignored _ two = refl
 
-agreed-nil : (xs : List ℕ) → agreed xs [] ≡ 0
-agreed-nil [] = refl
-agreed-nil (x ∷ xs) = refl
-
 -- another byte stands where the mark would go on
 other : (input : List ℕ) (b : ℕ) (more : List ℕ) → IsBegun input → is_next_of_mark (length input) b ≡ false → mark_length Ignored (input ++ b ∷ more) ≡ 0
 other _ b more none h = ap (λ (t : Bool). cond (cond t (suc (agreed more (0xbb ∷ 0xbf ∷ []))) 0 == 3) 3 0) h
 other _ b more one h = ap (λ (t : Bool). cond (suc (cond t (suc (agreed more (0xbf ∷ []))) 0) == 3) 3 0) h
 other _ b more two h = ap (λ (t : Bool). cond (suc (suc (cond t (suc (agreed more [])) 0)) == 3) 3 0) h
 
-whole_mark : (more : List ℕ) → mark_length Ignored (byte_order_mark ++ more) ≡ 3
-whole_mark more = ap (λ (n : ℕ). cond (suc (suc (suc n)) == 3) 3 0) (agreed-nil more)
+pub whole_mark : (more : List ℕ) → mark_length Ignored (byte_order_mark ++ more) ≡ 3
+whole_mark more = ap (λ (n : ℕ). cond (suc (suc (suc n)) == 3) 3 0) (none_agreed more)
 
 -- the next byte of the mark
 data IsLonger : List ℕ → ℕ → Type 0 where
@@ -65,16 +62,7 @@ next _ b none h = let e : b ≡ 0xef = grind (arith, nat_tests) in longer (subst
 next _ b one h = let e : b ≡ 0xbb = grind (arith, nat_tests) in longer (subst (λ (x : ℕ). IsBegun (0xef ∷ x ∷ [])) (sym e) two)
 next _ b two h = let e : b ≡ 0xbf = grind (arith, nat_tests) in ended (ap (λ (x : ℕ). 0xef ∷ 0xbb ∷ x ∷ []) e)
 
-pub no_line_feed : (n b : ℕ) → is_next_of_mark n b ≡ true → HasNoLineFeed (b ∷ [])
-no_line_feed zero b h = let e : b ≡ 0xef = grind (arith, nat_tests) in subst (λ (x : ℕ). HasNoLineFeed (x ∷ [])) (sym e) refl
-no_line_feed (suc zero) b h = let e : b ≡ 0xbb = grind (arith, nat_tests) in subst (λ (x : ℕ). HasNoLineFeed (x ∷ [])) (sym e) refl
-no_line_feed (suc (suc zero)) b h = let e : b ≡ 0xbf = grind (arith, nat_tests) in subst (λ (x : ℕ). HasNoLineFeed (x ∷ [])) (sym e) refl
-no_line_feed (suc (suc (suc n))) b h = absurd (cc)
-
 -- ---- what was told
-
-abbrev pub place_at : {mark : FrontMark} {input : List ℕ} (b : Bool) → b ≡ true → IsPlace mark input b → IsPlace mark input true
-place_at b e h = subst (IsPlace _ _) e h
 
 begun_in : (settings : Settings) (input : List ℕ) (told : List JudgedLine) (r : LineReaderValue) → HasTold settings input told r → r.in_front ≡ true → (settings.mark ≡ Ignored) × IsBegun input
 begun_in settings input told r h e =
@@ -130,17 +118,6 @@ leaves_front settings input b more told then old new h was is differs reads =
     told_by settings (input ++ b ∷ more) then new 0 zero_there (reads 0 input lines)
     (subst (IsPlace settings.mark (input ++ b ∷ more)) (sym is)
     (omega (arith, zero_there), λ rest. ap (mark_length settings.mark) (append_assoc input (b ∷ more) rest) ∙ none_there (more ++ rest) ∙ sym zero_there))
-
--- no byte
-pub stays_in_front : (settings : Settings) (input : List ℕ) (more : List ℕ) (told : List JudgedLine) (old new : LineReaderValue) → HasTold settings input told old → more ≡ [] → new.in_front ≡ old.in_front
-    → ((at : ℕ) (before : List ℕ) → HasReadLines settings.depth at before told old → HasReadLines settings.depth at (before ++ more) told new) → HasTold settings (input ++ []) (told ++ []) new
-stays_in_front settings input more told old new h empty is reads =
-    let k = mark_length settings.mark input in
-    let all : drop k input ++ more ≡ drop k input = ap (λ (xs : List ℕ). drop k input ++ xs) empty ∙ append-nil (drop k input) in
-    let same : HasTold settings input told new =
-    told_by settings input told new k refl (subst (λ (xs : List ℕ). HasReadLines settings.depth k xs told new) all (reads k (drop k input) h.reads))
-    (subst (IsPlace settings.mark input) (sym is) h.place) in
-    subst (λ (xs : List ℕ). HasTold settings xs (told ++ []) new) (sym (append-nil input)) (subst (λ (js : List JudgedLine). HasTold settings input js new) (sym (append-nil told)) same)
 
 -- ---- the next byte of a mark
 

@@ -1,5 +1,5 @@
 -- What a line comes to, by what its reader says.
-use Rattle.std.proofs.Common.{◌≡◌, ℕ, ◌+◌, List, length, Bool, true, false, refl, sym, ap, subst, ◌∙◌}
+use Rattle.std.proofs.Common.{◌≡◌, ℕ, ◌+◌, length, Bool, true, false, refl, sym, ap, subst, ◌∙◌}
 use Rattle.std.specs.Prelude.{◌&&◌, not}
 use Rattle.jx_run.specs.declared.texts.verdict.Refusal.{Refusal}
 use Rattle.jx_run.specs.declared.texts.verdict.Verdict.{Verdict}
@@ -7,11 +7,11 @@ use Rattle.jx_run.specs.declared.texts.verdict.Verdict.TheVariants as verdict
 use Rattle.jx_run.specs.Elements.{Part}
 use Rattle.jx_run.specs.ElementVerdict.{IsUnclosedText}
 use Rattle.jx_run.specs.Reader.{HasRead}
-use Rattle.jx_run.specs.Text.{IsDocument}
-use Rattle.jx_run.specs.Tree.{Tree, span}
+use Rattle.jx_run.specs.Tree.{span}
 use Rattle.jx_run.specs.Unclosed.{ends_open}
-use Rattle.jx_run.specs.Verdict.{Judged, a_text}
+use Rattle.jx_run.specs.Verdict.{Judged}
 use Rattle.jx_run.proofs.OpenEnds.{element_shows}
+use Rattle.jx_run.proofs.VerdictLaws.{tree_in}
 use Rattle.jx_ndjson.specs.declared.judged_line.JudgedLine.{JudgedLine}
 use Rattle.jx_ndjson.specs.declared.judged_line.LineVerdict.{LineVerdict}
 use Rattle.jx_ndjson.specs.Answers.{IsAnswer, IsCut, IsVerdictOn, are_blanks}
@@ -20,9 +20,6 @@ use Rattle.jx_ndjson.specs.Reading.{IsOpen, LineReaderValue}
 use Rattle.jx_ndjson.specs.inside.Steps.{told}
 
 -- ---- the verdict on a line
-
-tree_in : {at limit : ℕ} {bytes : List ℕ} → Judged at bytes limit verdict.Accepted → (tree : Tree) × IsDocument at bytes limit tree
-tree_in (a_text {tree = tree} d) = (tree, d)
 
 not_true : {A : Type 0} → false ≡ true → A
 not_true h = absurd (cc)

@@ -4,23 +4,18 @@ use Rattle.std.proofs.Math.Nat.{add-suc}
 use Rattle.std.specs.List.{AllZip}
 use Rattle.std.specs.Prelude.{not}
 use Rattle.jx_summary.specs.declared.span.Span.{Span}
-use Rattle.jx_lex.specs.declared.alphabet.state.LexState.TheVariants as state
-use Rattle.jx_reduce.specs.declared.table.expect.Expect.TheVariants as expect
 use Rattle.jx_run.specs.declared.texts.verdict.Refusal.{Refusal}
 use Rattle.jx_run.specs.declared.texts.verdict.Refusal.TheVariants as refusal
 use Rattle.jx_run.specs.declared.texts.verdict.Verdict.{Verdict}
 use Rattle.jx_run.specs.declared.texts.verdict.Verdict.TheVariants as verdict
 use Rattle.jx_run.specs.Elements.{Part, part}
-use Rattle.jx_run.specs.Laws.{is_end, verdict_of}
-use Rattle.jx_run.specs.Reading.{TextReading, went, stopped, too_deep, read, read_text}
-use Rattle.jx_run.specs.ReaderInside.{offset_at, shifted}
+use Rattle.jx_run.specs.Reading.{stopped, too_deep}
+use Rattle.jx_run.specs.ReaderInside.{offset_at}
 use Rattle.jx_run.specs.Tree.{span}
 use Rattle.jx_run.specs.Verdict as by
 use Rattle.jx_run.specs.Verdict.{Judged, a_text, cut_short}
 use Rattle.jx_run.proofs.LawProofs.{Verdicts}
-use Rattle.jx_run.proofs.Moves.{moved_part, shifted-twice}
-use Rattle.jx_run.proofs.ReaderSteps.{read-shift}
-use Rattle.jx_run.proofs.VerdictLaws.{one_verdict}
+use Rattle.jx_run.proofs.Moves.{moved_part, grown, judged-grown, fits}
 use Rattle.jx_ndjson.specs.declared.judged_line.JudgedLine.{JudgedLine}
 use Rattle.jx_ndjson.specs.declared.judged_line.LineVerdict.{LineVerdict}
 use Rattle.jx_ndjson.specs.declared.judged_line.LineVerdict.TheVariants.{Accepted, Refused, MayBeCut, Blank}
@@ -32,40 +27,6 @@ use Rattle.jx_ndjson.specs.Tally.{bad_of, is_accepted}
 use Rattle.jx_ndjson.specs.WholeLines.{moved_line, moved_refusal, moved_verdict}
 
 -- ---- verdicts
-
-text_moved : (limit more at : ℕ) (bytes : List ℕ) → read_text limit (more + at) bytes ≡ shifted more (read_text limit at bytes)
-text_moved limit more at bytes =
-    read-shift limit (more + at) state.Gap expect.Value [] bytes
-    ∙ shifted-twice more at (read limit state.Gap expect.Value [] 0 bytes)
-    ∙ ap (shifted more) (sym (read-shift limit at state.Gap expect.Value [] bytes))
-
--- with offsets that may be greater than a word
-abbrev grown : ℕ → Verdict → Verdict
-grown more verdict.Accepted = verdict.Accepted
-grown more (verdict.Refused (refusal.Stopped at)) = verdict.Refused (refusal.Stopped (more + at))
-grown more (verdict.Refused refusal.Truncated) = verdict.Refused refusal.Truncated
-grown more (verdict.Refused (refusal.TooDeep at)) = verdict.Refused (refusal.TooDeep (more + at))
-grown more (verdict.Refused (refusal.RepeatedName at)) = verdict.Refused (refusal.RepeatedName (more + at))
-
-verdict_shifted : (more : ℕ) (r : TextReading) → verdict_of (shifted more r) ≡ grown more (verdict_of r)
-verdict_shifted more (went s e o) = pick (is_end s e o)
-  where
-    pick : (b : Bool) → cond b verdict.Accepted (verdict.Refused refusal.Truncated) ≡ grown more (cond b verdict.Accepted (verdict.Refused refusal.Truncated))
-    pick true = refl
-    pick false = refl
-verdict_shifted more (stopped at) = refl
-verdict_shifted more (too_deep at) = refl
-
-judged_grown : Verdicts → (limit more at : ℕ) (bytes : List ℕ) (v : Verdict) → Judged at bytes limit v → Judged (more + at) bytes limit (grown more v)
-judged_grown law limit more at bytes v j =
-    subst (λ (x : Verdict). Judged (more + at) bytes limit x)
-    (ap verdict_of (text_moved limit more at bytes)
-    ∙ verdict_shifted more (read_text limit at bytes)
-    ∙ ap (grown more) (one_verdict at bytes limit (verdict_of (read_text limit at bytes)) v (law limit at bytes) j))
-    (law limit (more + at) bytes)
-
-fits : (b at : ℕ) → b + at < 2 ^ 64 → offset_at b at ≡ b + at
-fits b at h = omega arith
 
 -- no fault lies past the bytes
 grown_fits : (more at : ℕ) (bytes : List ℕ) (limit : ℕ) (v : Verdict) (r : Refusal) → Judged at bytes limit v → v ≡ verdict.Refused r → more + (at + length bytes) < 2 ^ 64
@@ -91,10 +52,10 @@ verdict_moved : Verdicts → (limit n k more : ℕ) (p : Part) (v : LineVerdict)
 verdict_moved law limit n k more p Blank low h = h
 verdict_moved law limit n k more p (Refused r) low h = (
   h.0,
-  subst (λ (x : Verdict). Judged (more + p.at) p.bytes limit x) (grown_fits more p.at p.bytes limit (verdict.Refused r) r h.1 refl low) (judged_grown law limit more p.at p.bytes (verdict.Refused r) h.1),
+  subst (λ (x : Verdict). Judged (more + p.at) p.bytes limit x) (grown_fits more p.at p.bytes limit (verdict.Refused r) r h.1 refl low) (judged-grown law limit more p.at p.bytes (verdict.Refused r) h.1),
 )
 verdict_moved law limit n k more p MayBeCut low h = not_false h.1.0
-verdict_moved law limit n k more p Accepted low h = (h.0, judged_grown law limit more p.at p.bytes verdict.Accepted h.1, λ cut. not_false cut.0)
+verdict_moved law limit n k more p Accepted low h = (h.0, judged-grown law limit more p.at p.bytes verdict.Accepted h.1, λ cut. not_false cut.0)
 
 line_moved : Verdicts → (limit n k more : ℕ) (p : Part) (j : JudgedLine) → n + k < 2 ^ 64 → more + (p.at + length p.bytes) < 2 ^ 64 → IsAnswer limit (line k p true) j
     → IsAnswer limit (line (n + k) (moved_part more p) true) (moved_line n more j)

@@ -1,9 +1,7 @@
 -- Lines are read slice by slice.
-use Rattle.std.proofs.Common.{◌≡◌, ℕ, zero, suc, ◌+◌, ◌<◌, List, [], ◌∷◌, ◌++◌, length, take, get_or, Bool, true, false, cond, Some, refl, sym, ap, subst, ◌∙◌, append_assoc, append-nil, arith}
+use Rattle.std.proofs.Common.{◌≡◌, ℕ, zero, suc, ◌+◌, ◌<◌, List, [], ◌∷◌, ◌++◌, length, take, Bool, true, false, cond, Some, refl, sym, ap, subst, ◌∙◌, append_assoc, append-nil, arith}
 use Rattle.std.specs.Prelude.{◌&&◌, slice_get, IfOk, Ok, Err, Result}
 use Rattle.std.specs.List.{AllZip}
-use Rattle.std.proofs.lemmas.Bool.Decides.{nat_tests}
-use Rattle.std.proofs.lemmas.List.{take_all}
 use Rattle.std.proofs.lemmas.List.Folds.{list_all-append}
 use Rattle.jx_lex.specs.Uneventful.{is_blank}
 use Rattle.jx_run.specs.declared.texts.settings.Settings.{Settings}
@@ -19,7 +17,7 @@ use Rattle.jx_ndjson.specs.Lines.{Line, line, is_line_feed, lines_from, lines_of
 use Rattle.jx_ndjson.specs.Parts.{behind_each}
 use Rattle.jx_ndjson.specs.Reading.{HasReadLines, IsOpen, LineReaderValue, ended_from}
 use Rattle.jx_ndjson.specs.inside.Steps.{HasNoLineFeed}
-use Rattle.jx_ndjson.proofs.Cuts.{last-ends, longer, none-behind, parts-append, take-snoc}
+use Rattle.jx_ndjson.proofs.Cuts.{last-ends, longer, none-behind, parts-append}
 
 -- ---- the line that goes on
 
@@ -35,19 +33,6 @@ longer_line limit p more old new h same start reads blank opens =
       read = reads p.bytes h.read;
       blank = blank ∙ ap (λ (b : Bool). b && are_blanks more) h.blank ∙ sym (list_all-append is_blank p.bytes more);
       opens = opens ∙ ap (λ (b : Bool). last_open b more) h.opens ∙ sym (last_open-append false p.bytes more);
-    }
-
--- another one, without a byte
-pub new_line : (limit : ℕ) (p : Part) (start : ℕ) (old new : LineReaderValue) → IsOpen limit p old → new.reader.settings ≡ old.reader.settings → new.reader.start ≡ start
-    → HasRead [] new.reader → new.is_blank ≡ true → new.open_ended ≡ false → IsOpen limit (part start []) new
-new_line limit p start old new h same is read blank opens =
-    record {
-      depth = ap (λ (s : Settings). s.depth) same ∙ h.depth;
-      mark = ap (λ (s : Settings). s.mark) same ∙ h.mark;
-      start = is;
-      read = read;
-      blank = blank;
-      opens = opens;
     }
 
 -- the same one, whatever else there is
@@ -102,7 +87,7 @@ ended-snoc n (q ∷ ps) p =
     let e : suc n + length ps ≡ n + length (q ∷ ps) = omega arith in
     ap (λ (ls : List Line). line n q true ∷ ls) (ended-snoc (suc n) ps p ∙ ap (λ (k : ℕ). ended_from (suc n) ps ++ line k p true ∷ []) e)
 
-whole : (p : Part) → longer p [] ≡ p
+pub whole : (p : Part) → longer p [] ≡ p
 whole p = ap (part p.at) (append-nil p.bytes)
 
 pub ends_line : (limit at : ℕ) (bytes : List ℕ) (told : List JudgedLine) (old new : LineReaderValue) (j : JudgedLine) → HasReadLines limit at bytes told old
@@ -129,26 +114,6 @@ ends_line limit at bytes told old new j h judged opened ended =
     }
 
 -- ---- a slice
-
--- without a line feed
-pub reads_none : (limit at : ℕ) (bytes slice : List ℕ) (told : List JudgedLine) (n : ℕ) (new : LineReaderValue) → n ≡ length slice → HasReadLines limit at (bytes ++ slice) told new
-    → HasReadLines limit at (bytes ++ take n slice) (told ++ []) new
-reads_none limit at bytes slice told n new e h =
-    subst (λ (js : List JudgedLine). HasReadLines limit at (bytes ++ take n slice) js new) (sym (append-nil told))
-    (subst (λ (xs : List ℕ). HasReadLines limit at (bytes ++ xs) told new) (sym (take_all n slice (omega (arith, e)))) h)
-
--- with one
-pub reads_line : (limit at : ℕ) (bytes slice : List ℕ) (told : List JudgedLine) (n : ℕ) (j : JudgedLine) (new : LineReaderValue) → n < length slice → is_line_feed (get_or slice n 0) ≡ true
-    → HasReadLines limit at ((bytes ++ take n slice) ++ 0x0a ∷ []) (told ++ j ∷ []) new → HasReadLines limit at (bytes ++ take (n + 1) slice) (told ++ j ∷ []) new
-reads_line limit at bytes slice told n j new low feed h =
-    let byte : get_or slice n 0 ≡ 0x0a = let b = get_or slice n 0 in let e : b ≡ 0x0a = grind (arith, nat_tests) in e in
-    let one : n + 1 ≡ suc n = omega arith in
-    subst (λ (xs : List ℕ). HasReadLines limit at xs (told ++ j ∷ []) new)
-    (append_assoc bytes (take n slice) (0x0a ∷ [])
-    ∙ ap (λ (b : ℕ). bytes ++ (take n slice ++ b ∷ [])) (sym byte)
-    ∙ ap (λ (xs : List ℕ). bytes ++ xs) (sym (take-snoc slice n low))
-    ∙ ap (λ (k : ℕ). bytes ++ take k slice) (sym one))
-    h
 
 -- the first byte, and others behind it
 pub first_alone : (xs : List ℕ) (b : ℕ) → slice_get xs 0 ≡ Some b → take 1 xs ≡ b ∷ []

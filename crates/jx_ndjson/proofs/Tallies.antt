@@ -10,7 +10,7 @@ use Rattle.jx_ndjson.specs.declared.judged_line.LineVerdict.{LineVerdict}
 use Rattle.jx_ndjson.specs.declared.judged_line.LineVerdict.TheVariants.{Accepted, Refused, MayBeCut, Blank}
 use Rattle.jx_ndjson.specs.declared.line_tally.LineCounts.{LineCounts}
 use Rattle.jx_ndjson.specs.Answers.{AreAnswers}
-use Rattle.jx_ndjson.specs.Reading.{HasTold, LineReaderValue}
+use Rattle.jx_ndjson.specs.Reading.{HasTold}
 use Rattle.jx_ndjson.specs.Tally.{HasTaken, IsTallied, TallyValue, bad_of, count_of, counted, counts_of, is_accepted, is_blank_line, is_refused, one_if}
 use Rattle.jx_ndjson.specs.WholeLines.{AreWhole, WholeLinesValue, moved_line}
 use Rattle.jx_ndjson.proofs.Moved.{bad_moved}
@@ -93,21 +93,6 @@ takes_line settings bytes more given j old new h counts waiting reads =
           ∙ ap (λ (js : List JudgedLine). js ++ bad_of (j ∷ [])) h.bad_are
           ∙ sym (more_bad h.answers j);
     }
-
--- what waits is given
-pub gives : (settings : Settings) (bytes : List ℕ) (given : List JudgedLine) (old new : TallyValue) → HasTaken settings bytes given old → new.lines ≡ old.lines → new.counts ≡ old.counts → new.waiting ≡ []
-    → HasTaken settings bytes (given ++ old.waiting) new
-gives settings bytes given old new h lines counts none =
-    record {
-      answers = h.answers;
-      told = subst (λ (r : LineReaderValue). HasTold settings bytes h.answers r) (sym lines) h.told;
-      counts_are = counts ∙ h.counts_are;
-      bad_are = ap (λ (js : List JudgedLine). (given ++ old.waiting) ++ js) none ∙ append-nil (given ++ old.waiting) ∙ h.bad_are;
-    }
-
--- before the first byte
-pub taken_none : (settings : Settings) (t : TallyValue) → HasTold settings [] [] t.lines → t.counts ≡ record { accepted = 0; refused = 0; blank = 0 } → t.waiting ≡ [] → HasTaken settings [] [] t
-taken_none settings t told counts none = record { answers = []; told = told; counts_are = counts; bad_are = none }
 
 -- ---- the end
 

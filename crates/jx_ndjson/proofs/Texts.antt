@@ -1,9 +1,10 @@
 -- Whole lines that are texts.
 use Rattle.std.proofs.Common.{◌≡◌, ℕ, suc, ◌+◌, ◌-◌, ◌^◌, ◌<◌, ◌≤◌, List, [], ◌∷◌, ◌++◌, length, take, get_or, arith, Bool, true, false, Option, Some, None, refl, sym, ap, subst, ◌∙◌}
-use Rattle.std.specs.Prelude.{◌==◌, ◌||◌, ◌&&◌, IfSome, slice_range}
+use Rattle.std.specs.Prelude.{◌==◌, ◌||◌, IfSome, slice_range}
 use Rattle.std.proofs.lemmas.Bool.Decides.{nat_tests}
 use Rattle.std.proofs.lemmas.List.{length-append, length-take-le}
 use Rattle.std.proofs.lemmas.List.Edits.{length-between}
+use Rattle.std.proofs.lemmas.Bool.{and_parts}
 use Rattle.jx_lex.specs.declared.alphabet.lex_exit.LexExit.{LexExit}
 use Rattle.jx_lex.specs.declared.alphabet.lex_exit.LexExit.TheVariants as exit
 use Rattle.jx_lex.specs.declared.alphabet.mark.Mark.{Mark}
@@ -19,7 +20,7 @@ use Rattle.jx_reduce.specs.Read.{Reading, read as read_marks}
 use Rattle.jx_reduce.specs.Whole.{whole_of}
 use Rattle.jx_run.specs.declared.texts.verdict.Verdict.TheVariants as verdict
 use Rattle.jx_run.specs.Elements.{Part, part}
-use Rattle.jx_run.specs.Kept.{HasSeen}
+use Rattle.jx_reduce.specs.KnownStack.{HasSeen}
 use Rattle.jx_run.specs.Laws.{verdict_of}
 use Rattle.jx_run.specs.Reading.{at_exit, read, read_text}
 use Rattle.jx_run.specs.Tree.{span}
@@ -27,12 +28,11 @@ use Rattle.jx_run.specs.Verdict.{Judged}
 use Rattle.jx_run.specs.Whole.{verdict_from}
 use Rattle.jx_run.proofs.LawProofs.{Verdicts}
 use Rattle.jx_run.proofs.RunVerdict.{same_verdict}
-use Rattle.jx_ndjson.specs.declared.judged_line.JudgedLine.{JudgedLine}
 use Rattle.jx_ndjson.specs.declared.judged_line.LineVerdict.TheVariants.{Accepted}
 use Rattle.jx_ndjson.specs.Answers.{are_blanks}
 use Rattle.jx_ndjson.specs.Lines.{is_line_feed}
 use Rattle.jx_ndjson.specs.Parts.{behind_each, parts_by}
-use Rattle.jx_ndjson.specs.WholeLines.{AreWhole, WholeLinesValue}
+use Rattle.jx_ndjson.specs.WholeLines.{WholeLinesValue}
 use Rattle.jx_ndjson.specs.inside.Steps.{HasNoLineFeed}
 use Rattle.jx_ndjson.specs.inside.Texts.{AreTexts, IsEnd, IsTextWithin}
 use Rattle.jx_ndjson.proofs.Cuts.{none-behind, parts-append, take-snoc}
@@ -40,10 +40,6 @@ use Rattle.jx_ndjson.proofs.Tallies.{one_step}
 use Rattle.jx_ndjson.proofs.Whole.{whole_joins}
 
 -- ---- blanks
-
-both_true : (c d : Bool) → (c && d) ≡ true → (c ≡ true) × (d ≡ true)
-both_true true d h = (refl, h)
-both_true false d h = absurd (cc)
 
 -- what holds of the four holds of a blank
 of_blank : (P : ℕ → Type 0) (b : ℕ) → is_blank b ≡ true → P 0x20 → P 0x09 → P 0x0a → P 0x0d → P b
@@ -61,7 +57,7 @@ no_marks : (bytes : List ℕ) (at : ℕ) → are_blanks bytes ≡ true → (lex 
 unfolding lex class_at
 no_marks [] at h = refl
 no_marks (b ∷ bs) at h =
-    let both = both_true (is_blank b) (are_blanks bs) h in
+    let both = and_parts (is_blank b) (are_blanks bs) h in
     let rest : (lex Gap (suc at) bs).marks ≡ [] = no_marks bs (suc at) both.1 in
     of_blank (λ (c : ℕ). (lex Gap at (c ∷ bs)).marks ≡ []) b both.0 rest rest rest rest
 
@@ -151,9 +147,6 @@ first_line limit slice end low feed none h =
 
 -- ---- lines one behind another
 
-pub no_texts : (limit : ℕ) → AreTexts limit [] 0
-no_texts limit = ([], record { ended = []; parts = refl; are_answers = tt; len_is = refl; count_is = refl; bad_are = refl })
-
 texts_join : Verdicts → (limit : ℕ) (xs ys : List ℕ) (count more : ℕ) → length xs + length ys < 2 ^ 64 → count ≤ length xs → AreTexts limit xs count → AreTexts limit ys more → AreTexts limit (xs ++ ys) (count + more)
 texts_join law limit xs ys count more low few h k =
     let v : WholeLinesValue = record { len = length xs; count = count; bad = [] } in
@@ -170,9 +163,3 @@ one_more law limit slice at n count within low fits few h k =
     let right : length (take n rest) ≡ n = length-take-le n rest (omega (arith, long, low)) in
     subst (λ (xs : List ℕ). AreTexts limit xs (count + 1)) (one_step [] slice at n within low)
     (texts_join law limit (take at slice) (take n rest) count 1 (omega (arith, left, right, fits)) (omega (arith, left, few)) h k)
-
-pub whole_texts : (limit : ℕ) (slice : List ℕ) (len count : ℕ) (w : WholeLinesValue) → len ≤ length slice → AreTexts limit (take len slice) count → w ≡ record { len = len; count = count; bad = [] }
-    → (answers : List JudgedLine) × AreWhole limit (take w.len slice) answers w
-whole_texts limit slice len count w within h is =
-    subst (λ (v : WholeLinesValue). (answers : List JudgedLine) × AreWhole limit (take v.len slice) answers v) (sym is)
-    (subst (λ (n : ℕ). (answers : List JudgedLine) × AreWhole limit (take len slice) answers (record { len = n; count = count; bad = [] })) (length-take-le len slice within) h)

@@ -1,8 +1,8 @@
 -- Whole lines behind others.
-use Rattle.std.proofs.Common.{◌≡◌, ℕ, zero, suc, ◌+◌, ◌^◌, ◌<◌, ◌≤◌, List, [], ◌∷◌, ◌++◌, drop, length, map, Bool, true, false, refl, sym, ap, subst, ◌∙◌, append_assoc, arith}
+use Rattle.std.proofs.Common.{◌≡◌, ℕ, suc, ◌+◌, ◌^◌, ◌<◌, ◌≤◌, List, [], ◌∷◌, ◌++◌, drop, length, map, true, false, refl, sym, ap, subst, ◌∙◌, append_assoc, arith}
 use Rattle.std.specs.List.{AllZip}
 use Rattle.std.proofs.Math.ListN.{length-map}
-use Rattle.std.proofs.lemmas.List.{drop-append-le, length-append, map-append}
+use Rattle.std.proofs.lemmas.List.{length-append, map-append}
 use Rattle.std.proofs.lemmas.List.Elements.{filter-append}
 use Rattle.std.specs.Prelude.{not, IfSome, None, Option, Some}
 use Rattle.jx_run.specs.declared.texts.settings.FrontMark.{FrontMark}
@@ -15,7 +15,7 @@ use Rattle.jx_run.proofs.PartedJoins.{AllZip-append}
 use Rattle.jx_ndjson.specs.declared.judged_line.JudgedLine.{JudgedLine}
 use Rattle.jx_ndjson.specs.Answers.{IsAnswer}
 use Rattle.jx_ndjson.specs.Lines.{Line, is_line_feed, line, mark_length}
-use Rattle.jx_ndjson.specs.Parts.{before_first, parts_by}
+use Rattle.jx_ndjson.specs.Parts.{parts_by}
 use Rattle.jx_ndjson.specs.Reading.{HasReadLines, HasTold, IsOpen, LineReaderValue, ended_from}
 use Rattle.jx_ndjson.specs.Tally.{HasTaken, TallyValue, bad_of, is_accepted}
 use Rattle.jx_ndjson.specs.LinesRun.{HoldLines}

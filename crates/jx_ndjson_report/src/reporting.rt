@@ -1,5 +1,5 @@
 // Lines and elements are told while an input is read.
-ghost use Rattle.std.specs.Prelude.{◌≡◌, ◌≢◌, ◌<◌, ◌≤◌, ◌↔◌, [], true, false, length, IfErr, IfOk, IfSome, IsErrOf, OnErr, OnOk};
+ghost use Rattle.std.specs.Prelude.{◌≡◌, ◌≢◌, ◌<◌, ◌≤◌, ◌↔◌, [], true, false, length, IfErr, IfOk, IfSome, IsErrOf, OnOk};
 ghost use Rattle.jx_ndjson_report.specs.Elements.{ElementsOutput, IsDue as IsDueOfElements};
 ghost use Rattle.jx_ndjson_report.specs.Output.{IsDue, LinesOutput};
 ghost use Rattle.jx_ndjson_report.specs.Reports.{ReportsAll, WroteDue, WroteInPart, WroteLines};

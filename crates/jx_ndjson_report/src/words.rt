@@ -1,5 +1,5 @@
 // The lines that are written.
-ghost use Rattle.std.specs.Prelude.{◌≡◌, ◌++◌, codes, OnOk};
+ghost use Rattle.std.specs.Prelude.{◌≡◌, ◌++◌, OnOk};
 ghost use Rattle.jx_report.specs.Elements.{verdict_words as element_words};
 ghost use Rattle.jx_words.specs.Words.{line};
 ghost use Rattle.jx_ndjson_report.specs.Elements.{element_line};

@@ -14,7 +14,6 @@ use Rattle.jx_portion.specs.declared.portion.Mismatch.TheVariants.{Depths, Froms
 use Rattle.jx_portion.specs.Fields.{RunFields}
 use Rattle.jx_portion.specs.Portion.{end_of, portion_in, start_of, Adjoin, IsAnswer, IsMismatch, PortionValue}
 use Rattle.jx_portion.specs.Reading.{head_at, record_at, Fails}
-use Rattle.jx_ends.specs.Ends.{ReadsToEnd}
 use Rattle.jx_ends.specs.declared.report_fault.ReportFault.TheVariants.{Memory}
 use Rattle.jx_parts.specs.declared.parts_fault.PartsFault.{PartsFault}
 use Rattle.jx_parts.specs.declared.parts_fault.PartsFault.TheVariants.{Report, NoRuns, Run, Elsewhere}
@@ -122,12 +121,6 @@ joins_apart depth number known mid left p q stream it e are next (first_is_witho
     subst (λ (f : Option ℕ). IsBehind depth f p.run.end number stream (next.bytes ++ over.0)) first (subst (IsBehind depth p.from p.run.end number stream) over.2 behind.2) in
     subst (IsJoinFault depth stream) (sym is)
     (first_without_from p.run.end at number next.bytes over.0 run.0 there (some_counted depth number known mid p are) run.2 (from_of depth q run.0 run.1 ∙ second) refl refl)
-
--- a reader that is at its end from the start on
-pub nothing_left : (known left : Option (List ℕ)) (stream : List ℕ) → known ≡ Some stream → ReadsToEnd known left [] → stream ≡ []
-nothing_left known left stream e read =
-    let over = left_over known stream [] left e read.0 in
-    over.2 ∙ at_end left over.0 over.1 read.1
 
 -- ---- portions of the same depth that do not meet
 

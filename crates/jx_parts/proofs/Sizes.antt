@@ -1,5 +1,5 @@
 -- No record has more bytes than its depth allows.
-use Rattle.std.proofs.Common.{◌≡◌, ℕ, ◌+◌, ◌*◌, ◌<◌, ◌≤◌, List, [], ◌∷◌, ◌++◌, length, map, reverse, Option, None, Some, refl, sym, ap, ◌∙◌, arith, length-append}
+use Rattle.std.proofs.Common.{◌≡◌, ℕ, ◌+◌, ◌*◌, ◌≤◌, List, [], ◌∷◌, ◌++◌, length, map, reverse, Option, None, Some, ap, arith, length-append}
 use Rattle.std.proofs.Math.Nat.{mul-suc, mul-le-mul_left}
 use Rattle.std.proofs.lemmas.List.{length-map, length-reverse}
 use Rattle.std.specs.List.{flat_map, AllByRecursion}
@@ -7,7 +7,6 @@ use Rattle.sha2.specs.Sha256.{sha256}
 use Rattle.sha2.proofs.Facts256.{length-sha256}
 use Rattle.jx_lex.specs.declared.alphabet.lex_exit.LexExit.{LexExit}
 use Rattle.jx_lex.specs.declared.alphabet.lex_exit.LexExit.TheVariants.{State, Fault}
-use Rattle.jx_lex.specs.Ordinal.{ordinal}
 use Rattle.jx_reduce.specs.declared.forms.level.Level.{Level}
 use Rattle.jx_reduce.specs.declared.forms.ended_level.EndedLevel.{EndedLevel}
 use Rattle.jx_reduce.specs.Sound.{end_of, IsSound, IsTailOf}

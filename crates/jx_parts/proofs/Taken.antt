@@ -1,26 +1,22 @@
 -- Runs of neighbours are not refused.
-use Rattle.std.proofs.Common.{◌≡◌, ◌≢◌, ◌⊎◌, ℕ, ◌+◌, ◌^◌, ◌<◌, ◌≤◌, Bool, false, ltb, List, [], ◌∷◌, ◌++◌, length, take, drop, Option, None, Some, Result, Ok, Err, refl, sym, ap, ◌∙◌, subst, inl, inr, ⊎_elim, arith, append_assoc, append-nil, length-append}
+use Rattle.std.proofs.Common.{◌≡◌, ◌≢◌, ◌⊎◌, ℕ, ◌+◌, ◌<◌, ◌≤◌, List, [], ◌∷◌, ◌++◌, length, take, drop, Option, None, Some, Result, Ok, Err, refl, sym, ap, ◌∙◌, subst, ⊎_elim, arith, append_assoc, append-nil, length-append}
 use Rattle.std.specs.Prelude.{unwrap_or}
-use Rattle.std.proofs.lemmas.Bool.{le-ltb}
 use Rattle.std.proofs.lemmas.List.{length-map, take_at}
 use lib.Seq.{drop-append_seam, take-append_seam}
 use Rattle.std.specs.List.{concat, AllByRecursion}
 use Rattle.sha2.specs.Sha256.{sha256}
 use Rattle.sha2.proofs.Facts256.{length-sha256}
 use Rattle.jx_portion.specs.declared.record.Head.{Head}
-use Rattle.jx_portion.specs.declared.fault.RunFault.{RunFault}
-use Rattle.jx_portion.specs.declared.fault.RunFault.TheVariants.{NotARun}
 use Rattle.jx_portion.specs.Fields.{RunFields}
 use Rattle.jx_portion.specs.Portion.{structure_in, IsRun, IsSpelt}
-use Rattle.jx_portion.specs.Reading.{depth_at, head_at, record_at, tag_at}
-use Rattle.jx_portion.specs.Spelling.{head, number, run, tag}
-use Rattle.jx_portion.proofs.Laws.{length-number, number_law}
-use Rattle.jx_portion.proofs.RecordLaws.{length-head, record_again}
+use Rattle.jx_portion.specs.Reading.{head_at, record_at}
+use Rattle.jx_portion.specs.Spelling.{head, number, run}
+use Rattle.jx_portion.proofs.RecordLaws.{length-head, record_again, head_again}
 use Rattle.jx_parts.specs.declared.parts_fault.PartsFault.{PartsFault}
 use Rattle.jx_parts.specs.declared.parts_fault.PartsFault.TheVariants.{Report, NoRuns, Run, Elsewhere}
 use Rattle.jx_parts.specs.declared.parts_fault.RunRefusal.{RunRefusal}
 use Rattle.jx_parts.specs.Records.{behind, no_run, one_more, AreRuns, HoldsRuns}
-use Rattle.jx_parts.specs.Refusals.{alone, another_depth, by_end, by_head, by_record, first_without_from, misplaced, most, no_head, no_parts, no_size, unreadable, without_from, IsBehind, IsElsewhere, IsHead, IsJoinFault, IsNoHead, IsNoRecord, IsNoRun, IsOfBounds, IsRefused, IsReport, IsWholeFault}
+use Rattle.jx_parts.specs.Refusals.{alone, another_depth, by_end, by_head, by_record, first_without_from, misplaced, no_head, no_parts, no_size, unreadable, without_from, IsBehind, IsHead, IsJoinFault, IsNoHead, IsNoRecord, IsNoRun, IsOfBounds, IsRefused, IsReport, IsWholeFault}
 use Rattle.jx_parts.specs.inside.Reading.{told_size, HasItsLength}
 use Rattle.jx_parts.proofs.Heads.{spelt_told}
 use Rattle.std.specs.Io.KnownBytes.{IsAtEnd}
@@ -30,25 +26,6 @@ use Rattle.jx_parts.proofs.RecordSteps.{behind-behind, behind-none, head_kept, o
 use Rattle.jx_parts.proofs.Sizes.{spelt_small}
 
 -- ---- a record by itself
-
-tag_again : (rest : List ℕ) → tag_at (number tag ++ rest) ≡ Ok rest
-unfolding tag_at
-tag_again rest =
-    let long : ltb (length (number tag ++ rest)) 8 ≡ false = le-ltb _ _ (omega (arith, length-append (number tag) rest, length-number tag)) in
-    rw (long, number_law.again tag rest (omega arith)) refl
-
-head_again : (size depth : ℕ) (rest : List ℕ) → size < 2 ^ 64 → depth ≤ 65535 → head_at (head size depth ++ rest) ≡ Ok (record { size = size; depth = depth }, rest)
-unfolding head_at depth_at
-head_again size depth rest s d =
-    let low : ltb 65535 depth ≡ false = le-ltb _ _ d in
-    rw (
-      append_assoc (number tag ++ number size) (number depth) rest,
-      append_assoc (number tag) (number size) (number depth ++ rest),
-      tag_again (number size ++ (number depth ++ rest)),
-      number_law.again size (number depth ++ rest) s,
-      number_law.again depth rest (omega arith),
-      low,
-    ) refl
 
 -- what is spelt is read
 spelt_read : (depth : ℕ) (fields : RunFields) (bytes : List ℕ) → IsSpelt depth fields bytes → record_at bytes ≡ Ok (depth, fields)

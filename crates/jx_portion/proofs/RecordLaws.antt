@@ -1,7 +1,7 @@
 -- A record as a whole: what is read is spelt so, and what is spelt so is read.
 use Rattle.std.proofs.Common.{◌≡◌, ℕ, ◌+◌, ◌-◌, ◌/◌, ◌^◌, ◌<◌, ◌≤◌, Bool, true, false, cond, ltb, eqb, ◌||◌, List, ◌++◌, length, take, drop, Ok, Err, refl, sym, ap, subst, ◌∙◌, append_assoc, arith}
 use Rattle.std.specs.Prelude.{bytes_eq}
-use Rattle.std.proofs.lemmas.Bool.{eqb-true, ltb-false, le-ltb}
+use Rattle.std.proofs.lemmas.Bool.{eqb-true, ltb-false, le-ltb, or_parts}
 use Rattle.std.proofs.lemmas.List.{take_at, drop_at, take-append-drop, length-append, length-take}
 use Rattle.std.proofs.lemmas.Slice.Eq.{bytes_eq-Decides}
 use Rattle.sha2.specs.Sha256.{sha256}
@@ -24,10 +24,6 @@ guard_else false false d f x y e = absurd cc
 guard_last : {A : Type 0} (b : Bool) (d : RunFault) (x y : A) → cond b (Ok x) (Err d) ≡ Ok y → (b ≡ true) × (x ≡ y)
 guard_last true d x y e = (refl, cc)
 guard_last false d x y e = absurd cc
-
-or_false : (b c : Bool) → (b || c) ≡ false → (b ≡ false) × (c ≡ false)
-or_false true c e = absurd cc
-or_false false c e = (refl, e)
 
 tag_takes : (bytes rest : List ℕ) → IsBytes bytes → tag_at bytes ≡ Ok rest → (bytes ≡ number tag ++ rest) × IsBytes rest
 unfolding tag_at
@@ -72,7 +68,7 @@ head_takes bytes x bs e =
     let is : made ≡ x = ap (λ (p : ℕ × List ℕ). (record { size = b.0.0; depth = p.0 }, p.1)) same ∙ ok_is (record { size = b.0.0; depth = c.0.0 }, c.0.1) x c.2 in
     subst (λ (y : Head × List ℕ). HeadTaken bytes y) is (record { parts = e0; rest_fits = td.1; size = tb.2; depth = low })
 
-head_again : (size depth : ℕ) (rest : List ℕ) → size < 2 ^ 64 → depth ≤ 65535 → head_at (head size depth ++ rest) ≡ Ok (record { size = size; depth = depth }, rest)
+pub head_again : (size depth : ℕ) (rest : List ℕ) → size < 2 ^ 64 → depth ≤ 65535 → head_at (head size depth ++ rest) ≡ Ok (record { size = size; depth = depth }, rest)
 unfolding head_at depth_at
 head_again size depth rest s d =
     let low : ltb 65535 depth ≡ false = le-ltb _ _ d in
@@ -91,7 +87,7 @@ unfolding sealed_at
 sealed_takes bytes front rest body e h =
     let k = length bytes - 32 in
     let g = guard_err (ltb (length bytes) 32 || ltb (length rest) 32) (Malformed field.Size) (cond (bytes_eq (sha256 (take k bytes)) (drop k bytes)) (Ok (take (length rest - 32) rest)) (Err Damaged)) body h in
-    let long = or_false (ltb (length bytes) 32) (ltb (length rest) 32) g.0 in
+    let long = or_parts (ltb (length bytes) 32) (ltb (length rest) 32) g.0 in
     let enough : 32 ≤ length rest = ltb-false _ _ long.1 in
     let l = guard_last (bytes_eq (sha256 (take k bytes)) (drop k bytes)) Damaged (take (length rest - 32) rest) body g.1 in
     let digest : sha256 (take k bytes) ≡ drop k bytes = (bytes_eq-Decides (sha256 (take k bytes)) (drop k bytes)).0 l.0 in

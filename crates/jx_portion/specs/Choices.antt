@@ -11,10 +11,6 @@ use Rattle.jx_reduce.specs.declared.table.holder.Holder.TheVariants as holder
 abbrev pub flags : List Bool
 flags = false ∷ true ∷ []
 
-abbrev pub flag_number : Bool → ℕ
-flag_number false = 0
-flag_number true = 1
-
 abbrev pub kinds : List MarkKind
 kinds =
     kind.OpenArray ∷

@@ -1,5 +1,5 @@
 // Things that one byte tells apart.
-ghost use Rattle.std.specs.Prelude.{◌≡◌, ◌∷◌, ◌++◌, [], OnOk};
+ghost use Rattle.std.specs.Prelude.{◌∷◌, []};
 ghost use Rattle.jx_lex.specs.Ordinal.{all_states, ordinal};
 ghost use Rattle.jx_portion.specs.Choices.{entries, holders, holder_number, kinds, kind_number};
 ghost use Rattle.jx_portion.specs.Reading.{choice_at, flag_at, Gives};

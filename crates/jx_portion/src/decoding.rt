@@ -1,5 +1,5 @@
 // Portions from their records.
-ghost use Rattle.std.specs.Prelude.{◌≡◌, ◌++◌, ℕ, List, Option, map, IfOk, IfErr, Ok};
+ghost use Rattle.std.specs.Prelude.{◌≡◌, ℕ, List, Option, map, IfOk, IfErr, Ok};
 ghost use Rattle.std.specs.List.{AllByRecursion};
 ghost use Rattle.jx_reduce.specs.Parts.{structure_of_parts};
 ghost use Rattle.jx_reduce.specs.Sound.{IsSound};

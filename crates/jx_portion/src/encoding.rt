@@ -3,7 +3,7 @@ ghost use Rattle.std.specs.Prelude.{◌≡◌, ◌+◌, ◌≤◌, ◌<◌, ◌^
 ghost use Rattle.std.specs.List.{flat_map, AllByRecursion};
 ghost use Rattle.jx_run.specs.OutcomeRun.{IsWellFormed};
 ghost use Rattle.jx_portion.specs.Portion.{IsPortion, IsRecord};
-ghost use Rattle.jx_portion.specs.inside.Said.{fields_of, run_said, structure_said, IsSaid};
+ghost use Rattle.jx_portion.specs.inside.Said.{run_said, structure_said, IsSaid};
 ghost use Rattle.jx_portion.specs.Spelling.{head, number, run, sealed, RunFits};
 
 use crate::forms::put_structure;

@@ -1,5 +1,4 @@
 // The fields of structures and transitions.
-ghost use Rattle.std.specs.Prelude.{◌≡◌};
 ghost use Rattle.jx_portion.specs.Reading.{ended_at, exit_at, level_at, mark_at, transition_at};
 ghost use Rattle.jx_portion.specs.Spelling.{ended, exit, level, mark, transition, EndedFits, ExitFits, LevelFits, MarkFits, TransitionFits};
 

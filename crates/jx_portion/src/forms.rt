@@ -1,7 +1,7 @@
 // The structures of a run in a record.
-ghost use Rattle.std.specs.Prelude.{◌≡◌, ◌++◌, List, length, map, OnOk};
+ghost use Rattle.std.specs.Prelude.{◌≡◌, ◌++◌, OnOk};
 ghost use Rattle.jx_portion.specs.Fields.{form_fields, form_seen, rest_fields, rest_seen, structure_fields, structure_seen};
-ghost use Rattle.jx_portion.specs.Reading.{form_at, many_at, rest_at, several_at, structure_at, Gives};
+ghost use Rattle.jx_portion.specs.Reading.{form_at, rest_at, structure_at, Gives};
 ghost use Rattle.jx_portion.specs.Spelling.{form, rest, structure, FormFits, RestFits, StructureFits};
 
 use crate::choices::flag_of;

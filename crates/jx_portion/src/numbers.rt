@@ -1,5 +1,5 @@
 // Numbers in a record.
-ghost use Rattle.std.specs.Prelude.{◌≡◌, ◌≢◌, ◌<◌, ◌^◌, IfErr};
+ghost use Rattle.std.specs.Prelude.{◌≢◌, ◌<◌, ◌^◌, IfErr};
 ghost use Rattle.jx_portion.specs.Reading.{number_at, Gives};
 ghost use Rattle.jx_portion.specs.Spelling.{number};
 

@@ -1,5 +1,5 @@
 // Portions of a text.
-ghost use Rattle.std.specs.Prelude.{◌≡◌, ◌≢◌, ◌+◌, ◌≤◌, ◌<◌, ◌^◌, ◌++◌, ◌↔◌, ℕ, List, Option, None, Some, length, unwrap_or, IfOk, IfErr, IsOk, IsSome};
+ghost use Rattle.std.specs.Prelude.{◌≡◌, ◌+◌, ◌<◌, ◌^◌, ◌++◌, ◌↔◌, ℕ, List, Option, None, Some, length, unwrap_or, IfOk, IfErr, IsOk};
 ghost use Rattle.jx_run.specs.Verdict.{Judged};
 ghost use Rattle.jx_portion.specs.Portion.{end_of, start_of, IsMismatch, IsPortion, Meets};
 

@@ -1,5 +1,5 @@
 // What stands in a record, and lists of it.
-ghost use Rattle.std.specs.Prelude.{◌≡◌, ◌++◌, ℕ, List, Option, length, OnOk};
+ghost use Rattle.std.specs.Prelude.{◌≡◌, ◌++◌, ℕ, List, Option, OnOk};
 ghost use Rattle.jx_portion.specs.Reading.{many_at, optional_at, several_at, Gives};
 ghost use Rattle.jx_portion.specs.Spelling.{optional, several, AreSpelt, IfThere};
 

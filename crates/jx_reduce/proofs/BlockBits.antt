@@ -1,18 +1,9 @@
 -- Bits of the words of a block.
-use Rattle.std.proofs.Common.{◌≡◌, ℕ, ◌^◌, ◌<◌, Bool, true, false, not, refl, ap, ◌∙◌, bit_or}
+use Rattle.std.proofs.Common.{◌≡◌, ℕ, ◌^◌, ◌<◌, not, ap, ◌∙◌, bit_or}
 use Rattle.std.specs.Prelude.{◌||◌}
 use Rattle.jx_lex.specs.inside.Bits.{bit}
 use Rattle.jx_lex.proofs.Bits.{bit-or, bit-not}
 use Rattle.jx_block.proofs.WordsTell.{flip}
-
--- one of two, or of three
-pub left_of : (a b : Bool) → a ≡ true → (a || b) ≡ true
-left_of true b h = refl
-left_of false b h = absurd cc
-
-pub right_of : (a b : Bool) → b ≡ true → (a || b) ≡ true
-right_of true b h = refl
-right_of false b h = h
 
 -- the bits of two words, of three words, and of none of three
 pub bit-or_3 : (a b c k : ℕ) → bit (bit_or (bit_or a b) c) k ≡ ((bit a k || bit b k) || bit c k)

@@ -1,6 +1,7 @@
 -- What tests of offsets tell.
-use Rattle.std.proofs.Common.{◌≡◌, ℕ, List, [], ◌∷◌, refl, subst, Option, Some, None, Bool, true, false, ◌&&◌}
+use Rattle.std.proofs.Common.{◌≡◌, ℕ, List, [], ◌∷◌, refl, subst, Option, Some, None, Bool, true, ◌&&◌}
 use Rattle.std.proofs.lemmas.Option.{same_Some}
+use Rattle.std.proofs.lemmas.Bool.{and_parts, and_from}
 use Rattle.std.specs.List.{list_all}
 use Rattle.jx_reduce.specs.Form.{Form, level_of}
 use Rattle.jx_reduce.specs.Offsets.{EachIn, EndIn, FaultsIn, OffsetsIn}
@@ -9,14 +10,6 @@ use Rattle.jx_reduce.specs.declared.forms.checks.Bound.{Bound}
 use Rattle.jx_reduce.specs.declared.forms.ended_level.EndedLevel.{EndedLevel}
 use Rattle.jx_reduce.specs.declared.table.holder.Holder.TheVariants.{Array, Object, Bottom}
 use Rattle.jx_reduce.specs.declared.forms.level.Level.{Level}
-
-both : (x y : Bool) → (x && y) ≡ true → (x ≡ true) × (y ≡ true)
-both true y e = (refl, e)
-both false y e = cc
-
-and_both : (x y : Bool) → x ≡ true → y ≡ true → (x && y) ≡ true
-and_both true y e f = f
-and_both false y e f = cc
 
 from_fault : (b : Bound) (o : Option ℕ) → is_fault_in b o ≡ true → (p : ℕ) → o ≡ Some p → IsIn b p
 from_fault b None h p e = cc
@@ -27,12 +20,12 @@ to_fault b None h = refl
 to_fault b (Some p) h = h p refl
 
 from_level : (b : Bound) (f : Level) → is_level_in b f ≡ true → FaultsIn (IsIn b) f
-from_level b f h Array = from_fault b f.array (both (is_fault_in b f.array) _ (both (is_fault_in b f.array && is_fault_in b f.object) _ h).0).0
-from_level b f h Object = from_fault b f.object (both (is_fault_in b f.array) _ (both (is_fault_in b f.array && is_fault_in b f.object) _ h).0).1
-from_level b f h Bottom = from_fault b f.bottom (both (is_fault_in b f.array && is_fault_in b f.object) _ h).1
+from_level b f h Array = from_fault b f.array (and_parts (is_fault_in b f.array) _ (and_parts (is_fault_in b f.array && is_fault_in b f.object) _ h).0).0
+from_level b f h Object = from_fault b f.object (and_parts (is_fault_in b f.array) _ (and_parts (is_fault_in b f.array && is_fault_in b f.object) _ h).0).1
+from_level b f h Bottom = from_fault b f.bottom (and_parts (is_fault_in b f.array && is_fault_in b f.object) _ h).1
 
 to_level : (b : Bound) (f : Level) → FaultsIn (IsIn b) f → is_level_in b f ≡ true
-to_level b f h = and_both _ _ (and_both _ _ (to_fault b f.array (h Array)) (to_fault b f.object (h Object))) (to_fault b f.bottom (h Bottom))
+to_level b f h = and_from _ _ (and_from _ _ (to_fault b f.array (h Array)) (to_fault b f.object (h Object))) (to_fault b f.bottom (h Bottom))
 
 from_end : (b : Bound) (e : EndedLevel) → is_end_in b e ≡ true → EndIn (IsIn b) e
 from_end b e h Array = from_level b (level_of e) h Array
@@ -40,20 +33,20 @@ from_end b e h Object = from_level b (level_of e) h Object
 from_end b e h Bottom = from_level b (level_of e) h Bottom
 
 to_end : (b : Bound) (e : EndedLevel) → EndIn (IsIn b) e → is_end_in b e ≡ true
-to_end b e h = and_both _ _ (and_both _ _ (to_fault b e.array (h Array)) (to_fault b e.object (h Object))) (h Bottom e.bottom refl)
+to_end b e h = and_from _ _ (and_from _ _ (to_fault b e.array (h Array)) (to_fault b e.object (h Object))) (h Bottom e.bottom refl)
 
 from_each : {X : Type 0} (test : X → Bool) (Q : X → Type 0) (xs : List X) → ((x : X) → test x ≡ true → Q x) → list_all test xs ≡ true → EachIn Q xs
 from_each test Q [] one h = tt
-from_each test Q (x ∷ xs) one h = (one x (both (test x) _ h).0, from_each test Q xs one (both (test x) _ h).1)
+from_each test Q (x ∷ xs) one h = (one x (and_parts (test x) _ h).0, from_each test Q xs one (and_parts (test x) _ h).1)
 
 to_each : {X : Type 0} (test : X → Bool) (Q : X → Type 0) (xs : List X) → ((x : X) → Q x → test x ≡ true) → EachIn Q xs → list_all test xs ≡ true
 to_each test Q [] one h = refl
-to_each test Q (x ∷ xs) one h = and_both _ _ (one x h.0) (to_each test Q xs one h.1)
+to_each test Q (x ∷ xs) one h = and_from _ _ (one x h.0) (to_each test Q xs one h.1)
 
 pub offsets_in : (b : Bound) (r : Form) → is_form_in b r ≡ true → OffsetsIn (IsIn b) r
 offsets_in b r h =
-    let k = both (list_all (is_end_in b) r.ended && is_level_in b r.last) _ h in
-    let l = both (list_all (is_end_in b) r.ended) _ k.0 in
+    let k = and_parts (list_all (is_end_in b) r.ended && is_level_in b r.last) _ h in
+    let l = and_parts (list_all (is_end_in b) r.ended) _ k.0 in
     record {
       ended = from_each (is_end_in b) (EndIn (IsIn b)) r.ended (from_end b) l.0;
       last = from_level b r.last l.1;
@@ -62,5 +55,5 @@ offsets_in b r h =
 
 pub in_offsets : (b : Bound) (r : Form) → OffsetsIn (IsIn b) r → is_form_in b r ≡ true
 in_offsets b r h =
-    and_both _ _ (and_both _ _ (to_each (is_end_in b) (EndIn (IsIn b)) r.ended (to_end b) h.ended) (to_level b r.last h.last))
+    and_from _ _ (and_from _ _ (to_each (is_end_in b) (EndIn (IsIn b)) r.ended (to_end b) h.ended) (to_level b r.last h.last))
     (to_each (is_in b) (IsIn b) r.heights (λ p e. e) h.heights)

@@ -3,9 +3,10 @@ use Rattle.std.proofs.Common.{◌≡◌, ℕ, List, [], ◌∷◌, ◌++◌, tak
 use Rattle.std.specs.Prelude.{OnErr}
 use Rattle.std.proofs.lemmas.List.{take-append-drop}
 use Rattle.jx_reduce.specs.Read.{Reading, went, stopped, too_deep, step, read}
-use Rattle.jx_reduce.specs.KnownStack.{Known, start, HasRead, IsFault}
+use Rattle.jx_reduce.specs.KnownStack.{Known, start, HasRead, HasSeen, IsFault}
 use Rattle.jx_reduce.proofs.Readings.{read-append}
 use Rattle.jx_lex.specs.declared.alphabet.mark.Mark.{Mark}
+use Rattle.jx_lex.specs.Seen.{WantsNoMore}
 
 -- behind a fault nothing changes
 pub read-fault : (d : ℕ) (ms : List Mark) (r : Reading) → IsFault r → read d ms r ≡ r
@@ -35,3 +36,12 @@ has_read-then old new before ms d e h =
 pub on_err : {T E : Type 0} (r : Result T E) (P : Type 0) → P → OnErr r P
 on_err (Ok x) P h = tt
 on_err (Err e) P h = h
+
+-- behind a fault a known stack has seen whatever comes
+pub seen_done : (k : Known) → IsFault k.reading → WantsNoMore (λ marks ends. HasSeen marks ends k)
+seen_done k f marks more ends others seen =
+    record {
+      read = sym (read-fault k.depth more k.reading f) ∙ ap (read k.depth more) seen.read ∙ sym (read-append k.depth marks more start);
+      rest = seen.rest ++ others;
+      depth = ap (λ (es : List ℕ). es ++ others) seen.depth;
+    }

@@ -57,10 +57,6 @@ pub word_one : (x : ℕ) (r : List Holder) → x < 2 → in_word 1 x ++ r ≡ ho
 unfolding in_word
 word_one x r h = let low : x % 2 ≡ x = omega arith in rw low refl
 
-pub no_items : (xs : List ℕ) → length xs ≡ 0 → xs ≡ []
-no_items [] h = refl
-no_items (x ∷ xs) h = absurd (omega arith)
-
 -- the last container of a word leads to the full word around it
 pub refilled : (n b w : ℕ) (vs ws : List ℕ) → n ≤ 1 → (n ≡ 0 → vs ≡ []) → vs ≡ ws ++ w ∷ [] → without_top (in_word n b ++ in_words (reverse vs)) ≡ in_word 64 w ++ in_words (reverse ws)
 unfolding in_word

@@ -26,7 +26,7 @@ mod BlockBits
 mod BlockMarks
 mod BlockWalk
 mod KnownWords
-mod KnownMoves
+pub mod KnownMoves
 mod Passed
 mod OneByOne
 mod Shifts

@@ -4,10 +4,9 @@ use Rattle.std.specs.Prelude.{◌⊎◌, slice_range}
 use Rattle.std.proofs.lemmas.Bool.Decides.{nat_tests}
 use Rattle.jx_lex.specs.declared.alphabet.state.LexState.TheVariants.{Gap}
 use Rattle.jx_lex.specs.declared.alphabet.mark.Mark.{Mark}
-use Rattle.jx_lex.specs.declared.alphabet.mark.MarkKind.{MarkKind}
 use Rattle.jx_lex.specs.declared.alphabet.mark.MarkKind.TheVariants as mark
 use Rattle.jx_lex.specs.Lex.{Track, lex}
-use Rattle.jx_lex.specs.Whole.{Passes, PassesNumber, PassesLiteral, IsLiteral, is_true, is_false, is_null}
+use Rattle.jx_lex.specs.Whole.{Passes, PassesNumber}
 use Rattle.jx_lex.proofs.Keeping.{exit-then, lex-then}
 use Rattle.jx_lex.proofs.Whole.{passes-none, passes-comma, passes-colon, passes-open_array, passes-close_array, passes-open_object, passes-close_object, number-comma, number-close_array, number-close_object, number-space, number-line_feed, number-return}
 use Rattle.jx_reduce.specs.Table.{next_of, change_of, Change, same, added, removed, where_value, where_string}
@@ -75,43 +74,9 @@ takes : (e : Expect) → TakesValue e → (f : Expect) → where_value f e ≡ S
 takes e (inl h) f = ap (where_value f) h
 takes e (inr h) f = ap (where_value f) h
 
-pub takes-string : (e : Expect) → TakesValue e → where_string e ≡ Some After
-takes-string e (inl h) = ap where_string h
-takes-string e (inr h) = ap where_string h
-
 pub reads-string : (d : ℕ) (xs : List ℕ) (a b : ℕ) (e f : Expect) (s : List Holder) → Passes xs a b (record { kind = mark.String; at = a } ∷ []) → where_string e ≡ Some f
     → Reads d xs a b (went e s) (went f s)
 reads-string d xs a b e f s p h = reads-same d xs a b (record { kind = mark.String; at = a }) e f s p refl h
-
-literal-next : (kind : MarkKind) (e : Expect) (h : Holder) → IsLiteral kind → TakesValue e → next_of kind e h ≡ Some After
-literal-next mark.True e h is_true t = takes e t After
-literal-next mark.False e h is_false t = takes e t After
-literal-next mark.Null e h is_null t = takes e t After
-literal-next mark.OpenArray e h x t = elim x [ ]
-literal-next mark.CloseArray e h x t = elim x [ ]
-literal-next mark.OpenObject e h x t = elim x [ ]
-literal-next mark.CloseObject e h x t = elim x [ ]
-literal-next mark.Colon e h x t = elim x [ ]
-literal-next mark.Comma e h x t = elim x [ ]
-literal-next mark.String e h x t = elim x [ ]
-literal-next mark.Number e h x t = elim x [ ]
-
-literal-same : (kind : MarkKind) → IsLiteral kind → change_of kind ≡ same
-literal-same mark.True is_true = refl
-literal-same mark.False is_false = refl
-literal-same mark.Null is_null = refl
-literal-same mark.OpenArray x = elim x [ ]
-literal-same mark.CloseArray x = elim x [ ]
-literal-same mark.OpenObject x = elim x [ ]
-literal-same mark.CloseObject x = elim x [ ]
-literal-same mark.Colon x = elim x [ ]
-literal-same mark.Comma x = elim x [ ]
-literal-same mark.String x = elim x [ ]
-literal-same mark.Number x = elim x [ ]
-
-pub reads-literal : (d : ℕ) (xs : List ℕ) (a b : ℕ) (e : Expect) (s : List Holder) → PassesLiteral xs a b → TakesValue e → Reads d xs a b (went e s) (went After s)
-reads-literal d xs a b e s p t =
-    reads-same d xs a b (record { kind = p.kind; at = a }) e After s p.passes (literal-same p.kind p.literal) (literal-next p.kind e (top s) p.literal t)
 
 -- a number, and then a blank
 reads-number : (d : ℕ) (xs : List ℕ) (a b : ℕ) (e : Expect) (s : List Holder) → Passes xs a b (record { kind = mark.Number; at = a } ∷ []) → TakesValue e → Reads d xs a b (went e s) (went After s)

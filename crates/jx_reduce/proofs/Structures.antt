@@ -65,11 +65,6 @@ pub rising_at : (b : ℕ) (ms : List Mark) → RisingFrom 0 ms → EachIn (λ m.
 rising_at b [] r a = tt
 rising_at b (m ∷ ms) r a = (a.0, r.1)
 
--- the marks end behind where they begin
-end_low : (b : ℕ) (ms : List Mark) → RisingFrom b ms → b ≤ end_of b ms
-end_low b [] r = omega arith
-end_low b (m ∷ ms) r = let h : m.at + 1 ≤ end_of (m.at + 1) ms = end_low (m.at + 1) ms r.1 in omega (arith, h, r.0)
-
 below_end : (d b : ℕ) (t : Form) (ms : List Mark) → RisingFrom b ms → OffsetsIn (λ p. p < b) t → OffsetsIn (λ p. p < end_of b ms) (of_marks d t ms)
 below_end d b t [] r a = a
 below_end d b t (m ∷ ms) r a =

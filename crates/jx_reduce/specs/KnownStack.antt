@@ -1,5 +1,5 @@
 -- What a known stack shows: the depth, and the plain reading of the marks that it was given.
-use Rattle.std.specs.Prelude.{◌≡◌, ℕ, ◌≤◌, List, [], length, take}
+use Rattle.std.specs.Prelude.{◌≡◌, ℕ, ◌≤◌, List, [], ◌∷◌, length, take}
 use Rattle.jx_reduce.specs.Read.{Reading, went, stopped, too_deep, read}
 use Rattle.jx_reduce.specs.declared.table.expect.Expect.TheVariants.{Value}
 use Rattle.jx_lex.specs.declared.alphabet.mark.Mark.{Mark}
@@ -26,3 +26,9 @@ pub record IsPartRead (old new : Known) (marks : List Mark) : Type 0 where
   pub count : ℕ
   pub within : count ≤ length marks
   pub reading : new.reading ≡ read old.depth (take count marks) old.reading
+
+-- what it has seen of the tokens of a scan: the ends are of no account, but that they begin with the depth, which therefore stays
+pub record HasSeen (marks : List Mark) (ends : List ℕ) (stack : Known) : Type 0 where
+  pub read : HasRead marks stack
+  pub rest : List ℕ
+  pub depth : ends ≡ stack.depth ∷ rest

@@ -1,7 +1,7 @@
 -- The output leaves no choice, where a text has one tree and one verdict, and a sequence one list of answers.
 use Rattle.std.proofs.Common.{◌≡◌, ℕ, ◌<◌, List, [], ◌∷◌, ◌++◌, length, Some, Ok, Err, map, refl, sym, ap, subst, ◌∙◌, arith}
 use Rattle.std.specs.Prelude.{codes, slice_get, string_bytes}
-use Rattle.std.proofs.lemmas.List.{length-append}
+use Rattle.std.proofs.lemmas.List.{length-append, same_from_push}
 use Rattle.jx_lex.specs.declared.kind.Kind.{Kind}
 use Rattle.jx_summary.specs.declared.span.Span.{Span}
 use Rattle.jx_run.specs.declared.texts.verdict.Verdict.{Verdict}
@@ -38,16 +38,6 @@ use Rattle.jx_words.specs.Words.{line, refusal_words}
 
 no_front : {A : Type 0} (ys : List A) (y : A) → [] ≡ ys ++ y ∷ [] → ⊥
 no_front ys y e = omega (arith, ap length e, length-append ys (y ∷ []))
-
-same_snoc : {A : Type 0} (xs ys : List A) (x y : A) → xs ++ x ∷ [] ≡ ys ++ y ∷ [] → (xs ≡ ys) × (x ≡ y)
-same_snoc [] [] x y e = let same : x ≡ y = cc in (refl, same)
-same_snoc [] (b ∷ ys) x y e = let rest : [] ≡ ys ++ y ∷ [] = cc in absurd (no_front ys y rest)
-same_snoc (a ∷ xs) [] x y e = let rest : xs ++ x ∷ [] ≡ [] = cc in absurd (no_front xs x (sym rest))
-same_snoc (a ∷ xs) (b ∷ ys) x y e =
-    let first : a ≡ b = cc in
-    let rest : xs ++ x ∷ [] ≡ ys ++ y ∷ [] = cc in
-    let both = same_snoc xs ys x y rest in
-    (ap (λ c. c ∷ xs) first ∙ ap (λ zs. b ∷ zs) both.0, both.1)
 
 -- ---- what a pointer comes to
 
@@ -102,7 +92,7 @@ module _ (text : List ℕ) (tree : Tree) where
   one_lines _ _ _ _ _ _ g no_pointer (one_more {pointers = qs} m q b is) = absurd (no_front qs q g)
   one_lines _ _ _ _ _ _ g (one_more {pointers = ps} l p a is) no_pointer = absurd (no_front ps p (sym g))
   one_lines _ _ _ _ _ _ g (one_more {pointers = ps} {output = x} {exit = e} l p a is) (one_more {pointers = qs} {output = y} {exit = f} m q b it) =
-      let s = same_snoc ps qs p q g in
+      let s = same_from_push ps qs p q g in
       let both = one_lines ps qs x y e f s.0 l m in
       let same : a ≡ b = one_answer p a b is (subst (λ z. IsAnswerTo text tree z b) (sym s.1) it) in (
         ap (λ z. z ++ line (answer_words a)) both.0 ∙ ap (λ (z : PointerAnswer). y ++ line (answer_words z)) same,

@@ -13,7 +13,7 @@ use Rattle.jx_words.specs.inside.Lines.{verdict_exit, verdict_line}
 module _ (settings : Settings) (spelt : List (List ℕ)) (text : List ℕ) where
   -- as many bytes were read as there are
   pub as_long : (reader : PointerReader) → AreLookedUp settings spelt text reader → finder.end_of reader.finder ≡ length text
-  as_long reader h = omega (arith, h.fed.start, h.fed.read.count)
+  as_long reader h = omega (arith, h.fed.reading.start, h.fed.reading.read.count)
 
   pub says_refused : (refusal : Refusal) → IsVerdictBy settings text (Refused refusal)
       → TextOutput (AnswersPointers spelt settings text) settings text (verdict_line (Refused refusal)) (verdict_exit (Refused refusal))

@@ -1,8 +1,5 @@
 // An input that is read to its end and answered.
-ghost use Rattle.std.specs.Prelude.{◌≡◌, ◌≢◌, ◌<◌, ◌≤◌, ◌^◌, ◌↔◌, ◌++◌, ℕ, List, [], length, take, vec_len, false, true, OnOk, IfOk, IfErr, IsErrOf};
-ghost use Rattle.std.specs.Io.KnownBytes.{Consumes, IsAtEnd};
-ghost use Rattle.jx_run.specs.declared.texts.settings.Settings.{Settings};
-ghost use Rattle.jx_task.specs.declared.task.Task.{Task};
+ghost use Rattle.std.specs.Prelude.{◌≡◌, ◌≢◌, ◌<◌, ◌≤◌, ◌↔◌, [], vec_len, false, true, OnOk, IfOk, IfErr, IsErrOf};
 ghost use Rattle.jx_report.specs.Output.{Output};
 ghost use Rattle.jx_report.specs.Reports.{HasTooManyPieces, IsAnswered};
 ghost use Rattle.jx_report.specs.inside.Batches.{IsFilled, IsReadingOf, ReadsOn};

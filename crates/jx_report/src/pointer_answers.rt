@@ -1,5 +1,5 @@
 // What pointers into a text come to. Few are looked up while it is read, many in its index.
-ghost use Rattle.std.specs.Prelude.{◌≡◌, ◌∷◌, [], length, map, string_bytes, IfOk, IfSome};
+ghost use Rattle.std.specs.Prelude.{◌≡◌, length, map, string_bytes, IfOk};
 ghost use Rattle.jx_run.specs.declared.texts.settings.NameRule.TheVariants.{Any};
 ghost use Rattle.jx_run.specs.declared.texts.verdict.Verdict.TheVariants.{Accepted};
 ghost use Rattle.jx_index.specs.ByNames.{IsVerdictBy};
@@ -11,11 +11,10 @@ ghost use Rattle.jx_words.specs.inside.ReadPointers.{each_answer};
 use jx_answer::{Answer, TextAnswer, find_all, verdict_of_text, verdicts_by_settings_are_one};
 use jx_claim::Cutting;
 use jx_crew::{Crew, Gate};
-use jx_index::{
-    Indexed, PointerFault, find_by, find_each_by, indexes_stand_behind_fronts, look_ups_end_at_rows,
-};
+use jx_find::find_each_by;
+use jx_index::{Indexed, PointerFault, indexes_stand_behind_fronts, look_ups_end_at_rows};
 use jx_run::{NameRule, Refusal, Settings, Verdict};
-use jx_words::{PointerAnswer, answer_in, answers_in, read_pointer, read_pointers};
+use jx_words::{PointerAnswer, answers_in, read_pointers};
 use std::alloc::{AllocError, Global};
 use std::sync::Wait;
 use std::thread::Threads;
@@ -59,31 +58,8 @@ fn answers_of(
     Ok(answers)
 }
 
-/// What one pointer comes to in a text that is read once.
-fn one_pointer_answers(
-    alloc: Global,
-    settings: &Settings,
-    spelt: &str,
-    text: &[u8],
-) -> Result<Result<Vec<PointerAnswer>, Refusal>, AllocError>
-    requires { settings.now.names ≡ Any }
-    ensures { IfOk result (AreAnswersBy settings.now text.now (spelt.now ∷ [])) }
-{
-    // By the contract of this call the proof knows what row a pointer leads to.
-    look_ups_end_at_rows();
-    let read = read_pointer(spelt);
-    match find_by(alloc, text, settings, &read.pointer)? {
-        Err(refusal) => Ok(Err(refusal)),
-        Ok(found) => {
-            let mut answers = Vec::new(alloc);
-            answers.push(answer_in(read.unread, found))?;
-            Ok(Ok(answers))
-        }
-    }
-}
-
-/// What several pointers come to, in one pass for all of them.
-fn few_pointers_answers(
+/// What pointers come to, by one pass over the text for all of them.
+fn answers_in_one_pass(
     alloc: Global,
     settings: &Settings,
     pointers: &[String],
@@ -92,6 +68,7 @@ fn few_pointers_answers(
     requires { settings.now.names ≡ Any }
     ensures { IfOk result (AreAnswersBy settings.now text.now (map string_bytes pointers.now)) }
 {
+    // By the contract of this call the proof knows what row a pointer leads to.
     look_ups_end_at_rows();
     let read = read_pointers(alloc, pointers)?;
     match find_each_by(alloc, text, settings, &read.pointers)? {
@@ -141,32 +118,6 @@ fn many_pointers_answers<R: Threads + Sync, G: Gate + Sync>(
             let answers = answers_in_index(crew, &index, pointers)?;
             Ok(Ok(answers))
         }
-    }
-}
-
-/// The only one of some pointers, where there is one.
-fn only_pointer(pointers: &[String]) -> Option<&str>
-    ensures { IfSome result (λ spelt. map string_bytes pointers.now ≡ spelt.now ∷ []) }
-{
-    match pointers {
-        [pointer] => Some(pointer.as_str()),
-        _ => None,
-    }
-}
-
-/// What one pointer or several come to, by one pass over the text.
-fn answers_in_one_pass(
-    alloc: Global,
-    settings: &Settings,
-    pointers: &[String],
-    text: &[u8],
-) -> Result<Result<Vec<PointerAnswer>, Refusal>, AllocError>
-    requires { settings.now.names ≡ Any }
-    ensures { IfOk result (AreAnswersBy settings.now text.now (map string_bytes pointers.now)) }
-{
-    match only_pointer(pointers) {
-        Some(pointer) => one_pointer_answers(alloc, settings, pointer, text),
-        None => few_pointers_answers(alloc, settings, pointers, text),
     }
 }
 

@@ -1,4 +1,4 @@
-ghost use Rattle.std.specs.Prelude.{◌≡◌, ◌≢◌, ◌<◌, ◌≤◌, ◌^◌, ◌↔◌, true, false, IfOk, IfErr, IsErrOf};
+ghost use Rattle.std.specs.Prelude.{◌≡◌, ◌≢◌, ◌<◌, ◌≤◌, ◌↔◌, true, false, IfOk, IfErr, IsErrOf};
 ghost use Rattle.jx_report.specs.Reports.{Reports, ReportsInPart, HasTooManyPieces};
 
 use crate::answering::answer_to_input;

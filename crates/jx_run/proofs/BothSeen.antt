@@ -22,7 +22,8 @@ use Rattle.jx_run.specs.Whole.{verdict_from}
 use Rattle.jx_run.specs.declared.texts.verdict.Verdict.TheVariants as verdict
 use Rattle.jx_run.proofs.LawProofs.{Verdicts}
 use Rattle.jx_lex.specs.declared.alphabet.mark.MarkKind.TheVariants as kind
-use Rattle.jx_run.proofs.ReaderSteps.{seen_done, stuck}
+use Rattle.jx_reduce.proofs.KnownMoves.{seen_done}
+use Rattle.jx_run.proofs.ReaderSteps.{stuck}
 use Rattle.jx_run.proofs.RunVerdict.{same_verdict}
 
 -- behind a fault every reading is one

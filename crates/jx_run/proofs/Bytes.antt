@@ -9,7 +9,7 @@ use Rattle.jx_reduce.specs.declared.table.expect.Expect.{Expect}
 use Rattle.jx_reduce.specs.declared.table.expect.Expect.TheVariants as expect
 use Rattle.jx_reduce.specs.declared.table.holder.Holder.{Holder}
 use Rattle.jx_reduce.specs.declared.table.holder.Holder.TheVariants as holder
-use Rattle.jx_run.proofs.Completion.{finish, fill, shut, completion}
+use Rattle.jx_run.specs.inside.Closing.{finish, fill, shut, completion}
 
 abbrev are_bytes : List ℕ → Bool
 are_bytes [] = true

@@ -15,6 +15,7 @@ use Rattle.jx_reduce.specs.declared.table.holder.Holder.TheVariants as holder
 use Rattle.jx_reduce.specs.Read.{top}
 use Rattle.jx_run.specs.inside.Turns.{Turn, wrong, on, enter, leave, turn}
 use Rattle.jx_run.specs.Reading.{TextReading, went, stopped, too_deep, and_then}
+use Rattle.jx_run.specs.inside.Closing.{finish, fill, shut, completion}
 use Rattle.jx_run.proofs.Fused.{after_turn, run, after_mark, in_next}
 use Rattle.jx_run.proofs.FromGrammar.{Inside, stays, step, run-inside}
 use Rattle.jx_run.proofs.ToGrammar.{Accepted, accepted}
@@ -87,40 +88,6 @@ entered holder.Bottom o q p = q
 
 -- ---- fixed bytes for a state, for an expectation, and the closes of the open list
 
-abbrev pub finish : LexState → List ℕ
-finish state.Gap = []
-finish state.Str = 0x22 ∷ []
-finish state.Esc = 0x6e ∷ 0x22 ∷ []
-finish state.Hex4 = 0x30 ∷ 0x30 ∷ 0x30 ∷ 0x30 ∷ 0x22 ∷ []
-finish state.Hex3 = 0x30 ∷ 0x30 ∷ 0x30 ∷ 0x22 ∷ []
-finish state.Hex2 = 0x30 ∷ 0x30 ∷ 0x22 ∷ []
-finish state.Hex1 = 0x30 ∷ 0x22 ∷ []
-finish state.Tail1 = 0x80 ∷ 0x22 ∷ []
-finish state.Tail2 = 0x80 ∷ 0x80 ∷ 0x22 ∷ []
-finish state.Tail3 = 0x80 ∷ 0x80 ∷ 0x80 ∷ 0x22 ∷ []
-finish state.AfterE0 = 0xa0 ∷ 0x80 ∷ 0x22 ∷ []
-finish state.AfterEd = 0x80 ∷ 0x80 ∷ 0x22 ∷ []
-finish state.AfterF0 = 0x90 ∷ 0x80 ∷ 0x80 ∷ 0x22 ∷ []
-finish state.AfterF4 = 0x80 ∷ 0x80 ∷ 0x80 ∷ 0x22 ∷ []
-finish state.Minus = 0x30 ∷ 0x20 ∷ []
-finish state.Zero = 0x20 ∷ []
-finish state.Int = 0x20 ∷ []
-finish state.Dot = 0x30 ∷ 0x20 ∷ []
-finish state.Frac = 0x20 ∷ []
-finish state.E = 0x30 ∷ 0x20 ∷ []
-finish state.ESign = 0x30 ∷ 0x20 ∷ []
-finish state.Exp = 0x20 ∷ []
-finish state.T = 0x72 ∷ 0x75 ∷ 0x65 ∷ []
-finish state.Tr = 0x75 ∷ 0x65 ∷ []
-finish state.Tru = 0x65 ∷ []
-finish state.F = 0x61 ∷ 0x6c ∷ 0x73 ∷ 0x65 ∷ []
-finish state.Fa = 0x6c ∷ 0x73 ∷ 0x65 ∷ []
-finish state.Fal = 0x73 ∷ 0x65 ∷ []
-finish state.Fals = 0x65 ∷ []
-finish state.N = 0x75 ∷ 0x6c ∷ 0x6c ∷ []
-finish state.Nu = 0x6c ∷ 0x6c ∷ []
-finish state.Nul = 0x6c ∷ []
-
 finishes : (s : LexState) → Inside s (finish s) state.Gap
 unfolding class_at as_gap
 finishes state.Gap = stays
@@ -155,23 +122,6 @@ finishes state.Fals = (step refl refl stays)
 finishes state.N = (step refl refl (step refl refl (step refl refl stays)))
 finishes state.Nu = (step refl refl (step refl refl stays))
 finishes state.Nul = (step refl refl stays)
-
-abbrev pub fill : Expect → List ℕ
-fill expect.Value = 0x30 ∷ 0x20 ∷ []
-fill expect.ArrayFirst = 0x30 ∷ 0x20 ∷ []
-fill expect.ObjectFirst = 0x22 ∷ 0x22 ∷ 0x3a ∷ 0x30 ∷ 0x20 ∷ []
-fill expect.Name = 0x22 ∷ 0x22 ∷ 0x3a ∷ 0x30 ∷ 0x20 ∷ []
-fill expect.Colon = 0x3a ∷ 0x30 ∷ 0x20 ∷ []
-fill expect.After = []
-
-abbrev pub shut : List Holder → List ℕ
-shut [] = []
-shut (holder.Array ∷ o) = 0x5d ∷ shut o
-shut (holder.Object ∷ o) = 0x7d ∷ shut o
-shut (holder.Bottom ∷ o) = []
-
-abbrev pub completion : LexState → Expect → List Holder → List ℕ
-completion s e o = finish s ++ (fill e ++ shut o)
 
 module _ (limit : ℕ) where
   after_turn-then : (at : ℕ) (o : List Holder) (t : Turn) (f g : Expect → List Holder → TextReading) (k : LexState → Expect → List Holder → TextReading)

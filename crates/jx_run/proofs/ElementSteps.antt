@@ -17,11 +17,12 @@ use Rattle.jx_run.specs.OutcomeRun.{outcome_span}
 use Rattle.jx_run.specs.Text.{IsDocument}
 use Rattle.jx_run.specs.Tree.{Tree, span}
 use Rattle.jx_run.specs.Unclosed.{is_open, last_open, ends_open}
-use Rattle.jx_run.specs.Verdict.{Judged, a_text}
+use Rattle.jx_run.specs.Verdict.{Judged}
 use Rattle.jx_run.proofs.OpenEnds.{last_open-append, element_shows}
 use Rattle.jx_run.proofs.Parts.{unmarked-before}
 use Rattle.jx_run.proofs.PartedJoins.{AllZip-append}
 use Rattle.jx_run.proofs.SeqReading.{one_reading, no_reading, has, has_not}
+use Rattle.jx_run.proofs.VerdictLaws.{tree_in}
 
 -- ---- the last byte
 
@@ -55,9 +56,6 @@ text_told p limit low j tree d true h =
     (low, record { tree = tree; accepted = record { judged = j; is_text = d }; unclosed = (element_shows p limit tree d).1 (sym h) })
 text_told p limit low j tree d false h =
     (low, record { tree = tree; accepted = record { judged = j; is_text = d }; closed = λ u. not_true (h ∙ (element_shows p limit tree d).0 u) })
-
-tree_in : {at limit : ℕ} {bytes : List ℕ} → Judged at bytes limit Accepted → (tree : Tree) × IsDocument at bytes limit tree
-tree_in (a_text {tree = tree} d) = (tree, d)
 
 pub verdict_told : (p : Part) (limit : ℕ) (v : Verdict) (open_ended : Bool) → 0 < p.at → Judged p.at p.bytes limit v → open_ended ≡ ends_open p.bytes → IsVerdictOn p limit (told v open_ended)
 verdict_told p limit Accepted open_ended low j h = let t = tree_in j in text_told p limit low j t.0 t.1 open_ended h

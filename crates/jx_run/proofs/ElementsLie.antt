@@ -7,6 +7,7 @@ use Rattle.jx_run.specs.declared.texts.settings.FrontMark.{FrontMark}
 use Rattle.jx_run.specs.declared.texts.settings.FrontMark.TheVariants as on_mark
 use Rattle.jx_run.specs.Elements.{Part, part, is_separator, before_separator, after_separators, parts, has_bytes, filled, elements}
 use Rattle.jx_run.specs.MarkAlone.{elements_by, is_mark_alone, without_mark}
+use Rattle.jx_run.proofs.Moves.{before-short}
 
 -- these are the bytes of the text that the part says
 pub record LiesIn (text : List ℕ) (p : Part) : Type 0 where
@@ -21,14 +22,6 @@ before-is_front (b ∷ bytes) = pick (is_separator b) (before-is_front bytes)
         → take (length (cond m [] (b ∷ before_separator bytes))) (b ∷ bytes) ≡ cond m [] (b ∷ before_separator bytes)
     pick true h = refl
     pick false h = ap (λ t. b ∷ t) h
-
-before-short : (bytes : List ℕ) → length (before_separator bytes) ≤ length bytes
-before-short [] = omega arith
-before-short (b ∷ bytes) = pick (is_separator b) (before-short bytes)
-  where
-    pick : (m : Bool) → length (before_separator bytes) ≤ length bytes → length (cond m [] (b ∷ before_separator bytes)) ≤ suc (length bytes)
-    pick true h = omega arith
-    pick false h = omega arith
 
 pub first_lies : (text : List ℕ) (at : ℕ) (bytes : List ℕ) → drop at text ≡ bytes → at ≤ length text → LiesIn text (part at (before_separator bytes))
 first_lies text at bytes h low =

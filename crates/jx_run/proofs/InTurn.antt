@@ -2,7 +2,7 @@
 use Rattle.std.proofs.Common.{◌≡◌, ℕ, suc, ◌+◌, ◌-◌, ◌<◌, ◌≤◌, List, [], ◌∷◌, ◌++◌, length, drop, refl, sym, ◌∙◌, ap, subst, arith, inl, inr, Option, Some, None, Bool, true, false, cond}
 use Rattle.std.specs.Prelude.{◌==◌}
 use Rattle.std.proofs.lemmas.Bool.Decides.{nat_tests}
-use Rattle.std.proofs.lemmas.List.{drop-append-le, length-drop}
+use Rattle.std.proofs.lemmas.List.{drop-append-le, length-drop, nil_from_length}
 use Rattle.std.proofs.Math.Nat.{add-suc}
 use Rattle.std.proofs.Math.Seq.{drop-append-add}
 use Rattle.jx_lex.specs.declared.alphabet.mark.Mark.{Mark}
@@ -40,11 +40,11 @@ use Rattle.jx_run.proofs.Tellings.{front_none, front_part, front_whole, none_of_
 
 -- ---- the same bytes further on
 
-abbrev moved_exit : ℕ → LexExit → LexExit
+abbrev pub moved_exit : ℕ → LexExit → LexExit
 moved_exit b (lexical.state s) = lexical.state s
 moved_exit b (lexical.fault at) = lexical.fault (b + at)
 
-abbrev moved : ℕ → Track → Track
+abbrev pub moved : ℕ → Track → Track
 moved b t = record { marks = moved_marks b t.marks; ends = moved_ends b t.ends; exit = moved_exit b t.exit }
 
 marks_moved : (k : Option MarkKind) (b at : ℕ) (ms : List Mark) → with_mark k (b + at) (moved_marks b ms) ≡ moved_marks b (with_mark k at ms)
@@ -65,7 +65,7 @@ next_moved : (n : Option LexState) (b at : ℕ) (f g : LexState → Track) → (
 next_moved None b at f g h = refl
 next_moved (Some s) b at f g h = h s
 
-lex_moved : (b : ℕ) (s : LexState) (at : ℕ) (xs : List ℕ) → lex s (b + at) xs ≡ moved b (lex s at xs)
+pub lex_moved : (b : ℕ) (s : LexState) (at : ℕ) (xs : List ℕ) → lex s (b + at) xs ≡ moved b (lex s at xs)
 unfolding lex
 lex_moved b s at [] = refl
 lex_moved b s at (x ∷ xs) =
@@ -126,10 +126,6 @@ behind two limit at b bytes slice (reads (too_deep i)) base is goes = absurd cc
 behind two limit at b bytes slice (reads (went s e o)) base is goes =
     let same : read_text limit at bytes ≡ went s e o = cc in
     follows_exit two at b bytes slice s base (exit_is limit at bytes s e o same)
-
-no_byte : (xs : List ℕ) → length xs ≡ 0 → xs ≡ []
-no_byte [] e = refl
-no_byte (x ∷ xs) e = absurd (omega (arith, e))
 
 few : (bytes : List ℕ) → agreed bytes byte_order_mark ≤ 3
 few [] = omega arith
@@ -196,7 +192,7 @@ in_part bytes slice other long = subst (λ (n : ℕ). Follows (tokens_by on_mark
         pick : (x : Bool) → (n == 0) ≡ x → tokens_by on_mark.Ignored bytes ≡ no_tokens
         pick true q =
             let e : n ≡ 0 = grind (arith, nat_tests) in
-            tokens_bare bytes (long ∙ e) ∙ ap (lex state.Gap 0) (no_byte bytes e) ∙ none_of_none
+            tokens_bare bytes (long ∙ e) ∙ ap (lex state.Gap 0) (nil_from_length bytes e) ∙ none_of_none
         pick false q = let some : n ≡ 0 → ⊥ = grind (arith, nat_tests) in tokens_part bytes other (λ e. some (sym long ∙ e))
 
     go : (x y : Bool) → (count == 3) ≡ x → (count == 0) ≡ y → Follows (tokens_by on_mark.Ignored (bytes ++ slice)) (tokens_by on_mark.Ignored bytes) (length bytes) (track_of (in_front n) slice)
@@ -210,7 +206,7 @@ in_part bytes slice other long = subst (λ (n : ℕ). Follows (tokens_by on_mark
     go false true q r =
         let e : count ≡ 0 = grind (arith, nat_tests) in
         let z : n ≡ 0 = omega (arith, e) in
-        let same : bytes ++ slice ≡ slice = ap (λ (xs : List ℕ). xs ++ slice) (no_byte bytes z) in
+        let same : bytes ++ slice ≡ slice = ap (λ (xs : List ℕ). xs ++ slice) (nil_from_length bytes z) in
         let far : lex state.Gap 0 (bytes ++ slice) ≡ moved n (lex state.Gap 0 slice) =
         ap (lex state.Gap 0) same ∙ ap (λ (i : ℕ). lex state.Gap i slice) (let w : 0 ≡ n + 0 = omega (arith, z) in w) ∙ lex_moved n state.Gap 0 slice in
         follows_as (tokens_bare (bytes ++ slice) (all ∙ e) ∙ far) first refl (front_none n slice count e) (record { marks = refl; ends = refl })

@@ -8,8 +8,9 @@ use Rattle.jx_run.specs.Grammar.{Value, leaf, empty_array, array, empty_object, 
 use Rattle.jx_run.specs.Text.{Begins, IsDocument}
 use Rattle.jx_run.specs.Verdict.{IsLongestBeginning, Judged}
 use Rattle.jx_run.specs.Laws.{IsNoFault, IsAccepting, IsFaultAt, IsTooDeep, MeetsNoFault, Accepts, FaultsAt, BeginsAtSomeDepth, span_of, verdict_of}
+use Rattle.jx_run.specs.inside.Closing.{completion}
 use Rattle.jx_run.proofs.Bytes.{AreBytes, completion-bytes}
-use Rattle.jx_run.proofs.Completion.{completion, went-accepted}
+use Rattle.jx_run.proofs.Completion.{went-accepted}
 use Rattle.jx_run.proofs.Endings.{Ending, goes_on, is_stopped, is_deep, ending}
 use Rattle.jx_run.proofs.Fused.{read-run}
 use Rattle.jx_run.proofs.ToGrammar.{Accepted}
@@ -140,12 +141,12 @@ completed_law law at limit t b = went_completed law at limit t (start_run limit 
 
 -- ---- spans
 
+pub value_span : {i j : ℕ} {t u : List ℕ} {tree : Tree} → Value i t j u tree → span_of tree ≡ span i j
+value_span (leaf s) = refl
+value_span (empty_array bs) = refl
+value_span (array xs) = refl
+value_span (empty_object bs) = refl
+value_span (object xs) = refl
+
 pub place_law : (text : List ℕ) (i j : ℕ) (rest : List ℕ) (tree : Tree) → Value i (drop i text) j rest tree → span_of tree ≡ span i j
-place_law text i j rest tree v = value_place v
-  where
-    value_place : {i j : ℕ} {t u : List ℕ} {x : Tree} → Value i t j u x → span_of x ≡ span i j
-    value_place (leaf s) = refl
-    value_place (empty_array bs) = refl
-    value_place (array xs) = refl
-    value_place (empty_object bs) = refl
-    value_place (object xs) = refl
+place_law text i j rest tree v = value_span v

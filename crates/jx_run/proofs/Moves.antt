@@ -18,14 +18,13 @@ use Rattle.jx_run.specs.Laws.{is_end, verdict_of}
 use Rattle.jx_run.specs.inside.Moved.{moved, moved_refusal, moved_verdict}
 use Rattle.jx_run.specs.Reading.{TextReading, went, stopped, too_deep, read, read_text}
 use Rattle.jx_run.specs.ReaderInside.{offset_at, shifted}
-use Rattle.jx_run.specs.Text.{IsDocument}
-use Rattle.jx_run.specs.Tree.{Tree, span}
+use Rattle.jx_run.specs.Tree.{span}
 use Rattle.jx_run.specs.Verdict as by
 use Rattle.jx_run.specs.Verdict.{Judged, a_text, cut_short}
 use Rattle.jx_run.proofs.LawProofs.{Verdicts}
 use Rattle.jx_run.proofs.OpenEnds.{element_shows}
 use Rattle.jx_run.proofs.ReaderSteps.{read-shift}
-use Rattle.jx_run.proofs.VerdictLaws.{one_verdict}
+use Rattle.jx_run.proofs.VerdictLaws.{one_verdict, tree_in}
 
 -- ---- readings and verdicts
 
@@ -41,7 +40,7 @@ read_text-moved limit more at bytes =
     ∙ ap (shifted more) (sym (read-shift limit at state.Gap expect.Value [] bytes))
 
 -- with offsets that may be greater than a word
-abbrev grown : ℕ → Verdict → Verdict
+abbrev pub grown : ℕ → Verdict → Verdict
 grown more Accepted = Accepted
 grown more (Refused (refusal.Stopped at)) = Refused (refusal.Stopped (more + at))
 grown more (Refused refusal.Truncated) = Refused refusal.Truncated
@@ -57,7 +56,7 @@ verdict-shifted more (went s e o) = pick (is_end s e o)
 verdict-shifted more (stopped at) = refl
 verdict-shifted more (too_deep at) = refl
 
-judged-grown : Verdicts → (limit more at : ℕ) (bytes : List ℕ) (v : Verdict) → Judged at bytes limit v → Judged (more + at) bytes limit (grown more v)
+pub judged-grown : Verdicts → (limit more at : ℕ) (bytes : List ℕ) (v : Verdict) → Judged at bytes limit v → Judged (more + at) bytes limit (grown more v)
 judged-grown law limit more at bytes v j =
     subst (λ (x : Verdict). Judged (more + at) bytes limit x)
     (ap verdict_of (read_text-moved limit more at bytes)
@@ -65,7 +64,7 @@ judged-grown law limit more at bytes v j =
     ∙ ap (grown more) (one_verdict at bytes limit (verdict_of (read_text limit at bytes)) v (law limit at bytes) j))
     (law limit (more + at) bytes)
 
-fits : (b at : ℕ) → b + at < 2 ^ 64 → offset_at b at ≡ b + at
+pub fits : (b at : ℕ) → b + at < 2 ^ 64 → offset_at b at ≡ b + at
 fits b at h = omega arith
 
 -- no fault lies past the bytes
@@ -86,9 +85,6 @@ grown_fits more at bytes limit _ r (by.stopped {k = k} n x lt b) e low =
 
 abbrev pub moved_part : ℕ → Part → Part
 moved_part more p = part (more + p.at) p.bytes
-
-tree_in : {at limit : ℕ} {bytes : List ℕ} → Judged at bytes limit Accepted → (tree : Tree) × IsDocument at bytes limit tree
-tree_in (a_text {tree = tree} d) = (tree, d)
 
 closed_moved : Verdicts → (limit more : ℕ) (p : Part) → IsClosedText p limit → IsClosedText (moved_part more p) limit
 closed_moved law limit more p h =

@@ -1,11 +1,11 @@
 -- A scan that pauses is one scan.
-use Rattle.std.proofs.Common.{◌≡◌, ℕ, ◌-◌, ◌≤◌, List, [], ◌++◌, length, drop, take, refl, sym, ap, subst, ◌∙◌, append_assoc, append-nil, arith}
+use Rattle.std.proofs.Common.{◌≡◌, ℕ, ◌-◌, ◌≤◌, List, [], ◌++◌, length, sym, ap, subst, ◌∙◌, append_assoc, append-nil}
 use Rattle.std.specs.Prelude.{slice_range}
 use Rattle.jx_lex.specs.declared.alphabet.mark.Mark.{Mark}
 use Rattle.jx_lex.specs.declared.alphabet.state.LexState.{LexState}
 use Rattle.jx_lex.specs.Lex as reading
 use Rattle.jx_lex.specs.Lex.{lex, Track, LexExit}
-use Rattle.jx_lex.specs.Seen.{GoesTo, Seen, SeesTrack, WantsNoMore}
+use Rattle.jx_lex.specs.Seen.{Seen, SeesTrack, WantsNoMore}
 use Rattle.jx_lex.specs.TwoPieces.{joined, right_of}
 
 -- a stretch is read in two parts
@@ -19,17 +19,6 @@ faulted t i right h =
     ∙ ap (λ (ms : List Mark). record { marks = ms; ends = t.ends ++ []; exit = reading.fault i }) (append-nil t.marks)
     ∙ ap (λ (es : List ℕ). record { marks = t.marks; ends = es; exit = reading.fault i }) (append-nil t.ends)
     ∙ ap (λ (e : LexExit). record { marks = t.marks; ends = t.ends; exit = e }) (sym h)
-
--- nothing is read of nothing
-pub goes_none : (xs : List ℕ) (a : ℕ) (s : LexState) (seen : Seen) → GoesTo seen seen (lex s a (slice_range xs a a)) s
-unfolding lex
-goes_none xs a s seen =
-    let none : slice_range xs a a ≡ [] = let e : a - a ≡ 0 = omega arith in ap (λ n. take n (drop a xs)) e in
-    subst (λ (bytes : List ℕ). GoesTo seen seen (lex s a bytes) s) (sym none)
-    (record {
-      seen = λ marks ends h. subst (λ (ms : List Mark). seen ms (ends ++ [])) (sym (append-nil marks)) (subst (λ (es : List ℕ). seen marks es) (sym (append-nil ends)) h);
-      exit = refl;
-    })
 
 seen_behind : (seen : Seen) (marks ms more : List Mark) (ends es others : List ℕ) → seen ((marks ++ ms) ++ more) ((ends ++ es) ++ others) → seen (marks ++ (ms ++ more)) (ends ++ (es ++ others))
 seen_behind seen marks ms more ends es others h =

@@ -25,7 +25,7 @@ use Rattle.jx_reduce.specs.declared.table.whole.Whole.TheVariants as whole
 use Rattle.jx_reduce.specs.KnownStack.{Known, IsFault, HasRead as StackHasRead, start as stack_start}
 use Rattle.jx_reduce.specs.Read.{Reading, top, read as read_marks, step as mark_step}
 use Rattle.jx_reduce.specs.Whole.{whole_of}
-use Rattle.jx_run.specs.Kept.{HasSeen}
+use Rattle.jx_reduce.specs.KnownStack.{HasSeen}
 use Rattle.jx_run.specs.Laws.{IsFaultAt}
 use Rattle.jx_run.specs.Reading.{TextReading, went, stopped, too_deep, at_exit, and_then, read, read_text}
 use Rattle.jx_run.specs.ReaderInside.{outcome_at, HasMarks, IsOfUse, offset_at, settled, shifted, IsLow, GoesOn}
@@ -195,20 +195,6 @@ pub slice_first : (n : ℕ) (xs : List ℕ) → slice_range xs 0 n ≡ take n xs
 slice_first n xs = let e : n - 0 ≡ n = omega arith in ap (λ (k : ℕ). take k xs) e
 
 -- ---- a stack that wants no more
-
-pub over : (d : ℕ) (ms : List Mark) (r : Reading) → IsFault r → read_marks d ms r ≡ r
-over d [] r f = refl
-over d (m ∷ ms) (Reading.went e o) f = absurd f
-over d (m ∷ ms) (Reading.stopped at) f = over d ms (Reading.stopped at) f
-over d (m ∷ ms) (Reading.too_deep at) f = over d ms (Reading.too_deep at) f
-
-pub seen_done : (k : Known) → IsFault k.reading → WantsNoMore (λ marks ends. HasSeen marks ends k)
-seen_done k f marks more ends others seen =
-    record {
-      read = sym (over k.depth more k.reading f) ∙ ap (read_marks k.depth more) seen.read ∙ sym (fold-append (λ reading mark. mark_step k.depth mark reading) stack_start marks more);
-      rest = seen.rest ++ others;
-      depth = ap (λ (es : List ℕ). es ++ others) seen.depth;
-    }
 
 -- ---- what a run comes to
 

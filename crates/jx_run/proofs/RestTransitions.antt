@@ -1,8 +1,6 @@
 -- Reading on into a reducer, and the transitions from the states that are reached.
-use Rattle.std.proofs.Common.{◌≡◌, ℕ, ◌+◌, ◌-◌, ◌<◌, ◌≤◌, List, [], ◌∷◌, ◌++◌, length, get_or, take, drop, max, Result, Bool, true, false, Option, Some, None, refl, sym, ap, subst, ◌∙◌, arith, All}
+use Rattle.std.proofs.Common.{◌≡◌, ℕ, ◌+◌, ◌-◌, ◌<◌, ◌≤◌, List, [], ◌∷◌, ◌++◌, length, get_or, max, Result, Bool, true, false, Option, Some, None, refl, sym, ap, subst, ◌∙◌, arith, All}
 use Rattle.std.specs.Prelude.{nat_lt, slice_get, slice_range, IfOk, IfSome, unwrap_or}
-use Rattle.std.proofs.Math.Seq.{take-add}
-use Rattle.std.proofs.lemmas.List.{drop-drop}
 use Rattle.std.proofs.lemmas.Bool.Decides.{nat_tests}
 use Rattle.std.proofs.lemmas.List.Sums.{fold-append}
 use Rattle.std.proofs.lemmas.Result.{IfOk-weaker}
@@ -33,6 +31,7 @@ use Rattle.jx_run.specs.inside.Rest.{AreRead, AreReadTransitions, HasTaken, IsRe
 use Rattle.jx_run.proofs.ReaderSteps.{stuck}
 use Rattle.jx_run.proofs.Reducing.{all_push, lex-in, lex_rises, reduced_within, rises-then, stays_there}
 use Rattle.jx_lex.proofs.StateOrder.{ordinal-low, state-at}
+use Rattle.jx_lex.proofs.Slices.{slice-split}
 use Rattle.jx_run.proofs.Transitions.{all_at, at_end, entries_are, exit_is, some_of}
 
 -- ---- a scan into a reducer
@@ -182,15 +181,8 @@ transitions_of_rest left run bytes whole long h =
 
 -- ---- the beginning and the rest
 
-pub range_split : (l : List ℕ) (a b c : ℕ) → a ≤ b → b ≤ c → slice_range l a c ≡ slice_range l a b ++ slice_range l b c
-range_split l a b c ab bc =
-    let n : c - a ≡ (b - a) + (c - b) = omega arith in
-    let m : a + (b - a) ≡ b = omega arith in
-    ap (λ k. take k (drop a l)) n ∙ take-add (b - a) (c - b) (drop a l)
-    ∙ ap (λ (r : List ℕ). take (b - a) (drop a l) ++ take (c - b) r) (drop-drop (b - a) a l ∙ ap (λ k. drop k l) m)
-
 pub whole_run : {E : Type 0} (result : Result OutcomeRunValue E) (text : List ℕ) (a b c : ℕ) (left right : OutcomeRunValue) → a ≤ b → b ≤ c
     → IfOk result (λ j. (xs ys : List ℕ) → IsOutcomeRun xs left → IsRestOf left ys right → IsOutcomeRun (xs ++ ys) j)
     → IsOutcomeRun (slice_range text a b) left → IsRestOf left (slice_range text b c) right → IfOk result (IsOutcomeRun (slice_range text a c))
 whole_run result text a b c left right low high h x y =
-    IfOk-weaker result _ _ (λ j joins. subst (λ zs. IsOutcomeRun zs j) (sym (range_split text a b c low high)) (joins (slice_range text a b) (slice_range text b c) x y)) h
+    IfOk-weaker result _ _ (λ j joins. subst (λ zs. IsOutcomeRun zs j) (sym (slice-split text a b c low high)) (joins (slice_range text a b) (slice_range text b c) x y)) h

@@ -188,15 +188,6 @@ module _ (limit : ℕ) where
         opens = refl;
       }
 
-  -- elements, and those of bytes that begin with a separator behind them
-  pub elements-behind : (at : ℕ) (bytes more : List ℕ) (done behind : List JudgedElement) → AllZip R (elements at bytes) done → StartsWithSeparator more
-      → AllZip R (elements (at + length bytes) more) behind → AllZip R (elements at (bytes ++ more)) (done ++ behind)
-  elements-behind at bytes more done behind h starts k =
-      let n = at + length bytes in
-      let first : filled (parts n more) ≡ filled (after_separators n more) = ap (λ (t : List ℕ). filled (part n t ∷ after_separators n more)) starts in
-      subst (λ ps. AllZip R ps (done ++ behind)) (sym (ap filled (parts-behind bytes more at starts) ∙ filter-append has_bytes (parts at bytes) (after_separators n more)))
-      (AllZip-append R (elements at bytes) (filled (after_separators n more)) done behind h (subst (λ ps. AllZip R ps behind) first k))
-
 -- ---- from the first separator up to behind the last one
 
 pub no_separator : (xs : List ℕ) → ((k : ℕ) → k < length xs → is_separator (get_or xs k 0) ≡ true → ⊥) → HasNoSeparator xs

@@ -1,45 +1,43 @@
 -- A known stack, and a sink that is told what the stack goes past.
-use Rattle.std.proofs.Common.{◌≡◌, ℕ, ◌+◌, ◌-◌, ◌≤◌, List, [], ◌∷◌, ◌++◌, length, drop, refl, sym, ◌∙◌, ap, subst, append_assoc, append-nil, arith, Option, Some, Bool, true, false, cond}
-use Rattle.std.specs.Prelude.{◌==◌, slice_range}
+use Rattle.std.proofs.Common.{◌≡◌, ℕ, ◌+◌, ◌-◌, ◌≤◌, List, [], ◌∷◌, ◌++◌, length, drop, refl, sym, ◌∙◌, ap, subst, append_assoc, append-nil, arith, Option, None, Some, Bool, true, false, cond}
+use Rattle.std.specs.Prelude.{◌==◌, IfSome, slice_range}
 use Rattle.std.proofs.lemmas.Bool.Decides.{nat_tests}
 use Rattle.std.proofs.lemmas.List.{length-drop, take_all}
 use Rattle.std.proofs.lemmas.List.Sums.{fold-append}
 use Rattle.jx_lex.specs.declared.alphabet.lex_exit.LexExit.{LexExit}
+use Rattle.jx_lex.specs.declared.alphabet.lex_exit.LexExit.TheVariants as exit
 use Rattle.jx_lex.specs.declared.alphabet.mark.Mark.{Mark}
 use Rattle.jx_lex.specs.declared.alphabet.mark.MarkKind.TheVariants as kind
 use Rattle.jx_lex.specs.declared.alphabet.state.LexState.{LexState}
 use Rattle.jx_lex.specs.declared.alphabet.state.LexState.TheVariants as state
 use Rattle.jx_lex.specs.Lex.{lex, Track}
-use Rattle.jx_lex.specs.Seen.{Seen, Grows, WantsNoMore}
+use Rattle.jx_lex.specs.Seen.{Awaits, AwaitsAt, Seen, Grows, WantsNoMore}
+use Rattle.jx_lex.specs.TokenStates.{in_token}
 use Rattle.jx_reduce.specs.declared.table.expect.Expect.{Expect}
 use Rattle.jx_reduce.specs.declared.table.holder.Holder.{Holder}
-use Rattle.jx_reduce.specs.KnownStack.{Known, IsFault, start}
+use Rattle.jx_reduce.specs.KnownStack.{Known, IsFault}
 use Rattle.jx_reduce.specs.Read.{Reading, step, read as read_marks}
 use Rattle.jx_reduce.specs.Whole.{whole_of}
+use Rattle.jx_reduce.proofs.KnownMoves.{read-fault}
 use Rattle.jx_run.specs.inside.Past.{HasSeenPast}
 use Rattle.jx_run.specs.Front.{agreed}
-use Rattle.jx_run.specs.Reader.{Outcome, in_front, reads, is_fault}
-use Rattle.jx_run.specs.ReaderInside.{GoesOn, IsLow, outcome_at, settled, shifted}
+use Rattle.jx_run.specs.Reader.{Outcome, reads, is_fault}
+use Rattle.jx_run.specs.ReaderInside.{GoesOn, IsLow, offset_at, outcome_at, settled, shifted}
 use Rattle.jx_run.specs.Reading.{TextReading, went, stopped, too_deep, at_exit, read}
 use Rattle.jx_run.specs.Settings.{byte_order_mark}
-use Rattle.jx_run.specs.Telling.{SeesPast, no_tokens, standing_of, track_in_front, track_of}
+use Rattle.jx_run.specs.Telling.{AwaitsBehind, SeesPast, no_tokens, standing_of, track_in_front, track_of}
 use Rattle.jx_run.specs.declared.readers.progress.Progress.{Progress}
-use Rattle.jx_run.specs.declared.readers.progress.Progress.TheVariants.{Front, Going, Stopped, TooDeep}
+use Rattle.jx_run.specs.declared.readers.progress.Progress.TheVariants.{Going, Stopped, TooDeep}
 use Rattle.jx_run.proofs.BothSeen.{no_fault_before}
-use Rattle.jx_run.proofs.ReaderSteps.{over, read-shift, slice_all, stuck}
+use Rattle.jx_run.proofs.ReaderSteps.{read-shift, slice_all, stuck}
 
 -- ---- how far a sink is told
 
-read_more : (d : ℕ) (ms more : List Mark) (r : Reading) → read_marks d (ms ++ more) r ≡ read_marks d more (read_marks d ms r)
+pub read_more : (d : ℕ) (ms more : List Mark) (r : Reading) → read_marks d (ms ++ more) r ≡ read_marks d more (read_marks d ms r)
 read_more d ms more r = fold-append (λ reading mark. step d mark reading) r ms more
 
-stays_fault : (d : ℕ) (ms : List Mark) (r : Reading) → IsFault r → IsFault (read_marks d ms r)
-stays_fault d ms r f = subst IsFault (sym (over d ms r f)) f
-
-seen_behind : (seen : Seen) (xs ms more : List Mark) (ys es others : List ℕ) → seen ((xs ++ ms) ++ more) ((ys ++ es) ++ others) → seen (xs ++ (ms ++ more)) (ys ++ (es ++ others))
-seen_behind seen xs ms more ys es others h =
-    subst (λ (zs : List Mark). seen zs (ys ++ (es ++ others))) (append_assoc xs ms more)
-    (subst (λ (zs : List ℕ). seen ((xs ++ ms) ++ more) zs) (append_assoc ys es others) h)
+pub stays_fault : (d : ℕ) (ms : List Mark) (r : Reading) → IsFault r → IsFault (read_marks d ms r)
+stays_fault d ms r f = subst IsFault (sym (read-fault d ms r f)) f
 
 module _ (old : Seen) (d : ℕ) (r : Reading) where
   -- where no mark is a fault, all was told
@@ -149,14 +147,10 @@ module _ (old : Seen) (earlier : Known) where
         record {
           depth = h.depth;
           reading =
-              h.reading ∙ sym (over earlier.depth more (read_marks earlier.depth ms earlier.reading) here)
+              h.reading ∙ sym (read-fault earlier.depth more (read_marks earlier.depth ms earlier.reading) here)
               ∙ sym (read_more earlier.depth ms more earlier.reading);
           told = told_no_more old earlier.depth earlier.reading before ms more es others h.told (λ m rest e. behind (m ∷ [])) (behind more);
         }
-
-    pub past_end_over : IsFault k.reading → (at : ℕ) → HasSeenPast old earlier before ms (es ++ at ∷ []) k
-    past_end_over fault at =
-        subst (λ (zs : List Mark). HasSeenPast old earlier before zs (es ++ at ∷ []) k) (append-nil ms) (past_over fault [] (at ∷ []))
 
     -- who wants no more has met a fault
     pub past_done : WantsNoMore (λ marks ends. HasSeenPast old earlier before marks ends k) → IsFault k.reading
@@ -174,6 +168,20 @@ pub settled_goes : (b : ℕ) (x : Option LexExit) (r : Reading) → is_fault (ou
 settled_goes b x (Reading.went e o) h f = f
 settled_goes b x (Reading.stopped at) h f = cc
 settled_goes b x (Reading.too_deep at) h f = cc
+
+-- what a sink awaits where a scan of a slice came to
+pub settled_awaits : (awaits : Awaits) (b : ℕ) (x : Option LexExit) (r : Reading) → IfSome x (AwaitsAt (λ inside. (IsFault r → ⊥) → awaits inside))
+    → (after : Outcome) → outcome_at (settled b x (whole_of r)) r ≡ Some after → AwaitsBehind awaits after
+settled_awaits awaits b (Some (exit.State s)) (Reading.went e o) turn after is = let q : reads (went s e o) ≡ after = cc in subst (AwaitsBehind awaits) q (turn (λ f. f))
+settled_awaits awaits b (Some (exit.Fault at)) (Reading.went e o) turn after is = let q : reads (stopped (offset_at b at)) ≡ after = cc in subst (AwaitsBehind awaits) q tt
+settled_awaits awaits b None (Reading.went e o) turn after is = absurd cc
+settled_awaits awaits b x (Reading.stopped at) turn after is = let q : reads (stopped (offset_at b at)) ≡ after = cc in subst (AwaitsBehind awaits) q tt
+settled_awaits awaits b x (Reading.too_deep at) turn after is = let q : reads (too_deep (offset_at b at)) ≡ after = cc in subst (AwaitsBehind awaits) q tt
+
+pub going_awaits : (awaits : Awaits) (s : LexState) (r : Reading) → (IsFault r → ⊥) → ((before : Outcome) → outcome_at (Going s) r ≡ Some before → AwaitsBehind awaits before) → awaits (in_token s)
+going_awaits awaits s (Reading.went e o) going turn = turn (reads (went s e o)) refl
+going_awaits awaits s (Reading.stopped at) going turn = absurd (going tt)
+going_awaits awaits s (Reading.too_deep at) going turn = absurd (going tt)
 
 shifted_twice : (b k : ℕ) (z : TextReading) → shifted b (shifted k z) ≡ shifted (b + k) z
 shifted_twice b k (went s e o) = refl
@@ -236,15 +244,6 @@ pub none_of_none : lex state.Gap 0 [] ≡ no_tokens
 unfolding lex
 none_of_none = refl
 
--- a stack that goes on stands where the reading does
-pub standing_is : (s : LexState) (r : Reading) (before : Outcome) (slice : List ℕ) → (IsFault r → ⊥) → outcome_at (Going s) r ≡ Some before
-    → (track_of before slice ≡ lex s 0 slice) × (standing_of before ≡ r)
-standing_is s (Reading.went e o) before slice going is =
-    let same : reads (went s e o) ≡ before = cc in
-    (ap (λ (z : Outcome). track_of z slice) (sym same), ap standing_of (sym same))
-standing_is s (Reading.stopped at) before slice going is = absurd (going tt)
-standing_is s (Reading.too_deep at) before slice going is = absurd (going tt)
-
 -- nothing is told
 pub grows_none : (seen : Seen) → Grows seen seen [] []
 grows_none seen xs ys h =
@@ -252,20 +251,6 @@ grows_none seen xs ys h =
 
 pub none_past : (seen : Seen) (d : ℕ) (r : Reading) → SeesPast seen seen d r [] []
 none_past seen d r = all_told seen d r seen [] [] (λ s f. s f) (grows_none seen)
-
-module _ (old new : Seen) (d : ℕ) (s : LexState) (r : Reading) (before : Outcome) (slice : List ℕ) (going : IsFault r → ⊥) (is : outcome_at (Going s) r ≡ Some before) where
-  whole_slice : lex s 0 (slice_range slice 0 (length slice)) ≡ track_of before slice
-  whole_slice = ap (lex s 0) (slice_all slice) ∙ sym (standing_is s r before slice going is).0
-
-  pub going_past : SeesPast old new d r (lex s 0 (slice_range slice 0 (length slice))).marks (lex s 0 (slice_range slice 0 (length slice))).ends
-      → SeesPast old new d (standing_of before) (track_of before slice).marks (track_of before slice).ends
-  going_past h =
-      subst (λ (q : Reading). SeesPast old new d q (track_of before slice).marks (track_of before slice).ends) (sym (standing_is s r before slice going is).1)
-      (subst (λ (x : Track). SeesPast old new d r x.marks x.ends) whole_slice h)
-
-  pub going_all : Grows old new (lex s 0 (slice_range slice 0 (length slice))).marks (lex s 0 (slice_range slice 0 (length slice))).ends
-      → Grows old new (track_of before slice).marks (track_of before slice).ends
-  going_all h = subst (λ (x : Track). Grows old new x.marks x.ends) whole_slice h
 
 -- behind a fault
 pub stopped_past : (seen : Seen) (d at : ℕ) (r : Reading) (before : Outcome) (slice : List ℕ) → outcome_at (Stopped at) r ≡ Some before
@@ -280,29 +265,7 @@ deep_past seen d at r before slice is =
     let same : reads (too_deep at) ≡ before = cc in
     subst (λ (z : Outcome). SeesPast seen seen d (standing_of z) (track_of z slice).marks (track_of z slice).ends) same (none_past seen d (Reading.too_deep at))
 
--- behind the first bytes of a mark
-module _ (old new : Seen) (d n : ℕ) (r : Reading) (before : Outcome) (slice : List ℕ) (fresh : r ≡ start) (is : outcome_at (Front n) r ≡ Some before) where
-  pub front_past : SeesPast old new d r (track_in_front n (n + agreed slice (drop n byte_order_mark)) slice).marks (track_in_front n (n + agreed slice (drop n byte_order_mark)) slice).ends
-      → SeesPast old new d (standing_of before) (track_of before slice).marks (track_of before slice).ends
-  front_past h =
-      let same : in_front n ≡ before = cc in
-      subst (λ (z : Outcome). SeesPast old new d (standing_of z) (track_of z slice).marks (track_of z slice).ends) same
-      (subst (λ (q : Reading). SeesPast old new d q (track_of (in_front n) slice).marks (track_of (in_front n) slice).ends) fresh h)
-
-  pub front_all : Grows old new (track_in_front n (n + agreed slice (drop n byte_order_mark)) slice).marks (track_in_front n (n + agreed slice (drop n byte_order_mark)) slice).ends
-      → Grows old new (track_of before slice).marks (track_of before slice).ends
-  front_all h =
-      let same : in_front n ≡ before = cc in
-      subst (λ (z : Outcome). Grows old new (track_of z slice).marks (track_of z slice).ends) same h
-
 module _ (n count : ℕ) (slice : List ℕ) (counted : count ≡ n + agreed slice (drop n byte_order_mark)) where
-  pub front_is : count ≡ 3 → count - n ≤ length slice
-      → lex state.Gap (count - n) (slice_range slice (count - n) (length slice)) ≡ track_in_front n (n + agreed slice (drop n byte_order_mark)) slice
-  front_is e le =
-      ap (lex state.Gap (count - n)) (rest_of slice (count - n) le)
-      ∙ ap (λ (k : ℕ). lex state.Gap (k - n) (drop (k - n) slice)) e
-      ∙ sym (front_whole n slice (n + agreed slice (drop n byte_order_mark)) (sym counted ∙ e))
-
   pub bare_is : count ≡ 0 → lex state.Gap 0 (slice_range slice 0 (length slice)) ≡ track_in_front n (n + agreed slice (drop n byte_order_mark)) slice
   bare_is e = ap (lex state.Gap 0) (slice_all slice) ∙ sym (front_none n slice (n + agreed slice (drop n byte_order_mark)) (sym counted ∙ e))
 

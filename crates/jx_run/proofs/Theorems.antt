@@ -15,10 +15,11 @@ use Rattle.jx_run.specs.Text.{Document, document, IsDocument, Begins}
 use Rattle.jx_run.specs.Verdict.{IsLongestBeginning, IsNoText, Judged}
 use Rattle.jx_run.specs.Verdict
 use Rattle.jx_run.specs.Laws.{is_end, verdict_of}
+use Rattle.jx_run.specs.inside.Closing.{completion}
 use Rattle.jx_run.proofs.Fused.{run}
 use Rattle.jx_run.proofs.FromGrammar.{value_goes, at_value, run-gaps, run-blanks, from, next, Goes}
 use Rattle.jx_run.proofs.ToGrammar.{Accepted, accepted, rest_of, RestValue, a_value, at_bottom}
-use Rattle.jx_run.proofs.Completion.{run-append, completion, went-accepted}
+use Rattle.jx_run.proofs.Completion.{run-append, went-accepted}
 use Rattle.jx_run.proofs.Lexical.{TokensAreRead}
 use Rattle.jx_run.proofs.Endings.{Ending, goes_on, is_stopped, is_deep, ending}
 

@@ -396,10 +396,6 @@ members_skip : TokensAreRead → {i j : ℕ} {t rest : List ℕ} {kids : Childre
 members_skip law (last_member bs n cs ds v es) = let s = token_start law n in subst Start (sym (ap (λ p. p.bytes) (skip_is bs (start_not_blank _ s)))) s
 members_skip law (member bs n cs ds v es xs) = let s = token_start law n in subst Start (sym (ap (λ p. p.bytes) (skip_is bs (start_not_blank _ s)))) s
 
-module _ (P : ℕ → Type 0) (Q : ℕ → Type 0) where
-  both : Enough P → Enough Q → (R : ℕ → Type 0) → ((m : ℕ) → P m → Q m → R (suc m)) → Enough R
-  both p q R h = one_more R (max p.from q.from) (λ m le. h m (p.holds m (omega arith)) (q.holds m (omega arith)))
-
 -- a name's end, and the place of the value behind the colon
 record NamePlace : Type 0 where
   end : ℕ

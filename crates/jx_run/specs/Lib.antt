@@ -17,7 +17,6 @@ pub mod Tree
 pub mod Unclosed
 pub mod Verdict
 pub mod Whole
-pub mod Kept
 pub mod Reader
 pub mod ReaderInside
 pub mod SequenceRead

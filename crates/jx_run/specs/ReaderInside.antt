@@ -25,7 +25,7 @@ outcome_at (TooDeep at) r = Some (reads (too_deep at))
 outcome_at Failed r = None
 
 abbrev pub reader_of : Inside → ReaderValue
-reader_of a = record { settings = a.settings; start = a.start; count = a.count; outcome = outcome_at a.progress a.kept.stack.reading }
+reader_of a = record { settings = a.settings; start = a.start; count = a.count; outcome = outcome_at a.progress a.stack.reading }
 
 -- fewer bytes than a byte order mark's
 abbrev pub IsCut : Progress → Type 0
@@ -63,7 +63,7 @@ pub record IsReadTo (settings : Settings) (start : ℕ) (bytes : List ℕ) (prog
 pub record IsLawful (a : Inside) : Type 0 where
   pub fits : a.start + a.count < 2 ^ 64
   pub cut : IsCut a.progress
-  pub of_use : IsOfUse a.progress a.settings.mark a.settings.depth a.kept.stack
+  pub of_use : IsOfUse a.progress a.settings.mark a.settings.depth a.stack
 
 -- an offset in a slice that stands from another offset on
 abbrev pub offset_at : ℕ → ℕ → ℕ

@@ -1,9 +1,10 @@
 -- What a sink is told of the tokens of a slice, behind what was read of a text.
-use Rattle.std.specs.Prelude.{◌≡◌, ◌==◌, ℕ, ◌+◌, ◌-◌, ◌≤◌, List, [], ◌∷◌, ◌++◌, drop, length, map, if◌then◌else◌}
+use Rattle.std.specs.Prelude.{false, ◌≡◌, ◌==◌, ℕ, ◌+◌, ◌-◌, ◌≤◌, List, [], ◌∷◌, ◌++◌, drop, length, map, if◌then◌else◌}
 use Rattle.jx_lex.specs.declared.alphabet.mark.Mark.{Mark}
 use Rattle.jx_lex.specs.declared.alphabet.state.LexState.TheVariants.{Gap}
 use Rattle.jx_lex.specs.Lex.{lex, LexExit, Track}
-use Rattle.jx_lex.specs.Seen.{Seen, Grows}
+use Rattle.jx_lex.specs.Seen.{Awaits, Seen, Grows}
+use Rattle.jx_lex.specs.TokenStates.{in_token}
 use Rattle.jx_reduce.specs.KnownStack.{start, IsFault}
 use Rattle.jx_reduce.specs.Read.{Reading, read}
 use Rattle.jx_reduce.specs.declared.table.expect.Expect.TheVariants.{Value}
@@ -41,6 +42,13 @@ standing_of (in_front n) = start
 standing_of (reads (went s e o)) = Reading.went e o
 standing_of (reads (stopped at)) = Reading.stopped at
 standing_of (reads (too_deep at)) = Reading.too_deep at
+
+-- what a sink awaits behind what the bytes before came to; behind a fault it is told nothing
+abbrev pub AwaitsBehind : Awaits → Outcome → Type 0
+AwaitsBehind awaits (in_front n) = awaits false
+AwaitsBehind awaits (reads (went s e o)) = awaits (in_token s)
+AwaitsBehind awaits (reads (stopped at)) = Unit {0}
+AwaitsBehind awaits (reads (too_deep at)) = Unit {0}
 
 -- what no byte comes to
 abbrev pub at_start : FrontMark → Outcome

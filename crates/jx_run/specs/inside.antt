@@ -1,5 +1,6 @@
 -- What the contracts of this crate's own functions cite, and no public one.
 pub mod Beside
+pub mod Closing
 pub mod Joins
 pub mod MarkedElements
 pub mod Moved

@@ -9,7 +9,7 @@ ghost use Rattle.jx_run.specs.Tree.{Tree, span};
 ghost use Rattle.jx_run.specs.Grammar.{Value};
 ghost use Rattle.jx_run.specs.Text.{Begins, IsDocument, Reads};
 ghost use Rattle.jx_run.specs.Reading.{read_text};
-ghost use Rattle.jx_run.specs.Kept.{HasSeen};
+ghost use Rattle.jx_reduce.specs.KnownStack.{HasSeen};
 ghost use Rattle.jx_run.specs.Reader.{HasRead as HasReadText, ReaderValue, read_by};
 ghost use Rattle.jx_run.specs.Elements.{elements};
 ghost use Rattle.jx_run.specs.ElementVerdict.{IsJudgedElement};

@@ -16,7 +16,7 @@ pub use laws::{
 };
 pub use readers::one_pass::{NoPause, OnePass, Pace, read_into};
 pub use readers::progress::{
-    OpenStack, Progress, progress_at_start, read_beginning, read_on, verdict_at,
+    OpenStack, Progress, progress_at_start, read_beginning, read_between, read_on, verdict_at,
 };
 pub use readers::reader::Reader;
 pub use readers::started::Started;

@@ -1,13 +1,11 @@
 -- What the bytes of an index tell.
-use Rattle.std.proofs.Common.{◌≡◌, ℕ, zero, suc, ◌+◌, ◌*◌, ◌-◌, ◌<◌, ◌≤◌, List, [], ◌∷◌, ◌++◌, length, take, drop, refl, sym, ◌∙◌, ap, subst, arith, Bool}
+use Rattle.std.proofs.Common.{◌≡◌, ℕ, zero, suc, ◌+◌, ◌*◌, ◌-◌, ◌<◌, ◌≤◌, List, [], ◌∷◌, ◌++◌, length, take, drop, refl, sym, ◌∙◌, ap, subst, arith}
 use Rattle.std.specs.Prelude.{slice_range}
 use Rattle.std.specs.Int.{w32, w64, to_le_bytes}
 use Rattle.std.specs.List.{AllByRecursion, flat_map}
 use Rattle.std.proofs.lemmas.List.{length-append, take_all}
 use Rattle.std.proofs.Math.Nat.{mul-le-mul_right, suc-mul}
 use Rattle.std.proofs.Math.Seq.{drop-append-add}
-use Rattle.jx_lex.specs.declared.alphabet.state.LexState.{LexState}
-use Rattle.jx_reduce.specs.declared.table.expect.Expect.{Expect}
 use Rattle.jx_saved.specs.declared.entry.Entry.{Entry}
 use Rattle.jx_saved.specs.Chunks.{IsCount}
 use Rattle.jx_run.specs.declared.texts.settings.Settings.{Settings}
@@ -18,10 +16,6 @@ use Rattle.jx_saved.specs.Digest.{xxh64}
 use Rattle.jx_saved.specs.Spelling.{front_flags, spelt_entry, spelt_front, spelt_index, tag}
 
 -- ---- entries
-
-pub same_entry : (e : Entry) (s : LexState) (x : Expect) (c o m : ℕ) (b n : Bool) (d : ℕ) → s ≡ e.state → x ≡ e.expect → c ≡ e.sum.closed → o ≡ e.sum.opened → m ≡ e.sum.commas → b ≡ e.begins → n ≡ e.ends → d ≡ e.digest
-    → record { state = s; expect = x; sum = record { closed = c; opened = o; commas = m }; begins = b; ends = n; digest = d } ≡ e
-same_entry e s x c o m b n d p q r t u v w y = rw (p, q, r, t, u, v, w, y) refl
 
 pub entry_long : (e : Entry) → length (spelt_entry e) ≡ 24
 entry_long e = refl

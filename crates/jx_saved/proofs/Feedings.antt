@@ -2,7 +2,7 @@
 use Rattle.std.proofs.Common.{◌≡◌, ℕ, zero, suc, ◌+◌, ◌-◌, ◌*◌, ◌<◌, ◌≤◌, List, [], ◌∷◌, ◌++◌, length, take, drop, refl, sym, ◌∙◌, ap, subst, append_assoc, append-nil, arith, Bool, true, false, Option, Some}
 use Rattle.std.specs.Prelude.{◌==◌, slice_index_or, slice_range}
 use Rattle.std.proofs.lemmas.Bool.Decides.{nat_tests}
-use Rattle.std.proofs.lemmas.List.{length-append, length-drop, length-take-le, take-append-drop}
+use Rattle.std.proofs.lemmas.List.{length-append, length-drop, length-take-le, take-append-drop, nil_from_length}
 use Rattle.std.proofs.Math.Nat.{suc-mul}
 use Rattle.std.proofs.Math.Seq.{take-add}
 use Rattle.jx_run.specs.declared.texts.settings.FrontMark.{FrontMark}
@@ -22,12 +22,8 @@ use Rattle.jx_saved.specs.Index.{AreLevels, at_top, joined_of, level}
 use Rattle.jx_saved.specs.Held.{AreAll, AreHeld, AreWhole, HeldValue, IsEntered}
 use Rattle.jx_saved.proofs.Readings.{whole_more}
 
-no_list : {A : Type 0} (xs : List A) → length xs ≡ 0 → xs ≡ []
-no_list [] e = refl
-no_list (x ∷ xs) e = absurd (omega (arith, e))
-
 pub is_none : {A : Type 0} (xs : List A) (b : Bool) → b ≡ (length xs == 0) → b ≡ true → xs ≡ []
-is_none xs b is e = no_list xs (let t : (length xs == 0) ≡ true = sym is ∙ e in grind (arith, nat_tests))
+is_none xs b is e = nil_from_length xs (let t : (length xs == 0) ≡ true = sym is ∙ e in grind (arith, nat_tests))
 
 pub is_some : {A : Type 0} (xs : List A) (b : Bool) → b ≡ (length xs == 0) → b ≡ false → 0 < length xs
 is_some xs b is e = let t : (length xs == 0) ≡ false = sym is ∙ e in grind (arith, nat_tests)
@@ -152,7 +148,7 @@ module _ (settings : Settings) (size : ℕ) (bytes slice rest : List ℕ) (n k :
           let end : n ≡ length slice = all (omega (arith, l)) in
           let d : length (drop n slice) ≡ length slice - n = length-drop n slice in
           let r : length rest ≡ length (drop n slice) = ap (λ (ys : List ℕ). length ys) (rest_is ∙ rest_of slice n within) in
-          rest_some (no_list rest (omega (arith, d, r, end)))
+          rest_some (nil_from_length rest (omega (arith, d, r, end)))
 
 -- ---- all bytes
 
@@ -185,7 +181,7 @@ none_counted settings size bytes h none all =
 -- ---- the verdict
 
 -- what is accepted has no fault
-accepted_goes : (z : Outcome) → verdict_on z ≡ verdict.Accepted → is_fault (Some z) ≡ false
+pub accepted_goes : (z : Outcome) → verdict_on z ≡ verdict.Accepted → is_fault (Some z) ≡ false
 accepted_goes (in_front n) h = refl
 accepted_goes (reads (went s e o)) h = refl
 accepted_goes (reads (stopped at)) h = absurd cc
@@ -204,4 +200,4 @@ none_verdict on_mark.Ignored limit = refl
 
 pub none_judged : (settings : Settings) (bytes : List ℕ) → length bytes ≡ 0 → JudgedBy settings 0 bytes (verdict_on (read_by settings.mark settings.depth 0 bytes)) → JudgedBy settings 0 bytes (verdict.Refused Truncated)
 none_judged settings bytes none h =
-    subst (JudgedBy settings 0 bytes) (ap (λ (xs : List ℕ). verdict_on (read_by settings.mark settings.depth 0 xs)) (no_list bytes none) ∙ none_verdict settings.mark settings.depth) h
+    subst (JudgedBy settings 0 bytes) (ap (λ (xs : List ℕ). verdict_on (read_by settings.mark settings.depth 0 xs)) (nil_from_length bytes none) ∙ none_verdict settings.mark settings.depth) h

@@ -2,9 +2,6 @@
 use Rattle.std.proofs.Common.{◌≡◌, ℕ, ◌≤◌, List, ◌++◌, length, take, sym, ◌∙◌, append_assoc}
 use Rattle.std.proofs.lemmas.List.{take_all}
 
-pub two : (o a b : List ℕ) → (o ++ a) ++ b ≡ o ++ (a ++ b)
-two o a b = append_assoc o a b
-
 pub three : (o a b c : List ℕ) → ((o ++ a) ++ b) ++ c ≡ o ++ (a ++ (b ++ c))
 three o a b c = append_assoc (o ++ a) b c ∙ append_assoc o a (b ++ c)
 

@@ -65,13 +65,13 @@ module _ (l r : Sum) where
       go (more f is) = is
 
 -- what one mark does, where something is open that was opened, and where nothing is
-close_none : (s : Sum) → s.opened ≡ 0 → closing s ≡ made (suc s.closed) 0 0
+pub close_none : (s : Sum) → s.opened ≡ 0 → closing s ≡ made (suc s.closed) 0 0
 close_none s e = let b : (s.opened == 0) ≡ true = grind (arith, nat_tests) in ap (λ (x : Bool). cond x (made (suc s.closed) 0 0) (record s { opened = s.opened - 1 })) b
 
 close_some : (s : Sum) → nat_lt 0 s.opened ≡ true → closing s ≡ made s.closed (s.opened - 1) s.commas
 close_some s e = let b : (s.opened == 0) ≡ false = grind (arith, nat_tests) in ap (λ (x : Bool). cond x (made (suc s.closed) 0 0) (record s { opened = s.opened - 1 })) b
 
-comma_none : (s : Sum) → s.opened ≡ 0 → at_comma s ≡ made s.closed s.opened (suc s.commas)
+pub comma_none : (s : Sum) → s.opened ≡ 0 → at_comma s ≡ made s.closed s.opened (suc s.commas)
 comma_none s e = let b : (s.opened == 0) ≡ true = grind (arith, nat_tests) in ap (λ (x : Bool). cond x (record s { commas = suc s.commas }) s) b
 
 comma_some : (s : Sum) → nat_lt 0 s.opened ≡ true → at_comma s ≡ s
@@ -159,7 +159,7 @@ noted_behind kind.True l r = refl
 noted_behind kind.False l r = refl
 noted_behind kind.Null l r = refl
 
-abbrev on_from : Sum → List Mark → Sum
+abbrev pub on_from : Sum → List Mark → Sum
 on_from s marks = fold (λ s mark. noted mark.kind s) s marks
 
 all_behind : (l r : Sum) (ys : List Mark) → joined l (on_from r ys) ≡ on_from (joined l r) ys

@@ -17,7 +17,9 @@ use Rattle.jx_run.specs.Reading as text
 use Rattle.jx_run.specs.declared.readers.progress.Progress.{Progress}
 use Rattle.jx_run.specs.declared.readers.progress.Progress.TheVariants.{Going}
 use Rattle.jx_run.proofs.BothSeen.{no_fault_before}
-use Rattle.jx_run.proofs.ReaderSteps.{over, stuck}
+use Rattle.jx_reduce.proofs.KnownMoves.{read-fault}
+use Rattle.jx_run.proofs.ReaderSteps.{stuck}
+use Rattle.jx_run.proofs.Tellings.{read_more}
 use Rattle.jx_saved.specs.declared.sum.Sum.{Sum}
 use Rattle.jx_saved.specs.Chunks.{expect_behind, has_some, state_behind}
 use Rattle.jx_saved.specs.Sums.{noted, nothing}
@@ -26,9 +28,6 @@ use Rattle.jx_saved.specs.inside.Tallied.{HasTallied}
 some_more : {A : Type 0} (xs : List A) (x : A) → has_some (xs ++ x ∷ []) ≡ true
 some_more [] x = refl
 some_more (y ∷ ys) x = refl
-
-read_more : (d : ℕ) (ms more : List Mark) (r : Reading) → read_marks d (ms ++ more) r ≡ read_marks d more (read_marks d ms r)
-read_more d ms more r = fold-append (λ reading mark. step d mark reading) r ms more
 
 pub tallied_new : (k : Known) → HasTallied k [] [] k nothing false false
 tallied_new k = record { depth = refl; reading = refl; told = λ going. record { sum_is = refl; begins_is = refl; ends_is = refl } }
@@ -62,7 +61,7 @@ module _ (earlier : Known) (ms : List Mark) (es : List ℕ) (k : Known) (s : Sum
   tallied_over fault more others = record {
     depth = h.depth;
     reading =
-        h.reading ∙ sym (over earlier.depth more (read_marks earlier.depth ms earlier.reading) (subst IsFault h.reading fault))
+        h.reading ∙ sym (read-fault earlier.depth more (read_marks earlier.depth ms earlier.reading) (subst IsFault h.reading fault))
         ∙ sym (read_more earlier.depth ms more earlier.reading);
     told = λ sound. absurd (sound fault);
   }

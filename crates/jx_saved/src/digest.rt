@@ -1,6 +1,6 @@
 // XXH64 with the seed 0.
 ghost use Rattle.std.specs.Prelude.{◌≡◌, ◌+◌, ◌*◌, ◌≤◌, length};
-ghost use Rattle.jx_saved.specs.Digest.{avalanche, bytes_after, half_at, lanes_after, merged, of_lanes, round, start, started, with_byte, with_half, with_stripe, with_word, word_at, words_after, xxh64, half_after};
+ghost use Rattle.jx_saved.specs.Digest.{avalanche, bytes_after, half_at, lanes_after, merged, of_lanes, round, started, with_byte, with_half, with_stripe, with_word, word_at, words_after, xxh64, half_after};
 
 const PRIME_1: u64 = 0x9E37_79B1_85EB_CA87;
 

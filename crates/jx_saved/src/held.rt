@@ -1,5 +1,5 @@
 // How far the reading of a text's chunks came.
-ghost use Rattle.std.specs.Prelude.{◌≡◌, ◌+◌, ◌-◌, ◌<◌, ◌≤◌, ◌^◌, ◌++◌, suc, [], ℕ, List, length, take, IfOk};
+ghost use Rattle.std.specs.Prelude.{◌≡◌, ◌+◌, ◌-◌, ◌<◌, ◌≤◌, ◌++◌, suc, [], ℕ, List, length, take, IfOk};
 ghost use Rattle.jx_run.specs.Settings.{JudgedBy};
 ghost use Rattle.jx_run.specs.declared.texts.settings.Settings.{Settings};
 ghost use Rattle.jx_saved.specs.Held.{AreWhole, IsEntered};

@@ -1,5 +1,5 @@
 // A chunk that is read behind all bytes before it, with what its tokens come to.
-ghost use Rattle.std.specs.Prelude.{◌≡◌, ◌+◌, ◌<◌, ◌≤◌, ◌^◌, ◌++◌, [], ℕ, List, Some, drop, false, length, slice_range, IfOk, IsErr};
+ghost use Rattle.std.specs.Prelude.{◌≡◌, ◌+◌, ◌<◌, ◌≤◌, ◌^◌, ◌++◌, [], ℕ, List, Some, drop, false, length, slice_range, IfOk};
 ghost use Rattle.jx_lex.specs.declared.alphabet.mark.Mark.{Mark};
 ghost use Rattle.jx_lex.specs.Lex.{lex};
 ghost use Rattle.jx_reduce.specs.KnownStack.{HasRead as StackHasRead, IsFault};

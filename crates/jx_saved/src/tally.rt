@@ -1,7 +1,5 @@
 // What the tokens of a chunk come to, beside the stack that knows all open containers.
 ghost use Rattle.std.specs.Prelude.{◌≡◌, [], false};
-ghost use Rattle.jx_reduce.specs.KnownStack.{IsFault};
-ghost use Rattle.jx_saved.specs.Sums.{nothing};
 ghost use Rattle.jx_saved.specs.inside.Tallied.{HasTallied};
 
 use crate::sum::Sum;
@@ -54,6 +52,8 @@ impl<E: Earlier> TokenSink for Tally<E> {
     ghost use Rattle.jx_saved.specs.inside.Tallied.{HasTallied};
 
     ghost has_seen = { λ tally marks ends. HasTallied E.stack marks ends tally.stack tally.sum tally.begins tally.ends };
+
+    ghost awaits = { λ _ _. Unit {0} };
 
     #[inline(always)]
     fn begin(&mut self, mark: Mark) -> Result<(), AllocError> {

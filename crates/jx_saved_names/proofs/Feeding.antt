@@ -1,27 +1,22 @@
 -- Slices that are fed one behind another, and the tables in the end.
 use Rattle.std.proofs.Common.{◌≡◌, ℕ, suc, ◌+◌, ◌-◌, ◌*◌, ◌<◌, ◌≤◌, List, [], ◌∷◌, ◌++◌, length, take, drop, refl, sym, ◌∙◌, ap, subst, append_assoc, append-nil, arith, false, Some}
 use Rattle.std.specs.Prelude.{slice_range}
-use Rattle.std.proofs.lemmas.List.{length-append, length-drop, take-append-drop}
+use Rattle.std.proofs.lemmas.List.{length-append, length-drop, take-append-drop, nil_from_length}
 use Rattle.std.proofs.Math.Nat.{suc-mul}
 use Rattle.std.proofs.Math.Seq.{take-add}
 use Rattle.jx_run.specs.declared.texts.settings.Settings.{Settings}
 use Rattle.jx_run.specs.declared.texts.verdict.Verdict.TheVariants as verdict
 use Rattle.jx_run.specs.Laws.{verdict_on}
-use Rattle.jx_run.specs.Reader.{Outcome, in_front, reads, is_fault, read_by}
-use Rattle.jx_run.specs.Reading.{went, stopped, too_deep}
+use Rattle.jx_run.specs.Reader.{is_fault, read_by}
 use Rattle.jx_run.proofs.Tellings.{rest_of}
 use Rattle.jx_saved.specs.Chunks.{IsCount}
-use Rattle.jx_saved.proofs.Feedings.{piece_long}
+use Rattle.jx_saved.proofs.Feedings.{piece_long, accepted_goes}
 use Rattle.jx_name_tables.specs.declared.tables.NameTables.{NameTables}
 use Rattle.jx_saved_names.specs.Fed.{HasTables}
 use Rattle.jx_saved_names.specs.declared.chunks.NamedChunks.{NamedChunks}
 use Rattle.jx_saved_names.specs.inside.Blocks.{AreBlocksOf, AreBlockTables}
 use Rattle.jx_saved_names.specs.inside.Chunks.{AreAll, AreHeld, AreRead, AreWhole}
 use Rattle.jx_saved_names.proofs.Reading.{whole_more}
-
-no_list : {A : Type 0} (xs : List A) → length xs ≡ 0 → xs ≡ []
-no_list [] e = refl
-no_list (x ∷ xs) e = absurd (omega (arith, e))
 
 -- ---- a part of a chunk is held
 
@@ -113,7 +108,7 @@ module _ (settings : Settings) (size : ℕ) (bytes slice rest : List ℕ) (n k :
           let end : n ≡ length slice = all (omega (arith, l)) in
           let d : length (drop n slice) ≡ length slice - n = length-drop n slice in
           let r : length rest ≡ length (drop n slice) = ap (λ (ys : List ℕ). length ys) (rest_is ∙ rest_of slice n within) in
-          rest_some (no_list rest (omega (arith, d, r, end)))
+          rest_some (nil_from_length rest (omega (arith, d, r, end)))
 
 -- ---- all bytes
 
@@ -137,13 +132,6 @@ all_more settings size bytes h next part some was count entered =
     (record { are = entered was.before was.whole (omega (arith, s)); counted = record { enough = omega (arith, w, s, m, c, l); fewest = omega (arith, w, s, m, c, l, some) } })
 
 -- ---- the tables
-
--- what is accepted has no fault
-accepted_goes : (z : Outcome) → verdict_on z ≡ verdict.Accepted → is_fault (Some z) ≡ false
-accepted_goes (in_front n) h = refl
-accepted_goes (reads (went s e o)) h = refl
-accepted_goes (reads (stopped at)) h = absurd cc
-accepted_goes (reads (too_deep at)) h = absurd cc
 
 pub tables_made : (settings : Settings) (size : ℕ) (bytes : List ℕ) (c : NamedChunks) (tables : NameTables) → verdict_on (read_by settings.mark settings.depth 0 bytes) ≡ verdict.Accepted
     → AreAll settings size bytes c → ((names : List (List (List ℕ))) → AreBlocksOf names c.blocks → AreBlockTables names tables) → HasTables settings size bytes tables

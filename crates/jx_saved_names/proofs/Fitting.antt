@@ -1,11 +1,12 @@
 -- What is kept of names fits the bytes of tables, and these are saved beside the index of their text.
-use Rattle.std.proofs.Common.{◌≡◌, ℕ, ◌≤◌, List, [], ◌∷◌, ◌++◌, length, refl, sym, ap, subst, ◌∙◌, arith, Bool, true, false, Option, Some}
+use Rattle.std.proofs.Common.{◌≡◌, ℕ, ◌≤◌, List, [], ◌∷◌, ◌++◌, length, sym, ap, subst, ◌∙◌, arith, Bool, true, false, Option, Some}
 use Rattle.std.specs.Prelude.{not}
 use Rattle.std.specs.List.{AllByRecursion}
 use Rattle.std.specs.List.Sorted.{IsPermutation}
 use Rattle.std.proofs.SliceLists.{all_by_recursion_push}
 use Rattle.std.proofs.lemmas.List.Elements.{All-from_recursion, recursion_from_All}
 use Rattle.std.proofs.lemmas.List.Sorted.{All-permutation, length_permutation}
+use Rattle.std.proofs.lemmas.List.{nil_from_length}
 use Rattle.jx_run.specs.declared.texts.settings.Settings.{Settings}
 use Rattle.jx_saved.specs.declared.index.Index.{Index}
 use Rattle.jx_saved.specs.Chunks.{IsCount}
@@ -30,17 +31,13 @@ pub more_fit : (full : Bool) (old new : List ℕ) (most : ℕ) → full ≡ fals
 more_fit true old new most room words low few was = absurd cc
 more_fit false old new most room words low few was = (omega (arith, low, few), words was.1)
 
-none_of : (keys : List ℕ) → length keys ≡ 0 → keys ≡ []
-none_of [] e = refl
-none_of (key ∷ keys) e = absurd (omega (arith, e))
-
 -- in another order
 pub sorted_fit : (kept : Bool) (keys sorted : List ℕ) → IsPermutation keys sorted → FitsKeys kept keys → FitsKeys kept sorted
 sorted_fit true keys sorted same fits =
     let long : length sorted ≡ length keys = length_permutation keys sorted same in
     let few = fits.0 in
     (omega (arith, long, few), recursion_from_All IsWord sorted (All-permutation IsWord keys sorted same (All-from_recursion IsWord keys fits.1)))
-sorted_fit false keys sorted same fits = none_of sorted (length_permutation keys sorted same ∙ ap (λ (xs : List ℕ). length xs) fits)
+sorted_fit false keys sorted same fits = nil_from_length sorted (length_permutation keys sorted same ∙ ap (λ (xs : List ℕ). length xs) fits)
 
 -- ---- tables
 

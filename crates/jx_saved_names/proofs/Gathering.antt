@@ -1,19 +1,11 @@
 -- What is gathered of the names of a chunk, token by token.
-use Rattle.std.proofs.Common.{◌≡◌, ℕ, ◌+◌, ◌-◌, ◌<◌, ◌≤◌, List, [], ◌∷◌, ◌++◌, length, drop, take, map, refl, sym, ap, subst, ◌∙◌, arith, Bool, true, false, Option, None, Some}
-use Rattle.std.specs.Prelude.{◌==◌, ◌&&◌, if◌then◌else◌, is_some, slice_range}
-use Rattle.std.proofs.lemmas.List.{drop-append-le, length-append, length-drop, map-append}
+use Rattle.std.proofs.Common.{◌≡◌, ℕ, ◌+◌, ◌<◌, ◌≤◌, List, [], ◌∷◌, ◌++◌, length, drop, map, refl, sym, ap, subst, ◌∙◌, append-nil, arith, Bool, true, false, Option, None, Some}
+use Rattle.std.specs.Prelude.{◌==◌, ◌&&◌, if◌then◌else◌, slice_range}
+use Rattle.std.proofs.lemmas.List.{length-append, map-append}
 use Rattle.std.proofs.lemmas.List.Sums.{fold-append}
-use Rattle.std.proofs.Math.Seq.{drop-append-add, take-append-add}
 use Rattle.jx_lex.specs.declared.alphabet.mark.Mark.{Mark}
-use Rattle.jx_lex.specs.declared.alphabet.mark.MarkKind.{MarkKind}
-use Rattle.jx_lex.specs.declared.alphabet.mark.MarkKind.TheVariants as mark
-use Rattle.jx_reduce.specs.declared.table.expect.Expect.{Expect}
-use Rattle.jx_reduce.specs.declared.table.whole.Whole.{Whole}
-use Rattle.jx_reduce.specs.declared.table.whole.Whole.TheVariants as whole
 use Rattle.jx_reduce.specs.KnownStack.{Known}
 use Rattle.jx_reduce.specs.Read.{Reading, step, read}
-use Rattle.jx_reduce.specs.Read as marks
-use Rattle.jx_reduce.specs.Whole.{whole_of}
 use Rattle.jx_run.specs.Telling.{moved_ends, moved_mark, moved_marks}
 use Rattle.jx_run.specs.Tree.{span}
 use Rattle.jx_index.specs.Units.{units_at}
@@ -22,71 +14,21 @@ use Rattle.jx_string.specs.Texts.{string_units}
 use Rattle.jx_saved.specs.declared.sum.Sum.{Sum}
 use Rattle.jx_saved.specs.Sums.{noted, nothing, sum_of}
 use Rattle.jx_name_tables.specs.Hash.{name_hash}
-use Rattle.jx_name_tables.specs.Names.{NamesOf, none, plain, token, ended, is_behind_name, is_colon, kept, with_string}
-use Rattle.jx_saved_names.specs.declared.standing.ToldChunk.{ToldChunk}
-use Rattle.jx_saved_names.specs.inside.Chunk.{HasGathered, HoldsName, IsGatheredOf, IsTold, IsToldOf, Start}
+use Rattle.jx_name_tables.specs.Names.{NamesOf, none, plain, token, ended, is_behind_name, kept, with_string}
+use Rattle.jx_saved_names.specs.inside.Chunk.{HasGathered, HoldsName, IsGatheredOf, Start}
 
 -- ---- one mark more
-
-pub token_noted : (k : MarkKind) (s : Sum) → is_token k ≡ true → noted k s ≡ s
-token_noted mark.String s h = refl
-token_noted mark.Number s h = refl
-token_noted mark.True s h = refl
-token_noted mark.False s h = refl
-token_noted mark.Null s h = refl
-token_noted mark.Colon s h = refl
-token_noted mark.OpenArray s h = absurd cc
-token_noted mark.OpenObject s h = absurd cc
-token_noted mark.CloseArray s h = absurd cc
-token_noted mark.CloseObject s h = absurd cc
-token_noted mark.Comma s h = absurd cc
-
-pub behind_name : (r : Reading) (w : Whole) (e : Expect) (is_open : ℕ) → w ≡ whole_of r → w ≡ whole.Went e is_open → is_colon e ≡ is_behind_name r
-behind_name (marks.went x hs) w e is_open of is =
-    let same : whole.Went e is_open ≡ whole.Went x (length hs) = sym is ∙ of in
-    let first : e ≡ x = cc in
-    ap is_colon first
-behind_name (marks.stopped at) w e is_open of is = let same : whole.Went e is_open ≡ whole.Stopped at = sym is ∙ of in absurd cc
-behind_name (marks.too_deep at) w e is_open of is = let same : whole.Went e is_open ≡ whole.TooDeep at = sym is ∙ of in absurd cc
 
 kept_numbers : (b : Bool) (names : List (List ℕ)) (numbers : List ℕ) → numbers ≡ map name_hash names → (if b then numbers else []) ≡ map name_hash (if b then names else [])
 kept_numbers true names numbers h = h
 kept_numbers false names numbers h = refl
 
--- ---- parts of a text
+-- ---- names
 
-in_chunk : (before chunk : List ℕ) (i j : ℕ) → i ≤ j → j ≤ length chunk → slice_range (before ++ chunk) (length before + i) (length before + j) ≡ slice_range chunk i j
-in_chunk before chunk i j order within =
-    ap (λ (n : ℕ). take n (drop (length before + i) (before ++ chunk))) (let e : (length before + j) - (length before + i) ≡ j - i = omega (arith, order) in e)
-    ∙ ap (take (j - i)) (drop-append-add before chunk i)
-
-over_border : (before chunk : List ℕ) (at j : ℕ) → at ≤ length before → j ≤ length chunk → slice_range (before ++ chunk) at (length before + j) ≡ drop at before ++ slice_range chunk 0 j
-over_border before chunk at j low within =
-    ap (take ((length before + j) - at)) (drop-append-le at before chunk low)
-    ∙ ap (λ (n : ℕ). take n (drop at before ++ chunk)) (let e : length (drop at before) ≡ length before - at = length-drop at before in let n : (length before + j) - at ≡ length (drop at before) + j = omega (arith, e, low) in n)
-    ∙ take-append-add (drop at before) chunk j
-    ∙ ap (λ (n : ℕ). drop at before ++ take n chunk) (let e : j ≡ j - 0 = omega arith in e)
-
-string_at : (text string : List ℕ) (from to : ℕ) → slice_range text from to ≡ string → string_units string ≡ units_at text (span from to)
+-- the number of a name, by its bytes
+pub name_at : (before chunk bytes : List ℕ) (from to : ℕ) → bytes ≡ slice_range ((before ++ chunk) ++ []) from to → name_hash (string_units bytes) ≡ name_hash (units_at (before ++ chunk) (span from to))
 unfolding units_at
-string_at text string from to e = ap string_units (sym e)
-
--- the units of a name that begins before a chunk, or in it
-pub name_before : (before chunk name : List ℕ) (base from at : ℕ) → base ≡ length before → from < base → at ≤ length chunk → name ≡ drop from before
-    → name_hash (string_units (name ++ slice_range chunk 0 at)) ≡ name_hash (units_at (before ++ chunk) (span from (base + at)))
-name_before before chunk name base from at long early within held =
-    ap name_hash (string_at (before ++ chunk) (name ++ slice_range chunk 0 at) from (base + at)
-    (ap (λ (n : ℕ). slice_range (before ++ chunk) from (n + at)) long
-    ∙ over_border before chunk from at (omega (arith, early, long)) within
-    ∙ ap (λ (xs : List ℕ). xs ++ slice_range chunk 0 at) (sym held)))
-
-pub name_within : (before chunk : List ℕ) (base from at : ℕ) → base ≡ length before → base ≤ from → from - base ≤ at → at ≤ length chunk
-    → name_hash (string_units (slice_range chunk (from - base) at)) ≡ name_hash (units_at (before ++ chunk) (span from (base + at)))
-name_within before chunk base from at long late order within =
-    ap name_hash (string_at (before ++ chunk) (slice_range chunk (from - base) at) from (base + at)
-    (ap (λ (i : ℕ). slice_range (before ++ chunk) i (base + at)) (let e : from ≡ length before + (from - base) = omega (arith, long, late) in e)
-    ∙ ap (λ (i : ℕ). slice_range (before ++ chunk) (length before + (from - base)) (i + at)) long
-    ∙ in_chunk before chunk (from - base) at order within))
+name_at before chunk bytes from to is = ap (λ (xs : List ℕ). name_hash (string_units xs)) (is ∙ ap (λ (xs : List ℕ). slice_range xs from to) (append-nil (before ++ chunk)))
 
 -- ---- tokens
 
@@ -231,52 +173,25 @@ module _ (start : Start) (marks : List Mark) (ends : List ℕ) (own : List ℕ) 
       gathered = λ before long holds. other_of before long holds left is;
     }
 
-    pub has_name : (number : ℕ) (left : List ℕ) → (is_behind_name stack.reading && (sum.opened == 0)) ≡ true
-        → ((before : List ℕ) → base ≡ length before → (m.at < length before → name ≡ drop m.at before) → number ≡ name_hash (units_at (before ++ own) (span m.at (base + at))))
-        → HasGathered start marks (ends ++ at ∷ []) own base stack sum None left (numbers ++ number ∷ [])
-    has_name number left is number_is = record {
+    pub has_name : (number : ℕ) (left all : List ℕ) → all ≡ numbers ++ number ∷ [] → (is_behind_name stack.reading && (sum.opened == 0)) ≡ true
+        → ((before : List ℕ) → base ≡ length before → (m.at < base → name ≡ drop m.at before) → number ≡ name_hash (units_at (before ++ own) (span m.at (base + at))))
+        → HasGathered start marks (ends ++ at ∷ []) own base stack sum None left all
+    has_name number left all all_are is number_is = record {
       chunk_is = h.chunk_is;
       base_is = h.base_is;
       depth = h.depth;
       reading = h.reading;
       sum_is = h.sum_is;
       gathered = λ before long holds.
-          name_of before long holds number left is
-          (number_is before (h.base_is ∙ sym long) (λ low. (earlier before long holds).name_is m is_open (behind_of (is_behind_name stack.reading) (sum.opened == 0) is) low));
+          subst (IsGatheredOf before start (moved_marks base marks) (moved_ends base (ends ++ at ∷ [])) stack None left) (sym all_are)
+          (name_of before long holds number left is
+          (let b : base ≡ length before = h.base_is ∙ sym long in
+          number_is before b (λ low. (earlier before long holds).name_is m is_open (behind_of (is_behind_name stack.reading) (sum.opened == 0) is) (subst (λ (i : ℕ). m.at < i) b low))));
     }
       where
         behind_of : (a b : Bool) → (a && b) ≡ true → a ≡ true
         behind_of true b q = refl
         behind_of false b q = absurd cc
-
-  -- behind the last token
-  pub told_all : (told : ToldChunk) → told.standing.stack ≡ stack → told.standing.begun ≡ begun → told.numbers.items ≡ numbers
-      → ((m : Mark) → begun ≡ Some m → is_behind_name stack.reading ≡ true → (before : List ℕ) → base ≡ length before → (m.at < base → name ≡ drop m.at before) → told.standing.name.items ≡ drop m.at (before ++ own))
-      → IsTold start marks ends told
-  told_all told stack_is begun_is numbers_is name_is = record {
-    depth = ap (λ (k : Known). k.depth) stack_is ∙ h.depth;
-    reading =
-        ap (λ (k : Known). k.reading) stack_is ∙ h.reading
-        ∙ ap (λ (i : ℕ). read start.stack.depth (moved_marks i marks) start.stack.reading) h.base_is;
-    told_of = λ before long holds.
-        let g = h.gathered before long holds in
-        subst (λ (i : ℕ). IsToldOf before start (moved_marks i marks) (moved_ends i ends) told) h.base_is
-        (record {
-          names = g.names;
-          are = subst (λ (o : Option Mark). NamesOf (before ++ start.chunk) start.stack.depth start.stack.reading start.begun (moved_marks base marks) (moved_ends base ends) o g.names) (sym begun_is) g.are;
-          numbers_are = numbers_is ∙ g.numbers_are;
-          name_is = λ m e behind.
-              let b : base ≡ length before = h.base_is ∙ sym long in
-              let here : begun ≡ Some m = sym begun_is ∙ e in
-              let is : is_behind_name stack.reading ≡ true = ap (λ (k : Known). is_behind_name k.reading) (sym stack_is) ∙ behind in
-              name_is m here is before b (λ low. g.name_is m here is (subst (λ (i : ℕ). m.at < i) b low))
-              ∙ ap (λ (xs : List ℕ). drop m.at (before ++ xs)) h.chunk_is;
-        });
-  }
-
-pub none_of : {A : Type 0} (o : Option A) → is_some o ≡ false → o ≡ None
-none_of None h = refl
-none_of (Some x) h = absurd cc
 
 -- no token yet
 pub has_none : (start : Start) (own : List ℕ) (base : ℕ) (stack : Known) (sum : Sum) (begun : Option Mark) (name numbers : List ℕ)

@@ -1,5 +1,5 @@
 -- How long an index is.
-use Rattle.std.proofs.Common.{◌≡◌, ℕ, zero, suc, ◌+◌, ◌*◌, ◌≤◌, List, [], ◌∷◌, ◌++◌, length, take, refl, ap, ◌∙◌, append_assoc, arith}
+use Rattle.std.proofs.Common.{◌≡◌, ℕ, ◌+◌, ◌*◌, ◌≤◌, List, ◌++◌, length, refl, ap, ◌∙◌, append_assoc, arith}
 use Rattle.std.proofs.lemmas.List.{length-append}
 use Rattle.std.specs.Int.{w64, to_le_bytes}
 use Rattle.std.specs.List.{flat_map}
@@ -28,13 +28,6 @@ pub front_split : (i : Index) (rest : List ℕ) → spelt_index i ++ rest ≡ sp
 front_split i rest =
     append_assoc (spelt_front i ++ seal i) (flat_map spelt_entry i.entries.items) rest
     ∙ append_assoc (spelt_front i) (seal i) (flat_map spelt_entry i.entries.items ++ rest)
-
--- a beginning of a beginning
-pub front_of : (k n : ℕ) (xs : List ℕ) → k ≤ n → take k (take n xs) ≡ take k xs
-front_of zero n xs low = refl
-front_of (suc k) zero xs low = absurd (omega (arith, low))
-front_of (suc k) (suc n) [] low = refl
-front_of (suc k) (suc n) (x ∷ xs) low = ap (λ (ys : List ℕ). x ∷ ys) (front_of k n xs (omega (arith, low)))
 
 -- as long as what it is followed by leaves
 pub no_longer : (i : Index) (bytes rest : List ℕ) (len : ℕ) → bytes ≡ spelt_index i ++ rest → len ≡ 64 + 24 * length i.entries.items → length bytes ≤ len → length bytes ≡ length (spelt_index i)

@@ -11,6 +11,7 @@ use Rattle.jx_reduce.specs.Read.{Reading, step, read}
 use Rattle.jx_run.specs.Reader.{HasRead, Outcome, ReaderValue, is_fault, read_by}
 use Rattle.jx_run.specs.Telling.{moved_ends, moved_marks, no_tokens, tokens_by, track_of}
 use Rattle.jx_run.specs.declared.texts.settings.Settings.{Settings}
+use Rattle.jx_index.specs.inside.InTurn.{IsInTurn}
 use Rattle.jx_saved.specs.Chunks.{before, part}
 use Rattle.jx_name_tables.specs.Hash.{name_hash}
 use Rattle.jx_name_tables.specs.Named.{AreNamed, more, none, reading_before, track_at}
@@ -110,6 +111,7 @@ before_chunk c chunk = record {
 
 -- one chunk more
 module _ (settings : Settings) (size : ℕ) (bytes chunk : List ℕ) (c : NamedChunks) (was : AreWhole settings size bytes c) (fits : length chunk ≤ size) (reader : ReaderValue) (told : ToldChunk) (blocks : Blocks)
+    (turn : IsInTurn reader.outcome told.standing.begun)
     (same_settings : reader.settings ≡ c.reader.settings) (same_start : reader.start ≡ c.reader.start) (reads_on : (xs : List ℕ) → HasRead xs c.reader → HasRead (xs ++ chunk) reader)
     (faults : is_fault (Some (read_by settings.mark settings.depth 0 (bytes ++ chunk))) ≡ false → is_fault (Some (read_by settings.mark settings.depth 0 bytes)) ≡ false)
     (marks : is_fault (Some (read_by settings.mark settings.depth 0 bytes)) ≡ false
@@ -118,7 +120,7 @@ module _ (settings : Settings) (size : ℕ) (bytes chunk : List ℕ) (c : NamedC
     (counted : blocks.chunks ≡ suc c.blocks.chunks)
     (fills : (names : List (List (List ℕ))) (own : List (List ℕ)) → AreBlocksOf names c.blocks → told.numbers.items ≡ map name_hash own → AreBlocksOf (names ++ own ∷ []) blocks) where
   abbrev new : NamedChunks
-  new = record { reader = reader; standing = told.standing; blocks = blocks }
+  new = record { reader = reader; standing = told.standing; blocks = blocks; turn = turn }
 
   came : (v : ReaderValue) (xs : List ℕ) → v.settings ≡ settings → v.start ≡ 0 → HasRead xs v → v.outcome ≡ Some (read_by settings.mark settings.depth 0 xs)
   came v xs same zero_is r =

@@ -1,5 +1,5 @@
 // The names of chunks in blocks of 64, as chunk after chunk is read.
-ghost use Rattle.std.specs.Prelude.{◌≡◌, ◌%◌, ◌++◌, ◌∷◌, [], ℕ, List, length, map, IfOk, OnOk, suc, true, false};
+ghost use Rattle.std.specs.Prelude.{◌≡◌, ◌%◌, ◌++◌, ◌∷◌, [], ℕ, List, map, IfOk, OnOk, suc, true, false};
 ghost use Rattle.std.specs.List.{AllByRecursion};
 ghost use Rattle.std.specs.List.Sorted.{IsPermutation};
 ghost use Rattle.jx_name_tables.specs.Hash.{name_hash};

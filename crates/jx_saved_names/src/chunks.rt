@@ -1,11 +1,11 @@
 // The names of a text's chunks, read one behind another.
-ghost use Rattle.std.specs.Prelude.{◌≡◌, ◌+◌, ◌-◌, ◌<◌, ◌≤◌, ◌^◌, ◌++◌, suc, [], ℕ, List, Some, false, length, take, IfOk, IsErr, OnOk};
-ghost use Rattle.jx_run.specs.Reader.{HasRead, HasFailed, Outcome, is_fault};
+ghost use Rattle.std.specs.Prelude.{◌≡◌, ◌+◌, ◌-◌, ◌<◌, ◌≤◌, ◌^◌, ◌++◌, suc, [], ℕ, List, Some, false, length, take, IfOk, OnOk};
+ghost use Rattle.jx_run.specs.Reader.{HasRead, Outcome, is_fault};
 ghost use Rattle.jx_run.specs.Telling.{track_of};
 ghost use Rattle.jx_run.specs.declared.texts.settings.Settings.{Settings};
+ghost use Rattle.jx_index.specs.inside.InTurn.{IsInTurn, IsInTurn-prop};
 ghost use Rattle.jx_saved_names.specs.inside.Blocks.{FitBlocks, IsKeyCount};
 ghost use Rattle.jx_saved_names.specs.inside.Chunk.{IsTold};
-ghost use Rattle.jx_saved_names.specs.inside.Chunks.{AreRead, AreWhole};
 
 use crate::blocks::Blocks;
 use crate::on_chunk::{Before, OnChunk};
@@ -21,6 +21,8 @@ pub struct NamedChunks {
     pub reader: Reader,
     pub standing: Standing,
     pub blocks: Blocks,
+    // A token has begun just where the reader stands inside one.
+    pub ghost turn: { IsInTurn reader.outcome standing.begun } by { IsInTurn-prop reader.outcome standing.begun },
 }
 
 /// The chunks that were read, and how many bytes they have.
@@ -43,11 +45,13 @@ fn read_chunk<B: Before>(
     requires stack { standing.stack ≡ B.start.stack }
     requires begun { standing.begun ≡ B.start.begun }
     requires name { standing.name.items ≡ B.start.name }
+    requires turn { IsInTurn reader.old.outcome standing.begun }
     ensures settings { reader.new.settings ≡ reader.old.settings }
     ensures start { reader.new.start ≡ reader.old.start }
     ensures reads { OnOk result ((bytes : List ℕ) → HasRead bytes reader.old → HasRead (bytes ++ chunk.now) reader.new) }
     ensures told { IfOk result (λ told. is_fault reader.new.outcome ≡ false → (before : Outcome) → reader.old.outcome ≡ Some before
         → IsTold B.start (track_of before chunk.now).marks (track_of before chunk.now).ends told) }
+    ensures turn { IfOk result (λ told. IsInTurn reader.new.outcome told.standing.begun) }
 {
     let base = reader.end();
     let sink: OnChunk<'_, B> = OnChunk::new(alloc, chunk, base, standing);
@@ -56,6 +60,8 @@ fn read_chunk<B: Before>(
 }
 
 impl NamedChunks {
+    ghost use Rattle.jx_saved_names.specs.inside.Chunks.{AreRead, AreWhole};
+
     /// Before the first chunk.
     pub(crate) fn new(alloc: Global, settings: &Settings) -> NamedChunks
         ensures are { (size : ℕ) → AreWhole settings.now size [] result }

@@ -6,7 +6,6 @@ ghost use Rattle.jx_run.specs.declared.texts.settings.Settings.{Settings};
 ghost use Rattle.jx_run.specs.declared.texts.verdict.Verdict.TheVariants.{Accepted};
 ghost use Rattle.jx_saved.specs.declared.index.Index.{Index};
 ghost use Rattle.jx_saved.specs.Index.{IsIndexOf};
-ghost use Rattle.jx_name_tables.specs.Tables.{AreTablesOf};
 ghost use Rattle.jx_saved_names.specs.Fed.{HasFed, HasTables, IsLost};
 ghost use Rattle.jx_saved_names.specs.Saved.{FitsTable, HasItsTables};
 ghost use Rattle.jx_saved_names.specs.inside.Blocks.{FitBlocks, IsKeyCount};

@@ -1,29 +1,19 @@
 -- How an input is read batch by batch, and what its index gives.
-use Rattle.std.specs.Prelude.{Some, None, Option, Ok, Err, Result}
-use Rattle.std.proofs.Common.{◌≡◌, ℕ, Bool, List, [], ◌++◌, refl, sym, ap, ◌∙◌}
-use Rattle.std.proofs.lemmas.List.{append-nil}
-use Rattle.std.specs.Io.KnownBytes.{Appends, Consumes}
+use Rattle.std.specs.Prelude.{Option, Ok}
+use Rattle.std.proofs.Common.{ℕ, Bool, List, [], ◌++◌, refl}
+use Rattle.std.specs.Io.KnownBytes.{Consumes}
 use Rattle.std.proofs.KnownBytes.{Consumes-trans}
 use Rattle.jx_run.specs.declared.texts.settings.Settings.{Settings}
 use Rattle.jx_run.specs.declared.texts.verdict.Verdict.TheVariants.{Accepted}
 use Rattle.jx_saved_names.specs.declared.saved_text.SavedText.{SavedText}
 use Rattle.jx_saved_names.specs.Spelling.{spelt_saved}
 use Rattle.jx_ends.specs.declared.exit.Exit.TheVariants.{Good}
-use Rattle.jx_ends.specs.declared.report_fault.ReportFault.{ReportFault}
 use Rattle.jx_saved_report.specs.declared.naming.TextSaving.{TextSaving}
 use Rattle.jx_saved_report.specs.inside.Saving.{ComesToSaved, HasReadOn, IsTextSavingOf}
 use Rattle.jx_saved_report.specs.Output.{IndexOutput}
 
 abbrev Known : Type 0
 Known = Option (List ℕ)
-
-consumes_none : (u : Known) → Consumes u u []
-consumes_none None = tt
-consumes_none (Some xs) = refl
-
-pub appends_none : (w : Known) → Appends w w []
-appends_none None = tt
-appends_none (Some xs) = sym (append-nil xs)
 
 pub goes_on : (has_names : Bool) (settings : Settings) (chunk : ℕ) (u m n : Known) (batch : List ℕ) (old new : TextSaving) → HasReadOn has_names settings chunk u m old → Consumes m n batch
     → ((bytes : List ℕ) → IsTextSavingOf has_names settings chunk bytes old → IsTextSavingOf has_names settings chunk (bytes ++ batch) new) → HasReadOn has_names settings chunk u n new
@@ -43,15 +33,3 @@ gives_index has_names settings chunk text saved comes = record {
 }
 
 -- ---- faults
-
-fault_or : {T : Type 0} → Result T ReportFault → ReportFault → ReportFault
-fault_or (Ok x) d = d
-fault_or (Err e) d = e
-
-fault_is : {T : Type 0} (r : Result T ReportFault) (y f : ReportFault) → r ≡ Err y → r ≡ Err f → y ≡ f
-unfolding fault_or
-fault_is r y f a b = ap (λ q. fault_or q y) (sym a ∙ b)
-
--- a fault that is handed on is the same
-pub same_fault : {T U : Type 0} (q : Result T ReportFault) (r : Result U ReportFault) (x y f : ReportFault) → q ≡ Err x → r ≡ Err y → y ≡ x → r ≡ Err f → q ≡ Err f
-same_fault q r x y f a b e c = a ∙ ap Err (sym e ∙ fault_is r y f b c)

@@ -6,7 +6,7 @@ use Rattle.std.proofs.lemmas.List.Sums.{fold-append}
 use Rattle.jx_lex.specs.declared.alphabet.state.LexState.{LexState}
 use Rattle.jx_lex.specs.declared.alphabet.state.LexState.TheVariants as state
 use Rattle.jx_lex.specs.Lex as lexical
-use Rattle.jx_lex.specs.Lex.{lex, Track}
+use Rattle.jx_lex.specs.Lex.{lex}
 use Rattle.jx_lex.specs.Seen.{SeesTrack, WantsNoMore}
 use Rattle.jx_lex.specs.declared.alphabet.mark.Mark.{Mark}
 use Rattle.jx_lex.specs.declared.alphabet.mark.MarkKind.TheVariants.{Colon}
@@ -16,9 +16,9 @@ use Rattle.jx_reduce.specs.declared.table.expect.Expect.{Expect}
 use Rattle.jx_reduce.specs.declared.table.expect.Expect.TheVariants as expect
 use Rattle.jx_reduce.specs.declared.table.holder.Holder.{Holder}
 use Rattle.jx_reduce.specs.declared.table.holder.Holder.TheVariants.{Bottom}
-use Rattle.jx_run.specs.Kept.{HasSeen}
+use Rattle.jx_reduce.specs.KnownStack.{HasSeen}
 use Rattle.jx_run.specs.Reading.{TextReading, at_exit, read, read_text}
-use Rattle.jx_run.proofs.ReaderSteps.{seen_done}
+use Rattle.jx_reduce.proofs.KnownMoves.{seen_done}
 use Rattle.jx_sentence.specs.Standing.{StandsBehind, last_at}
 use Rattle.jx_sentence.specs.declared.standing.Standing.{Standing}
 use Rattle.jx_sentence.specs.inside.Watched.{HasWatched}

@@ -1,6 +1,3 @@
-ghost use Rattle.std.specs.Prelude.{◌≡◌};
-ghost use Rattle.jx_index.specs.Nodes.{IsObjectAt};
-
 use jx_index::{Indexed, NodeId, Row};
 use jx_lex::{Kind, Span};
 

@@ -40,6 +40,8 @@ impl TokenSink for Watching {
 
     ghost has_seen = { λ watching marks ends. HasWatched marks ends watching.stack watching.token };
 
+    ghost awaits = { λ _ _. Unit {0} };
+
     #[inline(always)]
     fn begin(&mut self, mark: Mark) -> Result<(), AllocError> {
         self.token = mark.at;

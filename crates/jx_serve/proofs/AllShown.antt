@@ -1,5 +1,5 @@
 -- What stands around each of the places so far.
-use Rattle.std.proofs.Common.{◌≡◌, ◌∙◌, ℕ, ◌+◌, ◌<◌, ◌≤◌, List, [], ◌∷◌, ◌++◌, length, take, sym, subst, ap, append_assoc, get_or}
+use Rattle.std.proofs.Common.{ℕ, ◌+◌, ◌<◌, ◌≤◌, List, [], ◌∷◌, ◌++◌, length, take, sym, subst, get_or}
 use Rattle.std.specs.List.{AllZip}
 use Rattle.std.proofs.lemmas.List.{take_all, take_more}
 use Rattle.std.proofs.lemmas.Slice.Zip.{all_zipped_more}
@@ -10,7 +10,3 @@ zip_more {A} {B} R xs ys i d y low h r = subst (λ (zs : List A). AllZip R zs (y
 
 pub zip_whole : {A B : Type 0} (R : A → B → Type 0) (xs : List A) (ys : List B) (i : ℕ) → length xs ≤ i → AllZip R (take i xs) ys → AllZip R xs ys
 zip_whole {A} {B} R xs ys i past h = subst (λ (zs : List A). AllZip R zs ys) (take_all i xs past) h
-
--- three parts, one behind another
-pub thrice : {A : Type 0} (o n m p a b d : List A) → n ≡ o ++ a → m ≡ n ++ b → p ≡ m ++ d → p ≡ o ++ (a ++ (b ++ d))
-thrice {A} o n m p a b d e f g = g ∙ ap (λ l. l ++ d) (f ∙ ap (λ l. l ++ b) e ∙ append_assoc o a b) ∙ append_assoc o (a ++ b) d ∙ ap (λ l. o ++ l) (append_assoc a b d)

@@ -9,10 +9,6 @@ pub grown_last : {T E : Type 0} (result : Result T E) (o n m x y z : List ℕ) �
 grown_last (Ok v) o n m x y z e f g = grown o n m x y z e f g
 grown_last (Err v) o n m x y z e f g = tt
 
-pub grown_by : {T E : Type 0} (result : Result T E) (o n m x y z : List ℕ) → n ≡ o ++ x → OnOk result (m ≡ n ++ y) → y ≡ z → OnOk result (m ≡ o ++ (x ++ z))
-grown_by (Ok v) o n m x y z e f g = grown o n m x y z e f g
-grown_by (Err v) o n m x y z e f g = tt
-
 pub same_by : {T E : Type 0} (result : Result T E) (m p q : List ℕ) → OnOk result (m ≡ p) → p ≡ q → OnOk result (m ≡ q)
 same_by (Ok v) m p q f g = f ∙ g
 same_by (Err v) m p q f g = tt

@@ -1,5 +1,5 @@
 // Where a refusal is shown in a document.
-ghost use Rattle.std.specs.Prelude.{◌≡◌, ◌≤◌, ◌<◌, ◌+◌, ◌⊎◌, IfOk, IfSome, length};
+ghost use Rattle.std.specs.Prelude.{◌≡◌, ◌≤◌, ◌<◌, ◌+◌, IfOk, IfSome};
 ghost use Rattle.jx_serve.specs.Marks.{shown_at, told, IsPlaced};
 
 use crate::sentence::sentence_on;

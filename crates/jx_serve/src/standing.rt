@@ -1,5 +1,5 @@
 // Where a reading stands in a document.
-ghost use Rattle.std.specs.Prelude.{◌≡◌, IfOk, IfSome};
+ghost use Rattle.std.specs.Prelude.{IfOk, IfSome};
 ghost use Rattle.jx_serve.specs.Standing.{StandsIn};
 
 use jx_edit::{Document, Stand};

@@ -1,5 +1,5 @@
 -- A chunk in which no part begins or ends changes the sum alone.
-use Rattle.std.proofs.Common.{◌≡◌, ℕ, zero, suc, ◌+◌, ◌-◌, ◌<◌, ◌≤◌, List, [], ◌∷◌, ◌++◌, refl, sym, ap, subst, ◌∙◌, arith, Bool, true, false, cond}
+use Rattle.std.proofs.Common.{◌≡◌, ℕ, zero, suc, ◌+◌, ◌-◌, ◌<◌, ◌≤◌, List, [], ◌∷◌, ◌++◌, refl, sym, ap, subst, ◌∙◌, arith, Bool, true, false}
 use Rattle.std.specs.Prelude.{◌==◌, if◌then◌else◌, fold, nat_lt, Option, None, Some, IfSome, SomeIff}
 use Rattle.std.specs.List.{AllByRecursion}
 use Rattle.std.proofs.lemmas.Bool.Decides.{nat_tests}
@@ -11,10 +11,10 @@ use Rattle.jx_summary.specs.declared.span.Span.{Span}
 use Rattle.jx_index.specs.inside.Finding.{skip_over}
 use Rattle.jx_saved.specs.declared.sum.Sum.{Sum}
 use Rattle.jx_saved.specs.Sums.{Fits, joined, noted, nothing, sum_of}
-use Rattle.jx_saved.proofs.Sums.{sums_join}
-use Rattle.jx_walk.proofs.Sums.{all_grow, close_none, close_some, comma_some, grows, made, on_from, rel_step}
+use Rattle.jx_saved.proofs.Sums.{sums_join, close_none, on_from}
+use Rattle.jx_walk.proofs.Sums.{all_grow, close_some, comma_some, grows, made, rel_step}
 use Rattle.jx_split.specs.declared.cutting.Aim.{Aim}
-use Rattle.jx_split.specs.Cuts.{Cuts, at_depth, at_level, cut, cut_all, with_mark}
+use Rattle.jx_split.specs.Cuts.{Cuts, at_depth, at_level, cut_all, with_mark}
 use Rattle.jx_split.specs.Parts.{part_of}
 use Rattle.jx_split.specs.inside.Passed.{AllInPart, IsMarkIn, IsPassed}
 use Rattle.jx_split.proofs.Steps.{within}

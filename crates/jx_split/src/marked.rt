@@ -1,5 +1,5 @@
 // A sink that is told the marks of a chunk.
-ghost use Rattle.std.specs.Prelude.{◌≡◌, [], ◌∷◌};
+ghost use Rattle.std.specs.Prelude.{◌≡◌, []};
 ghost use Rattle.jx_split.specs.Cuts.{cuts_of};
 ghost use Rattle.jx_split.specs.inside.Marked.{HasCut};
 
@@ -63,6 +63,8 @@ impl<E: Earlier> TokenSink for Marked<E> {
     ghost use Rattle.jx_split.specs.inside.Marked.{HasCut};
 
     ghost has_seen = { λ s marks ends. HasCut E.aim E.base E.cuts marks s.aim s.base (cuts_of s.cutting) };
+
+    ghost awaits = { λ _ _. Unit {0} };
 
     #[inline(always)]
     fn begin(&mut self, mark: Mark) -> Result<(), AllocError> {

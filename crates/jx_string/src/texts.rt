@@ -1,5 +1,5 @@
 // Texts that strings stand for.
-ghost use Rattle.std.specs.Prelude.{◌≡◌, ◌≢◌, ℕ, List, is_some, string_bytes, IfErr, IfOk, IsErrOf};
+ghost use Rattle.std.specs.Prelude.{◌≡◌, ◌≢◌, ℕ, List, is_some, IfErr, IfOk, IsErrOf};
 ghost use Rattle.jx_lex.specs.Token.{IsString};
 ghost use Rattle.jx_string.specs.declared.string_fault.StringFault.TheVariants.{LoneSurrogate, NoString};
 ghost use Rattle.jx_string.specs.Texts.{text_of, utf8_of};
@@ -28,7 +28,8 @@ fn text_in(alloc: Global, string: &[u8]) -> Result<Option<String>, AllocError>
     ensures { IfOk result (λ text. IsTextIn string.now text) }
 {
     let mut characters = Characters::of_string(string);
-    let mut text = String::new(alloc);
+    // No character takes more bytes than what spells it.
+    let mut text = String::with_capacity(alloc, string.len())?;
     while let Some(character) = characters.next_character() {
         let Some(character) = character else {
             return Ok(None);

@@ -1,6 +1,5 @@
 -- What is held of a text for one pointer is what there is to write and to tell.
-use Rattle.std.specs.Prelude.{Some, None, Option, Result, Ok, Err, String, codes, flat_map, map, slice_get, string_bytes}
-use Rattle.std.specs.Global.{Global}
+use Rattle.std.specs.Prelude.{Some, None, Option, Result, codes, flat_map, map, slice_get, string_bytes}
 use Rattle.std.specs.List.{AllZip}
 use Rattle.std.proofs.Common.{◌≡◌, ℕ, List, [], ◌∷◌, ◌++◌, refl, sym, ap, subst, ◌∙◌, append-nil}
 use Rattle.jx_run.specs.declared.texts.verdict.Refusal.{Refusal}

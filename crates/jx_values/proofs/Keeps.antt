@@ -1,19 +1,10 @@
 -- Bytes of a text that are kept, as batches come.
-use Rattle.std.specs.Prelude.{Some, None, slice_range}
-use Rattle.std.proofs.Common.{◌≡◌, ℕ, ◌+◌, ◌-◌, ◌≤◌, List, [], ◌∷◌, ◌++◌, length, drop, take, refl, sym, ap, subst, ◌∙◌, arith, append_assoc, append-nil, length-append, length-drop}
+use Rattle.std.specs.Prelude.{slice_range}
+use Rattle.std.proofs.Common.{◌≡◌, ℕ, ◌+◌, ◌-◌, ◌≤◌, List, [], ◌∷◌, ◌++◌, length, drop, take, refl, sym, ap, ◌∙◌, arith, append_assoc, append-nil, length-append, length-drop}
 use Rattle.std.proofs.lemmas.List.{drop-append-le, drop-drop, take-append-drop, take-append-le}
 use Rattle.std.proofs.lemmas.List.Folds.{drop_split}
 use Rattle.std.proofs.Math.Seq.{drop-append-add}
-use Rattle.jx_lex.specs.declared.kind.Kind.{Kind}
-use Rattle.jx_summary.specs.declared.span.Span.{Span}
-use Rattle.jx_index.specs.declared.find_fault.FindFault.{FindFault}
-use Rattle.jx_words.specs.declared.pointer_answer.PointerAnswer.TheVariants.{Found, Lost}
-use Rattle.jx_values.specs.declared.form.Form.{Form}
-use Rattle.jx_values.specs.Values.{told_of_value, value_written}
-use Rattle.jx_words.specs.Words.{line}
-use Rattle.std.specs.Prelude.{unwrap_or}
 use Rattle.jx_values.specs.inside.Kept.{IsKept}
-use Rattle.jx_values.specs.inside.Moved.{AreSame}
 
 none_left : (l : List ℕ) → length l ≤ 0 → l ≡ []
 none_left [] le = refl
@@ -83,12 +74,3 @@ kept_span text bytes from start end h low order high =
     ∙ ap (take (end - start)) (sym whole)
 
 -- ---- what is written and told of a value
-
-pub same_found : (text bytes : List ℕ) (kind : Kind) (there here : Span) → slice_range bytes here.start here.end ≡ slice_range text there.start there.end → AreSame text (Found kind there) bytes (Found kind here)
-same_found text bytes kind there here e = record {
-  line = λ form. ap (λ (l : List ℕ). line (unwrap_or (value_written form kind l) [])) e;
-  told = λ form pointer. ap (λ (l : List ℕ). told_of_value pointer (value_written form kind l)) e;
-}
-
-pub same_lost : (text bytes : List ℕ) (fault : FindFault) → AreSame text (Lost fault) bytes (Lost fault)
-same_lost text bytes fault = record { line = λ form. refl; told = λ form pointer. refl }

@@ -1,30 +1,18 @@
 -- How a pointer is looked up batch by batch.
 use Rattle.std.specs.Prelude.{Option}
-use Rattle.std.proofs.Common.{◌≡◌, ℕ, List, [], ◌++◌, length, subst, arith}
-use Rattle.std.proofs.lemmas.List.{append-nil}
-use Rattle.std.specs.Io.KnownBytes.{Consumes, IsAtEnd}
+use Rattle.std.proofs.Common.{◌≡◌, ℕ, List, ◌++◌, length, arith}
+use Rattle.std.specs.Io.KnownBytes.{Consumes}
 use Rattle.std.proofs.KnownBytes.{Consumes-trans}
 use Rattle.jx_run.specs.declared.texts.settings.Settings.{Settings}
 use Rattle.jx_find.specs.Finder.{end_of}
 use Rattle.jx_values.specs.declared.value_reader.ValueReader.{ValueReader}
-use Rattle.jx_values.specs.inside.Kept.{IsAllRead, IsLooked, IsValueRead}
-use Rattle.jx_values.proofs.ElementWrites.{consumes_none}
+use Rattle.jx_values.specs.inside.Kept.{IsLooked, IsValueRead}
 
 -- as many bytes were read as there are
 pub as_long : (settings : Settings) (pointer text : List ℕ) (reader : ValueReader) → IsValueRead settings pointer text reader → end_of reader.finder ≡ length text
-as_long settings pointer text reader h = omega (arith, h.fed.start, h.fed.read.count)
+as_long settings pointer text reader h = omega (arith, h.fed.reading.start, h.fed.reading.read.count)
 
 module _ (settings : Settings) (pointer : List ℕ) where
-  pub looks_first : (u : Option (List ℕ)) (reader : ValueReader) → IsValueRead settings pointer [] reader → IsLooked settings pointer u u reader
-  looks_first u reader h = record { text = []; read = consumes_none u; looked = h }
-
   pub looks_on : (u m n : Option (List ℕ)) (batch : List ℕ) (old new : ValueReader) → IsLooked settings pointer u m old → Consumes m n batch
       → ((settings : Settings) (pointer text : List ℕ) → IsValueRead settings pointer text old → IsValueRead settings pointer (text ++ batch) new) → IsLooked settings pointer u n new
   looks_on u m n batch old new h r on = record { text = h.text ++ batch; read = Consumes-trans _ _ _ _ _ h.read r; looked = on settings pointer h.text h.looked }
-
-  pub all_looked : (u m n : Option (List ℕ)) (reader : ValueReader) → IsLooked settings pointer u m reader → Consumes m n [] → IsAtEnd n → IsAllRead settings pointer u n reader
-  all_looked u m n reader h r end = record {
-    text = h.text;
-    read = (subst (λ (l : List ℕ). Consumes u n l) (append-nil h.text) (Consumes-trans _ _ _ _ _ h.read r), end);
-    looked = h.looked;
-  }

@@ -1,6 +1,6 @@
 -- What is told of the pointer to a container.
 use Rattle.std.specs.Prelude.{Some, None, Option, Result, slice_get}
-use Rattle.std.proofs.Common.{◌≡◌, ℕ, ◌<◌, ◌≤◌, arith, List, [], ◌∷◌, length, Bool, refl, sym, ap, subst, ◌∙◌}
+use Rattle.std.proofs.Common.{◌≡◌, ℕ, List, [], ◌∷◌, length, Bool, refl, sym, ap, subst, ◌∙◌}
 use Rattle.jx_lex.specs.declared.kind.Kind.TheVariants as kind
 use Rattle.jx_run.specs.declared.texts.settings.Settings.{Settings}
 use Rattle.jx_run.specs.declared.texts.verdict.Verdict.TheVariants.{Accepted}
@@ -56,14 +56,6 @@ root_told text (node kind.Null s below) = refl
 pub sought_named : (pointer : List ℕ) → sought_of Named pointer ≡ pointer ∷ []
 sought_named [] = refl
 sought_named (b ∷ bytes) = refl
-
-pub sought_part : (pointer : List ℕ) → 0 < length pointer → sought_of Alone pointer ≡ pointer ∷ []
-sought_part [] lt = absurd (omega (arith, lt))
-sought_part (b ∷ bytes) lt = refl
-
-pub sought_root : (pointer : List ℕ) → length pointer ≤ 0 → [] ≡ sought_of Alone pointer
-sought_root [] le = refl
-sought_root (b ∷ bytes) le = absurd (omega (arith, le))
 
 -- where the root is not looked up, values alone are written
 pub taken_alone : (content : LineContent) (settings : Settings) (pointer text given : List ℕ) (each : EachValue) → (pointer ≡ []) × (content ≡ Alone) → HasTakenBy content pointer text given each → HasTaken pointer text given each

@@ -1,6 +1,6 @@
 -- What is told of pointers, one by one.
-use Rattle.std.proofs.Common.{◌≡◌, ℕ, ◌+◌, ◌<◌, ◌≤◌, List, ◌∷◌, ◌++◌, length, drop, get_or, sym, ap, ◌∙◌, append_assoc, append-nil}
-use Rattle.std.proofs.lemmas.List.{drop_all, drop_more}
+use Rattle.std.proofs.Common.{◌≡◌, ℕ, ◌+◌, ◌<◌, List, ◌∷◌, ◌++◌, length, drop, get_or, sym, ap, ◌∙◌, append_assoc}
+use Rattle.std.proofs.lemmas.List.{drop_more}
 use Rattle.jx_words.specs.declared.pointer_answer.PointerAnswer.{PointerAnswer}
 use Rattle.jx_values.specs.declared.form.Form.{Form}
 use Rattle.jx_values.specs.Values.{told_line, told_lines}
@@ -17,6 +17,3 @@ module _ (form : Form) (text : List ℕ) (pointers : List (List ℕ)) (answers :
       ∙ ap (λ (a : PointerAnswer). out ++ told_lines form text (get_or pointers i pointer ∷ drop (i + 1) pointers) (a ∷ drop (i + 1) answers)) is_answer
       ∙ ap (λ (ps : List (List ℕ)). out ++ told_lines form text ps (get_or answers i answer ∷ drop (i + 1) answers)) (sym (drop_more pointers i pointer low))
       ∙ ap (λ (as_ : List PointerAnswer). out ++ told_lines form text (drop i pointers) as_) (sym (drop_more answers i answer short))
-
-  pub no_more : (out : List ℕ) → length pointers ≤ i → out ++ told_lines form text (drop i pointers) (drop i answers) ≡ out
-  no_more out h = ap (λ (ps : List (List ℕ)). out ++ told_lines form text ps (drop i answers)) (drop_all i pointers h) ∙ append-nil out

@@ -1,4 +1,4 @@
-ghost use Rattle.std.specs.Prelude.{◌≡◌, ◌≢◌, ◌<◌, ◌≤◌, length, IfOk, IfErr, IsErrOf};
+ghost use Rattle.std.specs.Prelude.{◌≢◌, ◌<◌, ◌≤◌, length, IfOk, IfErr, IsErrOf};
 ghost use Rattle.jx_report.specs.Reports.{greatest_length};
 ghost use Rattle.jx_values.specs.inside.Replies.{IsReplyTo};
 

@@ -1,5 +1,5 @@
 // What is told of a text, or of pointers for which nothing is written.
-ghost use Rattle.std.specs.Prelude.{◌≡◌, ◌<◌, ◌++◌, Some, true, false, codes, length, map, slice_get, string_bytes, IfOk, OnOk};
+ghost use Rattle.std.specs.Prelude.{◌≡◌, ◌<◌, ◌++◌, Some, false, codes, length, map, slice_get, string_bytes, IfOk, OnOk};
 ghost use Rattle.std.specs.Io.KnownBytes.{Appends};
 ghost use Rattle.jx_words.specs.Words.{line, refusal_words};
 ghost use Rattle.jx_values.specs.Values.{exit_by, told_line, told_lines, told_of_value, value_written};

@@ -1,5 +1,5 @@
 -- What is known of the chunks of a text of which an index is known, and of a reader of the first.
-use Rattle.std.proofs.Common.{◌≡◌, ℕ, ◌*◌, ◌<◌, ◌≤◌, List, [], length, take, refl, ap, subst, ◌∙◌, arith, Option, None, Some}
+use Rattle.std.proofs.Common.{◌≡◌, ℕ, suc, ◌*◌, ◌<◌, ◌≤◌, List, [], length, take, refl, sym, ap, subst, ◌∙◌, arith, Option, None, Some}
 use Rattle.std.specs.Prelude.{IfNone, IfSome, slice_range}
 use Rattle.std.proofs.lemmas.List.{length-take-le}
 use Rattle.jx_lex.specs.declared.alphabet.state.LexState.{LexState}
@@ -12,10 +12,10 @@ use Rattle.jx_run.specs.Telling.{at_start}
 use Rattle.jx_run.proofs.InTurn.{InPieces}
 use Rattle.jx_saved.specs.declared.entry.Entry.{Entry}
 use Rattle.jx_saved.specs.declared.index.Index.{Index}
-use Rattle.jx_saved.specs.Chunks.{part, state_behind}
+use Rattle.jx_saved.specs.Chunks.{before, part, state_behind}
 use Rattle.jx_walk.specs.Chunks.{chunk_at}
 use Rattle.jx_walk.specs.Known.{IsKnown}
-use Rattle.jx_walk.proofs.Chunkings.{chunk_is, entry, stands_at}
+use Rattle.jx_walk.proofs.Chunkings.{chunk_is, entry, part_taken, stands_at}
 use Rattle.jx_walk.proofs.Moved.{state_on}
 use Rattle.jx_walk.proofs.Parts.{stands_behind, stands_here}
 use Rattle.jx_walk.proofs.Standing.{leads, none_read}
@@ -25,6 +25,10 @@ use Rattle.jx_walk.proofs.Standing.{leads, none_read}
 pub some_weaker : {A : Type 0} (o : Option A) (P Q : A → Type 0) → ((x : A) → P x → Q x) → IfSome o P → IfSome o Q
 some_weaker None P Q on h = tt
 some_weaker (Some x) P Q on h = on x h
+
+pub some_both : {A : Type 0} (o : Option A) (P Q R : A → Type 0) → ((x : A) → P x → Q x → R x) → IfSome o P → IfSome o Q → IfSome o R
+some_both None P Q R on p q = tt
+some_both (Some x) P Q R on p q = on x p q
 
 pub none_weaker : {A : Type 0} (o : Option A) (P Q : Type 0) → (P → Q) → IfNone o P → IfNone o Q
 none_weaker None P Q on h = on h
@@ -69,9 +73,10 @@ module _ (settings : Settings) (chunk : ℕ) (text : List ℕ) (index : Index) (
   pub piece_is : (at : ℕ) (s : Span) (bs : List ℕ) → chunk_at index at ≡ Some s → bs ≡ slice_range text s.start s.end → bs ≡ part chunk text at
   piece_is at s bs is are = are ∙ chunk_is settings chunk text index known.indexed at s (stands_at index at s is)
 
-  -- a later chunk can be read from its state
-  pub later_goes : InPieces → (at : ℕ) (s : Span) (e : Entry) (bs : List ℕ) → (at ≡ 0 → ⊥) → chunk_at index at ≡ Some s → e ≡ entry settings chunk text at → bs ≡ part chunk text at → ((to : LexState) → (lex e.state 0 bs).exit ≡ lexical.state to → ⊥) → ⊥
-  later_goes two at s e bs other is same bs_are fault =
+  -- a later chunk is read from its state to that of the next
+  pub later_exit : InPieces → (at : ℕ) (s : Span) (e : Entry) (bs : List ℕ) → (at ≡ 0 → ⊥) → chunk_at index at ≡ Some s → e ≡ entry settings chunk text at → bs ≡ part chunk text at
+      → (lex e.state 0 bs).exit ≡ lexical.state (state_behind (before settings text (suc at * chunk)))
+  later_exit two at s e bs other is same bs_are =
       let m = settings.mark in
       let limit = settings.depth in
       let bytes = take (at * chunk) text in
@@ -81,7 +86,8 @@ module _ (settings : Settings) (chunk : ℕ) (text : List ℕ) (index : Index) (
       let next = stands_behind settings chunk text known.goes two at known.size other within in
       let l = leads m limit (length bytes) bytes piece st.state next.state st.expect next.expect st.holders next.holders refl st.is next.is in
       let state_is : e.state ≡ st.state = ap (λ (x : Entry). x.state) same ∙ ap state_behind st.is in
-      fault next.state
-      (ap (λ (x : LexState). (lex x 0 bs).exit) state_is
+      let behind_is : state_behind (before settings text (suc at * chunk)) ≡ next.state = ap (λ (xs : List ℕ). state_behind (read_by m limit 0 xs)) (sym (part_taken chunk text at)) ∙ ap state_behind next.is in
+      ap (λ (x : LexState). (lex x 0 bs).exit) state_is
       ∙ ap (λ (xs : List ℕ). (lex st.state 0 xs).exit) bs_are
-      ∙ state_on (length bytes) st.state next.state piece l.exit)
+      ∙ state_on (length bytes) st.state next.state piece l.exit
+      ∙ ap lexical.state (sym behind_is)

@@ -16,17 +16,18 @@ use Rattle.jx_index.specs.declared.finder.Met.{Met}
 use Rattle.jx_index.specs.declared.trie.Edge.{Edge}
 use Rattle.jx_index.specs.inside.Building.{is_token, next_end}
 use Rattle.jx_index.specs.inside.Finding.{Finding, begin_at, leaf_at, skip_over}
+use Rattle.jx_index.specs.inside.InOrder.{behind}
 use Rattle.jx_index.specs.inside.Trie.{element_at, seek_all, sought, string_among, target_node}
-use Rattle.jx_find.specs.Held.{behind}
 use Rattle.jx_saved.specs.declared.sum.Sum.{Sum}
 use Rattle.jx_saved.specs.Sums.{at_comma, closing, noted, opening}
+use Rattle.jx_saved.proofs.Sums.{close_none, comma_none, on_from}
 use Rattle.jx_walk.specs.Passing.{InArray, room, slot}
 use Rattle.jx_walk.specs.Holding.{Holds, here, below, holder_of}
 use Rattle.jx_walk.proofs.Paired.{Paired, none, plain, token, ended}
 use Rattle.jx_walk.specs.Passed.{Waits, waits_none, waits_some, some_token, waiting}
 use Rattle.jx_walk.proofs.Moves.{array_ends, colon_stands, comma_stands, container_begins, goes, object_ends, string_holders, value_begins}
 use Rattle.jx_walk.proofs.Passings.{plain_ends, plain_over, seek_one, token_ends, token_over}
-use Rattle.jx_walk.proofs.Sums.{Open, none as none_open, some as some_open, all_grow, close_none, close_some, comma_none, comma_some, grows, on_from, open_or, token_noted}
+use Rattle.jx_walk.proofs.Sums.{Open, none as none_open, some as some_open, all_grow, close_some, comma_some, grows, open_or, token_noted}
 
 -- ---- commas that count stay so
 

@@ -21,9 +21,9 @@ use Rattle.jx_index.specs.declared.trie.Edge.{Edge}
 use Rattle.jx_index.specs.inside.Building.{is_token}
 use Rattle.jx_index.specs.inside.Finding.{Finding, naming, nothing_met}
 use Rattle.jx_index.specs.inside.Found.{finding}
+use Rattle.jx_index.specs.inside.InOrder.{behind}
 use Rattle.jx_index.specs.inside.Trie.{IsNextIn, child_at, is_name_next, seek_all}
 use Rattle.jx_find.specs.declared.held.Sought.{Sought}
-use Rattle.jx_find.specs.Held.{behind}
 use Rattle.jx_saved.specs.declared.entry.Entry.{Entry}
 use Rattle.jx_saved.specs.declared.sum.Sum.{Sum}
 use Rattle.jx_saved.specs.Chunks.{before, expect_behind, part, state_behind}
@@ -46,6 +46,7 @@ use Rattle.jx_walk.proofs.Chunkings.{part_taken}
 use Rattle.jx_walk.proofs.Unwanted.{same_wait}
 use Rattle.jx_walk.proofs.Moved.{same_sum}
 use Rattle.jx_walk.proofs.Overs.{deep_unnamed, held_holds, none_unnamed, waiting_token}
+use Rattle.jx_walk.proofs.Pairings.{waiting_some}
 use Rattle.jx_walk.proofs.Parts.{goes_at}
 use Rattle.jx_walk.proofs.Standing.{Goes, Stands, marks_stand}
 
@@ -59,10 +60,6 @@ names_token (token x is h) was m e = let same : x ≡ m = cc in subst (λ (y : M
 names_token (ended x end within h) was m e = absurd cc
 
 -- ---- in an object a name waits at most
-
-naming_waits : (os : List Cursor) (x : Option ℕ) → naming os (Some x) ≡ None
-naming_waits [] x = refl
-naming_waits (c ∷ outer) x = refl
 
 module _ (settings : Settings) (size : ℕ) (text : List ℕ) (goes : Goes settings.mark settings.depth text) (two : InPieces) (wide : 64 ≤ size) where
   abbrev m : FrontMark
@@ -129,7 +126,7 @@ module _ (settings : Settings) (size : ℕ) (text : List ℕ) (goes : Goes setti
           opened = refl;
           object = object;
           holds = subst (λ (xs : List Cursor). Holds held.state.skipped xs st.holders) opened
-              (held_holds law limit (bytes n) edges (tokens_by m (bytes n)).marks (tokens_by m (bytes n)).ends held.state held.next held.begun held.name.items st.expect st.holders was stands);
+              (held_holds law limit (bytes n) edges (tokens_by m (bytes n)).marks (tokens_by m (bytes n)).ends held.state held.next held.begun held.name.items st.expect st.holders was.held stands);
           stands = subst (InObject held.state.skipped (is_some b)) (sym x_is) (subst (λ (y : Bool). InObject held.state.skipped y entry.expect) (sym real) s.stands);
           named = refl;
           token = record {
@@ -138,9 +135,9 @@ module _ (settings : Settings) (size : ℕ) (text : List ℕ) (goes : Goes setti
           };
         };
         comes = λ future last more others.
-            was.comes future last more others
+            was.held.comes future last more others
             ∙ ap (λ (y : Finding). seek_all (bytes n ++ future) edges last (behind held.begun more) others y) same
-            ∙ waits future last more others held.begun b (sym s.agrees ∙ sym real) was.token (begun_token h n low)
+            ∙ waits future last more others held.begun b (sym s.agrees ∙ sym real) was.held.token (begun_token h n low)
             (λ e z. x_is ∙ uncut_after held.state.skipped entry s.stands s.uncut (sym real ∙ e) z);
       }
     where
@@ -276,25 +273,24 @@ module _ (settings : Settings) (size : ℕ) (text : List ℕ) (goes : Goes setti
       let same : finding next.state ≡ a = found led.outer led.opened ∙ ap (found_among held.state.met.items c led.outer k i) name in
       let grows = led.grows in
       record {
-        trie = was.trie;
-        ready = subst (λ (z : ℕ). IsNextIn edges (reverse next.state.opened.items) z) (sym next_is)
-            (subst (λ (xs : List Cursor). IsNextIn edges xs held.next) (sym (ap (λ (y : Finding). y.opened) same))
-            (λ t e is q lt. let y = (subst (λ (xs : List Cursor). IsNextIn edges xs held.next) led.opened was.ready) t e is q lt in omega (arith, y, grows)));
-        comes = λ future last more others.
-            led.comes future last more others
-            ∙ waits future last more others b next.begun (real ∙ waiting_is (in_token entry.state) ∙ ap is_some (sym begun_is)) (begun_token h n low) (λ x e. waiting_token (in_token entry.state) x (sym begun_is ∙ e)) led after
-            ∙ ap (λ (y : Finding). seek_all (bytes n ++ future) edges last (behind next.begun more) others y) (sym same);
-        token = λ x e. waiting_token (in_token entry.state) x (sym begun_is ∙ e);
-        name_is = λ x e q. absurd
-            (let some : is_some b ≡ true = real ∙ waiting_is (in_token entry.state) ∙ ap is_some (sym begun_is ∙ e) in
-            let no : is_name_next x.kind (finding next.state) ≡ false = ap (is_name_next x.kind) same ∙ unnamed_at i b held.state.met.items c led.outer k led.expect after x.kind some in
-            cc);
+        turn = ap is_some begun_is ∙ waiting_some (in_token entry.state) ∙ ap in_token state_is;
+        held = record {
+          trie = was.held.trie;
+          ready = subst (λ (z : ℕ). IsNextIn edges (reverse next.state.opened.items) z) (sym next_is)
+              (subst (λ (xs : List Cursor). IsNextIn edges xs held.next) (sym (ap (λ (y : Finding). y.opened) same))
+              (λ t e is q lt. let y = (subst (λ (xs : List Cursor). IsNextIn edges xs held.next) led.opened was.held.ready) t e is q lt in omega (arith, y, grows)));
+          comes = λ future last more others.
+              led.comes future last more others
+              ∙ waits future last more others b next.begun (real ∙ sym (waiting_some (in_token entry.state)) ∙ ap is_some (sym begun_is)) (begun_token h n low) (λ x e. waiting_token (in_token entry.state) x (sym begun_is ∙ e)) led after
+              ∙ ap (λ (y : Finding). seek_all (bytes n ++ future) edges last (behind next.begun more) others y) (sym same);
+          token = λ x e. waiting_token (in_token entry.state) x (sym begun_is ∙ e);
+          name_is = λ x e q. absurd
+              (let some : is_some b ≡ true = real ∙ sym (waiting_some (in_token entry.state)) ∙ ap is_some (sym begun_is ∙ e) in
+              let no : is_name_next x.kind (finding next.state) ≡ false = ap (is_name_next x.kind) same ∙ unnamed_at i b held.state.met.items c led.outer k led.expect after x.kind some in
+              cc);
+        };
       }
     where
-      waiting_is : (y : Bool) → y ≡ is_some (waiting y)
-      waiting_is true = refl
-      waiting_is false = refl
-
       waits : (future : List ℕ) (last_end : ℕ) (more : List Mark) (others : List ℕ) (o p : Option Mark) → is_some o ≡ is_some p → ((x : Mark) → o ≡ Some x → is_token x.kind ≡ true) → ((x : Mark) → p ≡ Some x → is_token x.kind ≡ true)
           → (led : IsLedTo settings size text edges held c (begun_at h n) n k i) → (is_some o ≡ true → i ≡ 0 → led.expect ≡ After)
           → seek_all (bytes n ++ future) edges last_end (behind o more) others (found_among held.state.met.items c led.outer k i (unwanted_name i (is_some o) led.expect))

@@ -20,4 +20,5 @@ pub mod Sums
 pub mod Told
 pub mod Unwanted
 pub mod Walks
+pub mod Wanting
 pub mod Wants

@@ -8,7 +8,7 @@ use Rattle.jx_reduce.specs.declared.table.holder.Holder.{Holder}
 use Rattle.jx_reduce.specs.declared.table.holder.Holder.TheVariants.{Array, Object, Bottom}
 use Rattle.jx_reduce.specs.Read.{Reading, went, stopped, too_deep, moved, read, step, top, without_top}
 use Rattle.jx_reduce.specs.Table.{same, added, removed, where_value, where_string, where_close_array, where_close_object, where_colon, where_comma}
-use Rattle.jx_run.proofs.ReaderSteps.{over}
+use Rattle.jx_reduce.proofs.KnownMoves.{read-fault}
 use Rattle.jx_walk.specs.Passing.{room}
 
 -- ---- a reading that goes on
@@ -24,8 +24,8 @@ goes d m ms e hs last lasts h = pick (step d m (went e hs)) refl
   where
     pick : (r : Reading) → step d m (went e hs) ≡ r → Goes d m ms e hs last lasts
     pick (went x xs) is = record { expect = x; holders = xs; is = is; rest = ap (read d ms) (sym is) ∙ h }
-    pick (stopped at) is = let f : stopped at ≡ went last lasts = sym (over d ms (stopped at) tt) ∙ ap (read d ms) (sym is) ∙ h in absurd cc
-    pick (too_deep at) is = let f : too_deep at ≡ went last lasts = sym (over d ms (too_deep at) tt) ∙ ap (read d ms) (sym is) ∙ h in absurd cc
+    pick (stopped at) is = let f : stopped at ≡ went last lasts = sym (read-fault d ms (stopped at) tt) ∙ ap (read d ms) (sym is) ∙ h in absurd cc
+    pick (too_deep at) is = let f : too_deep at ≡ went last lasts = sym (read-fault d ms (too_deep at) tt) ∙ ap (read d ms) (sym is) ∙ h in absurd cc
 
 -- ---- where a value may begin
 

@@ -22,10 +22,11 @@ use Rattle.jx_index.specs.declared.trie.Edge.{Edge}
 use Rattle.jx_index.specs.inside.Building.{is_token, next_end, ends_after}
 use Rattle.jx_index.specs.inside.Finding.{Finding, counted, leaf_at, naming, nothing_met}
 use Rattle.jx_index.specs.inside.Found.{finding}
+use Rattle.jx_index.specs.inside.InOrder.{behind}
 use Rattle.jx_index.specs.inside.Trie.{IsNextFrom, IsNextIn, among, element_at, first_open, is_name_next, place_at, place_from, seek_all, sought, string_among, target_node}
 use Rattle.jx_index.proofs.Lookups.{element_later}
 use Rattle.jx_find.specs.declared.held.Sought.{Sought}
-use Rattle.jx_find.specs.Held.{IsHeld, behind}
+use Rattle.jx_find.specs.Held.{IsHeld}
 use Rattle.jx_saved.specs.declared.entry.Entry.{Entry}
 use Rattle.jx_saved.specs.declared.sum.Sum.{Sum}
 use Rattle.jx_saved.specs.Sums.{sum_of}

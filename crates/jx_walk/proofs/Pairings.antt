@@ -1,5 +1,7 @@
 -- A reading tells the end of a token before the next mark.
 use Rattle.std.proofs.Common.{◌≡◌, ℕ, suc, List, [], ◌∷◌, refl, sym, subst, Bool, true, false, Some}
+use Rattle.std.specs.Prelude.{is_some}
+use Rattle.jx_lex.specs.declared.alphabet.mark.Mark.{Mark}
 use Rattle.jx_lex.specs.declared.kind.Kind.{Kind}
 use Rattle.jx_lex.specs.declared.kind.Kind.TheVariants as kind
 use Rattle.jx_lex.specs.declared.alphabet.mark.MarkKind.{MarkKind}
@@ -14,6 +16,8 @@ use Rattle.jx_lex.specs.TokenStates.{in_token, mark_of}
 use Rattle.jx_lex.specs.TokenSteps.{TokenStep, goes_on, ends, ended as ended_before, fails, IsScalar, IsStructural, open_array, close_array, open_object, close_object, colon, comma, GapStep, a_blank, a_token, a_mark, no_step}
 use Rattle.jx_lex.proofs.Recognized.{gap_step, token_step}
 use Rattle.jx_index.specs.inside.Building.{is_token}
+use Rattle.jx_saved.specs.Chunks.{has_some}
+use Rattle.jx_walk.specs.Passed.{waiting}
 use Rattle.jx_walk.proofs.Paired.{Paired, none, plain, token, ended}
 
 data GapOr (s : LexState) : Type 0 where
@@ -138,3 +142,14 @@ lex_paired s last at [] =
     subst (λ (t : Track). Pairs (in_token s) last t) (sym (lex_none s at))
     (λ e. let same : s ≡ last = cc in subst (λ (x : LexState). Paired (in_token s) [] [] (in_token x)) same none)
 lex_paired s last at (b ∷ bytes) = subst (λ (t : Track). Pairs (in_token s) last t) (sym (lex_next s at b bytes)) (from_any last at b bytes (λ x. lex_paired x last (suc at) bytes) s)
+
+-- where nothing begins or ends, a token goes on
+pub nothing_paired : {b c : Bool} {ms : List Mark} {es : List ℕ} → Paired b ms es c → has_some ms ≡ false → has_some es ≡ false → b ≡ c
+nothing_paired none m e = refl
+nothing_paired (plain is h) m e = absurd cc
+nothing_paired (token is h) m e = absurd cc
+nothing_paired (ended h) m e = absurd cc
+
+pub waiting_some : (b : Bool) → is_some (waiting b) ≡ b
+waiting_some true = refl
+waiting_some false = refl

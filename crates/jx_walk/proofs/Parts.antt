@@ -1,10 +1,12 @@
 -- What is held of a text without a fault, part by part, whatever the size of its parts.
 use Rattle.std.proofs.Common.{◌≡◌, ℕ, suc, ◌+◌, ◌*◌, ◌≤◌, List, [], ◌++◌, length, take, refl, sym, ap, subst, ◌∙◌, arith, true, false, Option, Some}
+use Rattle.std.specs.Prelude.{is_some}
 use Rattle.std.proofs.lemmas.List.{length-take-le, length-append}
 use Rattle.std.proofs.Math.Nat.{mul-le-mul_right}
 use Rattle.jx_lex.specs.declared.alphabet.mark.Mark.{Mark}
 use Rattle.jx_lex.specs.declared.alphabet.state.LexState.{LexState}
 use Rattle.jx_lex.specs.Lex.{lex, Track}
+use Rattle.jx_lex.specs.TokenStates.{in_token}
 use Rattle.jx_run.specs.declared.texts.settings.FrontMark.{FrontMark}
 use Rattle.jx_run.specs.declared.texts.settings.Settings.{Settings}
 use Rattle.jx_run.specs.Reader.{Outcome, is_fault, read_by}
@@ -81,10 +83,12 @@ module _ (settings : Settings) (size : ℕ) (text : List ℕ) (goes : Goes setti
       ∙ ap (λ (z : Outcome). track_of z (piece n)) (sym st.is)
 
   -- the first part has no fault
+  pub first_whole : (n : ℕ) (bs : List ℕ) → n ≡ 0 → bs ≡ piece n → bs ≡ bytes (suc n)
+  first_whole n bs e same = same ∙ ap (λ (xs : List ℕ). xs ++ piece n) (sym (none_before n e)) ∙ part_taken size text n
+
   pub first_goes : (n : ℕ) (bs : List ℕ) → n ≡ 0 → bs ≡ piece n → is_fault (Some (read_by m limit 0 bs)) ≡ true → ⊥
   first_goes n bs e same fault =
-      let whole : bs ≡ bytes (suc n) = same ∙ ap (λ (xs : List ℕ). xs ++ piece n) (sym (none_before n e)) ∙ part_taken size text n in
-      let fine : is_fault (Some (read_by m limit 0 bs)) ≡ false = ap (λ (xs : List ℕ). is_fault (Some (read_by m limit 0 xs))) whole ∙ goes_at (suc n) in
+      let fine : is_fault (Some (read_by m limit 0 bs)) ≡ false = ap (λ (xs : List ℕ). is_fault (Some (read_by m limit 0 xs))) (first_whole n bs e same) ∙ goes_at (suc n) in
       let clash : true ≡ false = sym fault ∙ fine in
       cc
 
@@ -103,17 +107,21 @@ module _ (settings : Settings) (size : ℕ) (text : List ℕ) (goes : Goes setti
   -- by a track that is that of the part
   pub track_held : (n : ℕ) (edges : List Edge) (bs : List ℕ) (track : Track) (next : Sought) → bs ≡ piece n → track ≡ track_of (read_by m limit 0 (bytes n)) (piece n)
       → IsHeld (bytes n ++ bs) edges ((tokens_by m (bytes n)).marks ++ moved_marks (length (bytes n)) track.marks) ((tokens_by m (bytes n)).ends ++ moved_ends (length (bytes n)) track.ends) next.state next.next next.begun next.name.items
-      → IsHeldAt settings size text edges (suc n) next
-  track_held n edges bs track next same is h =
-      next_held n edges next.state next.next next.begun next.name.items
-      (subst (λ (t : Track). IsHeld (bytes n ++ piece n) edges ((tokens_by m (bytes n)).marks ++ moved_marks (length (bytes n)) t.marks) ((tokens_by m (bytes n)).ends ++ moved_ends (length (bytes n)) t.ends) next.state next.next next.begun next.name.items) is
-      (subst (λ (xs : List ℕ). IsHeld (bytes n ++ xs) edges ((tokens_by m (bytes n)).marks ++ moved_marks (length (bytes n)) track.marks) ((tokens_by m (bytes n)).ends ++ moved_ends (length (bytes n)) track.ends) next.state next.next next.begun next.name.items) same h))
+      → is_some next.begun ≡ in_token (state_behind (before settings text (suc n * size))) → IsHeldAt settings size text edges (suc n) next
+  track_held n edges bs track next same is h turn = record {
+    turn = turn;
+    held =
+        next_held n edges next.state next.next next.begun next.name.items
+        (subst (λ (t : Track). IsHeld (bytes n ++ piece n) edges ((tokens_by m (bytes n)).marks ++ moved_marks (length (bytes n)) t.marks) ((tokens_by m (bytes n)).ends ++ moved_ends (length (bytes n)) t.ends) next.state next.next next.begun next.name.items) is
+        (subst (λ (xs : List ℕ). IsHeld (bytes n ++ xs) edges ((tokens_by m (bytes n)).marks ++ moved_marks (length (bytes n)) track.marks) ((tokens_by m (bytes n)).ends ++ moved_ends (length (bytes n)) track.ends) next.state next.next next.begun next.name.items) same h));
+  }
 
   -- where it is passed over
   pub over_held : (n : ℕ) (edges : List Edge) (e : Entry) (held : Sought) (over : Over) (next : Sought) → 64 ≤ size → (n ≡ 0 → ⊥) → n * size ≤ length text → e.state ≡ state_behind (before settings text (n * size))
       → LeadsOver (bytes n) (piece n) edges (tokens_by m (bytes n)).marks (tokens_by m (bytes n)).ends held e over
+      → is_some over.begun ≡ in_token (state_behind (before settings text (suc n * size)))
       → finding next.state ≡ finding_over over (finding held.state) → next.next ≡ over.next → next.begun ≡ over.begun → IsHeldAt settings size text edges (suc n) next
-  over_held n edges e held over next wide other within is leads_over found next_is begun_is =
+  over_held n edges e held over next wide other within is leads_over turn found next_is begun_is =
       let b = length (bytes n) in
       let track = later_track n e.state (piece n) wide other within is refl in
       let h = leads_over next.state next.name.items found in
@@ -121,4 +129,4 @@ module _ (settings : Settings) (size : ℕ) (text : List ℕ) (goes : Goes setti
       let with_begun = subst (λ (o : Option Mark). IsHeld (bytes n ++ piece n) edges ((tokens_by m (bytes n)).marks ++ (lex e.state b (piece n)).marks) ((tokens_by m (bytes n)).ends ++ (lex e.state b (piece n)).ends) next.state next.next o next.name.items) (sym begun_is) with_next in
       track_held n edges (piece n) (lex e.state 0 (piece n)) next refl track
       (subst (λ (ms : List Mark). IsHeld (bytes n ++ piece n) edges ((tokens_by m (bytes n)).marks ++ ms) ((tokens_by m (bytes n)).ends ++ moved_ends b (lex e.state 0 (piece n)).ends) next.state next.next next.begun next.name.items) (marks_on b e.state (piece n))
-      (subst (λ (es : List ℕ). IsHeld (bytes n ++ piece n) edges ((tokens_by m (bytes n)).marks ++ (lex e.state b (piece n)).marks) ((tokens_by m (bytes n)).ends ++ es) next.state next.next next.begun next.name.items) (ends_on b e.state (piece n)) with_begun))
+      (subst (λ (es : List ℕ). IsHeld (bytes n ++ piece n) edges ((tokens_by m (bytes n)).marks ++ (lex e.state b (piece n)).marks) ((tokens_by m (bytes n)).ends ++ es) next.state next.next next.begun next.name.items) (ends_on b e.state (piece n)) with_begun)) (ap is_some begun_is ∙ turn)

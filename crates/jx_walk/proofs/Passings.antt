@@ -5,13 +5,14 @@ use Rattle.jx_lex.specs.declared.alphabet.mark.MarkKind.{MarkKind}
 use Rattle.jx_index.specs.declared.trie.Edge.{Edge}
 use Rattle.jx_index.specs.inside.Building.{is_token, next_end, ends_after}
 use Rattle.jx_index.specs.inside.Finding.{Finding, skip_over}
+use Rattle.jx_index.specs.inside.InOrder.{behind}
 use Rattle.jx_index.specs.inside.Trie.{seek_all, sought, sought_in}
-use Rattle.jx_find.specs.Held.{behind}
 use Rattle.jx_saved.specs.declared.sum.Sum.{Sum}
 use Rattle.jx_saved.specs.Sums.{noted}
+use Rattle.jx_saved.proofs.Sums.{on_from}
 use Rattle.jx_walk.proofs.Paired.{Paired, none, plain, token, ended}
 use Rattle.jx_walk.specs.Passed.{Waits, waits_none, waits_some, some_token, waiting}
-use Rattle.jx_walk.proofs.Sums.{all_grow, grows, on_from, rel_step, token_noted, token_skips}
+use Rattle.jx_walk.proofs.Sums.{all_grow, grows, rel_step, token_noted, token_skips}
 
 -- ---- one mark
 

@@ -1,11 +1,13 @@
 -- Where the reading of an accepted text stands between two of its parts.
-use Rattle.std.proofs.Common.{◌≡◌, ℕ, suc, ◌+◌, ◌<◌, ◌≤◌, List, [], ◌∷◌, ◌++◌, length, drop, take, refl, sym, ap, subst, ◌∙◌, arith, Bool, true, false, cond, Some}
-use Rattle.std.specs.Prelude.{◌==◌}
+use Rattle.std.proofs.Common.{◌≡◌, ℕ, suc, ◌+◌, ◌<◌, ◌≤◌, List, [], ◌∷◌, ◌++◌, length, drop, take, refl, sym, ap, subst, ◌∙◌, arith, Bool, true, false, cond, Option, Some}
+use Rattle.std.specs.Prelude.{◌==◌, is_some}
 use Rattle.std.proofs.lemmas.List.{take-append-drop}
+use Rattle.jx_lex.specs.declared.alphabet.mark.Mark.{Mark}
 use Rattle.jx_lex.specs.declared.alphabet.state.LexState.{LexState}
 use Rattle.jx_lex.specs.declared.alphabet.state.LexState.TheVariants.{Gap}
 use Rattle.jx_lex.specs.Lex as lexical
 use Rattle.jx_lex.specs.Lex.{lex, LexExit}
+use Rattle.jx_lex.specs.TokenStates.{in_token}
 use Rattle.jx_reduce.specs.declared.table.expect.Expect.{Expect}
 use Rattle.jx_reduce.specs.declared.table.expect.Expect.TheVariants.{Value}
 use Rattle.jx_reduce.specs.declared.table.holder.Holder.{Holder}
@@ -16,11 +18,12 @@ use Rattle.jx_run.specs.Front.{agreed}
 use Rattle.jx_run.specs.Reader.{Outcome, in_front, reads, is_fault, read_by}
 use Rattle.jx_run.specs.Reading.{went, stopped, too_deep, at_exit, read, read_text}
 use Rattle.jx_run.specs.Settings.{byte_order_mark}
-use Rattle.jx_run.specs.Telling.{at_start, tokens_by}
+use Rattle.jx_run.specs.Telling.{AwaitsBehind, at_start, tokens_by}
 use Rattle.jx_run.proofs.Fronts.{agreed_short}
 use Rattle.jx_run.proofs.InTurn.{faults_stay}
 use Rattle.jx_run.proofs.ReaderFeeds.{Case, cases, whole, part, none, cut, at_front, by_cut, by_none, by_part, by_whole, goes_on_by}
 use Rattle.jx_run.proofs.Tellings.{front_none, front_whole}
+use Rattle.jx_saved.specs.Chunks.{state_behind}
 
 abbrev pub Goes : FrontMark → ℕ → List ℕ → Type 0
 Goes m limit bytes = is_fault (Some (read_by m limit 0 bytes)) ≡ false
@@ -33,6 +36,18 @@ pub none_read : (m : FrontMark) (limit : ℕ) → read_by m limit 0 [] ≡ at_st
 unfolding read lex
 none_read on_mark.Refused limit = refl
 none_read on_mark.Ignored limit = refl
+
+-- no token has begun in front of a text
+pub between_first : (m : FrontMark) (limit : ℕ) → in_token (state_behind (read_by m limit 0 [])) ≡ false
+unfolding read lex
+between_first on_mark.Refused limit = refl
+between_first on_mark.Ignored limit = refl
+
+pub turn_at : (begun : Option Mark) (z : Outcome) → is_fault (Some z) ≡ false → AwaitsBehind (λ inside. is_some begun ≡ inside) z → is_some begun ≡ in_token (state_behind z)
+turn_at begun (in_front n) goes h = h
+turn_at begun (reads (went s e o)) goes h = h
+turn_at begun (reads (stopped at)) goes h = absurd cc
+turn_at begun (reads (too_deep at)) goes h = absurd cc
 
 -- ---- where a reading stands behind some bytes
 

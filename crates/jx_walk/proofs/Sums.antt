@@ -1,21 +1,18 @@
 -- How one mark changes a sum, beside how it changes the count of what is skipped.
 use Rattle.std.proofs.Common.{◌≡◌, ℕ, zero, suc, ◌+◌, ◌-◌, ◌≤◌, List, [], ◌∷◌, refl, sym, ◌∙◌, ap, subst, arith, Bool, true, false, cond}
-use Rattle.std.specs.Prelude.{◌==◌, fold}
+use Rattle.std.specs.Prelude.{◌==◌}
 use Rattle.std.proofs.lemmas.Bool.Decides.{nat_tests}
 use Rattle.jx_lex.specs.declared.alphabet.mark.Mark.{Mark}
 use Rattle.jx_lex.specs.declared.alphabet.mark.MarkKind.{MarkKind}
 use Rattle.jx_lex.specs.declared.alphabet.mark.MarkKind.TheVariants as mark
 use Rattle.jx_saved.specs.declared.sum.Sum.{Sum}
 use Rattle.jx_saved.specs.Sums.{at_comma, closing, noted}
+use Rattle.jx_saved.proofs.Sums.{close_none, comma_none, on_from}
 use Rattle.jx_index.specs.inside.Building.{is_token}
 use Rattle.jx_index.specs.inside.Finding.{skip_over}
 
 abbrev pub made : ℕ → ℕ → ℕ → Sum
 made c o m = record { closed = c; opened = o; commas = m }
-
--- the sum of more marks behind
-abbrev pub on_from : Sum → List Mark → Sum
-on_from s marks = fold (λ s mark. noted mark.kind s) s marks
 
 -- nothing stands open that was opened, or something
 pub data Open (n : ℕ) : Type 0 where
@@ -26,17 +23,11 @@ pub open_or : (n : ℕ) → Open n
 open_or zero = none refl
 open_or (suc o) = some o refl
 
-pub close_none : (s : Sum) → s.opened ≡ 0 → closing s ≡ made (suc s.closed) 0 0
-close_none s e = let b : (s.opened == 0) ≡ true = grind (arith, nat_tests) in ap (λ (x : Bool). cond x (made (suc s.closed) 0 0) (record s { opened = s.opened - 1 })) b
-
 pub close_some : (s : Sum) (o : ℕ) → s.opened ≡ suc o → closing s ≡ made s.closed o s.commas
 close_some s o e =
     let b : (s.opened == 0) ≡ false = grind (arith, nat_tests) in
     let l : s.opened - 1 ≡ o = omega (arith, e) in
     ap (λ (x : Bool). cond x (made (suc s.closed) 0 0) (record s { opened = s.opened - 1 })) b ∙ ap (λ (n : ℕ). made s.closed n s.commas) l
-
-pub comma_none : (s : Sum) → s.opened ≡ 0 → at_comma s ≡ made s.closed s.opened (suc s.commas)
-comma_none s e = let b : (s.opened == 0) ≡ true = grind (arith, nat_tests) in ap (λ (x : Bool). cond x (record s { commas = suc s.commas }) s) b
 
 pub comma_some : (s : Sum) (o : ℕ) → s.opened ≡ suc o → at_comma s ≡ s
 comma_some s o e = let b : (s.opened == 0) ≡ false = grind (arith, nat_tests) in ap (λ (x : Bool). cond x (record s { commas = suc s.commas }) s) b

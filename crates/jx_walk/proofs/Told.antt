@@ -3,6 +3,7 @@ use Rattle.std.proofs.Common.{◌≡◌, ℕ, suc, ◌+◌, ◌*◌, ◌<◌, �
 use Rattle.std.specs.Prelude.{IfSome, slice_get}
 use Rattle.std.proofs.lemmas.Bool.{cases_lt}
 use Rattle.std.proofs.Math.Nat.{add-mul, mul_assoc, mul-le-mul_right, suc-mul}
+use Rattle.jx_lex.specs.TokenStates.{in_token}
 use Rattle.jx_summary.specs.declared.span.Span.{Span}
 use Rattle.jx_run.specs.declared.texts.settings.Settings.{Settings}
 use Rattle.jx_run.specs.Telling.{tokens_by}
@@ -10,17 +11,16 @@ use Rattle.jx_run.proofs.InTurn.{InPieces}
 use Rattle.jx_index.specs.declared.trie.Edge.{Edge}
 use Rattle.jx_index.specs.inside.Found.{finding}
 use Rattle.jx_find.specs.declared.held.Sought.{Sought}
-use Rattle.jx_find.specs.Held.{IsHeld}
 use Rattle.jx_saved.specs.declared.entry.Entry.{Entry}
 use Rattle.jx_saved.specs.declared.index.Index.{Index}
-use Rattle.jx_saved.specs.Chunks.{before, entry_behind, part}
+use Rattle.jx_saved.specs.Chunks.{before, entry_behind, part, state_behind}
 use Rattle.jx_walk.specs.declared.blocks.Block.{Block}
 use Rattle.jx_walk.specs.declared.passing.Over.{Over}
 use Rattle.jx_walk.specs.Chunks.{chunk_at}
-use Rattle.jx_walk.specs.HeldAt.{IsHeldAt}
+use Rattle.jx_walk.specs.HeldAt.{IsHeldAt, IsHeldTo}
 use Rattle.jx_walk.specs.Known.{IsKnown}
 use Rattle.jx_walk.specs.inside.Blocks.{IsBlockAt, TellsOfBlock}
-use Rattle.jx_walk.specs.inside.Over.{IsOver, finding_over}
+use Rattle.jx_walk.specs.inside.Over.{IsOver, KeepsTurn, finding_over}
 use Rattle.jx_walk.proofs.Levels.{entry_in}
 use Rattle.jx_walk.proofs.Comings.{inside}
 use Rattle.jx_walk.proofs.Parts.{over_held}
@@ -44,16 +44,12 @@ entry_told index block (Some e) is = λ at b settings chunk text known low.
     (entry_in o.level index.entries.items index.top e block.start block.place o.levels (omega (arith, more)) (sym is))
 
 module _ (settings : Settings) (chunk : ℕ) (text : List ℕ) (index : Index) (known : IsKnown settings chunk text index) (two : InPieces) where
-  -- what is held of so many bytes
-  abbrev HeldTo : List Edge → Sought → ℕ → Type 0
-  HeldTo edges h count = IsHeld (take count text) edges (tokens_by settings.mark (take count text)).marks (tokens_by settings.mark (take count text)).ends h.state h.next h.begun h.name.items
-
   pub block_over : (edges : List Edge) (at end : ℕ) (block : Block) (span : Span) (here later : Entry) (held : Sought) (over : Over) → (at ≡ 0 → ⊥) → IsBlockAt index at block → end ≡ at + block.chunks → chunk_at index end ≡ Some span
       → TellsOfBlock index block here
       → later ≡ entry_behind (before settings text (end * chunk)) (part chunk text end)
-      → IsOver held edges here later over → IsHeldAt settings chunk text edges at held
+      → IsOver held edges here later over → KeepsTurn held here later over → IsHeldAt settings chunk text edges at held
       → (next : Sought) → finding next.state ≡ finding_over over (finding held.state) → next.next ≡ over.next → next.begun ≡ over.begun → IsHeldAt settings chunk text edges end next
-  block_over edges at end block span here later held over other b end_is stands told later_is is_over was next found next_is begun_is =
+  block_over edges at end block span here later held over other b end_is stands told later_is is_over keeps was next found next_is begun_is =
       let o = b.of settings chunk text known in
       let n = block.place in
       let size = block.chunks * chunk in
@@ -71,5 +67,10 @@ module _ (settings : Settings) (chunk : ℕ) (text : List ℕ) (index : Index) (
       let second : n ≡ 0 → ⊥ = λ e. other (sym o.begins ∙ ap (λ (k : ℕ). k * block.chunks) e ∙ (let z : 0 * block.chunks ≡ 0 = omega arith in z)) in
       let piece = piece_at settings size text known.goes two n here later (part chunk text end) wide second within tells (later_is ∙ ap (λ (k : ℕ). entry_behind (before settings text k) (part chunk text end)) (sym to)) in
       let bytes = take (n * size) text in
-      let leads = is_over settings.depth bytes (part size text n) (tokens_by settings.mark bytes).marks (tokens_by settings.mark bytes).ends (subst (HeldTo edges held) (sym from) was) piece in
-      subst (HeldTo edges next) to (over_held settings size text known.goes two n edges here held over next wide second within tells.state leads found next_is begun_is)
+      let marks = (tokens_by settings.mark bytes).marks in
+      let h = subst (λ (k : ℕ). IsHeldTo settings text edges k held) (sym from) was in
+      let leads = is_over settings.depth bytes (part size text n) marks (tokens_by settings.mark bytes).ends h.held piece in
+      let turn = keeps settings.depth bytes (part size text n) marks piece (h.turn ∙ ap in_token (sym tells.state)) in
+      let state : later.state ≡ state_behind (before settings text (suc n * size)) = ap (λ (e : Entry). e.state) later_is ∙ ap (λ (k : ℕ). state_behind (before settings text k)) (sym to) in
+      subst (λ (k : ℕ). IsHeldTo settings text edges k next) to
+      (over_held settings size text known.goes two n edges here held over next wide second within tells.state leads (turn ∙ ap in_token state) found next_is begun_is)

@@ -25,17 +25,18 @@ use Rattle.jx_index.specs.declared.units.Spelling.TheVariants.{InText}
 use Rattle.jx_index.specs.Units.{between_marks, chars_units, units_at}
 use Rattle.jx_index.specs.inside.Building.{is_token, next_end}
 use Rattle.jx_index.specs.inside.Finding.{Finding, begin_at, leaf_at, skip_over}
+use Rattle.jx_index.specs.inside.InOrder.{behind}
 use Rattle.jx_index.specs.inside.Trie.{child_at, element_at, seek_all, sought, string_among, target_node}
-use Rattle.jx_find.specs.Held.{behind}
 use Rattle.jx_saved.specs.declared.sum.Sum.{Sum}
 use Rattle.jx_saved.specs.Sums.{at_comma, closing, noted, nothing, opening, sum_of}
+use Rattle.jx_saved.proofs.Sums.{close_none, comma_none}
 use Rattle.jx_name_tables.specs.Names.{NamesOf, none, plain, token, ended, is_behind_name, is_colon, kept}
 use Rattle.jx_walk.specs.Holding.{Holds, here, below, holder_of}
 use Rattle.jx_walk.specs.Passing.{room}
 use Rattle.jx_walk.specs.Members.{InObject, IsBegun, lacks, lacks_behind, unwanted_name}
 use Rattle.jx_walk.proofs.Moves.{array_ends, colon_stands, comma_stands, container_begins, object_ends, string_holders, value_begins}
 use Rattle.jx_walk.proofs.Passings.{plain_ends, plain_over, seek_one, token_ends, token_over}
-use Rattle.jx_walk.proofs.Sums.{Open, none as none_open, some as some_open, close_none, close_some, comma_none, comma_some, grows, open_or, token_noted}
+use Rattle.jx_walk.proofs.Sums.{Open, none as none_open, some as some_open, close_some, comma_some, grows, open_or, token_noted}
 
 -- ---- lists of which something holds everywhere
 

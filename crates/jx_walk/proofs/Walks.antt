@@ -1,5 +1,6 @@
 -- How far a walk has come.
-use Rattle.std.proofs.Common.{◌≡◌, ℕ, ◌+◌, ◌*◌, ◌≤◌, List, [], length, take, refl, sym, ap, subst, arith, None, Result}
+use Rattle.std.proofs.Common.{◌≡◌, ℕ, ◌+◌, ◌*◌, ◌≤◌, List, [], length, refl, sym, ap, subst, arith, None, Result, ◌∙◌}
+use Rattle.std.specs.Prelude.{is_some}
 use Rattle.std.proofs.lemmas.List.{take_all}
 use Rattle.jx_lex.specs.Lex.{Track}
 use Rattle.jx_run.specs.declared.texts.settings.FrontMark.{FrontMark}
@@ -24,9 +25,10 @@ use Rattle.jx_find.proofs.Finders.{verdict_goes}
 use Rattle.jx_saved.specs.declared.index.Index.{Index}
 use Rattle.jx_saved.specs.Index.{IsIndexOf}
 use Rattle.jx_walk.specs.Chunks.{chunk_at}
-use Rattle.jx_walk.specs.HeldAt.{IsHeldAt}
+use Rattle.jx_walk.specs.HeldAt.{IsHeldAt, IsHeldTo}
 use Rattle.jx_walk.specs.Known.{IsKnown}
 use Rattle.jx_walk.proofs.Chunkings.{past_all}
+use Rattle.jx_walk.proofs.Standing.{between_first}
 
 -- ---- the names of objects are of no account
 
@@ -73,10 +75,13 @@ known_of judged one settings chunk text index long h = record {
 
 -- ---- what is held of no byte, and of all
 
-pub held_first : (settings : Settings) (chunk : ℕ) (text : List ℕ) (edges : List Edge) (h : Sought) → IsHeld [] edges [] [] h.state h.next h.begun h.name.items → IsHeldAt settings chunk text edges 0 h
-held_first settings chunk text edges h held =
-    subst (λ (xs : List ℕ). IsHeld xs edges (tokens_by settings.mark xs).marks (tokens_by settings.mark xs).ends h.state h.next h.begun h.name.items) (ap (λ (n : ℕ). take n text) (let e : 0 ≡ 0 * chunk = omega arith in e))
-    (subst (λ (t : Track). IsHeld [] edges t.marks t.ends h.state h.next h.begun h.name.items) (sym (no_tokens_yet settings.mark)) held)
+pub held_first : (settings : Settings) (chunk : ℕ) (text : List ℕ) (edges : List Edge) (h : Sought) → IsHeld [] edges [] [] h.state h.next h.begun h.name.items → h.begun ≡ None → IsHeldAt settings chunk text edges 0 h
+held_first settings chunk text edges h held none =
+    subst (λ (n : ℕ). IsHeldTo settings text edges n h) (let e : 0 ≡ 0 * chunk = omega arith in e)
+    (record {
+      held = subst (λ (t : Track). IsHeld [] edges t.marks t.ends h.state h.next h.begun h.name.items) (sym (no_tokens_yet settings.mark)) held;
+      turn = ap is_some none ∙ sym (between_first settings.mark settings.depth);
+    })
 
 pub held_last : (settings : Settings) (chunk : ℕ) (text : List ℕ) (index : Index) (edges : List Edge) (at : ℕ) (h : Sought) → IsKnown settings chunk text index → chunk_at index at ≡ None → IsHeldAt settings chunk text edges at h
     → IsHeld text edges (tokens_by settings.mark text).marks (tokens_by settings.mark text).ends h.state h.next h.begun h.name.items
@@ -84,4 +89,4 @@ held_last settings chunk text index edges at h known none held =
     let past : index.size ≤ at * index.chunk = past_all index at none in
     let c : at * index.chunk ≡ at * chunk = ap (λ (n : ℕ). at * n) known.indexed.chunk_is in
     let z = known.indexed.size_is in
-    subst (λ (xs : List ℕ). IsHeld xs edges (tokens_by settings.mark xs).marks (tokens_by settings.mark xs).ends h.state h.next h.begun h.name.items) (take_all (at * chunk) text (omega (arith, past, c, z))) held
+    subst (λ (xs : List ℕ). IsHeld xs edges (tokens_by settings.mark xs).marks (tokens_by settings.mark xs).ends h.state h.next h.begun h.name.items) (take_all (at * chunk) text (omega (arith, past, c, z))) held.held

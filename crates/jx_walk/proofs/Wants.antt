@@ -1,28 +1,20 @@
 -- By the table of a chunk's block no member of it is wanted.
-use Rattle.std.proofs.Common.{◌≡◌, ℕ, suc, ◌/◌, List, [], ◌∷◌, refl, sym, ap, subst, ◌∙◌, Bool, true, false, cond, None, Some}
-use Rattle.std.specs.Prelude.{◌==◌, ◌&&◌, All, Contains, map, option_map, slice_get, slice_index_or}
+use Rattle.std.proofs.Common.{◌≡◌, ℕ, ◌/◌, List, refl, sym, ap, subst, ◌∙◌, Bool, true, false, None, Some}
+use Rattle.std.specs.Prelude.{◌==◌, All, Contains, map, option_map, slice_get, slice_index_or}
 use Rattle.std.proofs.lemmas.Option.{slice_get-map}
 use Rattle.std.specs.Ordering.{nat_cmp, is_eq}
 use Rattle.std.specs.Cmp.Lexicographic.{slice_cmp}
-use Rattle.std.proofs.lemmas.Bool.{eqb-true}
+use Rattle.std.proofs.lemmas.Bool.{eqb-true, and_parts}
 use Rattle.jx_run.specs.declared.texts.settings.Settings.{Settings}
 use Rattle.jx_index.specs.declared.trie.Edge.{Edge}
-use Rattle.jx_index.specs.inside.Trie.{child_at, edge_units, first_of, leads_to_units}
+use Rattle.jx_index.specs.inside.Trie.{child_at, edge_units, leads_to_units}
 use Rattle.jx_index.proofs.NameKeys.{same_units}
+use Rattle.jx_index.proofs.Ways.{first_none}
 use Rattle.jx_name_tables.specs.Hash.{name_hash}
 use Rattle.jx_name_tables.specs.Tables.{AreTablesOf, key_of}
 use Rattle.jx_walk.specs.declared.members.TextNames.{TextNames}
 use Rattle.jx_walk.specs.Numbers.{HaveNumbers}
 use Rattle.jx_walk.specs.inside.Members.{NoneWants}
-
-first_none : (p : Edge → Bool) (edges : List Edge) (i : ℕ) → ((j : ℕ) (e : Edge) → slice_get edges j ≡ Some e → p e ≡ false) → first_of p edges i ≡ None
-first_none p [] i h = refl
-first_none p (e ∷ edges) i h = ap (λ (b : Bool). cond b (Some i) (first_of p edges (suc i))) (h 0 e refl) ∙ first_none p edges (suc i) (λ j x is. h (suc j) x is)
-
-both : (a b : Bool) → (a && b) ≡ true → (a ≡ true) × (b ≡ true)
-both true true h = (refl, refl)
-both true false h = absurd cc
-both false b h = absurd cc
 
 module _ (settings : Settings) (size : ℕ) (text : List ℕ) (edges : List Edge) (names : TextNames) (t : AreTablesOf settings size text names.tables.now) (numbers : HaveNumbers edges names.numbers.items) where
   pub none_wanted : (node n : ℕ) → NoneWants names edges node n → (own : List (List ℕ)) → slice_get t.names n ≡ Some own → All (λ (units : List ℕ). child_at edges node units ≡ None) own
@@ -34,7 +26,7 @@ module _ (settings : Settings) (size : ℕ) (text : List ℕ) (edges : List Edge
       other : (i : ℕ) (e : Edge) → slice_get edges i ≡ Some e → (b : Bool) → leads_to_units node units e ≡ b → leads_to_units node units e ≡ false
       other i e got false h = h
       other i e got true h =
-          let p = both (e.parent == node) (is_eq (slice_cmp nat_cmp units (edge_units e))) h in
+          let p = and_parts (e.parent == node) (is_eq (slice_cmp nat_cmp units (edge_units e))) h in
           let parent : e.parent ≡ node = eqb-true e.parent node p.0 in
           let same : units ≡ edge_units e = same_units units (edge_units e) p.1 in
           let w = wants i e got parent in

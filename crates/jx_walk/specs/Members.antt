@@ -11,8 +11,8 @@ use Rattle.jx_index.specs.declared.finder.Cursor.{Cursor}
 use Rattle.jx_index.specs.declared.trie.Edge.{Edge}
 use Rattle.jx_index.specs.inside.Building.{is_token}
 use Rattle.jx_index.specs.inside.Finding.{Finding}
+use Rattle.jx_index.specs.inside.InOrder.{behind}
 use Rattle.jx_index.specs.inside.Trie.{child_at, seek_all}
-use Rattle.jx_find.specs.Held.{behind}
 use Rattle.jx_saved.specs.declared.sum.Sum.{Sum}
 use Rattle.jx_saved.specs.Sums.{sum_of}
 use Rattle.jx_name_tables.specs.Names.{NamesOf}

@@ -1,5 +1,5 @@
 // Chunks of an object on the way, one after another, that have no member that is wanted.
-ghost use Rattle.std.specs.Prelude.{◌≡◌, ◌≢◌, ◌+◌, ◌≤◌, ℕ, List, Some, IfSome};
+ghost use Rattle.std.specs.Prelude.{◌≢◌, ◌+◌, Some, IfSome};
 ghost use Rattle.jx_walk.specs.inside.Members.{IsHeldAmong, IsPast, LeadsOn, LeadsTo, TellsAt};
 
 use crate::chunks::chunk_at;

@@ -7,7 +7,7 @@ ghost use Rattle.jx_index.specs.inside.Found.{finding};
 ghost use Rattle.jx_index.specs.inside.Trie.{first_open, is_name_next, place_from, IsNextFrom};
 ghost use Rattle.jx_walk.specs.Passed.{waiting};
 ghost use Rattle.jx_walk.specs.Passing.{InArray, slot};
-ghost use Rattle.jx_walk.specs.inside.Over.{IsOver, finding_over, recounted};
+ghost use Rattle.jx_walk.specs.inside.Over.{IsOver, KeepsTurn, finding_over, recounted};
 
 use crate::laws::parts_are_passed;
 use jx_find::Sought;
@@ -78,7 +78,8 @@ fn may_name(state: &State) -> bool
 
 /// Where no mark begins and no end shows.
 fn pass_nothing(held: &Sought, edges: &[Edge], here: &Entry, behind: &Entry) -> Option<Over>
-    ensures { IfSome result (IsOver held.now edges.now here.now behind.now) }
+    ensures over { IfSome result (IsOver held.now edges.now here.now behind.now) }
+    ensures turn { IfSome result (KeepsTurn held.now here.now behind.now) }
 {
     if here.begins || here.ends || may_name(&held.state) {
         return None;
@@ -92,15 +93,17 @@ fn pass_nothing(held: &Sought, edges: &[Edge], here: &Entry, behind: &Entry) -> 
 }
 
 /// Whether a token is held exactly where one has begun.
-fn agrees(held: &Sought, here: &Entry) -> bool
-    ensures { result ≡ true → in_token here.now.state ≡ is_some held.now.begun }
+pub(crate) fn agrees(held: &Sought, here: &Entry) -> bool
+    ensures same { result ≡ true → in_token here.now.state ≡ is_some held.now.begun }
+    ensures other { result ≡ false → in_token here.now.state ≡ is_some held.now.begun → ⊥ }
 {
     is_in_token(here.state) == held.begun.is_some()
 }
 
 /// Where fewer containers are closed than are skipped.
 fn pass_inside(held: &Sought, edges: &[Edge], here: &Entry, behind: &Entry) -> Option<Over>
-    ensures { IfSome result (IsOver held.now edges.now here.now behind.now) }
+    ensures over { IfSome result (IsOver held.now edges.now here.now behind.now) }
+    ensures turn { IfSome result (KeepsTurn held.now here.now behind.now) }
 {
     parts_are_passed();
     let closed = here.sum.closed as usize;
@@ -199,7 +202,8 @@ fn is_unnamed(state: &State) -> bool
 
 /// Where as many containers are closed as are skipped, and no element of the innermost open array that begins is wanted.
 fn pass_elements(held: &Sought, edges: &[Edge], here: &Entry, behind: &Entry) -> Option<Over>
-    ensures { IfSome result (IsOver held.now edges.now here.now behind.now) }
+    ensures over { IfSome result (IsOver held.now edges.now here.now behind.now) }
+    ensures turn { IfSome result (KeepsTurn held.now here.now behind.now) }
 {
     parts_are_passed();
     let top = innermost(&held.state.opened)?;
@@ -237,7 +241,8 @@ fn pass_elements(held: &Sought, edges: &[Edge], here: &Entry, behind: &Entry) ->
 /// What changes of what is held where a chunk of an accepted text is passed over, if it can be, by what is kept of it and of
 /// the one behind it.
 pub(crate) fn pass(held: &Sought, edges: &[Edge], here: &Entry, behind: &Entry) -> Option<Over>
-    ensures { IfSome result (IsOver held.now edges.now here.now behind.now) }
+    ensures over { IfSome result (IsOver held.now edges.now here.now behind.now) }
+    ensures turn { IfSome result (KeepsTurn held.now here.now behind.now) }
 {
     if let Some(over) = pass_nothing(held, edges, here, behind) {
         return Some(over);

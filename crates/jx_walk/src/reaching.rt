@@ -176,7 +176,8 @@ pub(crate) fn read_on(
     bytes: &[u8],
 ) -> Result<Option<Reached>, AllocError>
     requires here { chunk_at index.now at ≡ Some span }
-    ensures none { IfOk result (λ read. IfNone read ((settings : Settings) (chunk : ℕ) (text : List ℕ) → IsKnown settings chunk text index.now → bytes.now ≡ slice_range text span.start span.end → ⊥)) }
+    ensures none { IfOk result (λ read. IfNone read ((before : SoughtOf) → held ≡ Some before → (settings : Settings) (chunk : ℕ) (text : List ℕ) → IsKnown settings chunk text index.now
+        → bytes.now ≡ slice_range text span.start span.end → IsHeldAt settings chunk text edges.now at before → ⊥)) }
     ensures later { IfOk result (λ read. IfSome read (λ reached. at + 1 ≤ reached.at)) }
     ensures held { IfOk result (λ read. IfSome read (λ reached. (before : SoughtOf) → held ≡ Some before → (settings : Settings) (chunk : ℕ) (text : List ℕ) → IsKnown settings chunk text index.now
         → bytes.now ≡ slice_range text span.start span.end → HasNamesOf settings chunk text edges.now names.now → IsHeldAt settings chunk text edges.now at before → IsHeldAt settings chunk text edges.now reached.at reached.held)) }

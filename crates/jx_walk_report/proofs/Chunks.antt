@@ -1,8 +1,7 @@
 -- Chunks of a file beside those of a text.
-use Rattle.std.specs.Prelude.{Option, None, Some, slice_range, nat_lt, if◌then◌else◌}
-use Rattle.std.proofs.Common.{◌≡◌, ℕ, ◌+◌, ◌*◌, ◌-◌, ◌<◌, ◌≤◌, Bool, true, false, List, ◌++◌, length, take, drop, min, refl, sym, ap, subst, ◌∙◌, arith, leb, leb-true, leb-false, ◌⊎◌, inl, inr}
+use Rattle.std.specs.Prelude.{Option, Some, slice_range}
+use Rattle.std.proofs.Common.{◌≡◌, ℕ, ◌+◌, ◌*◌, ◌-◌, ◌<◌, ◌≤◌, true, false, List, length, take, drop, min, refl, sym, ap, subst, ◌∙◌, arith, leb, leb-true, leb-false, ◌⊎◌, inl, inr}
 use Rattle.std.proofs.lemmas.List.{length-drop, take_all}
-use Rattle.jx_summary.specs.declared.span.Span.{Span}
 use Rattle.jx_saved.specs.Chunks.{part}
 use Rattle.jx_walk_report.specs.Offsets.{EndsBefore, HasSize, StandThere}
 

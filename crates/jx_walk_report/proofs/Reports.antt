@@ -5,12 +5,12 @@ use Rattle.std.specs.declared.alloc.Global.{Global}
 use Rattle.jx_run.specs.declared.texts.settings.Settings.{Settings}
 use Rattle.jx_saved.specs.declared.entry.Entry.{Entry}
 use Rattle.jx_saved.specs.declared.index.Index.{Index}
-use Rattle.jx_saved.specs.Chunks.{IsCount, entries_of}
+use Rattle.jx_saved.specs.Chunks.{entries_of}
 use Rattle.jx_saved.specs.Index.{AreLevels, IsIndexOf}
 use Rattle.jx_saved.specs.Saved.{SaysSame}
 use Rattle.jx_name_tables.specs.declared.tables.NameTable.{NameTable}
 use Rattle.jx_name_tables.specs.declared.tables.NameTables.{NameTables}
-use Rattle.jx_name_tables.specs.Tables.{AreTablesOf, IsTableOf}
+use Rattle.jx_name_tables.specs.Tables.{IsTableOf}
 use Rattle.jx_saved_names.specs.declared.saved_text.SavedText.{SavedText}
 use Rattle.jx_saved_names.specs.Fed.{KeepsNames}
 use Rattle.jx_saved_names.specs.Saved.{IsSavableToo, SaysSameToo, SaysTable, SayNames, SayTables}
@@ -25,7 +25,7 @@ use Rattle.jx_report.proofs.PointerReplies.{reply_is}
 use Rattle.jx_walk_report.specs.declared.look_fault.LookFault.{LookFault}
 use Rattle.jx_walk_report.specs.declared.look_fault.LookFault.TheVariants.{Changed, Memory, NoText, OtherSize, Saved, SavedRead, TextRead, Write}
 use Rattle.jx_walk_report.specs.inside.Faults.{IsChange}
-use Rattle.jx_walk_report.specs.Looked.{AreAnswersBySaved, IsReadOf}
+use Rattle.jx_walk_report.specs.Looked.{AreAnswersBySaved}
 use Rattle.jx_walk_report.specs.Reports.{ArePlaces, FailsFor, IsOfText}
 use Rattle.jx_walk_report.specs.Saved.{IsKeptOf, IsSavedOf, TellsApart}
 

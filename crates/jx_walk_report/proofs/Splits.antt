@@ -1,7 +1,6 @@
 -- What is written and told of parts that were found, or of why there are none.
 use Rattle.std.specs.Prelude.{Option, None, Some, Result, Ok, Err, Vec, slice_get}
-use Rattle.std.proofs.Common.{◌≡◌, ℕ, List, [], ◌∷◌, ◌++◌, length, refl, sym, ap, subst, ◌∙◌, append-nil}
-use Rattle.std.specs.Io.KnownBytes.{Appends}
+use Rattle.std.proofs.Common.{◌≡◌, ℕ, List, [], ◌∷◌, length, refl, sym, ap, subst, ◌∙◌}
 use Rattle.std.specs.declared.alloc.Global.{Global}
 use Rattle.jx_run.specs.declared.texts.settings.Settings.{Settings}
 use Rattle.jx_run.specs.declared.texts.verdict.Verdict.{Verdict}
@@ -64,11 +63,6 @@ are_parts parts pointer saved content read r answer reads answered e = λ settin
     let h = answered settings chunk text file (read_is saved read reads settings chunk text bytes s of) is tells in
     subst (λ (x : Split). SplitOutput settings parts pointer text (output_of x) (tells_of x) (exit_of x)) e
     (record { tree = h.tree; is_text = h.is_text; splits = splits_by parts pointer text h.tree r h.comes })
-
--- no byte
-pub appends_none : (known : Option (List ℕ)) → Appends known known []
-appends_none None = tt
-appends_none (Some xs) = sym (append-nil xs)
 
 -- ---- what a pointer leads to
 

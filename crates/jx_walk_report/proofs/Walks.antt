@@ -1,6 +1,7 @@
 -- Chunks that a walk needs, as a file has them.
 use Rattle.std.specs.Prelude.{◌≢◌, Option, None, Some, slice_range, nat_lt, if◌then◌else◌}
 use Rattle.std.proofs.Common.{◌≡◌, ℕ, ◌+◌, ◌*◌, ◌-◌, ◌<◌, ◌≤◌, Bool, true, false, List, length, min, refl, sym, ap, subst, ◌∙◌, arith}
+use Rattle.std.proofs.lemmas.Option.{same_Some}
 use Rattle.jx_summary.specs.declared.span.Span.{Span}
 use Rattle.jx_run.specs.declared.texts.settings.Settings.{Settings}
 use Rattle.jx_run.specs.Tree.{span}
@@ -16,7 +17,7 @@ use Rattle.jx_walk_report.specs.declared.look_fault.LookFault.{LookFault}
 use Rattle.jx_walk_report.specs.inside.Faults.{IsChange, walk_fault}
 use Rattle.jx_walk_report.specs.Offsets.{EndsBefore, HasSize, StandThere}
 use Rattle.jx_walk_report.specs.Saved.{TellsApart}
-use Rattle.jx_walk_report.proofs.Chunks.{all_read, chunk_there, known_size}
+use Rattle.jx_walk_report.proofs.Chunks.{all_read, chunk_there}
 
 span_is : (b : Bool) (x s : Span) → (if b then Some x else None) ≡ Some s → s ≡ x
 span_is true x s e = cc
@@ -45,14 +46,11 @@ pub given_is : (known now_known : Option (List ℕ)) (all : List ℕ) (s : Span)
 given_is known now_known all s size bytes given is sized kept some within there short ended same =
     same ∙ all_read now_known all s.start s.end size bytes (kept ∙ is) (subst (λ (o : Option (List ℕ)). HasSize o size) (sym kept) sized) (omega (arith, some)) within there short ended
 
-some_same : {A : Type 0} (x y : A) → Some x ≡ Some y → x ≡ y
-some_same x y e = cc
-
 -- whatever part is needed, it is told apart
 pub all_told : (index : Index) (at : ℕ) (s : Span) (settings : Settings) (chunk : ℕ) (text all given : List ℕ) → Some s ≡ chunk_at index at → IsIndexOf settings chunk text index
     → length all ≡ index.size → given ≡ slice_range all s.start s.end → TellsApart chunk text all → (x : Span) → chunk_at index at ≡ Some x → IsToldApart text x given
 all_told index at s settings chunk text all given here is_index long is tells x e =
-    let same : s ≡ x = some_same s x (here ∙ e) in
+    let same : s ≡ x = same_Some s x (here ∙ e) in
     subst (λ (y : Span). IsToldApart text y given) same (told_apart index at s settings chunk text all given (sym here) is_index long is tells)
 
 -- ---- faults
@@ -62,7 +60,7 @@ pub changes : (f : WalkFault) (r : LookFault) (needs : Option Span) (s : Span) (
     → ((x : Span) → f ≡ Changed x → (needs ≡ Some x) × (given ≢ slice_range text x.start x.end)) → (f ≡ Damaged → ⊥) → IsChange text all r
 changes (Changed x) r needs s text all given e here is differs whole =
     let told = differs x refl in
-    let same : s ≡ x = some_same s x (here ∙ told.0) in
+    let same : s ≡ x = same_Some s x (here ∙ told.0) in
     let there : given ≡ slice_range all x.start x.end = is ∙ ap (λ (y : Span). slice_range all y.start y.end) same in
     subst (λ (q : LookFault). IsChange text all q) (sym e) (λ h. told.1 (there ∙ h))
 changes Damaged r needs s text all given e here is differs whole = absurd (whole refl)

@@ -1,5 +1,5 @@
 -- What is written and told for the parts of a container to which a pointer leads, by a saved index.
-use Rattle.std.specs.Prelude.{◌≡◌, ℕ, List, [], ◌∷◌, ◌++◌, Bool, false, Option, Some, Ok, Err, codes, length}
+use Rattle.std.specs.Prelude.{◌≡◌, ℕ, List, [], ◌++◌, Bool, false, Option, Some, Ok, Err, codes, length}
 use Rattle.std.specs.Io.KnownBytes.{Appends}
 use Rattle.std.specs.List.{flat_map}
 use Rattle.jx_run.specs.declared.texts.settings.Settings.{Settings}

@@ -1,6 +1,5 @@
 // Pointers are looked up in a text of which an index is saved.
-ghost use Rattle.std.specs.Prelude.{◌≡◌, ◌≢◌, ◌↔◌, true, false, Some, ℕ, List, slice_range, IfOk, IfErr, IsErrOf};
-ghost use Rattle.jx_summary.specs.declared.span.Span.{Span};
+ghost use Rattle.std.specs.Prelude.{◌≡◌, ◌↔◌, true, false, Some, ℕ, List, IfOk, IfErr, IsErrOf};
 ghost use Rattle.jx_run.specs.declared.texts.settings.Settings.{Settings};
 ghost use Rattle.jx_index.specs.Found.{AreFoundIn};
 ghost use Rattle.jx_walk.specs.Walk.{HasCome};

@@ -1,6 +1,6 @@
 -- What was read of a chunk.
-use Rattle.std.specs.Prelude.{◌≢◌, Option, None, Some, slice_range}
-use Rattle.std.proofs.Common.{◌≡◌, ℕ, ◌+◌, ◌-◌, ◌<◌, ◌≤◌, List, length, refl, sym, subst, ◌∙◌, arith}
+use Rattle.std.specs.Prelude.{◌≢◌, Option, Some, slice_range}
+use Rattle.std.proofs.Common.{◌≡◌, ℕ, ◌+◌, ◌-◌, ◌<◌, ◌≤◌, List, length, refl, sym, ◌∙◌, arith}
 use Rattle.jx_summary.specs.declared.span.Span.{Span}
 use Rattle.jx_run.specs.declared.texts.settings.Settings.{Settings}
 use Rattle.jx_saved.specs.declared.index.Index.{Index}
@@ -10,7 +10,6 @@ use Rattle.jx_walk.specs.Chunks.{chunk_at}
 use Rattle.jx_walk.proofs.Chunkings.{stands_at}
 use Rattle.jx_walk_report.specs.declared.look_fault.LookFault.TheVariants.{Changed}
 use Rattle.jx_walk_report.specs.Offsets.{EndsBefore, HasSize, StandThere}
-use Rattle.jx_walk_report.specs.Saved.{TellsApart}
 use Rattle.jx_walk_report.proofs.Chunks.{known_size}
 use Rattle.jx_walk_report.proofs.Walks.{all_told, given_is}
 use Rattle.jx_walk_values.specs.inside.Texts.{AreBytesIn, IsChangeIn}
@@ -22,14 +21,6 @@ module _ (known : Option (List ℕ)) (index : Index) (number : ℕ) (s : Span) (
 
   of_file : (file : List ℕ) → known ≡ Some file → given ≡ slice_range file s.start s.end
   of_file file is = given_is known known file s index.size bytes given is sized refl order inside_size there_is within all same
-
-  -- the file is not cut short
-  pub short_bytes : length bytes < s.end - s.start → IsChangeIn known index (Changed s)
-  short_bytes low = λ settings chunk text file is_index is tells.
-      let long : length file ≡ index.size = known_size known file index.size is sized in
-      let ended : length file ≤ s.start + length bytes = subst (λ (o : Option (List ℕ)). EndsBefore o (s.start + length bytes)) is (all low) in
-      let i = inside_size in
-      absurd (omega (arith, long, ended, low, order, i))
 
   -- bytes with the digest of the chunk are those of the text
   pub kept_bytes : ((settings : Settings) (chunk : ℕ) (text : List ℕ) → IsIndexOf settings chunk text index → chunk_at index number ≡ Some s → xxh64 given ≡ xxh64 (slice_range text s.start s.end))

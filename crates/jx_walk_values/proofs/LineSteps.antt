@@ -1,12 +1,11 @@
 -- One pointer's line more, and what is told of it.
-use Rattle.std.specs.Prelude.{Option, None, Some, flat_map, slice_range, unwrap_or}
-use Rattle.std.proofs.Common.{◌≡◌, ℕ, suc, ◌+◌, ◌-◌, ◌<◌, ◌≤◌, List, [], ◌∷◌, ◌++◌, length, take, drop, get_or, refl, sym, ap, subst, ◌∙◌, arith, append_assoc, append-nil}
+use Rattle.std.specs.Prelude.{Option, flat_map, slice_range, unwrap_or}
+use Rattle.std.proofs.Common.{◌≡◌, ℕ, suc, ◌+◌, ◌-◌, ◌<◌, List, [], ◌∷◌, ◌++◌, length, take, get_or, refl, sym, ap, ◌∙◌, arith, append_assoc, append-nil}
 use Rattle.std.proofs.Math.Seq.{take-suc}
 use Rattle.std.proofs.lemmas.List.{length-take, take_all}
 use Rattle.std.specs.Io.KnownBytes.{Appends}
 use Rattle.std.proofs.KnownBytes.{Appends-nil, Appends-trans}
 use Rattle.jx_summary.specs.declared.span.Span.{Span}
-use Rattle.jx_lex.specs.declared.kind.Kind.{Kind}
 use Rattle.jx_saved.specs.declared.index.Index.{Index}
 use Rattle.jx_words.specs.declared.pointer_answer.PointerAnswer.{PointerAnswer}
 use Rattle.jx_words.specs.declared.pointer_answer.PointerAnswer.TheVariants.{Found, Lost, Unread}
@@ -40,10 +39,6 @@ module _ (known : Option (List ℕ)) (index : Index) (form : Form) (value : List
       ap (λ (bytes : List ℕ). told_of_value pointer (value_written form kind bytes)) (same_bytes s is_value settings chunk text file is_index is tells)
   told_is pointer (Unread fault) is_value = λ settings chunk text file is_index is tells. refl
   told_is pointer (Lost fault) is_value = λ settings chunk text file is_index is tells. refl
-
--- a line alone
-pub one_line : (form : Form) (bytes : List ℕ) (answer : PointerAnswer) → flat_map (value_line form bytes) (answer ∷ []) ≡ value_line form bytes answer
-one_line form bytes answer = append-nil (value_line form bytes answer)
 
 -- a beginning of bytes behind others
 begun_behind : (a b c : Option (List ℕ)) (front bytes : List ℕ) → Appends a b front → AppendsBeginning b c bytes → AppendsBeginning a c (front ++ bytes)

@@ -1,13 +1,11 @@
 -- What was written and told is what `get` writes and tells of the text that was indexed.
-use Rattle.std.specs.Prelude.{◌≢◌, Option, Some, map, string_bytes}
+use Rattle.std.specs.Prelude.{◌≢◌, Option}
 use Rattle.std.specs.List.{AllZip}
-use Rattle.std.proofs.Common.{◌≡◌, ℕ, zero, suc, ◌≤◌, List, [], ◌∷◌, length, take, min, refl, sym, ap, subst, ◌∙◌, arith, Bool, false, ◌⊎◌, inl, inr}
+use Rattle.std.proofs.Common.{◌≡◌, ℕ, zero, suc, ◌≤◌, List, [], ◌∷◌, length, take, min, refl, sym, ap, subst, ◌∙◌, arith, Bool, false}
 use Rattle.std.proofs.lemmas.List.{take_all}
 use Rattle.std.specs.Io.KnownBytes.{Appends}
-use Rattle.jx_run.specs.declared.texts.settings.Settings.{Settings}
 use Rattle.jx_run.specs.declared.texts.verdict.Verdict.TheVariants.{Accepted}
 use Rattle.jx_saved.specs.declared.index.Index.{Index}
-use Rattle.jx_task.specs.declared.values_task.ValuesTask.{ValuesTask}
 use Rattle.jx_ends.specs.declared.exit.Exit.{Exit}
 use Rattle.jx_words.specs.declared.pointer_answer.PointerAnswer.{PointerAnswer}
 use Rattle.jx_words.specs.Pointers.{IsAnswerTo}
@@ -103,19 +101,3 @@ fails saved content index (Saved fault) read of change = tt
 fails saved content index (OtherSize size indexed) read of change = absurd (of (λ e. absurd cc))
 fails saved content index (Changed span) read of change = λ settings chunk text bytes file s e is tells. change settings chunk text file (read settings chunk text bytes s e) is tells
 fails saved content index NoText read of change = λ settings chunk text bytes file s e is tells. change settings chunk text file (read settings chunk text bytes s e) is tells
-
--- a fault of the text, or one of writing
-pub text_or_write : (X : Type 0) (fault : LookFault) → (fault ≢ Write → IsOfText fault) → IsOfText fault ⊎ (fault ≡ Write) ⊎ X
-text_or_write X SavedRead of = absurd (of (λ e. absurd cc))
-text_or_write X TextRead of = inl tt
-text_or_write X Write of = inr (inl refl)
-text_or_write X Memory of = inl tt
-text_or_write X (Saved fault) of = absurd (of (λ e. absurd cc))
-text_or_write X (OtherSize size indexed) of = absurd (of (λ e. absurd cc))
-text_or_write X (Changed span) of = inl tt
-text_or_write X NoText of = inl tt
-
--- nothing was written where the text was not read
-pub text_or_none : (X Y : Type 0) (fault : LookFault) → Y → IsOfText fault ⊎ X → IsOfText fault ⊎ (fault ≡ Write) ⊎ (X × Y)
-text_or_none X Y fault y (inl of) = inl of
-text_or_none X Y fault y (inr x) = inr (inr (x, y))

@@ -9,11 +9,11 @@ use Rattle.std.proofs.lemmas.Fmt.{decimal_is_IsNumeral, length-decimal-le}
 use Rattle.std.proofs.Math.Seq.{drop-length}
 use Rattle.std.proofs.lemmas.List.{length_push, get_or_push, take_all, take_at}
 use Rattle.std.proofs.lemmas.Str.Parse.{digit_from_value}
+use Rattle.std.proofs.lemmas.Bool.{and_parts}
 use Rattle.jx_wire.specs.declared.frame_fault.FrameFault.TheVariants.{BareLineFeed}
 use Rattle.jx_wire.specs.declared.frame_reader.Part.TheVariants.{Head, Body, Broken}
 use Rattle.jx_wire.specs.Frames.{Step, start, going, entered, step, frame, frames, first_ink, ink_from, is_blank, without_blanks, word_end, length_by_word, length_from, length_in, if_given, field_of, behind_field, behind_line, part_behind}
 use Rattle.jx_wire.specs.Numbers.{number_of}
-use Rattle.jx_wire.proofs.Nodes.{both}
 use Rattle.jx_wire.proofs.FrameSteps.{Leads, nowhere, one_byte, and_then, and_others, body_whole, HasNoFeed, no_feed-append, head_part, in_the_body, in_the_head}
 
 -- ---- a number
@@ -112,7 +112,7 @@ line_is_short n h =
 no_feed_by : (bytes : List ℕ) → list_all (λ b. not (b == 0x0a)) bytes ≡ true → HasNoFeed bytes
 no_feed_by [] h = tt
 no_feed_by (b ∷ bytes) h =
-    let is = both (not (b == 0x0a)) (list_all (λ b. not (b == 0x0a)) bytes) h in
+    let is = and_parts (not (b == 0x0a)) (list_all (λ b. not (b == 0x0a)) bytes) h in
     (λ e. let feed : not (b == 0x0a) ≡ false = ap (λ n. not (n == 0x0a)) e in absurd (cc (feed, is.0)), no_feed_by bytes is.1)
 
 no_feed_named : (ds : List ℕ) → HasNoFeed ds → HasNoFeed (named ds)

@@ -1,11 +1,12 @@
 -- One token more of a pointer, over the rows of a body.
 use Rattle.std.proofs.Common.{◌≡◌, ◌≢◌, ℕ, zero, suc, ◌+◌, ◌-◌, ◌*◌, ◌/◌, ◌%◌, ◌^◌, ◌<◌, ◌≤◌, Bool, true, false, List, [], ◌∷◌, ◌++◌, length, map, drop, Option, None, Some, Result, Ok, Err, refl, sym, ap, ◌∙◌, arith, decimal}
-use Rattle.std.specs.Prelude.{◌==◌, ◌&&◌, nat_lt, nat_le, if◌then◌else◌, cond, filter, slice_get, slice_range}
+use Rattle.std.specs.Prelude.{◌==◌, nat_lt, nat_le, if◌then◌else◌, cond, filter, slice_get, slice_range}
 use Rattle.std.specs.Result.{result_ok}
 use Rattle.std.proofs.lemmas.Bool.Decides.{nat_tests}
 use Rattle.std.proofs.lemmas.Fmt.{decimal_by_steps}
 use Rattle.std.proofs.lemmas.List.{map-append}
 use Rattle.std.proofs.lemmas.Option.{slice_get_past}
+use Rattle.std.proofs.lemmas.Bool.{and_parts}
 use Rattle.jx_lex.specs.declared.kind.Kind.{Kind}
 use Rattle.jx_lex.specs.declared.kind.Kind.TheVariants as kind
 use Rattle.jx_run.specs.Text.{IsText}
@@ -96,17 +97,13 @@ plain_more : (m n : List ℕ) → IsPlain m → IsPlain n → IsPlain (m ++ n)
 plain_more [] n g h = h
 plain_more (b ∷ m) n g h = (g.0, g.1, g.2, plain_more m n g.3 h)
 
-pub both : (b c : Bool) → (b && c) ≡ true → (b ≡ true) × (c ≡ true)
-both true c e = (refl, e)
-both false c e = absurd cc
-
 record Letter (b : ℕ) : Type 0 where
   from : 0x41 ≤ b
   to : b ≤ 0x7a
 
 letter : (b : ℕ) → is_letter b ≡ true → Letter b
 letter b h =
-    let is = both (nat_le 0x41 b) (nat_le b 0x7a) h in
+    let is = and_parts (nat_le 0x41 b) (nat_le b 0x7a) h in
     let p = is.0 in
     let q = is.1 in
     record { from = grind (arith, nat_tests); to = grind (arith, nat_tests) }
@@ -114,7 +111,7 @@ letter b h =
 pub word_plain : (n : List ℕ) → is_word n ≡ true → IsPlain n
 word_plain [] h = tt
 word_plain (b ∷ n) h =
-    let is = both (is_letter b) (is_word n) h in
+    let is = and_parts (is_letter b) (is_word n) h in
     let l = letter b is.0 in
     let from = l.from in
     let to = l.to in
@@ -129,8 +126,8 @@ no_dash b h = let from = (letter b h).from in grind (arith, nat_tests)
 -- a word is no index
 no_index : (n : List ℕ) (count : ℕ) → is_word n ≡ true → place_in n count ≡ place.NotAnIndex
 no_index [] count h = refl
-no_index (b ∷ []) count h = let l = (both (is_letter b) (is_word []) h).0 in let digit = no_digit b l in let dash = no_dash b l in rw (dash, digit) refl
-no_index (b ∷ c ∷ n) count h = let l = (both (is_letter b) (is_word (c ∷ n)) h).0 in let digit = no_digit b l in rw digit refl
+no_index (b ∷ []) count h = let l = (and_parts (is_letter b) (is_word []) h).0 in let digit = no_digit b l in let dash = no_dash b l in rw (dash, digit) refl
+no_index (b ∷ c ∷ n) count h = let l = (and_parts (is_letter b) (is_word (c ∷ n)) h).0 in let digit = no_digit b l in rw digit refl
 
 -- ---- the numbers of elements
 
@@ -167,7 +164,7 @@ one_digit n h =
 
 digits_more : (ds : List ℕ) (d : ℕ) → all_digits ds ≡ true → is_digit d ≡ true → all_digits (ds ++ (d ∷ [])) ≡ true
 digits_more [] d g h = rw h refl
-digits_more (e ∷ ds) d g h = let is = both (is_digit e) (all_digits ds) g in let p = is.0 in let q = digits_more ds d is.1 h in rw (p, q) refl
+digits_more (e ∷ ds) d g h = let is = and_parts (is_digit e) (all_digits ds) g in let p = is.0 in let q = digits_more ds d is.1 h in rw (p, q) refl
 
 value_more : (ds : List ℕ) (n d : ℕ) → value_after n (ds ++ (d ∷ [])) ≡ value_after n ds * 10 + (d - 0x30)
 value_more [] n d = refl
@@ -200,7 +197,7 @@ index_is first (c ∷ more) d ds high =
     rw (d, other, ds) refl
 
 no_hyphen : (first : ℕ) (more : List ℕ) → is_digit first ≡ true → is_dash (first ∷ more) ≡ false
-no_hyphen first [] d = let is = both (nat_le 0x30 first) (nat_le first 0x39) d in let low = is.0 in grind (arith, nat_tests)
+no_hyphen first [] d = let is = and_parts (nat_le 0x30 first) (nat_le first 0x39) d in let low = is.0 in grind (arith, nat_tests)
 no_hyphen first (c ∷ more) d = refl
 
 element_is : (cs : List ℕ) (n k : ℕ) → result_ok (element cs n k) ≡ slice_get cs n

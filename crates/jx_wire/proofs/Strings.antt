@@ -2,16 +2,17 @@
 use Rattle.std.proofs.Common.{◌≡◌, true, false, ℕ, suc, ◌+◌, ◌-◌, ◌<◌, List, [], ◌∷◌, ◌++◌, length, take, drop, Option, None, Some, Result, Ok, Err, refl, sym, ap, subst, ◌∙◌, arith}
 use Rattle.std.specs.Prelude.{is_some, slice_get, slice_range}
 use Rattle.std.specs.Result.{result_ok}
-use Rattle.std.proofs.lemmas.Option.{slice_get_within}
+use Rattle.std.proofs.lemmas.Option.{slice_get_within, same_Some}
 use Rattle.std.proofs.lemmas.List.{drop_at, take_all, take_at, drop-drop}
 use Rattle.jx_lex.specs.declared.kind.Kind.{Kind}
 use Rattle.jx_lex.specs.declared.kind.Kind.TheVariants.{String}
 use Rattle.jx_lex.specs.Token.{IsString, IsToken}
-use Rattle.jx_run.specs.Grammar.{Scalar, Value, leaf, empty_array, array, empty_object, object, Items, last_item, item, Members, last_member, member}
+use Rattle.jx_run.specs.Grammar.{Value, leaf, empty_array, array, empty_object, object, Items, last_item, item, Members, last_member, member}
 use Rattle.jx_run.specs.Laws.{span_of}
 use Rattle.jx_run.specs.Text.{Document, document, IsDocument, IsText, Reads}
 use Rattle.jx_run.specs.Tree.{Children, Tree, node, span}
-use Rattle.jx_run.proofs.Spans.{IsStretch, blanks_stretch, reads_of, then_stretch, value_stretch}
+use Rattle.jx_run.proofs.Spans.{IsStretch, blanks_stretch, reads_of, then_stretch, value_stretch, scalar_stretch}
+use Rattle.jx_run.proofs.LawProofs.{value_span}
 use Rattle.jx_run.specs.declared.texts.verdict.Verdict.TheVariants.{Accepted}
 use Rattle.jx_index.specs.ByNames.{a_text, IsVerdictBy}
 use Rattle.jx_index.specs.Indexed.{IndexedValue}
@@ -26,9 +27,6 @@ use Rattle.jx_wire.specs.Messages.{wire_settings}
 use Rattle.jx_wire.specs.inside.Nodes.{row_in, row_value}
 use Rattle.jx_wire.specs.Values.{value_at, value_in, IsBody}
 
-some_is : {A : Type 0} (a b : A) → Some a ≡ Some b → a ≡ b
-some_is a b e = cc
-
 -- a value that stands somewhere in a text
 record IsIn (text : List ℕ) (tree : Tree) : Type 0 where
   start : ℕ
@@ -42,9 +40,6 @@ left_is text t u i j at s =
 
 one_byte : {i b : ℕ} {t : List ℕ} → IsStretch i (b ∷ t) (suc i) t
 one_byte {b = b} = record { bytes = b ∷ []; whole = refl; end = omega arith }
-
-scalar_stretch : {k : Kind} {i j : ℕ} {t u : List ℕ} → Scalar k i t j u → IsStretch i t j u
-scalar_stretch x = record { bytes = x.token; whole = x.whole; end = x.end }
 
 value_there : (text : List ℕ) {i j : ℕ} {t u : List ℕ} {tree : Tree} → drop i text ≡ t → Value i t j u tree → IsIn text tree
 value_there text {i = i} {j = j} {u = u} {tree = tree} at v =
@@ -76,13 +71,6 @@ mutual
       in_members text (left_is text _ _ _ _ at (then_stretch (blanks_stretch bs) (then_stretch (scalar_stretch n) (then_stretch (blanks_stretch cs) (then_stretch one_byte (then_stretch (blanks_stretch ds)
       (then_stretch (value_stretch v) (then_stretch (blanks_stretch es) one_byte)))))))) xs below
 
-span_is : {i j : ℕ} {t u : List ℕ} {tree : Tree} → Value i t j u tree → span_of tree ≡ span i j
-span_is (leaf x) = refl
-span_is (empty_array bs) = refl
-span_is (array xs) = refl
-span_is (empty_object bs) = refl
-span_is (object xs) = refl
-
 range_is : (text bytes rest : List ℕ) (i j : ℕ) → drop i text ≡ bytes ++ rest → j ≡ i + length bytes → slice_range text i j ≡ bytes
 range_is text bytes rest i j at end = ap (take (j - i)) at ∙ take_at bytes rest (j - i) (omega (arith, end))
 
@@ -106,9 +94,9 @@ spelt_row : (body : List ℕ) (tree : Tree) (number : ℕ) (row : Row) → Docum
     → (units : List ℕ) × IsString (slice_range body row.span.start row.span.end) units
 spelt_row body tree number row reads has at e =
     let here = in_document body reads has.stands in
-    let same : row_of has.inner has.standing ≡ row = some_is _ _ (sym has.is_row ∙ at) in
+    let same : row_of has.inner has.standing ≡ row = same_Some _ _ (sym has.is_row ∙ at) in
     let row_kind_is : row.kind ≡ kind_of has.inner = sym (ap (λ (r : Row). r.kind) same) ∙ row_kind has.inner has.standing in
-    let row_span_is : row.span ≡ span here.start here.end = sym (ap (λ (r : Row). r.span) same) ∙ row_span has.inner has.standing ∙ span_is here.reads in
+    let row_span_is : row.span ≡ span here.start here.end = sym (ap (λ (r : Row). r.span) same) ∙ row_span has.inner has.standing ∙ value_span here.reads in
     let string = string_there body refl here.reads (sym row_kind_is ∙ e) in
     (string.0, subst (λ (s : _). IsString (slice_range body s.start s.end) string.0) (sym row_span_is) string.1)
 

@@ -1,4 +1,4 @@
-ghost use Rattle.std.specs.Prelude.{◌≡◌, ◌≤◌, ◌<◌, ◌∷◌, ◌++◌, ◌*◌, [], ℕ, IfOk, OnOk, OnErr, length, take, option_to_list};
+ghost use Rattle.std.specs.Prelude.{◌≡◌, ◌≤◌, ◌<◌, ◌*◌, [], IfOk, OnOk, OnErr, length, take};
 ghost use Rattle.jx_wire.specs.Frames.{start, step, read_on, bodies, ended_in, end_of_head, entered, fault_of, head_with, part_behind};
 ghost use Rattle.jx_wire.specs.declared.frame_reader.Part.TheVariants.{Head, Body, Broken};
 

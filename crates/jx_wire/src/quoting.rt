@@ -1,5 +1,5 @@
 // Strings as they are written.
-ghost use Rattle.std.specs.Prelude.{◌≡◌, ◌++◌, ◌∷◌, ◌<◌, ℕ, List, [], IfOk, OnOk};
+ghost use Rattle.std.specs.Prelude.{◌≡◌, ◌++◌, ◌<◌, ℕ, List, IfOk, OnOk};
 ghost use Rattle.std.specs.Char.{digit_char};
 ghost use Rattle.jx_lex.specs.Token.{IsString};
 ghost use Rattle.jx_wire.specs.Strings.{IsTextOf};

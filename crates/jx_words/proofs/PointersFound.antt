@@ -1,14 +1,13 @@
--- What one pointer and several come to in a text that was read once.
-use Rattle.std.proofs.Common.{◌≡◌, ℕ, List, [], ◌∷◌, refl, sym, ap, subst, ◌∙◌}
-use Rattle.std.specs.Prelude.{Option, None, Some, Result, Ok, Err, Vec}
-use Rattle.std.specs.declared.alloc.Global.{Global}
+-- What pointers come to in a text that was read once.
+use Rattle.std.proofs.Common.{◌≡◌, ℕ, List, refl, sym, ap, subst, ◌∙◌}
+use Rattle.std.specs.Prelude.{Option, None, Some, Result, Ok, Err}
 use Rattle.std.specs.List.{AllZip}
 use Rattle.jx_run.specs.declared.texts.settings.Settings.{Settings}
 use Rattle.jx_run.specs.Tree.{Tree}
 use Rattle.jx_index.specs.declared.find_fault.FindFault.{FindFault}
 use Rattle.jx_index.specs.declared.finder.Found.{Found}
 use Rattle.jx_index.specs.declared.pointer.PointerFault.{PointerFault}
-use Rattle.jx_index.specs.Found.{AreFoundIn, found_of, IsFoundBy}
+use Rattle.jx_index.specs.Found.{AreFoundIn, found_of}
 use Rattle.jx_index.specs.Leads.{HasRow, Numbered, led, number_of}
 use Rattle.jx_index.specs.Pointers.{tokens}
 use Rattle.jx_index.specs.Rows.{rows}
@@ -42,20 +41,6 @@ module _ (law : EndsAtRows) (text : List ℕ) (tree : Tree) (spelt pointer : Lis
   answer_is (Some fault) found h e = h
   answer_is None found h e =
       subst (λ (f : Result Found FindFault). IsAnswerTo text tree spelt (answer_in None f)) (sym e) (answered (led text tree (tokens pointer)) refl h)
-
-pub one_answered : EndsAtRows → (settings : Settings) (text spelt pointer : List ℕ) (unread : Option PointerFault) (found : Result Found FindFault)
-    (answers : Vec PointerAnswer Global) → IsReadPointer spelt pointer unread → IsFoundBy settings text pointer (Ok found)
-    → answers.items ≡ answer_in unread found ∷ [] → told.AreAnswersBy settings text (spelt ∷ []) (Ok answers)
-one_answered law settings text spelt pointer unread found answers read h e = (
-  h.0,
-  record {
-    tree = h.1.tree;
-    is_text = h.1.is_text;
-    are_answers = subst (λ (xs : List PointerAnswer). AllZip (IsAnswerTo text h.1.tree) (spelt ∷ []) xs) (sym e) (answer_is law text h.1.tree spelt pointer unread found read h.1.found_is, tt);
-  },
-)
-
--- ---- several
 
 pub are_answered : EndsAtRows → (settings : Settings) (text : List ℕ) (spelt pointers : List (List ℕ)) (unread : List (Option PointerFault))
     (found : List (Result Found FindFault)) (answers : List PointerAnswer) → AreReadPointers spelt pointers unread → AreFoundIn settings text pointers found

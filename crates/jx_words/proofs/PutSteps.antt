@@ -1,20 +1,12 @@
 -- What a writer got and what waits, step by step.
-use Rattle.std.proofs.Common.{◌≡◌, ℕ, ◌+◌, ◌≤◌, List, [], ◌++◌, length, take, refl, sym, ap, subst, ◌∙◌, arith, append_assoc, append-nil, length-append}
+use Rattle.std.proofs.Common.{◌≡◌, ℕ, ◌+◌, ◌≤◌, List, ◌++◌, length, take, refl, sym, ap, subst, ◌∙◌, arith, append_assoc, length-append}
 use Rattle.std.specs.Prelude.{Option}
 use Rattle.std.specs.Io.KnownBytes.{Appends}
-use Rattle.std.proofs.KnownBytes.{Appends-nil, Appends-trans}
+use Rattle.std.proofs.KnownBytes.{Appends-trans}
 use Rattle.std.proofs.Math.Seq.{take-append-add}
 use Rattle.std.proofs.lemmas.List.{take-append-le}
 use Rattle.jx_ends.specs.Ends.{AppendsBeginning}
 use Rattle.jx_words.specs.inside.Room.{IsPut}
-
--- what waits may wait on
-pub put_nothing : (a : Option (List ℕ)) (waiting : List ℕ) → IsPut a a waiting waiting
-put_nothing a waiting = record { front = []; wrote = Appends-nil a; whole = refl }
-
--- all that waited was written
-pub put_out : (a b : Option (List ℕ)) (waiting : List ℕ) → Appends a b waiting → IsPut a b [] waiting
-put_out a b waiting wrote = record { front = waiting; wrote = wrote; whole = sym (append-nil waiting) }
 
 module _ (a b : Option (List ℕ)) (waiting bytes : List ℕ) (p : IsPut a b waiting bytes) where
   -- more bytes wait
@@ -32,10 +24,6 @@ module _ (a b : Option (List ℕ)) (waiting bytes : List ℕ) (p : IsPut a b wai
     wrote = Appends-trans a b c p.front q.front p.wrote q.wrote;
     whole = p.whole ∙ ap (λ x. p.front ++ x) q.whole ∙ sym (append_assoc p.front q.front next);
   }
-
-  -- all that waited was written
-  pub put_all : (c : Option (List ℕ)) → Appends b c waiting → Appends a c bytes
-  put_all c wrote = subst (Appends a c) (sym p.whole) (Appends-trans a b c p.front waiting p.wrote wrote)
 
   -- a beginning of what waited was written
   pub put_in_part : (c : Option (List ℕ)) → AppendsBeginning b c waiting → AppendsBeginning a c bytes
@@ -60,9 +48,6 @@ pub record IsPutUpTo (written grown : Option (List ℕ)) (waiting rest whole : L
   pub so_far : List ℕ
   pub put : IsPut written grown waiting so_far
   pub to_come : so_far ++ rest ≡ whole
-
-pub before_lines : (a : Option (List ℕ)) (waiting rest : List ℕ) → IsPutUpTo a a waiting rest (waiting ++ rest)
-before_lines a waiting rest = record { so_far = waiting; put = put_nothing a waiting; to_come = refl }
 
 module _ (a b : Option (List ℕ)) (waiting rest whole : List ℕ) (p : IsPutUpTo a b waiting rest whole) where
   -- what waited made room for one line more

@@ -9,8 +9,8 @@ mod verdict_words;
 mod words;
 
 pub use pointer_answer::{
-    PointerAnswer, ReadPointer, ReadPointers, answer_at, answer_in, answers_in, exit_of_answers,
-    read_pointer, read_pointers,
+    PointerAnswer, ReadPointer, ReadPointers, answer_at, answers_in, exit_of_answers, read_pointer,
+    read_pointers,
 };
 pub use pointer_words::push_pointer;
 pub use told::{add_answer, add_number, add_refusal, add_span};

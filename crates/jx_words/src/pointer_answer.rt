@@ -21,15 +21,7 @@ pub enum PointerAnswer {
     Lost(FindFault),
 }
 
-/// The empty pointer.
-fn empty_pointer() -> Pointer<'static> {
-    match Pointer::read("") {
-        Ok(empty) => empty,
-        Err(_) => unreachable!(),
-    }
-}
-
-/// A string that is read as a pointer: the pointer, or the empty one and why the string is none.
+/// A string that is read as a pointer: the pointer, or that of the whole text and why the string is none.
 #[derive(Debug, Drop)]
 pub struct ReadPointer<'p> {
     pub pointer: Pointer<'p>,
@@ -46,14 +38,14 @@ pub fn read_pointer(spelt: &str) -> ReadPointer<'_>
             unread: None,
         },
         Err(fault) => ReadPointer {
-            pointer: empty_pointer(),
+            pointer: Pointer::root(),
             unread: Some(fault),
         },
     }
 }
 
 /// What a string that was read as a pointer comes to in a text that was read once: why it is none, or what was found.
-pub fn answer_in(unread: Option<PointerFault>, found: Result<Found, FindFault>) -> PointerAnswer
+fn answer_in(unread: Option<PointerFault>, found: Result<Found, FindFault>) -> PointerAnswer
     ensures { result ≡ answer_in unread found }
 {
     match unread {
@@ -68,8 +60,8 @@ pub fn answer_in(unread: Option<PointerFault>, found: Result<Found, FindFault>) 
     }
 }
 
-/// Strings that are read as pointers, in their order: the pointers, with the empty one for each string that spells none, and
-/// why those spell none.
+/// Strings that are read as pointers, in their order: the pointers, with that of the whole text for each string that spells
+/// none, and why those spell none.
 #[derive(Debug, Drop)]
 pub struct ReadPointers<'p> {
     pub pointers: Vec<Pointer<'p>>,

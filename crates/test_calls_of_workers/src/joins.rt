@@ -1,5 +1,5 @@
 // What joins of held runs answer.
-ghost use Rattle.std.specs.Prelude.{◌≡◌, ◌≤◌, length};
+ghost use Rattle.std.specs.Prelude.{◌≤◌, length};
 
 use crate::copied::Copied;
 use crate::runs::push_run;

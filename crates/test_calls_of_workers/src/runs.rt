@@ -1,5 +1,5 @@
 // Runs that a book holds, and what they are in words.
-ghost use Rattle.std.specs.Prelude.{◌≡◌, ◌<◌, ◌≤◌, length, IfOk, IfSome};
+ghost use Rattle.std.specs.Prelude.{◌<◌, IfOk, IfSome};
 
 use crate::copied::Copied;
 use jx_book::Held;

@@ -1,5 +1,5 @@
 // Where a worker stops, and what it holds then.
-ghost use Rattle.std.specs.Prelude.{◌≡◌, ◌≤◌, length, IfOk};
+ghost use Rattle.std.specs.Prelude.{◌≡◌, length, IfOk};
 
 use crate::cuttings::workers_of;
 use crate::gates::{StopOn, next_gate};

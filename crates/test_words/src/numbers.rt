@@ -1,5 +1,5 @@
 // Numbers, and the parts of a text that words name by them.
-ghost use Rattle.std.specs.Prelude.{◌≡◌, ◌≤◌, IfOk};
+ghost use Rattle.std.specs.Prelude.{◌≤◌, IfOk};
 
 use crate::line::LineFault;
 use jx_lex::{Depth, Span};

@@ -1,5 +1,5 @@
 // How bytes are spelt in a word.
-ghost use Rattle.std.specs.Prelude.{◌≡◌, ◌<◌, IfSome};
+ghost use Rattle.std.specs.Prelude.{◌<◌, IfSome};
 
 use crate::line::LineFault;
 use std::alloc::Global;

@@ -1,5 +1,7 @@
 // A text whose index is made, as C holds it: memory of the library behind one pointer.
+ghost use Rattle.std.specs.Coded.{codes};
 ghost use Rattle.std.specs.Prelude.{◌≡◌, MatchOption, None, Option, Some};
+ghost use Rattle.jx_c.specs.contracts.saving.saver.Saver.{the_row};
 ghost use Rattle.jx_c.specs.declared.saving.saver.Saver.{Saver};
 
 use crate::saving::saver::Saver;
@@ -13,7 +15,7 @@ use std::mem::replace;
 pub struct JxSave {
     // where the saver stands; null for none
     inside: *mut u8,
-    pub ghost held: { Option Saver },
+    pub ghost held: { Option Saver } by { Prim.hlevel (codes, the_row.coded) },
 }
 
 impl Model for JxSave {

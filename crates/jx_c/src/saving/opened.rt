@@ -1,5 +1,5 @@
 // A saved index that C opened, and what goes on by it: a look-up of pointers, or a split of a container.
-ghost use Rattle.std.specs.Prelude.{◌≡◌, ◌≢◌, ◌⊎◌, ◌<◌, ◌≤◌, ◌/◌, None, Some, ℕ, List, length, IfErr, IfOk, IfSome, true, false};
+ghost use Rattle.std.specs.Prelude.{◌≡◌, ◌⊎◌, ◌<◌, ◌≤◌, ◌/◌, None, Some, ℕ, List, length, IfErr, IfOk, IfSome, true, false};
 ghost use Rattle.jx_run.specs.declared.texts.settings.Settings.{Settings};
 ghost use Rattle.jx_summary.specs.declared.span.Span.{Span};
 ghost use Rattle.jx_saved.specs.Spelling.{front_flags};

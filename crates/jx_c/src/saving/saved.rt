@@ -1,6 +1,6 @@
 // Look-ups and splits by a saved index, from chunks of the text. Each call takes the index out of the caller's struct and puts it
 // back. The calls of the C header have these names without `_non_null`, and answer null pointers.
-ghost use Rattle.std.specs.Prelude.{◌≡◌, ◌⊎◌, ◌<◌, ◌≤◌, ℕ, List, IfOk, IfErr, None, Some, length};
+ghost use Rattle.std.specs.Prelude.{◌≡◌, ◌⊎◌, ◌<◌, ◌≤◌, IfOk, IfErr, None, Some};
 ghost use Rattle.jx_summary.specs.declared.span.Span.{Span};
 ghost use Rattle.jx_saved_names.specs.declared.saved_text.SavedText.{SavedText};
 ghost use Rattle.jx_saved_names.specs.Saved.{IsSavableToo};

@@ -1,5 +1,7 @@
 // A look-up that is fed, as C holds it: memory of the library behind one pointer.
+ghost use Rattle.std.specs.Coded.{codes};
 ghost use Rattle.std.specs.Prelude.{◌≡◌, MatchOption, None, Option, Some};
+ghost use Rattle.jx_c.specs.contracts.streams.seeking.Seeking.{the_row};
 ghost use Rattle.jx_c.specs.Seeks.{SeekingValue};
 
 use crate::shapes::handle::Handle;
@@ -13,7 +15,7 @@ use std::mem::replace;
 pub struct JxFinder {
     // where the look-up stands; null for none
     inside: *mut u8,
-    pub ghost held: { Option SeekingValue },
+    pub ghost held: { Option SeekingValue } by { Prim.hlevel (codes, the_row.coded) },
 }
 
 impl Model for JxFinder {

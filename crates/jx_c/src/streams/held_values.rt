@@ -1,5 +1,7 @@
 // A stream of values as C holds it: memory of the library behind one pointer.
+ghost use Rattle.std.specs.Coded.{codes};
 ghost use Rattle.std.specs.Prelude.{◌≡◌, MatchOption, None, Option, Some};
+ghost use Rattle.jx_c.specs.contracts.streams.stream.ValueStream.{the_row};
 ghost use Rattle.jx_c.specs.Values.{StreamValue};
 
 use crate::shapes::handle::Handle;
@@ -13,7 +15,7 @@ use std::mem::replace;
 pub struct JxValues {
     // where the stream stands; null for none
     inside: *mut u8,
-    pub ghost held: { Option StreamValue },
+    pub ghost held: { Option StreamValue } by { Prim.hlevel (codes, the_row.coded) },
 }
 
 impl Model for JxValues {

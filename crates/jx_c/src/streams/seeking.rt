@@ -1,8 +1,8 @@
 // Pointers that are looked up in a text which C feeds.
-ghost use Rattle.std.specs.Prelude.{◌≡◌, ◌+◌, ◌<◌, ◌^◌, ◌++◌, [], ℕ, List, IfErr, IfOk, OnErr, OnOk, length};
+ghost use Rattle.std.specs.Prelude.{◌≡◌, ◌+◌, ◌<◌, ◌^◌, ◌++◌, [], ℕ, List, IfErr, IfOk, OnOk, length};
 ghost use Rattle.jx_run.specs.declared.texts.settings.NameRule.TheVariants.{Any};
 ghost use Rattle.jx_run.specs.declared.texts.settings.Settings.{Settings};
-ghost use Rattle.jx_c.specs.Indexes.{AreAnswersOf, IsReadFor};
+ghost use Rattle.jx_c.specs.Indexes.{AreAnswersOf};
 ghost use Rattle.jx_c.specs.Seeks.{HasSought, end_of};
 ghost use Rattle.jx_c.specs.declared.texts.all.JxPointer.{JxPointer};
 
@@ -22,9 +22,14 @@ pub struct Seeking {
 }
 
 impl Model for Seeking {
+    ghost use Rattle.std.specs.Coded.{codes};
+    ghost use denote.Signature.{static_lft};
+    ghost use Rattle.jx_find.specs.contracts.finder.Finder.{the_row};
     ghost use Rattle.jx_c.specs.Seeks.{SeekingValue};
 
     ghost Value = { SeekingValue };
+
+    ghost coded = { Prim.hlevel (codes, (the_row static_lft).coded) };
 
     ghost view = { λ s. record { pointers = s.pointers.now; finder = s.finder } };
 }

@@ -7,7 +7,7 @@ ghost use Rattle.jx_reduce.specs.Bits.{holder_of};
 ghost use Rattle.jx_reduce.specs.KnownStack.{HasRead, IsFault};
 ghost use Rattle.jx_reduce.specs.Read.{changed, step, top, without_top};
 ghost use Rattle.jx_reduce.specs.Table.{added};
-ghost use Rattle.jx_run.specs.Kept.{HasSeen};
+ghost use Rattle.jx_reduce.specs.KnownStack.{HasSeen};
 ghost use Rattle.jx_c.specs.Containers.{holders};
 ghost use Rattle.jx_c.specs.Stack.{code_of, stage_in, holders_of, known_of};
 
@@ -273,6 +273,8 @@ impl JxStack {
 impl TokenSink for JxStack {
     ghost has_seen = { λ stack marks ends. HasSeen marks ends (known_of stack) };
 
+    ghost awaits = { λ _ _. Unit {0} };
+
     #[inline(always)]
     fn begin(&mut self, mark: Mark) -> Result<(), AllocError> {
         self.push(mark);
@@ -297,6 +299,8 @@ impl OpenStack for JxStack {
     ghost sees = { λ stack marks ends seen. seen };
 
     ghost is_seen = { λ stack marks ends seen. seen };
+
+    ghost is_free = { λ _ _. tt };
 
     fn whole(&self) -> Whole {
         match stage_of(self.stage) {

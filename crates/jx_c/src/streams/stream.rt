@@ -179,9 +179,14 @@ pub struct ValueStream {
 }
 
 impl Model for ValueStream {
+    ghost use Rattle.std.specs.Coded.{codes};
+    ghost use denote.Signature.{static_lft};
+    ghost use Rattle.jx_find.specs.contracts.finder.Finder.{the_row};
     ghost use Rattle.jx_c.specs.Values.{StreamValue};
 
     ghost Value = { StreamValue };
+
+    ghost coded = { Prim.hlevel (codes, (the_row static_lft).coded) };
 
     ghost view = { λ s. record { each = s.each; sought = s.sought } };
 }

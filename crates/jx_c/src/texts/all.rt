@@ -10,7 +10,7 @@ ghost use Rattle.jx_c.specs.declared.texts.all.JxPointer.{JxPointer};
 use crate::shapes::settings::{JxSettings, settings_in};
 use crate::shapes::status::{DEPTH_TOO_GREAT, NO_MEMORY, OK, UNKNOWN_FLAG};
 use crate::texts::by_names::find_each_by_names;
-use crate::texts::look_up::{JxAnswer, LookUp, shown_look_up, spelt, told};
+use crate::texts::look_up::{JxAnswer, LookUp, found_at, shown_look_up, spelt, told};
 use jx_index::{FindFault, Found, Pointer};
 use jx_run::{Refusal, Settings};
 use std::alloc::{AllocError, Global};
@@ -22,20 +22,12 @@ pub struct JxPointer<'p> {
     pub bytes: &'p [u8],
 }
 
-/// The empty pointer.
-fn empty_pointer() -> Pointer<'static> {
-    match Pointer::read("") {
-        Ok(empty) => empty,
-        Err(_) => unreachable!(),
-    }
-}
-
-/// The pointer that bytes spell; where they spell none, the empty one.
-fn pointer_or_empty<'p>(pointer: JxPointer<'p>) -> Pointer<'p>
+/// The pointer that bytes spell; where they spell none, that of the whole text.
+fn pointer_or_root<'p>(pointer: JxPointer<'p>) -> Pointer<'p>
     ensures { IsPointerOf pointer.entry.bytes.now result }
 {
     let Ok(read) = spelt(pointer.bytes) else {
-        return empty_pointer();
+        return Pointer::root();
     };
     read
 }
@@ -48,7 +40,7 @@ fn pointer_at<'p>(pointers: &[JxPointer<'p>], number: usize) -> JxPointer<'p>
     pointers[number]
 }
 
-/// The pointers that are spelt, in order, with the empty one for each that is none.
+/// The pointers that are spelt, in order, with that of the whole text for each that is none.
 pub(crate) fn pointers_of<'p>(
     alloc: Global,
     pointers: &[JxPointer<'p>],
@@ -57,7 +49,7 @@ pub(crate) fn pointers_of<'p>(
 {
     let mut all = Vec::with_capacity(alloc, pointers.len())?;
     for at in 0..pointers.len() {
-        all.push(pointer_or_empty(pointer_at(pointers, at)))?;
+        all.push(pointer_or_root(pointer_at(pointers, at)))?;
     }
     Ok(all)
 }
@@ -74,14 +66,6 @@ fn read_for(
 {
     let all = pointers_of(alloc, pointers)?;
     find_each_by_names(alloc, text, settings, &all)
-}
-
-/// What was found with this number.
-fn found_at(all: &[Result<Found, FindFault>], number: usize) -> Result<Found, FindFault>
-    requires { number < length all.now }
-    ensures { slice_get all.now number ≡ Some result }
-{
-    all[number]
 }
 
 /// What the pointer with this number comes to, if it is one.

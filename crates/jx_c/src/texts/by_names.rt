@@ -3,10 +3,10 @@ ghost use Rattle.std.specs.Prelude.{◌≡◌, ◌⊎◌, IfOk, IfSome, MatchRes
 ghost use Rattle.jx_run.specs.declared.texts.settings.NameRule.TheVariants.{Any};
 ghost use Rattle.jx_run.specs.declared.texts.verdict.Verdict.TheVariants.{Accepted, Refused};
 ghost use Rattle.jx_index.specs.ByNames.{IsVerdictBy};
-ghost use Rattle.jx_index.specs.Found.{IsFoundBy};
 ghost use Rattle.jx_c.specs.LookUps.{AreFoundBy};
 
-use jx_index::{FindFault, Found, Pointer, find_by, find_each_by, verdict_with_unique_names};
+use jx_find::find_each_by;
+use jx_index::{FindFault, Found, Pointer, verdict_with_unique_names};
 use jx_run::{NameRule, NoPause, Refusal, Settings, Verdict};
 use std::alloc::{AllocError, Global};
 
@@ -40,22 +40,7 @@ fn refused_by_names(
     }
 }
 
-/// Reads a text by settings in one pass, or in two where names have to be unique, and looks a pointer up in it.
-pub fn find_by_names(
-    alloc: Global,
-    text: &[u8],
-    settings: &Settings,
-    pointer: &Pointer,
-) -> Result<Result<Result<Found, FindFault>, Refusal>, AllocError>
-    ensures { IfOk result (IsFoundBy settings.now text.now pointer.now) }
-{
-    match refused_by_names(alloc, text, settings)? {
-        Some(refusal) => Ok(Err(refusal)),
-        None => find_by(alloc, text, &with_any_names(settings), pointer),
-    }
-}
-
-/// The same for several pointers.
+/// Reads a text by settings in one pass, or in two where names have to be unique, and looks pointers up in it.
 pub fn find_each_by_names(
     alloc: Global,
     text: &[u8],

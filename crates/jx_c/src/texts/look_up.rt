@@ -1,5 +1,5 @@
 // What a pointer leads to in a text.
-ghost use Rattle.std.specs.Prelude.{◌≡◌, ◌⊎◌, ◌<◌, ◌≤◌, ℕ, List, IfOk, IfErr};
+ghost use Rattle.std.specs.Prelude.{◌≡◌, ◌⊎◌, ◌<◌, ◌≤◌, ℕ, List, Some, IfOk, IfErr, length, slice_get};
 ghost use Rattle.jx_run.specs.Tree.{Tree};
 ghost use Rattle.jx_run.specs.declared.texts.settings.Settings.{Settings};
 ghost use Rattle.jx_c.specs.LookUps.{IsAnswerOf, IsLed, IsLookUp, IsSpelt, shown_look_up};
@@ -11,12 +11,12 @@ ghost use Rattle.jx_index.specs.Pointers.{tokens};
 use crate::shapes::places::{JxSpan, kind_in, shown_span};
 use crate::shapes::settings::{JxSettings, settings_in};
 use crate::shapes::status::{DEPTH_TOO_GREAT, NO_MEMORY, OK, UNKNOWN_FLAG};
-use crate::texts::by_names::find_by_names;
+use crate::texts::by_names::find_each_by_names;
 use jx_index::{FindFault, Found, Pointer, PointerFault};
 use jx_lex::{Kind, Span};
 use jx_run::{Refusal, Settings, text_by_settings_has_one_tree};
 use std::alloc::{AllocError, Global};
-use std::str;
+use std::{slice, str};
 
 pub(crate) const FOUND: u32 = 0;
 
@@ -153,6 +153,29 @@ pub fn spelt(pointer: &[u8]) -> Result<Pointer<'_>, LookUp>
     }
 }
 
+/// What was found with this number.
+pub fn found_at(all: &[Result<Found, FindFault>], number: usize) -> Result<Found, FindFault>
+    requires { number < length all.now }
+    ensures { slice_get all.now number ≡ Some result }
+{
+    all[number]
+}
+
+/// What a pointer that was spelt comes to in a text by settings.
+fn look_up_one(
+    alloc: Global,
+    text: &[u8],
+    settings: &Settings,
+    pointer: &Pointer,
+) -> Result<LookUp, AllocError>
+    ensures { IsSpelt pointer.now → IfOk result (IsLookUp settings.now text.now pointer.now) }
+{
+    match find_each_by_names(alloc, text, settings, slice::from_ref(pointer))? {
+        Err(refusal) => Ok(told(Err(refusal))),
+        Ok(found) => Ok(told(Ok(found_at(&found, 0)))),
+    }
+}
+
 /// What the bytes of a pointer come to in a text by settings.
 pub fn look_up(
     alloc: Global,
@@ -164,8 +187,8 @@ pub fn look_up(
 {
     match spelt(pointer) {
         Ok(read) => {
-            let found = find_by_names(alloc, text, settings, &read)?;
-            Ok(told(found))
+            let answer = look_up_one(alloc, text, settings, &read)?;
+            Ok(answer)
         }
         Err(none) => Ok(none),
     }

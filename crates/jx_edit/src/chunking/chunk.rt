@@ -1,5 +1,5 @@
 // Part of a document, with what reading it comes to.
-ghost use Rattle.std.specs.Prelude.{◌≡◌, ◌≤◌, ◌<◌, ◌++◌, List, ℕ, IfOk, IfSome, length, true};
+ghost use Rattle.std.specs.Prelude.{◌≡◌, ◌≤◌, ◌<◌, IfOk, IfSome, length, true};
 ghost use Rattle.jx_edit.specs.inside.Chunks.{open_ended, text_of, AreFresh, IsFresh, IsRunOver};
 ghost use Rattle.jx_edit.specs.inside.Leads.{reading_in, IsLedWithin};
 ghost use Rattle.jx_edit.specs.inside.Places.{read_on};

@@ -1,5 +1,5 @@
 // A text in chunks.
-ghost use Rattle.std.specs.Prelude.{◌≡◌, ◌≤◌, ◌<◌, ◌+◌, ◌*◌, ◌^◌, ◌++◌, ℕ, [], Err, IfErr, IfOk, IfSome, OnErr, OnOk, length, slice_range, take};
+ghost use Rattle.std.specs.Prelude.{◌≡◌, ◌≤◌, ◌<◌, ◌+◌, ◌*◌, ◌^◌, ◌++◌, ℕ, Err, IfOk, IfSome, OnErr, OnOk, length, slice_range, take};
 ghost use Rattle.std.specs.List.{concat};
 ghost use Rattle.jx_edit.specs.Document.{edited};
 ghost use Rattle.jx_edit.specs.Positions.{position_behind, reach};

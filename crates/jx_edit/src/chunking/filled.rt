@@ -1,5 +1,5 @@
 // Chunks that are made of bytes as these come.
-ghost use Rattle.std.specs.Prelude.{◌≡◌, ◌≤◌, ◌<◌, ◌++◌, IfOk, length};
+ghost use Rattle.std.specs.Prelude.{◌≡◌, ◌<◌, ◌++◌, IfOk};
 ghost use Rattle.jx_edit.specs.inside.Chunks.{text_of, AreFresh};
 ghost use Rattle.jx_edit.specs.inside.Fills.{text_in, IsFilled};
 

@@ -1,5 +1,5 @@
 // The chunks of a long text, of which several workers make parts.
-ghost use Rattle.std.specs.Prelude.{◌≡◌, ◌≤◌, ◌<◌, All, IfOk, length, slice_range};
+ghost use Rattle.std.specs.Prelude.{◌≡◌, ◌<◌, All, IfOk, length};
 ghost use Rattle.jx_edit.specs.inside.Chunks.{text_of, AreFresh};
 ghost use Rattle.jx_edit.specs.inside.Parts.{IsMadePart, IsPart};
 

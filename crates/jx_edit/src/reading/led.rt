@@ -1,5 +1,5 @@
 // Where bytes lead from a place.
-ghost use Rattle.std.specs.Prelude.{◌≡◌, ◌≤◌, ℕ, List, IfOk, length, reverse};
+ghost use Rattle.std.specs.Prelude.{◌≡◌, ◌≤◌, ℕ, List, IfOk, length};
 ghost use Rattle.jx_reduce.specs.Read.{read, went};
 ghost use Rattle.jx_edit.specs.inside.Leads.{reading_in, IsLedWithin};
 ghost use Rattle.jx_edit.specs.inside.Places.{read_on};

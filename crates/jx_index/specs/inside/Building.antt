@@ -6,6 +6,7 @@ use Rattle.jx_lex.specs.declared.alphabet.mark.Mark.{Mark}
 use Rattle.jx_summary.specs.declared.span.Span.{Span}
 use Rattle.jx_lex.specs.declared.alphabet.mark.MarkKind.{MarkKind}
 use Rattle.jx_lex.specs.declared.alphabet.mark.MarkKind.TheVariants as mark
+use Rattle.jx_lex.specs.Seen.{has_end}
 use Rattle.jx_run.specs.Tree.{span}
 use Rattle.jx_index.specs.declared.row.Row.{Row}
 use Rattle.jx_index.specs.declared.builder.Opened.{Opened}
@@ -95,13 +96,9 @@ on_mark mark.True at end b = add_leaf kind.True (span at end) b
 on_mark mark.False at end b = add_leaf kind.False (span at end) b
 on_mark mark.Null at end b = add_leaf kind.Null (span at end) b
 
+-- a mark of this kind begins a token, to which an end belongs
 abbrev pub is_token : MarkKind → Bool
-is_token mark.String = true
-is_token mark.Number = true
-is_token mark.True = true
-is_token mark.False = true
-is_token mark.Null = true
-is_token _ = false
+is_token = has_end
 
 -- the next token's end; a number that ends with the text has none
 abbrev pub next_end : ℕ → List ℕ → ℕ

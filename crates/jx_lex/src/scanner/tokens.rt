@@ -123,6 +123,8 @@ impl TokenSink for Tokens {
 
     ghost has_seen = { λ t marks ends. t ≡ record { marks = marks; ends = ends } };
 
+    ghost awaits = { λ t inside. Unit {0} };
+
     #[inline(always)]
     fn begin(&mut self, mark: Mark) -> Result<(), AllocError>
         ensures seen { OnOk result ((marks : List Mark) (ends : List ℕ) → self.old ≡ record { marks = marks; ends = ends } → self.new ≡ record { marks = marks ++ mark ∷ []; ends = ends }) }

@@ -2,9 +2,9 @@
 use Rattle.std.specs.Prelude.{◌≡◌, ℕ, ◌<◌, List, ◌++◌, Option, Some, drop, length, true}
 use Rattle.jx_lex.specs.declared.alphabet.mark.Mark.{Mark}
 use Rattle.jx_run.specs.Telling.{moved_ends, moved_marks}
-use Rattle.jx_index.specs.inside.Building.{Building, is_token}
+use Rattle.jx_index.specs.inside.Building.{Building}
+use Rattle.jx_index.specs.inside.InOrder.{Comes, IsToken}
 use Rattle.jx_names.specs.declared.open_names.OpenNames.{OpenNames}
-use Rattle.jx_names.specs.inside.HeldNames.{Comes}
 use Rattle.jx_names.specs.inside.KeptNames.{is_name_next, kept, Stands}
 
 -- which bytes, marks and ends something may have been held of
@@ -16,7 +16,7 @@ pub record IsToldOf (before slice : List ℕ) (marks : List Mark) (ends : List �
   pub building : Building
   pub comes : Comes marks ends building begun
   pub stands : (future : List ℕ) → Stands ((before ++ slice) ++ future) building (kept names)
-  pub token : (m : Mark) → begun ≡ Some m → is_token m.kind ≡ true
+  pub token : IsToken begun
   pub name_is : (m : Mark) → begun ≡ Some m → is_name_next m.kind (kept names) ≡ true → m.at < length before → name ≡ drop m.at before
 
 -- whatever was held at the slice's start, these marks and ends of the slice were told behind it

@@ -4,7 +4,7 @@ ghost use Rattle.std.specs.Prelude.{◌≡◌, ◌↔◌, ◌++◌, ◌+◌, ◌
 ghost use Rattle.jx_reduce.specs.Table.{added};
 ghost use Rattle.jx_reduce.specs.Read.{changed, then_by, step, read, went};
 ghost use Rattle.jx_reduce.specs.Whole.{whole_of};
-ghost use Rattle.jx_reduce.specs.KnownStack.{start, HasRead, IsFault, IsPartRead};
+ghost use Rattle.jx_reduce.specs.KnownStack.{HasRead, IsFault, IsPartRead};
 ghost use Rattle.jx_lex.specs.declared.alphabet.mark.Mark.{Mark};
 ghost use Rattle.jx_lex.specs.declared.alphabet.state.LexState.TheVariants.{Gap};
 ghost use Rattle.jx_lex.specs.Lex.{lex};

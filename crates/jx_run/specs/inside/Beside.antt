@@ -3,7 +3,7 @@ use Rattle.std.specs.Prelude.{◌≡◌, ℕ, List, ◌∷◌}
 use Rattle.jx_lex.specs.declared.alphabet.mark.Mark.{Mark}
 use Rattle.jx_lex.specs.Seen.{Seen}
 use Rattle.jx_reduce.specs.KnownStack.{Known, IsFault}
-use Rattle.jx_run.specs.Kept.{HasSeen}
+use Rattle.jx_reduce.specs.KnownStack.{HasSeen}
 
 -- behind the depth stands 1 where the other sink is said to have seen something, and then its ends: while the stack
 -- has met no fault, it has seen the same marks, and those ends

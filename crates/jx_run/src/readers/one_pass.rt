@@ -1,5 +1,5 @@
 // A text that is read once, from its start to its end, while something else is kept of its tokens.
-ghost use Rattle.std.specs.Prelude.{◌≡◌, ◌≤◌, ◌<◌, ℕ, List, [], ◌++◌, length, slice_range, IfOk, IfSome, IsNone, OnOk};
+ghost use Rattle.std.specs.Prelude.{◌≡◌, ◌≤◌, ◌<◌, ℕ, List, [], ◌++◌, length, slice_range, IfOk, IfSome, IsNone, OnOk, false};
 ghost use Rattle.jx_lex.specs.declared.alphabet.state.LexState.TheVariants.{Gap};
 ghost use Rattle.jx_lex.specs.Lex.{lex};
 ghost use Rattle.jx_lex.specs.Seen.{SeesTrack, WantsNoMore};
@@ -25,6 +25,8 @@ impl<K: TokenSink + Drop> TokenSink for Beside<K> {
     ghost use Rattle.jx_run.specs.inside.Beside.{BothHaveSeen};
 
     ghost has_seen = { λ both marks ends. BothHaveSeen (K.has_seen both.other) marks ends both.stack };
+
+    ghost awaits = { λ both inside. K.awaits both.other inside };
 
     #[inline(always)]
     fn begin(&mut self, mark: Mark) -> Result<(), AllocError> {
@@ -78,7 +80,8 @@ fn scan_by<K: TokenSink, P: Pace>(
     from: usize,
     to: usize,
 ) -> Result<Option<LexExit>, AllocError>
-    requires { (from ≤ to) × (to ≤ length text.now) }
+    requires bounds { (from ≤ to) × (to ≤ length text.now) }
+    requires turn { K.awaits sink.old false }
     ensures seen { OnOk result (SeesTrack (K.has_seen sink.old) (K.has_seen sink.new) (lex Gap from (slice_range text.now from to))) }
     ensures exit { IfOk result (λ exit. IfSome exit (λ e. exit_of e ≡ (lex Gap from (slice_range text.now from to)).exit)) }
     ensures done { IfOk result (λ exit. IsNone exit → WantsNoMore (K.has_seen sink.new)) }
@@ -121,6 +124,7 @@ pub fn read_into<K: TokenSink + Drop, P: Pace>(
     pace: &mut P,
 ) -> Result<OnePass<K>, AllocError>
     requires bounds { (from ≤ to) × (to ≤ length text.now) }
+    requires turn { K.awaits sink false }
     ensures verdict { IfOk result (λ told. Judged from (slice_range text.now from to) depth told.verdict) }
     ensures seen { IfOk result (λ told. told.verdict ≡ Accepted → (ends : List ℕ) → K.has_seen sink [] ends
         → K.has_seen told.sink (lex Gap from (slice_range text.now from to)).marks (ends ++ (lex Gap from (slice_range text.now from to)).ends)) }

@@ -1,5 +1,5 @@
 // How far the reading of a text came, and how it goes on over a stack that knows all open containers.
-ghost use Rattle.std.specs.Prelude.{◌≡◌, ◌+◌, ◌<◌, ◌^◌, ◌++◌, ◌≤◌, ℕ, List, [], IfOk, IfSome, IsErr, IsNone, OnOk, length, slice_range, take};
+ghost use Rattle.std.specs.Prelude.{◌≡◌, ◌+◌, ◌<◌, ◌^◌, ◌++◌, ◌≤◌, ℕ, Bool, List, [], IfOk, IfSome, IsErr, IsNone, OnOk, length, slice_range, take};
 ghost use Rattle.jx_lex.specs.declared.alphabet.mark.Mark.{Mark};
 ghost use Rattle.jx_lex.specs.declared.alphabet.state.LexState.TheVariants.{Gap};
 ghost use Rattle.jx_lex.specs.Lex.{lex};
@@ -8,7 +8,7 @@ ghost use Rattle.jx_lex.specs.Exit.{exit_of};
 ghost use Rattle.jx_reduce.specs.KnownStack.{Known, HasRead as StackHasRead};
 ghost use Rattle.jx_reduce.specs.Read.{Reading, read as read_marks};
 ghost use Rattle.jx_reduce.specs.Whole.{whole_of};
-ghost use Rattle.jx_run.specs.Kept.{HasSeen};
+ghost use Rattle.jx_reduce.specs.KnownStack.{HasSeen};
 ghost use Rattle.jx_run.specs.Reader.{read_by};
 ghost use Rattle.jx_run.specs.ReaderInside.{GoesOn, IsCut, IsOfUse, IsReadTo, outcome_at, settled};
 ghost use Rattle.jx_run.specs.Settings.{JudgedBy};
@@ -21,7 +21,7 @@ use crate::texts::byte_order_mark::count_agreed;
 use crate::texts::settings::FrontMark;
 use crate::texts::verdict::{Refusal, Verdict};
 use jx_lex::{LexExit, LexState, TokenSink, scan};
-use jx_reduce::Whole;
+use jx_reduce::{KnownStack, Whole};
 use std::alloc::AllocError;
 
 /// How far the reading of a text came.
@@ -60,6 +60,24 @@ pub trait OpenStack: TokenSink {
     ghost sees: { (stack : Self) (marks : List Mark) (ends : List ℕ) → Self.has_seen stack marks ends → HasSeen marks ends (known stack) };
 
     ghost is_seen: { (stack : Self) (marks : List Mark) (ends : List ℕ) → HasSeen marks ends (known stack) → Self.has_seen stack marks ends };
+
+    // It takes marks and ends in any order.
+    ghost is_free: { (stack : Self) (inside : Bool) → Self.awaits stack inside };
+}
+
+impl OpenStack for KnownStack {
+    ghost known = { λ stack. stack };
+
+    #[inline(always)]
+    fn whole(&self) -> Whole {
+        self.whole()
+    }
+
+    ghost sees = { λ stack marks ends seen. seen };
+
+    ghost is_seen = { λ stack marks ends seen. seen };
+
+    ghost is_free = { λ _ _. tt };
 }
 
 /// Where a scan came to, over a slice that stands from `base` on.
@@ -89,9 +107,9 @@ fn passed<S: OpenStack>(stack: &mut S, slice: &[u8], to: usize) -> usize
 }
 
 /// Reads the bytes of a slice before `to` from between tokens on, and gives where that ends; none where the stack wanted no more
-/// before. Mostly the stack reads a short slice by itself, and no scan begins.
+/// before. Mostly the stack reads a short slice by itself, and no scan begins. Only want of memory is refused.
 #[inline(always)]
-fn read_between<S: OpenStack>(
+pub fn read_between<S: OpenStack>(
     stack: &mut S,
     slice: &[u8],
     to: usize,

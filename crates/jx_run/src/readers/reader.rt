@@ -9,7 +9,7 @@ ghost use Rattle.jx_reduce.specs.Read.{read as read_marks};
 ghost use Rattle.jx_run.specs.OutcomeRun.{IsOutcomeRun};
 ghost use Rattle.jx_run.specs.Reader.{HasRead, HasFailed, IsInFront, Outcome as CameTo, is_fault};
 ghost use Rattle.jx_run.specs.Settings.{JudgedBy};
-ghost use Rattle.jx_run.specs.Telling.{SeesPast, standing_of, track_of};
+ghost use Rattle.jx_run.specs.Telling.{AwaitsBehind, SeesPast, standing_of, track_of};
 
 use crate::laws::reader_is_grammar;
 use crate::readers::progress::{
@@ -19,59 +19,12 @@ use crate::readers::telling::tell_on;
 use crate::runs::outcome_run::OutcomeRun;
 use crate::texts::settings::Settings;
 use crate::texts::verdict::{Refusal, Verdict};
-use jx_lex::{LexExit, LexState, Mark, TokenSink};
+use jx_lex::{LexExit, LexState, TokenSink};
 use jx_reduce::{KnownStack, Outcome, Whole};
 use jx_summary::Summary;
 use std::alloc::{AllocError, Global};
 use std::marker::Model;
 use std::mem;
-
-/// The known stack as a sink. For the proof, the ends that it has seen begin with the depth: so a scan is known to
-/// leave the depth as it is.
-#[derive(Drop)]
-struct Kept {
-    stack: KnownStack,
-}
-
-impl TokenSink for Kept {
-    ghost use Rattle.jx_run.specs.Kept.{HasSeen};
-
-    ghost has_seen = { λ kept marks ends. HasSeen marks ends kept.stack };
-
-    #[inline(always)]
-    fn begin(&mut self, mark: Mark) -> Result<(), AllocError> {
-        self.stack.push(mark)?;
-        Ok(())
-    }
-
-    #[inline(always)]
-    fn end(&mut self, _at: usize) -> Result<(), AllocError> {
-        Ok(())
-    }
-
-    #[inline(always)]
-    fn is_done(&self) -> bool {
-        self.stack.is_done()
-    }
-
-    #[inline(always)]
-    fn pass(&mut self, text: &[u8], from: usize, to: usize) -> usize {
-        self.stack.pass(text, from, to)
-    }
-}
-
-impl OpenStack for Kept {
-    ghost known = { λ kept. kept.stack };
-
-    #[inline(always)]
-    fn whole(&self) -> Whole {
-        self.stack.whole()
-    }
-
-    ghost sees = { λ kept marks ends seen. seen };
-
-    ghost is_seen = { λ kept marks ends seen. seen };
-}
 
 /// A text that is read from its start: fed by slices or by runs, one behind another, it has the verdict on all their bytes
 /// at any moment. It keeps no byte and no mark; up to 64 open containers take no memory. A byte order mark that the
@@ -83,7 +36,7 @@ pub struct Reader {
     start: usize,
     count: usize,
     progress: Progress,
-    kept: Kept,
+    stack: KnownStack,
 }
 
 impl Model for Reader {
@@ -145,9 +98,7 @@ impl Reader {
             start,
             count: 0,
             progress: progress_at_start(settings.mark),
-            kept: Kept {
-                stack: KnownStack::new(alloc, settings.depth),
-            },
+            stack: KnownStack::new(alloc, settings.depth),
         }
     }
 
@@ -180,9 +131,9 @@ impl Reader {
     {
         match self.progress {
             Progress::Failed => {
-                self.kept.stack = KnownStack::new(self.alloc, self.settings.depth);
+                self.stack = KnownStack::new(self.alloc, self.settings.depth);
             }
-            _ => self.kept.stack.reset(),
+            _ => self.stack.reset(),
         }
         self.start = start;
         self.count = 0;
@@ -205,7 +156,7 @@ impl Reader {
         self.count += slice.len();
         // Where memory is refused, what the stack holds is of no use.
         self.progress = Progress::Failed;
-        self.progress = read_on(&mut self.kept, progress, slice, base)?;
+        self.progress = read_on(&mut self.stack, progress, slice, base)?;
         Ok(())
     }
 
@@ -226,7 +177,7 @@ impl Reader {
         self.count += to;
         // Where memory is refused, what the stack holds is of no use.
         self.progress = Progress::Failed;
-        self.progress = read_beginning(&mut self.kept, progress, slice, to, base)?;
+        self.progress = read_beginning(&mut self.stack, progress, slice, to, base)?;
         Ok(())
     }
 
@@ -234,7 +185,8 @@ impl Reader {
     /// of a byte order mark are told to nobody, and nothing is told of or behind a fault. Gives the sink back; where
     /// memory is refused it is gone.
     pub fn feed_into<K: TokenSink + Drop>(&mut self, sink: K, slice: &[u8]) -> Result<K, AllocError>
-        requires { self.old.start + self.old.count + length slice.now < 2 ^ 64 }
+        requires fits { self.old.start + self.old.count + length slice.now < 2 ^ 64 }
+        requires turn { (before : CameTo) → self.old.outcome ≡ Some before → AwaitsBehind (K.awaits sink) before }
         ensures settings { self.new.settings ≡ self.old.settings }
         ensures start { self.new.start ≡ self.old.start }
         ensures reads { OnOk result ((bytes : List ℕ) → HasRead bytes self.old → HasRead (bytes ++ slice.now) self.new) }
@@ -245,6 +197,7 @@ impl Reader {
             → SeesTrack (K.has_seen sink) (K.has_seen told) (track_of before slice.now)) }
         ensures past { IfOk result (λ told. (before : CameTo) → self.old.outcome ≡ Some before
             → SeesPast (K.has_seen sink) (K.has_seen told) self.old.settings.depth (standing_of before) (track_of before slice.now).marks (track_of before slice.now).ends) }
+        ensures turn { IfOk result (λ told. (after : CameTo) → self.new.outcome ≡ Some after → AwaitsBehind (K.awaits told) after) }
     {
         let base = self.start + self.count;
         let progress = self.progress;
@@ -252,9 +205,9 @@ impl Reader {
         // Where memory is refused, what the stack holds is of no use.
         self.progress = Progress::Failed;
         let none = KnownStack::new(self.alloc, self.settings.depth);
-        let stack = mem::replace(&mut self.kept.stack, none);
+        let stack = mem::replace(&mut self.stack, none);
         let told = tell_on(stack, sink, progress, slice, base)?;
-        self.kept.stack = told.stack;
+        self.stack = told.stack;
         self.progress = told.progress;
         Ok(told.sink)
     }
@@ -300,7 +253,7 @@ impl Reader {
             Progress::Front(_) => unreachable!(),
         };
         self.progress = Progress::Failed;
-        self.progress = Reader::read_run(&mut self.kept.stack, state, run, base)?;
+        self.progress = Reader::read_run(&mut self.stack, state, run, base)?;
         Ok(())
     }
 
@@ -310,6 +263,6 @@ impl Reader {
         ensures verdict { (bytes : List ℕ) → HasRead bytes self.now → JudgedBy self.now.settings self.now.start bytes result }
         ensures failed { HasFailed self.now → result ≡ Verdict.Refused Refusal.Truncated }
     {
-        verdict_at(self.progress, self.kept.stack.whole())
+        verdict_at(self.progress, self.stack.whole())
     }
 }

@@ -3,13 +3,14 @@ ghost use Rattle.std.specs.Prelude.{◌≡◌, ◌+◌, ◌<◌, ◌≤◌, ◌^
 ghost use Rattle.jx_lex.specs.declared.alphabet.mark.Mark.{Mark};
 ghost use Rattle.jx_lex.specs.Lex.{lex};
 ghost use Rattle.jx_lex.specs.Seen.{Grows};
+ghost use Rattle.jx_lex.specs.TokenStates.{in_token};
 ghost use Rattle.jx_reduce.specs.KnownStack.{HasRead as StackHasRead, IsFault};
 ghost use Rattle.jx_reduce.specs.Read.{read as read_marks};
 ghost use Rattle.jx_run.specs.Front.{agreed};
 ghost use Rattle.jx_run.specs.Reader.{Outcome, is_fault, read_by};
 ghost use Rattle.jx_run.specs.ReaderInside.{GoesOn, IsCut, IsOfUse, IsReadTo, outcome_at};
 ghost use Rattle.jx_run.specs.Settings.{byte_order_mark, JudgedBy};
-ghost use Rattle.jx_run.specs.Telling.{IsAcceptedFrom, SeesPast, moved_ends, moved_marks, no_tokens, standing_of, tokens_by, track_in_front, track_of};
+ghost use Rattle.jx_run.specs.Telling.{AwaitsBehind, IsAcceptedFrom, SeesPast, moved_ends, moved_marks, no_tokens, standing_of, tokens_by, track_in_front, track_of};
 ghost use Rattle.jx_run.specs.declared.texts.settings.FrontMark.{FrontMark};
 ghost use Rattle.jx_run.specs.declared.texts.settings.Settings.{Settings};
 ghost use Rattle.jx_run.specs.declared.texts.verdict.Verdict.TheVariants.{Accepted};
@@ -52,6 +53,9 @@ impl<K: TokenSink + Drop, E: Earlier> TokenSink for Past<K, E> {
     ghost use Rattle.jx_run.specs.inside.Past.{HasSeenPast};
 
     ghost has_seen = { λ both marks ends. HasSeenPast E.seen E.stack (K.has_seen both.other) marks ends both.stack };
+
+    // Behind a fault the sink is told nothing more, and so awaits nothing.
+    ghost awaits = { λ both inside. (IsFault both.stack.reading → ⊥) → K.awaits both.other inside };
 
     #[inline(always)]
     fn begin(&mut self, mark: Mark) -> Result<(), AllocError> {
@@ -121,6 +125,7 @@ fn tell_slice<K: TokenSink + Drop, E: Earlier>(
     requires stack { stack ≡ E.stack }
     requires going { IsFault stack.reading → ⊥ }
     requires seen { Grows E.seen (K.has_seen sink) [] [] }
+    requires turn { K.awaits sink (in_token state) }
     ensures cut { IfOk result (λ told. IsCut told.progress) }
     ensures goes_on { IfOk result (λ told. (marks : List Mark) → StackHasRead marks stack
         → GoesOn stack (lex state from (slice_range slice.now from (length slice.now))) (read_marks stack.depth (lex state from (slice_range slice.now from (length slice.now))).marks stack.reading) base told.progress told.stack) }
@@ -128,6 +133,7 @@ fn tell_slice<K: TokenSink + Drop, E: Earlier>(
         → Grows E.seen (K.has_seen told.sink) (lex state from (slice_range slice.now from (length slice.now))).marks (lex state from (slice_range slice.now from (length slice.now))).ends) }
     ensures past { IfOk result (λ told. SeesPast E.seen (K.has_seen told.sink) stack.depth stack.reading
         (lex state from (slice_range slice.now from (length slice.now))).marks (lex state from (slice_range slice.now from (length slice.now))).ends) }
+    ensures turn { IfOk result (λ told. (after : Outcome) → outcome_at told.progress told.stack.reading ≡ Some after → AwaitsBehind (K.awaits told.sink) after) }
 {
     let mut both: Past<K, E> = Past {
         stack,
@@ -154,6 +160,7 @@ fn tell_front<K: TokenSink + Drop>(
     requires cut { before < 3 }
     requires fits { base + length slice.now < 2 ^ 64 }
     requires fresh { StackHasRead [] stack }
+    requires turn { K.awaits sink false }
     ensures cut { IfOk result (λ told. IsCut told.progress) }
     ensures of_use { IfOk result (λ told. (mark : FrontMark) (depth : ℕ) → IsOfUse (Progress.Front before) mark depth stack → IsOfUse told.progress mark depth told.stack) }
     ensures reads { IfOk result (λ told. (settings : Settings) (start : ℕ) (bytes : List ℕ) → base ≡ start + length bytes
@@ -162,6 +169,7 @@ fn tell_front<K: TokenSink + Drop>(
         (track_in_front before (before + agreed slice.now (drop before byte_order_mark)) slice.now).marks (track_in_front before (before + agreed slice.now (drop before byte_order_mark)) slice.now).ends) }
     ensures past { IfOk result (λ told. SeesPast (K.has_seen sink) (K.has_seen told.sink) stack.depth stack.reading
         (track_in_front before (before + agreed slice.now (drop before byte_order_mark)) slice.now).marks (track_in_front before (before + agreed slice.now (drop before byte_order_mark)) slice.now).ends) }
+    ensures turn { IfOk result (λ told. (after : Outcome) → outcome_at told.progress told.stack.reading ≡ Some after → AwaitsBehind (K.awaits told.sink) after) }
 {
     reader_is_grammar();
     let count = count_agreed(slice, before);
@@ -198,6 +206,7 @@ pub(crate) fn tell_on<K: TokenSink + Drop>(
     requires cut { IsCut progress }
     requires fits { base + length slice.now < 2 ^ 64 }
     requires of_use { (mark : FrontMark) × (depth : ℕ) × IsOfUse progress mark depth stack }
+    requires turn { (before : Outcome) → outcome_at progress stack.reading ≡ Some before → AwaitsBehind (K.awaits sink) before }
     ensures cut { IfOk result (λ told. IsCut told.progress) }
     ensures of_use { IfOk result (λ told. (mark : FrontMark) (depth : ℕ) → IsOfUse progress mark depth stack → IsOfUse told.progress mark depth told.stack) }
     ensures reads { IfOk result (λ told. (settings : Settings) (start : ℕ) (bytes : List ℕ) → base ≡ start + length bytes
@@ -207,6 +216,7 @@ pub(crate) fn tell_on<K: TokenSink + Drop>(
         → Grows (K.has_seen sink) (K.has_seen told.sink) (track_of before slice.now).marks (track_of before slice.now).ends) }
     ensures past { IfOk result (λ told. (before : Outcome) → outcome_at progress stack.reading ≡ Some before
         → SeesPast (K.has_seen sink) (K.has_seen told.sink) stack.depth (standing_of before) (track_of before slice.now).marks (track_of before slice.now).ends) }
+    ensures turn { IfOk result (λ told. (after : Outcome) → outcome_at told.progress told.stack.reading ≡ Some after → AwaitsBehind (K.awaits told.sink) after) }
 {
     reader_is_grammar();
     match progress {

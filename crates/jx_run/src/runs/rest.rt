@@ -23,6 +23,8 @@ impl TokenSink for KeptMarks {
 
     ghost has_seen = { λ kept marks ends. HasTaken marks ends kept.reducer };
 
+    ghost awaits = { λ _ _. Unit {0} };
+
     #[inline(always)]
     fn begin(&mut self, mark: Mark) -> Result<(), AllocError> {
         self.reducer.push(mark)?;

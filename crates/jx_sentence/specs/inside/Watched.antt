@@ -2,7 +2,7 @@
 use Rattle.std.specs.Prelude.{◌≡◌, ℕ, List, [], ◌∷◌}
 use Rattle.jx_lex.specs.declared.alphabet.mark.Mark.{Mark}
 use Rattle.jx_reduce.specs.KnownStack.{Known, IsFault}
-use Rattle.jx_run.specs.Kept.{HasSeen}
+use Rattle.jx_reduce.specs.KnownStack.{HasSeen}
 use Rattle.jx_sentence.specs.Standing.{last_at}
 
 -- the first of the marks is none: it stands for the offset that the scan begins at. Behind a fault the place is of no account

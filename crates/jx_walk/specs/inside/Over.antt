@@ -1,7 +1,8 @@
 -- What is held behind a part of a text that is passed over.
-use Rattle.std.specs.Prelude.{◌≡◌, ℕ, List, [], ◌∷◌, ◌++◌, Option, None, Some, length}
+use Rattle.std.specs.Prelude.{◌≡◌, ℕ, List, [], ◌∷◌, ◌++◌, Option, None, Some, is_some, length}
 use Rattle.jx_lex.specs.declared.alphabet.mark.Mark.{Mark}
 use Rattle.jx_lex.specs.Lex.{lex, LexExit}
+use Rattle.jx_lex.specs.TokenStates.{in_token}
 use Rattle.jx_reduce.specs.declared.table.expect.Expect.TheVariants.{Value}
 use Rattle.jx_reduce.specs.declared.table.holder.Holder.{Holder}
 use Rattle.jx_reduce.specs.Read.{went, read}
@@ -47,3 +48,7 @@ LeadsOver bytes piece edges marks ends held here over = (s : State) (name : List
 abbrev pub IsOver : Sought → List Edge → Entry → Entry → Over → Type 0
 IsOver held edges here behind over = (limit : ℕ) (bytes piece : List ℕ) (marks : List Mark) (ends : List ℕ) → IsHeld bytes edges marks ends held.state held.next held.begun held.name.items
     → IsPiece limit bytes piece marks here behind → LeadsOver bytes piece edges marks ends held here over
+
+-- where a token is held just where the piece begins inside one, one is held behind it just where it ends inside one
+abbrev pub KeepsTurn : Sought → Entry → Entry → Over → Type 0
+KeepsTurn held here behind over = (limit : ℕ) (bytes piece : List ℕ) (marks : List Mark) → IsPiece limit bytes piece marks here behind → is_some held.begun ≡ in_token here.state → is_some over.begun ≡ in_token behind.state

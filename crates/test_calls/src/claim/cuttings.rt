@@ -1,5 +1,4 @@
 // Which pieces a text is cut into, and which cuts are refused.
-ghost use Rattle.std.specs.Prelude.{◌≡◌, ◌≤◌};
 
 use jx_claim::{CutFault, Cutting};
 use jx_crew::{PieceNo, Workers};

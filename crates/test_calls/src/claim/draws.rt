@@ -1,5 +1,4 @@
 // In which order pieces are drawn, and what closing tells.
-ghost use Rattle.std.specs.Prelude.{◌≡◌};
 ghost use Rattle.jx_claim.specs.Claimed.{AllSeats};
 
 use jx_claim::{ClaimSeat, Claims};

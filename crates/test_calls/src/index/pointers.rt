@@ -2,10 +2,12 @@
 ghost use Rattle.std.specs.Prelude.{◌≡◌, length};
 
 use crate::index::fed::is_fed_alike;
-use jx_index::{FindFault, Found, Indexed, Pointer, Row, find_each_in, find_in};
+use jx_find::find_each_by;
+use jx_index::{FindFault, Found, Indexed, Pointer, Row};
 use jx_lex::{Depth, Span};
-use jx_run::{NoPause, Refusal};
+use jx_run::{NoPause, Refusal, Settings};
 use std::alloc::{AllocError, Global};
+use std::slice;
 use test_words::{Line, Out, push_found};
 
 /// What a pointer leads to.
@@ -54,12 +56,14 @@ pub(crate) fn pointers_of(alloc: Global, words: &[String]) -> Result<Vec<Pointer
     Ok(pointers)
 }
 
-/// What pointers lead to in a text by one pass over it for all of them, in order, without words that are none. A refused text has
-/// no answers.
-fn find_all_at_once(alloc: Global, text: &[u8], words: &[String]) -> Result<Vec<Led>, AllocError> {
-    let pointers = pointers_of(alloc, words)?;
-    let depth = Depth::default();
-    match find_each_in(alloc, text, whole(text), depth, &pointers, &mut NoPause)? {
+/// What pointers lead to in a text by one pass over it for all of them, in order. A refused text has no answers.
+fn found_at_once(
+    alloc: Global,
+    text: &[u8],
+    pointers: &[Pointer<'_>],
+) -> Result<Vec<Led>, AllocError> {
+    let settings = Settings::from(Depth::default());
+    match find_each_by(alloc, text, &settings, pointers)? {
         Ok(found) => Ok(found),
         Err(_) => Ok(Vec::new(alloc)),
     }
@@ -92,9 +96,8 @@ fn push_agreed(
     pointer: &Pointer<'_>,
     wanted: &Led,
 ) -> Result<(), AllocError> {
-    let text = index.text();
-    let depth = Depth::default();
-    if find_in(alloc, text, whole(text), depth, pointer, &mut NoPause)? == Ok(*wanted) {
+    let alone = found_at_once(alloc, index.text(), slice::from_ref(pointer))?;
+    if alone.as_slice() == slice::from_ref(wanted) {
         push_in_index(out, index, pointer, wanted);
     } else {
         out.push_str(DIFFER);
@@ -133,7 +136,8 @@ fn push_each(
     index: &Indexed<'_>,
     pointers: &[String],
 ) -> Result<(), AllocError> {
-    let found = find_all_at_once(alloc, index.text(), pointers)?;
+    let spelt = pointers_of(alloc, pointers)?;
+    let found = found_at_once(alloc, index.text(), &spelt)?;
     if !is_fed_alike(alloc, index.text(), pointers, &found)? {
         out.part("; ");
         out.push_str(FED_ELSEWHERE);

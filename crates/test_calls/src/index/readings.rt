@@ -1,5 +1,5 @@
 // The rows of texts, read in one pass, with pauses and by runs.
-ghost use Rattle.std.specs.Prelude.{◌≡◌, ◌≤◌, length};
+ghost use Rattle.std.specs.Prelude.{◌≤◌, length};
 
 use crate::index::pauses::EachByte;
 use jx_index::{Indexed, TextAnswer};

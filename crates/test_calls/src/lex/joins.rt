@@ -1,5 +1,5 @@
 // Maps of neighbours, joined.
-ghost use Rattle.std.specs.Prelude.{◌≡◌, ◌≤◌, length, IfOk};
+ghost use Rattle.std.specs.Prelude.{◌≤◌, length};
 
 use jx_maps::ChunkMap;
 use std::alloc::{AllocError, Global};

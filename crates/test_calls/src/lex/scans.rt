@@ -16,6 +16,8 @@ struct FirstMarks {
 impl TokenSink for FirstMarks {
     ghost has_seen = { λ k marks ends. k.count ≡ min k.limit (length marks) };
 
+    ghost awaits = { λ _ _. Unit {0} };
+
     fn begin(&mut self, _mark: Mark) -> Result<(), AllocError> {
         if self.count < self.limit {
             self.count += 1;

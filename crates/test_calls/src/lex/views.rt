@@ -1,5 +1,5 @@
 // The views from all states, beside one step after another.
-ghost use Rattle.std.specs.Prelude.{◌≡◌, ◌≤◌, length};
+ghost use Rattle.std.specs.Prelude.{◌≤◌, length};
 
 use crate::lex::joins::joined_at;
 use crate::lex::track::Track;

@@ -1,5 +1,5 @@
 // What the entries of a structure show, and what they come to over open containers.
-ghost use Rattle.std.specs.Prelude.{◌≡◌, ◌≤◌, ◌<◌, ◌^◌, IfSome, length};
+ghost use Rattle.std.specs.Prelude.{◌≤◌, ◌<◌, ◌^◌, IfSome};
 ghost use Rattle.jx_reduce.specs.Offsets.{EachIn, RisingFrom};
 
 use crate::reduce::joins::joined_at;

@@ -1,5 +1,5 @@
 // Lists of marks, as words spell them.
-ghost use Rattle.std.specs.Prelude.{◌≡◌, ◌≤◌, ◌<◌, ◌^◌, ℕ, IfOk, IfSome};
+ghost use Rattle.std.specs.Prelude.{◌≤◌, ◌<◌, ◌^◌, IfOk, IfSome};
 ghost use Rattle.jx_reduce.specs.Offsets.{EachIn, RisingFrom};
 
 use jx_lex::Mark;

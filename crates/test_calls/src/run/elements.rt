@@ -1,5 +1,5 @@
 // The verdicts on the elements of sequences.
-ghost use Rattle.std.specs.Prelude.{◌≡◌, ◌≤◌, ◌<◌, ◌+◌, ◌^◌, length};
+ghost use Rattle.std.specs.Prelude.{◌≤◌, ◌<◌, ◌+◌, ◌^◌, length};
 
 use crate::run::joins::cut_twice;
 use jx_lex::Depth;

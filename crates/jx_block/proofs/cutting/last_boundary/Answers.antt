@@ -1,20 +1,16 @@
-use Rattle.std.proofs.Common.{◌≡◌, ◌<◌, ℕ, true, false, zero, suc, ◌+◌, ◌-◌, ◌%◌, ◌^◌, not, Bool, bit_and, bit_xor, refl, sym, ap, ◌∙◌, ◌⊎◌, inl, inr, arith}
-use Rattle.std.proofs.lemmas.Bool.{cases_Bool}
+use Rattle.std.proofs.Common.{◌≡◌, ◌<◌, ℕ, true, false, zero, suc, ◌+◌, ◌-◌, ◌%◌, ◌^◌, not, bit_and, bit_xor, refl, sym, ap, ◌∙◌, ◌⊎◌, inl, inr, arith}
+use Rattle.std.proofs.lemmas.Bool.{cases_Bool, not-true}
 use Rattle.jx_lex.specs.inside.Bits.{bit}
 use Rattle.jx_lex.proofs.Bits.{bit-and, bit-not, bit-none, highest_set, no_difference_above}
 use Rattle.jx_lex.proofs.ClassTable.{and_left, and_right}
 use Rattle.jx_block.proofs.cutting.last_boundary.Goals as goal
-
-not_back : (a : Bool) → not a ≡ true → a ≡ false
-not_back true h = sym h
-not_back false h = refl
 
 -- a place that is set among the boundaries
 set_both : (inside up r : ℕ) → bit (bit_and (2 ^ 64 - 1 - inside) up) r ≡ true → (bit (2 ^ 64 - 1 - inside) r ≡ true) × (bit up r ≡ true)
 set_both inside up r h = let both = sym (bit-and (2 ^ 64 - 1 - inside) up r) ∙ h in (and_left _ _ both, and_right _ _ both)
 
 outside : (inside up r : ℕ) → inside < 2 ^ 64 → r < 64 → bit (bit_and (2 ^ 64 - 1 - inside) up) r ≡ true → bit inside r ≡ false
-outside inside up r fits lt h = not_back _ (sym (bit-not inside r fits lt) ∙ (set_both inside up r h).0)
+outside inside up r fits lt h = not-true _ (sym (bit-not inside r fits lt) ∙ (set_both inside up r h).0)
 
 nothing_below : (w m r : ℕ) → m ≡ (w + (2 ^ 64 - 1)) % 2 ^ 64 → w < 2 ^ 64 → bit (bit_xor w m) r ≡ true → (k : ℕ) → k < r → bit w k ≡ false
 nothing_below w m r is fits top k lt = by_bit (cases_Bool (bit w k))

@@ -4,7 +4,7 @@ use Rattle.std.specs.Int.{bit_at, trailing_ones}
 use Rattle.std.proofs.lemmas.Nat.{shr_le}
 use Rattle.std.proofs.lemmas.Nat.Bits.{bit_at-trailing_ones}
 use Rattle.jx_lex.specs.inside.Bits.{bit}
-use Rattle.jx_block.proofs.Words.{bit-shr}
+use Rattle.jx_lex.proofs.Bits.{bit-shr}
 use Rattle.jx_block.proofs.scalars.run_end.Goals as goal
 
 -- a word that is not all ones begins with a run of ones, and a zero stands behind it

@@ -1,6 +1,6 @@
 use Rattle.std.proofs.Common.{◌≡◌, ◌++◌, vec_len}
 use Rattle.std.specs.Prelude.{reverse}
-use Rattle.jx_complete.specs.inside.Closing.{shut}
+use Rattle.jx_run.specs.inside.Closing.{shut}
 use Rattle.jx_complete.proofs.closing.shut.Given as goal
 
 -- the containers that are left are still to be closed

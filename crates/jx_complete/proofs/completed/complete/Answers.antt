@@ -12,7 +12,7 @@ returns-in-Accepted-clause-some c =
     let verdict = c.verdict_at-verdict.result in
     let judged : JudgedBy settings 0 bytes verdict =
     subst (λ (l : List ℕ). JudgedBy settings 0 l verdict) c.deref.ensures.value
-    (c.verdict_at-verdict.ensures.verdict settings 0 c.deref.result.now c.in_ok-reached.reached.kept.stack.reading c.whole.ensures c.in_ok-reached.ensures.reads.outcome) in
+    (c.verdict_at-verdict.ensures.verdict settings 0 c.deref.result.now c.in_ok-reached.reached.stack.reading c.whole.ensures c.in_ok-reached.ensures.reads.outcome) in
     let long : c.len.result ≡ length bytes = search rules in
     all_of_it settings bytes bytes c.before_fault-kept.result verdict judged c.in-Accepted.is (c.before_fault-kept.ensures ∙ ap (λ (n : ℕ). before_fault n verdict) long) refl
 
@@ -23,7 +23,7 @@ ended-requires c =
     let verdict = c.verdict_at-verdict.result in
     let judged : JudgedBy settings 0 bytes verdict =
     subst (λ (l : List ℕ). JudgedBy settings 0 l verdict) c.deref.ensures.value
-    (c.verdict_at-verdict.ensures.verdict settings 0 c.deref.result.now c.in_ok-reached.reached.kept.stack.reading c.whole.ensures c.in_ok-reached.ensures.reads.outcome) in
+    (c.verdict_at-verdict.ensures.verdict settings 0 c.deref.result.now c.in_ok-reached.reached.stack.reading c.whole.ensures c.in_ok-reached.ensures.reads.outcome) in
     let long : c.len.result ≡ length bytes = search rules in
     let is : c.before_fault-kept.result ≡ before_fault (length bytes) verdict = c.before_fault-kept.ensures ∙ ap (λ (n : ℕ). before_fault n verdict) long in
     let stands = stand_before settings bytes verdict judged c.in_default.not-Accepted in
@@ -36,7 +36,7 @@ returns-in-None-clause-none c = λ _.
     let verdict = c.verdict_at-verdict.result in
     let judged : JudgedBy settings 0 bytes verdict =
     subst (λ (l : List ℕ). JudgedBy settings 0 l verdict) c.deref.ensures.value
-    (c.verdict_at-verdict.ensures.verdict settings 0 c.deref.result.now c.in_ok-reached.reached.kept.stack.reading c.whole.ensures c.in_ok-reached.ensures.reads.outcome) in
+    (c.verdict_at-verdict.ensures.verdict settings 0 c.deref.result.now c.in_ok-reached.reached.stack.reading c.whole.ensures c.in_ok-reached.ensures.reads.outcome) in
     let long : c.len.result ≡ length bytes = search rules in
     let is : c.before_fault-kept.result ≡ before_fault (length bytes) verdict = c.before_fault-kept.ensures ∙ ap (λ (n : ℕ). before_fault n verdict) long in
     let stands = stand_before settings bytes verdict judged c.in_default.not-Accepted in
@@ -50,7 +50,7 @@ returns-clause-some c =
     let verdict = c.verdict_at-verdict.result in
     let judged : JudgedBy settings 0 bytes verdict =
     subst (λ (l : List ℕ). JudgedBy settings 0 l verdict) c.deref.ensures.value
-    (c.verdict_at-verdict.ensures.verdict settings 0 c.deref.result.now c.in_ok-reached.reached.kept.stack.reading c.whole.ensures c.in_ok-reached.ensures.reads.outcome) in
+    (c.verdict_at-verdict.ensures.verdict settings 0 c.deref.result.now c.in_ok-reached.reached.stack.reading c.whole.ensures c.in_ok-reached.ensures.reads.outcome) in
     let long : c.len.result ≡ length bytes = search rules in
     let is : c.before_fault-kept.result ≡ before_fault (length bytes) verdict = c.before_fault-kept.ensures ∙ ap (λ (n : ℕ). before_fault n verdict) long in
     let stands = stand_before settings bytes verdict judged c.in_default.not-Accepted in

@@ -9,7 +9,7 @@ unreachable-requires c =
     let settings = c.args.settings.now in
     let bytes : List ℕ = c.args.bytes.items in
     let p = c.in_ok-reached.reached.progress in
-    let stack = c.in_ok-reached.reached.kept.stack in
+    let stack = c.in_ok-reached.reached.stack in
     let law = c.reader_is_grammar.ensures.by_settings in
     let read : IsReadTo settings 0 bytes p stack = subst (λ (l : List ℕ). IsReadTo settings 0 l p stack) c.deref.ensures.value c.in_ok-reached.ensures.reads in
     elim c.in-Stopped.is [
@@ -25,7 +25,7 @@ returns-in-Front-clause-none c = λ _.
     let settings = c.args.settings.now in
     let bytes : List ℕ = c.args.bytes.items in
     let p = c.in_ok-reached.reached.progress in
-    let stack = c.in_ok-reached.reached.kept.stack in
+    let stack = c.in_ok-reached.reached.stack in
     let read : IsReadTo settings 0 bytes p stack = subst (λ (l : List ℕ). IsReadTo settings 0 l p stack) c.deref.ensures.value c.in_ok-reached.ensures.reads in
     ended_mark settings bytes p c.in-Front.field-0 stack read c.in-Front.is (subst IsCut c.in-Front.is c.in_ok-reached.ensures.cut)
 
@@ -34,7 +34,7 @@ returns-in_ok-end_text-in-Going-clause-some c =
     let settings = c.args.settings.now in
     let bytes : List ℕ = c.args.bytes.items in
     let p = c.in_ok-reached.reached.progress in
-    let stack = c.in_ok-reached.reached.kept.stack in
+    let stack = c.in_ok-reached.reached.stack in
     let read : IsReadTo settings 0 bytes p stack = subst (λ (l : List ℕ). IsReadTo settings 0 l p stack) c.deref.ensures.value c.in_ok-reached.ensures.reads in
     ended c.reader_is_grammar.ensures.by_settings settings bytes c.end_text.new.out.items p c.in-Going.state stack c.in_ok-expect-in-Going.expect
     (reverse c.in_ok-expect-in-Going.holders.items) read c.in-Going.is c.in_ok-expect-in-Going.ensures.standing c.in_ok-end_text-in-Going.ensures

@@ -1,12 +1,11 @@
 use Rattle.std.proofs.Common.{◌≡◌, ◌++◌, length}
 use Rattle.jx_index.specs.Pointers.{HasSlash, tokens}
-use Rattle.jx_index.specs.inside.Found.{HavePlaces, tokens_of}
+use Rattle.jx_index.specs.inside.Found.{tokens_of}
 use Rattle.jx_index.proofs.wanted.wanted_of.Given as goal
 
 abbrev pub invariant-loop-rest : goal.invariant-loop-rest
 invariant-loop-rest l = record {
   tokens_are : tokens_of l.wanted.items ++ tokens l.rest ≡ tokens l.initial.rest;
-  places : HavePlaces l.wanted.items;
   slash : HasSlash l.rest;
 }
 

@@ -4,5 +4,5 @@ use Rattle.jx_lex.proofs.scanner.pass_on.Goals as goal
 
 pub returns-in_default : goal.returns-in_default
 returns-in_default g c =
-    let b = c.requires in
-    record { bounds = (omega arith, b.0); read = goes-none c.args.text.now c.args.from c.args.state (g.K.TokenSink.has_seen c.args.sink.now) }
+    let b = c.requires.bounds in
+    record { bounds = (omega arith, b.0); read = goes-none c.args.text.now c.args.from c.args.state (g.K.TokenSink.has_seen c.args.sink.now); turn = c.requires.turn }

@@ -3,6 +3,7 @@ use Rattle.std.specs.Prelude.{slice_range}
 use Rattle.jx_lex.specs.Ahead.{IsSound}
 use Rattle.jx_lex.specs.Lex.{lex}
 use Rattle.jx_lex.specs.Seen.{GoesTo}
+use Rattle.jx_lex.specs.TokenStates.{in_token}
 use Rattle.jx_lex.proofs.scanner.scan.Given as goal
 
 -- the bytes up to here were seen
@@ -12,6 +13,7 @@ invariant-loop-i g l = record {
   high : l.i ≤ l.to;
   sound : IsSound l.text l.ahead;
   read : GoesTo (g.K.TokenSink.has_seen l.fn.sink) (g.K.TokenSink.has_seen l.sink) (lex l.initial.state l.from (slice_range l.text l.from l.i)) l.state;
+  turn : g.K.TokenSink.awaits l.sink (in_token l.state);
 }
 
 abbrev pub decreases-loop-i : goal.decreases-loop-i

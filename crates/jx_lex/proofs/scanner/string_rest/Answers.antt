@@ -21,7 +21,7 @@ returns-then-text-end-eq34-clause-read g c =
     let fits = c.requires.bounds.1 in
     goes-then xs c.args.from (e + 1) c.in_ok-behind.behind state.Str state.Gap state.Gap old mid new (omega (arith, b)) k.0 (omega (arith, fits, k))
     (goes-closed xs c.args.from e old mid b.0 (omega (arith, fits, k)) c.if-text-end-eq34.true s.ensures.led
-    (λ marks ends h. subst (λ (ms : List Mark). mid ms (ends ++ (e + 1) ∷ [])) (sym (append-nil marks)) (c.in_ok-end.ensures marks ends h)))
+    (λ marks ends h. subst (λ (ms : List Mark). mid ms (ends ++ (e + 1) ∷ [])) (sym (append-nil marks)) (c.in_ok-end.ensures.seen marks ends h)))
     c.in_ok-behind.ensures.read
 
 pub returns-clause-read : goal.returns-clause-read

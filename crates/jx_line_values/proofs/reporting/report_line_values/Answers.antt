@@ -4,7 +4,8 @@ use Rattle.std.specs.Prelude.{map, string_bytes}
 use Rattle.std.specs.Io.KnownBytes.{Appends}
 use Rattle.jx_ends.specs.declared.report_fault.ReportFault.TheVariants as fault
 use Rattle.jx_ends.specs.Ends.{AppendsBeginning}
-use Rattle.jx_line_values.proofs.Writes.{as_written, fault_back, lines_at_end, lines_of_nothing, part_at_end, reports, same_fault}
+use Rattle.jx_ends.proofs.Faults.{fault_back, same_fault}
+use Rattle.jx_line_values.proofs.Writes.{as_written, lines_at_end, lines_of_nothing, part_at_end, reports}
 use Rattle.jx_line_values.specs.LineValues.{pointers_of}
 use Rattle.jx_line_values.specs.inside.Looking.{IsTrieOf}
 use Rattle.jx_line_values.proofs.reporting.report_line_values.Goals as goal

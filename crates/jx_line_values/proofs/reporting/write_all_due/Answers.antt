@@ -1,8 +1,9 @@
 use Rattle.std.proofs.Common.{◌≡◌, ◌∙◌, rules, subst, sym}
 use Rattle.std.proofs.lemmas.Result.{err_from_is_err_and}
 use Rattle.jx_ends.specs.declared.report_fault.ReportFault.TheVariants as fault
+use Rattle.jx_ends.proofs.Faults.{same_fault, fault_is}
 use Rattle.jx_line_values.specs.Reports.{WroteInPart, WroteLines}
-use Rattle.jx_line_values.proofs.Writes.{due_at_fault, fault_is, goes_on, lines_at_end, lines_at_fault, part_at_fault, same_fault}
+use Rattle.jx_line_values.proofs.Writes.{due_at_fault, goes_on, lines_at_end, lines_at_fault, part_at_fault}
 use Rattle.jx_line_values.proofs.reporting.write_all_due.Goals as goal
 
 pub loop-preserved : goal.loop-preserved

@@ -1,6 +1,6 @@
-use Rattle.std.proofs.Common.{◌≡◌, List, [], ◌∷◌, ℕ, ◌-◌, length, take, drop, refl, ap, ◌∙◌, sym, subst, arith}
+use Rattle.std.proofs.Common.{◌≡◌, List, ℕ, ◌-◌, length, take, drop, ap, ◌∙◌, sym, subst, arith}
 use Rattle.std.proofs.lemmas.Bool.{eqb-true}
-use Rattle.std.proofs.lemmas.List.{length-drop, take_all}
+use Rattle.std.proofs.lemmas.List.{length-drop, take_all, nil_from_length}
 use Rattle.std.specs.Prelude.{is_some, true, false}
 use Rattle.jx_wire.specs.Frames.{ended_in, fault_of}
 use Rattle.jx_lsp.specs.inside.Parts.{Goes}
@@ -34,10 +34,6 @@ returns-then-is_some-2 g c =
     let some : is_some (fault_of to) ≡ true = sym (ap is_some c.fault.ensures) ∙ sym c.is_some-in-loop-rest.ensures ∙ c.if-is_some-2.true in
     ends_broken c.args.frames.now to c.args.server.now last a b (contents c.tell.new.writer) c.args.bytes.now rest c.broken_stream.result goes stays some c.broken_stream.ensures c.in_ok-tell.ensures
 
-nil_of : (l : List ℕ) → length l ≡ 0 → l ≡ []
-nil_of [] e = refl
-nil_of (x ∷ l) e = absurd (omega (arith, e))
-
 pub loop-rest-preserved : goal.loop-rest-preserved
 loop-rest-preserved g c =
     let contents = g.W.Write.contents in
@@ -58,4 +54,4 @@ pub returns : goal.returns
 returns g c =
     let contents = g.W.Write.contents in
     ends_whole c.args.frames.now c.loop-rest.frames c.args.server.now c.loop-rest.server (contents c.args.writer.now) (contents c.loop-rest.writer) c.args.bytes.now c.loop-rest.rest.now
-    c.loop-rest.invariant.1 (nil_of c.loop-rest.rest.now (eqb-true _ _ (sym c.is_empty.ensures ∙ c.loop-rest-test.false))) c.loop-rest.invariant.0
+    c.loop-rest.invariant.1 (nil_from_length c.loop-rest.rest.now (eqb-true _ _ (sym c.is_empty.ensures ∙ c.loop-rest-test.false))) c.loop-rest.invariant.0

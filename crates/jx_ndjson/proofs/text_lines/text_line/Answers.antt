@@ -12,5 +12,5 @@ returns-then-branch-clause-text c =
     let within : end ≤ length slice = first.high in
     let other = c.if-end-slice.false in
     let high : end < length slice = omega (arith, within, other) in
-    first_line c.args.kept.now.stack.depth slice end high (first.hit high) (none-found-before is_line_feed slice end within (λ j low feed. is_not _ (first.before j (omega arith) low) feed))
+    first_line c.args.stack.now.depth slice end high (first.hit high) (none-found-before is_line_feed slice end within (λ j low feed. is_not _ (first.before j (omega arith) low) feed))
     (c.in_ok-is_text.ensures.text c.if-branch.true)

@@ -17,9 +17,9 @@ loop-preserved c =
     let long : length rest ≡ length slice - at = length-between slice at (length slice) (omega arith) in
     let high : n ≤ length rest = subst (λ (o : Option ℕ). IfSome o (λ len. len ≤ length rest)) c.in-Some.is c.in_ok-line.ensures.within in
     let some : 0 < n = subst (λ (o : Option ℕ). IfSome o (λ len. 0 < len)) c.in-Some.is c.in_ok-line.ensures.some in
-    let deep = subst (λ (o : Option ℕ). IfSome o (λ len. c.text_line.new.kept.stack.depth ≡ c.loop.kept.stack.depth)) c.in-Some.is c.in_ok-line.ensures.depth in
-    let text : AreTexts c.loop.kept.stack.depth (take n rest) 1 =
-    subst (λ (o : Option ℕ). IfSome o (λ len. AreTexts c.loop.kept.stack.depth (take len rest) 1)) c.in-Some.is c.in_ok-line.ensures.text in
+    let deep = subst (λ (o : Option ℕ). IfSome o (λ len. c.text_line.new.stack.depth ≡ c.loop.stack.depth)) c.in-Some.is c.in_ok-line.ensures.depth in
+    let text : AreTexts c.loop.stack.depth (take n rest) 1 =
+    subst (λ (o : Option ℕ). IfSome o (λ len. AreTexts c.loop.stack.depth (take len rest) 1)) c.in-Some.is c.in_ok-line.ensures.text in
     let fits : at + n < 2 ^ 64 = search rules in
     record {
       depth = deep ∙ v.depth;

@@ -5,7 +5,7 @@ use Rattle.jx_ndjson.proofs.text_lines.texts_in_front.Given as goal
 
 abbrev pub invariant-loop : goal.invariant-loop
 invariant-loop l = record {
-  depth : l.kept.stack.depth ≡ l.fn.depth;
+  depth : l.stack.depth ≡ l.fn.depth;
   within : l.len ≤ length l.slice;
   few : l.count ≤ l.len;
   texts : AreTexts l.fn.depth (take l.len l.slice) l.count;

@@ -1,4 +1,4 @@
-use Rattle.jx_run.proofs.ReaderSteps.{seen_done}
+use Rattle.jx_reduce.proofs.KnownMoves.{seen_done}
 use Rattle.jx_run.proofs.laws.readings_go_on.Goals as goal
 
 pub returns : goal.returns

@@ -1,6 +1,7 @@
 use Rattle.std.proofs.Common.{◌≡◌, ◌+◌, ◌*◌, arith, length, sym, ◌∙◌}
 use Rattle.std.specs.Prelude.{None, Some}
-use Rattle.jx_saved_names.proofs.Heads.{front_of, front_split, no_longer, spelt_long}
+use Rattle.jx_lex.proofs.Running.{take-again}
+use Rattle.jx_saved_names.proofs.Heads.{front_split, no_longer, spelt_long}
 use Rattle.jx_saved_names.proofs.lengths.index_length.Goals as goal
 
 pub returns-in_default-clause-index : goal.returns-in_default-clause-index
@@ -10,7 +11,7 @@ returns-in_default-clause-index c = λ i rest savable is.
     absurd (let e : None ≡ Some (64 + 24 * length i.entries.items) = sym none ∙ known in cc)
 
 pub returns-then-len-bytes-clause-front : goal.returns-then-len-bytes-clause-front
-returns-then-len-bytes-clause-front c = front_of 8 c.in-Some.len c.args.bytes.now (let l = c.in-Some.ensures.least in omega (arith, l))
+returns-then-len-bytes-clause-front c = take-again 8 c.in-Some.len c.args.bytes.now (let l = c.in-Some.ensures.least in omega (arith, l))
 
 pub returns-then-len-bytes-clause-index : goal.returns-then-len-bytes-clause-index
 returns-then-len-bytes-clause-index c = λ i rest savable is.

@@ -1,6 +1,7 @@
 use Rattle.std.specs.Prelude.{Result}
 use Rattle.std.proofs.Common.{List, ℕ, [], refl, subst}
 use Rattle.std.proofs.lemmas.Result.{err_from_is_err_and}
+use Rattle.std.proofs.KnownBytes.{Appends-nil}
 use Rattle.std.specs.Io.KnownBytes.{Appends}
 use Rattle.jx_run.specs.declared.texts.verdict.Refusal.{Refusal}
 use Rattle.jx_run.specs.declared.texts.verdict.Verdict.TheVariants.{Refused}
@@ -8,8 +9,9 @@ use Rattle.jx_saved_names.specs.declared.saved_text.SavedText.{SavedText}
 use Rattle.jx_saved_names.specs.Spelling.{spelt_saved}
 use Rattle.jx_ends.specs.declared.exit.Exit.TheVariants.{Good}
 use Rattle.jx_ends.specs.declared.report_fault.ReportFault.TheVariants as fault
+use Rattle.jx_ends.proofs.Faults.{same_fault}
 use Rattle.jx_saved_report.specs.inside.Saving.{ComesToSaved}
-use Rattle.jx_saved_report.proofs.Batches.{appends_none, gives_index, same_fault}
+use Rattle.jx_saved_report.proofs.Batches.{gives_index}
 use Rattle.jx_saved_report.proofs.reporting.report_index.Goals as goal
 
 pub returns-in_err-write_saved-in-Ok-clause-beginning :
@@ -38,7 +40,7 @@ returns-in_ok-write_saved-in-Ok-clause-ok g c =
       read = read.read;
       answer = gives_index c.args.has_names c.args.settings.now c.args.chunk read.text c.in-Ok.saved (subst (λ (r : Result SavedText Refusal). ComesToSaved c.args.has_names c.args.settings.now c.args.chunk read.text r) c.in-Ok.is read.comes);
       wrote = c.in_ok-write_saved-in-Ok.ensures.ok;
-      says = λ lost. appends_none (g.E.Sink.contents c.args.errors.now);
+      says = λ lost. Appends-nil (g.E.Sink.contents c.args.errors.now);
     }
 
 pub returns-in_ok-told-in-Err-clause-ok : goal.returns-in_ok-told-in-Err-clause-ok
@@ -54,6 +56,6 @@ returns-in_ok-told-in-Err-clause-ok g c =
         is_verdict = subst (λ (r : Result SavedText Refusal). ComesToSaved c.args.has_names c.args.settings.now c.args.chunk read.text r) c.in-Err.is read.comes;
         gives = record { written = refl; told = c.in_ok-told-in-Err.ensures; ends = refl };
       };
-      wrote = appends_none (g.W.Sink.contents c.args.writer.now);
+      wrote = Appends-nil (g.W.Sink.contents c.args.writer.now);
       says = λ lost. subst (λ (l : List ℕ). Appends (g.E.Sink.contents c.args.errors.now) (g.E.Sink.contents c.tell.new.errors) l) c.deref.ensures.value (c.tell.ensures lost);
     }

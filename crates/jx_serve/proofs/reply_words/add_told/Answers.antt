@@ -1,4 +1,4 @@
-use Rattle.std.proofs.Common.{◌≡◌, ℕ, List, [], ◌∷◌, ◌++◌, ap, ◌∙◌, codes, refl}
+use Rattle.std.proofs.Common.{◌≡◌, ℕ, List, [], ◌∷◌, ◌++◌, ap, codes, refl}
 use Rattle.std.specs.List.{concat}
 use Rattle.jx_serve.specs.Words.{range}
 use Rattle.jx_serve.proofs.Grown.{grown, grown_last}

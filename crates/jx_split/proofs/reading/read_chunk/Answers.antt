@@ -6,7 +6,7 @@ use Rattle.jx_run.specs.Reader.{is_fault, read_by}
 use Rattle.jx_run.specs.Telling.{tokens_by}
 use Rattle.jx_walk.proofs.Chunkings.{entry_is, kept_some}
 use Rattle.jx_saved.specs.declared.entry.Entry.{Entry}
-use Rattle.jx_walk.proofs.Comings.{base_is, inside, later_goes, none_weaker, piece_is, some_weaker}
+use Rattle.jx_walk.proofs.Comings.{base_is, inside, later_exit, none_weaker, piece_is, some_weaker}
 use Rattle.jx_walk.proofs.Parts.{first_goes, first_track, later_track, none_before}
 use Rattle.jx_split.specs.Cuts.{cuts_of}
 use Rattle.jx_split.specs.Split.{IsCutAt}
@@ -50,8 +50,9 @@ returns-clause-none c = IfOk-weaker c.read_later.result _ _
     let two = c.pieces_are_read_in_turn.ensures.two in
     let entry = c.in-Some.entry in
     let same = entry_is settings chunk text index known.indexed c.args.at c.args.span entry c.requires.here c.in-Some.ensures in
-    later_goes settings chunk text index known two c.args.at c.args.span entry c.args.bytes.now c.if-at-eq0.false c.requires.here same
-    (piece_is settings chunk text index known c.args.at c.args.span c.args.bytes.now c.requires.here are) fault) h)
+    fault _
+    (later_exit settings chunk text index known two c.args.at c.args.span entry c.args.bytes.now c.if-at-eq0.false c.requires.here same
+    (piece_is settings chunk text index known c.args.at c.args.span c.args.bytes.now c.requires.here are))) h)
     c.read_later.ensures.none
 
 pub returns-clause-cut : goal.returns-clause-cut

@@ -3,10 +3,11 @@ use Rattle.std.proofs.lemmas.Result.{err_from_is_err_and}
 use Rattle.std.specs.Io.KnownBytes.{Appends}
 use Rattle.jx_run.specs.declared.texts.settings.Settings.{Settings}
 use Rattle.jx_ends.specs.declared.report_fault.ReportFault.TheVariants as fault
+use Rattle.jx_ends.proofs.Faults.{fault_back, same_fault}
 use Rattle.jx_values.specs.Elements.{WroteDue, WroteInPart, WroteLines}
 use Rattle.jx_values.specs.Values.{exit_by}
 use Rattle.jx_values.specs.inside.Sought.{HasSought, any_names}
-use Rattle.jx_values.proofs.ElementWrites.{as_written, fault_back, lines_at_end, lines_at_start, reports, same_fault}
+use Rattle.jx_values.proofs.ElementWrites.{as_written, lines_at_end, lines_at_start, reports}
 use Rattle.jx_values.proofs.elements.report_elements.Goals as goal
 
 pub returns-in_err-each-clause-lines : goal.returns-in_err-each-clause-lines

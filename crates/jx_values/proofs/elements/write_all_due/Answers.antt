@@ -1,9 +1,10 @@
 use Rattle.std.proofs.Common.{◌≡◌, ◌∙◌, rules, subst, sym}
 use Rattle.std.proofs.lemmas.Result.{err_from_is_err_and}
 use Rattle.jx_ends.specs.declared.report_fault.ReportFault.TheVariants as fault
+use Rattle.jx_ends.proofs.Faults.{same_fault, fault_is}
 use Rattle.jx_values.specs.Elements.{WroteLines}
 use Rattle.jx_values.specs.inside.ElementSteps.{IsWritten}
-use Rattle.jx_values.proofs.ElementWrites.{due_at_fault, fault_is, goes_on, lines_at_end, lines_at_fault, part_at_fault, same_fault}
+use Rattle.jx_values.proofs.ElementWrites.{due_at_fault, goes_on, lines_at_end, lines_at_fault, part_at_fault}
 use Rattle.jx_values.proofs.elements.write_all_due.Goals as goal
 
 pub returns-in_err-write_due-in-Ok-clause-lines : goal.returns-in_err-write_due-in-Ok-clause-lines

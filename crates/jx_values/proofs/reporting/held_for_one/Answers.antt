@@ -1,8 +1,8 @@
-use Rattle.std.proofs.Common.{◌<◌, ◌≤◌, ℕ, length, subst}
+use Rattle.std.proofs.Common.{◌<◌, ◌≤◌, ℕ, subst}
 use Rattle.std.proofs.lemmas.Result.{err_from_is_err_and}
 use Rattle.jx_ends.specs.declared.report_fault.ReportFault.TheVariants as fault
+use Rattle.jx_ends.proofs.Faults.{same_fault}
 use Rattle.jx_report.specs.Reports.{greatest_length}
-use Rattle.jx_values.proofs.ElementWrites.{same_fault}
 use Rattle.jx_values.proofs.reporting.held_for_one.Goals as goal
 
 pub returns-in_err-count_pieces-clause-pieces : goal.returns-in_err-count_pieces-clause-pieces

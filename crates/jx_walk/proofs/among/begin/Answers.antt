@@ -1,5 +1,5 @@
-use Rattle.std.proofs.Common.{◌≡◌, ◌*◌, ◌≤◌, ◌<◌, List, ap, arith, length, reverse, refl, ◌∙◌, Bool, true, false}
-use Rattle.std.specs.Prelude.{not}
+use Rattle.std.proofs.Common.{◌*◌, ◌≤◌, ◌<◌, List, ap, arith, length, reverse, ◌∙◌}
+use Rattle.std.proofs.lemmas.Bool.{not-false}
 use Rattle.jx_index.specs.declared.finder.Cursor.{Cursor}
 use Rattle.jx_index.specs.inside.Trie.{first_open}
 use Rattle.jx_saved.specs.declared.entry.Entry.{Entry}
@@ -8,10 +8,6 @@ use Rattle.jx_walk.proofs.Overs.{top_of}
 use Rattle.jx_walk.proofs.Parts.{stands_here}
 use Rattle.jx_walk.proofs.Told.{fewer}
 use Rattle.jx_walk.proofs.among.begin.Goals as goal
-
-is_so : (b : Bool) → not b ≡ false → b ≡ true
-is_so true h = refl
-is_so false h = absurd cc
 
 pub returns : goal.returns
 returns c = λ settings chunk text known t numbers was.
@@ -28,4 +24,4 @@ returns c = λ settings chunk text known t numbers was.
     let o = top_of (reverse held.state.opened.items) top (c.in_ok-top.ensures ∙ ap (λ (xs : List Cursor). first_open (reverse xs)) c.deref.ensures.value) in
     started settings chunk text known.goes two known.size c.parts_are_passed.ensures.held t.named c.args.edges.now held top o.outer at here low
     (stands_here settings chunk text known.goes two at known.size c.requires.other within) within (ap (λ (e : Entry). e.state) told.0) (ap (λ (e : Entry). e.expect) told.0)
-    o.is (is_so top.is_object c.if-not-top.false) (c.may_start.ensures c.if-not-may_start.false) was
+    o.is (not-false top.is_object c.if-not-top.false) (c.may_start.ensures c.if-not-may_start.false) was

@@ -5,8 +5,8 @@ use Rattle.jx_lex.specs.TokenStates.{in_token}
 use Rattle.jx_reduce.specs.declared.table.expect.Expect.{Expect}
 use Rattle.jx_index.specs.declared.finder.Cursor.{Cursor}
 use Rattle.jx_index.specs.inside.Finding.{Finding}
+use Rattle.jx_index.specs.inside.InOrder.{behind}
 use Rattle.jx_index.specs.inside.Trie.{seek_all}
-use Rattle.jx_find.specs.Held.{behind}
 use Rattle.jx_saved.specs.Sums.{nothing, sum_of}
 use Rattle.jx_walk.specs.Passing.{slot}
 use Rattle.jx_walk.specs.Holding.{Holds}

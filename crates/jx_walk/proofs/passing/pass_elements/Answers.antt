@@ -9,8 +9,8 @@ use Rattle.jx_walk.specs.inside.Over.{LeadsOver}
 use Rattle.jx_walk.proofs.Overs.{elements_over, top_of}
 use Rattle.jx_walk.proofs.passing.pass_elements.Goals as goal
 
-pub returns : goal.returns
-returns c = λ limit bytes piece marks ends h p.
+pub returns-clause-over : goal.returns-clause-over
+returns-clause-over c = λ limit bytes piece marks ends h p.
     let held = c.args.held.now in
     let entry = c.args.here.now in
     let later = c.args.behind.now in
@@ -34,5 +34,5 @@ returns c = λ limit bytes piece marks ends h p.
     let grows : top.count ≤ n = omega arith in
     subst (λ (o : Option Mark). LeadsOver bytes piece edges marks ends held entry (record { count = Some n; next = next; skipped = entry.sum.opened; begun = o })) (sym (c.waiting-token.ensures ∙ ap waiting c.is_in_token-waits.ensures))
     (elements_over bytes piece edges marks ends held entry h c.parts_are_passed.ensures.elements c.parts_are_passed.ensures.held limit n next end c.slot-after.result later top t.outer p t.is array
-    (c.is_unnamed.ensures c.if-not-is_unnamed.false) lowest (c.agrees.ensures c.if-not-agrees.false) (λ z. (stands z).0) (λ b z. (stands z).1 b) least
+    (c.is_unnamed.ensures c.if-not-is_unnamed.false) lowest (c.agrees.ensures.same c.if-not-agrees.false) (λ z. (stands z).0) (λ b z. (stands z).1 b) least
     (ended ∙ ap (λ (k : ℕ). k + c.slot-before.result) counted ∙ ap (λ (k : ℕ). (top.count + entry.sum.commas) + k) before) below fits after whole grows)

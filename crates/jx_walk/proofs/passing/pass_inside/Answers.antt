@@ -5,8 +5,8 @@ use Rattle.jx_walk.specs.inside.Over.{LeadsOver}
 use Rattle.jx_walk.proofs.Overs.{inside_over}
 use Rattle.jx_walk.proofs.passing.pass_inside.Goals as goal
 
-pub returns : goal.returns
-returns c = λ limit bytes piece marks ends h p.
+pub returns-clause-over : goal.returns-clause-over
+returns-clause-over c = λ limit bytes piece marks ends h p.
     let held = c.args.held.now in
     let entry = c.args.here.now in
     let edges = c.args.edges.now in
@@ -14,4 +14,4 @@ returns c = λ limit bytes piece marks ends h p.
     let less : entry.sum.closed < held.state.skipped = omega arith in
     let more : c.in_ok-skipped.skipped ≡ held.state.skipped + entry.sum.opened = omega arith in
     subst (λ (o : Option Mark). LeadsOver bytes piece edges marks ends held entry (record { count = None; next = held.next; skipped = n; begun = o })) (sym (c.waiting.ensures ∙ ap waiting c.is_in_token.ensures))
-    (inside_over bytes piece edges marks ends held entry h c.parts_are_passed.ensures.inside limit n c.args.behind.now p less (c.agrees.ensures c.if-not-agrees.false) (omega (arith, more, less)))
+    (inside_over bytes piece edges marks ends held entry h c.parts_are_passed.ensures.inside limit n c.args.behind.now p less (c.agrees.ensures.same c.if-not-agrees.false) (omega (arith, more, less)))

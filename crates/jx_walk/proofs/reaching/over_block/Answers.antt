@@ -15,5 +15,5 @@ returns c =
       leads = λ settings chunk text known was next found next_is begun_is.
           block_over settings chunk text c.args.index.now known c.pieces_are_read_in_turn.ensures.two c.args.edges.now at end block c.in_ok-later_span.later_span c.in_ok-here.here c.in_ok-later.later c.args.held.now c.in_ok-over.over
           c.if-at-eq0.false b end_is c.kept_of.ensures.at c.in_ok-here.ensures (c.in_ok-later.ensures.kept settings chunk text known)
-          c.in_ok-over.ensures was next found next_is begun_is;
+          c.in_ok-over.ensures.over c.in_ok-over.ensures.turn was next found next_is begun_is;
     }

@@ -1,8 +1,14 @@
 use Rattle.std.proofs.Common.{◌≡◌, ℕ, Some, subst, sym, ◌∙◌}
 use Rattle.jx_find.specs.declared.held.Sought.{Sought}
 use Rattle.jx_walk.specs.HeldAt.{IsHeldAt}
-use Rattle.jx_walk.proofs.Comings.{some_got}
+use Rattle.jx_walk.proofs.Comings.{none_got, some_got}
 use Rattle.jx_walk.proofs.reaching.read_on.Goals as goal
+
+pub returns-in_default-read-clause-none : goal.returns-in_default-read-clause-none
+returns-in_default-read-clause-none c = λ before is settings chunk text known are was.
+    let both : Some before ≡ Some c.in-Some.held = sym is ∙ c.in-Some.is in
+    let same : before ≡ c.in-Some.held = cc in
+    none_got c.in_ok-read.read _ c.in_default-read.is c.in_ok-read.ensures.none settings chunk text known are (subst (λ (h : Sought). IsHeldAt settings chunk text c.args.edges.now c.args.at h) same was)
 
 pub returns-clause-held : goal.returns-clause-held
 returns-clause-held c = λ before is settings chunk text known are names was.

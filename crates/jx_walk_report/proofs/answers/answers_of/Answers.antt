@@ -1,5 +1,5 @@
 use Rattle.std.specs.Prelude.{map, string_bytes}
-use Rattle.std.proofs.Common.{◌≡◌, ap, ◌∙◌}
+use Rattle.std.proofs.Common.{ap, ◌∙◌}
 use Rattle.jx_words.specs.inside.ReadPointers.{answer_in, each_answer}
 use Rattle.jx_words.proofs.PointersFound.{are_answered}
 use Rattle.jx_walk_report.proofs.answers.answers_of.Goals as goal

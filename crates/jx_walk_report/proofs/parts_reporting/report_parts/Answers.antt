@@ -1,6 +1,7 @@
-use Rattle.std.specs.Prelude.{Result, Ok, Err}
-use Rattle.std.proofs.Common.{◌≡◌, ℕ, List, [], sym, ap, subst, ◌∙◌}
+use Rattle.std.specs.Prelude.{Ok, Err}
+use Rattle.std.proofs.Common.{◌≡◌, ℕ, List, [], ap, subst, ◌∙◌}
 use Rattle.std.proofs.lemmas.Result.{err_from_is_err_and}
+use Rattle.std.proofs.KnownBytes.{Appends-nil}
 use Rattle.std.specs.Io.KnownBytes.{Appends}
 use Rattle.jx_ends.specs.Ends.{AppendsBeginning}
 use Rattle.jx_ends.specs.declared.exit.Exit.TheVariants.{Good}
@@ -9,7 +10,7 @@ use Rattle.jx_walk_report.specs.declared.look_fault.LookFault.TheVariants as fau
 use Rattle.jx_walk_report.specs.Parts.{part_lines, told_words}
 use Rattle.jx_walk_report.specs.Reports.{FailsFor}
 use Rattle.jx_walk_report.proofs.Reports.{fails, handed, same_fault}
-use Rattle.jx_walk_report.proofs.Splits.{appends_none, are_parts}
+use Rattle.jx_walk_report.proofs.Splits.{are_parts}
 use Rattle.jx_walk_report.proofs.parts_reporting.report_parts.Goals as goal
 
 pub returns-in_err-parts-clause-fault : goal.returns-in_err-parts-clause-fault
@@ -48,7 +49,7 @@ returns-in-Ok-clause-ok g c =
       tells = [];
       are_parts = are_parts c.args.parts c.args.pointer.now saved content c.in_ok-read.read c.in_ok-parts.field-0 (Ok parts) c.in_ok-read.ensures.reads c.in_ok-parts.ensures.split c.in-Ok.is;
       wrote = subst (λ (l : List ℕ). Appends (g.W.Sink.contents c.args.writer.now) (g.W.Sink.contents c.write_lines.new.writer) l) all c.in_ok-write_lines-in-Ok.ensures.ok;
-      says = λ lost. appends_none (g.E.Sink.contents c.args.errors.now);
+      says = λ lost. Appends-nil (g.E.Sink.contents c.args.errors.now);
     }
 
 pub returns-clause-ok : goal.returns-clause-ok
@@ -61,6 +62,6 @@ returns-clause-ok g c =
       output = [];
       tells = told_words answer;
       are_parts = are_parts c.args.parts c.args.pointer.now saved content c.in_ok-read.read c.in_ok-parts.field-0 (Err answer) c.in_ok-read.ensures.reads c.in_ok-parts.ensures.split c.in-Err.is;
-      wrote = appends_none (g.W.Sink.contents c.args.writer.now);
+      wrote = Appends-nil (g.W.Sink.contents c.args.writer.now);
       says = λ lost. subst (λ (l : List ℕ). Appends (g.E.Sink.contents c.args.errors.now) (g.E.Sink.contents c.tell.new.errors) l) all (c.tell.ensures lost);
     }

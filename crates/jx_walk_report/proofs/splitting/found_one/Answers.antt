@@ -1,5 +1,5 @@
 use Rattle.std.specs.Prelude.{Result, Some, slice_get}
-use Rattle.std.proofs.Common.{◌≡◌, List, ℕ, [], ◌∷◌, ap, sym, subst, ◌∙◌}
+use Rattle.std.proofs.Common.{List, ℕ, ap, sym, subst, ◌∙◌}
 use Rattle.jx_index.specs.declared.find_fault.FindFault.{FindFault}
 use Rattle.jx_index.specs.declared.finder.Found.{Found}
 use Rattle.jx_index.specs.Found.{AreFoundIn}

@@ -1,8 +1,6 @@
-use Rattle.std.specs.Prelude.{Option, Some}
-use Rattle.std.proofs.Common.{◌≡◌, ℕ, List, length, slice_range, refl, sym, ap, subst, ◌∙◌, rules}
+use Rattle.std.specs.Prelude.{Some}
+use Rattle.std.proofs.Common.{◌≡◌, slice_range, refl, sym, ap, subst, ◌∙◌, rules}
 use Rattle.jx_summary.specs.declared.span.Span.{Span}
-use Rattle.jx_run.specs.declared.texts.settings.Settings.{Settings}
-use Rattle.jx_run.specs.Laws.{span_of}
 use Rattle.jx_saved.specs.declared.index.Index.{Index}
 use Rattle.jx_saved.specs.Index.{IsIndexOf}
 use Rattle.jx_walk.specs.Walk.{IsToldApart}
@@ -11,7 +9,6 @@ use Rattle.jx_split.specs.Split.{HasCome, needed}
 use Rattle.jx_split.specs.Parts.{parts_of}
 use Rattle.jx_split.proofs.Needs.{needs_chunk}
 use Rattle.jx_walk_report.specs.Offsets.{HasSize}
-use Rattle.jx_walk_report.specs.Saved.{TellsApart}
 use Rattle.jx_walk_report.proofs.Chunks.{known_size}
 use Rattle.jx_walk_report.proofs.Walks.{all_told, changes, given_is, no_change}
 use Rattle.jx_walk_report.proofs.splitting.parts_in.Goals as goal

@@ -1,5 +1,5 @@
 use Rattle.std.specs.Prelude.{Option, Result, Ok, Err, None, Some}
-use Rattle.std.proofs.Common.{◌≡◌, List, ℕ, ap, sym, subst, ◌∙◌}
+use Rattle.std.proofs.Common.{◌≡◌, List, ℕ, subst, ◌∙◌}
 use Rattle.std.proofs.lemmas.Result.{err_from_is_err_and}
 use Rattle.jx_run.specs.declared.texts.settings.Settings.{Settings}
 use Rattle.jx_index.specs.declared.find_fault.FindFault.{FindFault}

@@ -1,12 +1,10 @@
-use Rattle.std.specs.Prelude.{Option, Some}
-use Rattle.std.proofs.Common.{◌≡◌, ℕ, List, length, slice_range, refl, sym, ap, subst, ◌∙◌, rules}
+use Rattle.std.specs.Prelude.{Some}
+use Rattle.std.proofs.Common.{◌≡◌, slice_range, refl, sym, subst, rules}
 use Rattle.jx_summary.specs.declared.span.Span.{Span}
-use Rattle.jx_run.specs.declared.texts.settings.Settings.{Settings}
 use Rattle.jx_saved.specs.declared.index.Index.{Index}
 use Rattle.jx_saved.specs.Index.{IsIndexOf}
 use Rattle.jx_walk.specs.Walk.{HasCome, IsToldApart, needed}
 use Rattle.jx_walk_report.specs.Offsets.{HasSize}
-use Rattle.jx_walk_report.specs.Saved.{TellsApart}
 use Rattle.jx_walk_report.proofs.Chunks.{known_size}
 use Rattle.jx_walk_report.proofs.Walks.{all_told, changes, given_is, no_change}
 use Rattle.jx_walk_report.proofs.walking.found_in.Goals as goal

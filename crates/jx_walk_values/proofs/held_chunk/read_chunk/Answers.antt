@@ -1,5 +1,5 @@
-use Rattle.std.proofs.Common.{◌≡◌, ◌-◌, length, false, rules, arith}
-use Rattle.jx_walk_values.proofs.Chunks.{kept_bytes, other_bytes, short_bytes}
+use Rattle.std.proofs.Common.{◌≡◌, ◌-◌, false, rules, arith}
+use Rattle.jx_walk_values.proofs.Chunks.{kept_bytes, other_bytes}
 use Rattle.jx_walk_values.proofs.held_chunk.read_chunk.Goals as goal
 
 pub returns-then-not-is_kept-clause-changed : goal.returns-then-not-is_kept-clause-changed

@@ -1,5 +1,5 @@
 use Rattle.std.specs.Prelude.{◌≢◌, Option, map, string_bytes}
-use Rattle.std.proofs.Common.{◌≡◌, ℕ, ◌<◌, List, length, get_or, refl, sym, subst, ◌∙◌, rules, arith}
+use Rattle.std.proofs.Common.{ℕ, ◌<◌, List, length, refl, sym, subst, ◌∙◌, rules, arith}
 use Rattle.std.proofs.lemmas.List.{length-map}
 use Rattle.std.proofs.lemmas.Option.{get_or_from_slice_get}
 use Rattle.std.proofs.lemmas.Result.{err_from_is_err_and}

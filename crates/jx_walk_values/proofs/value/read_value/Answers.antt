@@ -1,5 +1,5 @@
 use Rattle.std.specs.Prelude.{Option}
-use Rattle.std.proofs.Common.{◌≡◌, ℕ, ◌≤◌, List, rules, arith, refl, subst, ◌∙◌}
+use Rattle.std.proofs.Common.{ℕ, ◌≤◌, List, rules, arith, refl, subst, ◌∙◌}
 use Rattle.jx_walk_values.specs.inside.HeldChunks.{IsHeldIn}
 use Rattle.jx_walk_values.proofs.ValueSteps.{all_come, none_yet, one_more}
 use Rattle.jx_walk_values.proofs.value.read_value.Goals as goal

@@ -1,5 +1,5 @@
 // One right side extends several lefts, and a copy of one of them.
-ghost use Rattle.std.specs.Prelude.{◌≡◌, ◌≤◌, IfOk};
+ghost use Rattle.std.specs.Prelude.{◌≡◌, IfOk};
 ghost use Rattle.jx_reduce.specs.Reductions.{IsBefore, SpansIn};
 
 use crate::tests::marks::lists::{depth_of, is_same, marks_of};

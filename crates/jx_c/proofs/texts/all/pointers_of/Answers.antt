@@ -14,5 +14,5 @@ loop-at-preserved c =
     let here : JxPointer = c.pointer_at.result in
     let one_more = take_more pointers at here c.loop-at-test.true ∙ ap (λ (p : JxPointer). take at pointers ++ p ∷ []) (get_or_from_slice_get pointers at here here c.pointer_at.ensures) in
     subst (λ (xs : List (List ℕ)). AllZip (λ (p : JxPointer). IsPointerOf p.bytes.now) (take (at + 1) pointers) xs) (sym c.in_ok-push.ensures.items)
-    (subst (λ (ps : List JxPointer). AllZip (λ (p : JxPointer). IsPointerOf p.bytes.now) ps (c.loop-at.all.items ++ c.pointer_or_empty.result ∷ [])) (sym one_more)
-    (all_zipped_more (λ (p : JxPointer). IsPointerOf p.bytes.now) (take at pointers) c.loop-at.all.items here c.pointer_or_empty.result c.loop-at.invariant c.pointer_or_empty.ensures))
+    (subst (λ (ps : List JxPointer). AllZip (λ (p : JxPointer). IsPointerOf p.bytes.now) ps (c.loop-at.all.items ++ c.pointer_or_root.result ∷ [])) (sym one_more)
+    (all_zipped_more (λ (p : JxPointer). IsPointerOf p.bytes.now) (take at pointers) c.loop-at.all.items here c.pointer_or_root.result c.loop-at.invariant c.pointer_or_root.ensures))

@@ -1,13 +1,11 @@
-use Rattle.std.proofs.Common.{List, ℕ, subst}
-use Rattle.jx_index.specs.Found.{IsFoundBy}
+use Rattle.std.proofs.Common.{List, ℕ, subst, sym}
+use Rattle.jx_c.specs.LookUps.{IsLookUp, IsSpelt}
 use Rattle.jx_c.proofs.texts.look_up.look_up.Goals as goal
 
-pub returns-in_ok-found-in-Ok : goal.returns-in_ok-found-in-Ok
-returns-in_ok-found-in-Ok c =
-    let settings = c.args.settings.now in
-    let text = c.args.text.now in
-    c.told.ensures settings text c.args.pointer.now c.in-Ok.ensures.spelt
-    (subst (λ (p : List ℕ). IsFoundBy settings text p c.in_ok-found-in-Ok.found) c.in-Ok.ensures.pointer c.in_ok-found-in-Ok.ensures)
+pub returns-in_ok-answer-in-Ok : goal.returns-in_ok-answer-in-Ok
+returns-in_ok-answer-in-Ok c =
+    subst (λ (p : List ℕ). IsLookUp c.args.settings.now c.args.text.now p c.in_ok-answer-in-Ok.answer) c.in-Ok.ensures.pointer
+    (c.in_ok-answer-in-Ok.ensures (subst IsSpelt (sym c.in-Ok.ensures.pointer) c.in-Ok.ensures.spelt))
 
 pub returns-in-Err : goal.returns-in-Err
 returns-in-Err c = c.in-Err.ensures.none c.args.settings.now c.args.text.now

@@ -1,4 +1,4 @@
-use Rattle.std.proofs.Common.{◌≡◌, ◌+◌, ◌∙◌, [], refl, sym, ap, subst}
+use Rattle.std.proofs.Common.{◌∙◌, [], sym, ap, subst}
 use Rattle.jx_ndjson.specs.Tally.{HasTaken, TallyValue}
 use Rattle.jx_ndjson.specs.WholeLines.{WholeLinesValue}
 use Rattle.jx_ndjson.proofs.Whole.{taken_whole}

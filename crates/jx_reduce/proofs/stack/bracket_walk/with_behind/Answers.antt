@@ -1,9 +1,9 @@
 use Rattle.std.proofs.Common.{◌≡◌, ◌∙◌, ◌<◌, ◌-◌, ◌/◌, ◌^◌, ℕ, Bool, true, false, not, refl, ap, sym, arith}
+use Rattle.std.proofs.lemmas.Bool.{or_right}
 use Rattle.std.specs.Prelude.{◌&&◌, ◌||◌}
 use Rattle.jx_lex.specs.inside.Bits.{bit}
 use Rattle.jx_lex.proofs.Bits.{bit-and, bit-not, bit-or}
 use Rattle.jx_block.proofs.Words.{and_true}
-use Rattle.jx_reduce.proofs.BlockBits.{right_of}
 use Rattle.jx_reduce.proofs.BlockWalk.{high_at, low_at, or_none}
 use Rattle.jx_reduce.proofs.stack.bracket_walk.with_behind.Goals as goal
 
@@ -24,7 +24,7 @@ pub returns-then-set-clause-behind : goal.returns-then-set-clause-behind
 returns-then-set-clause-behind c = λ j more lt.
     let w = c.args.word in
     let k = c.args.k in
-    bit-or w _ j ∙ right_of (bit w j) _ (not_at k j false lt (high_at k j c.requires more)) ∙ sym c.if-set.true
+    bit-or w _ j ∙ or_right (bit w j) _ (not_at k j false lt (high_at k j c.requires more)) ∙ sym c.if-set.true
 
 pub returns-else-set-clause-before : goal.returns-else-set-clause-before
 returns-else-set-clause-before c = λ j le.

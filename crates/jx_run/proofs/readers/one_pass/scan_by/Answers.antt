@@ -4,15 +4,16 @@ use Rattle.jx_lex.specs.declared.alphabet.lex_exit.LexExit.{LexExit}
 use Rattle.jx_lex.specs.declared.alphabet.state.LexState.TheVariants.{Gap}
 use Rattle.jx_lex.specs.Lex as reading
 use Rattle.jx_lex.specs.Lex.{lex, Track}
-use Rattle.jx_lex.specs.Seen.{GoesTo, SeesTrack}
+use Rattle.jx_lex.specs.Seen.{AwaitsAt, GoesTo, SeesTrack}
 use Rattle.jx_lex.specs.Exit.{exit_of}
-use Rattle.jx_run.proofs.Paces.{goes_none, fault_ends, done_sees, exit_then, sees_then}
+use Rattle.jx_lex.proofs.Keeping.{goes-none}
+use Rattle.jx_run.proofs.Paces.{fault_ends, done_sees, exit_then, sees_then}
 use Rattle.jx_run.proofs.readers.one_pass.scan_by.Goals as goal
 
 pub loop-at-init : goal.loop-at-init
 loop-at-init g c =
-    let b = c.requires in
-    record { low = omega arith; high = b.0; read = goes_none c.args.text.now c.args.from Gap (g.K.TokenSink.has_seen c.args.sink.now) }
+    let b = c.requires.bounds in
+    record { low = omega arith; high = b.0; read = goes-none c.args.text.now c.args.from Gap (g.K.TokenSink.has_seen c.args.sink.now); turn = c.requires.turn }
 
 pub returns-in_default-clause-seen : goal.returns-in_default-clause-seen
 returns-in_default-clause-seen g c =
@@ -21,7 +22,7 @@ returns-in_default-clause-seen g c =
     let at = c.loop-at.at in
     let stop = c.stop_within-stop.result in
     let b = c.stop_within-stop.ensures in
-    let fits = c.requires.1 in
+    let fits = c.requires.bounds.1 in
     let old = g.K.TokenSink.has_seen c.loop-at.sink in
     let new = g.K.TokenSink.has_seen c.scan.new.sink in
     sees_then c.pieces_are_read_in_turn.ensures.stretch xs c.args.from at c.args.to Gap v.low v.high (let h = v.high in omega (arith, fits, h)) c.loop-at.state v.read.exit (g.K.TokenSink.has_seen c.args.sink.now) old new v.read.seen
@@ -34,7 +35,7 @@ returns-in-Fault-clause-seen g c =
     let at = c.loop-at.at in
     let stop = c.stop_within-stop.result in
     let b = c.stop_within-stop.ensures in
-    let fits = c.requires.1 in
+    let fits = c.requires.bounds.1 in
     let old = g.K.TokenSink.has_seen c.loop-at.sink in
     let new = g.K.TokenSink.has_seen c.scan.new.sink in
     let track = lex c.loop-at.state at (slice_range xs at stop) in
@@ -50,7 +51,7 @@ returns-in-Fault-clause-exit g c =
     let at = c.loop-at.at in
     let stop = c.stop_within-stop.result in
     let b = c.stop_within-stop.ensures in
-    let fits = c.requires.1 in
+    let fits = c.requires.bounds.1 in
     let track = lex c.loop-at.state at (slice_range xs at stop) in
     let e : exit_of c.in-Some.exit ≡ track.exit = subst (λ (o : Option LexExit). IfSome o (λ e. exit_of e ≡ track.exit)) c.in-Some.is c.in_ok-exit.ensures.exit in
     let f : track.exit ≡ reading.fault c.in-Fault.fault = sym e ∙ ap exit_of c.in-Fault.is in
@@ -66,7 +67,7 @@ loop-at-preserved g c =
     let at = c.loop-at.at in
     let stop = c.stop_within-stop.result in
     let b = c.stop_within-stop.ensures in
-    let fits = c.requires.1 in
+    let fits = c.requires.bounds.1 in
     let low = v.low in
     let old = g.K.TokenSink.has_seen c.loop-at.sink in
     let new = g.K.TokenSink.has_seen c.scan.new.sink in
@@ -77,6 +78,7 @@ loop-at-preserved g c =
     record {
       low = omega (arith, b, low);
       high = b.1;
+      turn = subst (AwaitsAt (g.K.TokenSink.awaits c.scan.new.sink)) c.in-State.is (subst (λ (o : Option LexExit). IfSome o (AwaitsAt (g.K.TokenSink.awaits c.scan.new.sink))) c.in-Some.is c.in_ok-exit.ensures.turn);
       read = record {
         seen = sees_then c.pieces_are_read_in_turn.ensures.stretch xs c.args.from at stop Gap low (omega (arith, b)) (let h = v.high in omega (arith, fits, h)) c.loop-at.state v.read.exit (g.K.TokenSink.has_seen c.args.sink.now) old new v.read.seen here.seen;
         exit = exit_then c.pieces_are_read_in_turn.ensures.stretch xs c.args.from at stop Gap low (omega (arith, b)) (let h = v.high in omega (arith, fits, h)) c.loop-at.state v.read.exit ∙ here.exit;

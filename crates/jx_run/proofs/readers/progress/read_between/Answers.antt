@@ -1,4 +1,4 @@
-use Rattle.std.proofs.Common.{◌≡◌, ◌≤◌, ℕ, List, length, sym, subst, arith}
+use Rattle.std.proofs.Common.{◌≡◌, ◌≤◌, ℕ, List, false, length, sym, subst, arith}
 use Rattle.std.specs.Prelude.{IfSome, slice_range}
 use Rattle.jx_lex.specs.declared.alphabet.lex_exit.LexExit.{LexExit}
 use Rattle.jx_lex.specs.declared.alphabet.state.LexState.TheVariants.{Gap}
@@ -38,3 +38,6 @@ returns-clause-exit g c =
     let none : 0 ≤ c.passed-at.result = omega arith in
     let same = exit-then slice 0 c.passed-at.result c.args.to Gap Gap none b (omega (arith, b, high)) c.passed-at.ensures.read.exit in
     subst (λ (x : lexical.LexExit). IfSome c.in_ok-exit.exit (λ (e : LexExit). exit_of e ≡ x)) (sym same) c.in_ok-exit.ensures.exit
+
+pub scan-requires-clause-turn : goal.scan-requires-clause-turn
+scan-requires-clause-turn g c = g.met.S.OpenStack.is_free c.passed-at.new.stack false

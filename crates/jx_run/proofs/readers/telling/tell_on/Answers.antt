@@ -1,9 +1,9 @@
 use Rattle.std.proofs.Common.{ap, subst, sym, ◌∙◌}
 use Rattle.std.proofs.lemmas.Result.{IfOk-weaker}
-use Rattle.jx_run.specs.ReaderInside.{IsReadTo, outcome_at}
-use Rattle.jx_run.specs.Reader.{is_fault}
+use Rattle.jx_run.specs.ReaderInside.{IsOfUse, IsReadTo, outcome_at}
+use Rattle.jx_run.specs.Reader.{in_front, is_fault}
 use Rattle.jx_run.proofs.ReaderFeeds.{going, passed}
-use Rattle.jx_run.proofs.Tellings.{deep_past, stopped_past, whole_goes}
+use Rattle.jx_run.proofs.Tellings.{deep_past, going_awaits, stopped_past, whole_goes}
 use Rattle.jx_run.proofs.readers.telling.tell_on.Goals as goal
 
 pub returns-in-Going-clause-reads : goal.returns-in-Going-clause-reads
@@ -33,3 +33,12 @@ returns-in-TooDeep-clause-reads g c = λ settings start bytes at h.
 pub returns-in-TooDeep-clause-past : goal.returns-in-TooDeep-clause-past
 returns-in-TooDeep-clause-past g c = λ before is.
     deep_past (g.K.TokenSink.has_seen c.args.sink) c.args.stack.depth c.in-TooDeep.field-0 c.args.stack.reading before c.args.slice.now (ap (λ p. outcome_at p c.args.stack.reading) (sym c.in-TooDeep.is) ∙ is)
+
+pub tell_front-requires-clause-turn : goal.tell_front-requires-clause-turn
+tell_front-requires-clause-turn g c = c.requires.turn (in_front c.in-Front.before) (ap (λ p. outcome_at p c.args.stack.reading) c.in-Front.is)
+
+pub tell_slice-requires-clause-turn : goal.tell_slice-requires-clause-turn
+tell_slice-requires-clause-turn g c =
+    let r = c.args.stack.reading in
+    let of_use = subst (λ p. IsOfUse p c.requires.of_use.0 c.requires.of_use.1 c.args.stack) c.in-Going.is c.requires.of_use.2 in
+    going_awaits (g.K.TokenSink.awaits c.args.sink) c.in-Going.state r of_use.1 (λ before is. c.requires.turn before (ap (λ p. outcome_at p r) c.in-Going.is ∙ is))

@@ -10,7 +10,7 @@ use Rattle.jx_run.specs.Reader.{is_fault}
 use Rattle.jx_run.specs.ReaderInside.{GoesOn, outcome_at, settled}
 use Rattle.jx_run.specs.declared.readers.progress.Progress.{Progress}
 use Rattle.jx_run.proofs.ReaderSteps.{goes_on_by}
-use Rattle.jx_run.proofs.Tellings.{past_done, past_new, settled_goes, told_all}
+use Rattle.jx_run.proofs.Tellings.{past_done, past_new, settled_awaits, settled_goes, told_all}
 use Rattle.jx_run.proofs.readers.telling.tell_slice.Goals as goal
 
 pub returns-clause-goes_on : goal.returns-clause-goes_on
@@ -57,3 +57,10 @@ returns-clause-past g c =
     let first = subst (λ (k : Known). HasSeenPast seen k (g.K.TokenSink.has_seen c.args.sink) [] [] old) c.requires.stack (past_new seen old (g.K.TokenSink.has_seen c.args.sink) c.requires.going c.requires.seen) in
     let last : HasSeenPast seen earlier told track.marks track.ends new = c.in_ok-exit.ensures.seen [] [] first in
     (subst (λ (k : Known). HasSeenPast seen k told track.marks track.ends new) (sym c.requires.stack) last).told
+
+pub returns-clause-turn : goal.returns-clause-turn
+returns-clause-turn g c = λ after is.
+    let new = c.scan.new.sink in
+    let came : c.settled.result ≡ settled c.args.base c.in_ok-exit.exit (whole_of new.stack.reading) =
+    c.settled.ensures.value ∙ ap (λ (w : Whole). settled c.args.base c.in_ok-exit.exit w) c.whole.ensures in
+    settled_awaits (g.K.TokenSink.awaits new.other) c.args.base c.in_ok-exit.exit new.stack.reading c.in_ok-exit.ensures.turn after (ap (λ (p : Progress). outcome_at p new.stack.reading) (sym came) ∙ is)

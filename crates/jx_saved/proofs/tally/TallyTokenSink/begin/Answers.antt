@@ -5,8 +5,8 @@ use Rattle.jx_saved.specs.Sums.{Fits, noted}
 use Rattle.jx_saved.proofs.Tallies.{tallied_mark}
 use Rattle.jx_saved.proofs.tally.TallyTokenSink.begin.Goals as goal
 
-pub returns : goal.returns
-returns g c = λ marks ends h.
+pub returns-clause-seen : goal.returns-clause-seen
+returns-clause-seen g c = λ marks ends h.
     let old = c.args.self.now in
     let next : Sum = noted c.args.mark.kind old.sum in
     let is : SomeIff (Some c.in-Some.sum) (Fits next) next = subst (λ (o : Option Sum). SomeIff o (Fits next) next) c.in-Some.is c.step.ensures in

@@ -8,6 +8,6 @@ returns-clause-are c = λ settings size bytes was fits.
     let held = c.args.self in
     let chunk = c.args.chunk.now in
     let e = c.in_ok-told.ensures in
-    one_read settings size bytes chunk held was fits c.read_chunk.new.reader c.in_ok-told.told c.in_ok-next.next e.settings e.start e.reads
+    one_read settings size bytes chunk held was fits c.read_chunk.new.reader c.in_ok-told.told c.in_ok-next.next _ e.settings e.start e.reads
     (λ q. law.faults settings.mark settings.depth bytes chunk q) (λ q. law.marks settings.mark settings.depth bytes chunk q) e.told c.in_ok-next.ensures.chunks
     (λ names own are is. c.in_ok-next.ensures.are names own are (c.deref.ensures.value ∙ is))

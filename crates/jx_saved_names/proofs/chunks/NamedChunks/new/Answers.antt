@@ -1,6 +1,10 @@
+use Rattle.std.proofs.Common.{None, refl}
+use Rattle.jx_index.proofs.InTurns.{first_turn}
 use Rattle.jx_saved_names.proofs.Reading.{none_read}
-use Rattle.std.proofs.Common.{refl}
 use Rattle.jx_saved_names.proofs.chunks.NamedChunks.new.Goals as goal
+
+pub invariant_of-result : goal.invariant_of-result
+invariant_of-result c = record { turn = first_turn c.new.result None c.new.ensures.reads refl }
 
 pub returns-clause-are : goal.returns-clause-are
 returns-clause-are c = λ size.

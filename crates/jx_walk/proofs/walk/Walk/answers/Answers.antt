@@ -1,4 +1,4 @@
-use Rattle.std.proofs.Common.{◌≡◌, ◌+◌, ◌<◌, ℕ, List, Some, ap, arith, length, refl, subst, sym, ◌∙◌}
+use Rattle.std.proofs.Common.{◌≡◌, ◌+◌, ◌<◌, ℕ, List, Some, ap, arith, length, subst, sym, ◌∙◌}
 use Rattle.std.specs.Prelude.{All}
 use Rattle.jx_run.specs.Telling.{tokens_by}
 use Rattle.jx_index.specs.declared.trie.Edge.{Edge}
@@ -49,4 +49,4 @@ returns-clause-found c = λ settings chunk text pointers come.
     (subst (λ (es : List Edge). All (λ (p : List ℕ). HasWay es p) pointers) (sym is_there) come.ways) in
     found_named settings text pointers c.in_ok-found.found.items
     (subst (λ (ps : List (List ℕ)). AreFoundIn (any_names settings) text ps c.in_ok-found.found.items) asked_are
-    (c.in_ok-found.ensures (any_names settings) text (subst IsTrie (sym is_there) come.trie) ways refl (judged_named settings text come.known.indexed.accepted) met_is))
+    (c.in_ok-found.ensures (any_names settings) text (subst IsTrie (sym is_there) come.trie) ways (judged_named settings text come.known.indexed.accepted) met_is))

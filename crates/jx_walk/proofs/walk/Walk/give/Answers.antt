@@ -25,8 +25,9 @@ returns-in_default-read-clause-damaged c = λ e.
     let here : needed w ≡ Some c.in-Some.span = sym c.needs.ensures.needed ∙ c.in-Some.is in (
       c.take-held.ensures.after,
       λ settings chunk text pointers come apart.
-          none_got c.in_ok-read.read _ c.in_default-read.is c.in_ok-read.ensures.none settings chunk text come.known
-          (apart c.in-Some.span here (c.is_kept.ensures.same c.if-not-is_kept.false settings chunk text come.known.indexed here)),
+          none_got c.in_ok-read.read _ c.in_default-read.is c.in_ok-read.ensures.none come.kept (c.take-held.ensures.value ∙ come.kept_is) settings chunk text come.known
+          (apart c.in-Some.span here (c.is_kept.ensures.same c.if-not-is_kept.false settings chunk text come.known.indexed here))
+          (subst (λ (es : List Edge). IsHeldAt settings chunk text es w.at come.kept) (sym c.deref.ensures.value) come.held),
     )
 
 pub returns-clause-come : goal.returns-clause-come

@@ -15,7 +15,7 @@ returns-clause-come c = λ settings chunk text h.
     let value = c.bytes.ensures.value in
     let within = c.bytes.ensures.within.0 in
     let first : IsHeld [] edges [] [] held.state held.next held.begun held.name.items =
-    (subst (λ (es : List Edge). IsTrie es → IsHeld [] es [] [] held.state held.next held.begun held.name.items) c.deref-3.ensures.value c.in_ok-held.ensures) trie in
+    (subst (λ (es : List Edge). IsTrie es → IsHeld [] es [] [] held.state held.next held.begun held.name.items) c.deref-3.ensures.value c.in_ok-held.ensures.held) trie in
     record {
       known = known_of c.reader_is_grammar.ensures.by_settings c.verdict_by_settings_is_one.ensures.one_verdict settings chunk text index (let l : 64 ≤ index.chunk = omega (arith, value, within) in l) h;
       pointers_are = refl;
@@ -24,5 +24,5 @@ returns-clause-come c = λ settings chunk text h.
       names = tt;
       kept = held;
       kept_is = refl;
-      held = held_first settings chunk text edges held first;
+      held = held_first settings chunk text edges held first c.in_ok-held.ensures.begun;
     }

@@ -1,7 +1,8 @@
 use Rattle.std.proofs.Common.{◌≡◌, vec_len, sym, ◌∙◌, ap, arith}
 use Rattle.jx_reduce.specs.Read.{without_top}
-use Rattle.jx_reduce.proofs.KnownWords.{nothing, no_items, word_less, refilled, emptied}
+use Rattle.jx_reduce.proofs.KnownWords.{nothing, word_less, refilled, emptied}
 use Rattle.std.proofs.Common.{refl}
+use Rattle.std.proofs.lemmas.List.{nil_from_length}
 use Rattle.jx_reduce.proofs.stack.open_containers.OpenContainers.pop.Goals as goal
 
 pub returns-then-self-gt1 : goal.returns-then-self-gt1
@@ -14,6 +15,6 @@ returns-in-Some c =
 
 pub returns-in-None : goal.returns-in-None
 returns-in-None c =
-    nothing 0 0 _ refl (no_items c.pop.new.self.items (let e : vec_len c.pop.new.self ≡ 0 = c.in-None.ensures.cases.1 in omega arith))
-    ∙ sym (emptied c.self.inside.count c.self.inside.bits c.self.inside.words.items (omega arith) (no_items c.self.inside.words.items (let e : vec_len c.self.inside.words ≡ 0 = c.in-None.ensures.cases.0 in omega arith)))
+    nothing 0 0 _ refl (nil_from_length c.pop.new.self.items (let e : vec_len c.pop.new.self ≡ 0 = c.in-None.ensures.cases.1 in omega arith))
+    ∙ sym (emptied c.self.inside.count c.self.inside.bits c.self.inside.words.items (omega arith) (nil_from_length c.self.inside.words.items (let e : vec_len c.self.inside.words ≡ 0 = c.in-None.ensures.cases.0 in omega arith)))
     ∙ ap without_top c.self.view_is

@@ -15,7 +15,7 @@ returns-in-Stopped-clause-reads c = λ bytes more h r.
     let end : c.span.result.end ≡ c.args.run.now.end = ap (λ (s : Span). s.end) c.span.ensures.span in
     record {
       count = omega (arith, k.count, length-append bytes more, end, r.long, c.requires.start);
-      outcome = passed a.settings a.start bytes more (outcome_at a.progress a.kept.stack.reading) (ap (λ p. is_fault (outcome_at p a.kept.stack.reading)) c.in-Stopped.is) k.outcome;
+      outcome = passed a.settings a.start bytes more (outcome_at a.progress a.stack.reading) (ap (λ p. is_fault (outcome_at p a.stack.reading)) c.in-Stopped.is) k.outcome;
     }
 
 pub returns-in-TooDeep-clause-reads : goal.returns-in-TooDeep-clause-reads
@@ -25,13 +25,13 @@ returns-in-TooDeep-clause-reads c = λ bytes more h r.
     let end : c.span.result.end ≡ c.args.run.now.end = ap (λ (s : Span). s.end) c.span.ensures.span in
     record {
       count = omega (arith, k.count, length-append bytes more, end, r.long, c.requires.start);
-      outcome = passed a.settings a.start bytes more (outcome_at a.progress a.kept.stack.reading) (ap (λ p. is_fault (outcome_at p a.kept.stack.reading)) c.in-TooDeep.is) k.outcome;
+      outcome = passed a.settings a.start bytes more (outcome_at a.progress a.stack.reading) (ap (λ p. is_fault (outcome_at p a.stack.reading)) c.in-TooDeep.is) k.outcome;
     }
 
 pub invariant_of-self-2 : goal.invariant_of-self-2
 invariant_of-self-2 c =
     let a = c.self.inside in
-    let of_use : IsOfUse (Going c.in-Going.state) a.settings.mark a.settings.depth a.kept.stack = subst (λ (p : Progress). IsOfUse p a.settings.mark a.settings.depth a.kept.stack) c.in-Going.is c.self.invariant.of_use in
+    let of_use : IsOfUse (Going c.in-Going.state) a.settings.mark a.settings.depth a.stack = subst (λ (p : Progress). IsOfUse p a.settings.mark a.settings.depth a.stack) c.in-Going.is c.self.invariant.of_use in
     let goes = c.in_ok-self-inside.ensures.goes_on of_use.0.marks c.requires.of.0 of_use.0.read c.requires.of.1 in
     let end : c.span.result.end ≡ c.args.run.now.end = ap (λ (s : Span). s.end) c.span.ensures.span in
     let fit : a.start + a.count + c.args.run.now.end < 2 ^ 64 = subst (λ (v : ReaderValue). v.start + v.count + c.args.run.now.end < 2 ^ 64) (sym c.self.view_is) c.requires.fits in
@@ -47,12 +47,12 @@ returns-clause-reads c = λ bytes more h r.
     let k : HasRead bytes (reader_of a) = subst (HasRead bytes) (sym c.self.view_is) h in
     let end : c.span.result.end ≡ c.args.run.now.end = ap (λ (s : Span). s.end) c.span.ensures.span in
     let fit : a.start + a.count + c.args.run.now.end < 2 ^ 64 = subst (λ (v : ReaderValue). v.start + v.count + c.args.run.now.end < 2 ^ 64) (sym c.self.view_is) c.requires.fits in
-    let here : IsReadTo a.settings a.start bytes (Going c.in-Going.state) a.kept.stack =
-    subst (λ (p : Progress). IsReadTo a.settings a.start bytes p a.kept.stack) c.in-Going.is (record { outcome = k.outcome; of_use = c.self.invariant.of_use }) in
+    let here : IsReadTo a.settings a.start bytes (Going c.in-Going.state) a.stack =
+    subst (λ (p : Progress). IsReadTo a.settings a.start bytes p a.stack) c.in-Going.is (record { outcome = k.outcome; of_use = c.self.invariant.of_use }) in
     let goes = c.in_ok-self-inside.ensures.goes_on here.of_use.0.marks more here.of_use.0.read r in
     record {
       count = omega (arith, k.count, length-append bytes more, end, r.long, c.requires.start);
       outcome =
-          (going c.reader_is_grammar.ensures.first_fault a.settings a.start (a.start + a.count) bytes more c.in-Going.state a.kept.stack c.read_run.new.stack c.in_ok-self-inside.field-0
+          (going c.reader_is_grammar.ensures.first_fault a.settings a.start (a.start + a.count) bytes more c.in-Going.state a.stack c.read_run.new.stack c.in_ok-self-inside.field-0
           (ap (λ n. a.start + n) k.count) (omega (arith, fit, r.long, c.requires.start)) here goes).outcome;
     }

@@ -10,19 +10,19 @@ invariant_of-self c =
     let a = c.self.inside in
     let b = c.match-self.self-inside in
     let low = c.ranges.start.fits in
-    let deep : b.kept.stack.depth ≡ b.settings.depth =
+    let deep : b.stack.depth ≡ b.settings.depth =
     elim c.match-self.branch [
-      | in-Failed w ↦ ap (λ (i : Inside). i.kept.stack.depth) w.self-inside-is ∙ w.new.ensures.depth ∙ sym (ap (λ (i : Inside). i.settings.depth) w.self-inside-is)
+      | in-Failed w ↦ ap (λ (i : Inside). i.stack.depth) w.self-inside-is ∙ w.new.ensures.depth ∙ sym (ap (λ (i : Inside). i.settings.depth) w.self-inside-is)
       | in_default w ↦
-          ap (λ (i : Inside). i.kept.stack.depth) w.self-inside-is
+          ap (λ (i : Inside). i.stack.depth) w.self-inside-is
           ∙ w.reset.ensures.depth
-          ∙ depth_of a.progress a.settings.mark a.settings.depth a.kept.stack w.in_default.not-Failed c.self.invariant.of_use
+          ∙ depth_of a.progress a.settings.mark a.settings.depth a.stack w.in_default.not-Failed c.self.invariant.of_use
           ∙ sym (ap (λ (i : Inside). i.settings.depth) w.self-inside-is)
     ] in
-    let none : StackHasRead [] b.kept.stack =
+    let none : StackHasRead [] b.stack =
     elim c.match-self.branch [
-      | in-Failed w ↦ ap (λ (i : Inside). i.kept.stack.reading) w.self-inside-is ∙ w.new.ensures.reads
-      | in_default w ↦ ap (λ (i : Inside). i.kept.stack.reading) w.self-inside-is ∙ w.reset.ensures.reads
+      | in-Failed w ↦ ap (λ (i : Inside). i.stack.reading) w.self-inside-is ∙ w.new.ensures.reads
+      | in_default w ↦ ap (λ (i : Inside). i.stack.reading) w.self-inside-is ∙ w.reset.ensures.reads
     ] in
-    let read = c.progress_at_start-self-inside.ensures.read b.settings c.args.start b.kept.stack refl deep none in
+    let read = c.progress_at_start-self-inside.ensures.read b.settings c.args.start b.stack refl deep none in
     record { fits = omega (arith, low); cut = c.progress_at_start-self-inside.ensures.cut; of_use = read.of_use }

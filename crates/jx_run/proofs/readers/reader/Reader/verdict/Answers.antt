@@ -9,4 +9,4 @@ returns-clause-verdict c = λ bytes h.
     let a = c.self.inside in
     let k : HasRead bytes (reader_of a) = subst (HasRead bytes) (sym c.self.view_is) h in
     subst (λ (v : ReaderValue). JudgedBy v.settings v.start bytes c.verdict_at.result) c.self.view_is
-    (c.verdict_at.ensures.verdict a.settings a.start bytes a.kept.stack.reading c.whole.ensures k.outcome)
+    (c.verdict_at.ensures.verdict a.settings a.start bytes a.stack.reading c.whole.ensures k.outcome)
