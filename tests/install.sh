@@ -87,6 +87,19 @@ another_prefix_may_be_named() {
     same 'another prefix, uninstalled' 0 "$(find "$room/other place" -type f | wc -l)"
 }
 
+what_is_not_built_is_built_in_one_build() {
+    local other="$room/another clone"
+    cp -a "$clone" "$other"
+    # A build that notes what it is asked for, and takes it for built.
+    printf '#!/bin/sh\necho "$@" >>"%s"\ntouch "%s/jx.stamp" "%s/jx.server.stamp"\n' "$room/asked" "$other" "$other" >"$other/tools/build"
+    rm "$other/jx.stamp" "$other/jx.server.stamp"
+    "$other/install" "$room/third place" >/dev/null
+    same 'what is not built: status' 0 $?
+    same 'what is not built: one build of both programs' 'jx jx_lsp' "$(cat "$room/asked")"
+    "$other/install" "$room/third place" >/dev/null
+    same 'what is built: no build' 1 "$(wc -l <"$room/asked")"
+}
+
 a_wrong_word_is_a_fault() {
     has 'a wrong word' 'usage: ./install' "$("$clone/install" --wrong 2>&1)"
     "$clone/install" --wrong 2>/dev/null
@@ -99,4 +112,5 @@ tests it_installs_all_that_it_says \
     the_installed_program_needs_nothing_of_the_clone \
     it_uninstalls_all_that_it_installed \
     another_prefix_may_be_named \
+    what_is_not_built_is_built_in_one_build \
     a_wrong_word_is_a_fault
