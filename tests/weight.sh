@@ -1,11 +1,20 @@
 #!/usr/bin/env bash
-# The weight of the gate: how many wrong bodies and proved tests there may be, and where proved tests may stand.
+# The weight of the gate: wrong bodies are not lost, in the gate or beside it; how many proved tests there may be, and where they may stand.
 . "$(dirname "$0")/lib.sh"
 
-wrong_bodies_are_few() {
-    local count
-    count=$(find "$root"/crates/*/must-fail -name '*.edit' | wc -l)
-    same 'there are 100 to 160 wrong bodies' yes "$([ "$count" -ge 100 ] && [ "$count" -le 160 ] && echo yes || echo "$count")"
+# What the gate tries costs its time: a crate with wrong bodies is proved once more. The others are tried beside it.
+wrong_bodies_are_not_lost() {
+    local inside beside
+    inside=$(find "$root"/crates/*/must-fail -name '*.edit' | wc -l)
+    beside=$(sed 's/.* beside the gate: \([0-9]*\) in .*/\1/; q' <<<"$("$root/tools/wrong_bodies" --passed)")
+    same 'there are 160 wrong bodies or more' yes "$([ $((inside + beside)) -ge 160 ] && echo yes || echo "$inside and $beside")"
+    same 'the gate tries 20 or more' yes "$([ "$inside" -ge 20 ] && echo yes || echo "$inside")"
+    same 'a crate has its wrong bodies in one place' '' \
+        "$(for folder in "$root"/tests/wrong_bodies/*/; do ls "$root/crates/$(basename "$folder")/must-fail" 2>/dev/null; done)"
+}
+
+wrong_bodies_can_be_put_in_their_places() {
+    same 'each text stands once in its file' ' 0 failed' "$("$root/tools/wrong_bodies" --read | sed 's/.* passed,//')"
 }
 
 proved_tests_are_few() {
@@ -16,5 +25,6 @@ proved_tests_are_few() {
         "$(grep -rl '#\[test\]' --include='*.rt' "$root/crates" | sed "s|^$root/crates/||; s|/.*||" | sort -u | flat | sed 's/ $//')"
 }
 
-tests wrong_bodies_are_few \
+tests wrong_bodies_are_not_lost \
+    wrong_bodies_can_be_put_in_their_places \
     proved_tests_are_few
