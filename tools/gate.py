@@ -1,26 +1,30 @@
 #!/usr/bin/env python3
-"""Runs the parts of the gate one after another, tells how far they are, and counts what passed and what failed.
+"""Runs the parts of the gate, tells how far they are, and counts what passed and what failed.
 
-The parts' own lines go through as they are. A line that begins with `gate: ` gives the time since the start. At the end
-stand two tables: elapsed time of each part, and processor time of each crate's checks. Behind them each failure of a test is
-told again, since it is far up by then. The last line is `N passed, M failed`.
+The parts' own lines go through as they are, those of parts that run side by side once each has ended. A line that begins with
+`gate: ` gives the time since the start. At the end stand two tables, of the parts and of each crate's checks, and the longest chain of
+proofs, which bounds the elapsed time. Behind them each failure of a test is printed again, since it is far up by then. Then comes when
+the wrong bodies beside the gate last passed. The last line is `N passed, M failed`.
 """
 import collections
 import os
 import pathlib
+import queue
 import re
-import resource
 import subprocess
 import sys
 import threading
 import time
 
-ROOT = pathlib.Path(__file__).resolve().parent.parent
-PARTS = (
-    ("proofs, wrong bodies, proved tests, programs", ["rt", "ci"]),
-    ("tests of the program", ["tests/run"]),
-    ("refused memory, failing reads and writes", ["tests/refusals/run"]),
-    ("fuzzing of the library", ["fuzz/run", "60"]),
+sys.dont_write_bytecode = True
+import schedule  # noqa: E402
+
+ROOT = schedule.ROOT
+PROOFS = ("proofs, wrong bodies, proved tests, programs", ["rt", "ci"])
+# What runs over the programs that these built: the lists side by side, the parts of each one after another. Fuzzing keeps few processors busy.
+BEHIND = (
+    (("tests of the program", ["tests/run"]),),
+    (("fuzzing of the library", ["fuzz/run", "60"]), ("refused memory, failing reads and writes", ["tests/refusals/run"])),
 )
 COUNTS = re.compile(r"(\d+) passed, (\d+) failed$")
 # Lines of `rt ci` that end a step of a crate.
@@ -42,8 +46,21 @@ def clock(seconds):
     return "%d:%02d" % divmod(int(seconds), 60)
 
 
+# What a check is for, in the order of the table.
+KINDS = ("proof", "tests", "wrong bodies", "builds")
+
+
+def kind_of(words):
+    """What a check is for. `rt ci` looks for empty contracts in the crate's own proof and in that of its tests, and not with a wrong body."""
+    if b"--test" in words:
+        return "tests"
+    if b"--empty-contracts" in words:
+        return "proof"
+    return "wrong bodies" if b"check" in words[:2] else "builds"
+
+
 class Sampler(threading.Thread):
-    """Adds up the processor time of each check, by the crate that its command line names."""
+    """Adds up the processor time of each check, by the crate that its command line names and by what it is for."""
 
     def __init__(self):
         super().__init__(daemon=True)
@@ -67,7 +84,7 @@ class Sampler(threading.Thread):
             return  # Somebody else's check.
         fields = (folder / "stat").read_text().rpartition(")")[2].split()
         ticks = int(fields[11]) + int(fields[12])
-        self.seen[folder.name, fields[19]] = crate, ticks / os.sysconf("SC_CLK_TCK")
+        self.seen[folder.name, fields[19]] = crate, kind_of(words), ticks / os.sysconf("SC_CLK_TCK")
 
     def is_below(self, process):
         """Whether this process or one that it started has started that one."""
@@ -77,16 +94,51 @@ class Sampler(threading.Thread):
         return process == os.getpid()
 
     def by_crate(self):
-        sums = collections.Counter()
-        for crate, seconds in list(self.seen.values()):
-            sums[crate] += seconds
+        sums = collections.defaultdict(collections.Counter)
+        for crate, kind, seconds in list(self.seen.values()):
+            sums[crate][kind] += seconds
         return sums
+
+
+def longest_chain(seconds):
+    """The crates that wait for one another whose proofs take longest together, from the lowest one up."""
+    known, best = schedule.read_crates(), {}
+
+    def chain(crate):
+        if crate.name not in best:
+            below = max((chain(it) for it in crate.below), default=(0, []), key=lambda it: it[0])
+            best[crate.name] = below[0] + seconds.get(crate.name, 0), [*below[1], crate.name]
+        return best[crate.name]
+
+    return max((chain(it) for it in known.values()), key=lambda it: it[0])
+
+
+class Part(threading.Thread):
+    """Parts that run one after another. Each line of theirs, and the end of each, goes into a queue."""
+
+    def __init__(self, parts, into):
+        super().__init__(daemon=True)
+        self.parts, self.into = parts, into
+
+    def run(self):
+        for name, command in self.parts:
+            began = time.monotonic()
+            self.into.put(("begins", name, None))
+            # Else a part behind this one would build anew what the first has built.
+            environment = dict(os.environ, CI="true", JX_PROGRAM=str(ROOT / "crates/jx/out/jx"), JX_LIBRARIES_ARE_BUILT="yes")
+            started = subprocess.Popen(command, cwd=ROOT, env=environment, stdout=subprocess.PIPE, stderr=subprocess.STDOUT, text=True, errors="replace")
+            for line in started.stdout:
+                self.into.put(("line", name, line.rstrip("\n")))
+            _, status, usage = os.wait4(started.pid, 0)
+            started.returncode = os.WEXITSTATUS(status) if os.WIFEXITED(status) else -os.WTERMSIG(status)
+            self.into.put(("ended", name, (started.returncode, time.monotonic() - began, usage.ru_utime + usage.ru_stime)))
+        self.into.put(("done", None, None))
 
 
 class Gate:
     def __init__(self):
         self.began = time.monotonic()
-        self.passed = self.failed = 0
+        self.passed = self.failed = self.bad = 0
         self.elapsed = []
         self.failures = []
         self.is_failing = False
@@ -95,24 +147,40 @@ class Gate:
     def say(self, text):
         print("gate: %s %s" % (clock(time.monotonic() - self.began), text), flush=True)
 
-    def part(self, name, command):
-        """Runs one part, passes its lines on, and counts what its last line tells."""
-        began = time.monotonic()
-        self.say("begins: " + name)
-        # Else a part behind this one would build anew what the first has built.
-        environment = dict(os.environ, CI="true", JX_PROGRAM=str(ROOT / "crates/jx/out/jx"), JX_LIBRARIES_ARE_BUILT="yes")
-        started = subprocess.Popen(command, cwd=ROOT, env=environment, stdout=subprocess.PIPE, stderr=subprocess.STDOUT, text=True, errors="replace")
-        last, bad = "", 0
-        for line in started.stdout:
-            last = line.rstrip("\n")
-            print(last, flush=True)
-            bad += ": " + BAD_EDIT in last
-            self.note(last)
-            if STEP.match(last):
-                self.say(last.removeprefix("rt: "))
-        self.count(name, last, started.wait(), bad)
-        self.elapsed.append((name, time.monotonic() - began))
-        self.say("ended: %s, in %s" % (name, clock(time.monotonic() - began)))
+    def parts(self, *lists):
+        """Runs lists of parts side by side, prints their lines, and counts what the last line of each tells."""
+        said = queue.SimpleQueue()
+        for each in lists:
+            Part(each, said).start()
+        is_alone, running, lines = len(lists) == 1, len(lists), collections.defaultdict(list)
+        while running:
+            what, name, told = said.get()
+            if what == "begins":
+                self.say("begins: " + name)
+            elif what == "line":
+                lines[name].append(told)
+                if is_alone:
+                    self.line(told)
+            elif what == "ended":
+                for line in [] if is_alone else lines[name]:
+                    self.line(line)
+                self.end(name, (lines[name] or [""])[-1], *told)
+            else:
+                running -= 1
+
+    def line(self, line):
+        print(line, flush=True)
+        self.bad += ": " + BAD_EDIT in line
+        self.note(line)
+        if STEP.match(line):
+            self.say(line.removeprefix("rt: "))
+
+    def end(self, name, last, status, elapsed, spent):
+        self.count(name, last, status, self.bad)
+        self.bad, self.is_failing = 0, False
+        self.before.clear()
+        self.elapsed.append((name, elapsed, spent))
+        self.say("ended: %s, in %s" % (name, clock(elapsed)))
 
     def note(self, line):
         """Keeps the lines of a failure, each failure's by themselves."""
@@ -132,35 +200,39 @@ class Gate:
     def count(self, name, last, status, bad):
         """A part that fails and counts no failure counts as one."""
         found = COUNTS.search(last)
-        passed, failed = (int(found[1]), int(found[2])) if found else (0, 1)
+        passed, failed = (int(found[1]), int(found[2])) if found else (0, 0)
         failed += bad
-        if status and not failed:
-            failed = 1
+        if not found or status and not failed:
+            failed = max(failed, 1)
             self.failures.append(["%s: FAILED: it ended with status %d and counted no failure" % (name, status), *self.before])
         self.passed += passed
         self.failed += failed
 
     def tables(self, by_crate):
-        spent = resource.getrusage(resource.RUSAGE_CHILDREN)
-        total = spent.ru_utime + spent.ru_stime
-        print("\nelapsed   part")
-        for name, seconds in self.elapsed:
-            print("%7s   %s" % (clock(seconds), name))
-        print("%7s   all, on %d processors" % (clock(time.monotonic() - self.began), os.cpu_count()))
-        print("\nprocessor seconds (sampled)   checks of")
-        for crate, seconds in by_crate.most_common():
-            print("%27d   %s" % (seconds, crate))
-        print("%27d   all that ran" % total)
+        print("\nelapsed  processor s   part")
+        for name, seconds, spent in self.elapsed:
+            print("%7s %12d   %s" % (clock(seconds), spent, name))
+        print("%7s %12d   all, on %d processors" % (clock(time.monotonic() - self.began), sum(it[2] for it in self.elapsed), os.cpu_count()))
+        print("\nprocessor seconds (sampled) of checks, by what they are for\n" + "%13s" * len(KINDS) % KINDS + "   crate, the dearest first")
+        for crate, seconds in sorted(by_crate.items(), key=lambda it: -sum(it[1].values())):
+            print("".join("%13d" % seconds[kind] for kind in KINDS) + "   " + crate)
+        print("".join("%13d" % sum(it[kind] for it in by_crate.values()) for kind in KINDS) + "   all")
+        proofs = {crate: seconds["proof"] for crate, seconds in by_crate.items()}
+        total, names = longest_chain(proofs)
+        print("\nthe longest chain of proofs, %d of %d processor seconds:" % (total, sum(proofs.values())))
+        print(", ".join("%s %d" % (name, proofs.get(name, 0)) for name in names))
 
 
 def main():
     sampler = Sampler()
     sampler.start()
     gate = Gate()
-    for name, command in PARTS:
-        gate.part(name, command)
+    gate.parts([PROOFS])
+    gate.parts(*BEHIND)
     gate.tables(sampler.by_crate())
     gate.tell_failures()
+    print(flush=True)
+    subprocess.run([ROOT / "tools/wrong_bodies", "--passed"])
     print("%d passed, %d failed" % (gate.passed, gate.failed))
     return 1 if gate.failed else 0
 
