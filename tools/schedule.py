@@ -263,7 +263,7 @@ def processors():
 
 def free_memory():
     if MOST_CHECKS:
-        return float("inf")
+        return MOST_CHECKS * (OF_A_CHECK + MOST_JOBS * OF_A_JOB)
     with open("/proc/meminfo") as lines:
         return next(int(line.split()[1]) * 1000 for line in lines if line.startswith("MemAvailable:"))
 
@@ -320,7 +320,7 @@ class Build:
         return crate, int(max(1, min(jobs, left // OF_A_JOB))), 0 if is_on_chain else NICE
 
     def begin_more(self):
-        for crate in [it for it in self.waiting if it.name not in TOPS]:
+        for crate in [*self.waiting]:
             if all(it.name in self.done for it in crate.below) and crate.is_kept():
                 self.waiting.remove(crate)
                 self.done[crate.name] = None
