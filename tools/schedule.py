@@ -122,10 +122,13 @@ def link(one, other):
 
 
 def set_stamp(file):
-    """Gives a stamp the time when the build began: a source that is newer was not read."""
+    """Gives a stamp the time when the build began: a source that is newer was not read. As a new file, since other checkouts may have links
+    to the one that is there."""
     began = BEGAN.stat().st_mtime_ns
-    file.touch()
-    os.utime(file, ns=(began, began))
+    new = file.with_name(file.name + ".new")
+    new.write_bytes(file.read_bytes() if file.exists() else b"")
+    os.utime(new, ns=(began, began))
+    new.replace(file)
 
 
 def copy_sources(crates):
